@@ -1,0 +1,71 @@
+-- The words follow from the bits that they hold.
+use Rattle.std.proofs.Common.{◌≡◌, ℕ, ◌+◌, ◌*◌, ◌/◌, ◌%◌, ◌^◌, ◌<◌, Bool, true, false, eqb, List, length, get_or, take, drop, refl, sym, ◌∙◌, ap, arith}
+use Rattle.std.proofs.lemmas.List.FromFn.{fill_by_all, get_or-map-range_with_len}
+use Rattle.std.proofs.lemmas.List.{same_lists, places, get_or-take, get_or-drop}
+use Rattle.std.proofs.lemmas.Bool.{false≢true}
+use Rattle.std.specs.Int.{bit_at}
+use Rattle.std.specs.Bool.{Decides}
+use Rattle.std.specs.Cmp.Lexicographic.{pointwise}
+use Rattle.std.proofs.lemmas.Slice.Eq.{bytes_eq-Decides}
+use Rattle.vers_bits.specs.Equality.{same_bits-Decides}
+use Rattle.vers_bits.specs.Bits.{bit_value, limb, limbs, limb_count}
+use Rattle.vers_bits.specs.Words.{word_bits, HoldsBits}
+use Rattle.vers_bits.specs.Equality.{same_bits}
+use Rattle.vers_bits.proofs.Words.{length-word_bits, limb-word_bits}
+use Rattle.vers_bits.proofs.Num.{bit_at-number}
+
+pub limbs-word_bits : (words : List ℕ) (n : ℕ) → HoldsBits words n → ((k : ℕ) → get_or words k 0 < 2 ^ 64) → words ≡ limbs (word_bits words n)
+unfolding limbs
+limbs-word_bits words n h fits =
+    fill_by_all (limb (word_bits words n)) words (limb_count (length (word_bits words n))) 0 (h.counted ∙ ap limb_count (sym (length-word_bits words n)))
+    (λ k p. sym (limb-word_bits words n k h (fits k)))
+
+-- place i of a list is a digit of its limb
+bit_at-limb : (l : List Bool) (i : ℕ) → bit_at (limb l (i / 64)) (i % 64) ≡ bit_value (get_or l i false)
+unfolding limb
+bit_at-limb l i =
+    let place : 64 * (i / 64) + i % 64 ≡ i = omega arith in
+    bit_at-number (take 64 (drop (64 * (i / 64)) l)) (i % 64)
+    ∙ ap bit_value (get_or-take 64 (drop (64 * (i / 64)) l) (i % 64) false (omega arith) ∙ get_or-drop (64 * (i / 64)) l (i % 64) false ∙ ap (λ p. get_or l p false) place)
+
+limb-limbs : (l : List Bool) (i : ℕ) → i < length l → get_or (limbs l) (i / 64) 0 ≡ limb l (i / 64)
+unfolding limbs
+limb-limbs l i h = get_or-map-range_with_len (limb l) 0 (limb_count (length l)) (i / 64) (i / 64) 0 (omega arith) (omega arith)
+
+same_value : (x y : Bool) → bit_value x ≡ bit_value y → x ≡ y
+same_value true true e = refl
+same_value true false e = absurd (omega arith)
+same_value false true e = absurd (omega arith)
+same_value false false e = refl
+
+-- lists of one length with equal limbs are equal
+pub equal_limbs : (xs ys : List Bool) → length xs ≡ length ys → limbs xs ≡ limbs ys → xs ≡ ys
+equal_limbs xs ys e same =
+    same_lists xs ys e (λ i d h.
+    let held : limb xs (i / 64) ≡ limb ys (i / 64) =
+    sym (limb-limbs xs i h) ∙ ap (λ l. get_or l (i / 64) 0) same ∙ limb-limbs ys i (omega arith) in
+    let here : get_or xs i false ≡ get_or ys i false =
+    same_value _ _ (sym (bit_at-limb xs i) ∙ ap (λ w. bit_at w (i % 64)) held ∙ bit_at-limb ys i) in
+    grind (arith, places))
+
+-- two tests of facts that imply each other
+decides_same : (r s : Bool) (P Q : Type 0) → Decides r P → Decides s Q → (P → Q) → (Q → P) → r ≡ s
+decides_same true true P Q a b f h = refl
+decides_same true false P Q a b f h = sym (b.1 (f (a.0 refl)))
+decides_same false true P Q a b f h = a.1 (h (b.0 refl))
+decides_same false false P Q a b f h = refl
+
+-- lists of one length are equal exactly where their limbs are
+pub same_limbs : (xs ys : List Bool) → length xs ≡ length ys → pointwise eqb (limbs xs) (limbs ys) ≡ same_bits xs ys
+same_limbs xs ys e =
+    decides_same (pointwise eqb (limbs xs) (limbs ys)) (same_bits xs ys) (limbs xs ≡ limbs ys) (xs ≡ ys)
+    (bytes_eq-Decides (limbs xs) (limbs ys)) (same_bits-Decides xs ys) (equal_limbs xs ys e) (ap limbs)
+
+-- lists of other lengths are not equal
+pub lengths_differ : (xs ys : List Bool) → (length xs ≡ length ys → ⊥) → false ≡ same_bits xs ys
+lengths_differ xs ys h =
+    decides_same false (same_bits xs ys) ⊥ (xs ≡ ys) ((λ e. absurd (false≢true e)), (λ e. absurd e)) (same_bits-Decides xs ys) (λ e. absurd e) (λ e. h (ap length e))
+
+pub ruleset equality = (same_limbs, lengths_differ)
+
+pub ruleset words = (limbs-word_bits)

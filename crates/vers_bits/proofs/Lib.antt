@@ -1,0 +1,7 @@
+pub mod Num
+pub mod Words
+pub mod Count
+pub mod Places
+pub mod Counting
+pub mod Limbs
+pub mod Equal

@@ -1,0 +1,51 @@
+-- A list of bits made of limbs.
+use Rattle.std.proofs.Common.{◌≡◌, ℕ, suc, ◌-◌, ◌*◌, ◌/◌, ◌%◌, ◌<◌, ◌≤◌, false, List, [], ◌∷◌, ◌++◌, length, get_or, sym, ap, ◌∙◌, refl, inl, inr, arith, eqb}
+use Rattle.std.specs.Prelude.{flat_map}
+use Rattle.std.specs.Int.{bit_at}
+use Rattle.std.proofs.lemmas.Bool.{cases_lt}
+use Rattle.std.proofs.lemmas.List.{get_or_append_left, get_or-append_right, length-append}
+use Rattle.std.proofs.lemmas.List.FromFn.{length-map-range_with_len, get_or-map-range_with_len}
+use Rattle.vers_bits.specs.Bits.{low_bits}
+use Rattle.vers_bits.specs.Words.{word_bit, word_bits, HoldsBits}
+use Rattle.vers_bits.proofs.Words.{word_bits_are, length-word_bits, get_or-word_bits, past_words}
+
+length-low_bits : (v n : ℕ) → length (low_bits v n) ≡ n
+unfolding low_bits
+length-low_bits v n = length-map-range_with_len (λ i. eqb (bit_at v i) 1) 0 n
+
+get_or-low_bits : (v n i : ℕ) → i < n → get_or (low_bits v n) i false ≡ eqb (bit_at v i) 1
+unfolding low_bits
+get_or-low_bits v n i h = get_or-map-range_with_len (λ j. eqb (bit_at v j) 1) 0 n i i false h (omega arith)
+
+-- the first word apart
+word_bit_first : (w : ℕ) (ws : List ℕ) (i : ℕ) → i < 64 → word_bit (w ∷ ws) i ≡ eqb (bit_at w i) 1
+word_bit_first w ws i h =
+    let word : i / 64 ≡ 0 = omega arith in
+    let place : i % 64 ≡ i = omega arith in
+    rw (word, place) refl
+
+word_bit_rest : (w : ℕ) (ws : List ℕ) (i : ℕ) → 64 ≤ i → word_bit (w ∷ ws) i ≡ word_bit ws (i - 64)
+word_bit_rest w ws i h =
+    let word : i / 64 ≡ suc ((i - 64) / 64) = omega arith in
+    let place : i % 64 ≡ (i - 64) % 64 = omega arith in
+    rw (word, place) refl
+
+pub whole_words : (ws : List ℕ) → word_bits ws (64 * length ws) ≡ flat_map (λ w. low_bits w 64) ws
+whole_words [] = word_bits_are [] 0 [] refl (λ i h. absurd (omega arith))
+whole_words (w ∷ ws) =
+    let rest : word_bits ws (64 * length ws) ≡ flat_map (λ v. low_bits v 64) ws = whole_words ws in
+    let first = low_bits w 64 in
+    word_bits_are (w ∷ ws) (64 * suc (length ws)) (low_bits w 64 ++ flat_map (λ v. low_bits v 64) ws)
+    (length-append (low_bits w 64) (flat_map (λ v. low_bits v 64) ws) ∙ omega (arith, length-low_bits w 64, length-word_bits ws (64 * length ws), ap length rest))
+    (λ i h. elim (cases_lt i 64) [
+      | inl small ↦ word_bit_first w ws i small
+          ∙ sym (get_or_append_left (low_bits w 64) (flat_map (λ v. low_bits v 64) ws) false i (omega (arith, length-low_bits w 64)) ∙ get_or-low_bits w 64 i small)
+      | inr large ↦ word_bit_rest w ws i large
+          ∙ sym (get_or-append_right (low_bits w 64) (flat_map (λ v. low_bits v 64) ws) 64 i false (length-low_bits w 64) large
+          ∙ sym (ap (λ l. get_or l (i - 64) false) rest) ∙ get_or-word_bits ws (64 * length ws) (i - 64) false (omega arith))
+    ])
+
+pub whole_hold : (ws : List ℕ) → 64 * length ws ≤ 18446744073709551552 → HoldsBits ws (64 * length ws)
+whole_hold ws h = record { counted = omega arith; bounded = h; padded = λ i past. past_words ws i past }
+
+pub ruleset from_words = (whole_words, whole_hold)

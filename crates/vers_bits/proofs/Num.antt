@@ -1,0 +1,49 @@
+-- Lists of bits as numbers, and counts of their bits.
+use Rattle.std.proofs.Common.{◌≡◌, ℕ, zero, suc, ◌/◌, ◌%◌, ◌^◌, ◌<◌, ◌≤◌, Bool, true, false, cond, List, [], ◌∷◌, length, take, drop, get_or, sym, ◌∙◌, arith}
+use Rattle.std.specs.List.{count_by}
+use Rattle.std.specs.Int.{bit_at}
+use Rattle.std.specs.Prelude.{count_ones}
+use Rattle.std.proofs.lemmas.Nat.{shr-shr, mod-pow-add}
+use Rattle.std.proofs.lemmas.Nat.Bits.{bit_at_lowest, bit_at-suc, bit_at-zero}
+use Rattle.std.proofs.lemmas.List.Sums.{sum_by-cons}
+use Rattle.std.proofs.Math.Nat.{pow-suc}
+use lib.Count.{ones_step, ones-ones}
+use Rattle.vers_bits.specs.Bits.{bit_value, number, is_bit}
+
+-- the lowest digit, and the others
+pub number_odd : (b : Bool) (l : List Bool) → number (b ∷ l) % 2 ≡ bit_value b
+number_odd true l = omega arith
+number_odd false l = omega arith
+
+pub number_half : (b : Bool) (l : List Bool) → number (b ∷ l) / 2 ≡ number l
+number_half true l = omega arith
+number_half false l = omega arith
+
+pub bit_value_le : (b : Bool) → bit_value b ≤ 1
+bit_value_le true = omega arith
+bit_value_le false = omega arith
+
+pub number-lt : (l : List Bool) → number l < 2 ^ length l
+number-lt [] = omega arith
+number-lt (b ∷ l) = omega (arith, number-lt l, bit_value_le b, pow-suc 2 (length l))
+
+pub number-drop : (k : ℕ) (l : List Bool) → number (drop k l) ≡ number l / 2 ^ k
+number-drop zero l = omega arith
+number-drop (suc k) [] = grind arith
+number-drop (suc k) (b ∷ l) = grind (arith, number-drop k l, number_half b l, shr-shr (number (b ∷ l)) 1 k)
+
+pub number-take : (k : ℕ) (l : List Bool) → number (take k l) ≡ number l % 2 ^ k
+number-take zero l = omega arith
+number-take (suc k) [] = grind arith
+number-take (suc k) (b ∷ l) = grind (arith, number-take k l, number_half b l, number_odd b l, mod-pow-add (number (b ∷ l)) k 1)
+
+-- digit i of the number is place i of the list
+pub bit_at-number : (l : List Bool) (i : ℕ) → bit_at (number l) i ≡ bit_value (get_or l i false)
+bit_at-number [] i = bit_at-zero i
+bit_at-number (b ∷ l) zero = bit_at_lowest (number (b ∷ l)) ∙ number_odd b l
+bit_at-number (b ∷ l) (suc i) = bit_at-suc (number (b ∷ l)) i ∙ (rw number_half (bit_at-number l i))
+
+-- as many digits of the number are 1 as places of the list are true
+pub ones-number : (l : List Bool) → count_ones (number l) ≡ count_by (is_bit true) l
+ones-number [] = ones-ones 0
+ones-number (b ∷ l) = ones_step (number (b ∷ l)) ∙ (rw (number_odd, number_half, ones-number l) (sym (sum_by-cons (λ x. cond x 1 0) b l)))

@@ -1,0 +1,174 @@
+-- The bits that words hold.
+use Rattle.std.proofs.Common.{◌≡◌, ℕ, ◌+◌, ◌*◌, ◌/◌, ◌%◌, ◌^◌, ◌<◌, ◌≤◌, Bool, true, false, List, [], ◌∷◌, ◌++◌, length, take, drop, get_or, set, refl, sym, ap, ◌∙◌, arith, eqb, Some, None, inl, inr, w64}
+use Rattle.std.specs.List.{slice_get}
+use Rattle.std.specs.Int.{bit_at}
+use Rattle.std.specs.Prelude.{bit_and, bit_or, option_map}
+use Rattle.std.proofs.lemmas.Bool.{cases_eq, cases_lt}
+use mir.Val.{bool_byte}
+use Rattle.std.proofs.lemmas.Grind.{get_or_default_zero}
+use Rattle.std.proofs.Math.Nat.{pow-le-pow_right}
+use Rattle.std.proofs.lemmas.Nat.Bits.{bit_at-lt, bit_at-zero, bit_at_lowest, bit_at_set_same, bit_at_set_other, shr_and_one, same_from_bits_below, bit_at_above}
+use Rattle.std.proofs.lemmas.List.{same_lists, places, get_or-take, get_or-drop, get_or_past, get_or_push, get_or_append_left, get_or-set_same, get_or-set_other, length-set, length_push, length-take}
+use Rattle.std.proofs.lemmas.List.FromFn.{length-map-range_with_len, get_or-map-range_with_len, take-map-range_with_len, map-range_with_len_more}
+use Rattle.std.proofs.lemmas.Option.{slice_get-get_or, slice_get_past}
+use Rattle.vers_bits.specs.Bits.{bit_value, limb}
+use Rattle.vers_bits.specs.Words.{word_bit, word_bits, HoldsBits, AddsBit}
+use Rattle.vers_bits.proofs.Num.{number-lt, bit_at-number, bit_value_le}
+
+pub length-word_bits : (ws : List ℕ) (n : ℕ) → length (word_bits ws n) ≡ n
+unfolding word_bits
+length-word_bits ws n = length-map-range_with_len (word_bit ws) 0 n
+
+pub get_or-word_bits : (ws : List ℕ) (n i : ℕ) (d : Bool) → i < n → get_or (word_bits ws n) i d ≡ word_bit ws i
+unfolding word_bits
+get_or-word_bits ws n i d h = get_or-map-range_with_len (word_bit ws) 0 n i i d h (omega arith)
+
+pub take-word_bits : (ws : List ℕ) (n k : ℕ) → k ≤ n → take k (word_bits ws n) ≡ word_bits ws k
+unfolding word_bits
+take-word_bits ws n k h = take-map-range_with_len (word_bit ws) 0 n k h
+
+pub word_bits_more : (ws : List ℕ) (n : ℕ) → word_bits ws (n + 1) ≡ word_bits ws n ++ word_bit ws n ∷ []
+unfolding word_bits
+word_bits_more ws n = map-range_with_len_more (word_bit ws) 0 n n (omega arith)
+
+-- the words hold the list that they hold place by place
+pub word_bits_are : (ws : List ℕ) (n : ℕ) (l : List Bool) → length l ≡ n → ((i : ℕ) → i < n → word_bit ws i ≡ get_or l i false) → word_bits ws n ≡ l
+word_bits_are ws n l e each =
+    same_lists _ _ (length-word_bits ws n ∙ sym e)
+    (λ k d h. let small : k < n = omega (arith, length-word_bits ws n) in get_or-word_bits ws n k d small ∙ each k small ∙ grind (arith, places))
+
+-- a read of a place
+bit_value_test : (m : ℕ) → m < 2 → bit_value (eqb m 1) ≡ m
+bit_value_test m h = elim (cases_eq m 1) [ inl e ↦ rw e refl | inr ne ↦ let z : m ≡ 0 = omega arith in rw z refl ]
+
+pub slice_get-word_bits : (ws : List ℕ) (n i : ℕ) → i < n
+    → slice_get (word_bits ws n) i ≡ Some (eqb (bit_and (get_or ws (i / 64) 0 / 2 ^ (i % 64)) 1) 1)
+slice_get-word_bits ws n i h =
+    let short : i < length (word_bits ws n) = omega (arith, length-word_bits ws n) in
+    rw shr_and_one (slice_get-get_or (word_bits ws n) i false short ∙ ap (λ b. Some b) (get_or-word_bits ws n i false h))
+
+pub slice_get_past-word_bits : (ws : List ℕ) (n i : ℕ) → n ≤ i → slice_get (word_bits ws n) i ≡ None
+slice_get_past-word_bits ws n i h = slice_get_past _ i (omega (arith, length-word_bits ws n))
+
+pub bit_value_at-word_bits : (ws : List ℕ) (n i : ℕ) → i < n
+    → option_map bit_value (slice_get (word_bits ws n) i) ≡ Some (bit_and (get_or ws (i / 64) 0 / 2 ^ (i % 64)) 1)
+bit_value_at-word_bits ws n i h =
+    let w : ℕ = get_or ws (i / 64) 0 in
+    rw (slice_get-word_bits ws n i h, shr_and_one) (ap (λ m. Some m) (bit_value_test (bit_at w (i % 64)) (bit_at-lt w (i % 64))))
+
+-- place i of word k
+word_bit_at : (ws : List ℕ) (k i : ℕ) → i < 64 → word_bit ws (64 * k + i) ≡ eqb (bit_at (get_or ws k 0) i) 1
+word_bit_at ws k i small =
+    let word : (64 * k + i) / 64 ≡ k = omega arith in
+    let place : (64 * k + i) % 64 ≡ i = omega arith in
+    rw (word, place) refl
+
+-- limb k is word k
+bit_of_limb : (ws : List ℕ) (n k i : ℕ) → HoldsBits ws n → i < 64
+    → bit_at (limb (word_bits ws n) k) i ≡ bit_at (get_or ws k 0) i
+unfolding limb
+bit_of_limb ws n k i holds small =
+    let w : ℕ = get_or ws k 0 in
+    let here : bit_value (word_bit ws (64 * k + i)) ≡ bit_at w i = ap bit_value (word_bit_at ws k i small) ∙ bit_value_test (bit_at w i) (bit_at-lt w i) in
+    let place : get_or (take 64 (drop (64 * k) (word_bits ws n))) i false ≡ get_or (word_bits ws n) (64 * k + i) false =
+    get_or-take 64 (drop (64 * k) (word_bits ws n)) i false small ∙ get_or-drop (64 * k) (word_bits ws n) i false in
+    bit_at-number (take 64 (drop (64 * k) (word_bits ws n))) i ∙ ap bit_value place ∙ elim (cases_lt (64 * k + i) n) [
+      | inl within ↦ ap bit_value (get_or-word_bits ws n (64 * k + i) false within) ∙ here
+      | inr past ↦ ap bit_value (get_or_past (word_bits ws n) (64 * k + i) false (omega (arith, length-word_bits ws n)))
+          ∙ ap bit_value (sym (holds.padded (64 * k + i) past)) ∙ here
+    ]
+
+le_trans_lt : {a b c : ℕ} → a < b → b ≤ c → a < c
+le_trans_lt h k = omega arith
+
+limb-lt : (l : List Bool) (k : ℕ) → limb l k < 2 ^ 64
+unfolding limb
+limb-lt l k = le_trans_lt (number-lt (take 64 (drop (64 * k) l))) (pow-le-pow_right {n = 2} (omega arith) {i = length (take 64 (drop (64 * k) l))} {j = 64} (omega (arith, length-take 64 (drop (64 * k) l))))
+
+pub limb-word_bits : (ws : List ℕ) (n k : ℕ) → HoldsBits ws n → get_or ws k 0 < 2 ^ 64 → limb (word_bits ws n) k ≡ get_or ws k 0
+limb-word_bits ws n k holds fits =
+    same_from_bits_below 64 _ _ (limb-lt (word_bits ws n) k) fits (λ i small. bit_of_limb ws n k i holds small)
+
+-- ---- one bit more
+
+-- past the words each place is false
+pub past_words : (ws : List ℕ) (i : ℕ) → 64 * length ws ≤ i → word_bit ws i ≡ false
+past_words ws i h =
+    let none : get_or ws (i / 64) 0 ≡ 0 = get_or_past ws (i / 64) 0 (omega arith) in
+    let zero_bit : bit_at (get_or ws (i / 64) 0) (i % 64) ≡ 0 = ap (λ x. bit_at x (i % 64)) none ∙ bit_at-zero (i % 64) in
+    rw zero_bit refl
+
+pub added_bits : {ws vs : List ℕ} {n : ℕ} {b : Bool} → AddsBit ws vs n b → word_bits vs (n + 1) ≡ word_bits ws n ++ b ∷ []
+added_bits {ws} {vs} {n} {b} adds =
+    word_bits_more vs n ∙ ap (λ x. word_bits vs n ++ x ∷ []) adds.here
+    ∙ ap (λ l. l ++ b ∷ []) (word_bits_are vs n (word_bits ws n) (length-word_bits ws n)
+    (λ i h. adds.others i (omega arith) ∙ sym (get_or-word_bits ws n i false h)))
+
+pub added_holds : {ws vs : List ℕ} {n : ℕ} {b : Bool} → AddsBit ws vs n b → HoldsBits ws n → n < 18446744073709551552 → HoldsBits vs (n + 1)
+added_holds {ws} {vs} {n} {b} adds holds small = record {
+  counted = adds.counted;
+  bounded = omega arith;
+  padded = λ i h. adds.others i (omega arith) ∙ holds.padded i (omega arith);
+}
+
+bit_value_lowest : (b : Bool) → eqb (bit_value b % 2) 1 ≡ b
+bit_value_lowest true = refl
+bit_value_lowest false = refl
+
+-- by a new word
+adds_by_number : (ws : List ℕ) (n : ℕ) (b : Bool) → HoldsBits ws n → n % 64 ≡ 0 → AddsBit ws (ws ++ bit_value b ∷ []) n b
+adds_by_number ws n b holds whole =
+    let full : n ≡ 64 * length ws = omega (arith, holds.counted) in
+    record {
+      counted = omega (arith, length_push ws (bit_value b));
+      here =
+          let word : n / 64 ≡ length ws = omega arith in
+          let place : n % 64 ≡ 0 = whole in
+          rw (place, word, get_or_push ws (bit_value b) 0 (length ws) refl, bit_at_lowest) (bit_value_lowest b);
+      others = λ i other. elim (cases_lt i n) [
+        | inl below ↦ ap (λ w. eqb (bit_at w (i % 64)) 1) (get_or_append_left ws (bit_value b ∷ []) 0 (i / 64) (omega arith))
+        | inr above ↦ elim (cases_lt i (n + 64)) [
+          | inl same_word ↦
+              let word : i / 64 ≡ length ws = omega arith in
+              let none : bit_at (bit_value b) (i % 64) ≡ 0 = bit_at_above (bit_value b) 1 (i % 64) (omega (arith, bit_value_le b)) (omega arith) in
+              let new : get_or (ws ++ bit_value b ∷ []) (i / 64) 0 ≡ bit_value b = get_or_push ws (bit_value b) 0 (i / 64) (sym word) in
+              rw (new, none) (sym (past_words ws i (omega arith)))
+          | inr past ↦ past_words (ws ++ bit_value b ∷ []) i (omega (arith, length_push ws (bit_value b))) ∙ sym (past_words ws i (omega arith))
+        ]
+      ];
+    }
+
+pub adds_by_push : (ws vs : List ℕ) (n : ℕ) (b : Bool) → HoldsBits ws n → n % 64 ≡ 0 → vs ≡ ws ++ bool_byte b ∷ [] → AddsBit ws vs n b
+adds_by_push ws vs n true holds whole e = rw e (adds_by_number ws n true holds whole)
+adds_by_push ws vs n false holds whole e = rw e (adds_by_number ws n false holds whole)
+
+adds_by_bit : (ws : List ℕ) (n : ℕ) → HoldsBits ws n → 0 < n % 64
+    → AddsBit ws (set ws (n / 64) (bit_or (get_or ws (n / 64) 0) (1 * 2 ^ (n % 64) % 2 ^ 64))) n true
+adds_by_bit ws n holds part =
+    let w : ℕ = get_or ws (n / 64) 0 in
+    let v : ℕ = bit_or w (1 * 2 ^ (n % 64) % 2 ^ 64) in
+    let within : n / 64 < length ws = omega (arith, holds.counted) in
+    record {
+      counted = omega (arith, holds.counted, length-set ws (n / 64) v);
+      here = rw (get_or-set_same ws (n / 64) v 0 within, bit_at_set_same w64 w (n % 64) (omega arith)) refl;
+      others = λ i other. elim (cases_eq (i / 64) (n / 64)) [
+        | inl same ↦ ap (λ x. eqb x 1) (rw (same, get_or-set_same ws (n / 64) v 0 within) (bit_at_set_other w64 w (n % 64) (omega arith) (i % 64) (omega arith)))
+        | inr apart ↦ ap (λ x. eqb (bit_at x (i % 64)) 1) (get_or-set_other ws (n / 64) (i / 64) v 0 apart)
+      ];
+    }
+
+-- by a bit of the last word
+pub adds_by_set : (ws : List ℕ) (n w : ℕ) (b : Bool) → HoldsBits ws n → 0 < n % 64 → w ≡ get_or ws (n / 64) w → b ≡ true
+    → AddsBit ws (set ws (n / 64) (bit_or w (1 * 2 ^ (n % 64) % 2 ^ 64))) n b
+adds_by_set ws n w b holds part read on =
+    let within : n / 64 < length ws = omega (arith, holds.counted) in
+    let first : w ≡ get_or ws (n / 64) 0 = read ∙ get_or_default_zero ws (n / 64) w within in
+    rw (first, on) (adds_by_bit ws n holds part)
+
+-- a false bit is there already
+pub adds_by_none : (ws : List ℕ) (n : ℕ) (b : Bool) → HoldsBits ws n → 0 < n % 64 → b ≡ false → AddsBit ws ws n b
+adds_by_none ws n b holds part off = rw off (record { counted = omega (arith, holds.counted); here = holds.padded n (omega arith); others = λ i other. refl })
+
+pub ruleset words = (length-word_bits, slice_get-word_bits, slice_get_past-word_bits, bit_value_at-word_bits, limb-word_bits, added_bits, added_holds)
+
+pub ruleset steps = (adds_by_set, adds_by_none)

@@ -1,0 +1,14 @@
+use Rattle.std.proofs.Common.{◌≡◌, ◌++◌, ◌∷◌, [], arith}
+use Rattle.std.proofs.lemmas.Grind.{common_steps}
+use mir.Val.{bool_byte}
+use Rattle.vers_bits.proofs.Words.{adds_by_push, adds_by_set}
+use Rattle.vers_bits.proofs.bit_vec.add_bit.Goals as goal
+
+pub returns-then-used-eq0-clause-grown : goal.returns-then-used-eq0-clause-grown
+returns-then-used-eq0-clause-grown g c =
+    let pushed : c.push.new.self.items ≡ c.args.words.now.items ++ bool_byte c.args.bit ∷ [] = grind (arith, common_steps) in
+    adds_by_push _ _ _ _ c.requires c.if-used-eq0.true pushed
+
+pub returns-then-bit-clause-grown : goal.returns-then-bit-clause-grown
+returns-then-bit-clause-grown g c =
+    adds_by_set _ _ _ _ c.requires (omega arith) c.index_mut.ensures.value c.if-bit.true

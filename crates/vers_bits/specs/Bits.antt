@@ -1,0 +1,70 @@
+-- Lists of bits: their numbers, their counts, and the places of their ones and zeros.
+-- These are the words that the contracts of every crate of the library are written in.
+use Rattle.std.specs.Prelude.{ℕ, ◌+◌, ◌*◌, ◌/◌, ◌%◌, ◌==◌, ◌&&◌, Bool, false, not, List, [], ◌∷◌, map, length, take, drop, count_by, filter, find, flat_map, slice_index_or, nat_lt, nat_le, Option, None, Some, if◌then◌else◌}
+use Rattle.std.specs.List.{range_with_len, last_or}
+use Rattle.std.specs.Int.{bit_at}
+
+-- a bit as a number: 1 for a one, 0 for a zero
+abbrev pub bit_value : Bool → ℕ
+bit_value bit = if bit then 1 else 0
+
+-- the number whose binary digits the bits are, the lowest first
+abbrev pub number : List Bool → ℕ
+number [] = 0
+number (bit ∷ bits) = bit_value bit + 2 * number bits
+
+-- the k lowest binary digits of v, the lowest first
+unfoldable pub low_bits : ℕ → ℕ → List Bool
+low_bits v k = map (λ i. bit_at v i == 1) (range_with_len 0 k)
+
+-- whether x is a one, where ones are asked for, or a zero, where zeros are
+abbrev pub is_bit : Bool → Bool → Bool
+is_bit bit x = if bit then x else not x
+
+-- how many of the first i bits are ones (or zeros)
+unfoldable pub count : Bool → List Bool → ℕ → ℕ
+count bit bits i = count_by (is_bit bit) (take i bits)
+
+-- the places of all ones (or zeros), ascending
+unfoldable pub places : Bool → List Bool → List ℕ
+places bit bits = filter (λ p. is_bit bit (slice_index_or bits p false)) (range_with_len 0 (length bits))
+
+-- the place of one (or zero) number r, from 0, or the length where there are no more
+unfoldable pub select : Bool → List Bool → ℕ → ℕ
+select bit bits r = slice_index_or (places bit bits) r (length bits)
+
+-- the least place of a one (or zero) above p
+unfoldable pub place_after : Bool → List Bool → ℕ → Option ℕ
+place_after bit bits p = find (λ q. nat_lt p q) (places bit bits)
+
+-- the greatest place of a one (or zero) below p
+unfoldable pub place_before : Bool → List Bool → ℕ → Option ℕ
+place_before bit bits p = last_or None (filter (λ q. nat_lt q p) (places bit bits))
+
+-- the n bits from place p on, or as many of them as there are
+abbrev pub part : List Bool → ℕ → ℕ → List Bool
+part bits p n = take n (drop p bits)
+
+-- the number of the n bits from place p on, where there are so many and n is from 1 to 64
+unfoldable pub part_number : List Bool → ℕ → ℕ → Option ℕ
+part_number bits p n = if nat_le 1 n && (nat_le n 64 && nat_le (p + n) (length bits)) then Some (number (part bits p n)) else None
+
+-- the k low digits of each item, one item after another
+abbrev pub pack : List ℕ → ℕ → List Bool
+pack items k = flat_map (λ v. low_bits v k) items
+
+-- limb k: the number of the 64 bits from 64 * k on, or of as many of them as there are
+unfoldable pub limb : List Bool → ℕ → ℕ
+limb bits k = number (part bits (64 * k) 64)
+
+-- how many limbs n bits fill, the last perhaps in part
+abbrev pub limb_count : ℕ → ℕ
+limb_count n = (n + 63) / 64
+
+-- all limbs of a list
+unfoldable pub limbs : List Bool → List ℕ
+limbs bits = map (limb bits) (range_with_len 0 (limb_count (length bits)))
+
+-- what g makes of two lists of one length: bit p is bit p % 64 of what g answers of both limbs p / 64
+unfoldable pub masked : (ℕ → ℕ → ℕ) → List Bool → List Bool → List Bool
+masked g xs ys = map (λ p. bit_at (g (limb xs (p / 64)) (limb ys (p / 64))) (p % 64) == 1) (range_with_len 0 (length xs))

@@ -1,0 +1,5 @@
+pub mod Bits
+pub mod Words
+pub mod Equality
+pub mod Laws
+pub mod Rows

@@ -1,0 +1,25 @@
+-- Lists of 64 bit words, and the bits that they hold.
+use Rattle.std.specs.Prelude.{◌≡◌, ℕ, ◌+◌, ◌/◌, ◌%◌, ◌≤◌, ◌==◌, Bool, false, List, map, length, slice_index}
+use Rattle.std.specs.List.{range_with_len}
+use Rattle.std.specs.Int.{bit_at}
+use Rattle.vers_bits.specs.Bits.{limb_count}
+
+-- place i of a list of words, the least significant bit of each word first
+abbrev pub word_bit : List ℕ → ℕ → Bool
+word_bit words i = bit_at (slice_index words (i / 64)) (i % 64) == 1
+
+-- the first n bits that the words hold
+unfoldable pub word_bits : List ℕ → ℕ → List Bool
+word_bits words n = map (word_bit words) (range_with_len 0 n)
+
+-- the words are as many as n bits need, and hold no one past them
+pub record HoldsBits (words : List ℕ) (n : ℕ) : Type 0 where
+  pub counted : length words ≡ limb_count n
+  pub bounded : n ≤ 18446744073709551552
+  pub padded : (i : ℕ) → n ≤ i → word_bit words i ≡ false
+
+-- the words vs hold the first n bits of ws, and then the bit b
+pub record AddsBit (ws vs : List ℕ) (n : ℕ) (b : Bool) : Type 0 where
+  pub counted : length vs ≡ limb_count (n + 1)
+  pub here : word_bit vs n ≡ b
+  pub others : (i : ℕ) → (i ≡ n → ⊥) → word_bit vs i ≡ word_bit ws i

@@ -1,0 +1,270 @@
+ghost use Rattle.std.specs.Prelude.{◌≡◌, ℕ, ◌+◌, ◌-◌, ◌*◌, ◌/◌, ◌%◌, ◌^◌, ◌<◌, ◌≤◌, ◌↔◌, [], ◌∷◌, ◌++◌, length, take, drop, IsTrue, IsOk, OnOk, OnErr, IfOk, Some, None, slice_get, slice_index, true, false, ◌==◌, Bool, List, option_map, flat_map};
+ghost use Rattle.vers_bits.specs.Bits.{bit_value, number, count, limb, limbs, low_bits, part, part_number};
+ghost use Rattle.vers_bits.specs.Words.{HoldsBits, AddsBit};
+ghost use Rattle.vers_bits.specs.Equality.{same_bits, hash_input, same_bits_per, same_bits_equiv, hash_input-Alike};
+
+use std::alloc::{AllocError, Allocator};
+use std::hash::{Hash, Hasher};
+use std::marker::Model;
+
+/// Why a list of bits was not made, or did not grow.
+#[derive(Clone, Copy, PartialEq, Eq, Debug, Drop)]
+pub enum GrowError {
+    /// The allocator has no memory.
+    Memory,
+    /// The list would be longer than `MAX_LEN` bits.
+    TooLong,
+}
+
+/// The greatest length of a list of bits.
+pub const MAX_LEN: usize = usize::MAX - 63;
+
+/// A list of bits, with no memory beside its limbs of 64 bits. Bit `p` is bit `p % 64` of limb
+/// `p / 64`, the least significant first. Contracts see a `BitVec` as the list of its bits.
+#[derive(Drop)]
+pub struct BitVec<A: Allocator + Copy> {
+    data: Vec<u64, A>,
+    len: usize,
+}
+
+impl<A: Allocator + Copy> Model for BitVec<A> {
+    ghost use Rattle.std.specs.Prelude.{List, Bool};
+    ghost use Rattle.vers_bits.specs.Words.{word_bits, HoldsBits};
+
+    ghost Value = { List Bool };
+
+    ghost view = { λ v. word_bits v.data.items v.len };
+
+    ghost invariant = { λ v. HoldsBits v.data.items v.len };
+}
+
+impl<A: Allocator + Copy> PartialEq for BitVec<A> {
+    ghost eq = { same_bits };
+
+    ghost laws = { same_bits_per };
+
+    /// Whether both lists have the same bits.
+    #[tactic(auto, using(crate::proofs::Equal::equality))]
+    fn eq(&self, other: &BitVec<A>) -> bool
+        ensures by_bits { result ≡ same_bits self.now other.now }
+        ensures exact { IsTrue result ↔ (self.now ≡ other.now) }
+    {
+        self.len() == other.len() && self.limbs() == other.limbs()
+    }
+}
+
+impl<A: Allocator + Copy> Eq for BitVec<A> {
+    ghost laws = { same_bits_equiv };
+}
+
+impl<A: Allocator + Copy> Hash for BitVec<A> {
+    ghost hash_input = { hash_input };
+
+    ghost respects_eq = { hash_input-Alike };
+
+    /// Feeds the length, then each limb.
+    fn hash<H: Hasher>(&self, state: &mut H) {
+        state.write_usize(self.len());
+        for limb in self.limbs() {
+            limb.hash(state);
+        }
+    }
+}
+
+#[tactic(auto, using(crate::proofs::Words::words))]
+impl<A: Allocator + Copy> BitVec<A> {
+    /// The empty list, which takes no memory.
+    #[tactic(auto, unfolding(crate::specs::Words::word_bits))]
+    pub fn new(alloc: A) -> Self
+        ensures { result ≡ [] }
+    {
+        BitVec {
+            data: Vec::new(alloc),
+            len: 0,
+        }
+    }
+
+    /// How many bits the list has.
+    pub fn len(&self) -> usize
+        ensures value { result ≡ length self.now }
+        ensures bounded { result ≤ MAX_LEN }
+    {
+        self.len
+    }
+
+    /// Whether the list has no bits.
+    pub fn is_empty(&self) -> bool
+        ensures { IsTrue result ↔ (self.now ≡ []) }
+    {
+        self.len() == 0
+    }
+
+    /// Whether the bit at a place is a one. None for a place that the list doesn't have.
+    pub fn is_bit_set(&self, place: usize) -> Option<bool>
+        ensures { result ≡ slice_get self.now place }
+    {
+        if place >= self.len {
+            return None;
+        }
+        Some((self.data[place / 64] >> (place % 64)) & 1 == 1)
+    }
+
+    /// The bit at a place, 1 or 0. None for a place that the list doesn't have.
+    pub fn get(&self, place: usize) -> Option<u64>
+        ensures { result ≡ option_map bit_value (slice_get self.now place) }
+    {
+        if place >= self.len {
+            return None;
+        }
+        Some((self.data[place / 64] >> (place % 64)) & 1)
+    }
+
+    /// Limb number `k`: the 64 bits from place `64 * k` on, the first as the least significant
+    /// one, with zeros past the length. The limb has at least one bit of the list.
+    pub fn limb(&self, k: usize) -> u64
+        requires { 64 * k < length self.now }
+        ensures { result ≡ limb self.now k }
+    {
+        self.data[k]
+    }
+
+    /// The bits of limbs, the least significant bit of each first.
+    #[tactic(auto, using(crate::proofs::Limbs::from_words))]
+    pub fn from_limbs(alloc: A, limbs: &[u64]) -> Result<Self, GrowError>
+        ensures made { IfOk result (λ v. v ≡ flat_map (λ w. low_bits w 64) limbs.now) }
+        ensures too_long { (result ≡ Err GrowError.TooLong) ↔ (MAX_LEN < 64 * length limbs.now) }
+    {
+        if limbs.len() > MAX_LEN / 64 {
+            return Err(GrowError::TooLong);
+        }
+        let mut data = Vec::new(alloc);
+        if data.extend_from_slice(limbs).is_err() {
+            return Err(GrowError::Memory);
+        }
+        let len = 64 * data.len();
+        Ok(BitVec { data, len })
+    }
+
+    // All limbs.
+    #[tactic(auto, using(crate::proofs::Equal::words))]
+    fn limbs(&self) -> &[u64]
+        ensures { result.now ≡ limbs self.now }
+    {
+        known_words(self.data.as_slice())
+    }
+
+    // The ones of limb number `k`.
+    #[tactic(auto, using(crate::proofs::Counting::limbs))]
+    fn ones_of_limb(&self, k: usize) -> u64
+        requires { 64 * k < length self.now }
+        ensures value { count true self.now (64 * k) + result ≡ count true self.now (64 * k + 64) }
+        ensures few { result ≤ 64 }
+    {
+        self.limb(k).count_ones() as u64
+    }
+
+    /// How many places hold a one.
+    #[tactic(auto, using(crate::proofs::Counting::limbs))]
+    pub fn count_ones(&self) -> u64
+        ensures { result ≡ count true self.now (length self.now) }
+    {
+        let mut ones: u64 = 0;
+        for k in 0..self.len().div_ceil(64) {
+            ones += self.ones_of_limb(k);
+        }
+        ones
+    }
+
+    /// The number of the bits from `place` on, `n` of them. None where there are not so many, or `n` is 0 or above 64.
+    #[tactic(auto, using(crate::proofs::Counting::parts))]
+    pub fn get_bits(&self, place: usize, n: usize) -> Option<u64>
+        ensures { result ≡ part_number self.now place n }
+    {
+        let len = self.len();
+        if n == 0 || n > 64 || place > len || n > len - place {
+            return None;
+        }
+        let room = 64 - place % 64;
+        if n <= room {
+            return Some(self.part(place, n));
+        }
+        Some(self.part(place, room) | (self.part(place + room, n - room) << room))
+    }
+
+    // The number of the `n` bits from `place` on, which lie in one limb.
+    #[tactic(auto, using(crate::proofs::Counting::in_limb))]
+    fn part(&self, place: usize, n: usize) -> u64
+        requires some { 0 < n }
+        requires one_limb { place % 64 + n ≤ 64 }
+        requires within { place + n ≤ length self.now }
+        ensures value { result ≡ number (take n (drop place self.now)) }
+    {
+        (self.limb(place / 64) >> (place % 64)) & (u64::MAX >> (64 - n))
+    }
+
+    /// A copy of the allocator.
+    pub fn allocator(&self) -> A {
+        *self.data.allocator()
+    }
+
+    /// Appends a bit. TooLong at the greatest length alone; memory may be wanted only where the
+    /// length is a multiple of 64. The list is as it was where the call is refused.
+    pub fn append(&mut self, bit: bool) -> Result<(), GrowError>
+        ensures grown { OnOk result (self.new ≡ self.old ++ bit ∷ []) }
+        ensures kept { OnErr result (self.new ≡ self.old) }
+        ensures too_long { (result ≡ Err GrowError.TooLong) ↔ (length self.old ≡ MAX_LEN) }
+        ensures room { 0 < length self.old % 64 → IsOk result }
+    {
+        add_bit(&mut self.data, self.len, bit)?;
+        self.len += 1;
+        Ok(())
+    }
+
+    /// Appends the lowest bit of a number: a one where the number is odd. Refusals as of `append`.
+    pub fn append_bit(&mut self, number: u64) -> Result<(), GrowError>
+        ensures grown { OnOk result (self.new ≡ self.old ++ (number % 2 == 1) ∷ []) }
+        ensures kept { OnErr result (self.new ≡ self.old) }
+        ensures too_long { (result ≡ Err GrowError.TooLong) ↔ (length self.old ≡ MAX_LEN) }
+        ensures room { 0 < length self.old % 64 → IsOk result }
+    {
+        self.append(number % 2 == 1)
+    }
+}
+
+// The same words. Its contract tells a caller's proof that each of them has 64 bits.
+fn known_words(words: &[u64]) -> &[u64]
+    ensures same { result.now ≡ words.now }
+    ensures fit { (k : ℕ) → slice_index words.now k < 2 ^ 64 }
+{
+    words
+}
+
+// Makes the words hold one bit more.
+#[tactic(auto, using(crate::proofs::Words::steps))]
+fn add_bit<A: Allocator + Copy>(
+    words: &mut Vec<u64, A>,
+    len: usize,
+    bit: bool,
+) -> Result<(), GrowError>
+    requires { HoldsBits words.old.items len }
+    ensures grown { OnOk result (AddsBit words.old.items words.new.items len bit) }
+    ensures kept { OnErr result (words.new.items ≡ words.old.items) }
+    ensures too_long { (result ≡ Err GrowError.TooLong) ↔ (len ≡ MAX_LEN) }
+    ensures room { 0 < len % 64 → IsOk result }
+{
+    let used = len % 64;
+    if used == 0 {
+        if len >= MAX_LEN {
+            return Err(GrowError::TooLong);
+        }
+        if words.push(bit as u64).is_err() {
+            return Err(GrowError::Memory);
+        }
+        return Ok(());
+    }
+    if bit {
+        words[len / 64] |= 1 << used;
+        return Ok(());
+    }
+    Ok(())
+}

@@ -1,0 +1,5 @@
+//! Lists of bits in limbs of 64, and the words that all contracts of the library are written in.
+#![tactic(auto)]
+
+pub mod bit_vec;
+pub mod laws;
