@@ -1,5 +1,5 @@
-ghost use Rattle.std.specs.Prelude.{◌≡◌, ℕ, ◌+◌, ◌-◌, ◌*◌, ◌/◌, ◌%◌, ◌^◌, ◌<◌, ◌≤◌, ◌↔◌, [], ◌∷◌, ◌++◌, length, take, drop, IsTrue, IsOk, OnOk, OnErr, IfOk, Some, None, slice_get, slice_index, true, false, ◌==◌, Bool, List, option_map, flat_map};
-ghost use Rattle.vers_bits.specs.Bits.{bit_value, number, count, limb, limbs, low_bits, part, part_number};
+ghost use Rattle.std.specs.Prelude.{◌≡◌, ℕ, ◌+◌, ◌-◌, ◌*◌, ◌/◌, ◌%◌, ◌^◌, ◌<◌, ◌≤◌, ◌↔◌, [], ◌∷◌, ◌++◌, length, take, drop, IsTrue, IsOk, OnOk, OnErr, IfOk, Some, None, slice_get, slice_index, true, false, ◌==◌, Bool, List, option_map};
+ghost use Rattle.vers_bits.specs.Bits.{bit_value, number, count, limb, limbs, pack, part, part_number};
 ghost use Rattle.vers_bits.specs.Words.{HoldsBits, AddsBit};
 ghost use Rattle.vers_bits.specs.Equality.{same_bits, hash_input, same_bits_per, same_bits_equiv, hash_input-Alike};
 
@@ -128,19 +128,19 @@ impl<A: Allocator + Copy> BitVec<A> {
         self.data[k]
     }
 
-    /// The bits of limbs, the least significant bit of each first.
+    /// The bits of limbs, 64 of each, its least significant bit first. TooLong where they are more
+    /// than `MAX_LEN` bits, which is tested before memory is asked for.
     #[tactic(auto, using(crate::proofs::Limbs::from_words))]
     pub fn from_limbs(alloc: A, limbs: &[u64]) -> Result<Self, GrowError>
-        ensures made { IfOk result (λ v. v ≡ flat_map (λ w. low_bits w 64) limbs.now) }
+        ensures made { IfOk result (λ v. v ≡ pack limbs.now 64) }
         ensures too_long { (result ≡ Err GrowError.TooLong) ↔ (MAX_LEN < 64 * length limbs.now) }
     {
         if limbs.len() > MAX_LEN / 64 {
             return Err(GrowError::TooLong);
         }
-        let mut data = Vec::new(alloc);
-        if data.extend_from_slice(limbs).is_err() {
+        let Ok(data) = Vec::from_slice(alloc, limbs) else {
             return Err(GrowError::Memory);
-        }
+        };
         let len = 64 * data.len();
         Ok(BitVec { data, len })
     }
@@ -163,7 +163,7 @@ impl<A: Allocator + Copy> BitVec<A> {
         self.limb(k).count_ones() as u64
     }
 
-    /// How many places hold a one.
+    /// How many ones the list has.
     #[tactic(auto, using(crate::proofs::Counting::limbs))]
     pub fn count_ones(&self) -> u64
         ensures { result ≡ count true self.now (length self.now) }

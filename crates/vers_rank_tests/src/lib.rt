@@ -1,0 +1,5 @@
+//! Tests of ranks and selects.
+#![tactic(auto)]
+
+#[cfg(test)]
+mod basic;

@@ -1,0 +1,5 @@
+//! A use of the library through its facade alone.
+#![tactic(auto)]
+
+#[cfg(test)]
+mod paths;
