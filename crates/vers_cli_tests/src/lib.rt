@@ -1,0 +1,2 @@
+//! Tests of the line program over memory.
+#![tactic(auto)]
