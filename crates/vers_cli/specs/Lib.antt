@@ -9,3 +9,4 @@ pub mod Rules
 pub mod Answers
 pub mod Held
 pub mod Session
+pub mod Rows
