@@ -45,8 +45,10 @@ pub fn reply<A: Allocator + Copy>(bits: &RsVec<A>, query: Query, arguments: &[&[
     ensures { result ≡ bits_reply bits.now query (map (λ word. word.now) arguments.now) }
 {
     match query {
-        Query::Len => no_arguments(arguments)
-            .map_or(Reply::BadLine, |()| Reply::Number(bits.len() as u64)),
+        Query::Len => no_arguments(arguments).map_or(
+            Reply::BadLine,
+            |()| Reply::Number(bits.len() as u64),
+        ),
         Query::Get => one_number(arguments).map_or(Reply::BadLine, |place| {
             Reply::number_or_absent(bits.get(place as usize))
         }),

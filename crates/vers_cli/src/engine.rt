@@ -1,6 +1,6 @@
-//! The engine: reads lines, and writes the answer of each.
-ghost use Rattle.std.specs.Prelude.{◌≡◌, ◌↔◌, ◌++◌, ◌<◌, IsTrue, List, ℕ, [], ◌∷◌, true, false, OnOk, IfErr, OnErr, length};
-ghost use Rattle.std.specs.Io.KnownBytes.{Appends, Consumes, IsAtEnd};
+//! The engine: reads lines, and writes the answer of each before it reads on.
+ghost use Rattle.std.specs.Prelude.{◌≡◌, ◌↔◌, ◌++◌, IsTrue, List, ℕ, [], ◌∷◌, false, OnOk, IfErr};
+ghost use Rattle.std.specs.Io.KnownBytes.{Appends, Consumes};
 ghost use Rattle.vers_cli.specs.Answers.{AreLinesRead, WrittenAt, fault_text};
 ghost use Rattle.vers_cli.specs.Session.{AnswersOrFails, TakesOrFails, FinishesOrFails, FailsAlong};
 
@@ -10,14 +10,17 @@ use std::alloc::{AllocError, AllocFailed, Allocator};
 use std::io::{Read, Write};
 
 /// Why a run ended before the end of its input.
-#[derive(Drop)]
+#[derive(Clone, Copy, PartialEq, Eq, Debug, Drop)]
 pub enum RunError {
+    /// The reader answered an error, or an interruption.
     Read,
+    /// The writer answered an error, or took no byte of a piece that has some.
     Write,
+    /// The allocator has no memory.
     Memory,
 }
 
-/// What is printed of a fault.
+/// What is to be printed of a fault: `read failed`, `write failed` or `out of memory`.
 pub fn fault_line(error: &RunError) -> &'static str
     ensures { result.now ≡ fault_text error.now }
 {
@@ -48,7 +51,7 @@ impl<T: Drop> From<AllocFailed<T>> for RunError {
     }
 }
 
-/// Writes a whole piece.
+// Writes a whole piece, or as much of it as the writer takes before a fault.
 fn write_piece<W: Write>(writer: &mut Device<W>, piece: &[u8]) -> Result<(), RunError>
     ensures written { (text : List ℕ) × (rest : List ℕ)
         × Appends (W.contents writer.old.inner) (W.contents writer.new.inner) text
@@ -60,13 +63,14 @@ fn write_piece<W: Write>(writer: &mut Device<W>, piece: &[u8]) -> Result<(), Run
     while !rest.is_empty() {
         match writer.write(rest) {
             Ok(0) => return Err(RunError::Write),
-            Ok(n) => rest = &rest[n..],
+            Ok(taken) => rest = &rest[taken..],
             Err(_) => return Err(RunError::Write),
         }
     }
     Ok(())
 }
 
+// What is held, and the bytes that were read since the last end of a line.
 #[derive(Drop)]
 struct Session<A: Allocator + Copy> {
     store: Store<A>,
@@ -74,7 +78,7 @@ struct Session<A: Allocator + Copy> {
 }
 
 impl<A: Allocator + Copy> Session<A> {
-    /// Answers what is pending as a line.
+    // Answers the pending bytes as a line. The answer is built whole before any of it is written.
     fn answer_line<W: Write>(&mut self, writer: &mut Device<W>) -> Result<(), RunError>
         ensures written { (text : List ℕ)
             × Appends (W.contents writer.old.inner) (W.contents writer.new.inner) text
@@ -86,6 +90,7 @@ impl<A: Allocator + Copy> Session<A> {
         write_piece(writer, answer.as_slice())
     }
 
+    // Takes one byte: it ends a line, which is answered, or is one more of the pending.
     fn take_byte<W: Write>(&mut self, byte: u8, writer: &mut Device<W>) -> Result<(), RunError>
         ensures written { (text : List ℕ)
             × Appends (W.contents writer.old.inner) (W.contents writer.new.inner) text
@@ -101,6 +106,7 @@ impl<A: Allocator + Copy> Session<A> {
         Ok(())
     }
 
+    // Takes bytes that were read, and answers each line that ends in them.
     fn take_bytes<W: Write>(&mut self, bytes: &[u8], writer: &mut Device<W>) -> Result<(), RunError>
         ensures written { (text : List ℕ)
             × Appends (W.contents writer.old.inner) (W.contents writer.new.inner) text
@@ -113,6 +119,7 @@ impl<A: Allocator + Copy> Session<A> {
         Ok(())
     }
 
+    // At the end of the input: answers the last line, unless it has no bytes.
     fn finish<W: Write>(&mut self, writer: &mut Device<W>) -> Result<(), RunError>
         ensures written { (text : List ℕ)
             × Appends (W.contents writer.old.inner) (W.contents writer.new.inner) text
@@ -126,7 +133,29 @@ impl<A: Allocator + Copy> Session<A> {
     }
 }
 
-/// Reads all lines, and writes the answer of each before it reads on.
+// How many bytes are asked of the reader at once.
+const READ_LEN: usize = 4096;
+
+/// Reads lines to the end of the input and writes the answer of each, every whole line before the
+/// next read.
+///
+/// A line ends with byte 10 or with the end of the input, and its words are separated by spaces.
+/// An answer line is built whole before its first byte is written. A line that is malformed, that
+/// asks what isn't held, or that is refused is answered by `bad line`, `wrong structure` or
+/// `refused`; nothing held is lost by it, and the run goes on. Memory is needed for the longest
+/// line, for its answer and for what is held.
+///
+/// # Errors
+///
+/// - `Read`: the reader answered an error. Every whole line that was read has been answered, and
+///   the line that the fault cut off has no answer.
+/// - `Write`: the writer answered an error or took no byte. What was written is a beginning of the
+///   answers.
+/// - `Memory`: the allocator refused. What was written is the answers of a first part of the lines,
+///   each answer whole.
+///
+/// `Read` and `Write` come exactly where the device has failed when the run returns. A reader that
+/// has not come to its end after 2^64 - 1 reads counts as failed.
 pub fn run<A: Allocator + Copy, R: Read, W: Write>(
     alloc: A,
     reader: &mut Device<R>,
@@ -146,7 +175,7 @@ pub fn run<A: Allocator + Copy, R: Read, W: Write>(
         store: Store::new(alloc),
         pending: Vec::new(alloc),
     };
-    let mut buffer = [0u8; 512];
+    let mut buffer = [0u8; READ_LEN];
     for _ in 0..u64::MAX {
         match reader.read(&mut buffer) {
             Ok(0) => return session.finish(writer),

@@ -5,11 +5,10 @@ ghost use Rattle.vers_cli.specs.Holding.{Nothing};
 ghost use Rattle.vers_cli.specs.Rules.{loaded, load_reply, holding_after_load, IsReply, holding_after_name};
 ghost use Rattle.vers_cli.specs.Answers.{IsAnswerToWords, holding_after_words, IsAnswerTo, holding_after};
 
-use crate::held;
 use crate::held::{Held, Loading};
 use crate::name::{Load, Name};
 use crate::reply::Reply;
-use crate::text;
+use crate::{held, text};
 use std::alloc::{AllocError, Allocator};
 use std::marker::Model;
 
