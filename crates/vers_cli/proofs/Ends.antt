@@ -1,0 +1,49 @@
+-- How a run ends.
+use Rattle.std.proofs.Common.{◌≡◌, ◌≢◌, ◌↔◌, ℕ, List, [], ◌++◌, Bool, false, IsTrue, Option, Ok, Err, Result, refl, sym, inl, inr}
+use Rattle.std.specs.Io.KnownBytes.{IsAtEnd}
+use Rattle.vers_cli.specs.declared.engine.RunError.{RunError}
+use Rattle.vers_cli.specs.declared.engine.RunError.TheVariants.{Read, Write, Memory}
+use Rattle.vers_cli.specs.Text.{whole_lines, lines_of}
+use Rattle.vers_cli.specs.Holding.{Holding, Nothing}
+use Rattle.vers_cli.specs.Answers.{AnswersLines, AreLinesRead, WrittenAt}
+use Rattle.vers_cli.specs.Session.{StandsAt, TakesOrFails, FinishesOrFails, FailsAlong}
+use Rattle.vers_cli.proofs.Splits.{IsSplit-none}
+use Rattle.vers_cli.proofs.Steps.{whole_lines-IsSplit}
+
+pub StandsAt-start : StandsAt [] [] Nothing []
+StandsAt-start = record { lines = []; split = IsSplit-none 10; answered = refl; holds = refl }
+
+-- at the end of the input
+pub ends : (r : Result (Unit {0}) RunError) (left : Option (List ℕ)) (h : Holding) (p text read written : List ℕ)
+    → IsAtEnd left → StandsAt read written h p → FinishesOrFails r h p text
+    → AreLinesRead r left read (lines_of read) × WrittenAt r (lines_of read) (written ++ text)
+ends (Ok u) left h p text read written e s f = ((e, refl), f read written s)
+ends (Err Read) left h p text read written e s f = absurd (f read written s)
+ends (Err Memory) left h p text read written e s f = (inr (e, refl), f read written s)
+ends (Err Write) left h p text read written e s f = (inr (e, refl), f read written s)
+
+-- at a fault between two reads
+pub breaks : (e : RunError) (left : Option (List ℕ)) (h : Holding) (p bytes text : List ℕ) (new : Holding) (rest read written : List ℕ)
+    → StandsAt read written h p → TakesOrFails (Err e) h p bytes text new rest
+    → (lines : List (List ℕ)) × AreLinesRead (Err e) left (read ++ bytes) lines × WrittenAt (Err e) lines (written ++ text)
+breaks Read left h p bytes text new rest read written s f = absurd ((f read written s).3)
+breaks Memory left h p bytes text new rest read written s f =
+    let w = f read written s in (w.0, inl (sym (whole_lines-IsSplit _ w.0 w.1 w.2)), w.3)
+breaks Write left h p bytes text new rest read written s f =
+    let w = f read written s in (w.0, inl (sym (whole_lines-IsSplit _ w.0 w.1 w.2)), w.3)
+
+-- at a fault of the reader
+pub stops : (h : Holding) (p read written : List ℕ) → StandsAt read written h p → AnswersLines Nothing (whole_lines read) written
+stops h p read written s = rw (whole_lines-IsSplit read s.lines p s.split) s.answered
+
+pub never_read : (r : Result (Unit {0}) RunError) (old new : Bool) → FailsAlong r old new → r ≢ Err Read
+never_read (Ok u) old new f e = cc
+never_read (Err Read) old new f e = f
+never_read (Err Memory) old new f e = cc
+never_read (Err Write) old new f e = cc
+
+pub write_failed : (r : Result (Unit {0}) RunError) (new : Bool) → FailsAlong r false new → (r ≡ Err Write) ↔ (IsTrue new)
+write_failed (Ok u) new f = (λ e. cc, λ e. cc)
+write_failed (Err Read) new f = absurd f
+write_failed (Err Memory) new f = (λ e. cc, λ e. cc)
+write_failed (Err Write) new f = (λ e. f, λ e. refl)

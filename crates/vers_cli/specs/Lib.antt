@@ -1,0 +1,12 @@
+pub mod Device
+pub mod Text
+pub mod Arguments
+pub mod Name
+pub mod Holding
+pub mod Reply
+pub mod BitsLines
+pub mod Rules
+pub mod Answers
+pub mod Held
+pub mod Session
+pub mod Rows

@@ -1,0 +1,64 @@
+-- Where a session stands: what was read and written so far. These words serve the engine's own
+-- functions, and say step by step what `run` ensures as a whole.
+use Rattle.std.specs.Prelude.{◌≡◌, ℕ, ◌++◌, ◌==◌, All, Bool, true, false, List, [], ◌∷◌, Result, Ok, Err}
+use Rattle.vers_cli.specs.declared.engine.RunError.{RunError}
+use Rattle.vers_cli.specs.declared.engine.RunError.TheVariants.{Read, Write, Memory}
+use Rattle.vers_cli.specs.Text.{lines_of}
+use Rattle.vers_cli.specs.Holding.{Holding, Nothing}
+use Rattle.vers_cli.specs.Answers.{IsAnswerTo, holding_after, AnswersLines, holding_after_all, AnswersFirst, BeginsAnswer}
+
+-- each part, and the byte after it
+abbrev pub ended_by : ℕ → List (List ℕ) → List ℕ
+ended_by byte [] = []
+ended_by byte (part ∷ parts) = part ++ byte ∷ ended_by byte parts
+
+-- the text is the parts, each ended by the byte, and then the rest, and none of them has that byte
+pub record IsSplit (byte : ℕ) (text : List ℕ) (parts : List (List ℕ)) (rest : List ℕ) : Type 0 where
+  pub joined : text ≡ ended_by byte parts ++ rest
+  pub parts_lack : All (λ part. All (λ b. (b == byte) ≡ false) part) parts
+  pub rest_lacks : All (λ b. (b == byte) ≡ false) rest
+
+-- every whole line that was read is answered by what was written, this is held after them, and the
+-- pending bytes came after the last of them
+pub record StandsAt (read written : List ℕ) (held : Holding) (pending : List ℕ) : Type 0 where
+  pub lines : List (List ℕ)
+  pub split : IsSplit 10 read lines pending
+  pub answered : AnswersLines Nothing lines written
+  pub holds : held ≡ holding_after_all Nothing lines
+
+-- what was written of the answers of lines at a fault that is not the reader's
+abbrev pub FailsAt : RunError → List (List ℕ) → List ℕ → Type 0
+FailsAt Read lines written = ⊥
+FailsAt Memory lines written = AnswersFirst lines written
+FailsAt Write lines written = BeginsAnswer lines written
+
+-- the text answers one line, after which `new` is held, or a fault cut the answer off
+abbrev pub AnswersOrFails : Result (Unit {0}) RunError → Holding → List ℕ → List ℕ → Holding → Type 0
+AnswersOrFails (Ok u) held line text new = IsAnswerTo held line text × (new ≡ holding_after held line)
+AnswersOrFails (Err Read) held line text new = ⊥
+AnswersOrFails (Err Memory) held line text new = text ≡ []
+AnswersOrFails (Err Write) held line text new = (rest : List ℕ) × IsAnswerTo held line (text ++ rest)
+
+-- a session took the bytes and wrote the text, or met a fault on the way
+abbrev pub TakesOrFails : Result (Unit {0}) RunError → Holding → List ℕ → List ℕ → List ℕ → Holding → List ℕ → Type 0
+TakesOrFails (Ok u) held pending bytes text new rest =
+    (read written : List ℕ) → StandsAt read written held pending
+    → StandsAt (read ++ bytes) (written ++ text) new rest
+TakesOrFails (Err e) held pending bytes text new rest =
+    (read written : List ℕ) → StandsAt read written held pending
+    → (lines : List (List ℕ)) × (after : List ℕ)
+    × IsSplit 10 (read ++ bytes) lines after × FailsAt e lines (written ++ text)
+
+-- at the end of the input the text answers what was pending, or a fault cut it off
+abbrev pub FinishesOrFails : Result (Unit {0}) RunError → Holding → List ℕ → List ℕ → Type 0
+FinishesOrFails (Ok u) held pending text =
+    (read written : List ℕ) → StandsAt read written held pending → AnswersLines Nothing (lines_of read) (written ++ text)
+FinishesOrFails (Err e) held pending text =
+    (read written : List ℕ) → StandsAt read written held pending → FailsAt e (lines_of read) (written ++ text)
+
+-- the writer has failed at a fault of writing, and is as before otherwise
+abbrev pub FailsAlong : Result (Unit {0}) RunError → Bool → Bool → Type 0
+FailsAlong (Ok u) old new = new ≡ old
+FailsAlong (Err Read) old new = ⊥
+FailsAlong (Err Memory) old new = new ≡ old
+FailsAlong (Err Write) old new = new ≡ true

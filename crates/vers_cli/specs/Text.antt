@@ -1,0 +1,45 @@
+-- Lines, words and numbers of a text. A text is a list of bytes: 10 ends a line, 13 may stand
+-- before that end, and 32 stands between words.
+use Rattle.std.specs.Prelude.{ℕ, ◌^◌, Bool, ◌&&◌, ◌==◌, not, nat_lt, List, [], ◌∷◌, ◌++◌, filter, length, Option, Some, None, if◌then◌else◌}
+use Rattle.std.specs.List.{slice_split, list_all}
+use Rattle.std.specs.Char.{is_ascii_digit}
+use Rattle.std.specs.Str.Parse.{digits_value}
+use Rattle.std.specs.Io.BufRead.{strip_last}
+
+-- all but the last
+abbrev pub front : {X : Type 0} → List X → List X
+front [] = []
+front (x ∷ []) = []
+front (x ∷ y ∷ ys) = x ∷ front (y ∷ ys)
+
+-- the last, or d where there is none
+abbrev pub last_or : {X : Type 0} → X → List X → X
+last_or d [] = d
+last_or d (x ∷ xs) = last_or x xs
+
+-- whether a text has bytes
+abbrev pub has_bytes : List ℕ → Bool
+has_bytes text = not (length text == 0)
+
+-- the whole lines of a text: what stands before each of its bytes 10, back to the one before it
+abbrev pub whole_lines : List ℕ → List (List ℕ)
+whole_lines text = front (slice_split (λ byte. byte == 10) text)
+
+-- what stands after the last byte 10 of a text
+abbrev pub last_part : List ℕ → List ℕ
+last_part text = last_or [] (slice_split (λ byte. byte == 10) text)
+
+-- the lines of an input that was read to its end, where a last part without bytes is no line
+abbrev pub lines_of : List ℕ → List (List ℕ)
+lines_of text = whole_lines text ++ filter has_bytes (last_part text ∷ [])
+
+-- the words of a line: the longest runs of bytes other than 32, without one byte 13 at its end
+abbrev pub words_of : List ℕ → List (List ℕ)
+words_of line = filter has_bytes (slice_split (λ byte. byte == 32) (strip_last 13 line))
+
+-- the number that a word writes: one or more decimal digits, of a value that 64 bits hold
+unfoldable pub number_of : List ℕ → Option ℕ
+number_of word =
+    if has_bytes word && (list_all is_ascii_digit word && nat_lt (digits_value 10 word) (2 ^ 64))
+    then Some (digits_value 10 word)
+    else None

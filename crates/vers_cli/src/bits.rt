@@ -1,0 +1,68 @@
+//! The lines of a list of bits.
+ghost use Rattle.std.specs.Prelude.{◌≡◌, ◌≤◌, length, map, IfOk};
+ghost use Rattle.vers_cli.specs.Arguments.{bits_of, bits_of_digits};
+ghost use Rattle.vers_cli.specs.BitsLines.{bits_loaded, bits_reply};
+ghost use Rattle.vers_cli.specs.Held.{loaded_of};
+
+use crate::arguments::{bit_digits, no_arguments, one_number};
+use crate::held::{Held, Loading};
+use crate::name::Query;
+use crate::reply::Reply;
+use std::alloc::{AllocError, Allocator};
+use vers_bits::bit_vec::{BitVec, MAX_LEN};
+use vers_rank::fast_rs_vec::RsVec;
+
+/// What the load line `bits S` gives.
+pub fn load<A: Allocator + Copy>(alloc: A, arguments: &[&[u8]]) -> Result<Loading<A>, AllocError>
+    ensures { IfOk result (λ loading. loaded_of loading ≡ bits_loaded (bits_of (map (λ word. word.now) arguments.now))) }
+{
+    let Some(digits) = bit_digits(arguments) else {
+        return Ok(Loading::Malformed);
+    };
+    if digits.len() > MAX_LEN {
+        return Ok(Loading::Inadmissible);
+    }
+    let bits = RsVec::from_bit_vec(bit_vec(alloc, digits)?)?;
+    Ok(Loading::Accepted(Held::Bits(bits)))
+}
+
+/// The list that digits 0 and 1 write.
+pub fn bit_vec<A: Allocator + Copy>(alloc: A, digits: &[u8]) -> Result<BitVec<A>, AllocError>
+    requires { length digits.now ≤ MAX_LEN }
+    ensures { IfOk result (λ bits. bits ≡ bits_of_digits digits.now) }
+{
+    let mut bits = BitVec::new(alloc);
+    for digit in digits {
+        if bits.append(*digit == b'1').is_err() {
+            return Err(AllocError);
+        }
+    }
+    Ok(bits)
+}
+
+/// The reply of a query line, where these bits are held.
+pub fn reply<A: Allocator + Copy>(bits: &RsVec<A>, query: Query, arguments: &[&[u8]]) -> Reply
+    ensures { result ≡ bits_reply bits.now query (map (λ word. word.now) arguments.now) }
+{
+    match query {
+        Query::Len => no_arguments(arguments).map_or(
+            Reply::BadLine,
+            |()| Reply::Number(bits.len() as u64),
+        ),
+        Query::Get => one_number(arguments).map_or(Reply::BadLine, |place| {
+            Reply::number_or_absent(bits.get(place as usize))
+        }),
+        Query::Rank0 => one_number(arguments).map_or(Reply::BadLine, |place| {
+            Reply::Number(bits.rank0(place as usize) as u64)
+        }),
+        Query::Rank1 => one_number(arguments).map_or(Reply::BadLine, |place| {
+            Reply::Number(bits.rank1(place as usize) as u64)
+        }),
+        Query::Select0 => one_number(arguments).map_or(Reply::BadLine, |r| {
+            Reply::Number(bits.select0(r as usize) as u64)
+        }),
+        Query::Select1 => one_number(arguments).map_or(Reply::BadLine, |r| {
+            Reply::Number(bits.select1(r as usize) as u64)
+        }),
+    }
+}

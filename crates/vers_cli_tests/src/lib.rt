@@ -1,0 +1,11 @@
+//! Tests of the line program over memory: its answers, and runs that meet a fault.
+#![tactic(auto)]
+
+#[cfg(test)]
+mod answers;
+#[cfg(test)]
+mod devices;
+#[cfg(test)]
+mod faults;
+#[cfg(test)]
+mod memory;
