@@ -3,5 +3,7 @@ pub mod Words
 pub mod Count
 pub mod Places
 pub mod Counting
+pub mod LowBits
 pub mod Limbs
+pub mod Holds
 pub mod Equal

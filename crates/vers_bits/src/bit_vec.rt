@@ -3,18 +3,13 @@ ghost use Rattle.vers_bits.specs.Bits.{bit_value, number, count, limb, limbs, lo
 ghost use Rattle.vers_bits.specs.Words.{HoldsBits, AddsBit};
 ghost use Rattle.vers_bits.specs.Equality.{same_bits, hash_input, same_bits_per, same_bits_equiv, hash_input-Alike};
 
+pub use crate::bit_vec::fault::{GrowError, LengthMismatch, OutOfRange, SplitCause, SplitError};
 use std::alloc::{AllocError, Allocator};
 use std::hash::{Hash, Hasher};
 use std::marker::Model;
 
-/// Why a list of bits was not made, or did not grow.
-#[derive(Clone, Copy, PartialEq, Eq, Debug, Drop)]
-pub enum GrowError {
-    /// The allocator has no memory.
-    Memory,
-    /// The list would be longer than `MAX_LEN` bits.
-    TooLong,
-}
+mod fault;
+mod words;
 
 /// The greatest length of a list of bits.
 pub const MAX_LEN: usize = usize::MAX - 63;
