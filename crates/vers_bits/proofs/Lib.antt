@@ -7,3 +7,5 @@ pub mod LowBits
 pub mod Limbs
 pub mod Holds
 pub mod Equal
+pub mod Growing
+pub mod Edits

@@ -1,9 +1,9 @@
 //! Edits of the words that hold a list of bits.
-ghost use Rattle.std.specs.Prelude.{◌≡◌, ◌+◌, ◌*◌, ◌/◌, ◌%◌, ◌^◌, ◌<◌, ◌≤◌, [], ◌∷◌, ◌++◌, length, take, slice_index, slice_set, bit_or, IsOk, OnOk, OnErr};
-ghost use Rattle.vers_bits.specs.Bits.{low_bits};
-ghost use Rattle.vers_bits.specs.Words.{word_bits, HoldsBits, Holds};
+ghost use Rattle.std.specs.Prelude.{◌≡◌, ◌+◌, ◌*◌, ◌/◌, ◌%◌, ◌^◌, ◌<◌, ◌≤◌, [], ◌∷◌, ◌++◌, length, take, slice_index, slice_set, bit_or, IsOk, OnOk, OnErr, ◌↔◌, not, Bool, true, false};
+ghost use Rattle.vers_bits.specs.Bits.{low_bits, limb_count};
+ghost use Rattle.vers_bits.specs.Words.{word_bit, word_bits, HoldsBits, Holds, AddsBit, CutsTo, Puts};
 
-use crate::bit_vec::MAX_LEN;
+use crate::bit_vec::{GrowError, MAX_LEN};
 use std::alloc::{AllocError, Allocator};
 
 // The low `n` bits of a word.
@@ -64,4 +64,69 @@ pub(super) fn add_bits<A: Allocator + Copy>(
     push_word(words, bits >> (64 - used))?;
     or_into(words, len / 64, bits << used);
     Ok(())
+}
+
+// Makes the words hold one bit more.
+#[tactic(auto, using(crate::proofs::Words::steps))]
+pub(super) fn add_bit<A: Allocator + Copy>(
+    words: &mut Vec<u64, A>,
+    len: usize,
+    bit: bool,
+) -> Result<(), GrowError>
+    requires { HoldsBits words.old.items len }
+    ensures grown { OnOk result (AddsBit words.old.items words.new.items len bit) }
+    ensures kept { OnErr result (words.new.items ≡ words.old.items) }
+    ensures too_long { (result ≡ Err GrowError.TooLong) ↔ (len ≡ MAX_LEN) }
+    ensures room { 0 < len % 64 → IsOk result }
+{
+    let used = len % 64;
+    if used == 0 {
+        if len >= MAX_LEN {
+            return Err(GrowError::TooLong);
+        }
+        if words.push(bit as u64).is_err() {
+            return Err(GrowError::Memory);
+        }
+        return Ok(());
+    }
+    if bit {
+        words[len / 64] |= 1 << used;
+        return Ok(());
+    }
+    Ok(())
+}
+
+// Cuts the words to those of the first `len` bits, with zeros past them.
+pub(super) fn cut<A: Allocator + Copy>(words: &mut Vec<u64, A>, len: usize)
+    requires { limb_count len ≤ length words.old.items }
+    ensures { CutsTo words.old.items words.new.items len }
+{
+    words.truncate(len.div_ceil(64));
+    let used = len % 64;
+    if used == 0 {
+        return;
+    }
+    let last = words[len / 64];
+    words[len / 64] = low_part(last, used);
+}
+
+// Makes the bit at a place what `bit` says.
+pub(super) fn put_bit<A: Allocator + Copy>(words: &mut Vec<u64, A>, place: usize, bit: bool)
+    requires { place / 64 < length words.old.items }
+    ensures { Puts words.old.items words.new.items place bit }
+{
+    let mask = 1 << (place % 64);
+    if bit {
+        words[place / 64] |= mask;
+        return;
+    }
+    words[place / 64] &= !mask;
+}
+
+// Makes the bit at a place the other one.
+pub(super) fn flip<A: Allocator + Copy>(words: &mut Vec<u64, A>, place: usize)
+    requires { place / 64 < length words.old.items }
+    ensures { Puts words.old.items words.new.items place (not (word_bit words.old.items place)) }
+{
+    words[place / 64] ^= 1 << (place % 64);
 }
