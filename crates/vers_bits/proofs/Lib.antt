@@ -11,3 +11,5 @@ pub mod Growing
 pub mod Edits
 pub mod Filling
 pub mod Stops
+pub mod Masks
+pub mod Zips
