@@ -13,3 +13,4 @@ pub mod Filling
 pub mod Stops
 pub mod Masks
 pub mod Zips
+pub mod Packed

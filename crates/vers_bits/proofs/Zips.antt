@@ -1,5 +1,5 @@
 -- Masks by or, and and xor are the bits combined one by one.
-use Rattle.std.proofs.Common.{◌≡◌, ℕ, zero, suc, ◌+◌, ◌/◌, ◌%◌, ◌<◌, min, max, Bool, true, false, not, ◌||◌, ◌&&◌, cond, eqb, List, [], ◌∷◌, length, get_or, refl, sym, ap, ◌∙◌, arith}
+use Rattle.std.proofs.Common.{◌≡◌, ℕ, zero, suc, ◌+◌, ◌/◌, ◌%◌, ◌<◌, min, max, Bool, true, false, ◌||◌, ◌&&◌, eqb, List, [], ◌∷◌, length, get_or, refl, sym, ap, ◌∙◌, arith}
 use Rattle.std.specs.Int.{bit_at}
 use Rattle.std.specs.Prelude.{bit_or, bit_and, bit_xor}
 use Rattle.std.proofs.lemmas.Nat.Bits.{bit_at_or, bit_at_and, bit_at_xor}
@@ -14,7 +14,7 @@ length-zip_bits f [] ys e = refl
 length-zip_bits f (x ∷ xs) [] e = absurd (omega arith)
 length-zip_bits f (x ∷ xs) (y ∷ ys) e = ap suc (length-zip_bits f xs ys (omega arith))
 
-get_or-zip_bits : (f : Bool → Bool → Bool) (xs ys : List Bool) (i : ℕ) → length xs ≡ length ys → i < length xs → get_or (zip_bits f xs ys) i false ≡ f (get_or xs i false) (get_or ys i false)
+pub get_or-zip_bits : (f : Bool → Bool → Bool) (xs ys : List Bool) (i : ℕ) → length xs ≡ length ys → i < length xs → get_or (zip_bits f xs ys) i false ≡ f (get_or xs i false) (get_or ys i false)
 get_or-zip_bits f [] ys i e h = absurd (omega arith)
 get_or-zip_bits f (x ∷ xs) [] i e h = absurd (omega arith)
 get_or-zip_bits f (x ∷ xs) (y ∷ ys) zero e h = refl

@@ -9,10 +9,7 @@ use crate::bit_vec::words::{add_bit, add_bits, add_zeros, low_part};
 use crate::bit_vec::{BitVec, GrowError, MAX_LEN};
 use std::alloc::{AllocError, Allocator};
 
-#[tactic(
-    auto,
-    using(crate::proofs::Words::words, crate::proofs::Holds::holding, crate::proofs::Growing::growth)
-)]
+#[tactic(auto, using(crate::proofs::Words::words, crate::proofs::Holds::holding, crate::proofs::Growing::growth))]
 impl<A: Allocator + Copy> BitVec<A> {
     /// Appends a bit. TooLong at the greatest length alone; memory may be wanted only where the
     /// length is a multiple of 64. The list is as it was where the call is refused.
@@ -153,7 +150,10 @@ impl<A: Allocator + Copy> BitVec<A> {
         for k in 0..added.div_ceil(64) {
             let place = start + 64 * k;
             let n = (other.len() - place).min(64);
-            if self.append_bits(other.get_bits_unchecked(place, n), n).is_err() {
+            if self
+                .append_bits(other.get_bits_unchecked(place, n), n)
+                .is_err()
+            {
                 self.truncate(old_len);
                 return Err(GrowError::Memory);
             }
@@ -173,7 +173,10 @@ impl<A: Allocator + Copy> BitVec<A> {
 
     /// Appends the lists of an iterator that ends, in order. At the first list that finds no place
     /// the call is refused: the lists before it stay appended, and of that one nothing.
-    pub fn extend<I: Iterator<Item = BitVec<A>> + Drop>(&mut self, lists: I) -> Result<(), GrowError>
+    pub fn extend<I: Iterator<Item = BitVec<A>> + Drop>(
+        &mut self,
+        lists: I,
+    ) -> Result<(), GrowError>
         requires can { I.can_next lists }
         requires ends { IsFinite (I.remaining lists) }
         ensures grown { OnOk result ((xs : List (List Bool)) × Drains I.next_gives lists xs × (self.new ≡ self.old ++ flat_map (λ x. x) xs)) }

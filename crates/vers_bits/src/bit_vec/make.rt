@@ -180,7 +180,10 @@ impl<A: Allocator + Copy> BitVec<A> {
     }
 
     // A bit an item of an iterator.
-    fn odd_items_of<T: Item, I: Iterator<Item = T> + Drop>(alloc: A, items: I) -> Result<Self, GrowError>
+    fn odd_items_of<T: Item, I: Iterator<Item = T> + Drop>(
+        alloc: A,
+        items: I,
+    ) -> Result<Self, GrowError>
         requires can { I.can_next items }
         requires ends { IsFinite (I.remaining items) }
         ensures made { IfOk result (λ v. (xs : List T) × Drains I.next_gives items xs × (v ≡ map T.is_odd xs)) }
@@ -262,7 +265,10 @@ impl<A: Allocator + Copy> BitVec<A> {
 
     /// A bit an item of an iterator that ends: a one where the item is odd. TooLong, and Memory
     /// for want of memory, at the first item that finds no place.
-    pub fn from_bits_iter<I: Iterator<Item = u64> + Drop>(alloc: A, bits: I) -> Result<Self, GrowError>
+    pub fn from_bits_iter<I: Iterator<Item = u64> + Drop>(
+        alloc: A,
+        bits: I,
+    ) -> Result<Self, GrowError>
         requires can { I.can_next bits }
         requires ends { IsFinite (I.remaining bits) }
         ensures made { IfOk result (λ v. (xs : List ℕ) × Drains I.next_gives bits xs × (v ≡ map (λ n. n % 2 == 1) xs)) }
@@ -281,7 +287,10 @@ impl<A: Allocator + Copy> BitVec<A> {
 
     /// The truth values of an iterator that ends. TooLong, and Memory for want of memory, at the
     /// first item that finds no place.
-    pub fn from_bool_iter<I: Iterator<Item = bool> + Drop>(alloc: A, bools: I) -> Result<Self, GrowError>
+    pub fn from_bool_iter<I: Iterator<Item = bool> + Drop>(
+        alloc: A,
+        bools: I,
+    ) -> Result<Self, GrowError>
         requires can { I.can_next bools }
         requires ends { IsFinite (I.remaining bools) }
         ensures made { IfOk result (λ v. Drains I.next_gives bools v) }
@@ -292,7 +301,10 @@ impl<A: Allocator + Copy> BitVec<A> {
 
     /// The bits of the limbs of an iterator that ends, the least significant bit of each first.
     /// TooLong, and Memory for want of memory, at the first limb that finds no place.
-    pub fn from_limbs_iter<I: Iterator<Item = u64> + Drop>(alloc: A, limbs: I) -> Result<Self, GrowError>
+    pub fn from_limbs_iter<I: Iterator<Item = u64> + Drop>(
+        alloc: A,
+        limbs: I,
+    ) -> Result<Self, GrowError>
         requires can { I.can_next limbs }
         requires ends { IsFinite (I.remaining limbs) }
         ensures made { IfOk result (λ v. (xs : List ℕ) × Drains I.next_gives limbs xs × (v ≡ flat_map (λ w. low_bits w 64) xs)) }

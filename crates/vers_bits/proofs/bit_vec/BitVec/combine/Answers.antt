@@ -1,5 +1,5 @@
-use Rattle.std.proofs.Common.{◌≡◌, ◌<◌, ◌*◌, ◌∙◌, ℕ, length, get_or, sym, ap, arith}
-use Rattle.vers_bits.specs.Bits.{limb, limb_count}
+use Rattle.std.proofs.Common.{◌≡◌, ◌<◌, ◌∙◌, length, get_or, sym, ap, arith}
+use Rattle.vers_bits.specs.Bits.{limb}
 use Rattle.vers_bits.proofs.Words.{length-word_bits, limb-word_bits}
 use Rattle.vers_bits.proofs.Equal.{get_or-limbs, length-limbs}
 use Rattle.vers_bits.proofs.Masks.{combined}
