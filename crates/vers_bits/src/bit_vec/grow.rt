@@ -134,6 +134,23 @@ impl<A: Allocator + Copy> BitVec<A> {
         self.append_bit(u64::from(number))
     }
 
+    // Appends the bits of another list from a place on. Where the call is refused some of them may
+    // have been appended.
+    fn append_from(&mut self, other: &BitVec<A>, start: usize) -> Result<(), GrowError>
+        requires start { start ≤ length other.now }
+        requires short { length self.old + (length other.now - start) ≤ MAX_LEN }
+        ensures grown { OnOk result (self.new ≡ self.old ++ drop start other.now) }
+        ensures begun { OnErr result (take (length self.old) self.new ≡ self.old) }
+    {
+        let added = other.len() - start;
+        self.reserve(added)?;
+        for k in 0..added / 64 {
+            self.append_bits(other.get_bits_unchecked(start + 64 * k, 64), 64)?;
+        }
+        let rest = added % 64;
+        self.append_bits(other.get_bits_unchecked(start + (added - rest), rest), rest)
+    }
+
     // Appends the bits of another list from a place on.
     pub(super) fn extend_from(&mut self, other: &BitVec<A>, start: usize) -> Result<(), GrowError>
         requires { start ≤ length other.now }
@@ -141,22 +158,13 @@ impl<A: Allocator + Copy> BitVec<A> {
         ensures kept { OnErr result (self.new ≡ self.old) }
         ensures too_long { (result ≡ Err GrowError.TooLong) ↔ (MAX_LEN < length self.old + (length other.now - start)) }
     {
-        let added = other.len() - start;
-        let old_len = self.len();
-        if added > MAX_LEN - old_len {
+        let len = self.len();
+        if other.len() - start > MAX_LEN - len {
             return Err(GrowError::TooLong);
         }
-        self.reserve(added)?;
-        for k in 0..added.div_ceil(64) {
-            let place = start + 64 * k;
-            let n = (other.len() - place).min(64);
-            if self
-                .append_bits(other.get_bits_unchecked(place, n), n)
-                .is_err()
-            {
-                self.truncate(old_len);
-                return Err(GrowError::Memory);
-            }
+        if self.append_from(other, start).is_err() {
+            self.truncate(len);
+            return Err(GrowError::Memory);
         }
         Ok(())
     }
