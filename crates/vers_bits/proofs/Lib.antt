@@ -3,5 +3,14 @@ pub mod Words
 pub mod Count
 pub mod Places
 pub mod Counting
+pub mod LowBits
 pub mod Limbs
+pub mod Holds
 pub mod Equal
+pub mod Growing
+pub mod Edits
+pub mod Filling
+pub mod Stops
+pub mod Masks
+pub mod Zips
+pub mod Packed

@@ -1,20 +1,20 @@
-ghost use Rattle.std.specs.Prelude.{◌≡◌, ℕ, ◌+◌, ◌-◌, ◌*◌, ◌/◌, ◌%◌, ◌^◌, ◌<◌, ◌≤◌, ◌↔◌, [], ◌∷◌, ◌++◌, length, take, drop, IsTrue, IsOk, OnOk, OnErr, IfOk, Some, None, slice_get, slice_index, true, false, ◌==◌, Bool, List, option_map};
-ghost use Rattle.vers_bits.specs.Bits.{bit_value, number, count, limb, limbs, pack, part, part_number};
+ghost use Rattle.std.specs.Prelude.{◌≡◌, ℕ, ◌+◌, ◌-◌, ◌*◌, ◌/◌, ◌%◌, ◌^◌, ◌<◌, ◌≤◌, ◌↔◌, [], ◌∷◌, ◌++◌, length, take, drop, IsTrue, IsOk, OnOk, OnErr, IfOk, Some, None, slice_get, slice_index, slice_index_or, true, false, ◌==◌, Bool, List, option_map, flat_map};
+ghost use Rattle.vers_bits.specs.Bits.{bit_value, number, count, limb, limbs, limb_count, part, part_number};
 ghost use Rattle.vers_bits.specs.Words.{HoldsBits, AddsBit};
 ghost use Rattle.vers_bits.specs.Equality.{same_bits, hash_input, same_bits_per, same_bits_equiv, hash_input-Alike};
 
+pub use crate::bit_vec::fault::{GrowError, LengthMismatch, OutOfRange, SplitCause, SplitError};
+pub use crate::bit_vec::mask::BitMask;
 use std::alloc::{AllocError, Allocator};
 use std::hash::{Hash, Hasher};
 use std::marker::Model;
 
-/// Why a list of bits was not made, or did not grow.
-#[derive(Clone, Copy, PartialEq, Eq, Debug, Drop)]
-pub enum GrowError {
-    /// The allocator has no memory.
-    Memory,
-    /// The list would be longer than `MAX_LEN` bits.
-    TooLong,
-}
+mod edit;
+mod fault;
+mod grow;
+mod make;
+pub mod mask;
+mod words;
 
 /// The greatest length of a list of bits.
 pub const MAX_LEN: usize = usize::MAX - 63;
@@ -71,6 +71,19 @@ impl<A: Allocator + Copy> Hash for BitVec<A> {
     }
 }
 
+impl<A: Allocator + Copy> Clone for BitVec<A> {
+    ghost is_clone = { λ old new. new ≡ old };
+
+    /// A second list of the same bits.
+    fn clone(&self) -> Result<Self, AllocError> {
+        let data = Vec::from_slice(*self.data.allocator(), self.data.as_slice())?;
+        Ok(BitVec {
+            data,
+            len: self.len,
+        })
+    }
+}
+
 #[tactic(auto, using(crate::proofs::Words::words))]
 impl<A: Allocator + Copy> BitVec<A> {
     /// The empty list, which takes no memory.
@@ -119,6 +132,22 @@ impl<A: Allocator + Copy> BitVec<A> {
         Some((self.data[place / 64] >> (place % 64)) & 1)
     }
 
+    /// Whether the bit at a place that the list has is a one.
+    pub fn is_bit_set_unchecked(&self, place: usize) -> bool
+        requires { place < length self.now }
+        ensures { result ≡ slice_index_or self.now place false }
+    {
+        (self.data[place / 64] >> (place % 64)) & 1 == 1
+    }
+
+    /// The bit at a place that the list has, 1 or 0.
+    pub fn get_unchecked(&self, place: usize) -> u64
+        requires { place < length self.now }
+        ensures { result ≡ bit_value (slice_index_or self.now place false) }
+    {
+        (self.data[place / 64] >> (place % 64)) & 1
+    }
+
     /// Limb number `k`: the 64 bits from place `64 * k` on, the first as the least significant
     /// one, with zeros past the length. The limb has at least one bit of the list.
     pub fn limb(&self, k: usize) -> u64
@@ -126,23 +155,6 @@ impl<A: Allocator + Copy> BitVec<A> {
         ensures { result ≡ limb self.now k }
     {
         self.data[k]
-    }
-
-    /// The bits of limbs, 64 of each, its least significant bit first. TooLong where they are more
-    /// than `MAX_LEN` bits, which is tested before memory is asked for.
-    #[tactic(auto, using(crate::proofs::Limbs::from_words))]
-    pub fn from_limbs(alloc: A, limbs: &[u64]) -> Result<Self, GrowError>
-        ensures made { IfOk result (λ v. v ≡ pack limbs.now 64) }
-        ensures too_long { (result ≡ Err GrowError.TooLong) ↔ (MAX_LEN < 64 * length limbs.now) }
-    {
-        if limbs.len() > MAX_LEN / 64 {
-            return Err(GrowError::TooLong);
-        }
-        let Ok(data) = Vec::from_slice(alloc, limbs) else {
-            return Err(GrowError::Memory);
-        };
-        let len = 64 * data.len();
-        Ok(BitVec { data, len })
     }
 
     // All limbs.
@@ -163,7 +175,7 @@ impl<A: Allocator + Copy> BitVec<A> {
         self.limb(k).count_ones() as u64
     }
 
-    /// How many ones the list has.
+    /// How many places hold a one.
     #[tactic(auto, using(crate::proofs::Counting::limbs))]
     pub fn count_ones(&self) -> u64
         ensures { result ≡ count true self.now (length self.now) }
@@ -175,6 +187,21 @@ impl<A: Allocator + Copy> BitVec<A> {
         ones
     }
 
+    /// How many places hold a zero.
+    #[tactic(auto, using(crate::proofs::Counting::limbs))]
+    pub fn count_zeros(&self) -> u64
+        ensures { result ≡ count false self.now (length self.now) }
+    {
+        self.len() as u64 - self.count_ones()
+    }
+
+    /// How many bytes the limbs take.
+    pub fn heap_size(&self) -> usize
+        ensures { result ≡ 8 * limb_count (length self.now) }
+    {
+        8 * self.data.len()
+    }
+
     /// The number of the bits from `place` on, `n` of them. None where there are not so many, or `n` is 0 or above 64.
     #[tactic(auto, using(crate::proofs::Counting::parts))]
     pub fn get_bits(&self, place: usize, n: usize) -> Option<u64>
@@ -184,11 +211,53 @@ impl<A: Allocator + Copy> BitVec<A> {
         if n == 0 || n > 64 || place > len || n > len - place {
             return None;
         }
+        Some(self.get_bits_unchecked(place, n))
+    }
+
+    /// The number of the bits from `place` on, `n` of them: 0 where `n` is 0.
+    #[tactic(auto, using(crate::proofs::Words::words, crate::proofs::Counting::parts))]
+    pub fn get_bits_unchecked(&self, place: usize, n: usize) -> u64
+        requires few { n ≤ 64 }
+        requires within { place + n ≤ length self.now }
+        ensures { result ≡ number (part self.now place n) }
+    {
+        // A place below the length is below `MAX_LEN`.
+        let _ = &self.len;
+        if n == 0 {
+            return 0;
+        }
         let room = 64 - place % 64;
         if n <= room {
-            return Some(self.part(place, n));
+            return self.part(place, n);
         }
-        Some(self.part(place, room) | (self.part(place + room, n - room) << room))
+        self.part(place, room) | (self.part(place + room, n - room) << room)
+    }
+
+    /// Element `index` of the list as numbers of `n` bits each, one after another. None where the
+    /// list has no such element, or `n` is 0 or above 64.
+    #[tactic(auto, using(crate::proofs::Counting::elements))]
+    pub fn unpack_element(&self, index: usize, n: usize) -> Option<u64>
+        ensures { result ≡ part_number self.now (index * n) n }
+    {
+        // A product past the machine's numbers is past `MAX_LEN`, and so past the length.
+        let _ = &self.len;
+        match index.checked_mul(n) {
+            Some(place) => self.get_bits(place, n),
+            None => None,
+        }
+    }
+
+    /// Element `index` of the list as numbers of `n` bits each, one after another, which the list
+    /// has: 0 where `n` is 0.
+    #[tactic(auto, using(crate::proofs::Counting::elements))]
+    pub fn unpack_element_unchecked(&self, index: usize, n: usize) -> u64
+        requires few { n ≤ 64 }
+        requires within { index * n + n ≤ length self.now }
+        ensures { result ≡ number (part self.now (index * n) n) }
+    {
+        // A place below the length is below `MAX_LEN`.
+        let _ = &self.len;
+        self.get_bits_unchecked(index * n, n)
     }
 
     // The number of the `n` bits from `place` on, which lie in one limb.
@@ -197,7 +266,7 @@ impl<A: Allocator + Copy> BitVec<A> {
         requires some { 0 < n }
         requires one_limb { place % 64 + n ≤ 64 }
         requires within { place + n ≤ length self.now }
-        ensures value { result ≡ number (take n (drop place self.now)) }
+        ensures { result ≡ number (part self.now place n) }
     {
         (self.limb(place / 64) >> (place % 64)) & (u64::MAX >> (64 - n))
     }
@@ -205,29 +274,6 @@ impl<A: Allocator + Copy> BitVec<A> {
     /// A copy of the allocator.
     pub fn allocator(&self) -> A {
         *self.data.allocator()
-    }
-
-    /// Appends a bit. TooLong at the greatest length alone; memory may be wanted only where the
-    /// length is a multiple of 64. The list is as it was where the call is refused.
-    pub fn append(&mut self, bit: bool) -> Result<(), GrowError>
-        ensures grown { OnOk result (self.new ≡ self.old ++ bit ∷ []) }
-        ensures kept { OnErr result (self.new ≡ self.old) }
-        ensures too_long { (result ≡ Err GrowError.TooLong) ↔ (length self.old ≡ MAX_LEN) }
-        ensures room { 0 < length self.old % 64 → IsOk result }
-    {
-        add_bit(&mut self.data, self.len, bit)?;
-        self.len += 1;
-        Ok(())
-    }
-
-    /// Appends the lowest bit of a number: a one where the number is odd. Refusals as of `append`.
-    pub fn append_bit(&mut self, number: u64) -> Result<(), GrowError>
-        ensures grown { OnOk result (self.new ≡ self.old ++ (number % 2 == 1) ∷ []) }
-        ensures kept { OnErr result (self.new ≡ self.old) }
-        ensures too_long { (result ≡ Err GrowError.TooLong) ↔ (length self.old ≡ MAX_LEN) }
-        ensures room { 0 < length self.old % 64 → IsOk result }
-    {
-        self.append(number % 2 == 1)
     }
 }
 
@@ -237,34 +283,4 @@ fn known_words(words: &[u64]) -> &[u64]
     ensures fit { (k : ℕ) → slice_index words.now k < 2 ^ 64 }
 {
     words
-}
-
-// Makes the words hold one bit more.
-#[tactic(auto, using(crate::proofs::Words::steps))]
-fn add_bit<A: Allocator + Copy>(
-    words: &mut Vec<u64, A>,
-    len: usize,
-    bit: bool,
-) -> Result<(), GrowError>
-    requires { HoldsBits words.old.items len }
-    ensures grown { OnOk result (AddsBit words.old.items words.new.items len bit) }
-    ensures kept { OnErr result (words.new.items ≡ words.old.items) }
-    ensures too_long { (result ≡ Err GrowError.TooLong) ↔ (len ≡ MAX_LEN) }
-    ensures room { 0 < len % 64 → IsOk result }
-{
-    let used = len % 64;
-    if used == 0 {
-        if len >= MAX_LEN {
-            return Err(GrowError::TooLong);
-        }
-        if words.push(bit as u64).is_err() {
-            return Err(GrowError::Memory);
-        }
-        return Ok(());
-    }
-    if bit {
-        words[len / 64] |= 1 << used;
-        return Ok(());
-    }
-    Ok(())
 }

@@ -1,0 +1,45 @@
+-- A list that grows by the parts of another, 64 bits at a time.
+use Rattle.std.proofs.Common.{◌≡◌, ℕ, ◌+◌, ◌-◌, ◌*◌, ◌^◌, ◌<◌, ◌≤◌, Bool, false, List, [], ◌∷◌, replicate, ◌++◌, length, take, drop, sym, ap, ◌∙◌, arith}
+use Rattle.std.proofs.Math.Seq.{take-add}
+use Rattle.std.proofs.lemmas.List.{length-take, length-drop, drop-drop, take_all, append-nil, append_assoc, length-append}
+use Rattle.std.specs.Prelude.{flat_map}
+use Rattle.vers_bits.specs.Bits.{number, low_bits}
+use Rattle.vers_bits.proofs.LowBits.{low_bits_of_number, low_bits_of_rest, low_bits_none, low_bits_past, length-low_bits}
+
+-- a part as low digits of its number
+pub low_bits_of_part : (l : List Bool) (p n : ℕ) → p + n ≤ length l → low_bits (number (take n (drop p l))) n ≡ take n (drop p l)
+low_bits_of_part l p n within =
+    let long : length (take n (drop p l)) ≡ n = omega (arith, length-take n (drop p l), length-drop p l) in
+    ap (low_bits (number (take n (drop p l)))) (sym long) ∙ low_bits_of_number (take n (drop p l))
+
+-- 64 bits more
+pub next_limb : (l : List Bool) (s k : ℕ) → s + 64 * k + 64 ≤ length l
+    → take (64 * k) (drop s l) ++ low_bits (number (take 64 (drop (s + 64 * k) l))) 64 ≡ take (64 * (k + 1)) (drop s l)
+next_limb l s k within =
+    let more : 64 * k + 64 ≡ 64 * (k + 1) = omega arith in
+    ap (λ xs. take (64 * k) (drop s l) ++ xs) (low_bits_of_part l (s + 64 * k) 64 within ∙ sym (ap (take 64) (drop-drop (64 * k) s l)))
+    ∙ sym (take-add (64 * k) 64 (drop s l)) ∙ ap (λ m. take m (drop s l)) more
+
+-- the bits after them, which are all that are left
+pub last_bits : (l : List Bool) (s m n : ℕ) → s + m + n ≡ length l
+    → take m (drop s l) ++ low_bits (number (take n (drop (s + m) l))) n ≡ drop s l
+last_bits l s m n all =
+    ap (λ xs. take m (drop s l) ++ xs) (low_bits_of_part l (s + m) n (omega arith) ∙ sym (ap (take n) (drop-drop m s l)))
+    ∙ sym (take-add m n (drop s l)) ∙ take_all (m + n) (drop s l) (omega (arith, length-drop s l))
+
+pub add_none : (l : List Bool) (v n : ℕ) → n ≡ 0 → l ++ low_bits v n ≡ l
+add_none l v n none = ap (λ k. l ++ low_bits v k) none ∙ ap (λ xs. l ++ xs) (low_bits_none v) ∙ append-nil l
+
+-- a number of 64 bits with zeros behind them
+pub long_digits : (l : List Bool) (v n : ℕ) → v < 2 ^ 64 → 64 ≤ n → (l ++ low_bits v 64) ++ replicate (n - 64) false ≡ l ++ low_bits v n
+long_digits l v n small long =
+    let whole : 64 + (n - 64) ≡ n = omega arith in
+    append_assoc l (low_bits v 64) (replicate (n - 64) false) ∙ ap (λ xs. l ++ xs) (sym (low_bits_past v 64 (n - 64) small) ∙ ap (low_bits v) whole)
+
+-- a packed list has as many bits an item
+pub length-packed : {X : Type 0} (f : X → ℕ) (k : ℕ) (xs : List X) → length (flat_map (λ x. low_bits (f x) k) xs) ≡ length xs * k
+length-packed f k [] = omega arith
+length-packed f k (x ∷ xs) =
+    length-append (low_bits (f x) k) (flat_map (λ y. low_bits (f y) k) xs) ∙ omega (arith, length-low_bits (f x) k, length-packed f k xs)
+
+pub ruleset growth = (low_bits_of_rest, add_none)

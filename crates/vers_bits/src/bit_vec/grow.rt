@@ -1,0 +1,225 @@
+//! Calls that make a list of bits grow.
+ghost use Rattle.std.specs.Prelude.{◌≡◌, ℕ, ◌+◌, ◌-◌, ◌*◌, ◌/◌, ◌%◌, ◌^◌, ◌<◌, ◌≤◌, ◌↔◌, [], ◌∷◌, ◌++◌, length, take, drop, IsOk, OnOk, OnErr, ◌==◌, IfErr, flat_map, replicate, Bool, List, false};
+ghost use Rattle.std.specs.Borrow.{Bor};
+ghost use Rattle.std.specs.Iterator.{Drains, IsFinite};
+ghost use Rattle.vers_bits.specs.Bits.{low_bits};
+ghost use Rattle.vers_bits.specs.Makers.{StopsAt};
+
+use crate::bit_vec::words::{add_bit, add_bits, add_zeros, low_part};
+use crate::bit_vec::{BitVec, GrowError, MAX_LEN};
+use std::alloc::{AllocError, Allocator};
+
+#[tactic(auto, using(crate::proofs::Words::words, crate::proofs::Holds::holding, crate::proofs::Growing::growth))]
+impl<A: Allocator + Copy> BitVec<A> {
+    /// Appends a bit. TooLong at the greatest length alone; memory may be wanted only where the
+    /// length is a multiple of 64. The list is as it was where the call is refused.
+    pub fn append(&mut self, bit: bool) -> Result<(), GrowError>
+        ensures grown { OnOk result (self.new ≡ self.old ++ bit ∷ []) }
+        ensures kept { OnErr result (self.new ≡ self.old) }
+        ensures too_long { (result ≡ Err GrowError.TooLong) ↔ (length self.old ≡ MAX_LEN) }
+        ensures room { 0 < length self.old % 64 → IsOk result }
+    {
+        add_bit(&mut self.data, self.len, bit)?;
+        self.len += 1;
+        Ok(())
+    }
+
+    /// Appends the lowest bit of a number: a one where the number is odd. Refusals as of `append`.
+    pub fn append_bit(&mut self, number: u64) -> Result<(), GrowError>
+        ensures grown { OnOk result (self.new ≡ self.old ++ (number % 2 == 1) ∷ []) }
+        ensures kept { OnErr result (self.new ≡ self.old) }
+        ensures too_long { (result ≡ Err GrowError.TooLong) ↔ (length self.old ≡ MAX_LEN) }
+        ensures room { 0 < length self.old % 64 → IsOk result }
+    {
+        self.append(number % 2 == 1)
+    }
+
+    /// Appends the low `len` bits of a number, the least significant first. TooLong where the list
+    /// would be longer than `MAX_LEN`. No bits, and bits that the last limb has room for, take no
+    /// memory. The list is as it was where the call is refused.
+    pub fn append_bits(&mut self, bits: u64, len: usize) -> Result<(), GrowError>
+        requires { len ≤ 64 }
+        ensures grown { OnOk result (self.new ≡ self.old ++ low_bits bits len) }
+        ensures kept { OnErr result (self.new ≡ self.old) }
+        ensures too_long { (result ≡ Err GrowError.TooLong) ↔ (MAX_LEN < length self.old + len) }
+        ensures none { len ≡ 0 → IsOk result }
+        ensures room { 0 < length self.old % 64 → length self.old % 64 + len ≤ 64 → IsOk result }
+    {
+        if len > MAX_LEN - self.len {
+            return Err(GrowError::TooLong);
+        }
+        if len == 0 {
+            return Ok(());
+        }
+        add_bits(&mut self.data, self.len, low_part(bits, len), len)?;
+        self.len += len;
+        Ok(())
+    }
+
+    /// The same as `append_bits`.
+    pub fn append_bits_unchecked(&mut self, bits: u64, len: usize) -> Result<(), GrowError>
+        requires { len ≤ 64 }
+        ensures grown { OnOk result (self.new ≡ self.old ++ low_bits bits len) }
+        ensures kept { OnErr result (self.new ≡ self.old) }
+        ensures too_long { (result ≡ Err GrowError.TooLong) ↔ (MAX_LEN < length self.old + len) }
+        ensures none { len ≡ 0 → IsOk result }
+        ensures room { 0 < length self.old % 64 → length self.old % 64 + len ≤ 64 → IsOk result }
+    {
+        self.append_bits(bits, len)
+    }
+
+    // Appends the low `n` digits of a number, with zeros past its own. Where the call is refused
+    // some of them may have been appended.
+    pub(super) fn append_digits(&mut self, number: u64, n: usize) -> Result<(), GrowError>
+        ensures grown { OnOk result (self.new ≡ self.old ++ low_bits number n) }
+        ensures too_long { (result ≡ Err GrowError.TooLong) ↔ (MAX_LEN < length self.old + n) }
+    {
+        if n <= 64 {
+            return self.append_bits(number, n);
+        }
+        if n > MAX_LEN - self.len() {
+            return Err(GrowError::TooLong);
+        }
+        self.append_bits(number, 64)?;
+        self.append_zeros(n - 64)?;
+        Ok(())
+    }
+
+    // Appends zeros.
+    fn append_zeros(&mut self, n: usize) -> Result<(), AllocError>
+        requires { length self.old + n ≤ MAX_LEN }
+        ensures { OnOk result (self.new ≡ self.old ++ replicate n false) }
+    {
+        add_zeros(&mut self.data, self.len, n)?;
+        self.len += n;
+        Ok(())
+    }
+
+    /// Appends the 64 bits of a number, the least significant first. Refusals as of `append_bits`.
+    pub fn append_word(&mut self, word: u64) -> Result<(), GrowError>
+        ensures grown { OnOk result (self.new ≡ self.old ++ low_bits word 64) }
+        ensures kept { OnErr result (self.new ≡ self.old) }
+        ensures too_long { (result ≡ Err GrowError.TooLong) ↔ (MAX_LEN < length self.old + 64) }
+    {
+        self.append_bits(word, 64)
+    }
+
+    /// Appends the lowest bit of a number: a one where the number is odd. Refusals as of `append`.
+    pub fn append_bit_u8(&mut self, number: u8) -> Result<(), GrowError>
+        ensures grown { OnOk result (self.new ≡ self.old ++ (number % 2 == 1) ∷ []) }
+        ensures kept { OnErr result (self.new ≡ self.old) }
+        ensures too_long { (result ≡ Err GrowError.TooLong) ↔ (length self.old ≡ MAX_LEN) }
+        ensures room { 0 < length self.old % 64 → IsOk result }
+    {
+        self.append_bit(u64::from(number))
+    }
+
+    /// Appends the lowest bit of a number: a one where the number is odd. Refusals as of `append`.
+    pub fn append_bit_u16(&mut self, number: u16) -> Result<(), GrowError>
+        ensures grown { OnOk result (self.new ≡ self.old ++ (number % 2 == 1) ∷ []) }
+        ensures kept { OnErr result (self.new ≡ self.old) }
+        ensures too_long { (result ≡ Err GrowError.TooLong) ↔ (length self.old ≡ MAX_LEN) }
+        ensures room { 0 < length self.old % 64 → IsOk result }
+    {
+        self.append_bit(u64::from(number))
+    }
+
+    /// Appends the lowest bit of a number: a one where the number is odd. Refusals as of `append`.
+    pub fn append_bit_u32(&mut self, number: u32) -> Result<(), GrowError>
+        ensures grown { OnOk result (self.new ≡ self.old ++ (number % 2 == 1) ∷ []) }
+        ensures kept { OnErr result (self.new ≡ self.old) }
+        ensures too_long { (result ≡ Err GrowError.TooLong) ↔ (length self.old ≡ MAX_LEN) }
+        ensures room { 0 < length self.old % 64 → IsOk result }
+    {
+        self.append_bit(u64::from(number))
+    }
+
+    // Appends the bits of another list from a place on. Where the call is refused some of them may
+    // have been appended.
+    fn append_from(&mut self, other: &BitVec<A>, start: usize) -> Result<(), GrowError>
+        requires start { start ≤ length other.now }
+        requires short { length self.old + (length other.now - start) ≤ MAX_LEN }
+        ensures grown { OnOk result (self.new ≡ self.old ++ drop start other.now) }
+        ensures begun { OnErr result (take (length self.old) self.new ≡ self.old) }
+    {
+        let added = other.len() - start;
+        self.reserve(added)?;
+        for k in 0..added / 64 {
+            self.append_bits(other.get_bits_unchecked(start + 64 * k, 64), 64)?;
+        }
+        let rest = added % 64;
+        self.append_bits(other.get_bits_unchecked(start + (added - rest), rest), rest)
+    }
+
+    // Appends the bits of another list from a place on.
+    pub(super) fn extend_from(&mut self, other: &BitVec<A>, start: usize) -> Result<(), GrowError>
+        requires { start ≤ length other.now }
+        ensures grown { OnOk result (self.new ≡ self.old ++ drop start other.now) }
+        ensures kept { OnErr result (self.new ≡ self.old) }
+        ensures too_long { (result ≡ Err GrowError.TooLong) ↔ (MAX_LEN < length self.old + (length other.now - start)) }
+    {
+        let len = self.len();
+        if other.len() - start > MAX_LEN - len {
+            return Err(GrowError::TooLong);
+        }
+        if self.append_from(other, start).is_err() {
+            self.truncate(len);
+            return Err(GrowError::Memory);
+        }
+        Ok(())
+    }
+
+    /// Appends all bits of another list. TooLong where the list would be longer than `MAX_LEN`.
+    /// The list is as it was where the call is refused.
+    pub fn extend_bitvec(&mut self, other: &BitVec<A>) -> Result<(), GrowError>
+        ensures grown { OnOk result (self.new ≡ self.old ++ other.now) }
+        ensures kept { OnErr result (self.new ≡ self.old) }
+        ensures too_long { (result ≡ Err GrowError.TooLong) ↔ (MAX_LEN < length self.old + length other.now) }
+    {
+        self.extend_from(other, 0)
+    }
+
+    /// Appends the lists of an iterator that ends, in order. At the first list that finds no place
+    /// the call is refused: the lists before it stay appended, and of that one nothing.
+    pub fn extend<I: Iterator<Item = BitVec<A>> + Drop>(
+        &mut self,
+        lists: I,
+    ) -> Result<(), GrowError>
+        requires can { I.can_next lists }
+        requires ends { IsFinite (I.remaining lists) }
+        ensures grown { OnOk result ((xs : List (List Bool)) × Drains I.next_gives lists xs × (self.new ≡ self.old ++ flat_map (λ x. x) xs)) }
+        ensures refused { IfErr result (λ e. StopsAt I.next_gives lists (λ xs x. (self.new ≡ self.old ++ flat_map (λ y. y) xs) × ((e ≡ GrowError.TooLong) ↔ (MAX_LEN < length self.new + length x)))) }
+    {
+        for list in lists {
+            self.extend_bitvec(&list)?;
+        }
+        Ok(())
+    }
+
+    /// The same as `extend`, of lists behind references.
+    pub fn extend_ref<'a, I: Iterator<Item = &'a BitVec<A>> + Drop>(
+        &mut self,
+        lists: I,
+    ) -> Result<(), GrowError>
+    where
+        A: 'a,
+        requires can { I.can_next lists }
+        requires ends { IsFinite (I.remaining lists) }
+        ensures grown { OnOk result ((xs : List (Bor (List Bool))) × Drains I.next_gives lists xs × (self.new ≡ self.old ++ flat_map (λ x. x.now) xs)) }
+        ensures refused { IfErr result (λ e. StopsAt I.next_gives lists (λ xs x. (self.new ≡ self.old ++ flat_map (λ y. y.now) xs) × ((e ≡ GrowError.TooLong) ↔ (MAX_LEN < length self.new + length x.now)))) }
+    {
+        for list in lists {
+            self.extend_bitvec(list)?;
+        }
+        Ok(())
+    }
+
+    // Makes room for `added` bits more.
+    fn reserve(&mut self, added: usize) -> Result<(), AllocError>
+        requires { length self.old + added ≤ MAX_LEN }
+        ensures { self.new ≡ self.old }
+    {
+        let words = (self.len() + added).div_ceil(64);
+        self.data.reserve(words - self.data.len())
+    }
+}
