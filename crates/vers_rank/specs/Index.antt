@@ -1,0 +1,58 @@
+-- What the entries of an index say of the list of bits.
+use Rattle.std.specs.Prelude.{◌≡◌, ℕ, ◌+◌, ◌-◌, ◌*◌, ◌/◌, ◌%◌, ◌^◌, ◌<◌, ◌≤◌, min, max, List, Bool, true, false, cond, length, slice_index, count_ones}
+use Rattle.vers_bits.specs.Bits.{count}
+use Rattle.vers_tally.specs.Reads.{Reads, no_reads, digits}
+
+-- superblock s is where the count of the bit b passes 8192 * j, or the last one
+pub record IsSample (b : Bool) (l : List Bool) (j s : ℕ) : Type 0 where
+  pub inside : 8192 * s ≤ length l - 1
+  pub low : count b l (8192 * s) ≤ 8192 * j
+  pub high : min (8192 * j) (count b l (length l)) ≤ count b l (8192 * (s + 1))
+
+-- the samples of the bit b
+pub record AreSamples (b : Bool) (l : List Bool) (samples : List ℕ) : Type 0 where
+  pub counted : length samples ≡ max (count false l (length l)) (count true l (length l)) / 8192 + 2
+  pub each : (j : ℕ) → j < length samples → IsSample b l j (slice_index samples j)
+
+-- a block entry holds the zeros of its superblock before the block, a superblock entry the zeros before it
+pub record IsIndexed (l : List Bool) (blocks superblocks zero_samples one_samples : List ℕ) (zeros : ℕ) : Type 0 where
+  pub bounded : length l ≤ 18446744073709551552
+  pub blocks_counted : length blocks ≡ (length l + 511) / 512
+  pub superblocks_counted : length superblocks ≡ (length l + 8191) / 8192
+  pub block_at : (k : ℕ) → 512 * k < length l → slice_index blocks k + count false l (8192 * (k / 16)) ≡ count false l (512 * k)
+  pub superblock_at : (k : ℕ) → 8192 * k < length l → slice_index superblocks k ≡ count false l (8192 * k)
+  pub zeros_counted : zeros ≡ count false l (length l)
+  pub zeros_sampled : AreSamples false l zero_samples
+  pub ones_sampled : AreSamples true l one_samples
+
+-- what one select may read, by the number of superblocks
+abbrev pub select_reads : ℕ → Reads
+select_reads n = record no_reads { data_words = 8; block_entries = 17; superblock_entries = digits n + 12; rank_calls = 1 }
+
+-- how many superblocks a list of n bits has
+abbrev pub superblock_count : ℕ → ℕ
+superblock_count n = (n + 8191) / 8192
+
+-- what one rank may read
+abbrev pub rank_reads : Reads
+rank_reads = record no_reads { data_words = 8; block_entries = 1; superblock_entries = 1; rank_calls = 1 }
+
+-- how many of the first i places hold the bit, where false bits without end follow the list
+unfoldable pub held : Bool → List Bool → ℕ → ℕ
+held b l i = cond b (count true l i) (i - count true l i)
+
+-- the same of the low j bits of a word
+unfoldable pub held_in : Bool → ℕ → ℕ → ℕ
+held_in b w j = cond b (count_ones (w % 2 ^ j)) (j - count_ones (w % 2 ^ j))
+
+-- the entries of the first n blocks and their superblocks
+pub record AreEntries (l : List Bool) (n : ℕ) (blocks superblocks : List ℕ) : Type 0 where
+  pub blocks_counted : length blocks ≡ n
+  pub superblocks_counted : length superblocks ≡ (n + 15) / 16
+  pub block_at : (k : ℕ) → k < n → slice_index blocks k + count false l (8192 * (k / 16)) ≡ count false l (512 * k)
+  pub superblock_at : (k : ℕ) → k < length superblocks → slice_index superblocks k ≡ count false l (8192 * k)
+
+-- the first n samples
+pub record AreFirstSamples (b : Bool) (l : List Bool) (n : ℕ) (samples : List ℕ) : Type 0 where
+  pub counted : length samples ≡ n
+  pub each : (j : ℕ) → j < n → IsSample b l j (slice_index samples j)

@@ -1,0 +1,3 @@
+pub mod Index
+pub use Rattle.vers_bits.specs.Bits
+pub use Rattle.vers_tally.specs.Reads
