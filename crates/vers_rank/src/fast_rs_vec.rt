@@ -4,6 +4,8 @@ ghost use Rattle.vers_bits.specs.Bits.{bit_value, count, number, part, select};
 ghost use Rattle.vers_tally.specs.Reads.{AddsAtMost};
 ghost use Rattle.vers_rank.specs.Queries.{part_number_or_zero, superblock_count, index_size, get_reads, get_bits_reads, rank_reads, select_reads};
 
+mod equality;
+mod neighbours;
 mod rank;
 mod select;
 

@@ -60,7 +60,7 @@ impl<A: Allocator + Copy> RsVec<A> {
     // The place of number `r` of the zeros or the ones, or the length.
     #[inline(always)]
     #[tactic(auto, using(crate::proofs::Selects::totals))]
-    fn select_counted(&self, bit: bool, r: usize, tally: &mut Tally) -> usize
+    pub(super) fn select_counted(&self, bit: bool, r: usize, tally: &mut Tally) -> usize
         ensures value { result ≡ select bit self.now r }
         ensures adds { AddsAtMost tally.old tally.new (select_reads (superblock_count (length self.now))) }
     {
@@ -77,7 +77,7 @@ impl<A: Allocator + Copy> RsVec<A> {
 
     // How many places hold the bit.
     #[inline(always)]
-    fn total(&self, bit: bool) -> usize
+    pub(super) fn total(&self, bit: bool) -> usize
         ensures { result ≡ count bit self.now (length self.now) }
     {
         if bit { self.ones() } else { self.zeros() }
