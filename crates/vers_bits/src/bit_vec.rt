@@ -71,6 +71,19 @@ impl<A: Allocator + Copy> Hash for BitVec<A> {
     }
 }
 
+impl<A: Allocator + Copy> Clone for BitVec<A> {
+    ghost is_clone = { λ old new. new ≡ old };
+
+    /// A second list of the same bits.
+    fn clone(&self) -> Result<Self, AllocError> {
+        let data = Vec::from_slice(*self.data.allocator(), self.data.as_slice())?;
+        Ok(BitVec {
+            data,
+            len: self.len,
+        })
+    }
+}
+
 #[tactic(auto, using(crate::proofs::Words::words))]
 impl<A: Allocator + Copy> BitVec<A> {
     /// The empty list, which takes no memory.
