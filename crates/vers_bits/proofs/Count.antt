@@ -1,10 +1,11 @@
 -- How many of the first places hold a bit.
-use Rattle.std.proofs.Common.{◌≡◌, ℕ, ◌+◌, ◌-◌, ◌*◌, ◌%◌, ◌^◌, ◌≤◌, min, Bool, true, false, cond, List, [], ◌∷◌, length, take, drop, refl, sym, ap, ◌∙◌, arith}
+use Rattle.std.proofs.Common.{◌≡◌, ℕ, ◌+◌, ◌-◌, ◌*◌, ◌%◌, ◌^◌, ◌≤◌, min, Bool, true, false, cond, List, [], ◌∷◌, length, take, drop, refl, sym, ap, ◌∙◌, arith, inl, inr}
 use Rattle.std.specs.List.{count_by}
 use Rattle.std.specs.Prelude.{count_ones}
 use Rattle.std.proofs.lemmas.List.{length-take, take_all, take-take}
 use Rattle.std.proofs.lemmas.List.Sums.{sum_by-cons, sum_by-append, count_by-le-length}
 use Rattle.std.proofs.Math.Seq.{take-add}
+use Rattle.std.proofs.lemmas.Bool.{cases_lt}
 use Rattle.vers_bits.specs.Bits.{number, is_bit, count, limb}
 use Rattle.vers_bits.proofs.Num.{number-take, ones-number}
 
@@ -58,3 +59,7 @@ count_limb l k r h =
 pub count_limb_whole : (l : List Bool) (k : ℕ) → count true l (64 * k + 64) ≡ count true l (64 * k) + count_ones (limb l k)
 unfolding limb count
 count_limb_whole l k = count_split true l (64 * k) 64 ∙ ap (λ x. count true l (64 * k) + x) (sym (ones-number (take 64 (drop (64 * k) l))))
+
+-- no place has more before it than the whole list holds
+pub count_le_all : (b : Bool) (l : List Bool) (i : ℕ) → count b l i ≤ count b l (length l)
+count_le_all b l i = elim (cases_lt i (length l)) [ inl h ↦ count_up b l i (length l) (omega arith) | inr h ↦ omega (arith, count_past b l i h) ]

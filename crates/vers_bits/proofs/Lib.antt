@@ -2,6 +2,7 @@ pub mod Num
 pub mod Words
 pub mod Count
 pub mod Places
+pub mod Neighbours
 pub mod Counting
 pub mod LowBits
 pub mod Limbs

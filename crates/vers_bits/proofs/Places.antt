@@ -1,13 +1,13 @@
 -- The places of a bit.
-use Rattle.std.proofs.Common.{◌≡◌, ℕ, zero, suc, ◌+◌, ◌<◌, ◌≤◌, Bool, true, false, cond, ◌⊎◌, List, [], ◌∷◌, ◌++◌, length, get_or, refl, sym, ap, ◌∙◌, arith, add-one, inl, inr}
-use Rattle.std.specs.Prelude.{filter}
+use Rattle.std.proofs.Common.{◌≡◌, ℕ, zero, suc, ◌+◌, ◌<◌, ◌≤◌, Bool, true, false, cond, ◌⊎◌, List, [], ◌∷◌, ◌++◌, length, get_or, refl, sym, ap, subst, ◌∙◌, arith, add-one, inl, inr}
+use Rattle.std.specs.Prelude.{filter, count_by}
 use Rattle.std.specs.List.{range_with_len}
 use Rattle.std.proofs.lemmas.Bool.{cases_lt, cases_Bool}
-use Rattle.std.proofs.lemmas.List.{get_or_append_left, get_or_push, get_or_past, length-append, map-id}
+use Rattle.std.proofs.lemmas.List.{get_or_append_left, get_or_push, get_or_past, length-append, length_push, map-id, take-append-le}
 use Rattle.std.proofs.lemmas.List.Sums.{count_by_more_yes, count_by_more_no}
 use Rattle.std.proofs.lemmas.List.FromFn.{filter_of_map_range_with_len_more}
 use Rattle.vers_bits.specs.Bits.{is_bit, count, places, select}
-use Rattle.vers_bits.proofs.Count.{count_up, count_none}
+use Rattle.vers_bits.proofs.Count.{count_up, count_none, count_le_all}
 
 module _ (b : Bool) (l : List Bool) where
   -- the places below n
@@ -73,3 +73,104 @@ module _ (b : Bool) (l : List Bool) where
   pub select_past : (r : ℕ) → count b l (length l) ≤ r → select b l r ≡ length l
   unfolding select places below
   select_past r h = get_or_past (below (length l)) r (length l) (omega (arith, length-below (length l) (omega arith)))
+
+  -- all places are as many as the whole list counts
+  pub length-places : length (places b l) ≡ count b l (length l)
+  unfolding places below
+  length-places = length-below (length l) (omega arith)
+
+-- place p is number r of those that hold the bit
+pub record IsPlace (b : Bool) (l : List Bool) (r p : ℕ) : Type 0 where
+  pub within : p < length l
+  pub holds : is_bit b (get_or l p false) ≡ true
+  pub before : count b l p ≡ r
+
+pub select_from_place : {b : Bool} {l : List Bool} {r p : ℕ} → IsPlace b l r p → select b l r ≡ p
+select_from_place {b} {l} {r} {p} at = select_at b l r p at.within at.holds at.before
+
+passes : (b : Bool) (l : List Bool) (r n : ℕ) → n ≤ length l → r < count b l n → (p : ℕ) × IsPlace b l r p
+passes b l r zero h some = absurd (omega (arith, count_none b l))
+passes b l r (suc n) h some =
+    let more : r < count b l (n + 1) = rw add-one some in
+    elim (cases_lt r (count b l n)) [
+      | inl early ↦ passes b l r n (omega arith) early
+      | inr late ↦ elim (cases_Bool (is_bit b (get_or l n false))) [
+        | inl on ↦ (n, record { within = omega arith; holds = on; before = omega (arith, count_more_yes b l n (omega arith) on) })
+        | inr off ↦ absurd (omega (arith, count_more_no b l n (omega arith) off))
+      ]
+    ]
+
+-- where there is a place of number r, `select` is that place
+pub select_is_place : (b : Bool) (l : List Bool) (r : ℕ) → r < count b l (length l) → IsPlace b l r (select b l r)
+select_is_place b l r some =
+    let found : (p : ℕ) × IsPlace b l r p = passes b l r (length l) (omega arith) some in
+    let P : ℕ → Type 0 = λ p. IsPlace b l r p in
+    subst P (sym (select_from_place found.1)) found.1
+
+-- the count up to the place of number r, and past it
+pub count_at_select : (b : Bool) (l : List Bool) (r : ℕ) → r < count b l (length l)
+    → (select b l r < length l) × (count b l (select b l r) ≡ r) × (count b l (select b l r + 1) ≡ r + 1)
+count_at_select b l r some =
+    let at : IsPlace b l r (select b l r) = select_is_place b l r some in
+    (at.within, at.before, omega (arith, at.before, count_more_yes b l (select b l r) at.within at.holds))
+
+-- number r stands below p where more than r places below p hold the bit
+pub select_below : (b : Bool) (l : List Bool) (r p : ℕ) → r < count b l p → select b l r < p
+select_below b l r p h =
+    let at : IsPlace b l r (select b l r) = select_is_place b l r (omega (arith, count_le_all b l p)) in
+    elim (cases_lt (select b l r) p) [ inl s ↦ s | inr s ↦ absurd (omega (arith, at.before, count_up b l p (select b l r) s)) ]
+
+-- number r stands at or above p where at most r places below p hold the bit
+pub select_not_below : (b : Bool) (l : List Bool) (r p : ℕ) → r < count b l (length l) → count b l p ≤ r → p ≤ select b l r
+select_not_below b l r p some h =
+    let at = count_at_select b l r some in
+    elim (cases_lt (select b l r) p) [ inr s ↦ s | inl s ↦ absurd (omega (arith, at.2, count_up b l (select b l r + 1) p (omega arith))) ]
+
+pub select_up : (b : Bool) (l : List Bool) (r q : ℕ) → r < q → q < count b l (length l) → select b l r < select b l q
+select_up b l r q h some = select_below b l r (select b l q) (omega (arith, (count_at_select b l q some).1))
+
+-- number r of the first n places stands there, holds the bit, and r stand before it
+pub select_holds : (b : Bool) (l : List Bool) (r n : ℕ) → n ≤ length l → r < count b l n
+    → (select b l r < n) × (is_bit b (get_or l (select b l r) false) ≡ true) × (count b l (select b l r) ≡ r)
+select_holds b l r n h few =
+    let at : IsPlace b l r (select b l r) = select_is_place b l r (omega (arith, count_le_all b l n)) in
+    (select_below b l r n few, at.holds, at.before)
+
+-- ---- longer lists
+
+pub count_append : (b : Bool) (l m : List Bool) (i : ℕ) → i ≤ length l → count b (l ++ m) i ≡ count b l i
+unfolding count
+count_append b l m i h = ap (count_by (is_bit b)) (take-append-le i l m h)
+
+pub place_append : {b : Bool} {l : List Bool} {r p : ℕ} (m : List Bool) → IsPlace b l r p → IsPlace b (l ++ m) r p
+place_append {b} {l} {r} {p} m at = record {
+  within = omega (arith, at.within, length-append l m);
+  holds = ap (is_bit b) (get_or_append_left l m false p at.within) ∙ at.holds;
+  before = count_append b l m p (omega (arith, at.within)) ∙ at.before;
+}
+
+pub select_append : (b : Bool) (l m : List Bool) (r : ℕ) → r < count b l (length l) → select b (l ++ m) r ≡ select b l r
+select_append b l m r some = select_from_place (place_append m (select_is_place b l r some))
+
+pub count_push_yes : (b : Bool) (l : List Bool) (x : Bool) → is_bit b x ≡ true → count b (l ++ x ∷ []) (length (l ++ x ∷ [])) ≡ count b l (length l) + 1
+count_push_yes b l x on =
+    let here : is_bit b (get_or (l ++ x ∷ []) (length l) false) ≡ true = ap (is_bit b) (get_or_push l x false (length l) refl) ∙ on in
+    ap (count b (l ++ x ∷ [])) (length_push l x)
+    ∙ count_more_yes b (l ++ x ∷ []) (length l) (omega (arith, length_push l x)) here
+    ∙ ap (λ n. n + 1) (count_append b l (x ∷ []) (length l) (omega arith))
+
+pub count_push_no : (b : Bool) (l : List Bool) (x : Bool) → is_bit b x ≡ false → count b (l ++ x ∷ []) (length (l ++ x ∷ [])) ≡ count b l (length l)
+count_push_no b l x off =
+    let here : is_bit b (get_or (l ++ x ∷ []) (length l) false) ≡ false = ap (is_bit b) (get_or_push l x false (length l) refl) ∙ off in
+    ap (count b (l ++ x ∷ [])) (length_push l x)
+    ∙ count_more_no b (l ++ x ∷ []) (length l) (omega (arith, length_push l x)) here
+    ∙ count_append b l (x ∷ []) (length l) (omega arith)
+
+-- a bit appended is the last place of its kind
+pub select_push : (b : Bool) (l : List Bool) (x : Bool) (r : ℕ) → is_bit b x ≡ true → count b l (length l) ≡ r → select b (l ++ x ∷ []) r ≡ length l
+select_push b l x r on e =
+    select_at b (l ++ x ∷ []) r (length l) (omega (arith, length_push l x))
+    (ap (is_bit b) (get_or_push l x false (length l) refl) ∙ on) (count_append b l (x ∷ []) (length l) (omega arith) ∙ e)
+
+pub select_finds_number : (b : Bool) (l : List Bool) (r : ℕ) → r < count b l (length l) → (count b l (select b l r) ≡ r) × (is_bit b (get_or l (select b l r) false) ≡ true)
+select_finds_number b l r some = let at = select_is_place b l r some in (at.before, at.holds)

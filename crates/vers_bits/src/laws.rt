@@ -1,6 +1,6 @@
 //! Laws over the definitions, which hold of every list of bits. Each function does nothing:
 //! its contract is the law, and its proof is checked with the crate.
-ghost use Rattle.vers_bits.specs.Laws.{EqualListsHashEqually, SplitListsJoin, LowBitsAreAsMany, LowBitsAreTheRest, BitsFollowFromNumber, PackedElementsAreItems, ZippedBitsAreCombined, MaskOfOrIsOr, MaskOfAndIsAnd, MaskOfXorIsXor};
+ghost use Rattle.vers_bits.specs.Laws.{EqualListsHashEqually, SplitListsJoin, LowBitsAreAsMany, LowBitsAreTheRest, BitsFollowFromNumber, PackedElementsAreItems, ZippedBitsAreCombined, MaskOfOrIsOr, MaskOfAndIsAnd, MaskOfXorIsXor, ZerosAndOnesAddUp, SelectFindsNumber, SelectOfCountIsNext};
 
 /// Equal lists are fed to a hasher alike, so that they hash equally.
 pub fn equal_lists_hash_equally()
@@ -50,4 +50,22 @@ pub fn mask_of_and_is_and()
 /// The mask by the xor of limbs is the xor of the bits.
 pub fn mask_of_xor_is_xor()
     ensures { MaskOfXorIsXor }
+
+/// Each of the first places holds a zero or a one: the counts of both add up to the number of
+/// places, or to the length.
+#[tactic(auto, using(crate::proofs::Neighbours::laws))]
+pub fn zeros_and_ones_add_up()
+    ensures { ZerosAndOnesAddUp }
+{}
+
+/// The place of one (or zero) number `r` holds it, and `r` of them stand before.
+pub fn select_finds_number()
+    ensures { SelectFindsNumber }
+{}
+
+/// To select what the count up to a place gave is to go on to the first one (or zero) at or after
+/// the place, or to the length.
+#[tactic(auto, using(crate::proofs::Neighbours::laws))]
+pub fn select_of_count_is_next()
+    ensures { SelectOfCountIsNext }
 {}

@@ -1,1 +1,5 @@
-pub mod Held
+pub mod Queries
+pub mod Index
+pub use Rattle.vers_bits.specs.Bits
+pub use Rattle.vers_tally.specs.Reads
+pub use Rattle.vers_bits.specs.Equality

@@ -1,36 +1,110 @@
 //! The list of bits with ranks and selects.
-ghost use Rattle.std.specs.Prelude.{◌≡◌, ℕ, ◌+◌, ◌-◌, ◌*◌, ◌/◌, ◌<◌, ◌≤◌, ◌↔◌, [], List, length, true, false, IfOk, IsTrue, slice_get, option_map};
-ghost use Rattle.vers_bits.specs.Bits.{bit_value, count, select};
-ghost use Rattle.vers_rank.specs.Held.{held, held_in};
+ghost use Rattle.std.specs.Prelude.{◌≡◌, ℕ, ◌+◌, ◌<◌, ◌≤◌, ◌↔◌, [], List, length, true, false, IfOk, IsTrue, slice_get, slice_index_or, option_map};
+ghost use Rattle.vers_bits.specs.Bits.{bit_value, count, number, part, select};
+ghost use Rattle.vers_tally.specs.Reads.{AddsAtMost};
+ghost use Rattle.vers_rank.specs.Queries.{part_number_or_zero, superblock_count, index_size, get_reads, get_bits_reads, rank_reads, select_reads};
 
+mod equality;
+mod neighbours;
+mod rank;
+mod select;
+
+use crate::build::{add_entries, samples};
 use std::alloc::{AllocError, Allocator};
 use std::marker::Model;
 use vers_bits::bit_vec::{BitVec, MAX_LEN};
+use vers_tally::tally::{BlockEntries, CountedBits, SuperblockEntries, Tally};
+
+/// How many bits a block has.
+const BLOCK: usize = 512;
+
+/// How many bits a superblock has, and how many ones or zeros lie between two select samples.
+const SUPERBLOCK: usize = 8192;
 
 /// A list of bits that counts its ones and zeros and finds their places. Contracts see it as the
 /// list of its bits.
+///
+/// Beside the bits it keeps 2 bytes a block of 512 bits (the zeros of its superblock before it),
+/// 8 bytes a superblock of 8192 bits (the zeros before it), and samples: for each 8192 ones and
+/// for each 8192 zeros the superblock in which they are reached.
+///
+/// Each query has a form `_counted`, which counts its reads in a `Tally`; the plain form is that
+/// one with a counter of its own.
 #[derive(Drop)]
 pub struct RsVec<A: Allocator + Copy> {
-    bits: BitVec<A>,
+    bits: CountedBits<A>,
+    blocks: BlockEntries<A>,
+    superblocks: SuperblockEntries<A>,
+    zero_samples: SuperblockEntries<A>,
+    one_samples: SuperblockEntries<A>,
+    zeros: usize,
 }
 
 impl<A: Allocator + Copy> Model for RsVec<A> {
     ghost use Rattle.std.specs.Prelude.{List, Bool};
+    ghost use Rattle.vers_rank.specs.Index.{IsIndexed};
 
     ghost Value = { List Bool };
 
     ghost view = { λ v. v.bits };
+
+    ghost invariant = { λ v. IsIndexed v.bits v.blocks v.superblocks v.zero_samples v.one_samples v.zeros };
+}
+
+impl<A: Allocator + Copy> Clone for RsVec<A> {
+    ghost is_clone = { λ old new. new ≡ old };
+
+    /// A second list of the same bits, with a copy of the index.
+    fn clone(&self) -> Result<Self, AllocError> {
+        let bits = self.bits.as_bit_vec().clone()?;
+        let alloc = bits.allocator();
+        let blocks = Vec::from_slice(alloc, self.blocks.as_slice())?;
+        let superblocks = Vec::from_slice(alloc, self.superblocks.as_slice())?;
+        let zero_samples = Vec::from_slice(alloc, self.zero_samples.as_slice())?;
+        let one_samples = Vec::from_slice(alloc, self.one_samples.as_slice())?;
+        Ok(RsVec {
+            bits: CountedBits::new(bits),
+            blocks: BlockEntries::new(blocks),
+            superblocks: SuperblockEntries::new(superblocks),
+            zero_samples: SuperblockEntries::new(zero_samples),
+            one_samples: SuperblockEntries::new(one_samples),
+            zeros: self.zeros,
+        })
+    }
 }
 
 impl<A: Allocator + Copy> RsVec<A> {
     /// The same bits, with ranks and selects. The list is dropped for want of memory.
+    #[tactic(auto, using(crate::proofs::Builds::whole))]
     pub fn from_bit_vec(bits: BitVec<A>) -> Result<Self, AllocError>
         ensures { IfOk result (λ v. v ≡ bits) }
     {
-        Ok(RsVec { bits })
+        let alloc = bits.allocator();
+        let mut blocks = Vec::new(alloc);
+        let mut superblocks = Vec::new(alloc);
+        let zeros = add_entries(&bits, &mut blocks, &mut superblocks)?;
+        let n = zeros.max(bits.len() - zeros) / SUPERBLOCK + 2;
+        let zero_samples = samples(&bits, &superblocks, false, n)?;
+        let one_samples = samples(&bits, &superblocks, true, n)?;
+        Ok(RsVec {
+            bits: CountedBits::new(bits),
+            blocks: BlockEntries::new(blocks),
+            superblocks: SuperblockEntries::new(superblocks),
+            zero_samples: SuperblockEntries::new(zero_samples),
+            one_samples: SuperblockEntries::new(one_samples),
+            zeros,
+        })
+    }
+
+    /// The bits alone. Takes no memory.
+    pub fn into_bit_vec(self) -> BitVec<A>
+        ensures { result ≡ self }
+    {
+        self.bits.into_bit_vec()
     }
 
     /// How many bits the list has.
+    #[inline]
     pub fn len(&self) -> usize
         ensures value { result ≡ length self.now }
         ensures bounded { result ≤ MAX_LEN }
@@ -39,133 +113,134 @@ impl<A: Allocator + Copy> RsVec<A> {
     }
 
     /// Whether the list has no bits.
+    #[inline]
     pub fn is_empty(&self) -> bool
         ensures { IsTrue result ↔ (self.now ≡ []) }
     {
-        self.bits.is_empty()
+        self.len() == 0
+    }
+
+    /// How many zeros the list has, which reads none.
+    #[inline]
+    #[tactic(auto, using(crate::proofs::Ranks::sums))]
+    pub fn zeros(&self) -> usize
+        ensures value { result ≡ count false self.now (length self.now) }
+        ensures within { result ≤ length self.now }
+        ensures bounded { length self.now ≤ MAX_LEN }
+    {
+        self.zeros
+    }
+
+    /// How many ones the list has, which reads none.
+    #[inline]
+    #[tactic(auto, using(crate::proofs::Ranks::sums))]
+    pub fn ones(&self) -> usize
+        ensures value { result ≡ count true self.now (length self.now) }
+        ensures within { result ≤ length self.now }
+        ensures bounded { length self.now ≤ MAX_LEN }
+    {
+        self.bits.len() - self.zeros
+    }
+
+    /// The bytes that the bits and their index take, beside those of the `RsVec` itself.
+    #[tactic(auto, using(crate::proofs::Ranks::sums))]
+    pub fn heap_size(&self) -> usize
+        ensures { result ≡ index_size self.now }
+    {
+        8 * self.bits.len().div_ceil(64)
+            + 2 * self.blocks.len()
+            + 8 * self.superblocks.len()
+            + 8 * self.zero_samples.len()
+            + 8 * self.one_samples.len()
     }
 
     /// The bit at a place, 1 or 0. None for a place that the list doesn't have.
+    #[inline]
     pub fn get(&self, place: usize) -> Option<u64>
         ensures { result ≡ option_map bit_value (slice_get self.now place) }
     {
-        self.bits.get(place)
+        let mut tally = Tally::new();
+        self.get_counted(place, &mut tally)
     }
 
-    /// How many zeros stand below a place. Past the end all zeros count.
-    #[tactic(auto, using(crate::proofs::Held::sums))]
-    pub fn rank0(&self, place: usize) -> usize
-        ensures { result ≡ count false self.now place }
+    /// The bit at a place, 1 or 0, by one data word. None for a place that the list doesn't have.
+    #[inline]
+    pub fn get_counted(&self, place: usize, tally: &mut Tally) -> Option<u64>
+        ensures value { result ≡ option_map bit_value (slice_get self.now place) }
+        ensures adds { AddsAtMost tally.old tally.new get_reads }
     {
-        place.min(self.len()) - self.rank1(place)
+        tally.add_rank_call();
+        self.bits.get(place, tally)
     }
 
-    /// How many ones stand below a place. Past the end all ones count.
-    #[tactic(auto, using(crate::proofs::Held::sums))]
-    pub fn rank1(&self, place: usize) -> usize
-        ensures { result ≡ count true self.now place }
+    /// The bit at a place of the list, 1 or 0.
+    #[inline]
+    pub fn get_unchecked(&self, place: usize) -> u64
+        requires { place < length self.now }
+        ensures { result ≡ bit_value (slice_index_or self.now place false) }
     {
-        let end = place.min(self.len());
-        let mut ones = 0;
-        for k in 0..end / 64 {
-            ones += ones_of_limb(&self.bits, k);
-        }
-        if end % 64 == 0 {
-            return ones;
-        }
-        ones + ones_of_part(&self.bits, end)
+        let mut tally = Tally::new();
+        u64::from(self.is_one_counted(place, &mut tally))
     }
 
-    /// The place of zero number `r`, counted from 0, or the length where there are no more.
-    pub fn select0(&self, r: usize) -> usize
-        ensures { result ≡ select false self.now r }
+    /// Whether the bit at a place of the list is a one, by one data word.
+    #[inline]
+    pub fn is_one_counted(&self, place: usize, tally: &mut Tally) -> bool
+        requires { place < length self.now }
+        ensures value { result ≡ slice_index_or self.now place false }
+        ensures adds { AddsAtMost tally.old tally.new get_reads }
     {
-        place_of(&self.bits, false, r)
+        tally.add_rank_call();
+        self.bits.is_one(place, tally)
     }
 
-    /// The place of one number `r`, counted from 0, or the length where there are no more.
-    pub fn select1(&self, r: usize) -> usize
-        ensures { result ≡ select true self.now r }
+    /// The number of the `n` bits from `place` on; 0 for no bits. None where there are not so
+    /// many, or `n` is above 64.
+    #[inline]
+    pub fn get_bits(&self, place: usize, n: usize) -> Option<u64>
+        ensures { result ≡ part_number_or_zero self.now place n }
     {
-        place_of(&self.bits, true, r)
+        let mut tally = Tally::new();
+        self.get_bits_counted(place, n, &mut tally)
     }
-}
 
-// The ones of limb number `k`, which lies inside the list.
-#[tactic(auto, using(crate::proofs::Held::limbs))]
-fn ones_of_limb<A: Allocator + Copy>(bits: &BitVec<A>, k: usize) -> usize
-    requires { 64 * k < length bits.now }
-    ensures value { count true bits.now (64 * k) + result ≡ count true bits.now (64 * k + 64) }
-    ensures few { result ≤ 64 }
-{
-    bits.limb(k).count_ones() as usize
-}
-
-// The ones of a place's limb that stand below the place, which has bits of the list before it there.
-#[tactic(auto, using(crate::proofs::Held::limbs))]
-fn ones_of_part<A: Allocator + Copy>(bits: &BitVec<A>, place: usize) -> usize
-    requires { 64 * (place / 64) < length bits.now }
-    ensures value { count true bits.now (64 * (place / 64)) + result ≡ count true bits.now place }
-    ensures few { result ≤ 64 }
-{
-    (bits.limb(place / 64) & ((1 << (place % 64)) - 1)).count_ones() as usize
-}
-
-// The place of number `r` of the ones or the zeros, limb after limb. The zeros past the end of the
-// last limb count as places too, and lie at or past the length.
-#[tactic(auto, using(crate::proofs::Held::searches))]
-fn place_of<A: Allocator + Copy>(bits: &BitVec<A>, bit: bool, r: usize) -> usize
-    ensures { result ≡ select bit bits.now r }
-{
-    let mut seen = 0;
-    for k in 0..bits.len().div_ceil(64) {
-        let word = bits.limb(k);
-        let here = held_in_word(word, bit);
-        if r - seen < here {
-            return (64 * k + place_in_word(word, bit, r - seen)).min(bits.len());
+    /// The number of the `n` bits from `place` on, by at most two data words; 0 for no bits. None
+    /// where there are not so many, or `n` is above 64.
+    #[inline]
+    #[tactic(auto, using(crate::proofs::Parts::parts))]
+    pub fn get_bits_counted(&self, place: usize, n: usize, tally: &mut Tally) -> Option<u64>
+        ensures value { result ≡ part_number_or_zero self.now place n }
+        ensures adds { AddsAtMost tally.old tally.new get_bits_reads }
+    {
+        tally.add_rank_call();
+        if n == 0 {
+            return if place <= self.bits.len() {
+                Some(0)
+            } else {
+                None
+            };
         }
-        seen += here;
+        self.bits.get_bits(place, n, tally)
     }
-    bits.len()
-}
 
-// How many bits of a word are `bit`.
-#[tactic(auto, unfolding(crate::specs::Held::held_in))]
-fn held_in_word(word: u64, bit: bool) -> usize
-    ensures value { result ≡ held_in bit word 64 }
-    ensures few { result ≤ 64 }
-{
-    let ones = word.count_ones() as usize;
-    if bit { ones } else { 64 - ones }
-}
-
-// How many of the low `j` bits of a word are `bit`.
-#[tactic(auto, using(crate::proofs::Held::masks), unfolding(crate::specs::Held::held_in))]
-fn held_in_part(word: u64, bit: bool, j: usize) -> usize
-    requires { j < 64 }
-    ensures { result ≡ held_in bit word j }
-{
-    let ones = (word & ((1 << j) - 1)).count_ones() as usize;
-    if bit { ones } else { j - ones }
-}
-
-// The place in a word of number `r` of the bits that are `bit`, by halving.
-#[tactic(auto, using(crate::proofs::Held::starts))]
-fn place_in_word(word: u64, bit: bool, r: usize) -> usize
-    requires { r < held_in bit word 64 }
-    ensures within { result < 64 }
-    ensures from { held_in bit word result ≤ r }
-    ensures to { r < held_in bit word (result + 1) }
-{
-    let mut first = 0;
-    let mut end = 64;
-    while end - first > 1 {
-        let mid = first + (end - first) / 2;
-        if held_in_part(word, bit, mid) <= r {
-            first = mid;
-        } else {
-            end = mid;
-        }
+    /// The number of `n` bits of the list from `place` on; 0 for no bits.
+    #[inline]
+    #[tactic(auto, using(crate::proofs::Parts::parts))]
+    pub fn get_bits_unchecked(&self, place: usize, n: usize) -> u64
+        requires few { n ≤ 64 }
+        requires within { place + n ≤ length self.now }
+        ensures { result ≡ number (part self.now place n) }
+    {
+        let mut tally = Tally::new();
+        self.get_bits_counted(place, n, &mut tally).unwrap()
     }
-    first
+}
+
+impl<A: Allocator + Copy> From<RsVec<A>> for BitVec<A> {
+    ghost from_gives = { λ v r. r ≡ v };
+
+    /// The bits alone. Takes no memory.
+    fn from(indexed: RsVec<A>) -> Self {
+        indexed.into_bit_vec()
+    }
 }

@@ -1,4 +1,7 @@
 //! Lists of bits that answer how many ones or zeros stand before a place, and where they stand.
 #![tactic(auto)]
 
+mod build;
 pub mod fast_rs_vec;
+pub mod laws;
+mod word;

@@ -1,0 +1,119 @@
+-- The places next to a place, by counts and selects.
+use Rattle.std.proofs.Common.{◌≡◌, ℕ, zero, suc, ◌+◌, ◌-◌, ◌<◌, ◌≤◌, Bool, true, false, cond, List, [], ◌∷◌, length, get_or, refl, ap, ◌∙◌, arith, inl, inr, Option, Some, None}
+use Rattle.std.specs.Prelude.{nat_lt, slice_get, filter, find}
+use Rattle.std.specs.List.{last_or}
+use Rattle.std.proofs.lemmas.Bool.{cases_lt, cases_Bool, lt-ltb, le-ltb}
+use Rattle.vers_bits.specs.Bits.{is_bit, count, places, select, place_after, place_before}
+use Rattle.vers_bits.proofs.Count.{count_both, count_le_all, count_up, count_past}
+use Rattle.vers_bits.specs.Laws.{IsNextPlace}
+use Rattle.vers_bits.proofs.Places.{length-places, IsPlace, select_is_place, select_past, select_below, select_not_below, count_more_yes}
+
+-- the first item that passes, in a list whose items pass from number k on
+pub find_is : (p : ℕ → Bool) (s : List ℕ) (k : ℕ) → k ≤ length s → ((i : ℕ) → i < k → p (get_or s i 0) ≡ false) → (k < length s → p (get_or s k 0) ≡ true) → find p s ≡ slice_get s k
+find_is p [] k h off on = refl
+find_is p (x ∷ s) zero h off on = ap (λ b. cond b (Some x) (find p s)) (on (omega arith))
+find_is p (x ∷ s) (suc k) h off on =
+    ap (λ b. cond b (Some x) (find p s)) (off 0 (omega arith)) ∙ find_is p s k (omega arith) (λ i small. off (suc i) (omega arith)) (λ small. on (omega arith))
+
+pub last_none_of : (o : Option ℕ) (p : ℕ → Bool) (s : List ℕ) → ((i : ℕ) → i < length s → p (get_or s i 0) ≡ false) → last_or o (filter p s) ≡ o
+last_none_of o p [] off = refl
+last_none_of o p (x ∷ s) off =
+    ap (λ b. last_or o (cond b (x ∷ filter p s) (filter p s))) (off 0 (omega arith)) ∙ last_none_of o p s (λ i small. off (suc i) (omega arith))
+
+-- the last item that passes, in a list whose items pass up to number k
+pub last_is : (o : Option ℕ) (p : ℕ → Bool) (s : List ℕ) (k : ℕ) → k < length s → ((i : ℕ) → i < k + 1 → p (get_or s i 0) ≡ true)
+    → ((i : ℕ) → k + 1 ≤ i → i < length s → p (get_or s i 0) ≡ false) → last_or o (filter p s) ≡ slice_get s k
+last_is o p [] k h on off = absurd (omega arith)
+last_is o p (x ∷ s) zero h on off =
+    ap (λ b. last_or o (cond b (x ∷ filter p s) (filter p s))) (on 0 (omega arith)) ∙ last_none_of (Some x) p s (λ i small. off (suc i) (omega arith) (omega arith))
+last_is o p (x ∷ s) (suc k) h on off =
+    ap (λ b. last_or o (cond b (x ∷ filter p s) (filter p s))) (on 0 (omega arith))
+    ∙ last_is (Some x) p s k (omega arith) (λ i small. on (suc i) (omega arith)) (λ i large small. off (suc i) (omega arith) (omega arith))
+
+-- inside a list no default is taken
+pub any_default : {X : Type 0} (s : List X) (i : ℕ) (d e : X) → i < length s → get_or s i d ≡ get_or s i e
+any_default [] i d e h = absurd (omega arith)
+any_default (x ∷ s) zero d e h = refl
+any_default (x ∷ s) (suc i) d e h = any_default s i d e (omega arith)
+
+get_is : (s : List ℕ) (i d : ℕ) → i < length s → slice_get s i ≡ Some (get_or s i d)
+get_is [] i d h = absurd (omega arith)
+get_is (x ∷ s) zero d h = refl
+get_is (x ∷ s) (suc i) d h = get_is s i d (omega arith)
+
+get_past : (s : List ℕ) (i : ℕ) → length s ≤ i → slice_get s i ≡ None
+get_past [] i h = refl
+get_past (x ∷ s) zero h = absurd (omega arith)
+get_past (x ∷ s) (suc i) h = get_past s i (omega arith)
+
+module _ (b : Bool) (l : List Bool) where
+  place_number : (i : ℕ) → i < length (places b l) → get_or (places b l) i 0 ≡ select b l i
+  unfolding select
+  place_number i h = any_default (places b l) i 0 (length l) h
+
+  get_place : (i : ℕ) → i < count b l (length l) → slice_get (places b l) i ≡ Some (select b l i)
+  unfolding select
+  get_place i h = get_is (places b l) i (length l) (omega (arith, length-places b l))
+
+  after_is : (p : ℕ) → place_after b l p ≡ slice_get (places b l) (count b l (p + 1))
+  unfolding place_after
+  after_is p = find_is (λ q. nat_lt p q) (places b l) (count b l (p + 1)) (omega (arith, length-places b l, count_le_all b l (p + 1)))
+      (λ i h. ap (nat_lt p) (place_number i (omega (arith, length-places b l, count_le_all b l (p + 1)))) ∙ le-ltb p (select b l i) (omega (arith, select_below b l i (p + 1) h)))
+      (λ h. ap (nat_lt p) (place_number (count b l (p + 1)) h) ∙ lt-ltb p (select b l (count b l (p + 1))) (omega (arith, select_not_below b l (count b l (p + 1)) (p + 1) (omega (arith, length-places b l)) (omega arith))))
+
+  -- the neighbour above is number count (p + 1), where there is one
+  pub place_after_some : (p : ℕ) → count b l (p + 1) < count b l (length l) → place_after b l p ≡ Some (select b l (count b l (p + 1)))
+  place_after_some p h = after_is p ∙ get_place (count b l (p + 1)) h
+
+  pub place_after_none : (p : ℕ) → count b l (length l) ≤ count b l (p + 1) → place_after b l p ≡ None
+  place_after_none p h = after_is p ∙ get_past (places b l) (count b l (p + 1)) (omega (arith, length-places b l))
+
+  pub place_after_past : (p : ℕ) → length l ≤ p → place_after b l p ≡ None
+  place_after_past p h = place_after_none p (omega (arith, count_past b l (p + 1) (omega arith)))
+
+  -- the neighbour below is number count p - 1, where there is one
+  pub place_before_some : (p : ℕ) → 0 < count b l p → place_before b l p ≡ Some (select b l (count b l p - 1))
+  unfolding place_before
+  place_before_some p h =
+      last_is None (λ q. nat_lt q p) (places b l) (count b l p - 1) (omega (arith, length-places b l, count_le_all b l p))
+      (λ i small. ap (λ q. nat_lt q p) (place_number i (omega (arith, length-places b l, count_le_all b l p))) ∙ lt-ltb (select b l i) p (select_below b l i p (omega arith)))
+      (λ i large small. ap (λ q. nat_lt q p) (place_number i small) ∙ le-ltb (select b l i) p (select_not_below b l i p (omega (arith, length-places b l)) (omega arith)))
+      ∙ get_place (count b l p - 1) (omega (arith, count_le_all b l p))
+
+  pub place_before_none : (p : ℕ) → count b l p ≡ 0 → place_before b l p ≡ None
+  unfolding place_before
+  place_before_none p h =
+      last_none_of None (λ q. nat_lt q p) (places b l)
+      (λ i small. ap (λ q. nat_lt q p) (place_number i small) ∙ le-ltb (select b l i) p (select_not_below b l i p (omega (arith, length-places b l)) (omega arith)))
+
+pub ruleset neighbours = (place_after_some, place_after_none, place_before_some, place_before_none)
+
+-- the first place at or after a place that holds the bit, or the length
+pub next_place : (b : Bool) (l : List Bool) (i : ℕ) → i ≤ length l → IsNextPlace b l i (select b l (count b l i))
+next_place b l i within = elim (cases_lt (count b l i) (count b l (length l))) [
+  | inl some ↦
+      let at : IsPlace b l (count b l i) (select b l (count b l i)) = select_is_place b l (count b l i) some in
+      record {
+        from = select_not_below b l (count b l i) i some (omega arith);
+        within = omega (arith, at.within);
+        none_between = λ q h k. elim (cases_Bool (is_bit b (get_or l q false))) [
+          | inl on ↦ absurd (omega (arith, count_more_yes b l q (omega (arith, at.within)) on, count_up b l i q h, count_up b l (q + 1) (select b l (count b l i)) (omega arith), at.before))
+          | inr off ↦ off
+        ];
+        holds = λ h. at.holds;
+      }
+  | inr none ↦
+      let end : select b l (count b l i) ≡ length l = select_past b l (count b l i) none in
+      record {
+        from = omega arith;
+        within = omega arith;
+        none_between = λ q h k. elim (cases_Bool (is_bit b (get_or l q false))) [
+          | inl on ↦ absurd (omega (arith, count_more_yes b l q (omega arith) on, count_up b l i q h, count_le_all b l (q + 1)))
+          | inr off ↦ off
+        ];
+        holds = λ h. absurd (omega arith);
+      }
+]
+
+-- what the laws of counts and places say
+pub ruleset laws = (count_both, next_place)

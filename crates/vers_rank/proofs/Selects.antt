@@ -1,0 +1,124 @@
+-- From counts to places.
+use Rattle.std.proofs.Common.{◌≡◌, ℕ, ◌+◌, ◌-◌, ◌*◌, ◌/◌, ◌<◌, ◌≤◌, Bool, true, false, List, length, get_or, ap, ◌∙◌, refl, inl, inr, arith, min}
+use Rattle.std.proofs.lemmas.Bool.{cases_lt, cases_Bool}
+use Rattle.vers_bits.specs.Bits.{is_bit, count, limb, select}
+use Rattle.vers_bits.proofs.Count.{count_le_all, count_le, count_up, count_near, count_limb, count_limb_whole, count_both, count_past}
+use Rattle.vers_bits.proofs.Places.{select_at, select_past, count_more_yes, count_more_no}
+use Rattle.vers_tally.specs.Reads.{digits}
+use Rattle.vers_tally.proofs.Halves.{digits_up, digits-le, upper_half, lower_half}
+use Rattle.vers_rank.specs.Index.{held, held_in, IsSample, IsLimbWith}
+use Rattle.vers_rank.proofs.Words.{ones_few}
+
+-- inside the list it is the count
+pub held_is : (b : Bool) (l : List Bool) (i : ℕ) → i ≤ length l → held b l i ≡ count b l i
+unfolding held
+held_is true l i h = refl
+held_is false l i h = omega (arith, count_both l i, (count_le true l i).0)
+
+pub held_up : (b : Bool) (l : List Bool) (i j : ℕ) → i ≤ j → held b l i ≤ held b l j
+unfolding held
+held_up true l i j h = count_up true l i j h
+held_up false l i j h = omega (arith, count_near true l i j h, (count_le true l i).0, (count_le true l j).0)
+
+-- inside a limb
+pub held_limb : (b : Bool) (l : List Bool) (k j : ℕ) → j ≤ 64 → held b l (64 * k + j) ≡ held b l (64 * k) + held_in b (limb l k) j
+unfolding held held_in
+held_limb true l k j h = count_limb l k j h
+held_limb false l k j h = omega (arith, count_limb l k j h, (count_le true l (64 * k)).0, ones_few (limb l k) j)
+
+-- the place between two counts
+pub place_is : (b : Bool) (l : List Bool) (r p : ℕ) → r < count b l (length l) → held b l p ≤ r → r < held b l (p + 1) → select b l r ≡ p
+place_is b l r p some from to =
+    let within : p < length l = elim (cases_lt p (length l)) [
+      | inl h ↦ h
+      | inr past ↦ absurd (omega (arith, held_up b l (length l) p past, held_is b l (length l) (omega arith)))
+    ] in
+    let low : count b l p ≤ r = omega (arith, held_is b l p (omega arith)) in
+    let high : r < count b l (p + 1) = omega (arith, held_is b l (p + 1) (omega arith)) in
+    elim (cases_Bool (is_bit b (get_or l p false))) [
+      | inl on ↦ select_at b l r p within on (omega (arith, count_more_yes b l p within on))
+      | inr off ↦ absurd (omega (arith, count_more_no b l p within off))
+    ]
+
+-- one limb more
+pub held_more : (b : Bool) (l : List Bool) (k : ℕ) → held b l (64 * (k + 1)) ≡ held b l (64 * k) + held_in b (limb l k) 64
+held_more b l k = ap (held b l) (let e : 64 * (k + 1) ≡ 64 * k + 64 = omega arith in e) ∙ held_limb b l k 64 (omega arith)
+
+pub count_le_held : (b : Bool) (l : List Bool) (i : ℕ) → count b l i ≤ held b l i
+count_le_held b l i = elim (cases_lt i (length l)) [
+  | inl h ↦ omega (arith, held_is b l i (omega arith))
+  | inr h ↦ omega (arith, count_past b l i h, held_is b l (length l) (omega arith), held_up b l (length l) i h)
+]
+
+-- what is still to come stands inside the list
+pub held_inside : (b : Bool) (l : List Bool) (i j r : ℕ) → held b l i ≤ r → r < count b l j → i < length l
+held_inside b l i j r low high = elim (cases_lt i (length l)) [
+  | inl h ↦ h
+  | inr h ↦ absurd (omega (arith, held_up b l (length l) i h, held_is b l (length l) (omega arith), count_le_all b l j))
+]
+
+-- number r is the place that the search in limb k found
+pub place_found : (b : Bool) (l : List Bool) (r k p seen : ℕ) → r < count b l (length l) → seen ≡ held b l (64 * k) → seen ≤ r → p < 64
+    → held_in b (limb l k) p ≤ r - seen → r - seen < held_in b (limb l k) (p + 1) → select b l r ≡ 64 * k + p
+place_found b l r k p seen some counted before small from to =
+    place_is b l r (64 * k + p) some
+    (omega (arith, held_limb b l k p (omega arith)))
+    (let next : held b l (64 * k + p + 1) ≡ held b l (64 * k + (p + 1)) = ap (held b l) (omega arith) in omega (arith, held_limb b l k (p + 1) (omega arith)))
+
+-- after the last limb of a block nothing of the block is left
+pub block_end : (b : Bool) (l : List Bool) (block end : ℕ) → end ≡ min (8 * block + 8) ((length l + 63) / 64) → count b l (512 * (block + 1)) ≤ held b l (64 * end)
+block_end b l block end e = elim (cases_lt (64 * end) (length l)) [
+  | inl inside ↦ let same : 64 * end ≡ 512 * (block + 1) = omega arith in omega (arith, count_le_held b l (64 * end), ap (count b l) same)
+  | inr past ↦ omega (arith, count_le_all b l (512 * (block + 1)), held_is b l (length l) (omega arith), held_up b l (length l) (64 * end) past)
+]
+
+-- number r of a block stands in the limb that the scan has found
+pub rest_in_limb : (b : Bool) (l : List Bool) (block r k before : ℕ) → 512 * block < length l → count b l (512 * block) + r < count b l (512 * (block + 1))
+    → IsLimbWith b l block r (min (8 * block + 7) ((length l - 1) / 64)) k before → r - before < held_in b (limb l k) 64
+rest_in_limb b l block r k before within to found =
+    let last : ℕ = min (8 * block + 7) ((length l - 1) / 64) in
+    let start : held b l (512 * block) ≡ count b l (512 * block) = held_is b l (512 * block) (omega arith) in
+    let stop : held b l (512 * block) + r < held b l (64 * (k + 1)) = elim (cases_lt k last) [
+      | inl h ↦ found.to h
+      | inr h ↦ let end : 64 * (last + 1) ≡ 64 * (k + 1) = omega (arith, found.inside) in omega (arith, block_end b l block (last + 1) (omega arith), ap (held b l) end)
+    ] in
+    omega (arith, held_more b l k, found.counted, found.from)
+
+-- the samples before and after number r bound its superblock
+pub record IsBetween (b : Bool) (l : List Bool) (r first last : ℕ) : Type 0 where
+  pub order : first < last + 1
+  pub within : 8192 * last < length l
+  pub from : count b l (8192 * first) ≤ r
+  pub to : r < count b l (8192 * (last + 1))
+
+pub samples_bound : (b : Bool) (l : List Bool) (r first last : ℕ) → r < count b l (length l)
+    → IsSample b l (r / 8192) first → IsSample b l (r / 8192 + 1) last → IsBetween b l r first last
+samples_bound b l r first last some before after =
+    let low : count b l (8192 * first) ≤ r = omega (arith, before.low) in
+    let high : r < count b l (8192 * (last + 1)) = omega (arith, after.high) in
+    record {
+      order = elim (cases_lt first (last + 1)) [ inl h ↦ h | inr h ↦ absurd (omega (arith, count_up b l (8192 * (last + 1)) (8192 * first) (omega arith))) ];
+      within = omega (arith, after.inside, (count_le b l (length l)).1);
+      from = low;
+      to = high;
+    }
+
+pub digits_below_16 : (n : ℕ) → n < 16 → digits n ≤ 4
+digits_below_16 n h = digits-le 4 n h
+
+pub ruleset in_block = (held_more, held_is)
+
+-- a superblock has at most 8192 places
+pub superblock_few : (b : Bool) (l : List Bool) (s r : ℕ) → r < count b l (8192 * (s + 1)) → r < count b l (8192 * s) + 8192
+superblock_few b l s r h = omega (arith, count_near b l (8192 * s) (8192 * (s + 1)) (omega arith))
+
+pub ruleset totals = (count_both, count_le, select_past)
+
+pub ruleset between = (samples_bound, digits_up)
+
+pub ruleset within_superblock = (count_past)
+pub ruleset block_search = (count_up, count_le)
+pub ruleset limb_search = (held_more, held_up)
+
+-- halving a range, within the budget of its digits
+pub ruleset halves = (upper_half, lower_half)

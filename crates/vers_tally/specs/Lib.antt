@@ -1,0 +1,3 @@
+pub mod Reads
+pub mod Laws
+pub use Rattle.vers_bits.specs.Bits

@@ -1,0 +1,5 @@
+//! Counters of what a query reads, and vectors whose entries are read only with such a counter.
+#![tactic(auto)]
+
+pub mod laws;
+pub mod tally;

@@ -1,0 +1,479 @@
+ghost use Rattle.std.specs.Prelude.{◌≡◌, ℕ, ◌+◌, ◌*◌, ◌<◌, ◌≤◌, ◌^◌, List, length, slice_index, slice_index_or, slice_get, option_map, false};
+ghost use Rattle.vers_bits.specs.Bits.{bit_value, number, part, part_number, limb};
+ghost use Rattle.vers_tally.specs.Reads.{Reads, no_reads, one_more, only_data_words, only_block_entries, only_superblock_entries, only_low_parts, only_rank_calls, only_items, only_blocks, only_nodes, only_chunks, AddsAtMost};
+
+use std::alloc::Allocator;
+use std::marker::Model;
+use vers_bits::bit_vec::{BitVec, MAX_LEN};
+
+/// How many entries of each kind were read. Contracts see a `Tally` as a record of nine numbers.
+/// No call lowers a counter, and one that has reached its greatest value stays there. A counter
+/// is never copied, so that each read is counted once.
+#[derive(Drop)]
+pub struct Tally {
+    data_words: u64,
+    block_entries: u64,
+    superblock_entries: u64,
+    low_parts: u64,
+    rank_calls: u64,
+    items: u64,
+    blocks: u64,
+    nodes: u64,
+    chunks: u64,
+}
+
+impl Model for Tally {
+    ghost use Rattle.vers_tally.specs.Reads.{Reads};
+
+    ghost Value = { Reads };
+
+    ghost view = { λ t. record { data_words = t.data_words; block_entries = t.block_entries; superblock_entries = t.superblock_entries; low_parts = t.low_parts; rank_calls = t.rank_calls; items = t.items; blocks = t.blocks; nodes = t.nodes; chunks = t.chunks } };
+}
+
+impl Tally {
+    /// A counter of no reads.
+    #[inline]
+    pub fn new() -> Tally
+        ensures { result ≡ no_reads }
+    {
+        Tally {
+            data_words: 0,
+            block_entries: 0,
+            superblock_entries: 0,
+            low_parts: 0,
+            rank_calls: 0,
+            items: 0,
+            blocks: 0,
+            nodes: 0,
+            chunks: 0,
+        }
+    }
+
+    /// How many data words were read: limbs of 64 bits of a list of bits.
+    #[inline]
+    pub fn data_words(&self) -> u64
+        ensures { result ≡ self.now.data_words }
+    {
+        self.data_words
+    }
+
+    /// How many block entries were read.
+    #[inline]
+    pub fn block_entries(&self) -> u64
+        ensures { result ≡ self.now.block_entries }
+    {
+        self.block_entries
+    }
+
+    /// How many superblock entries and select samples were read.
+    #[inline]
+    pub fn superblock_entries(&self) -> u64
+        ensures { result ≡ self.now.superblock_entries }
+    {
+        self.superblock_entries
+    }
+
+    /// How many low parts of sorted numbers were read.
+    #[inline]
+    pub fn low_parts(&self) -> u64
+        ensures { result ≡ self.now.low_parts }
+    {
+        self.low_parts
+    }
+
+    /// How many queries were asked of lists of bits with rank and select.
+    #[inline]
+    pub fn rank_calls(&self) -> u64
+        ensures { result ≡ self.now.rank_calls }
+    {
+        self.rank_calls
+    }
+
+    /// How many items of a list of numbers were read.
+    #[inline]
+    pub fn items(&self) -> u64
+        ensures { result ≡ self.now.items }
+    {
+        self.items
+    }
+
+    /// In how many blocks a scan was begun.
+    #[inline]
+    pub fn blocks(&self) -> u64
+        ensures { result ≡ self.now.blocks }
+    {
+        self.blocks
+    }
+
+    /// How many nodes of a tree of excesses were read.
+    #[inline]
+    pub fn nodes(&self) -> u64
+        ensures { result ≡ self.now.nodes }
+    {
+        self.nodes
+    }
+
+    /// How many chunks of bits were loaded.
+    #[inline]
+    pub fn chunks(&self) -> u64
+        ensures { result ≡ self.now.chunks }
+    {
+        self.chunks
+    }
+
+    /// Counts a query of a list of bits with rank and select.
+    #[inline]
+    pub fn add_rank_call(&mut self)
+        ensures exact { self.new ≡ record self.old { rank_calls = one_more self.old.rank_calls } }
+        ensures adds { AddsAtMost self.old self.new (only_rank_calls 1) }
+    {
+        self.rank_calls = self.rank_calls.saturating_add(1);
+    }
+
+    /// Counts a block in which a scan is begun.
+    #[inline]
+    pub fn add_block(&mut self)
+        ensures exact { self.new ≡ record self.old { blocks = one_more self.old.blocks } }
+        ensures adds { AddsAtMost self.old self.new (only_blocks 1) }
+    {
+        self.blocks = self.blocks.saturating_add(1);
+    }
+
+    /// Counts a chunk of bits that is loaded.
+    #[inline]
+    pub fn add_chunk(&mut self)
+        ensures exact { self.new ≡ record self.old { chunks = one_more self.old.chunks } }
+        ensures adds { AddsAtMost self.old self.new (only_chunks 1) }
+    {
+        self.chunks = self.chunks.saturating_add(1);
+    }
+}
+
+/// A list of bits whose limbs and low parts are read only with a counter.
+#[derive(Drop)]
+pub struct CountedBits<A: Allocator + Copy> {
+    bits: BitVec<A>,
+}
+
+impl<A: Allocator + Copy> Model for CountedBits<A> {
+    ghost use Rattle.std.specs.Prelude.{List, Bool};
+
+    ghost Value = { List Bool };
+
+    ghost view = { λ v. v.bits };
+}
+
+impl<A: Allocator + Copy> CountedBits<A> {
+    /// The same bits, counted from here on. Takes no memory.
+    #[inline]
+    pub fn new(bits: BitVec<A>) -> Self
+        ensures { result ≡ bits }
+    {
+        CountedBits { bits }
+    }
+
+    /// The same bits, no longer counted. Takes no memory.
+    #[inline]
+    pub fn into_bit_vec(self) -> BitVec<A>
+        ensures { result ≡ self }
+    {
+        self.bits
+    }
+
+    /// The whole list, for clones, conversions and equality. No counted query reads it.
+    #[inline]
+    pub fn as_bit_vec(&self) -> &BitVec<A>
+        ensures { result.now ≡ self.now }
+    {
+        &self.bits
+    }
+
+    /// How many bits the list has, which reads none.
+    #[inline]
+    pub fn len(&self) -> usize
+        ensures value { result ≡ length self.now }
+        ensures bounded { result ≤ MAX_LEN }
+    {
+        self.bits.len()
+    }
+
+    /// Limb number `k`, one data word. The limb has at least one bit of the list.
+    #[inline]
+    pub fn limb(&self, k: usize, tally: &mut Tally) -> u64
+        requires { 64 * k < length self.now }
+        ensures value { result ≡ limb self.now k }
+        ensures exact { tally.new ≡ record tally.old { data_words = one_more tally.old.data_words } }
+        ensures adds { AddsAtMost tally.old tally.new (only_data_words 1) }
+    {
+        tally.data_words = tally.data_words.saturating_add(1);
+        self.bits.limb(k)
+    }
+
+    /// The bit at a place, 1 or 0. Reads one data word, and none for a place that the list
+    /// doesn't have.
+    #[inline]
+    pub fn get(&self, place: usize, tally: &mut Tally) -> Option<u64>
+        ensures value { result ≡ option_map bit_value (slice_get self.now place) }
+        ensures adds { AddsAtMost tally.old tally.new (only_data_words 1) }
+    {
+        if place < self.bits.len() {
+            tally.data_words = tally.data_words.saturating_add(1);
+        }
+        self.bits.get(place)
+    }
+
+    /// Whether the bit at a place of the list is a one, one data word.
+    #[inline]
+    pub fn is_one(&self, place: usize, tally: &mut Tally) -> bool
+        requires { place < length self.now }
+        ensures value { result ≡ slice_index_or self.now place false }
+        ensures exact { tally.new ≡ record tally.old { data_words = one_more tally.old.data_words } }
+        ensures adds { AddsAtMost tally.old tally.new (only_data_words 1) }
+    {
+        tally.data_words = tally.data_words.saturating_add(1);
+        self.bits.is_bit_set(place).unwrap()
+    }
+
+    /// The number of the `n` bits from `place` on. Reads the one or two data words that hold
+    /// them. None where there are not so many, or `n` is 0 or above 64.
+    #[inline]
+    pub fn get_bits(&self, place: usize, n: usize, tally: &mut Tally) -> Option<u64>
+        ensures value { result ≡ part_number self.now place n }
+        ensures adds { AddsAtMost tally.old tally.new (only_data_words 2) }
+    {
+        tally.data_words = tally.data_words.saturating_add(1);
+        if n > 64 - place % 64 {
+            tally.data_words = tally.data_words.saturating_add(1);
+        }
+        self.bits.get_bits(place, n)
+    }
+
+    /// The number of the `n` bits from `place` on, one low part; 0 for `n` 0.
+    #[inline]
+    #[tactic(auto, using(crate::proofs::LowParts::low_part))]
+    pub fn low_part(&self, place: usize, n: usize, tally: &mut Tally) -> u64
+        requires few { n ≤ 64 }
+        requires within { place + n ≤ length self.now }
+        ensures value { result ≡ number (part self.now place n) }
+        ensures exact { tally.new ≡ record tally.old { low_parts = one_more tally.old.low_parts } }
+        ensures adds { AddsAtMost tally.old tally.new (only_low_parts 1) }
+    {
+        tally.low_parts = tally.low_parts.saturating_add(1);
+        if n == 0 {
+            return 0;
+        }
+        self.bits.get_bits(place, n).unwrap()
+    }
+}
+
+/// Entries of blocks, 2 bytes each, which are read only with a counter.
+#[derive(Drop)]
+pub struct BlockEntries<A: Allocator + Copy> {
+    entries: Vec<u16, A>,
+}
+
+impl<A: Allocator + Copy> Model for BlockEntries<A> {
+    ghost use Rattle.std.specs.Prelude.{List, ℕ};
+
+    ghost Value = { List ℕ };
+
+    ghost view = { λ v. v.entries.items };
+}
+
+impl<A: Allocator + Copy> BlockEntries<A> {
+    /// The same entries, counted from here on. Takes no memory.
+    #[inline]
+    pub fn new(entries: Vec<u16, A>) -> Self
+        ensures { result ≡ entries.items }
+    {
+        BlockEntries { entries }
+    }
+
+    /// How many entries there are, which reads none.
+    #[inline]
+    pub fn len(&self) -> usize
+        ensures value { result ≡ length self.now }
+        ensures bounded { length self.now < 2 ^ 64 }
+    {
+        self.entries.len()
+    }
+
+    /// All entries, for clones, conversions and equality. No counted query reads them.
+    #[inline]
+    pub fn as_slice(&self) -> &[u16]
+        ensures { result.now ≡ self.now }
+    {
+        self.entries.as_slice()
+    }
+
+    /// Entry number `k`, one block entry.
+    #[inline]
+    pub fn read(&self, k: usize, tally: &mut Tally) -> u16
+        requires { k < length self.now }
+        ensures value { result ≡ slice_index self.now k }
+        ensures exact { tally.new ≡ record tally.old { block_entries = one_more tally.old.block_entries } }
+        ensures adds { AddsAtMost tally.old tally.new (only_block_entries 1) }
+    {
+        tally.block_entries = tally.block_entries.saturating_add(1);
+        self.entries[k]
+    }
+}
+
+/// Entries of superblocks or select samples, 8 bytes each, which are read only with a counter.
+#[derive(Drop)]
+pub struct SuperblockEntries<A: Allocator + Copy> {
+    entries: Vec<u64, A>,
+}
+
+impl<A: Allocator + Copy> Model for SuperblockEntries<A> {
+    ghost use Rattle.std.specs.Prelude.{List, ℕ};
+
+    ghost Value = { List ℕ };
+
+    ghost view = { λ v. v.entries.items };
+}
+
+impl<A: Allocator + Copy> SuperblockEntries<A> {
+    /// The same entries, counted from here on. Takes no memory.
+    #[inline]
+    pub fn new(entries: Vec<u64, A>) -> Self
+        ensures { result ≡ entries.items }
+    {
+        SuperblockEntries { entries }
+    }
+
+    /// How many entries there are, which reads none.
+    #[inline]
+    pub fn len(&self) -> usize
+        ensures value { result ≡ length self.now }
+        ensures bounded { length self.now < 2 ^ 64 }
+    {
+        self.entries.len()
+    }
+
+    /// All entries, for clones, conversions and equality. No counted query reads them.
+    #[inline]
+    pub fn as_slice(&self) -> &[u64]
+        ensures { result.now ≡ self.now }
+    {
+        self.entries.as_slice()
+    }
+
+    /// Entry number `k`, one superblock entry.
+    #[inline]
+    pub fn read(&self, k: usize, tally: &mut Tally) -> u64
+        requires { k < length self.now }
+        ensures value { result ≡ slice_index self.now k }
+        ensures exact { tally.new ≡ record tally.old { superblock_entries = one_more tally.old.superblock_entries } }
+        ensures adds { AddsAtMost tally.old tally.new (only_superblock_entries 1) }
+    {
+        tally.superblock_entries = tally.superblock_entries.saturating_add(1);
+        self.entries[k]
+    }
+}
+
+/// A list of numbers, which are read only with a counter.
+#[derive(Drop)]
+pub struct CountedItems<A: Allocator + Copy> {
+    entries: Vec<u64, A>,
+}
+
+impl<A: Allocator + Copy> Model for CountedItems<A> {
+    ghost use Rattle.std.specs.Prelude.{List, ℕ};
+
+    ghost Value = { List ℕ };
+
+    ghost view = { λ v. v.entries.items };
+}
+
+impl<A: Allocator + Copy> CountedItems<A> {
+    /// The same entries, counted from here on. Takes no memory.
+    #[inline]
+    pub fn new(entries: Vec<u64, A>) -> Self
+        ensures { result ≡ entries.items }
+    {
+        CountedItems { entries }
+    }
+
+    /// How many entries there are, which reads none.
+    #[inline]
+    pub fn len(&self) -> usize
+        ensures value { result ≡ length self.now }
+        ensures bounded { length self.now < 2 ^ 64 }
+    {
+        self.entries.len()
+    }
+
+    /// All entries, for clones, conversions and equality. No counted query reads them.
+    #[inline]
+    pub fn as_slice(&self) -> &[u64]
+        ensures { result.now ≡ self.now }
+    {
+        self.entries.as_slice()
+    }
+
+    /// Entry number `k`, one item.
+    #[inline]
+    pub fn read(&self, k: usize, tally: &mut Tally) -> u64
+        requires { k < length self.now }
+        ensures value { result ≡ slice_index self.now k }
+        ensures exact { tally.new ≡ record tally.old { items = one_more tally.old.items } }
+        ensures adds { AddsAtMost tally.old tally.new (only_items 1) }
+    {
+        tally.items = tally.items.saturating_add(1);
+        self.entries[k]
+    }
+}
+
+/// The nodes of a tree, which are read only with a counter.
+#[derive(Drop)]
+pub struct CountedNodes<N: Copy, A: Allocator + Copy> {
+    nodes: Vec<N, A>,
+}
+
+impl<N: Copy, A: Allocator + Copy> Model for CountedNodes<N, A> {
+    ghost use Rattle.std.specs.Prelude.{List};
+
+    ghost Value = { List N };
+
+    ghost view = { λ v. v.nodes.items };
+}
+
+impl<N: Copy, A: Allocator + Copy> CountedNodes<N, A> {
+    /// The same nodes, counted from here on. Takes no memory.
+    #[inline]
+    pub fn new(nodes: Vec<N, A>) -> Self
+        ensures { result ≡ nodes.items }
+    {
+        CountedNodes { nodes }
+    }
+
+    /// How many nodes there are, which reads none.
+    #[inline]
+    pub fn len(&self) -> usize
+        ensures value { result ≡ length self.now }
+        ensures bounded { length self.now < 2 ^ 64 }
+    {
+        self.nodes.len()
+    }
+
+    /// All nodes, for clones. No counted query reads them.
+    #[inline]
+    pub fn as_slice(&self) -> &[N]
+        ensures { result.now ≡ self.now }
+    {
+        self.nodes.as_slice()
+    }
+
+    /// Node number `k`, one node.
+    #[inline]
+    pub fn read(&self, k: usize, tally: &mut Tally) -> N
+        requires { k < length self.now }
+        ensures value { result ≡ slice_index_or self.now k result }
+        ensures exact { tally.new ≡ record tally.old { nodes = one_more tally.old.nodes } }
+        ensures adds { AddsAtMost tally.old tally.new (only_nodes 1) }
+    {
+        tally.nodes = tally.nodes.saturating_add(1);
+        self.nodes[k]
+    }
+}
