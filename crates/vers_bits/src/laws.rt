@@ -50,6 +50,7 @@ pub fn mask_of_and_is_and()
 /// The mask by the xor of limbs is the xor of the bits.
 pub fn mask_of_xor_is_xor()
     ensures { MaskOfXorIsXor }
+{}
 
 /// Each of the first places holds a zero or a one: the counts of both add up to the number of
 /// places, or to the length.

@@ -1,0 +1,175 @@
+//! The series of lists of bits with ranks and selects.
+use crate::report::{
+    Series, Settings, nanoseconds_since, per_operation, print_line, print_size, run_series,
+};
+use crate::workload::{Random, fold, limbs};
+use std::alloc::{AllocError, Global};
+use std::io;
+use std::time::CpuClock;
+use vers_bits::bit_vec::BitVec;
+use vers_rank::fast_rs_vec::RsVec;
+
+type Bits = RsVec<Global>;
+
+fn rank1_pass(bits: &Bits, places: &[u64]) -> u64 {
+    let mut sum = 0;
+    for place in places {
+        sum = fold(sum, bits.rank1(*place as usize) as u64);
+    }
+    sum
+}
+
+// Each query waits for the answer of the one before.
+fn rank1_chained_pass(bits: &Bits, places: &[u64]) -> u64 {
+    let mut sum = 0;
+    let mut answer = 0u64;
+    for place in places {
+        answer = bits.rank1(place.wrapping_add(answer >> 63) as usize) as u64;
+        sum = fold(sum, answer);
+    }
+    sum
+}
+
+fn select1_pass(bits: &Bits, numbers: &[u64]) -> u64 {
+    let mut sum = 0;
+    for number in numbers {
+        sum = fold(sum, bits.select1(*number as usize) as u64);
+    }
+    sum
+}
+
+fn select1_chained_pass(bits: &Bits, numbers: &[u64]) -> u64 {
+    let mut sum = 0;
+    let mut answer = 0u64;
+    for number in numbers {
+        answer = bits.select1(number.wrapping_add(answer >> 63) as usize) as u64;
+        sum = fold(sum, answer);
+    }
+    sum
+}
+
+fn select0_pass(bits: &Bits, numbers: &[u64]) -> u64 {
+    let mut sum = 0;
+    for number in numbers {
+        sum = fold(sum, bits.select0(*number as usize) as u64);
+    }
+    sum
+}
+
+/// The queries of a list: places, numbers of ones and numbers of zeros.
+#[derive(Drop)]
+struct Queries {
+    places: Vec<u64>,
+    ones: Vec<u64>,
+    zeros: Vec<u64>,
+}
+
+fn queries_of(rt: &HostRuntime, bits: &Bits, count: usize) -> io::Result<Queries> {
+    let mut random = Random::new(7);
+    let len = bits.len();
+    Ok(Queries {
+        places: random.many_below(rt.alloc(), count, len as u64)?,
+        ones: random.many_below(rt.alloc(), count, bits.rank1(len) as u64)?,
+        zeros: random.many_below(rt.alloc(), count, bits.rank0(len) as u64)?,
+    })
+}
+
+fn copied(rt: &HostRuntime, limbs: &[u64]) -> Result<BitVec<Global>, AllocError> {
+    BitVec::from_limbs(rt.alloc(), limbs).map_err(|_| AllocError)
+}
+
+// Builds the list anew for each repetition, from a copy of its bits that isn't timed.
+fn build(
+    rt: &HostRuntime,
+    settings: &Settings,
+    series: &Series,
+    limbs: &[u64],
+) -> io::Result<Bits> {
+    let mut times = Vec::new(rt.alloc());
+    let mut bits = RsVec::from_bit_vec(copied(rt, limbs)?)?;
+    for _ in 0..settings.repetitions() {
+        let source = copied(rt, limbs)?;
+        let start = rt.thread_cpu_time()?;
+        bits = RsVec::from_bit_vec(source)?;
+        times.push(nanoseconds_since(rt, start)?)?;
+    }
+    let len = bits.len();
+    let time = per_operation(times, len as u64);
+    print_line(rt, settings, series, time, bits.rank1(len) as u64)?;
+    Ok(bits)
+}
+
+// How much more memory the list takes than its bits alone, in thousandths of a percent.
+fn overhead(bits: &Bits) -> u64 {
+    let heap_bits = (bits.heap_size() as u64).saturating_mul(8);
+    let len = (bits.len() as u64).max(1);
+    (heap_bits.saturating_mul(100_000) / len).saturating_sub(100_000)
+}
+
+/// Runs all series over a list of `limb_count` limbs with a given share of ones, each of
+/// `query_count` queries.
+pub fn run(
+    rt: &HostRuntime,
+    settings: &Settings,
+    limb_count: usize,
+    percent: u64,
+    query_count: usize,
+) -> io::Result<()> {
+    let len = (limb_count as u64).wrapping_mul(64);
+    let parameters = format!(in rt.alloc(); "n={len} ones={percent}%")?;
+    let series = |operation| Series {
+        structure: "bits",
+        operation,
+        parameters: parameters.as_str(),
+    };
+    let limbs = limbs(rt.alloc(), limb_count, percent)?;
+    let bits = build(rt, settings, &series("build"), limbs.as_slice())?;
+    print_size(
+        rt,
+        settings,
+        &series("heap_overhead_percent"),
+        overhead(&bits),
+    )?;
+    let queries = queries_of(rt, &bits, query_count)?;
+    let (places, ones, zeros) = (
+        queries.places.as_slice(),
+        queries.ones.as_slice(),
+        queries.zeros.as_slice(),
+    );
+    let count = query_count as u64;
+    run_series(
+        rt,
+        settings,
+        &series("rank1"),
+        count,
+        || rank1_pass(&bits, places),
+    )?;
+    run_series(
+        rt,
+        settings,
+        &series("rank1_chained"),
+        count,
+        || rank1_chained_pass(&bits, places),
+    )?;
+    run_series(
+        rt,
+        settings,
+        &series("select1"),
+        count,
+        || select1_pass(&bits, ones),
+    )?;
+    run_series(
+        rt,
+        settings,
+        &series("select1_chained"),
+        count,
+        || select1_chained_pass(&bits, ones),
+    )?;
+    run_series(
+        rt,
+        settings,
+        &series("select0"),
+        count,
+        || select0_pass(&bits, zeros),
+    )
+}

@@ -1,0 +1,127 @@
+//! What is printed: a line for each series, with its checksum, and with its time where one is asked for.
+use std::io;
+use std::time::{CpuClock, Duration};
+
+/// How the series are run.
+#[derive(Clone, Copy)]
+pub enum Mode {
+    /// Once, for the checksums alone, so that each run prints the same.
+    Checksums,
+    /// Several times, for the median of the times under the name of this driver.
+    Times {
+        /// How often each series is run.
+        repetitions: usize,
+        /// What the sizes are divided by.
+        divisor: usize,
+    },
+}
+
+/// What the arguments ask for.
+#[derive(Drop)]
+pub struct Settings {
+    /// What the lines name the driver.
+    pub name: String,
+    /// The structures to run; all where there are none.
+    pub structures: Vec<String>,
+    /// How the series are run.
+    pub mode: Mode,
+}
+
+impl Settings {
+    /// How often a series is run.
+    pub fn repetitions(&self) -> usize {
+        match self.mode {
+            Mode::Checksums => 1,
+            Mode::Times { repetitions, .. } => repetitions,
+        }
+    }
+
+    /// Whether a structure is asked for.
+    pub fn wants(&self, structure: &str) -> bool {
+        self.structures.is_empty() || self.structures.iter().any(|it| it.as_str() == structure)
+    }
+}
+
+/// A series: what is measured, on which structure, over which data.
+#[derive(Clone, Copy)]
+pub struct Series<'a> {
+    /// The structure's name.
+    pub structure: &'a str,
+    /// The operation's name.
+    pub operation: &'a str,
+    /// The data: how much, and what kind.
+    pub parameters: &'a str,
+}
+
+/// Prints a size in thousandths, where times are asked for: it is no series, and has no checksum.
+pub fn print_size(
+    rt: &HostRuntime,
+    settings: &Settings,
+    series: &Series,
+    thousandths: u64,
+) -> io::Result<()> {
+    match settings.mode {
+        Mode::Checksums => Ok(()),
+        Mode::Times { .. } => print_line(rt, settings, series, thousandths, 0),
+    }
+}
+
+/// Prints the line of a series: nanoseconds an operation in thousandths, and the checksum.
+pub fn print_line(
+    rt: &HostRuntime,
+    settings: &Settings,
+    series: &Series,
+    thousandths: u64,
+    checksum: u64,
+) -> io::Result<()> {
+    let Series {
+        structure,
+        operation,
+        parameters,
+    } = *series;
+    match settings.mode {
+        Mode::Checksums => println!(rt; "{structure}\t{operation}\t{parameters}\t{checksum:016x}"),
+        Mode::Times { .. } => {
+            let name = settings.name.as_str();
+            let whole = thousandths / 1000;
+            let part = thousandths % 1000;
+            println!(rt;
+                "{name}\t{structure}\t{operation}\t{parameters}\t{whole}.{part:03}\t{checksum:016x}"
+            )
+        }
+    }
+}
+
+/// The processor time since, in nanoseconds.
+pub fn nanoseconds_since(rt: &HostRuntime, start: Duration) -> io::Result<u64> {
+    let elapsed = rt.thread_cpu_time()?.saturating_sub(start);
+    Ok(u64::try_from(elapsed.as_nanos()).unwrap_or(u64::MAX))
+}
+
+/// The median of the times of `count` operations, in thousandths of a nanosecond an operation.
+pub fn per_operation(mut times: Vec<u64>, count: u64) -> u64 {
+    times.sort_unstable();
+    let median = times.get(times.len() / 2).copied().unwrap_or(0);
+    median.saturating_mul(1000) / count.max(1)
+}
+
+/// Runs a series of `count` operations and prints its line. `pass` does them all and answers the
+/// checksum.
+pub fn run_series<F: FnMut() -> u64>(
+    rt: &HostRuntime,
+    settings: &Settings,
+    series: &Series,
+    count: u64,
+    mut pass: F,
+) -> io::Result<()>
+    requires { F.IsAlwaysCallable pass }
+{
+    let mut times = Vec::new(rt.alloc());
+    let mut checksum = 0u64;
+    for _ in 0..settings.repetitions() {
+        let start = rt.thread_cpu_time()?;
+        checksum = pass();
+        times.push(nanoseconds_since(rt, start)?)?;
+    }
+    print_line(rt, settings, series, per_operation(times, count), checksum)
+}
