@@ -1,0 +1,184 @@
+#!/usr/bin/env python3
+"""Rules over the text of the repository that no contract states.
+
+- Public items of a library have a doc comment, and each module file says in its first line what it is.
+- Files stay below 800 lines, and functions below 60.
+- `crates.txt` lists the folders of `crates/`, each once.
+- Each public function with an `ensures` clause is reached by a wrong body: some edit of the crate's
+  `must-fail/` changes it, or a function of the crate that it calls.
+- Nothing cites a label of a paper or a path of one machine, and the links of the documents lead somewhere.
+
+Exit status 1 where a rule is broken, with a line for each place. `--self-test` breaks each rule in a small
+repository of its own and wants every break found.
+"""
+import os
+import re
+import subprocess
+import sys
+import tempfile
+
+from rattle_text import blanked, functions, without_tests
+
+LONGEST_FILE = 800
+LONGEST_FUNCTION = 60
+LABEL = re.compile(r"(?<![\w-])[DFRTW][12]?\d(?![\w-])")
+MACHINE_PATH = re.compile(r"(?<![\w./-])/(?:work|opt|tmp|home|root)/")
+PUBLIC = re.compile(r"(?m)^[ \t]*pub (?:const )?(?:unsafe )?(fn|struct|enum|trait|const|static|type) (\w+)")
+LINK = re.compile(r"\]\(([^)#:\s]+)(?:#[^)]*)?\)")
+TEXTS = (".md", ".rt", ".antt", ".edit", ".py", ".sh", ".txt")
+
+
+def read(path):
+    with open(path, encoding="utf-8") as file:
+        return file.read()
+
+
+def listed_files(top):
+    """Returns the files that git tracks or would, by their paths below `top`."""
+    answer = subprocess.run(
+        ["git", "-C", top, "ls-files", "--cached", "--others", "--exclude-standard"],
+        check=True, capture_output=True, text=True,
+    )
+    return sorted({path for path in answer.stdout.split("\n") if path and os.path.exists(os.path.join(top, path))})
+
+
+def undocumented(path, text):
+    """Yields a line for each public item that has no doc comment right above it."""
+    lines = text.split("\n")
+    if not text.startswith("//!"):
+        yield f"{path}: the first line doesn't say what the module is"
+    for item in PUBLIC.finditer(without_tests(blanked(text))):
+        above = text.count("\n", 0, item.start()) - 1
+        while above >= 0 and lines[above].strip().startswith("#["):
+            above -= 1
+        if above < 0 or not lines[above].strip().startswith("///"):
+            yield f"{path}:{text.count(chr(10), 0, item.start()) + 1}: {item[1]} {item[2]} has no doc comment"
+
+
+def too_long(path, text):
+    """Yields a line where the file or one of its functions is longer than the rule allows."""
+    count = text.count("\n") + 1
+    if count > LONGEST_FILE:
+        yield f"{path}: {count} lines"
+    for function in functions(without_tests(blanked(text))):
+        length = function.body.count("\n") + 1
+        if length > LONGEST_FUNCTION:
+            yield f"{path}:{function.line}: {function.name} has {length} lines"
+
+
+def changed_functions(top, crate, sources):
+    """Returns the names of the functions in which the crate's edits change something."""
+    changed = set()
+    folder = os.path.join(top, "crates", crate, "must-fail")
+    for name in sorted(os.listdir(folder)) if os.path.isdir(folder) else []:
+        lines = read(os.path.join(folder, name)).split("\n")
+        path = next((line[len("file: "):] for line in lines if line.startswith("file: ")), "")
+        text = sources.get(f"crates/{crate}/{path}", "")
+        olds = [line[len("old: "):] for line in lines if line.startswith("old: ")]
+        for function in functions(blanked(text)):
+            body = text[function.start:function.end]
+            if any(old.strip() in body for old in olds):
+                changed.add(function.name)
+    return changed
+
+
+def without_wrong_body(top, crate, sources):
+    """Yields a line for each public function with an `ensures` that no edit of the crate reaches."""
+    found = [(path, function) for path, text in sources.items() for function in functions(without_tests(blanked(text)))]
+    calls = {}
+    for _, function in found:
+        calls.setdefault(function.name, set()).update(re.findall(r"\b(\w+)\s*(?:::<[^>]*>)?\(", function.body))
+    reached = changed_functions(top, crate, sources)
+    while True:
+        more = {name for name, called in calls.items() if called & reached} - reached
+        if not more:
+            break
+        reached |= more
+    for path, function in found:
+        if function.is_public and function.has_ensures and function.name not in reached:
+            yield f"{path}:{function.line}: no wrong body reaches {function.name}"
+
+
+def crate_faults(top, crate, files):
+    """Yields what is broken in the sources of one crate."""
+    sources = {path: read(os.path.join(top, path)) for path in files if path.startswith(f"crates/{crate}/src/") and path.endswith(".rt")}
+    for path, text in sources.items():
+        yield from too_long(path, text)
+        if not os.path.basename(path) == "main.rt":
+            yield from undocumented(path, text)
+    if not crate.startswith("test_") and not crate.endswith("_tests"):
+        yield from without_wrong_body(top, crate, sources)
+
+
+def faults(top):
+    """Yields what is broken in the repository at `top`."""
+    files = listed_files(top)
+    listed = re.findall(r"(?m)^(\w+)[^:\n#]*:", read(os.path.join(top, "crates.txt")))
+    there = sorted({path.split("/")[1] for path in files if path.startswith("crates/")})
+    if sorted(listed) != there:
+        yield f"crates.txt lists {sorted(listed)}, and crates/ holds {there}"
+    for crate in there:
+        yield from crate_faults(top, crate, files)
+    for path in files:
+        if not path.endswith(TEXTS) and os.path.basename(path) not in ("test", "vers", "run"):
+            continue
+        text = read(os.path.join(top, path))
+        for number, line in enumerate(text.split("\n"), 1):
+            label = None if path.endswith("_rules.py") else LABEL.search(line) or MACHINE_PATH.search(line)
+            if label:
+                yield f"{path}:{number}: cites {label[0]}, which the repository doesn't hold"
+        if path.endswith(".md"):
+            for link in LINK.finditer(text):
+                if not os.path.exists(os.path.join(top, os.path.dirname(path), link[1])):
+                    yield f"{path}: the link {link[1]} leads nowhere"
+
+
+GOOD = {
+    "crates.txt": "low: # a comment\n",
+    "README.md": "See [the page](docs/PAGE.md).\n",
+    "docs/PAGE.md": "A page.\n",
+    "crates/low/src/lib.rt": "//! A crate.\n\n/// One more.\n#[inline]\npub fn next(x: u8) -> u8\n    ensures { result ≡ more x }\n{\n    helper(x)\n}\n\nfn helper(x: u8) -> u8 {\n    x + 1\n}\n",
+    "crates/low/must-fail/off.edit": "file: src/lib.rt\nold:     x + 1\nnew:     x + 2\n",
+}
+# what is wanted to be said, and the change to the good repository that asks for it
+BREAKS = {
+    "has no doc comment": ("crates/low/src/lib.rt", "/// One more.\n", ""),
+    "doesn't say what the module is": ("crates/low/src/lib.rt", "//! A crate.\n", ""),
+    "no wrong body reaches next": ("crates/low/must-fail/off.edit", "x + 1", "y + 1"),
+    "has 64 lines": ("crates/low/src/lib.rt", "    x + 1\n", "    x + 1\n" + "\n" * 61),
+    " lines": ("crates/low/src/lib.rt", "//! A crate.\n", "//! A crate.\n" + "\n" * 800),
+    "crates.txt lists": ("crates.txt", "low:", "high:"),
+    "cites W7": ("docs/PAGE.md", "A page.", "As W7 says."),
+    "cites /opt/": ("docs/PAGE.md", "A page.", "In /opt/kit."),
+    "leads nowhere": ("README.md", "docs/PAGE.md", "docs/NONE.md"),
+}
+
+
+def self_test():
+    """Breaks each rule in a repository of its own, and wants the break found and nothing said without it."""
+    for want, (path, old, new) in [("", ("README.md", "See", "See"))] + list(BREAKS.items()):
+        with tempfile.TemporaryDirectory() as top:
+            subprocess.run(["git", "init", "-q", top], check=True)
+            for name, text in GOOD.items():
+                os.makedirs(os.path.dirname(os.path.join(top, name)), exist_ok=True)
+                if name == path:
+                    assert text.count(old) == 1, (name, old)
+                    text = text.replace(old, new)
+                with open(os.path.join(top, name), "w", encoding="utf-8") as file:
+                    file.write(text)
+            said = list(faults(top))
+            assert any(want in line for line in said) if want else not said, (want, said)
+    print("text rules: each planted fault is found")
+
+
+def main():
+    if "--self-test" in sys.argv:
+        self_test()
+        return 0
+    said = list(faults("."))
+    print("\n".join(said) or "text rules: ok")
+    return 1 if said else 0
+
+
+if __name__ == "__main__":
+    sys.exit(main())
