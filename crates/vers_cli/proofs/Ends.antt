@@ -1,15 +1,16 @@
 -- How a run ends.
-use Rattle.std.proofs.Common.{◌≡◌, ◌≢◌, ◌↔◌, ℕ, List, [], ◌++◌, Bool, false, IsTrue, Option, Ok, Err, Result, refl, sym, inl, inr}
+use Rattle.std.proofs.Common.{ℕ, List, [], ◌++◌, Option, Ok, Err, Result, refl, sym, inl, inr}
 use Rattle.std.specs.Io.KnownBytes.{IsAtEnd}
 use Rattle.vers_cli.specs.declared.engine.RunError.{RunError}
 use Rattle.vers_cli.specs.declared.engine.RunError.TheVariants.{Read, Write, Memory}
 use Rattle.vers_cli.specs.Text.{whole_lines, lines_of}
 use Rattle.vers_cli.specs.Holding.{Holding, Nothing}
 use Rattle.vers_cli.specs.Answers.{AnswersLines, AreLinesRead, WrittenAt}
-use Rattle.vers_cli.specs.Session.{StandsAt, TakesOrFails, FinishesOrFails, FailsAlong}
+use Rattle.vers_cli.specs.Session.{StandsAt, TakesOrFails, FinishesOrFails}
 use Rattle.vers_cli.proofs.Splits.{IsSplit-none}
 use Rattle.vers_cli.proofs.Steps.{whole_lines-IsSplit}
 
+-- nothing was read yet
 pub StandsAt-start : StandsAt [] [] Nothing []
 StandsAt-start = record { lines = []; split = IsSplit-none 10; answered = refl; holds = refl }
 
@@ -35,15 +36,3 @@ breaks Write left h p bytes text new rest read written s f =
 -- at a fault of the reader
 pub stops : (h : Holding) (p read written : List ℕ) → StandsAt read written h p → AnswersLines Nothing (whole_lines read) written
 stops h p read written s = rw (whole_lines-IsSplit read s.lines p s.split) s.answered
-
-pub never_read : (r : Result (Unit {0}) RunError) (old new : Bool) → FailsAlong r old new → r ≢ Err Read
-never_read (Ok u) old new f e = cc
-never_read (Err Read) old new f e = f
-never_read (Err Memory) old new f e = cc
-never_read (Err Write) old new f e = cc
-
-pub write_failed : (r : Result (Unit {0}) RunError) (new : Bool) → FailsAlong r false new → (r ≡ Err Write) ↔ (IsTrue new)
-write_failed (Ok u) new f = (λ e. cc, λ e. cc)
-write_failed (Err Read) new f = absurd f
-write_failed (Err Memory) new f = (λ e. cc, λ e. cc)
-write_failed (Err Write) new f = (λ e. f, λ e. refl)

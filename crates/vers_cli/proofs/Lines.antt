@@ -14,15 +14,18 @@ use Rattle.vers_cli.specs.BitsLines.{bits_reply}
 use Rattle.vers_cli.specs.Rules.{loaded, load_reply, IsQueryReply, IsReply}
 use Rattle.vers_cli.specs.Answers.{IsAnswerToWords, IsAnswerTo, holding_after, AnswersLines, holding_after_all}
 
+-- some lines, and then others
 pub AnswersLines-then : (h : Holding) (ls ms : List (List ℕ)) (t u : List ℕ) → AnswersLines h ls t → AnswersLines (holding_after_all h ls) ms u → AnswersLines h (ls ++ ms) (t ++ u)
 AnswersLines-then h [] ms t u a b = rw a b
 AnswersLines-then h (l ∷ ls) ms t u a b =
     (a.0, a.1 ++ u, a.2, AnswersLines-then (holding_after h l) ls ms a.1 u a.3 b, ap (λ x. x ++ u) a.4 ∙ append_assoc a.0 a.1 u)
 
+-- what is held after some lines, and then others
 pub holding_after_all-append : (h : Holding) (ls ms : List (List ℕ)) → holding_after_all h (ls ++ ms) ≡ holding_after_all (holding_after_all h ls) ms
 holding_after_all-append h [] ms = refl
 holding_after_all-append h (l ∷ ls) ms = holding_after_all-append (holding_after h l) ls ms
 
+-- one line
 pub AnswersLines-one : (h : Holding) (l t : List ℕ) → IsAnswerTo h l t → AnswersLines h (l ∷ []) t
 AnswersLines-one h l t a = (t, [], a, refl, sym (append-nil t))
 
@@ -37,6 +40,7 @@ some_reply h None arguments = (BadLine, refl)
 some_reply h (Some (name.Load l)) arguments = (load_reply (loaded l arguments), refl)
 some_reply h (Some (name.Query q)) arguments = some_query_reply h q arguments
 
+-- each line has some answer
 some_answer_to_words : (h : Holding) (words : List (List ℕ)) → (t : List ℕ) × IsAnswerToWords h words t
 unfolding IsAnswerToWords
 some_answer_to_words h [] = ([], refl)

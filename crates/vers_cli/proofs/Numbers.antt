@@ -1,15 +1,14 @@
 -- Numbers, found from the front of their digits.
-use Rattle.std.proofs.Common.{◌≡◌, ◌==◌, ◌+◌, ◌*◌, ◌-◌, ◌^◌, ◌<◌, ◌≤◌, ℕ, Bool, true, false, List, [], ◌∷◌, length, take, get_or, Option, Some, None, refl, arith}
+use Rattle.std.proofs.Common.{◌≡◌, ◌==◌, ◌+◌, ◌*◌, ◌-◌, ◌^◌, ◌<◌, ◌≤◌, ℕ, Bool, true, false, List, [], length, take, get_or, Some, None, refl, arith}
 use Rattle.std.proofs.Math.Bool.{◌&&◌}
 use Rattle.std.specs.List.{list_all}
 use Rattle.std.specs.Char.{is_ascii_digit, digit_value}
 use Rattle.std.specs.Str.Parse.{digits_value}
 use Rattle.std.proofs.lemmas.Bool.{lt-ltb, le-ltb}
 use Rattle.std.proofs.lemmas.Bool.Decides.{nat_tests}
-use Rattle.std.proofs.lemmas.Str.{digit_value_digit}
 use Rattle.std.proofs.lemmas.Int.Digits.{digits_value_more}
 use Rattle.std.proofs.lemmas.Str.Parse.{digits_value-take-le}
-use Rattle.vers_cli.specs.Text.{has_bytes, number_of}
+use Rattle.vers_cli.specs.Text.{number_of}
 
 -- the value of a decimal digit is its distance from the digit 0
 pub digit_value-decimal : (b : ℕ) → is_ascii_digit b ≡ true → digit_value b ≡ b - 48
@@ -25,10 +24,12 @@ pub large_at : (w : List ℕ) (i : ℕ) → i < length w → is_ascii_digit (get
     → 2 ^ 64 ≤ digits_value 10 (take i w) * 10 + (get_or w i 0 - 48) → 2 ^ 64 ≤ digits_value 10 w
 large_at w i h d k = omega (arith, digits_value-digit w i h d, digits_value-take-le 10 w (i + 1) (omega arith))
 
+-- nothing holds together with what is false
 and_false : (b : Bool) → b && false ≡ false
 and_false true = refl
 and_false false = refl
 
+-- when a word writes a number, and which
 pub number_of-empty : number_of [] ≡ None
 unfolding number_of
 number_of-empty = refl

@@ -6,7 +6,7 @@ use Rattle.vers_cli.specs.declared.name.Query.{Query}
 use Rattle.vers_cli.specs.declared.name.Query.TheVariants.{Len, Get, Rank0, Rank1, Select0, Select1}
 use Rattle.vers_cli.specs.declared.reply.Reply.{Reply}
 use Rattle.vers_cli.specs.declared.reply.Reply.TheVariants.{Number}
-use Rattle.vers_cli.specs.Arguments.{no_arguments, one_number, bits_of}
+use Rattle.vers_cli.specs.Arguments.{no_arguments, one_number}
 use Rattle.vers_cli.specs.Holding.{Loaded, Malformed, Inadmissible, Accepted, BitsHeld}
 use Rattle.vers_cli.specs.Reply.{if_well_formed, number_or_absent}
 

@@ -1,9 +1,8 @@
 -- Worked rows of the definitions, which compute.
-use Rattle.std.specs.Prelude.{◌≡◌, ℕ, ◌++◌, Bool, true, false, List, [], ◌∷◌, codes, Some, None, refl}
+use Rattle.std.specs.Prelude.{◌≡◌, ℕ, ◌++◌, true, false, List, [], ◌∷◌, codes, Some, None, refl}
 use Rattle.std.specs.Fmt.{digits}
 use Rattle.vers_bits.specs.Bits.{count, places, select}
-use Rattle.vers_cli.specs.declared.name.Name.TheVariants.{Load, Query}
-use Rattle.vers_cli.specs.declared.name.Load.TheVariants.{Bits}
+use Rattle.vers_cli.specs.declared.name.Name.TheVariants.{Query}
 use Rattle.vers_cli.specs.declared.name.Query.TheVariants.{Rank1}
 use Rattle.vers_cli.specs.declared.reply.Reply.TheVariants.{BadLine, WrongStructure, Number, Absent}
 use Rattle.vers_cli.specs.Text.{number_of, words_of, whole_lines, last_part, lines_of}

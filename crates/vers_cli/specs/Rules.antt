@@ -5,7 +5,7 @@
 -- 4. a query with malformed arguments, or another number of them: bad line;
 -- 5. a load line whose arguments are not admitted, or a query whose condition is not met: refused;
 -- 6. the answer.
-use Rattle.std.specs.Prelude.{◌≡◌, ℕ, List, [], ◌∷◌, Option, Some, None}
+use Rattle.std.specs.Prelude.{◌≡◌, ℕ, List, Option, Some, None}
 use Rattle.vers_cli.specs.declared.name.Name.{Name}
 use Rattle.vers_cli.specs.declared.name.Load.{Load}
 use Rattle.vers_cli.specs.declared.name.Query.{Query}

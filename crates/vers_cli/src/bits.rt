@@ -1,6 +1,6 @@
 //! The lines of a list of bits.
-ghost use Rattle.std.specs.Prelude.{◌≡◌, ◌≤◌, length, map, IfOk};
-ghost use Rattle.vers_cli.specs.Arguments.{bits_of, bits_of_digits};
+ghost use Rattle.std.specs.Prelude.{◌≡◌, ◌≤◌, length, IfOk};
+ghost use Rattle.vers_cli.specs.Arguments.{texts, bits_of, bits_of_digits};
 ghost use Rattle.vers_cli.specs.BitsLines.{bits_loaded, bits_reply};
 ghost use Rattle.vers_cli.specs.Held.{loaded_of};
 
@@ -14,7 +14,7 @@ use vers_rank::fast_rs_vec::RsVec;
 
 /// What the load line `bits S` gives.
 pub fn load<A: Allocator + Copy>(alloc: A, arguments: &[&[u8]]) -> Result<Loading<A>, AllocError>
-    ensures { IfOk result (λ loading. loaded_of loading ≡ bits_loaded (bits_of (map (λ word. word.now) arguments.now))) }
+    ensures { IfOk result (λ loading. loaded_of loading ≡ bits_loaded (bits_of (texts arguments.now))) }
 {
     let Some(digits) = bit_digits(arguments) else {
         return Ok(Loading::Malformed);
@@ -33,6 +33,7 @@ pub fn bit_vec<A: Allocator + Copy>(alloc: A, digits: &[u8]) -> Result<BitVec<A>
 {
     let mut bits = BitVec::new(alloc);
     for digit in digits {
+        // The list is never too long, so an error is want of memory.
         if bits.append(*digit == b'1').is_err() {
             return Err(AllocError);
         }
@@ -42,7 +43,7 @@ pub fn bit_vec<A: Allocator + Copy>(alloc: A, digits: &[u8]) -> Result<BitVec<A>
 
 /// The reply of a query line, where these bits are held.
 pub fn reply<A: Allocator + Copy>(bits: &RsVec<A>, query: Query, arguments: &[&[u8]]) -> Reply
-    ensures { result ≡ bits_reply bits.now query (map (λ word. word.now) arguments.now) }
+    ensures { result ≡ bits_reply bits.now query (texts arguments.now) }
 {
     match query {
         Query::Len => no_arguments(arguments).map_or(

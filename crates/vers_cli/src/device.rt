@@ -51,12 +51,12 @@ impl<D> Device<D> {
         self.inner
     }
 
-    /// Counts as a fault that the reader has not come to its end after so many reads.
-    pub(crate) fn give_up(&mut self)
+    // Remembers a fault, where there is one.
+    pub(crate) fn note(&mut self, is_fault: bool)
         ensures inner { self.new.inner ≡ self.old.inner }
-        ensures failed { self.new.has_failed ≡ true }
+        ensures failed { self.new.has_failed ≡ (self.old.has_failed || is_fault) }
     {
-        self.has_failed = true;
+        self.has_failed |= is_fault;
     }
 }
 
@@ -70,7 +70,7 @@ impl<R: Read> Read for Device<R> {
         ensures failed { self.new.has_failed ≡ (self.old.has_failed || is_err result) }
     {
         let result = self.inner.read(buf);
-        self.has_failed = self.has_failed || result.is_err();
+        self.note(result.is_err());
         result
     }
 }
@@ -86,11 +86,10 @@ impl<W: Write> Write for Device<W> {
         ensures failed { self.new.has_failed ≡ (self.old.has_failed || is_write_fault result buf.now) }
     {
         let result = self.inner.write(buf);
-        self.has_failed = self.has_failed
-            || match &result {
-                Ok(taken) => *taken == 0 && !buf.is_empty(),
-                Err(_) => true,
-            };
+        self.note(match &result {
+            Ok(taken) => *taken == 0 && !buf.is_empty(),
+            Err(_) => true,
+        });
         result
     }
 
@@ -100,7 +99,7 @@ impl<W: Write> Write for Device<W> {
         ensures failed { self.new.has_failed ≡ (self.old.has_failed || is_err result) }
     {
         let result = self.inner.flush();
-        self.has_failed = self.has_failed || result.is_err();
+        self.note(result.is_err());
         result
     }
 }

@@ -183,6 +183,6 @@ pub fn run<A: Allocator + Copy, R: Read, W: Write>(
             Err(_) => return Err(RunError::Read),
         }
     }
-    reader.give_up();
+    reader.note(true);
     Err(RunError::Read)
 }

@@ -1,5 +1,6 @@
 //! What is held between lines.
-ghost use Rattle.std.specs.Prelude.{◌≡◌, map, IfOk};
+ghost use Rattle.std.specs.Prelude.{◌≡◌, IfOk};
+ghost use Rattle.vers_cli.specs.Arguments.{texts};
 ghost use Rattle.vers_cli.specs.Holding.{length_of};
 ghost use Rattle.vers_cli.specs.Rules.{loaded, IsQueryReply};
 ghost use Rattle.vers_cli.specs.Held.{loaded_of};
@@ -34,7 +35,7 @@ pub fn load<A: Allocator + Copy>(
     load: Load,
     arguments: &[&[u8]],
 ) -> Result<Loading<A>, AllocError>
-    ensures { IfOk result (λ loading. loaded_of loading ≡ loaded load (map (λ word. word.now) arguments.now)) }
+    ensures { IfOk result (λ loading. loaded_of loading ≡ loaded load (texts arguments.now)) }
 {
     match load {
         Load::Bits => bits::load(alloc, arguments),
@@ -56,7 +57,7 @@ impl<A: Allocator + Copy> Held<A> {
 
     /// The reply of a query line.
     pub fn reply(&self, query: Query, arguments: &[&[u8]]) -> Reply
-        ensures { IsQueryReply (holding_of self.now) query (map (λ word. word.now) arguments.now) result }
+        ensures { IsQueryReply (holding_of self.now) query (texts arguments.now) result }
     {
         match self {
             Held::Nothing => Reply::WrongStructure,

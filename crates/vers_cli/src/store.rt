@@ -1,5 +1,6 @@
 //! How a line is answered, and what is held after it.
-ghost use Rattle.std.specs.Prelude.{◌≡◌, map, IfOk, OnOk};
+ghost use Rattle.std.specs.Prelude.{◌≡◌, IfOk, OnOk};
+ghost use Rattle.vers_cli.specs.Arguments.{texts};
 ghost use Rattle.vers_cli.specs.Name.{name_of};
 ghost use Rattle.vers_cli.specs.Holding.{Nothing};
 ghost use Rattle.vers_cli.specs.Rules.{loaded, load_reply, holding_after_load, IsReply, holding_after_name};
@@ -41,8 +42,8 @@ impl<A: Allocator + Copy> Store<A> {
 
     // The reply of a load line. What was held is kept, unless the line is accepted.
     fn load(&mut self, load: Load, arguments: &[&[u8]]) -> Result<Reply, AllocError>
-        ensures reply { IfOk result (λ reply. reply ≡ load_reply (loaded load (map (λ word. word.now) arguments.now))) }
-        ensures holds { OnOk result (self.new ≡ holding_after_load self.old (loaded load (map (λ word. word.now) arguments.now))) }
+        ensures reply { IfOk result (λ reply. reply ≡ load_reply (loaded load (texts arguments.now))) }
+        ensures holds { OnOk result (self.new ≡ holding_after_load self.old (loaded load (texts arguments.now))) }
     {
         match held::load(self.alloc, load, arguments)? {
             Loading::Malformed => Ok(Reply::BadLine),
@@ -57,8 +58,8 @@ impl<A: Allocator + Copy> Store<A> {
 
     // The reply of a line, by its first word and the others.
     fn reply(&mut self, word: &[u8], arguments: &[&[u8]]) -> Result<Reply, AllocError>
-        ensures reply { IfOk result (λ reply. IsReply self.old (name_of word.now) (map (λ word. word.now) arguments.now) reply) }
-        ensures holds { OnOk result (self.new ≡ holding_after_name self.old (name_of word.now) (map (λ word. word.now) arguments.now)) }
+        ensures reply { IfOk result (λ reply. IsReply self.old (name_of word.now) (texts arguments.now) reply) }
+        ensures holds { OnOk result (self.new ≡ holding_after_name self.old (name_of word.now) (texts arguments.now)) }
     {
         match Name::of(word) {
             None => Ok(Reply::BadLine),
@@ -69,8 +70,8 @@ impl<A: Allocator + Copy> Store<A> {
 
     // The answer of a line of these words.
     fn answer_words(&mut self, words: &[&[u8]]) -> Result<Vec<u8, A>, AllocError>
-        ensures answer { IfOk result (λ text. IsAnswerToWords self.old (map (λ word. word.now) words.now) text.items) }
-        ensures holds { OnOk result (self.new ≡ holding_after_words self.old (map (λ word. word.now) words.now)) }
+        ensures answer { IfOk result (λ text. IsAnswerToWords self.old (texts words.now) text.items) }
+        ensures holds { OnOk result (self.new ≡ holding_after_words self.old (texts words.now)) }
     {
         let mut answer = Vec::new(self.alloc);
         let Some((word, arguments)) = words.split_first() else {

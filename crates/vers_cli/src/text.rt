@@ -1,21 +1,22 @@
 //! The words and numbers of a line.
-ghost use Rattle.std.specs.Prelude.{◌≡◌, ◌≤◌, ◌==◌, ◌++◌, ◌∷◌, [], filter, map, IfOk, OnOk};
+ghost use Rattle.std.specs.Prelude.{◌≡◌, ◌≤◌, ◌==◌, ◌++◌, ◌∷◌, [], filter, IfOk, OnOk};
 ghost use Rattle.std.specs.Io.BufRead.{strip_last};
 ghost use Rattle.std.specs.List.{slice_split};
+ghost use Rattle.vers_cli.specs.Arguments.{texts};
 ghost use Rattle.vers_cli.specs.Text.{has_bytes, words_of, number_of};
 
 use std::alloc::{AllocError, Allocator};
 
 /// The words of a line, in order.
 pub fn words<'a, A: Allocator>(alloc: A, line: &'a [u8]) -> Result<Vec<&'a [u8], A>, AllocError>
-    ensures { IfOk result (λ words. map (λ word. word.now) words.items ≡ words_of line.now) }
+    ensures { IfOk result (λ words. texts words.items ≡ words_of line.now) }
 {
     split_words(alloc, without_return(line))
 }
 
 // The parts between spaces that have bytes.
 fn split_words<'a, A: Allocator>(alloc: A, line: &'a [u8]) -> Result<Vec<&'a [u8], A>, AllocError>
-    ensures { IfOk result (λ words. map (λ word. word.now) words.items ≡ filter has_bytes (slice_split (λ byte. byte == 32) line.now)) }
+    ensures { IfOk result (λ words. texts words.items ≡ filter has_bytes (slice_split (λ byte. byte == 32) line.now)) }
 {
     let mut words = Vec::new(alloc);
     let mut start = 0;
@@ -34,8 +35,8 @@ fn push_word<'a, A: Allocator>(
     words: &mut Vec<&'a [u8], A>,
     part: &'a [u8],
 ) -> Result<(), AllocError>
-    ensures { OnOk result (map (λ word. word.now) words.new.items
-        ≡ map (λ word. word.now) words.old.items ++ filter has_bytes (part.now ∷ [])) }
+    ensures { OnOk result (texts words.new.items
+        ≡ texts words.old.items ++ filter has_bytes (part.now ∷ [])) }
 {
     if !part.is_empty() {
         words.push(part)?;

@@ -13,19 +13,6 @@ fn ranks_places_and_bits(rt: HostRuntime) -> Result<(), Fail> {
 }
 
 #[test]
-fn every_query_of_bits(rt: HostRuntime) -> Result<(), Fail> {
-    let text = answers(
-        rt.alloc(),
-        b"bits 0110\nlen\nget 0\nget 1\nrank0 2\nrank0 9\nrank1 2\nselect0 1\nselect0 2\nselect1 0\n",
-    )?;
-    assert_eq!(rt;
-        text.as_slice(),
-        b"4\n4\n0\n1\n1\n2\n1\n3\n4\n1\n".as_slice()
-    );
-    Ok(())
-}
-
-#[test]
 fn nothing_held_and_the_empty_list(rt: HostRuntime) -> Result<(), Fail> {
     let text = answers(rt.alloc(), b"get 0\nbits 2\nbits\nrank0 7\n")?;
     assert_eq!(rt;
@@ -49,58 +36,46 @@ fn malformed_lines(rt: HostRuntime) -> Result<(), Fail> {
     Ok(())
 }
 
-// A tab and a byte that isn't ASCII are parts of their words, and so is a byte 13 inside a line.
-#[test]
-fn bytes_of_words(rt: HostRuntime) -> Result<(), Fail> {
-    let text = answers(
-        rt.alloc(),
+// What a case shows, its input and its output.
+const CASES: [(&str, &[u8], &[u8]); 7] = [
+    (
+        "every query of a list of bits",
+        b"bits 0110\nlen\nget 0\nget 1\nrank0 2\nrank0 9\nrank1 2\nselect0 1\nselect0 2\nselect1 0\n",
+        b"4\n4\n0\n1\n1\n2\n1\n3\n4\n1\n",
+    ),
+    (
+        "a tab, a byte that isn't ASCII and a byte 13 inside a line are parts of their words",
         b"bits 01\nlen\t\nget\t0\nget 1\t\nl\xffen\nget \xff\nget 1\r\r\nget 1\r",
-    )?;
-    assert_eq!(rt;
-        text.as_slice(),
-        b"2\nbad line\nbad line\nbad line\nbad line\nbad line\nbad line\n1\n".as_slice()
-    );
-    Ok(())
-}
-
-#[test]
-fn spaces_and_lines_without_words(rt: HostRuntime) -> Result<(), Fail> {
-    let text = answers(rt.alloc(), b"  bits   01  \n   \n\r\n \r\n len \n   ")?;
-    assert_eq!(rt; text.as_slice(), b"2\n2\n".as_slice());
-    Ok(())
-}
-
-// The name comes before what is held, what is held before the arguments, and the number of
-// arguments before their values.
-#[test]
-fn the_first_rule_that_applies(rt: HostRuntime) -> Result<(), Fail> {
-    let text = answers(
-        rt.alloc(),
-        b"rank\nRank1 1\nlen 1\nget\nbits 01 x\nbits 01\nlen 1\nget\nget 0 1\nget x\nget 1",
-    )?;
-    assert_eq!(rt;
-        text.as_slice(),
-        b"bad line\nbad line\nwrong structure\nwrong structure\nbad line\n2\nbad line\nbad line\nbad line\nbad line\n1\n".as_slice()
-    );
-    Ok(())
-}
-
-#[test]
-fn a_malformed_load_line_keeps_what_was_held(rt: HostRuntime) -> Result<(), Fail> {
-    let text = answers(
-        rt.alloc(),
+        b"2\nbad line\nbad line\nbad line\nbad line\nbad line\nbad line\n1\n",
+    ),
+    (
+        "spaces stand anywhere between words, and a line without words has no answer",
+        b"  bits   01  \n   \n\r\n \r\n len \n   ",
+        b"2\n2\n",
+    ),
+    (
+        "the name comes before what is held, and what is held before the arguments",
+        b"rank\nRank1 1\nlen 1\nget\nbits 01 x\nget x\n",
+        b"bad line\nbad line\nwrong structure\nwrong structure\nbad line\nwrong structure\n",
+    ),
+    (
+        "another number of arguments is malformed, and so is another word",
+        b"bits 01\nlen 1\nget\nget 0 1\nget x\nget 1\n",
+        b"2\nbad line\nbad line\nbad line\nbad line\n1\n",
+    ),
+    (
+        "a malformed load line keeps what was held",
         b"bits 0110\nbits 012\nlen\nbits 0 1\nlen\nfoo\nrank1 4\nbits 1\nlen\n",
-    )?;
-    assert_eq!(rt;
-        text.as_slice(),
-        b"4\nbad line\n4\nbad line\n4\nbad line\n2\n1\n1\n".as_slice()
-    );
-    Ok(())
-}
+        b"4\nbad line\n4\nbad line\n4\nbad line\n2\n1\n1\n",
+    ),
+    ("no line with words, no answer", b"\n\n", b""),
+];
 
 #[test]
-fn no_line(rt: HostRuntime) -> Result<(), Fail> {
-    assert_eq!(rt; answers(rt.alloc(), b"")?.as_slice(), b"".as_slice());
-    assert_eq!(rt; answers(rt.alloc(), b"\n\n")?.as_slice(), b"".as_slice());
+fn lines_and_their_answers(rt: HostRuntime) -> Result<(), Fail> {
+    for (case, input, output) in CASES {
+        assert_eq!(rt; answers(rt.alloc(), input)?.as_slice(), output, "{case}");
+    }
+    assert_eq!(rt; answers(rt.alloc(), b"")?.len(), 0);
     Ok(())
 }

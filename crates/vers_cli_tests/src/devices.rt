@@ -31,7 +31,7 @@ impl Read for FailingReader<'_> {
 }
 
 /// Takes at most `piece` bytes at once. Once `writes_left` writes were made, it takes no byte or
-/// fails.
+/// fails, and a flush fails.
 #[derive(Drop)]
 pub struct FailingWriter {
     pub text: Vec<u8>,
@@ -56,6 +56,9 @@ impl Write for FailingWriter {
     }
 
     fn flush(&mut self) -> io::Result<()> {
+        if self.writes_left == 0 {
+            return Err(io::Error::from(io::ErrorKind::Other));
+        }
         Ok(())
     }
 }

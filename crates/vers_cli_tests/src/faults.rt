@@ -1,6 +1,7 @@
 //! Runs whose reader or writer fails.
 use crate::devices::{FailingReader, FailingWriter};
 use std::alloc::{AllocError, Global};
+use std::io::Write;
 use std::test::Fail;
 use vers_cli::{Device, RunError, fault_line, run};
 
@@ -113,5 +114,20 @@ fn a_writer_takes_pieces_in_parts(rt: HostRuntime) {
         assert_eq!(rt; run(rt.alloc(), &mut reader, &mut writer), Ok(()));
         let FailingWriter { text, .. } = writer.into_inner();
         assert_eq!(rt; text.as_slice(), OUTPUT);
+    }
+}
+
+// A flush is passed on, and a failed one is a fault.
+#[test]
+fn a_flush_fails(rt: HostRuntime) {
+    for writes_left in [0usize, 1] {
+        let mut writer = Device::new(FailingWriter {
+            text: Vec::new(rt.alloc()),
+            piece: 1,
+            writes_left,
+            takes_none: false,
+        });
+        assert_eq!(rt; writer.flush().is_err(), writes_left == 0);
+        assert_eq!(rt; writer.failed(), writes_left == 0);
     }
 }

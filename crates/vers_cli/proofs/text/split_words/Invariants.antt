@@ -1,4 +1,4 @@
-use Rattle.std.proofs.Common.{◌≡◌, ◌≤◌, ◌-◌, List, ℕ, ◌==◌, take, drop, map, length}
+use Rattle.std.proofs.Common.{◌≡◌, ◌≤◌, ◌-◌, List, ℕ, take, drop, map}
 use Rattle.std.specs.List.{filter}
 use Rattle.vers_cli.specs.Text.{has_bytes}
 use Rattle.vers_cli.specs.Session.{IsSplit}

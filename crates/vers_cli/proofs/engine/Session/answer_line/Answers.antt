@@ -1,4 +1,4 @@
-use Rattle.std.proofs.Common.{ap, sym, ◌∙◌}
+use Rattle.std.proofs.Common.{ap, ◌∙◌}
 use Rattle.vers_cli.specs.Answers.{holding_after}
 use Rattle.vers_cli.proofs.Steps.{AnswersOrFails-from}
 use Rattle.vers_cli.proofs.engine.Session.answer_line.Goals as goal
