@@ -3,3 +3,13 @@
 
 #[cfg(test)]
 mod basic;
+#[cfg(test)]
+mod editing;
+#[cfg(test)]
+mod growing;
+#[cfg(test)]
+mod making;
+#[cfg(test)]
+mod masking;
+#[cfg(test)]
+mod refusals;

@@ -101,9 +101,7 @@ impl<A: Allocator + Copy> BitVec<A> {
         ensures made { IfOk result (λ v. v ≡ []) }
         ensures too_long { (result ≡ Err GrowError.TooLong) ↔ (MAX_LEN < n) }
     {
-        if n > MAX_LEN {
-            return Err(GrowError::TooLong);
-        }
+        check_len(n)?;
         let data = Vec::with_capacity(alloc, n.div_ceil(64))?;
         Ok(BitVec { data, len: 0 })
     }
@@ -114,9 +112,7 @@ impl<A: Allocator + Copy> BitVec<A> {
         ensures made { IfOk result (λ v. v ≡ replicate n bit) }
         ensures too_long { (result ≡ Err GrowError.TooLong) ↔ (MAX_LEN < n) }
     {
-        if n > MAX_LEN {
-            return Err(GrowError::TooLong);
-        }
+        check_len(n)?;
         let word = equal_word(bit);
         let mut data = Vec::new(alloc);
         data.resize(n.div_ceil(64), word)?;
@@ -147,10 +143,7 @@ impl<A: Allocator + Copy> BitVec<A> {
         ensures too_long { (result ≡ Err GrowError.TooLong) ↔ (MAX_LEN < 64 * length limbs.items) }
         ensures room { 64 * length limbs.items ≤ MAX_LEN → IsOk result }
     {
-        if limbs.len() > MAX_LEN / 64 {
-            return Err(GrowError::TooLong);
-        }
-        let len = 64 * limbs.len();
+        let len = bits_of_limbs(limbs.len())?;
         Ok(BitVec { data: limbs, len })
     }
 
@@ -160,9 +153,7 @@ impl<A: Allocator + Copy> BitVec<A> {
         ensures made { IfOk result (λ v. v ≡ pack limbs.now 64) }
         ensures too_long { (result ≡ Err GrowError.TooLong) ↔ (MAX_LEN < 64 * length limbs.now) }
     {
-        if limbs.len() > MAX_LEN / 64 {
-            return Err(GrowError::TooLong);
-        }
+        bits_of_limbs(limbs.len())?;
         BitVec::from_vec(Vec::from_slice(alloc, limbs)?)
     }
 
@@ -409,6 +400,29 @@ impl<A: Allocator + Copy> BitVec<A> {
     {
         BitVec::packed_items_of(alloc, sequence, k)
     }
+}
+
+// TooLong for a length above `MAX_LEN`.
+fn check_len(len: usize) -> Result<(), GrowError>
+    ensures exact { (result ≡ Err GrowError.TooLong) ↔ (MAX_LEN < len) }
+    ensures within { len ≤ MAX_LEN → IsOk result }
+{
+    if len > MAX_LEN {
+        return Err(GrowError::TooLong);
+    }
+    Ok(())
+}
+
+// How many bits limbs have. TooLong where they are more than `MAX_LEN`.
+fn bits_of_limbs(limbs: usize) -> Result<usize, GrowError>
+    ensures value { IfOk result (λ len. len ≡ 64 * limbs) }
+    ensures exact { (result ≡ Err GrowError.TooLong) ↔ (MAX_LEN < 64 * limbs) }
+    ensures within { 64 * limbs ≤ MAX_LEN → IsOk result }
+{
+    if limbs > MAX_LEN / 64 {
+        return Err(GrowError::TooLong);
+    }
+    Ok(64 * limbs)
 }
 
 // A word of 64 equal bits.

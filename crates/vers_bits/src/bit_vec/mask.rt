@@ -119,7 +119,7 @@ impl<'a, 'b, F: Fn(u64, u64) -> u64, A: Allocator + Copy> MaskedBitVec<'a, 'b, F
         requires within { place < length self.now.left }
         ensures { (g : ℕ → ℕ → ℕ) → AnswersAs (F.post self.now.mask) g → result ≡ bit_value (slice_index_or (masked g self.now.left self.now.right) place false) }
     {
-        (self.answer(place / 64) >> (place % 64)) & 1
+        u64::from(self.is_bit_set_unchecked(place))
     }
 
     /// The number of the bits from `place` on, `n` of them. None where there are not so many, or
@@ -155,7 +155,7 @@ impl<'a, 'b, F: Fn(u64, u64) -> u64, A: Allocator + Copy> MaskedBitVec<'a, 'b, F
         self.part(place, room) | (self.part(place + room, n - room) << room)
     }
 
-    /// How many places hold a one.
+    /// How many ones the list has.
     #[tactic(auto, using(crate::proofs::Masks::counts))]
     pub fn count_ones(&self) -> u64
         requires { OnEveryPair (F.pre self.now.mask) }
@@ -169,7 +169,7 @@ impl<'a, 'b, F: Fn(u64, u64) -> u64, A: Allocator + Copy> MaskedBitVec<'a, 'b, F
         ones
     }
 
-    /// How many places hold a zero.
+    /// How many zeros the list has.
     #[tactic(auto, using(crate::proofs::Masks::counts))]
     pub fn count_zeros(&self) -> u64
         requires { OnEveryPair (F.pre self.now.mask) }
@@ -353,7 +353,7 @@ impl<'s, 'b, A: Allocator + Copy> BitMask<'s, 'b, A> {
         .get_bits_unchecked(place, n)
     }
 
-    /// How many places hold a one.
+    /// How many ones the list has.
     #[tactic(auto, using(crate::proofs::Masks::lengths))]
     pub fn count_ones(&self) -> u64
         ensures { result ≡ count true self.now (length self.now) }
@@ -367,7 +367,7 @@ impl<'s, 'b, A: Allocator + Copy> BitMask<'s, 'b, A> {
         .count_ones()
     }
 
-    /// How many places hold a zero.
+    /// How many zeros the list has.
     #[tactic(auto, using(crate::proofs::Masks::lengths))]
     pub fn count_zeros(&self) -> u64
         ensures { result ≡ count false self.now (length self.now) }
@@ -409,12 +409,14 @@ impl<'s, 'b, A: Allocator + Copy> BitMask<'s, 'b, A> {
 
 impl<A: Allocator + Copy> BitVec<A> {
     // Both lists combined by a kind of mask.
+    #[tactic(auto, using(crate::proofs::Masks::lengths))]
     fn mask_by<'s, 'b>(
         &'s self,
         other: &'b BitVec<A>,
         kind: MaskKind,
     ) -> Result<BitMask<'s, 'b, A>, LengthMismatch>
-        ensures { MatchResult result (λ m. (length self.now ≡ length other.now) × (m ≡ masked (limb_op kind) self.now other.now)) (λ _. length self.now ≢ length other.now) }
+        ensures masked { MatchResult result (λ m. (length self.now ≡ length other.now) × (m ≡ masked (limb_op kind) self.now other.now)) (λ _. length self.now ≢ length other.now) }
+        ensures long { IfOk result (λ m. length m ≡ length self.now) }
     {
         if self.len() != other.len() {
             return Err(LengthMismatch);
@@ -432,7 +434,8 @@ impl<A: Allocator + Copy> BitVec<A> {
         &'s self,
         other: &'b BitVec<A>,
     ) -> Result<BitMask<'s, 'b, A>, LengthMismatch>
-        ensures { MatchResult result (λ m. (length self.now ≡ length other.now) × (m ≡ zip_bits (λ x y. x || y) self.now other.now)) (λ _. length self.now ≢ length other.now) }
+        ensures masked { MatchResult result (λ m. (length self.now ≡ length other.now) × (m ≡ zip_bits (λ x y. x || y) self.now other.now)) (λ _. length self.now ≢ length other.now) }
+        ensures long { IfOk result (λ m. length m ≡ length self.now) }
     {
         self.mask_by(other, MaskKind::Or)
     }
@@ -443,7 +446,8 @@ impl<A: Allocator + Copy> BitVec<A> {
         &'s self,
         other: &'b BitVec<A>,
     ) -> Result<BitMask<'s, 'b, A>, LengthMismatch>
-        ensures { MatchResult result (λ m. (length self.now ≡ length other.now) × (m ≡ zip_bits (λ x y. x && y) self.now other.now)) (λ _. length self.now ≢ length other.now) }
+        ensures masked { MatchResult result (λ m. (length self.now ≡ length other.now) × (m ≡ zip_bits (λ x y. x && y) self.now other.now)) (λ _. length self.now ≢ length other.now) }
+        ensures long { IfOk result (λ m. length m ≡ length self.now) }
     {
         self.mask_by(other, MaskKind::And)
     }
@@ -454,9 +458,27 @@ impl<A: Allocator + Copy> BitVec<A> {
         &'s self,
         other: &'b BitVec<A>,
     ) -> Result<BitMask<'s, 'b, A>, LengthMismatch>
-        ensures { MatchResult result (λ m. (length self.now ≡ length other.now) × (m ≡ zip_bits xor self.now other.now)) (λ _. length self.now ≢ length other.now) }
+        ensures masked { MatchResult result (λ m. (length self.now ≡ length other.now) × (m ≡ zip_bits xor self.now other.now)) (λ _. length self.now ≢ length other.now) }
+        ensures long { IfOk result (λ m. length m ≡ length self.now) }
     {
         self.mask_by(other, MaskKind::Xor)
+    }
+
+    // Makes each limb what a closure answers of both limbs, and keeps no bit past the length.
+    // LengthMismatch where the lengths differ, and the list is as it was.
+    fn apply<F: Fn(u64, u64) -> u64>(
+        &mut self,
+        other: &BitVec<A>,
+        mask: &F,
+    ) -> Result<(), LengthMismatch>
+        requires { OnEveryPair (F.pre mask.now) }
+        ensures { MatchResult result (λ _. (length self.old ≡ length other.now) × ((g : ℕ → ℕ → ℕ) → AnswersAs (F.post mask.now) g → self.new ≡ masked g self.old other.now)) (λ _. (length self.old ≢ length other.now) × (self.new ≡ self.old)) }
+    {
+        if self.len() != other.len() {
+            return Err(LengthMismatch);
+        }
+        self.combine(other, mask);
+        Ok(())
     }
 
     /// Makes the list the one with a one where either list has a one. LengthMismatch where their lengths
@@ -465,11 +487,7 @@ impl<A: Allocator + Copy> BitVec<A> {
     pub fn apply_mask_or(&mut self, other: &BitVec<A>) -> Result<(), LengthMismatch>
         ensures { MatchResult result (λ _. (length self.old ≡ length other.now) × (self.new ≡ zip_bits (λ x y. x || y) self.old other.now)) (λ _. (length self.old ≢ length other.now) × (self.new ≡ self.old)) }
     {
-        if self.len() != other.len() {
-            return Err(LengthMismatch);
-        }
-        self.combine(other, &|x: u64, y: u64| x | y);
-        Ok(())
+        self.apply(other, &|x: u64, y: u64| x | y)
     }
 
     /// Makes the list the one with a one where both lists have a one. LengthMismatch where their lengths
@@ -478,11 +496,7 @@ impl<A: Allocator + Copy> BitVec<A> {
     pub fn apply_mask_and(&mut self, other: &BitVec<A>) -> Result<(), LengthMismatch>
         ensures { MatchResult result (λ _. (length self.old ≡ length other.now) × (self.new ≡ zip_bits (λ x y. x && y) self.old other.now)) (λ _. (length self.old ≢ length other.now) × (self.new ≡ self.old)) }
     {
-        if self.len() != other.len() {
-            return Err(LengthMismatch);
-        }
-        self.combine(other, &|x: u64, y: u64| x & y);
-        Ok(())
+        self.apply(other, &|x: u64, y: u64| x & y)
     }
 
     /// Makes the list the one with a one where just one of the lists has a one. LengthMismatch where their lengths
@@ -491,11 +505,7 @@ impl<A: Allocator + Copy> BitVec<A> {
     pub fn apply_mask_xor(&mut self, other: &BitVec<A>) -> Result<(), LengthMismatch>
         ensures { MatchResult result (λ _. (length self.old ≡ length other.now) × (self.new ≡ zip_bits xor self.old other.now)) (λ _. (length self.old ≢ length other.now) × (self.new ≡ self.old)) }
     {
-        if self.len() != other.len() {
-            return Err(LengthMismatch);
-        }
-        self.combine(other, &|x: u64, y: u64| x ^ y);
-        Ok(())
+        self.apply(other, &|x: u64, y: u64| x ^ y)
     }
 
     /// Makes each limb what a function answers of both limbs, and keeps no bit past the length.
@@ -508,11 +518,7 @@ impl<A: Allocator + Copy> BitVec<A> {
         requires { OnEveryPair (pre mask) }
         ensures { MatchResult result (λ _. (length self.old ≡ length other.now) × ((g : ℕ → ℕ → ℕ) → AnswersAs (post mask) g → self.new ≡ masked g self.old other.now)) (λ _. (length self.old ≢ length other.now) × (self.new ≡ self.old)) }
     {
-        if self.len() != other.len() {
-            return Err(LengthMismatch);
-        }
-        self.combine(other, &mask);
-        Ok(())
+        self.apply(other, &mask)
     }
 }
 
