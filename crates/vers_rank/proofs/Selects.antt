@@ -5,7 +5,7 @@ use Rattle.vers_bits.specs.Bits.{is_bit, count, limb, select}
 use Rattle.vers_bits.proofs.Count.{count_le_all, count_le, count_up, count_near, count_limb, count_limb_whole, count_both, count_past}
 use Rattle.vers_bits.proofs.Places.{select_at, select_past, count_more_yes, count_more_no}
 use Rattle.vers_tally.specs.Reads.{digits}
-use Rattle.vers_tally.proofs.Halves.{digits_up, digits-le, upper_half, lower_half}
+use Rattle.vers_tally.proofs.Halves.{digits_up, digits_halved, digits-le}
 use Rattle.vers_rank.specs.Index.{held, held_in, IsSample, IsLimbWith}
 use Rattle.vers_rank.proofs.Words.{ones_few}
 
@@ -117,8 +117,14 @@ pub ruleset totals = (count_both, count_le, select_past)
 pub ruleset between = (samples_bound, digits_up)
 
 pub ruleset within_superblock = (count_past)
+
 pub ruleset block_search = (count_up, count_le)
+
 pub ruleset limb_search = (held_more, held_up)
 
+-- the greater half of n has a digit less
+pub half_left : (n : ℕ) → 1 < n → digits (n - n / 2 - 1) + 1 ≤ digits (n - 1)
+half_left n h = digits_halved (n - n / 2 - 1) (n - 1) (omega arith) (omega arith)
+
 -- halving a range, within the budget of its digits
-pub ruleset halves = (upper_half, lower_half)
+pub ruleset halves = (half_left, count_up)

@@ -3,3 +3,10 @@
 
 #[cfg(test)]
 mod basic;
+#[cfg(test)]
+mod compared;
+#[cfg(test)]
+mod counted;
+#[cfg(test)]
+mod memory;
+pub mod plain;

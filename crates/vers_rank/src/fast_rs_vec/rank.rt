@@ -1,4 +1,4 @@
-// How many zeros or ones stand below a place.
+//! How many zeros or ones stand below a place.
 ghost use Rattle.std.specs.Prelude.{◌≡◌, ℕ, ◌+◌, ◌*◌, ◌/◌, ◌<◌, ◌≤◌, length, min, true, false};
 ghost use Rattle.vers_bits.specs.Bits.{count};
 ghost use Rattle.vers_tally.specs.Reads.{no_reads, only_data_words, AddsAtMost};

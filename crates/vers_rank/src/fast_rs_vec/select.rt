@@ -1,4 +1,4 @@
-// The places of zeros and ones.
+//! The places of zeros and ones.
 ghost use Rattle.std.specs.Prelude.{◌≡◌, ℕ, ◌+◌, ◌-◌, ◌*◌, ◌/◌, ◌<◌, ◌≤◌, length, min, true, false};
 ghost use Rattle.vers_bits.specs.Bits.{count, select};
 ghost use Rattle.vers_tally.specs.Reads.{no_reads, only_block_entries, only_superblock_entries, only_data_words, digits, AddsAtMost};
@@ -17,7 +17,7 @@ const LIMB: usize = 64;
 const BLOCKS: usize = SUPERBLOCK / BLOCK;
 
 /// Up to how many superblocks a search looks at one after the other.
-const FEW: usize = 8;
+const FEW: usize = 4;
 
 // A limb, and how many places of its block before it hold a bit.
 #[derive(Clone, Copy)]
@@ -140,47 +140,47 @@ impl<A: Allocator + Copy> RsVec<A> {
         ensures within { 8192 * result < length self.now }
         ensures from { count bit self.now (8192 * result) ≤ r }
         ensures to { r < count bit self.now (8192 * (result + 1)) }
-        ensures adds { AddsAtMost tally.old tally.new (only_superblock_entries (digits (superblock_count (length self.now)) + 9)) }
+        ensures adds { AddsAtMost tally.old tally.new (only_superblock_entries (digits (superblock_count (length self.now)) + 5)) }
     {
         let _ = &self.bits;
         let first = self.sample(bit, r / SUPERBLOCK, tally);
         let last = self.sample(bit, r / SUPERBLOCK + 1, tally);
-        self.superblock_between(bit, r, first, last + 1, tally)
+        self.superblock_among(bit, r, first, last + 1 - first, tally)
     }
 
-    // The superblock of number `r`, which is at least `lo` and below `hi`: by halves while there are many, and then
-    // one after the other.
+    // The superblock of number `r` among the `n` from `first` on: by halves while there are many, and then one after
+    // the other. Which superblocks are looked at next is no branch, so that nothing depends on a guess of it.
     #[inline(always)]
     #[tactic(auto, using(crate::proofs::Selects::halves))]
-    fn superblock_between(
+    fn superblock_among(
         &self,
         bit: bool,
         r: usize,
-        lo: usize,
-        hi: usize,
+        first: usize,
+        n: usize,
         tally: &mut Tally,
     ) -> usize
-        requires order { lo < hi }
-        requires within { 8192 * hi < length self.now + 8192 }
-        requires from { count bit self.now (8192 * lo) ≤ r }
-        requires to { r < count bit self.now (8192 * hi) }
+        requires some { 0 < n }
+        requires within { 8192 * (first + n) < length self.now + 8192 }
+        requires from { count bit self.now (8192 * first) ≤ r }
+        requires to { r < count bit self.now (8192 * (first + n)) }
         ensures within { 8192 * result < length self.now }
         ensures from { count bit self.now (8192 * result) ≤ r }
         ensures to { r < count bit self.now (8192 * (result + 1)) }
-        ensures adds { AddsAtMost tally.old tally.new (only_superblock_entries (digits (hi - lo - 1) + 7)) }
+        ensures adds { AddsAtMost tally.old tally.new (only_superblock_entries (digits (n - 1) + 3)) }
     {
-        let mut first = lo;
-        let mut end = hi;
-        while end - first > FEW {
-            let mid = first + (end - first) / 2;
-            if self.count_at_superblock(bit, mid, tally) <= r {
-                first = mid;
-            } else {
-                end = mid;
+        let _ = &self.bits;
+        let mut start = first;
+        let mut left = n;
+        while left > FEW {
+            let half = left / 2;
+            if self.count_at_superblock(bit, start + half, tally) <= r {
+                start += half;
             }
+            left -= half;
         }
-        let mut found = first;
-        for s in first + 1..end {
+        let mut found = start;
+        for s in start + 1..start + left {
             if self.count_at_superblock(bit, s, tally) <= r {
                 found = s;
             }
