@@ -6,3 +6,4 @@ pub mod Neighbours
 pub mod Counting
 pub mod Limbs
 pub mod Equal
+pub mod BothEnds

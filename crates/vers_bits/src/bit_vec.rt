@@ -1,8 +1,11 @@
-ghost use Rattle.std.specs.Prelude.{◌≡◌, ℕ, ◌+◌, ◌-◌, ◌*◌, ◌/◌, ◌%◌, ◌^◌, ◌<◌, ◌≤◌, ◌↔◌, [], ◌∷◌, ◌++◌, length, take, drop, IsTrue, IsOk, OnOk, OnErr, IfOk, Some, None, slice_get, slice_index, true, false, ◌==◌, Bool, List, option_map, flat_map};
+ghost use Rattle.std.specs.Prelude.{◌≡◌, ℕ, ◌+◌, ◌-◌, ◌*◌, ◌/◌, ◌%◌, ◌^◌, ◌<◌, ◌≤◌, ◌↔◌, [], ◌∷◌, ◌++◌, length, take, drop, IsTrue, IsOk, OnOk, OnErr, IfOk, Some, None, slice_get, slice_index, slice_index_or, true, false, ◌==◌, Bool, List, option_map, flat_map};
 ghost use Rattle.vers_bits.specs.Bits.{bit_value, number, count, limb, limbs, low_bits, part, part_number};
 ghost use Rattle.vers_bits.specs.Words.{HoldsBits, AddsBit};
 ghost use Rattle.vers_bits.specs.Equality.{same_bits, hash_input, same_bits_per, same_bits_equiv, hash_input-Alike};
 
+mod iter;
+
+pub use iter::BitVecRefIter;
 use std::alloc::{AllocError, Allocator};
 use std::hash::{Hash, Hasher};
 use std::marker::Model;
@@ -117,6 +120,14 @@ impl<A: Allocator + Copy> BitVec<A> {
             return None;
         }
         Some((self.data[place / 64] >> (place % 64)) & 1)
+    }
+
+    /// The bit at a place that the list has, 1 or 0.
+    pub fn get_unchecked(&self, place: usize) -> u64
+        requires { place < length self.now }
+        ensures { result ≡ bit_value (slice_index_or self.now place false) }
+    {
+        (self.data[place / 64] >> (place % 64)) & 1
     }
 
     /// Limb number `k`: the 64 bits from place `64 * k` on, the first as the least significant
