@@ -4,10 +4,11 @@ use Rattle.std.specs.Option.{option_to_list}
 use Rattle.std.specs.List.{last_or}
 use Rattle.std.specs.Iterator.{YieldsFirst, YieldsLast, MakesProgress, item_count}
 use Rattle.std.proofs.lemmas.List.{length-map, length-take, length-drop, get_or-take, get_or-drop, get_or-reverse, length-reverse, drop-drop, drop-take, drop_all, take_all, take_more, take-take, reverse-append, append-nil}
+use Rattle.std.proofs.lemmas.List.FromFn.{length-map-range_with_len, get_or-map-range_with_len}
 use Rattle.std.proofs.lemmas.Slice.{between_from_start}
 use Rattle.std.proofs.lemmas.Bool.{cases_lt}
 use Rattle.std.proofs.lemmas.Option.{slice_get-map, slice_get_past, slice_get-get_or, get_or_from_slice_get, slice_get_within}
-use Rattle.vers_bits.specs.Bits.{bit_value}
+use Rattle.vers_bits.specs.Bits.{bit_value, limb, limbs, limb_count}
 use Rattle.vers_bits.specs.declared.walk.Span.{Span}
 use Rattle.vers_bits.specs.Walk.{TakesNth, TakesNthBack, TakesFirst, TakesLast, items_in, Walk}
 use Rattle.vers_bits.specs.Walk.Walk.{no_call, next, next_back}
@@ -81,11 +82,11 @@ module _ {X : Type 0} where
       let place : s.from + (p - s.from) ≡ p = omega arith in
       let kept : length (items_in xs s) - (n + 1) ≡ p - s.from = omega arith in
       let at : get_or (reverse (items_in xs s)) n x ≡ x =
-        get_or-reverse (items_in xs s) n x inside
-        ∙ ap (λ k. get_or (items_in xs s) k x) number
-        ∙ get_or-items_in xs s (p - s.from) x (omega arith)
-        ∙ ap (λ k. get_or xs k x) place
-        ∙ get_or_from_slice_get xs p x x is in
+      get_or-reverse (items_in xs s) n x inside
+      ∙ ap (λ k. get_or (items_in xs s) k x) number
+      ∙ get_or-items_in xs s (p - s.from) x (omega arith)
+      ∙ ap (λ k. get_or xs k x) place
+      ∙ get_or_from_slice_get xs p x x is in
       record {
         given = sym (slice_get-get_or (reverse (items_in xs s)) n x (omega (arith, length-reverse (items_in xs s))) ∙ ap Some at);
         left = sym (ap (λ k. take k (items_in xs s)) kept ∙ take-items_in xs s (p - s.from) (omega arith) ∙ ap (λ k. items_in xs (record { from = s.from; to = k })) place);
@@ -224,8 +225,19 @@ pub gave_bit_back : (n : ℕ) (bits : List Bool) (s t : Span) {old : List ℕ} {
 gave_bit_back n bits s t {p = p} {x = x} view within some is =
     gave_back n (map bit_value bits) s t view (omega (arith, length-map bits bit_value)) some (bit_item bits p x (omega arith) is)
 
+-- ---- items that are the limbs of a list
+pub length-limbs : (bits : List Bool) → length (limbs bits) ≡ limb_count (length bits)
+unfolding limbs
+length-limbs bits = length-map-range_with_len (limb bits) 0 (limb_count (length bits))
+
+pub limb_item : (bits : List Bool) (k x : ℕ) → k < length (limbs bits) → x ≡ limb bits k → slice_get (limbs bits) k ≡ Some x
+unfolding limbs
+limb_item bits k x h is =
+    let inside : k < limb_count (length bits) = omega (arith, length-limbs bits) in
+    slice_get-get_or (limbs bits) k 0 h ∙ ap Some (get_or-map-range_with_len (limb bits) 0 (limb_count (length bits)) k k 0 inside (omega arith) ∙ sym is)
+
 -- makers, lengths and the last item
-pub ruleset lists = (all_items, length-items_in, all_bits, bits_left, last_is)
+pub ruleset lists = (all_items, length-limbs, length-items_in, all_bits, bits_left, last_is)
 
 -- `next` and `next_back`
 pub ruleset ends = (yields_first, yields_last, goes_first, goes_last)

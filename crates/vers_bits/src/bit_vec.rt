@@ -3,9 +3,13 @@ ghost use Rattle.vers_bits.specs.Bits.{bit_value, number, count, limb, limbs, lo
 ghost use Rattle.vers_bits.specs.Words.{HoldsBits, AddsBit};
 ghost use Rattle.vers_bits.specs.Equality.{same_bits, hash_input, same_bits_per, same_bits_equiv, hash_input-Alike};
 
+mod into_iter;
 mod iter;
+mod limb_iter;
 
+pub use into_iter::BitVecIter;
 pub use iter::BitVecRefIter;
+pub use limb_iter::LimbIter;
 use std::alloc::{AllocError, Allocator};
 use std::hash::{Hash, Hasher};
 use std::marker::Model;
@@ -71,6 +75,19 @@ impl<A: Allocator + Copy> Hash for BitVec<A> {
         for limb in self.limbs() {
             limb.hash(state);
         }
+    }
+}
+
+impl<A: Allocator + Copy> Clone for BitVec<A> {
+    ghost is_clone = { λ old new. new ≡ old };
+
+    /// A second list of the same bits.
+    fn clone(&self) -> Result<Self, AllocError> {
+        let data = Vec::from_slice(*self.data.allocator(), self.data.as_slice())?;
+        Ok(BitVec {
+            data,
+            len: self.len,
+        })
     }
 }
 

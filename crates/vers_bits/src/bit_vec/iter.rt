@@ -1,17 +1,17 @@
-//! Iterators over the bits and the limbs of a list. Each is seen as the list of the items that
-//! are still to come.
-ghost use Rattle.std.specs.Prelude.{◌≡◌, ℕ, ◌<◌, List, None, length, map, IfOk};
+//! The iterator over the bits of a borrowed list.
+ghost use Rattle.std.specs.Prelude.{◌≡◌, None, length, map};
 ghost use Rattle.std.specs.Iterator.{item_count, YieldsFirst, YieldsLast};
 ghost use Rattle.std.specs.List.{last_or};
-ghost use Rattle.vers_bits.specs.Bits.{bit_value, limbs};
+ghost use Rattle.vers_bits.specs.Bits.{bit_value};
 ghost use Rattle.vers_bits.specs.Walk.{TakesNth, TakesNthBack};
 
 use crate::bit_vec::BitVec;
 use crate::walk::Span;
-use std::alloc::{AllocError, Allocator};
+use std::alloc::Allocator;
 use std::marker::Model;
 
-/// An iterator over the bits of a list, as numbers: 1 for a one, 0 for a zero.
+/// An iterator over the bits of a list, as numbers: 1 for a one, 0 for a zero. Contracts see it as
+/// the list of the bits that are still to come.
 #[derive(Drop)]
 pub struct BitVecRefIter<'a, A: Allocator + Copy> {
     bits: &'a BitVec<A>,
@@ -124,5 +124,31 @@ impl<'a, A: Allocator + Copy> DoubleEndedIterator for BitVecRefIter<'a, A> {
     #[inline]
     fn next_back(&mut self) -> Option<u64> {
         self.nth_back(0)
+    }
+}
+
+#[tactic(auto, using(crate::proofs::BothEnds::lists))]
+impl<'a, A: Allocator + Copy> IntoIterator for &'a BitVec<A> {
+    type Item = u64;
+
+    type IntoIter = BitVecRefIter<'a, A>;
+
+    ghost into_iter_gives = { λ bits items. items ≡ map bit_value bits.now };
+
+    fn into_iter(self) -> BitVecRefIter<'a, A> {
+        self.iter()
+    }
+}
+
+#[tactic(auto, using(crate::proofs::BothEnds::lists))]
+impl<'a, A: Allocator + Copy> IntoIterator for &'a mut BitVec<A> {
+    type Item = u64;
+
+    type IntoIter = BitVecRefIter<'a, A>;
+
+    ghost into_iter_gives = { λ bits items. items ≡ map bit_value bits.now };
+
+    fn into_iter(self) -> BitVecRefIter<'a, A> {
+        self.iter()
     }
 }
