@@ -3,3 +3,4 @@ pub mod Ranks
 pub mod Selects
 pub mod Builds
 pub mod Parts
+pub mod BothEnds

@@ -1,4 +1,5 @@
 pub mod Queries
 pub mod Index
+pub mod Walks
 pub use Rattle.vers_bits.specs.Bits
 pub use Rattle.vers_tally.specs.Reads
