@@ -99,14 +99,18 @@ impl<A: Allocator + Copy> RsVec<A> {
     pub fn into_iter0(self) -> SelectIntoIter<true, A>
         ensures { result.rest ≡ record { bits = self; left = places false self } }
     {
-        self.into_select_iter::<true>()
+        SelectIntoIter {
+            rest: OwnedPlaces::new(self, false),
+        }
     }
 
     /// An iterator over the places of the ones, which owns the list.
     pub fn into_iter1(self) -> SelectIntoIter<false, A>
         ensures { result.rest ≡ record { bits = self; left = places true self } }
     {
-        self.into_select_iter::<false>()
+        SelectIntoIter {
+            rest: OwnedPlaces::new(self, true),
+        }
     }
 }
 
