@@ -4,3 +4,4 @@ pub mod Selects
 pub mod Builds
 pub mod Parts
 pub mod BothEnds
+pub mod Chunks
