@@ -5,3 +5,5 @@ pub mod Builds
 pub mod Parts
 pub mod BothEnds
 pub mod Chunks
+pub mod Neighbours
+pub mod Equal
