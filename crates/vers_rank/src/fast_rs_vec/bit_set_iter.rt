@@ -1,6 +1,6 @@
 // The iterators that scan chunks of 16 bits for zeros or ones.
 ghost use Rattle.std.specs.Prelude.{◌≡◌, ◌+◌, ◌-◌, ◌<◌, ◌≤◌, true, false, length};
-ghost use Rattle.std.specs.Iterator.{item_count, YieldsFirst};
+ghost use Rattle.std.specs.Iterator.{item_count, MakesProgress, YieldsFirst};
 ghost use Rattle.vers_bits.specs.Bits.{places};
 ghost use Rattle.vers_bits.specs.Walk.{TakesFirst};
 ghost use Rattle.vers_tally.specs.Reads.{AddsAtMost};
@@ -167,6 +167,8 @@ impl<'a, const ZERO: bool, A: Allocator + Copy> Iterator for BitSetIter<'a, ZERO
     ghost remaining = { item_count (λ s. s.rest.left) };
 
     fn next(&mut self) -> Option<usize>
+        ensures steps { YieldsFirst (λ s. s.rest.left) self.old result self.new }
+        ensures goes { MakesProgress (λ _. Unit {0}) (item_count (λ s. s.rest.left)) self.old result self.new }
         ensures same_list { self.new.rest.bits ≡ self.old.rest.bits }
         ensures loads { self.new.rest.unread ≤ self.old.rest.unread }
     {

@@ -1,6 +1,6 @@
 // The iterators over the places of the zeros or the ones of a borrowed list.
 ghost use Rattle.std.specs.Prelude.{◌≡◌, None, not, true, false, length};
-ghost use Rattle.std.specs.Iterator.{item_count, YieldsFirst, YieldsLast};
+ghost use Rattle.std.specs.Iterator.{item_count, MakesProgress, YieldsFirst, YieldsLast};
 ghost use Rattle.std.specs.List.{last_or};
 ghost use Rattle.vers_bits.specs.Bits.{places};
 ghost use Rattle.vers_bits.specs.Walk.{TakesNth, TakesNthBack, TakesFirst, TakesLast};
@@ -215,6 +215,8 @@ impl<'a, const ZERO: bool, A: Allocator + Copy> Iterator for SelectIter<'a, ZERO
 
     #[inline]
     fn next(&mut self) -> Option<usize>
+        ensures steps { YieldsFirst (λ s. s.rest.left) self.old result self.new }
+        ensures goes { MakesProgress (λ _. Unit {0}) (item_count (λ s. s.rest.left)) self.old result self.new }
         ensures same_list { self.new.rest.bits ≡ self.old.rest.bits }
     {
         self.nth(0)
@@ -232,6 +234,8 @@ impl<'a, const ZERO: bool, A: Allocator + Copy> DoubleEndedIterator for SelectIt
 
     #[inline]
     fn next_back(&mut self) -> Option<usize>
+        ensures steps { YieldsLast (λ s. s.rest.left) self.old result self.new }
+        ensures goes { MakesProgress (λ _. Unit {0}) (item_count (λ s. s.rest.left)) self.old result self.new }
         ensures same_list { self.new.rest.bits ≡ self.old.rest.bits }
     {
         self.nth_back(0)
