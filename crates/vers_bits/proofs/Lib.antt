@@ -4,5 +4,9 @@ pub mod Count
 pub mod Places
 pub mod Neighbours
 pub mod Counting
+pub mod LowBits
 pub mod Limbs
+pub mod Holds
 pub mod Equal
+pub mod Growing
+pub mod Edits

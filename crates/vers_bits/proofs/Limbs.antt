@@ -7,15 +7,8 @@ use Rattle.std.proofs.lemmas.List.{get_or_append_left, get_or-append_right, leng
 use Rattle.std.proofs.lemmas.List.FromFn.{length-map-range_with_len, get_or-map-range_with_len}
 use Rattle.vers_bits.specs.Bits.{low_bits}
 use Rattle.vers_bits.specs.Words.{word_bit, word_bits, HoldsBits}
+use Rattle.vers_bits.proofs.LowBits.{length-low_bits, get_or-low_bits}
 use Rattle.vers_bits.proofs.Words.{word_bits_are, length-word_bits, get_or-word_bits, past_words}
-
-length-low_bits : (v n : ℕ) → length (low_bits v n) ≡ n
-unfolding low_bits
-length-low_bits v n = length-map-range_with_len (λ i. eqb (bit_at v i) 1) 0 n
-
-get_or-low_bits : (v n i : ℕ) → i < n → get_or (low_bits v n) i false ≡ eqb (bit_at v i) 1
-unfolding low_bits
-get_or-low_bits v n i h = get_or-map-range_with_len (λ j. eqb (bit_at v j) 1) 0 n i i false h (omega arith)
 
 -- the first word apart
 word_bit_first : (w : ℕ) (ws : List ℕ) (i : ℕ) → i < 64 → word_bit (w ∷ ws) i ≡ eqb (bit_at w i) 1

@@ -1,5 +1,5 @@
 -- Lists of 64 bit words, and the bits that they hold.
-use Rattle.std.specs.Prelude.{◌≡◌, ℕ, ◌+◌, ◌/◌, ◌%◌, ◌≤◌, ◌==◌, Bool, false, List, map, length, slice_index}
+use Rattle.std.specs.Prelude.{◌≡◌, ℕ, ◌+◌, ◌/◌, ◌%◌, ◌<◌, ◌≤◌, ◌==◌, Bool, false, List, map, length, slice_index, slice_index_or}
 use Rattle.std.specs.List.{range_with_len}
 use Rattle.std.specs.Int.{bit_at}
 use Rattle.vers_bits.specs.Bits.{limb_count}
@@ -23,3 +23,22 @@ pub record AddsBit (ws vs : List ℕ) (n : ℕ) (b : Bool) : Type 0 where
   pub counted : length vs ≡ limb_count (n + 1)
   pub here : word_bit vs n ≡ b
   pub others : (i : ℕ) → (i ≡ n → ⊥) → word_bit vs i ≡ word_bit ws i
+
+-- the words hold the list, which has n bits, and no one past it
+pub record Holds (words : List ℕ) (n : ℕ) (bits : List Bool) : Type 0 where
+  pub long : length bits ≡ n
+  pub counted : length words ≡ limb_count n
+  pub bounded : n ≤ 18446744073709551552
+  pub each : (i : ℕ) → word_bit words i ≡ slice_index_or bits i false
+
+-- the words vs are those of the first n bits of ws, and hold no one past them
+pub record CutsTo (ws vs : List ℕ) (n : ℕ) : Type 0 where
+  pub counted : length vs ≡ limb_count n
+  pub below : (i : ℕ) → i < n → word_bit vs i ≡ word_bit ws i
+  pub padded : (i : ℕ) → n ≤ i → word_bit vs i ≡ false
+
+-- the words vs are ws with the bit b at place p
+pub record Puts (ws vs : List ℕ) (p : ℕ) (b : Bool) : Type 0 where
+  pub counted : length vs ≡ length ws
+  pub here : word_bit vs p ≡ b
+  pub others : (i : ℕ) → (i ≡ p → ⊥) → word_bit vs i ≡ word_bit ws i

@@ -3,18 +3,15 @@ ghost use Rattle.vers_bits.specs.Bits.{bit_value, number, count, limb, limbs, lo
 ghost use Rattle.vers_bits.specs.Words.{HoldsBits, AddsBit};
 ghost use Rattle.vers_bits.specs.Equality.{same_bits, hash_input, same_bits_per, same_bits_equiv, hash_input-Alike};
 
+pub use crate::bit_vec::fault::{GrowError, LengthMismatch, OutOfRange, SplitCause, SplitError};
 use std::alloc::{AllocError, Allocator};
 use std::hash::{Hash, Hasher};
 use std::marker::Model;
 
-/// Why a list of bits was not made, or did not grow.
-#[derive(Clone, Copy, PartialEq, Eq, Debug, Drop)]
-pub enum GrowError {
-    /// The allocator has no memory.
-    Memory,
-    /// The list would be longer than `MAX_LEN` bits.
-    TooLong,
-}
+mod edit;
+mod fault;
+mod grow;
+mod words;
 
 /// The greatest length of a list of bits.
 pub const MAX_LEN: usize = usize::MAX - 63;
@@ -184,11 +181,26 @@ impl<A: Allocator + Copy> BitVec<A> {
         if n == 0 || n > 64 || place > len || n > len - place {
             return None;
         }
+        Some(self.get_bits_unchecked(place, n))
+    }
+
+    /// The number of the bits from `place` on, `n` of them: 0 where `n` is 0.
+    #[tactic(auto, using(crate::proofs::Words::words, crate::proofs::Counting::parts))]
+    pub fn get_bits_unchecked(&self, place: usize, n: usize) -> u64
+        requires few { n ≤ 64 }
+        requires within { place + n ≤ length self.now }
+        ensures { result ≡ number (part self.now place n) }
+    {
+        // A place below the length is below `MAX_LEN`.
+        let _ = &self.len;
+        if n == 0 {
+            return 0;
+        }
         let room = 64 - place % 64;
         if n <= room {
-            return Some(self.part(place, n));
+            return self.part(place, n);
         }
-        Some(self.part(place, room) | (self.part(place + room, n - room) << room))
+        self.part(place, room) | (self.part(place + room, n - room) << room)
     }
 
     // The number of the `n` bits from `place` on, which lie in one limb.
@@ -197,7 +209,7 @@ impl<A: Allocator + Copy> BitVec<A> {
         requires some { 0 < n }
         requires one_limb { place % 64 + n ≤ 64 }
         requires within { place + n ≤ length self.now }
-        ensures value { result ≡ number (take n (drop place self.now)) }
+        ensures { result ≡ number (part self.now place n) }
     {
         (self.limb(place / 64) >> (place % 64)) & (u64::MAX >> (64 - n))
     }
@@ -205,29 +217,6 @@ impl<A: Allocator + Copy> BitVec<A> {
     /// A copy of the allocator.
     pub fn allocator(&self) -> A {
         *self.data.allocator()
-    }
-
-    /// Appends a bit. TooLong at the greatest length alone; memory may be wanted only where the
-    /// length is a multiple of 64. The list is as it was where the call is refused.
-    pub fn append(&mut self, bit: bool) -> Result<(), GrowError>
-        ensures grown { OnOk result (self.new ≡ self.old ++ bit ∷ []) }
-        ensures kept { OnErr result (self.new ≡ self.old) }
-        ensures too_long { (result ≡ Err GrowError.TooLong) ↔ (length self.old ≡ MAX_LEN) }
-        ensures room { 0 < length self.old % 64 → IsOk result }
-    {
-        add_bit(&mut self.data, self.len, bit)?;
-        self.len += 1;
-        Ok(())
-    }
-
-    /// Appends the lowest bit of a number: a one where the number is odd. Refusals as of `append`.
-    pub fn append_bit(&mut self, number: u64) -> Result<(), GrowError>
-        ensures grown { OnOk result (self.new ≡ self.old ++ (number % 2 == 1) ∷ []) }
-        ensures kept { OnErr result (self.new ≡ self.old) }
-        ensures too_long { (result ≡ Err GrowError.TooLong) ↔ (length self.old ≡ MAX_LEN) }
-        ensures room { 0 < length self.old % 64 → IsOk result }
-    {
-        self.append(number % 2 == 1)
     }
 }
 
@@ -237,34 +226,4 @@ fn known_words(words: &[u64]) -> &[u64]
     ensures fit { (k : ℕ) → slice_index words.now k < 2 ^ 64 }
 {
     words
-}
-
-// Makes the words hold one bit more.
-#[tactic(auto, using(crate::proofs::Words::steps))]
-fn add_bit<A: Allocator + Copy>(
-    words: &mut Vec<u64, A>,
-    len: usize,
-    bit: bool,
-) -> Result<(), GrowError>
-    requires { HoldsBits words.old.items len }
-    ensures grown { OnOk result (AddsBit words.old.items words.new.items len bit) }
-    ensures kept { OnErr result (words.new.items ≡ words.old.items) }
-    ensures too_long { (result ≡ Err GrowError.TooLong) ↔ (len ≡ MAX_LEN) }
-    ensures room { 0 < len % 64 → IsOk result }
-{
-    let used = len % 64;
-    if used == 0 {
-        if len >= MAX_LEN {
-            return Err(GrowError::TooLong);
-        }
-        if words.push(bit as u64).is_err() {
-            return Err(GrowError::Memory);
-        }
-        return Ok(());
-    }
-    if bit {
-        words[len / 64] |= 1 << used;
-        return Ok(());
-    }
-    Ok(())
 }

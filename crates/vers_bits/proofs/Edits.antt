@@ -1,0 +1,124 @@
+-- What an edit of the words does to the list that they hold.
+use Rattle.std.proofs.Common.{◌≡◌, ◌≢◌, ℕ, zero, suc, ◌+◌, ◌-◌, ◌*◌, ◌/◌, ◌%◌, ◌^◌, ◌<◌, ◌≤◌, Bool, true, false, not, eqb, List, [], ◌∷◌, ◌++◌, length, get_or, set, take, drop, refl, sym, ap, ◌∙◌, inl, inr, arith, w64}
+use Rattle.std.specs.Int.{bit_at, bit_not}
+use Rattle.std.specs.Prelude.{bit_and, bit_or, bit_xor}
+use Rattle.std.proofs.lemmas.Bool.{cases_lt, cases_eq}
+use Rattle.std.proofs.lemmas.Nat.{one_shl}
+use Rattle.std.proofs.lemmas.Nat.Bits.{bit_at-lt, bit_at_xor, bit_at-pow_same, bit_at-pow_other, bit_at_set_same, bit_at_set_other, bit_at_clear_same, bit_at_clear_other}
+use Rattle.std.proofs.lemmas.List.{get_or_past, get_or-take, get_or-set_same, get_or-set_other, length-take, length-set, take_all}
+use Rattle.vers_bits.specs.Bits.{bit_value, limb_count}
+use Rattle.vers_bits.specs.Words.{word_bit, word_bits, HoldsBits, CutsTo, Puts}
+use Rattle.vers_bits.proofs.Words.{length-word_bits, get_or-word_bits, word_bits_are, take-word_bits, past_words}
+use Rattle.vers_bits.proofs.LowBits.{bit_at_mod, bit_at_mod_above, bit_value_test}
+
+-- ---- a cut
+
+pub cut_bits : {ws vs : List ℕ} {m : ℕ} → CutsTo ws vs m → (n : ℕ) → m ≤ n → word_bits vs m ≡ take m (word_bits ws n)
+cut_bits {ws} {vs} {m} cuts n h =
+    word_bits_are vs m (word_bits ws m) (length-word_bits ws m) (λ i below. cuts.below i below ∙ sym (get_or-word_bits ws m i false below))
+    ∙ sym (take-word_bits ws n m h)
+
+pub cut_holds : {ws vs : List ℕ} {m : ℕ} → CutsTo ws vs m → m ≤ 18446744073709551552 → HoldsBits vs m
+cut_holds {ws} {vs} {m} cuts h = record { counted = cuts.counted; bounded = h; padded = cuts.padded }
+
+module _ (ws : List ℕ) (n : ℕ) (enough : limb_count n ≤ length ws) where
+  front : List ℕ
+  front = take (limb_count n) ws
+
+  length-front : length front ≡ limb_count n
+  unfolding front
+  length-front = length-take (limb_count n) ws ∙ omega arith
+
+  front_bit : (i : ℕ) → i < n → word_bit front i ≡ word_bit ws i
+  unfolding front
+  front_bit i h = ap (λ w. eqb (bit_at w (i % 64)) 1) (get_or-take (limb_count n) ws (i / 64) 0 (omega arith))
+
+  pub cut_whole : n % 64 ≡ 0 → CutsTo ws (take (limb_count n) ws) n
+  unfolding front
+  cut_whole whole = record {
+    counted = length-front;
+    below = front_bit;
+    padded = λ i h. past_words front i (omega (arith, length-front));
+  }
+
+  pub cut_part : 0 < n % 64 → CutsTo ws (set (take (limb_count n) ws) (n / 64) (get_or (take (limb_count n) ws) (n / 64) 0 % 2 ^ (n % 64))) n
+  unfolding front
+  cut_part part =
+      let w : ℕ = get_or front (n / 64) 0 in
+      let v : ℕ = w % 2 ^ (n % 64) in
+      let within : n / 64 < length front = omega (arith, length-front) in
+      let at_last = λ (i : ℕ) (e : i / 64 ≡ n / 64). ap (λ q. eqb (bit_at (get_or (set front (n / 64) v) q 0) (i % 64)) 1) e ∙ ap (λ x. eqb (bit_at x (i % 64)) 1) (get_or-set_same front (n / 64) v 0 within) in
+      let at_other = λ (i : ℕ) (e : i / 64 ≡ n / 64 → ⊥). ap (λ x. eqb (bit_at x (i % 64)) 1) (get_or-set_other front (n / 64) (i / 64) v 0 e) in
+      record {
+        counted = length-set front (n / 64) v ∙ length-front;
+        below = λ i h. elim (cases_eq (i / 64) (n / 64)) [
+          | inl e ↦ at_last i e ∙ ap (λ m. eqb m 1) (bit_at_mod w (n % 64) (i % 64) (omega arith)) ∙ ap (λ q. eqb (bit_at (get_or front q 0) (i % 64)) 1) (sym e) ∙ front_bit i h
+          | inr e ↦ at_other i e ∙ front_bit i h
+        ];
+        padded = λ i h. elim (cases_eq (i / 64) (n / 64)) [
+          | inl e ↦ at_last i e ∙ ap (λ m. eqb m 1) (bit_at_mod_above w (n % 64) (i % 64) (omega arith))
+          | inr e ↦ at_other i e ∙ past_words front i (omega (arith, length-front))
+        ];
+      }
+
+-- ---- a bit put at a place
+
+pub put_bits : {ws vs : List ℕ} {p : ℕ} {b : Bool} → Puts ws vs p b → (n : ℕ) → p < n → word_bits vs n ≡ set (word_bits ws n) p b
+put_bits {ws} {vs} {p} {b} puts n within =
+    word_bits_are vs n (set (word_bits ws n) p b) (length-set (word_bits ws n) p b ∙ length-word_bits ws n)
+    (λ i h. elim (cases_eq i p) [
+      | inl e ↦ ap (word_bit vs) e ∙ puts.here ∙ sym (ap (λ j. get_or (set (word_bits ws n) p b) j false) e ∙ get_or-set_same (word_bits ws n) p b false (omega (arith, length-word_bits ws n)))
+      | inr e ↦ puts.others i e ∙ sym (get_or-set_other (word_bits ws n) p i b false e ∙ get_or-word_bits ws n i false h)
+    ])
+
+pub put_holds : {ws vs : List ℕ} {p : ℕ} {b : Bool} → Puts ws vs p b → (n : ℕ) → p < n → HoldsBits ws n → HoldsBits vs n
+put_holds {ws} {vs} {p} {b} puts n within holds = record {
+  counted = puts.counted ∙ holds.counted;
+  bounded = holds.bounded;
+  padded = λ i h. puts.others i (omega arith) ∙ holds.padded i h;
+}
+
+module _ (ws : List ℕ) (p x : ℕ) (b : Bool) (within : p / 64 < length ws) where
+  -- by another word at its limb, with that bit and else the same
+  puts_by : eqb (bit_at x (p % 64)) 1 ≡ b → ((i : ℕ) → i < 64 → (i ≡ p % 64 → ⊥) → bit_at x i ≡ bit_at (get_or ws (p / 64) 0) i)
+      → Puts ws (set ws (p / 64) x) p b
+  puts_by on off = record {
+    counted = length-set ws (p / 64) x;
+    here = ap (λ w. eqb (bit_at w (p % 64)) 1) (get_or-set_same ws (p / 64) x 0 within) ∙ on;
+    others = λ i other. elim (cases_eq (i / 64) (p / 64)) [
+      | inl e ↦ ap (λ q. eqb (bit_at (get_or (set ws (p / 64) x) q 0) (i % 64)) 1) e
+          ∙ ap (λ w. eqb (bit_at w (i % 64)) 1) (get_or-set_same ws (p / 64) x 0 within)
+          ∙ ap (λ m. eqb m 1) (off (i % 64) (omega arith) (omega arith))
+          ∙ ap (λ q. eqb (bit_at (get_or ws q 0) (i % 64)) 1) (sym e)
+      | inr e ↦ ap (λ w. eqb (bit_at w (i % 64)) 1) (get_or-set_other ws (p / 64) (i / 64) x 0 e)
+    ];
+  }
+
+flipped_bit : (m : ℕ) → m < 2 → eqb ((m + 1) % 2) 1 ≡ not (eqb m 1)
+flipped_bit zero h = refl
+flipped_bit (suc zero) h = refl
+flipped_bit (suc (suc m)) h = absurd (omega arith)
+
+module _ (ws : List ℕ) (p : ℕ) (within : p / 64 < length ws) where
+  abbrev word : ℕ
+  word = get_or ws (p / 64) 0
+
+  pub puts_one : Puts ws (set ws (p / 64) (bit_or (get_or ws (p / 64) 0) (1 * 2 ^ (p % 64) % 2 ^ 64))) p true
+  puts_one =
+      puts_by ws p (bit_or word (1 * 2 ^ (p % 64) % 2 ^ 64)) true within (ap (λ m. eqb m 1) (bit_at_set_same w64 word (p % 64) (omega arith)))
+      (λ i h e. bit_at_set_other w64 word (p % 64) (omega arith) i e)
+
+  pub puts_zero : Puts ws (set ws (p / 64) (bit_and (get_or ws (p / 64) 0) (bit_not w64 (1 * 2 ^ (p % 64) % 2 ^ 64)))) p false
+  puts_zero =
+      puts_by ws p (bit_and word (bit_not w64 (1 * 2 ^ (p % 64) % 2 ^ 64))) false within (ap (λ m. eqb m 1) (bit_at_clear_same w64 word (p % 64) (omega arith)))
+      (λ i h e. bit_at_clear_other w64 word (p % 64) (omega arith) i h e)
+
+  pub puts_other : Puts ws (set ws (p / 64) (bit_xor (get_or ws (p / 64) 0) (1 * 2 ^ (p % 64) % 2 ^ 64))) p (not (word_bit ws p))
+  puts_other =
+      let one : 1 * 2 ^ (p % 64) % 2 ^ 64 ≡ 2 ^ (p % 64) = one_shl (p % 64) 64 (omega arith) in
+      let digit = λ (i : ℕ). bit_at_xor word (1 * 2 ^ (p % 64) % 2 ^ 64) i ∙ ap (λ m. (bit_at word i + bit_at m i) % 2) one in
+      puts_by ws p (bit_xor word (1 * 2 ^ (p % 64) % 2 ^ 64)) (not (word_bit ws p)) within
+      (ap (λ m. eqb m 1) (digit (p % 64) ∙ ap (λ m. (bit_at word (p % 64) + m) % 2) (bit_at-pow_same (p % 64))) ∙ flipped_bit (bit_at word (p % 64)) (bit_at-lt word (p % 64)))
+      (λ i h e. digit i ∙ ap (λ m. (bit_at word i + m) % 2) (bit_at-pow_other (p % 64) i e) ∙ omega (arith, bit_at-lt word i))
+
+pub ruleset edits = (cut_bits, cut_holds, put_bits, put_holds, get_or-word_bits)

@@ -1,0 +1,171 @@
+-- Words that hold a list of bits: what an edit of the words does to the list.
+use Rattle.std.proofs.Common.{◌≡◌, ◌≢◌, ℕ, ◌+◌, ◌-◌, ◌*◌, ◌/◌, ◌%◌, ◌^◌, ◌<◌, ◌≤◌, max, Bool, true, false, eqb, List, [], ◌∷◌, ◌++◌, length, get_or, set, take, drop, refl, sym, ap, ◌∙◌, inl, inr, arith}
+use Rattle.std.specs.Int.{bit_at}
+use Rattle.std.specs.Prelude.{bit_and, bit_or}
+use Rattle.std.proofs.lemmas.Bool.{cases_lt, cases_eq}
+use Rattle.std.proofs.lemmas.Nat.{shr-shr, pow_pos}
+use Rattle.std.proofs.lemmas.Nat.Bits.{bit_at-lt, bit_at_or, bit_at_above, bit_at_cat_low, bit_at_cat_high, bit_at-zero}
+use Rattle.std.proofs.lemmas.List.{get_or_past, get_or_push, get_or_append_left, get_or-append_right, get_or-set_same, get_or-set_other, length-append, length_push, length-set}
+use Rattle.vers_bits.specs.Bits.{bit_value, low_bits, limb_count}
+use Rattle.vers_bits.specs.Words.{word_bit, word_bits, HoldsBits, Holds}
+use Rattle.vers_bits.proofs.Words.{length-word_bits, get_or-word_bits, word_bits_are, past_words}
+use Rattle.vers_bits.proofs.LowBits.{length-low_bits, get_or-low_bits, bit_at_mod, bit_value_test}
+
+pub held_bits : {ws : List ℕ} {n : ℕ} {l : List Bool} → Holds ws n l → word_bits ws n ≡ l
+held_bits {ws} {n} {l} holds = word_bits_are ws n l holds.long (λ i h. holds.each i)
+
+pub held : {ws : List ℕ} {n : ℕ} {l : List Bool} → Holds ws n l → HoldsBits ws n
+held {ws} {n} {l} holds = record {
+  counted = holds.counted;
+  bounded = holds.bounded;
+  padded = λ i h. holds.each i ∙ get_or_past l i false (omega (arith, holds.long));
+}
+
+-- a digit that is 0 makes a zero
+zero_bit : (x i : ℕ) → bit_at x i ≡ 0 → eqb (bit_at x i) 1 ≡ false
+zero_bit x i e = ap (λ m. eqb m 1) e
+
+-- and the other way round
+zero_digit : (x i : ℕ) → eqb (bit_at x i) 1 ≡ false → bit_at x i ≡ 0
+zero_digit x i e = sym (bit_value_test (bit_at x i) (bit_at-lt x i)) ∙ ap bit_value e
+
+module _ (ws : List ℕ) (n v k : ℕ) (holds : HoldsBits ws n) (small : v < 2 ^ k) where
+  -- the list with the low k digits of v behind it, place by place
+  grown : List Bool
+  grown = word_bits ws n ++ low_bits v k
+
+  below : (i : ℕ) → i < n → get_or grown i false ≡ word_bit ws i
+  unfolding grown
+  below i h = get_or_append_left (word_bits ws n) (low_bits v k) false i (omega (arith, length-word_bits ws n)) ∙ get_or-word_bits ws n i false h
+
+  above : (i : ℕ) → n ≤ i → get_or grown i false ≡ eqb (bit_at v (i - n)) 1
+  unfolding grown
+  above i h =
+      get_or-append_right (word_bits ws n) (low_bits v k) n i false (length-word_bits ws n) h ∙ elim (cases_lt (i - n) k) [
+        | inl within ↦ get_or-low_bits v k (i - n) within
+        | inr past ↦ get_or_past (low_bits v k) (i - n) false (omega (arith, length-low_bits v k)) ∙ sym (zero_bit v (i - n) (bit_at_above v k (i - n) small past))
+      ]
+
+  length-grown : length grown ≡ n + k
+  unfolding grown
+  length-grown = length-append (word_bits ws n) (low_bits v k) ∙ omega (arith, length-word_bits ws n, length-low_bits v k)
+
+  -- words that agree with the old ones below n, and with the digits of v from there on
+  hold_grown : (vs : List ℕ) → length vs ≡ limb_count (n + k) → n + k ≤ 18446744073709551552
+      → ((i : ℕ) → i < n → word_bit vs i ≡ word_bit ws i) → ((i : ℕ) → n ≤ i → word_bit vs i ≡ eqb (bit_at v (i - n)) 1)
+      → Holds vs (n + k) (word_bits ws n ++ low_bits v k)
+  unfolding grown
+  hold_grown vs counted bounded early late = record {
+    long = length-grown;
+    counted = counted;
+    bounded = bounded;
+    each = λ i. elim (cases_lt i n) [ inl h ↦ early i h ∙ sym (below i h) | inr h ↦ late i h ∙ sym (above i h) ];
+  }
+
+  past_number : (vs : List ℕ) (i : ℕ) → n ≤ i → k ≤ i - n → 64 * length vs ≤ i → word_bit vs i ≡ eqb (bit_at v (i - n)) 1
+  past_number vs i h past end = past_words vs i end ∙ sym (zero_bit v (i - n) (bit_at_above v k (i - n) small past))
+
+  -- by a word of their own, where the last word is full
+  pub added_word : n % 64 ≡ 0 → 0 < k → k ≤ 64 → n + k ≤ 18446744073709551552 → Holds (ws ++ v ∷ []) (n + k) (word_bits ws n ++ low_bits v k)
+  added_word whole some few bounded =
+      let full : n ≡ 64 * length ws = omega (arith, holds.counted) in
+      hold_grown (ws ++ v ∷ []) (length_push ws v ∙ omega (arith, holds.counted)) bounded
+      (λ i h. ap (λ w. eqb (bit_at w (i % 64)) 1) (get_or_append_left ws (v ∷ []) 0 (i / 64) (omega arith)))
+      (λ i h. elim (cases_lt i (n + 64)) [
+        | inl same ↦
+            let word : length ws ≡ i / 64 = omega arith in
+            let place : i % 64 ≡ i - n = omega arith in
+            ap (λ w. eqb (bit_at w (i % 64)) 1) (get_or_push ws v 0 (i / 64) word) ∙ ap (λ p. eqb (bit_at v p) 1) place
+        | inr past ↦ past_number (ws ++ v ∷ []) i h (omega arith) (omega (arith, length_push ws v))
+      ])
+
+  -- the last word with the digits put above its own
+  last_word : ℕ
+  last_word = bit_or (get_or ws (n / 64) 0) (v * 2 ^ (n % 64) % 2 ^ 64)
+
+  last_word_low : (i : ℕ) → i < 64 → i < n % 64 → bit_at last_word i ≡ bit_at (get_or ws (n / 64) 0) i
+  unfolding last_word
+  last_word_low i h low =
+      let none : bit_at (v * 2 ^ (n % 64) + 0) i ≡ 0 = bit_at_cat_low v (n % 64) 0 i low ∙ bit_at-zero i in
+      let shifted : v * 2 ^ (n % 64) + 0 ≡ v * 2 ^ (n % 64) = omega arith in
+      bit_at_or (get_or ws (n / 64) 0) (v * 2 ^ (n % 64) % 2 ^ 64) i
+      ∙ ap (max (bit_at (get_or ws (n / 64) 0) i)) (bit_at_mod (v * 2 ^ (n % 64)) 64 i h ∙ ap (λ m. bit_at m i) (sym shifted) ∙ none)
+      ∙ omega arith
+
+  last_word_high : (i : ℕ) → i < 64 → n % 64 ≤ i → bit_at last_word i ≡ bit_at v (i - n % 64)
+  unfolding last_word
+  last_word_high i h high =
+      let shifted : v * 2 ^ (n % 64) + 0 ≡ v * 2 ^ (n % 64) = omega arith in
+      let some : bit_at (v * 2 ^ (n % 64)) i ≡ bit_at v (i - n % 64) = ap (λ m. bit_at m i) (sym shifted) ∙ bit_at_cat_high v (n % 64) 0 i (omega (arith, pow_pos (n % 64))) high in
+      let word : (64 * (n / 64) + i) / 64 ≡ n / 64 = omega arith in
+      let place : (64 * (n / 64) + i) % 64 ≡ i = omega arith in
+      let off : eqb (bit_at (get_or ws (n / 64) 0) i) 1 ≡ false =
+      ap (λ p. eqb (bit_at (get_or ws (n / 64) 0) p) 1) (sym place) ∙ ap (λ q. eqb (bit_at (get_or ws q 0) ((64 * (n / 64) + i) % 64)) 1) (sym word)
+      ∙ holds.padded (64 * (n / 64) + i) (omega arith) in
+      bit_at_or (get_or ws (n / 64) 0) (v * 2 ^ (n % 64) % 2 ^ 64) i
+      ∙ ap (λ m. max m (bit_at (v * 2 ^ (n % 64) % 2 ^ 64) i)) (zero_digit _ i off)
+      ∙ ap (max 0) (bit_at_mod (v * 2 ^ (n % 64)) 64 i h ∙ some) ∙ omega arith
+
+  -- any words that begin with the old ones, with the last word so changed, agree up to its end
+  set_early : (zs : List ℕ) → 0 < n % 64 → n / 64 < length zs → ((j : ℕ) → j < length ws → get_or zs j 0 ≡ get_or ws j 0)
+      → (i : ℕ) → i < n → word_bit (set zs (n / 64) last_word) i ≡ word_bit ws i
+  set_early zs part within same i h =
+      elim (cases_eq (i / 64) (n / 64)) [
+        | inl here ↦
+            ap (λ q. eqb (bit_at (get_or (set zs (n / 64) last_word) q 0) (i % 64)) 1) here
+            ∙ ap (λ w. eqb (bit_at w (i % 64)) 1) (get_or-set_same zs (n / 64) last_word 0 within)
+            ∙ ap (λ m. eqb m 1) (last_word_low (i % 64) (omega arith) (omega arith))
+            ∙ ap (λ q. eqb (bit_at (get_or ws q 0) (i % 64)) 1) (sym here)
+        | inr apart ↦ ap (λ w. eqb (bit_at w (i % 64)) 1) (get_or-set_other zs (n / 64) (i / 64) last_word 0 apart ∙ same (i / 64) (omega (arith, holds.counted)))
+      ]
+
+  set_late : (zs : List ℕ) → n / 64 < length zs → (i : ℕ) → n ≤ i → i / 64 ≡ n / 64
+      → word_bit (set zs (n / 64) last_word) i ≡ eqb (bit_at v (i - n)) 1
+  set_late zs within i h here =
+      let place : i % 64 - n % 64 ≡ i - n = omega arith in
+      ap (λ q. eqb (bit_at (get_or (set zs (n / 64) last_word) q 0) (i % 64)) 1) here
+      ∙ ap (λ w. eqb (bit_at w (i % 64)) 1) (get_or-set_same zs (n / 64) last_word 0 within)
+      ∙ ap (λ m. eqb m 1) (last_word_high (i % 64) (omega arith) (omega arith))
+      ∙ ap (λ p. eqb (bit_at v p) 1) place
+
+  -- within the last word
+  pub added_inside : 0 < n % 64 → n % 64 + k ≤ 64 → n + k ≤ 18446744073709551552
+      → Holds (set ws (n / 64) (bit_or (get_or ws (n / 64) 0) (v * 2 ^ (n % 64) % 2 ^ 64))) (n + k) (word_bits ws n ++ low_bits v k)
+  unfolding last_word
+  added_inside part few bounded =
+      let within : n / 64 < length ws = omega (arith, holds.counted) in
+      let vs = set ws (n / 64) last_word in
+      let long : length vs ≡ length ws = length-set ws (n / 64) last_word in
+      hold_grown vs (long ∙ omega (arith, holds.counted)) bounded (set_early ws part within (λ j h. refl))
+      (λ i h. elim (cases_eq (i / 64) (n / 64)) [
+        | inl here ↦ set_late ws within i h here
+        | inr apart ↦ past_number vs i h (omega arith) (omega (arith, holds.counted))
+      ])
+
+  -- over the last word and a new one
+  pub added_across : 0 < n % 64 → 64 < n % 64 + k → k ≤ 64 → n + k ≤ 18446744073709551552
+      → Holds (set (ws ++ v / 2 ^ (64 - n % 64) ∷ []) (n / 64) (bit_or (get_or ws (n / 64) 0) (v * 2 ^ (n % 64) % 2 ^ 64))) (n + k) (word_bits ws n ++ low_bits v k)
+  unfolding last_word
+  added_across part many few bounded =
+      let high : ℕ = v / 2 ^ (64 - n % 64) in
+      let zs = ws ++ high ∷ [] in
+      let more : length zs ≡ length ws + 1 = length_push ws high in
+      let within : n / 64 < length zs = omega (arith, holds.counted) in
+      let vs = set zs (n / 64) last_word in
+      let long : length vs ≡ length ws + 1 = length-set zs (n / 64) last_word ∙ more in
+      hold_grown vs (long ∙ omega (arith, holds.counted)) bounded (set_early zs part within (λ j h. get_or_append_left ws (high ∷ []) 0 j h))
+      (λ i h. elim (cases_eq (i / 64) (n / 64)) [
+        | inl here ↦ set_late zs within i h here
+        | inr apart ↦ elim (cases_eq (i / 64) (n / 64 + 1)) [
+          | inl next ↦
+              let word : length ws ≡ i / 64 = omega (arith, holds.counted) in
+              let place : 64 - n % 64 + i % 64 ≡ i - n = omega arith in
+              ap (λ w. eqb (bit_at w (i % 64)) 1) (get_or-set_other zs (n / 64) (i / 64) last_word 0 apart ∙ get_or_push ws high 0 (i / 64) word)
+              ∙ ap (λ m. eqb m 1) (ap (λ m. m % 2) (shr-shr v (64 - n % 64) (i % 64))) ∙ ap (λ p. eqb (bit_at v p) 1) place
+          | inr past ↦ past_number vs i h (omega arith) (omega (arith, holds.counted))
+        ]
+      ])
+
+pub ruleset adds = (added_word, added_inside, added_across)
+
+pub ruleset holding = (held_bits, held)

@@ -1,0 +1,105 @@
+-- The low digits of a number as a list of bits.
+use Rattle.std.proofs.Common.{◌≡◌, ℕ, zero, ◌+◌, ◌-◌, ◌/◌, ◌%◌, ◌^◌, ◌<◌, ◌≤◌, min, Bool, true, false, eqb, List, [], ◌∷◌, ◌++◌, length, get_or, replicate, refl, sym, ap, ◌∙◌, inl, inr, arith}
+use Rattle.std.specs.Int.{bit_at}
+use Rattle.std.specs.Prelude.{bit_and}
+use Rattle.std.proofs.lemmas.Bool.{cases_lt, cases_eq}
+use Rattle.std.proofs.lemmas.Nat.{and_mask, mod_below, pow_pos, shr-shr, pow_below}
+use Rattle.std.proofs.lemmas.Nat.Bits.{ones_shr, bit_at-lt, bit_at_and, bit_at_ones, bit_at_above, same_from_bits}
+use Rattle.std.proofs.lemmas.List.{same_lists, places, get_or_past, get_or_append_left, get_or-append_right, get_or-replicate, length-append, length-replicate}
+use Rattle.std.proofs.lemmas.List.FromFn.{length-map-range_with_len, get_or-map-range_with_len}
+use Rattle.vers_bits.specs.Bits.{bit_value, number, low_bits}
+use Rattle.vers_bits.proofs.Num.{bit_at-number}
+
+pub length-low_bits : (v n : ℕ) → length (low_bits v n) ≡ n
+unfolding low_bits
+length-low_bits v n = length-map-range_with_len (λ i. eqb (bit_at v i) 1) 0 n
+
+pub get_or-low_bits : (v n i : ℕ) → i < n → get_or (low_bits v n) i false ≡ eqb (bit_at v i) 1
+unfolding low_bits
+get_or-low_bits v n i h = get_or-map-range_with_len (λ j. eqb (bit_at v j) 1) 0 n i i false h (omega arith)
+
+-- a digit, 0 or 1, by the test for 1
+pub bit_value_test : (m : ℕ) → m < 2 → bit_value (eqb m 1) ≡ m
+bit_value_test m h = elim (cases_eq m 1) [ inl e ↦ rw e refl | inr ne ↦ let z : m ≡ 0 = omega arith in rw z refl ]
+
+pub test_bit_value : (b : Bool) → eqb (bit_value b) 1 ≡ b
+test_bit_value true = refl
+test_bit_value false = refl
+
+below_two : (b : ℕ) → b < 2 → min b 1 ≡ b
+below_two b h = omega arith
+
+-- a number cut to its low w digits has those and no other
+pub bit_at_mod : (x w i : ℕ) → i < w → bit_at (x % 2 ^ w) i ≡ bit_at x i
+bit_at_mod x w i h =
+    ap (λ m. bit_at m i) (sym (and_mask x w)) ∙ bit_at_and x (2 ^ w - 1) i ∙ ap (min (bit_at x i)) (bit_at_ones w i h) ∙ below_two (bit_at x i) (bit_at-lt x i)
+
+pub bit_at_mod_above : (x w i : ℕ) → w ≤ i → bit_at (x % 2 ^ w) i ≡ 0
+bit_at_mod_above x w i h = bit_at_above (x % 2 ^ w) w i (mod_below x (2 ^ w) (pow_pos w)) h
+
+-- a list that agrees with the low digits of a number, place by place
+pub low_bits_are : (v n : ℕ) (l : List Bool) → length l ≡ n → ((i : ℕ) → i < n → eqb (bit_at v i) 1 ≡ get_or l i false) → low_bits v n ≡ l
+low_bits_are v n l e each =
+    same_lists _ _ (length-low_bits v n ∙ sym e)
+    (λ k d h.
+    let small : k < n = omega (arith, length-low_bits v n) in
+    let here : get_or (low_bits v n) k false ≡ get_or l k false = get_or-low_bits v n k small ∙ each k small in
+    grind (arith, places))
+
+pub low_bits_of_number : (l : List Bool) → low_bits (number l) (length l) ≡ l
+low_bits_of_number l =
+    low_bits_are (number l) (length l) l refl (λ i h. ap (λ m. eqb m 1) (bit_at-number l i) ∙ test_bit_value (get_or l i false))
+
+pub low_bits_of_rest : (v n : ℕ) → low_bits (v % 2 ^ n) n ≡ low_bits v n
+low_bits_of_rest v n =
+    low_bits_are (v % 2 ^ n) n (low_bits v n) (length-low_bits v n) (λ i h. ap (λ m. eqb m 1) (bit_at_mod v n i h) ∙ sym (get_or-low_bits v n i h))
+
+pub number-low_bits : (v n : ℕ) → number (low_bits v n) ≡ v % 2 ^ n
+number-low_bits v n =
+    same_from_bits (number (low_bits v n)) (v % 2 ^ n) (λ i.
+    bit_at-number (low_bits v n) i ∙ elim (cases_lt i n) [
+      | inl small ↦ ap bit_value (get_or-low_bits v n i small) ∙ bit_value_test (bit_at v i) (bit_at-lt v i) ∙ sym (bit_at_mod v n i small)
+      | inr large ↦ ap bit_value (get_or_past (low_bits v n) i false (omega (arith, length-low_bits v n))) ∙ sym (bit_at_mod_above v n i large)
+    ])
+
+-- the digits from j on are the digits of the quotient
+bit_at_shr : (v j i : ℕ) → bit_at (v / 2 ^ j) i ≡ bit_at v (j + i)
+bit_at_shr v j i = ap (λ m. m % 2) (shr-shr v j i)
+
+pub low_bits-add : (v j k : ℕ) → low_bits v (j + k) ≡ low_bits v j ++ low_bits (v / 2 ^ j) k
+low_bits-add v j k =
+    low_bits_are v (j + k) (low_bits v j ++ low_bits (v / 2 ^ j) k)
+    (length-append (low_bits v j) (low_bits (v / 2 ^ j) k) ∙ omega (arith, length-low_bits v j, length-low_bits (v / 2 ^ j) k))
+    (λ i h. elim (cases_lt i j) [
+      | inl small ↦ sym (get_or_append_left (low_bits v j) (low_bits (v / 2 ^ j) k) false i (omega (arith, length-low_bits v j)) ∙ get_or-low_bits v j i small)
+      | inr large ↦
+          let place : j + (i - j) ≡ i = omega arith in
+          sym (get_or-append_right (low_bits v j) (low_bits (v / 2 ^ j) k) j i false (length-low_bits v j) large
+          ∙ get_or-low_bits (v / 2 ^ j) k (i - j) (omega arith) ∙ ap (λ m. eqb m 1) (bit_at_shr v j (i - j)) ∙ ap (λ p. eqb (bit_at v p) 1) place)
+    ])
+
+-- past the number's own digits there are zeros
+pub low_bits_past : (v j k : ℕ) → v < 2 ^ j → low_bits v (j + k) ≡ low_bits v j ++ replicate k false
+low_bits_past v j k small =
+    low_bits_are v (j + k) (low_bits v j ++ replicate k false)
+    (length-append (low_bits v j) (replicate k false) ∙ omega (arith, length-low_bits v j, length-replicate k false))
+    (λ i h. elim (cases_lt i j) [
+      | inl low ↦ sym (get_or_append_left (low_bits v j) (replicate k false) false i (omega (arith, length-low_bits v j)) ∙ get_or-low_bits v j i low)
+      | inr high ↦ ap (λ m. eqb m 1) (bit_at_above v j i small high)
+          ∙ sym (get_or-append_right (low_bits v j) (replicate k false) j i false (length-low_bits v j) high ∙ get_or-replicate k (i - j) false false (omega arith))
+    ])
+
+pub low_bits_none : (v : ℕ) → low_bits v 0 ≡ []
+unfolding low_bits
+low_bits_none v = refl
+
+-- `word & (u64::MAX >> (64 - n))`
+pub low_mask : (w n : ℕ) → n ≤ 64 → bit_and w (18446744073709551615 / 2 ^ (64 - n)) ≡ w % 2 ^ n
+low_mask w n h =
+    let width : 64 - (64 - n) ≡ n = omega arith in
+    ap (bit_and w) (ones_shr 64 (64 - n) (omega arith) ∙ ap (λ m. 2 ^ m - 1) width) ∙ and_mask w n
+
+pub rest_below : (w n : ℕ) → w % 2 ^ n < 2 ^ n
+rest_below w n = mod_below w (2 ^ n) (pow_pos n)
+
+pub ruleset masks = (low_mask, rest_below)

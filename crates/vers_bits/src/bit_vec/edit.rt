@@ -1,0 +1,105 @@
+//! Calls that change a list of bits in place, or split it, and take no memory but for a second half.
+ghost use Rattle.std.specs.Prelude.{◌≡◌, ◌+◌, ◌-◌, ◌/◌, ◌%◌, ◌<◌, ◌≤◌, ◌==◌, not, length, take, drop, slice_set, slice_index_or, ◌↔◌, false, IfOk, IfErr, IsOk, MatchResult};
+
+use crate::bit_vec::words::{cut, flip, put_bit};
+use crate::bit_vec::{BitVec, OutOfRange, SplitCause, SplitError};
+use std::alloc::Allocator;
+
+#[tactic(auto, using(crate::proofs::Words::words, crate::proofs::Edits::edits))]
+impl<A: Allocator + Copy> BitVec<A> {
+    // Keeps the first `len` bits.
+    pub(super) fn truncate(&mut self, len: usize)
+        requires { len ≤ length self.old }
+        ensures { self.new ≡ take len self.old }
+    {
+        cut(&mut self.data, len);
+        self.len = len;
+    }
+
+    /// Drops the last `n` bits, or all where there are not so many.
+    pub fn drop_last(&mut self, n: usize)
+        ensures { self.new ≡ take (length self.old - n) self.old }
+    {
+        let len = self.len();
+        self.truncate(len.saturating_sub(n));
+    }
+
+    /// Makes the bit at a place the other one.
+    pub fn flip_bit(&mut self, place: usize)
+        requires { place < length self.old }
+        ensures { self.new ≡ slice_set self.old place (not (slice_index_or self.old place false)) }
+    {
+        flip(&mut self.data, place);
+    }
+
+    /// The same as `flip_bit`.
+    pub fn flip_bit_unchecked(&mut self, place: usize)
+        requires { place < length self.old }
+        ensures { self.new ≡ slice_set self.old place (not (slice_index_or self.old place false)) }
+    {
+        self.flip_bit(place);
+    }
+
+    /// Makes the bit at a place a one where `value` is odd, and else a zero. OutOfRange for a
+    /// place that the list doesn't have, and the list is as it was.
+    pub fn set(&mut self, place: usize, value: u64) -> Result<(), OutOfRange>
+        ensures { MatchResult result (λ _. (place < length self.old) × (self.new ≡ slice_set self.old place (value % 2 == 1))) (λ _. (length self.old ≤ place) × (self.new ≡ self.old)) }
+    {
+        if place >= self.len() {
+            return Err(OutOfRange);
+        }
+        self.set_unchecked(place, value);
+        Ok(())
+    }
+
+    /// Makes the bit at a place that the list has a one where `value` is odd, and else a zero.
+    pub fn set_unchecked(&mut self, place: usize, value: u64)
+        requires { place < length self.old }
+        ensures { self.new ≡ slice_set self.old place (value % 2 == 1) }
+    {
+        put_bit(&mut self.data, place, value % 2 == 1);
+    }
+
+    /// The first `at` bits, and the others. At the length the second list is empty, and the call
+    /// takes no memory. The list comes back as it was where there is no memory.
+    pub fn split_at_unchecked(mut self, at: usize) -> Result<(Self, Self), Self>
+        requires { at ≤ length self }
+        ensures halves { IfOk result (λ h. (h.0 ≡ take at self) × (h.1 ≡ drop at self)) }
+        ensures kept { IfErr result (λ v. v ≡ self) }
+        ensures at_end { at ≡ length self → IsOk result }
+    {
+        let mut rest = BitVec::new(self.allocator());
+        if at == self.len() {
+            return Ok((self, rest));
+        }
+        if rest.extend_from(&self, at).is_err() {
+            return Err(self);
+        }
+        self.truncate(at);
+        Ok((self, rest))
+    }
+
+    /// The first `at` bits, and the others. OutOfRange for an `at` above the length. At the length
+    /// the second list is empty, and the call takes no memory. A refusal hands the list back as it
+    /// was.
+    pub fn split_at(self, at: usize) -> Result<(Self, Self), SplitError<A>>
+        ensures halves { IfOk result (λ h. (h.0 ≡ take at self) × (h.1 ≡ drop at self)) }
+        ensures kept { IfErr result (λ e. e.vec ≡ self) }
+        ensures out_of_range { MatchResult result (λ _. at ≤ length self) (λ e. (e.cause ≡ SplitCause.OutOfRange) ↔ (length self < at)) }
+        ensures at_end { at ≡ length self → IsOk result }
+    {
+        if at > self.len() {
+            return Err(SplitError {
+                vec: self,
+                cause: SplitCause::OutOfRange,
+            });
+        }
+        match self.split_at_unchecked(at) {
+            Ok(halves) => Ok(halves),
+            Err(vec) => Err(SplitError {
+                vec,
+                cause: SplitCause::Memory,
+            }),
+        }
+    }
+}

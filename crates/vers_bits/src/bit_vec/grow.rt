@@ -1,0 +1,152 @@
+//! Calls that make a list of bits grow.
+ghost use Rattle.std.specs.Prelude.{◌≡◌, ℕ, ◌+◌, ◌-◌, ◌*◌, ◌/◌, ◌%◌, ◌^◌, ◌<◌, ◌≤◌, ◌↔◌, [], ◌∷◌, ◌++◌, length, take, drop, IsOk, OnOk, OnErr, ◌==◌, MatchResult, flat_map};
+ghost use Rattle.vers_bits.specs.Bits.{low_bits};
+
+use crate::bit_vec::words::{add_bit, add_bits, low_part};
+use crate::bit_vec::{BitVec, GrowError, MAX_LEN};
+use std::alloc::{AllocError, Allocator};
+
+#[tactic(
+    auto,
+    using(crate::proofs::Words::words, crate::proofs::Holds::holding, crate::proofs::Growing::growth)
+)]
+impl<A: Allocator + Copy> BitVec<A> {
+    /// Appends a bit. TooLong at the greatest length alone; memory may be wanted only where the
+    /// length is a multiple of 64. The list is as it was where the call is refused.
+    pub fn append(&mut self, bit: bool) -> Result<(), GrowError>
+        ensures grown { OnOk result (self.new ≡ self.old ++ bit ∷ []) }
+        ensures kept { OnErr result (self.new ≡ self.old) }
+        ensures too_long { (result ≡ Err GrowError.TooLong) ↔ (length self.old ≡ MAX_LEN) }
+        ensures room { 0 < length self.old % 64 → IsOk result }
+    {
+        add_bit(&mut self.data, self.len, bit)?;
+        self.len += 1;
+        Ok(())
+    }
+
+    /// Appends the lowest bit of a number: a one where the number is odd. Refusals as of `append`.
+    pub fn append_bit(&mut self, number: u64) -> Result<(), GrowError>
+        ensures grown { OnOk result (self.new ≡ self.old ++ (number % 2 == 1) ∷ []) }
+        ensures kept { OnErr result (self.new ≡ self.old) }
+        ensures too_long { (result ≡ Err GrowError.TooLong) ↔ (length self.old ≡ MAX_LEN) }
+        ensures room { 0 < length self.old % 64 → IsOk result }
+    {
+        self.append(number % 2 == 1)
+    }
+
+    /// Appends the low `len` bits of a number, the least significant first. TooLong where the list
+    /// would be longer than `MAX_LEN`. No bits, and bits that the last limb has room for, take no
+    /// memory. The list is as it was where the call is refused.
+    pub fn append_bits(&mut self, bits: u64, len: usize) -> Result<(), GrowError>
+        requires { len ≤ 64 }
+        ensures grown { OnOk result (self.new ≡ self.old ++ low_bits bits len) }
+        ensures kept { OnErr result (self.new ≡ self.old) }
+        ensures too_long { (result ≡ Err GrowError.TooLong) ↔ (MAX_LEN < length self.old + len) }
+        ensures none { len ≡ 0 → IsOk result }
+        ensures room { 0 < length self.old % 64 → length self.old % 64 + len ≤ 64 → IsOk result }
+    {
+        if len > MAX_LEN - self.len {
+            return Err(GrowError::TooLong);
+        }
+        if len == 0 {
+            return Ok(());
+        }
+        add_bits(&mut self.data, self.len, low_part(bits, len), len)?;
+        self.len += len;
+        Ok(())
+    }
+
+    /// The same as `append_bits`.
+    pub fn append_bits_unchecked(&mut self, bits: u64, len: usize) -> Result<(), GrowError>
+        requires { len ≤ 64 }
+        ensures grown { OnOk result (self.new ≡ self.old ++ low_bits bits len) }
+        ensures kept { OnErr result (self.new ≡ self.old) }
+        ensures too_long { (result ≡ Err GrowError.TooLong) ↔ (MAX_LEN < length self.old + len) }
+        ensures none { len ≡ 0 → IsOk result }
+        ensures room { 0 < length self.old % 64 → length self.old % 64 + len ≤ 64 → IsOk result }
+    {
+        self.append_bits(bits, len)
+    }
+
+    /// Appends the 64 bits of a number, the least significant first. Refusals as of `append_bits`.
+    pub fn append_word(&mut self, word: u64) -> Result<(), GrowError>
+        ensures grown { OnOk result (self.new ≡ self.old ++ low_bits word 64) }
+        ensures kept { OnErr result (self.new ≡ self.old) }
+        ensures too_long { (result ≡ Err GrowError.TooLong) ↔ (MAX_LEN < length self.old + 64) }
+    {
+        self.append_bits(word, 64)
+    }
+
+    /// Appends the lowest bit of a number: a one where the number is odd. Refusals as of `append`.
+    pub fn append_bit_u8(&mut self, number: u8) -> Result<(), GrowError>
+        ensures grown { OnOk result (self.new ≡ self.old ++ (number % 2 == 1) ∷ []) }
+        ensures kept { OnErr result (self.new ≡ self.old) }
+        ensures too_long { (result ≡ Err GrowError.TooLong) ↔ (length self.old ≡ MAX_LEN) }
+        ensures room { 0 < length self.old % 64 → IsOk result }
+    {
+        self.append_bit(u64::from(number))
+    }
+
+    /// Appends the lowest bit of a number: a one where the number is odd. Refusals as of `append`.
+    pub fn append_bit_u16(&mut self, number: u16) -> Result<(), GrowError>
+        ensures grown { OnOk result (self.new ≡ self.old ++ (number % 2 == 1) ∷ []) }
+        ensures kept { OnErr result (self.new ≡ self.old) }
+        ensures too_long { (result ≡ Err GrowError.TooLong) ↔ (length self.old ≡ MAX_LEN) }
+        ensures room { 0 < length self.old % 64 → IsOk result }
+    {
+        self.append_bit(u64::from(number))
+    }
+
+    /// Appends the lowest bit of a number: a one where the number is odd. Refusals as of `append`.
+    pub fn append_bit_u32(&mut self, number: u32) -> Result<(), GrowError>
+        ensures grown { OnOk result (self.new ≡ self.old ++ (number % 2 == 1) ∷ []) }
+        ensures kept { OnErr result (self.new ≡ self.old) }
+        ensures too_long { (result ≡ Err GrowError.TooLong) ↔ (length self.old ≡ MAX_LEN) }
+        ensures room { 0 < length self.old % 64 → IsOk result }
+    {
+        self.append_bit(u64::from(number))
+    }
+
+    // Appends the bits of another list from a place on.
+    pub(super) fn extend_from(&mut self, other: &BitVec<A>, start: usize) -> Result<(), GrowError>
+        requires { start ≤ length other.now }
+        ensures grown { OnOk result (self.new ≡ self.old ++ drop start other.now) }
+        ensures kept { OnErr result (self.new ≡ self.old) }
+        ensures too_long { (result ≡ Err GrowError.TooLong) ↔ (MAX_LEN < length self.old + (length other.now - start)) }
+    {
+        let added = other.len() - start;
+        let old_len = self.len();
+        if added > MAX_LEN - old_len {
+            return Err(GrowError::TooLong);
+        }
+        self.reserve(added)?;
+        for k in 0..added.div_ceil(64) {
+            let place = start + 64 * k;
+            let n = (other.len() - place).min(64);
+            if self.append_bits(other.get_bits_unchecked(place, n), n).is_err() {
+                self.truncate(old_len);
+                return Err(GrowError::Memory);
+            }
+        }
+        Ok(())
+    }
+
+    /// Appends all bits of another list. TooLong where the list would be longer than `MAX_LEN`.
+    /// The list is as it was where the call is refused.
+    pub fn extend_bitvec(&mut self, other: &BitVec<A>) -> Result<(), GrowError>
+        ensures grown { OnOk result (self.new ≡ self.old ++ other.now) }
+        ensures kept { OnErr result (self.new ≡ self.old) }
+        ensures too_long { (result ≡ Err GrowError.TooLong) ↔ (MAX_LEN < length self.old + length other.now) }
+    {
+        self.extend_from(other, 0)
+    }
+
+    // Makes room for `added` bits more.
+    fn reserve(&mut self, added: usize) -> Result<(), AllocError>
+        requires { length self.old + added ≤ MAX_LEN }
+        ensures { self.new ≡ self.old }
+    {
+        let words = (self.len() + added).div_ceil(64);
+        self.data.reserve(words - self.data.len())
+    }
+}

@@ -1,0 +1,132 @@
+//! Edits of the words that hold a list of bits.
+ghost use Rattle.std.specs.Prelude.{◌≡◌, ◌+◌, ◌*◌, ◌/◌, ◌%◌, ◌^◌, ◌<◌, ◌≤◌, [], ◌∷◌, ◌++◌, length, take, slice_index, slice_set, bit_or, IsOk, OnOk, OnErr, ◌↔◌, not, Bool, true, false};
+ghost use Rattle.vers_bits.specs.Bits.{low_bits, limb_count};
+ghost use Rattle.vers_bits.specs.Words.{word_bit, word_bits, HoldsBits, Holds, AddsBit, CutsTo, Puts};
+
+use crate::bit_vec::{GrowError, MAX_LEN};
+use std::alloc::{AllocError, Allocator};
+
+// The low `n` bits of a word.
+#[tactic(auto, using(crate::proofs::LowBits::masks))]
+pub(super) fn low_part(word: u64, n: usize) -> u64
+    requires some { 0 < n }
+    requires few { n ≤ 64 }
+    ensures value { result ≡ word % 2 ^ n }
+    ensures small { result < 2 ^ n }
+{
+    word & (u64::MAX >> (64 - n))
+}
+
+// Puts a word behind the others.
+fn push_word<A: Allocator + Copy>(words: &mut Vec<u64, A>, word: u64) -> Result<(), AllocError>
+    ensures pushed { OnOk result (words.new.items ≡ words.old.items ++ word ∷ []) }
+    ensures kept { OnErr result (words.new.items ≡ words.old.items) }
+{
+    if words.push(word).is_err() {
+        return Err(AllocError);
+    }
+    Ok(())
+}
+
+// Sets the bits of word `k` that `bits` has.
+fn or_into<A: Allocator + Copy>(words: &mut Vec<u64, A>, k: usize, bits: u64)
+    requires { k < length words.old.items }
+    ensures { words.new.items ≡ slice_set words.old.items k (bit_or (slice_index words.old.items k) bits) }
+{
+    words[k] |= bits;
+}
+
+// Makes the words hold `n` bits more, those of the number `bits`.
+#[tactic(auto, using(crate::proofs::Holds::adds))]
+pub(super) fn add_bits<A: Allocator + Copy>(
+    words: &mut Vec<u64, A>,
+    len: usize,
+    bits: u64,
+    n: usize,
+) -> Result<(), AllocError>
+    requires held { HoldsBits words.old.items len }
+    requires some { 0 < n }
+    requires few { n ≤ 64 }
+    requires small { bits < 2 ^ n }
+    requires short { len + n ≤ MAX_LEN }
+    ensures grown { OnOk result (Holds words.new.items (len + n) (word_bits words.old.items len ++ low_bits bits n)) }
+    ensures kept { OnErr result (words.new.items ≡ words.old.items) }
+    ensures room { 0 < len % 64 → len % 64 + n ≤ 64 → IsOk result }
+{
+    let used = len % 64;
+    if used == 0 {
+        return push_word(words, bits);
+    }
+    if n <= 64 - used {
+        or_into(words, len / 64, bits << used);
+        return Ok(());
+    }
+    push_word(words, bits >> (64 - used))?;
+    or_into(words, len / 64, bits << used);
+    Ok(())
+}
+
+// Makes the words hold one bit more.
+#[tactic(auto, using(crate::proofs::Words::steps))]
+pub(super) fn add_bit<A: Allocator + Copy>(
+    words: &mut Vec<u64, A>,
+    len: usize,
+    bit: bool,
+) -> Result<(), GrowError>
+    requires { HoldsBits words.old.items len }
+    ensures grown { OnOk result (AddsBit words.old.items words.new.items len bit) }
+    ensures kept { OnErr result (words.new.items ≡ words.old.items) }
+    ensures too_long { (result ≡ Err GrowError.TooLong) ↔ (len ≡ MAX_LEN) }
+    ensures room { 0 < len % 64 → IsOk result }
+{
+    let used = len % 64;
+    if used == 0 {
+        if len >= MAX_LEN {
+            return Err(GrowError::TooLong);
+        }
+        if words.push(bit as u64).is_err() {
+            return Err(GrowError::Memory);
+        }
+        return Ok(());
+    }
+    if bit {
+        words[len / 64] |= 1 << used;
+        return Ok(());
+    }
+    Ok(())
+}
+
+// Cuts the words to those of the first `len` bits, with zeros past them.
+pub(super) fn cut<A: Allocator + Copy>(words: &mut Vec<u64, A>, len: usize)
+    requires { limb_count len ≤ length words.old.items }
+    ensures { CutsTo words.old.items words.new.items len }
+{
+    words.truncate(len.div_ceil(64));
+    let used = len % 64;
+    if used == 0 {
+        return;
+    }
+    let last = words[len / 64];
+    words[len / 64] = low_part(last, used);
+}
+
+// Makes the bit at a place what `bit` says.
+pub(super) fn put_bit<A: Allocator + Copy>(words: &mut Vec<u64, A>, place: usize, bit: bool)
+    requires { place / 64 < length words.old.items }
+    ensures { Puts words.old.items words.new.items place bit }
+{
+    let mask = 1 << (place % 64);
+    if bit {
+        words[place / 64] |= mask;
+        return;
+    }
+    words[place / 64] &= !mask;
+}
+
+// Makes the bit at a place the other one.
+pub(super) fn flip<A: Allocator + Copy>(words: &mut Vec<u64, A>, place: usize)
+    requires { place / 64 < length words.old.items }
+    ensures { Puts words.old.items words.new.items place (not (word_bit words.old.items place)) }
+{
+    words[place / 64] ^= 1 << (place % 64);
+}
