@@ -1,3 +1,5 @@
+pub mod Words
 pub mod Ranks
 pub mod Selects
 pub mod Builds
+pub mod Parts

@@ -1,14 +1,13 @@
 -- From counts to places.
-use Rattle.std.proofs.Common.{◌≡◌, ℕ, zero, suc, ◌+◌, ◌-◌, ◌*◌, ◌/◌, ◌%◌, ◌^◌, ◌<◌, ◌≤◌, Bool, true, false, cond, List, length, get_or, sym, ap, ◌∙◌, refl, inl, inr, arith, min}
-use Rattle.std.specs.Prelude.{count_ones, bit_and}
-use Rattle.std.proofs.lemmas.Nat.{and_mask, one_shl, ones-le, mod_below, pow_pos}
+use Rattle.std.proofs.Common.{◌≡◌, ℕ, ◌+◌, ◌-◌, ◌*◌, ◌/◌, ◌<◌, ◌≤◌, Bool, true, false, List, length, get_or, ap, ◌∙◌, refl, inl, inr, arith, min}
 use Rattle.std.proofs.lemmas.Bool.{cases_lt, cases_Bool}
 use Rattle.vers_bits.specs.Bits.{is_bit, count, limb, select}
-use Rattle.vers_bits.proofs.Count.{count_le, count_up, count_near, count_limb, count_limb_whole, count_both, count_past}
+use Rattle.vers_bits.proofs.Count.{count_le_all, count_le, count_up, count_near, count_limb, count_limb_whole, count_both, count_past}
 use Rattle.vers_bits.proofs.Places.{select_at, select_past, count_more_yes, count_more_no}
 use Rattle.vers_tally.specs.Reads.{digits}
 use Rattle.vers_tally.proofs.Halves.{digits_up, digits-le, upper_half, lower_half}
 use Rattle.vers_rank.specs.Index.{held, held_in, IsSample}
+use Rattle.vers_rank.proofs.Words.{ones_few}
 
 -- inside the list it is the count
 pub held_is : (b : Bool) (l : List Bool) (i : ℕ) → i ≤ length l → held b l i ≡ count b l i
@@ -20,9 +19,6 @@ pub held_up : (b : Bool) (l : List Bool) (i j : ℕ) → i ≤ j → held b l i 
 unfolding held
 held_up true l i j h = count_up true l i j h
 held_up false l i j h = omega (arith, count_near true l i j h, (count_le true l i).0, (count_le true l j).0)
-
-pub ones_few : (w j : ℕ) → count_ones (w % 2 ^ j) ≤ j
-ones_few w j = ones-le j (w % 2 ^ j) (mod_below w (2 ^ j) (pow_pos j))
 
 -- inside a limb
 pub held_limb : (b : Bool) (l : List Bool) (k j : ℕ) → j ≤ 64 → held b l (64 * k + j) ≡ held b l (64 * k) + held_in b (limb l k) j
@@ -44,34 +40,22 @@ place_is b l r p some from to =
       | inr off ↦ absurd (omega (arith, count_more_no b l p within off))
     ]
 
--- a mask keeps the low bits
-pub masked : (w j : ℕ) → j < 64 → bit_and w (1 * 2 ^ j % 18446744073709551616 - 1) ≡ w % 2 ^ j
-masked w j h = rw (one_shl j 64 h, and_mask) refl
-
-pub held_in_none : (b : Bool) (w : ℕ) → held_in b w 0 ≡ 0
-unfolding held_in
-held_in_none true w = let few : count_ones (w % 2 ^ 0) ≤ 0 = ones_few w 0 in omega arith
-held_in_none false w = omega arith
-
 -- one limb more
 pub held_more : (b : Bool) (l : List Bool) (k : ℕ) → held b l (64 * (k + 1)) ≡ held b l (64 * k) + held_in b (limb l k) 64
 held_more b l k = ap (held b l) (let e : 64 * (k + 1) ≡ 64 * k + 64 = omega arith in e) ∙ held_limb b l k 64 (omega arith)
 
 pub count_le_held : (b : Bool) (l : List Bool) (i : ℕ) → count b l i ≤ held b l i
 count_le_held b l i = elim (cases_lt i (length l)) [
-    | inl h ↦ omega (arith, held_is b l i (omega arith))
-    | inr h ↦ omega (arith, count_past b l i h, held_is b l (length l) (omega arith), held_up b l (length l) i h)
-  ]
-
-pub count_le_all : (b : Bool) (l : List Bool) (i : ℕ) → count b l i ≤ count b l (length l)
-count_le_all b l i = elim (cases_lt i (length l)) [ inl h ↦ count_up b l i (length l) (omega arith) | inr h ↦ omega (arith, count_past b l i h) ]
+  | inl h ↦ omega (arith, held_is b l i (omega arith))
+  | inr h ↦ omega (arith, count_past b l i h, held_is b l (length l) (omega arith), held_up b l (length l) i h)
+]
 
 -- what is still to come stands inside the list
 pub held_inside : (b : Bool) (l : List Bool) (i j r : ℕ) → held b l i ≤ r → r < count b l j → i < length l
 held_inside b l i j r low high = elim (cases_lt i (length l)) [
-    | inl h ↦ h
-    | inr h ↦ absurd (omega (arith, held_up b l (length l) i h, held_is b l (length l) (omega arith), count_le_all b l j))
-  ]
+  | inl h ↦ h
+  | inr h ↦ absurd (omega (arith, held_up b l (length l) i h, held_is b l (length l) (omega arith), count_le_all b l j))
+]
 
 -- number r is the place that the search in limb k found
 pub place_found : (b : Bool) (l : List Bool) (r k p seen : ℕ) → r < count b l (length l) → seen ≡ held b l (64 * k) → seen ≤ r → p < 64
@@ -80,6 +64,25 @@ place_found b l r k p seen some counted before small from to =
     place_is b l r (64 * k + p) some
     (omega (arith, held_limb b l k p (omega arith)))
     (let next : held b l (64 * k + p + 1) ≡ held b l (64 * k + (p + 1)) = ap (held b l) (omega arith) in omega (arith, held_limb b l k (p + 1) (omega arith)))
+
+-- after the last limb of a block nothing of the block is left
+pub block_end : (b : Bool) (l : List Bool) (block end : ℕ) → end ≡ min (8 * block + 8) ((length l + 63) / 64) → count b l (512 * (block + 1)) ≤ held b l (64 * end)
+block_end b l block end e = elim (cases_lt (64 * end) (length l)) [
+  | inl inside ↦ let same : 64 * end ≡ 512 * (block + 1) = omega arith in omega (arith, count_le_held b l (64 * end), ap (count b l) same)
+  | inr past ↦ omega (arith, count_le_all b l (512 * (block + 1)), held_is b l (length l) (omega arith), held_up b l (length l) (64 * end) past)
+]
+
+-- number r of a block stands in the limb that the scan has found
+pub rest_in_limb : (b : Bool) (l : List Bool) (block r k found before : ℕ) → 512 * block < length l → k + 1 ≡ min (8 * block + 8) ((length l + 63) / 64) → found ≤ k
+    → count b l (512 * block) + r < count b l (512 * (block + 1)) → held b l (512 * block) + before ≡ held b l (64 * found) → before ≤ r
+    → (found < k → held b l (512 * block) + r < held b l (64 * (found + 1))) → r - before < held_in b (limb l found) 64
+rest_in_limb b l block r k found before within last order to counted from next =
+    let start : held b l (512 * block) ≡ count b l (512 * block) = held_is b l (512 * block) (omega arith) in
+    let stop : held b l (512 * block) + r < held b l (64 * (found + 1)) = elim (cases_lt found k) [
+      | inl h ↦ next h
+      | inr h ↦ let end : 64 * (k + 1) ≡ 64 * (found + 1) = omega arith in omega (arith, block_end b l block (k + 1) last, ap (held b l) end)
+    ] in
+    omega (arith, held_more b l found)
 
 -- the samples before and after number r bound its superblock
 pub record IsBetween (b : Bool) (l : List Bool) (r first last : ℕ) : Type 0 where
@@ -103,12 +106,13 @@ samples_bound b l r first last some before after =
 pub digits_below_16 : (n : ℕ) → n < 16 → digits n ≤ 4
 digits_below_16 n h = digits-le 4 n h
 
-pub ruleset masks = (masked, ones_few)
-pub ruleset starts = (held_in_none)
 pub ruleset in_block = (held_more, held_is)
+
 pub ruleset totals = (count_both, count_le, select_past)
+
 pub ruleset between = (samples_bound, digits_up)
-pub ruleset within_superblock = (count_past, digits_below_16)
+
+pub ruleset within_superblock = (count_past)
 
 -- halving a range, within the budget of its digits
 pub ruleset halves = (upper_half, lower_half)

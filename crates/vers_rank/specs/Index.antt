@@ -1,7 +1,7 @@
 -- What the entries of an index say of the list of bits.
-use Rattle.std.specs.Prelude.{◌≡◌, ℕ, ◌+◌, ◌-◌, ◌*◌, ◌/◌, ◌%◌, ◌^◌, ◌<◌, ◌≤◌, min, max, List, Bool, true, false, cond, length, slice_index, count_ones}
+use Rattle.std.specs.Prelude.{◌≡◌, ℕ, ◌+◌, ◌-◌, ◌*◌, ◌/◌, ◌%◌, ◌^◌, ◌<◌, ◌≤◌, min, List, Bool, true, false, cond, length, slice_index, count_ones}
 use Rattle.vers_bits.specs.Bits.{count}
-use Rattle.vers_tally.specs.Reads.{Reads, no_reads, digits}
+use Rattle.vers_rank.specs.Queries.{block_count, superblock_count, sample_count}
 
 -- superblock s is where the count of the bit b passes 8192 * j, or the last one
 pub record IsSample (b : Bool) (l : List Bool) (j s : ℕ) : Type 0 where
@@ -11,33 +11,21 @@ pub record IsSample (b : Bool) (l : List Bool) (j s : ℕ) : Type 0 where
 
 -- the samples of the bit b
 pub record AreSamples (b : Bool) (l : List Bool) (samples : List ℕ) : Type 0 where
-  pub counted : length samples ≡ max (count false l (length l)) (count true l (length l)) / 8192 + 2
+  pub counted : length samples ≡ sample_count l
   pub each : (j : ℕ) → j < length samples → IsSample b l j (slice_index samples j)
 
 -- a block entry holds the zeros of its superblock before the block, a superblock entry the zeros before it
 pub record IsIndexed (l : List Bool) (blocks superblocks zero_samples one_samples : List ℕ) (zeros : ℕ) : Type 0 where
   pub bounded : length l ≤ 18446744073709551552
-  pub blocks_counted : length blocks ≡ (length l + 511) / 512
-  pub superblocks_counted : length superblocks ≡ (length l + 8191) / 8192
+  pub blocks_counted : length blocks ≡ block_count (length l)
+  pub superblocks_counted : length superblocks ≡ superblock_count (length l)
   pub block_at : (k : ℕ) → 512 * k < length l → slice_index blocks k + count false l (8192 * (k / 16)) ≡ count false l (512 * k)
   pub superblock_at : (k : ℕ) → 8192 * k < length l → slice_index superblocks k ≡ count false l (8192 * k)
   pub zeros_counted : zeros ≡ count false l (length l)
   pub zeros_sampled : AreSamples false l zero_samples
   pub ones_sampled : AreSamples true l one_samples
 
--- what one select may read, by the number of superblocks
-abbrev pub select_reads : ℕ → Reads
-select_reads n = record no_reads { data_words = 8; block_entries = 17; superblock_entries = digits n + 12; rank_calls = 1 }
-
--- how many superblocks a list of n bits has
-abbrev pub superblock_count : ℕ → ℕ
-superblock_count n = (n + 8191) / 8192
-
--- what one rank may read
-abbrev pub rank_reads : Reads
-rank_reads = record no_reads { data_words = 8; block_entries = 1; superblock_entries = 1; rank_calls = 1 }
-
--- how many of the first i places hold the bit, where false bits without end follow the list
+-- how many of the first i places hold the bit, where zeros without end follow the list
 unfoldable pub held : Bool → List Bool → ℕ → ℕ
 held b l i = cond b (count true l i) (i - count true l i)
 

@@ -3,3 +3,4 @@
 
 mod build;
 pub mod fast_rs_vec;
+mod word;

@@ -222,6 +222,18 @@ impl<A: Allocator + Copy> CountedBits<A> {
         self.bits.get(place)
     }
 
+    /// Whether the bit at a place of the list is a one, one data word.
+    #[inline]
+    pub fn is_one(&self, place: usize, tally: &mut Tally) -> bool
+        requires { place < length self.now }
+        ensures value { result ≡ slice_index_or self.now place false }
+        ensures exact { tally.new ≡ record tally.old { data_words = one_more tally.old.data_words } }
+        ensures adds { AddsAtMost tally.old tally.new (only_data_words 1) }
+    {
+        tally.data_words = tally.data_words.saturating_add(1);
+        self.bits.is_bit_set(place).unwrap()
+    }
+
     /// The number of the `n` bits from `place` on. Reads the one or two data words that hold
     /// them. None where there are not so many, or `n` is 0 or above 64.
     #[inline]

@@ -1,0 +1,9 @@
+use Rattle.std.proofs.Common.{arith}
+use Rattle.vers_rank.proofs.Ranks.{block_entry}
+use Rattle.vers_rank.proofs.fast_rs_vec.RsVec.count_in_superblock.Goals as goal
+
+pub returns-then-bit-clause-value : goal.returns-then-bit-clause-value
+returns-then-bit-clause-value g c =
+    let index = rw c.self.view_is at c.self.invariant in
+    let entry = block_entry c.args.block c.args.s index c.requires.within c.requires.inside in
+    rw c.if-bit.true (omega (arith, entry.0, entry.1, entry.2, c.read-zeros.ensures.value))

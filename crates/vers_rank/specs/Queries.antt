@@ -1,0 +1,44 @@
+-- What the queries of an indexed list of bits answer and read, and what its index takes.
+use Rattle.std.specs.Prelude.{ℕ, ◌+◌, ◌*◌, ◌/◌, ◌&&◌, max, List, Bool, true, false, length, nat_le, Option, None, Some, if◌then◌else◌}
+use Rattle.vers_bits.specs.Bits.{number, part, count, limb_count}
+use Rattle.vers_tally.specs.Reads.{Reads, no_reads, plus, digits}
+
+-- the number of the n bits from place p on, where there are so many and n is at most 64; 0 for no bits
+unfoldable pub part_number_or_zero : List Bool → ℕ → ℕ → Option ℕ
+part_number_or_zero bits p n = if nat_le n 64 && nat_le (p + n) (length bits) then Some (number (part bits p n)) else None
+
+-- how many blocks of 512 bits n bits fill, the last perhaps in part
+abbrev pub block_count : ℕ → ℕ
+block_count n = (n + 511) / 512
+
+-- how many superblocks of 8192 bits n bits fill, the last perhaps in part
+abbrev pub superblock_count : ℕ → ℕ
+superblock_count n = (n + 8191) / 8192
+
+-- how many select samples a list has: one for each 8192 of its zeros or ones, and two at the ends
+abbrev pub sample_count : List Bool → ℕ
+sample_count bits = max (count false bits (length bits)) (count true bits (length bits)) / 8192 + 2
+
+-- the bytes of a list with its index: limbs of 8, block entries of 2, superblock entries of 8, samples of 16
+abbrev pub index_size : List Bool → ℕ
+index_size bits = 8 * limb_count (length bits) + 2 * block_count (length bits) + 8 * superblock_count (length bits) + 16 * sample_count bits
+
+-- what reading one bit adds at most
+abbrev pub get_reads : Reads
+get_reads = record no_reads { data_words = 1; rank_calls = 1 }
+
+-- what reading up to 64 bits adds at most
+abbrev pub get_bits_reads : Reads
+get_bits_reads = record no_reads { data_words = 2; rank_calls = 1 }
+
+-- what one rank adds at most
+abbrev pub rank_reads : Reads
+rank_reads = record no_reads { data_words = 8; block_entries = 1; superblock_entries = 1; rank_calls = 1 }
+
+-- what one select adds at most, by the number of superblocks
+abbrev pub select_reads : ℕ → Reads
+select_reads superblocks = record no_reads { data_words = 8; block_entries = 17; superblock_entries = digits superblocks + 12; rank_calls = 1 }
+
+-- what a successor or a predecessor adds at most: one rank and one select
+abbrev pub neighbour_reads : ℕ → Reads
+neighbour_reads superblocks = plus rank_reads (select_reads superblocks)

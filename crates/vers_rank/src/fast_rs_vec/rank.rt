@@ -1,0 +1,131 @@
+// How many zeros or ones stand below a place.
+ghost use Rattle.std.specs.Prelude.{◌≡◌, ℕ, ◌+◌, ◌*◌, ◌/◌, ◌<◌, ◌≤◌, length, min, true, false};
+ghost use Rattle.vers_bits.specs.Bits.{count};
+ghost use Rattle.vers_tally.specs.Reads.{no_reads, only_data_words, AddsAtMost};
+ghost use Rattle.vers_rank.specs.Queries.{rank_reads};
+
+use super::{BLOCK, RsVec};
+use std::alloc::Allocator;
+use vers_tally::tally::Tally;
+
+impl<A: Allocator + Copy> RsVec<A> {
+    /// How many zeros stand below a place. Past the end all zeros count.
+    #[inline]
+    pub fn rank0(&self, place: usize) -> usize
+        ensures { result ≡ count false self.now place }
+    {
+        let mut tally = Tally::new();
+        self.rank0_counted(place, &mut tally)
+    }
+
+    /// How many ones stand below a place. Past the end all ones count.
+    #[inline]
+    pub fn rank1(&self, place: usize) -> usize
+        ensures { result ≡ count true self.now place }
+    {
+        let mut tally = Tally::new();
+        self.rank1_counted(place, &mut tally)
+    }
+
+    /// How many zeros stand below a place, by at most 8 data words, one block entry and one
+    /// superblock entry. Past the end all zeros count.
+    #[inline]
+    #[tactic(auto, using(crate::proofs::Ranks::sums))]
+    pub fn rank0_counted(&self, place: usize, tally: &mut Tally) -> usize
+        ensures value { result ≡ count false self.now place }
+        ensures adds { AddsAtMost tally.old tally.new rank_reads }
+    {
+        tally.add_rank_call();
+        if place >= self.len() {
+            return self.zeros();
+        }
+        let block = place / BLOCK;
+        let zeros = self.zeros_before(block, tally);
+        zeros + (place - BLOCK * block) - self.ones_in_block(block, place, tally)
+    }
+
+    /// How many ones stand below a place, by at most 8 data words, one block entry and one
+    /// superblock entry. Past the end all ones count.
+    #[inline]
+    #[tactic(auto, using(crate::proofs::Ranks::sums))]
+    pub fn rank1_counted(&self, place: usize, tally: &mut Tally) -> usize
+        ensures value { result ≡ count true self.now place }
+        ensures adds { AddsAtMost tally.old tally.new rank_reads }
+    {
+        tally.add_rank_call();
+        if place >= self.len() {
+            return self.ones();
+        }
+        let block = place / BLOCK;
+        let zeros = self.zeros_before(block, tally);
+        BLOCK * block - zeros + self.ones_in_block(block, place, tally)
+    }
+
+    // The zeros before a block.
+    #[inline(always)]
+    #[tactic(auto, using(crate::proofs::Ranks::entries))]
+    fn zeros_before(&self, block: usize, tally: &mut Tally) -> usize
+        requires { 512 * block < length self.now }
+        ensures value { result ≡ count false self.now (512 * block) }
+        ensures adds { AddsAtMost tally.old tally.new (record no_reads { block_entries = 1; superblock_entries = 1 }) }
+    {
+        self.blocks.read(block, tally) as usize + self.superblocks.read(block / 16, tally) as usize
+    }
+
+    // The ones from the start of a block up to a place in it. A block of 8 limbs is counted with
+    // no branch on the place: limbs past it are read, and left out of the sum.
+    #[inline(always)]
+    fn ones_in_block(&self, block: usize, place: usize, tally: &mut Tally) -> usize
+        requires within { (512 * block ≤ place) × (place < 512 * block + 512) × (place < length self.now) }
+        ensures value { count true self.now (512 * block) + result ≡ count true self.now place }
+        ensures adds { AddsAtMost tally.old tally.new (only_data_words 8) }
+    {
+        if self.len() - BLOCK * block < BLOCK {
+            return self.ones_in_last_block(block, place, tally);
+        }
+        let mut ones = 0;
+        for k in 8 * block..8 * block + 7 {
+            ones += self.ones_of_limb_below(k, place / 64, tally);
+        }
+        ones + self.ones_of_part(place, tally)
+    }
+
+    // The ones from the start of the last block up to a place in it.
+    #[inline]
+    fn ones_in_last_block(&self, block: usize, place: usize, tally: &mut Tally) -> usize
+        requires within { (512 * block ≤ place) × (place < 512 * block + 512) × (place < length self.now) }
+        ensures value { count true self.now (512 * block) + result ≡ count true self.now place }
+        ensures adds { AddsAtMost tally.old tally.new (only_data_words 8) }
+    {
+        let mut ones = 0;
+        for k in 8 * block..place / 64 {
+            ones += self.ones_of_limb_below(k, place / 64, tally);
+        }
+        ones + self.ones_of_part(place, tally)
+    }
+
+    // The ones of a whole limb that stands below limb number `end`, and 0 of another one.
+    #[inline(always)]
+    #[tactic(auto, using(crate::proofs::Ranks::limbs))]
+    fn ones_of_limb_below(&self, k: usize, end: usize, tally: &mut Tally) -> usize
+        requires { 64 * k < length self.now }
+        ensures value { count true self.now (64 * min k end) + result ≡ count true self.now (64 * min (k + 1) end) }
+        ensures few { result ≤ 64 }
+        ensures adds { AddsAtMost tally.old tally.new (only_data_words 1) }
+    {
+        let ones = self.bits.limb(k, tally).count_ones() as usize;
+        if k < end { ones } else { 0 }
+    }
+
+    // The ones of a place's limb that stand below it.
+    #[inline(always)]
+    #[tactic(auto, using(crate::proofs::Ranks::limbs))]
+    fn ones_of_part(&self, place: usize, tally: &mut Tally) -> usize
+        requires { place < length self.now }
+        ensures value { count true self.now (64 * (place / 64)) + result ≡ count true self.now place }
+        ensures few { result ≤ 64 }
+        ensures adds { AddsAtMost tally.old tally.new (only_data_words 1) }
+    {
+        (self.bits.limb(place / 64, tally) & ((1 << (place % 64)) - 1)).count_ones() as usize
+    }
+}
