@@ -1,0 +1,4 @@
+pub mod Sorted
+pub mod Layout
+pub mod Parts
+pub mod Rows

@@ -1,0 +1,4 @@
+//! Ascending lists of numbers in high and low parts, and sparse lists of bits on top of them.
+#![tactic(auto)]
+
+pub mod elias_fano;
