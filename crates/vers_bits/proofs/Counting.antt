@@ -8,10 +8,11 @@ use Rattle.std.proofs.Math.Seq.{take-add}
 use Rattle.std.proofs.lemmas.Nat.Bits.{ones_shr}
 use Rattle.std.proofs.lemmas.List.{length-take, length-drop, take-take, drop-drop, drop-take}
 use Rattle.vers_bits.specs.Bits.{number, limb, part_number}
+use Rattle.vers_bits.proofs.Words.{length-word_bits}
 use Rattle.vers_bits.proofs.Num.{number-take, number-drop}
-use Rattle.vers_bits.proofs.Count.{count_limb_whole, count_near, count_past, count_none, count_le}
+use Rattle.vers_bits.proofs.Count.{count_limb_whole, count_near, count_past, count_none, count_le, count_both}
 
-pub ruleset limbs = (count_limb_whole, count_near, count_past, count_none, count_le)
+pub ruleset limbs = (count_limb_whole, count_near, count_past, count_none, count_le, count_both)
 
 -- the bits of a part that lies in one limb
 pub part_of_limb : (l : List Bool) (p n : ℕ) → 0 < n → p % 64 + n ≤ 64
@@ -64,3 +65,9 @@ part_number_none l p n out = grind (arith, nat_tests)
 pub ruleset in_limb = (part_of_limb)
 
 pub ruleset parts = (part_number_none, part_number_some, parts_join)
+
+-- an element past what a machine number can say is past the list
+pub no_element : (l : List Bool) (e n : ℕ) → length l ≤ e * n → part_number l (e * n) n ≡ None
+no_element l e n h = part_number_none l (e * n) n (λ some few. omega arith)
+
+pub ruleset elements = (no_element, length-word_bits)

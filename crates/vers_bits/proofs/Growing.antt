@@ -1,9 +1,10 @@
 -- A list that grows by the parts of another, 64 bits at a time.
-use Rattle.std.proofs.Common.{◌≡◌, ℕ, ◌+◌, ◌-◌, ◌*◌, ◌^◌, ◌<◌, ◌≤◌, min, Bool, List, ◌++◌, length, take, drop, sym, ap, ◌∙◌, arith}
+use Rattle.std.proofs.Common.{◌≡◌, ℕ, ◌+◌, ◌-◌, ◌*◌, ◌^◌, ◌<◌, ◌≤◌, min, Bool, false, List, [], ◌∷◌, replicate, ◌++◌, length, take, drop, sym, ap, ◌∙◌, arith}
 use Rattle.std.proofs.Math.Seq.{take-add}
-use Rattle.std.proofs.lemmas.List.{length-take, length-drop, drop-drop, take_all, take_min, append-nil}
+use Rattle.std.proofs.lemmas.List.{length-take, length-drop, drop-drop, take_all, take_min, append-nil, append_assoc, length-append}
+use Rattle.std.specs.Prelude.{flat_map}
 use Rattle.vers_bits.specs.Bits.{number, low_bits}
-use Rattle.vers_bits.proofs.LowBits.{low_bits_of_number, low_bits_of_rest, low_bits_none}
+use Rattle.vers_bits.proofs.LowBits.{low_bits_of_number, low_bits_of_rest, low_bits_none, low_bits_past, length-low_bits}
 
 -- a part as low digits of its number
 pub low_bits_of_part : (l : List Bool) (p n : ℕ) → p + n ≤ length l → low_bits (number (take n (drop p l))) n ≡ take n (drop p l)
@@ -29,5 +30,17 @@ all_parts l s m h = take_all m (drop s l) (omega (arith, length-drop s l))
 
 pub add_none : (l : List Bool) (v n : ℕ) → n ≡ 0 → l ++ low_bits v n ≡ l
 add_none l v n none = ap (λ k. l ++ low_bits v k) none ∙ ap (λ xs. l ++ xs) (low_bits_none v) ∙ append-nil l
+
+-- a number of 64 bits with zeros behind them
+pub long_digits : (l : List Bool) (v n : ℕ) → v < 2 ^ 64 → 64 ≤ n → (l ++ low_bits v 64) ++ replicate (n - 64) false ≡ l ++ low_bits v n
+long_digits l v n small long =
+    let whole : 64 + (n - 64) ≡ n = omega arith in
+    append_assoc l (low_bits v 64) (replicate (n - 64) false) ∙ ap (λ xs. l ++ xs) (sym (low_bits_past v 64 (n - 64) small) ∙ ap (low_bits v) whole)
+
+-- a packed list has as many bits an item
+pub length-packed : {X : Type 0} (f : X → ℕ) (k : ℕ) (xs : List X) → length (flat_map (λ x. low_bits (f x) k) xs) ≡ length xs * k
+length-packed f k [] = omega arith
+length-packed f k (x ∷ xs) =
+    length-append (low_bits (f x) k) (flat_map (λ y. low_bits (f y) k) xs) ∙ omega (arith, length-low_bits (f x) k, length-packed f k xs)
 
 pub ruleset growth = (low_bits_of_rest, add_none)

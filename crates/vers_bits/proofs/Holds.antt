@@ -1,11 +1,11 @@
 -- Words that hold a list of bits: what an edit of the words does to the list.
-use Rattle.std.proofs.Common.{◌≡◌, ◌≢◌, ℕ, ◌+◌, ◌-◌, ◌*◌, ◌/◌, ◌%◌, ◌^◌, ◌<◌, ◌≤◌, max, Bool, true, false, eqb, List, [], ◌∷◌, ◌++◌, length, get_or, set, take, drop, refl, sym, ap, ◌∙◌, inl, inr, arith}
+use Rattle.std.proofs.Common.{◌≡◌, ℕ, ◌+◌, ◌-◌, ◌*◌, ◌/◌, ◌%◌, ◌^◌, ◌<◌, ◌≤◌, max, Bool, false, eqb, List, [], ◌∷◌, ◌++◌, length, get_or, set, take, replicate, refl, sym, ap, ◌∙◌, inl, inr, arith}
 use Rattle.std.specs.Int.{bit_at}
-use Rattle.std.specs.Prelude.{bit_and, bit_or}
+use Rattle.std.specs.Prelude.{bit_or}
 use Rattle.std.proofs.lemmas.Bool.{cases_lt, cases_eq}
 use Rattle.std.proofs.lemmas.Nat.{shr-shr, pow_pos}
 use Rattle.std.proofs.lemmas.Nat.Bits.{bit_at-lt, bit_at_or, bit_at_above, bit_at_cat_low, bit_at_cat_high, bit_at-zero}
-use Rattle.std.proofs.lemmas.List.{get_or_past, get_or_push, get_or_append_left, get_or-append_right, get_or-set_same, get_or-set_other, length-append, length_push, length-set}
+use Rattle.std.proofs.lemmas.List.{get_or_past, get_or_push, get_or_append_left, get_or-append_right, get_or-set_same, get_or-set_other, length-append, length-replicate, get_or-replicate, length_push, length-set, take_all}
 use Rattle.vers_bits.specs.Bits.{bit_value, low_bits, limb_count}
 use Rattle.vers_bits.specs.Words.{word_bit, word_bits, HoldsBits, Holds}
 use Rattle.vers_bits.proofs.Words.{length-word_bits, get_or-word_bits, word_bits_are, past_words}
@@ -28,6 +28,17 @@ zero_bit x i e = ap (λ m. eqb m 1) e
 -- and the other way round
 zero_digit : (x i : ℕ) → eqb (bit_at x i) 1 ≡ false → bit_at x i ≡ 0
 zero_digit x i e = sym (bit_value_test (bit_at x i) (bit_at-lt x i)) ∙ ap bit_value e
+
+same_default : {X : Type 0} (k i : ℕ) (d : X) → get_or (replicate k d) i d ≡ d
+same_default k i d = elim (cases_lt i k) [ inl h ↦ get_or-replicate k i d d h | inr h ↦ get_or_past (replicate k d) i d (omega (arith, length-replicate k d)) ]
+
+-- a place with a zero has one with more words of zeros, too
+zeros_past : (ws : List ℕ) (k i : ℕ) → word_bit ws i ≡ false → word_bit (ws ++ replicate k 0) i ≡ false
+zeros_past ws k i off =
+    elim (cases_lt (i / 64) (length ws)) [
+      | inl h ↦ ap (λ w. eqb (bit_at w (i % 64)) 1) (get_or_append_left ws (replicate k 0) 0 (i / 64) h) ∙ off
+      | inr h ↦ ap (λ w. eqb (bit_at w (i % 64)) 1) (get_or-append_right ws (replicate k 0) (length ws) (i / 64) 0 refl h ∙ same_default k (i / 64 - length ws) 0) ∙ zero_bit 0 (i % 64) (bit_at-zero (i % 64))
+    ]
 
 module _ (ws : List ℕ) (n v k : ℕ) (holds : HoldsBits ws n) (small : v < 2 ^ k) where
   -- the list with the low k digits of v behind it, place by place
@@ -165,6 +176,31 @@ module _ (ws : List ℕ) (n v k : ℕ) (holds : HoldsBits ws n) (small : v < 2 ^
           | inr past ↦ past_number vs i h (omega arith) (omega (arith, holds.counted))
         ]
       ])
+
+-- zeros behind the list, in as many words as they fill
+pub added_zeros : (ws : List ℕ) (n k : ℕ) → HoldsBits ws n → n + k ≤ 18446744073709551552
+    → Holds (ws ++ replicate (limb_count (n + k) - length ws) 0) (n + k) (word_bits ws n ++ replicate k false)
+added_zeros ws n k holds bounded =
+    let more : List ℕ = replicate (limb_count (n + k) - length ws) 0 in
+    let rest : List Bool = replicate k false in
+    record {
+      long = length-append (word_bits ws n) rest ∙ omega (arith, length-word_bits ws n, length-replicate k false);
+      counted = length-append ws more ∙ omega (arith, length-replicate {A = ℕ} (limb_count (n + k) - length ws) 0, holds.counted);
+      bounded = bounded;
+      each = λ i. elim (cases_lt i n) [
+        | inl h ↦ ap (λ w. eqb (bit_at w (i % 64)) 1) (get_or_append_left ws more 0 (i / 64) (omega (arith, holds.counted)))
+            ∙ sym (get_or_append_left (word_bits ws n) rest false i (omega (arith, length-word_bits ws n)) ∙ get_or-word_bits ws n i false h)
+        | inr h ↦ zeros_past ws (limb_count (n + k) - length ws) i (holds.padded i h)
+            ∙ sym (get_or-append_right (word_bits ws n) rest n i false (length-word_bits ws n) h ∙ same_default k (i - n) false)
+      ];
+    }
+
+-- the same, as a list of words that was resized
+pub resized : (ws vs : List ℕ) (n k m long : ℕ) → HoldsBits ws n → n + k ≤ 18446744073709551552 → m ≡ limb_count (n + k) → long ≡ length ws
+    → vs ≡ take m ws ++ replicate (m - long) 0 → Holds vs (n + k) (word_bits ws n ++ replicate k false)
+resized ws vs n k m long holds bounded all counted e =
+    let whole : take (limb_count (n + k)) ws ≡ ws = take_all (limb_count (n + k)) ws (omega (arith, holds.counted)) in
+    rw (e, all, counted, whole) (added_zeros ws n k holds bounded)
 
 pub ruleset adds = (added_word, added_inside, added_across)
 

@@ -10,3 +10,5 @@ pub mod Holds
 pub mod Equal
 pub mod Growing
 pub mod Edits
+pub mod Filling
+pub mod Stops

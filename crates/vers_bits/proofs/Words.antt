@@ -56,6 +56,14 @@ bit_value_at-word_bits ws n i h =
     let w : ℕ = get_or ws (i / 64) 0 in
     rw (slice_get-word_bits ws n i h, shr_and_one) (ap (λ m. Some m) (bit_value_test (bit_at w (i % 64)) (bit_at-lt w (i % 64))))
 
+pub slice_index-word_bits : (ws : List ℕ) (n i : ℕ) → i < n → get_or (word_bits ws n) i false ≡ eqb (bit_and (get_or ws (i / 64) 0 / 2 ^ (i % 64)) 1) 1
+slice_index-word_bits ws n i h = rw shr_and_one (get_or-word_bits ws n i false h)
+
+pub bit_value_of-word_bits : (ws : List ℕ) (n i : ℕ) → i < n → bit_value (get_or (word_bits ws n) i false) ≡ bit_and (get_or ws (i / 64) 0 / 2 ^ (i % 64)) 1
+bit_value_of-word_bits ws n i h =
+    let w : ℕ = get_or ws (i / 64) 0 in
+    rw (shr_and_one) (ap bit_value (get_or-word_bits ws n i false h) ∙ bit_value_test (bit_at w (i % 64)) (bit_at-lt w (i % 64)))
+
 -- place i of word k
 word_bit_at : (ws : List ℕ) (k i : ℕ) → i < 64 → word_bit ws (64 * k + i) ≡ eqb (bit_at (get_or ws k 0) i) 1
 word_bit_at ws k i small =
@@ -169,6 +177,6 @@ adds_by_set ws n w b holds part read on =
 pub adds_by_none : (ws : List ℕ) (n : ℕ) (b : Bool) → HoldsBits ws n → 0 < n % 64 → b ≡ false → AddsBit ws ws n b
 adds_by_none ws n b holds part off = rw off (record { counted = omega (arith, holds.counted); here = holds.padded n (omega arith); others = λ i other. refl })
 
-pub ruleset words = (length-word_bits, slice_get-word_bits, slice_get_past-word_bits, bit_value_at-word_bits, limb-word_bits, added_bits, added_holds)
+pub ruleset words = (length-word_bits, slice_get-word_bits, slice_get_past-word_bits, bit_value_at-word_bits, slice_index-word_bits, bit_value_of-word_bits, limb-word_bits, added_bits, added_holds)
 
 pub ruleset steps = (adds_by_set, adds_by_none)

@@ -1,5 +1,6 @@
 pub mod Bits
 pub mod Words
 pub mod Equality
+pub mod Makers
 pub mod Laws
 pub mod Rows

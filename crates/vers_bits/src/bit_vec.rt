@@ -1,5 +1,5 @@
-ghost use Rattle.std.specs.Prelude.{◌≡◌, ℕ, ◌+◌, ◌-◌, ◌*◌, ◌/◌, ◌%◌, ◌^◌, ◌<◌, ◌≤◌, ◌↔◌, [], ◌∷◌, ◌++◌, length, take, drop, IsTrue, IsOk, OnOk, OnErr, IfOk, Some, None, slice_get, slice_index, true, false, ◌==◌, Bool, List, option_map, flat_map};
-ghost use Rattle.vers_bits.specs.Bits.{bit_value, number, count, limb, limbs, low_bits, part, part_number};
+ghost use Rattle.std.specs.Prelude.{◌≡◌, ℕ, ◌+◌, ◌-◌, ◌*◌, ◌/◌, ◌%◌, ◌^◌, ◌<◌, ◌≤◌, ◌↔◌, [], ◌∷◌, ◌++◌, length, take, drop, IsTrue, IsOk, OnOk, OnErr, IfOk, Some, None, slice_get, slice_index, slice_index_or, true, false, ◌==◌, Bool, List, option_map, flat_map};
+ghost use Rattle.vers_bits.specs.Bits.{bit_value, number, count, limb, limbs, limb_count, part, part_number};
 ghost use Rattle.vers_bits.specs.Words.{HoldsBits, AddsBit};
 ghost use Rattle.vers_bits.specs.Equality.{same_bits, hash_input, same_bits_per, same_bits_equiv, hash_input-Alike};
 
@@ -11,6 +11,7 @@ use std::marker::Model;
 mod edit;
 mod fault;
 mod grow;
+mod make;
 mod words;
 
 /// The greatest length of a list of bits.
@@ -68,6 +69,19 @@ impl<A: Allocator + Copy> Hash for BitVec<A> {
     }
 }
 
+impl<A: Allocator + Copy> Clone for BitVec<A> {
+    ghost is_clone = { λ old new. new ≡ old };
+
+    /// A second list of the same bits.
+    fn clone(&self) -> Result<Self, AllocError> {
+        let data = Vec::from_slice(*self.data.allocator(), self.data.as_slice())?;
+        Ok(BitVec {
+            data,
+            len: self.len,
+        })
+    }
+}
+
 #[tactic(auto, using(crate::proofs::Words::words))]
 impl<A: Allocator + Copy> BitVec<A> {
     /// The empty list, which takes no memory.
@@ -116,6 +130,22 @@ impl<A: Allocator + Copy> BitVec<A> {
         Some((self.data[place / 64] >> (place % 64)) & 1)
     }
 
+    /// Whether the bit at a place that the list has is a one.
+    pub fn is_bit_set_unchecked(&self, place: usize) -> bool
+        requires { place < length self.now }
+        ensures { result ≡ slice_index_or self.now place false }
+    {
+        (self.data[place / 64] >> (place % 64)) & 1 == 1
+    }
+
+    /// The bit at a place that the list has, 1 or 0.
+    pub fn get_unchecked(&self, place: usize) -> u64
+        requires { place < length self.now }
+        ensures { result ≡ bit_value (slice_index_or self.now place false) }
+    {
+        (self.data[place / 64] >> (place % 64)) & 1
+    }
+
     /// Limb number `k`: the 64 bits from place `64 * k` on, the first as the least significant
     /// one, with zeros past the length. The limb has at least one bit of the list.
     pub fn limb(&self, k: usize) -> u64
@@ -123,23 +153,6 @@ impl<A: Allocator + Copy> BitVec<A> {
         ensures { result ≡ limb self.now k }
     {
         self.data[k]
-    }
-
-    /// The bits of limbs, the least significant bit of each first.
-    #[tactic(auto, using(crate::proofs::Limbs::from_words))]
-    pub fn from_limbs(alloc: A, limbs: &[u64]) -> Result<Self, GrowError>
-        ensures made { IfOk result (λ v. v ≡ flat_map (λ w. low_bits w 64) limbs.now) }
-        ensures too_long { (result ≡ Err GrowError.TooLong) ↔ (MAX_LEN < 64 * length limbs.now) }
-    {
-        if limbs.len() > MAX_LEN / 64 {
-            return Err(GrowError::TooLong);
-        }
-        let mut data = Vec::new(alloc);
-        if data.extend_from_slice(limbs).is_err() {
-            return Err(GrowError::Memory);
-        }
-        let len = 64 * data.len();
-        Ok(BitVec { data, len })
     }
 
     // All limbs.
@@ -172,6 +185,21 @@ impl<A: Allocator + Copy> BitVec<A> {
         ones
     }
 
+    /// How many places hold a zero.
+    #[tactic(auto, using(crate::proofs::Counting::limbs))]
+    pub fn count_zeros(&self) -> u64
+        ensures { result ≡ count false self.now (length self.now) }
+    {
+        self.len() as u64 - self.count_ones()
+    }
+
+    /// How many bytes the limbs take.
+    pub fn heap_size(&self) -> usize
+        ensures { result ≡ 8 * limb_count (length self.now) }
+    {
+        8 * self.data.len()
+    }
+
     /// The number of the bits from `place` on, `n` of them. None where there are not so many, or `n` is 0 or above 64.
     #[tactic(auto, using(crate::proofs::Counting::parts))]
     pub fn get_bits(&self, place: usize, n: usize) -> Option<u64>
@@ -201,6 +229,33 @@ impl<A: Allocator + Copy> BitVec<A> {
             return self.part(place, n);
         }
         self.part(place, room) | (self.part(place + room, n - room) << room)
+    }
+
+    /// Element `index` of the list as numbers of `n` bits each, one after another. None where the
+    /// list has no such element, or `n` is 0 or above 64.
+    #[tactic(auto, using(crate::proofs::Counting::elements))]
+    pub fn unpack_element(&self, index: usize, n: usize) -> Option<u64>
+        ensures { result ≡ part_number self.now (index * n) n }
+    {
+        // A product past the machine's numbers is past `MAX_LEN`, and so past the length.
+        let _ = &self.len;
+        match index.checked_mul(n) {
+            Some(place) => self.get_bits(place, n),
+            None => None,
+        }
+    }
+
+    /// Element `index` of the list as numbers of `n` bits each, one after another, which the list
+    /// has: 0 where `n` is 0.
+    #[tactic(auto, using(crate::proofs::Counting::elements))]
+    pub fn unpack_element_unchecked(&self, index: usize, n: usize) -> u64
+        requires few { n ≤ 64 }
+        requires within { index * n + n ≤ length self.now }
+        ensures { result ≡ number (part self.now (index * n) n) }
+    {
+        // A place below the length is below `MAX_LEN`.
+        let _ = &self.len;
+        self.get_bits_unchecked(index * n, n)
     }
 
     // The number of the `n` bits from `place` on, which lie in one limb.

@@ -1,8 +1,11 @@
 //! Calls that make a list of bits grow.
-ghost use Rattle.std.specs.Prelude.{◌≡◌, ℕ, ◌+◌, ◌-◌, ◌*◌, ◌/◌, ◌%◌, ◌^◌, ◌<◌, ◌≤◌, ◌↔◌, [], ◌∷◌, ◌++◌, length, take, drop, IsOk, OnOk, OnErr, ◌==◌, MatchResult, flat_map};
+ghost use Rattle.std.specs.Prelude.{◌≡◌, ℕ, ◌+◌, ◌-◌, ◌*◌, ◌/◌, ◌%◌, ◌^◌, ◌<◌, ◌≤◌, ◌↔◌, [], ◌∷◌, ◌++◌, length, take, drop, IsOk, OnOk, OnErr, ◌==◌, IfErr, flat_map, replicate, Bool, List, false};
+ghost use Rattle.std.specs.Borrow.{Bor};
+ghost use Rattle.std.specs.Iterator.{Drains, IsFinite};
 ghost use Rattle.vers_bits.specs.Bits.{low_bits};
+ghost use Rattle.vers_bits.specs.Makers.{StopsAt};
 
-use crate::bit_vec::words::{add_bit, add_bits, low_part};
+use crate::bit_vec::words::{add_bit, add_bits, add_zeros, low_part};
 use crate::bit_vec::{BitVec, GrowError, MAX_LEN};
 use std::alloc::{AllocError, Allocator};
 
@@ -66,6 +69,33 @@ impl<A: Allocator + Copy> BitVec<A> {
         ensures room { 0 < length self.old % 64 → length self.old % 64 + len ≤ 64 → IsOk result }
     {
         self.append_bits(bits, len)
+    }
+
+    // Appends the low `n` digits of a number, with zeros past its own. Where the call is refused
+    // some of them may have been appended.
+    pub(super) fn append_digits(&mut self, number: u64, n: usize) -> Result<(), GrowError>
+        ensures grown { OnOk result (self.new ≡ self.old ++ low_bits number n) }
+        ensures too_long { (result ≡ Err GrowError.TooLong) ↔ (MAX_LEN < length self.old + n) }
+    {
+        if n <= 64 {
+            return self.append_bits(number, n);
+        }
+        if n > MAX_LEN - self.len() {
+            return Err(GrowError::TooLong);
+        }
+        self.append_bits(number, 64)?;
+        self.append_zeros(n - 64)?;
+        Ok(())
+    }
+
+    // Appends zeros.
+    fn append_zeros(&mut self, n: usize) -> Result<(), AllocError>
+        requires { length self.old + n ≤ MAX_LEN }
+        ensures { OnOk result (self.new ≡ self.old ++ replicate n false) }
+    {
+        add_zeros(&mut self.data, self.len, n)?;
+        self.len += n;
+        Ok(())
     }
 
     /// Appends the 64 bits of a number, the least significant first. Refusals as of `append_bits`.
@@ -139,6 +169,38 @@ impl<A: Allocator + Copy> BitVec<A> {
         ensures too_long { (result ≡ Err GrowError.TooLong) ↔ (MAX_LEN < length self.old + length other.now) }
     {
         self.extend_from(other, 0)
+    }
+
+    /// Appends the lists of an iterator that ends, in order. At the first list that finds no place
+    /// the call is refused: the lists before it stay appended, and of that one nothing.
+    pub fn extend<I: Iterator<Item = BitVec<A>> + Drop>(&mut self, lists: I) -> Result<(), GrowError>
+        requires can { I.can_next lists }
+        requires ends { IsFinite (I.remaining lists) }
+        ensures grown { OnOk result ((xs : List (List Bool)) × Drains I.next_gives lists xs × (self.new ≡ self.old ++ flat_map (λ x. x) xs)) }
+        ensures refused { IfErr result (λ e. StopsAt I.next_gives lists (λ xs x. (self.new ≡ self.old ++ flat_map (λ y. y) xs) × ((e ≡ GrowError.TooLong) ↔ (MAX_LEN < length self.new + length x)))) }
+    {
+        for list in lists {
+            self.extend_bitvec(&list)?;
+        }
+        Ok(())
+    }
+
+    /// The same as `extend`, of lists behind references.
+    pub fn extend_ref<'a, I: Iterator<Item = &'a BitVec<A>> + Drop>(
+        &mut self,
+        lists: I,
+    ) -> Result<(), GrowError>
+    where
+        A: 'a,
+        requires can { I.can_next lists }
+        requires ends { IsFinite (I.remaining lists) }
+        ensures grown { OnOk result ((xs : List (Bor (List Bool))) × Drains I.next_gives lists xs × (self.new ≡ self.old ++ flat_map (λ x. x.now) xs)) }
+        ensures refused { IfErr result (λ e. StopsAt I.next_gives lists (λ xs x. (self.new ≡ self.old ++ flat_map (λ y. y.now) xs) × ((e ≡ GrowError.TooLong) ↔ (MAX_LEN < length self.new + length x.now)))) }
+    {
+        for list in lists {
+            self.extend_bitvec(list)?;
+        }
+        Ok(())
     }
 
     // Makes room for `added` bits more.

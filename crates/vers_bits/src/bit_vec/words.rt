@@ -1,5 +1,5 @@
 //! Edits of the words that hold a list of bits.
-ghost use Rattle.std.specs.Prelude.{◌≡◌, ◌+◌, ◌*◌, ◌/◌, ◌%◌, ◌^◌, ◌<◌, ◌≤◌, [], ◌∷◌, ◌++◌, length, take, slice_index, slice_set, bit_or, IsOk, OnOk, OnErr, ◌↔◌, not, Bool, true, false};
+ghost use Rattle.std.specs.Prelude.{◌≡◌, ◌+◌, ◌*◌, ◌/◌, ◌%◌, ◌^◌, ◌<◌, ◌≤◌, [], ◌∷◌, ◌++◌, length, take, slice_index, slice_set, bit_or, IsOk, OnOk, OnErr, ◌↔◌, not, Bool, true, false, replicate};
 ghost use Rattle.vers_bits.specs.Bits.{low_bits, limb_count};
 ghost use Rattle.vers_bits.specs.Words.{word_bit, word_bits, HoldsBits, Holds, AddsBit, CutsTo, Puts};
 
@@ -63,6 +63,21 @@ pub(super) fn add_bits<A: Allocator + Copy>(
     }
     push_word(words, bits >> (64 - used))?;
     or_into(words, len / 64, bits << used);
+    Ok(())
+}
+
+// Makes the words hold `n` zeros more.
+pub(super) fn add_zeros<A: Allocator + Copy>(
+    words: &mut Vec<u64, A>,
+    len: usize,
+    n: usize,
+) -> Result<(), AllocError>
+    requires held { HoldsBits words.old.items len }
+    requires short { len + n ≤ MAX_LEN }
+    ensures grown { OnOk result (Holds words.new.items (len + n) (word_bits words.old.items len ++ replicate n false)) }
+    ensures kept { OnErr result (words.new.items ≡ words.old.items) }
+{
+    words.resize((len + n).div_ceil(64), 0)?;
     Ok(())
 }
 

@@ -1,4 +1,4 @@
-use Rattle.std.proofs.Common.{◌≡◌, ◌∙◌, ◌<◌, ◌+◌, ◌/◌, ◌%◌, ◌^◌, length, get_or, take, ap, arith}
+use Rattle.std.proofs.Common.{◌≡◌, ◌∙◌, ◌<◌, ◌/◌, ◌%◌, ◌^◌, length, get_or, take, ap, arith}
 use Rattle.std.proofs.lemmas.List.{get_or_read, length-take}
 use Rattle.vers_bits.specs.Bits.{limb_count}
 use Rattle.vers_bits.proofs.Edits.{cut_whole, cut_part}

@@ -1,0 +1,15 @@
+use Rattle.std.proofs.Common.{◌++◌, ◌-◌, ◌∙◌, false, length, replicate, ap, arith}
+use Rattle.std.proofs.lemmas.List.{length-append}
+use Rattle.vers_bits.specs.Bits.{low_bits}
+use Rattle.vers_bits.proofs.LowBits.{length-low_bits}
+use Rattle.vers_bits.proofs.Growing.{long_digits}
+use Rattle.vers_bits.proofs.bit_vec.BitVec.append_digits.Goals as goal
+
+pub append_zeros-requires : goal.append_zeros-requires
+append_zeros-requires g c =
+    omega (arith, ap length c.in_ok-append_bits.ensures.grown, length-append c.args.self.now (low_bits c.args.number 64), length-low_bits c.args.number 64)
+
+pub returns-clause-grown : goal.returns-clause-grown
+returns-clause-grown g c =
+    c.in_ok-append_zeros.ensures ∙ ap (λ l. l ++ replicate (c.args.n - 64) false) c.in_ok-append_bits.ensures.grown
+    ∙ long_digits c.args.self.now c.args.number c.args.n c.ranges.number.fits (omega arith)

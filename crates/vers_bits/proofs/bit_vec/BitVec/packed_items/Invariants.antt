@@ -1,0 +1,7 @@
+use Rattle.std.proofs.Common.{◌≡◌, take}
+use Rattle.std.specs.List.{flat_map}
+use Rattle.vers_bits.specs.Bits.{low_bits}
+use Rattle.vers_bits.proofs.bit_vec.BitVec.packed_items.Given as goal
+
+abbrev pub invariant-loop-item : goal.invariant-loop-item
+invariant-loop-item g l = l.list ≡ flat_map (λ x. low_bits (g.T.Item.number x) l.k) (take l.item-index l.items)

@@ -1,0 +1,402 @@
+//! Makers of lists of bits.
+ghost use Rattle.std.specs.Prelude.{◌≡◌, ℕ, Bool, ◌+◌, ◌-◌, ◌*◌, ◌/◌, ◌%◌, ◌^◌, ◌<◌, ◌≤◌, ◌↔◌, ◌==◌, List, [], ◌∷◌, ◌++◌, length, map, flat_map, replicate, true, false, IfOk, IfErr, IsOk, OnOk, OnErr, if◌then◌else◌};
+ghost use Rattle.std.specs.Iterator.{Drains, IsFinite};
+ghost use Rattle.vers_bits.specs.Bits.{bit_value, low_bits, pack};
+ghost use Rattle.vers_bits.specs.Makers.{StopsAt};
+
+use crate::bit_vec::words::cut;
+use crate::bit_vec::{BitVec, GrowError, MAX_LEN};
+use std::alloc::Allocator;
+
+// What lists of bits are made of: numbers of up to 64 bits, and truth values.
+trait Item: Copy + Drop {
+    ghost number: { Self → ℕ };
+
+    ghost is_odd: { Self → Bool };
+
+    // The item as a number.
+    fn number(self) -> u64
+        ensures { result ≡ number self };
+
+    // Whether the number is odd.
+    fn is_odd(self) -> bool
+        ensures { result ≡ is_odd self };
+}
+
+impl Item for bool {
+    ghost number = { bit_value };
+
+    ghost is_odd = { λ bit. bit };
+
+    fn number(self) -> u64 {
+        u64::from(self)
+    }
+
+    fn is_odd(self) -> bool {
+        self
+    }
+}
+
+impl Item for u8 {
+    ghost number = { λ n. n };
+
+    ghost is_odd = { λ n. n % 2 == 1 };
+
+    fn number(self) -> u64 {
+        u64::from(self)
+    }
+
+    fn is_odd(self) -> bool {
+        self % 2 == 1
+    }
+}
+
+impl Item for u16 {
+    ghost number = { λ n. n };
+
+    ghost is_odd = { λ n. n % 2 == 1 };
+
+    fn number(self) -> u64 {
+        u64::from(self)
+    }
+
+    fn is_odd(self) -> bool {
+        self % 2 == 1
+    }
+}
+
+impl Item for u32 {
+    ghost number = { λ n. n };
+
+    ghost is_odd = { λ n. n % 2 == 1 };
+
+    fn number(self) -> u64 {
+        u64::from(self)
+    }
+
+    fn is_odd(self) -> bool {
+        self % 2 == 1
+    }
+}
+
+impl Item for u64 {
+    ghost number = { λ n. n };
+
+    ghost is_odd = { λ n. n % 2 == 1 };
+
+    fn number(self) -> u64 {
+        self
+    }
+
+    fn is_odd(self) -> bool {
+        self % 2 == 1
+    }
+}
+
+#[tactic(auto, using(crate::proofs::Limbs::from_words))]
+impl<A: Allocator + Copy> BitVec<A> {
+    /// The empty list, with room for `n` bits.
+    #[tactic(auto, unfolding(crate::specs::Words::word_bits))]
+    pub fn with_capacity(alloc: A, n: usize) -> Result<Self, GrowError>
+        ensures made { IfOk result (λ v. v ≡ []) }
+        ensures too_long { (result ≡ Err GrowError.TooLong) ↔ (MAX_LEN < n) }
+    {
+        if n > MAX_LEN {
+            return Err(GrowError::TooLong);
+        }
+        let data = Vec::with_capacity(alloc, n.div_ceil(64))?;
+        Ok(BitVec { data, len: 0 })
+    }
+
+    // `n` equal bits.
+    #[tactic(auto, using(crate::proofs::Filling::fills))]
+    fn from_equal(alloc: A, bit: bool, n: usize) -> Result<Self, GrowError>
+        ensures made { IfOk result (λ v. v ≡ replicate n bit) }
+        ensures too_long { (result ≡ Err GrowError.TooLong) ↔ (MAX_LEN < n) }
+    {
+        if n > MAX_LEN {
+            return Err(GrowError::TooLong);
+        }
+        let word = equal_word(bit);
+        let mut data = Vec::new(alloc);
+        data.resize(n.div_ceil(64), word)?;
+        cut(&mut data, n);
+        Ok(BitVec { data, len: n })
+    }
+
+    /// `n` zeros.
+    pub fn from_zeros(alloc: A, n: usize) -> Result<Self, GrowError>
+        ensures made { IfOk result (λ v. v ≡ replicate n false) }
+        ensures too_long { (result ≡ Err GrowError.TooLong) ↔ (MAX_LEN < n) }
+    {
+        BitVec::from_equal(alloc, false, n)
+    }
+
+    /// `n` ones.
+    pub fn from_ones(alloc: A, n: usize) -> Result<Self, GrowError>
+        ensures made { IfOk result (λ v. v ≡ replicate n true) }
+        ensures too_long { (result ≡ Err GrowError.TooLong) ↔ (MAX_LEN < n) }
+    {
+        BitVec::from_equal(alloc, true, n)
+    }
+
+    /// The bits of limbs, the least significant bit of each first. Takes no memory, and fails only
+    /// where the list would be longer than `MAX_LEN`.
+    pub fn from_vec(limbs: Vec<u64, A>) -> Result<Self, GrowError>
+        ensures made { IfOk result (λ v. v ≡ flat_map (λ w. low_bits w 64) limbs.items) }
+        ensures too_long { (result ≡ Err GrowError.TooLong) ↔ (MAX_LEN < 64 * length limbs.items) }
+        ensures room { 64 * length limbs.items ≤ MAX_LEN → IsOk result }
+    {
+        if limbs.len() > MAX_LEN / 64 {
+            return Err(GrowError::TooLong);
+        }
+        let len = 64 * limbs.len();
+        Ok(BitVec { data: limbs, len })
+    }
+
+    /// The bits of limbs, the least significant bit of each first.
+    pub fn from_limbs(alloc: A, limbs: &[u64]) -> Result<Self, GrowError>
+        ensures made { IfOk result (λ v. v ≡ flat_map (λ w. low_bits w 64) limbs.now) }
+        ensures too_long { (result ≡ Err GrowError.TooLong) ↔ (MAX_LEN < 64 * length limbs.now) }
+    {
+        if limbs.len() > MAX_LEN / 64 {
+            return Err(GrowError::TooLong);
+        }
+        BitVec::from_vec(Vec::from_slice(alloc, limbs)?)
+    }
+
+    // A bit an item of a slice.
+    fn odd_items<T: Item>(alloc: A, items: &[T]) -> Result<Self, GrowError>
+        ensures made { IfOk result (λ v. v ≡ map T.is_odd items.now) }
+        ensures too_long { (result ≡ Err GrowError.TooLong) ↔ (MAX_LEN < length items.now) }
+    {
+        let mut list = BitVec::with_capacity(alloc, items.len())?;
+        for item in items {
+            if list.append(item.is_odd()).is_err() {
+                return Err(GrowError::Memory);
+            }
+        }
+        Ok(list)
+    }
+
+    // A bit an item of an iterator.
+    fn odd_items_of<T: Item, I: Iterator<Item = T> + Drop>(alloc: A, items: I) -> Result<Self, GrowError>
+        requires can { I.can_next items }
+        requires ends { IsFinite (I.remaining items) }
+        ensures made { IfOk result (λ v. (xs : List T) × Drains I.next_gives items xs × (v ≡ map T.is_odd xs)) }
+        ensures refused { IfErr result (λ e. StopsAt I.next_gives items (λ xs x. (e ≡ GrowError.TooLong) ↔ (MAX_LEN < length xs + 1))) }
+    {
+        let mut list = BitVec::new(alloc);
+        for item in items {
+            list.append(item.is_odd())?;
+        }
+        Ok(list)
+    }
+
+    // The low `k` digits of each item of a slice.
+    fn packed_items<T: Item>(alloc: A, items: &[T], k: usize) -> Result<Self, GrowError>
+        ensures made { IfOk result (λ v. v ≡ flat_map (λ x. low_bits (T.number x) k) items.now) }
+        ensures too_long { (result ≡ Err GrowError.TooLong) ↔ (MAX_LEN < length items.now * k) }
+    {
+        let Some(len) = items.len().checked_mul(k) else {
+            return Err(GrowError::TooLong);
+        };
+        let mut list = BitVec::with_capacity(alloc, len)?;
+        for item in items {
+            if list.append_digits(item.number(), k).is_err() {
+                return Err(GrowError::Memory);
+            }
+        }
+        Ok(list)
+    }
+
+    // The low `k` digits of each item of an iterator.
+    fn packed_items_of<T: Item, I: Iterator<Item = T> + Drop>(
+        alloc: A,
+        items: I,
+        k: usize,
+    ) -> Result<Self, GrowError>
+        requires can { I.can_next items }
+        requires ends { IsFinite (I.remaining items) }
+        ensures made { IfOk result (λ v. (xs : List T) × Drains I.next_gives items xs × (v ≡ flat_map (λ x. low_bits (T.number x) k) xs)) }
+        ensures refused { IfErr result (λ e. StopsAt I.next_gives items (λ xs x. (e ≡ GrowError.TooLong) ↔ (MAX_LEN < (length xs + 1) * k))) }
+    {
+        let mut list = BitVec::new(alloc);
+        for item in items {
+            list.append_digits(item.number(), k)?;
+        }
+        Ok(list)
+    }
+
+    /// A bit an item: a one where the item is odd.
+    pub fn from_bits(alloc: A, bits: &[u8]) -> Result<Self, GrowError>
+        ensures made { IfOk result (λ v. v ≡ map (λ n. n % 2 == 1) bits.now) }
+        ensures too_long { (result ≡ Err GrowError.TooLong) ↔ (MAX_LEN < length bits.now) }
+    {
+        BitVec::odd_items(alloc, bits)
+    }
+
+    /// A bit an item: a one where the item is odd.
+    pub fn from_bits_u16(alloc: A, bits: &[u16]) -> Result<Self, GrowError>
+        ensures made { IfOk result (λ v. v ≡ map (λ n. n % 2 == 1) bits.now) }
+        ensures too_long { (result ≡ Err GrowError.TooLong) ↔ (MAX_LEN < length bits.now) }
+    {
+        BitVec::odd_items(alloc, bits)
+    }
+
+    /// A bit an item: a one where the item is odd.
+    pub fn from_bits_u32(alloc: A, bits: &[u32]) -> Result<Self, GrowError>
+        ensures made { IfOk result (λ v. v ≡ map (λ n. n % 2 == 1) bits.now) }
+        ensures too_long { (result ≡ Err GrowError.TooLong) ↔ (MAX_LEN < length bits.now) }
+    {
+        BitVec::odd_items(alloc, bits)
+    }
+
+    /// A bit an item: a one where the item is odd.
+    pub fn from_bits_u64(alloc: A, bits: &[u64]) -> Result<Self, GrowError>
+        ensures made { IfOk result (λ v. v ≡ map (λ n. n % 2 == 1) bits.now) }
+        ensures too_long { (result ≡ Err GrowError.TooLong) ↔ (MAX_LEN < length bits.now) }
+    {
+        BitVec::odd_items(alloc, bits)
+    }
+
+    /// A bit an item of an iterator that ends: a one where the item is odd. TooLong, and Memory
+    /// for want of memory, at the first item that finds no place.
+    pub fn from_bits_iter<I: Iterator<Item = u64> + Drop>(alloc: A, bits: I) -> Result<Self, GrowError>
+        requires can { I.can_next bits }
+        requires ends { IsFinite (I.remaining bits) }
+        ensures made { IfOk result (λ v. (xs : List ℕ) × Drains I.next_gives bits xs × (v ≡ map (λ n. n % 2 == 1) xs)) }
+        ensures refused { IfErr result (λ e. StopsAt I.next_gives bits (λ xs x. (e ≡ GrowError.TooLong) ↔ (MAX_LEN < length xs + 1))) }
+    {
+        BitVec::odd_items_of(alloc, bits)
+    }
+
+    /// The truth values.
+    pub fn from_bools(alloc: A, bools: &[bool]) -> Result<Self, GrowError>
+        ensures made { IfOk result (λ v. v ≡ bools.now) }
+        ensures too_long { (result ≡ Err GrowError.TooLong) ↔ (MAX_LEN < length bools.now) }
+    {
+        BitVec::odd_items(alloc, bools)
+    }
+
+    /// The truth values of an iterator that ends. TooLong, and Memory for want of memory, at the
+    /// first item that finds no place.
+    pub fn from_bool_iter<I: Iterator<Item = bool> + Drop>(alloc: A, bools: I) -> Result<Self, GrowError>
+        requires can { I.can_next bools }
+        requires ends { IsFinite (I.remaining bools) }
+        ensures made { IfOk result (λ v. Drains I.next_gives bools v) }
+        ensures refused { IfErr result (λ e. StopsAt I.next_gives bools (λ xs x. (e ≡ GrowError.TooLong) ↔ (MAX_LEN < length xs + 1))) }
+    {
+        BitVec::odd_items_of(alloc, bools)
+    }
+
+    /// The bits of the limbs of an iterator that ends, the least significant bit of each first.
+    /// TooLong, and Memory for want of memory, at the first limb that finds no place.
+    pub fn from_limbs_iter<I: Iterator<Item = u64> + Drop>(alloc: A, limbs: I) -> Result<Self, GrowError>
+        requires can { I.can_next limbs }
+        requires ends { IsFinite (I.remaining limbs) }
+        ensures made { IfOk result (λ v. (xs : List ℕ) × Drains I.next_gives limbs xs × (v ≡ flat_map (λ w. low_bits w 64) xs)) }
+        ensures refused { IfErr result (λ e. StopsAt I.next_gives limbs (λ xs x. (e ≡ GrowError.TooLong) ↔ (MAX_LEN < (length xs + 1) * 64))) }
+    {
+        BitVec::packed_items_of(alloc, limbs, 64)
+    }
+
+    /// The low `k` bits of each number, one after another, with zeros past 8 bits.
+    pub fn pack_sequence_u8(alloc: A, sequence: &[u8], k: usize) -> Result<Self, GrowError>
+        ensures made { IfOk result (λ v. v ≡ pack sequence.now k) }
+        ensures too_long { (result ≡ Err GrowError.TooLong) ↔ (MAX_LEN < length sequence.now * k) }
+    {
+        BitVec::packed_items(alloc, sequence, k)
+    }
+
+    /// The low `k` bits of each number, one after another, with zeros past 16 bits.
+    pub fn pack_sequence_u16(alloc: A, sequence: &[u16], k: usize) -> Result<Self, GrowError>
+        ensures made { IfOk result (λ v. v ≡ pack sequence.now k) }
+        ensures too_long { (result ≡ Err GrowError.TooLong) ↔ (MAX_LEN < length sequence.now * k) }
+    {
+        BitVec::packed_items(alloc, sequence, k)
+    }
+
+    /// The low `k` bits of each number, one after another, with zeros past 32 bits.
+    pub fn pack_sequence_u32(alloc: A, sequence: &[u32], k: usize) -> Result<Self, GrowError>
+        ensures made { IfOk result (λ v. v ≡ pack sequence.now k) }
+        ensures too_long { (result ≡ Err GrowError.TooLong) ↔ (MAX_LEN < length sequence.now * k) }
+    {
+        BitVec::packed_items(alloc, sequence, k)
+    }
+
+    /// The low `k` bits of each number, one after another, with zeros past 64 bits.
+    pub fn pack_sequence_u64(alloc: A, sequence: &[u64], k: usize) -> Result<Self, GrowError>
+        ensures made { IfOk result (λ v. v ≡ pack sequence.now k) }
+        ensures too_long { (result ≡ Err GrowError.TooLong) ↔ (MAX_LEN < length sequence.now * k) }
+    {
+        BitVec::packed_items(alloc, sequence, k)
+    }
+
+    /// The low `k` bits of each number of an iterator that ends, with zeros past 8 bits.
+    /// TooLong, and Memory for want of memory, at the first number that finds no place.
+    pub fn pack_from_iter_u8<I: Iterator<Item = u8> + Drop>(
+        alloc: A,
+        sequence: I,
+        k: usize,
+    ) -> Result<Self, GrowError>
+        requires can { I.can_next sequence }
+        requires ends { IsFinite (I.remaining sequence) }
+        ensures made { IfOk result (λ v. (xs : List ℕ) × Drains I.next_gives sequence xs × (v ≡ pack xs k)) }
+        ensures refused { IfErr result (λ e. StopsAt I.next_gives sequence (λ xs x. (e ≡ GrowError.TooLong) ↔ (MAX_LEN < (length xs + 1) * k))) }
+    {
+        BitVec::packed_items_of(alloc, sequence, k)
+    }
+
+    /// The low `k` bits of each number of an iterator that ends, with zeros past 16 bits.
+    /// TooLong, and Memory for want of memory, at the first number that finds no place.
+    pub fn pack_from_iter_u16<I: Iterator<Item = u16> + Drop>(
+        alloc: A,
+        sequence: I,
+        k: usize,
+    ) -> Result<Self, GrowError>
+        requires can { I.can_next sequence }
+        requires ends { IsFinite (I.remaining sequence) }
+        ensures made { IfOk result (λ v. (xs : List ℕ) × Drains I.next_gives sequence xs × (v ≡ pack xs k)) }
+        ensures refused { IfErr result (λ e. StopsAt I.next_gives sequence (λ xs x. (e ≡ GrowError.TooLong) ↔ (MAX_LEN < (length xs + 1) * k))) }
+    {
+        BitVec::packed_items_of(alloc, sequence, k)
+    }
+
+    /// The low `k` bits of each number of an iterator that ends, with zeros past 32 bits.
+    /// TooLong, and Memory for want of memory, at the first number that finds no place.
+    pub fn pack_from_iter_u32<I: Iterator<Item = u32> + Drop>(
+        alloc: A,
+        sequence: I,
+        k: usize,
+    ) -> Result<Self, GrowError>
+        requires can { I.can_next sequence }
+        requires ends { IsFinite (I.remaining sequence) }
+        ensures made { IfOk result (λ v. (xs : List ℕ) × Drains I.next_gives sequence xs × (v ≡ pack xs k)) }
+        ensures refused { IfErr result (λ e. StopsAt I.next_gives sequence (λ xs x. (e ≡ GrowError.TooLong) ↔ (MAX_LEN < (length xs + 1) * k))) }
+    {
+        BitVec::packed_items_of(alloc, sequence, k)
+    }
+
+    /// The low `k` bits of each number of an iterator that ends, with zeros past 64 bits.
+    /// TooLong, and Memory for want of memory, at the first number that finds no place.
+    pub fn pack_from_iter_u64<I: Iterator<Item = u64> + Drop>(
+        alloc: A,
+        sequence: I,
+        k: usize,
+    ) -> Result<Self, GrowError>
+        requires can { I.can_next sequence }
+        requires ends { IsFinite (I.remaining sequence) }
+        ensures made { IfOk result (λ v. (xs : List ℕ) × Drains I.next_gives sequence xs × (v ≡ pack xs k)) }
+        ensures refused { IfErr result (λ e. StopsAt I.next_gives sequence (λ xs x. (e ≡ GrowError.TooLong) ↔ (MAX_LEN < (length xs + 1) * k))) }
+    {
+        BitVec::packed_items_of(alloc, sequence, k)
+    }
+}
+
+// A word of 64 equal bits.
+fn equal_word(bit: bool) -> u64
+    ensures { result ≡ (if bit then 18446744073709551615 else 0) }
+{
+    if bit { u64::MAX } else { 0 }
+}
