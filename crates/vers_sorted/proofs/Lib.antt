@@ -5,3 +5,4 @@ pub mod Makes
 pub mod Widths
 pub mod Neighbours
 pub mod Bounds
+pub mod Ones

@@ -10,10 +10,10 @@ use Rattle.vers_sorted.specs.Parts.{IsPacked}
 use Rattle.vers_sorted.proofs.Below.{below_le, below_from, below_to}
 
 -- what stands before and after
-below_before : (s : List ℕ) (v i : ℕ) → IsNonDecreasing s → i < below s v → slice_index s i < v
+pub below_before : (s : List ℕ) (v i : ℕ) → IsNonDecreasing s → i < below s v → slice_index s i < v
 below_before s v i up h = elim (cases_lt (slice_index s i) v) [ inl fine ↦ fine | inr not ↦ absurd (omega (arith, below_le s v, below_to s v i up (omega (arith, below_le s v)) not)) ]
 
-below_after : (s : List ℕ) (v i : ℕ) → IsNonDecreasing s → below s v ≤ i → i < length s → v ≤ slice_index s i
+pub below_after : (s : List ℕ) (v i : ℕ) → IsNonDecreasing s → below s v ≤ i → i < length s → v ≤ slice_index s i
 below_after s v i up h short = elim (cases_lt (slice_index s i) v) [ inr fine ↦ fine | inl less ↦ absurd (omega (arith, below_from s v i up short less)) ]
 
 find_is : (p : ℕ → Bool) (s : List ℕ) (k : ℕ) → k ≤ length s → ((i : ℕ) → i < k → p (get_or s i 0) ≡ false) → (k < length s → p (get_or s k 0) ≡ true) → find p s ≡ slice_get s k
