@@ -14,11 +14,8 @@ use Rattle.vers_sorted.specs.Sorted.{below}
 use Rattle.vers_sorted.specs.Layout.{first_of, last_of, low_width, high_of, low_of, high_length}
 use Rattle.vers_sorted.specs.Parts.{HoldHigh, IsPacked, IsStart}
 use Rattle.vers_sorted.proofs.Below.{below_le, below_from, below_to}
-use Rattle.vers_sorted.proofs.Packed.{parts_sum, low_below, high_counted}
-
-pub high_zeros : (s : List ℕ) → 0 < length s → high_length s ≡ 2 + length s + high_of s (last_of s)
-unfolding high_length
-high_zeros s h = grind (arith)
+use Rattle.vers_sorted.proofs.Split.{parts_sum, low_below, high_up, member_from, high_zeros}
+use Rattle.vers_sorted.proofs.Packed.{high_counted}
 
 module _ {s : List ℕ} {high low : List Bool} {first last width : ℕ} (packed : IsPacked s high low first last width) where
   -- the zeros and ones up to the place of a member
@@ -55,20 +52,6 @@ module _ {s : List ℕ} {high low : List Bool} {first last width : ℕ} (packed 
   start_after h some within = (start_at h some within).0
 
 -- ---- from high parts to the members themselves
-
-scaled : (m a b : ℕ) → a ≤ b → m * a ≤ m * b
-scaled m a b h = mul-le-mul_left {m = a} {n = b} m h
-
-pub high_up : (s : List ℕ) (a b : ℕ) → a ≤ b → first_of s ≤ a → high_of s a ≤ high_of s b
-high_up s a b h from =
-    elim (cases_lt (high_of s b) (high_of s a)) [
-      | inr fine ↦ fine
-      | inl less ↦ absurd (omega (arith, parts_sum s a from, parts_sum s b (omega arith), low_below s b, scaled (2 ^ low_width s) (high_of s b + 1) (high_of s a) (omega arith),
-          mul_comm (2 ^ low_width s) (high_of s b + 1), mul_comm (2 ^ low_width s) (high_of s a)))
-    ]
-
-pub member_from : (s : List ℕ) (i : ℕ) → IsNonDecreasing s → i < length s → first_of s ≤ slice_index s i
-member_from s i up h = up 0 i 0 (omega arith) h
 
 pub start_below : (s : List ℕ) (v start : ℕ) → IsNonDecreasing s → first_of s ≤ v → IsStart s (high_of s v) start → start ≤ below s v
 start_below s v start up from at =

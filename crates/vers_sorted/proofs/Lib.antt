@@ -1,8 +1,10 @@
-pub mod Packed
+pub mod Split
 pub mod Below
+pub mod Neighbours
+pub mod Ones
+pub mod Holds
+pub mod Packed
 pub mod Buckets
 pub mod Makes
 pub mod Widths
-pub mod Neighbours
 pub mod Bounds
-pub mod Ones

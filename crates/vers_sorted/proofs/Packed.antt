@@ -1,21 +1,32 @@
--- What high and low parts say of the members.
-use Rattle.std.proofs.Common.{◌≡◌, ℕ, zero, suc, ◌+◌, ◌-◌, ◌*◌, ◌/◌, ◌%◌, ◌^◌, ◌<◌, ◌≤◌, Bool, true, false, cond, List, [], ◌∷◌, ◌++◌, length, take, drop, get_or, refl, sym, ap, ◌∙◌, arith, add-one, inl, inr, Option, Some, None, min}
-use Rattle.std.specs.Prelude.{slice_index, slice_get, bit_or, bit_and, map}
-use Rattle.std.proofs.Math.Nat.{mul-le-mul_left, div-add-mod, mul_comm, div-mul-le_self, mod-eq_of_lt}
-use Rattle.std.proofs.lemmas.Nat.{or_shifted, mod_below, pow_pos}
+-- What the fields of a packed list say of its members.
+use Rattle.std.proofs.Common.{◌≡◌, ℕ, ◌+◌, ◌-◌, ◌*◌, ◌/◌, ◌%◌, ◌^◌, ◌<◌, ◌≤◌, Bool, true, List, length, take, drop, refl, sym, ap, subst, ◌∙◌, arith, Option, Some, None}
+use Rattle.std.specs.Prelude.{slice_index, slice_get, bit_or}
+use Rattle.std.specs.List.Sorted.{IsNonDecreasing}
+use Rattle.std.proofs.Math.Nat.{mul-le-mul_left, mul_comm, mod-eq_of_lt}
+use Rattle.std.proofs.lemmas.Nat.{or_shifted}
 use Rattle.std.proofs.lemmas.Option.{slice_get-get_or, slice_get_past}
 use Rattle.std.proofs.lemmas.List.FromFn.{length-map-range_with_len}
-use Rattle.vers_bits.specs.Bits.{count, select, number}
-use Rattle.vers_sorted.specs.Layout.{first_of, last_of, low_width, high_of, low_of, high_length}
+use Rattle.vers_bits.specs.Bits.{select, number}
+use Rattle.vers_sorted.specs.Layout.{first_of, last_of, low_width, high_of, low_of, high_length, high_parts, low_parts, heap_size_of}
 use Rattle.vers_sorted.specs.Parts.{member, members, HoldHigh, HoldLow, IsPacked}
+use Rattle.vers_sorted.proofs.Split.{parts_sum, low_below}
+use Rattle.vers_sorted.proofs.Holds.{hold_high, hold_low, packs}
 
 pub length-members : (high low : List Bool) (first width n : ℕ) → length (members high low first width n) ≡ n
 unfolding members
 length-members high low first width n = length-map-range_with_len (member high low first width) 0 n
 
+-- the parts of an ascending list hold it
+pub packed_as : (s : List ℕ) (first last width : ℕ) → IsNonDecreasing s → first ≡ first_of s → last ≡ last_of s → last < 18446744073709551616 → width ≡ low_width s → width < 64
+    → (members (high_parts s) (low_parts s) first width (length s) ≡ s) × IsPacked (members (high_parts s) (low_parts s) first width (length s)) (high_parts s) (low_parts s) first last width
+packed_as s first last width up f l fits w narrow =
+    let back : members (high_parts s) (low_parts s) first width (length s) ≡ s =
+      ap (λ v. members (high_parts s) (low_parts s) v width (length s)) f ∙ ap (λ v. members (high_parts s) (low_parts s) (first_of s) v (length s)) w ∙ packs s up in
+    (back, rw back (record { ascending = up; first_is = f; last_is = l; fits = fits; width_is = w; narrow = narrow; high_parts = hold_high s up; low_parts = hold_low s }))
+
 -- ---- the low part
 
-pub mul_step : (w i n : ℕ) → i < n → w * i + w ≤ w * n
+mul_step : (w i n : ℕ) → i < n → w * i + w ≤ w * n
 mul_step w i n h = omega (arith, mul-le-mul_left {m = i + 1} {n = n} w (omega arith), mul_comm w (i + 1), mul_comm w i)
 
 pub low_within : {s : List ℕ} {high low : List Bool} {first last width : ℕ} (i : ℕ) → IsPacked s high low first last width → i < length s → i * width + width ≤ length low
@@ -33,12 +44,11 @@ low_read {s} {low} {width} i packed h =
 -- ---- the high part
 
 pub high_counted : {s : List ℕ} {high low : List Bool} {first last width : ℕ} → IsPacked s high low first last width → length high ≡ high_length s
-unfolding high_length
-high_counted {s} packed = grind (arith, packed.high_parts.zeros)
+high_counted packed = packed.high_parts.total
 
-pub high_place : {s : List ℕ} {high low : List Bool} {first last width : ℕ} (i : ℕ) → IsPacked s high low first last width → i < length s
+pub high_at : {s : List ℕ} {high low : List Bool} {first last width : ℕ} (i : ℕ) → IsPacked s high low first last width → i < length s
     → select true high i ≡ high_of s (slice_index s i) + i + 1
-high_place i packed h = packed.high_parts.place i h
+high_at i packed h = packed.high_parts.place i h
 
 -- ---- both
 
@@ -52,14 +62,6 @@ pub in_order : {s : List ℕ} {high low : List Bool} {first last width : ℕ} (i
     → (first ≤ slice_index s i) × (slice_index s i ≤ last)
 in_order {s} i packed h =
     (omega (arith, packed.first_is, packed.ascending 0 i 0 (omega arith) h), omega (arith, packed.last_is, packed.ascending i (length s - 1) 0 (omega arith) (omega arith)))
-
-pub parts_sum : (s : List ℕ) (v : ℕ) → first_of s ≤ v → high_of s v * 2 ^ low_width s + low_of s v ≡ v - first_of s
-unfolding high_of low_of
-parts_sum s v h = omega (arith, div-add-mod (v - first_of s) (2 ^ low_width s), mul_comm (2 ^ low_width s) ((v - first_of s) / 2 ^ low_width s))
-
-pub low_below : (s : List ℕ) (v : ℕ) → low_of s v < 2 ^ low_width s
-unfolding low_of
-low_below s v = mod_below (v - first_of s) (2 ^ low_width s) (pow_pos (low_width s))
 
 pub joined : {s : List ℕ} {high low : List Bool} {first last width : ℕ} (i : ℕ) → IsPacked s high low first last width → i < length s
     → (first + bit_or (high_of s (slice_index s i) * 2 ^ width % 18446744073709551616) (low_of s (slice_index s i)) ≡ slice_index s i)
@@ -76,6 +78,6 @@ joined {s} {first} {last} {width} i packed h =
 
 pub ruleset packed = (length-members)
 pub ruleset low_parts_read = (low_read, low_within)
-pub ruleset high_parts_read = (high_place, high_counted)
+pub ruleset high_parts_read = (high_at, high_counted)
 pub ruleset gets = (get_some, get_none)
 pub ruleset joined_parts = (joined, in_order)

@@ -1,6 +1,9 @@
 -- How an ascending list is split into high and low parts, how much memory these take, and how much a query reads of them.
-use Rattle.std.specs.Prelude.{ℕ, ◌+◌, ◌-◌, ◌*◌, ◌/◌, ◌%◌, ◌^◌, ◌==◌, max, List, length, slice_index, if◌then◌else◌}
-use Rattle.vers_rank.specs.Queries.{select_reads, superblock_count}
+use Rattle.std.specs.Prelude.{ℕ, ◌+◌, ◌-◌, ◌*◌, ◌/◌, ◌%◌, ◌^◌, ◌==◌, max, Bool, List, map, length, slice_index, if◌then◌else◌}
+use Rattle.std.specs.List.{range_with_len}
+use Rattle.vers_bits.specs.Bits.{pack, limb_count}
+use Rattle.vers_rank.specs.Queries.{index_size, select_reads, superblock_count}
+use Rattle.vers_sorted.specs.Ones.{ones_at}
 use Rattle.vers_tally.specs.Reads.{Reads, times, digits}
 
 -- the least k for which n is at most 2 ^ k
@@ -32,6 +35,22 @@ low_of members v = (v - first_of members) % 2 ^ low_width members
 -- how many bits the high parts take: a one for each member, and a zero for each high part up to one past the last member's
 unfoldable pub high_length : List ℕ → ℕ
 high_length members = if length members == 0 then 0 else 2 + length members + high_of members (last_of members)
+
+-- where the one of member i stands among the high parts
+abbrev pub high_place : List ℕ → ℕ → ℕ
+high_place members i = high_of members (slice_index members i) + i + 1
+
+-- the high parts: a one for each member
+unfoldable pub high_parts : List ℕ → List Bool
+high_parts members = ones_at (map (high_place members) (range_with_len 0 (length members))) (high_length members)
+
+-- the low parts, one after another: the low digits of how far each member lies above the first
+unfoldable pub low_parts : List ℕ → List Bool
+low_parts members = pack (map (λ m. m - first_of members) members) (low_width members)
+
+-- the bytes of both: the high parts with their index, and the limbs of the low parts
+abbrev pub heap_size_of : List ℕ → ℕ
+heap_size_of members = index_size (high_parts members) + 8 * limb_count (length (low_parts members))
 
 -- what a number of selects of the high parts adds at most, with as many low parts
 abbrev pub select_calls : ℕ → List ℕ → Reads

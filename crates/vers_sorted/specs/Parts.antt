@@ -2,10 +2,11 @@
 use Rattle.std.specs.Prelude.{◌≡◌, ℕ, ◌+◌, ◌-◌, ◌*◌, ◌^◌, ◌<◌, ◌≤◌, Bool, true, List, map, length, take, drop, slice_index}
 use Rattle.std.specs.List.{range_with_len}
 use Rattle.std.specs.List.Sorted.{IsNonDecreasing}
-use Rattle.vers_bits.specs.Bits.{number, count, select}
+use Rattle.vers_bits.specs.Bits.{number, count, select, pack}
 use Rattle.vers_tally.specs.Reads.{Reads, no_reads, digits}
 use Rattle.vers_rank.specs.Queries.{superblock_count}
-use Rattle.vers_sorted.specs.Layout.{first_of, last_of, low_width, high_of, low_of, high_length}
+use Rattle.vers_sorted.specs.Layout.{first_of, last_of, low_width, high_of, low_of, high_length, high_place}
+use Rattle.vers_sorted.specs.Ones.{ones_at}
 
 -- the member that the parts hold at place i
 abbrev pub member : List Bool → List Bool → ℕ → ℕ → ℕ → ℕ
@@ -14,16 +15,24 @@ member high low first width i = first + (2 ^ width * (select true high i - i - 1
 unfoldable pub members : List Bool → List Bool → ℕ → ℕ → ℕ → List ℕ
 members high low first width n = map (member high low first width) (range_with_len 0 n)
 
--- the high parts of the first n members: a one for each, and z zeros
-pub record HoldHigh (s : List ℕ) (n z : ℕ) (high : List Bool) : Type 0 where
-  pub ones : count true high (length high) ≡ n
-  pub zeros : length high ≡ n + z
-  pub place : (i : ℕ) → i < n → select true high i ≡ high_of s (slice_index s i) + i + 1
+-- what the high parts of s say: a one for each member
+pub record HoldHigh (s : List ℕ) (high : List Bool) : Type 0 where
+  pub ones : count true high (length high) ≡ length s
+  pub total : length high ≡ high_length s
+  pub place : (i : ℕ) → i < length s → select true high i ≡ high_of s (slice_index s i) + i + 1
 
--- the low parts of the first n members
-pub record HoldLow (s : List ℕ) (n : ℕ) (low : List Bool) : Type 0 where
-  pub counted : length low ≡ low_width s * n
-  pub part : (i : ℕ) → i < n → number (take (low_width s) (drop (low_width s * i) low)) ≡ low_of s (slice_index s i)
+-- what the low parts of s say
+pub record HoldLow (s : List ℕ) (low : List Bool) : Type 0 where
+  pub counted : length low ≡ low_width s * length s
+  pub part : (i : ℕ) → i < length s → number (take (low_width s) (drop (low_width s * i) low)) ≡ low_of s (slice_index s i)
+
+-- the high parts before any but the first i members have their ones
+unfoldable pub first_high_parts : List ℕ → ℕ → List Bool
+first_high_parts s i = ones_at (map (high_place s) (range_with_len 0 i)) (high_length s)
+
+-- the low parts of the first i members
+unfoldable pub first_low_parts : List ℕ → ℕ → List Bool
+first_low_parts s i = pack (map (λ m. m - first_of s) (take i s)) (low_width s)
 
 -- the parts hold the list s
 pub record IsPacked (s : List ℕ) (high low : List Bool) (first last width : ℕ) : Type 0 where
@@ -33,8 +42,8 @@ pub record IsPacked (s : List ℕ) (high low : List Bool) (first last width : �
   pub fits : last < 18446744073709551616
   pub width_is : width ≡ low_width s
   pub narrow : width < 64
-  pub high_parts : HoldHigh s (length s) (high_length s - length s) high
-  pub low_parts : HoldLow s (length s) low
+  pub high_parts : HoldHigh s high
+  pub low_parts : HoldLow s low
 
 -- start is the number of members whose high part is below h
 pub record IsStart (s : List ℕ) (h start : ℕ) : Type 0 where

@@ -1,10 +1,8 @@
 //! The maker of ascending lists.
-ghost use Rattle.std.specs.Prelude.{◌≡◌, ℕ, ◌+◌, ◌-◌, ◌<◌, ◌≤◌, List, length, slice_index, true, false, IfOk, [], ◌∷◌, ◌++◌, max};
+ghost use Rattle.std.specs.Prelude.{◌≡◌, ◌-◌, ◌^◌, ◌<◌, ◌≤◌, min, IfOk};
 ghost use Rattle.std.specs.List.Sorted.{IsNonDecreasing};
-ghost use Rattle.vers_bits.specs.Bits.{low_bits};
 ghost use Rattle.vers_tally.specs.Reads.{digits};
-ghost use Rattle.vers_sorted.specs.Layout.{clog, first_of, last_of, width, low_width, high_of, high_length};
-ghost use Rattle.vers_sorted.specs.Parts.{HoldHigh, HoldLow};
+ghost use Rattle.vers_sorted.specs.Layout.{clog, first_of, last_of, width, low_width, high_length, high_parts, low_parts};
 
 use crate::elias_fano::EliasFanoVec;
 use std::alloc::{AllocError, Allocator};
@@ -23,12 +21,10 @@ impl<A: Allocator + Copy> EliasFanoVec<A> {
         let first = first_of(numbers);
         let last = last_of(numbers);
         let width = width_of(len, last - first);
-        let mut high = BitVec::new(alloc);
-        let mut low = BitVec::new(alloc);
-        push_all(numbers, first, width, &mut high, &mut low)?;
-        let high = RsVec::from_bit_vec(high)?;
+        let high = high_parts(alloc, numbers, first, last, width)?;
+        let low = low_parts(alloc, numbers, first, width)?;
         Ok(EliasFanoVec {
-            high,
+            high: RsVec::from_bit_vec(high)?,
             low: CountedBits::new(low),
             first,
             last,
@@ -88,98 +84,56 @@ fn digit_count(n: u128) -> usize
     (128 - n.leading_zeros()) as usize
 }
 
-// Appends a bit.
-fn push<A: Allocator + Copy>(bits: &mut BitVec<A>, bit: bool) -> Result<(), AllocError>
-    ensures { IfOk result (λ _. bits.new ≡ bits.old ++ bit ∷ []) }
-{
-    match bits.append(bit) {
-        Ok(()) => Ok(()),
-        Err(_) => Err(AllocError),
-    }
-}
-
-// Appends the low `n` bits of a number.
-fn push_bits<A: Allocator + Copy>(bits: &mut BitVec<A>, v: u64, n: usize) -> Result<(), AllocError>
-    requires { n < 64 }
-    ensures { IfOk result (λ _. bits.new ≡ bits.old ++ low_bits v n) }
-{
-    match bits.append_bits(v, n) {
-        Ok(()) => Ok(()),
-        Err(_) => Err(AllocError),
-    }
-}
-// Appends a zero to the high parts.
-fn push_zero<A: Allocator + Copy>(numbers: &[u64], i: usize, zeros: u64, high: &mut BitVec<A>) -> Result<(), AllocError>
-    requires { HoldHigh numbers.now i zeros high.old }
-    ensures { IfOk result (λ _. HoldHigh numbers.now i (zeros + 1) high.new) }
-{
-    push(high, false)?;
-    Ok(())
-}
-
-// Appends the one of number `i` to the high parts.
-fn push_one<A: Allocator + Copy>(numbers: &[u64], i: usize, zeros: u64, high: &mut BitVec<A>) -> Result<(), AllocError>
-    requires holds { HoldHigh numbers.now i zeros high.old }
-    requires here { zeros ≡ high_of numbers.now (slice_index numbers.now i) + 1 }
-    ensures { IfOk result (λ _. HoldHigh numbers.now (i + 1) zeros high.new) }
-{
-    push(high, true)?;
-    Ok(())
-}
-
-// Appends the high part of number `i`, and returns how many zeros there are then.
-fn push_high<A: Allocator + Copy>(numbers: &[u64], part: u64, i: usize, zeros: u64, high: &mut BitVec<A>) -> Result<u64, AllocError>
-    requires holds { HoldHigh numbers.now i zeros high.old }
-    requires part { part ≡ high_of numbers.now (slice_index numbers.now i) }
-    requires few { zeros ≤ part + 1 }
-    ensures zeros { IfOk result (λ z. z ≡ part + 1) }
-    ensures holds { IfOk result (λ z. HoldHigh numbers.now (i + 1) z high.new) }
-{
-    let mut z = zeros;
-    while z <= part {
-        let _ = high.len();
-        push_zero(numbers, i, z, high)?;
-        z += 1;
-    }
-    push_one(numbers, i, z, high)?;
-    Ok(z)
-}
-
-// Appends the low part of number `i`.
-fn push_low<A: Allocator + Copy>(numbers: &[u64], first: u64, width: usize, i: usize, parts: &mut BitVec<A>) -> Result<(), AllocError>
-    requires within { i < length numbers.now }
-    requires above { first ≤ slice_index numbers.now i }
+// How many bits the high parts take, or the greatest number of the machine where that is more.
+#[tactic(auto, using(crate::proofs::Makes::lengths))]
+fn high_length_of(numbers: &[u64], first: u64, last: u64, width: usize) -> usize
+    requires order { first ≤ last }
     requires first { first ≡ first_of numbers.now }
+    requires last { last ≡ last_of numbers.now }
     requires width { width ≡ low_width numbers.now }
     requires narrow { width < 64 }
-    requires holds { HoldLow numbers.now i parts.old }
-    ensures { IfOk result (λ _. HoldLow numbers.now (i + 1) parts.new) }
+    ensures { result ≡ min (high_length numbers.now) (2 ^ 64 - 1) }
 {
-    push_bits(parts, numbers[i] - first, width)?;
-    Ok(())
+    if numbers.is_empty() {
+        return 0;
+    }
+    let high = ((last - first) >> width) as usize;
+    high.saturating_add(numbers.len()).saturating_add(2)
 }
 
-// Appends the parts of all numbers.
-#[tactic(auto, using(crate::proofs::Makes::all_steps))]
-fn push_all<A: Allocator + Copy>(numbers: &[u64], first: u64, width: usize, high: &mut BitVec<A>, parts: &mut BitVec<A>) -> Result<(), AllocError>
+// The high parts: a list of zeros in which the one of each number is set.
+#[tactic(auto, using(crate::proofs::Makes::highs))]
+fn high_parts<A: Allocator + Copy>(alloc: A, numbers: &[u64], first: u64, last: u64, width: usize) -> Result<BitVec<A>, AllocError>
+    requires ascending { IsNonDecreasing numbers.now }
+    requires first { first ≡ first_of numbers.now }
+    requires last { last ≡ last_of numbers.now }
+    requires width { width ≡ low_width numbers.now }
+    requires narrow { width < 64 }
+    ensures { IfOk result (λ v. v ≡ high_parts numbers.now) }
+{
+    let len = high_length_of(numbers, first, last, width);
+    let mut high = BitVec::from_zeros(alloc, len).map_err(|_| AllocError)?;
+    for i in 0..numbers.len() {
+        let _ = high.len();
+        let place = ((numbers[i] - first) >> width) as usize + i + 1;
+        high.set_unchecked(place, 1);
+    }
+    Ok(high)
+}
+
+// The low parts, one after another.
+#[tactic(auto, using(crate::proofs::Makes::lows))]
+fn low_parts<A: Allocator + Copy>(alloc: A, numbers: &[u64], first: u64, width: usize) -> Result<BitVec<A>, AllocError>
     requires ascending { IsNonDecreasing numbers.now }
     requires first { first ≡ first_of numbers.now }
     requires width { width ≡ low_width numbers.now }
     requires narrow { width < 64 }
-    requires high { high.old ≡ [] }
-    requires parts { parts.old ≡ [] }
-    ensures high { IfOk result (λ _. HoldHigh numbers.now (length numbers.now) (high_length numbers.now - length numbers.now) high.new) }
-    ensures parts { IfOk result (λ _. HoldLow numbers.now (length numbers.now) parts.new) }
+    ensures { IfOk result (λ v. v ≡ low_parts numbers.now) }
 {
-    let n = numbers.len();
-    if n == 0 {
-        return Ok(());
+    let len = numbers.len().saturating_mul(width);
+    let mut low = BitVec::with_capacity(alloc, len).map_err(|_| AllocError)?;
+    for i in 0..numbers.len() {
+        low.append_bits(numbers[i] - first, width).map_err(|_| AllocError)?;
     }
-    let mut zeros: u64 = 0;
-    for i in 0..n {
-        zeros = push_high(numbers, (numbers[i] - first) >> width, i, zeros, high)?;
-        push_low(numbers, first, width, i, parts)?;
-    }
-    push_zero(numbers, n, zeros, high)?;
-    Ok(())
+    Ok(low)
 }
