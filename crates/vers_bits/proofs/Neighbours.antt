@@ -31,7 +31,7 @@ last_is o p (x ∷ s) (suc k) h on off =
     ∙ last_is (Some x) p s k (omega arith) (λ i small. on (suc i) (omega arith)) (λ i large small. off (suc i) (omega arith) (omega arith))
 
 -- inside a list no default is taken
-any_default : (s : List ℕ) (i d e : ℕ) → i < length s → get_or s i d ≡ get_or s i e
+pub any_default : {X : Type 0} (s : List X) (i : ℕ) (d e : X) → i < length s → get_or s i d ≡ get_or s i e
 any_default [] i d e h = absurd (omega arith)
 any_default (x ∷ s) zero d e h = refl
 any_default (x ∷ s) (suc i) d e h = any_default s i d e (omega arith)

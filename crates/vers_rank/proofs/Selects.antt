@@ -5,8 +5,8 @@ use Rattle.vers_bits.specs.Bits.{is_bit, count, limb, select}
 use Rattle.vers_bits.proofs.Count.{count_le_all, count_le, count_up, count_near, count_limb, count_limb_whole, count_both, count_past}
 use Rattle.vers_bits.proofs.Places.{select_at, select_past, count_more_yes, count_more_no}
 use Rattle.vers_tally.specs.Reads.{digits}
-use Rattle.vers_tally.proofs.Halves.{digits_up, digits-le, upper_half, lower_half}
-use Rattle.vers_rank.specs.Index.{held, held_in, IsSample}
+use Rattle.vers_tally.proofs.Halves.{digits_up, digits_halved, digits-le}
+use Rattle.vers_rank.specs.Index.{held, held_in, IsSample, IsLimbWith}
 use Rattle.vers_rank.proofs.Words.{ones_few}
 
 -- inside the list it is the count
@@ -73,16 +73,16 @@ block_end b l block end e = elim (cases_lt (64 * end) (length l)) [
 ]
 
 -- number r of a block stands in the limb that the scan has found
-pub rest_in_limb : (b : Bool) (l : List Bool) (block r k found before : ℕ) → 512 * block < length l → k + 1 ≡ min (8 * block + 8) ((length l + 63) / 64) → found ≤ k
-    → count b l (512 * block) + r < count b l (512 * (block + 1)) → held b l (512 * block) + before ≡ held b l (64 * found) → before ≤ r
-    → (found < k → held b l (512 * block) + r < held b l (64 * (found + 1))) → r - before < held_in b (limb l found) 64
-rest_in_limb b l block r k found before within last order to counted from next =
+pub rest_in_limb : (b : Bool) (l : List Bool) (block r k before : ℕ) → 512 * block < length l → count b l (512 * block) + r < count b l (512 * (block + 1))
+    → IsLimbWith b l block r (min (8 * block + 7) ((length l - 1) / 64)) k before → r - before < held_in b (limb l k) 64
+rest_in_limb b l block r k before within to found =
+    let last : ℕ = min (8 * block + 7) ((length l - 1) / 64) in
     let start : held b l (512 * block) ≡ count b l (512 * block) = held_is b l (512 * block) (omega arith) in
-    let stop : held b l (512 * block) + r < held b l (64 * (found + 1)) = elim (cases_lt found k) [
-      | inl h ↦ next h
-      | inr h ↦ let end : 64 * (k + 1) ≡ 64 * (found + 1) = omega arith in omega (arith, block_end b l block (k + 1) last, ap (held b l) end)
+    let stop : held b l (512 * block) + r < held b l (64 * (k + 1)) = elim (cases_lt k last) [
+      | inl h ↦ found.to h
+      | inr h ↦ let end : 64 * (last + 1) ≡ 64 * (k + 1) = omega (arith, found.inside) in omega (arith, block_end b l block (last + 1) (omega arith), ap (held b l) end)
     ] in
-    omega (arith, held_more b l found)
+    omega (arith, held_more b l k, found.counted, found.from)
 
 -- the samples before and after number r bound its superblock
 pub record IsBetween (b : Bool) (l : List Bool) (r first last : ℕ) : Type 0 where
@@ -108,11 +108,21 @@ digits_below_16 n h = digits-le 4 n h
 
 pub ruleset in_block = (held_more, held_is)
 
+-- a superblock has at most 8192 places
+pub superblock_few : (b : Bool) (l : List Bool) (s r : ℕ) → r < count b l (8192 * (s + 1)) → r < count b l (8192 * s) + 8192
+superblock_few b l s r h = omega (arith, count_near b l (8192 * s) (8192 * (s + 1)) (omega arith))
+
 pub ruleset totals = (count_both, count_le, select_past)
 
 pub ruleset between = (samples_bound, digits_up)
 
 pub ruleset within_superblock = (count_past)
+pub ruleset block_search = (count_up, count_le)
+pub ruleset limb_search = (held_more, held_up)
+
+-- the greater half of n has a digit less
+pub half_left : (n : ℕ) → 1 < n → digits (n - n / 2 - 1) + 1 ≤ digits (n - 1)
+half_left n h = digits_halved (n - n / 2 - 1) (n - 1) (omega arith) (omega arith)
 
 -- halving a range, within the budget of its digits
-pub ruleset halves = (upper_half, lower_half)
+pub ruleset halves = (half_left, count_up)

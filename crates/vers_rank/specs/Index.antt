@@ -44,3 +44,11 @@ pub record AreEntries (l : List Bool) (n : ℕ) (blocks superblocks : List ℕ) 
 pub record AreFirstSamples (b : Bool) (l : List Bool) (n : ℕ) (samples : List ℕ) : Type 0 where
   pub counted : length samples ≡ n
   pub each : (j : ℕ) → j < n → IsSample b l j (slice_index samples j)
+
+-- among the limbs of a block up to number last, the one with number r of the block's places of the bit, or last; and how many of these places stand before it
+pub record IsLimbWith (b : Bool) (l : List Bool) (block r last limb before : ℕ) : Type 0 where
+  pub start : 8 * block ≤ limb
+  pub inside : limb ≤ last
+  pub counted : held b l (512 * block) + before ≡ held b l (64 * limb)
+  pub from : before ≤ r
+  pub to : limb < last → held b l (512 * block) + r < held b l (64 * (limb + 1))

@@ -2,3 +2,4 @@ pub mod Queries
 pub mod Index
 pub use Rattle.vers_bits.specs.Bits
 pub use Rattle.vers_tally.specs.Reads
+pub use Rattle.vers_bits.specs.Equality

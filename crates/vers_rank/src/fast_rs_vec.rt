@@ -4,6 +4,8 @@ ghost use Rattle.vers_bits.specs.Bits.{bit_value, count, number, part, select};
 ghost use Rattle.vers_tally.specs.Reads.{AddsAtMost};
 ghost use Rattle.vers_rank.specs.Queries.{part_number_or_zero, superblock_count, index_size, get_reads, get_bits_reads, rank_reads, select_reads};
 
+mod equality;
+mod neighbours;
 mod rank;
 mod select;
 
@@ -47,6 +49,28 @@ impl<A: Allocator + Copy> Model for RsVec<A> {
     ghost view = { λ v. v.bits };
 
     ghost invariant = { λ v. IsIndexed v.bits v.blocks v.superblocks v.zero_samples v.one_samples v.zeros };
+}
+
+impl<A: Allocator + Copy> Clone for RsVec<A> {
+    ghost is_clone = { λ old new. new ≡ old };
+
+    /// A second list of the same bits, with a copy of the index.
+    fn clone(&self) -> Result<Self, AllocError> {
+        let bits = self.bits.as_bit_vec().clone()?;
+        let alloc = bits.allocator();
+        let blocks = Vec::from_slice(alloc, self.blocks.as_slice())?;
+        let superblocks = Vec::from_slice(alloc, self.superblocks.as_slice())?;
+        let zero_samples = Vec::from_slice(alloc, self.zero_samples.as_slice())?;
+        let one_samples = Vec::from_slice(alloc, self.one_samples.as_slice())?;
+        Ok(RsVec {
+            bits: CountedBits::new(bits),
+            blocks: BlockEntries::new(blocks),
+            superblocks: SuperblockEntries::new(superblocks),
+            zero_samples: SuperblockEntries::new(zero_samples),
+            one_samples: SuperblockEntries::new(one_samples),
+            zeros: self.zeros,
+        })
+    }
 }
 
 impl<A: Allocator + Copy> RsVec<A> {

@@ -3,4 +3,5 @@
 
 mod build;
 pub mod fast_rs_vec;
+pub mod laws;
 mod word;

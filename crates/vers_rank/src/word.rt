@@ -24,19 +24,22 @@ fn held_in_part(word: u64, bit: bool, j: usize) -> usize
     if bit { ones } else { j - ones }
 }
 
-// The place in a word of number `r` of the bits that are `bit`.
+// The place in a word of number `r` of the bits that are `bit`: its byte, and its place there,
+// each by as many comparisons whatever the word holds.
 #[inline(always)]
-#[tactic(auto, using(crate::proofs::Words::starts))]
+#[tactic(auto, using(crate::proofs::Words::splits))]
 pub fn place_in_word(word: u64, bit: bool, r: usize) -> usize
     requires { r < held_in bit word 64 }
     ensures within { result < 64 }
     ensures from { held_in bit word result ≤ r }
     ensures to { r < held_in bit word (result + 1) }
 {
-    place_in_byte(word, bit, r, byte_with(word, bit, r))
+    let byte = byte_with(word, bit, r);
+    let before = held_in_part(word, bit, 8 * byte);
+    8 * byte + place_in_byte(word >> (8 * byte), bit, r - before)
 }
 
-// The byte of number `r`, by as many comparisons whatever the word holds.
+// The byte of number `r`.
 #[inline(always)]
 #[tactic(auto, using(crate::proofs::Words::starts))]
 fn byte_with(word: u64, bit: bool, r: usize) -> usize
@@ -48,26 +51,25 @@ fn byte_with(word: u64, bit: bool, r: usize) -> usize
     let mut byte = 0;
     for k in 1..8 {
         if held_in_part(word, bit, 8 * k) <= r {
-            byte = k;
+            byte += 1;
         }
     }
     byte
 }
 
-// The place of number `r`, which lies in a byte.
+// The place of number `r`, which lies in the lowest byte.
 #[inline(always)]
-fn place_in_byte(word: u64, bit: bool, r: usize, byte: usize) -> usize
-    requires within { byte < 8 }
-    requires from { held_in bit word (8 * byte) ≤ r }
-    requires to { r < held_in bit word (8 * byte + 8) }
-    ensures within { result < 64 }
+#[tactic(auto, using(crate::proofs::Words::starts))]
+fn place_in_byte(word: u64, bit: bool, r: usize) -> usize
+    requires { r < held_in bit word 8 }
+    ensures within { result < 8 }
     ensures from { held_in bit word result ≤ r }
     ensures to { r < held_in bit word (result + 1) }
 {
-    let mut place = 8 * byte;
-    for k in 8 * byte + 1..8 * byte + 8 {
+    let mut place = 0;
+    for k in 1..8 {
         if held_in_part(word, bit, k) <= r {
-            place = k;
+            place += 1;
         }
     }
     place

@@ -1,20 +1,30 @@
 // The places of zeros and ones.
-ghost use Rattle.std.specs.Prelude.{◌≡◌, ℕ, ◌+◌, ◌-◌, ◌*◌, ◌/◌, ◌<◌, ◌≤◌, length, true, false};
+ghost use Rattle.std.specs.Prelude.{◌≡◌, ℕ, ◌+◌, ◌-◌, ◌*◌, ◌/◌, ◌<◌, ◌≤◌, length, min, true, false};
 ghost use Rattle.vers_bits.specs.Bits.{count, select};
 ghost use Rattle.vers_tally.specs.Reads.{no_reads, only_block_entries, only_superblock_entries, only_data_words, digits, AddsAtMost};
 ghost use Rattle.vers_rank.specs.Queries.{superblock_count, select_reads};
-ghost use Rattle.vers_rank.specs.Index.{IsSample, held, held_in};
+ghost use Rattle.vers_rank.specs.Index.{IsSample, IsLimbWith};
 
 use super::{BLOCK, RsVec, SUPERBLOCK};
 use crate::word::{held_in_word, place_in_word};
 use std::alloc::Allocator;
 use vers_tally::tally::Tally;
 
+/// How many bits a limb has.
+const LIMB: usize = 64;
+
 /// How many blocks a superblock has.
 const BLOCKS: usize = SUPERBLOCK / BLOCK;
 
 /// Up to how many superblocks a search looks at one after the other.
-const FEW: usize = 8;
+const FEW: usize = 4;
+
+// A limb, and how many places of its block before it hold a bit.
+#[derive(Clone, Copy)]
+struct Found {
+    limb: usize,
+    before: usize,
+}
 
 impl<A: Allocator + Copy> RsVec<A> {
     /// The place of zero number `r`, counted from 0, or the length where there are no more.
@@ -60,24 +70,25 @@ impl<A: Allocator + Copy> RsVec<A> {
     // The place of number `r` of the zeros or the ones, or the length.
     #[inline(always)]
     #[tactic(auto, using(crate::proofs::Selects::totals))]
-    fn select_counted(&self, bit: bool, r: usize, tally: &mut Tally) -> usize
+    pub(super) fn select_counted(&self, bit: bool, r: usize, tally: &mut Tally) -> usize
         ensures value { result ≡ select bit self.now r }
         ensures adds { AddsAtMost tally.old tally.new (select_reads (superblock_count (length self.now))) }
     {
         tally.add_rank_call();
+        let len = self.len();
         if r >= self.total(bit) {
-            return self.len();
+            return len;
         }
         let s = self.superblock_with(bit, r, tally);
-        let r_in_superblock = r - self.count_at_superblock(bit, s, tally);
-        let block = self.block_with(bit, r_in_superblock, s, tally);
-        let r_in_block = r_in_superblock - self.count_in_superblock(bit, s, block, tally);
-        self.place_in_block(bit, r_in_block, block, tally)
+        let r_in_superblock = (r - self.count_at_superblock(bit, s, tally)) as u16;
+        let j = self.block_with(bit, r_in_superblock, s, tally);
+        let r_in_block = r_in_superblock - self.count_in_superblock(bit, s, j, tally);
+        self.place_in_block(bit, r_in_block as usize, BLOCKS * s + j as usize, tally)
     }
 
     // How many places hold the bit.
     #[inline(always)]
-    fn total(&self, bit: bool) -> usize
+    pub(super) fn total(&self, bit: bool) -> usize
         ensures { result ≡ count bit self.now (length self.now) }
     {
         if bit { self.ones() } else { self.zeros() }
@@ -95,21 +106,17 @@ impl<A: Allocator + Copy> RsVec<A> {
         if bit { SUPERBLOCK * s - zeros } else { zeros }
     }
 
-    // How many places of a superblock before one of its blocks hold the bit.
+    // How many places of a superblock before its block number `j` hold the bit.
     #[inline(always)]
-    #[tactic(auto, using(crate::proofs::Ranks::blocks))]
-    fn count_in_superblock(&self, bit: bool, s: usize, block: usize, tally: &mut Tally) -> usize
-        requires within { 512 * block < length self.now }
-        requires inside { block / 16 ≡ s }
-        ensures value { count bit self.now (8192 * s) + result ≡ count bit self.now (512 * block) }
+    fn count_in_superblock(&self, bit: bool, s: usize, j: u16, tally: &mut Tally) -> u16
+        requires few { j < 16 }
+        requires within { 512 * (16 * s + j) < length self.now }
+        ensures value { count bit self.now (8192 * s) + result ≡ count bit self.now (512 * (16 * s + j)) }
         ensures adds { AddsAtMost tally.old tally.new (only_block_entries 1) }
     {
-        let zeros = self.blocks.read(block, tally) as usize;
-        if bit {
-            BLOCK * (block - BLOCKS * s) - zeros
-        } else {
-            zeros
-        }
+        let _ = &self.bits;
+        let zeros = self.blocks.read(BLOCKS * s + j as usize, tally);
+        if bit { BLOCK as u16 * j - zeros } else { zeros }
     }
 
     // The superblock that sample number `j` names.
@@ -133,47 +140,40 @@ impl<A: Allocator + Copy> RsVec<A> {
         ensures within { 8192 * result < length self.now }
         ensures from { count bit self.now (8192 * result) ≤ r }
         ensures to { r < count bit self.now (8192 * (result + 1)) }
-        ensures adds { AddsAtMost tally.old tally.new (only_superblock_entries (digits (superblock_count (length self.now)) + 9)) }
+        ensures adds { AddsAtMost tally.old tally.new (only_superblock_entries (digits (superblock_count (length self.now)) + 5)) }
     {
         let _ = &self.bits;
         let first = self.sample(bit, r / SUPERBLOCK, tally);
         let last = self.sample(bit, r / SUPERBLOCK + 1, tally);
-        self.superblock_between(bit, r, first, last + 1, tally)
+        self.superblock_among(bit, r, first, last + 1 - first, tally)
     }
 
-    // The superblock of number `r`, which is at least `lo` and below `hi`: by halves while there are many, and then
-    // one after the other.
+    // The superblock of number `r` among the `n` from `first` on: by halves while there are many, and then one after
+    // the other. Which superblocks are looked at next is no branch, so that nothing depends on a guess of it.
     #[inline(always)]
     #[tactic(auto, using(crate::proofs::Selects::halves))]
-    fn superblock_between(
-        &self,
-        bit: bool,
-        r: usize,
-        lo: usize,
-        hi: usize,
-        tally: &mut Tally,
-    ) -> usize
-        requires order { lo < hi }
-        requires within { 8192 * hi < length self.now + 8192 }
-        requires from { count bit self.now (8192 * lo) ≤ r }
-        requires to { r < count bit self.now (8192 * hi) }
+    fn superblock_among(&self, bit: bool, r: usize, first: usize, n: usize, tally: &mut Tally) -> usize
+        requires some { 0 < n }
+        requires within { 8192 * (first + n) < length self.now + 8192 }
+        requires from { count bit self.now (8192 * first) ≤ r }
+        requires to { r < count bit self.now (8192 * (first + n)) }
         ensures within { 8192 * result < length self.now }
         ensures from { count bit self.now (8192 * result) ≤ r }
         ensures to { r < count bit self.now (8192 * (result + 1)) }
-        ensures adds { AddsAtMost tally.old tally.new (only_superblock_entries (digits (hi - lo - 1) + 7)) }
+        ensures adds { AddsAtMost tally.old tally.new (only_superblock_entries (digits (n - 1) + 3)) }
     {
-        let mut first = lo;
-        let mut end = hi;
-        while end - first > FEW {
-            let mid = first + (end - first) / 2;
-            if self.count_at_superblock(bit, mid, tally) <= r {
-                first = mid;
-            } else {
-                end = mid;
+        let _ = &self.bits;
+        let mut start = first;
+        let mut left = n;
+        while left > FEW {
+            let half = left / 2;
+            if self.count_at_superblock(bit, start + half, tally) <= r {
+                start += half;
             }
+            left -= half;
         }
-        let mut found = first;
-        for s in first + 1..end {
+        let mut found = start;
+        for s in start + 1..start + left {
             if self.count_at_superblock(bit, s, tally) <= r {
                 found = s;
             }
@@ -181,26 +181,44 @@ impl<A: Allocator + Copy> RsVec<A> {
         found
     }
 
-    // The block of number `r` of a superblock, by as many comparisons whatever the entries hold.
+    // The block of number `r` of a superblock.
     #[inline(always)]
     #[tactic(auto, using(crate::proofs::Selects::within_superblock))]
-    fn block_with(&self, bit: bool, r: usize, s: usize, tally: &mut Tally) -> usize
+    fn block_with(&self, bit: bool, r: u16, s: usize, tally: &mut Tally) -> u16
         requires within { 8192 * s < length self.now }
         requires to { count bit self.now (8192 * s) + r < count bit self.now (8192 * (s + 1)) }
-        ensures within { 512 * result < length self.now }
-        ensures inside { result / 16 ≡ s }
-        ensures from { count bit self.now (512 * result) ≤ count bit self.now (8192 * s) + r }
-        ensures to { count bit self.now (8192 * s) + r < count bit self.now (512 * (result + 1)) }
-        ensures adds { AddsAtMost tally.old tally.new (only_block_entries 15) }
+        ensures few { result < 16 }
+        ensures within { 512 * (16 * s + result) < length self.now }
+        ensures from { count bit self.now (512 * (16 * s + result)) ≤ count bit self.now (8192 * s) + r }
+        ensures to { count bit self.now (8192 * s) + r < count bit self.now (512 * (16 * s + result + 1)) }
+        ensures adds { AddsAtMost tally.old tally.new (only_block_entries 16) }
     {
-        let _ = &self.bits;
-        let mut found = BLOCKS * s;
-        for block in BLOCKS * s + 1..(BLOCKS * s + BLOCKS).min(self.blocks.len()) {
-            if self.count_in_superblock(bit, s, block, tally) <= r {
-                found = block;
+        let blocks = self.blocks.len() - BLOCKS * s;
+        if blocks >= BLOCKS {
+            return self.block_among(bit, r, s, BLOCKS as u16, tally);
+        }
+        self.block_among(bit, r, s, blocks as u16, tally)
+    }
+
+    // The block of number `r` among the first `n` blocks of a superblock, or the last of them: by
+    // as many comparisons whatever the entries hold.
+    #[inline(always)]
+    #[tactic(auto, using(crate::proofs::Selects::block_search))]
+    fn block_among(&self, bit: bool, r: u16, s: usize, n: u16, tally: &mut Tally) -> u16
+        requires some { (0 < n) × (n ≤ 16) }
+        requires within { 512 * (16 * s + n) < length self.now + 512 }
+        ensures few { result < n }
+        ensures from { count bit self.now (512 * (16 * s + result)) ≤ count bit self.now (8192 * s) + r }
+        ensures to { result + 1 < n → count bit self.now (8192 * s) + r < count bit self.now (512 * (16 * s + result + 1)) }
+        ensures adds { AddsAtMost tally.old tally.new (only_block_entries n) }
+    {
+        let mut passed: u16 = 0;
+        for j in 0..n {
+            if self.count_in_superblock(bit, s, j, tally) <= r {
+                passed += 1;
             }
         }
-        found
+        passed - 1
     }
 
     // The place of number `r` of a block.
@@ -212,19 +230,44 @@ impl<A: Allocator + Copy> RsVec<A> {
         ensures value { result ≡ select bit self.now (count bit self.now (512 * block) + r) }
         ensures adds { AddsAtMost tally.old tally.new (only_data_words 8) }
     {
-        let limbs = self.len().div_ceil(64);
-        let end = (8 * block + 8).min(limbs);
-        let mut found = 8 * block;
+        let found = self.limb_with(bit, r, block, tally);
+        let word = self.bits.limb(found.limb, tally);
+        LIMB * found.limb + place_in_word(word, bit, r - found.before)
+    }
+
+    // The limb of number `r` of a block.
+    #[inline(always)]
+    fn limb_with(&self, bit: bool, r: usize, block: usize, tally: &mut Tally) -> Found
+        requires within { 512 * block < length self.now }
+        ensures found { IsLimbWith bit self.now block r (min (8 * block + 7) ((length self.now - 1) / 64)) result.limb result.before }
+        ensures adds { AddsAtMost tally.old tally.new (only_data_words 7) }
+    {
+        let last = (self.len() - 1) / LIMB;
+        if last - 8 * block >= 7 {
+            return self.limb_up_to(bit, r, block, 8 * block + 7, tally);
+        }
+        self.limb_up_to(bit, r, block, last, tally)
+    }
+
+    // The limb of number `r` among those of a block up to the one before `last`, or `last` itself.
+    #[inline(always)]
+    #[tactic(auto, using(crate::proofs::Selects::limb_search))]
+    fn limb_up_to(&self, bit: bool, r: usize, block: usize, last: usize, tally: &mut Tally) -> Found
+        requires order { (8 * block ≤ last) × (last ≤ 8 * block + 7) }
+        requires within { 64 * last < length self.now }
+        ensures found { IsLimbWith bit self.now block r last result.limb result.before }
+        ensures adds { AddsAtMost tally.old tally.new (only_data_words 7) }
+    {
+        let mut limb = 8 * block;
         let mut before = 0;
         let mut seen = 0;
-        for k in 8 * block..end - 1 {
+        for k in 8 * block..last {
             seen += held_in_word(self.bits.limb(k, tally), bit);
             if seen <= r {
-                found = k + 1;
+                limb += 1;
                 before = seen;
             }
         }
-        let word = self.bits.limb(found, tally);
-        64 * found + place_in_word(word, bit, r - before)
+        Found { limb, before }
     }
 }

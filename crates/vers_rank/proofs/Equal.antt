@@ -1,0 +1,43 @@
+-- Lists of bits with the same places are equal.
+use Rattle.std.proofs.Common.{◌≡◌, ℕ, ◌+◌, ◌<◌, ◌≤◌, Bool, true, false, not, cond, List, length, get_or, refl, sym, ap, ◌∙◌, arith, inl, inr}
+use Rattle.std.proofs.lemmas.Bool.{cases_Bool}
+use Rattle.std.proofs.lemmas.List.{same_lists}
+use Rattle.vers_bits.specs.Bits.{is_bit, count, select}
+use Rattle.vers_bits.proofs.Count.{count_le_all, count_up}
+use Rattle.vers_bits.proofs.Neighbours.{any_default}
+use Rattle.vers_bits.proofs.Places.{IsPlace, select_at, select_is_place, count_more_yes}
+
+-- each place of l is one of m
+module _ (b : Bool) (l m : List Bool) (long : length l ≡ length m) (many : count b l (length l) ≡ count b m (length m))
+    (each : (r : ℕ) → r < count b l (length l) → select b l r ≡ select b m r) where
+  place_of_both : (p : ℕ) → p < length l → is_bit b (get_or l p false) ≡ true → is_bit b (get_or m p false) ≡ true
+  place_of_both p h on =
+      let early : count b l p < count b l (length l) = omega (arith, count_more_yes b l p h on, count_le_all b l (p + 1)) in
+      let here : select b m (count b l p) ≡ p = sym (each (count b l p) early) ∙ select_at b l (count b l p) p h on refl in
+      let at : IsPlace b m (count b l p) (select b m (count b l p)) = select_is_place b m (count b l p) (omega arith) in
+      ap (λ q. is_bit b (get_or m q false)) (sym here) ∙ at.holds
+
+-- a bit is known by whether it is a one, or by whether it is a zero
+bit_known : (b x y : Bool) → is_bit b x ≡ is_bit b y → x ≡ y
+bit_known true x y e = e
+bit_known false true true e = refl
+bit_known false false false e = refl
+bit_known false true false e = absurd (cc)
+bit_known false false true e = absurd (cc)
+
+same_place : (x y : Bool) → (x ≡ true → y ≡ true) → (y ≡ true → x ≡ true) → x ≡ y
+same_place true y f g = sym (f refl)
+same_place false true f g = g refl
+same_place false false f g = refl
+
+-- lists of one length with the same places of a bit
+pub same_places : (b : Bool) (l m : List Bool) → length l ≡ length m → count b l (length l) ≡ count b m (length m)
+    → ((r : ℕ) → r < count b l (length l) → select b l r ≡ select b m r) → l ≡ m
+same_places b l m long many each =
+    same_lists l m long (λ k d h.
+      let same : get_or l k false ≡ get_or m k false = bit_known b (get_or l k false) (get_or m k false)
+        (same_place (is_bit b (get_or l k false)) (is_bit b (get_or m k false)) (place_of_both b l m long many each k h)
+        (place_of_both b m l (sym long) (sym many) (λ r few. sym (each r (omega arith))) k (omega arith))) in
+      any_default l k d false h ∙ same ∙ any_default m k false d (omega arith))
+
+pub ruleset equality = (same_places)

@@ -1,0 +1,28 @@
+use Rattle.std.proofs.Common.{◌≡◌, ℕ, ◌+◌, ◌-◌, ◌*◌, ◌<◌, ◌≤◌, length}
+use Rattle.vers_bits.specs.Bits.{count}
+use Rattle.vers_tally.specs.Reads.{only_superblock_entries, digits, AddsAtMost}
+use Rattle.vers_rank.proofs.fast_rs_vec.RsVec.superblock_among.Given as goal
+
+abbrev pub invariant-loop-left : goal.invariant-loop-left
+invariant-loop-left g l =
+    record {
+      some : 0 < l.left;
+      within : 8192 * (l.start + l.left) < length l.self + 8192;
+      from : count l.bit l.self (8192 * l.start) ≤ l.r;
+      to : l.r < count l.bit l.self (8192 * (l.start + l.left));
+      budget : digits (l.left - 1) ≤ digits (l.n - 1);
+      adds : AddsAtMost l.fn.tally l.tally (only_superblock_entries (digits (l.n - 1) - digits (l.left - 1)))
+    }
+
+abbrev pub decreases-loop-left : goal.decreases-loop-left
+decreases-loop-left g l = l.left
+
+abbrev pub invariant-loop-s : goal.invariant-loop-s
+invariant-loop-s g l =
+    record {
+      begin : l.start ≤ l.found;
+      before : l.found < l.s;
+      from : count l.bit l.self (8192 * l.found) ≤ l.r;
+      to : l.found + 1 < l.s → l.r < count l.bit l.self (8192 * (l.found + 1));
+      adds : AddsAtMost l.fn.tally l.tally (only_superblock_entries (digits (l.n - 1) + (l.s - l.start - 1)))
+    }

@@ -1,0 +1,72 @@
+// Equality of indexed lists.
+ghost use Rattle.std.specs.Prelude.{◌≡◌, ◌↔◌, IsTrue, length};
+ghost use Rattle.vers_bits.specs.Bits.{count, select};
+ghost use Rattle.vers_bits.specs.Equality.{same_bits, same_bits_per, same_bits_equiv};
+
+use super::RsVec;
+use std::alloc::Allocator;
+use vers_tally::tally::Tally;
+
+impl<A: Allocator + Copy> RsVec<A> {
+    /// Whether both lists have the same bits, by comparing the places of their zeros where `ZERO`
+    /// is true, and else of their ones. Fast where there are few of them.
+    #[inline]
+    pub fn sparse_equals<const ZERO: bool>(&self, other: &Self) -> bool
+        ensures { IsTrue result ↔ (self.now ≡ other.now) }
+    {
+        self.has_places_of(!ZERO, other)
+    }
+
+    /// Whether both lists have the same bits, by comparing all limbs.
+    #[inline]
+    pub fn full_equals(&self, other: &Self) -> bool
+        ensures { IsTrue result ↔ (self.now ≡ other.now) }
+    {
+        self.bits.as_bit_vec() == other.bits.as_bit_vec()
+    }
+
+    // Whether both lists have one length and the same places of a bit.
+    #[tactic(auto, using(crate::proofs::Equal::equality))]
+    fn has_places_of(&self, bit: bool, other: &Self) -> bool
+        ensures { IsTrue result ↔ (self.now ≡ other.now) }
+    {
+        if self.len() != other.len() {
+            return false;
+        }
+        if self.total(bit) != other.total(bit) {
+            return false;
+        }
+        for r in 0..self.total(bit) {
+            if self.place_of(bit, r) != other.place_of(bit, r) {
+                return false;
+            }
+        }
+        true
+    }
+
+    // The place of number `r` of the zeros or the ones, or the length.
+    fn place_of(&self, bit: bool, r: usize) -> usize
+        ensures { result ≡ select bit self.now r }
+    {
+        let mut tally = Tally::new();
+        self.select_counted(bit, r, &mut tally)
+    }
+}
+
+impl<A: Allocator + Copy> PartialEq for RsVec<A> {
+    ghost eq = { same_bits };
+
+    ghost laws = { same_bits_per };
+
+    /// Whether both lists have the same bits.
+    fn eq(&self, other: &RsVec<A>) -> bool
+        ensures by_bits { result ≡ same_bits self.now other.now }
+        ensures exact { IsTrue result ↔ (self.now ≡ other.now) }
+    {
+        self.bits.as_bit_vec() == other.bits.as_bit_vec()
+    }
+}
+
+impl<A: Allocator + Copy> Eq for RsVec<A> {
+    ghost laws = { same_bits_equiv };
+}

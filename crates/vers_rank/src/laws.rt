@@ -1,0 +1,14 @@
+//! Laws of indexed lists.
+ghost use Rattle.std.specs.Prelude.{◌≡◌, IfOk};
+
+use crate::fast_rs_vec::RsVec;
+use std::alloc::{AllocError, Allocator};
+use vers_bits::bit_vec::BitVec;
+
+/// Makes an indexed list and takes it apart again: the bits come back as they were.
+pub fn bits_come_back<A: Allocator + Copy>(bits: BitVec<A>) -> Result<BitVec<A>, AllocError>
+    ensures { IfOk result (λ v. v ≡ bits) }
+{
+    let indexed = RsVec::from_bit_vec(bits)?;
+    Ok(indexed.into_bit_vec())
+}
