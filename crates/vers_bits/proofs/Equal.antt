@@ -1,6 +1,6 @@
 -- The words follow from the bits that they hold.
 use Rattle.std.proofs.Common.{◌≡◌, ℕ, ◌+◌, ◌*◌, ◌/◌, ◌%◌, ◌^◌, ◌<◌, Bool, true, false, eqb, List, length, get_or, take, drop, refl, sym, ◌∙◌, ap, arith}
-use Rattle.std.proofs.lemmas.List.FromFn.{fill_by_all, get_or-map-range_with_len}
+use Rattle.std.proofs.lemmas.List.FromFn.{fill_by_all, length-map-range_with_len, get_or-map-range_with_len}
 use Rattle.std.proofs.lemmas.List.{same_lists, places, get_or-take, get_or-drop}
 use Rattle.std.proofs.lemmas.Bool.{false≢true}
 use Rattle.std.specs.Int.{bit_at}
@@ -21,16 +21,23 @@ limbs-word_bits words n h fits =
     (λ k p. sym (limb-word_bits words n k h (fits k)))
 
 -- place i of a list is a digit of its limb
-bit_at-limb : (l : List Bool) (i : ℕ) → bit_at (limb l (i / 64)) (i % 64) ≡ bit_value (get_or l i false)
+pub bit_at-limb : (l : List Bool) (i : ℕ) → bit_at (limb l (i / 64)) (i % 64) ≡ bit_value (get_or l i false)
 unfolding limb
 bit_at-limb l i =
     let place : 64 * (i / 64) + i % 64 ≡ i = omega arith in
     bit_at-number (take 64 (drop (64 * (i / 64)) l)) (i % 64)
     ∙ ap bit_value (get_or-take 64 (drop (64 * (i / 64)) l) (i % 64) false (omega arith) ∙ get_or-drop (64 * (i / 64)) l (i % 64) false ∙ ap (λ p. get_or l p false) place)
 
-limb-limbs : (l : List Bool) (i : ℕ) → i < length l → get_or (limbs l) (i / 64) 0 ≡ limb l (i / 64)
+pub length-limbs : (l : List Bool) → length (limbs l) ≡ limb_count (length l)
 unfolding limbs
-limb-limbs l i h = get_or-map-range_with_len (limb l) 0 (limb_count (length l)) (i / 64) (i / 64) 0 (omega arith) (omega arith)
+length-limbs l = length-map-range_with_len (limb l) 0 (limb_count (length l))
+
+pub get_or-limbs : (l : List Bool) (k : ℕ) → k < limb_count (length l) → get_or (limbs l) k 0 ≡ limb l k
+unfolding limbs
+get_or-limbs l k h = get_or-map-range_with_len (limb l) 0 (limb_count (length l)) k k 0 h (omega arith)
+
+limb-limbs : (l : List Bool) (i : ℕ) → i < length l → get_or (limbs l) (i / 64) 0 ≡ limb l (i / 64)
+limb-limbs l i h = get_or-limbs l (i / 64) (omega arith)
 
 same_value : (x y : Bool) → bit_value x ≡ bit_value y → x ≡ y
 same_value true true e = refl

@@ -12,3 +12,6 @@ pub mod Growing
 pub mod Edits
 pub mod Filling
 pub mod Stops
+pub mod Masks
+pub mod Zips
+pub mod Packed

@@ -1,6 +1,7 @@
 -- The laws of lists of bits, as statements.
-use Rattle.std.specs.Prelude.{◌≡◌, ℕ, ◌+◌, ◌<◌, ◌≤◌, min, Bool, true, false, List, length, slice_index_or}
-use Rattle.vers_bits.specs.Bits.{is_bit, count, select}
+use Rattle.std.specs.Prelude.{◌≡◌, ℕ, ◌+◌, ◌*◌, ◌%◌, ◌^◌, ◌<◌, ◌≤◌, ◌||◌, ◌&&◌, min, Bool, true, false, List, ◌++◌, length, take, drop, slice_index, slice_index_or, Some, bit_or, bit_and, bit_xor}
+use Rattle.vers_bits.specs.Bits.{number, low_bits, pack, part_number, masked, is_bit, count, select}
+use Rattle.vers_bits.specs.Masks.{zip_bits, xor}
 use Rattle.vers_bits.specs.Equality.{hash_input}
 
 abbrev pub EqualListsHashEqually : Type 0
@@ -25,3 +26,32 @@ pub record IsNextPlace (bit : Bool) (bits : List Bool) (i p : ℕ) : Type 0 wher
 -- to select what a count gave is to go on to the next one (or zero)
 abbrev pub SelectOfCountIsNext : Type 0
 SelectOfCountIsNext = (bit : Bool) (bits : List Bool) (i : ℕ) → i ≤ length bits → IsNextPlace bit bits i (select bit bits (count bit bits i))
+
+abbrev pub SplitListsJoin : Type 0
+SplitListsJoin = (bits : List Bool) (at : ℕ) → take at bits ++ drop at bits ≡ bits
+
+abbrev pub LowBitsAreAsMany : Type 0
+LowBitsAreAsMany = (v k : ℕ) → length (low_bits v k) ≡ k
+
+abbrev pub LowBitsAreTheRest : Type 0
+LowBitsAreTheRest = (v k : ℕ) → number (low_bits v k) ≡ v % 2 ^ k
+
+abbrev pub BitsFollowFromNumber : Type 0
+BitsFollowFromNumber = (bits : List Bool) → low_bits (number bits) (length bits) ≡ bits
+
+abbrev pub PackedElementsAreItems : Type 0
+PackedElementsAreItems = (items : List ℕ) (k e : ℕ) → 1 ≤ k → k ≤ 64 → e < length items
+    → part_number (pack items k) (e * k) k ≡ Some (slice_index items e % 2 ^ k)
+
+abbrev pub ZippedBitsAreCombined : Type 0
+ZippedBitsAreCombined = (f : Bool → Bool → Bool) (xs ys : List Bool) (p : ℕ) → length xs ≡ length ys → p < length xs
+    → slice_index_or (zip_bits f xs ys) p false ≡ f (slice_index_or xs p false) (slice_index_or ys p false)
+
+abbrev pub MaskOfOrIsOr : Type 0
+MaskOfOrIsOr = (xs ys : List Bool) → length xs ≡ length ys → masked bit_or xs ys ≡ zip_bits (λ x y. x || y) xs ys
+
+abbrev pub MaskOfAndIsAnd : Type 0
+MaskOfAndIsAnd = (xs ys : List Bool) → length xs ≡ length ys → masked bit_and xs ys ≡ zip_bits (λ x y. x && y) xs ys
+
+abbrev pub MaskOfXorIsXor : Type 0
+MaskOfXorIsXor = (xs ys : List Bool) → length xs ≡ length ys → masked bit_xor xs ys ≡ zip_bits xor xs ys

@@ -4,6 +4,7 @@ ghost use Rattle.vers_bits.specs.Words.{HoldsBits, AddsBit};
 ghost use Rattle.vers_bits.specs.Equality.{same_bits, hash_input, same_bits_per, same_bits_equiv, hash_input-Alike};
 
 pub use crate::bit_vec::fault::{GrowError, LengthMismatch, OutOfRange, SplitCause, SplitError};
+pub use crate::bit_vec::mask::BitMask;
 use std::alloc::{AllocError, Allocator};
 use std::hash::{Hash, Hasher};
 use std::marker::Model;
@@ -12,6 +13,7 @@ mod edit;
 mod fault;
 mod grow;
 mod make;
+pub mod mask;
 mod words;
 
 /// The greatest length of a list of bits.
@@ -143,7 +145,7 @@ impl<A: Allocator + Copy> BitVec<A> {
         requires { place < length self.now }
         ensures { result ≡ bit_value (slice_index_or self.now place false) }
     {
-        (self.data[place / 64] >> (place % 64)) & 1
+        u64::from(self.is_bit_set_unchecked(place))
     }
 
     /// Limb number `k`: the 64 bits from place `64 * k` on, the first as the least significant
@@ -173,7 +175,7 @@ impl<A: Allocator + Copy> BitVec<A> {
         self.limb(k).count_ones() as u64
     }
 
-    /// How many places hold a one.
+    /// How many ones the list has.
     #[tactic(auto, using(crate::proofs::Counting::limbs))]
     pub fn count_ones(&self) -> u64
         ensures { result ≡ count true self.now (length self.now) }
@@ -185,7 +187,7 @@ impl<A: Allocator + Copy> BitVec<A> {
         ones
     }
 
-    /// How many places hold a zero.
+    /// How many zeros the list has.
     #[tactic(auto, using(crate::proofs::Counting::limbs))]
     pub fn count_zeros(&self) -> u64
         ensures { result ≡ count false self.now (length self.now) }

@@ -1,6 +1,6 @@
 //! Laws over the definitions, which hold of every list of bits. Each function does nothing:
 //! its contract is the law, and its proof is checked with the crate.
-ghost use Rattle.vers_bits.specs.Laws.{EqualListsHashEqually, ZerosAndOnesAddUp, SelectFindsNumber, SelectOfCountIsNext};
+ghost use Rattle.vers_bits.specs.Laws.{EqualListsHashEqually, ZerosAndOnesAddUp, SelectFindsNumber, SelectOfCountIsNext, SplitListsJoin, LowBitsAreAsMany, LowBitsAreTheRest, BitsFollowFromNumber, PackedElementsAreItems, ZippedBitsAreCombined, MaskOfOrIsOr, MaskOfAndIsAnd, MaskOfXorIsXor};
 
 /// Equal lists are fed to a hasher alike, so that they hash equally.
 pub fn equal_lists_hash_equally()
@@ -24,4 +24,49 @@ pub fn select_finds_number()
 #[tactic(auto, using(crate::proofs::Neighbours::laws))]
 pub fn select_of_count_is_next()
     ensures { SelectOfCountIsNext }
+{}
+
+/// After a split, the first list with the second appended is the old one.
+pub fn split_lists_join()
+    ensures { SplitListsJoin }
+{}
+
+/// The low `k` bits of a number are `k` bits.
+pub fn low_bits_are_as_many()
+    ensures { LowBitsAreAsMany }
+{}
+
+/// The low `k` bits of a number make the number modulo `2 ^ k`.
+pub fn low_bits_are_the_rest()
+    ensures { LowBitsAreTheRest }
+{}
+
+/// A list of bits follows from its number and its length.
+pub fn bits_follow_from_number()
+    ensures { BitsFollowFromNumber }
+{}
+
+/// Element `e` of a packed list of 1 to 64 bits an item is item `e` modulo `2 ^ k`.
+pub fn packed_elements_are_items()
+    ensures { PackedElementsAreItems }
+{}
+
+/// Bit `p` of two lists combined bit by bit is what both bits `p` make.
+pub fn zipped_bits_are_combined()
+    ensures { ZippedBitsAreCombined }
+{}
+
+/// The mask by the or of limbs is the or of the bits.
+pub fn mask_of_or_is_or()
+    ensures { MaskOfOrIsOr }
+{}
+
+/// The mask by the and of limbs is the and of the bits.
+pub fn mask_of_and_is_and()
+    ensures { MaskOfAndIsAnd }
+{}
+
+/// The mask by the xor of limbs is the xor of the bits.
+pub fn mask_of_xor_is_xor()
+    ensures { MaskOfXorIsXor }
 {}

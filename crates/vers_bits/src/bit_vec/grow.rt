@@ -9,10 +9,7 @@ use crate::bit_vec::words::{add_bit, add_bits, add_zeros, low_part};
 use crate::bit_vec::{BitVec, GrowError, MAX_LEN};
 use std::alloc::{AllocError, Allocator};
 
-#[tactic(
-    auto,
-    using(crate::proofs::Words::words, crate::proofs::Holds::holding, crate::proofs::Growing::growth)
-)]
+#[tactic(auto, using(crate::proofs::Words::words, crate::proofs::Holds::holding, crate::proofs::Growing::growth))]
 impl<A: Allocator + Copy> BitVec<A> {
     /// Appends a bit. TooLong at the greatest length alone; memory may be wanted only where the
     /// length is a multiple of 64. The list is as it was where the call is refused.
@@ -137,6 +134,23 @@ impl<A: Allocator + Copy> BitVec<A> {
         self.append_bit(u64::from(number))
     }
 
+    // Appends the bits of another list from a place on. Where the call is refused some of them may
+    // have been appended.
+    fn append_from(&mut self, other: &BitVec<A>, start: usize) -> Result<(), GrowError>
+        requires start { start ≤ length other.now }
+        requires short { length self.old + (length other.now - start) ≤ MAX_LEN }
+        ensures grown { OnOk result (self.new ≡ self.old ++ drop start other.now) }
+        ensures begun { OnErr result (take (length self.old) self.new ≡ self.old) }
+    {
+        let added = other.len() - start;
+        self.reserve(added)?;
+        for k in 0..added / 64 {
+            self.append_bits(other.get_bits_unchecked(start + 64 * k, 64), 64)?;
+        }
+        let rest = added % 64;
+        self.append_bits(other.get_bits_unchecked(start + (added - rest), rest), rest)
+    }
+
     // Appends the bits of another list from a place on.
     pub(super) fn extend_from(&mut self, other: &BitVec<A>, start: usize) -> Result<(), GrowError>
         requires { start ≤ length other.now }
@@ -144,19 +158,13 @@ impl<A: Allocator + Copy> BitVec<A> {
         ensures kept { OnErr result (self.new ≡ self.old) }
         ensures too_long { (result ≡ Err GrowError.TooLong) ↔ (MAX_LEN < length self.old + (length other.now - start)) }
     {
-        let added = other.len() - start;
-        let old_len = self.len();
-        if added > MAX_LEN - old_len {
+        let len = self.len();
+        if other.len() - start > MAX_LEN - len {
             return Err(GrowError::TooLong);
         }
-        self.reserve(added)?;
-        for k in 0..added.div_ceil(64) {
-            let place = start + 64 * k;
-            let n = (other.len() - place).min(64);
-            if self.append_bits(other.get_bits_unchecked(place, n), n).is_err() {
-                self.truncate(old_len);
-                return Err(GrowError::Memory);
-            }
+        if self.append_from(other, start).is_err() {
+            self.truncate(len);
+            return Err(GrowError::Memory);
         }
         Ok(())
     }
@@ -173,7 +181,10 @@ impl<A: Allocator + Copy> BitVec<A> {
 
     /// Appends the lists of an iterator that ends, in order. At the first list that finds no place
     /// the call is refused: the lists before it stay appended, and of that one nothing.
-    pub fn extend<I: Iterator<Item = BitVec<A>> + Drop>(&mut self, lists: I) -> Result<(), GrowError>
+    pub fn extend<I: Iterator<Item = BitVec<A>> + Drop>(
+        &mut self,
+        lists: I,
+    ) -> Result<(), GrowError>
         requires can { I.can_next lists }
         requires ends { IsFinite (I.remaining lists) }
         ensures grown { OnOk result ((xs : List (List Bool)) × Drains I.next_gives lists xs × (self.new ≡ self.old ++ flat_map (λ x. x) xs)) }

@@ -95,15 +95,13 @@ impl Item for u64 {
 
 #[tactic(auto, using(crate::proofs::Limbs::from_words))]
 impl<A: Allocator + Copy> BitVec<A> {
-    /// The empty list, with room for `n` bits.
+    /// The empty list, with room for `n` bits. TooLong where `n` is above `MAX_LEN`.
     #[tactic(auto, unfolding(crate::specs::Words::word_bits))]
     pub fn with_capacity(alloc: A, n: usize) -> Result<Self, GrowError>
         ensures made { IfOk result (λ v. v ≡ []) }
         ensures too_long { (result ≡ Err GrowError.TooLong) ↔ (MAX_LEN < n) }
     {
-        if n > MAX_LEN {
-            return Err(GrowError::TooLong);
-        }
+        check_len(n)?;
         let data = Vec::with_capacity(alloc, n.div_ceil(64))?;
         Ok(BitVec { data, len: 0 })
     }
@@ -114,9 +112,7 @@ impl<A: Allocator + Copy> BitVec<A> {
         ensures made { IfOk result (λ v. v ≡ replicate n bit) }
         ensures too_long { (result ≡ Err GrowError.TooLong) ↔ (MAX_LEN < n) }
     {
-        if n > MAX_LEN {
-            return Err(GrowError::TooLong);
-        }
+        check_len(n)?;
         let word = equal_word(bit);
         let mut data = Vec::new(alloc);
         data.resize(n.div_ceil(64), word)?;
@@ -124,7 +120,7 @@ impl<A: Allocator + Copy> BitVec<A> {
         Ok(BitVec { data, len: n })
     }
 
-    /// `n` zeros.
+    /// `n` zeros. TooLong where `n` is above `MAX_LEN`.
     pub fn from_zeros(alloc: A, n: usize) -> Result<Self, GrowError>
         ensures made { IfOk result (λ v. v ≡ replicate n false) }
         ensures too_long { (result ≡ Err GrowError.TooLong) ↔ (MAX_LEN < n) }
@@ -132,7 +128,7 @@ impl<A: Allocator + Copy> BitVec<A> {
         BitVec::from_equal(alloc, false, n)
     }
 
-    /// `n` ones.
+    /// `n` ones. TooLong where `n` is above `MAX_LEN`.
     pub fn from_ones(alloc: A, n: usize) -> Result<Self, GrowError>
         ensures made { IfOk result (λ v. v ≡ replicate n true) }
         ensures too_long { (result ≡ Err GrowError.TooLong) ↔ (MAX_LEN < n) }
@@ -140,28 +136,24 @@ impl<A: Allocator + Copy> BitVec<A> {
         BitVec::from_equal(alloc, true, n)
     }
 
-    /// The bits of limbs, the least significant bit of each first. Takes no memory, and fails only
-    /// where the list would be longer than `MAX_LEN`.
+    /// The bits of limbs, 64 of each, its least significant bit first. Takes no memory: TooLong is
+    /// the only fault, where they are more than `MAX_LEN` bits. The limbs are dropped then.
     pub fn from_vec(limbs: Vec<u64, A>) -> Result<Self, GrowError>
-        ensures made { IfOk result (λ v. v ≡ flat_map (λ w. low_bits w 64) limbs.items) }
+        ensures made { IfOk result (λ v. v ≡ pack limbs.items 64) }
         ensures too_long { (result ≡ Err GrowError.TooLong) ↔ (MAX_LEN < 64 * length limbs.items) }
         ensures room { 64 * length limbs.items ≤ MAX_LEN → IsOk result }
     {
-        if limbs.len() > MAX_LEN / 64 {
-            return Err(GrowError::TooLong);
-        }
-        let len = 64 * limbs.len();
+        let len = bits_of_limbs(limbs.len())?;
         Ok(BitVec { data: limbs, len })
     }
 
-    /// The bits of limbs, the least significant bit of each first.
+    /// The bits of limbs, 64 of each, its least significant bit first. TooLong where they are more
+    /// than `MAX_LEN` bits, which is tested before memory is asked for.
     pub fn from_limbs(alloc: A, limbs: &[u64]) -> Result<Self, GrowError>
-        ensures made { IfOk result (λ v. v ≡ flat_map (λ w. low_bits w 64) limbs.now) }
+        ensures made { IfOk result (λ v. v ≡ pack limbs.now 64) }
         ensures too_long { (result ≡ Err GrowError.TooLong) ↔ (MAX_LEN < 64 * length limbs.now) }
     {
-        if limbs.len() > MAX_LEN / 64 {
-            return Err(GrowError::TooLong);
-        }
+        bits_of_limbs(limbs.len())?;
         BitVec::from_vec(Vec::from_slice(alloc, limbs)?)
     }
 
@@ -180,7 +172,10 @@ impl<A: Allocator + Copy> BitVec<A> {
     }
 
     // A bit an item of an iterator.
-    fn odd_items_of<T: Item, I: Iterator<Item = T> + Drop>(alloc: A, items: I) -> Result<Self, GrowError>
+    fn odd_items_of<T: Item, I: Iterator<Item = T> + Drop>(
+        alloc: A,
+        items: I,
+    ) -> Result<Self, GrowError>
         requires can { I.can_next items }
         requires ends { IsFinite (I.remaining items) }
         ensures made { IfOk result (λ v. (xs : List T) × Drains I.next_gives items xs × (v ≡ map T.is_odd xs)) }
@@ -228,7 +223,7 @@ impl<A: Allocator + Copy> BitVec<A> {
         Ok(list)
     }
 
-    /// A bit an item: a one where the item is odd.
+    /// A bit an item: a one where the item is odd. TooLong where the items are more than `MAX_LEN`.
     pub fn from_bits(alloc: A, bits: &[u8]) -> Result<Self, GrowError>
         ensures made { IfOk result (λ v. v ≡ map (λ n. n % 2 == 1) bits.now) }
         ensures too_long { (result ≡ Err GrowError.TooLong) ↔ (MAX_LEN < length bits.now) }
@@ -236,7 +231,7 @@ impl<A: Allocator + Copy> BitVec<A> {
         BitVec::odd_items(alloc, bits)
     }
 
-    /// A bit an item: a one where the item is odd.
+    /// A bit an item: a one where the item is odd. TooLong where the items are more than `MAX_LEN`.
     pub fn from_bits_u16(alloc: A, bits: &[u16]) -> Result<Self, GrowError>
         ensures made { IfOk result (λ v. v ≡ map (λ n. n % 2 == 1) bits.now) }
         ensures too_long { (result ≡ Err GrowError.TooLong) ↔ (MAX_LEN < length bits.now) }
@@ -244,7 +239,7 @@ impl<A: Allocator + Copy> BitVec<A> {
         BitVec::odd_items(alloc, bits)
     }
 
-    /// A bit an item: a one where the item is odd.
+    /// A bit an item: a one where the item is odd. TooLong where the items are more than `MAX_LEN`.
     pub fn from_bits_u32(alloc: A, bits: &[u32]) -> Result<Self, GrowError>
         ensures made { IfOk result (λ v. v ≡ map (λ n. n % 2 == 1) bits.now) }
         ensures too_long { (result ≡ Err GrowError.TooLong) ↔ (MAX_LEN < length bits.now) }
@@ -252,7 +247,7 @@ impl<A: Allocator + Copy> BitVec<A> {
         BitVec::odd_items(alloc, bits)
     }
 
-    /// A bit an item: a one where the item is odd.
+    /// A bit an item: a one where the item is odd. TooLong where the items are more than `MAX_LEN`.
     pub fn from_bits_u64(alloc: A, bits: &[u64]) -> Result<Self, GrowError>
         ensures made { IfOk result (λ v. v ≡ map (λ n. n % 2 == 1) bits.now) }
         ensures too_long { (result ≡ Err GrowError.TooLong) ↔ (MAX_LEN < length bits.now) }
@@ -260,9 +255,12 @@ impl<A: Allocator + Copy> BitVec<A> {
         BitVec::odd_items(alloc, bits)
     }
 
-    /// A bit an item of an iterator that ends: a one where the item is odd. TooLong, and Memory
-    /// for want of memory, at the first item that finds no place.
-    pub fn from_bits_iter<I: Iterator<Item = u64> + Drop>(alloc: A, bits: I) -> Result<Self, GrowError>
+    /// A bit an item of an iterator that ends: a one where the item is odd. TooLong at the item
+    /// that would pass `MAX_LEN` bits, Memory at the one that finds no memory.
+    pub fn from_bits_iter<I: Iterator<Item = u64> + Drop>(
+        alloc: A,
+        bits: I,
+    ) -> Result<Self, GrowError>
         requires can { I.can_next bits }
         requires ends { IsFinite (I.remaining bits) }
         ensures made { IfOk result (λ v. (xs : List ℕ) × Drains I.next_gives bits xs × (v ≡ map (λ n. n % 2 == 1) xs)) }
@@ -271,7 +269,7 @@ impl<A: Allocator + Copy> BitVec<A> {
         BitVec::odd_items_of(alloc, bits)
     }
 
-    /// The truth values.
+    /// The truth values. TooLong where they are more than `MAX_LEN`.
     pub fn from_bools(alloc: A, bools: &[bool]) -> Result<Self, GrowError>
         ensures made { IfOk result (λ v. v ≡ bools.now) }
         ensures too_long { (result ≡ Err GrowError.TooLong) ↔ (MAX_LEN < length bools.now) }
@@ -279,9 +277,12 @@ impl<A: Allocator + Copy> BitVec<A> {
         BitVec::odd_items(alloc, bools)
     }
 
-    /// The truth values of an iterator that ends. TooLong, and Memory for want of memory, at the
-    /// first item that finds no place.
-    pub fn from_bool_iter<I: Iterator<Item = bool> + Drop>(alloc: A, bools: I) -> Result<Self, GrowError>
+    /// The truth values of an iterator that ends. TooLong at the one that would pass `MAX_LEN` bits,
+    /// Memory at the one that finds no memory.
+    pub fn from_bool_iter<I: Iterator<Item = bool> + Drop>(
+        alloc: A,
+        bools: I,
+    ) -> Result<Self, GrowError>
         requires can { I.can_next bools }
         requires ends { IsFinite (I.remaining bools) }
         ensures made { IfOk result (λ v. Drains I.next_gives bools v) }
@@ -290,18 +291,22 @@ impl<A: Allocator + Copy> BitVec<A> {
         BitVec::odd_items_of(alloc, bools)
     }
 
-    /// The bits of the limbs of an iterator that ends, the least significant bit of each first.
-    /// TooLong, and Memory for want of memory, at the first limb that finds no place.
-    pub fn from_limbs_iter<I: Iterator<Item = u64> + Drop>(alloc: A, limbs: I) -> Result<Self, GrowError>
+    /// The bits of the limbs of an iterator that ends, 64 of each, its least significant bit first.
+    /// TooLong at the limb that would pass `MAX_LEN` bits, Memory at the one that finds no memory.
+    pub fn from_limbs_iter<I: Iterator<Item = u64> + Drop>(
+        alloc: A,
+        limbs: I,
+    ) -> Result<Self, GrowError>
         requires can { I.can_next limbs }
         requires ends { IsFinite (I.remaining limbs) }
-        ensures made { IfOk result (λ v. (xs : List ℕ) × Drains I.next_gives limbs xs × (v ≡ flat_map (λ w. low_bits w 64) xs)) }
+        ensures made { IfOk result (λ v. (xs : List ℕ) × Drains I.next_gives limbs xs × (v ≡ pack xs 64)) }
         ensures refused { IfErr result (λ e. StopsAt I.next_gives limbs (λ xs x. (e ≡ GrowError.TooLong) ↔ (MAX_LEN < (length xs + 1) * 64))) }
     {
         BitVec::packed_items_of(alloc, limbs, 64)
     }
 
-    /// The low `k` bits of each number, one after another, with zeros past 8 bits.
+    /// The low `k` bits of each number, one after another, with zeros above its 8 bits. TooLong
+    /// where they are more than `MAX_LEN`, which is tested before memory is asked for.
     pub fn pack_sequence_u8(alloc: A, sequence: &[u8], k: usize) -> Result<Self, GrowError>
         ensures made { IfOk result (λ v. v ≡ pack sequence.now k) }
         ensures too_long { (result ≡ Err GrowError.TooLong) ↔ (MAX_LEN < length sequence.now * k) }
@@ -309,7 +314,8 @@ impl<A: Allocator + Copy> BitVec<A> {
         BitVec::packed_items(alloc, sequence, k)
     }
 
-    /// The low `k` bits of each number, one after another, with zeros past 16 bits.
+    /// The low `k` bits of each number, one after another, with zeros above its 16 bits. TooLong
+    /// where they are more than `MAX_LEN`, which is tested before memory is asked for.
     pub fn pack_sequence_u16(alloc: A, sequence: &[u16], k: usize) -> Result<Self, GrowError>
         ensures made { IfOk result (λ v. v ≡ pack sequence.now k) }
         ensures too_long { (result ≡ Err GrowError.TooLong) ↔ (MAX_LEN < length sequence.now * k) }
@@ -317,7 +323,8 @@ impl<A: Allocator + Copy> BitVec<A> {
         BitVec::packed_items(alloc, sequence, k)
     }
 
-    /// The low `k` bits of each number, one after another, with zeros past 32 bits.
+    /// The low `k` bits of each number, one after another, with zeros above its 32 bits. TooLong
+    /// where they are more than `MAX_LEN`, which is tested before memory is asked for.
     pub fn pack_sequence_u32(alloc: A, sequence: &[u32], k: usize) -> Result<Self, GrowError>
         ensures made { IfOk result (λ v. v ≡ pack sequence.now k) }
         ensures too_long { (result ≡ Err GrowError.TooLong) ↔ (MAX_LEN < length sequence.now * k) }
@@ -325,7 +332,8 @@ impl<A: Allocator + Copy> BitVec<A> {
         BitVec::packed_items(alloc, sequence, k)
     }
 
-    /// The low `k` bits of each number, one after another, with zeros past 64 bits.
+    /// The low `k` bits of each number, one after another, with zeros above its 64 bits. TooLong
+    /// where they are more than `MAX_LEN`, which is tested before memory is asked for.
     pub fn pack_sequence_u64(alloc: A, sequence: &[u64], k: usize) -> Result<Self, GrowError>
         ensures made { IfOk result (λ v. v ≡ pack sequence.now k) }
         ensures too_long { (result ≡ Err GrowError.TooLong) ↔ (MAX_LEN < length sequence.now * k) }
@@ -333,8 +341,8 @@ impl<A: Allocator + Copy> BitVec<A> {
         BitVec::packed_items(alloc, sequence, k)
     }
 
-    /// The low `k` bits of each number of an iterator that ends, with zeros past 8 bits.
-    /// TooLong, and Memory for want of memory, at the first number that finds no place.
+    /// The low `k` bits of each number of an iterator that ends, with zeros above its 8 bits.
+    /// TooLong at the number that would pass `MAX_LEN` bits, Memory at the one that finds no memory.
     pub fn pack_from_iter_u8<I: Iterator<Item = u8> + Drop>(
         alloc: A,
         sequence: I,
@@ -348,8 +356,8 @@ impl<A: Allocator + Copy> BitVec<A> {
         BitVec::packed_items_of(alloc, sequence, k)
     }
 
-    /// The low `k` bits of each number of an iterator that ends, with zeros past 16 bits.
-    /// TooLong, and Memory for want of memory, at the first number that finds no place.
+    /// The low `k` bits of each number of an iterator that ends, with zeros above its 16 bits.
+    /// TooLong at the number that would pass `MAX_LEN` bits, Memory at the one that finds no memory.
     pub fn pack_from_iter_u16<I: Iterator<Item = u16> + Drop>(
         alloc: A,
         sequence: I,
@@ -363,8 +371,8 @@ impl<A: Allocator + Copy> BitVec<A> {
         BitVec::packed_items_of(alloc, sequence, k)
     }
 
-    /// The low `k` bits of each number of an iterator that ends, with zeros past 32 bits.
-    /// TooLong, and Memory for want of memory, at the first number that finds no place.
+    /// The low `k` bits of each number of an iterator that ends, with zeros above its 32 bits.
+    /// TooLong at the number that would pass `MAX_LEN` bits, Memory at the one that finds no memory.
     pub fn pack_from_iter_u32<I: Iterator<Item = u32> + Drop>(
         alloc: A,
         sequence: I,
@@ -378,8 +386,8 @@ impl<A: Allocator + Copy> BitVec<A> {
         BitVec::packed_items_of(alloc, sequence, k)
     }
 
-    /// The low `k` bits of each number of an iterator that ends, with zeros past 64 bits.
-    /// TooLong, and Memory for want of memory, at the first number that finds no place.
+    /// The low `k` bits of each number of an iterator that ends, with zeros above its 64 bits.
+    /// TooLong at the number that would pass `MAX_LEN` bits, Memory at the one that finds no memory.
     pub fn pack_from_iter_u64<I: Iterator<Item = u64> + Drop>(
         alloc: A,
         sequence: I,
@@ -392,6 +400,29 @@ impl<A: Allocator + Copy> BitVec<A> {
     {
         BitVec::packed_items_of(alloc, sequence, k)
     }
+}
+
+// TooLong for a length above `MAX_LEN`.
+fn check_len(len: usize) -> Result<(), GrowError>
+    ensures exact { (result ≡ Err GrowError.TooLong) ↔ (MAX_LEN < len) }
+    ensures within { len ≤ MAX_LEN → IsOk result }
+{
+    if len > MAX_LEN {
+        return Err(GrowError::TooLong);
+    }
+    Ok(())
+}
+
+// How many bits limbs have. TooLong where they are more than `MAX_LEN`.
+fn bits_of_limbs(limbs: usize) -> Result<usize, GrowError>
+    ensures value { IfOk result (λ len. len ≡ 64 * limbs) }
+    ensures exact { (result ≡ Err GrowError.TooLong) ↔ (MAX_LEN < 64 * limbs) }
+    ensures within { 64 * limbs ≤ MAX_LEN → IsOk result }
+{
+    if limbs > MAX_LEN / 64 {
+        return Err(GrowError::TooLong);
+    }
+    Ok(64 * limbs)
 }
 
 // A word of 64 equal bits.

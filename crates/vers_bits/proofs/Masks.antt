@@ -1,0 +1,102 @@
+-- Masked lists, place by place and limb by limb.
+use Rattle.std.proofs.Common.{◌≡◌, ℕ, ◌+◌, ◌-◌, ◌*◌, ◌/◌, ◌%◌, ◌^◌, ◌<◌, ◌≤◌, Bool, false, eqb, List, Some, None, min, length, get_or, set, take, drop, sym, ◌∙◌, ap, inl, inr, arith}
+use Rattle.std.specs.Int.{bit_at}
+use Rattle.std.specs.Prelude.{bit_and, count_ones, slice_get}
+use Rattle.std.proofs.lemmas.Bool.{cases_lt, cases_eq}
+use Rattle.std.proofs.lemmas.Nat.{ones-le}
+use Rattle.std.proofs.lemmas.Nat.Bits.{bit_at-lt, shr_and_one, same_from_bits}
+use Rattle.std.proofs.lemmas.Option.{slice_get-get_or, slice_get_past}
+use Rattle.std.proofs.lemmas.List.{get_or-take, get_or-drop, get_or_past, get_or-set_same, get_or-set_other, length-take, length-drop}
+use Rattle.std.proofs.lemmas.List.FromFn.{length-map-range_with_len, get_or-map-range_with_len}
+use Rattle.vers_bits.specs.Bits.{bit_value, limb, masked}
+use Rattle.vers_bits.specs.Words.{word_bits, CutsTo}
+use Rattle.vers_bits.proofs.Words.{word_bits_are}
+use Rattle.vers_bits.proofs.Edits.{cut_holds}
+use Rattle.vers_bits.proofs.Num.{bit_at-number}
+use Rattle.vers_bits.proofs.Count.{count_limb_whole, count_past, count_none, count_le, count_both}
+use Rattle.vers_bits.proofs.Counting.{part_of_limb, part_number_none, part_number_some, parts_join}
+use Rattle.vers_bits.proofs.LowBits.{bit_value_test, bit_at_mod, bit_at_mod_above}
+
+pub length-masked : (g : ℕ → ℕ → ℕ) (l r : List Bool) → length (masked g l r) ≡ length l
+unfolding masked
+length-masked g l r = length-map-range_with_len (λ p. eqb (bit_at (g (limb l (p / 64)) (limb r (p / 64))) (p % 64)) 1) 0 (length l)
+
+pub get_or-masked : (g : ℕ → ℕ → ℕ) (l r : List Bool) (p : ℕ) → p < length l
+    → get_or (masked g l r) p false ≡ eqb (bit_at (g (limb l (p / 64)) (limb r (p / 64))) (p % 64)) 1
+unfolding masked
+get_or-masked g l r p h =
+    get_or-map-range_with_len (λ q. eqb (bit_at (g (limb l (q / 64)) (limb r (q / 64))) (q % 64)) 1) 0 (length l) p p false h (omega arith)
+
+-- what a read of one bit computes
+pub bit-masked : (g : ℕ → ℕ → ℕ) (l r : List Bool) (p : ℕ) → p < length l
+    → get_or (masked g l r) p false ≡ eqb (bit_and (g (limb l (p / 64)) (limb r (p / 64)) / 2 ^ (p % 64)) 1) 1
+bit-masked g l r p h = rw shr_and_one (get_or-masked g l r p h)
+
+pub value-masked : (g : ℕ → ℕ → ℕ) (l r : List Bool) (p : ℕ) → p < length l
+    → bit_value (get_or (masked g l r) p false) ≡ bit_and (g (limb l (p / 64)) (limb r (p / 64)) / 2 ^ (p % 64)) 1
+value-masked g l r p h =
+    let w : ℕ = g (limb l (p / 64)) (limb r (p / 64)) in
+    rw shr_and_one (ap bit_value (get_or-masked g l r p h) ∙ bit_value_test (bit_at w (p % 64)) (bit_at-lt w (p % 64)))
+
+-- a limb of the masked list has the digits of the answer that lie below the length
+pub limb-masked : (g : ℕ → ℕ → ℕ) (l r : List Bool) (k : ℕ)
+    → limb (masked g l r) k ≡ g (limb l k) (limb r k) % 2 ^ min (length l - 64 * k) 64
+unfolding limb
+limb-masked g l r k =
+    let m : ℕ = min (length l - 64 * k) 64 in
+    let w : ℕ = g (limb l k) (limb r k) in
+    let bits : List Bool = take 64 (drop (64 * k) (masked g l r)) in
+    same_from_bits _ (w % 2 ^ m) (λ i.
+    bit_at-number bits i ∙ elim (cases_lt i m) [
+      | inl h ↦
+          let word : (64 * k + i) / 64 ≡ k = omega arith in
+          let place : (64 * k + i) % 64 ≡ i = omega arith in
+          ap bit_value (get_or-take 64 (drop (64 * k) (masked g l r)) i false (omega arith) ∙ get_or-drop (64 * k) (masked g l r) i false
+          ∙ get_or-masked g l r (64 * k + i) (omega arith)
+          ∙ ap (λ q. eqb (bit_at (g (limb l q) (limb r q)) ((64 * k + i) % 64)) 1) word ∙ ap (λ p. eqb (bit_at w p) 1) place)
+          ∙ bit_value_test (bit_at w i) (bit_at-lt w i) ∙ sym (bit_at_mod w m i h)
+      | inr h ↦ ap bit_value (get_or_past bits i false (omega (arith, length-take 64 (drop (64 * k) (masked g l r)), length-drop (64 * k) (masked g l r), length-masked g l r))) ∙ sym (bit_at_mod_above w m i h)
+    ])
+
+-- at most as many ones as the limb has bits of the list
+pub few_ones : (w n : ℕ) → w < 2 ^ min n 64 → (count_ones w ≤ 64) × (count_ones w ≤ n)
+few_ones w n h = let few : count_ones w ≤ min n 64 = ones-le (min n 64) w h in (omega arith, omega arith)
+
+pub ruleset reads = (bit-masked, value-masked)
+
+pub ruleset lengths = (length-masked)
+
+pub ruleset limbs = (limb-masked, few_ones)
+
+pub ruleset counts = (count_limb_whole, count_past, count_none, count_le, count_both, length-masked)
+
+pub ruleset parts = (part_of_limb, part_number_none, part_number_some, parts_join, length-masked)
+
+-- a read with a test before it
+pub place-masked : (g : ℕ → ℕ → ℕ) (l r : List Bool) (p : ℕ) → p < length l → slice_get (masked g l r) p ≡ Some (get_or (masked g l r) p false)
+place-masked g l r p h = slice_get-get_or (masked g l r) p false (omega (arith, length-masked g l r))
+
+pub place_past-masked : (g : ℕ → ℕ → ℕ) (l r : List Bool) (p : ℕ) → length l ≤ p → slice_get (masked g l r) p ≡ None
+place_past-masked g l r p h = slice_get_past (masked g l r) p (omega (arith, length-masked g l r))
+
+pub ruleset places = (place-masked, place_past-masked)
+
+-- words that are the answers on both limbs, cut to the length
+pub combined : {us vs : List ℕ} {n : ℕ} → CutsTo us vs n → (g : ℕ → ℕ → ℕ) (l r : List Bool) → length l ≡ n
+    → ((k : ℕ) → 64 * k < n → get_or us k 0 ≡ g (limb l k) (limb r k)) → word_bits vs n ≡ masked g l r
+combined {us} {vs} {n} cuts g l r long each =
+    word_bits_are vs n (masked g l r) (length-masked g l r ∙ long)
+    (λ i h. cuts.below i h ∙ ap (λ w. eqb (bit_at w (i % 64)) 1) (each (i / 64) (omega arith)) ∙ sym (get_or-masked g l r i (omega arith)))
+
+pub ruleset combines = (cut_holds)
+
+-- one word more of a list whose words become what f makes of them and the others
+pub combined_more : (ws us os : List ℕ) (k r : ℕ) (f : ℕ → ℕ → ℕ) → k < length us → ((j : ℕ) → k ≤ j → get_or us j 0 ≡ get_or ws j 0)
+    → ((j : ℕ) → j < k → get_or us j 0 ≡ f (get_or ws j 0) (get_or os j 0)) → r ≡ f (get_or us k 0) (get_or os k 0)
+    → (j : ℕ) → j < k + 1 → get_or (set us k r) j 0 ≡ f (get_or ws j 0) (get_or os j 0)
+combined_more ws us os k r f within others done here j h =
+    elim (cases_eq j k) [
+      | inl e ↦ ap (λ m. get_or (set us k r) m 0) e ∙ get_or-set_same us k r 0 within ∙ here ∙ ap (λ w. f w (get_or os k 0)) (others k (omega arith))
+          ∙ sym (ap (λ m. f (get_or ws m 0) (get_or os m 0)) e)
+      | inr e ↦ get_or-set_other us k j r 0 e ∙ done j (omega arith)
+    ]

@@ -1,0 +1,29 @@
+-- The elements of a packed list.
+use Rattle.std.proofs.Common.{◌≡◌, ℕ, zero, suc, ◌+◌, ◌*◌, ◌%◌, ◌^◌, ◌<◌, ◌≤◌, List, [], ◌∷◌, ◌++◌, length, take, drop, get_or, Some, sym, ap, ◌∙◌, arith}
+use Rattle.std.proofs.lemmas.List.{take_at, drop_at, drop-drop}
+use Rattle.std.proofs.lemmas.Nat.{row_fits}
+use Rattle.vers_bits.specs.Bits.{number, low_bits, pack, part_number}
+use Rattle.vers_bits.proofs.LowBits.{length-low_bits, number-low_bits}
+use Rattle.vers_bits.proofs.Growing.{length-packed}
+use Rattle.vers_bits.proofs.Counting.{part_number_some}
+
+-- the bits of element e
+element : (items : List ℕ) (k e : ℕ) → e < length items → take k (drop (e * k) (pack items k)) ≡ low_bits (get_or items e 0) k
+element [] k e h = absurd (omega arith)
+element (v ∷ items) k zero h =
+    let none : zero * k ≡ 0 = omega arith in
+    ap (λ p. take k (drop p (low_bits v k ++ pack items k))) none ∙ take_at (low_bits v k) (pack items k) k (length-low_bits v k)
+element (v ∷ items) k (suc e) h =
+    let place : suc e * k ≡ k + e * k = omega arith in
+    ap (λ p. take k (drop p (low_bits v k ++ pack items k))) place
+    ∙ ap (take k) (sym (drop-drop (e * k) k (low_bits v k ++ pack items k)) ∙ ap (drop (e * k)) (drop_at (low_bits v k) (pack items k) k (length-low_bits v k)))
+    ∙ element items k e (omega arith)
+
+-- it lies inside
+element_fits : (n k e : ℕ) → e < n → e * k + k ≤ n * k
+element_fits n k e h = row_fits e k n k h (omega arith)
+
+pub packed_element : (items : List ℕ) (k e : ℕ) → 1 ≤ k → k ≤ 64 → e < length items → part_number (pack items k) (e * k) k ≡ Some (get_or items e 0 % 2 ^ k)
+packed_element items k e some few h =
+    let fits : e * k + k ≤ length (pack items k) = omega (arith, length-packed (λ v. v) k items, element_fits (length items) k e h) in
+    part_number_some (pack items k) (e * k) k some few fits ∙ ap (λ l. Some (number l)) (element items k e h) ∙ ap Some (number-low_bits (get_or items e 0) k)

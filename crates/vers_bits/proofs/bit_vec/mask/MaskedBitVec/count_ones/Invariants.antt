@@ -1,0 +1,11 @@
+use Rattle.std.proofs.Common.{◌≡◌, ◌*◌, ◌≤◌, ℕ, true, length}
+use Rattle.vers_bits.specs.Bits.{count, masked}
+use Rattle.vers_bits.specs.Masks.{AnswersAs}
+use Rattle.vers_bits.proofs.bit_vec.mask.MaskedBitVec.count_ones.Given as goal
+
+abbrev pub invariant-loop-k : goal.invariant-loop-k
+invariant-loop-k g l = record {
+  counted : (f : ℕ → ℕ → ℕ) → AnswersAs (goal.F-post g l.self.mask) f → l.ones ≡ count true (masked f l.self.left l.self.right) (64 * l.k);
+  few : l.ones ≤ 64 * l.k;
+  inside : l.ones ≤ length l.self.left;
+}

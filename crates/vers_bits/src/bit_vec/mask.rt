@@ -1,0 +1,536 @@
+//! Two lists of bits of one length, seen as one through a function on their limbs.
+ghost use Rattle.std.specs.Prelude.{◌≡◌, ◌≢◌, ℕ, ◌+◌, ◌-◌, ◌*◌, ◌/◌, ◌%◌, ◌^◌, ◌<◌, ◌≤◌, ◌||◌, ◌&&◌, true, false, min, length, take, drop, option_map, slice_get, slice_index, slice_index_or, MatchResult, IfOk, bit_or, bit_and, bit_xor};
+ghost use Rattle.vers_bits.specs.Kinds.{limb_op};
+ghost use Rattle.vers_bits.specs.Bits.{bit_value, number, count, limb, part, part_number, masked};
+ghost use Rattle.vers_bits.specs.Masks.{OnEveryPair, AnswersAs, zip_bits, xor};
+
+use crate::bit_vec::words::{cut, low_part};
+use crate::bit_vec::{BitVec, LengthMismatch};
+use std::alloc::{AllocError, Allocator};
+use std::marker::Model;
+
+/// Two lists of one length and a closure on their limbs. Bit `p` is bit `p % 64` of what the
+/// closure answers of both limbs `p / 64`. Contracts see both lists and the closure. What a call
+/// answers is said for each definition `g` that the closure follows, by the list `masked g`.
+#[derive(Drop)]
+pub struct MaskedBitVec<'a, 'b, F, A: Allocator + Copy> {
+    left: &'a BitVec<A>,
+    right: &'b BitVec<A>,
+    mask: F,
+}
+
+impl<'a, 'b, F, A: Allocator + Copy> Model for MaskedBitVec<'a, 'b, F, A> {
+    ghost use Rattle.std.specs.Prelude.{◌≡◌, length};
+    ghost use Rattle.vers_bits.specs.Masks.{Masking};
+
+    ghost Value = { Masking F };
+
+    ghost view = { λ m. record { left = m.left.now; right = m.right.now; mask = m.mask } };
+
+    ghost invariant = { λ m. length m.left.now ≡ length m.right.now };
+}
+
+impl<'a, 'b, F: Fn(u64, u64) -> u64, A: Allocator + Copy> MaskedBitVec<'a, 'b, F, A> {
+    // What the closure answers of both limbs number `k`.
+    fn answer(&self, k: usize) -> u64
+        requires may_call { OnEveryPair (F.pre self.now.mask) }
+        requires within { 64 * k < length self.now.left }
+        ensures { (g : ℕ → ℕ → ℕ) → AnswersAs (F.post self.now.mask) g → result ≡ g (limb self.now.left k) (limb self.now.right k) }
+    {
+        let mine = self.left.limb(k);
+        let theirs = self.right.limb(k);
+        (self.mask)(mine, theirs)
+    }
+
+    // Limb number `k` of the masked list, with zeros past the length.
+    #[tactic(auto, using(crate::proofs::Masks::limbs))]
+    fn limb(&self, k: usize) -> u64
+        requires may_call { OnEveryPair (F.pre self.now.mask) }
+        requires within { 64 * k < length self.now.left }
+        ensures value { (g : ℕ → ℕ → ℕ) → AnswersAs (F.post self.now.mask) g → result ≡ limb (masked g self.now.left self.now.right) k }
+        ensures short { result < 2 ^ min (length self.now.left - 64 * k) 64 }
+    {
+        let rest = self.left.len() - 64 * k;
+        low_part(self.answer(k), rest.min(64))
+    }
+
+    // The ones of limb number `k` of the masked list.
+    #[tactic(auto, using(crate::proofs::Masks::limbs, crate::proofs::Masks::counts))]
+    fn ones_of_limb(&self, k: usize) -> u64
+        requires may_call { OnEveryPair (F.pre self.now.mask) }
+        requires within { 64 * k < length self.now.left }
+        ensures value { (g : ℕ → ℕ → ℕ) → AnswersAs (F.post self.now.mask) g → count true (masked g self.now.left self.now.right) (64 * k) + result ≡ count true (masked g self.now.left self.now.right) (64 * k + 64) }
+        ensures few { result ≤ 64 }
+        ensures inside { 64 * k + result ≤ length self.now.left }
+    {
+        self.limb(k).count_ones() as u64
+    }
+
+    // The number of the `n` bits from `place` on, which lie in one limb.
+    #[tactic(auto, using(crate::proofs::Masks::parts))]
+    fn part(&self, place: usize, n: usize) -> u64
+        requires may_call { OnEveryPair (F.pre self.now.mask) }
+        requires some { 0 < n }
+        requires one_limb { place % 64 + n ≤ 64 }
+        requires within { place + n ≤ length self.now.left }
+        ensures { (g : ℕ → ℕ → ℕ) → AnswersAs (F.post self.now.mask) g → result ≡ number (part (masked g self.now.left self.now.right) place n) }
+    {
+        (self.limb(place / 64) >> (place % 64)) & (u64::MAX >> (64 - n))
+    }
+
+    /// Whether the bit at a place is a one. None for a place that the lists don't have.
+    #[tactic(auto, using(crate::proofs::Masks::places))]
+    pub fn is_bit_set(&self, place: usize) -> Option<bool>
+        requires { OnEveryPair (F.pre self.now.mask) }
+        ensures { (g : ℕ → ℕ → ℕ) → AnswersAs (F.post self.now.mask) g → result ≡ slice_get (masked g self.now.left self.now.right) place }
+    {
+        if place >= self.left.len() {
+            return None;
+        }
+        Some(self.is_bit_set_unchecked(place))
+    }
+
+    /// The bit at a place, 1 or 0. None for a place that the lists don't have.
+    #[tactic(auto, using(crate::proofs::Masks::places))]
+    pub fn get(&self, place: usize) -> Option<u64>
+        requires { OnEveryPair (F.pre self.now.mask) }
+        ensures { (g : ℕ → ℕ → ℕ) → AnswersAs (F.post self.now.mask) g → result ≡ option_map bit_value (slice_get (masked g self.now.left self.now.right) place) }
+    {
+        if place >= self.left.len() {
+            return None;
+        }
+        Some(self.get_unchecked(place))
+    }
+
+    /// Whether the bit at a place that the lists have is a one.
+    #[tactic(auto, using(crate::proofs::Masks::reads))]
+    pub fn is_bit_set_unchecked(&self, place: usize) -> bool
+        requires may_call { OnEveryPair (F.pre self.now.mask) }
+        requires within { place < length self.now.left }
+        ensures { (g : ℕ → ℕ → ℕ) → AnswersAs (F.post self.now.mask) g → result ≡ slice_index_or (masked g self.now.left self.now.right) place false }
+    {
+        (self.answer(place / 64) >> (place % 64)) & 1 == 1
+    }
+
+    /// The bit at a place that the lists have, 1 or 0.
+    #[tactic(auto, using(crate::proofs::Masks::reads))]
+    pub fn get_unchecked(&self, place: usize) -> u64
+        requires may_call { OnEveryPair (F.pre self.now.mask) }
+        requires within { place < length self.now.left }
+        ensures { (g : ℕ → ℕ → ℕ) → AnswersAs (F.post self.now.mask) g → result ≡ bit_value (slice_index_or (masked g self.now.left self.now.right) place false) }
+    {
+        u64::from(self.is_bit_set_unchecked(place))
+    }
+
+    /// The number of the bits from `place` on, `n` of them. None where there are not so many, or
+    /// `n` is 0 or above 64.
+    #[tactic(auto, using(crate::proofs::Masks::parts))]
+    pub fn get_bits(&self, place: usize, n: usize) -> Option<u64>
+        requires { OnEveryPair (F.pre self.now.mask) }
+        ensures { (g : ℕ → ℕ → ℕ) → AnswersAs (F.post self.now.mask) g → result ≡ part_number (masked g self.now.left self.now.right) place n }
+    {
+        let len = self.left.len();
+        if n == 0 || n > 64 || place > len || n > len - place {
+            return None;
+        }
+        Some(self.get_bits_unchecked(place, n))
+    }
+
+    /// The number of the bits from `place` on, `n` of them: 0 where `n` is 0.
+    #[tactic(auto, using(crate::proofs::Masks::parts))]
+    pub fn get_bits_unchecked(&self, place: usize, n: usize) -> u64
+        requires may_call { OnEveryPair (F.pre self.now.mask) }
+        requires few { n ≤ 64 }
+        requires within { place + n ≤ length self.now.left }
+        ensures { (g : ℕ → ℕ → ℕ) → AnswersAs (F.post self.now.mask) g → result ≡ number (part (masked g self.now.left self.now.right) place n) }
+    {
+        let len = self.left.len();
+        if n == 0 || place >= len {
+            return 0;
+        }
+        let room = 64 - place % 64;
+        if n <= room {
+            return self.part(place, n);
+        }
+        self.part(place, room) | (self.part(place + room, n - room) << room)
+    }
+
+    /// How many ones the list has.
+    #[tactic(auto, using(crate::proofs::Masks::counts))]
+    pub fn count_ones(&self) -> u64
+        requires { OnEveryPair (F.pre self.now.mask) }
+        ensures value { (g : ℕ → ℕ → ℕ) → AnswersAs (F.post self.now.mask) g → result ≡ count true (masked g self.now.left self.now.right) (length self.now.left) }
+        ensures few { result ≤ length self.now.left }
+    {
+        let mut ones: u64 = 0;
+        for k in 0..self.left.len().div_ceil(64) {
+            ones += self.ones_of_limb(k);
+        }
+        ones
+    }
+
+    /// How many zeros the list has.
+    #[tactic(auto, using(crate::proofs::Masks::counts))]
+    pub fn count_zeros(&self) -> u64
+        requires { OnEveryPair (F.pre self.now.mask) }
+        ensures { (g : ℕ → ℕ → ℕ) → AnswersAs (F.post self.now.mask) g → result ≡ count false (masked g self.now.left self.now.right) (length self.now.left) }
+    {
+        self.left.len() as u64 - self.count_ones()
+    }
+
+    /// A list of its own with the bits.
+    pub fn to_bit_vec(&self) -> Result<BitVec<A>, AllocError>
+        requires { OnEveryPair (F.pre self.now.mask) }
+        ensures { IfOk result (λ v. (g : ℕ → ℕ → ℕ) → AnswersAs (F.post self.now.mask) g → v ≡ masked g self.now.left self.now.right) }
+    {
+        let mut bits = self.left.clone()?;
+        bits.combine(self.right, &self.mask);
+        Ok(bits)
+    }
+}
+
+impl<A: Allocator + Copy> BitVec<A> {
+    // Makes each limb what a closure answers of both limbs, and keeps no bit past the length.
+    #[tactic(auto, using(crate::proofs::Words::words, crate::proofs::Masks::combines))]
+    fn combine<F: Fn(u64, u64) -> u64>(&mut self, other: &BitVec<A>, mask: &F)
+        requires same { length self.old ≡ length other.now }
+        requires may_call { OnEveryPair (F.pre mask.now) }
+        ensures { (g : ℕ → ℕ → ℕ) → AnswersAs (F.post mask.now) g → self.new ≡ masked g self.old other.now }
+    {
+        combine_words(&mut self.data, other.limbs(), mask);
+        cut(&mut self.data, self.len);
+    }
+
+    /// Both lists seen through a closure on their limbs. LengthMismatch where their lengths differ.
+    pub fn mask_custom<'a, 'b, F: Fn(u64, u64) -> u64 + Drop>(
+        &'a self,
+        other: &'b BitVec<A>,
+        mask: F,
+    ) -> Result<MaskedBitVec<'a, 'b, F, A>, LengthMismatch>
+        requires { OnEveryPair (F.pre mask) }
+        ensures { MatchResult result (λ m. (length self.now ≡ length other.now) × (m.left ≡ self.now) × (m.right ≡ other.now) × (m.mask ≡ mask)) (λ _. length self.now ≢ length other.now) }
+    {
+        if self.len() != other.len() {
+            return Err(LengthMismatch);
+        }
+        Ok(MaskedBitVec {
+            left: self,
+            right: other,
+            mask,
+        })
+    }
+}
+
+/// How two limbs are combined.
+#[derive(Clone, Copy, Drop)]
+enum MaskKind {
+    Or,
+    And,
+    Xor,
+}
+
+impl MaskKind {
+    fn combine(self, x: u64, y: u64) -> u64
+        ensures { result ≡ limb_op self x y }
+    {
+        match self {
+            MaskKind::Or => x | y,
+            MaskKind::And => x & y,
+            MaskKind::Xor => x ^ y,
+        }
+    }
+}
+
+/// Two lists of one length combined bit by bit, by or, and or xor. Contracts see the list of the
+/// bits.
+#[derive(Drop)]
+pub struct BitMask<'s, 'b, A: Allocator + Copy> {
+    left: &'s BitVec<A>,
+    right: &'b BitVec<A>,
+    kind: MaskKind,
+}
+
+impl<'s, 'b, A: Allocator + Copy> Model for BitMask<'s, 'b, A> {
+    ghost use Rattle.std.specs.Prelude.{◌≡◌, length, List, Bool};
+    ghost use Rattle.vers_bits.specs.Bits.{masked};
+
+    ghost Value = { List Bool };
+
+    ghost use Rattle.vers_bits.specs.Kinds.{limb_op};
+
+    ghost view = { λ m. masked (limb_op m.kind) m.left.now m.right.now };
+
+    ghost invariant = { λ m. length m.left.now ≡ length m.right.now };
+}
+
+impl<'s, 'b, A: Allocator + Copy> BitMask<'s, 'b, A> {
+    /// Whether the bit at a place is a one. None for a place that the list doesn't have.
+    #[tactic(auto, using(crate::proofs::Masks::lengths))]
+    pub fn is_bit_set(&self, place: usize) -> Option<bool>
+        ensures { result ≡ slice_get self.now place }
+    {
+        let kind = self.kind;
+        MaskedBitVec {
+            left: self.left,
+            right: self.right,
+            mask: |x: u64, y: u64| kind.combine(x, y),
+        }
+        .is_bit_set(place)
+    }
+
+    /// The bit at a place, 1 or 0. None for a place that the list doesn't have.
+    #[tactic(auto, using(crate::proofs::Masks::lengths))]
+    pub fn get(&self, place: usize) -> Option<u64>
+        ensures { result ≡ option_map bit_value (slice_get self.now place) }
+    {
+        let kind = self.kind;
+        MaskedBitVec {
+            left: self.left,
+            right: self.right,
+            mask: |x: u64, y: u64| kind.combine(x, y),
+        }
+        .get(place)
+    }
+
+    /// Whether the bit at a place that the list has is a one.
+    #[tactic(auto, using(crate::proofs::Masks::lengths))]
+    pub fn is_bit_set_unchecked(&self, place: usize) -> bool
+        requires { place < length self.now }
+        ensures { result ≡ slice_index_or self.now place false }
+    {
+        let kind = self.kind;
+        MaskedBitVec {
+            left: self.left,
+            right: self.right,
+            mask: |x: u64, y: u64| kind.combine(x, y),
+        }
+        .is_bit_set_unchecked(place)
+    }
+
+    /// The bit at a place that the list has, 1 or 0.
+    #[tactic(auto, using(crate::proofs::Masks::lengths))]
+    pub fn get_unchecked(&self, place: usize) -> u64
+        requires { place < length self.now }
+        ensures { result ≡ bit_value (slice_index_or self.now place false) }
+    {
+        let kind = self.kind;
+        MaskedBitVec {
+            left: self.left,
+            right: self.right,
+            mask: |x: u64, y: u64| kind.combine(x, y),
+        }
+        .get_unchecked(place)
+    }
+
+    /// The number of the bits from `place` on, `n` of them. None where there are not so many, or
+    /// `n` is 0 or above 64.
+    #[tactic(auto, using(crate::proofs::Masks::lengths))]
+    pub fn get_bits(&self, place: usize, n: usize) -> Option<u64>
+        ensures { result ≡ part_number self.now place n }
+    {
+        let kind = self.kind;
+        MaskedBitVec {
+            left: self.left,
+            right: self.right,
+            mask: |x: u64, y: u64| kind.combine(x, y),
+        }
+        .get_bits(place, n)
+    }
+
+    /// The number of the bits from `place` on, `n` of them: 0 where `n` is 0.
+    #[tactic(auto, using(crate::proofs::Masks::lengths))]
+    pub fn get_bits_unchecked(&self, place: usize, n: usize) -> u64
+        requires few { n ≤ 64 }
+        requires within { place + n ≤ length self.now }
+        ensures { result ≡ number (part self.now place n) }
+    {
+        let kind = self.kind;
+        MaskedBitVec {
+            left: self.left,
+            right: self.right,
+            mask: |x: u64, y: u64| kind.combine(x, y),
+        }
+        .get_bits_unchecked(place, n)
+    }
+
+    /// How many ones the list has.
+    #[tactic(auto, using(crate::proofs::Masks::lengths))]
+    pub fn count_ones(&self) -> u64
+        ensures { result ≡ count true self.now (length self.now) }
+    {
+        let kind = self.kind;
+        MaskedBitVec {
+            left: self.left,
+            right: self.right,
+            mask: |x: u64, y: u64| kind.combine(x, y),
+        }
+        .count_ones()
+    }
+
+    /// How many zeros the list has.
+    #[tactic(auto, using(crate::proofs::Masks::lengths))]
+    pub fn count_zeros(&self) -> u64
+        ensures { result ≡ count false self.now (length self.now) }
+    {
+        let kind = self.kind;
+        MaskedBitVec {
+            left: self.left,
+            right: self.right,
+            mask: |x: u64, y: u64| kind.combine(x, y),
+        }
+        .count_zeros()
+    }
+
+    /// A list of its own with the bits.
+    #[tactic(auto, using(crate::proofs::Masks::lengths))]
+    pub fn to_bit_vec(&self) -> Result<BitVec<A>, AllocError>
+        ensures { IfOk result (λ v. v ≡ self.now) }
+    {
+        let kind = self.kind;
+        MaskedBitVec {
+            left: self.left,
+            right: self.right,
+            mask: |x: u64, y: u64| kind.combine(x, y),
+        }
+        .to_bit_vec()
+    }
+
+    /// The same mask, which takes no memory.
+    pub fn clone(&self) -> Self
+        ensures { result ≡ self.now }
+    {
+        BitMask {
+            left: self.left,
+            right: self.right,
+            kind: self.kind,
+        }
+    }
+}
+
+impl<A: Allocator + Copy> BitVec<A> {
+    // Both lists combined by a kind of mask.
+    fn mask_by<'s, 'b>(
+        &'s self,
+        other: &'b BitVec<A>,
+        kind: MaskKind,
+    ) -> Result<BitMask<'s, 'b, A>, LengthMismatch>
+        ensures { MatchResult result (λ m. (length self.now ≡ length other.now) × (m ≡ masked (limb_op kind) self.now other.now)) (λ _. length self.now ≢ length other.now) }
+    {
+        if self.len() != other.len() {
+            return Err(LengthMismatch);
+        }
+        Ok(BitMask {
+            left: self,
+            right: other,
+            kind,
+        })
+    }
+
+    /// The list with a one where either list has a one. LengthMismatch where their lengths differ.
+    #[tactic(auto, using(crate::proofs::Zips::zips))]
+    pub fn mask_or<'s, 'b>(
+        &'s self,
+        other: &'b BitVec<A>,
+    ) -> Result<BitMask<'s, 'b, A>, LengthMismatch>
+        ensures { MatchResult result (λ m. (length self.now ≡ length other.now) × (m ≡ zip_bits (λ x y. x || y) self.now other.now)) (λ _. length self.now ≢ length other.now) }
+    {
+        self.mask_by(other, MaskKind::Or)
+    }
+
+    /// The list with a one where both lists have a one. LengthMismatch where their lengths differ.
+    #[tactic(auto, using(crate::proofs::Zips::zips))]
+    pub fn mask_and<'s, 'b>(
+        &'s self,
+        other: &'b BitVec<A>,
+    ) -> Result<BitMask<'s, 'b, A>, LengthMismatch>
+        ensures { MatchResult result (λ m. (length self.now ≡ length other.now) × (m ≡ zip_bits (λ x y. x && y) self.now other.now)) (λ _. length self.now ≢ length other.now) }
+    {
+        self.mask_by(other, MaskKind::And)
+    }
+
+    /// The list with a one where just one of the lists has a one. LengthMismatch where their lengths differ.
+    #[tactic(auto, using(crate::proofs::Zips::zips))]
+    pub fn mask_xor<'s, 'b>(
+        &'s self,
+        other: &'b BitVec<A>,
+    ) -> Result<BitMask<'s, 'b, A>, LengthMismatch>
+        ensures { MatchResult result (λ m. (length self.now ≡ length other.now) × (m ≡ zip_bits xor self.now other.now)) (λ _. length self.now ≢ length other.now) }
+    {
+        self.mask_by(other, MaskKind::Xor)
+    }
+
+    // Makes each limb what a closure answers of both limbs, and keeps no bit past the length.
+    // LengthMismatch where the lengths differ, and the list is as it was.
+    fn apply<F: Fn(u64, u64) -> u64>(
+        &mut self,
+        other: &BitVec<A>,
+        mask: &F,
+    ) -> Result<(), LengthMismatch>
+        requires { OnEveryPair (F.pre mask.now) }
+        ensures { MatchResult result (λ _. (length self.old ≡ length other.now) × ((g : ℕ → ℕ → ℕ) → AnswersAs (F.post mask.now) g → self.new ≡ masked g self.old other.now)) (λ _. (length self.old ≢ length other.now) × (self.new ≡ self.old)) }
+    {
+        if self.len() != other.len() {
+            return Err(LengthMismatch);
+        }
+        self.combine(other, mask);
+        Ok(())
+    }
+
+    /// Makes the list the one with a one where either list has a one. LengthMismatch where their lengths
+    /// differ, and the list is as it was.
+    #[tactic(auto, using(crate::proofs::Zips::zips))]
+    pub fn apply_mask_or(&mut self, other: &BitVec<A>) -> Result<(), LengthMismatch>
+        ensures { MatchResult result (λ _. (length self.old ≡ length other.now) × (self.new ≡ zip_bits (λ x y. x || y) self.old other.now)) (λ _. (length self.old ≢ length other.now) × (self.new ≡ self.old)) }
+    {
+        self.apply(other, &|x: u64, y: u64| x | y)
+    }
+
+    /// Makes the list the one with a one where both lists have a one. LengthMismatch where their lengths
+    /// differ, and the list is as it was.
+    #[tactic(auto, using(crate::proofs::Zips::zips))]
+    pub fn apply_mask_and(&mut self, other: &BitVec<A>) -> Result<(), LengthMismatch>
+        ensures { MatchResult result (λ _. (length self.old ≡ length other.now) × (self.new ≡ zip_bits (λ x y. x && y) self.old other.now)) (λ _. (length self.old ≢ length other.now) × (self.new ≡ self.old)) }
+    {
+        self.apply(other, &|x: u64, y: u64| x & y)
+    }
+
+    /// Makes the list the one with a one where just one of the lists has a one. LengthMismatch where their lengths
+    /// differ, and the list is as it was.
+    #[tactic(auto, using(crate::proofs::Zips::zips))]
+    pub fn apply_mask_xor(&mut self, other: &BitVec<A>) -> Result<(), LengthMismatch>
+        ensures { MatchResult result (λ _. (length self.old ≡ length other.now) × (self.new ≡ zip_bits xor self.old other.now)) (λ _. (length self.old ≢ length other.now) × (self.new ≡ self.old)) }
+    {
+        self.apply(other, &|x: u64, y: u64| x ^ y)
+    }
+
+    /// Makes each limb what a function answers of both limbs, and keeps no bit past the length.
+    /// LengthMismatch where the lengths differ, and the list is as it was.
+    pub fn apply_mask_custom(
+        &mut self,
+        other: &BitVec<A>,
+        mask: fn(u64, u64) -> u64,
+    ) -> Result<(), LengthMismatch>
+        requires { OnEveryPair (pre mask) }
+        ensures { MatchResult result (λ _. (length self.old ≡ length other.now) × ((g : ℕ → ℕ → ℕ) → AnswersAs (post mask) g → self.new ≡ masked g self.old other.now)) (λ _. (length self.old ≢ length other.now) × (self.new ≡ self.old)) }
+    {
+        self.apply(other, &mask)
+    }
+}
+
+// Makes each word what a closure answers of it and the other word of its number.
+fn combine_words<F: Fn(u64, u64) -> u64, A: Allocator + Copy>(
+    words: &mut Vec<u64, A>,
+    others: &[u64],
+    mask: &F,
+)
+    requires same { length words.old.items ≡ length others.now }
+    requires may_call { OnEveryPair (F.pre mask.now) }
+    ensures value { (g : ℕ → ℕ → ℕ) → AnswersAs (F.post mask.now) g → (k : ℕ) → k < length words.old.items → slice_index words.new.items k ≡ g (slice_index words.old.items k) (slice_index others.now k) }
+    ensures long { length words.new.items ≡ length words.old.items }
+    ensures fit { (k : ℕ) → slice_index words.old.items k < 2 ^ 64 }
+{
+    for k in 0..others.len() {
+        let mine = words[k];
+        words[k] = mask(mine, others[k]);
+    }
+}

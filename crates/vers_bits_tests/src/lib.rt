@@ -1,0 +1,13 @@
+//! Tests of the list of bits.
+#![tactic(auto)]
+
+#[cfg(test)]
+mod editing;
+#[cfg(test)]
+mod growing;
+#[cfg(test)]
+mod making;
+#[cfg(test)]
+mod masking;
+#[cfg(test)]
+mod refusals;
