@@ -1,20 +1,19 @@
 -- Where the members with one high part begin and end.
-use Rattle.std.proofs.Common.{◌≡◌, ℕ, zero, suc, ◌+◌, ◌-◌, ◌*◌, ◌/◌, ◌%◌, ◌^◌, ◌<◌, ◌≤◌, Bool, true, false, List, length, refl, sym, ap, ◌∙◌, arith, inl, inr, min}
+use Rattle.std.proofs.Common.{◌≡◌, ℕ, ◌+◌, ◌-◌, ◌*◌, ◌/◌, ◌%◌, ◌^◌, ◌<◌, ◌≤◌, Bool, true, false, List, length, ap, ◌∙◌, arith, inl, inr}
 use Rattle.std.specs.Prelude.{slice_index, bit_and}
 use Rattle.std.specs.List.Sorted.{IsNonDecreasing}
-use Rattle.std.proofs.Math.Nat.{mul-le-mul_left, mul_comm, div-add-mod}
 use Rattle.std.proofs.lemmas.Nat.{and_mask, one_shl}
 use Rattle.std.proofs.lemmas.Bool.{cases_lt}
 use Rattle.vers_bits.specs.Bits.{count, select}
-use Rattle.vers_bits.proofs.Count.{count_both, count_up, count_le}
+use Rattle.vers_bits.proofs.Count.{count_both, count_up}
 use Rattle.vers_bits.proofs.Places.{count_at_select, select_below, select_not_below}
 use Rattle.vers_tally.specs.Reads.{digits}
 use Rattle.vers_tally.proofs.Halves.{digits_halved, digits_up}
 use Rattle.vers_sorted.specs.Sorted.{below}
-use Rattle.vers_sorted.specs.Layout.{first_of, last_of, low_width, high_of, low_of, high_length}
-use Rattle.vers_sorted.specs.Parts.{HoldHigh, IsPacked, IsStart}
+use Rattle.vers_sorted.specs.Layout.{first_of, last_of, low_width, high_of, low_of}
+use Rattle.vers_sorted.specs.Parts.{IsPacked, IsStart}
 use Rattle.vers_sorted.proofs.Below.{below_le, below_from, below_to}
-use Rattle.vers_sorted.proofs.Split.{parts_sum, low_below, high_up, member_from, high_zeros}
+use Rattle.vers_sorted.proofs.Split.{parts_sum, high_up, member_from, high_zeros}
 use Rattle.vers_sorted.proofs.Packed.{high_counted}
 
 module _ {s : List ℕ} {high low : List Bool} {first last width : ℕ} (packed : IsPacked s high low first last width) where
@@ -30,20 +29,22 @@ module _ {s : List ℕ} {high low : List Bool} {first last width : ℕ} (packed 
   start_at h some within =
       let q : ℕ = select false high h in
       let all : count false high (length high) ≡ 2 + high_of s (last_of s) =
-        omega (arith, count_both high (length high), packed.high_parts.ones, high_counted packed, high_zeros s some) in
+      omega (arith, count_both high (length high), packed.high_parts.ones, high_counted packed, high_zeros s some) in
       let at = count_at_select false high h (omega arith) in
       let ones : count true high q + h ≡ q = omega (arith, count_both high q, at.0, at.1) in
-      let ones_past : count true high (q + 1) + h ≡ q = omega (arith, count_both high (q + 1), at.0, at.2) in
-      (omega arith, record {
-        within = omega (arith, packed.high_parts.ones, (count_up true high q (length high) (omega (arith, at.0))));
-        before = λ i small.
-          let short : i < length s = omega (arith, packed.high_parts.ones, (count_up true high q (length high) (omega (arith, at.0)))) in
-          let left : select true high i < q = select_below true high i q (omega arith) in
-          omega (arith, zeros_at_member i short, packed.high_parts.place i short, at.1, count_up false high (high_of s (slice_index s i) + i + 1) q (omega (arith, packed.high_parts.place i short)));
-        after = λ i large short.
-          let right : q + 1 ≤ select true high i = select_not_below true high i (q + 1) (omega (arith, packed.high_parts.ones)) (omega arith) in
-          omega (arith, zeros_at_member i short, packed.high_parts.place i short, at.2, count_up false high (q + 1) (high_of s (slice_index s i) + i + 1) (omega (arith, packed.high_parts.place i short)));
-      })
+      let ones_past : count true high (q + 1) + h ≡ q = omega (arith, count_both high (q + 1), at.0, at.2) in (
+        omega arith,
+        record {
+          within = omega (arith, packed.high_parts.ones, (count_up true high q (length high) (omega (arith, at.0))));
+          before = λ i small.
+              let short : i < length s = omega (arith, packed.high_parts.ones, (count_up true high q (length high) (omega (arith, at.0)))) in
+              let left : select true high i < q = select_below true high i q (omega arith) in
+              omega (arith, zeros_at_member i short, packed.high_parts.place i short, at.1, count_up false high (high_of s (slice_index s i) + i + 1) q (omega (arith, packed.high_parts.place i short)));
+          after = λ i large short.
+              let right : q + 1 ≤ select true high i = select_not_below true high i (q + 1) (omega (arith, packed.high_parts.ones)) (omega arith) in
+              omega (arith, zeros_at_member i short, packed.high_parts.place i short, at.2, count_up false high (q + 1) (high_of s (slice_index s i) + i + 1) (omega (arith, packed.high_parts.place i short)));
+        },
+      )
 
   pub start_is : (h : ℕ) → 0 < length s → h ≤ high_of s (last_of s) + 1 → IsStart s h (select false high h - h)
   start_is h some within = (start_at h some within).1
@@ -58,12 +59,12 @@ start_below s v start up from at =
     elim (cases_lt 0 start) [
       | inr none ↦ omega arith
       | inl some ↦
-        let h : start - 1 < length s = omega (arith, at.within) in
-        let less : slice_index s (start - 1) < v = elim (cases_lt (slice_index s (start - 1)) v) [
-          | inl fine ↦ fine
-          | inr not ↦ absurd (omega (arith, at.before (start - 1) (omega arith), high_up s v (slice_index s (start - 1)) not from))
-        ] in
-        omega (arith, below_from s v (start - 1) up h less)
+          let h : start - 1 < length s = omega (arith, at.within) in
+          let less : slice_index s (start - 1) < v = elim (cases_lt (slice_index s (start - 1)) v) [
+            | inl fine ↦ fine
+            | inr not ↦ absurd (omega (arith, at.before (start - 1) (omega arith), high_up s v (slice_index s (start - 1)) not from))
+          ] in
+          omega (arith, below_from s v (start - 1) up h less)
     ]
 
 pub below_end : (s : List ℕ) (v end : ℕ) → IsNonDecreasing s → first_of s ≤ v → IsStart s (high_of s v + 1) end → below s v ≤ end
@@ -71,11 +72,11 @@ below_end s v end up from at =
     elim (cases_lt end (length s)) [
       | inr all ↦ omega (arith, below_le s v)
       | inl h ↦
-        let more : v ≤ slice_index s end = elim (cases_lt (slice_index s end) v) [
-          | inr fine ↦ fine
-          | inl less ↦ absurd (omega (arith, at.after end (omega arith) h, high_up s (slice_index s end) v (omega arith) (member_from s end up h)))
-        ] in
-        below_to s v end up h more
+          let more : v ≤ slice_index s end = elim (cases_lt (slice_index s end) v) [
+            | inr fine ↦ fine
+            | inl less ↦ absurd (omega (arith, at.after end (omega arith) h, high_up s (slice_index s end) v (omega arith) (member_from s end up h)))
+          ] in
+          below_to s v end up h more
     ]
 
 -- a member between the two, by its low part
@@ -132,5 +133,7 @@ high_within {s} v packed some low high =
     (omega (arith, up, high_is v packed), omega (arith, up, high_is v packed, high_counted packed, high_zeros s some))
 
 pub ruleset starts = (start_after, high_counted)
+
 pub ruleset search_steps = (start_below, below_end, step_up, step_down, low_is, upper_steps, lower_steps, digits_up)
+
 pub ruleset bounds = (high_is, below_le, none_below, all_below, high_within)

@@ -8,3 +8,4 @@ pub mod Buckets
 pub mod Makes
 pub mod Widths
 pub mod Bounds
+pub mod SparseBits

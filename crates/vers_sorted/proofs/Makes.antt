@@ -1,5 +1,5 @@
 -- How high and low parts are made.
-use Rattle.std.proofs.Common.{◌≡◌, ℕ, zero, suc, ◌+◌, ◌-◌, ◌*◌, ◌/◌, ◌^◌, ◌<◌, ◌≤◌, Bool, true, false, List, [], ◌∷◌, ◌++◌, length, take, refl, sym, ap, ◌∙◌, arith, inl, inr}
+use Rattle.std.proofs.Common.{◌≡◌, ℕ, ◌+◌, ◌-◌, ◌/◌, ◌^◌, ◌<◌, ◌≤◌, true, false, List, [], ◌∷◌, ◌++◌, length, take, refl, sym, ap, ◌∙◌, arith, inl, inr}
 use Rattle.std.proofs.Math.ListN.{set, replicate}
 use Rattle.std.specs.Prelude.{slice_index, map}
 use Rattle.std.specs.List.{range_with_len}
@@ -26,9 +26,9 @@ last_none s e = get_or_past s (length s - 1) 0 (omega arith)
 
 pub first_last : (s : List ℕ) → IsNonDecreasing s → first_of s ≤ last_of s
 first_last s up = elim (cases_lt 0 (length s)) [
-    | inl some ↦ up 0 (length s - 1) 0 (omega arith) (omega arith)
-    | inr none ↦ omega (arith, first_none s (omega arith))
-  ]
+  | inl some ↦ up 0 (length s - 1) 0 (omega arith) (omega arith)
+  | inr none ↦ omega (arith, first_none s (omega arith))
+]
 
 pub low_width_is : (s : List ℕ) (first last w : ℕ) → first ≡ first_of s → last ≡ last_of s → w ≡ width (length s) (last - first) → w ≡ low_width s
 unfolding low_width
@@ -49,7 +49,7 @@ pub high_next : (s : List ℕ) (i : ℕ) → IsNonDecreasing s → i < length s 
 unfolding first_high_parts
 high_next s i up h =
     sym (ap (λ l. ones_at l (high_length s)) (map-range_with_len_more (high_place s) 0 i i (omega arith))
-      ∙ ones_at_more (map (high_place s) (range_with_len 0 i)) (high_length s) (high_place s i) (place_within s up i h))
+    ∙ ones_at_more (map (high_place s) (range_with_len 0 i)) (high_length s) (high_place s i) (place_within s up i h))
 
 pub high_all : (s : List ℕ) → first_high_parts s (length s) ≡ high_parts s
 unfolding first_high_parts high_parts
@@ -70,9 +70,9 @@ unfolding first_low_parts
 low_next s i h =
     let f : ℕ → ℕ = λ m. m - first_of s in
     sym (ap (λ l. pack (map (λ m. m - first_of s) l) (low_width s)) (take_more s i 0 h)
-      ∙ ap (λ l. pack l (low_width s)) (map-append (λ m. m - first_of s) (take i s) (slice_index s i ∷ []))
-      ∙ flat_map-append (λ v. low_bits v (low_width s)) (map (λ m. m - first_of s) (take i s)) ((slice_index s i - first_of s) ∷ [])
-      ∙ ap (λ l. pack (map (λ m. m - first_of s) (take i s)) (low_width s) ++ l) (append-nil (low_bits (slice_index s i - first_of s) (low_width s))))
+    ∙ ap (λ l. pack l (low_width s)) (map-append (λ m. m - first_of s) (take i s) (slice_index s i ∷ []))
+    ∙ flat_map-append (λ v. low_bits v (low_width s)) (map (λ m. m - first_of s) (take i s)) ((slice_index s i - first_of s) ∷ [])
+    ∙ ap (λ l. pack (map (λ m. m - first_of s) (take i s)) (low_width s) ++ l) (append-nil (low_bits (slice_index s i - first_of s) (low_width s))))
 
 pub low_all : (s : List ℕ) → first_low_parts s (length s) ≡ low_parts s
 unfolding first_low_parts low_parts
@@ -86,5 +86,7 @@ pub high_some : (s : List ℕ) (v : ℕ) → 0 < length s → v ≡ high_of s (l
 high_some s v some e = omega (arith, high_zeros s some)
 
 pub ruleset lengths = (high_none, high_some, high_part_is)
+
 pub ruleset highs = (first_last, high_start, high_next, high_all, length-first_high_parts, high_part_is, place_within, member_from)
+
 pub ruleset lows = (first_last, low_start, low_next, low_all, member_from)

@@ -1,18 +1,18 @@
 -- The bits whose ones stand at given places: their counts, their places, and how they come about.
-use Rattle.std.proofs.Common.{◌≡◌, ℕ, zero, suc, ◌+◌, ◌-◌, ◌<◌, ◌≤◌, Bool, true, false, ◌⊎◌, List, [], ◌∷◌, ◌++◌, length, get_or, refl, sym, ap, subst, ◌∙◌, arith, inl, inr}
+use Rattle.std.proofs.Common.{◌≡◌, ℕ, zero, suc, ◌+◌, ◌-◌, ◌<◌, ◌≤◌, Bool, true, false, ◌⊎◌, List, [], ◌∷◌, ◌++◌, length, get_or, refl, sym, ap, ◌∙◌, arith, inl, inr}
 use Rattle.std.proofs.Math.Dec.{eqb}
 use Rattle.std.proofs.Math.ListN.{set, replicate}
-use Rattle.std.specs.Prelude.{slice_index, ◌||◌}
-use Rattle.std.specs.List.{list_any, range_with_len}
+use Rattle.std.specs.Prelude.{slice_index, map, ◌||◌}
+use Rattle.std.specs.List.{list_any}
 use Rattle.std.specs.List.Sorted.{IsNonDecreasing, IsStrictlyIncreasing}
 use Rattle.std.proofs.lemmas.Bool.{cases_lt, cases_eq, cases_Bool, ne_eqb, eq-eqb, eqb-true}
 use Rattle.std.proofs.lemmas.Grind.{same_number_lists}
-use Rattle.std.proofs.lemmas.List.{same_lists, get_or-set_same, get_or-set_other, length-set, length-replicate, get_or-replicate}
+use Rattle.std.proofs.lemmas.List.{same_lists, get_or-set_same, get_or-set_other, length-set, length-replicate, get_or-replicate, get_or-map, length-map}
 use Rattle.std.proofs.lemmas.List.FromFn.{length-map-range_with_len, get_or-map-range_with_len}
 use Rattle.std.proofs.lemmas.List.Folds.{list_any-from_Any, Any-from_list_any, list_any_none, list_any-append}
 use Rattle.std.proofs.lemmas.List.Sorted.{IsNonDecreasingBy-from_default}
 use Rattle.std.proofs.lemmas.List.{get_or_default}
-use Rattle.vers_bits.specs.Bits.{count, places, select}
+use Rattle.vers_bits.specs.Bits.{is_bit, count, places, select}
 use Rattle.vers_bits.proofs.Count.{count_none, count_up}
 use Rattle.vers_bits.proofs.Places.{count_more_yes, count_more_no, select_at, length-places, select_is_place, select_up, IsPlace}
 use Rattle.vers_sorted.specs.Sorted.{below}
@@ -50,9 +50,6 @@ below_zero s up =
       | inr none ↦ omega arith
     ]
 
-any_bit : (l : List Bool) (i : ℕ) (d : Bool) → i < length l → get_or l i d ≡ get_or l i false
-any_bit l i d h = get_or_default l i d false h
-
 or_yes : (a b : Bool) → b ≡ true → (a || (b || false)) ≡ true
 or_yes true b e = refl
 or_yes false b e = rw e refl
@@ -89,8 +86,8 @@ module _ (s : List ℕ) (up : IsStrictlyIncreasing s) where
   below_up v =
       elim (cases_lt 0 (below s v)) [
         | inl some ↦
-          let before : slice_index s (below s v - 1) < v = below_before s v (below s v - 1) ascends (omega arith) in
-          omega (arith, below_from s (v + 1) (below s v - 1) ascends (omega (arith, below_le s v)) (omega arith))
+            let before : slice_index s (below s v - 1) < v = below_before s v (below s v - 1) ascends (omega arith) in
+            omega (arith, below_from s (v + 1) (below s v - 1) ascends (omega (arith, below_le s v)) (omega arith))
         | inr none ↦ omega arith
       ]
 
@@ -109,25 +106,25 @@ module _ (s : List ℕ) (up : IsStrictlyIncreasing s) where
   below_free v none =
       elim (cases_lt (below s v) (length s)) [
         | inl h ↦
-          let after : v ≤ slice_index s (below s v) = below_after s v (below s v) ascends (omega arith) h in
-          elim (cases_eq (slice_index s (below s v)) v) [
-            | inl e ↦ absurd (none h e)
-            | inr ne ↦ omega (arith, below_up v, below_to s (v + 1) (below s v) ascends h (omega arith))
-          ]
+            let after : v ≤ slice_index s (below s v) = below_after s v (below s v) ascends (omega arith) h in
+            elim (cases_eq (slice_index s (below s v)) v) [
+              | inl e ↦ absurd (none h e)
+              | inr ne ↦ omega (arith, below_up v, below_to s (v + 1) (below s v) ascends h (omega arith))
+            ]
         | inr all ↦ omega (arith, below_up v, below_le s (v + 1), below_le s v)
       ]
 
   -- whether v is a member, by the member that `below` names
-  member_test : (v : ℕ) → ((list_any (λ q. eqb q v) s ≡ true) × (below s (v + 1) ≡ below s v + 1))
+  pub member_test : (v : ℕ) → ((list_any (λ q. eqb q v) s ≡ true) × (below s (v + 1) ≡ below s v + 1))
       ⊎ ((list_any (λ q. eqb q v) s ≡ false) × (below s (v + 1) ≡ below s v))
   member_test v =
       elim (cases_Bool (list_any (λ q. eqb q v) s)) [
         | inl on ↦
-          let found : (k : ℕ) × (k < length s) × (get_or s k 0 ≡ v) = member_place s v on in
-          let at : below s v ≡ found.0 = sym (ap (below s) found.2) ∙ below_member found.0 found.1 in
-          inl (on, below_held v (omega (arith, found.1)) (ap (slice_index s) at ∙ found.2))
+            let found : (k : ℕ) × (k < length s) × (get_or s k 0 ≡ v) = member_place s v on in
+            let at : below s v ≡ found.0 = sym (ap (below s) found.2) ∙ below_member found.0 found.1 in
+            inl (on, below_held v (omega (arith, found.1)) (ap (slice_index s) at ∙ found.2))
         | inr off ↦
-          inr (off, below_free v (λ h e. let on = any_member s v (below s v) h e in absurd (cc (on, off))))
+            inr (off, below_free v (λ h e. let on = any_member s v (below s v) h e in absurd (cc (on, off))))
       ]
 
   pub count-ones_at : (n i : ℕ) → i ≤ n → count true (ones_at s n) i ≡ below s i
@@ -154,64 +151,70 @@ module _ (s : List ℕ) (up : IsStrictlyIncreasing s) where
   all_ones n within =
       ap (count true (ones_at s n)) (length-ones_at s n) ∙ count-ones_at n n (omega arith)
       ∙ elim (cases_lt 0 (length s)) [
-          | inl some ↦ omega (arith, below_le s n, below_from s n (length s - 1) ascends (omega arith) (within some))
-          | inr none ↦ omega (arith, below_le s n)
-        ]
+        | inl some ↦ omega (arith, below_le s n, below_from s n (length s - 1) ascends (omega arith) (within some))
+        | inr none ↦ omega (arith, below_le s n)
+      ]
 
   pub places-ones_at : (n : ℕ) → (0 < length s → slice_index s (length s - 1) < n) → places true (ones_at s n) ≡ s
   unfolding select
   places-ones_at n within =
       let counted : length (places true (ones_at s n)) ≡ length s = length-places true (ones_at s n) ∙ all_ones n within in
       same_number_lists _ s counted (λ k h.
-        let short : k < length s = omega (arith, counted) in
-        let least : slice_index s k < n = omega (arith, ascends k (length s - 1) 0 (omega arith) (omega arith), within (omega arith)) in
-        get_or_default (places true (ones_at s n)) k 0 (length (ones_at s n)) h ∙ select-ones_at n k short least)
+      let short : k < length s = omega (arith, counted) in
+      let least : slice_index s k < n = omega (arith, ascends k (length s - 1) 0 (omega arith) (omega arith), within (omega arith)) in
+      get_or_default (places true (ones_at s n)) k 0 (length (ones_at s n)) h ∙ select-ones_at n k short least)
 
 -- ---- how such bits come about
 
 pub ones_at_none : (n : ℕ) → ones_at [] n ≡ replicate n false
 ones_at_none n =
     same_lists _ _ (length-ones_at [] n ∙ sym (length-replicate n false)) (λ k d h.
-      let short : k < n = omega (arith, length-ones_at [] n) in
-      get_or-ones_at [] n k d short ∙ sym (get_or-replicate n k false d short))
+    let short : k < n = omega (arith, length-ones_at [] n) in
+    get_or-ones_at [] n k d short ∙ sym (get_or-replicate n k false d short))
 
 pub ones_at_more : (s : List ℕ) (n p : ℕ) → p < n → ones_at (s ++ p ∷ []) n ≡ set (ones_at s n) p true
 ones_at_more s n p within =
     same_lists _ _ (length-ones_at (s ++ p ∷ []) n ∙ sym (length-set (ones_at s n) p true ∙ length-ones_at s n)) (λ k d h.
-      let short : k < n = omega (arith, length-ones_at (s ++ p ∷ []) n) in
-      get_or-ones_at (s ++ p ∷ []) n k d short ∙ list_any-append (λ q. eqb q k) s (p ∷ [])
-      ∙ elim (cases_eq k p) [
-          | inl e ↦ or_yes (list_any (λ q. eqb q k) s) (eqb p k) (eq-eqb p k (sym e))
-              ∙ sym (ap (λ i. get_or (set (ones_at s n) p true) i d) e ∙ get_or-set_same (ones_at s n) p true d (omega (arith, length-ones_at s n)))
-          | inr ne ↦ or_no (list_any (λ q. eqb q k) s) (eqb p k) (ne_eqb p k (λ e. ne (sym e)))
-              ∙ sym (get_or-set_other (ones_at s n) p k true d ne ∙ get_or-ones_at s n k d short)
-        ])
+    let short : k < n = omega (arith, length-ones_at (s ++ p ∷ []) n) in
+    get_or-ones_at (s ++ p ∷ []) n k d short ∙ list_any-append (λ q. eqb q k) s (p ∷ [])
+    ∙ elim (cases_eq k p) [
+      | inl e ↦ or_yes (list_any (λ q. eqb q k) s) (eqb p k) (eq-eqb p k (sym e))
+          ∙ sym (ap (λ i. get_or (set (ones_at s n) p true) i d) e ∙ get_or-set_same (ones_at s n) p true d (omega (arith, length-ones_at s n)))
+      | inr ne ↦ or_no (list_any (λ q. eqb q k) s) (eqb p k) (ne_eqb p k (λ e. ne (sym e)))
+          ∙ sym (get_or-set_other (ones_at s n) p k true d ne ∙ get_or-ones_at s n k d short)
+    ])
 
--- ---- the places of a list's own ones
+-- ---- the places of a list's own ones or zeros
 
-places_rise : (l : List Bool) → IsStrictlyIncreasing (places true l)
+pub places_rise : (b : Bool) (l : List Bool) → IsStrictlyIncreasing (places b l)
 unfolding select
-places_rise l k h =
-    let more : k + 1 < count true l (length l) = omega (arith, length-places true l) in
-    let step : select true l k < select true l (k + 1) = select_up true l k (k + 1) (omega arith) more in
-    omega (arith, step, get_or_default (places true l) k 0 (length l) (omega arith), get_or_default (places true l) (k + 1) 0 (length l) h)
+places_rise b l k h =
+    let more : k + 1 < count b l (length l) = omega (arith, length-places b l) in
+    let step : select b l k < select b l (k + 1) = select_up b l k (k + 1) (omega arith) more in
+    omega (arith, step, get_or_default (places b l) k 0 (length l) (omega arith), get_or_default (places b l) (k + 1) 0 (length l) h)
 
-pub ones_at-places : (l : List Bool) → ones_at (places true l) (length l) ≡ l
+pub places_within : (b : Bool) (l : List Bool) (k : ℕ) → k < length (places b l) → slice_index (places b l) k < length l
 unfolding select
-ones_at-places l =
-    same_lists _ _ (length-ones_at (places true l) (length l)) (λ k d h.
-      let short : k < length l = omega (arith, length-ones_at (places true l) (length l)) in
-      get_or-ones_at (places true l) (length l) k d short
-      ∙ elim (cases_Bool (get_or l k false)) [
-          | inl on ↦
-            let more : count true l (k + 1) ≡ count true l k + 1 = count_more_yes true l k short on in
-            let few : count true l k < length (places true l) = omega (arith, more, length-places true l, count_up true l (k + 1) (length l) (omega arith)) in
-            let at : select true l (count true l k) ≡ k = select_at true l (count true l k) k short on refl in
-            any_member (places true l) k (count true l k) few (get_or_default (places true l) (count true l k) 0 (length l) few ∙ at) ∙ sym (any_bit l k d short ∙ on)
-          | inr off ↦
-            no_member (places true l) k (λ r few e.
-              let at : IsPlace true l r (select true l r) = select_is_place true l r (omega (arith, length-places true l)) in
-              let same : select true l r ≡ k = get_or_default (places true l) r (length l) 0 few ∙ e in
-              let on : get_or l k false ≡ true = ap (λ p. get_or l p false) (sym same) ∙ at.holds in
-              absurd (cc (on, off))) ∙ sym (any_bit l k d short ∙ off)
-        ])
+places_within b l k h =
+    let at : IsPlace b l k (select b l k) = select_is_place b l k (omega (arith, length-places b l)) in
+    omega (arith, at.within, get_or_default (places b l) k 0 (length l) h)
+
+pub ones_at-places : (b : Bool) (l : List Bool) → ones_at (places b l) (length l) ≡ map (is_bit b) l
+unfolding select
+ones_at-places b l =
+    same_lists _ _ (length-ones_at (places b l) (length l) ∙ sym (length-map l (is_bit b))) (λ k d h.
+    let short : k < length l = omega (arith, length-ones_at (places b l) (length l)) in
+    get_or-ones_at (places b l) (length l) k d short
+    ∙ elim (cases_Bool (is_bit b (get_or l k false))) [
+      | inl on ↦
+          let more : count b l (k + 1) ≡ count b l k + 1 = count_more_yes b l k short on in
+          let few : count b l k < length (places b l) = omega (arith, more, length-places b l, count_up b l (k + 1) (length l) (omega arith)) in
+          let at : select b l (count b l k) ≡ k = select_at b l (count b l k) k short on refl in
+          any_member (places b l) k (count b l k) few (get_or_default (places b l) (count b l k) 0 (length l) few ∙ at) ∙ sym (get_or-map (is_bit b) l k false d short ∙ on)
+      | inr off ↦
+          no_member (places b l) k (λ r few e.
+          let at : IsPlace b l r (select b l r) = select_is_place b l r (omega (arith, length-places b l)) in
+          let same : select b l r ≡ k = get_or_default (places b l) r (length l) 0 few ∙ e in
+          let on : is_bit b (get_or l k false) ≡ true = ap (λ p. is_bit b (get_or l p false)) (sym same) ∙ at.holds in
+          absurd (cc (on, off))) ∙ sym (get_or-map (is_bit b) l k false d short ∙ off)
+    ])

@@ -1,5 +1,5 @@
 -- How a number is split into its high and its low part.
-use Rattle.std.proofs.Common.{◌≡◌, ℕ, ◌+◌, ◌-◌, ◌*◌, ◌/◌, ◌%◌, ◌^◌, ◌<◌, ◌≤◌, List, length, refl, sym, ap, ◌∙◌, arith, inl, inr}
+use Rattle.std.proofs.Common.{◌≡◌, ℕ, ◌+◌, ◌-◌, ◌*◌, ◌/◌, ◌^◌, ◌<◌, ◌≤◌, List, length, refl, arith, inl, inr}
 use Rattle.std.specs.Prelude.{slice_index}
 use Rattle.std.specs.List.Sorted.{IsNonDecreasing}
 use Rattle.std.proofs.Math.Nat.{mul-le-mul_left, mul_comm, div-add-mod}
@@ -23,8 +23,15 @@ pub high_up : (s : List ℕ) (a b : ℕ) → a ≤ b → first_of s ≤ a → hi
 high_up s a b h from =
     elim (cases_lt (high_of s b) (high_of s a)) [
       | inr fine ↦ fine
-      | inl less ↦ absurd (omega (arith, parts_sum s a from, parts_sum s b (omega arith), low_below s b, scaled (2 ^ low_width s) (high_of s b + 1) (high_of s a) (omega arith),
-          mul_comm (2 ^ low_width s) (high_of s b + 1), mul_comm (2 ^ low_width s) (high_of s a)))
+      | inl less ↦ absurd (omega (
+        arith,
+        parts_sum s a from,
+        parts_sum s b (omega arith),
+        low_below s b,
+        scaled (2 ^ low_width s) (high_of s b + 1) (high_of s a) (omega arith),
+        mul_comm (2 ^ low_width s) (high_of s b + 1),
+        mul_comm (2 ^ low_width s) (high_of s a),
+      ))
     ]
 
 pub member_from : (s : List ℕ) (i : ℕ) → IsNonDecreasing s → i < length s → first_of s ≤ slice_index s i

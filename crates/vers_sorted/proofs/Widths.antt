@@ -1,11 +1,11 @@
 -- Whole-number logarithms.
-use Rattle.std.proofs.Common.{◌≡◌, ℕ, zero, suc, ◌+◌, ◌-◌, ◌*◌, ◌/◌, ◌^◌, ◌<◌, ◌≤◌, refl, sym, ap, ◌∙◌, arith, max}
+use Rattle.std.proofs.Common.{◌≡◌, ℕ, zero, suc, ◌+◌, ◌-◌, ◌*◌, ◌/◌, ◌^◌, ◌<◌, ◌≤◌, arith, max}
 use lib.Count.{count_leading_zeros}
 use Rattle.std.proofs.Math.Nat.{pow-suc}
 use Rattle.std.proofs.lemmas.Nat.{leading_length, pow_pos}
 use Rattle.vers_tally.specs.Reads.{digits}
 use Rattle.vers_tally.proofs.Halves.{digits_half, digits-le, digits_up}
-use Rattle.vers_sorted.specs.Layout.{clog, width}
+use Rattle.vers_sorted.specs.Layout.{clog}
 
 digits_is : (m n : ℕ) → n < 2 ^ m → 2 ^ m ≤ 2 * n + 1 → digits n ≡ m
 digits_is zero n low high = omega (arith, digits-le 0 n low)
@@ -34,4 +34,5 @@ width_narrow n u h =
     omega (arith, digits_up ((n + 2 - 1) / 2) (max n 2 - 1) (omega arith))
 
 pub ruleset logs = (digits_leading, clog_none)
+
 pub ruleset widths = (width_least, width_narrow)

@@ -1,14 +1,13 @@
 //! Ascending lists of numbers.
-ghost use Rattle.std.specs.Prelude.{◌≡◌, ℕ, ◌+◌, ◌-◌, ◌<◌, ◌≤◌, ◌↔◌, [], List, length, slice_index, slice_get, IfOk, IsTrue, IsSome, Some};
-ghost use Rattle.std.specs.List.Sorted.{IsNonDecreasing};
+ghost use Rattle.std.specs.Prelude.{◌≡◌, ◌<◌, ◌↔◌, [], length, slice_index, slice_get, IsTrue, IsSome, Some};
 ghost use Rattle.vers_sorted.specs.Sorted.{below, greatest_not_above, least_not_below, delta};
+ghost use Rattle.vers_sorted.specs.Layout.{heap_size_of};
 
 mod make;
 mod search;
 
 use std::alloc::{AllocError, Allocator};
 use std::marker::Model;
-use vers_bits::bit_vec::BitVec;
 use vers_rank::fast_rs_vec::RsVec;
 use vers_tally::tally::{CountedBits, Tally};
 
@@ -39,6 +38,24 @@ impl<A: Allocator + Copy> Model for EliasFanoVec<A> {
     ghost invariant = { λ v. IsPacked (members v.high v.low v.first v.width v.len) v.high v.low v.first v.last v.width };
 }
 
+impl<A: Allocator + Copy> Clone for EliasFanoVec<A> {
+    ghost is_clone = { λ old new. new ≡ old };
+
+    /// A second list of the same members.
+    fn clone(&self) -> Result<Self, AllocError> {
+        let high = self.high.clone()?;
+        let low = self.low.as_bit_vec().clone()?;
+        Ok(EliasFanoVec {
+            high,
+            low: CountedBits::new(low),
+            first: self.first,
+            last: self.last,
+            width: self.width,
+            len: self.len,
+        })
+    }
+}
+
 #[tactic(auto, using(crate::proofs::Packed::packed))]
 impl<A: Allocator + Copy> EliasFanoVec<A> {
     /// How many members the list has.
@@ -55,6 +72,16 @@ impl<A: Allocator + Copy> EliasFanoVec<A> {
         ensures { IsTrue result ↔ (self.now ≡ []) }
     {
         self.len() == 0
+    }
+
+    /// The bytes that the high parts with their index and the low parts take.
+    #[tactic(auto, using(crate::proofs::Packed::sizes))]
+    pub fn heap_size(&self) -> usize
+        ensures { result ≡ heap_size_of self.now }
+    {
+        let _ = self.high.len();
+        let _ = self.low.len();
+        self.high.heap_size() + self.low.as_bit_vec().heap_size()
     }
 
     /// The member at a place. None past the last.

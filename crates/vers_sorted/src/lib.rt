@@ -2,3 +2,4 @@
 #![tactic(auto)]
 
 pub mod elias_fano;
+pub mod sparse;

@@ -103,7 +103,13 @@ fn high_length_of(numbers: &[u64], first: u64, last: u64, width: usize) -> usize
 
 // The high parts: a list of zeros in which the one of each number is set.
 #[tactic(auto, using(crate::proofs::Makes::highs))]
-fn high_parts<A: Allocator + Copy>(alloc: A, numbers: &[u64], first: u64, last: u64, width: usize) -> Result<BitVec<A>, AllocError>
+fn high_parts<A: Allocator + Copy>(
+    alloc: A,
+    numbers: &[u64],
+    first: u64,
+    last: u64,
+    width: usize,
+) -> Result<BitVec<A>, AllocError>
     requires ascending { IsNonDecreasing numbers.now }
     requires first { first ≡ first_of numbers.now }
     requires last { last ≡ last_of numbers.now }
@@ -123,7 +129,12 @@ fn high_parts<A: Allocator + Copy>(alloc: A, numbers: &[u64], first: u64, last: 
 
 // The low parts, one after another.
 #[tactic(auto, using(crate::proofs::Makes::lows))]
-fn low_parts<A: Allocator + Copy>(alloc: A, numbers: &[u64], first: u64, width: usize) -> Result<BitVec<A>, AllocError>
+fn low_parts<A: Allocator + Copy>(
+    alloc: A,
+    numbers: &[u64],
+    first: u64,
+    width: usize,
+) -> Result<BitVec<A>, AllocError>
     requires ascending { IsNonDecreasing numbers.now }
     requires first { first ≡ first_of numbers.now }
     requires width { width ≡ low_width numbers.now }
@@ -133,7 +144,8 @@ fn low_parts<A: Allocator + Copy>(alloc: A, numbers: &[u64], first: u64, width: 
     let len = numbers.len().saturating_mul(width);
     let mut low = BitVec::with_capacity(alloc, len).map_err(|_| AllocError)?;
     for i in 0..numbers.len() {
-        low.append_bits(numbers[i] - first, width).map_err(|_| AllocError)?;
+        low.append_bits(numbers[i] - first, width)
+            .map_err(|_| AllocError)?;
     }
     Ok(low)
 }

@@ -1,6 +1,4 @@
-use Rattle.std.proofs.Common.{◌≡◌, ℕ, ◌+◌, ◌-◌, ◌/◌, ◌<◌, ◌≤◌, length, arith, sym, ◌∙◌}
-use Rattle.vers_sorted.specs.Sorted.{below}
-use Rattle.vers_sorted.specs.Parts.{IsPacked}
+use Rattle.std.proofs.Common.{arith, sym}
 use Rattle.vers_sorted.proofs.Buckets.{none_below, all_below, high_within}
 use Rattle.vers_sorted.proofs.elias_fano.EliasFanoVec.count_below.Goals as goal
 

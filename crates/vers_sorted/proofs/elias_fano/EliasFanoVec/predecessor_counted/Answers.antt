@@ -1,4 +1,4 @@
-use Rattle.std.proofs.Common.{◌≡◌, ◌+◌, ◌-◌, sym, ap, ◌∙◌, arith}
+use Rattle.std.proofs.Common.{◌-◌, sym, ap, ◌∙◌, arith}
 use Rattle.std.specs.Prelude.{slice_get}
 use Rattle.vers_sorted.proofs.Neighbours.{pred_none, pred_some}
 use Rattle.vers_sorted.proofs.elias_fano.EliasFanoVec.predecessor_counted.Goals as goal

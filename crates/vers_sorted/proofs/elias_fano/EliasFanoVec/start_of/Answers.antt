@@ -1,5 +1,3 @@
-use Rattle.std.proofs.Common.{◌≡◌, ◌-◌, arith}
-use Rattle.vers_sorted.specs.Parts.{IsStart, IsPacked}
 use Rattle.vers_sorted.proofs.Buckets.{start_is}
 use Rattle.vers_sorted.proofs.elias_fano.EliasFanoVec.start_of.Goals as goal
 

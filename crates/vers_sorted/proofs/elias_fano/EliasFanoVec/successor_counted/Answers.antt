@@ -1,4 +1,4 @@
-use Rattle.std.proofs.Common.{◌≡◌, sym, ap, ◌∙◌}
+use Rattle.std.proofs.Common.{sym, ap, ◌∙◌}
 use Rattle.std.specs.Prelude.{slice_get}
 use Rattle.vers_sorted.proofs.Neighbours.{succ_is}
 use Rattle.vers_sorted.proofs.elias_fano.EliasFanoVec.successor_counted.Goals as goal
