@@ -1,4 +1,4 @@
-// Equality of indexed lists.
+//! Equality of indexed lists.
 ghost use Rattle.std.specs.Prelude.{◌≡◌, ◌↔◌, IsTrue, length};
 ghost use Rattle.vers_bits.specs.Bits.{count, select};
 ghost use Rattle.vers_bits.specs.Equality.{same_bits, same_bits_per, same_bits_equiv};

@@ -1,4 +1,4 @@
-// The ones and zeros next to a place.
+//! The ones and zeros next to a place.
 ghost use Rattle.std.specs.Prelude.{◌≡◌, length, true, false};
 ghost use Rattle.vers_bits.specs.Bits.{count, place_after, place_before};
 ghost use Rattle.vers_tally.specs.Reads.{AddsAtMost};

@@ -1,4 +1,4 @@
-// The places of zeros and ones.
+//! The places of zeros and ones.
 ghost use Rattle.std.specs.Prelude.{◌≡◌, ℕ, ◌+◌, ◌-◌, ◌*◌, ◌/◌, ◌<◌, ◌≤◌, length, min, true, false};
 ghost use Rattle.vers_bits.specs.Bits.{count, select};
 ghost use Rattle.vers_tally.specs.Reads.{no_reads, only_block_entries, only_superblock_entries, only_data_words, digits, AddsAtMost};
@@ -152,7 +152,14 @@ impl<A: Allocator + Copy> RsVec<A> {
     // the other. Which superblocks are looked at next is no branch, so that nothing depends on a guess of it.
     #[inline(always)]
     #[tactic(auto, using(crate::proofs::Selects::halves))]
-    fn superblock_among(&self, bit: bool, r: usize, first: usize, n: usize, tally: &mut Tally) -> usize
+    fn superblock_among(
+        &self,
+        bit: bool,
+        r: usize,
+        first: usize,
+        n: usize,
+        tally: &mut Tally,
+    ) -> usize
         requires some { 0 < n }
         requires within { 8192 * (first + n) < length self.now + 8192 }
         requires from { count bit self.now (8192 * first) ≤ r }

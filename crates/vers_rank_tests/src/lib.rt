@@ -1,0 +1,12 @@
+//! Tests of ranks and selects.
+#![tactic(auto)]
+
+#[cfg(test)]
+mod basic;
+#[cfg(test)]
+mod compared;
+#[cfg(test)]
+mod counted;
+#[cfg(test)]
+mod memory;
+pub mod plain;
