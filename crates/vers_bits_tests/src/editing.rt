@@ -5,6 +5,7 @@ use vers_bits::bit_vec::{BitVec, OutOfRange, SplitCause};
 #[test]
 fn bits_are_read_at_their_places(rt: HostRuntime) -> Result<(), Fail> {
     let list = BitVec::pack_sequence_u8(rt.alloc(), &[7, 255], 10)?;
+    assert_eq!(rt; list.len(), 20);
     assert!(rt; list.is_bit_set_unchecked(2));
     assert_eq!(rt; list.get_unchecked(3), 0);
     assert_eq!(rt; list.get_bits_unchecked(8, 4), 12);
@@ -31,6 +32,7 @@ fn bits_are_set_and_flipped(rt: HostRuntime) -> Result<(), Fail> {
     let alloc = rt.alloc();
     let mut list = BitVec::from_zeros(alloc, 70)?;
     assert_eq!(rt; list.set(69, 3), Ok(()));
+    assert_eq!(rt; list.len(), 70);
     list.set_unchecked(0, 1);
     list.flip_bit(64);
     list.flip_bit_unchecked(0);
@@ -71,7 +73,9 @@ fn a_list_is_split_in_two(rt: HostRuntime) -> Result<(), Fail> {
     first.extend_bitvec(&second)?;
     assert!(rt; first == BitVec::from_bits(alloc, &[1, 1, 0, 1, 0])?);
 
-    let Ok((first, second)) = BitVec::from_limbs(alloc, &[1, 2, 3])?.split_at_unchecked(70) else {
+    let list = BitVec::from_limbs(alloc, &[1, 2, 3])?;
+    assert_eq!(rt; list.len(), 192);
+    let Ok((first, second)) = list.split_at_unchecked(70) else {
         assert!(rt; false, "split unchecked");
         return Ok(());
     };

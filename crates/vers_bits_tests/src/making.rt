@@ -43,7 +43,7 @@ fn zeros_and_ones_fill_their_limbs(rt: HostRuntime) -> Result<(), Fail> {
     assert_eq!(rt; ones.len(), 70);
     assert_eq!(rt; ones.count_ones(), 70);
     assert_eq!(rt; ones.count_zeros(), 0);
-    assert_eq!(rt; ones.limb(1), 63);
+    assert_eq!(rt; ones.get_bits(64, 6), Some(63));
     let empty = BitVec::with_capacity(rt.alloc(), 1000)?;
     assert!(rt; empty.is_empty());
     assert_eq!(rt; empty.heap_size(), 0);

@@ -104,7 +104,8 @@ fn a_refused_split_hands_the_list_back(rt: HostRuntime) -> Result<(), Fail> {
     assert_eq!(rt; refused.cause, SplitCause::Memory);
     assert_eq!(rt; refused.vec.len(), 130);
     assert_eq!(rt; refused.vec.count_ones(), 130);
-    let Err(list) = refused.vec.split_at_unchecked(129) else {
+    let list = refused.vec;
+    let Err(list) = list.split_at_unchecked(129) else {
         assert!(rt; false, "refused unchecked");
         return Ok(());
     };

@@ -409,12 +409,14 @@ impl<'s, 'b, A: Allocator + Copy> BitMask<'s, 'b, A> {
 
 impl<A: Allocator + Copy> BitVec<A> {
     // Both lists combined by a kind of mask.
+    #[tactic(auto, using(crate::proofs::Masks::lengths))]
     fn mask_by<'s, 'b>(
         &'s self,
         other: &'b BitVec<A>,
         kind: MaskKind,
     ) -> Result<BitMask<'s, 'b, A>, LengthMismatch>
-        ensures { MatchResult result (λ m. (length self.now ≡ length other.now) × (m ≡ masked (limb_op kind) self.now other.now)) (λ _. length self.now ≢ length other.now) }
+        ensures masked { MatchResult result (λ m. (length self.now ≡ length other.now) × (m ≡ masked (limb_op kind) self.now other.now)) (λ _. length self.now ≢ length other.now) }
+        ensures long { IfOk result (λ m. length m ≡ length self.now) }
     {
         if self.len() != other.len() {
             return Err(LengthMismatch);
@@ -432,7 +434,8 @@ impl<A: Allocator + Copy> BitVec<A> {
         &'s self,
         other: &'b BitVec<A>,
     ) -> Result<BitMask<'s, 'b, A>, LengthMismatch>
-        ensures { MatchResult result (λ m. (length self.now ≡ length other.now) × (m ≡ zip_bits (λ x y. x || y) self.now other.now)) (λ _. length self.now ≢ length other.now) }
+        ensures masked { MatchResult result (λ m. (length self.now ≡ length other.now) × (m ≡ zip_bits (λ x y. x || y) self.now other.now)) (λ _. length self.now ≢ length other.now) }
+        ensures long { IfOk result (λ m. length m ≡ length self.now) }
     {
         self.mask_by(other, MaskKind::Or)
     }
@@ -443,7 +446,8 @@ impl<A: Allocator + Copy> BitVec<A> {
         &'s self,
         other: &'b BitVec<A>,
     ) -> Result<BitMask<'s, 'b, A>, LengthMismatch>
-        ensures { MatchResult result (λ m. (length self.now ≡ length other.now) × (m ≡ zip_bits (λ x y. x && y) self.now other.now)) (λ _. length self.now ≢ length other.now) }
+        ensures masked { MatchResult result (λ m. (length self.now ≡ length other.now) × (m ≡ zip_bits (λ x y. x && y) self.now other.now)) (λ _. length self.now ≢ length other.now) }
+        ensures long { IfOk result (λ m. length m ≡ length self.now) }
     {
         self.mask_by(other, MaskKind::And)
     }
@@ -454,7 +458,8 @@ impl<A: Allocator + Copy> BitVec<A> {
         &'s self,
         other: &'b BitVec<A>,
     ) -> Result<BitMask<'s, 'b, A>, LengthMismatch>
-        ensures { MatchResult result (λ m. (length self.now ≡ length other.now) × (m ≡ zip_bits xor self.now other.now)) (λ _. length self.now ≢ length other.now) }
+        ensures masked { MatchResult result (λ m. (length self.now ≡ length other.now) × (m ≡ zip_bits xor self.now other.now)) (λ _. length self.now ≢ length other.now) }
+        ensures long { IfOk result (λ m. length m ≡ length self.now) }
     {
         self.mask_by(other, MaskKind::Xor)
     }
