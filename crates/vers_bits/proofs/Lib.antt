@@ -15,3 +15,4 @@ pub mod Stops
 pub mod Masks
 pub mod Zips
 pub mod Packed
+pub mod BothEnds

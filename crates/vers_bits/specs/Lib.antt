@@ -5,4 +5,5 @@ pub mod Makers
 pub mod Masks
 pub mod Kinds
 pub mod Laws
+pub mod Walk
 pub mod Rows

@@ -3,8 +3,15 @@ ghost use Rattle.vers_bits.specs.Bits.{bit_value, number, count, limb, limbs, li
 ghost use Rattle.vers_bits.specs.Words.{HoldsBits, AddsBit};
 ghost use Rattle.vers_bits.specs.Equality.{same_bits, hash_input, same_bits_per, same_bits_equiv, hash_input-Alike};
 
+mod into_iter;
+mod iter;
+mod limb_iter;
+
 pub use crate::bit_vec::fault::{GrowError, LengthMismatch, OutOfRange, SplitCause, SplitError};
 pub use crate::bit_vec::mask::BitMask;
+pub use into_iter::BitVecIter;
+pub use iter::BitVecRefIter;
+pub use limb_iter::LimbIter;
 use std::alloc::{AllocError, Allocator};
 use std::hash::{Hash, Hasher};
 use std::marker::Model;

@@ -1,6 +1,7 @@
 //! Laws over the definitions, which hold of every list of bits. Each function does nothing:
 //! its contract is the law, and its proof is checked with the crate.
 ghost use Rattle.vers_bits.specs.Laws.{EqualListsHashEqually, ZerosAndOnesAddUp, SelectFindsNumber, SelectOfCountIsNext, SplitListsJoin, LowBitsAreAsMany, LowBitsAreTheRest, BitsFollowFromNumber, PackedElementsAreItems, ZippedBitsAreCombined, MaskOfOrIsOr, MaskOfAndIsAnd, MaskOfXorIsXor};
+ghost use Rattle.vers_bits.specs.Walk.{PassesEachOnce, StaysEnded};
 
 /// Equal lists are fed to a hasher alike, so that they hash equally.
 pub fn equal_lists_hash_equally()
@@ -69,4 +70,14 @@ pub fn mask_of_and_is_and()
 /// The mask by the xor of limbs is the xor of the bits.
 pub fn mask_of_xor_is_xor()
     ensures { MaskOfXorIsXor }
+{}
+
+/// Calls of `next` and `next_back` in any mixture pass each item of the list once.
+pub fn both_ends_pass_each_item_once<T>()
+    ensures { PassesEachOnce T }
+{}
+
+/// An iterator that has ended stays ended, whatever is asked of it.
+pub fn ended_iterators_stay_ended<T>()
+    ensures { StaysEnded T }
 {}

@@ -3,3 +3,4 @@
 
 pub mod bit_vec;
 pub mod laws;
+pub mod walk;

@@ -3,5 +3,7 @@ pub mod Ranks
 pub mod Selects
 pub mod Builds
 pub mod Parts
+pub mod BothEnds
+pub mod Chunks
 pub mod Neighbours
 pub mod Equal

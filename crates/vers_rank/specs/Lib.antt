@@ -1,5 +1,6 @@
 pub mod Queries
 pub mod Index
+pub mod Walks
 pub use Rattle.vers_bits.specs.Bits
 pub use Rattle.vers_tally.specs.Reads
 pub use Rattle.vers_bits.specs.Equality

@@ -4,10 +4,22 @@ ghost use Rattle.vers_bits.specs.Bits.{bit_value, count, number, part, select};
 ghost use Rattle.vers_tally.specs.Reads.{AddsAtMost};
 ghost use Rattle.vers_rank.specs.Queries.{part_number_or_zero, superblock_count, index_size, get_reads, get_bits_reads, rank_reads, select_reads};
 
+mod bit_set_iter;
 mod equality;
+mod into_iter;
+mod iter;
 mod neighbours;
 mod rank;
 mod select;
+mod select_into_iter;
+mod select_iter;
+mod walk;
+
+pub use bit_set_iter::BitSetIter;
+pub use into_iter::RsVecIter;
+pub use iter::RsVecRefIter;
+pub use select_into_iter::SelectIntoIter;
+pub use select_iter::SelectIter;
 
 use crate::build::{add_entries, samples};
 use std::alloc::{AllocError, Allocator};

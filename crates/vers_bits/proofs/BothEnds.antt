@@ -1,0 +1,243 @@
+-- Steps of iterators from both ends, for items of every type.
+use Rattle.std.proofs.Common.{◌≡◌, ℕ, zero, suc, ◌+◌, ◌-◌, ◌<◌, ◌≤◌, List, [], ◌∷◌, ◌++◌, Bool, false, map, option_map, Option, Some, None, length, get_or, min, take, drop, reverse, refl, sym, ◌∙◌, ap, arith, inl, inr, slice_get, length-append, append_assoc}
+use Rattle.std.specs.Option.{option_to_list}
+use Rattle.std.specs.List.{last_or}
+use Rattle.std.specs.Iterator.{YieldsFirst, YieldsLast, MakesProgress, item_count}
+use Rattle.std.proofs.lemmas.List.{length-map, length-take, length-drop, get_or-take, get_or-drop, get_or-reverse, length-reverse, drop-drop, drop-take, drop_all, take_all, take_more, take-take, reverse-append, append-nil}
+use Rattle.std.proofs.lemmas.List.FromFn.{length-map-range_with_len, get_or-map-range_with_len}
+use Rattle.std.proofs.lemmas.Slice.{between_from_start}
+use Rattle.std.proofs.lemmas.Bool.{cases_lt}
+use Rattle.std.proofs.lemmas.Option.{slice_get-map, slice_get_past, slice_get-get_or, get_or_from_slice_get, slice_get_within}
+use Rattle.vers_bits.specs.Bits.{bit_value, limb, limbs, limb_count}
+use Rattle.vers_bits.specs.declared.walk.Span.{Span}
+use Rattle.vers_bits.specs.Walk.{TakesNth, TakesNthBack, TakesFirst, TakesLast, items_in, Walk}
+use Rattle.vers_bits.specs.Walk.Walk.{no_call, next, next_back}
+
+module _ {X : Type 0} where
+  -- ---- the items at the places of a span
+  pub length-items_in : (xs : List X) (s : Span) → s.to ≤ length xs → length (items_in xs s) ≡ s.to - s.from
+  unfolding items_in
+  length-items_in xs s h = simp (length-take, length-drop) (omega arith)
+
+  pub items_in_all : (xs : List X) (n : ℕ) → n ≡ length xs → items_in xs (record { from = 0; to = n }) ≡ xs
+  unfolding items_in
+  items_in_all xs n e = between_from_start xs n ∙ take_all n xs (omega arith)
+
+  pub items_in_none : (xs : List X) (from to : ℕ) → to ≤ from → items_in xs (record { from = from; to = to }) ≡ []
+  unfolding items_in
+  items_in_none xs from to h = let z : to - from ≡ 0 = omega arith in rw z refl
+
+  items_in_few : (xs : List X) (s : Span) (n : ℕ) → s.to ≤ s.from + n → length (items_in xs s) ≤ n
+  unfolding items_in
+  items_in_few xs s n h = rw (length-take (s.to - s.from) (drop s.from xs)) (omega arith)
+
+  get_or-items_in : (xs : List X) (s : Span) (k : ℕ) (d : X) → k < s.to - s.from → get_or (items_in xs s) k d ≡ get_or xs (s.from + k) d
+  unfolding items_in
+  get_or-items_in xs s k d h = get_or-take (s.to - s.from) (drop s.from xs) k d h ∙ get_or-drop s.from xs k d
+
+  drop-items_in : (xs : List X) (s : Span) (n m : ℕ) → n + m ≡ s.to - s.from → drop n (items_in xs s) ≡ items_in xs (record { from = s.from + n; to = s.to })
+  unfolding items_in
+  drop-items_in xs s n m e =
+      let z : s.to - (s.from + n) ≡ m = omega arith in
+      rw (← e, drop-take n m (drop s.from xs), drop-drop, z) refl
+
+  take-items_in : (xs : List X) (s : Span) (n : ℕ) → s.from + n ≤ s.to → take n (items_in xs s) ≡ items_in xs (record { from = s.from; to = s.from + n })
+  unfolding items_in
+  take-items_in xs s n h =
+      let z : s.from + n - s.from ≡ n = omega arith in
+      rw z (take-take n (s.to - s.from) (drop s.from xs) (omega arith))
+
+  -- ---- what a span that drops and gives makes of its items
+  pub nth_none : (n : ℕ) (xs : List X) (s : Span) → s.to ≤ s.from + n → TakesNth n (items_in xs s) None (items_in xs (record { from = s.to; to = s.to }))
+  nth_none n xs s h =
+      let few : length (items_in xs s) ≤ n = items_in_few xs s n h in
+      record { given = sym (slice_get_past (items_in xs s) n few); left = items_in_none xs s.to s.to (omega arith) ∙ sym (drop_all (n + 1) (items_in xs s) (omega arith)) }
+
+  pub nth_some : (n : ℕ) (xs : List X) (s : Span) (p : ℕ) (x : X) → s.to ≤ length xs → p ≡ s.from + n → p < s.to → slice_get xs p ≡ Some x
+      → TakesNth n (items_in xs s) (Some x) (items_in xs (record { from = p + 1; to = s.to }))
+  nth_some n xs s p x within here below is =
+      let inside : n < length (items_in xs s) = omega (arith, length-items_in xs s within) in
+      let at : get_or (items_in xs s) n x ≡ x = get_or-items_in xs s n x (omega arith) ∙ ap (λ k. get_or xs k x) (sym here) ∙ get_or_from_slice_get xs p x x is in
+      let from : s.from + (n + 1) ≡ p + 1 = omega arith in
+      record {
+        given = sym (slice_get-get_or (items_in xs s) n x inside ∙ ap Some at);
+        left = sym (drop-items_in xs s (n + 1) (s.to - (p + 1)) (omega arith) ∙ ap (λ k. items_in xs (record { from = k; to = s.to })) from);
+      }
+
+  pub nth_back_none : (n : ℕ) (xs : List X) (s : Span) → s.to ≤ s.from + n → TakesNthBack n (items_in xs s) None (items_in xs (record { from = s.to; to = s.to }))
+  nth_back_none n xs s h =
+      let few : length (items_in xs s) ≤ n = items_in_few xs s n h in
+      let none : length (items_in xs s) - (n + 1) ≡ 0 = omega arith in
+      record {
+        given = sym (slice_get_past (reverse (items_in xs s)) n (omega (arith, length-reverse (items_in xs s))));
+        left = items_in_none xs s.to s.to (omega arith) ∙ sym (ap (λ k. take k (items_in xs s)) none);
+      }
+
+  pub nth_back_some : (n : ℕ) (xs : List X) (s : Span) (p : ℕ) (x : X) → s.to ≤ length xs → p + n + 1 ≡ s.to → s.from ≤ p → slice_get xs p ≡ Some x
+      → TakesNthBack n (items_in xs s) (Some x) (items_in xs (record { from = s.from; to = p }))
+  nth_back_some n xs s p x within here below is =
+      let long : length (items_in xs s) ≡ s.to - s.from = length-items_in xs s within in
+      let inside : n < length (items_in xs s) = omega arith in
+      let number : length (items_in xs s) - 1 - n ≡ p - s.from = omega arith in
+      let place : s.from + (p - s.from) ≡ p = omega arith in
+      let kept : length (items_in xs s) - (n + 1) ≡ p - s.from = omega arith in
+      let at : get_or (reverse (items_in xs s)) n x ≡ x =
+      get_or-reverse (items_in xs s) n x inside
+      ∙ ap (λ k. get_or (items_in xs s) k x) number
+      ∙ get_or-items_in xs s (p - s.from) x (omega arith)
+      ∙ ap (λ k. get_or xs k x) place
+      ∙ get_or_from_slice_get xs p x x is in
+      record {
+        given = sym (slice_get-get_or (reverse (items_in xs s)) n x (omega (arith, length-reverse (items_in xs s))) ∙ ap Some at);
+        left = sym (ap (λ k. take k (items_in xs s)) kept ∙ take-items_in xs s (p - s.from) (omega arith) ∙ ap (λ k. items_in xs (record { from = s.from; to = k })) place);
+      }
+
+  -- ---- the same of an iterator, which is seen as the items in its span
+  items_in_same : (xs : List X) (s t : Span) → t.from ≡ s.from → t.to ≡ s.to → items_in xs t ≡ items_in xs s
+  unfolding items_in
+  items_in_same xs s t from to = rw (from, to) refl
+
+  pub all_items : (xs : List X) (s : Span) → s.from ≡ 0 → s.to ≡ length xs → items_in xs s ≡ xs
+  all_items xs s from to = items_in_same xs (record { from = 0; to = s.to }) s from refl ∙ items_in_all xs s.to to
+
+  pub ended : (n : ℕ) (xs : List X) (s t : Span) {old : List X} {r : Option X} → items_in xs s ≡ old → (s.to ≤ s.from + n) × (t.from ≡ s.to) × (t.to ≡ s.to)
+      → r ≡ None → TakesNth n old r (items_in xs t)
+  ended n xs s t view none is =
+      rw (is, ← view, items_in_same xs (record { from = s.to; to = s.to }) t none.1 none.2) (nth_none n xs s none.0)
+
+  pub gave : (n : ℕ) (xs : List X) (s t : Span) {old : List X} {p : ℕ} {x : X} → items_in xs s ≡ old → s.to ≤ length xs
+      → (p ≡ s.from + n) × (p < s.to) × (t.from ≡ p + 1) × (t.to ≡ s.to) → slice_get xs p ≡ Some x → TakesNth n old (Some x) (items_in xs t)
+  gave n xs s t {p = p} {x = x} view within some is =
+      rw (← view, items_in_same xs (record { from = p + 1; to = s.to }) t some.2 some.3) (nth_some n xs s p x within some.0 some.1 is)
+
+  pub ended_back : (n : ℕ) (xs : List X) (s t : Span) {old : List X} {r : Option X} → items_in xs s ≡ old → (s.to ≤ s.from + n) × (t.from ≡ s.to) × (t.to ≡ s.to)
+      → r ≡ None → TakesNthBack n old r (items_in xs t)
+  ended_back n xs s t view none is =
+      rw (is, ← view, items_in_same xs (record { from = s.to; to = s.to }) t none.1 none.2) (nth_back_none n xs s none.0)
+
+  pub gave_back : (n : ℕ) (xs : List X) (s t : Span) {old : List X} {p : ℕ} {x : X} → items_in xs s ≡ old → s.to ≤ length xs
+      → (p + n + 1 ≡ s.to) × (s.from ≤ p) × (t.from ≡ s.from) × (t.to ≡ p) → slice_get xs p ≡ Some x → TakesNthBack n old (Some x) (items_in xs t)
+  gave_back n xs s t {p = p} {x = x} view within some is =
+      rw (← view, items_in_same xs (record { from = s.from; to = p }) t some.2 some.3) (nth_back_some n xs s p x within some.0 some.1 is)
+
+  -- ---- what the traits ask of `next` and `next_back`
+  pub yields_first : (old : List X) (r : Option X) (new : List X) → TakesFirst old r new → YieldsFirst (λ (s : List X). s) old r new
+  yields_first [] None new h = (refl, h.left)
+  yields_first [] (Some x) new h = cc (h.given)
+  yields_first (y ∷ ys) None new h = cc (h.given)
+  yields_first (y ∷ ys) (Some x) new h = cc (h.given, h.left)
+
+  -- the last item, split off
+  last_split : (xs : List X) (d : X) → 0 < length xs → xs ≡ take (length xs - 1) xs ++ get_or xs (length xs - 1) d ∷ []
+  last_split xs d h =
+      let all : length xs - 1 + 1 ≡ length xs = omega arith in
+      sym (take_all (length xs) xs (omega arith)) ∙ ap (λ k. take k xs) (sym all) ∙ take_more xs (length xs - 1) d (omega arith)
+
+  last_none : (xs : List X) → None ≡ slice_get (reverse xs) 0 → xs ≡ []
+  last_none [] h = refl
+  last_none (x ∷ xs) h =
+      let inside : 0 < length (reverse (x ∷ xs)) = omega (arith, length-reverse (x ∷ xs)) in
+      cc (h, slice_get-get_or (reverse (x ∷ xs)) 0 x inside)
+
+  last_some : (xs : List X) (x : X) → Some x ≡ slice_get (reverse xs) 0 → xs ≡ take (length xs - 1) xs ++ x ∷ []
+  last_some xs x h =
+      let inside : 0 < length (reverse xs) = slice_get_within (reverse xs) 0 x (sym h) in
+      let long : 0 < length xs = omega (arith, length-reverse xs) in
+      let same : length xs - 1 - 0 ≡ length xs - 1 = omega arith in
+      let at : get_or xs (length xs - 1) x ≡ x = ap (λ k. get_or xs k x) (sym same) ∙ sym (get_or-reverse xs 0 x long) ∙ get_or_from_slice_get (reverse xs) 0 x x (sym h) in
+      last_split xs x long ∙ ap (λ y. take (length xs - 1) xs ++ y ∷ []) at
+
+  pub yields_last : (old : List X) (r : Option X) (new : List X) → TakesLast old r new → YieldsLast (λ (s : List X). s) old r new
+  yields_last old None new h =
+      let none : old ≡ [] = last_none old h.given in
+      (none, h.left ∙ ap (λ l. take (length l - 1) l) none)
+  yields_last old (Some x) new h = last_some old x h.given ∙ ap (λ l. l ++ x ∷ []) (sym h.left)
+
+  -- a step that gave an item leaves fewer
+  goes_on : (can : List X → Type 0) (old : List X) (r : Option X) (new : List X) → can new → (length old ≡ 0 → r ≡ None) → length new ≡ length old - 1 → MakesProgress can (item_count (λ s. s)) old r new
+  goes_on can old None new may ended fewer = record { on = λ _. tt; keeps = tt; rests = λ _. tt }
+  goes_on can old (Some x) new may ended fewer =
+      let some : 0 < length old = elim (cases_lt 0 (length old)) [ inl h ↦ h | inr h ↦ (let none : Some x ≡ None = ended (omega arith) in cc) ] in
+      record { on = λ _. (may, tt, omega arith); keeps = may; rests = λ _. tt }
+
+  pub goes_first : (can : List X → Type 0) (old : List X) (r : Option X) (new : List X) → can new → TakesFirst old r new → MakesProgress can (item_count (λ s. s)) old r new
+  goes_first can old r new may h =
+      goes_on can old r new may (λ z. h.given ∙ slice_get_past old 0 (omega arith)) (ap length h.left ∙ length-drop 1 old)
+
+  pub goes_last : (can : List X → Type 0) (old : List X) (r : Option X) (new : List X) → can new → TakesLast old r new → MakesProgress can (item_count (λ s. s)) old r new
+  goes_last can old r new may h =
+      goes_on can old r new may
+      (λ z. h.given ∙ slice_get_past (reverse old) 0 (omega (arith, length-reverse old)))
+      (ap length h.left ∙ length-take (length old - 1) old ∙ (let e : min (length old - 1) (length old) ≡ length old - 1 = omega arith in e))
+
+  -- ---- the last item
+  last_or-push : (o : Option X) (xs : List X) (x : X) → last_or o (xs ++ x ∷ []) ≡ Some x
+  last_or-push o [] x = refl
+  last_or-push o (y ∷ ys) x = last_or-push (Some y) ys x
+
+  pub last_is : (old : List X) (r : Option X) (new : List X) → TakesLast old r new → r ≡ last_or None old
+  last_is old None new h = sym (ap (last_or None) (last_none old h.given))
+  last_is old (Some x) new h = sym (ap (last_or None) (last_some old x h.given) ∙ last_or-push None (take (length old - 1) old) x)
+
+  -- ---- walks
+  first_split : (old : List X) (taken : Option X) (new : List X) → TakesFirst old taken new → option_to_list taken ++ new ≡ old
+  first_split [] None new h = h.left
+  first_split [] (Some x) new h = cc (h.given)
+  first_split (y ∷ ys) None new h = cc (h.given)
+  first_split (y ∷ ys) (Some x) new h = cc (h.given, h.left)
+
+  last_taken : (old : List X) (taken : Option X) (new : List X) → TakesLast old taken new → new ++ reverse (option_to_list taken) ≡ old
+  last_taken old None new h =
+      let none : old ≡ [] = last_none old h.given in
+      append-nil new ∙ h.left ∙ ap (λ l. take (length l - 1) l) none ∙ sym none
+  last_taken old (Some x) new h = ap (λ l. l ++ x ∷ []) h.left ∙ sym (last_some old x h.given)
+
+  pub passes_each_once : (old fronts backs new : List X) → Walk old fronts backs new → fronts ++ (new ++ reverse backs) ≡ old
+  passes_each_once old [] [] new (no_call _) = append-nil old
+  passes_each_once old _ backs new (next _ between _ fronts _ taken step rest) =
+      append_assoc (option_to_list taken) fronts (new ++ reverse backs)
+      ∙ ap (λ l. option_to_list taken ++ l) (passes_each_once between fronts backs new rest)
+      ∙ first_split old taken between step
+  passes_each_once old fronts _ new (next_back _ between _ _ backs taken step rest) =
+      ap (λ l. fronts ++ (new ++ l)) (reverse-append (option_to_list taken) backs)
+      ∙ ap (λ l. fronts ++ l) (sym (append_assoc new (reverse backs) (reverse (option_to_list taken))))
+      ∙ sym (append_assoc fronts (new ++ reverse backs) (reverse (option_to_list taken)))
+      ∙ ap (λ l. l ++ reverse (option_to_list taken)) (passes_each_once between fronts backs new rest)
+      ∙ last_taken old taken between step
+
+-- ---- items that are the bits of a list, as numbers
+bit_item : (bits : List Bool) (p : ℕ) (x : ℕ) → p < length bits → x ≡ bit_value (get_or bits p false) → slice_get (map bit_value bits) p ≡ Some x
+bit_item bits p x h is = slice_get-map bit_value bits p ∙ ap (option_map bit_value) (slice_get-get_or bits p false h) ∙ ap Some (sym is)
+
+pub all_bits : (bits : List Bool) (s : Span) → s.from ≡ 0 → s.to ≡ length bits → items_in (map bit_value bits) s ≡ map bit_value bits
+all_bits bits s from to = all_items (map bit_value bits) s from (to ∙ sym (length-map bits bit_value))
+
+pub bits_left : (bits : List Bool) (s : Span) → s.to ≤ length bits → length (items_in (map bit_value bits) s) ≡ s.to - s.from
+bits_left bits s within = length-items_in (map bit_value bits) s (omega (arith, length-map bits bit_value))
+
+pub gave_bit : (n : ℕ) (bits : List Bool) (s t : Span) {old : List ℕ} {p x : ℕ} → items_in (map bit_value bits) s ≡ old → s.to ≤ length bits
+    → (p ≡ s.from + n) × (p < s.to) × (t.from ≡ p + 1) × (t.to ≡ s.to) → x ≡ bit_value (get_or bits p false) → TakesNth n old (Some x) (items_in (map bit_value bits) t)
+gave_bit n bits s t {p = p} {x = x} view within some is =
+    gave n (map bit_value bits) s t view (omega (arith, length-map bits bit_value)) some (bit_item bits p x (omega arith) is)
+
+pub gave_bit_back : (n : ℕ) (bits : List Bool) (s t : Span) {old : List ℕ} {p x : ℕ} → items_in (map bit_value bits) s ≡ old → s.to ≤ length bits
+    → (p + n + 1 ≡ s.to) × (s.from ≤ p) × (t.from ≡ s.from) × (t.to ≡ p) → x ≡ bit_value (get_or bits p false) → TakesNthBack n old (Some x) (items_in (map bit_value bits) t)
+gave_bit_back n bits s t {p = p} {x = x} view within some is =
+    gave_back n (map bit_value bits) s t view (omega (arith, length-map bits bit_value)) some (bit_item bits p x (omega arith) is)
+
+-- ---- items that are the limbs of a list
+pub length-limbs : (bits : List Bool) → length (limbs bits) ≡ limb_count (length bits)
+unfolding limbs
+length-limbs bits = length-map-range_with_len (limb bits) 0 (limb_count (length bits))
+
+pub limb_item : (bits : List Bool) (k x : ℕ) → k < length (limbs bits) → x ≡ limb bits k → slice_get (limbs bits) k ≡ Some x
+unfolding limbs
+limb_item bits k x h is =
+    let inside : k < limb_count (length bits) = omega (arith, length-limbs bits) in
+    slice_get-get_or (limbs bits) k 0 h ∙ ap Some (get_or-map-range_with_len (limb bits) 0 (limb_count (length bits)) k k 0 inside (omega arith) ∙ sym is)
+
+-- makers, lengths and the last item
+pub ruleset lists = (all_items, length-limbs, length-items_in, all_bits, bits_left, last_is)
+
+-- `next` and `next_back`
+pub ruleset ends = (yields_first, yields_last, goes_first, goes_last)

@@ -1,0 +1,49 @@
+-- Iterators from both ends, over the list of the items that are still to come.
+use Rattle.std.specs.Prelude.{◌≡◌, ℕ, ◌+◌, ◌-◌, ◌<◌, ◌≤◌, ◌++◌, ◌⊎◌, List, [], length, take, drop, reverse, slice_get, slice_range, Option, Some, None, MatchOption}
+use Rattle.std.specs.Option.{option_to_list}
+use Rattle.vers_bits.specs.declared.walk.Span.{Span}
+
+module _ {X : Type 0} where
+  -- n items were dropped from the front and the next was taken, or all were dropped where no more than n were left
+  pub record TakesNth (n : ℕ) (old : List X) (taken : Option X) (new : List X) : Type 0 where
+    pub given : taken ≡ slice_get old n
+    pub left : new ≡ drop (n + 1) old
+
+  -- the same from the back
+  pub record TakesNthBack (n : ℕ) (old : List X) (taken : Option X) (new : List X) : Type 0 where
+    pub given : taken ≡ slice_get (reverse old) n
+    pub left : new ≡ take (length old - (n + 1)) old
+
+  -- the first was taken, or there was none
+  abbrev pub TakesFirst : List X → Option X → List X → Type 0
+  TakesFirst = TakesNth 0
+
+  -- the last was taken, or there was none
+  abbrev pub TakesLast : List X → Option X → List X → Type 0
+  TakesLast = TakesNthBack 0
+
+  -- the items at the places of a span
+  unfoldable pub items_in : List X → Span → List X
+  items_in xs s = slice_range xs s.from s.to
+
+-- a span dropped n places from the front and gave the next, or dropped all where no more than n were left
+abbrev pub DropsThenGives : ℕ → Span → Option ℕ → Span → Type 0
+DropsThenGives n s given t = MatchOption given ((s.to ≤ s.from + n) × (t.from ≡ s.to) × (t.to ≡ s.to)) (λ p. (p ≡ s.from + n) × (p < s.to) × (t.from ≡ p + 1) × (t.to ≡ s.to))
+
+-- the same from the back
+abbrev pub DropsThenGivesBack : ℕ → Span → Option ℕ → Span → Type 0
+DropsThenGivesBack n s given t = MatchOption given ((s.to ≤ s.from + n) × (t.from ≡ s.to) × (t.to ≡ s.to)) (λ p. (p + n + 1 ≡ s.to) × (s.from ≤ p) × (t.from ≡ s.from) × (t.to ≡ p))
+
+-- calls of `next` and `next_back`, in any mixture, led from old to new: they took fronts from the front and backs from the back, each in the order of the calls
+pub data Walk {X : Type 0} : (old fronts backs new : List X) → Type 0 where
+  no_call : (old : List X) → Walk old [] [] old
+  next : (old between new fronts backs : List X) (taken : Option X) → TakesFirst old taken between → Walk between fronts backs new → Walk old (option_to_list taken ++ fronts) backs new
+  next_back : (old between new fronts backs : List X) (taken : Option X) → TakesLast old taken between → Walk between fronts backs new → Walk old fronts (option_to_list taken ++ backs) new
+
+-- each item is passed once: those taken from the front, those left, and those taken from the back, the last of them first, are the list
+abbrev pub PassesEachOnce : Type 0 → Type 0
+PassesEachOnce X = (old fronts backs new : List X) → Walk old fronts backs new → fronts ++ (new ++ reverse backs) ≡ old
+
+-- an ended iterator stays ended, whatever is asked of it
+abbrev pub StaysEnded : Type 0 → Type 0
+StaysEnded X = (n : ℕ) (taken : Option X) (new : List X) → (TakesNth n [] taken new) ⊎ (TakesNthBack n [] taken new) → (taken ≡ None) × (new ≡ [])

@@ -1,0 +1,14 @@
+use Rattle.std.proofs.Common.{◌-◌, ◌≡◌, ◌≤◌, length}
+use Rattle.vers_tally.specs.Reads.{AddsAtMost}
+use Rattle.vers_rank.specs.Walks.{chunk_reads, chunk_places_left, chunks_unread, IsChunkWalkOf}
+use Rattle.vers_rank.proofs.fast_rs_vec.bit_set_iter.ChunkWalk.next_counted.Given as goal
+
+abbrev pub invariant-loop-self : goal.invariant-loop-self
+invariant-loop-self g l =
+    (IsChunkWalkOf l.bits l.self)
+    × (chunk_places_left l.bits l.self ≡ chunk_places_left l.bits l.fn.self)
+    × (chunks_unread l.bits l.self ≤ chunks_unread l.bits l.fn.self)
+    × (AddsAtMost l.fn.tally l.tally (chunk_reads (chunks_unread l.bits l.fn.self - chunks_unread l.bits l.self)))
+
+abbrev pub decreases-loop-self : goal.decreases-loop-self
+decreases-loop-self g l = l.len - l.self.place

@@ -1,0 +1,13 @@
+use Rattle.std.proofs.Common.{refl}
+use Rattle.vers_bits.specs.Bits.{places}
+use Rattle.vers_bits.proofs.BothEnds.{ended_back}
+use Rattle.vers_rank.proofs.BothEnds.{gave_place_back}
+use Rattle.vers_rank.proofs.fast_rs_vec.walk.PlaceWalk.nth_back_counted.Goals as goal
+
+pub returns-in_err-r-clause-steps : goal.returns-in_err-r-clause-steps
+returns-in_err-r-clause-steps g c =
+    ended_back c.args.n (places c.args.self.now.bit c.args.bits.now) c.args.self.now.span c.nth_back.new.self refl c.in_err-r.ensures c.from_residual.ensures
+
+pub returns-clause-steps : goal.returns-clause-steps
+returns-clause-steps g c =
+    gave_place_back c.args.n c.args.self.now.bit c.args.bits.now c.args.self.now.span c.nth_back.new.self c.requires.within c.in_ok-r.ensures c.place_of.ensures.value

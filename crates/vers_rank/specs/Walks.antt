@@ -1,0 +1,54 @@
+-- Iterators over the places of the ones (or zeros) of an indexed list.
+use Rattle.std.specs.Prelude.{◌≡◌, ℕ, ◌+◌, ◌-◌, ◌*◌, ◌/◌, ◌≤◌, Bool, List, length, drop}
+use Rattle.vers_bits.specs.Bits.{number, part, count, places}
+use Rattle.vers_bits.specs.Walk.{items_in}
+use Rattle.vers_tally.specs.Reads.{Reads, no_reads}
+use Rattle.vers_rank.specs.declared.fast_rs_vec.walk.PlaceWalk.{PlaceWalk}
+use Rattle.vers_rank.specs.declared.fast_rs_vec.bit_set_iter.ChunkWalk.{ChunkWalk}
+
+-- the list of bits, and the places of it that are still to come
+pub record PlacesOf : Type 0 where
+  pub bits : List Bool
+  pub left : List ℕ
+
+-- the places that a walk has still to give
+abbrev pub places_left : List Bool → PlaceWalk → List ℕ
+places_left bits walk = items_in (places walk.bit bits) walk.span
+
+-- the walk is one over the places of the list
+pub record IsWalkOf (bits : List Bool) (walk : PlaceWalk) : Type 0 where
+  pub within : walk.span.to ≤ length (places walk.bit bits)
+
+-- ---- chunks of 16 bits
+
+-- the list of bits, the places of it that are still to come, and how many chunks are still to be loaded
+pub record ChunksOf : Type 0 where
+  pub bits : List Bool
+  pub left : List ℕ
+  pub unread : ℕ
+
+-- how many chunks n bits fill, the last perhaps in part
+abbrev pub chunk_count : ℕ → ℕ
+chunk_count n = (n + 15) / 16
+
+-- what loading n chunks adds at most
+abbrev pub chunk_reads : ℕ → Reads
+chunk_reads n = record no_reads { data_words = 2 * n; rank_calls = 2 * n; chunks = n }
+
+-- the places of the ones (or zeros) from p on
+unfoldable pub places_from : Bool → List Bool → ℕ → List ℕ
+places_from bit bits p = drop (count bit bits p) (places bit bits)
+
+-- the places that a walk by chunks has still to give
+abbrev pub chunk_places_left : List Bool → ChunkWalk → List ℕ
+chunk_places_left bits walk = places_from walk.bit bits walk.place
+
+-- how many chunks a walk has still to load
+abbrev pub chunks_unread : List Bool → ChunkWalk → ℕ
+chunks_unread bits walk = chunk_count (length bits - walk.end)
+
+-- the chunk holds the bits from place up to end
+pub record IsChunkWalkOf (bits : List Bool) (walk : ChunkWalk) : Type 0 where
+  pub ordered : walk.place ≤ walk.end
+  pub within : walk.end ≤ length bits
+  pub holds : walk.chunk ≡ number (part bits walk.place (walk.end - walk.place))
