@@ -1,0 +1,11 @@
+pub mod Split
+pub mod Below
+pub mod Neighbours
+pub mod Ones
+pub mod Holds
+pub mod Packed
+pub mod Buckets
+pub mod Makes
+pub mod Widths
+pub mod Bounds
+pub mod SparseBits

@@ -1,0 +1,75 @@
+-- The members next to a number.
+use Rattle.std.proofs.Common.{◌≡◌, ℕ, zero, suc, ◌+◌, ◌-◌, ◌<◌, ◌≤◌, Bool, true, false, cond, List, [], ◌∷◌, length, get_or, refl, sym, ap, ◌∙◌, arith, inl, inr, Option, Some, None}
+use Rattle.std.specs.Prelude.{nat_le, slice_index, slice_get, filter, find}
+use Rattle.std.specs.List.{last_or}
+use Rattle.std.specs.List.Sorted.{IsNonDecreasing}
+use Rattle.std.proofs.lemmas.Bool.{cases_lt, le-leb, lt-leb, ne_eqb}
+use Rattle.vers_sorted.specs.Sorted.{below, greatest_not_above, least_not_below, delta}
+use Rattle.std.proofs.lemmas.Option.{slice_get-get_or, slice_get_past}
+use Rattle.vers_sorted.specs.Parts.{IsPacked}
+use Rattle.vers_sorted.proofs.Below.{below_le, below_from, below_to}
+
+-- what stands before and after
+pub below_before : (s : List ℕ) (v i : ℕ) → IsNonDecreasing s → i < below s v → slice_index s i < v
+below_before s v i up h = elim (cases_lt (slice_index s i) v) [ inl fine ↦ fine | inr not ↦ absurd (omega (arith, below_le s v, below_to s v i up (omega (arith, below_le s v)) not)) ]
+
+pub below_after : (s : List ℕ) (v i : ℕ) → IsNonDecreasing s → below s v ≤ i → i < length s → v ≤ slice_index s i
+below_after s v i up h short = elim (cases_lt (slice_index s i) v) [ inr fine ↦ fine | inl less ↦ absurd (omega (arith, below_from s v i up short less)) ]
+
+find_is : (p : ℕ → Bool) (s : List ℕ) (k : ℕ) → k ≤ length s → ((i : ℕ) → i < k → p (get_or s i 0) ≡ false) → (k < length s → p (get_or s k 0) ≡ true) → find p s ≡ slice_get s k
+find_is p [] k h off on = refl
+find_is p (x ∷ s) zero h off on = ap (λ b. cond b (Some x) (find p s)) (on (omega arith))
+find_is p (x ∷ s) (suc k) h off on =
+    ap (λ b. cond b (Some x) (find p s)) (off 0 (omega arith)) ∙ find_is p s k (omega arith) (λ i small. off (suc i) (omega arith)) (λ small. on (omega arith))
+
+last_none_of : (o : Option ℕ) (p : ℕ → Bool) (s : List ℕ) → ((i : ℕ) → i < length s → p (get_or s i 0) ≡ false) → last_or o (filter p s) ≡ o
+last_none_of o p [] off = refl
+last_none_of o p (x ∷ s) off =
+    ap (λ b. last_or o (cond b (x ∷ filter p s) (filter p s))) (off 0 (omega arith)) ∙ last_none_of o p s (λ i small. off (suc i) (omega arith))
+
+last_is : (o : Option ℕ) (p : ℕ → Bool) (s : List ℕ) (k : ℕ) → k < length s → ((i : ℕ) → i < k + 1 → p (get_or s i 0) ≡ true)
+    → ((i : ℕ) → k + 1 ≤ i → i < length s → p (get_or s i 0) ≡ false) → last_or o (filter p s) ≡ slice_get s k
+last_is o p [] k h on off = absurd (omega arith)
+last_is o p (x ∷ s) zero h on off =
+    ap (λ b. last_or o (cond b (x ∷ filter p s) (filter p s))) (on 0 (omega arith)) ∙ last_none_of (Some x) p s (λ i small. off (suc i) (omega arith) (omega arith))
+last_is o p (x ∷ s) (suc k) h on off =
+    ap (λ b. last_or o (cond b (x ∷ filter p s) (filter p s))) (on 0 (omega arith))
+    ∙ last_is (Some x) p s k (omega arith) (λ i small. on (suc i) (omega arith)) (λ i large small. off (suc i) (omega arith) (omega arith))
+
+pub succ_is : (s : List ℕ) (v : ℕ) → IsNonDecreasing s → least_not_below s v ≡ slice_get s (below s v)
+unfolding least_not_below
+succ_is s v up =
+    find_is (λ m. nat_le v m) s (below s v) (below_le s v)
+    (λ i h. lt-leb v (slice_index s i) (below_before s v i up h)) (λ h. le-leb v (slice_index s (below s v)) (below_after s v (below s v) up (omega arith) h))
+
+pub pred_none : (s : List ℕ) (v : ℕ) → IsNonDecreasing s → below s (v + 1) ≡ 0 → greatest_not_above s v ≡ None
+unfolding greatest_not_above
+pred_none s v up e =
+    last_none_of None (λ m. nat_le m v) s (λ i h. lt-leb (slice_index s i) v (omega (arith, below_after s (v + 1) i up (omega arith) h)))
+
+pub pred_some : (s : List ℕ) (v : ℕ) → IsNonDecreasing s → 0 < below s (v + 1) → greatest_not_above s v ≡ slice_get s (below s (v + 1) - 1)
+unfolding greatest_not_above
+pred_some s v up some =
+    last_is None (λ m. nat_le m v) s (below s (v + 1) - 1) (omega (arith, below_le s (v + 1)))
+    (λ i h. le-leb (slice_index s i) v (omega (arith, below_before s (v + 1) i up (omega arith))))
+    (λ i h short. lt-leb (slice_index s i) v (omega (arith, below_after s (v + 1) i up (omega arith) short)))
+
+-- ---- how far a member lies above the one before it
+
+pub delta_first : {s : List ℕ} {high low : List Bool} {first last width : ℕ} (i : ℕ) → IsPacked s high low first last width → i < length s → i ≡ 0 → delta s i ≡ Some first
+unfolding delta
+delta_first {s} i packed some e =
+    rw (e, slice_get-get_or s 0 0 (omega arith)) (let z : slice_index s 0 - 0 ≡ slice_index s 0 = omega arith in ap (λ m. Some m) (z ∙ sym packed.first_is))
+
+pub delta_later : (s : List ℕ) (i : ℕ) → i < length s → 0 < i → delta s i ≡ Some (slice_index s i - slice_index s (i - 1))
+unfolding delta
+delta_later s i h some = rw (slice_get-get_or s i 0 h, ne_eqb i 0 (λ e. absurd (omega arith))) refl
+
+pub delta_none : (s : List ℕ) (i : ℕ) → length s ≤ i → delta s i ≡ None
+unfolding delta
+delta_none s i h = rw (slice_get_past s i h) refl
+
+pub member_before : {s : List ℕ} {high low : List Bool} {first last width : ℕ} (i : ℕ) → IsPacked s high low first last width → i < length s → 0 < i → slice_index s (i - 1) ≤ slice_index s i
+member_before i packed h some = packed.ascending (i - 1) i 0 (omega arith) h
+
+pub ruleset deltas = (delta_first, delta_later, delta_none, member_before)

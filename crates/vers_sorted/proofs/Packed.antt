@@ -1,0 +1,105 @@
+-- What the fields of a packed list say of its members.
+use Rattle.std.proofs.Common.{◌≡◌, ℕ, ◌+◌, ◌-◌, ◌*◌, ◌%◌, ◌^◌, ◌<◌, ◌≤◌, Bool, true, List, length, take, drop, ap, ◌∙◌, arith, Some, None}
+use Rattle.std.specs.Prelude.{slice_index, slice_get, bit_or}
+use Rattle.std.specs.List.Sorted.{IsNonDecreasing}
+use Rattle.std.proofs.Math.Nat.{mul-le-mul_left, mul_comm, mod-eq_of_lt}
+use Rattle.std.proofs.lemmas.Nat.{or_shifted}
+use Rattle.std.proofs.lemmas.Option.{slice_get-get_or, slice_get_past}
+use Rattle.std.proofs.lemmas.List.FromFn.{length-map-range_with_len}
+use Rattle.vers_bits.specs.Bits.{select, number, limb_count}
+use Rattle.vers_bits.proofs.Count.{count_both}
+use Rattle.vers_rank.specs.Queries.{index_size}
+use Rattle.vers_sorted.specs.Layout.{first_of, last_of, low_width, high_of, low_of, high_length, high_parts, low_parts, heap_size_of}
+use Rattle.vers_sorted.specs.Parts.{member, members, HoldHigh, IsPacked}
+use Rattle.vers_sorted.proofs.Split.{parts_sum, low_below}
+use Rattle.vers_sorted.proofs.Holds.{hold_high, hold_low, packs}
+
+pub length-members : (high low : List Bool) (first width n : ℕ) → length (members high low first width n) ≡ n
+unfolding members
+length-members high low first width n = length-map-range_with_len (member high low first width) 0 n
+
+-- the parts of an ascending list hold it
+pub packed_as : (s : List ℕ) (first last width : ℕ) → IsNonDecreasing s → first ≡ first_of s → last ≡ last_of s → last < 18446744073709551616 → width ≡ low_width s → width < 64
+    → (members (high_parts s) (low_parts s) first width (length s) ≡ s) × IsPacked (members (high_parts s) (low_parts s) first width (length s)) (high_parts s) (low_parts s) first last width
+packed_as s first last width up f l fits w narrow =
+    let back : members (high_parts s) (low_parts s) first width (length s) ≡ s =
+    ap (λ v. members (high_parts s) (low_parts s) v width (length s)) f ∙ ap (λ v. members (high_parts s) (low_parts s) (first_of s) v (length s)) w ∙ packs s up in
+    (back, rw back (record { ascending = up; first_is = f; last_is = l; fits = fits; width_is = w; narrow = narrow; high_parts = hold_high s up; low_parts = hold_low s }))
+
+-- ---- the low part
+
+mul_step : (w i n : ℕ) → i < n → w * i + w ≤ w * n
+mul_step w i n h = omega (arith, mul-le-mul_left {m = i + 1} {n = n} w (omega arith), mul_comm w (i + 1), mul_comm w i)
+
+pub low_within : {s : List ℕ} {high low : List Bool} {first last width : ℕ} (i : ℕ) → IsPacked s high low first last width → i < length s → i * width + width ≤ length low
+low_within {s} {width} i packed h =
+    omega (arith, mul_step width i (length s) h, mul_comm width i, packed.low_parts.counted, ap (λ w. w * length s) packed.width_is)
+
+pub low_read : {s : List ℕ} {high low : List Bool} {first last width : ℕ} (i : ℕ) → IsPacked s high low first last width → i < length s
+    → number (take width (drop (i * width) low)) ≡ low_of s (slice_index s i)
+low_read {s} {low} {width} i packed h =
+    let place : i * width ≡ width * i = mul_comm i width in
+    ap (λ p. number (take width (drop p low))) place
+    ∙ ap (λ w. number (take w (drop (w * i) low))) packed.width_is
+    ∙ packed.low_parts.part i h
+
+-- ---- the high part
+
+pub high_counted : {s : List ℕ} {high low : List Bool} {first last width : ℕ} → IsPacked s high low first last width → length high ≡ high_length s
+high_counted packed = packed.high_parts.total
+
+pub high_at : {s : List ℕ} {high low : List Bool} {first last width : ℕ} (i : ℕ) → IsPacked s high low first last width → i < length s
+    → select true high i ≡ high_of s (slice_index s i) + i + 1
+high_at i packed h = packed.high_parts.place i h
+
+-- ---- both
+
+pub get_some : (s : List ℕ) (i : ℕ) → i < length s → slice_get s i ≡ Some (slice_index s i)
+get_some s i h = slice_get-get_or s i 0 h
+
+pub get_none : (s : List ℕ) (i : ℕ) → length s ≤ i → slice_get s i ≡ None
+get_none s i h = slice_get_past s i h
+
+pub in_order : {s : List ℕ} {high low : List Bool} {first last width : ℕ} (i : ℕ) → IsPacked s high low first last width → i < length s
+    → (first ≤ slice_index s i) × (slice_index s i ≤ last)
+in_order {s} i packed h =
+    (omega (arith, packed.first_is, packed.ascending 0 i 0 (omega arith) h), omega (arith, packed.last_is, packed.ascending i (length s - 1) 0 (omega arith) (omega arith)))
+
+pub joined : {s : List ℕ} {high low : List Bool} {first last width : ℕ} (i : ℕ) → IsPacked s high low first last width → i < length s
+    → (first + bit_or (high_of s (slice_index s i) * 2 ^ width % 18446744073709551616) (low_of s (slice_index s i)) ≡ slice_index s i)
+joined {s} {first} {last} {width} i packed h =
+    let v : ℕ = slice_index s i in
+    let order = in_order i packed h in
+    let sum : high_of s v * 2 ^ low_width s + low_of s v ≡ v - first_of s = parts_sum s v (omega (arith, order.0, packed.first_is)) in
+    let small : high_of s v * 2 ^ low_width s < 18446744073709551616 = omega (arith, sum, order.1, packed.fits) in
+    let whole : high_of s v * 2 ^ low_width s % 18446744073709551616 ≡ high_of s v * 2 ^ low_width s = mod-eq_of_lt small in
+    let both : bit_or (high_of s v * 2 ^ low_width s % 18446744073709551616) (low_of s v) ≡ v - first_of s =
+    ap (λ m. bit_or m (low_of s v)) whole ∙ or_shifted (high_of s v) (low_width s) (low_of s v) (low_below s v) ∙ sum in
+    ap (λ w. first + bit_or (high_of s v * 2 ^ w % 18446744073709551616) (low_of s v)) packed.width_is
+    ∙ omega (arith, both, packed.first_is, order.0)
+
+-- ---- sizes
+
+-- of the high parts the size follows from their length and their ones
+same_index : (s : List ℕ) (high : List Bool) → HoldHigh s high → HoldHigh s (high_parts s) → index_size high ≡ index_size (high_parts s)
+same_index s high holds made =
+    omega (arith, holds.ones, made.ones, holds.total, made.total, count_both high (length high), count_both (high_parts s) (length (high_parts s)))
+
+pub size_is : {s : List ℕ} {high low : List Bool} {first last width : ℕ} → IsPacked s high low first last width → index_size high + 8 * limb_count (length low) ≡ heap_size_of s
+size_is {s} {high} {low} packed =
+    omega (arith, same_index s high packed.high_parts (hold_high s packed.ascending), packed.low_parts.counted, (hold_low s).counted)
+
+pub index_fits : (l : List Bool) → length l ≤ 18446744073709551552 → index_size l ≤ 4611686018427387904
+index_fits l h = omega (arith, count_both l (length l))
+
+pub ruleset sizes = (size_is, index_fits)
+
+pub ruleset packed = (length-members)
+
+pub ruleset low_parts_read = (low_read, low_within)
+
+pub ruleset high_parts_read = (high_at, high_counted)
+
+pub ruleset gets = (get_some, get_none)
+
+pub ruleset joined_parts = (joined, in_order)

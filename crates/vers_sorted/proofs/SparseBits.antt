@@ -1,0 +1,146 @@
+-- The queries of a sparse list of bits, by those of the list of its ones' places.
+use Rattle.std.proofs.Common.{◌≡◌, ℕ, ◌+◌, ◌-◌, ◌<◌, ◌≤◌, Bool, true, false, List, [], ◌∷◌, ◌++◌, length, take, get_or, eqb, refl, sym, ap, ◌∙◌, arith, inl, inr, min, Some, None}
+use Rattle.std.specs.Prelude.{slice_index, slice_get, map}
+use Rattle.std.specs.List.Sorted.{IsNonDecreasing}
+use Rattle.std.proofs.lemmas.Bool.{cases_lt, cases_eq, eq-eqb, ne_eqb}
+use Rattle.std.proofs.lemmas.List.{get_or_default, map-id, take_more, take_all}
+use Rattle.std.proofs.lemmas.Option.{slice_get-get_or, slice_get_past}
+use Rattle.vers_bits.specs.Bits.{is_bit, count, places, select}
+use Rattle.vers_bits.proofs.Count.{count_none, count_both, count_past, count_up}
+use Rattle.vers_bits.proofs.Places.{select_at, select_past, length-places, count_more_yes, count_more_no}
+use Rattle.vers_sorted.specs.Sorted.{below, least_not_below}
+use Rattle.vers_sorted.specs.Ones.{ones_at, AreSparse}
+use Rattle.vers_sorted.proofs.Below.{below_le, below_from, below_to}
+use Rattle.vers_sorted.proofs.Neighbours.{below_after, succ_is}
+use Rattle.vers_sorted.proofs.Ones.{length-ones_at, get_or-ones_at, member_test, ascends, below_member, count-ones_at, select-ones_at, all_ones, places-ones_at, places_rise, places_within, ones_at-places}
+
+module _ {s : List ℕ} {n : ℕ} (sparse : AreSparse s n) where
+  last_within : 0 < length s → slice_index s (length s - 1) < n
+  last_within some = sparse.within (length s - 1) 0 (omega arith)
+
+  pub places_are : places true (ones_at s n) ≡ s
+  places_are = places-ones_at s sparse.rising n last_within
+
+  pub count_is : (i : ℕ) → count true (ones_at s n) i ≡ below s i
+  count_is i =
+      elim (cases_lt n i) [
+        | inr within ↦ count-ones_at s sparse.rising n i within
+        | inl past ↦
+            let all : below s i ≡ length s = elim (cases_lt 0 (length s)) [
+              | inl some ↦ omega (arith, below_le s i, below_from s i (length s - 1) (ascends s sparse.rising) (omega arith) (omega (arith, last_within some)))
+              | inr none ↦ omega (arith, below_le s i)
+            ] in
+            count_past true (ones_at s n) i (omega (arith, length-ones_at s n)) ∙ all_ones s sparse.rising n last_within ∙ sym all
+      ]
+
+  pub select_some : (r v : ℕ) → slice_get s r ≡ Some v → select true (ones_at s n) r ≡ v
+  select_some r v e =
+      elim (cases_lt r (length s)) [
+        | inl h ↦
+            let at : Some v ≡ Some (slice_index s r) = sym e ∙ slice_get-get_or s r 0 h in
+            select-ones_at s sparse.rising n r h (sparse.within r 0 h) ∙ cc at
+        | inr past ↦ let none = slice_get_past s r past in absurd (cc (e, none))
+      ]
+
+  pub select_none : (r : ℕ) → slice_get s r ≡ None → select true (ones_at s n) r ≡ n
+  select_none r e =
+      elim (cases_lt r (length s)) [
+        | inl h ↦ let some = slice_get-get_or s r 0 h in absurd (cc (e, some))
+        | inr past ↦ select_past true (ones_at s n) r (omega (arith, all_ones s sparse.rising n last_within)) ∙ length-ones_at s n
+      ]
+
+  -- the bit at a place, by the least member that is not below it
+  pub bit_some : (p v : ℕ) → p < n → least_not_below s p ≡ Some v → get_or (ones_at s n) p false ≡ eqb v p
+  bit_some p v within e =
+      let up : IsNonDecreasing s = ascends s sparse.rising in
+      let at : slice_get s (below s p) ≡ Some v = sym (succ_is s p up) ∙ e in
+      elim (cases_lt (below s p) (length s)) [
+        | inr past ↦ let none = slice_get_past s (below s p) past in absurd (cc (at, none))
+        | inl h ↦
+            let here : Some v ≡ Some (slice_index s (below s p)) = sym at ∙ slice_get-get_or s (below s p) 0 h in
+            let same : v ≡ slice_index s (below s p) = cc here in
+            get_or-ones_at s n p false within ∙ elim (member_test s sparse.rising p) [
+              | inl (on, more) ↦
+                  elim (cases_eq v p) [
+                    | inl is ↦ on ∙ sym (eq-eqb v p is)
+                    | inr ne ↦
+                        absurd (omega (arith, more, below_to s (p + 1) (below s p) up h (omega (arith, same, ne, below_after s p (below s p) up (omega arith) h))))
+                  ]
+              | inr (off, less) ↦
+                  elim (cases_eq v p) [
+                    | inl is ↦ absurd (omega (arith, less, below_from s (p + 1) (below s p) up h (omega (arith, same, is))))
+                    | inr ne ↦ off ∙ sym (ne_eqb v p ne)
+                  ]
+            ]
+      ]
+
+  pub bit_none : (p : ℕ) → p < n → least_not_below s p ≡ None → get_or (ones_at s n) p false ≡ false
+  bit_none p within e =
+      let at : slice_get s (below s p) ≡ None = sym (succ_is s p (ascends s sparse.rising)) ∙ e in
+      elim (cases_lt (below s p) (length s)) [
+        | inl h ↦ let some = slice_get-get_or s (below s p) 0 h in absurd (cc (at, some))
+        | inr past ↦
+            get_or-ones_at s n p false within ∙ elim (member_test s sparse.rising p) [
+              | inl (on, more) ↦ absurd (omega (arith, more, below_le s (p + 1)))
+              | inr (off, less) ↦ off
+            ]
+      ]
+
+-- ---- from the places of a list's bits
+
+pub sparse_places : (b : Bool) (l : List Bool) → AreSparse (places b l) (length l)
+sparse_places b l = record {
+  rising = places_rise b l;
+  within = λ k d h. omega (arith, places_within b l k h, get_or_default (places b l) k d 0 h);
+}
+
+pub places_ascend : (b : Bool) (l : List Bool) → IsNonDecreasing (places b l)
+places_ascend b l = ascends (places b l) (places_rise b l)
+
+pub map_ones : (l : List Bool) → map (is_bit true) l ≡ l
+map_ones l = map-id l
+
+pub held_bit : (b x : Bool) → x ≡ b → is_bit b x ≡ true
+held_bit true x e = e
+held_bit false x e = rw e refl
+
+pub other_bit : (b x : Bool) → (x ≡ b → ⊥) → is_bit b x ≡ false
+other_bit true true ne = absurd (ne refl)
+other_bit true false ne = refl
+other_bit false true ne = refl
+other_bit false false ne = absurd (ne refl)
+
+-- the places below 0, one more of them, and all of them
+pub first_places_none : (b : Bool) (l : List Bool) → take (count b l 0) (places b l) ≡ []
+first_places_none b l = ap (λ k. take k (places b l)) (count_none b l)
+
+pub first_places_more : (b : Bool) (l : List Bool) (i : ℕ) → i < length l → is_bit b (get_or l i false) ≡ true
+    → take (count b l (i + 1)) (places b l) ≡ take (count b l i) (places b l) ++ i ∷ []
+unfolding select
+first_places_more b l i h on =
+    let more : count b l (i + 1) ≡ count b l i + 1 = count_more_yes b l i h on in
+    let few : count b l i < length (places b l) = omega (arith, more, length-places b l, count_up b l (i + 1) (length l) (omega arith)) in
+    let at : get_or (places b l) (count b l i) (length l) ≡ i = select_at b l (count b l i) i h on refl in
+    ap (λ k. take k (places b l)) more ∙ take_more (places b l) (count b l i) (length l) few
+    ∙ ap (λ p. take (count b l i) (places b l) ++ p ∷ []) at
+
+pub first_places_same : (b : Bool) (l : List Bool) (i : ℕ) → i < length l → is_bit b (get_or l i false) ≡ false
+    → take (count b l (i + 1)) (places b l) ≡ take (count b l i) (places b l)
+first_places_same b l i h off = ap (λ k. take k (places b l)) (count_more_no b l i h off)
+
+pub first_places_all : (b : Bool) (l : List Bool) → take (count b l (length l)) (places b l) ≡ places b l
+first_places_all b l = take_all (count b l (length l)) (places b l) (omega (arith, length-places b l))
+
+pub zeros_are : (l : List Bool) (i : ℕ) → min i (length l) - count true l i ≡ count false l i
+zeros_are l i = omega (arith, count_both l i)
+
+pub ones_few : (l : List Bool) (i : ℕ) → count true l i ≤ min i (length l)
+ones_few l i = omega (arith, count_both l i)
+
+pub ruleset sparse = (length-ones_at, places_are, count_is, select_some, select_none, bit_some, bit_none, ascends, map_ones)
+
+pub ruleset from_places = (sparse_places, places_ascend, ones_at-places)
+
+pub ruleset collecting = (held_bit, other_bit, first_places_none, first_places_more, first_places_same, first_places_all)
+
+pub ruleset zeros = (zeros_are, ones_few)

@@ -1,0 +1,46 @@
+-- How a number is split into its high and its low part.
+use Rattle.std.proofs.Common.{◌≡◌, ℕ, ◌+◌, ◌-◌, ◌*◌, ◌/◌, ◌^◌, ◌<◌, ◌≤◌, List, length, refl, arith, inl, inr}
+use Rattle.std.specs.Prelude.{slice_index}
+use Rattle.std.specs.List.Sorted.{IsNonDecreasing}
+use Rattle.std.proofs.Math.Nat.{mul-le-mul_left, mul_comm, div-add-mod}
+use Rattle.std.proofs.lemmas.Nat.{mod_below, pow_pos}
+use Rattle.std.proofs.lemmas.Bool.{cases_lt}
+use Rattle.vers_sorted.specs.Layout.{first_of, last_of, low_width, high_of, low_of, high_length}
+
+pub parts_sum : (s : List ℕ) (v : ℕ) → first_of s ≤ v → high_of s v * 2 ^ low_width s + low_of s v ≡ v - first_of s
+unfolding high_of low_of
+parts_sum s v h = omega (arith, div-add-mod (v - first_of s) (2 ^ low_width s), mul_comm (2 ^ low_width s) ((v - first_of s) / 2 ^ low_width s))
+
+pub low_below : (s : List ℕ) (v : ℕ) → low_of s v < 2 ^ low_width s
+unfolding low_of
+low_below s v = mod_below (v - first_of s) (2 ^ low_width s) (pow_pos (low_width s))
+
+scaled : (m a b : ℕ) → a ≤ b → m * a ≤ m * b
+scaled m a b h = mul-le-mul_left {m = a} {n = b} m h
+
+-- a greater number has no lower high part
+pub high_up : (s : List ℕ) (a b : ℕ) → a ≤ b → first_of s ≤ a → high_of s a ≤ high_of s b
+high_up s a b h from =
+    elim (cases_lt (high_of s b) (high_of s a)) [
+      | inr fine ↦ fine
+      | inl less ↦ absurd (omega (
+        arith,
+        parts_sum s a from,
+        parts_sum s b (omega arith),
+        low_below s b,
+        scaled (2 ^ low_width s) (high_of s b + 1) (high_of s a) (omega arith),
+        mul_comm (2 ^ low_width s) (high_of s b + 1),
+        mul_comm (2 ^ low_width s) (high_of s a),
+      ))
+    ]
+
+pub member_from : (s : List ℕ) (i : ℕ) → IsNonDecreasing s → i < length s → first_of s ≤ slice_index s i
+member_from s i up h = up 0 i 0 (omega arith) h
+
+pub high_zeros : (s : List ℕ) → 0 < length s → high_length s ≡ 2 + length s + high_of s (last_of s)
+unfolding high_length
+high_zeros s h = grind (arith)
+
+pub high_none : (s : List ℕ) → length s ≡ 0 → high_length s ≡ 0
+unfolding high_length
+high_none s e = rw e refl

@@ -1,0 +1,38 @@
+-- Whole-number logarithms.
+use Rattle.std.proofs.Common.{◌≡◌, ℕ, zero, suc, ◌+◌, ◌-◌, ◌*◌, ◌/◌, ◌^◌, ◌<◌, ◌≤◌, arith, max}
+use lib.Count.{count_leading_zeros}
+use Rattle.std.proofs.Math.Nat.{pow-suc}
+use Rattle.std.proofs.lemmas.Nat.{leading_length, pow_pos}
+use Rattle.vers_tally.specs.Reads.{digits}
+use Rattle.vers_tally.proofs.Halves.{digits_half, digits-le, digits_up}
+use Rattle.vers_sorted.specs.Layout.{clog}
+
+digits_is : (m n : ℕ) → n < 2 ^ m → 2 ^ m ≤ 2 * n + 1 → digits n ≡ m
+digits_is zero n low high = omega (arith, digits-le 0 n low)
+digits_is (suc m) n low high =
+    omega (arith, digits_is m (n / 2) (omega (arith, pow-suc 2 m)) (omega (arith, pow-suc 2 m)), digits_half n (omega (arith, pow-suc 2 m, pow_pos m)))
+
+pub digits_leading : (n : ℕ) → n < 340282366920938463463374607431768211456 → 128 - count_leading_zeros 128 n ≡ digits n
+digits_leading n h =
+    let found = leading_length 128 n h in
+    omega (arith, found.1, digits_is found.0 n found.2 found.3)
+
+pub clog_none : (n : ℕ) → n ≡ 0 → clog n ≡ 0
+unfolding clog
+clog_none n e = let z : n - 1 ≡ 0 = omega arith in omega (arith, digits-le 0 (n - 1) (omega arith))
+
+pub width_least : (n u : ℕ) → clog (max n 2) ≤ max (clog (max u 2)) (clog (n + 2))
+unfolding clog
+width_least n u = omega (arith, digits_up (max n 2 - 1) (n + 2 - 1) (omega arith))
+
+pub width_narrow : (n u : ℕ) → u < 18446744073709551616 → max (clog (max u 2)) (clog (n + 2)) - clog (max n 2) < 64
+unfolding clog
+width_narrow n u h =
+    let few : digits (max u 2 - 1) ≤ 64 = digits-le 64 (max u 2 - 1) (omega arith) in
+    let some : digits (max n 2 - 1) ≡ digits ((max n 2 - 1) / 2) + 1 = digits_half (max n 2 - 1) (omega arith) in
+    let step : digits (n + 2 - 1) ≡ digits ((n + 2 - 1) / 2) + 1 = digits_half (n + 2 - 1) (omega arith) in
+    omega (arith, digits_up ((n + 2 - 1) / 2) (max n 2 - 1) (omega arith))
+
+pub ruleset logs = (digits_leading, clog_none)
+
+pub ruleset widths = (width_least, width_narrow)

@@ -1,0 +1,65 @@
+-- How an ascending list is split into high and low parts, how much memory these take, and how much a query reads of them.
+use Rattle.std.specs.Prelude.{ℕ, ◌+◌, ◌-◌, ◌*◌, ◌/◌, ◌%◌, ◌^◌, ◌==◌, max, Bool, List, map, length, slice_index, if◌then◌else◌}
+use Rattle.std.specs.List.{range_with_len}
+use Rattle.vers_bits.specs.Bits.{pack, limb_count}
+use Rattle.vers_rank.specs.Queries.{index_size, select_reads, superblock_count}
+use Rattle.vers_sorted.specs.Ones.{ones_at}
+use Rattle.vers_tally.specs.Reads.{Reads, times, digits}
+
+-- the least k for which n is at most 2 ^ k
+unfoldable pub clog : ℕ → ℕ
+clog n = digits (n - 1)
+
+-- the first and the last member, 0 of the empty list
+abbrev pub first_of : List ℕ → ℕ
+first_of members = slice_index members 0
+
+abbrev pub last_of : List ℕ → ℕ
+last_of members = slice_index members (length members - 1)
+
+-- how many bits a low part has, of n members of which the last lies u above the first
+unfoldable pub width : ℕ → ℕ → ℕ
+width n u = max (clog (max u 2)) (clog (n + 2)) - clog (max n 2)
+
+-- the same of the members themselves
+unfoldable pub low_width : List ℕ → ℕ
+low_width members = width (length members) (last_of members - first_of members)
+
+-- the high part of a number v, and its low part
+unfoldable pub high_of : List ℕ → ℕ → ℕ
+high_of members v = (v - first_of members) / 2 ^ low_width members
+
+unfoldable pub low_of : List ℕ → ℕ → ℕ
+low_of members v = (v - first_of members) % 2 ^ low_width members
+
+-- how many bits the high parts take: a one for each member, and a zero for each high part up to one past the last member's
+unfoldable pub high_length : List ℕ → ℕ
+high_length members = if length members == 0 then 0 else 2 + length members + high_of members (last_of members)
+
+-- where the one of member i stands among the high parts
+abbrev pub high_place : List ℕ → ℕ → ℕ
+high_place members i = high_of members (slice_index members i) + i + 1
+
+-- the high parts: a one for each member
+unfoldable pub high_parts : List ℕ → List Bool
+high_parts members = ones_at (map (high_place members) (range_with_len 0 (length members))) (high_length members)
+
+-- the low parts, one after another: the low digits of how far each member lies above the first
+unfoldable pub low_parts : List ℕ → List Bool
+low_parts members = pack (map (λ m. m - first_of members) members) (low_width members)
+
+-- the bytes of both: the high parts with their index, and the limbs of the low parts
+abbrev pub heap_size_of : List ℕ → ℕ
+heap_size_of members = index_size (high_parts members) + 8 * limb_count (length (low_parts members))
+
+-- what a number of selects of the high parts adds at most, with as many low parts
+abbrev pub select_calls : ℕ → List ℕ → Reads
+select_calls calls members = record (times calls (select_reads (superblock_count (high_length members)))) { low_parts = calls }
+
+-- what reading a member or two adds at most
+abbrev pub member_reads : List ℕ → Reads
+member_reads members = select_calls 2 members
+
+-- what a search adds at most
+abbrev pub search_reads : List ℕ → Reads
+search_reads members = select_calls (digits (length members) + 8) members

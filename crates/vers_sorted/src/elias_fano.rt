@@ -1,0 +1,168 @@
+//! Ascending lists of numbers.
+ghost use Rattle.std.specs.Prelude.{◌≡◌, ◌<◌, ◌↔◌, [], length, slice_index, slice_get, IsTrue, IsSome, Some};
+ghost use Rattle.vers_sorted.specs.Sorted.{below, greatest_not_above, least_not_below, delta};
+ghost use Rattle.vers_sorted.specs.Layout.{heap_size_of};
+
+mod make;
+mod search;
+
+use std::alloc::{AllocError, Allocator};
+use std::marker::Model;
+use vers_rank::fast_rs_vec::RsVec;
+use vers_tally::tally::{CountedBits, Tally};
+
+/// An ascending list of numbers, equal ones allowed, in about two bits a member and as many more
+/// as a low part has. Contracts see an `EliasFanoVec` as the list of its members.
+///
+/// Each member is kept as how far it lies above the first. The lowest digits of that, as many of
+/// each member, stand one after another in a list of bits; the rest, the high part `h` of member
+/// `i`, is a one at place `h + i + 1` of a list of bits with ranks and selects.
+#[derive(Drop)]
+pub struct EliasFanoVec<A: Allocator + Copy> {
+    high: RsVec<A>,
+    low: CountedBits<A>,
+    first: u64,
+    last: u64,
+    width: usize,
+    len: usize,
+}
+
+impl<A: Allocator + Copy> Model for EliasFanoVec<A> {
+    ghost use Rattle.std.specs.Prelude.{List, ℕ};
+    ghost use Rattle.vers_sorted.specs.Parts.{members, IsPacked};
+
+    ghost Value = { List ℕ };
+
+    ghost view = { λ v. members v.high v.low v.first v.width v.len };
+
+    ghost invariant = { λ v. IsPacked (members v.high v.low v.first v.width v.len) v.high v.low v.first v.last v.width };
+}
+
+impl<A: Allocator + Copy> Clone for EliasFanoVec<A> {
+    ghost is_clone = { λ old new. new ≡ old };
+
+    /// A second list of the same members.
+    fn clone(&self) -> Result<Self, AllocError> {
+        let high = self.high.clone()?;
+        let low = self.low.as_bit_vec().clone()?;
+        Ok(EliasFanoVec {
+            high,
+            low: CountedBits::new(low),
+            first: self.first,
+            last: self.last,
+            width: self.width,
+            len: self.len,
+        })
+    }
+}
+
+#[tactic(auto, using(crate::proofs::Packed::packed))]
+impl<A: Allocator + Copy> EliasFanoVec<A> {
+    /// How many members the list has.
+    #[inline]
+    pub fn len(&self) -> usize
+        ensures { result ≡ length self.now }
+    {
+        self.len
+    }
+
+    /// Whether the list has no members.
+    #[inline]
+    pub fn is_empty(&self) -> bool
+        ensures { IsTrue result ↔ (self.now ≡ []) }
+    {
+        self.len() == 0
+    }
+
+    /// The bytes that the high parts with their index and the low parts take.
+    #[tactic(auto, using(crate::proofs::Packed::sizes))]
+    pub fn heap_size(&self) -> usize
+        ensures { result ≡ heap_size_of self.now }
+    {
+        let _ = self.high.len();
+        let _ = self.low.len();
+        self.high.heap_size() + self.low.as_bit_vec().heap_size()
+    }
+
+    /// The member at a place. None past the last.
+    #[inline]
+    pub fn get(&self, i: usize) -> Option<u64>
+        ensures { result ≡ slice_get self.now i }
+    {
+        let mut tally = Tally::new();
+        self.get_counted(i, &mut tally)
+    }
+
+    /// The member at a place of the list.
+    #[inline]
+    pub fn get_unchecked(&self, i: usize) -> u64
+        requires { i < length self.now }
+        ensures { result ≡ slice_index self.now i }
+    {
+        let mut tally = Tally::new();
+        self.member(i, &mut tally)
+    }
+
+    /// The same as `get`.
+    #[inline]
+    pub fn select(&self, i: usize) -> Option<u64>
+        ensures { result ≡ slice_get self.now i }
+    {
+        self.get(i)
+    }
+
+    /// How far member `i` lies above the one before it, and the first member itself for 0. None
+    /// past the last.
+    #[inline]
+    pub fn delta(&self, i: usize) -> Option<u64>
+        ensures { result ≡ delta self.now i }
+    {
+        let mut tally = Tally::new();
+        self.delta_counted(i, &mut tally)
+    }
+
+    /// How many members are below `v`.
+    #[inline]
+    pub fn rank(&self, v: u64) -> u64
+        ensures { result ≡ below self.now v }
+    {
+        let mut tally = Tally::new();
+        self.rank_counted(v, &mut tally)
+    }
+
+    /// The greatest member that is not above `v`. None where there is none.
+    #[inline]
+    pub fn predecessor(&self, v: u64) -> Option<u64>
+        ensures { result ≡ greatest_not_above self.now v }
+    {
+        let mut tally = Tally::new();
+        self.predecessor_counted(v, &mut tally)
+    }
+
+    /// The greatest member that is not above `v`, where there is one.
+    #[inline]
+    pub fn predecessor_unchecked(&self, v: u64) -> u64
+        requires { IsSome (greatest_not_above self.now v) }
+        ensures { greatest_not_above self.now v ≡ Some result }
+    {
+        self.predecessor(v).unwrap()
+    }
+
+    /// The least member that is not below `v`. None where there is none.
+    #[inline]
+    pub fn successor(&self, v: u64) -> Option<u64>
+        ensures { result ≡ least_not_below self.now v }
+    {
+        let mut tally = Tally::new();
+        self.successor_counted(v, &mut tally)
+    }
+
+    /// The least member that is not below `v`, where there is one.
+    #[inline]
+    pub fn successor_unchecked(&self, v: u64) -> u64
+        requires { IsSome (least_not_below self.now v) }
+        ensures { least_not_below self.now v ≡ Some result }
+    {
+        self.successor(v).unwrap()
+    }
+}

@@ -1,0 +1,5 @@
+//! Ascending lists of numbers in high and low parts, and sparse lists of bits on top of them.
+#![tactic(auto)]
+
+pub mod elias_fano;
+pub mod sparse;

@@ -1,0 +1,240 @@
+//! Lists of bits with few ones.
+ghost use Rattle.std.specs.Prelude.{◌≡◌, ◌<◌, ◌↔◌, [], All, not, length, map, slice_index_or, slice_get, option_map, IsTrue, IfOk, true, false};
+ghost use Rattle.std.specs.List.Sorted.{IsStrictlyIncreasing};
+ghost use Rattle.vers_bits.specs.Bits.{bit_value, count, is_bit, places, select};
+ghost use Rattle.vers_tally.specs.Reads.{AddsAtMost};
+ghost use Rattle.vers_sorted.specs.Layout.{heap_size_of, member_reads, search_reads};
+
+use crate::elias_fano::EliasFanoVec;
+use std::alloc::{AllocError, Allocator};
+use std::marker::Model;
+use vers_bits::bit_vec::BitVec;
+use vers_tally::tally::Tally;
+
+/// A list of bits that keeps only the places of its ones, as an ascending list: for bits of which
+/// few are ones. Contracts see a `SparseRSVec` as the list of its bits.
+#[derive(Clone, Drop)]
+pub struct SparseRSVec<A: Allocator + Copy> {
+    ones: EliasFanoVec<A>,
+    len: u64,
+}
+
+impl<A: Allocator + Copy> Model for SparseRSVec<A> {
+    ghost use Rattle.std.specs.Prelude.{List, Bool};
+    ghost use Rattle.vers_sorted.specs.Ones.{ones_at, AreSparse};
+
+    ghost Value = { List Bool };
+
+    ghost view = { λ v. ones_at v.ones v.len };
+
+    ghost invariant = { λ v. AreSparse v.ones v.len };
+}
+
+#[tactic(auto, using(crate::proofs::SparseBits::sparse))]
+impl<A: Allocator + Copy> SparseRSVec<A> {
+    /// The list of `len` bits whose ones stand at the given places.
+    pub fn new(alloc: A, ones: &[u64], len: u64) -> Result<Self, AllocError>
+        requires rising { IsStrictlyIncreasing ones.now }
+        requires within { All (λ place. place < len) ones.now }
+        ensures length { IfOk result (λ v. length v ≡ len) }
+        ensures places { IfOk result (λ v. places true v ≡ ones.now) }
+    {
+        let ones = EliasFanoVec::from_slice(alloc, ones)?;
+        Ok(SparseRSVec { ones, len })
+    }
+
+    /// The same bits as those of a list that keeps them all.
+    pub fn from_bitvec(bits: &BitVec<A>) -> Result<Self, AllocError>
+        ensures { IfOk result (λ v. v ≡ bits.now) }
+    {
+        SparseRSVec::from_places(bits, true)
+    }
+
+    /// The bits of another list with ones and zeros exchanged.
+    pub fn from_bitvec_inverted(bits: &BitVec<A>) -> Result<Self, AllocError>
+        ensures { IfOk result (λ v. v ≡ map not bits.now) }
+    {
+        SparseRSVec::from_places(bits, false)
+    }
+
+    // The list with ones where another has `bit`.
+    #[tactic(auto, using(crate::proofs::SparseBits::from_places))]
+    fn from_places(bits: &BitVec<A>, bit: bool) -> Result<Self, AllocError>
+        ensures { IfOk result (λ v. v ≡ map (is_bit bit) bits.now) }
+    {
+        let ones = places_of(bits, bit)?;
+        Ok(SparseRSVec {
+            ones: EliasFanoVec::from_slice(bits.allocator(), &ones)?,
+            len: bits.len() as u64,
+        })
+    }
+
+    /// How many bits the list has.
+    #[inline]
+    pub fn len(&self) -> u64
+        ensures { result ≡ length self.now }
+    {
+        self.len
+    }
+
+    /// Whether the list has no bits.
+    #[inline]
+    pub fn is_empty(&self) -> bool
+        ensures { IsTrue result ↔ (self.now ≡ []) }
+    {
+        self.len() == 0
+    }
+
+    /// The bytes that the list of the ones' places takes.
+    pub fn heap_size(&self) -> usize
+        ensures { result ≡ heap_size_of (places true self.now) }
+    {
+        let _ = &self.len;
+        self.ones.heap_size()
+    }
+
+    /// Whether the bit at a place is a one. None for a place that the list doesn't have.
+    #[inline]
+    pub fn is_set(&self, place: u64) -> Option<bool>
+        ensures { result ≡ slice_get self.now place }
+    {
+        let mut tally = Tally::new();
+        self.is_set_counted(place, &mut tally)
+    }
+
+    /// Whether the bit at a place is a one. None for a place that the list doesn't have.
+    pub fn is_set_counted(&self, place: u64, tally: &mut Tally) -> Option<bool>
+        ensures value { result ≡ slice_get self.now place }
+        ensures adds { AddsAtMost tally.old tally.new (search_reads (places true self.now)) }
+    {
+        if place >= self.len() {
+            return None;
+        }
+        Some(self.holds_one(place, tally))
+    }
+
+    // Whether the bit at a place of the list is a one.
+    #[inline]
+    fn holds_one(&self, place: u64, tally: &mut Tally) -> bool
+        requires { place < length self.now }
+        ensures value { result ≡ slice_index_or self.now place false }
+        ensures adds { AddsAtMost tally.old tally.new (search_reads (places true self.now)) }
+    {
+        let _ = &self.len;
+        match self.ones.successor_counted(place, tally) {
+            Some(one) => one == place,
+            None => false,
+        }
+    }
+
+    /// Whether the bit at a place of the list is a one.
+    #[inline]
+    pub fn is_set_unchecked(&self, place: u64) -> bool
+        requires { place < length self.now }
+        ensures { result ≡ slice_index_or self.now place false }
+    {
+        let mut tally = Tally::new();
+        self.holds_one(place, &mut tally)
+    }
+
+    /// The bit at a place, 1 or 0. None for a place that the list doesn't have.
+    #[inline]
+    pub fn get(&self, place: u64) -> Option<u64>
+        ensures { result ≡ option_map bit_value (slice_get self.now place) }
+    {
+        let mut tally = Tally::new();
+        self.get_counted(place, &mut tally)
+    }
+
+    /// The bit at a place, 1 or 0. None for a place that the list doesn't have.
+    pub fn get_counted(&self, place: u64, tally: &mut Tally) -> Option<u64>
+        ensures value { result ≡ option_map bit_value (slice_get self.now place) }
+        ensures adds { AddsAtMost tally.old tally.new (search_reads (places true self.now)) }
+    {
+        if place >= self.len() {
+            return None;
+        }
+        Some(u64::from(self.holds_one(place, tally)))
+    }
+
+    /// The bit at a place of the list, 1 or 0.
+    #[inline]
+    pub fn get_unchecked(&self, place: u64) -> u64
+        requires { place < length self.now }
+        ensures { result ≡ bit_value (slice_index_or self.now place false) }
+    {
+        u64::from(self.is_set_unchecked(place))
+    }
+
+    /// The place of one number `r`, counted from 0, or the length where there are no more.
+    #[inline]
+    pub fn select1(&self, r: usize) -> u64
+        ensures { result ≡ select true self.now r }
+    {
+        let mut tally = Tally::new();
+        self.select1_counted(r, &mut tally)
+    }
+
+    /// The place of one number `r`, counted from 0, or the length where there are no more.
+    pub fn select1_counted(&self, r: usize, tally: &mut Tally) -> u64
+        ensures value { result ≡ select true self.now r }
+        ensures adds { AddsAtMost tally.old tally.new (member_reads (places true self.now)) }
+    {
+        let _ = &self.len;
+        match self.ones.get_counted(r, tally) {
+            Some(place) => place,
+            None => self.len,
+        }
+    }
+
+    /// How many ones stand below a place.
+    #[inline]
+    pub fn rank1(&self, place: u64) -> u64
+        ensures { result ≡ count true self.now place }
+    {
+        let mut tally = Tally::new();
+        self.rank1_counted(place, &mut tally)
+    }
+
+    /// How many ones stand below a place.
+    pub fn rank1_counted(&self, place: u64, tally: &mut Tally) -> u64
+        ensures value { result ≡ count true self.now place }
+        ensures adds { AddsAtMost tally.old tally.new (search_reads (places true self.now)) }
+    {
+        let _ = &self.len;
+        self.ones.rank_counted(place, tally)
+    }
+
+    /// How many zeros stand below a place.
+    #[inline]
+    pub fn rank0(&self, place: u64) -> u64
+        ensures { result ≡ count false self.now place }
+    {
+        let mut tally = Tally::new();
+        self.rank0_counted(place, &mut tally)
+    }
+
+    /// How many zeros stand below a place.
+    #[tactic(auto, using(crate::proofs::SparseBits::zeros))]
+    pub fn rank0_counted(&self, place: u64, tally: &mut Tally) -> u64
+        ensures value { result ≡ count false self.now place }
+        ensures adds { AddsAtMost tally.old tally.new (search_reads (places true self.now)) }
+    {
+        let ones = self.rank1_counted(place, tally);
+        place.min(self.len()) - ones
+    }
+}
+
+// The places of the ones or the zeros.
+#[tactic(auto, using(crate::proofs::SparseBits::collecting))]
+fn places_of<A: Allocator + Copy>(bits: &BitVec<A>, bit: bool) -> Result<Vec<u64, A>, AllocError>
+    ensures { IfOk result (λ v. v.items ≡ places bit bits.now) }
+{
+    let mut found = Vec::new(bits.allocator());
+    for place in 0..bits.len() {
+        if bits.is_bit_set_unchecked(place) == bit {
+            found.push(place as u64)?;
+        }
+    }
+    Ok(found)
+}
