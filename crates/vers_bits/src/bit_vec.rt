@@ -1,17 +1,14 @@
+//! The list of bits.
 ghost use Rattle.std.specs.Prelude.{◌≡◌, ℕ, ◌+◌, ◌-◌, ◌*◌, ◌/◌, ◌%◌, ◌^◌, ◌<◌, ◌≤◌, ◌↔◌, [], ◌∷◌, ◌++◌, length, take, drop, IsTrue, IsOk, OnOk, OnErr, IfOk, Some, None, slice_get, slice_index, slice_index_or, true, false, ◌==◌, Bool, List, option_map, flat_map};
 ghost use Rattle.vers_bits.specs.Bits.{bit_value, number, count, limb, limbs, limb_count, part, part_number};
 ghost use Rattle.vers_bits.specs.Words.{HoldsBits, AddsBit};
 ghost use Rattle.vers_bits.specs.Equality.{same_bits, hash_input, same_bits_per, same_bits_equiv, hash_input-Alike};
 
-mod into_iter;
-mod iter;
-mod limb_iter;
-
 pub use crate::bit_vec::fault::{GrowError, LengthMismatch, OutOfRange, SplitCause, SplitError};
+pub use crate::bit_vec::into_iter::BitVecIter;
+pub use crate::bit_vec::iter::BitVecRefIter;
+pub use crate::bit_vec::limb_iter::LimbIter;
 pub use crate::bit_vec::mask::BitMask;
-pub use into_iter::BitVecIter;
-pub use iter::BitVecRefIter;
-pub use limb_iter::LimbIter;
 use std::alloc::{AllocError, Allocator};
 use std::hash::{Hash, Hasher};
 use std::marker::Model;
@@ -19,6 +16,9 @@ use std::marker::Model;
 mod edit;
 mod fault;
 mod grow;
+mod into_iter;
+mod iter;
+mod limb_iter;
 mod make;
 pub mod mask;
 mod words;
