@@ -4,8 +4,9 @@
 - Public items of a library have a doc comment, and each module file says in its first line what it is.
 - Files stay below 800 lines, and functions below 60.
 - `crates.txt` lists the folders of `crates/`, each once.
-- Each public function with an `ensures` clause is reached by a wrong body: some edit of the crate's
-  `must-fail/` changes it, or a function of the crate that it calls.
+- Each public function that computes something is reached by a wrong body: some edit of the crate's `must-fail/`
+  changes it, or a function of the crate that it calls. A body computes something unless it is empty, reads a
+  field, or hands its arguments on to one call.
 - Nothing cites a label of a paper or a path of one machine, and the links of the documents lead somewhere.
 
 Exit status 1 where a rule is broken, with a line for each place. `--self-test` breaks each rule in a small
@@ -24,6 +25,7 @@ LONGEST_FUNCTION = 60
 LABEL = re.compile(r"(?<![\w-])[DFRTW][12]?\d(?![\w-])")
 MACHINE_PATH = re.compile(r"(?<![\w./-])/(?:work|opt|tmp|home|root)/")
 PUBLIC = re.compile(r"(?m)^[ \t]*pub (?:const )?(?:unsafe )?(fn|struct|enum|trait|const|static|type) (\w+)")
+PASSES_ON = re.compile(r"\{\s*(?:[\w.:&*]+(?:::<\w+>)?(?:\([\w\s,&.*]*\))?\s*)?\}")
 LINK = re.compile(r"\]\(([^)#:\s]+)(?:#[^)]*)?\)")
 TEXTS = (".md", ".rt", ".antt", ".edit", ".py", ".sh", ".txt")
 
@@ -83,7 +85,7 @@ def changed_functions(top, crate, sources):
 
 
 def without_wrong_body(top, crate, sources):
-    """Yields a line for each public function with an `ensures` that no edit of the crate reaches."""
+    """Yields a line for each public function that computes something and that no edit of the crate reaches."""
     found = [(path, function) for path, text in sources.items() for function in functions(without_tests(blanked(text)))]
     calls = {}
     for _, function in found:
@@ -95,7 +97,8 @@ def without_wrong_body(top, crate, sources):
             break
         reached |= more
     for path, function in found:
-        if function.is_public and function.has_ensures and function.name not in reached:
+        computes = function.has_ensures and not PASSES_ON.fullmatch(function.body)
+        if function.is_public and computes and function.name not in reached:
             yield f"{path}:{function.line}: no wrong body reaches {function.name}"
 
 
@@ -137,7 +140,7 @@ GOOD = {
     "crates.txt": "low: # a comment\n",
     "README.md": "See [the page](docs/PAGE.md).\n",
     "docs/PAGE.md": "A page.\n",
-    "crates/low/src/lib.rt": "//! A crate.\n\n/// One more.\n#[inline]\npub fn next(x: u8) -> u8\n    ensures { result ≡ more x }\n{\n    helper(x)\n}\n\nfn helper(x: u8) -> u8 {\n    x + 1\n}\n",
+    "crates/low/src/lib.rt": "//! A crate.\n\n/// One more.\n#[inline]\npub fn next(x: u8) -> u8\n    ensures { result ≡ more x }\n{\n    helper(x) & 255\n}\n\nfn helper(x: u8) -> u8 {\n    x + 1\n}\n",
     "crates/low/must-fail/off.edit": "file: src/lib.rt\nold:     x + 1\nnew:     x + 2\n",
 }
 # what is wanted to be said, and the change to the good repository that asks for it
