@@ -43,7 +43,10 @@ fn bits_are_set_and_flipped(rt: HostRuntime) -> Result<(), Fail> {
     let before = list.clone()?;
     assert_eq!(rt; list.set(70, 1), Err(OutOfRange));
     assert!(rt; list == before);
-    assert_eq!(rt; format!(in alloc; "{}", OutOfRange)?.as_str(), "out of range");
+    assert_eq!(rt;
+        format!(in alloc; "{}", OutOfRange)?.as_str(),
+        "out of range"
+    );
     Ok(())
 }
 

@@ -71,7 +71,10 @@ fn lists_are_appended_at_any_length(rt: HostRuntime) -> Result<(), Fail> {
 #[test]
 fn the_lists_of_an_iterator_are_appended(rt: HostRuntime) -> Result<(), Fail> {
     let alloc = rt.alloc();
-    let lists = vec![in alloc; BitVec::from_bits(alloc, &[1, 0])?, BitVec::from_bits(alloc, &[0])?]?;
+    let lists = vec![in alloc;
+        BitVec::from_bits(alloc, &[1, 0])?,
+        BitVec::from_bits(alloc, &[0])?,
+    ]?;
     let want = BitVec::from_bits(alloc, &[1, 1, 0, 0])?;
     let mut list = BitVec::from_ones(alloc, 1)?;
     list.extend_ref(lists.iter())?;

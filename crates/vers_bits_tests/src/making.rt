@@ -57,9 +57,15 @@ fn a_list_past_the_greatest_length_is_too_long(rt: HostRuntime) {
     assert_eq!(rt; BitVec::from_zeros(alloc, usize::MAX).err(), too_long);
     assert_eq!(rt; BitVec::from_ones(alloc, usize::MAX).err(), too_long);
     assert_eq!(rt; BitVec::with_capacity(alloc, usize::MAX).err(), too_long);
-    assert_eq!(rt; BitVec::pack_sequence_u8(alloc, &[1, 2], usize::MAX).err(), too_long);
+    assert_eq!(rt;
+        BitVec::pack_sequence_u8(alloc, &[1, 2], usize::MAX).err(),
+        too_long
+    );
     let items = [1, 2].iter().copied();
-    assert_eq!(rt; BitVec::pack_from_iter_u8(alloc, items, usize::MAX).err(), too_long);
+    assert_eq!(rt;
+        BitVec::pack_from_iter_u8(alloc, items, usize::MAX).err(),
+        too_long
+    );
 }
 
 #[test]

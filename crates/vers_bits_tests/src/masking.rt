@@ -93,7 +93,10 @@ fn lists_of_different_lengths_are_not_combined(rt: HostRuntime) -> Result<(), Fa
     assert_eq!(rt; zeros.mask_or(&ones).err(), mismatch);
     assert_eq!(rt; zeros.mask_and(&ones).err(), mismatch);
     assert_eq!(rt; zeros.mask_xor(&ones).err(), mismatch);
-    assert_eq!(rt; zeros.mask_custom(&ones, |a: u64, b: u64| !(a ^ b)).err(), mismatch);
+    assert_eq!(rt;
+        zeros.mask_custom(&ones, |a: u64, b: u64| !(a ^ b)).err(),
+        mismatch
+    );
     let mut list = zeros.clone()?;
     assert_eq!(rt; list.apply_mask_or(&ones), Err(LengthMismatch));
     assert_eq!(rt; list.apply_mask_and(&ones), Err(LengthMismatch));

@@ -74,7 +74,6 @@ fn a_refused_list_of_an_iterator_is_left_out_whole(rt: HostRuntime) -> Result<()
         let heap = Refusing::none(alloc);
         let mut list = BitVec::from_ones(&heap, 60)?;
         let lists = vec![in alloc; BitVec::from_ones(&heap, 4)?, BitVec::from_ones(&heap, 1)?]?;
-        let asked = heap.asked();
         heap.refuse_next(refused);
         match list.extend_ref(lists.iter()) {
             Ok(()) => assert_eq!(rt; list.len(), 65),
@@ -84,7 +83,7 @@ fn a_refused_list_of_an_iterator_is_left_out_whole(rt: HostRuntime) -> Result<()
                 assert_eq!(rt; list.count_zeros(), 0);
             }
         }
-        if heap.asked() < asked + refused {
+        if heap.refused() == 0 {
             return Ok(());
         }
     }
