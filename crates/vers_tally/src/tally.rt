@@ -1,4 +1,4 @@
-ghost use Rattle.std.specs.Prelude.{◌≡◌, ℕ, ◌+◌, ◌*◌, ◌<◌, ◌≤◌, ◌^◌, List, length, slice_index, slice_index_or, slice_get, option_map, false};
+ghost use Rattle.std.specs.Prelude.{◌≡◌, ℕ, ◌+◌, ◌*◌, ◌%◌, ◌<◌, ◌≤◌, ◌^◌, List, length, slice_index, slice_index_or, slice_get, option_map, false};
 ghost use Rattle.vers_bits.specs.Bits.{bit_value, number, part, part_number, limb};
 ghost use Rattle.vers_tally.specs.Reads.{Reads, no_reads, one_more, only_data_words, only_block_entries, only_superblock_entries, only_low_parts, only_rank_calls, only_items, only_blocks, only_nodes, only_chunks, AddsAtMost};
 
@@ -214,6 +214,8 @@ impl<A: Allocator + Copy> CountedBits<A> {
     #[inline]
     pub fn get(&self, place: usize, tally: &mut Tally) -> Option<u64>
         ensures value { result ≡ option_map bit_value (slice_get self.now place) }
+        ensures inside { place < length self.now → tally.new ≡ record tally.old { data_words = one_more tally.old.data_words } }
+        ensures past { length self.now ≤ place → tally.new ≡ tally.old }
         ensures adds { AddsAtMost tally.old tally.new (only_data_words 1) }
     {
         if place < self.bits.len() {
@@ -234,11 +236,13 @@ impl<A: Allocator + Copy> CountedBits<A> {
         self.bits.is_bit_set(place).unwrap()
     }
 
-    /// The number of the `n` bits from `place` on. Reads the one or two data words that hold
-    /// them. None where there are not so many, or `n` is 0 or above 64.
+    /// The number of the `n` bits from `place` on. Reads one data word, or two where the bits reach
+    /// past the first. None where there are not so many, or `n` is 0 or above 64.
     #[inline]
     pub fn get_bits(&self, place: usize, n: usize, tally: &mut Tally) -> Option<u64>
         ensures value { result ≡ part_number self.now place n }
+        ensures one { place % 64 + n ≤ 64 → tally.new ≡ record tally.old { data_words = one_more tally.old.data_words } }
+        ensures two { 64 < place % 64 + n → tally.new ≡ record tally.old { data_words = one_more (one_more tally.old.data_words) } }
         ensures adds { AddsAtMost tally.old tally.new (only_data_words 2) }
     {
         tally.data_words = tally.data_words.saturating_add(1);
