@@ -1,7 +1,7 @@
 //! How many zeros or ones stand below a place.
 ghost use Rattle.std.specs.Prelude.{◌≡◌, ℕ, ◌+◌, ◌*◌, ◌/◌, ◌<◌, ◌≤◌, length, min, true, false};
 ghost use Rattle.vers_bits.specs.Bits.{count};
-ghost use Rattle.vers_tally.specs.Reads.{no_reads, only_data_words, AddsAtMost};
+ghost use Rattle.vers_tally.specs.Reads.{no_reads, one_more, only_data_words, AddsAtMost};
 ghost use Rattle.vers_rank.specs.Queries.{rank_reads};
 
 use super::{BLOCK, RsVec};
@@ -33,6 +33,7 @@ impl<A: Allocator + Copy> RsVec<A> {
     #[tactic(auto, using(crate::proofs::Ranks::sums))]
     pub fn rank0_counted(&self, place: usize, tally: &mut Tally) -> usize
         ensures value { result ≡ count false self.now place }
+        ensures counted { tally.new.rank_calls ≡ one_more tally.old.rank_calls }
         ensures adds { AddsAtMost tally.old tally.new rank_reads }
     {
         tally.add_rank_call();
@@ -50,6 +51,7 @@ impl<A: Allocator + Copy> RsVec<A> {
     #[tactic(auto, using(crate::proofs::Ranks::sums))]
     pub fn rank1_counted(&self, place: usize, tally: &mut Tally) -> usize
         ensures value { result ≡ count true self.now place }
+        ensures counted { tally.new.rank_calls ≡ one_more tally.old.rank_calls }
         ensures adds { AddsAtMost tally.old tally.new rank_reads }
     {
         tally.add_rank_call();
