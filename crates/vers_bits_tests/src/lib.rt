@@ -1,0 +1,5 @@
+//! Tests of the list of bits.
+#![tactic(auto)]
+
+#[cfg(test)]
+mod iterators;

@@ -1,0 +1,5 @@
+//! Tests of indexed lists of bits.
+#![tactic(auto)]
+
+#[cfg(test)]
+mod iterators;
