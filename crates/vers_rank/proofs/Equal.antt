@@ -1,9 +1,8 @@
 -- Lists of bits with the same places are equal.
-use Rattle.std.proofs.Common.{◌≡◌, ℕ, ◌+◌, ◌<◌, ◌≤◌, Bool, true, false, not, cond, List, length, get_or, refl, sym, ap, ◌∙◌, arith, inl, inr}
-use Rattle.std.proofs.lemmas.Bool.{cases_Bool}
+use Rattle.std.proofs.Common.{◌≡◌, ℕ, ◌+◌, ◌<◌, Bool, true, false, List, length, get_or, refl, sym, ap, ◌∙◌, arith}
 use Rattle.std.proofs.lemmas.List.{same_lists}
 use Rattle.vers_bits.specs.Bits.{is_bit, count, select}
-use Rattle.vers_bits.proofs.Count.{count_le_all, count_up}
+use Rattle.vers_bits.proofs.Count.{count_le_all}
 use Rattle.vers_bits.proofs.Neighbours.{any_default}
 use Rattle.vers_bits.proofs.Places.{IsPlace, select_at, select_is_place, count_more_yes}
 
@@ -35,9 +34,9 @@ pub same_places : (b : Bool) (l m : List Bool) → length l ≡ length m → cou
     → ((r : ℕ) → r < count b l (length l) → select b l r ≡ select b m r) → l ≡ m
 same_places b l m long many each =
     same_lists l m long (λ k d h.
-      let same : get_or l k false ≡ get_or m k false = bit_known b (get_or l k false) (get_or m k false)
-        (same_place (is_bit b (get_or l k false)) (is_bit b (get_or m k false)) (place_of_both b l m long many each k h)
-        (place_of_both b m l (sym long) (sym many) (λ r few. sym (each r (omega arith))) k (omega arith))) in
-      any_default l k d false h ∙ same ∙ any_default m k false d (omega arith))
+    let same : get_or l k false ≡ get_or m k false = bit_known b (get_or l k false) (get_or m k false)
+    (same_place (is_bit b (get_or l k false)) (is_bit b (get_or m k false)) (place_of_both b l m long many each k h)
+    (place_of_both b m l (sym long) (sym many) (λ r few. sym (each r (omega arith))) k (omega arith))) in
+    any_default l k d false h ∙ same ∙ any_default m k false d (omega arith))
 
 pub ruleset equality = (same_places)

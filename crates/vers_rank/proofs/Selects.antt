@@ -117,7 +117,9 @@ pub ruleset totals = (count_both, count_le, select_past)
 pub ruleset between = (samples_bound, digits_up)
 
 pub ruleset within_superblock = (count_past)
+
 pub ruleset block_search = (count_up, count_le)
+
 pub ruleset limb_search = (held_more, held_up)
 
 -- the greater half of n has a digit less

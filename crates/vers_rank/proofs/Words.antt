@@ -19,7 +19,6 @@ held_in_none false w = omega arith
 
 pub ruleset masks = (masked, ones_few)
 
-
 -- the low bits of a word, in two parts
 ones_split : (w i d : ℕ) → count_ones (w % 2 ^ (i + d)) ≡ count_ones (w % 2 ^ i) + count_ones (w / 2 ^ i % 2 ^ d)
 ones_split w i d =
@@ -42,4 +41,5 @@ pub not_past : (b : Bool) (w i j r : ℕ) → held_in b w j ≤ r → r < held_i
 not_past b w i j r low high = elim (cases_lt j i) [ inl h ↦ h | inr h ↦ absurd (omega (arith, held_in_up b w i j h)) ]
 
 pub ruleset starts = (held_in_none, held_in_up)
+
 pub ruleset splits = (held_in_split, held_in_split_next)

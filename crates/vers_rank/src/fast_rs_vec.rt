@@ -1,7 +1,7 @@
 //! The list of bits with ranks and selects.
 ghost use Rattle.std.specs.Prelude.{◌≡◌, ℕ, ◌+◌, ◌<◌, ◌≤◌, ◌↔◌, [], List, length, true, false, IfOk, IsTrue, slice_get, slice_index_or, option_map};
 ghost use Rattle.vers_bits.specs.Bits.{bit_value, count, number, part, select};
-ghost use Rattle.vers_tally.specs.Reads.{AddsAtMost};
+ghost use Rattle.vers_tally.specs.Reads.{AddsAtMost, one_more};
 ghost use Rattle.vers_rank.specs.Queries.{part_number_or_zero, superblock_count, index_size, get_reads, get_bits_reads, rank_reads, select_reads};
 
 mod bit_set_iter;
@@ -179,6 +179,7 @@ impl<A: Allocator + Copy> RsVec<A> {
     #[inline]
     pub fn get_counted(&self, place: usize, tally: &mut Tally) -> Option<u64>
         ensures value { result ≡ option_map bit_value (slice_get self.now place) }
+        ensures counted { tally.new.rank_calls ≡ one_more tally.old.rank_calls }
         ensures adds { AddsAtMost tally.old tally.new get_reads }
     {
         tally.add_rank_call();
@@ -200,6 +201,7 @@ impl<A: Allocator + Copy> RsVec<A> {
     pub fn is_one_counted(&self, place: usize, tally: &mut Tally) -> bool
         requires { place < length self.now }
         ensures value { result ≡ slice_index_or self.now place false }
+        ensures counted { tally.new.rank_calls ≡ one_more tally.old.rank_calls }
         ensures adds { AddsAtMost tally.old tally.new get_reads }
     {
         tally.add_rank_call();
@@ -222,6 +224,7 @@ impl<A: Allocator + Copy> RsVec<A> {
     #[tactic(auto, using(crate::proofs::Parts::parts))]
     pub fn get_bits_counted(&self, place: usize, n: usize, tally: &mut Tally) -> Option<u64>
         ensures value { result ≡ part_number_or_zero self.now place n }
+        ensures counted { tally.new.rank_calls ≡ one_more tally.old.rank_calls }
         ensures adds { AddsAtMost tally.old tally.new get_bits_reads }
     {
         tally.add_rank_call();

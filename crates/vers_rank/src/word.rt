@@ -1,8 +1,8 @@
-// Ones and zeros of a word of 64 bits.
+//! Ones and zeros of a word of 64 bits.
 ghost use Rattle.std.specs.Prelude.{◌≡◌, ℕ, ◌+◌, ◌*◌, ◌<◌, ◌≤◌};
 ghost use Rattle.vers_rank.specs.Index.{held_in};
 
-// How many bits of a word are `bit`.
+/// How many bits of a word are `bit`.
 #[inline(always)]
 #[tactic(auto, unfolding(crate::specs::Index::held_in))]
 pub fn held_in_word(word: u64, bit: bool) -> usize
@@ -24,8 +24,8 @@ fn held_in_part(word: u64, bit: bool, j: usize) -> usize
     if bit { ones } else { j - ones }
 }
 
-// The place in a word of number `r` of the bits that are `bit`: its byte, and its place there,
-// each by as many comparisons whatever the word holds.
+/// The place in a word of number `r` of the bits that are `bit`: its byte, and its place there,
+/// each by as many comparisons whatever the word holds.
 #[inline(always)]
 #[tactic(auto, using(crate::proofs::Words::splits))]
 pub fn place_in_word(word: u64, bit: bool, r: usize) -> usize

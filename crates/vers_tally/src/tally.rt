@@ -1,4 +1,5 @@
-ghost use Rattle.std.specs.Prelude.{◌≡◌, ℕ, ◌+◌, ◌*◌, ◌<◌, ◌≤◌, ◌^◌, List, length, slice_index, slice_index_or, slice_get, option_map, false};
+//! Counters of reads, and the vectors whose entries are read only with one.
+ghost use Rattle.std.specs.Prelude.{◌≡◌, ℕ, ◌+◌, ◌*◌, ◌%◌, ◌<◌, ◌≤◌, ◌^◌, List, length, slice_index, slice_index_or, slice_get, option_map, false};
 ghost use Rattle.vers_bits.specs.Bits.{bit_value, number, part, part_number, limb};
 ghost use Rattle.vers_tally.specs.Reads.{Reads, no_reads, one_more, only_data_words, only_block_entries, only_superblock_entries, only_low_parts, only_rank_calls, only_items, only_blocks, only_nodes, only_chunks, AddsAtMost};
 
@@ -177,7 +178,8 @@ impl<A: Allocator + Copy> CountedBits<A> {
     pub fn into_bit_vec(self) -> BitVec<A>
         ensures { result ≡ self }
     {
-        self.bits
+        let CountedBits { bits } = self;
+        bits
     }
 
     /// The whole list, for clones, conversions and equality. No counted query reads it.
@@ -214,6 +216,8 @@ impl<A: Allocator + Copy> CountedBits<A> {
     #[inline]
     pub fn get(&self, place: usize, tally: &mut Tally) -> Option<u64>
         ensures value { result ≡ option_map bit_value (slice_get self.now place) }
+        ensures inside { place < length self.now → tally.new ≡ record tally.old { data_words = one_more tally.old.data_words } }
+        ensures past { length self.now ≤ place → tally.new ≡ tally.old }
         ensures adds { AddsAtMost tally.old tally.new (only_data_words 1) }
     {
         if place < self.bits.len() {
@@ -234,11 +238,13 @@ impl<A: Allocator + Copy> CountedBits<A> {
         self.bits.is_bit_set(place).unwrap()
     }
 
-    /// The number of the `n` bits from `place` on. Reads the one or two data words that hold
-    /// them. None where there are not so many, or `n` is 0 or above 64.
+    /// The number of the `n` bits from `place` on. Reads one data word, or two where the bits reach
+    /// past the first. None where there are not so many, or `n` is 0 or above 64.
     #[inline]
     pub fn get_bits(&self, place: usize, n: usize, tally: &mut Tally) -> Option<u64>
         ensures value { result ≡ part_number self.now place n }
+        ensures one { place % 64 + n ≤ 64 → tally.new ≡ record tally.old { data_words = one_more tally.old.data_words } }
+        ensures two { 64 < place % 64 + n → tally.new ≡ record tally.old { data_words = one_more (one_more tally.old.data_words) } }
         ensures adds { AddsAtMost tally.old tally.new (only_data_words 2) }
     {
         tally.data_words = tally.data_words.saturating_add(1);
@@ -375,7 +381,7 @@ impl<A: Allocator + Copy> SuperblockEntries<A> {
 /// A list of numbers, which are read only with a counter.
 #[derive(Drop)]
 pub struct CountedItems<A: Allocator + Copy> {
-    entries: Vec<u64, A>,
+    numbers: Vec<u64, A>,
 }
 
 impl<A: Allocator + Copy> Model for CountedItems<A> {
@@ -383,36 +389,36 @@ impl<A: Allocator + Copy> Model for CountedItems<A> {
 
     ghost Value = { List ℕ };
 
-    ghost view = { λ v. v.entries.items };
+    ghost view = { λ v. v.numbers.items };
 }
 
 impl<A: Allocator + Copy> CountedItems<A> {
-    /// The same entries, counted from here on. Takes no memory.
+    /// The same numbers, counted from here on. Takes no memory.
     #[inline]
-    pub fn new(entries: Vec<u64, A>) -> Self
-        ensures { result ≡ entries.items }
+    pub fn new(numbers: Vec<u64, A>) -> Self
+        ensures { result ≡ numbers.items }
     {
-        CountedItems { entries }
+        CountedItems { numbers }
     }
 
-    /// How many entries there are, which reads none.
+    /// How many numbers there are, which reads none.
     #[inline]
     pub fn len(&self) -> usize
         ensures value { result ≡ length self.now }
         ensures bounded { length self.now < 2 ^ 64 }
     {
-        self.entries.len()
+        self.numbers.len()
     }
 
-    /// All entries, for clones, conversions and equality. No counted query reads them.
+    /// All numbers, for clones, conversions and equality. No counted query reads them.
     #[inline]
     pub fn as_slice(&self) -> &[u64]
         ensures { result.now ≡ self.now }
     {
-        self.entries.as_slice()
+        self.numbers.as_slice()
     }
 
-    /// Entry number `k`, one item.
+    /// Number `k` of the list, one item.
     #[inline]
     pub fn read(&self, k: usize, tally: &mut Tally) -> u64
         requires { k < length self.now }
@@ -421,14 +427,14 @@ impl<A: Allocator + Copy> CountedItems<A> {
         ensures adds { AddsAtMost tally.old tally.new (only_items 1) }
     {
         tally.items = tally.items.saturating_add(1);
-        self.entries[k]
+        self.numbers[k]
     }
 }
 
 /// The nodes of a tree, which are read only with a counter.
 #[derive(Drop)]
 pub struct CountedNodes<N: Copy, A: Allocator + Copy> {
-    nodes: Vec<N, A>,
+    entries: Vec<N, A>,
 }
 
 impl<N: Copy, A: Allocator + Copy> Model for CountedNodes<N, A> {
@@ -436,16 +442,16 @@ impl<N: Copy, A: Allocator + Copy> Model for CountedNodes<N, A> {
 
     ghost Value = { List N };
 
-    ghost view = { λ v. v.nodes.items };
+    ghost view = { λ v. v.entries.items };
 }
 
 impl<N: Copy, A: Allocator + Copy> CountedNodes<N, A> {
     /// The same nodes, counted from here on. Takes no memory.
     #[inline]
-    pub fn new(nodes: Vec<N, A>) -> Self
-        ensures { result ≡ nodes.items }
+    pub fn new(entries: Vec<N, A>) -> Self
+        ensures { result ≡ entries.items }
     {
-        CountedNodes { nodes }
+        CountedNodes { entries }
     }
 
     /// How many nodes there are, which reads none.
@@ -454,7 +460,7 @@ impl<N: Copy, A: Allocator + Copy> CountedNodes<N, A> {
         ensures value { result ≡ length self.now }
         ensures bounded { length self.now < 2 ^ 64 }
     {
-        self.nodes.len()
+        self.entries.len()
     }
 
     /// All nodes, for clones. No counted query reads them.
@@ -462,7 +468,7 @@ impl<N: Copy, A: Allocator + Copy> CountedNodes<N, A> {
     pub fn as_slice(&self) -> &[N]
         ensures { result.now ≡ self.now }
     {
-        self.nodes.as_slice()
+        self.entries.as_slice()
     }
 
     /// Node number `k`, one node.
@@ -474,6 +480,6 @@ impl<N: Copy, A: Allocator + Copy> CountedNodes<N, A> {
         ensures adds { AddsAtMost tally.old tally.new (only_nodes 1) }
     {
         tally.nodes = tally.nodes.saturating_add(1);
-        self.nodes[k]
+        self.entries[k]
     }
 }

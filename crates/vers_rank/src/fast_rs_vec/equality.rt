@@ -1,4 +1,4 @@
-// Equality of indexed lists.
+//! Equality of indexed lists.
 ghost use Rattle.std.specs.Prelude.{◌≡◌, ◌↔◌, IsTrue, length};
 ghost use Rattle.vers_bits.specs.Bits.{count, select};
 ghost use Rattle.vers_bits.specs.Equality.{same_bits, same_bits_per, same_bits_equiv};
@@ -22,7 +22,7 @@ impl<A: Allocator + Copy> RsVec<A> {
     pub fn full_equals(&self, other: &Self) -> bool
         ensures { IsTrue result ↔ (self.now ≡ other.now) }
     {
-        self.bits.as_bit_vec() == other.bits.as_bit_vec()
+        self == other
     }
 
     // Whether both lists have one length and the same places of a bit.

@@ -1,7 +1,7 @@
-// The ones and zeros next to a place.
+//! The ones and zeros next to a place.
 ghost use Rattle.std.specs.Prelude.{◌≡◌, length, true, false};
 ghost use Rattle.vers_bits.specs.Bits.{count, place_after, place_before};
-ghost use Rattle.vers_tally.specs.Reads.{AddsAtMost};
+ghost use Rattle.vers_tally.specs.Reads.{AddsAtMost, one_more};
 ghost use Rattle.vers_rank.specs.Queries.{superblock_count, rank_reads, neighbour_reads};
 
 use super::RsVec;
@@ -124,6 +124,7 @@ impl<A: Allocator + Copy> RsVec<A> {
     #[inline(always)]
     fn rank_counted(&self, bit: bool, place: usize, tally: &mut Tally) -> usize
         ensures value { result ≡ count bit self.now place }
+        ensures counted { tally.new.rank_calls ≡ one_more tally.old.rank_calls }
         ensures adds { AddsAtMost tally.old tally.new rank_reads }
     {
         if bit {

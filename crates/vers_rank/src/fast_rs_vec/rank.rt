@@ -1,7 +1,7 @@
-// How many zeros or ones stand below a place.
+//! How many zeros or ones stand below a place.
 ghost use Rattle.std.specs.Prelude.{◌≡◌, ℕ, ◌+◌, ◌*◌, ◌/◌, ◌<◌, ◌≤◌, length, min, true, false};
 ghost use Rattle.vers_bits.specs.Bits.{count};
-ghost use Rattle.vers_tally.specs.Reads.{no_reads, only_data_words, AddsAtMost};
+ghost use Rattle.vers_tally.specs.Reads.{no_reads, one_more, only_data_words, AddsAtMost};
 ghost use Rattle.vers_rank.specs.Queries.{rank_reads};
 
 use super::{BLOCK, RsVec};
@@ -33,6 +33,7 @@ impl<A: Allocator + Copy> RsVec<A> {
     #[tactic(auto, using(crate::proofs::Ranks::sums))]
     pub fn rank0_counted(&self, place: usize, tally: &mut Tally) -> usize
         ensures value { result ≡ count false self.now place }
+        ensures counted { tally.new.rank_calls ≡ one_more tally.old.rank_calls }
         ensures adds { AddsAtMost tally.old tally.new rank_reads }
     {
         tally.add_rank_call();
@@ -50,6 +51,7 @@ impl<A: Allocator + Copy> RsVec<A> {
     #[tactic(auto, using(crate::proofs::Ranks::sums))]
     pub fn rank1_counted(&self, place: usize, tally: &mut Tally) -> usize
         ensures value { result ≡ count true self.now place }
+        ensures counted { tally.new.rank_calls ≡ one_more tally.old.rank_calls }
         ensures adds { AddsAtMost tally.old tally.new rank_reads }
     {
         tally.add_rank_call();
@@ -73,7 +75,7 @@ impl<A: Allocator + Copy> RsVec<A> {
     }
 
     // The ones from the start of a block up to a place in it. A block of 8 limbs is counted with
-    // no branch on the place: in place of each limb past it, the place's own is read and left out.
+    // no branch on the place: limbs past it are read, and left out of the sum.
     #[inline(always)]
     fn ones_in_block(&self, block: usize, place: usize, tally: &mut Tally) -> usize
         requires within { (512 * block ≤ place) × (place < 512 * block + 512) × (place < length self.now) }
@@ -104,16 +106,16 @@ impl<A: Allocator + Copy> RsVec<A> {
         ones + self.ones_of_part(place, tally)
     }
 
-    // The ones of a whole limb that stands below limb number `end`. For another one 0, and limb `end` is read.
+    // The ones of a whole limb that stands below limb number `end`, and 0 of another one.
     #[inline(always)]
     #[tactic(auto, using(crate::proofs::Ranks::limbs))]
     fn ones_of_limb_below(&self, k: usize, end: usize, tally: &mut Tally) -> usize
-        requires { 64 * end < length self.now }
+        requires { 64 * k < length self.now }
         ensures value { count true self.now (64 * min k end) + result ≡ count true self.now (64 * min (k + 1) end) }
         ensures few { result ≤ 64 }
         ensures adds { AddsAtMost tally.old tally.new (only_data_words 1) }
     {
-        let ones = self.bits.limb(k.min(end), tally).count_ones() as usize;
+        let ones = self.bits.limb(k, tally).count_ones() as usize;
         if k < end { ones } else { 0 }
     }
 

@@ -1,7 +1,7 @@
-// The places of zeros and ones.
+//! The places of zeros and ones.
 ghost use Rattle.std.specs.Prelude.{◌≡◌, ℕ, ◌+◌, ◌-◌, ◌*◌, ◌/◌, ◌<◌, ◌≤◌, length, min, true, false};
 ghost use Rattle.vers_bits.specs.Bits.{count, select};
-ghost use Rattle.vers_tally.specs.Reads.{no_reads, only_block_entries, only_superblock_entries, only_data_words, digits, AddsAtMost};
+ghost use Rattle.vers_tally.specs.Reads.{no_reads, one_more, only_block_entries, only_superblock_entries, only_data_words, digits, AddsAtMost};
 ghost use Rattle.vers_rank.specs.Queries.{superblock_count, select_reads};
 ghost use Rattle.vers_rank.specs.Index.{IsSample, IsLimbWith};
 
@@ -51,6 +51,7 @@ impl<A: Allocator + Copy> RsVec<A> {
     #[inline]
     pub fn select0_counted(&self, r: usize, tally: &mut Tally) -> usize
         ensures value { result ≡ select false self.now r }
+        ensures counted { tally.new.rank_calls ≡ one_more tally.old.rank_calls }
         ensures adds { AddsAtMost tally.old tally.new (select_reads (superblock_count (length self.now))) }
     {
         self.select_counted(false, r, tally)
@@ -62,6 +63,7 @@ impl<A: Allocator + Copy> RsVec<A> {
     #[inline]
     pub fn select1_counted(&self, r: usize, tally: &mut Tally) -> usize
         ensures value { result ≡ select true self.now r }
+        ensures counted { tally.new.rank_calls ≡ one_more tally.old.rank_calls }
         ensures adds { AddsAtMost tally.old tally.new (select_reads (superblock_count (length self.now))) }
     {
         self.select_counted(true, r, tally)
@@ -72,6 +74,7 @@ impl<A: Allocator + Copy> RsVec<A> {
     #[tactic(auto, using(crate::proofs::Selects::totals))]
     pub(super) fn select_counted(&self, bit: bool, r: usize, tally: &mut Tally) -> usize
         ensures value { result ≡ select bit self.now r }
+        ensures counted { tally.new.rank_calls ≡ one_more tally.old.rank_calls }
         ensures adds { AddsAtMost tally.old tally.new (select_reads (superblock_count (length self.now))) }
     {
         tally.add_rank_call();
@@ -152,7 +155,14 @@ impl<A: Allocator + Copy> RsVec<A> {
     // the other. Which superblocks are looked at next is no branch, so that nothing depends on a guess of it.
     #[inline(always)]
     #[tactic(auto, using(crate::proofs::Selects::halves))]
-    fn superblock_among(&self, bit: bool, r: usize, first: usize, n: usize, tally: &mut Tally) -> usize
+    fn superblock_among(
+        &self,
+        bit: bool,
+        r: usize,
+        first: usize,
+        n: usize,
+        tally: &mut Tally,
+    ) -> usize
         requires some { 0 < n }
         requires within { 8192 * (first + n) < length self.now + 8192 }
         requires from { count bit self.now (8192 * first) ≤ r }

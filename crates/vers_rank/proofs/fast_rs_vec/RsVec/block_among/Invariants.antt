@@ -1,4 +1,4 @@
-use Rattle.std.proofs.Common.{◌≡◌, ℕ, ◌+◌, ◌-◌, ◌*◌, ◌<◌, ◌≤◌, length}
+use Rattle.std.proofs.Common.{◌+◌, ◌-◌, ◌*◌, ◌<◌, ◌≤◌}
 use Rattle.vers_bits.specs.Bits.{count}
 use Rattle.vers_tally.specs.Reads.{only_block_entries, AddsAtMost}
 use Rattle.vers_rank.proofs.fast_rs_vec.RsVec.block_among.Given as goal
@@ -10,5 +10,5 @@ invariant-loop-j g l =
       some : 0 < l.j → 0 < l.passed;
       from : 0 < l.passed → count l.bit l.self (512 * (16 * l.s + l.passed - 1)) ≤ count l.bit l.self (8192 * l.s) + l.r;
       to : l.passed < l.j → count l.bit l.self (8192 * l.s) + l.r < count l.bit l.self (512 * (16 * l.s + l.passed));
-      adds : AddsAtMost l.fn.tally l.tally (only_block_entries l.j)
+      adds : AddsAtMost l.fn.tally l.tally (only_block_entries l.j);
     }

@@ -1,4 +1,4 @@
-use Rattle.std.proofs.Common.{◌≡◌, ◌+◌, ◌-◌, ◌*◌, ◌/◌, ◌≤◌, arith}
+use Rattle.std.proofs.Common.{◌+◌, ◌*◌, arith}
 use Rattle.vers_rank.proofs.Ranks.{block_entry}
 use Rattle.vers_rank.proofs.fast_rs_vec.RsVec.count_in_superblock.Goals as goal
 

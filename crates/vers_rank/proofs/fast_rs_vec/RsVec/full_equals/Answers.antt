@@ -1,8 +1,5 @@
-use Rattle.std.proofs.Common.{◌∙◌}
 use Rattle.vers_bits.specs.Equality.{same_bits-Decides}
 use Rattle.vers_rank.proofs.fast_rs_vec.RsVec.full_equals.Goals as goal
 
 pub returns : goal.returns
-returns g c =
-    let same = rw (c.as_bit_vec.ensures ∙ c.self.view_is, c.as_bit_vec-2.ensures ∙ c.other.view_is) at c.eq.ensures in
-    rw same (same_bits-Decides c.args.self.now c.args.other.now)
+returns g c = rw c.eq.ensures (same_bits-Decides c.args.self.now c.args.other.now)

@@ -1,4 +1,4 @@
-use Rattle.std.proofs.Common.{◌≡◌, ℕ, ◌+◌, ◌-◌, ◌*◌, ◌<◌, ◌≤◌, length}
+use Rattle.std.proofs.Common.{◌≡◌, ◌+◌, ◌-◌, ◌*◌, ◌≤◌}
 use Rattle.vers_rank.specs.Index.{held, IsLimbWith}
 use Rattle.vers_tally.specs.Reads.{only_data_words, AddsAtMost}
 use Rattle.vers_rank.proofs.fast_rs_vec.RsVec.limb_up_to.Given as goal
@@ -9,5 +9,5 @@ invariant-loop-k g l =
       found : IsLimbWith l.bit l.self l.block l.r l.k l.limb l.before;
       counted : held l.bit l.self (512 * l.block) + l.seen ≡ held l.bit l.self (64 * l.k);
       few : l.seen ≤ 64 * (l.k - 8 * l.block);
-      adds : AddsAtMost l.fn.tally l.tally (only_data_words (l.k - 8 * l.block))
+      adds : AddsAtMost l.fn.tally l.tally (only_data_words (l.k - 8 * l.block));
     }

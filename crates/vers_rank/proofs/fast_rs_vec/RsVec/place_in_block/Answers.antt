@@ -1,7 +1,7 @@
-use Rattle.std.proofs.Common.{◌≡◌, ◌+◌, ◌-◌, ◌*◌, ◌<◌, ◌≤◌, length, refl, arith, sym, ap, ◌∙◌}
+use Rattle.std.proofs.Common.{◌≡◌, ◌+◌, ◌-◌, ◌*◌, refl, arith, sym, ap, ◌∙◌}
 use Rattle.vers_bits.specs.Bits.{count, limb}
 use Rattle.vers_bits.proofs.Count.{count_le_all}
-use Rattle.vers_rank.specs.Index.{held, held_in}
+use Rattle.vers_rank.specs.Index.{held}
 use Rattle.vers_rank.proofs.Selects.{rest_in_limb, place_found, held_is}
 use Rattle.vers_rank.proofs.fast_rs_vec.RsVec.place_in_block.Goals as goal
 
@@ -22,5 +22,5 @@ returns-clause-value g c =
     let start : held b l (512 * c.args.block) ≡ count b l (512 * c.args.block) = held_is b l (512 * c.args.block) (omega arith) in
     let rest : r - held b l (64 * k) ≡ c.args.r - c.limb_with-found.result.before = omega (arith, found.counted) in
     sym (place_found b l r k c.place_in_word.result (held b l (64 * k))
-      (omega (arith, count_le_all b l (512 * (c.args.block + 1)))) refl (omega (arith, found.counted, found.from)) c.place_in_word.ensures.within
-      (rw (word, rest) c.place_in_word.ensures.from) (rw (word, rest) c.place_in_word.ensures.to))
+    (omega (arith, count_le_all b l (512 * (c.args.block + 1)))) refl (omega (arith, found.counted, found.from)) c.place_in_word.ensures.within
+    (rw (word, rest) c.place_in_word.ensures.from) (rw (word, rest) c.place_in_word.ensures.to))

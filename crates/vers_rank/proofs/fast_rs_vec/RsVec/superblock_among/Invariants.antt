@@ -1,4 +1,4 @@
-use Rattle.std.proofs.Common.{◌≡◌, ℕ, ◌+◌, ◌-◌, ◌*◌, ◌<◌, ◌≤◌, length}
+use Rattle.std.proofs.Common.{◌+◌, ◌-◌, ◌*◌, ◌<◌, ◌≤◌, length}
 use Rattle.vers_bits.specs.Bits.{count}
 use Rattle.vers_tally.specs.Reads.{only_superblock_entries, digits, AddsAtMost}
 use Rattle.vers_rank.proofs.fast_rs_vec.RsVec.superblock_among.Given as goal
@@ -11,7 +11,7 @@ invariant-loop-left g l =
       from : count l.bit l.self (8192 * l.start) ≤ l.r;
       to : l.r < count l.bit l.self (8192 * (l.start + l.left));
       budget : digits (l.left - 1) ≤ digits (l.n - 1);
-      adds : AddsAtMost l.fn.tally l.tally (only_superblock_entries (digits (l.n - 1) - digits (l.left - 1)))
+      adds : AddsAtMost l.fn.tally l.tally (only_superblock_entries (digits (l.n - 1) - digits (l.left - 1)));
     }
 
 abbrev pub decreases-loop-left : goal.decreases-loop-left
@@ -24,5 +24,5 @@ invariant-loop-s g l =
       before : l.found < l.s;
       from : count l.bit l.self (8192 * l.found) ≤ l.r;
       to : l.found + 1 < l.s → l.r < count l.bit l.self (8192 * (l.found + 1));
-      adds : AddsAtMost l.fn.tally l.tally (only_superblock_entries (digits (l.n - 1) + (l.s - l.start - 1)))
+      adds : AddsAtMost l.fn.tally l.tally (only_superblock_entries (digits (l.n - 1) + (l.s - l.start - 1)));
     }
