@@ -8,6 +8,8 @@ mod editing;
 #[cfg(test)]
 mod growing;
 #[cfg(test)]
+mod iterators;
+#[cfg(test)]
 mod making;
 #[cfg(test)]
 mod masking;

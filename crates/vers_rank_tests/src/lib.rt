@@ -8,5 +8,7 @@ mod compared;
 #[cfg(test)]
 mod counted;
 #[cfg(test)]
+mod iterators;
+#[cfg(test)]
 mod memory;
 pub mod plain;
