@@ -6,7 +6,8 @@ crate calls by name.
 
 - A counted body makes no counter. What it reads of a list it reads by calls that are handed the counter: it calls
   no reading call without it, and indexes nothing but tables in capitals.
-- A plain query `q` of a type that has `q_counted` is `q_counted` with a fresh counter, and nothing else.
+- A plain query `q` of a type that has `q_counted` is `q_counted` with a fresh counter, or one call of another plain query
+  of the type, and nothing else.
 - An index type, which is one with a `heap_size`, keeps lists only in counted vectors and other index types, and its
   `heap_size` names each of them. A public type that owns a counted vector has a `heap_size`.
 - In the crate of the counters a call of a counted vector that isn't handed a counter is one of a few that read no
@@ -35,6 +36,8 @@ READS = (
 LISTS = re.compile(r"\b(?:Vec|VecDeque|BitVec|String)\s*<|\bBitVec\b|\bBox\s*<\s*\[|\[[^\]]*;[^\]]*\]")
 # plain lists that index types may keep: tables, masks and places of range minima, nodes in their own counted vector
 PLAIN_FIELDS = {"BinaryRmq": {"table"}, "FastRmq": {"masks", "places", "prefix_masks", "suffix_masks"}}
+# a field that holds places alone, so that its calls read no list
+SPAN = re.compile(r"\bspan\.$")
 TALLY = re.compile(r"(\w+)\s*:\s*&\s*(?:'\w+\s+)?mut\s+Tally\b")
 INDEXED = re.compile(r"([\w)\]?])\[")
 
@@ -80,9 +83,10 @@ def tally_name(parameters):
 
 
 def calls(body):
-    """Yields the name and the arguments of each call in a body, of methods and of functions."""
+    """Yields the name and the arguments of each call in a body, of methods and of functions, but for calls of a span."""
     for found in re.finditer(r"\b(\w+)\s*(?:::\s*<[^>]*>\s*)?\(", body):
-        yield found[1], body[found.end():closed(body, found.end() - 1) - 1]
+        if not SPAN.search(body[:found.start()]):
+            yield found[1], body[found.end():closed(body, found.end() - 1) - 1]
 
 
 def counted_functions(texts):
@@ -114,14 +118,16 @@ def counted_faults(texts, queries):
 
 
 def plain_faults(texts):
-    """Yields a line for each plain query that isn't its counted form with a fresh counter."""
+    """Yields a line for each plain query that is neither its counted form with a fresh counter nor another plain query."""
     everything = [function for text in texts for function in text.functions]
     named = {(function.holder, function.name) for function in everything if function.tally}
     for function in everything:
         if function.tally or (function.holder, f"{function.name}_counted") not in named:
             continue
         form = r"\{\s*let mut (\w+) = Tally::new\(\);\s*(?:self|Self)(?:\.|::)" + function.name + r"_counted\((?:[^;]*,\s*)?&mut \1\)\s*\}"
-        if not re.fullmatch(form, function.body):
+        other = re.fullmatch(r"\{\s*self\.(\w+)\([\w\s,]*\)\s*\}", function.body)
+        is_other = other and other[1] != function.name and (function.holder, f"{other[1]}_counted") in named
+        if not is_other and not re.fullmatch(form, function.body):
             yield f"{function.path}:{function.line}: {function.name} is not {function.name}_counted with a fresh counter"
 
 

@@ -37,7 +37,7 @@ impl<A: Allocator + Copy> RsVec<A> {
             return false;
         }
         for r in 0..self.total(bit) {
-            if self.place_of(bit, r) != other.place_of(bit, r) {
+            if self.place_of_number(bit, r) != other.place_of_number(bit, r) {
                 return false;
             }
         }
@@ -45,7 +45,7 @@ impl<A: Allocator + Copy> RsVec<A> {
     }
 
     // The place of number `r` of the zeros or the ones, or the length.
-    fn place_of(&self, bit: bool, r: usize) -> usize
+    fn place_of_number(&self, bit: bool, r: usize) -> usize
         ensures { result ≡ select bit self.now r }
     {
         let mut tally = Tally::new();
