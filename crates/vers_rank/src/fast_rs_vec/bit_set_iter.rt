@@ -1,5 +1,4 @@
-//! The iterator over the places of ones or zeros that loads 16 bits at a time.
-// The iterators that scan chunks of 16 bits for zeros or ones.
+//! The iterators that scan chunks of 16 bits for zeros or ones.
 ghost use Rattle.std.specs.Prelude.{◌≡◌, ◌+◌, ◌-◌, ◌<◌, ◌≤◌, true, false, length};
 ghost use Rattle.std.specs.Iterator.{item_count, MakesProgress, YieldsFirst};
 ghost use Rattle.vers_bits.specs.Bits.{places};

@@ -1,5 +1,4 @@
-//! The iterator over the bits of a list that it owns.
-// The iterator over the bits of an indexed list that it owns.
+//! The iterator over the bits of an indexed list that it owns.
 ghost use Rattle.std.specs.Prelude.{◌≡◌, None, length, map};
 ghost use Rattle.std.specs.Iterator.{item_count, YieldsFirst, YieldsLast};
 ghost use Rattle.std.specs.List.{last_or};

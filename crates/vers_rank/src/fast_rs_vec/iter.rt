@@ -1,5 +1,4 @@
-//! The iterator over the bits of a list.
-// The iterator over the bits of a borrowed indexed list.
+//! The iterator over the bits of a borrowed indexed list.
 ghost use Rattle.std.specs.Prelude.{◌≡◌, None, length, map};
 ghost use Rattle.std.specs.Iterator.{item_count, YieldsFirst, YieldsLast};
 ghost use Rattle.std.specs.List.{last_or};

@@ -1,5 +1,4 @@
-//! The iterator over the places of ones or zeros of a list that it owns.
-// The iterators over the places of the zeros or the ones of a list that they own.
+//! The iterators over the places of the zeros or the ones of a list that they own.
 ghost use Rattle.std.specs.Prelude.{◌≡◌, None, not, true, false, length};
 ghost use Rattle.std.specs.Iterator.{item_count, MakesProgress, YieldsFirst, YieldsLast};
 ghost use Rattle.std.specs.List.{last_or};

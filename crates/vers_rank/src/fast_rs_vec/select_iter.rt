@@ -1,5 +1,4 @@
-//! The iterator over the places of ones or zeros of a list.
-// The iterators over the places of the zeros or the ones of a borrowed list.
+//! The iterators over the places of the zeros or the ones of a borrowed list.
 ghost use Rattle.std.specs.Prelude.{◌≡◌, None, not, true, false, length};
 ghost use Rattle.std.specs.Iterator.{item_count, MakesProgress, YieldsFirst, YieldsLast};
 ghost use Rattle.std.specs.List.{last_or};

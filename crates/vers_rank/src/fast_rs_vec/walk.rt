@@ -1,5 +1,4 @@
-//! What the iterators over places share: the numbers of the places that are still to come.
-// The walk over the places of zeros or ones that all select iterators share.
+//! The walk over the places of zeros or ones that all select iterators share.
 ghost use Rattle.std.specs.Prelude.{◌≡◌, ◌-◌, length};
 ghost use Rattle.vers_bits.specs.Bits.{places, select};
 ghost use Rattle.vers_bits.specs.Walk.{TakesNth, TakesNthBack};
