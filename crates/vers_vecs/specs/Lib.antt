@@ -1,3 +1,8 @@
 pub use Rattle.vers_bits.specs.Bits
 pub use Rattle.vers_bits.specs.Equality
-pub use Rattle.vers_bits.specs.declared.bit_vec.GrowError as GrowErrors
+pub use Rattle.vers_bits.specs.Masks
+pub use Rattle.vers_bits.specs.Walk
+pub use Rattle.vers_bits.specs.declared.bit_vec.fault.GrowError as GrowErrors
+pub use Rattle.vers_bits.specs.declared.bit_vec.fault.SplitCause as SplitCauses
+pub use Rattle.vers_tally.specs.Reads
+pub use Rattle.vers_rank.specs.Queries

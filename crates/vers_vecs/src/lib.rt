@@ -3,12 +3,27 @@
 
 /// Lists of bits.
 pub mod bit_vec {
-    pub use vers_bits::bit_vec::{BitVec, GrowError, MAX_LEN};
+    pub use vers_bits::bit_vec::{
+        BitMask, BitVec, BitVecIter, BitVecRefIter, GrowError, LengthMismatch, LimbIter, MAX_LEN,
+        OutOfRange, SplitCause, SplitError,
+    };
 
     /// Lists of bits with ranks and selects.
     pub mod fast_rs_vec {
-        pub use vers_rank::fast_rs_vec::RsVec;
+        pub use vers_rank::fast_rs_vec::{
+            BitSetIter, RsVec, RsVecIter, RsVecRefIter, SelectIntoIter, SelectIter,
+        };
     }
+
+    /// Two lists combined limb by limb.
+    pub mod mask {
+        pub use vers_bits::bit_vec::mask::MaskedBitVec;
+    }
+}
+
+/// Counters of reads.
+pub mod tally {
+    pub use vers_tally::tally::Tally;
 }
 
 pub use vers_bits::bit_vec::BitVec;
