@@ -59,19 +59,6 @@ impl<A: Allocator + Copy> EliasFanoVec<A> {
         self.first + ((high << self.width) | low)
     }
 
-    // The member at a place, or none.
-    #[inline]
-    #[tactic(auto, using(crate::proofs::Packed::gets))]
-    fn member_at(&self, i: usize, tally: &mut Tally) -> Option<u64>
-        ensures value { result ≡ slice_get self.now i }
-        ensures adds { AddsAtMost tally.old tally.new (reads 1 1 (high_length self.now)) }
-    {
-        if i >= self.len() {
-            return None;
-        }
-        Some(self.member(i, tally))
-    }
-
     // The members with the high part of `v`, from one select and most often the bits after it.
     #[inline]
     #[tactic(auto, using(crate::proofs::Buckets::bucket))]
@@ -134,14 +121,18 @@ impl<A: Allocator + Copy> EliasFanoVec<A> {
         self.member(i, tally)
     }
 
-    /// The member at a place. None past the last.
+    /// The member at a place. None past the last. By at most 2 low parts and 2 queries of the high
+    /// parts.
     #[inline]
-    #[tactic(auto, using(crate::proofs::Bounds::bounds))]
+    #[tactic(auto, using(crate::proofs::Packed::gets, crate::proofs::Bounds::bounds))]
     pub fn get_counted(&self, i: usize, tally: &mut Tally) -> Option<u64>
         ensures value { result ≡ slice_get self.now i }
         ensures adds { AddsAtMost tally.old tally.new (member_reads self.now) }
     {
-        self.member_at(i, tally)
+        if i >= self.len() {
+            return None;
+        }
+        Some(self.member(i, tally))
     }
 
     /// The same as `get_counted`.
@@ -154,7 +145,7 @@ impl<A: Allocator + Copy> EliasFanoVec<A> {
     }
 
     /// How far member `i` lies above the one before it, and the first member itself for 0. None
-    /// past the last.
+    /// past the last. By at most 2 low parts and 2 queries of the high parts.
     #[tactic(auto, using(crate::proofs::Neighbours::deltas, crate::proofs::Bounds::bounds))]
     pub fn delta_counted(&self, i: usize, tally: &mut Tally) -> Option<u64>
         ensures value { result ≡ delta self.now i }
@@ -172,6 +163,9 @@ impl<A: Allocator + Copy> EliasFanoVec<A> {
     }
 
     /// How many members are below `v`.
+    ///
+    /// By at most as many low parts and queries of the high parts as the number of members has
+    /// binary digits, and 8 more, with any number of equal members.
     #[tactic(auto, using(crate::proofs::Bounds::bounds, crate::proofs::Buckets::ends))]
     pub fn rank_counted(&self, v: u64, tally: &mut Tally) -> u64
         ensures value { result ≡ below self.now v }
@@ -191,7 +185,7 @@ impl<A: Allocator + Copy> EliasFanoVec<A> {
         self.below_in(bucket, v, tally) as u64
     }
 
-    /// The greatest member that is not above `v`. None where there is none.
+    /// The greatest member that is not above `v`. None where there is none. Reads as `rank_counted`.
     #[tactic(auto, using(crate::proofs::Bounds::bounds, crate::proofs::Buckets::ends))]
     pub fn predecessor_counted(&self, v: u64, tally: &mut Tally) -> Option<u64>
         ensures value { result ≡ greatest_not_above self.now v }
@@ -212,7 +206,7 @@ impl<A: Allocator + Copy> EliasFanoVec<A> {
         Some(self.member_near(bucket, v + 1, k - 1, tally))
     }
 
-    /// The least member that is not below `v`. None where there is none.
+    /// The least member that is not below `v`. None where there is none. Reads as `rank_counted`.
     #[tactic(auto, using(crate::proofs::Bounds::bounds, crate::proofs::Buckets::ends))]
     pub fn successor_counted(&self, v: u64, tally: &mut Tally) -> Option<u64>
         ensures value { result ≡ least_not_below self.now v }
