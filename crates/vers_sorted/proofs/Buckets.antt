@@ -1,5 +1,5 @@
 -- Where the members with one high part begin and end.
-use Rattle.std.proofs.Common.{◌≡◌, ℕ, ◌+◌, ◌-◌, ◌*◌, ◌/◌, ◌%◌, ◌^◌, ◌<◌, ◌≤◌, Bool, true, false, List, length, ap, ◌∙◌, arith, inl, inr}
+use Rattle.std.proofs.Common.{◌≡◌, ℕ, ◌+◌, ◌-◌, ◌*◌, ◌/◌, ◌%◌, ◌^◌, ◌<◌, ◌≤◌, Bool, true, false, List, length, sym, ap, ◌∙◌, arith, inl, inr}
 use Rattle.std.specs.Prelude.{slice_index, bit_and}
 use Rattle.std.specs.List.Sorted.{IsNonDecreasing}
 use Rattle.std.proofs.lemmas.Nat.{and_mask, one_shl}
@@ -12,9 +12,11 @@ use Rattle.vers_tally.proofs.Halves.{digits_halved, digits_up}
 use Rattle.vers_sorted.specs.Sorted.{below}
 use Rattle.vers_sorted.specs.Layout.{first_of, last_of, low_width, high_of, low_of}
 use Rattle.vers_sorted.specs.Parts.{IsPacked, IsStart}
+use Rattle.vers_sorted.specs.Buckets.{IsBucket}
+use Rattle.vers_sorted.specs.declared.elias_fano.search.Bucket.{Bucket}
 use Rattle.vers_sorted.proofs.Below.{below_le, below_from, below_to}
 use Rattle.vers_sorted.proofs.Split.{parts_sum, high_up, member_from, high_zeros}
-use Rattle.vers_sorted.proofs.Packed.{high_counted}
+use Rattle.vers_sorted.proofs.Packed.{high_counted, joined, in_order}
 
 module _ {s : List ℕ} {high low : List Bool} {first last width : ℕ} (packed : IsPacked s high low first last width) where
   -- the zeros and ones up to the place of a member
@@ -126,14 +128,47 @@ all_below {s} v packed h =
       | inr none ↦ omega (arith, below_le s v)
     ]
 
-pub high_within : {s : List ℕ} {high low : List Bool} {first last width : ℕ} (v : ℕ) → IsPacked s high low first last width → 0 < length s → first ≤ v → v ≤ last
-    → ((v - first) / 2 ^ width ≤ high_of s (last_of s)) × ((v - first) / 2 ^ width + 2 ≤ length high)
-high_within {s} v packed some low high =
-    let up = high_up s v (last_of s) (omega (arith, packed.last_is)) (omega (arith, packed.first_is)) in
-    (omega (arith, up, high_is v packed), omega (arith, up, high_is v packed, high_counted packed, high_zeros s some))
+pub ends_are : {s : List ℕ} {high low : List Bool} {first last width : ℕ} → IsPacked s high low first last width → (first_of s ≡ first) × (last_of s ≡ last)
+ends_are packed = (sym packed.first_is, sym packed.last_is)
 
-pub ruleset starts = (start_after, high_counted)
+-- ---- buckets
+
+module _ {s : List ℕ} {high low : List Bool} {first last width : ℕ} (packed : IsPacked s high low first last width) where
+  pub zeros_counted : 0 < length s → count false high (length high) ≡ 2 + high_of s (last_of s)
+  zeros_counted some = omega (arith, count_both high (length high), packed.high_parts.ones, high_counted packed, high_zeros s some)
+
+  pub high_below : (v : ℕ) → 0 < length s → first_of s ≤ v → v ≤ last_of s → (v - first) / 2 ^ width + 1 < count false high (length high)
+  high_below v some from to = omega (arith, zeros_counted some, high_up s v (last_of s) to from, high_is v packed)
+
+  -- the bucket of v, by two zeros
+  pub bucket_is : (v this next : ℕ) → 0 < length s → first_of s ≤ v → v ≤ last_of s
+      → this ≡ select false high ((v - first) / 2 ^ width) → next ≡ select false high ((v - first) / 2 ^ width + 1)
+      → ((v - first) / 2 ^ width ≤ this) × ((v - first) / 2 ^ width + 1 ≤ next)
+      × IsBucket s v (record { high = (v - first) / 2 ^ width; start = this - (v - first) / 2 ^ width; end = next - (v - first) / 2 ^ width - 1 })
+  bucket_is v this next some from to z n =
+      let h : ℕ = (v - first) / 2 ^ width in
+      let is : (v - first) / 2 ^ width ≡ high_of s v = high_is v packed in
+      let up = high_up s v (last_of s) to from in
+      let low_end = start_at packed ((v - first) / 2 ^ width) some (omega (arith, is, up)) in
+      let high_end = start_at packed ((v - first) / 2 ^ width + 1) some (omega (arith, is, up)) in
+      let start : this - (v - first) / 2 ^ width ≡ select false high ((v - first) / 2 ^ width) - (v - first) / 2 ^ width = ap (λ q. q - (v - first) / 2 ^ width) z in
+      let end : next - (v - first) / 2 ^ width - 1 ≡ select false high ((v - first) / 2 ^ width + 1) - ((v - first) / 2 ^ width + 1) = omega (arith, n) in (
+        omega (arith, low_end.0, z),
+        omega (arith, high_end.0, n),
+        record {
+          high = is;
+          start = rw (← is, start) low_end.1;
+          end = rw (← is, end) high_end.1;
+        },
+      )
+
+pub in_bucket : {s : List ℕ} {v : ℕ} {bucket : Bucket} (i : ℕ) → IsBucket s v bucket → bucket.start ≤ i → i < bucket.end → i < length s → bucket.high ≡ high_of s (slice_index s i)
+in_bucket i at low high h = omega (arith, at.high, at.start.after i low h, at.end.before i high)
+
+pub ruleset bucket = (zeros_counted, high_below)
 
 pub ruleset search_steps = (start_below, below_end, step_up, step_down, low_is, upper_steps, lower_steps, digits_up)
 
-pub ruleset bounds = (high_is, below_le, none_below, all_below, high_within)
+pub ruleset members = (in_bucket, joined, in_order)
+
+pub ruleset ends = (below_le, high_counted)

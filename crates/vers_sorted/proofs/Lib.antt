@@ -9,3 +9,5 @@ pub mod Makes
 pub mod Widths
 pub mod Bounds
 pub mod SparseBits
+pub mod BothEnds
+pub mod Scans

@@ -54,6 +54,25 @@ pred_some s v up some =
     (λ i h. le-leb (slice_index s i) v (omega (arith, below_before s (v + 1) i up (omega arith))))
     (λ i h short. lt-leb (slice_index s i) v (omega (arith, below_after s (v + 1) i up (omega arith) short)))
 
+-- ---- the neighbours of a number that lies between the first member and the last
+
+pub succ_past : (s : List ℕ) (v : ℕ) → IsNonDecreasing s → below s v ≡ length s → least_not_below s v ≡ None
+succ_past s v up e = succ_is s v up ∙ slice_get_past s (below s v) (omega arith)
+
+pub succ_at : (s : List ℕ) (v k : ℕ) → IsNonDecreasing s → k ≡ below s v → k < length s → least_not_below s v ≡ Some (slice_index s k)
+succ_at s v k up e h = succ_is s v up ∙ ap (slice_get s) (sym e) ∙ slice_get-get_or s k 0 h
+
+pub pred_at : (s : List ℕ) (v k : ℕ) → IsNonDecreasing s → k ≡ below s (v + 1) → 0 < k → greatest_not_above s v ≡ Some (slice_index s (k - 1))
+pred_at s v k up e some =
+    pred_some s v up (omega arith) ∙ ap (λ j. slice_get s (j - 1)) (sym e) ∙ slice_get-get_or s (k - 1) 0 (omega (arith, below_le s (v + 1)))
+
+-- one member at least is below a number above the first, and one at least is not below a number up to the last
+pub some_below : (s : List ℕ) (v : ℕ) → IsNonDecreasing s → 0 < length s → slice_index s 0 < v → 0 < below s v
+some_below s v up some less = omega (arith, below_from s v 0 up some less)
+
+pub some_left : (s : List ℕ) (v : ℕ) → IsNonDecreasing s → 0 < length s → v ≤ slice_index s (length s - 1) → below s v < length s
+some_left s v up some more = omega (arith, below_to s v (length s - 1) up (omega arith) more)
+
 -- ---- how far a member lies above the one before it
 
 pub delta_first : {s : List ℕ} {high low : List Bool} {first last width : ℕ} (i : ℕ) → IsPacked s high low first last width → i < length s → i ≡ 0 → delta s i ≡ Some first

@@ -2,4 +2,6 @@ pub mod Sorted
 pub mod Ones
 pub mod Layout
 pub mod Parts
+pub mod Buckets
+pub mod Walks
 pub mod Rows

@@ -1,11 +1,17 @@
 //! Ascending lists of numbers.
 ghost use Rattle.std.specs.Prelude.{◌≡◌, ◌<◌, ◌↔◌, [], length, slice_index, slice_get, IsTrue, IsSome, Some};
+ghost use Rattle.std.specs.List.Sorted.{IsNonDecreasing};
 ghost use Rattle.vers_sorted.specs.Sorted.{below, greatest_not_above, least_not_below, delta};
 ghost use Rattle.vers_sorted.specs.Layout.{heap_size_of};
 
+mod into_iter;
+mod iter;
 mod make;
+mod scan;
 mod search;
 
+pub use into_iter::EliasFanoIter;
+pub use iter::EliasFanoRefIter;
 use std::alloc::{AllocError, Allocator};
 use std::marker::Model;
 use vers_rank::fast_rs_vec::RsVec;
@@ -61,7 +67,8 @@ impl<A: Allocator + Copy> EliasFanoVec<A> {
     /// How many members the list has.
     #[inline]
     pub fn len(&self) -> usize
-        ensures { result ≡ length self.now }
+        ensures value { result ≡ length self.now }
+        ensures ascending { IsNonDecreasing self.now }
     {
         self.len
     }

@@ -5,7 +5,7 @@ ghost use Rattle.vers_bits.specs.Bits.{bit_value, count, is_bit, places, select}
 ghost use Rattle.vers_tally.specs.Reads.{AddsAtMost};
 ghost use Rattle.vers_sorted.specs.Layout.{heap_size_of, member_reads, search_reads};
 
-use crate::elias_fano::EliasFanoVec;
+use crate::elias_fano::{EliasFanoRefIter, EliasFanoVec};
 use std::alloc::{AllocError, Allocator};
 use std::marker::Model;
 use vers_bits::bit_vec::BitVec;
@@ -222,6 +222,14 @@ impl<A: Allocator + Copy> SparseRSVec<A> {
     {
         let ones = self.rank1_counted(place, tally);
         place.min(self.len()) - ones
+    }
+
+    /// An iterator over the places of the ones.
+    pub fn iter1(&self) -> EliasFanoRefIter<'_, A>
+        ensures { result ≡ record { list = places true self.now; left = places true self.now } }
+    {
+        let _ = &self.len;
+        self.ones.iter()
     }
 }
 

@@ -53,7 +53,10 @@ fn the_layout_of_four_members(rt: HostRuntime) -> Result<(), Fail> {
 
 #[test]
 fn ten_members(rt: HostRuntime) -> Result<(), Fail> {
-    let list = EliasFanoVec::from_slice(rt.alloc(), &[0, 500, 600, 800, 900, 1001, 1002, 1003, 1004, 3000])?;
+    let list = EliasFanoVec::from_slice(
+        rt.alloc(),
+        &[0, 500, 600, 800, 900, 1001, 1002, 1003, 1004, 3000],
+    )?;
     assert_eq!(rt; list.rank(1004), 8);
     assert_eq!(rt; list.rank(3001), 10);
     assert_eq!(rt; list.rank(0), 0);
@@ -65,6 +68,7 @@ fn ten_members(rt: HostRuntime) -> Result<(), Fail> {
     assert_eq!(rt; list.successor(1005), Some(3000));
     assert_eq!(rt; list.successor(1004), Some(1004));
     assert_eq!(rt; list.successor(3001), None);
+    assert_eq!(rt; list.get_unchecked(4), 900);
     assert_eq!(rt; list.delta(5), Some(101));
     assert_eq!(rt; list.delta(10), None);
     Ok(())

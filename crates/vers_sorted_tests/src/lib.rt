@@ -4,6 +4,8 @@
 #[cfg(test)]
 mod ascending;
 #[cfg(test)]
+mod iterators;
+#[cfg(test)]
 mod refusals;
 #[cfg(test)]
 mod sparse;

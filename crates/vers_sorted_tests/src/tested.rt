@@ -22,7 +22,13 @@ pub fn list_of(alloc: Global, numbers: &[u64]) -> Result<EliasFanoVec<Global>, A
 }
 
 /// `few`, then `n` times `equal`, then `last`.
-pub fn with_equal(alloc: Global, few: &[u64], n: usize, equal: u64, last: u64) -> Result<Vec<u64>, AllocError> {
+pub fn with_equal(
+    alloc: Global,
+    few: &[u64],
+    n: usize,
+    equal: u64,
+    last: u64,
+) -> Result<Vec<u64>, AllocError> {
     let mut numbers = Vec::new(alloc);
     numbers.extend_from_slice(few)?;
     for _ in 0..n {

@@ -3,11 +3,21 @@ ghost use Rattle.std.specs.Prelude.{◌≡◌, ℕ, ◌+◌, ◌-◌, ◌*◌, �
 ghost use Rattle.vers_tally.specs.Reads.{only_low_parts, digits, AddsAtMost};
 ghost use Rattle.vers_sorted.specs.Sorted.{below, greatest_not_above, least_not_below, delta};
 ghost use Rattle.vers_sorted.specs.Layout.{first_of, last_of, high_of, low_of, high_length, member_reads, search_reads};
-ghost use Rattle.vers_sorted.specs.Parts.{IsStart, reads};
+ghost use Rattle.vers_sorted.specs.Parts.{reads};
+ghost use Rattle.vers_sorted.specs.Buckets.{IsBucket};
 
 use crate::elias_fano::EliasFanoVec;
+use crate::elias_fano::scan::zero_after;
 use std::alloc::Allocator;
 use vers_tally::tally::Tally;
+
+// The members with one high part: those from place `start` up to place `end`.
+#[derive(Clone, Copy, Drop)]
+pub(super) struct Bucket {
+    pub(super) high: u64,
+    pub(super) start: usize,
+    pub(super) end: usize,
+}
 
 #[tactic(auto, using(crate::proofs::Packed::packed))]
 impl<A: Allocator + Copy> EliasFanoVec<A> {
@@ -49,44 +59,40 @@ impl<A: Allocator + Copy> EliasFanoVec<A> {
         self.first + ((high << self.width) | low)
     }
 
-    // The member at a place, or none.
+    // The members with the high part of `v`, from one select and most often the bits after it.
     #[inline]
-    #[tactic(auto, using(crate::proofs::Packed::gets))]
-    fn member_at(&self, i: usize, tally: &mut Tally) -> Option<u64>
-        ensures value { result ≡ slice_get self.now i }
-        ensures adds { AddsAtMost tally.old tally.new (reads 1 1 (high_length self.now)) }
-    {
-        if i >= self.len() {
-            return None;
-        }
-        Some(self.member(i, tally))
-    }
-
-    // How many members have a high part below `h`.
-    #[tactic(auto, using(crate::proofs::Buckets::starts))]
-    fn start_of(&self, h: usize, tally: &mut Tally) -> usize
+    #[tactic(auto, using(crate::proofs::Buckets::bucket))]
+    fn bucket_of(&self, v: u64, tally: &mut Tally) -> Bucket
         requires some { 0 < length self.now }
-        requires within { h ≤ high_of self.now (last_of self.now) + 1 }
-        ensures start { IsStart self.now h result }
-        ensures adds { AddsAtMost tally.old tally.new (reads 0 1 (high_length self.now)) }
+        requires from { first_of self.now ≤ v }
+        requires to { v ≤ last_of self.now }
+        ensures bucket { IsBucket self.now v result }
+        ensures adds { AddsAtMost tally.old tally.new (reads 0 3 (high_length self.now)) }
     {
         let _ = &self.len;
-        self.high.select0_counted(h, tally) - h
+        let high = ((v - self.first) >> self.width) as usize;
+        let zero = self.high.select0_counted(high, tally);
+        let next = zero_after(&self.high, high, zero, tally);
+        Bucket {
+            high: high as u64,
+            start: zero - high,
+            end: next - high - 1,
+        }
     }
 
-    // How many members are below `v`, of which those from `start` to `end` have its high part.
+    // How many members are below `v`, where those with its high part are known.
+    #[inline]
     #[tactic(auto, using(crate::proofs::Buckets::search_steps))]
-    fn below_between(&self, v: u64, start: usize, end: usize, tally: &mut Tally) -> usize
+    fn below_in(&self, bucket: Bucket, v: u64, tally: &mut Tally) -> usize
         requires above { first_of self.now ≤ v }
-        requires start { IsStart self.now (high_of self.now v) start }
-        requires end { IsStart self.now (high_of self.now v + 1) end }
+        requires bucket { IsBucket self.now v bucket }
         ensures value { result ≡ below self.now v }
         ensures adds { AddsAtMost tally.old tally.new (only_low_parts (digits (length self.now))) }
     {
         let _ = &self.len;
         let low = (v - self.first) & ((1 << self.width) - 1);
-        let mut from = start;
-        let mut to = end;
+        let mut from = bucket.start;
+        let mut to = bucket.end;
         while from < to {
             let mid = from + (to - from) / 2;
             if self.low_part(mid, tally) < low {
@@ -98,48 +104,35 @@ impl<A: Allocator + Copy> EliasFanoVec<A> {
         from
     }
 
-    // How many members are below `v`.
-    #[tactic(auto, using(crate::proofs::Buckets::bounds))]
-    fn count_below(&self, v: u64, tally: &mut Tally) -> usize
-        ensures value { result ≡ below self.now v }
-        ensures adds { AddsAtMost tally.old tally.new (reads (digits (length self.now)) 2 (high_length self.now)) }
-    {
-        let _ = self.high.len();
-        if self.len() == 0 {
-            return 0;
-        }
-        if v <= self.first {
-            return 0;
-        }
-        if v > self.last {
-            return self.len();
-        }
-        let h = ((v - self.first) >> self.width) as usize;
-        let start = self.start_of(h, tally);
-        let end = self.start_of(h + 1, tally);
-        self.below_between(v, start, end, tally)
-    }
-
-    // How many members are not above `v`.
-    fn count_up_to(&self, v: u64, tally: &mut Tally) -> usize
-        ensures value { result ≡ below self.now (v + 1) }
-        ensures adds { AddsAtMost tally.old tally.new (reads (digits (length self.now)) 2 (high_length self.now)) }
-    {
-        let _ = &self.last;
-        if v >= self.last {
-            return self.len();
-        }
-        self.count_below(v + 1, tally)
-    }
-
-    /// The member at a place. None past the last.
+    // A member, by no select where its high part is that of the bucket.
     #[inline]
-    #[tactic(auto, using(crate::proofs::Bounds::bounds))]
+    #[tactic(auto, using(crate::proofs::Buckets::members))]
+    fn member_near(&self, bucket: Bucket, v: u64, i: usize, tally: &mut Tally) -> u64
+        requires within { i < length self.now }
+        requires bucket { IsBucket self.now v bucket }
+        ensures value { result ≡ slice_index self.now i }
+        ensures adds { AddsAtMost tally.old tally.new (reads 1 1 (high_length self.now)) }
+    {
+        let _ = &self.len;
+        if bucket.start <= i && i < bucket.end {
+            let low = self.low_part(i, tally);
+            return self.first + ((bucket.high << self.width) | low);
+        }
+        self.member(i, tally)
+    }
+
+    /// The member at a place. None past the last. By at most 2 low parts and 2 queries of the high
+    /// parts.
+    #[inline]
+    #[tactic(auto, using(crate::proofs::Packed::gets, crate::proofs::Bounds::bounds))]
     pub fn get_counted(&self, i: usize, tally: &mut Tally) -> Option<u64>
         ensures value { result ≡ slice_get self.now i }
         ensures adds { AddsAtMost tally.old tally.new (member_reads self.now) }
     {
-        self.member_at(i, tally)
+        if i >= self.len() {
+            return None;
+        }
+        Some(self.member(i, tally))
     }
 
     /// The same as `get_counted`.
@@ -152,7 +145,7 @@ impl<A: Allocator + Copy> EliasFanoVec<A> {
     }
 
     /// How far member `i` lies above the one before it, and the first member itself for 0. None
-    /// past the last.
+    /// past the last. By at most 2 low parts and 2 queries of the high parts.
     #[tactic(auto, using(crate::proofs::Neighbours::deltas, crate::proofs::Bounds::bounds))]
     pub fn delta_counted(&self, i: usize, tally: &mut Tally) -> Option<u64>
         ensures value { result ≡ delta self.now i }
@@ -170,37 +163,67 @@ impl<A: Allocator + Copy> EliasFanoVec<A> {
     }
 
     /// How many members are below `v`.
-    #[inline]
-    #[tactic(auto, using(crate::proofs::Bounds::bounds))]
+    ///
+    /// By at most as many low parts and queries of the high parts as the number of members has
+    /// binary digits, and 8 more, with any number of equal members.
+    #[tactic(auto, using(crate::proofs::Bounds::bounds, crate::proofs::Buckets::ends))]
     pub fn rank_counted(&self, v: u64, tally: &mut Tally) -> u64
         ensures value { result ≡ below self.now v }
         ensures adds { AddsAtMost tally.old tally.new (search_reads self.now) }
     {
-        self.count_below(v, tally) as u64
+        let _ = &self.first;
+        if self.len() == 0 {
+            return 0;
+        }
+        if v <= self.first {
+            return 0;
+        }
+        if v > self.last {
+            return self.len() as u64;
+        }
+        let bucket = self.bucket_of(v, tally);
+        self.below_in(bucket, v, tally) as u64
     }
 
-    /// The greatest member that is not above `v`. None where there is none.
-    #[tactic(auto, using(crate::proofs::Bounds::bounds))]
+    /// The greatest member that is not above `v`. None where there is none. Reads as `rank_counted`.
+    #[tactic(auto, using(crate::proofs::Bounds::bounds, crate::proofs::Buckets::ends))]
     pub fn predecessor_counted(&self, v: u64, tally: &mut Tally) -> Option<u64>
         ensures value { result ≡ greatest_not_above self.now v }
         ensures adds { AddsAtMost tally.old tally.new (search_reads self.now) }
     {
-        let _ = &self.len;
-        let k = self.count_up_to(v, tally);
-        if k == 0 {
+        let _ = &self.first;
+        if self.len() == 0 {
             return None;
         }
-        self.member_at(k - 1, tally)
+        if v < self.first {
+            return None;
+        }
+        if v >= self.last {
+            return Some(self.last);
+        }
+        let bucket = self.bucket_of(v + 1, tally);
+        let k = self.below_in(bucket, v + 1, tally);
+        Some(self.member_near(bucket, v + 1, k - 1, tally))
     }
 
-    /// The least member that is not below `v`. None where there is none.
-    #[tactic(auto, using(crate::proofs::Bounds::bounds))]
+    /// The least member that is not below `v`. None where there is none. Reads as `rank_counted`.
+    #[tactic(auto, using(crate::proofs::Bounds::bounds, crate::proofs::Buckets::ends))]
     pub fn successor_counted(&self, v: u64, tally: &mut Tally) -> Option<u64>
         ensures value { result ≡ least_not_below self.now v }
         ensures adds { AddsAtMost tally.old tally.new (search_reads self.now) }
     {
-        let _ = &self.len;
-        let k = self.count_below(v, tally);
-        self.member_at(k, tally)
+        let _ = &self.first;
+        if self.len() == 0 {
+            return None;
+        }
+        if v > self.last {
+            return None;
+        }
+        if v <= self.first {
+            return Some(self.first);
+        }
+        let bucket = self.bucket_of(v, tally);
+        let k = self.below_in(bucket, v, tally);
+        Some(self.member_near(bucket, v, k, tally))
     }
 }

@@ -1,9 +1,33 @@
-use Rattle.std.proofs.Common.{sym, ap, ◌∙◌}
-use Rattle.std.specs.Prelude.{slice_get}
-use Rattle.vers_sorted.proofs.Neighbours.{succ_is}
+use Rattle.std.proofs.Common.{◌≡◌, ℕ, ◌-◌, ◌<◌, length, sym, ap, ◌∙◌, arith, Some}
+use Rattle.vers_sorted.proofs.Below.{below_le}
+use Rattle.vers_sorted.proofs.Neighbours.{succ_past, succ_at, some_left}
+use Rattle.vers_sorted.proofs.Buckets.{none_below, all_below}
 use Rattle.vers_sorted.proofs.elias_fano.EliasFanoVec.successor_counted.Goals as goal
+
+pub returns-then-len-eq0-clause-value : goal.returns-then-len-eq0-clause-value
+returns-then-len-eq0-clause-value g c =
+    let packed = rw c.self.view_is at c.self.invariant in
+    sym (succ_past c.args.self.now c.args.v packed.ascending (omega (arith, below_le c.args.self.now c.args.v)))
+
+pub returns-then-v-self-clause-value : goal.returns-then-v-self-clause-value
+returns-then-v-self-clause-value g c =
+    let packed = rw c.self.view_is at c.self.invariant in
+    sym (succ_past c.args.self.now c.args.v packed.ascending (all_below c.args.v packed (omega arith)))
+
+pub returns-then-v-self-2-clause-value : goal.returns-then-v-self-2-clause-value
+returns-then-v-self-2-clause-value g c =
+    let packed = rw c.self.view_is at c.self.invariant in
+    ap (λ (m : ℕ). Some m) packed.first_is
+    ∙ sym (succ_at c.args.self.now c.args.v 0 packed.ascending (sym (none_below c.args.v packed (omega arith))) (omega arith))
+
+pub member_near-requires-clause-within : goal.member_near-requires-clause-within
+member_near-requires-clause-within g c =
+    let packed = rw c.self.view_is at c.self.invariant in
+    omega (arith, c.below_in-k.ensures.value, some_left c.args.self.now c.args.v packed.ascending (omega arith) (omega (arith, packed.last_is)))
 
 pub returns-clause-value : goal.returns-clause-value
 returns-clause-value g c =
     let packed = rw c.self.view_is at c.self.invariant in
-    c.member_at.ensures.value ∙ ap (λ k. slice_get c.args.self.now k) c.count_below-k.ensures.value ∙ sym (succ_is c.args.self.now c.args.v packed.ascending)
+    let left = some_left c.args.self.now c.args.v packed.ascending (omega arith) (omega (arith, packed.last_is)) in
+    ap (λ (m : ℕ). Some m) c.member_near.ensures.value
+    ∙ sym (succ_at c.args.self.now c.args.v c.below_in-k.result packed.ascending c.below_in-k.ensures.value (omega (arith, left, c.below_in-k.ensures.value)))

@@ -2,15 +2,15 @@ use Rattle.std.proofs.Common.{◌≡◌, ◌-◌, ◌≤◌, length}
 use Rattle.vers_tally.specs.Reads.{only_low_parts, digits, AddsAtMost}
 use Rattle.vers_sorted.specs.Sorted.{below}
 use Rattle.vers_sorted.specs.Layout.{low_of}
-use Rattle.vers_sorted.proofs.elias_fano.EliasFanoVec.below_between.Given as goal
+use Rattle.vers_sorted.proofs.elias_fano.EliasFanoVec.below_in.Given as goal
 
 abbrev pub invariant-loop-from : goal.invariant-loop-from
 invariant-loop-from g l =
     record {
       low_is : l.low ≡ low_of l.self l.v;
       order : l.from ≤ l.to;
-      start_from : l.start ≤ l.from;
-      to_end : l.to ≤ l.end;
+      start_from : l.fn.bucket.start ≤ l.from;
+      to_end : l.to ≤ l.fn.bucket.end;
       from_below : l.from ≤ below l.self l.v;
       below_to : below l.self l.v ≤ l.to;
       budget : digits (l.to - l.from) ≤ digits (length l.self);

@@ -1,0 +1,73 @@
+-- The next zero or one, by the number of the bits that follow.
+use Rattle.std.proofs.Common.{◌≡◌, ℕ, zero, suc, ◌+◌, ◌-◌, ◌*◌, ◌^◌, ◌<◌, ◌≤◌, Bool, true, false, List, length, take, drop, get_or, refl, sym, ap, subst, ◌∙◌, arith, Some, None, inl, inr}
+use mir.Syntax.{w64}
+use Rattle.std.specs.Int.{bit_at, trailing_ones, trailing_zeros}
+use Rattle.std.specs.Prelude.{nat_le}
+use Rattle.std.proofs.lemmas.Bool.{leb-true}
+use Rattle.std.proofs.lemmas.Option.{cond_some}
+use Rattle.std.proofs.lemmas.List.{get_or-take, get_or-drop, get_or_past, length-take, length-drop}
+use Rattle.std.proofs.lemmas.Nat.Bits.{bit_at-trailing_ones, bit_at-trailing_zeros}
+use Rattle.vers_bits.specs.Bits.{bit_value, is_bit, number, count, select}
+use Rattle.vers_bits.proofs.Count.{count_le}
+use Rattle.vers_bits.proofs.Num.{bit_at-number}
+use Rattle.vers_bits.proofs.Places.{select_at, count_at_select, count_more_no}
+use Rattle.vers_rank.specs.Queries.{part_number_or_zero}
+
+-- a bit of the part from p on, by the part's number
+part_bit : (l : List Bool) (p n i : ℕ) → i < n → bit_at (number (take n (drop p l))) i ≡ bit_value (get_or l (p + i) false)
+part_bit l p n i h = bit_at-number (take n (drop p l)) i ∙ ap bit_value (get_or-take n (drop p l) i false h ∙ get_or-drop p l i false)
+
+zero_bit : (x : Bool) → bit_value x ≡ 0 → x ≡ false
+zero_bit false e = refl
+zero_bit true e = cc e
+
+one_bit : (x : Bool) → bit_value x ≡ 1 → x ≡ true
+one_bit true e = refl
+one_bit false e = cc e
+
+-- where no place of a stretch holds the bit, the count stays
+count_stays : (b : Bool) (l : List Bool) (p d : ℕ) → p + d ≤ length l → ((i : ℕ) → i < d → is_bit b (get_or l (p + i) false) ≡ false) → count b l (p + d) ≡ count b l p
+count_stays b l p zero h off = ap (count b l) (let e : p + 0 ≡ p = omega arith in e)
+count_stays b l p (suc d) h off =
+    let e : p + suc d ≡ p + d + 1 = omega arith in
+    ap (count b l) e ∙ count_more_no b l (p + d) (omega arith) (off d (omega arith)) ∙ count_stays b l p d (omega arith) (λ i small. off i (omega arith))
+
+-- the next zero, from the number of the next 64 bits, where they are not all ones
+pub next_zero : (l : List Bool) (p h : ℕ) → p + 64 ≤ length l → count false l p ≡ h → number (take 64 (drop p l)) + 1 < 18446744073709551616
+    → select false l h ≡ p + trailing_ones w64 (number (take 64 (drop p l)))
+next_zero l p h within counted small =
+    let w : ℕ = number (take 64 (drop p l)) in
+    let t : ℕ = trailing_ones w64 w in
+    let found = bit_at-trailing_ones w64 w small in
+    let here : get_or l (p + t) false ≡ false = zero_bit (get_or l (p + t) false) (sym (part_bit l p 64 t found.0) ∙ found.1) in
+    select_at false l h (p + t) (omega (arith, found.0)) (ap (is_bit false) here)
+    (count_stays false l p t (omega (arith, found.0)) (λ i less.
+    let on : get_or l (p + i) false ≡ true = one_bit (get_or l (p + i) false) (sym (part_bit l p 64 i (omega (arith, found.0))) ∙ found.2 i less) in
+    ap (is_bit false) on) ∙ counted)
+
+-- past zero number h as many zeros stand as h and one more
+pub counted_past : (b : Bool) (l : List Bool) (h p : ℕ) → h < count b l (length l) → p ≡ select b l h → count b l (p + 1) ≡ h + 1
+counted_past b l h p some e = ap (λ q. count b l (q + 1)) e ∙ (count_at_select b l h some).2
+
+part_read : (l : List Bool) (p w : ℕ) → part_number_or_zero l p 64 ≡ Some w → (p + 64 ≤ length l) × (w ≡ number (take 64 (drop p l)))
+unfolding part_number_or_zero
+part_read l p w e =
+    let found = cond_some (nat_le (p + 64) (length l)) (number (take 64 (drop p l))) w e in
+    (leb-true (p + 64) (length l) found.0, sym found.1)
+
+pub select_within : (b : Bool) (l : List Bool) (h p : ℕ) → h < count b l (length l) → p ≡ select b l h → p < length l
+select_within b l h p some e = omega (arith, e, (count_at_select b l h some).0)
+
+pub zero_read : (l : List Bool) (h at w : ℕ) → h < count false l (length l) → at ≡ select false l h → part_number_or_zero l (at + 1) 64 ≡ Some w → w + 1 < 18446744073709551616
+    → at + 1 + trailing_ones w64 w ≡ select false l (h + 1)
+zero_read l h at w some e read small =
+    let part = part_read l (at + 1) w read in
+    sym (next_zero l (at + 1) (h + 1) part.0 (counted_past false l h at some e) (omega (arith, part.1)) ∙ ap (λ v. at + 1 + trailing_ones w64 v) (sym part.1))
+
+pub zero_fits : (l : List Bool) (p w : ℕ) → part_number_or_zero l p 64 ≡ Some w → w + 1 < 18446744073709551616 → p + trailing_ones w64 w < length l
+zero_fits l p w read small = omega (arith, (part_read l p w read).0, (bit_at-trailing_ones w64 w small).0)
+
+pub few_zeros : (l : List Bool) (h : ℕ) → h < count false l (length l) → h < length l
+few_zeros l h some = omega (arith, count_le false l (length l))
+
+pub ruleset scans = (zero_read, zero_fits, select_within, few_zeros)

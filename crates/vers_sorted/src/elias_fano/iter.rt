@@ -1,0 +1,233 @@
+// The iterator over the members of a borrowed list.
+ghost use Rattle.std.specs.Prelude.{◌≡◌, ◌≤◌, ◌↔◌, [], All, IsNone, IfSome, None, length};
+ghost use Rattle.std.specs.Iterator.{item_count, MakesProgress, YieldsFirst, YieldsLast};
+ghost use Rattle.std.specs.List.{Contains, last_or};
+ghost use Rattle.std.specs.List.Sorted.{IsNonDecreasing};
+ghost use Rattle.vers_bits.specs.Walk.{TakesNth, TakesNthBack, TakesFirst, TakesLast};
+ghost use Rattle.vers_tally.specs.Reads.{AddsAtMost};
+ghost use Rattle.vers_sorted.specs.Layout.{member_reads};
+
+use super::EliasFanoVec;
+use std::alloc::Allocator;
+use std::marker::Model;
+use vers_bits::walk::Span;
+use vers_tally::tally::Tally;
+
+/// An iterator over the members of a list. Contracts see it as the `list` and the members `left`,
+/// which are still to come. Each step reads at most what one `get` does.
+#[derive(Drop)]
+pub struct EliasFanoRefIter<'a, A: Allocator + Copy> {
+    list: &'a EliasFanoVec<A>,
+    span: Span,
+}
+
+impl<'a, A: Allocator + Copy> Model for EliasFanoRefIter<'a, A> {
+    ghost use Rattle.std.specs.Prelude.{◌≤◌, length};
+    ghost use Rattle.vers_bits.specs.Walk.{items_in};
+    ghost use Rattle.vers_sorted.specs.Walks.{Members};
+
+    ghost Value = { Members };
+
+    ghost view = { λ s. record { list = s.list.now; left = items_in s.list.now s.span } };
+
+    ghost invariant = { λ s. s.span.to ≤ length s.list.now };
+}
+
+impl<A: Allocator + Copy> EliasFanoVec<A> {
+    /// An iterator over the members.
+    #[tactic(auto, using(crate::proofs::BothEnds::lists))]
+    pub fn iter(&self) -> EliasFanoRefIter<'_, A>
+        ensures { result ≡ record { list = self.now; left = self.now } }
+    {
+        EliasFanoRefIter {
+            list: self,
+            span: Span::below(self.len()),
+        }
+    }
+}
+
+#[tactic(auto, using(crate::proofs::BothEnds::lists))]
+impl<'a, A: Allocator + Copy> EliasFanoRefIter<'a, A> {
+    /// How many members are left.
+    #[inline]
+    pub fn len(&self) -> usize
+        ensures value { result ≡ length self.now.left }
+        ensures ascending { IsNonDecreasing self.now.left }
+    {
+        let _ = self.list.len();
+        self.span.len()
+    }
+
+    /// How many members are left.
+    pub fn count(self) -> usize
+        ensures { result ≡ length self.entry.left }
+    {
+        self.len()
+    }
+
+    /// Drops `n` members and takes the next. Where no more than `n` are left, none is taken and
+    /// the iterator has ended.
+    #[inline]
+    pub fn nth(&mut self, n: usize) -> Option<u64>
+        ensures steps { TakesNth n self.old.left result self.new.left }
+        ensures same_list { self.new.list ≡ self.old.list }
+    {
+        let mut tally = Tally::new();
+        self.nth_counted(n, &mut tally)
+    }
+
+    /// Drops `n` members from the back and takes the next. Where no more than `n` are left, none
+    /// is taken and the iterator has ended.
+    #[inline]
+    pub fn nth_back(&mut self, n: usize) -> Option<u64>
+        ensures steps { TakesNthBack n self.old.left result self.new.left }
+        ensures same_list { self.new.list ≡ self.old.list }
+    {
+        let mut tally = Tally::new();
+        self.nth_back_counted(n, &mut tally)
+    }
+
+    /// The first of the members left, which is taken, by the reads of one `get`.
+    #[inline]
+    pub fn next_counted(&mut self, tally: &mut Tally) -> Option<u64>
+        ensures steps { TakesFirst self.old.left result self.new.left }
+        ensures same_list { self.new.list ≡ self.old.list }
+        ensures adds { AddsAtMost tally.old tally.new (member_reads self.old.list) }
+    {
+        self.nth_counted(0, tally)
+    }
+
+    /// The last of the members left, which is taken, by the reads of one `get`.
+    #[inline]
+    pub fn next_back_counted(&mut self, tally: &mut Tally) -> Option<u64>
+        ensures steps { TakesLast self.old.left result self.new.left }
+        ensures same_list { self.new.list ≡ self.old.list }
+        ensures adds { AddsAtMost tally.old tally.new (member_reads self.old.list) }
+    {
+        self.nth_back_counted(0, tally)
+    }
+
+    /// Drops `n` members and takes the next, by the reads of one `get`. Where no more than `n` are
+    /// left, none is taken and the iterator has ended.
+    #[inline]
+    pub fn nth_counted(&mut self, n: usize, tally: &mut Tally) -> Option<u64>
+        ensures steps { TakesNth n self.old.left result self.new.left }
+        ensures same_list { self.new.list ≡ self.old.list }
+        ensures adds { AddsAtMost tally.old tally.new (member_reads self.old.list) }
+    {
+        let i = self.span.nth(n)?;
+        Some(self.list.member(i, tally))
+    }
+
+    /// Drops `n` members from the back and takes the next, by the reads of one `get`. Where no
+    /// more than `n` are left, none is taken and the iterator has ended.
+    #[inline]
+    pub fn nth_back_counted(&mut self, n: usize, tally: &mut Tally) -> Option<u64>
+        ensures steps { TakesNthBack n self.old.left result self.new.left }
+        ensures same_list { self.new.list ≡ self.old.list }
+        ensures adds { AddsAtMost tally.old tally.new (member_reads self.old.list) }
+    {
+        let i = self.span.nth_back(n)?;
+        Some(self.list.member(i, tally))
+    }
+
+    /// The last member.
+    pub fn last(mut self) -> Option<u64>
+        ensures { result ≡ last_or None self.entry.left }
+    {
+        self.nth_back(0)
+    }
+
+    /// The least of the members left.
+    #[tactic(auto, using(crate::proofs::BothEnds::least))]
+    pub fn min(mut self) -> Option<u64>
+        ensures none { IsNone result ↔ (self.entry.left ≡ []) }
+        ensures member { IfSome result (Contains self.entry.left) }
+        ensures least { IfSome result (λ m. All (λ x. m ≤ x) self.entry.left) }
+    {
+        let _ = self.len();
+        self.nth(0)
+    }
+
+    /// The greatest of the members left.
+    #[tactic(auto, using(crate::proofs::BothEnds::greatest))]
+    pub fn max(mut self) -> Option<u64>
+        ensures none { IsNone result ↔ (self.entry.left ≡ []) }
+        ensures member { IfSome result (Contains self.entry.left) }
+        ensures greatest { IfSome result (λ m. All (λ x. x ≤ m) self.entry.left) }
+    {
+        let _ = self.len();
+        self.nth_back(0)
+    }
+
+    /// A second iterator over what is left. Takes no memory.
+    pub fn clone(&self) -> Self
+        ensures { result ≡ self.now }
+    {
+        EliasFanoRefIter {
+            list: self.list,
+            span: self.span,
+        }
+    }
+}
+
+#[tactic(auto, using(crate::proofs::BothEnds::ends))]
+impl<'a, A: Allocator + Copy> Iterator for EliasFanoRefIter<'a, A> {
+    type Item = u64;
+
+    ghost next_gives = { YieldsFirst (λ s. s.left) };
+
+    ghost remaining = { item_count (λ s. s.left) };
+
+    #[inline]
+    fn next(&mut self) -> Option<u64>
+        ensures steps { YieldsFirst (λ s. s.left) self.old result self.new }
+        ensures goes { MakesProgress (λ _. Unit {0}) (item_count (λ s. s.left)) self.old result self.new }
+        ensures same_list { self.new.list ≡ self.old.list }
+    {
+        self.nth(0)
+    }
+
+    fn size_hint(&self) -> (usize, Option<usize>) {
+        let len = self.len();
+        (len, Some(len))
+    }
+}
+
+#[tactic(auto, using(crate::proofs::BothEnds::ends))]
+impl<'a, A: Allocator + Copy> DoubleEndedIterator for EliasFanoRefIter<'a, A> {
+    ghost next_back_gives = { YieldsLast (λ s. s.left) };
+
+    #[inline]
+    fn next_back(&mut self) -> Option<u64>
+        ensures steps { YieldsLast (λ s. s.left) self.old result self.new }
+        ensures goes { MakesProgress (λ _. Unit {0}) (item_count (λ s. s.left)) self.old result self.new }
+        ensures same_list { self.new.list ≡ self.old.list }
+    {
+        self.nth_back(0)
+    }
+}
+
+impl<'a, A: Allocator + Copy> IntoIterator for &'a EliasFanoVec<A> {
+    type Item = u64;
+
+    type IntoIter = EliasFanoRefIter<'a, A>;
+
+    ghost into_iter_gives = { λ list items. items ≡ record { list = list.now; left = list.now } };
+
+    fn into_iter(self) -> EliasFanoRefIter<'a, A> {
+        self.iter()
+    }
+}
+
+impl<'a, A: Allocator + Copy> IntoIterator for &'a mut EliasFanoVec<A> {
+    type Item = u64;
+
+    type IntoIter = EliasFanoRefIter<'a, A>;
+
+    ghost into_iter_gives = { λ list items. items ≡ record { list = list.now; left = list.now } };
+
+    fn into_iter(self) -> EliasFanoRefIter<'a, A> {
+        self.iter()
+    }
+}
