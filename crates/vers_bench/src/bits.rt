@@ -54,6 +54,14 @@ fn select0_pass(bits: &Bits, numbers: &[u64]) -> u64 {
     sum
 }
 
+fn iter1_pass(bits: &Bits) -> u64 {
+    let mut sum = 0u64;
+    for place in bits.iter1() {
+        sum = sum.wrapping_add(place as u64);
+    }
+    sum
+}
+
 /// The queries of a list: places, numbers of ones and numbers of zeros.
 #[derive(Drop)]
 struct Queries {
@@ -170,5 +178,13 @@ pub fn run(
         &series("select0"),
         count,
         || select0_pass(&bits, zeros),
+    )?;
+    let all_ones = bits.rank1(bits.len()) as u64;
+    run_series(
+        rt,
+        settings,
+        &series("iter1"),
+        all_ones,
+        || iter1_pass(&bits),
     )
 }

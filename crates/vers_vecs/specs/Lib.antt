@@ -6,3 +6,6 @@ pub use Rattle.vers_bits.specs.declared.bit_vec.fault.GrowError as GrowErrors
 pub use Rattle.vers_bits.specs.declared.bit_vec.fault.SplitCause as SplitCauses
 pub use Rattle.vers_tally.specs.Reads
 pub use Rattle.vers_rank.specs.Queries
+pub use Rattle.vers_sorted.specs.Sorted
+pub use Rattle.vers_sorted.specs.Ones
+pub use Rattle.vers_sorted.specs.Layout

@@ -15,10 +15,20 @@ pub mod bit_vec {
         };
     }
 
+    /// Lists of bits that keep the places of their ones alone.
+    pub mod sparse {
+        pub use vers_sorted::sparse::SparseRSVec;
+    }
+
     /// Two lists combined limb by limb.
     pub mod mask {
         pub use vers_bits::bit_vec::mask::MaskedBitVec;
     }
+}
+
+/// Ascending lists of numbers.
+pub mod elias_fano {
+    pub use vers_sorted::elias_fano::{EliasFanoIter, EliasFanoRefIter, EliasFanoVec};
 }
 
 /// Counters of reads.
@@ -28,3 +38,5 @@ pub mod tally {
 
 pub use vers_bits::bit_vec::BitVec;
 pub use vers_rank::fast_rs_vec::RsVec;
+pub use vers_sorted::elias_fano::EliasFanoVec;
+pub use vers_sorted::sparse::SparseRSVec;

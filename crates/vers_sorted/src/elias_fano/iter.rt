@@ -1,4 +1,4 @@
-// The iterator over the members of a borrowed list.
+//! The iterator over the members of a borrowed list.
 ghost use Rattle.std.specs.Prelude.{◌≡◌, ◌≤◌, ◌↔◌, [], All, IsNone, IfSome, None, length};
 ghost use Rattle.std.specs.Iterator.{item_count, MakesProgress, YieldsFirst, YieldsLast};
 ghost use Rattle.std.specs.List.{Contains, last_or};
