@@ -1,6 +1,6 @@
 //! The places of zeros and ones.
 ghost use Rattle.std.specs.Prelude.{◌≡◌, ℕ, ◌+◌, ◌-◌, ◌*◌, ◌/◌, ◌<◌, ◌≤◌, length, min, true, false};
-ghost use Rattle.vers_bits.specs.Bits.{count, select};
+ghost use Rattle.vers_bits.specs.Bits.{count, limb, select};
 ghost use Rattle.vers_tally.specs.Reads.{no_reads, one_more, only_block_entries, only_superblock_entries, only_data_words, digits, AddsAtMost};
 ghost use Rattle.vers_rank.specs.Queries.{superblock_count, select_reads};
 ghost use Rattle.vers_rank.specs.Index.{IsSample, IsLimbWith};
@@ -24,6 +24,14 @@ const FEW: usize = 4;
 struct Found {
     limb: usize,
     before: usize,
+}
+
+// Where a place stands: its limb with the word that the limb holds, and its place in the word.
+#[derive(Clone, Copy)]
+pub(super) struct InWord {
+    pub(super) limb: usize,
+    pub(super) word: u64,
+    pub(super) place: usize,
 }
 
 impl<A: Allocator + Copy> RsVec<A> {
@@ -82,6 +90,21 @@ impl<A: Allocator + Copy> RsVec<A> {
         if r >= self.total(bit) {
             return len;
         }
+        let at = self.locate(bit, r, tally);
+        LIMB * at.limb + at.place
+    }
+
+    // Where number `r` of the zeros or the ones stands.
+    #[inline(always)]
+    #[tactic(auto, using(crate::proofs::Selects::totals))]
+    pub(super) fn locate(&self, bit: bool, r: usize, tally: &mut Tally) -> InWord
+        requires { r < count bit self.now (length self.now) }
+        ensures value { 64 * result.limb + result.place ≡ select bit self.now r }
+        ensures within { (64 * result.limb < length self.now) × (result.place < 64) }
+        ensures word { result.word ≡ limb self.now result.limb }
+        ensures adds { AddsAtMost tally.old tally.new (record no_reads { data_words = 8; block_entries = 17; superblock_entries = digits (superblock_count (length self.now)) + 12 }) }
+    {
+        let _ = &self.bits;
         let s = self.superblock_with(bit, r, tally);
         let r_in_superblock = (r - self.count_at_superblock(bit, s, tally)) as u16;
         let j = self.block_with(bit, r_in_superblock, s, tally);
@@ -231,18 +254,25 @@ impl<A: Allocator + Copy> RsVec<A> {
         passed - 1
     }
 
-    // The place of number `r` of a block.
+    // Where number `r` of a block stands.
     #[inline(always)]
     #[tactic(auto, using(crate::proofs::Selects::in_block))]
-    fn place_in_block(&self, bit: bool, r: usize, block: usize, tally: &mut Tally) -> usize
+    fn place_in_block(&self, bit: bool, r: usize, block: usize, tally: &mut Tally) -> InWord
         requires within { 512 * block < length self.now }
         requires to { count bit self.now (512 * block) + r < count bit self.now (512 * (block + 1)) }
-        ensures value { result ≡ select bit self.now (count bit self.now (512 * block) + r) }
+        ensures value { 64 * result.limb + result.place ≡ select bit self.now (count bit self.now (512 * block) + r) }
+        ensures within { (64 * result.limb < length self.now) × (result.place < 64) }
+        ensures word { result.word ≡ limb self.now result.limb }
         ensures adds { AddsAtMost tally.old tally.new (only_data_words 8) }
     {
         let found = self.limb_with(bit, r, block, tally);
         let word = self.bits.limb(found.limb, tally);
-        LIMB * found.limb + place_in_word(word, bit, r - found.before)
+        let place = place_in_word(word, bit, r - found.before);
+        InWord {
+            limb: found.limb,
+            word,
+            place,
+        }
     }
 
     // The limb of number `r` of a block.
