@@ -1,5 +1,7 @@
 //! The series of lists of bits with ranks and selects.
-use crate::report::{Series, Settings, nanoseconds_since, per_operation, print_line, run_series};
+use crate::report::{
+    Series, Settings, nanoseconds_since, per_operation, print_line, print_size, run_series,
+};
 use crate::workload::{Random, fold, limbs};
 use std::alloc::{AllocError, Global};
 use std::io;
@@ -107,9 +109,56 @@ fn build(
 
 // How much more memory the list takes than its bits alone, in thousandths of a percent.
 fn overhead(bits: &Bits) -> u64 {
-    let heap_bits = (bits.len() as u64).saturating_mul(8);
+    let heap_bits = (bits.heap_size() as u64).saturating_mul(8);
     let len = (bits.len() as u64).max(1);
     (heap_bits.saturating_mul(100_000) / len).saturating_sub(100_000)
+}
+
+fn run_ranks<'a>(
+    rt: &HostRuntime,
+    settings: &Settings,
+    series: &Series<'a>,
+    bits: &Bits,
+    places: &[u64],
+) -> io::Result<()> {
+    let count = places.len() as u64;
+    let rank1 = series.of("rank1");
+    run_series(rt, settings, &rank1, count, || rank1_pass(bits, places))?;
+    let chained = series.of("rank1_chained");
+    run_series(
+        rt,
+        settings,
+        &chained,
+        count,
+        || rank1_chained_pass(bits, places),
+    )
+}
+
+fn run_selects<'a>(
+    rt: &HostRuntime,
+    settings: &Settings,
+    series: &Series<'a>,
+    bits: &Bits,
+    queries: &Queries,
+) -> io::Result<()> {
+    let ones = queries.ones.as_slice();
+    let zeros = queries.zeros.as_slice();
+    let count = ones.len() as u64;
+    let select1 = series.of("select1");
+    run_series(rt, settings, &select1, count, || select1_pass(bits, ones))?;
+    let chained = series.of("select1_chained");
+    run_series(
+        rt,
+        settings,
+        &chained,
+        count,
+        || select1_chained_pass(bits, ones),
+    )?;
+    let select0 = series.of("select0");
+    run_series(rt, settings, &select0, count, || select0_pass(bits, zeros))?;
+    let all_ones = bits.rank1(bits.len()) as u64;
+    let iter1 = series.of("iter1");
+    run_series(rt, settings, &iter1, all_ones, || iter1_pass(bits))
 }
 
 /// Runs all series over a list of `limb_count` limbs with a given share of ones, each of
@@ -123,68 +172,20 @@ pub fn run(
 ) -> io::Result<()> {
     let len = (limb_count as u64).wrapping_mul(64);
     let parameters = format!(in rt.alloc(); "n={len} ones={percent}%")?;
-    let series = |operation| Series {
+    let series = Series {
         structure: "bits",
-        operation,
+        operation: "build",
         parameters: parameters.as_str(),
     };
     let limbs = limbs(rt.alloc(), limb_count, percent)?;
-    let bits = build(rt, settings, &series("build"), limbs.as_slice())?;
-    print_line(
+    let bits = build(rt, settings, &series, limbs.as_slice())?;
+    print_size(
         rt,
         settings,
-        &series("heap_overhead_percent"),
+        &series.of("heap_overhead_percent"),
         overhead(&bits),
-        0,
     )?;
     let queries = queries_of(rt, &bits, query_count)?;
-    let (places, ones, zeros) = (
-        queries.places.as_slice(),
-        queries.ones.as_slice(),
-        queries.zeros.as_slice(),
-    );
-    let count = query_count as u64;
-    run_series(
-        rt,
-        settings,
-        &series("rank1"),
-        count,
-        || rank1_pass(&bits, places),
-    )?;
-    run_series(
-        rt,
-        settings,
-        &series("rank1_chained"),
-        count,
-        || rank1_chained_pass(&bits, places),
-    )?;
-    run_series(
-        rt,
-        settings,
-        &series("select1"),
-        count,
-        || select1_pass(&bits, ones),
-    )?;
-    run_series(
-        rt,
-        settings,
-        &series("select1_chained"),
-        count,
-        || select1_chained_pass(&bits, ones),
-    )?;
-    run_series(
-        rt,
-        settings,
-        &series("select0"),
-        count,
-        || select0_pass(&bits, zeros),
-    )?;
-    let all_ones = bits.rank1(bits.len()) as u64;
-    run_series(
-        rt,
-        settings,
-        &series("iter1"),
-        all_ones,
-        || iter1_pass(&bits),
-    )
+    run_ranks(rt, settings, &series, &bits, queries.places.as_slice())?;
+    run_selects(rt, settings, &series, &bits, &queries)
 }

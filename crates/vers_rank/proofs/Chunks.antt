@@ -74,7 +74,7 @@ pub chunk_gave : (bits : List Bool) (walk : ChunkWalk) (old : List ℕ) → IsCh
     → beq (eqb (walk.chunk % 2) 1) walk.bit ≡ true → TakesFirst old (Some walk.place) (places_from walk.bit bits (walk.place + 1))
 chunk_gave bits walk old is more left test =
     let first : old ≡ walk.place ∷ places_from walk.bit bits (walk.place + 1) =
-      sym left ∙ places_from_yes walk.bit bits walk.place (omega (arith, is.within)) (tested bits walk true is more test) in
+    sym left ∙ places_from_yes walk.bit bits walk.place (omega (arith, is.within)) (tested bits walk true is more test) in
     rw first (record { given = refl; left = refl })
 
 pub chunk_skipped : (bits : List Bool) (walk : ChunkWalk) (old : List ℕ) → IsChunkWalkOf bits walk → walk.place < walk.end → places_from walk.bit bits walk.place ≡ old

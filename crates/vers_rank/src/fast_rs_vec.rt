@@ -15,13 +15,12 @@ mod select_into_iter;
 mod select_iter;
 mod walk;
 
+use crate::build::{add_entries, samples};
 pub use bit_set_iter::BitSetIter;
 pub use into_iter::RsVecIter;
 pub use iter::RsVecRefIter;
 pub use select_into_iter::SelectIntoIter;
 pub use select_iter::SelectIter;
-
-use crate::build::{add_entries, samples};
 use std::alloc::{AllocError, Allocator};
 use std::marker::Model;
 use vers_bits::bit_vec::{BitVec, MAX_LEN};

@@ -77,12 +77,7 @@ impl PlaceWalk {
 
 // The place of number `r` of the zeros or the ones.
 #[inline]
-fn place_of<A: Allocator + Copy>(
-    bits: &RsVec<A>,
-    bit: bool,
-    r: usize,
-    tally: &mut Tally,
-) -> usize
+fn place_of<A: Allocator + Copy>(bits: &RsVec<A>, bit: bool, r: usize, tally: &mut Tally) -> usize
     ensures value { result ≡ select bit bits.now r }
     ensures adds { AddsAtMost tally.old tally.new (select_reads (superblock_count (length bits.now))) }
 {

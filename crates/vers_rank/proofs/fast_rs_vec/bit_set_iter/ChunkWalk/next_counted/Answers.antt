@@ -9,14 +9,13 @@ returns-then-is_one-self-clause-walk g c = chunk_passed c.args.bits.now c.load.n
 pub returns-then-is_one-self-clause-steps : goal.returns-then-is_one-self-clause-steps
 returns-then-is_one-self-clause-steps g c =
     let left : chunk_places_left c.args.bits.now c.load.new.self ≡ chunk_places_left c.args.bits.now c.args.self.now =
-      rw (c.load.ensures.same_bit, c.load.ensures.same_place) c.loop-self.invariant.1 in
+    rw (c.load.ensures.same_bit, c.load.ensures.same_place) c.loop-self.invariant.1 in
     chunk_gave c.args.bits.now c.load.new.self _ c.load.ensures.walk c.load.ensures.more left c.if-is_one-self.true
 
 pub loop-self-preserved : goal.loop-self-preserved
 loop-self-preserved g c =
     let left : chunk_places_left c.args.bits.now c.load.new.self ≡ chunk_places_left c.args.bits.now c.args.self.now =
-      rw (c.load.ensures.same_bit, c.load.ensures.same_place) c.loop-self.invariant.1 in
-    (
+    rw (c.load.ensures.same_bit, c.load.ensures.same_place) c.loop-self.invariant.1 in (
       chunk_passed c.args.bits.now c.load.new.self c.load.ensures.walk c.load.ensures.more,
       chunk_skipped c.args.bits.now c.load.new.self _ c.load.ensures.walk c.load.ensures.more left c.if-is_one-self.false,
       omega (arith, c.load.ensures.loads, c.loop-self.invariant.2),
