@@ -47,24 +47,37 @@ fn read_settings(rt: &HostRuntime) -> io::Result<Settings> {
     })
 }
 
-// The sizes of a list of bits, in limbs, and the number of queries.
-fn bits_sizes(mode: Mode) -> ([usize; 2], usize) {
-    match mode {
-        Mode::Checksums => ([256, 1024], 1000),
+/// How large the series of lists of bits are.
+#[derive(Drop)]
+struct BitsSizes {
+    limb_counts: Vec<usize>,
+    query_count: usize,
+}
+
+fn bits_sizes(rt: &HostRuntime, mode: Mode) -> io::Result<BitsSizes> {
+    let (small, large, queries) = (16_384, 1_048_576, 1_000_000);
+    Ok(match mode {
+        Mode::Checksums => BitsSizes {
+            limb_counts: vec![in rt.alloc(); small / 16]?,
+            query_count: queries / 16,
+        },
         Mode::Times { divisor, .. } => {
             let divisor = divisor.max(1);
-            ([16_384 / divisor, 1_048_576 / divisor], 1_000_000 / divisor)
+            BitsSizes {
+                limb_counts: vec![in rt.alloc(); small / divisor, large / divisor]?,
+                query_count: queries / divisor,
+            }
         }
-    }
+    })
 }
 
 fn main(rt: HostRuntime) -> io::Result<()> {
     let settings = read_settings(&rt)?;
     if settings.wants("bits") {
-        let (limb_counts, query_count) = bits_sizes(settings.mode);
-        for limb_count in limb_counts {
+        let sizes = bits_sizes(&rt, settings.mode)?;
+        for limb_count in sizes.limb_counts.iter() {
             for percent in [50, 5] {
-                bits::run(&rt, &settings, limb_count, percent, query_count)?;
+                bits::run(&rt, &settings, *limb_count, percent, sizes.query_count)?;
             }
         }
     }

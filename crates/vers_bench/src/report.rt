@@ -53,6 +53,26 @@ pub struct Series<'a> {
     pub parameters: &'a str,
 }
 
+impl<'a> Series<'a> {
+    /// Another operation on the same structure and data.
+    pub fn of(&self, operation: &'a str) -> Series<'a> {
+        Series { operation, ..*self }
+    }
+}
+
+/// Prints a size in thousandths, where times are asked for: it is no series, and has no checksum.
+pub fn print_size(
+    rt: &HostRuntime,
+    settings: &Settings,
+    series: &Series,
+    thousandths: u64,
+) -> io::Result<()> {
+    match settings.mode {
+        Mode::Checksums => Ok(()),
+        Mode::Times { .. } => print_line(rt, settings, series, thousandths, 0),
+    }
+}
+
 /// Prints the line of a series: nanoseconds an operation in thousandths, and the checksum.
 pub fn print_line(
     rt: &HostRuntime,
