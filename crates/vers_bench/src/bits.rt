@@ -57,11 +57,8 @@ fn select0_pass(bits: &Bits, numbers: &[u64]) -> u64 {
 }
 
 fn iter1_pass(bits: &Bits) -> u64 {
-    let mut sum = 0u64;
-    for place in bits.iter1() {
-        sum = sum.wrapping_add(place as u64);
-    }
-    sum
+    bits.iter1()
+        .fold(0u64, |sum, place| sum.wrapping_add(place as u64))
 }
 
 /// The queries of a list: places, numbers of ones and numbers of zeros.
