@@ -61,6 +61,7 @@ fn places_past_the_first_limb(rt: HostRuntime) -> Result<(), Fail> {
 #[test]
 fn parts_of_64_zeros(rt: HostRuntime) -> Result<(), Fail> {
     let list = RsVec::from_bit_vec(BitVec::from_limbs(rt.alloc(), &[0])?)?;
+    assert_eq!(rt; list.len(), 64);
     assert_eq!(rt; list.get_bits(64, 0), Some(0));
     assert_eq!(rt; list.get_bits(65, 0), None);
     assert_eq!(rt; list.get_bits(0, 64), Some(0));
@@ -81,6 +82,13 @@ fn neighbours_in_0110(rt: HostRuntime) -> Result<(), Fail> {
     assert_eq!(rt; list.successor0(0), Some(3));
     assert_eq!(rt; list.predecessor0(3), Some(0));
     assert_eq!(rt; list.predecessor0(usize::MAX), Some(3));
+    Ok(())
+}
+
+#[test]
+fn parts_of_0110(rt: HostRuntime) -> Result<(), Fail> {
+    let list = RsVec::from_bit_vec(list_of(rt.alloc(), &[false, true, true, false])?)?;
+    assert_eq!(rt; list.len(), 4);
     assert_eq!(rt; list.get_unchecked(2), 1);
     assert_eq!(rt; list.get_bits(1, 2), Some(3));
     assert_eq!(rt; list.get_bits_unchecked(0, 4), 6);
