@@ -4,13 +4,14 @@
 - Public items of a library have a doc comment, and each module file says in its first line what it is.
 - Files stay below 800 lines, and functions below 60, but for tests, which may list many cases.
 - `crates.txt` lists the folders of `crates/`, each once.
-- Each public function that computes something is reached by a wrong body: some edit of the crate's `must-fail/`
-  changes it, or a function of the crate that it calls. A body computes something unless it is empty, reads a
-  field, or hands its arguments on to one call.
 - Nothing cites a label of a paper or a path of one machine, and the links of the documents lead somewhere.
 
 Exit status 1 where a rule is broken, with a line for each place. `--self-test` breaks each rule in a small
 repository of its own and wants every break found.
+
+`--wrong-bodies` lists the public functions that compute something and that no wrong body reaches: no edit of the
+crate's `must-fail/` changes them, or a function of the crate that they call. A body computes something unless it is
+empty, reads a field, or hands its arguments on to one call.
 """
 import os
 import re
@@ -102,15 +103,25 @@ def without_wrong_body(top, crate, sources):
             yield f"{path}:{function.line}: no wrong body reaches {function.name}"
 
 
+def sources_of(top, crate, files):
+    """Returns the sources of a crate by their paths."""
+    return {path: read(os.path.join(top, path)) for path in files if path.startswith(f"crates/{crate}/src/") and path.endswith(".rt")}
+
+
 def crate_faults(top, crate, files):
     """Yields what is broken in the sources of one crate."""
-    sources = {path: read(os.path.join(top, path)) for path in files if path.startswith(f"crates/{crate}/src/") and path.endswith(".rt")}
-    for path, text in sources.items():
+    for path, text in sources_of(top, crate, files).items():
         yield from too_long(path, text, crate.endswith("_tests"))
         if not os.path.basename(path) == "main.rt":
             yield from undocumented(path, text)
-    if not crate.startswith("test_") and not crate.endswith("_tests"):
-        yield from without_wrong_body(top, crate, sources)
+
+
+def missing_wrong_bodies(top):
+    """Yields a line for each public function of the repository at `top` that wants a wrong body."""
+    files = listed_files(top)
+    for crate in sorted({path.split("/")[1] for path in files if path.startswith("crates/")}):
+        if not crate.startswith("test_") and not crate.endswith("_tests"):
+            yield from without_wrong_body(top, crate, sources_of(top, crate, files))
 
 
 def faults(top):
@@ -169,7 +180,7 @@ def self_test():
                     text = text.replace(old, new)
                 with open(os.path.join(top, name), "w", encoding="utf-8") as file:
                     file.write(text)
-            said = list(faults(top))
+            said = list(faults(top)) + list(missing_wrong_bodies(top))
             assert any(want in line for line in said) if want else not said, (want, said)
     print("text rules: each planted fault is found")
 
@@ -177,6 +188,9 @@ def self_test():
 def main():
     if "--self-test" in sys.argv:
         self_test()
+        return 0
+    if "--wrong-bodies" in sys.argv:
+        print("\n".join(missing_wrong_bodies(".")))
         return 0
     said = list(faults("."))
     print("\n".join(said) or "text rules: ok")
