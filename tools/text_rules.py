@@ -24,7 +24,7 @@ from rattle_text import blanked, functions, without_tests
 LONGEST_FILE = 800
 LONGEST_FUNCTION = 60
 LABEL = re.compile(r"(?<![\w-])[DFRTW][12]?\d(?![\w-])")
-MACHINE_PATH = re.compile(r"(?<![\w./-])/(?:work|opt|tmp|home|root)/")
+MACHINE_PATH = re.compile(r"(?<![\w./-])/(?:work|opt|tmp|home|root|srv)/")
 PUBLIC = re.compile(r"(?m)^[ \t]*pub (?:const )?(?:unsafe )?(fn|struct|enum|trait|const|static|type) (\w+)")
 PASSES_ON = re.compile(r"\{\s*(?:[\w.:&*]+(?:::<\w+>)?(?:\([\w\s,&.*]*\))?\s*)?\}")
 LINK = re.compile(r"\]\(([^)#:\s]+)(?:#[^)]*)?\)")
@@ -162,8 +162,8 @@ BREAKS = {
     "has 64 lines": ("crates/low/src/lib.rt", "    x + 1\n", "    x + 1\n" + "\n" * 61),
     " lines": ("crates/low/src/lib.rt", "//! A crate.\n", "//! A crate.\n" + "\n" * 800),
     "crates.txt lists": ("crates.txt", "low:", "high:"),
-    "cites W7": ("docs/PAGE.md", "A page.", "As W7 says."),
-    "cites /opt/": ("docs/PAGE.md", "A page.", "In /opt/kit."),
+    "cites F7": ("docs/PAGE.md", "A page.", "As F7 says."),
+    "cites /srv/": ("docs/PAGE.md", "A page.", "In /srv/kit."),
     "leads nowhere": ("README.md", "docs/PAGE.md", "docs/NONE.md"),
 }
 

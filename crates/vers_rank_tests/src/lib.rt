@@ -3,5 +3,3 @@
 
 #[cfg(test)]
 mod basic;
-#[cfg(test)]
-mod memory;
