@@ -6,6 +6,7 @@
 #![tactic(auto)]
 
 mod bits;
+mod lists;
 mod report;
 mod workload;
 
@@ -79,6 +80,12 @@ fn main(rt: HostRuntime) -> io::Result<()> {
             for percent in [50, 5] {
                 bits::run(&rt, &settings, *limb_count, percent, sizes.query_count)?;
             }
+        }
+    }
+    if settings.wants("list") {
+        let sizes = bits_sizes(&rt, settings.mode)?;
+        for limb_count in sizes.limb_counts.iter() {
+            lists::run(&rt, &settings, *limb_count, sizes.query_count)?;
         }
     }
     Ok(())
