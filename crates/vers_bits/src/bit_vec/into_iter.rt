@@ -101,7 +101,9 @@ impl<A: Allocator + Copy> Iterator for BitVecIter<A> {
         self.nth(0)
     }
 
-    fn size_hint(&self) -> (usize, Option<usize>) {
+    fn size_hint(&self) -> (usize, Option<usize>)
+        ensures exact { result ≡ (length self.now, Some (length self.now)) }
+    {
         let len = self.len();
         (len, Some(len))
     }

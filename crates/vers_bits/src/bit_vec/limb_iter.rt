@@ -112,7 +112,9 @@ impl<'a, A: Allocator + Copy> Iterator for LimbIter<'a, A> {
         self.nth(0)
     }
 
-    fn size_hint(&self) -> (usize, Option<usize>) {
+    fn size_hint(&self) -> (usize, Option<usize>)
+        ensures exact { result ≡ (length self.now, Some (length self.now)) }
+    {
         let len = self.len();
         (len, Some(len))
     }
