@@ -126,5 +126,8 @@ pub ruleset limb_search = (held_more, held_up)
 pub half_left : (n : ℕ) → 1 < n → digits (n - n / 2 - 1) + 1 ≤ digits (n - 1)
 half_left n h = digits_halved (n - n / 2 - 1) (n - 1) (omega arith) (omega arith)
 
+-- a few steps, and then halves
+pub ruleset steps = (digits_up)
+
 -- halving a range, within the budget of its digits
 pub ruleset halves = (half_left, count_up)

@@ -8,6 +8,9 @@ use super::{BLOCK, RsVec};
 use std::alloc::Allocator;
 use vers_tally::tally::Tally;
 
+/// From how many bits on a list is not expected to lie in a cache near the processor.
+const LARGE: usize = 1 << 23;
+
 impl<A: Allocator + Copy> RsVec<A> {
     /// How many zeros stand below a place. Past the end all zeros count.
     #[inline]
@@ -74,16 +77,17 @@ impl<A: Allocator + Copy> RsVec<A> {
         self.blocks.read(block, tally) as usize + self.superblocks.read(block / 16, tally) as usize
     }
 
-    // The ones from the start of a block up to a place in it. A block of 8 limbs is counted with
-    // no branch on the place: limbs past it are read, and left out of the sum.
+    // The ones from the start of a block up to a place in it. In a short list, a block of 8 limbs
+    // is counted with no branch on the place, which would be guessed wrong: limbs past it are read,
+    // and left out of the sum. In a long one what counts is to wait for no cache line past it.
     #[inline(always)]
     fn ones_in_block(&self, block: usize, place: usize, tally: &mut Tally) -> usize
         requires within { (512 * block ≤ place) × (place < 512 * block + 512) × (place < length self.now) }
         ensures value { count true self.now (512 * block) + result ≡ count true self.now place }
         ensures adds { AddsAtMost tally.old tally.new (only_data_words 8) }
     {
-        if self.len() - BLOCK * block < BLOCK {
-            return self.ones_in_last_block(block, place, tally);
+        if self.len() >= LARGE || self.len() - BLOCK * block < BLOCK {
+            return self.ones_limb_by_limb(block, place, tally);
         }
         let mut ones = 0;
         for k in 8 * block..8 * block + 7 {
@@ -92,9 +96,9 @@ impl<A: Allocator + Copy> RsVec<A> {
         ones + self.ones_of_part(place, tally)
     }
 
-    // The ones from the start of the last block up to a place in it.
-    #[inline]
-    fn ones_in_last_block(&self, block: usize, place: usize, tally: &mut Tally) -> usize
+    // The same, and no limb past the place is read.
+    #[inline(always)]
+    fn ones_limb_by_limb(&self, block: usize, place: usize, tally: &mut Tally) -> usize
         requires within { (512 * block ≤ place) × (place < 512 * block + 512) × (place < length self.now) }
         ensures value { count true self.now (512 * block) + result ≡ count true self.now place }
         ensures adds { AddsAtMost tally.old tally.new (only_data_words 8) }

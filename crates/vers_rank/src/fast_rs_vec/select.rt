@@ -1,5 +1,5 @@
 //! The places of zeros and ones.
-ghost use Rattle.std.specs.Prelude.{◌≡◌, ℕ, ◌+◌, ◌-◌, ◌*◌, ◌/◌, ◌<◌, ◌≤◌, length, min, true, false};
+ghost use Rattle.std.specs.Prelude.{◌≡◌, ℕ, ◌+◌, ◌-◌, ◌*◌, ◌/◌, ◌^◌, ◌<◌, ◌≤◌, length, min, true, false};
 ghost use Rattle.vers_bits.specs.Bits.{count, limb, select};
 ghost use Rattle.vers_tally.specs.Reads.{no_reads, one_more, only_block_entries, only_superblock_entries, only_data_words, digits, AddsAtMost};
 ghost use Rattle.vers_rank.specs.Queries.{superblock_count, select_reads};
@@ -19,6 +19,9 @@ const BLOCKS: usize = SUPERBLOCK / BLOCK;
 /// Up to how many superblocks a search looks at one after the other.
 const FEW: usize = 4;
 
+/// How many superblocks from the one that is guessed a search looks at before it goes by halves.
+const STEPS: usize = 4;
+
 // A limb, and how many places of its block before it hold a bit.
 #[derive(Clone, Copy)]
 struct Found {
@@ -32,6 +35,16 @@ pub(super) struct InWord {
     pub(super) limb: usize,
     pub(super) word: u64,
     pub(super) place: usize,
+}
+
+// Which of the `n` superblocks between two samples has number `r`, if each of them holds as many.
+#[inline(always)]
+fn guessed(r: usize, n: usize) -> usize
+    requires some { 0 < n }
+    requires few { 8192 * (n - 1) < 2 ^ 64 }
+    ensures { result < n }
+{
+    (r % SUPERBLOCK * (n - 1) + SUPERBLOCK / 2) / SUPERBLOCK
 }
 
 impl<A: Allocator + Copy> RsVec<A> {
@@ -166,12 +179,102 @@ impl<A: Allocator + Copy> RsVec<A> {
         ensures within { 8192 * result < length self.now }
         ensures from { count bit self.now (8192 * result) ≤ r }
         ensures to { r < count bit self.now (8192 * (result + 1)) }
-        ensures adds { AddsAtMost tally.old tally.new (only_superblock_entries (digits (superblock_count (length self.now)) + 5)) }
+        ensures adds { AddsAtMost tally.old tally.new (only_superblock_entries (digits (superblock_count (length self.now)) + 10)) }
     {
         let _ = &self.bits;
         let first = self.sample(bit, r / SUPERBLOCK, tally);
         let last = self.sample(bit, r / SUPERBLOCK + 1, tally);
-        self.superblock_among(bit, r, first, last + 1 - first, tally)
+        self.superblock_guessed(bit, r, first, last + 1 - first, tally)
+    }
+
+    // The superblock of number `r` among the `n` from `first` on: where there are many, it is
+    // guessed as if each of them held as many, and looked for near the guess.
+    #[inline(always)]
+    #[tactic(auto, using(crate::proofs::Selects::steps))]
+    fn superblock_guessed(
+        &self,
+        bit: bool,
+        r: usize,
+        first: usize,
+        n: usize,
+        tally: &mut Tally,
+    ) -> usize
+        requires some { 0 < n }
+        requires within { 8192 * (first + n) < length self.now + 8192 }
+        requires from { count bit self.now (8192 * first) ≤ r }
+        requires to { r < count bit self.now (8192 * (first + n)) }
+        ensures within { 8192 * result < length self.now }
+        ensures from { count bit self.now (8192 * result) ≤ r }
+        ensures to { r < count bit self.now (8192 * (result + 1)) }
+        ensures adds { AddsAtMost tally.old tally.new (only_superblock_entries (digits (n - 1) + 8)) }
+    {
+        let _ = &self.bits;
+        if n <= FEW {
+            return self.superblock_among(bit, r, first, n, tally);
+        }
+        let guess = guessed(r, n);
+        if self.count_at_superblock(bit, first + guess, tally) <= r {
+            return self.superblock_from(bit, r, first + guess, n - guess, tally);
+        }
+        self.superblock_before(bit, r, first, guess, tally)
+    }
+
+    // The superblock of number `r` among the `n` from `first` on, which is looked for near the first.
+    #[inline(always)]
+    #[tactic(auto, using(crate::proofs::Selects::steps))]
+    fn superblock_from(
+        &self,
+        bit: bool,
+        r: usize,
+        first: usize,
+        n: usize,
+        tally: &mut Tally,
+    ) -> usize
+        requires some { 0 < n }
+        requires within { 8192 * (first + n) < length self.now + 8192 }
+        requires from { count bit self.now (8192 * first) ≤ r }
+        requires to { r < count bit self.now (8192 * (first + n)) }
+        ensures within { 8192 * result < length self.now }
+        ensures from { count bit self.now (8192 * result) ≤ r }
+        ensures to { r < count bit self.now (8192 * (result + 1)) }
+        ensures adds { AddsAtMost tally.old tally.new (only_superblock_entries (digits (n - 1) + 7)) }
+    {
+        let _ = &self.bits;
+        for step in 1..STEPS + 1 {
+            if step >= n || self.count_at_superblock(bit, first + step, tally) > r {
+                return first + step - 1;
+            }
+        }
+        self.superblock_among(bit, r, first + STEPS, n - STEPS, tally)
+    }
+
+    // The superblock of number `r` among the `n` from `first` on, which is looked for near the last.
+    #[inline(always)]
+    #[tactic(auto, using(crate::proofs::Selects::steps))]
+    fn superblock_before(
+        &self,
+        bit: bool,
+        r: usize,
+        first: usize,
+        n: usize,
+        tally: &mut Tally,
+    ) -> usize
+        requires some { 0 < n }
+        requires within { 8192 * (first + n) < length self.now + 8192 }
+        requires from { count bit self.now (8192 * first) ≤ r }
+        requires to { r < count bit self.now (8192 * (first + n)) }
+        ensures within { 8192 * result < length self.now }
+        ensures from { count bit self.now (8192 * result) ≤ r }
+        ensures to { r < count bit self.now (8192 * (result + 1)) }
+        ensures adds { AddsAtMost tally.old tally.new (only_superblock_entries (digits (n - 1) + 7)) }
+    {
+        let _ = &self.bits;
+        for step in 1..STEPS + 1 {
+            if step >= n || self.count_at_superblock(bit, first + n - step, tally) <= r {
+                return first + n - step;
+            }
+        }
+        self.superblock_among(bit, r, first, n - STEPS, tally)
     }
 
     // The superblock of number `r` among the `n` from `first` on: by halves while there are many, and then one after

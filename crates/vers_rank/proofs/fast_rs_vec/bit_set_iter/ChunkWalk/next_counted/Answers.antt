@@ -1,5 +1,5 @@
 use Rattle.std.proofs.Common.{◌≡◌, arith}
-use Rattle.vers_rank.specs.Walks.{chunk_places_left, chunks_unread}
+use Rattle.vers_rank.specs.Walks.{chunk_places_left}
 use Rattle.vers_rank.proofs.Chunks.{chunk_passed, chunk_gave, chunk_skipped, chunk_ended, chunk_reads_then}
 use Rattle.vers_rank.proofs.fast_rs_vec.bit_set_iter.ChunkWalk.next_counted.Goals as goal
 

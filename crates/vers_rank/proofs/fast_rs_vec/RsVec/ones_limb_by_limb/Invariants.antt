@@ -1,7 +1,7 @@
 use Rattle.std.proofs.Common.{◌≡◌, ◌+◌, ◌-◌, ◌*◌, ◌/◌, ◌≤◌, min, true}
 use Rattle.vers_bits.specs.Bits.{count}
 use Rattle.vers_tally.specs.Reads.{only_data_words, AddsAtMost}
-use Rattle.vers_rank.proofs.fast_rs_vec.RsVec.ones_in_last_block.Given as goal
+use Rattle.vers_rank.proofs.fast_rs_vec.RsVec.ones_limb_by_limb.Given as goal
 
 abbrev pub invariant-loop-k : goal.invariant-loop-k
 invariant-loop-k g l =

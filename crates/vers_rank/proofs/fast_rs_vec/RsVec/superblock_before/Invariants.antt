@@ -1,0 +1,12 @@
+use Rattle.std.proofs.Common.{◌+◌, ◌-◌, ◌*◌, ◌<◌, ◌≤◌}
+use Rattle.vers_bits.specs.Bits.{count}
+use Rattle.vers_tally.specs.Reads.{only_superblock_entries, AddsAtMost}
+use Rattle.vers_rank.proofs.fast_rs_vec.RsVec.superblock_before.Given as goal
+
+abbrev pub invariant-loop-step : goal.invariant-loop-step
+invariant-loop-step g l =
+    record {
+      some : l.step ≤ l.n;
+      to : l.r < count l.bit l.self (8192 * (l.first + (l.n - (l.step - 1))));
+      adds : AddsAtMost l.fn.tally l.tally (only_superblock_entries (l.step - 1));
+    }
