@@ -1,5 +1,9 @@
-//! Tests of ranks and selects.
+//! Tests of lists of bits with ranks and selects, and of their iterators.
 #![tactic(auto)]
 
 #[cfg(test)]
 mod basic;
+#[cfg(test)]
+mod lists;
+#[cfg(test)]
+mod queries;
