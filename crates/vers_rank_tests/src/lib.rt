@@ -4,6 +4,10 @@
 #[cfg(test)]
 mod basic;
 #[cfg(test)]
+mod compared;
+#[cfg(test)]
 mod lists;
+#[cfg(test)]
+mod plain;
 #[cfg(test)]
 mod queries;
