@@ -6,6 +6,8 @@ mod basic;
 #[cfg(test)]
 mod compared;
 #[cfg(test)]
+mod iterators;
+#[cfg(test)]
 mod lists;
 #[cfg(test)]
 mod plain;
