@@ -6,9 +6,13 @@ mod basic;
 #[cfg(test)]
 mod compared;
 #[cfg(test)]
+mod counted;
+#[cfg(test)]
 mod iterators;
 #[cfg(test)]
 mod lists;
+#[cfg(test)]
+mod memory;
 #[cfg(test)]
 mod plain;
 #[cfg(test)]
