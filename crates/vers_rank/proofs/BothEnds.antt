@@ -6,6 +6,7 @@ use Rattle.vers_bits.specs.Bits.{bit_value, count, places, select}
 use Rattle.vers_bits.specs.declared.walk.Span.{Span}
 use Rattle.vers_bits.specs.Walk.{TakesNth, TakesNthBack, items_in}
 use Rattle.vers_bits.proofs.Places.{length-places}
+use Rattle.vers_rank.proofs.Reading.{no_reading}
 use Rattle.vers_bits.proofs.BothEnds.{all_items, gave, gave_back, all_bits, bits_left, length-items_in, last_is, yields_first, yields_last, goes_first, goes_last}
 
 -- a truth value as a number
@@ -38,7 +39,7 @@ gave_place_back n b bits s t {p = p} {x = x} within some is =
 pub ruleset left = (length-items_in, last_is)
 
 -- all places
-pub ruleset walks = (all_places, length-places)
+pub ruleset walks = (all_places, length-places, no_reading)
 
 -- makers, lengths and the last item
 pub ruleset lists = (all_bits, bits_left, length-items_in, last_is)

@@ -7,3 +7,4 @@ pub mod BothEnds
 pub mod Chunks
 pub mod Neighbours
 pub mod Equal
+pub mod Reading

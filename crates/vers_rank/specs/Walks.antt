@@ -1,8 +1,10 @@
 -- Iterators over the places of the ones (or zeros) of an indexed list.
-use Rattle.std.specs.Prelude.{◌≡◌, ℕ, ◌+◌, ◌-◌, ◌*◌, ◌/◌, ◌≤◌, Bool, List, length, drop}
-use Rattle.vers_bits.specs.Bits.{number, part, count, places}
+use Rattle.std.specs.Prelude.{◌≡◌, ℕ, ◌+◌, ◌-◌, ◌*◌, ◌/◌, ◌<◌, ◌≤◌, Bool, true, false, List, length, drop, slice_index_or, if◌then◌else◌}
+use Rattle.std.specs.Int.{bit_at}
+use Rattle.vers_bits.specs.Bits.{is_bit, number, part, count, places}
 use Rattle.vers_bits.specs.Walk.{items_in}
 use Rattle.vers_tally.specs.Reads.{Reads, no_reads}
+use Rattle.vers_rank.specs.declared.fast_rs_vec.reader.Reader.{Reader}
 use Rattle.vers_rank.specs.declared.fast_rs_vec.walk.PlaceWalk.{PlaceWalk}
 use Rattle.vers_rank.specs.declared.fast_rs_vec.bit_set_iter.ChunkWalk.{ChunkWalk}
 
@@ -15,9 +17,27 @@ pub record PlacesOf : Type 0 where
 abbrev pub places_left : List Bool → PlaceWalk → List ℕ
 places_left bits walk = items_in (places walk.bit bits) walk.span
 
+-- place p holds the bit, and at least n places before it do
+pub record IsFrom (bit : Bool) (bits : List Bool) (n p : ℕ) : Type 0 where
+  pub inside : p < length bits
+  pub holds : is_bit bit (slice_index_or bits p false) ≡ true
+  pub number : n ≤ count bit bits p
+
+-- the ones of the word are the places of the limb from number next on; an empty word says nothing of the limb
+pub record IsReading (bit : Bool) (bits : List Bool) (reader : Reader) : Type 0 where
+  pub fits : reader.word < 18446744073709551616
+  pub before : count bit bits (64 * reader.limb) ≤ reader.next
+  pub sound : (i : ℕ) → i < 64 → bit_at reader.word i ≡ 1 → 64 * reader.limb + i < length bits → IsFrom bit bits reader.next (64 * reader.limb + i)
+  pub complete : 0 < reader.word → (i : ℕ) → i < 64 → IsFrom bit bits reader.next (64 * reader.limb + i) → bit_at reader.word i ≡ 1
+
+-- a word, or its complement where zeros are asked for
+abbrev pub marked : Bool → ℕ → ℕ
+marked bit word = if bit then word else 18446744073709551615 - word
+
 -- the walk is one over the places of the list
 pub record IsWalkOf (bits : List Bool) (walk : PlaceWalk) : Type 0 where
   pub within : walk.span.to ≤ length (places walk.bit bits)
+  pub front : IsReading walk.bit bits walk.front
 
 -- ---- chunks of 16 bits
 

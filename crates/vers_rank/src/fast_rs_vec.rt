@@ -10,6 +10,7 @@ mod into_iter;
 mod iter;
 mod neighbours;
 mod rank;
+mod reader;
 mod select;
 mod select_into_iter;
 mod select_iter;

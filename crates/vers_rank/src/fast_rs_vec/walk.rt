@@ -7,6 +7,7 @@ ghost use Rattle.vers_rank.specs.Queries.{superblock_count, select_reads};
 ghost use Rattle.vers_rank.specs.Walks.{places_left, IsWalkOf};
 
 use super::RsVec;
+use super::reader::Reader;
 use std::alloc::Allocator;
 use vers_bits::walk::Span;
 use vers_tally::tally::Tally;
@@ -16,6 +17,7 @@ use vers_tally::tally::Tally;
 pub(super) struct PlaceWalk {
     pub(super) bit: bool,
     pub(super) span: Span,
+    pub(super) front: Reader,
 }
 
 impl PlaceWalk {
@@ -29,6 +31,11 @@ impl PlaceWalk {
         PlaceWalk {
             bit,
             span: Span::below(count),
+            front: Reader {
+                word: 0,
+                limb: 0,
+                next: 0,
+            },
         }
     }
 
@@ -54,7 +61,7 @@ impl PlaceWalk {
         ensures adds { AddsAtMost tally.old tally.new (select_reads (superblock_count (length bits.now))) }
     {
         let r = self.span.nth(n)?;
-        Some(place_of(bits, self.bit, r, tally))
+        Some(self.front.place(self.bit, r, bits, tally))
     }
 
     // Drops `n` places from the back and takes the next, by the reads of one select.

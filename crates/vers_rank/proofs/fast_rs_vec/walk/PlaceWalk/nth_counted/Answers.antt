@@ -1,5 +1,6 @@
-use Rattle.std.proofs.Common.{refl}
+use Rattle.std.proofs.Common.{refl, arith}
 use Rattle.vers_bits.specs.Bits.{places}
+use Rattle.vers_bits.proofs.Places.{length-places}
 use Rattle.vers_bits.proofs.BothEnds.{ended}
 use Rattle.vers_rank.proofs.BothEnds.{gave_place}
 use Rattle.vers_rank.proofs.fast_rs_vec.walk.PlaceWalk.nth_counted.Goals as goal
@@ -10,4 +11,7 @@ returns-in_err-r-clause-steps g c =
 
 pub returns-clause-steps : goal.returns-clause-steps
 returns-clause-steps g c =
-    gave_place c.args.n c.args.self.now.bit c.args.bits.now c.args.self.now.span c.nth.new.self c.requires.within c.in_ok-r.ensures c.place_of.ensures.value
+    gave_place c.args.n c.args.self.now.bit c.args.bits.now c.args.self.now.span c.nth.new.self c.requires.within c.in_ok-r.ensures c.place.ensures.value
+
+pub place-requires-clause-some : goal.place-requires-clause-some
+place-requires-clause-some g c = omega (arith, c.requires.within, length-places c.args.self.now.bit c.args.bits.now, c.in_ok-r.ensures)

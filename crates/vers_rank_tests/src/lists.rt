@@ -1,0 +1,28 @@
+//! Lists of bits that the tests run over.
+use std::alloc::Allocator;
+use vers_bits::bit_vec::{BitVec, GrowError};
+use vers_rank::fast_rs_vec::RsVec;
+
+/// The same bits, indexed.
+pub fn indexed<A: Allocator + Copy>(bits: BitVec<A>) -> Result<RsVec<A>, GrowError> {
+    match RsVec::from_bit_vec(bits) {
+        Ok(list) => Ok(list),
+        Err(_) => Err(GrowError::Memory),
+    }
+}
+
+/// Runs of equal bits, one after another, indexed: each with its bit and its length.
+pub fn runs<A: Allocator + Copy>(alloc: A, runs: &[(bool, usize)]) -> Result<RsVec<A>, GrowError> {
+    let mut bits = BitVec::new(alloc);
+    for (bit, length) in runs {
+        for _ in 0..*length {
+            bits.append(*bit)?;
+        }
+    }
+    indexed(bits)
+}
+
+/// The bits 10110, indexed.
+pub fn list_10110<A: Allocator + Copy>(alloc: A) -> Result<RsVec<A>, GrowError> {
+    runs(alloc, &[(true, 1), (false, 1), (true, 2), (false, 1)])
+}
