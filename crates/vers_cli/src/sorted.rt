@@ -78,5 +78,8 @@ pub fn members_left<A: Allocator + Copy>(
 ) -> Result<Vec<u64, A>, AllocError>
     ensures { IfOk result (λ numbers. numbers.items ≡ members.entry.left) }
 {
-    members.collect(alloc)
+    // `collect` alone would go on where room for all at once is refused.
+    let mut numbers = Vec::with_capacity(alloc, members.len())?;
+    numbers.extend(members)?;
+    Ok(numbers)
 }
