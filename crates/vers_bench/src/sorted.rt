@@ -147,7 +147,14 @@ fn run_list(
     for _ in 0..query_count {
         values.push(first.wrapping_add(random.below(span)))?;
     }
-    run_queries(rt, settings, &series, &list, places.as_slice(), values.as_slice())
+    run_queries(
+        rt,
+        settings,
+        &series,
+        &list,
+        places.as_slice(),
+        values.as_slice(),
+    )
 }
 
 /// Runs all series over lists of `len` members: far apart, with many equal ones, and with a dense
@@ -161,11 +168,27 @@ pub fn run(
 ) -> io::Result<()> {
     let uniform = members_uniform(rt.alloc(), len)?;
     let past = uniform.last().copied().unwrap_or(0).wrapping_add(1);
-    run_list(rt, settings, "uniform", uniform.as_slice(), 0, past, query_count)?;
+    run_list(
+        rt,
+        settings,
+        "uniform",
+        uniform.as_slice(),
+        0,
+        past,
+        query_count,
+    )?;
     let Clustered { members, first } = members_clustered(rt.alloc(), len, true)?;
     let before = first.wrapping_sub(1);
     run_list(rt, settings, "equal", members.as_slice(), before, 3, few)?;
     let Clustered { members, first } = members_clustered(rt.alloc(), len, false)?;
     let span = (len as u64).saturating_mul(2) / 10;
-    run_list(rt, settings, "cluster", members.as_slice(), first, span, few)
+    run_list(
+        rt,
+        settings,
+        "cluster",
+        members.as_slice(),
+        first,
+        span,
+        few,
+    )
 }
