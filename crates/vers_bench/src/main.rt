@@ -8,6 +8,7 @@
 mod bits;
 mod lists;
 mod report;
+mod sorted;
 mod workload;
 
 use report::{Mode, Settings};
@@ -87,6 +88,14 @@ fn main(rt: HostRuntime) -> io::Result<()> {
         for limb_count in sizes.limb_counts.iter() {
             lists::run(&rt, &settings, *limb_count, sizes.query_count)?;
         }
+    }
+    if settings.wants("sorted") {
+        let divisor = match settings.mode {
+            Mode::Checksums => 16,
+            Mode::Times { divisor, .. } => divisor.max(1),
+        };
+        let len = 1_000_000 / divisor;
+        sorted::run(&rt, &settings, len, len, 2_000 / divisor)?;
     }
     Ok(())
 }

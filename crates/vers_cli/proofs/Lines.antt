@@ -4,13 +4,13 @@ use Rattle.std.proofs.lemmas.List.{append-nil}
 use Rattle.vers_cli.specs.declared.name.Name.{Name}
 use Rattle.vers_cli.specs.declared.name.Name.TheVariants as name
 use Rattle.vers_cli.specs.declared.name.Query.{Query}
-use Rattle.vers_cli.specs.declared.reply.Reply.{Reply}
-use Rattle.vers_cli.specs.declared.reply.Reply.TheVariants.{BadLine, WrongStructure}
 use Rattle.vers_cli.specs.Text.{words_of}
 use Rattle.vers_cli.specs.Name.{name_of}
-use Rattle.vers_cli.specs.Holding.{Holding, Nothing, BitsHeld}
-use Rattle.vers_cli.specs.Reply.{reply_text}
+use Rattle.vers_cli.specs.Holding.{Holding, Nothing, BitsHeld, SortedHeld, SparseHeld}
+use Rattle.vers_cli.specs.Reply.{PlainReply, BadLine, WrongStructure, reply_text}
 use Rattle.vers_cli.specs.BitsLines.{bits_reply}
+use Rattle.vers_cli.specs.SortedLines.{sorted_reply}
+use Rattle.vers_cli.specs.SparseLines.{sparse_reply}
 use Rattle.vers_cli.specs.Rules.{loaded, load_reply, IsQueryReply, IsReply}
 use Rattle.vers_cli.specs.Answers.{IsAnswerToWords, IsAnswerTo, holding_after, AnswersLines, holding_after_all}
 
@@ -30,12 +30,14 @@ pub AnswersLines-one : (h : Holding) (l t : List ℕ) → IsAnswerTo h l t → A
 AnswersLines-one h l t a = (t, [], a, refl, sym (append-nil t))
 
 -- each query line has some reply
-some_query_reply : (h : Holding) (q : Query) (arguments : List (List ℕ)) → (r : Reply) × IsQueryReply h q arguments r
+some_query_reply : (h : Holding) (q : Query) (arguments : List (List ℕ)) → (r : PlainReply) × IsQueryReply h q arguments r
 some_query_reply Nothing q arguments = (WrongStructure, refl)
 some_query_reply (BitsHeld bits) q arguments = (bits_reply bits q arguments, refl)
+some_query_reply (SortedHeld members) q arguments = (sorted_reply members q arguments, refl)
+some_query_reply (SparseHeld bits) q arguments = (sparse_reply bits q arguments, refl)
 
 -- each line with words has some reply
-some_reply : (h : Holding) (n : Option Name) (arguments : List (List ℕ)) → (r : Reply) × IsReply h n arguments r
+some_reply : (h : Holding) (n : Option Name) (arguments : List (List ℕ)) → (r : PlainReply) × IsReply h n arguments r
 some_reply h None arguments = (BadLine, refl)
 some_reply h (Some (name.Load l)) arguments = (load_reply (loaded l arguments), refl)
 some_reply h (Some (name.Query q)) arguments = some_query_reply h q arguments

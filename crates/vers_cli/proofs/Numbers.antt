@@ -1,5 +1,5 @@
 -- Numbers, found from the front of their digits.
-use Rattle.std.proofs.Common.{◌≡◌, ◌==◌, ◌+◌, ◌*◌, ◌-◌, ◌^◌, ◌<◌, ◌≤◌, ℕ, Bool, true, false, List, [], length, take, get_or, Some, None, refl, arith}
+use Rattle.std.proofs.Common.{◌≡◌, ◌==◌, ◌+◌, ◌*◌, ◌-◌, ◌^◌, ◌<◌, ◌≤◌, ℕ, Bool, true, false, List, [], ◌∷◌, zero, suc, map, length, take, get_or, Option, Some, None, refl, arith}
 use Rattle.std.proofs.Math.Bool.{◌&&◌}
 use Rattle.std.specs.List.{list_all}
 use Rattle.std.specs.Char.{is_ascii_digit, digit_value}
@@ -8,7 +8,9 @@ use Rattle.std.proofs.lemmas.Bool.{lt-ltb, le-ltb}
 use Rattle.std.proofs.lemmas.Bool.Decides.{nat_tests}
 use Rattle.std.proofs.lemmas.Int.Digits.{digits_value_more}
 use Rattle.std.proofs.lemmas.Str.Parse.{digits_value-take-le}
+use Rattle.std.specs.Prelude.{option_and_then}
 use Rattle.vers_cli.specs.Text.{number_of}
+use Rattle.vers_cli.specs.Arguments.{all_numbers}
 
 -- the value of a decimal digit is its distance from the digit 0
 pub digit_value-decimal : (b : ℕ) → is_ascii_digit b ≡ true → digit_value b ≡ b - 48
@@ -45,3 +47,23 @@ number_of-large w h = rw (le-ltb (digits_value 10 w) (2 ^ 64) h, and_false, and_
 pub number_of-small : (w : List ℕ) → (length w == 0) ≡ false → list_all is_ascii_digit w ≡ true → digits_value 10 w < 2 ^ 64 → number_of w ≡ Some (digits_value 10 w)
 unfolding number_of
 number_of-small w e a h = rw (lt-ltb (digits_value 10 w) (2 ^ 64) h, a, e) refl
+
+-- words that each write a number
+pub all_numbers-each : (words : List (List ℕ)) (ns : List ℕ) → map number_of words ≡ map Some ns → all_numbers words ≡ Some ns
+all_numbers-each [] [] h = refl
+all_numbers-each [] (n ∷ ns) h = cc
+all_numbers-each (w ∷ words) [] h = cc
+all_numbers-each (w ∷ words) (n ∷ ns) h =
+    let first : number_of w ≡ Some n = cc in
+    let others : map number_of words ≡ map Some ns = cc in
+    rw (first, all_numbers-each words ns others) refl
+
+none_after : (o : Option ℕ) → ◌≡◌ {A = Option (List ℕ)} (option_and_then (λ n. None) o) None
+none_after None = refl
+none_after (Some n) = refl
+
+-- one of the words writes none
+pub all_numbers-none : (words : List (List ℕ)) (i : ℕ) → i < length words → number_of (get_or words i []) ≡ None → all_numbers words ≡ None
+all_numbers-none [] i l h = absurd (omega arith)
+all_numbers-none (w ∷ words) zero l h = rw h refl
+all_numbers-none (w ∷ words) (suc i) l h = rw (all_numbers-none words i (omega arith) h) (none_after (number_of w))

@@ -3,11 +3,10 @@ use Rattle.std.specs.Prelude.{◌≡◌, ℕ, ◌++◌, List, [], ◌∷◌, Opt
 use Rattle.std.specs.Io.KnownBytes.{IsAtEnd}
 use Rattle.vers_cli.specs.declared.engine.RunError.{RunError}
 use Rattle.vers_cli.specs.declared.engine.RunError.TheVariants.{Read, Write, Memory}
-use Rattle.vers_cli.specs.declared.reply.Reply.{Reply}
 use Rattle.vers_cli.specs.Text.{whole_lines, lines_of, words_of}
 use Rattle.vers_cli.specs.Name.{name_of}
 use Rattle.vers_cli.specs.Holding.{Holding, Nothing}
-use Rattle.vers_cli.specs.Reply.{reply_text}
+use Rattle.vers_cli.specs.Reply.{PlainReply, reply_text}
 use Rattle.vers_cli.specs.Rules.{IsReply, holding_after_name}
 
 -- a text that may answer a line of these words: none where there are no words, else a reply and
@@ -15,7 +14,7 @@ use Rattle.vers_cli.specs.Rules.{IsReply, holding_after_name}
 unfoldable pub IsAnswerToWords : Holding → List (List ℕ) → List ℕ → Type 0
 IsAnswerToWords held [] text = text ≡ []
 IsAnswerToWords held (word ∷ arguments) text =
-    (reply : Reply) × IsReply held (name_of word) arguments reply × (text ≡ reply_text reply ++ 10 ∷ [])
+    (reply : PlainReply) × IsReply held (name_of word) arguments reply × (text ≡ reply_text reply ++ 10 ∷ [])
 
 -- what is held after a line of these words
 unfoldable pub holding_after_words : Holding → List (List ℕ) → Holding

@@ -1,5 +1,5 @@
 -- The arguments of a line: its words after the first. None where they are malformed.
-use Rattle.std.specs.Prelude.{ℕ, Bool, ◌||◌, ◌==◌, List, [], ◌∷◌, map, Option, Some, None, if◌then◌else◌}
+use Rattle.std.specs.Prelude.{ℕ, Bool, true, ◌||◌, ◌&&◌, ◌==◌, List, [], ◌∷◌, map, Option, Some, None, option_map, option_and_then, if◌then◌else◌}
 use Rattle.std.specs.Borrow.{Bor}
 use Rattle.std.specs.List.{list_all}
 use Rattle.vers_cli.specs.Text.{number_of}
@@ -18,6 +18,17 @@ abbrev pub one_number : List (List ℕ) → Option ℕ
 one_number [] = None
 one_number (word ∷ []) = number_of word
 one_number (word ∷ other ∷ more) = None
+
+-- any number of numbers
+abbrev pub all_numbers : List (List ℕ) → Option (List ℕ)
+all_numbers [] = Some []
+all_numbers (word ∷ more) = option_and_then (λ n. option_map (λ others. n ∷ others) (all_numbers more)) (number_of word)
+
+-- whether each number stands in this order to the next one
+abbrev pub each_next : (ℕ → ℕ → Bool) → List ℕ → Bool
+each_next order [] = true
+each_next order (n ∷ []) = true
+each_next order (n ∷ next ∷ more) = order n next && each_next order (next ∷ more)
 
 -- whether a byte is the digit 0 or 1
 abbrev pub is_bit_digit : ℕ → Bool

@@ -4,11 +4,9 @@ use Rattle.vers_bits.specs.Bits.{bit_value, count, select}
 use Rattle.vers_bits.specs.declared.bit_vec.TheConstants.{MAX_LEN}
 use Rattle.vers_cli.specs.declared.name.Query.{Query}
 use Rattle.vers_cli.specs.declared.name.Query.TheVariants.{Len, Get, Rank0, Rank1, Select0, Select1}
-use Rattle.vers_cli.specs.declared.reply.Reply.{Reply}
-use Rattle.vers_cli.specs.declared.reply.Reply.TheVariants.{Number}
 use Rattle.vers_cli.specs.Arguments.{no_arguments, one_number}
 use Rattle.vers_cli.specs.Holding.{Loaded, Malformed, Inadmissible, Accepted, BitsHeld}
-use Rattle.vers_cli.specs.Reply.{if_well_formed, number_or_absent}
+use Rattle.vers_cli.specs.Reply.{PlainReply, WrongStructure, Number, if_well_formed, number_or_absent}
 
 -- the load line `bits S`, for the bits that S writes
 abbrev pub bits_loaded : Option (List Bool) → Loaded
@@ -16,10 +14,11 @@ bits_loaded None = Malformed
 bits_loaded (Some bits) = if nat_le (length bits) MAX_LEN then Accepted (BitsHeld bits) else Inadmissible
 
 -- the query lines, where these bits are held
-abbrev pub bits_reply : List Bool → Query → List (List ℕ) → Reply
+abbrev pub bits_reply : List Bool → Query → List (List ℕ) → PlainReply
 bits_reply bits Len arguments = if_well_formed (no_arguments arguments) (λ _. Number (length bits))
 bits_reply bits Get arguments = if_well_formed (one_number arguments) (λ place. number_or_absent (option_map bit_value (slice_get bits place)))
 bits_reply bits Rank0 arguments = if_well_formed (one_number arguments) (λ place. Number (count false bits place))
 bits_reply bits Rank1 arguments = if_well_formed (one_number arguments) (λ place. Number (count true bits place))
 bits_reply bits Select0 arguments = if_well_formed (one_number arguments) (λ r. Number (select false bits r))
 bits_reply bits Select1 arguments = if_well_formed (one_number arguments) (λ r. Number (select true bits r))
+bits_reply bits _ arguments = WrongStructure

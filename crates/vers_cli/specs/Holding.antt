@@ -5,11 +5,15 @@ use Rattle.std.specs.Prelude.{ℕ, Bool, List, length}
 pub data Holding : Type 0 where
   Nothing : Holding
   BitsHeld : List Bool → Holding
+  SortedHeld : List ℕ → Holding
+  SparseHeld : List Bool → Holding
 
 -- the length of what is held
 abbrev pub length_of : Holding → ℕ
 length_of Nothing = 0
 length_of (BitsHeld bits) = length bits
+length_of (SortedHeld members) = length members
+length_of (SparseHeld bits) = length bits
 
 -- what the arguments of a load line give: they are malformed, or well formed but not admitted,
 -- or there is something to hold from now on

@@ -5,6 +5,8 @@ pub mod Name
 pub mod Holding
 pub mod Reply
 pub mod BitsLines
+pub mod SortedLines
+pub mod SparseLines
 pub mod Rules
 pub mod Answers
 pub mod Held

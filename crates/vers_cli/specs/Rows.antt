@@ -1,19 +1,25 @@
 -- Worked rows of the definitions, which compute.
-use Rattle.std.specs.Prelude.{◌≡◌, ℕ, ◌++◌, true, false, List, [], ◌∷◌, codes, Some, None, refl}
+use Rattle.std.specs.Prelude.{◌≡◌, ℕ, ◌++◌, true, false, nat_le, nat_lt, List, [], ◌∷◌, codes, Some, None, refl}
 use Rattle.std.specs.Fmt.{digits}
 use Rattle.vers_bits.specs.Bits.{count, places, select}
+use Rattle.vers_sorted.specs.Sorted.{below}
+use Rattle.vers_sorted.specs.Ones.{ones_at}
 use Rattle.vers_cli.specs.declared.name.Name.TheVariants.{Query}
 use Rattle.vers_cli.specs.declared.name.Query.TheVariants.{Rank1}
-use Rattle.vers_cli.specs.declared.reply.Reply.TheVariants.{BadLine, WrongStructure, Number, Absent}
 use Rattle.vers_cli.specs.Text.{number_of, words_of, whole_lines, last_part, lines_of}
-use Rattle.vers_cli.specs.Arguments.{bits_of}
+use Rattle.vers_cli.specs.Arguments.{bits_of, all_numbers, each_next}
 use Rattle.vers_cli.specs.Name.{name_of}
-use Rattle.vers_cli.specs.Holding.{Holding, Nothing, BitsHeld}
+use Rattle.vers_cli.specs.Holding.{Holding, Nothing, BitsHeld, SortedHeld, SparseHeld}
+use Rattle.vers_cli.specs.Reply.{BadLine, WrongStructure, Refused, Number, Absent, Numbers}
 use Rattle.vers_cli.specs.Answers.{IsAnswerToWords, IsAnswerTo, holding_after_words, holding_after, AnswersLines}
 
 -- a text with the end of a line
 abbrev ended : List ℕ → List ℕ
 ended text = text ++ 10 ∷ []
+
+-- the members 4, 4 and 9, held
+abbrev held_449 : Holding
+held_449 = SortedHeld (4 ∷ 4 ∷ 9 ∷ [])
 
 -- the bits 0110, held
 abbrev held_0110 : Holding
@@ -66,8 +72,8 @@ last_part-last = refl
 pub name_of-rank1 : name_of (codes "rank1") ≡ Some (Query Rank1)
 name_of-rank1 = refl
 
-pub name_of-rank : name_of (codes "rank") ≡ None
-name_of-rank = refl
+pub name_of-rank2 : name_of (codes "rank2") ≡ None
+name_of-rank2 = refl
 
 pub bits_of-none : bits_of [] ≡ Some []
 bits_of-none = refl
@@ -120,6 +126,61 @@ answer-nothing_held = (WrongStructure, refl, refl)
 pub answer-malformed : IsAnswerTo held_0110 (codes "rank1 x") (ended (codes "bad line"))
 unfolding IsAnswerToWords number_of
 answer-malformed = (BadLine, refl, refl)
+
+-- numbers of a load line
+pub all_numbers-some : all_numbers (codes "12" ∷ codes "7" ∷ []) ≡ Some (12 ∷ 7 ∷ [])
+unfolding number_of
+all_numbers-some = refl
+
+pub all_numbers-malformed : all_numbers (codes "12" ∷ codes "x" ∷ []) ≡ None
+unfolding number_of
+all_numbers-malformed = refl
+
+-- an ascending list may have equal members, and a sparse list takes each place once
+pub each_next-equal : each_next nat_le (4 ∷ 4 ∷ 9 ∷ []) ≡ true
+each_next-equal = refl
+
+pub each_next-strict : each_next nat_lt (4 ∷ 4 ∷ 9 ∷ []) ≡ false
+each_next-strict = refl
+
+pub answer-sorted_449 : IsAnswerTo Nothing (codes "sorted 4 4 9") (ended (codes "3"))
+unfolding IsAnswerToWords number_of digits
+answer-sorted_449 = (Number 3, refl, refl)
+
+pub held-sorted_449 : holding_after Nothing (codes "sorted 4 4 9") ≡ held_449
+unfolding holding_after_words number_of
+held-sorted_449 = refl
+
+pub answer-rank_5 : IsAnswerTo held_449 (codes "rank 5") (ended (codes "2"))
+unfolding IsAnswerToWords number_of below digits
+answer-rank_5 = (Number 2, refl, refl)
+
+-- a list is answered with one space between its numbers, the empty list by an empty line
+pub answer-iter : IsAnswerTo held_449 (codes "iter") (ended (codes "4 4 9"))
+unfolding IsAnswerToWords digits
+answer-iter = (Numbers (4 ∷ 4 ∷ 9 ∷ []), refl, refl)
+
+pub answer-iter_none : IsAnswerTo (SortedHeld []) (codes "iter") (ended [])
+unfolding IsAnswerToWords
+answer-iter_none = (Numbers [], refl, refl)
+
+-- the lines of another structure
+pub answer-rank1_of_sorted : IsAnswerTo held_449 (codes "rank1 5") (ended (codes "wrong structure"))
+unfolding IsAnswerToWords
+answer-rank1_of_sorted = (WrongStructure, refl, refl)
+
+pub held-sparse_5_13 : holding_after Nothing (codes "sparse 5 1 3") ≡ SparseHeld (false ∷ true ∷ false ∷ true ∷ false ∷ [])
+unfolding holding_after_words number_of ones_at
+held-sparse_5_13 = refl
+
+-- a place that is not below the length, and a line without a length
+pub answer-place_outside : IsAnswerTo held_449 (codes "sparse 3 3") (ended (codes "refused"))
+unfolding IsAnswerToWords number_of
+answer-place_outside = (Refused, refl, refl)
+
+pub answer-no_length : IsAnswerTo held_449 (codes "sparse") (ended (codes "bad line"))
+unfolding IsAnswerToWords
+answer-no_length = (BadLine, refl, refl)
 
 -- a line without words has no answer
 pub answer-no_words : IsAnswerTo held_0110 (codes "  ") []

@@ -1,9 +1,10 @@
 //! The arguments of a line. Each function answers None where they are malformed.
-ghost use Rattle.std.specs.Prelude.{◌≡◌, option_map};
+ghost use Rattle.std.specs.Prelude.{◌≡◌, option_map, IfOk};
 ghost use Rattle.std.specs.List.{list_all};
-ghost use Rattle.vers_cli.specs.Arguments.{no_arguments as none_of, one_number as number_alone, texts, is_bit_digit, bits_of_digits, bits_of};
+ghost use Rattle.vers_cli.specs.Arguments.{no_arguments as none_of, one_number as number_alone, all_numbers as numbers_all, texts, is_bit_digit, bits_of_digits, bits_of};
 
 use crate::text;
+use std::alloc::{AllocError, Allocator};
 
 /// No argument.
 pub fn no_arguments(arguments: &[&[u8]]) -> Option<()>
@@ -20,6 +21,23 @@ pub fn one_number(arguments: &[&[u8]]) -> Option<u64>
         [word] => text::number(*word),
         _ => None,
     }
+}
+
+/// Any number of numbers.
+pub fn all_numbers<A: Allocator + Copy>(
+    alloc: A,
+    arguments: &[&[u8]],
+) -> Result<Option<Vec<u64, A>>, AllocError>
+    ensures { IfOk result (λ found. option_map (λ numbers. numbers.items) found ≡ numbers_all (texts arguments.now)) }
+{
+    let mut numbers = Vec::new(alloc);
+    for word in arguments {
+        let Some(number) = text::number(*word) else {
+            return Ok(None);
+        };
+        numbers.push(number)?;
+    }
+    Ok(Some(numbers))
 }
 
 /// One word of the digits 0 and 1, or no word for the empty list.

@@ -3,6 +3,7 @@ ghost use Rattle.std.specs.Prelude.{◌≡◌, ◌≤◌, length, IfOk};
 ghost use Rattle.vers_cli.specs.Arguments.{texts, bits_of, bits_of_digits};
 ghost use Rattle.vers_cli.specs.BitsLines.{bits_loaded, bits_reply};
 ghost use Rattle.vers_cli.specs.Held.{loaded_of};
+ghost use Rattle.vers_cli.specs.Reply.{plain_reply};
 
 use crate::arguments::{bit_digits, no_arguments, one_number};
 use crate::held::{Held, Loading};
@@ -42,8 +43,8 @@ pub fn bit_vec<A: Allocator + Copy>(alloc: A, digits: &[u8]) -> Result<BitVec<A>
 }
 
 /// The reply of a query line, where these bits are held.
-pub fn reply<A: Allocator + Copy>(bits: &RsVec<A>, query: Query, arguments: &[&[u8]]) -> Reply
-    ensures { result ≡ bits_reply bits.now query (texts arguments.now) }
+pub fn reply<A: Allocator + Copy>(bits: &RsVec<A>, query: Query, arguments: &[&[u8]]) -> Reply<A>
+    ensures { plain_reply result ≡ bits_reply bits.now query (texts arguments.now) }
 {
     match query {
         Query::Len => no_arguments(arguments).map_or(
@@ -65,5 +66,6 @@ pub fn reply<A: Allocator + Copy>(bits: &RsVec<A>, query: Query, arguments: &[&[
         Query::Select1 => one_number(arguments).map_or(Reply::BadLine, |r| {
             Reply::Number(bits.select1(r as usize) as u64)
         }),
+        _ => Reply::WrongStructure,
     }
 }

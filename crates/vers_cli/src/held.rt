@@ -5,17 +5,21 @@ ghost use Rattle.vers_cli.specs.Holding.{length_of};
 ghost use Rattle.vers_cli.specs.Rules.{loaded, IsQueryReply};
 ghost use Rattle.vers_cli.specs.Held.{loaded_of};
 
-use crate::bits;
 use crate::name::{Load, Query};
 use crate::reply::Reply;
+use crate::{bits, sorted, sparse};
 use std::alloc::{AllocError, Allocator};
 use vers_rank::fast_rs_vec::RsVec;
+use vers_sorted::elias_fano::EliasFanoVec;
+use vers_sorted::sparse::SparseRSVec;
 
 /// What is held: nothing, or the structure of the last load line that was accepted.
 #[derive(Drop)]
 pub enum Held<A: Allocator + Copy> {
     Nothing,
     Bits(RsVec<A>),
+    Sorted(EliasFanoVec<A>),
+    Sparse(SparseRSVec<A>),
 }
 
 /// What the arguments of a load line give.
@@ -39,11 +43,14 @@ pub fn load<A: Allocator + Copy>(
 {
     match load {
         Load::Bits => bits::load(alloc, arguments),
+        Load::Sorted => sorted::load(alloc, arguments),
+        Load::Sparse => sparse::load(alloc, arguments),
     }
 }
 
 impl<A: Allocator + Copy> Held<A> {
     ghost use Rattle.vers_cli.specs.Held.{holding_of};
+    ghost use Rattle.vers_cli.specs.Reply.{plain_reply};
 
     /// The length of what is held.
     pub fn len(&self) -> u64
@@ -52,16 +59,20 @@ impl<A: Allocator + Copy> Held<A> {
         match self {
             Held::Nothing => 0,
             Held::Bits(bits) => bits.len() as u64,
+            Held::Sorted(members) => members.len() as u64,
+            Held::Sparse(bits) => bits.len(),
         }
     }
 
     /// The reply of a query line.
-    pub fn reply(&self, query: Query, arguments: &[&[u8]]) -> Reply
-        ensures { IsQueryReply (holding_of self.now) query (texts arguments.now) result }
+    pub fn reply(&self, alloc: A, query: Query, arguments: &[&[u8]]) -> Result<Reply<A>, AllocError>
+        ensures { IfOk result (λ reply. IsQueryReply (holding_of self.now) query (texts arguments.now) (plain_reply reply)) }
     {
         match self {
-            Held::Nothing => Reply::WrongStructure,
-            Held::Bits(bits) => bits::reply(bits, query, arguments),
+            Held::Nothing => Ok(Reply::WrongStructure),
+            Held::Bits(bits) => Ok(bits::reply(bits, query, arguments)),
+            Held::Sorted(members) => sorted::reply(alloc, members, query, arguments),
+            Held::Sparse(bits) => sparse::reply(alloc, bits, query, arguments),
         }
     }
 }

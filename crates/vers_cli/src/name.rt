@@ -5,6 +5,8 @@ ghost use Rattle.std.specs.Prelude.{◌≡◌};
 #[derive(Clone, Copy, Drop)]
 pub enum Load {
     Bits,
+    Sorted,
+    Sparse,
 }
 
 /// The first word of a query line.
@@ -16,6 +18,12 @@ pub enum Query {
     Rank1,
     Select0,
     Select1,
+    Rank,
+    Predecessor,
+    Successor,
+    Delta,
+    Iter,
+    Iter1,
 }
 
 /// The first word of a line.
@@ -26,14 +34,22 @@ pub enum Name {
 }
 
 // All names.
-static NAMES: [Name; 7] = [
+static NAMES: [Name; 15] = [
     Name::Load(Load::Bits),
+    Name::Load(Load::Sorted),
+    Name::Load(Load::Sparse),
     Name::Query(Query::Len),
     Name::Query(Query::Get),
     Name::Query(Query::Rank0),
     Name::Query(Query::Rank1),
     Name::Query(Query::Select0),
     Name::Query(Query::Select1),
+    Name::Query(Query::Rank),
+    Name::Query(Query::Predecessor),
+    Name::Query(Query::Successor),
+    Name::Query(Query::Delta),
+    Name::Query(Query::Iter),
+    Name::Query(Query::Iter1),
 ];
 
 impl Name {
@@ -45,12 +61,20 @@ impl Name {
     {
         match self {
             Name::Load(Load::Bits) => b"bits",
+            Name::Load(Load::Sorted) => b"sorted",
+            Name::Load(Load::Sparse) => b"sparse",
             Name::Query(Query::Len) => b"len",
             Name::Query(Query::Get) => b"get",
             Name::Query(Query::Rank0) => b"rank0",
             Name::Query(Query::Rank1) => b"rank1",
             Name::Query(Query::Select0) => b"select0",
             Name::Query(Query::Select1) => b"select1",
+            Name::Query(Query::Rank) => b"rank",
+            Name::Query(Query::Predecessor) => b"predecessor",
+            Name::Query(Query::Successor) => b"successor",
+            Name::Query(Query::Delta) => b"delta",
+            Name::Query(Query::Iter) => b"iter",
+            Name::Query(Query::Iter1) => b"iter1",
         }
     }
 

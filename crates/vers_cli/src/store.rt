@@ -3,6 +3,7 @@ ghost use Rattle.std.specs.Prelude.{◌≡◌, IfOk, OnOk};
 ghost use Rattle.vers_cli.specs.Arguments.{texts};
 ghost use Rattle.vers_cli.specs.Name.{name_of};
 ghost use Rattle.vers_cli.specs.Holding.{Nothing};
+ghost use Rattle.vers_cli.specs.Reply.{plain_reply};
 ghost use Rattle.vers_cli.specs.Rules.{loaded, load_reply, holding_after_load, IsReply, holding_after_name};
 ghost use Rattle.vers_cli.specs.Answers.{IsAnswerToWords, holding_after_words, IsAnswerTo, holding_after};
 
@@ -41,8 +42,8 @@ impl<A: Allocator + Copy> Store<A> {
     }
 
     // The reply of a load line. What was held is kept, unless the line is accepted.
-    fn load(&mut self, load: Load, arguments: &[&[u8]]) -> Result<Reply, AllocError>
-        ensures reply { IfOk result (λ reply. reply ≡ load_reply (loaded load (texts arguments.now))) }
+    fn load(&mut self, load: Load, arguments: &[&[u8]]) -> Result<Reply<A>, AllocError>
+        ensures reply { IfOk result (λ reply. plain_reply reply ≡ load_reply (loaded load (texts arguments.now))) }
         ensures holds { OnOk result (self.new ≡ holding_after_load self.old (loaded load (texts arguments.now))) }
     {
         match held::load(self.alloc, load, arguments)? {
@@ -57,14 +58,14 @@ impl<A: Allocator + Copy> Store<A> {
     }
 
     // The reply of a line, by its first word and the others.
-    fn reply(&mut self, word: &[u8], arguments: &[&[u8]]) -> Result<Reply, AllocError>
-        ensures reply { IfOk result (λ reply. IsReply self.old (name_of word.now) (texts arguments.now) reply) }
+    fn reply(&mut self, word: &[u8], arguments: &[&[u8]]) -> Result<Reply<A>, AllocError>
+        ensures reply { IfOk result (λ reply. IsReply self.old (name_of word.now) (texts arguments.now) (plain_reply reply)) }
         ensures holds { OnOk result (self.new ≡ holding_after_name self.old (name_of word.now) (texts arguments.now)) }
     {
         match Name::of(word) {
             None => Ok(Reply::BadLine),
             Some(Name::Load(load)) => self.load(load, arguments),
-            Some(Name::Query(query)) => Ok(self.held.reply(query, arguments)),
+            Some(Name::Query(query)) => self.held.reply(self.alloc, query, arguments),
         }
     }
 

@@ -37,7 +37,7 @@ fn malformed_lines(rt: HostRuntime) -> Result<(), Fail> {
 }
 
 // What a case shows, its input and its output.
-const CASES: [(&str, &[u8], &[u8]); 7] = [
+const CASES: [(&str, &[u8], &[u8]); 13] = [
     (
         "every query of a list of bits",
         b"bits 0110\nlen\nget 0\nget 1\nrank0 2\nrank0 9\nrank1 2\nselect0 1\nselect0 2\nselect1 0\n",
@@ -55,7 +55,7 @@ const CASES: [(&str, &[u8], &[u8]); 7] = [
     ),
     (
         "the name comes before what is held, and what is held before the arguments",
-        b"rank\nRank1 1\nlen 1\nget\nbits 01 x\nget x\n",
+        b"ranks\nRank1 1\nlen 1\nget\nbits 01 x\nget x\n",
         b"bad line\nbad line\nwrong structure\nwrong structure\nbad line\nwrong structure\n",
     ),
     (
@@ -69,6 +69,36 @@ const CASES: [(&str, &[u8], &[u8]); 7] = [
         b"4\nbad line\n4\nbad line\n4\nbad line\n2\n1\n1\n",
     ),
     ("no line with words, no answer", b"\n\n", b""),
+    (
+        "sparse bits, then an ascending list; a refused load line keeps what was held",
+        b"sparse 12 1 3 5 7 9\nrank1 999\niter1\nsparse 3 3\nsparse\nlen\nsorted 4 4 9\nrank 5\niter\n",
+        b"12\n5\n1 3 5 7 9\nrefused\nbad line\n12\n3\n2\n4 4 9\n",
+    ),
+    (
+        "every query of an ascending list",
+        b"sorted 100 101 102 103\nlen\nget 3\nget 4\nrank 102\npredecessor 99\npredecessor 1000\nsuccessor 0\nsuccessor 104\ndelta 0\ndelta 1\ndelta 4\niter\n",
+        b"4\n4\n103\nnone\n2\nnone\n103\n100\nnone\n100\n1\nnone\n100 101 102 103\n",
+    ),
+    (
+        "every query of sparse bits",
+        b"sparse 12 1 3 5 7 9\nlen\nget 0\nget 9\nget 12\nrank0 999\nrank1 9\nselect1 4\nselect1 5\niter1\n",
+        b"12\n12\n0\n1\nnone\n7\n4\n9\n12\n1 3 5 7 9\n",
+    ),
+    (
+        "no members and no ones are answered by an empty line",
+        b"sorted\niter\nrank 3\ndelta 0\nsparse 0\niter1\nsparse 18446744073709551615\nselect1 0\niter1\n",
+        b"0\n\n0\nnone\n0\n\n18446744073709551615\n18446744073709551615\n\n",
+    ),
+    (
+        "each structure has its own queries",
+        b"iter\nsorted 4\niter1\nrank1 0\nselect1 0\nsparse 2 1\niter\nrank 0\ndelta 0\nselect0 0\nbits 1\niter1\nrank 0\n",
+        b"wrong structure\n1\nwrong structure\nwrong structure\nwrong structure\n2\nwrong structure\nwrong structure\nwrong structure\nwrong structure\n1\nwrong structure\nwrong structure\n",
+    ),
+    (
+        "load lines that are malformed or refused",
+        b"bits 0110\nsorted 3 1\nsorted 3 x\nsparse x\nsparse 5 3 3\nsparse 5 3 1\nsparse 5 5\nsorted 18446744073709551616\nlen\niter 1\nsorted 7\niter 1\nget\nrank 1 2\n",
+        b"4\nrefused\nbad line\nbad line\nrefused\nrefused\nrefused\nbad line\n4\nwrong structure\n1\nbad line\nbad line\nbad line\n",
+    ),
 ];
 
 #[test]

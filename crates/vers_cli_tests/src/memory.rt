@@ -5,9 +5,10 @@ use std::test::Fail;
 use test_alloc::Refusing;
 use vers_cli::{Device, RunError, fault_line, run};
 
-const INPUT: &[u8] = b"bits 0110\nrank1 3\nbits 1\nfoo\nget 9\nlen";
+const INPUT: &[u8] =
+    b"bits 0110\nrank1 3\nsorted 4 4 9\niter\nfoo\nsparse 5 1 3\niter1\nget 9\nlen";
 
-const OUTPUT: &[u8] = b"4\n2\n1\nbad line\nnone\n1\n";
+const OUTPUT: &[u8] = b"4\n2\n3\n4 4 9\nbad line\n5\n1 3\nnone\n5\n";
 
 // The first request of a run is refused, then the second, and so on, until a run ends with none
 // refused. What was written ends at the end of an answer line.

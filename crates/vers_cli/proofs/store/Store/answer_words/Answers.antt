@@ -1,6 +1,7 @@
 use Rattle.std.proofs.Common.{◌++◌, ◌∷◌, [], ap, ◌∙◌, refl}
 use Rattle.std.proofs.lemmas.List.{nil_from_length}
 use Rattle.vers_cli.specs.Answers.{IsAnswerToWords, holding_after_words}
+use Rattle.vers_cli.specs.Reply.{plain_reply}
 use Rattle.vers_cli.proofs.store.Store.answer_words.Goals as goal
 
 pub returns-in_default-clause-answer : goal.returns-in_default-clause-answer
@@ -15,7 +16,7 @@ pub returns-clause-answer : goal.returns-clause-answer
 unfolding IsAnswerToWords
 returns-clause-answer g c =
     rw c.in-Some.ensures.cases.0 (
-      c.in_ok-reply.reply,
+      plain_reply c.in_ok-reply.reply,
       c.in_ok-reply.ensures.reply,
       c.in_ok-push.ensures.items ∙ ap (λ l. l ++ 10 ∷ []) (c.in_ok-append_to.ensures ∙ rw c.new-answer.ensures.items refl),
     )

@@ -1,0 +1,85 @@
+//! The lines of an ascending list.
+ghost use Rattle.std.specs.Prelude.{◌≡◌, nat_le, IfOk};
+ghost use Rattle.vers_cli.specs.Arguments.{texts, each_next, all_numbers as numbers_all};
+ghost use Rattle.vers_cli.specs.SortedLines.{sorted_loaded, sorted_reply};
+ghost use Rattle.vers_cli.specs.Held.{loaded_of};
+ghost use Rattle.vers_cli.specs.Reply.{plain_reply};
+
+use crate::arguments::{all_numbers, no_arguments, one_number};
+use crate::held::{Held, Loading};
+use crate::name::Query;
+use crate::reply::Reply;
+use std::alloc::{AllocError, Allocator};
+use vers_sorted::elias_fano::{EliasFanoRefIter, EliasFanoVec};
+
+/// What the load line `sorted n ..` gives.
+pub fn load<A: Allocator + Copy>(alloc: A, arguments: &[&[u8]]) -> Result<Loading<A>, AllocError>
+    ensures { IfOk result (λ loading. loaded_of loading ≡ sorted_loaded (numbers_all (texts arguments.now))) }
+{
+    let Some(numbers) = all_numbers(alloc, arguments)? else {
+        return Ok(Loading::Malformed);
+    };
+    if !are_ascending(numbers.as_slice()) {
+        return Ok(Loading::Inadmissible);
+    }
+    let members = EliasFanoVec::from_slice(alloc, numbers.as_slice())?;
+    Ok(Loading::Accepted(Held::Sorted(members)))
+}
+
+// Whether no number is below the one before it.
+fn are_ascending(numbers: &[u64]) -> bool
+    ensures { result ≡ each_next nat_le numbers.now }
+{
+    numbers.is_sorted_by(|one, next| *one <= *next)
+}
+
+/// The reply of a query line, where these members are held.
+pub fn reply<A: Allocator + Copy>(
+    alloc: A,
+    members: &EliasFanoVec<A>,
+    query: Query,
+    arguments: &[&[u8]],
+) -> Result<Reply<A>, AllocError>
+    ensures { IfOk result (λ reply. plain_reply reply ≡ sorted_reply members.now query (texts arguments.now)) }
+{
+    match query {
+        Query::Len => Ok(no_arguments(arguments).map_or(
+            Reply::BadLine,
+            |()| Reply::Number(members.len() as u64),
+        )),
+        Query::Get => Ok(one_number(arguments).map_or(Reply::BadLine, |place| {
+            Reply::number_or_absent(members.get(place as usize))
+        })),
+        Query::Rank => Ok(one_number(arguments).map_or(
+            Reply::BadLine,
+            |v| Reply::Number(members.rank(v)),
+        )),
+        Query::Predecessor => Ok(one_number(arguments).map_or(Reply::BadLine, |v| {
+            Reply::number_or_absent(members.predecessor(v))
+        })),
+        Query::Successor => Ok(one_number(arguments).map_or(Reply::BadLine, |v| {
+            Reply::number_or_absent(members.successor(v))
+        })),
+        Query::Delta => Ok(one_number(arguments).map_or(Reply::BadLine, |place| {
+            Reply::number_or_absent(members.delta(place as usize))
+        })),
+        Query::Iter => match no_arguments(arguments) {
+            None => Ok(Reply::BadLine),
+            Some(()) => Ok(Reply::Numbers(members_left(alloc, members.iter())?)),
+        },
+        _ => Ok(Reply::WrongStructure),
+    }
+}
+
+/// The members that an iterator has left.
+pub fn members_left<A: Allocator + Copy>(
+    alloc: A,
+    members: EliasFanoRefIter<'_, A>,
+) -> Result<Vec<u64, A>, AllocError>
+    ensures { IfOk result (λ numbers. numbers.items ≡ members.entry.left) }
+{
+    // `collect` alone would go on where room for all at once is refused.
+    let mut numbers = Vec::with_capacity(alloc, members.len())?;
+    numbers.extend(members)?;
+    Ok(numbers)
+}

@@ -1,0 +1,82 @@
+//! The lines of a sparse list of bits.
+ghost use Rattle.std.specs.Prelude.{◌≡◌, ◌&&◌, nat_lt, IfOk};
+ghost use Rattle.std.specs.List.{list_all};
+ghost use Rattle.vers_cli.specs.Arguments.{texts, each_next, all_numbers as numbers_all};
+ghost use Rattle.vers_cli.specs.SparseLines.{sparse_loaded, sparse_reply};
+ghost use Rattle.vers_cli.specs.Held.{loaded_of};
+ghost use Rattle.vers_cli.specs.Reply.{plain_reply};
+
+use crate::arguments::{all_numbers, no_arguments, one_number};
+use crate::held::{Held, Loading};
+use crate::name::Query;
+use crate::reply::Reply;
+use crate::sorted::members_left;
+use std::alloc::{AllocError, Allocator};
+use vers_sorted::sparse::SparseRSVec;
+
+/// What the load line `sparse LEN p ..` gives.
+pub fn load<A: Allocator + Copy>(alloc: A, arguments: &[&[u8]]) -> Result<Loading<A>, AllocError>
+    ensures { IfOk result (λ loading. loaded_of loading ≡ sparse_loaded (numbers_all (texts arguments.now))) }
+{
+    let Some(numbers) = all_numbers(alloc, arguments)? else {
+        return Ok(Loading::Malformed);
+    };
+    let Some((len, ones)) = numbers.as_slice().split_first() else {
+        return Ok(Loading::Malformed);
+    };
+    if !are_rising(ones) || !are_below(ones, *len) {
+        return Ok(Loading::Inadmissible);
+    }
+    let bits = SparseRSVec::new(alloc, ones, *len)?;
+    Ok(Loading::Accepted(Held::Sparse(bits)))
+}
+
+// Whether each number is above the one before it.
+fn are_rising(numbers: &[u64]) -> bool
+    ensures { result ≡ each_next nat_lt numbers.now }
+{
+    numbers.is_sorted_by(|one, next| *one < *next)
+}
+
+// Whether all numbers are below `limit`.
+fn are_below(numbers: &[u64], limit: u64) -> bool
+    ensures { result ≡ list_all (λ n. nat_lt n limit) numbers.now }
+{
+    numbers.iter().all(|number| *number < limit)
+}
+
+/// The reply of a query line, where these bits are held.
+pub fn reply<A: Allocator + Copy>(
+    alloc: A,
+    bits: &SparseRSVec<A>,
+    query: Query,
+    arguments: &[&[u8]],
+) -> Result<Reply<A>, AllocError>
+    ensures { IfOk result (λ reply. plain_reply reply ≡ sparse_reply bits.now query (texts arguments.now)) }
+{
+    match query {
+        Query::Len => Ok(no_arguments(arguments).map_or(
+            Reply::BadLine,
+            |()| Reply::Number(bits.len()),
+        )),
+        Query::Get => Ok(one_number(arguments).map_or(Reply::BadLine, |place| {
+            Reply::number_or_absent(bits.get(place))
+        })),
+        Query::Rank0 => Ok(one_number(arguments).map_or(
+            Reply::BadLine,
+            |place| Reply::Number(bits.rank0(place)),
+        )),
+        Query::Rank1 => Ok(one_number(arguments).map_or(
+            Reply::BadLine,
+            |place| Reply::Number(bits.rank1(place)),
+        )),
+        Query::Select1 => Ok(one_number(arguments).map_or(Reply::BadLine, |r| {
+            Reply::Number(bits.select1(r as usize))
+        })),
+        Query::Iter1 => match no_arguments(arguments) {
+            None => Ok(Reply::BadLine),
+            Some(()) => Ok(Reply::Numbers(members_left(alloc, bits.iter1())?)),
+        },
+        _ => Ok(Reply::WrongStructure),
+    }
+}

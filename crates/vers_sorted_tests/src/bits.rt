@@ -1,0 +1,129 @@
+//! Sparse lists of bits, and what is asked of them.
+ghost use Rattle.std.specs.Prelude.{◌≡◌, nat_lt, IsTrue};
+ghost use Rattle.std.specs.List.{list_all};
+ghost use Rattle.std.specs.List.Sorted.{IsStrictlyIncreasing};
+
+use std::alloc::{AllocError, Allocator};
+use vers_bits::bit_vec::{BitVec, GrowError};
+use vers_sorted::sparse::SparseRSVec;
+use vers_tally::tally::Tally;
+
+// Whether the numbers ascend strictly.
+fn is_rising(numbers: &[u64]) -> bool
+    ensures { IsTrue result → IsStrictlyIncreasing numbers.now }
+{
+    numbers.is_sorted_by(|one, next| *one < *next)
+}
+
+// Whether all numbers are below `limit`.
+fn are_below(numbers: &[u64], limit: u64) -> bool
+    ensures { result ≡ list_all (λ n. nat_lt n limit) numbers.now }
+{
+    numbers.iter().all(|number| *number < limit)
+}
+
+/// The list of `len` bits with ones at the places, or of none where there is no such list.
+pub fn bits_of<A: Allocator + Copy>(
+    alloc: A,
+    ones: &[u64],
+    len: u64,
+) -> Result<SparseRSVec<A>, AllocError> {
+    if is_rising(ones) && are_below(ones, len) {
+        return SparseRSVec::new(alloc, ones, len);
+    }
+    SparseRSVec::new(alloc, &[], 0)
+}
+
+/// What is asked of a sparse list.
+#[derive(Clone, Copy, Drop)]
+pub enum Query {
+    Len,
+    IsEmpty,
+    HeapSize,
+    IsSet(u64),
+    IsSetUnchecked(u64),
+    Get(u64),
+    GetUnchecked(u64),
+    Rank0(u64),
+    Rank1(u64),
+    Select1(usize),
+    Iter1(usize),
+}
+
+// The answer of one query, a truth value as 1 or 0. An unchecked one is asked only where its
+// condition holds; `Iter1` asks the iterator over the ones for its item of that number.
+fn answer<A: Allocator + Copy>(bits: &SparseRSVec<A>, query: Query) -> Option<u64> {
+    match query {
+        Query::Len => Some(bits.len()),
+        Query::IsEmpty => Some(u64::from(bits.is_empty())),
+        Query::HeapSize => Some(bits.heap_size() as u64),
+        Query::IsSet(place) => bits.is_set(place).map(|bit| u64::from(bit)),
+        Query::IsSetUnchecked(place) => {
+            (place < bits.len()).then(|| u64::from(bits.is_set_unchecked(place)))
+        }
+        Query::Get(place) => bits.get(place),
+        Query::GetUnchecked(place) => (place < bits.len()).then(|| bits.get_unchecked(place)),
+        Query::Rank0(place) => Some(bits.rank0(place)),
+        Query::Rank1(place) => Some(bits.rank1(place)),
+        Query::Select1(r) => Some(bits.select1(r)),
+        Query::Iter1(r) => bits.iter1().nth(r),
+    }
+}
+
+// The answer of the counted form of a query. A query that has none is asked as it is.
+fn counted<A: Allocator + Copy>(bits: &SparseRSVec<A>, query: Query) -> Option<u64> {
+    let mut tally = Tally::new();
+    match query {
+        Query::IsSet(place) => bits
+            .is_set_counted(place, &mut tally)
+            .map(|bit| u64::from(bit)),
+        Query::Get(place) => bits.get_counted(place, &mut tally),
+        Query::Rank0(place) => Some(bits.rank0_counted(place, &mut tally)),
+        Query::Rank1(place) => Some(bits.rank1_counted(place, &mut tally)),
+        Query::Select1(r) => Some(bits.select1_counted(r, &mut tally)),
+        _ => answer(bits, query),
+    }
+}
+
+/// The answers of queries of a sparse list.
+pub fn answers<A: Allocator + Copy>(
+    alloc: A,
+    bits: &SparseRSVec<A>,
+    queries: &[Query],
+) -> Result<Vec<Option<u64>, A>, AllocError> {
+    let mut found = Vec::new(alloc);
+    for query in queries {
+        found.push(answer(bits, *query))?;
+    }
+    Ok(found)
+}
+
+/// The answers of queries of a list, of its copy and by the counted forms, one after another.
+pub fn answers_thrice<A: Allocator + Copy>(
+    alloc: A,
+    ones: &[u64],
+    len: u64,
+    queries: &[Query],
+) -> Result<Vec<Option<u64>, A>, AllocError> {
+    let bits = bits_of(alloc, ones, len)?;
+    let mut found = answers(alloc, &bits, queries)?;
+    let copy = bits.clone()?;
+    found.extend_from_slice(answers(alloc, &copy, queries)?.as_slice())?;
+    for query in queries {
+        found.push(counted(&bits, *query))?;
+    }
+    Ok(found)
+}
+
+/// The answers of queries of the sparse list of bits, and of the one with ones and zeros exchanged.
+pub fn answers_of_all_bits<A: Allocator + Copy>(
+    alloc: A,
+    bits: &[bool],
+    queries: &[Query],
+) -> Result<Vec<Option<u64>, A>, GrowError> {
+    let all = BitVec::from_bools(alloc, bits)?;
+    let mut found = answers(alloc, &SparseRSVec::from_bitvec(&all)?, queries)?;
+    let inverted = SparseRSVec::from_bitvec_inverted(&all)?;
+    found.extend_from_slice(answers(alloc, &inverted, queries)?.as_slice())?;
+    Ok(found)
+}

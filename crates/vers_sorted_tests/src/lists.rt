@@ -1,0 +1,154 @@
+//! Ascending lists, and what is asked of them.
+ghost use Rattle.std.specs.Prelude.{IsTrue};
+ghost use Rattle.std.specs.List.Sorted.{IsNonDecreasing};
+
+use std::alloc::{AllocError, Allocator};
+use vers_sorted::elias_fano::EliasFanoVec;
+use vers_tally::tally::Tally;
+
+// Whether the numbers ascend.
+fn is_ascending(numbers: &[u64]) -> bool
+    ensures { IsTrue result → IsNonDecreasing numbers.now }
+{
+    numbers.is_sorted()
+}
+
+/// The list of the numbers, or of none where they don't ascend.
+pub fn list_of<A: Allocator + Copy>(
+    alloc: A,
+    numbers: &[u64],
+) -> Result<EliasFanoVec<A>, AllocError> {
+    if is_ascending(numbers) {
+        return EliasFanoVec::from_slice(alloc, numbers);
+    }
+    EliasFanoVec::from_slice(alloc, &[])
+}
+
+/// `few`, then `n` times `equal`, then `last`.
+pub fn with_equal<A: Allocator + Copy>(
+    alloc: A,
+    few: &[u64],
+    n: usize,
+    equal: u64,
+    last: u64,
+) -> Result<Vec<u64, A>, AllocError> {
+    let mut numbers = Vec::new(alloc);
+    numbers.extend_from_slice(few)?;
+    numbers.resize(few.len().saturating_add(n), equal)?;
+    numbers.push(last)?;
+    Ok(numbers)
+}
+
+/// What is asked of a list.
+#[derive(Clone, Copy, Drop)]
+pub enum Query {
+    Len,
+    IsEmpty,
+    HeapSize,
+    Get(usize),
+    GetUnchecked(usize),
+    Select(usize),
+    Delta(usize),
+    Rank(u64),
+    Predecessor(u64),
+    PredecessorUnchecked(u64),
+    Successor(u64),
+    SuccessorUnchecked(u64),
+}
+
+// The answer of one query. An unchecked one is asked only where its condition holds.
+fn answer<A: Allocator + Copy>(list: &EliasFanoVec<A>, query: Query) -> Option<u64> {
+    match query {
+        Query::Len => Some(list.len() as u64),
+        Query::IsEmpty => Some(u64::from(list.is_empty())),
+        Query::HeapSize => Some(list.heap_size() as u64),
+        Query::Get(i) => list.get(i),
+        Query::GetUnchecked(i) => (i < list.len()).then(|| list.get_unchecked(i)),
+        Query::Select(i) => list.select(i),
+        Query::Delta(i) => list.delta(i),
+        Query::Rank(v) => Some(list.rank(v)),
+        Query::Predecessor(v) => list.predecessor(v),
+        Query::PredecessorUnchecked(v) => {
+            if list.predecessor(v).is_none() {
+                return None;
+            }
+            Some(list.predecessor_unchecked(v))
+        }
+        Query::Successor(v) => list.successor(v),
+        Query::SuccessorUnchecked(v) => {
+            if list.successor(v).is_none() {
+                return None;
+            }
+            Some(list.successor_unchecked(v))
+        }
+    }
+}
+
+/// The answers of queries of the list of the numbers.
+pub fn answers<A: Allocator + Copy>(
+    alloc: A,
+    numbers: &[u64],
+    queries: &[Query],
+) -> Result<Vec<Option<u64>, A>, AllocError> {
+    let list = list_of(alloc, numbers)?;
+    let mut found = Vec::new(alloc);
+    for query in queries {
+        found.push(answer(&list, *query))?;
+    }
+    Ok(found)
+}
+
+/// The answer of a counted call, with the low parts and the rank calls that it read by.
+#[derive(Clone, Copy, Drop)]
+pub struct Counted {
+    pub answer: Option<u64>,
+    pub low_parts: u64,
+    pub rank_calls: u64,
+}
+
+// The answer of the counted form of a query. A query that has none is asked as it is.
+fn counted_answer<A: Allocator + Copy>(list: &EliasFanoVec<A>, query: Query) -> Counted {
+    let mut tally = Tally::new();
+    let found = match query {
+        Query::Get(i) => list.get_counted(i, &mut tally),
+        Query::Select(i) => list.select_counted(i, &mut tally),
+        Query::Delta(i) => list.delta_counted(i, &mut tally),
+        Query::Rank(v) => Some(list.rank_counted(v, &mut tally)),
+        Query::Predecessor(v) => list.predecessor_counted(v, &mut tally),
+        Query::Successor(v) => list.successor_counted(v, &mut tally),
+        _ => answer(list, query),
+    };
+    Counted {
+        answer: found,
+        low_parts: tally.low_parts(),
+        rank_calls: tally.rank_calls(),
+    }
+}
+
+/// The answers of the counted forms of queries of the list of the numbers.
+pub fn counted_answers<A: Allocator + Copy>(
+    alloc: A,
+    numbers: &[u64],
+    queries: &[Query],
+) -> Result<Vec<Counted, A>, AllocError> {
+    let list = list_of(alloc, numbers)?;
+    let mut found = Vec::new(alloc);
+    for query in queries {
+        found.push(counted_answer(&list, *query))?;
+    }
+    Ok(found)
+}
+
+/// The answers of queries of a copy of the list of the numbers.
+pub fn answers_of_copy<A: Allocator + Copy>(
+    alloc: A,
+    numbers: &[u64],
+    queries: &[Query],
+) -> Result<Vec<Option<u64>, A>, AllocError> {
+    let copy = list_of(alloc, numbers)?.clone()?;
+    let mut found = Vec::new(alloc);
+    for query in queries {
+        found.push(answer(&copy, *query))?;
+    }
+    Ok(found)
+}
