@@ -40,6 +40,14 @@ impl<A: Allocator + Copy> BitVecIter<A> {
         self.span.len()
     }
 
+    /// How many bits are left, at the least and at the most, which are the same.
+    pub fn size_hint(&self) -> (usize, Option<usize>)
+        ensures { result ≡ (length self.now, Some (length self.now)) }
+    {
+        let len = self.len();
+        (len, Some(len))
+    }
+
     /// How many bits are left.
     pub fn count(self) -> usize
         ensures { result ≡ length self }
@@ -101,11 +109,8 @@ impl<A: Allocator + Copy> Iterator for BitVecIter<A> {
         self.nth(0)
     }
 
-    fn size_hint(&self) -> (usize, Option<usize>)
-        ensures exact { result ≡ (length self.now, Some (length self.now)) }
-    {
-        let len = self.len();
-        (len, Some(len))
+    fn size_hint(&self) -> (usize, Option<usize>) {
+        self.size_hint()
     }
 }
 

@@ -53,6 +53,14 @@ impl<'a, A: Allocator + Copy> BitVecRefIter<'a, A> {
         self.span.len()
     }
 
+    /// How many bits are left, at the least and at the most, which are the same.
+    pub fn size_hint(&self) -> (usize, Option<usize>)
+        ensures { result ≡ (length self.now, Some (length self.now)) }
+    {
+        let len = self.len();
+        (len, Some(len))
+    }
+
     /// How many bits are left.
     pub fn count(self) -> usize
         ensures { result ≡ length self.entry }
@@ -111,11 +119,8 @@ impl<'a, A: Allocator + Copy> Iterator for BitVecRefIter<'a, A> {
         self.nth(0)
     }
 
-    fn size_hint(&self) -> (usize, Option<usize>)
-        ensures exact { result ≡ (length self.now, Some (length self.now)) }
-    {
-        let len = self.len();
-        (len, Some(len))
+    fn size_hint(&self) -> (usize, Option<usize>) {
+        self.size_hint()
     }
 }
 

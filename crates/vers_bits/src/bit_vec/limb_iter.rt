@@ -54,6 +54,14 @@ impl<'a, A: Allocator + Copy> LimbIter<'a, A> {
         self.span.len()
     }
 
+    /// How many limbs are left, at the least and at the most, which are the same.
+    pub fn size_hint(&self) -> (usize, Option<usize>)
+        ensures { result ≡ (length self.now, Some (length self.now)) }
+    {
+        let len = self.len();
+        (len, Some(len))
+    }
+
     /// How many limbs are left.
     pub fn count(self) -> usize
         ensures { result ≡ length self.entry }
@@ -112,11 +120,8 @@ impl<'a, A: Allocator + Copy> Iterator for LimbIter<'a, A> {
         self.nth(0)
     }
 
-    fn size_hint(&self) -> (usize, Option<usize>)
-        ensures exact { result ≡ (length self.now, Some (length self.now)) }
-    {
-        let len = self.len();
-        (len, Some(len))
+    fn size_hint(&self) -> (usize, Option<usize>) {
+        self.size_hint()
     }
 }
 

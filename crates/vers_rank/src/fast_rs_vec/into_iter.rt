@@ -44,6 +44,14 @@ impl<A: Allocator + Copy> RsVecIter<A> {
         self.span.len()
     }
 
+    /// How many bits are left, at the least and at the most, which are the same.
+    pub fn size_hint(&self) -> (usize, Option<usize>)
+        ensures { result ≡ (length self.now, Some (length self.now)) }
+    {
+        let len = self.len();
+        (len, Some(len))
+    }
+
     /// How many bits are left.
     pub fn count(self) -> usize
         ensures { result ≡ length self }
@@ -148,8 +156,7 @@ impl<A: Allocator + Copy> Iterator for RsVecIter<A> {
     }
 
     fn size_hint(&self) -> (usize, Option<usize>) {
-        let len = self.len();
-        (len, Some(len))
+        self.size_hint()
     }
 }
 

@@ -56,6 +56,14 @@ impl<'a, A: Allocator + Copy> RsVecRefIter<'a, A> {
         self.span.len()
     }
 
+    /// How many bits are left, at the least and at the most, which are the same.
+    pub fn size_hint(&self) -> (usize, Option<usize>)
+        ensures { result ≡ (length self.now, Some (length self.now)) }
+    {
+        let len = self.len();
+        (len, Some(len))
+    }
+
     /// How many bits are left.
     pub fn count(self) -> usize
         ensures { result ≡ length self.entry }
@@ -157,8 +165,7 @@ impl<'a, A: Allocator + Copy> Iterator for RsVecRefIter<'a, A> {
     }
 
     fn size_hint(&self) -> (usize, Option<usize>) {
-        let len = self.len();
-        (len, Some(len))
+        self.size_hint()
     }
 }
 

@@ -123,6 +123,14 @@ impl<const ZERO: bool, A: Allocator + Copy> SelectIntoIter<ZERO, A> {
         self.rest.len()
     }
 
+    /// How many places are left, at the least and at the most, which are the same.
+    pub fn size_hint(&self) -> (usize, Option<usize>)
+        ensures { result ≡ (length self.now.left, Some (length self.now.left)) }
+    {
+        let len = self.len();
+        (len, Some(len))
+    }
+
     /// How many places are left.
     pub fn count(self) -> usize
         ensures { result ≡ length self.rest.left }
@@ -231,8 +239,7 @@ impl<const ZERO: bool, A: Allocator + Copy> Iterator for SelectIntoIter<ZERO, A>
     }
 
     fn size_hint(&self) -> (usize, Option<usize>) {
-        let len = self.len();
-        (len, Some(len))
+        self.size_hint()
     }
 }
 

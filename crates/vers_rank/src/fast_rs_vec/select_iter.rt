@@ -116,6 +116,14 @@ impl<'a, const ZERO: bool, A: Allocator + Copy> SelectIter<'a, ZERO, A> {
         self.rest.len()
     }
 
+    /// How many places are left, at the least and at the most, which are the same.
+    pub fn size_hint(&self) -> (usize, Option<usize>)
+        ensures { result ≡ (length self.now.left, Some (length self.now.left)) }
+    {
+        let len = self.len();
+        (len, Some(len))
+    }
+
     /// How many places are left.
     pub fn count(self) -> usize
         ensures { result ≡ length self.entry.rest.left }
@@ -223,8 +231,7 @@ impl<'a, const ZERO: bool, A: Allocator + Copy> Iterator for SelectIter<'a, ZERO
     }
 
     fn size_hint(&self) -> (usize, Option<usize>) {
-        let len = self.len();
-        (len, Some(len))
+        self.size_hint()
     }
 }
 

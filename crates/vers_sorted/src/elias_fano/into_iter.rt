@@ -46,6 +46,14 @@ impl<A: Allocator + Copy> EliasFanoIter<A> {
         self.span.len()
     }
 
+    /// How many members are left, at the least and at the most, which are the same.
+    pub fn size_hint(&self) -> (usize, Option<usize>)
+        ensures { result ≡ (length self.now.left, Some (length self.now.left)) }
+    {
+        let len = self.len();
+        (len, Some(len))
+    }
+
     /// How many members are left.
     pub fn count(self) -> usize
         ensures { result ≡ length self.left }
@@ -188,8 +196,7 @@ impl<A: Allocator + Copy> Iterator for EliasFanoIter<A> {
     }
 
     fn size_hint(&self) -> (usize, Option<usize>) {
-        let len = self.len();
-        (len, Some(len))
+        self.size_hint()
     }
 }
 

@@ -60,6 +60,14 @@ impl<'a, A: Allocator + Copy> EliasFanoRefIter<'a, A> {
         self.span.len()
     }
 
+    /// How many members are left, at the least and at the most, which are the same.
+    pub fn size_hint(&self) -> (usize, Option<usize>)
+        ensures { result ≡ (length self.now.left, Some (length self.now.left)) }
+    {
+        let len = self.len();
+        (len, Some(len))
+    }
+
     /// How many members are left.
     pub fn count(self) -> usize
         ensures { result ≡ length self.entry.left }
@@ -199,8 +207,7 @@ impl<'a, A: Allocator + Copy> Iterator for EliasFanoRefIter<'a, A> {
     }
 
     fn size_hint(&self) -> (usize, Option<usize>) {
-        let len = self.len();
-        (len, Some(len))
+        self.size_hint()
     }
 }
 
