@@ -125,7 +125,7 @@ impl<const ZERO: bool, A: Allocator + Copy> SelectIntoIter<ZERO, A> {
 
     /// How many places are left, at the least and at the most, which are the same.
     pub fn size_hint(&self) -> (usize, Option<usize>)
-        ensures { result ≡ (length self.now.left, Some (length self.now.left)) }
+        ensures { result ≡ (length self.now.rest.left, Some (length self.now.rest.left)) }
     {
         let len = self.len();
         (len, Some(len))
