@@ -116,6 +116,9 @@ pub ruleset totals = (count_both, count_le, select_past)
 
 pub ruleset between = (samples_bound, digits_up)
 
+-- the superblocks on one side of a window are fewer
+pub ruleset sides = (digits_up, count_up)
+
 pub ruleset within_superblock = (count_past)
 
 pub ruleset block_search = (count_up, count_le)

@@ -166,12 +166,50 @@ impl<A: Allocator + Copy> RsVec<A> {
         ensures within { 8192 * result < length self.now }
         ensures from { count bit self.now (8192 * result) ≤ r }
         ensures to { r < count bit self.now (8192 * (result + 1)) }
-        ensures adds { AddsAtMost tally.old tally.new (only_superblock_entries (digits (superblock_count (length self.now)) + 5)) }
+        ensures adds { AddsAtMost tally.old tally.new (only_superblock_entries (digits (superblock_count (length self.now)) + 7)) }
     {
         let _ = &self.bits;
         let first = self.sample(bit, r / SUPERBLOCK, tally);
         let last = self.sample(bit, r / SUPERBLOCK + 1, tally);
-        self.superblock_among(bit, r, first, last + 1 - first, tally)
+        self.superblock_near(bit, r, first, last + 1 - first, tally)
+    }
+
+    // The superblock of number `r` among the `n` from `first` on: first looked for where it lies if the places are
+    // spread evenly, and else on the side of it where it must be.
+    #[inline(always)]
+    #[tactic(auto, using(crate::proofs::Selects::sides))]
+    fn superblock_near(
+        &self,
+        bit: bool,
+        r: usize,
+        first: usize,
+        n: usize,
+        tally: &mut Tally,
+    ) -> usize
+        requires some { 0 < n }
+        requires within { 8192 * (first + n) < length self.now + 8192 }
+        requires from { count bit self.now (8192 * first) ≤ r }
+        requires to { r < count bit self.now (8192 * (first + n)) }
+        ensures within { 8192 * result < length self.now }
+        ensures from { count bit self.now (8192 * result) ≤ r }
+        ensures to { r < count bit self.now (8192 * (result + 1)) }
+        ensures adds { AddsAtMost tally.old tally.new (only_superblock_entries (digits (n - 1) + 5)) }
+    {
+        let _ = &self.bits;
+        if n <= FEW {
+            return self.superblock_among(bit, r, first, n, tally);
+        }
+        let guess = (r % SUPERBLOCK).wrapping_mul(n) / SUPERBLOCK;
+        let below = guess.saturating_sub(1).min(n - FEW);
+        let start = first + below;
+        let above = n - FEW - below;
+        if self.count_at_superblock(bit, start, tally) > r {
+            return self.superblock_among(bit, r, first, below, tally);
+        }
+        if above > 0 && self.count_at_superblock(bit, start + FEW, tally) <= r {
+            return self.superblock_among(bit, r, start + FEW, above, tally);
+        }
+        self.superblock_among(bit, r, start, FEW, tally)
     }
 
     // The superblock of number `r` among the `n` from `first` on: by halves while there are many, and then one after
