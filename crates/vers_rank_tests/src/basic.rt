@@ -1,5 +1,5 @@
 //! Small lists, and lists whose bits change at the ends of superblocks.
-use crate::lists::{indexed, runs};
+use crate::lists::{indexed, runs, spread};
 use crate::queries::{Query, answers_are};
 use std::alloc::Global;
 use std::test::Fail;
@@ -115,6 +115,49 @@ fn a_superblock_of_zeros_and_one_of_ones(rt: HostRuntime) -> Result<(), Fail> {
         (Query::HeapSize, Some(2176)),
     ];
     answers_are(&rt, &list, &rows);
+    Ok(())
+}
+
+#[test]
+fn ones_on_both_sides_of_many_zeros(rt: HostRuntime) -> Result<(), Fail> {
+    let list = runs(rt.alloc(), &[(true, 4000), (false, 80_000), (true, 5000)])?;
+    let rows = [
+        (Query::Select1(0), Some(0)),
+        (Query::Select1(2000), Some(2000)),
+        (Query::Select1(3999), Some(3999)),
+        (Query::Select1(4000), Some(84_000)),
+        (Query::Select1(8191), Some(88_191)),
+        (Query::Select1(8192), Some(88_192)),
+        (Query::Select1(9000), Some(89_000)),
+        (Query::Select0(79_999), Some(83_999)),
+        (Query::Rank1(84_001), Some(4001)),
+        (Query::Successor1(3999), Some(84_000)),
+        (Query::Predecessor1(84_000), Some(3999)),
+    ];
+    answers_are(&rt, &list, &rows);
+    Ok(())
+}
+
+// The number of the first one that does not stand after `gap` zeros of its own.
+fn first_misplaced(list: &RsVec<Global>, gap: usize) -> Option<usize> {
+    for r in 0..list.ones() {
+        let want = r.wrapping_mul(gap.wrapping_add(1)).wrapping_add(gap);
+        if list.select1(r) != want {
+            return Some(r);
+        }
+    }
+    None
+}
+
+#[test]
+fn ones_spread_evenly(rt: HostRuntime) -> Result<(), Fail> {
+    let list = spread(rt.alloc(), 19, 20_000)?;
+    answers_are(
+        &rt,
+        &list,
+        &[(Query::Ones, Some(20_000)), (Query::Len, Some(400_000))],
+    );
+    assert_eq!(rt; first_misplaced(&list, 19), None);
     Ok(())
 }
 

@@ -22,6 +22,22 @@ pub fn runs<A: Allocator + Copy>(alloc: A, runs: &[(bool, usize)]) -> Result<RsV
     indexed(bits)
 }
 
+/// So many ones, each after `gap` zeros, indexed.
+pub fn spread<A: Allocator + Copy>(
+    alloc: A,
+    gap: usize,
+    ones: usize,
+) -> Result<RsVec<A>, GrowError> {
+    let mut bits = BitVec::new(alloc);
+    for _ in 0..ones {
+        for _ in 0..gap {
+            bits.append(false)?;
+        }
+        bits.append(true)?;
+    }
+    indexed(bits)
+}
+
 /// The bits 10110, indexed.
 pub fn list_10110<A: Allocator + Copy>(alloc: A) -> Result<RsVec<A>, GrowError> {
     runs(alloc, &[(true, 1), (false, 1), (true, 2), (false, 1)])
