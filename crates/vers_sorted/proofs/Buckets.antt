@@ -16,7 +16,7 @@ use Rattle.vers_sorted.specs.Buckets.{IsBucket}
 use Rattle.vers_sorted.specs.declared.elias_fano.search.Bucket.{Bucket}
 use Rattle.vers_sorted.proofs.Below.{below_le, below_from, below_to}
 use Rattle.vers_sorted.proofs.Split.{parts_sum, high_up, member_from, high_zeros}
-use Rattle.vers_sorted.proofs.Packed.{high_counted, joined, in_order}
+use Rattle.vers_sorted.proofs.Packed.{high_counted}
 
 module _ {s : List ℕ} {high low : List Bool} {first last width : ℕ} (packed : IsPacked s high low first last width) where
   -- the zeros and ones up to the place of a member
@@ -169,6 +169,6 @@ pub ruleset bucket = (zeros_counted, high_below)
 
 pub ruleset search_steps = (start_below, below_end, step_up, step_down, low_is, upper_steps, lower_steps, digits_up)
 
-pub ruleset members = (in_bucket, joined, in_order)
+pub ruleset members = (in_bucket)
 
 pub ruleset ends = (below_le, high_counted)

@@ -11,3 +11,4 @@ pub mod Bounds
 pub mod SparseBits
 pub mod BothEnds
 pub mod Scans
+pub mod Aheads

@@ -1,12 +1,12 @@
 -- The next zero or one, by the number of the bits that follow.
-use Rattle.std.proofs.Common.{◌≡◌, ℕ, zero, suc, ◌+◌, ◌-◌, ◌*◌, ◌^◌, ◌<◌, ◌≤◌, Bool, true, false, List, length, take, drop, get_or, refl, sym, ap, subst, ◌∙◌, arith, Some, None, inl, inr}
+use Rattle.std.proofs.Common.{◌≡◌, ℕ, zero, suc, ◌+◌, ◌<◌, ◌≤◌, Bool, true, false, List, length, take, drop, get_or, refl, sym, ap, ◌∙◌, arith, Some}
 use mir.Syntax.{w64}
-use Rattle.std.specs.Int.{bit_at, trailing_ones, trailing_zeros}
+use Rattle.std.specs.Int.{bit_at, trailing_ones}
 use Rattle.std.specs.Prelude.{nat_le}
 use Rattle.std.proofs.lemmas.Bool.{leb-true}
 use Rattle.std.proofs.lemmas.Option.{cond_some}
-use Rattle.std.proofs.lemmas.List.{get_or-take, get_or-drop, get_or_past, length-take, length-drop}
-use Rattle.std.proofs.lemmas.Nat.Bits.{bit_at-trailing_ones, bit_at-trailing_zeros}
+use Rattle.std.proofs.lemmas.List.{get_or-take, get_or-drop}
+use Rattle.std.proofs.lemmas.Nat.Bits.{bit_at-trailing_ones}
 use Rattle.vers_bits.specs.Bits.{bit_value, is_bit, number, count, select}
 use Rattle.vers_bits.proofs.Count.{count_le}
 use Rattle.vers_bits.proofs.Num.{bit_at-number}
@@ -14,19 +14,19 @@ use Rattle.vers_bits.proofs.Places.{select_at, count_at_select, count_more_no}
 use Rattle.vers_rank.specs.Queries.{part_number_or_zero}
 
 -- a bit of the part from p on, by the part's number
-part_bit : (l : List Bool) (p n i : ℕ) → i < n → bit_at (number (take n (drop p l))) i ≡ bit_value (get_or l (p + i) false)
+pub part_bit : (l : List Bool) (p n i : ℕ) → i < n → bit_at (number (take n (drop p l))) i ≡ bit_value (get_or l (p + i) false)
 part_bit l p n i h = bit_at-number (take n (drop p l)) i ∙ ap bit_value (get_or-take n (drop p l) i false h ∙ get_or-drop p l i false)
 
-zero_bit : (x : Bool) → bit_value x ≡ 0 → x ≡ false
+pub zero_bit : (x : Bool) → bit_value x ≡ 0 → x ≡ false
 zero_bit false e = refl
 zero_bit true e = cc e
 
-one_bit : (x : Bool) → bit_value x ≡ 1 → x ≡ true
+pub one_bit : (x : Bool) → bit_value x ≡ 1 → x ≡ true
 one_bit true e = refl
 one_bit false e = cc e
 
 -- where no place of a stretch holds the bit, the count stays
-count_stays : (b : Bool) (l : List Bool) (p d : ℕ) → p + d ≤ length l → ((i : ℕ) → i < d → is_bit b (get_or l (p + i) false) ≡ false) → count b l (p + d) ≡ count b l p
+pub count_stays : (b : Bool) (l : List Bool) (p d : ℕ) → p + d ≤ length l → ((i : ℕ) → i < d → is_bit b (get_or l (p + i) false) ≡ false) → count b l (p + d) ≡ count b l p
 count_stays b l p zero h off = ap (count b l) (let e : p + 0 ≡ p = omega arith in e)
 count_stays b l p (suc d) h off =
     let e : p + suc d ≡ p + d + 1 = omega arith in
@@ -49,7 +49,7 @@ next_zero l p h within counted small =
 pub counted_past : (b : Bool) (l : List Bool) (h p : ℕ) → h < count b l (length l) → p ≡ select b l h → count b l (p + 1) ≡ h + 1
 counted_past b l h p some e = ap (λ q. count b l (q + 1)) e ∙ (count_at_select b l h some).2
 
-part_read : (l : List Bool) (p w : ℕ) → part_number_or_zero l p 64 ≡ Some w → (p + 64 ≤ length l) × (w ≡ number (take 64 (drop p l)))
+pub part_read : (l : List Bool) (p w : ℕ) → part_number_or_zero l p 64 ≡ Some w → (p + 64 ≤ length l) × (w ≡ number (take 64 (drop p l)))
 unfolding part_number_or_zero
 part_read l p w e =
     let found = cond_some (nat_le (p + 64) (length l)) (number (take 64 (drop p l))) w e in

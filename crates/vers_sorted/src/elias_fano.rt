@@ -4,6 +4,7 @@ ghost use Rattle.std.specs.List.Sorted.{IsNonDecreasing};
 ghost use Rattle.vers_sorted.specs.Sorted.{below, greatest_not_above, least_not_below, delta};
 ghost use Rattle.vers_sorted.specs.Layout.{heap_size_of};
 
+mod ahead;
 mod into_iter;
 mod iter;
 mod make;

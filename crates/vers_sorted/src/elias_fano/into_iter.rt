@@ -8,6 +8,7 @@ ghost use Rattle.vers_tally.specs.Reads.{AddsAtMost};
 ghost use Rattle.vers_sorted.specs.Layout.{member_reads};
 
 use super::EliasFanoVec;
+use super::ahead::Ahead;
 use std::alloc::{AllocError, Allocator};
 use std::marker::Model;
 use vers_bits::walk::Span;
@@ -19,18 +20,18 @@ use vers_tally::tally::Tally;
 pub struct EliasFanoIter<A: Allocator + Copy> {
     list: EliasFanoVec<A>,
     span: Span,
+    ahead: Ahead,
 }
 
 impl<A: Allocator + Copy> Model for EliasFanoIter<A> {
-    ghost use Rattle.std.specs.Prelude.{◌≤◌, length};
     ghost use Rattle.vers_bits.specs.Walk.{items_in};
-    ghost use Rattle.vers_sorted.specs.Walks.{Members};
+    ghost use Rattle.vers_sorted.specs.Walks.{Members, IsMemberWalk};
 
     ghost Value = { Members };
 
     ghost view = { λ s. record { list = s.list; left = items_in s.list s.span } };
 
-    ghost invariant = { λ s. s.span.to ≤ length s.list };
+    ghost invariant = { λ s. IsMemberWalk s.list s.span s.ahead };
 }
 
 #[tactic(auto, using(crate::proofs::BothEnds::lists))]
@@ -102,8 +103,12 @@ impl<A: Allocator + Copy> EliasFanoIter<A> {
         ensures same_list { self.new.list ≡ self.old.list }
         ensures adds { AddsAtMost tally.old tally.new (member_reads self.old.list) }
     {
-        let i = self.span.nth(n)?;
-        Some(self.list.member(i, tally))
+        self.ahead = self.ahead.after(n);
+        let Some(i) = self.span.nth(n) else {
+            self.ahead = Ahead::none();
+            return None;
+        };
+        Some(self.list.member_ahead(i, &mut self.ahead, tally))
     }
 
     /// Drops `n` members from the back and takes the next, by the reads of one `get`. Where no
@@ -114,7 +119,10 @@ impl<A: Allocator + Copy> EliasFanoIter<A> {
         ensures same_list { self.new.list ≡ self.old.list }
         ensures adds { AddsAtMost tally.old tally.new (member_reads self.old.list) }
     {
-        let i = self.span.nth_back(n)?;
+        let Some(i) = self.span.nth_back(n) else {
+            self.ahead = Ahead::none();
+            return None;
+        };
         Some(self.list.member(i, tally))
     }
 
@@ -157,6 +165,7 @@ impl<A: Allocator + Copy> Clone for EliasFanoIter<A> {
         Ok(EliasFanoIter {
             list,
             span: self.span,
+            ahead: self.ahead,
         })
     }
 }
@@ -209,6 +218,10 @@ impl<A: Allocator + Copy> IntoIterator for EliasFanoVec<A> {
     /// An iterator over the members, which owns the list.
     fn into_iter(self) -> EliasFanoIter<A> {
         let span = Span::below(self.len());
-        EliasFanoIter { list: self, span }
+        EliasFanoIter {
+            list: self,
+            span,
+            ahead: Ahead::none(),
+        }
     }
 }

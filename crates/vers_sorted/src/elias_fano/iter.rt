@@ -8,6 +8,7 @@ ghost use Rattle.vers_tally.specs.Reads.{AddsAtMost};
 ghost use Rattle.vers_sorted.specs.Layout.{member_reads};
 
 use super::EliasFanoVec;
+use super::ahead::Ahead;
 use std::alloc::Allocator;
 use std::marker::Model;
 use vers_bits::walk::Span;
@@ -19,18 +20,18 @@ use vers_tally::tally::Tally;
 pub struct EliasFanoRefIter<'a, A: Allocator + Copy> {
     list: &'a EliasFanoVec<A>,
     span: Span,
+    ahead: Ahead,
 }
 
 impl<'a, A: Allocator + Copy> Model for EliasFanoRefIter<'a, A> {
-    ghost use Rattle.std.specs.Prelude.{◌≤◌, length};
     ghost use Rattle.vers_bits.specs.Walk.{items_in};
-    ghost use Rattle.vers_sorted.specs.Walks.{Members};
+    ghost use Rattle.vers_sorted.specs.Walks.{Members, IsMemberWalk};
 
     ghost Value = { Members };
 
     ghost view = { λ s. record { list = s.list.now; left = items_in s.list.now s.span } };
 
-    ghost invariant = { λ s. s.span.to ≤ length s.list.now };
+    ghost invariant = { λ s. IsMemberWalk s.list.now s.span s.ahead };
 }
 
 impl<A: Allocator + Copy> EliasFanoVec<A> {
@@ -42,6 +43,7 @@ impl<A: Allocator + Copy> EliasFanoVec<A> {
         EliasFanoRefIter {
             list: self,
             span: Span::below(self.len()),
+            ahead: Ahead::none(),
         }
     }
 }
@@ -115,8 +117,12 @@ impl<'a, A: Allocator + Copy> EliasFanoRefIter<'a, A> {
         ensures same_list { self.new.list ≡ self.old.list }
         ensures adds { AddsAtMost tally.old tally.new (member_reads self.old.list) }
     {
-        let i = self.span.nth(n)?;
-        Some(self.list.member(i, tally))
+        self.ahead = self.ahead.after(n);
+        let Some(i) = self.span.nth(n) else {
+            self.ahead = Ahead::none();
+            return None;
+        };
+        Some(self.list.member_ahead(i, &mut self.ahead, tally))
     }
 
     /// Drops `n` members from the back and takes the next, by the reads of one `get`. Where no
@@ -127,7 +133,10 @@ impl<'a, A: Allocator + Copy> EliasFanoRefIter<'a, A> {
         ensures same_list { self.new.list ≡ self.old.list }
         ensures adds { AddsAtMost tally.old tally.new (member_reads self.old.list) }
     {
-        let i = self.span.nth_back(n)?;
+        let Some(i) = self.span.nth_back(n) else {
+            self.ahead = Ahead::none();
+            return None;
+        };
         Some(self.list.member(i, tally))
     }
 
@@ -167,6 +176,7 @@ impl<'a, A: Allocator + Copy> EliasFanoRefIter<'a, A> {
         EliasFanoRefIter {
             list: self.list,
             span: self.span,
+            ahead: self.ahead,
         }
     }
 }

@@ -45,18 +45,29 @@ impl<A: Allocator + Copy> EliasFanoVec<A> {
         (self.high.select1_counted(i, tally) - i - 1) as u64
     }
 
-    // A member.
+    // The member whose high part is known, by its low part.
     #[inline]
     #[tactic(auto, using(crate::proofs::Packed::joined_parts))]
+    pub(super) fn with_low_part(&self, high: u64, i: usize, tally: &mut Tally) -> u64
+        requires within { i < length self.now }
+        requires high { high ≡ high_of self.now (slice_index self.now i) }
+        ensures value { result ≡ slice_index self.now i }
+        ensures adds { AddsAtMost tally.old tally.new (only_low_parts 1) }
+    {
+        let _ = &self.len;
+        let low = self.low_part(i, tally);
+        self.first + ((high << self.width) | low)
+    }
+
+    // A member.
+    #[inline]
     pub(super) fn member(&self, i: usize, tally: &mut Tally) -> u64
         requires { i < length self.now }
         ensures value { result ≡ slice_index self.now i }
         ensures adds { AddsAtMost tally.old tally.new (reads 1 1 (high_length self.now)) }
     {
-        let _ = &self.len;
         let high = self.high_part(i, tally);
-        let low = self.low_part(i, tally);
-        self.first + ((high << self.width) | low)
+        self.with_low_part(high, i, tally)
     }
 
     // The members with the high part of `v`, from one select and most often the bits after it.
@@ -113,10 +124,8 @@ impl<A: Allocator + Copy> EliasFanoVec<A> {
         ensures value { result ≡ slice_index self.now i }
         ensures adds { AddsAtMost tally.old tally.new (reads 1 1 (high_length self.now)) }
     {
-        let _ = &self.len;
         if bucket.start <= i && i < bucket.end {
-            let low = self.low_part(i, tally);
-            return self.first + ((bucket.high << self.width) | low);
+            return self.with_low_part(bucket.high, i, tally);
         }
         self.member(i, tally)
     }

@@ -1,5 +1,4 @@
-use Rattle.std.proofs.Common.{◌+◌, ◌-◌, ◌/◌, ◌^◌, arith}
-use Rattle.vers_sorted.specs.Buckets.{IsBucket}
+use Rattle.std.proofs.Common.{arith}
 use Rattle.vers_sorted.proofs.Buckets.{bucket_is}
 use Rattle.vers_sorted.proofs.elias_fano.EliasFanoVec.bucket_of.Goals as goal
 

@@ -1,4 +1,4 @@
-use Rattle.std.proofs.Common.{◌≡◌, ℕ, ◌+◌, ◌-◌, ◌<◌, length, sym, ap, ◌∙◌, arith, Some}
+use Rattle.std.proofs.Common.{ℕ, ◌+◌, length, sym, ap, ◌∙◌, arith, Some}
 use Rattle.vers_sorted.proofs.Below.{below_le}
 use Rattle.vers_sorted.proofs.Neighbours.{pred_none, pred_at, some_below}
 use Rattle.vers_sorted.proofs.Buckets.{none_below, all_below}

@@ -1,4 +1,4 @@
-use Rattle.std.proofs.Common.{◌≡◌, sym, arith}
+use Rattle.std.proofs.Common.{sym, arith}
 use Rattle.vers_sorted.proofs.Buckets.{none_below, all_below}
 use Rattle.vers_sorted.proofs.elias_fano.EliasFanoVec.rank_counted.Goals as goal
 

@@ -1,4 +1,4 @@
-use Rattle.std.proofs.Common.{◌≡◌, ℕ, ◌-◌, ◌<◌, length, sym, ap, ◌∙◌, arith, Some}
+use Rattle.std.proofs.Common.{ℕ, sym, ap, ◌∙◌, arith, Some}
 use Rattle.vers_sorted.proofs.Below.{below_le}
 use Rattle.vers_sorted.proofs.Neighbours.{succ_past, succ_at, some_left}
 use Rattle.vers_sorted.proofs.Buckets.{none_below, all_below}

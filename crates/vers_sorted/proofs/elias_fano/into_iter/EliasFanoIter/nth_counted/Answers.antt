@@ -1,14 +1,14 @@
-use Rattle.std.proofs.Common.{ap, arith}
+use Rattle.std.proofs.Common.{ap, refl, arith}
 use Rattle.vers_bits.proofs.BothEnds.{ended, gave}
 use Rattle.vers_sorted.specs.Walks.{Members}
 use Rattle.vers_sorted.proofs.BothEnds.{member_item}
 use Rattle.vers_sorted.proofs.elias_fano.into_iter.EliasFanoIter.nth_counted.Goals as goal
 
-pub returns-in_err-i-clause-steps : goal.returns-in_err-i-clause-steps
-returns-in_err-i-clause-steps g c =
-    ended c.args.n c.self.inside.list c.self.inside.span c.nth.new.self (ap (λ (m : Members). m.left) c.self.view_is) c.in_err-i.ensures c.from_residual.ensures
+pub returns-in_default-clause-steps : goal.returns-in_default-clause-steps
+returns-in_default-clause-steps g c =
+    ended c.args.n c.self.inside.list c.self.inside.span c.nth.new.self (ap (λ (m : Members). m.left) c.self.view_is) c.in_default.ensures refl
 
 pub returns-clause-steps : goal.returns-clause-steps
 returns-clause-steps g c =
-    gave c.args.n c.self.inside.list c.self.inside.span c.nth.new.self (ap (λ (m : Members). m.left) c.self.view_is) c.self.invariant c.in_ok-i.ensures
-    (member_item c.self.inside.list c.in_ok-i.i _ (omega (arith, c.in_ok-i.ensures, c.self.invariant)) c.member.ensures.value)
+    gave c.args.n c.self.inside.list c.self.inside.span c.nth.new.self (ap (λ (m : Members). m.left) c.self.view_is) c.self.invariant.within c.in-Some.ensures
+    (member_item c.self.inside.list c.in-Some.i _ (omega (arith, c.in-Some.ensures, c.self.invariant.within)) c.member_ahead.ensures.value)

@@ -1,0 +1,149 @@
+-- The ones of the high parts that were read ahead.
+use Rattle.std.proofs.Common.{◌≡◌, ℕ, ◌+◌, ◌-◌, ◌/◌, ◌^◌, ◌<◌, ◌≤◌, Bool, true, false, List, length, take, drop, get_or, sym, ap, subst, ◌∙◌, arith, Option, Some, None, inl, inr}
+use mir.Syntax.{w64}
+use Rattle.std.specs.Option.{unwrap_or}
+use Rattle.std.specs.Int.{trailing_zeros}
+use Rattle.std.specs.List.Sorted.{IsNonDecreasing}
+use Rattle.std.proofs.Math.Nat.{pow-le-pow_right}
+use Rattle.std.proofs.lemmas.Bool.{cases_lt}
+use Rattle.std.proofs.lemmas.Grind.{same_number_lists}
+use Rattle.std.proofs.lemmas.List.{get_or_past, get_or_default, length-take, drop-take, drop-drop, map-id}
+use Rattle.std.proofs.lemmas.Nat.Bits.{bit_at-trailing_zeros}
+use Rattle.vers_bits.specs.Bits.{bit_value, number, count, places, select}
+use Rattle.vers_bits.proofs.Num.{bit_at-number, number-lt, number-drop}
+use Rattle.vers_bits.proofs.Places.{select_at, count_at_select, count_more_yes, length-places}
+use Rattle.vers_rank.specs.Queries.{part_number_or_zero}
+use Rattle.vers_sorted.specs.declared.elias_fano.ahead.Ahead.{Ahead}
+use Rattle.vers_sorted.specs.Layout.{high_parts, high_place}
+use Rattle.vers_sorted.specs.Parts.{HoldHigh, IsPacked}
+use Rattle.vers_sorted.specs.Ahead.{HasRead, IsAhead}
+use Rattle.vers_sorted.specs.Ones.{ones_at}
+use Rattle.vers_sorted.proofs.Ones.{ones_at-places}
+use Rattle.vers_sorted.proofs.Holds.{hold_high}
+use Rattle.vers_sorted.proofs.Scans.{part_bit, zero_bit, one_bit, count_stays, part_read, counted_past}
+
+-- the high parts are those of the layout, since they have the same ones
+pub high_same : {s : List ℕ} {high low : List Bool} {first last width : ℕ} → IsPacked s high low first last width → high ≡ high_parts s
+unfolding select
+high_same {s} {high} packed =
+    let made : HoldHigh s (high_parts s) = hold_high s packed.ascending in
+    let counted : length (places true high) ≡ length s = length-places true high ∙ packed.high_parts.ones in
+    let both : length (places true high) ≡ length (places true (high_parts s)) = counted ∙ sym (length-places true (high_parts s) ∙ made.ones) in
+    let same : places true high ≡ places true (high_parts s) = same_number_lists _ _ both (λ k h.
+    get_or_default (places true high) k 0 (length high) h
+    ∙ packed.high_parts.place k (omega (arith, counted)) ∙ sym (made.place k (omega (arith, counted)))
+    ∙ get_or_default (places true (high_parts s)) k (length (high_parts s)) 0 (omega (arith, both))) in
+    sym (ones_at-places true high ∙ map-id high)
+    ∙ ap (λ n. ones_at (places true high) n) (packed.high_parts.total ∙ sym made.total)
+    ∙ ap (λ l. ones_at l (length (high_parts s))) same
+    ∙ ones_at-places true (high_parts s) ∙ map-id (high_parts s)
+
+module _ (l : List Bool) (p n : ℕ) (within : p + n ≤ length l) (few : n ≤ 64) (some : 0 < number (take n (drop p l))) where
+  small : number (take n (drop p l)) < 18446744073709551616
+  small =
+      let long : length (take n (drop p l)) ≤ 64 = omega (arith, length-take n (drop p l)) in
+      omega (arith, number-lt (take n (drop p l)), pow-le-pow_right {n = 2} (omega arith) {i = length (take n (drop p l))} {j = 64} long)
+
+  -- the lowest one of the number is within the part, and no place before it holds a one
+  pub lowest : (trailing_zeros w64 (number (take n (drop p l))) < n)
+      × (get_or l (p + trailing_zeros w64 (number (take n (drop p l)))) false ≡ true)
+      × (count true l (p + trailing_zeros w64 (number (take n (drop p l)))) ≡ count true l p)
+  lowest =
+      let t : ℕ = trailing_zeros w64 (number (take n (drop p l))) in
+      let found = bit_at-trailing_zeros w64 (number (take n (drop p l))) some small in
+      let low : t < n = elim (cases_lt t n) [
+        | inl h ↦ h
+        | inr past ↦
+            let none : get_or (take n (drop p l)) t false ≡ false = get_or_past (take n (drop p l)) t false (omega (arith, length-take n (drop p l))) in
+            absurd (omega (arith, found.1, bit_at-number (take n (drop p l)) t, ap bit_value none))
+      ] in (
+        low,
+        one_bit (get_or l (p + t) false) (sym (part_bit l p n t low) ∙ found.1),
+        count_stays true l p t (omega arith) (λ i less. zero_bit (get_or l (p + i) false) (sym (part_bit l p n i (omega arith)) ∙ found.2 i less)),
+      )
+
+  -- what is left of the part past a place of it
+  pub rest : (t : ℕ) → t < n → number (take n (drop p l)) / 2 ^ t / 2 ^ 1 ≡ number (take (n - (t + 1)) (drop (p + (t + 1)) l))
+  rest t low =
+      let m : ℕ = n - (t + 1) in
+      let e : t + 1 + (n - (t + 1)) ≡ n = omega arith in
+      ap (λ x. x / 2 ^ 1) (sym (number-drop t (take n (drop p l))))
+      ∙ sym (number-drop 1 (drop t (take n (drop p l))))
+      ∙ ap number (drop-drop 1 t (take n (drop p l)))
+      ∙ ap (λ k. number (drop (t + 1) (take k (drop p l)))) (sym e)
+      ∙ ap number (drop-take (t + 1) (n - (t + 1)) (drop p l))
+      ∙ ap (λ q. number (take (n - (t + 1)) q)) (drop-drop (t + 1) p l)
+
+-- ---- a step
+
+module _ (s : List ℕ) (i : ℕ) (a : Ahead) (up : IsNonDecreasing s) (read : HasRead s i a) (some : 0 < a.word) where
+  one_left : 0 < number (take a.len (drop a.place (high_parts s)))
+  one_left = omega (arith, read.bits)
+
+  same_zeros : trailing_zeros w64 a.word ≡ trailing_zeros w64 (number (take a.len (drop a.place (high_parts s))))
+  same_zeros = ap (trailing_zeros w64) read.bits
+
+  pub step_fits : trailing_zeros w64 a.word + 1 ≤ a.len
+  step_fits = omega (arith, same_zeros, (lowest (high_parts s) a.place a.len read.within read.few one_left).0)
+
+  pub step_place : i < length s → a.place + trailing_zeros w64 a.word ≡ high_place s i
+  step_place h =
+      let found = lowest (high_parts s) a.place a.len read.within read.few one_left in
+      let t : ℕ = trailing_zeros w64 (number (take a.len (drop a.place (high_parts s)))) in
+      let at : select true (high_parts s) i ≡ a.place + t =
+      select_at true (high_parts s) i (a.place + t) (omega (arith, found.0, read.within)) found.1 (found.2 ∙ read.before) in
+      omega (arith, same_zeros, at, (hold_high s up).place i h)
+
+  pub step_read : (b : Ahead) → b.place ≡ a.place + (trailing_zeros w64 a.word + 1) → b.len ≡ a.len - (trailing_zeros w64 a.word + 1)
+      → b.word ≡ a.word / 2 ^ trailing_zeros w64 a.word / 2 ^ 1 → HasRead s (i + 1) b
+  step_read b place len word =
+      let found = lowest (high_parts s) a.place a.len read.within read.few one_left in
+      let t : ℕ = trailing_zeros w64 (number (take a.len (drop a.place (high_parts s)))) in
+      let t_is : trailing_zeros w64 a.word ≡ t = same_zeros in
+      let low : t < a.len = found.0 in
+      let place_is : b.place ≡ a.place + (t + 1) = omega (arith, place, t_is) in
+      let len_is : b.len ≡ a.len - (t + 1) = omega (arith, len, t_is) in
+      let past : a.place + (t + 1) ≡ a.place + t + 1 = omega arith in
+      record {
+        before = ap (count true (high_parts s)) (place_is ∙ past) ∙ count_more_yes true (high_parts s) (a.place + t) (omega (arith, read.within)) found.1 ∙ omega (arith, found.2, read.before);
+        within = omega (arith, place_is, len_is, read.within);
+        few = omega (arith, len_is, read.few);
+        bits = word ∙ ap (λ k. a.word / 2 ^ k / 2 ^ 1) t_is ∙ ap (λ w. w / 2 ^ t / 2 ^ 1) read.bits
+            ∙ rest (high_parts s) a.place a.len read.within read.few one_left t low
+            ∙ ap (λ k. number (take k (drop (a.place + (t + 1)) (high_parts s)))) (sym len_is)
+            ∙ ap (λ q. number (take b.len (drop q (high_parts s)))) (sym place_is);
+      }
+
+  pub step_read_by : (t : ℕ) (b : Ahead) → t ≡ trailing_zeros w64 a.word → b.place ≡ a.place + (t + 1) → b.len ≡ a.len - (t + 1) → b.word ≡ a.word / 2 ^ t / 2 ^ 1 → HasRead s (i + 1) b
+  step_read_by t b e place len word = step_read b (omega (arith, place, e)) (omega (arith, len, e)) (word ∙ ap (λ k. a.word / 2 ^ k / 2 ^ 1) e)
+
+-- ---- the bits after a member's one
+
+pub read_after : {s : List ℕ} {high low : List Bool} {first last width : ℕ} (i p w : ℕ) → IsPacked s high low first last width → i < length s → p ≡ select true high i
+    → part_number_or_zero high (p + 1) 64 ≡ Some w → HasRead s (i + 1) (record { place = p + 1; len = 64; word = w })
+read_after {s} {high} i p w packed h e read =
+    let same : high ≡ high_parts s = high_same packed in
+    let made : HoldHigh s (high_parts s) = hold_high s packed.ascending in
+    let part = part_read (high_parts s) (p + 1) w (ap (λ l. part_number_or_zero l (p + 1) 64) (sym same) ∙ read) in
+    record {
+      before = counted_past true (high_parts s) i p (omega (arith, made.ones)) (e ∙ ap (λ l. select true l i) same);
+      within = part.0;
+      few = omega arith;
+      bits = part.1;
+    }
+
+pub read_maybe : {s : List ℕ} {high low : List Bool} {first last width : ℕ} (i p w : ℕ) (o : Option ℕ) → IsPacked s high low first last width → i < length s → p ≡ select true high i
+    → o ≡ part_number_or_zero high (p + 1) 64 → w ≡ unwrap_or o 0 → IsAhead s (i + 1) (record { place = p + 1; len = 64; word = w })
+read_maybe i p w None packed h e read is some = absurd (omega (arith, is, some))
+read_maybe {s} i p w (Some v) packed h e read is some =
+    let P : ℕ → Type 0 = λ x. HasRead s (i + 1) (record { place = p + 1; len = 64; word = x }) in
+    subst P (sym is) (read_after i p v packed h e (sym read))
+
+-- the place after what was read stands among the bits
+pub read_fits : {s : List ℕ} {high low : List Bool} {first last width : ℕ} (i : ℕ) (a : Ahead) → IsPacked s high low first last width → HasRead s i a → a.place + a.len ≤ length high
+read_fits {s} i a packed read = omega (arith, read.within, (hold_high s packed.ascending).total, packed.high_parts.total)
+
+pub place_fits : {s : List ℕ} {high low : List Bool} {first last width : ℕ} (i : ℕ) → IsPacked s high low first last width → i < length s → select true high i < length high
+place_fits {s} {high} i packed h = (count_at_select true high i (omega (arith, packed.high_parts.ones))).0
+
+pub ruleset steps = (step_fits, step_place)

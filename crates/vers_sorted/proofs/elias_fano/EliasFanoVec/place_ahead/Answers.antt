@@ -1,0 +1,30 @@
+use Rattle.std.proofs.Common.{refl, arith}
+use Rattle.vers_sorted.proofs.Aheads.{step_fits, step_read, read_maybe, read_fits, place_fits}
+use Rattle.vers_sorted.proofs.elias_fano.EliasFanoVec.place_ahead.Goals as goal
+
+pub overflow_add-ahead-then-ahead-ne0 : goal.overflow_add-ahead-then-ahead-ne0
+overflow_add-ahead-then-ahead-ne0 g c =
+    let packed = rw c.self.view_is at c.self.invariant in
+    let read = c.requires.ahead (omega arith) in
+    record { fits = omega (arith, read_fits c.args.i c.args.ahead.now packed read, step_fits c.args.self.now c.args.i c.args.ahead.now packed.ascending read (omega arith)) }
+
+pub returns-then-ahead-ne0-clause-ahead : goal.returns-then-ahead-ne0-clause-ahead
+returns-then-ahead-ne0-clause-ahead g c =
+    let packed = rw c.self.view_is at c.self.invariant in
+    λ more. step_read c.args.self.now c.args.i c.args.ahead.now packed.ascending (c.requires.ahead (omega arith)) (omega arith) _ refl refl refl
+
+pub overflow_add-ahead-2 : goal.overflow_add-ahead-2
+overflow_add-ahead-2 g c =
+    let packed = rw c.self.view_is at c.self.invariant in
+    record { fits = omega (arith, place_fits c.args.i packed c.requires.within, c.select1_counted-place.ensures.value) }
+
+pub overflow_add-place : goal.overflow_add-place
+overflow_add-place g c =
+    let packed = rw c.self.view_is at c.self.invariant in
+    record { fits = omega (arith, place_fits c.args.i packed c.requires.within, c.select1_counted-place.ensures.value) }
+
+pub returns-clause-ahead : goal.returns-clause-ahead
+returns-clause-ahead g c =
+    let packed = rw c.self.view_is at c.self.invariant in
+    read_maybe c.args.i c.select1_counted-place.result c.unwrap_or-ahead.result c.get_bits_counted.result packed c.requires.within c.select1_counted-place.ensures.value
+    c.get_bits_counted.ensures.value c.unwrap_or-ahead.ensures

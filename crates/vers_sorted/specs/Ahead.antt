@@ -1,0 +1,16 @@
+-- What an iterator has read of the high parts before it is asked for.
+use Rattle.std.specs.Prelude.{◌≡◌, ℕ, ◌+◌, ◌<◌, ◌≤◌, true, List, length, take, drop}
+use Rattle.vers_bits.specs.Bits.{number, count}
+use Rattle.vers_sorted.specs.declared.elias_fano.ahead.Ahead.{Ahead}
+use Rattle.vers_sorted.specs.Layout.{high_parts}
+
+-- the ones of the high parts before the place are those of the first i members, and the word is the number of the bits from there on
+pub record HasRead (s : List ℕ) (i : ℕ) (ahead : Ahead) : Type 0 where
+  pub before : count true (high_parts s) ahead.place ≡ i
+  pub within : ahead.place + ahead.len ≤ length (high_parts s)
+  pub few : ahead.len ≤ 64
+  pub bits : ahead.word ≡ number (take ahead.len (drop ahead.place (high_parts s)))
+
+-- where a one was read ahead, it is that of member i
+abbrev pub IsAhead : List ℕ → ℕ → Ahead → Type 0
+IsAhead s i ahead = 0 < ahead.word → HasRead s i ahead

@@ -1,0 +1,84 @@
+//! The bits of the high parts that a walk along the members has read before it is asked for them.
+ghost use Rattle.std.specs.Prelude.{◌≡◌, ◌+◌, ◌<◌, length, slice_index};
+ghost use Rattle.vers_tally.specs.Reads.{AddsAtMost};
+ghost use Rattle.vers_sorted.specs.Ahead.{IsAhead};
+ghost use Rattle.vers_sorted.specs.Layout.{high_length, high_place};
+ghost use Rattle.vers_sorted.specs.Parts.{reads};
+
+use super::EliasFanoVec;
+use std::alloc::Allocator;
+use vers_tally::tally::Tally;
+
+// Bits of the high parts: `len` of them from `place` on, as a number. No ones where nothing was read.
+#[derive(Clone, Copy, Drop)]
+pub(super) struct Ahead {
+    pub(super) place: usize,
+    pub(super) len: usize,
+    pub(super) word: u64,
+}
+
+impl Ahead {
+    // Nothing is read ahead.
+    #[inline]
+    pub(super) fn none() -> Ahead
+        ensures { result.word ≡ 0 }
+    {
+        Ahead {
+            place: 0,
+            len: 0,
+            word: 0,
+        }
+    }
+
+    // What is read ahead of the next member, once `n` members are dropped.
+    #[inline]
+    pub(super) fn after(self, n: usize) -> Ahead
+        ensures kept { n ≡ 0 → result ≡ self }
+        ensures dropped { 0 < n → result.word ≡ 0 }
+    {
+        if n == 0 { self } else { Ahead::none() }
+    }
+}
+
+impl<A: Allocator + Copy> EliasFanoVec<A> {
+    // The place of the one of a member, which most often was read ahead with those before it.
+    #[inline]
+    #[tactic(auto, using(crate::proofs::Aheads::steps))]
+    pub(super) fn place_ahead(&self, i: usize, ahead: &mut Ahead, tally: &mut Tally) -> usize
+        requires within { i < length self.now }
+        requires ahead { IsAhead self.now i ahead.old }
+        ensures value { result ≡ high_place self.now i }
+        ensures ahead { IsAhead self.now (i + 1) ahead.new }
+        ensures adds { AddsAtMost tally.old tally.new (reads 0 2 (high_length self.now)) }
+    {
+        let _ = self.high.len();
+        if ahead.word != 0 {
+            let skip = ahead.word.trailing_zeros() as usize;
+            ahead.word = (ahead.word >> skip) >> 1;
+            ahead.place += skip + 1;
+            ahead.len -= skip + 1;
+            return ahead.place - 1;
+        }
+        let place = self.high.select1_counted(i, tally);
+        ahead.place = place + 1;
+        ahead.len = 64;
+        ahead.word = self
+            .high
+            .get_bits_counted(place + 1, 64, tally)
+            .unwrap_or(0);
+        place
+    }
+
+    // A member, by the place of its one.
+    #[inline]
+    pub(super) fn member_ahead(&self, i: usize, ahead: &mut Ahead, tally: &mut Tally) -> u64
+        requires within { i < length self.now }
+        requires ahead { IsAhead self.now i ahead.old }
+        ensures value { result ≡ slice_index self.now i }
+        ensures ahead { IsAhead self.now (i + 1) ahead.new }
+        ensures adds { AddsAtMost tally.old tally.new (reads 1 2 (high_length self.now)) }
+    {
+        let high = (self.place_ahead(i, ahead, tally) - i - 1) as u64;
+        self.with_low_part(high, i, tally)
+    }
+}
