@@ -7,6 +7,7 @@
 
 mod bits;
 mod report;
+mod sorted;
 mod workload;
 
 use report::{Mode, Settings};
@@ -80,6 +81,14 @@ fn main(rt: HostRuntime) -> io::Result<()> {
                 bits::run(&rt, &settings, *limb_count, percent, sizes.query_count)?;
             }
         }
+    }
+    if settings.wants("sorted") {
+        let divisor = match settings.mode {
+            Mode::Checksums => 16,
+            Mode::Times { divisor, .. } => divisor.max(1),
+        };
+        let len = 1_000_000 / divisor;
+        sorted::run(&rt, &settings, len, len, 2_000 / divisor)?;
     }
     Ok(())
 }

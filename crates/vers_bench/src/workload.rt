@@ -42,6 +42,9 @@ impl Random {
     }
 }
 
+/// What stands for no answer in a checksum.
+pub const NONE: u64 = u64::MAX;
+
 /// Folds an answer into the checksum of a series of queries.
 pub fn fold(sum: u64, answer: u64) -> u64 {
     sum.wrapping_mul(31).wrapping_add(answer)
@@ -65,4 +68,68 @@ pub fn limbs(alloc: Global, count: usize, percent: u64) -> Result<Vec<u64>, Allo
         limbs.push(random_word(&mut random, percent))?;
     }
     Ok(limbs)
+}
+
+/// Ascending members with gaps below 2^20.
+pub fn members_uniform(alloc: Global, count: usize) -> Result<Vec<u64>, AllocError> {
+    let mut random = Random::new(2);
+    let mut members = Vec::with_capacity(alloc, count)?;
+    let mut value = 0u64;
+    for _ in 0..count {
+        value = value.wrapping_add(random.below(1 << 20));
+        members.push(value)?;
+    }
+    Ok(members)
+}
+
+/// Members with gaps below 2^40, but for a tenth of them in the middle, which lie close together.
+#[derive(Drop)]
+pub struct Clustered {
+    /// All members.
+    pub members: Vec<u64>,
+    /// What the close ones begin at.
+    pub first: u64,
+}
+
+// Adds eight members, 100 apart, and answers the last.
+fn push_eight(members: &mut Vec<u64>, mut value: u64) -> Result<u64, AllocError> {
+    for _ in 0..8 {
+        value = value.wrapping_add(100);
+        members.push(value)?;
+    }
+    Ok(value)
+}
+
+/// `count` members: in their middle eight, then a tenth of all that are equal or 1 to 3 apart, then
+/// eight more.
+pub fn members_clustered(
+    alloc: Global,
+    count: usize,
+    are_equal: bool,
+) -> Result<Clustered, AllocError> {
+    let mut random = Random::new(3);
+    let close = count / 10;
+    let far = count.saturating_sub(close).saturating_sub(16);
+    let mut members = Vec::with_capacity(alloc, count.saturating_add(1))?;
+    let mut value = 0u64;
+    let mut first = 0u64;
+    for i in 0..far {
+        value = value.wrapping_add(random.below(1 << 40));
+        if i == far / 2 {
+            value = push_eight(&mut members, value)?.wrapping_add(1000);
+            first = value;
+            for _ in 0..close {
+                if !are_equal {
+                    value = value.wrapping_add(1).wrapping_add(random.below(3));
+                }
+                members.push(value)?;
+            }
+            value = push_eight(&mut members, value)?;
+        } else {
+            members.push(value)?;
+        }
+    }
+    members.push(value.wrapping_add(random.below(1 << 40)))?;
+    members.truncate(count);
+    Ok(Clustered { members, first })
 }
