@@ -10,6 +10,8 @@ crate calls by name.
   of the type, and nothing else.
 - An index type, which is one with a `heap_size`, keeps lists only in counted vectors and other index types, and its
   `heap_size` names each of them. A public type that owns a counted vector has a `heap_size`.
+- Where an index type keeps another, some counted body of it asks that one by a counted call: counted words of its own
+  don't take the place of the index.
 - In the crate of the counters a call of a counted vector that isn't handed a counter is one of a few that read no
   entry or the whole, and one that is handed it raises it.
 
@@ -151,6 +153,20 @@ def index_faults(texts, index_types):
                     yield f"{text.path}: {name}.{field} keeps a list outside a counted vector: {ty}"
 
 
+def unasked_faults(texts, index_types):
+    """Yields a line for each index inside an index type that no counted body of the type asks."""
+    counted = counted_functions(texts)
+    for text in texts:
+        for name, _, fields in text.structs():
+            for field, ty in fields:
+                inner = re.match(r"(\w+)\s*(?:<|$)", ty)
+                if name not in index_types or not inner or inner[1] not in index_types:
+                    continue
+                asks = re.compile(rf"\bself\s*\.\s*{field}\s*\.\s*\w+_counted\s*\(")
+                if not any(it.holder == name and asks.search(it.body) for it in counted):
+                    yield f"{text.path}: no counted body of {name} asks {field}"
+
+
 def vector_faults(texts):
     """Yields a line for each call of a counted vector that reads an entry and doesn't count it."""
     for text in texts:
@@ -177,6 +193,7 @@ def faults(crates):
         yield from counted_faults(texts, queries)
         yield from plain_faults(texts)
         yield from index_faults(texts, index_types)
+        yield from unasked_faults(texts, index_types)
 
 
 def crates_below(top):
@@ -252,6 +269,9 @@ PLANTS = (
     ("Low.cache keeps a list outside a counted vector", "vers_low", "    zeros: usize,", "    cache: Option<BitVec<A>>,"),
     ("heap_size of Low leaves out more", "vers_low", "    zeros: usize,", "    more: SuperblockEntries<A>,"),
     ("heap_size of High leaves out low", "vers_high", "self.low.heap_size()", "0"),
+    ("High.members keeps a list outside a counted vector", "vers_high", "    low: Low<A>,", "    low: Low<A>,\n    members: Vec<u64, A>,"),
+    ("no counted body of High asks low", "vers_high", "self.low.rank1_counted(i, tally)", "self.words.scan_counted(i, tally)"),
+    ("no counted body of High asks low", "vers_high", "self.low.rank1_counted(i, tally)", "scan(&self.low, i, tally)"),
     ("owns the counted vector blocks and has no heap_size", "vers_low", "fn heap_size", "fn size"),
     ("raises nothing", COUNTERS, "        tally.block_entries = tally.block_entries.saturating_add(1);\n", ""),
     ("BlockEntries::read is handed no counter", COUNTERS, "k: usize, tally: &mut Tally", "k: usize"),
