@@ -102,14 +102,19 @@ pub fn owned_walk<A: Allocator + Copy>(
     Ok(found)
 }
 
-/// A member by each of the three ways to iterate: over a borrowed list, over one borrowed for
-/// writing, and over the list itself.
-pub fn members_three_ways<A: Allocator + Copy>(
-    alloc: A,
-    numbers: &[u64],
-) -> Result<[Option<u64>; 3], AllocError> {
+/// The sum of the members by three loops: over a borrowed list, over one borrowed for writing, and
+/// over the list itself.
+pub fn summed_thrice<A: Allocator + Copy>(alloc: A, numbers: &[u64]) -> Result<u64, AllocError> {
     let mut list = list_of(alloc, numbers)?;
-    let borrowed = (&list).into_iter().nth(0);
-    let borrowed_for_writing = (&mut list).into_iter().nth(1);
-    Ok([borrowed, borrowed_for_writing, list.into_iter().nth(2)])
+    let mut sum = 0u64;
+    for member in &list {
+        sum = sum.wrapping_add(member);
+    }
+    for member in &mut list {
+        sum = sum.wrapping_add(member);
+    }
+    for member in list {
+        sum = sum.wrapping_add(member);
+    }
+    Ok(sum)
 }

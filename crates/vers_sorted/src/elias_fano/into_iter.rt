@@ -1,6 +1,6 @@
 //! The iterator over the members of a list that it owns.
 ghost use Rattle.std.specs.Prelude.{◌≡◌, ◌≤◌, ◌↔◌, [], All, IsNone, IfSome, None, length};
-ghost use Rattle.std.specs.Iterator.{item_count, MakesProgress, YieldsFirst, YieldsLast};
+ghost use Rattle.std.specs.Iterator.{item_count, YieldsFirst, YieldsLast};
 ghost use Rattle.std.specs.List.{Contains, last_or};
 ghost use Rattle.std.specs.List.Sorted.{IsNonDecreasing};
 ghost use Rattle.vers_bits.specs.Walk.{TakesNth, TakesNthBack, TakesFirst, TakesLast};
@@ -179,11 +179,7 @@ impl<A: Allocator + Copy> Iterator for EliasFanoIter<A> {
     ghost remaining = { item_count (λ s. s.left) };
 
     #[inline]
-    fn next(&mut self) -> Option<u64>
-        ensures steps { YieldsFirst (λ s. s.left) self.old result self.new }
-        ensures goes { MakesProgress (λ _. Unit {0}) (item_count (λ s. s.left)) self.old result self.new }
-        ensures same_list { self.new.list ≡ self.old.list }
-    {
+    fn next(&mut self) -> Option<u64> {
         self.nth(0)
     }
 
@@ -198,11 +194,7 @@ impl<A: Allocator + Copy> DoubleEndedIterator for EliasFanoIter<A> {
     ghost next_back_gives = { YieldsLast (λ s. s.left) };
 
     #[inline]
-    fn next_back(&mut self) -> Option<u64>
-        ensures steps { YieldsLast (λ s. s.left) self.old result self.new }
-        ensures goes { MakesProgress (λ _. Unit {0}) (item_count (λ s. s.left)) self.old result self.new }
-        ensures same_list { self.new.list ≡ self.old.list }
-    {
+    fn next_back(&mut self) -> Option<u64> {
         self.nth_back(0)
     }
 }

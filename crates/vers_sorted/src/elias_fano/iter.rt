@@ -1,6 +1,6 @@
 //! The iterator over the members of a borrowed list.
 ghost use Rattle.std.specs.Prelude.{◌≡◌, ◌≤◌, ◌↔◌, [], All, IsNone, IfSome, None, length};
-ghost use Rattle.std.specs.Iterator.{item_count, MakesProgress, YieldsFirst, YieldsLast};
+ghost use Rattle.std.specs.Iterator.{item_count, YieldsFirst, YieldsLast};
 ghost use Rattle.std.specs.List.{Contains, last_or};
 ghost use Rattle.std.specs.List.Sorted.{IsNonDecreasing};
 ghost use Rattle.vers_bits.specs.Walk.{TakesNth, TakesNthBack, TakesFirst, TakesLast};
@@ -190,11 +190,7 @@ impl<'a, A: Allocator + Copy> Iterator for EliasFanoRefIter<'a, A> {
     ghost remaining = { item_count (λ s. s.left) };
 
     #[inline]
-    fn next(&mut self) -> Option<u64>
-        ensures steps { YieldsFirst (λ s. s.left) self.old result self.new }
-        ensures goes { MakesProgress (λ _. Unit {0}) (item_count (λ s. s.left)) self.old result self.new }
-        ensures same_list { self.new.list ≡ self.old.list }
-    {
+    fn next(&mut self) -> Option<u64> {
         self.nth(0)
     }
 
@@ -209,11 +205,7 @@ impl<'a, A: Allocator + Copy> DoubleEndedIterator for EliasFanoRefIter<'a, A> {
     ghost next_back_gives = { YieldsLast (λ s. s.left) };
 
     #[inline]
-    fn next_back(&mut self) -> Option<u64>
-        ensures steps { YieldsLast (λ s. s.left) self.old result self.new }
-        ensures goes { MakesProgress (λ _. Unit {0}) (item_count (λ s. s.left)) self.old result self.new }
-        ensures same_list { self.new.list ≡ self.old.list }
-    {
+    fn next_back(&mut self) -> Option<u64> {
         self.nth_back(0)
     }
 }
