@@ -1,15 +1,15 @@
 -- The queries of a sparse list of bits, by those of the list of its ones' places.
-use Rattle.std.proofs.Common.{◌≡◌, ℕ, ◌+◌, ◌-◌, ◌<◌, ◌≤◌, Bool, true, false, List, [], ◌∷◌, ◌++◌, length, take, get_or, eqb, refl, sym, ap, ◌∙◌, arith, inl, inr, min, Some, None}
-use Rattle.std.specs.Prelude.{slice_index, slice_get, map}
+use Rattle.std.proofs.Common.{◌≡◌, ℕ, ◌+◌, ◌-◌, ◌*◌, ◌<◌, ◌≤◌, Bool, true, false, List, [], ◌∷◌, ◌++◌, length, take, get_or, eqb, refl, sym, ap, ◌∙◌, arith, inl, inr, min, Some, None}
+use Rattle.std.specs.Prelude.{slice_index, slice_get, map, count_ones}
 use Rattle.std.specs.List.Sorted.{IsNonDecreasing}
 use Rattle.std.proofs.lemmas.Bool.{cases_lt, cases_eq, eq-eqb, ne_eqb}
 use Rattle.std.proofs.lemmas.List.{get_or_default, map-id, take_more, take_all}
 use Rattle.std.proofs.lemmas.Option.{slice_get-get_or, slice_get_past}
-use Rattle.vers_bits.specs.Bits.{is_bit, count, places, select}
-use Rattle.vers_bits.proofs.Count.{count_none, count_both, count_past, count_up}
+use Rattle.vers_bits.specs.Bits.{is_bit, count, places, select, limb}
+use Rattle.vers_bits.proofs.Count.{count_none, count_both, count_past, count_up, count_limb_whole}
 use Rattle.vers_bits.proofs.Places.{select_at, select_past, length-places, count_more_yes, count_more_no}
 use Rattle.vers_sorted.specs.Sorted.{below, least_not_below}
-use Rattle.vers_sorted.specs.Ones.{ones_at, AreSparse}
+use Rattle.vers_sorted.specs.Ones.{ones_at, AreSparse, ones_without}
 use Rattle.vers_sorted.proofs.Below.{below_le, below_from, below_to}
 use Rattle.vers_sorted.proofs.Neighbours.{below_after, succ_is}
 use Rattle.vers_sorted.proofs.Ones.{length-ones_at, get_or-ones_at, member_test, ascends, below_member, count-ones_at, select-ones_at, all_ones, places-ones_at, places_rise, places_within, ones_at-places}
@@ -131,6 +131,28 @@ first_places_same b l i h off = ap (λ k. take k (places b l)) (count_more_no b 
 pub first_places_all : (b : Bool) (l : List Bool) → take (count b l (length l)) (places b l) ≡ places b l
 first_places_all b l = take_all (count b l (length l)) (places b l) (omega (arith, length-places b l))
 
+-- a limb that has no bit of the kind
+limb_passed : (b : Bool) (l : List Bool) (k : ℕ) → count_ones (limb l k) ≡ ones_without b → count b l (64 * k + 64) ≡ count b l (64 * k)
+limb_passed true l k e = omega (arith, count_limb_whole l k)
+limb_passed false l k e =
+    omega (arith, count_limb_whole l k, count_both l (64 * k), count_both l (64 * k + 64), count_up false l (64 * k) (64 * k + 64) (omega arith))
+
+pub first_places_passed : (b : Bool) (l : List Bool) (k : ℕ) → count_ones (limb l k) ≡ ones_without b
+    → take (count b l (64 * k + 64)) (places b l) ≡ take (count b l (64 * k)) (places b l)
+first_places_passed b l k e = ap (λ n. take n (places b l)) (limb_passed b l k e)
+
+-- the places of a limb that ends at e, which is its own end or the list's
+pub first_places_limb : (b : Bool) (l : List Bool) (k e : ℕ) → e ≡ 64 * k + min (length l - 64 * k) 64 → 64 * k < length l
+    → take (count b l (64 * k + 64)) (places b l) ≡ take (count b l e) (places b l)
+first_places_limb b l k e is h = ap (λ n. take n (places b l)) (elim (cases_lt (64 * k + 64) (length l)) [
+  | inl less ↦ ap (count b l) (let same : 64 * k + 64 ≡ e = omega arith in same)
+  | inr past ↦ count_past b l (64 * k + 64) past ∙ sym (ap (count b l) (let same : e ≡ length l = omega arith in same))
+])
+
+-- past the last limb
+pub first_places_end : (b : Bool) (l : List Bool) (i : ℕ) → length l ≤ i → take (count b l i) (places b l) ≡ places b l
+first_places_end b l i h = ap (λ n. take n (places b l)) (count_past b l i h) ∙ first_places_all b l
+
 pub zeros_are : (l : List Bool) (i : ℕ) → min i (length l) - count true l i ≡ count false l i
 zeros_are l i = omega (arith, count_both l i)
 
@@ -141,6 +163,6 @@ pub ruleset sparse = (length-ones_at, places_are, count_is, select_some, select_
 
 pub ruleset from_places = (sparse_places, places_ascend, ones_at-places)
 
-pub ruleset collecting = (held_bit, other_bit, first_places_none, first_places_more, first_places_same, first_places_all)
+pub ruleset collecting = (held_bit, other_bit, first_places_none, first_places_more, first_places_same, first_places_passed, first_places_limb, first_places_end)
 
 pub ruleset zeros = (zeros_are, ones_few)

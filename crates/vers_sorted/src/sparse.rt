@@ -1,9 +1,10 @@
 //! Lists of bits with few ones.
-ghost use Rattle.std.specs.Prelude.{◌≡◌, ◌<◌, ◌↔◌, [], All, not, length, map, slice_index_or, slice_get, option_map, IsTrue, IfOk, true, false};
+ghost use Rattle.std.specs.Prelude.{◌≡◌, ◌+◌, ◌*◌, ◌<◌, ◌↔◌, [], All, not, length, take, map, slice_index_or, slice_get, option_map, IsTrue, IfOk, OnOk, true, false};
 ghost use Rattle.std.specs.List.Sorted.{IsStrictlyIncreasing};
 ghost use Rattle.vers_bits.specs.Bits.{bit_value, count, is_bit, places, select};
 ghost use Rattle.vers_tally.specs.Reads.{AddsAtMost};
 ghost use Rattle.vers_sorted.specs.Layout.{heap_size_of, member_reads, search_reads};
+ghost use Rattle.vers_sorted.specs.Ones.{ones_without};
 
 use crate::elias_fano::{EliasFanoRefIter, EliasFanoVec};
 use std::alloc::{AllocError, Allocator};
@@ -239,10 +240,42 @@ fn places_of<A: Allocator + Copy>(bits: &BitVec<A>, bit: bool) -> Result<Vec<u64
     ensures { IfOk result (λ v. v.items ≡ places bit bits.now) }
 {
     let mut found = Vec::new(bits.allocator());
-    for place in 0..bits.len() {
+    for k in 0..bits.len().div_ceil(64) {
+        push_places(&mut found, bits, bit, k)?;
+    }
+    Ok(found)
+}
+
+// Adds the places of the ones or the zeros of one limb to those of the limbs before it. A limb that
+// has none of them is passed over whole.
+#[tactic(auto, using(crate::proofs::SparseBits::collecting))]
+fn push_places<A: Allocator + Copy>(
+    found: &mut Vec<u64, A>,
+    bits: &BitVec<A>,
+    bit: bool,
+    k: usize,
+) -> Result<(), AllocError>
+    requires within { 64 * k < length bits.now }
+    requires before { found.old.items ≡ take (count bit bits.now (64 * k)) (places bit bits.now) }
+    ensures { OnOk result (found.new.items ≡ take (count bit bits.now (64 * k + 64)) (places bit bits.now)) }
+{
+    if bits.limb(k).count_ones() == ones_without(bit) {
+        return Ok(());
+    }
+    let len = bits.len();
+    let start = 64 * k;
+    let end = start + (len - start).min(64);
+    for place in start..end {
         if bits.is_bit_set_unchecked(place) == bit {
             found.push(place as u64)?;
         }
     }
-    Ok(found)
+    Ok(())
+}
+
+// How many ones a limb has that has no bit of the kind.
+fn ones_without(bit: bool) -> u32
+    ensures { result ≡ ones_without bit }
+{
+    if bit { 0 } else { 64 }
 }

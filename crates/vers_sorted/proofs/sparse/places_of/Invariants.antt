@@ -1,6 +1,6 @@
-use Rattle.std.proofs.Common.{◌≡◌, take}
+use Rattle.std.proofs.Common.{◌≡◌, ◌*◌, take}
 use Rattle.vers_bits.specs.Bits.{count, places}
 use Rattle.vers_sorted.proofs.sparse.places_of.Given as goal
 
-abbrev pub invariant-loop-place : goal.invariant-loop-place
-invariant-loop-place g l = l.found.items ≡ take (count l.bit l.bits l.place) (places l.bit l.bits)
+abbrev pub invariant-loop-k : goal.invariant-loop-k
+invariant-loop-k g l = l.found.items ≡ take (count l.bit l.bits (64 * l.k)) (places l.bit l.bits)
