@@ -8,6 +8,7 @@ mod ahead;
 mod into_iter;
 mod iter;
 mod make;
+mod narrow;
 mod scan;
 mod search;
 

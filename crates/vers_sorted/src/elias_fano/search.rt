@@ -24,7 +24,7 @@ impl<A: Allocator + Copy> EliasFanoVec<A> {
     // The low part of a member.
     #[inline]
     #[tactic(auto, using(crate::proofs::Packed::low_parts_read))]
-    fn low_part(&self, i: usize, tally: &mut Tally) -> u64
+    pub(super) fn low_part(&self, i: usize, tally: &mut Tally) -> u64
         requires { i < length self.now }
         ensures value { result ≡ low_of self.now (slice_index self.now i) }
         ensures adds { AddsAtMost tally.old tally.new (only_low_parts 1) }
@@ -98,12 +98,13 @@ impl<A: Allocator + Copy> EliasFanoVec<A> {
         requires above { first_of self.now ≤ v }
         requires bucket { IsBucket self.now v bucket }
         ensures value { result ≡ below self.now v }
-        ensures adds { AddsAtMost tally.old tally.new (only_low_parts (digits (length self.now))) }
+        ensures adds { AddsAtMost tally.old tally.new (only_low_parts (digits (length self.now) + 4)) }
     {
         let _ = &self.len;
         let low = (v - self.first) & ((1 << self.width) - 1);
-        let mut from = bucket.start;
-        let mut to = bucket.end;
+        let between = self.narrowed(bucket, v, low, tally);
+        let mut from = between.from;
+        let mut to = between.to;
         while from < to {
             let mid = from + (to - from) / 2;
             if self.low_part(mid, tally) < low {

@@ -1,4 +1,4 @@
-use Rattle.std.proofs.Common.{◌≡◌, ◌-◌, ◌≤◌, length}
+use Rattle.std.proofs.Common.{◌≡◌, ◌+◌, ◌-◌, ◌≤◌, length}
 use Rattle.vers_tally.specs.Reads.{only_low_parts, digits, AddsAtMost}
 use Rattle.vers_sorted.specs.Sorted.{below}
 use Rattle.vers_sorted.specs.Layout.{low_of}
@@ -14,7 +14,7 @@ invariant-loop-from g l =
       from_below : l.from ≤ below l.self l.v;
       below_to : below l.self l.v ≤ l.to;
       budget : digits (l.to - l.from) ≤ digits (length l.self);
-      adds : AddsAtMost l.fn.tally l.tally (only_low_parts (digits (length l.self) - digits (l.to - l.from)));
+      adds : AddsAtMost l.fn.tally l.tally (only_low_parts (digits (length l.self) + 4 - digits (l.to - l.from)));
     }
 
 abbrev pub decreases-loop-from : goal.decreases-loop-from

@@ -1,0 +1,99 @@
+//! A guess at where a number stands among many members with one high part.
+ghost use Rattle.std.specs.Prelude.{◌≡◌, ◌≤◌};
+ghost use Rattle.vers_tally.specs.Reads.{only_low_parts, AddsAtMost};
+ghost use Rattle.vers_sorted.specs.Layout.{first_of, low_of};
+ghost use Rattle.vers_sorted.specs.Buckets.{IsBucket, IsBetween};
+
+use super::EliasFanoVec;
+use super::search::Bucket;
+use std::alloc::Allocator;
+use vers_tally::tally::Tally;
+
+// Places between which the members below a number end.
+#[derive(Clone, Copy, Drop)]
+pub(super) struct Between {
+    pub(super) from: usize,
+    pub(super) to: usize,
+}
+
+// How many members with one high part are worth a guess.
+const MANY: usize = 256;
+
+// The place of a low part among `count` that rise evenly from `first` to `last`.
+#[inline]
+fn guess(first: u64, last: u64, low: u64, count: usize) -> usize {
+    let span = last.saturating_sub(first);
+    let above = low.saturating_sub(first).min(span);
+    let shift = 32u32.saturating_sub(span.leading_zeros());
+    let share = (above >> shift).wrapping_mul(count as u64);
+    (share / (span >> shift).max(1)) as usize
+}
+
+impl<A: Allocator + Copy> EliasFanoVec<A> {
+    // The places between which the members below `v` end. Among many members that rise evenly, few
+    // are left between them.
+    #[inline]
+    #[tactic(auto, using(crate::proofs::Buckets::search_steps))]
+    pub(super) fn narrowed(&self, bucket: Bucket, v: u64, low: u64, tally: &mut Tally) -> Between
+        requires above { first_of self.now ≤ v }
+        requires bucket { IsBucket self.now v bucket }
+        requires low { low ≡ low_of self.now v }
+        ensures between { IsBetween self.now v bucket result }
+        ensures adds { AddsAtMost tally.old tally.new (only_low_parts 4) }
+    {
+        let _ = &self.len;
+        let all = Between {
+            from: bucket.start,
+            to: bucket.end,
+        };
+        let count = bucket.end.saturating_sub(bucket.start);
+        if count < MANY {
+            return all;
+        }
+        let first = self.low_part(bucket.start, tally);
+        let last = self.low_part(bucket.end - 1, tally);
+        let near = bucket.start.saturating_add(guess(first, last, low, count));
+        let margin = count / MANY;
+        let lower = near.saturating_sub(margin);
+        let after = self.probed(bucket, v, low, all, lower, tally);
+        self.probed(bucket, v, low, after, near.saturating_add(margin), tally)
+    }
+
+    // The side of place `i` on which the members below `v` end, where `i` is one of the places.
+    #[inline]
+    #[tactic(auto, using(crate::proofs::Buckets::search_steps))]
+    fn probed(
+        &self,
+        bucket: Bucket,
+        v: u64,
+        low: u64,
+        between: Between,
+        i: usize,
+        tally: &mut Tally,
+    ) -> Between
+        requires above { first_of self.now ≤ v }
+        requires bucket { IsBucket self.now v bucket }
+        requires low { low ≡ low_of self.now v }
+        requires between { IsBetween self.now v bucket between }
+        ensures between { IsBetween self.now v bucket result }
+        ensures adds { AddsAtMost tally.old tally.new (only_low_parts 1) }
+    {
+        let _ = &self.len;
+        if i < between.from {
+            return between;
+        }
+        if i >= between.to {
+            return between;
+        }
+        if self.low_part(i, tally) < low {
+            return Between {
+                from: i + 1,
+                to: between.to,
+            };
+        }
+        Between {
+            from: between.from,
+            to: i,
+        }
+    }
+}
