@@ -30,8 +30,8 @@ fn guess(first: u64, last: u64, low: u64, count: usize) -> usize {
 }
 
 impl<A: Allocator + Copy> EliasFanoVec<A> {
-    // The places between which the members below `v` end. Among many members that rise evenly, few
-    // are left between them.
+    // The places between which the members below `v` end. Among many members that rise evenly, but
+    // for a few at both ends, few are left between them.
     #[inline]
     #[tactic(auto, using(crate::proofs::Buckets::search_steps))]
     pub(super) fn narrowed(&self, bucket: Bucket, v: u64, low: u64, tally: &mut Tally) -> Between
@@ -50,9 +50,12 @@ impl<A: Allocator + Copy> EliasFanoVec<A> {
         if count < MANY {
             return all;
         }
-        let first = self.low_part(bucket.start, tally);
-        let last = self.low_part(bucket.end - 1, tally);
-        let near = bucket.start.saturating_add(guess(first, last, low, count));
+        // A few at both ends may lie far from the others.
+        let start = bucket.start + count / 64;
+        let last = bucket.end - 1 - count / 64;
+        let from = self.low_part(start, tally);
+        let to = self.low_part(last, tally);
+        let near = start.saturating_add(guess(from, to, low, count - count / 32));
         let margin = count / MANY;
         let lower = near.saturating_sub(margin);
         let after = self.probed(bucket, v, low, all, lower, tally);
