@@ -54,7 +54,7 @@ rising xs h k l = rw (add-one k) (ltb-true _ _ (each_next-at nat_lt xs k (omega 
 pub ascending : (xs : List ℕ) → each_next nat_le xs ≡ true → IsNonDecreasing xs
 ascending xs h = IsNonDecreasingBy-from_all_adjacent (λ x. x) xs (λ k d l.
     rw (add-one k, get_or_default xs k d 0 (omega arith), get_or_default xs (suc k) d 0 (omega arith))
-      (leb-true _ _ (each_next-at nat_le xs k (omega arith) h)))
+    (leb-true _ _ (each_next-at nat_le xs k (omega arith) h)))
 
 -- the places of the ones and the length tell the list
 pub ones_at-same : (bits : List Bool) (n : ℕ) (ones : List ℕ) → length bits ≡ n → places true bits ≡ ones → bits ≡ ones_at ones n

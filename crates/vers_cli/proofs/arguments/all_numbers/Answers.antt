@@ -10,7 +10,7 @@ returns-in_default g c =
     let words = c.args.arguments.now in
     let i = c.loop-word.word-index in
     sym (all_numbers-none (texts words) i (omega (arith, length-map words (λ (word : Bor (List ℕ)). word.now)))
-      (ap number_of (get_or-map (λ (word : Bor (List ℕ)). word.now) words i _ [] c.loop-word-test.true) ∙ sym c.number.ensures ∙ c.in_default.is))
+    (ap number_of (get_or-map (λ (word : Bor (List ℕ)). word.now) words i _ [] c.loop-word-test.true) ∙ sym c.number.ensures ∙ c.in_default.is))
 
 pub returns : goal.returns
 returns g c =
