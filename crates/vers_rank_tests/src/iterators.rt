@@ -429,9 +429,30 @@ fn owned_sums(list: &RsVec<Global>) -> Result<[usize; 2], AllocError> {
     Ok([sum_of(zeros), sum_of(&mut ones)])
 }
 
+fn sum_in_a_loop(list: &RsVec<Global>) -> usize {
+    let mut sum: usize = 0;
+    for place in list.iter1() {
+        sum = sum.wrapping_add(place);
+    }
+    for place in list.bit_set_iter1() {
+        sum = sum.wrapping_add(place);
+    }
+    sum
+}
+
+fn owned_sum_in_a_loop(list: RsVec<Global>) -> usize {
+    let mut sum: usize = 0;
+    for place in list.into_iter1() {
+        sum = sum.wrapping_add(place);
+    }
+    sum
+}
+
 #[test]
 fn loops_over_places(rt: HostRuntime) -> Result<(), Fail> {
     let list = list_10110(rt.alloc())?;
+    assert_eq!(rt; sum_in_a_loop(&list), 10, "in a loop");
+    assert_eq!(rt; owned_sum_in_a_loop(list.clone()?), 5, "owned, in a loop");
     assert_eq!(rt; borrowed_sums(&list), [5, 5, 5, 5], "borrowed");
     assert_eq!(rt; owned_sums(&list)?, [5, 5], "owned");
     Ok(())

@@ -1,6 +1,6 @@
 //! The iterators that scan chunks of 16 bits for zeros or ones.
 ghost use Rattle.std.specs.Prelude.{◌≡◌, ◌+◌, ◌-◌, ◌<◌, ◌≤◌, true, false, length};
-ghost use Rattle.std.specs.Iterator.{item_count, MakesProgress, YieldsFirst};
+ghost use Rattle.std.specs.Iterator.{item_count, YieldsFirst};
 ghost use Rattle.vers_bits.specs.Bits.{places};
 ghost use Rattle.vers_bits.specs.Walk.{TakesFirst};
 ghost use Rattle.vers_tally.specs.Reads.{AddsAtMost};
@@ -146,6 +146,16 @@ impl<A: Allocator + Copy> RsVec<A> {
 }
 
 impl<'a, const ZERO: bool, A: Allocator + Copy> BitSetIter<'a, ZERO, A> {
+    /// The first of the places left, which is taken.
+    pub fn next(&mut self) -> Option<usize>
+        ensures steps { TakesFirst self.old.rest.left result self.new.rest.left }
+        ensures same_list { self.new.rest.bits ≡ self.old.rest.bits }
+        ensures loads { self.new.rest.unread ≤ self.old.rest.unread }
+    {
+        let mut tally = Tally::new();
+        self.next_counted(&mut tally)
+    }
+
     /// The first of the places left, which is taken. Loads as many chunks as the number of those
     /// unread falls by, each by at most two data words and two queries.
     pub fn next_counted(&mut self, tally: &mut Tally) -> Option<usize>
@@ -166,13 +176,7 @@ impl<'a, const ZERO: bool, A: Allocator + Copy> Iterator for BitSetIter<'a, ZERO
 
     ghost remaining = { item_count (λ s. s.rest.left) };
 
-    fn next(&mut self) -> Option<usize>
-        ensures steps { YieldsFirst (λ s. s.rest.left) self.old result self.new }
-        ensures goes { MakesProgress (λ _. Unit {0}) (item_count (λ s. s.rest.left)) self.old result self.new }
-        ensures same_list { self.new.rest.bits ≡ self.old.rest.bits }
-        ensures loads { self.new.rest.unread ≤ self.old.rest.unread }
-    {
-        let mut tally = Tally::new();
-        self.next_counted(&mut tally)
+    fn next(&mut self) -> Option<usize> {
+        self.next()
     }
 }

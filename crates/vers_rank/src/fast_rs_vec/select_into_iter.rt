@@ -1,6 +1,6 @@
 //! The iterators over the places of the zeros or the ones of a list that they own.
 ghost use Rattle.std.specs.Prelude.{◌≡◌, None, not, true, false, length};
-ghost use Rattle.std.specs.Iterator.{item_count, MakesProgress, YieldsFirst, YieldsLast};
+ghost use Rattle.std.specs.Iterator.{item_count, YieldsFirst, YieldsLast};
 ghost use Rattle.std.specs.List.{last_or};
 ghost use Rattle.vers_bits.specs.Bits.{places};
 ghost use Rattle.vers_bits.specs.Walk.{TakesNth, TakesNthBack, TakesFirst, TakesLast};
@@ -160,6 +160,26 @@ impl<const ZERO: bool, A: Allocator + Copy> SelectIntoIter<ZERO, A> {
         self.nth_back_counted(n, &mut tally)
     }
 
+    /// The first of the places left, which is taken.
+    #[inline]
+    pub fn next(&mut self) -> Option<usize>
+        ensures steps { TakesFirst self.old.rest.left result self.new.rest.left }
+        ensures same_list { self.new.rest.bits ≡ self.old.rest.bits }
+    {
+        let mut tally = Tally::new();
+        self.next_counted(&mut tally)
+    }
+
+    /// The last of the places left, which is taken.
+    #[inline]
+    pub fn next_back(&mut self) -> Option<usize>
+        ensures steps { TakesLast self.old.rest.left result self.new.rest.left }
+        ensures same_list { self.new.rest.bits ≡ self.old.rest.bits }
+    {
+        let mut tally = Tally::new();
+        self.next_back_counted(&mut tally)
+    }
+
     /// The first of the places left, which is taken, by the reads of one select.
     #[inline]
     pub fn next_counted(&mut self, tally: &mut Tally) -> Option<usize>
@@ -230,12 +250,8 @@ impl<const ZERO: bool, A: Allocator + Copy> Iterator for SelectIntoIter<ZERO, A>
     ghost remaining = { item_count (λ s. s.rest.left) };
 
     #[inline]
-    fn next(&mut self) -> Option<usize>
-        ensures steps { YieldsFirst (λ s. s.rest.left) self.old result self.new }
-        ensures goes { MakesProgress (λ _. Unit {0}) (item_count (λ s. s.rest.left)) self.old result self.new }
-        ensures same_list { self.new.rest.bits ≡ self.old.rest.bits }
-    {
-        self.nth(0)
+    fn next(&mut self) -> Option<usize> {
+        self.next()
     }
 
     fn size_hint(&self) -> (usize, Option<usize>) {
@@ -248,11 +264,7 @@ impl<const ZERO: bool, A: Allocator + Copy> DoubleEndedIterator for SelectIntoIt
     ghost next_back_gives = { YieldsLast (λ s. s.rest.left) };
 
     #[inline]
-    fn next_back(&mut self) -> Option<usize>
-        ensures steps { YieldsLast (λ s. s.rest.left) self.old result self.new }
-        ensures goes { MakesProgress (λ _. Unit {0}) (item_count (λ s. s.rest.left)) self.old result self.new }
-        ensures same_list { self.new.rest.bits ≡ self.old.rest.bits }
-    {
-        self.nth_back(0)
+    fn next_back(&mut self) -> Option<usize> {
+        self.next_back()
     }
 }

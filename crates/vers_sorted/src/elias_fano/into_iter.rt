@@ -83,6 +83,26 @@ impl<A: Allocator + Copy> EliasFanoIter<A> {
         self.nth_back_counted(n, &mut tally)
     }
 
+    /// The first of the members left, which is taken.
+    #[inline]
+    pub fn next(&mut self) -> Option<u64>
+        ensures steps { TakesFirst self.old.left result self.new.left }
+        ensures same_list { self.new.list ≡ self.old.list }
+    {
+        let mut tally = Tally::new();
+        self.next_counted(&mut tally)
+    }
+
+    /// The last of the members left, which is taken.
+    #[inline]
+    pub fn next_back(&mut self) -> Option<u64>
+        ensures steps { TakesLast self.old.left result self.new.left }
+        ensures same_list { self.new.list ≡ self.old.list }
+    {
+        let mut tally = Tally::new();
+        self.next_back_counted(&mut tally)
+    }
+
     /// The first of the members left, which is taken, by the reads of one `get`.
     #[inline]
     pub fn next_counted(&mut self, tally: &mut Tally) -> Option<u64>
@@ -188,7 +208,7 @@ impl<A: Allocator + Copy> Iterator for EliasFanoIter<A> {
 
     #[inline]
     fn next(&mut self) -> Option<u64> {
-        self.nth(0)
+        self.next()
     }
 
     fn size_hint(&self) -> (usize, Option<usize>) {
@@ -202,7 +222,7 @@ impl<A: Allocator + Copy> DoubleEndedIterator for EliasFanoIter<A> {
 
     #[inline]
     fn next_back(&mut self) -> Option<u64> {
-        self.nth_back(0)
+        self.next_back()
     }
 }
 
