@@ -7,7 +7,7 @@ crate calls by name.
 - A counted body makes no counter. What it reads of a list it reads by calls that are handed the counter: it calls
   no reading call without it, and indexes nothing but tables in capitals.
 - A plain query `q` of a type that has `q_counted` is `q_counted` with a fresh counter, or one call of another plain query
-  of the type, and nothing else.
+  of the type, and nothing else. A trait's `q` may be one call of the type's own public `q`.
 - An index type, which is one with a `heap_size`, keeps lists only in counted vectors and other index types, and its
   `heap_size` names each of them. A public type that owns a counted vector has a `heap_size`.
 - Where an index type keeps another, some counted body of it asks that one by a counted call: counted words of its own
@@ -123,13 +123,15 @@ def plain_faults(texts):
     """Yields a line for each plain query that is neither its counted form with a fresh counter nor another plain query."""
     everything = [function for text in texts for function in text.functions]
     named = {(function.holder, function.name) for function in everything if function.tally}
+    own = {(function.holder, function.name) for function in everything if function.is_public}
     for function in everything:
         if function.tally or (function.holder, f"{function.name}_counted") not in named:
             continue
         form = r"\{\s*let mut (\w+) = Tally::new\(\);\s*(?:self|Self)(?:\.|::)" + function.name + r"_counted\((?:[^;]*,\s*)?&mut \1\)\s*\}"
         other = re.fullmatch(r"\{\s*self\.(\w+)\([\w\s,]*\)\s*\}", function.body)
         is_other = other and other[1] != function.name and (function.holder, f"{other[1]}_counted") in named
-        if not is_other and not re.fullmatch(form, function.body):
+        is_own = other and other[1] == function.name and not function.is_public and (function.holder, function.name) in own
+        if not is_other and not is_own and not re.fullmatch(form, function.body):
             yield f"{function.path}:{function.line}: {function.name} is not {function.name}_counted with a fresh counter"
 
 
@@ -265,6 +267,8 @@ PLANTS = (
     ("counted body rank_counted reads by rank1 without the counter", "vers_high", "self.low.rank1_counted(i, tally)", "self.low.rank1(i)"),
     ("rank1 is not rank1_counted with a fresh counter", "vers_low", "self.rank1_counted(i, &mut tally)", "self.scan(i, &mut tally)"),
     ("rank1 is not rank1_counted with a fresh counter", "vers_low", "self.rank1_counted(i, &mut tally)", "self.rank1_counted(i, &mut tally) + self.rest(i)"),
+    ("rank1 is not rank1_counted with a fresh counter", "vers_low", "let mut tally = Tally::new();\n        self.rank1_counted(i, &mut tally)", "self.rank1(i)"),
+    ("rank1 is not rank1_counted with a fresh counter", "vers_low", "    pub fn rank1(&self, i: usize) -> usize\n        ensures { result ≡ count self.now i }\n    {\n        let mut tally = Tally::new();\n        self.rank1_counted(i, &mut tally)", "    fn rank1(&self, i: usize) -> usize\n        ensures { result ≡ count self.now i }\n    {\n        self.rank1(i)"),
     ("Low.cache keeps a list outside a counted vector", "vers_low", "    zeros: usize,", "    cache: Vec<u64, A>,"),
     ("Low.cache keeps a list outside a counted vector", "vers_low", "    zeros: usize,", "    cache: Option<BitVec<A>>,"),
     ("heap_size of Low leaves out more", "vers_low", "    zeros: usize,", "    more: SuperblockEntries<A>,"),
