@@ -1,5 +1,5 @@
 -- Steps of iterators from both ends, for items of every type.
-use Rattle.std.proofs.Common.{◌≡◌, ℕ, zero, suc, ◌+◌, ◌-◌, ◌<◌, ◌≤◌, List, [], ◌∷◌, ◌++◌, Bool, false, map, option_map, Option, Some, None, length, get_or, min, take, drop, reverse, refl, sym, ◌∙◌, ap, arith, inl, inr, slice_get, length-append, append_assoc}
+use Rattle.std.proofs.Common.{◌≡◌, ℕ, ◌+◌, ◌-◌, ◌<◌, ◌≤◌, List, [], ◌∷◌, ◌++◌, Bool, false, map, option_map, Option, Some, None, length, get_or, min, take, drop, reverse, refl, sym, ◌∙◌, ap, arith, inl, inr, slice_get, append_assoc}
 use Rattle.std.specs.Option.{option_to_list}
 use Rattle.std.specs.List.{last_or}
 use Rattle.std.specs.Iterator.{YieldsFirst, YieldsLast, MakesProgress, item_count}

@@ -1,14 +1,17 @@
 -- Counts and numbers of parts of a list, by its limbs.
-use Rattle.std.proofs.Common.{◌≡◌, ℕ, ◌+◌, ◌-◌, ◌*◌, ◌/◌, ◌%◌, ◌^◌, ◌<◌, ◌≤◌, Bool, List, [], ◌∷◌, ◌++◌, length, take, drop, sym, ap, ◌∙◌, arith, Some, None}
+use Rattle.std.proofs.Common.{◌≡◌, ℕ, ◌+◌, ◌-◌, ◌*◌, ◌/◌, ◌%◌, ◌^◌, ◌<◌, ◌≤◌, Bool, List, [], ◌∷◌, ◌++◌, length, take, drop, refl, sym, ap, ◌∙◌, inl, inr, arith, Some, None}
+use Rattle.std.specs.Int.Bits.{or_shifted_r}
 use Rattle.std.specs.Prelude.{bit_and, bit_or}
+use Rattle.std.proofs.lemmas.Bool.{cases_lt}
 use Rattle.std.proofs.lemmas.Bool.Decides.{nat_tests}
-use Rattle.std.proofs.lemmas.Nat.{and_mask, mod_below, pow_pos, shl_whole, or_comm, or_shifted}
-use Rattle.std.proofs.Math.Nat.{pow-suc, mul_comm}
+use Rattle.std.proofs.lemmas.Nat.{div-mul-add, mod-mul-add, mod-pow-add, mod_below, mul-mod_first, or_comm, or_shifted, pow_pos, pow-add, shl_whole}
+use Rattle.std.proofs.Math.Nat.{mod-eq_of_lt, mul-add-mod_self_right, mul-div_cancel, mul-mod_left, mul_assoc, mul_comm, pow-suc}
+use Rattle.std.proofs.Math.Pow.{mod-mod-pow, shr_lt}
 use Rattle.std.proofs.Math.Seq.{take-add}
-use Rattle.std.proofs.lemmas.Nat.Bits.{ones_shr}
 use Rattle.std.proofs.lemmas.List.{length-take, length-drop, take-take, drop-drop, drop-take}
 use Rattle.vers_bits.specs.Bits.{number, limb, part_number}
-use Rattle.vers_bits.proofs.Words.{length-word_bits}
+use Rattle.vers_bits.proofs.Words.{length-word_bits, limb-lt}
+use Rattle.vers_bits.proofs.LowBits.{low_mask}
 use Rattle.vers_bits.proofs.Num.{number-take, number-drop}
 use Rattle.vers_bits.proofs.Count.{count_limb_whole, count_near, count_past, count_none, count_le, count_both}
 
@@ -27,10 +30,8 @@ part_of_limb l p n some h =
     ap (λ m. drop s (take m (drop (64 * k) l))) all ∙ drop-take s (64 - s) (drop (64 * k) l) in
     let same : take n (drop p l) ≡ take n (drop s (take 64 (drop (64 * k) l))) =
     ap (λ q. take n (drop q l)) start ∙ sym (ap (take n) (drop-drop s (64 * k) l)) ∙ sym (take-take n (64 - s) (drop s (drop (64 * k) l)) (omega arith)) ∙ sym (ap (take n) cut) in
-    let width : 64 - (64 - n) ≡ n = omega arith in
-    let mask : 18446744073709551615 / 2 ^ (64 - n) ≡ 2 ^ n - 1 = ones_shr 64 (64 - n) (omega arith) ∙ ap (λ m. 2 ^ m - 1) width in
     ap number same ∙ number-take n (drop s (take 64 (drop (64 * k) l))) ∙ ap (λ x. x % 2 ^ n) (number-drop s (take 64 (drop (64 * k) l)))
-    ∙ sym (ap (bit_and (number (take 64 (drop (64 * k) l)) / 2 ^ s)) mask ∙ and_mask (number (take 64 (drop (64 * k) l)) / 2 ^ s) n)
+    ∙ sym (low_mask (number (take 64 (drop (64 * k) l)) / 2 ^ s) n (omega arith))
 
 pub number-append : (a b : List Bool) → number (a ++ b) ≡ number a + 2 ^ length a * number b
 number-append [] b = omega arith
@@ -40,19 +41,99 @@ number_part_lt : (l : List Bool) (p n : ℕ) → number (take n (drop p l)) < 2 
 number_part_lt l p n = rw number-take (mod_below (number (drop p l)) (2 ^ n) (pow_pos n))
 
 -- two parts, one after the other
+parts_add : (l : List Bool) (p m n : ℕ) → m ≤ n → p + n ≤ length l
+    → number (take n (drop p l)) ≡ number (take m (drop p l)) + 2 ^ m * number (take (n - m) (drop (p + m) l))
+parts_add l p m n h within =
+    let whole : n ≡ m + (n - m) = omega arith in
+    let long : length (take m (drop p l)) ≡ m = omega (arith, length-take m (drop p l), length-drop p l) in
+    ap (λ k. number (take k (drop p l))) whole ∙ ap number (take-add m (n - m) (drop p l)) ∙ number-append (take m (drop p l)) (take (n - m) (drop m (drop p l)))
+    ∙ ap (λ k. number (take m (drop p l)) + 2 ^ k * number (take (n - m) (drop m (drop p l)))) long
+    ∙ ap (λ xs. number (take m (drop p l)) + 2 ^ m * number (take (n - m) xs)) (drop-drop m p l)
+
 pub parts_join : (l : List Bool) (p m n : ℕ) → m ≤ n → n ≤ 64 → p + n ≤ length l
     → number (take n (drop p l)) ≡ bit_or (number (take m (drop p l))) (number (take (n - m) (drop (p + m) l)) * 2 ^ m % 18446744073709551616)
 parts_join l p m n h few within =
     let low : ℕ = number (take m (drop p l)) in
     let high : ℕ = number (take (n - m) (drop (p + m) l)) in
-    let whole : n ≡ m + (n - m) = omega arith in
-    let long : length (take m (drop p l)) ≡ m = omega (arith, length-take m (drop p l), length-drop p l) in
-    let joined : number (take n (drop p l)) ≡ low + 2 ^ m * high =
-    ap (λ k. number (take k (drop p l))) whole ∙ ap number (take-add m (n - m) (drop p l)) ∙ number-append (take m (drop p l)) (take (n - m) (drop m (drop p l)))
-    ∙ ap (λ k. low + 2 ^ k * number (take (n - m) (drop m (drop p l)))) long
-    ∙ ap (λ xs. low + 2 ^ m * number (take (n - m) xs)) (drop-drop m p l) in
     let fits : high * 2 ^ m % 2 ^ 64 ≡ high * 2 ^ m = shl_whole high (n - m) m 64 (number_part_lt l (p + m) (n - m)) (omega arith) in
-    joined ∙ sym (ap (bit_or low) fits ∙ or_comm low (high * 2 ^ m) ∙ or_shifted high m low (number_part_lt l p m) ∙ omega (arith, mul_comm high (2 ^ m)))
+    parts_add l p m n h within ∙ sym (ap (bit_or low) fits ∙ or_comm low (high * 2 ^ m) ∙ or_shifted high m low (number_part_lt l p m) ∙ omega (arith, mul_comm high (2 ^ m)))
+
+-- a number shifted up, with nothing past the highest place
+shifted_up : (x a b : ℕ) → x * 2 ^ a % 2 ^ (b + a) ≡ (x % 2 ^ b) * 2 ^ a
+shifted_up x a b = mod-pow-add (x * 2 ^ a) b a ∙ (rw (mul-div_cancel x {n = 2 ^ a} (pow_pos a), mul-mod_left x (2 ^ a)) (omega arith))
+
+-- the low digits of two joined numbers, where they lie in the lower one, and where they reach into the other
+joined_low : (c a m n : ℕ) → n ≤ m → (c * 2 ^ m + a) % 2 ^ n ≡ a % 2 ^ n
+joined_low c a m n h =
+    let wide : m ≡ (m - n) + n = omega arith in
+    let split : c * 2 ^ m ≡ c * 2 ^ (m - n) * 2 ^ n =
+    ap (λ k. c * 2 ^ k) wide ∙ ap (λ x. c * x) (pow-add 2 (m - n) n) ∙ sym (mul_assoc c (2 ^ (m - n)) (2 ^ n)) in
+    ap (λ x. (x + a) % 2 ^ n) split ∙ mul-add-mod_self_right (c * 2 ^ (m - n)) (2 ^ n) a
+
+joined_high : (c a m j : ℕ) → a < 2 ^ m → (c * 2 ^ m + a) % 2 ^ (j + m) ≡ (c % 2 ^ j) * 2 ^ m + a
+joined_high c a m j h = mod-pow-add (c * 2 ^ m + a) j m ∙ (rw (div-mul-add c (2 ^ m) a h, mod-mul-add c (2 ^ m) a h) refl)
+
+-- two limbs, the second shifted up to where the first ends
+two_limbs : (x y s : ℕ) → s < 64 → x < 2 ^ 64
+    → bit_or (x / 2 ^ s) (y * 2 ^ 1 % 18446744073709551616 * 2 ^ (63 - s) % 18446744073709551616) ≡ (y % 2 ^ s) * 2 ^ (64 - s) + x / 2 ^ s
+two_limbs x y s small fits =
+    let rest : 1 + (63 - s) ≡ 64 - s = omega arith in
+    let all : 64 ≡ s + (64 - s) = omega arith in
+    let twice : 2 ^ 1 * 2 ^ (63 - s) ≡ 2 ^ (64 - s) = sym (pow-add 2 1 (63 - s)) ∙ ap (λ j. 2 ^ j) rest in
+    let shifted : y * 2 ^ 1 % 2 ^ 64 * 2 ^ (63 - s) % 2 ^ 64 ≡ (y % 2 ^ s) * 2 ^ (64 - s) =
+    mul-mod_first (y * 2 ^ 1) (2 ^ (63 - s)) (2 ^ 64) ∙ ap (λ x. x % 2 ^ 64) (mul_assoc y (2 ^ 1) (2 ^ (63 - s)) ∙ ap (λ x. y * x) twice)
+    ∙ ap (λ j. y * 2 ^ (64 - s) % 2 ^ j) all ∙ shifted_up y (64 - s) s in
+    let wide : 64 ≡ (64 - s) + s = omega arith in
+    let fit : x < 2 ^ ((64 - s) + s) = rw (sym wide) fits in
+    let short : x / 2 ^ s < 2 ^ (64 - s) = shr_lt (64 - s) s fit in
+    ap (bit_or (x / 2 ^ s)) shifted ∙ or_shifted_r (y % 2 ^ s) (64 - s) (x / 2 ^ s) short
+
+part_in_limb : (l : List Bool) (p n : ℕ) → 0 < n → p % 64 + n ≤ 64 → number (take n (drop p l)) ≡ limb l (p / 64) / 2 ^ (p % 64) % 2 ^ n
+part_in_limb l p n some h = part_of_limb l p n some h ∙ low_mask (limb l (p / 64) / 2 ^ (p % 64)) n (omega arith)
+
+part_over_limbs : (l : List Bool) (p n k s : ℕ) → p ≡ 64 * k + s → s < 64 → n ≤ 64 → 64 < s + n → p + n ≤ length l
+    → number (take n (drop p l)) ≡ ((limb l (k + 1) % 2 ^ s) * 2 ^ (64 - s) + limb l k / 2 ^ s) % 2 ^ n
+part_over_limbs l p n k s start small few over within =
+    let m : ℕ = 64 - s in
+    let j : ℕ = n - m in
+    let first : ℕ = limb l k / 2 ^ s in
+    let next : ℕ = limb l (k + 1) in
+    let wide : 64 ≡ m + s = omega arith in
+    let fits : limb l k < 2 ^ (m + s) = rw (sym wide) (limb-lt l k) in
+    let short : first < 2 ^ m = shr_lt m s fits in
+    let word : p / 64 ≡ k = omega arith in
+    let place : p % 64 ≡ s = omega arith in
+    let after : (p + m) / 64 ≡ k + 1 = omega arith in
+    let whole : (p + m) % 64 ≡ 0 = omega arith in
+    let plain : next / 1 ≡ next = omega arith in
+    let low : number (take m (drop p l)) ≡ first =
+    part_in_limb l p m (omega arith) (omega arith) ∙ ap (λ q. limb l q / 2 ^ (p % 64) % 2 ^ m) word ∙ ap (λ q. limb l k / 2 ^ q % 2 ^ m) place ∙ mod-eq_of_lt short in
+    let high : number (take j (drop (p + m) l)) ≡ next % 2 ^ j =
+    part_in_limb l (p + m) j (omega arith) (omega arith) ∙ ap (λ q. limb l q / 2 ^ ((p + m) % 64) % 2 ^ j) after ∙ ap (λ q. next / 2 ^ q % 2 ^ j) whole ∙ ap (λ x. x % 2 ^ j) plain in
+    let split : s ≡ (s - j) + j = omega arith in
+    let sum : n ≡ j + m = omega arith in
+    let cut : next % 2 ^ s % 2 ^ j ≡ next % 2 ^ j = ap (λ q. next % 2 ^ q % 2 ^ j) split ∙ mod-mod-pow next (s - j) j in
+    let both : ((next % 2 ^ s) * 2 ^ m + first) % 2 ^ n ≡ (next % 2 ^ j) * 2 ^ m + first =
+    ap (λ q. ((next % 2 ^ s) * 2 ^ m + first) % 2 ^ q) sum ∙ joined_high (next % 2 ^ s) first m j short ∙ ap (λ x. x * 2 ^ m + first) cut in
+    parts_add l p m n (omega arith) within ∙ (rw (low, high) (omega (arith, mul_comm (next % 2 ^ j) (2 ^ m)))) ∙ sym both
+
+-- the bits of a part, by the limb of the first and that of the last
+pub part_of_limbs : (l : List Bool) (p n : ℕ) → 0 < n → n ≤ 64 → p + n ≤ length l
+    → number (take n (drop p l))
+    ≡ bit_and (bit_or (limb l (p / 64) / 2 ^ (p % 64)) (limb l ((p + n - 1) / 64) * 2 ^ 1 % 18446744073709551616 * 2 ^ (63 - p % 64) % 18446744073709551616)) (18446744073709551615 / 2 ^ (64 - n))
+part_of_limbs l p n some few within =
+    let k : ℕ = p / 64 in
+    let s : ℕ = p % 64 in
+    let last : ℕ = limb l ((p + n - 1) / 64) in
+    let first : ℕ = limb l k / 2 ^ s in
+    let joined : ℕ = (last % 2 ^ s) * 2 ^ (64 - s) + first in
+    let value : number (take n (drop p l)) ≡ joined % 2 ^ n = elim (cases_lt (s + n) 65) [
+      | inl one ↦ part_in_limb l p n some (omega arith) ∙ sym (joined_low (last % 2 ^ s) first (64 - s) n (omega arith))
+      | inr two ↦
+          let next : k + 1 ≡ (p + n - 1) / 64 = omega arith in
+          part_over_limbs l p n k s (omega arith) (omega arith) few (omega arith) within ∙ ap (λ q. ((limb l q % 2 ^ s) * 2 ^ (64 - s) + first) % 2 ^ n) next
+    ] in
+    value ∙ sym (low_mask _ n few ∙ ap (λ x. x % 2 ^ n) (two_limbs (limb l k) last s (omega arith) (limb-lt l k)))
 
 pub part_number_some : (l : List Bool) (p n : ℕ) → 0 < n → n ≤ 64 → p + n ≤ length l → part_number l p n ≡ Some (number (take n (drop p l)))
 unfolding part_number
@@ -62,7 +143,7 @@ pub part_number_none : (l : List Bool) (p n : ℕ) → (0 < n → n ≤ 64 → l
 unfolding part_number
 part_number_none l p n out = grind (arith, nat_tests)
 
-pub ruleset in_limb = (part_of_limb)
+pub ruleset in_limbs = (part_of_limbs, length-word_bits)
 
 pub ruleset parts = (part_number_none, part_number_some, parts_join)
 

@@ -89,7 +89,7 @@ bit_of_limb ws n k i holds small =
 le_trans_lt : {a b c : ℕ} → a < b → b ≤ c → a < c
 le_trans_lt h k = omega arith
 
-limb-lt : (l : List Bool) (k : ℕ) → limb l k < 2 ^ 64
+pub limb-lt : (l : List Bool) (k : ℕ) → limb l k < 2 ^ 64
 unfolding limb
 limb-lt l k = le_trans_lt (number-lt (take 64 (drop (64 * k) l))) (pow-le-pow_right {n = 2} (omega arith) {i = length (take 64 (drop (64 * k) l))} {j = 64} (omega (arith, length-take 64 (drop (64 * k) l))))
 

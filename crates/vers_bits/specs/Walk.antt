@@ -1,5 +1,5 @@
 -- Iterators from both ends, over the list of the items that are still to come.
-use Rattle.std.specs.Prelude.{◌≡◌, ℕ, ◌+◌, ◌-◌, ◌<◌, ◌≤◌, ◌++◌, ◌⊎◌, List, [], length, take, drop, reverse, slice_get, slice_range, Option, Some, None, MatchOption}
+use Rattle.std.specs.Prelude.{◌≡◌, ℕ, ◌+◌, ◌-◌, ◌<◌, ◌≤◌, ◌++◌, ◌⊎◌, List, [], length, take, drop, reverse, slice_get, slice_range, Option, None, MatchOption}
 use Rattle.std.specs.Option.{option_to_list}
 use Rattle.vers_bits.specs.declared.walk.Span.{Span}
 

@@ -222,7 +222,7 @@ impl<A: Allocator + Copy> BitVec<A> {
     }
 
     /// The number of the bits from `place` on, `n` of them: 0 where `n` is 0.
-    #[tactic(auto, using(crate::proofs::Words::words, crate::proofs::Counting::parts))]
+    #[tactic(auto, using(crate::proofs::Counting::in_limbs))]
     pub fn get_bits_unchecked(&self, place: usize, n: usize) -> u64
         requires few { n ≤ 64 }
         requires within { place + n ≤ length self.now }
@@ -233,11 +233,11 @@ impl<A: Allocator + Copy> BitVec<A> {
         if n == 0 {
             return 0;
         }
-        let room = 64 - place % 64;
-        if n <= room {
-            return self.part(place, n);
-        }
-        self.part(place, room) | (self.part(place + room, n - room) << room)
+        // The limb of the last bit is the next one, or the first again, of which nothing is kept:
+        // with no branch on the place, which would often be guessed wrong.
+        let first = self.limb(place / 64) >> (place % 64);
+        let last = self.limb((place + n - 1) / 64) << 1 << (63 - place % 64);
+        (first | last) & (u64::MAX >> (64 - n))
     }
 
     /// Element `index` of the list as numbers of `n` bits each, one after another. None where the
@@ -265,17 +265,6 @@ impl<A: Allocator + Copy> BitVec<A> {
         // A place below the length is below `MAX_LEN`.
         let _ = &self.len;
         self.get_bits_unchecked(index * n, n)
-    }
-
-    // The number of the `n` bits from `place` on, which lie in one limb.
-    #[tactic(auto, using(crate::proofs::Counting::in_limb))]
-    fn part(&self, place: usize, n: usize) -> u64
-        requires some { 0 < n }
-        requires one_limb { place % 64 + n ≤ 64 }
-        requires within { place + n ≤ length self.now }
-        ensures { result ≡ number (part self.now place n) }
-    {
-        (self.limb(place / 64) >> (place % 64)) & (u64::MAX >> (64 - n))
     }
 
     /// A copy of the allocator.

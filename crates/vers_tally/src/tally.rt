@@ -256,7 +256,6 @@ impl<A: Allocator + Copy> CountedBits<A> {
 
     /// The number of the `n` bits from `place` on, one low part; 0 for `n` 0.
     #[inline]
-    #[tactic(auto, using(crate::proofs::LowParts::low_part))]
     pub fn low_part(&self, place: usize, n: usize, tally: &mut Tally) -> u64
         requires few { n ≤ 64 }
         requires within { place + n ≤ length self.now }
@@ -265,10 +264,7 @@ impl<A: Allocator + Copy> CountedBits<A> {
         ensures adds { AddsAtMost tally.old tally.new (only_low_parts 1) }
     {
         tally.low_parts = tally.low_parts.saturating_add(1);
-        if n == 0 {
-            return 0;
-        }
-        self.bits.get_bits(place, n).unwrap()
+        self.bits.get_bits_unchecked(place, n)
     }
 }
 
