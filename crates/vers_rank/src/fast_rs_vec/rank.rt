@@ -89,9 +89,11 @@ impl<A: Allocator + Copy> RsVec<A> {
         if self.len() >= LARGE || self.len() - BLOCK * block < BLOCK {
             return self.ones_limb_by_limb(block, place, tally);
         }
+        let from = 8 * block;
+        let whole = place / 64 - from;
         let mut ones = 0;
-        for k in 8 * block..8 * block + 7 {
-            ones += self.ones_of_limb_below(k, place / 64, tally);
+        for k in 0..7 {
+            ones += self.ones_of_whole_limb(from, k, whole, tally);
         }
         ones + self.ones_of_part(place, tally)
     }
@@ -103,24 +105,27 @@ impl<A: Allocator + Copy> RsVec<A> {
         ensures value { count true self.now (512 * block) + result ≡ count true self.now place }
         ensures adds { AddsAtMost tally.old tally.new (only_data_words 8) }
     {
+        let from = 8 * block;
+        let whole = place / 64 - from;
         let mut ones = 0;
-        for k in 8 * block..place / 64 {
-            ones += self.ones_of_limb_below(k, place / 64, tally);
+        for k in 0..whole {
+            ones += self.ones_of_whole_limb(from, k, whole, tally);
         }
         ones + self.ones_of_part(place, tally)
     }
 
-    // The ones of a whole limb that stands below limb number `end`, and 0 of another one.
+    // The ones of limb `k` from limb number `from` on, where it is one of the `whole` first, and 0
+    // of another one.
     #[inline(always)]
     #[tactic(auto, using(crate::proofs::Ranks::limbs))]
-    fn ones_of_limb_below(&self, k: usize, end: usize, tally: &mut Tally) -> usize
-        requires { 64 * k < length self.now }
-        ensures value { count true self.now (64 * min k end) + result ≡ count true self.now (64 * min (k + 1) end) }
+    fn ones_of_whole_limb(&self, from: usize, k: usize, whole: usize, tally: &mut Tally) -> usize
+        requires { 64 * (from + k) < length self.now }
+        ensures value { count true self.now (64 * (from + min k whole)) + result ≡ count true self.now (64 * (from + min (k + 1) whole)) }
         ensures few { result ≤ 64 }
         ensures adds { AddsAtMost tally.old tally.new (only_data_words 1) }
     {
-        let ones = self.bits.limb(k, tally).count_ones() as usize;
-        if k < end { ones } else { 0 }
+        let ones = self.bits.limb(from + k, tally).count_ones() as usize;
+        if k < whole { ones } else { 0 }
     }
 
     // The ones of a place's limb that stand below it.
