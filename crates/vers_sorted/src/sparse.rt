@@ -104,6 +104,7 @@ impl<A: Allocator + Copy> SparseRSVec<A> {
     }
 
     /// Whether the bit at a place is a one. None for a place that the list doesn't have.
+    #[inline(always)]
     pub fn is_set_counted(&self, place: u64, tally: &mut Tally) -> Option<bool>
         ensures value { result ≡ slice_get self.now place }
         ensures adds { AddsAtMost tally.old tally.new (search_reads (places true self.now)) }
@@ -115,7 +116,7 @@ impl<A: Allocator + Copy> SparseRSVec<A> {
     }
 
     // Whether the bit at a place of the list is a one.
-    #[inline]
+    #[inline(always)]
     fn holds_one(&self, place: u64, tally: &mut Tally) -> bool
         requires { place < length self.now }
         ensures value { result ≡ slice_index_or self.now place false }
@@ -148,6 +149,7 @@ impl<A: Allocator + Copy> SparseRSVec<A> {
     }
 
     /// The bit at a place, 1 or 0. None for a place that the list doesn't have.
+    #[inline(always)]
     pub fn get_counted(&self, place: u64, tally: &mut Tally) -> Option<u64>
         ensures value { result ≡ option_map bit_value (slice_get self.now place) }
         ensures adds { AddsAtMost tally.old tally.new (search_reads (places true self.now)) }
@@ -177,6 +179,7 @@ impl<A: Allocator + Copy> SparseRSVec<A> {
     }
 
     /// The place of one number `r`, counted from 0, or the length where there are no more.
+    #[inline(always)]
     pub fn select1_counted(&self, r: usize, tally: &mut Tally) -> u64
         ensures value { result ≡ select true self.now r }
         ensures adds { AddsAtMost tally.old tally.new (member_reads (places true self.now)) }
@@ -198,6 +201,7 @@ impl<A: Allocator + Copy> SparseRSVec<A> {
     }
 
     /// How many ones stand below a place.
+    #[inline(always)]
     pub fn rank1_counted(&self, place: u64, tally: &mut Tally) -> u64
         ensures value { result ≡ count true self.now place }
         ensures adds { AddsAtMost tally.old tally.new (search_reads (places true self.now)) }
@@ -216,6 +220,7 @@ impl<A: Allocator + Copy> SparseRSVec<A> {
     }
 
     /// How many zeros stand below a place.
+    #[inline(always)]
     #[tactic(auto, using(crate::proofs::SparseBits::zeros))]
     pub fn rank0_counted(&self, place: u64, tally: &mut Tally) -> u64
         ensures value { result ≡ count false self.now place }

@@ -51,7 +51,7 @@ impl<A: Allocator + Copy> RsVec<A> {
 
     /// The least place of a zero above `place`, by at most one rank and one select. None where
     /// there is none, and for a place past the end.
-    #[inline]
+    #[inline(always)]
     pub fn successor0_counted(&self, place: usize, tally: &mut Tally) -> Option<u64>
         ensures value { result ≡ place_after false self.now place }
         ensures adds { AddsAtMost tally.old tally.new (neighbour_reads (superblock_count (length self.now))) }
@@ -61,7 +61,7 @@ impl<A: Allocator + Copy> RsVec<A> {
 
     /// The least place of a one above `place`, by at most one rank and one select. None where
     /// there is none, and for a place past the end.
-    #[inline]
+    #[inline(always)]
     pub fn successor1_counted(&self, place: usize, tally: &mut Tally) -> Option<u64>
         ensures value { result ≡ place_after true self.now place }
         ensures adds { AddsAtMost tally.old tally.new (neighbour_reads (superblock_count (length self.now))) }
@@ -71,7 +71,7 @@ impl<A: Allocator + Copy> RsVec<A> {
 
     /// The greatest place of a zero below `place`, which may lie past the end, by at most one rank
     /// and one select. None where there is none.
-    #[inline]
+    #[inline(always)]
     pub fn predecessor0_counted(&self, place: usize, tally: &mut Tally) -> Option<u64>
         ensures value { result ≡ place_before false self.now place }
         ensures adds { AddsAtMost tally.old tally.new (neighbour_reads (superblock_count (length self.now))) }
@@ -81,7 +81,7 @@ impl<A: Allocator + Copy> RsVec<A> {
 
     /// The greatest place of a one below `place`, which may lie past the end, by at most one rank
     /// and one select. None where there is none.
-    #[inline]
+    #[inline(always)]
     pub fn predecessor1_counted(&self, place: usize, tally: &mut Tally) -> Option<u64>
         ensures value { result ≡ place_before true self.now place }
         ensures adds { AddsAtMost tally.old tally.new (neighbour_reads (superblock_count (length self.now))) }

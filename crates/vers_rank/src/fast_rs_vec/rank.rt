@@ -32,7 +32,7 @@ impl<A: Allocator + Copy> RsVec<A> {
 
     /// How many zeros stand below a place, by at most 8 data words, one block entry and one
     /// superblock entry. Past the end all zeros count.
-    #[inline]
+    #[inline(always)]
     #[tactic(auto, using(crate::proofs::Ranks::sums))]
     pub fn rank0_counted(&self, place: usize, tally: &mut Tally) -> usize
         ensures value { result ≡ count false self.now place }
@@ -50,7 +50,7 @@ impl<A: Allocator + Copy> RsVec<A> {
 
     /// How many ones stand below a place, by at most 8 data words, one block entry and one
     /// superblock entry. Past the end all ones count.
-    #[inline]
+    #[inline(always)]
     #[tactic(auto, using(crate::proofs::Ranks::sums))]
     pub fn rank1_counted(&self, place: usize, tally: &mut Tally) -> usize
         ensures value { result ≡ count true self.now place }

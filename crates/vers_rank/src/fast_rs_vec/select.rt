@@ -69,7 +69,7 @@ impl<A: Allocator + Copy> RsVec<A> {
     /// The place of zero number `r`, counted from 0, or the length where there are no more. By at
     /// most 8 data words, 17 block entries, and 12 superblock entries beside one for each binary
     /// digit of the number of superblocks.
-    #[inline]
+    #[inline(always)]
     pub fn select0_counted(&self, r: usize, tally: &mut Tally) -> usize
         ensures value { result ≡ select false self.now r }
         ensures counted { tally.new.rank_calls ≡ one_more tally.old.rank_calls }
@@ -81,7 +81,7 @@ impl<A: Allocator + Copy> RsVec<A> {
     /// The place of one number `r`, counted from 0, or the length where there are no more. By at
     /// most 8 data words, 17 block entries, and 12 superblock entries beside one for each binary
     /// digit of the number of superblocks.
-    #[inline]
+    #[inline(always)]
     pub fn select1_counted(&self, r: usize, tally: &mut Tally) -> usize
         ensures value { result ≡ select true self.now r }
         ensures counted { tally.new.rank_calls ≡ one_more tally.old.rank_calls }

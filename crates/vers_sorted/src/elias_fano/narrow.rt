@@ -20,7 +20,7 @@ pub(super) struct Between {
 const MANY: usize = 256;
 
 // The place of a low part among `count` that rise evenly from `first` to `last`.
-#[inline]
+#[inline(always)]
 fn guess(first: u64, last: u64, low: u64, count: usize) -> usize {
     let span = last.saturating_sub(first);
     let above = low.saturating_sub(first).min(span);
@@ -32,7 +32,7 @@ fn guess(first: u64, last: u64, low: u64, count: usize) -> usize {
 impl<A: Allocator + Copy> EliasFanoVec<A> {
     // The places between which the members below `v` end. Among many members that rise evenly, but
     // for a few at both ends, few are left between them.
-    #[inline]
+    #[inline(always)]
     #[tactic(auto, using(crate::proofs::Buckets::search_steps))]
     pub(super) fn narrowed(&self, bucket: Bucket, v: u64, low: u64, tally: &mut Tally) -> Between
         requires above { first_of self.now ≤ v }
@@ -63,7 +63,7 @@ impl<A: Allocator + Copy> EliasFanoVec<A> {
     }
 
     // The side of place `i` on which the members below `v` end, where `i` is one of the places.
-    #[inline]
+    #[inline(always)]
     #[tactic(auto, using(crate::proofs::Buckets::search_steps))]
     fn probed(
         &self,

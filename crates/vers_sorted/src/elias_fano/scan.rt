@@ -10,7 +10,7 @@ use vers_tally::tally::Tally;
 
 // The place of zero number `h + 1`, where zero number `h` stands at `zero`: most often it is among
 // the next 64 bits.
-#[inline]
+#[inline(always)]
 #[tactic(auto, using(crate::proofs::Scans::scans))]
 pub(super) fn zero_after<A: Allocator + Copy>(
     high: &RsVec<A>,

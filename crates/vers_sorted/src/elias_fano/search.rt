@@ -22,7 +22,7 @@ pub(super) struct Bucket {
 #[tactic(auto, using(crate::proofs::Packed::packed))]
 impl<A: Allocator + Copy> EliasFanoVec<A> {
     // The low part of a member.
-    #[inline]
+    #[inline(always)]
     #[tactic(auto, using(crate::proofs::Packed::low_parts_read))]
     pub(super) fn low_part(&self, i: usize, tally: &mut Tally) -> u64
         requires { i < length self.now }
@@ -34,7 +34,7 @@ impl<A: Allocator + Copy> EliasFanoVec<A> {
     }
 
     // The high part of a member.
-    #[inline]
+    #[inline(always)]
     #[tactic(auto, using(crate::proofs::Packed::high_parts_read))]
     fn high_part(&self, i: usize, tally: &mut Tally) -> u64
         requires { i < length self.now }
@@ -46,7 +46,7 @@ impl<A: Allocator + Copy> EliasFanoVec<A> {
     }
 
     // The member whose high part is known, by its low part.
-    #[inline]
+    #[inline(always)]
     #[tactic(auto, using(crate::proofs::Packed::joined_parts))]
     pub(super) fn with_low_part(&self, high: u64, i: usize, tally: &mut Tally) -> u64
         requires within { i < length self.now }
@@ -60,7 +60,7 @@ impl<A: Allocator + Copy> EliasFanoVec<A> {
     }
 
     // A member.
-    #[inline]
+    #[inline(always)]
     pub(super) fn member(&self, i: usize, tally: &mut Tally) -> u64
         requires { i < length self.now }
         ensures value { result ≡ slice_index self.now i }
@@ -71,7 +71,7 @@ impl<A: Allocator + Copy> EliasFanoVec<A> {
     }
 
     // The members with the high part of `v`, from one select and most often the bits after it.
-    #[inline]
+    #[inline(always)]
     #[tactic(auto, using(crate::proofs::Buckets::bucket))]
     fn bucket_of(&self, v: u64, tally: &mut Tally) -> Bucket
         requires some { 0 < length self.now }
@@ -92,7 +92,7 @@ impl<A: Allocator + Copy> EliasFanoVec<A> {
     }
 
     // How many members are below `v`, where those with its high part are known.
-    #[inline]
+    #[inline(always)]
     #[tactic(auto, using(crate::proofs::Buckets::search_steps))]
     fn below_in(&self, bucket: Bucket, v: u64, tally: &mut Tally) -> usize
         requires above { first_of self.now ≤ v }
@@ -117,7 +117,7 @@ impl<A: Allocator + Copy> EliasFanoVec<A> {
     }
 
     // A member, by no select where its high part is that of the bucket.
-    #[inline]
+    #[inline(always)]
     #[tactic(auto, using(crate::proofs::Buckets::members))]
     fn member_near(&self, bucket: Bucket, v: u64, i: usize, tally: &mut Tally) -> u64
         requires within { i < length self.now }
@@ -133,7 +133,7 @@ impl<A: Allocator + Copy> EliasFanoVec<A> {
 
     /// The member at a place. None past the last. By at most 2 low parts and 2 queries of the high
     /// parts.
-    #[inline]
+    #[inline(always)]
     #[tactic(auto, using(crate::proofs::Packed::gets, crate::proofs::Bounds::bounds))]
     pub fn get_counted(&self, i: usize, tally: &mut Tally) -> Option<u64>
         ensures value { result ≡ slice_get self.now i }
@@ -146,7 +146,7 @@ impl<A: Allocator + Copy> EliasFanoVec<A> {
     }
 
     /// The same as `get_counted`.
-    #[inline]
+    #[inline(always)]
     pub fn select_counted(&self, i: usize, tally: &mut Tally) -> Option<u64>
         ensures value { result ≡ slice_get self.now i }
         ensures adds { AddsAtMost tally.old tally.new (member_reads self.now) }
@@ -156,6 +156,7 @@ impl<A: Allocator + Copy> EliasFanoVec<A> {
 
     /// How far member `i` lies above the one before it, and the first member itself for 0. None
     /// past the last. By at most 2 low parts and 2 queries of the high parts.
+    #[inline(always)]
     #[tactic(auto, using(crate::proofs::Neighbours::deltas, crate::proofs::Bounds::bounds))]
     pub fn delta_counted(&self, i: usize, tally: &mut Tally) -> Option<u64>
         ensures value { result ≡ delta self.now i }
@@ -176,6 +177,7 @@ impl<A: Allocator + Copy> EliasFanoVec<A> {
     ///
     /// By at most as many low parts and queries of the high parts as the number of members has
     /// binary digits, and 8 more, with any number of equal members.
+    #[inline(always)]
     #[tactic(auto, using(crate::proofs::Bounds::bounds, crate::proofs::Buckets::ends))]
     pub fn rank_counted(&self, v: u64, tally: &mut Tally) -> u64
         ensures value { result ≡ below self.now v }
@@ -196,6 +198,7 @@ impl<A: Allocator + Copy> EliasFanoVec<A> {
     }
 
     /// The greatest member that is not above `v`. None where there is none. Reads as `rank_counted`.
+    #[inline(always)]
     #[tactic(auto, using(crate::proofs::Bounds::bounds, crate::proofs::Buckets::ends))]
     pub fn predecessor_counted(&self, v: u64, tally: &mut Tally) -> Option<u64>
         ensures value { result ≡ greatest_not_above self.now v }
@@ -217,6 +220,7 @@ impl<A: Allocator + Copy> EliasFanoVec<A> {
     }
 
     /// The least member that is not below `v`. None where there is none. Reads as `rank_counted`.
+    #[inline(always)]
     #[tactic(auto, using(crate::proofs::Bounds::bounds, crate::proofs::Buckets::ends))]
     pub fn successor_counted(&self, v: u64, tally: &mut Tally) -> Option<u64>
         ensures value { result ≡ least_not_below self.now v }
