@@ -64,6 +64,21 @@ def body_start(text, at):
     return at if at < len(text) and text[at] == "{" else None
 
 
+def owners(text):
+    """Yields where each `impl` or `trait` block of a blanked text begins and ends, and the type that it is of."""
+    for found in re.finditer(r"\b(impl|trait)\b([^{;]*)", text):
+        if found.end() < len(text) and text[found.end()] == "{":
+            head = re.sub(r"\bwhere\b.*", "", found[2], flags=re.S)
+            head = re.split(r"\bfor\s+(?!<)", head)[-1] if found[1] == "impl" else head
+            while "<" in head:
+                shorter = re.sub(r"<[^<>]*>", "", head.replace("->", "  "))
+                if shorter == head:
+                    break
+                head = shorter
+            name = re.search(r"\w+", head.split(":")[0] if found[1] == "trait" else head)
+            yield found.end(), closed(text, found.end()), name[0] if name else ""
+
+
 def functions(text):
     """Yields each function with a body of a blanked text."""
     head = re.compile(r"(?P<public>\bpub\s+)?(?:const\s+)?(?:unsafe\s+)?\bfn\s+(?P<name>\w+)\s*(?:<[^({;]*>)?\s*\(")

@@ -11,7 +11,8 @@ repository of its own and wants every break found.
 
 `--wrong-bodies` lists the public functions that compute something and that no wrong body reaches: no edit of the
 crate's `must-fail/` changes them, or a function of the crate that they call. A body computes something unless it is
-empty, reads a field, or hands its arguments on to one call.
+empty, reads a field, wraps its argument, or hands its arguments on to one call. A call is taken for that of the type
+that stands before it, or of the field's type; where the text doesn't tell which function is called, it reaches none.
 """
 import os
 import re
@@ -19,14 +20,14 @@ import subprocess
 import sys
 import tempfile
 
-from rattle_text import blanked, functions, without_tests
+from rattle_text import blanked, closed, functions, owners, without_tests
 
 LONGEST_FILE = 800
 LONGEST_FUNCTION = 60
 LABEL = re.compile(r"(?<![\w-])[DFRTW][12]?\d(?![\w-])")
 MACHINE_PATH = re.compile(r"(?<![\w./-])/(?:work|opt|tmp|home|root|srv)/")
 PUBLIC = re.compile(r"(?m)^[ \t]*pub (?:const )?(?:unsafe )?(fn|struct|enum|trait|const|static|type) (\w+)")
-PASSES_ON = re.compile(r"\{\s*(?:[\w.:&*]+(?:::<\w+>)?(?:\([\w\s,&.*]*\))?\s*)?\}")
+PASSES_ON = re.compile(r"\{\s*(?:[\w.:&*]+(?:::<\w+>)?(?:\([\w\s,&.*]*\)|\s*\{\s*\w+\s*\})?\s*)?\}")
 LINK = re.compile(r"\]\(([^)#:\s]+)(?:#[^)]*)?\)")
 TEXTS = (".md", ".rt", ".antt", ".edit", ".py", ".sh", ".txt")
 
@@ -69,38 +70,75 @@ def too_long(path, text, is_tests):
             yield f"{path}:{function.line}: {function.name} has {length} lines"
 
 
-def changed_functions(top, crate, sources):
-    """Returns the names of the functions in which the crate's edits change something."""
+def functions_by_path(sources):
+    """Returns the functions of a crate, tests left out, by their file and place, each with the type that it belongs to."""
+    found = {}
+    for path, text in sources.items():
+        plain = without_tests(blanked(text))
+        blocks = list(owners(plain))
+        for function in functions(plain):
+            around = [block for block in blocks if block[0] < function.start < block[1]]
+            found[path, function.start] = (around[-1][2] if around else "", function)
+    return found
+
+
+def changed_functions(top, crate, sources, found):
+    """Returns the files and places of the functions in which the crate's edits change something."""
     changed = set()
     folder = os.path.join(top, "crates", crate, "must-fail")
     for name in sorted(os.listdir(folder)) if os.path.isdir(folder) else []:
         lines = read(os.path.join(folder, name)).split("\n")
-        path = next((line[len("file: "):] for line in lines if line.startswith("file: ")), "")
-        text = sources.get(f"crates/{crate}/{path}", "")
-        olds = [line[len("old: "):] for line in lines if line.startswith("old: ")]
-        for function in functions(blanked(text)):
-            body = text[function.start:function.end]
-            if any(old.strip() in body for old in olds):
-                changed.add(function.name)
+        path = f"crates/{crate}/" + next((line[len("file: "):] for line in lines if line.startswith("file: ")), "")
+        text = sources.get(path, "")
+        places = [text.find(line[len("old: "):]) for line in lines if line.startswith("old: ")]
+        for (file, start), (_, function) in found.items():
+            if file == path and any(start <= place < function.end for place in places):
+                changed.add((file, start))
     return changed
+
+
+def field_types(sources):
+    """Returns the type of each field of the crate's structs, by the struct and the field."""
+    types = {}
+    for text in sources.values():
+        plain = without_tests(blanked(text))
+        for struct in re.finditer(r"\bstruct\s+(\w+)[^;{]*\{", plain):
+            fields = plain[struct.end():closed(plain, struct.end() - 1)]
+            for field in re.finditer(r"\b(\w+)\s*:\s*(?:&\s*(?:'\w+\s*)?)?(?:\w+::)*(\w+)", fields):
+                types[struct[1], field[1]] = field[2]
+    return types
+
+
+def called_functions(path, owner, function, found, fields):
+    """Returns the files and places of the functions of the crate that a body calls, as far as the text tells them."""
+    called = set()
+    for call in re.finditer(r"(?:\b(\w+)\s*(?:::<[^>]*>)?(::|\.)\s*)?\b(\w+)\s*(?:::<[^>]*>)?\(", function.body):
+        before, by, name = call.groups()
+        named = [(key, its) for key, (its, other) in found.items() if other.name == name]
+        of = owner if before in ("self", "Self") else before if by == "::" else fields.get((owner, before))
+        exact = [key for key, its in named if its == of] if of else []
+        own_file = [key for key, its in named if not its and key[0] == path] if not by else []
+        named_once = [key for key, _ in named] if len(named) == 1 else []
+        called.update(exact or own_file or named_once)
+    return called
 
 
 def without_wrong_body(top, crate, sources):
     """Yields a line for each public function that computes something and that no edit of the crate reaches."""
-    found = [(path, function) for path, text in sources.items() for function in functions(without_tests(blanked(text)))]
-    calls = {}
-    for _, function in found:
-        calls.setdefault(function.name, set()).update(re.findall(r"\b(\w+)\s*(?:::<[^>]*>)?\(", function.body))
-    reached = changed_functions(top, crate, sources)
+    found = functions_by_path(sources)
+    fields = field_types(sources)
+    calls = {key: called_functions(key[0], owner, function, found, fields) for key, (owner, function) in found.items()}
+    reached = changed_functions(top, crate, sources, found)
     while True:
-        more = {name for name, called in calls.items() if called & reached} - reached
+        more = {key for key, called in calls.items() if called & reached} - reached
         if not more:
             break
         reached |= more
-    for path, function in found:
+    for key, (owner, function) in found.items():
         computes = function.has_ensures and not PASSES_ON.fullmatch(function.body)
-        if function.is_public and computes and function.name not in reached:
-            yield f"{path}:{function.line}: no wrong body reaches {function.name}"
+        if function.is_public and computes and key not in reached:
+            whole = f"{owner}::{function.name}" if owner else function.name
+            yield f"{key[0]}:{function.line}: no wrong body reaches {whole}"
 
 
 def sources_of(top, crate, files):
