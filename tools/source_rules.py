@@ -9,7 +9,9 @@ crate calls by name.
 - A plain query `q` of a type that has `q_counted` is `q_counted` with a fresh counter, or one call of another plain query
   of the type, and nothing else. A trait's `q` may be one call of the type's own public `q`.
 - An index type, which is one with a `heap_size`, keeps lists only in counted vectors and other index types, and its
-  `heap_size` names each of them. A public type that owns a counted vector has a `heap_size`.
+  `heap_size` names each of them. A public type that owns a counted vector has a `heap_size`. Range minima also keep
+  tables, masks and places, each by its name and type below; a counted body of theirs indexes these after
+  `let table = self.table.as_slice();`, and nothing else of them.
 - Where an index type keeps another, some counted body of it asks that one by a counted call: counted words of its own
   don't take the place of the index.
 - In the crate of the counters a call of a counted vector that isn't handed a counter is one of a few that read no
@@ -36,8 +38,11 @@ READS = (
 )
 # types under which a field keeps a list
 LISTS = re.compile(r"\b(?:Vec|VecDeque|BitVec|String)\s*<|\bBitVec\b|\bBox\s*<\s*\[|\[[^\]]*;[^\]]*\]")
-# plain lists that index types may keep: tables, masks and places of range minima, nodes in their own counted vector
-PLAIN_FIELDS = {"BinaryRmq": {"table"}, "FastRmq": {"masks", "places", "prefix_masks", "suffix_masks"}}
+# plain lists that index types may keep, with their types: the table, the masks and the places of range minima
+PLAIN_FIELDS = {
+    "BinaryRmq": {"table": "Vec<u32, A>"},
+    "FastRmq": {"places": "Vec<u8, A>", "prefix_masks": "Vec<u128, A>", "suffix_masks": "Vec<u128, A>"},
+}
 # a field that holds places alone, so that its calls read no list
 SPAN = re.compile(r"\bspan\.$")
 TALLY = re.compile(r"(\w+)\s*:\s*&\s*(?:'\w+\s+)?mut\s+Tally\b")
@@ -103,19 +108,29 @@ def counted_functions(texts):
     return counted
 
 
+def without_tables(function):
+    """Returns the function's body without its borrows of plain lists that its type may keep, and the names of these."""
+    body, tables = function.body, set()
+    for field in PLAIN_FIELDS.get(function.holder, ()):
+        body, count = re.subn(rf"\blet {field} = self\.{field}\.as_slice\(\);", "", body)
+        tables |= {field} if count else set()
+    return body, tables
+
+
 def counted_faults(texts, queries):
     """Yields a line for each counted body that makes a counter, or reads without one."""
     for function in counted_functions(texts):
         place = f"{function.path}:{function.line}: counted body {function.name}"
-        if re.search(r"\bTally\s*(?:::\s*\w+\s*\(|\{)", function.body):
+        body, tables = without_tables(function)
+        if re.search(r"\bTally\s*(?:::\s*\w+\s*\(|\{)", body):
             yield f"{place} makes a counter"
-        for name, arguments in calls(function.body):
+        for name, arguments in calls(body):
             handed = function.tally and re.search(rf"\b{function.tally}\b", arguments)
             if (name in READS or name in queries) and not handed:
                 yield f"{place} reads by {name} without the counter"
-        for found in INDEXED.finditer(function.body):
-            name = re.search(r"(\w*)\[$", function.body[:found.end()])[1]
-            if not re.fullmatch(r"[A-Z][A-Z0-9_]*", name):
+        for found in INDEXED.finditer(body):
+            name = re.search(r"(\w*)\[$", body[:found.end()])[1]
+            if name not in tables and not re.fullmatch(r"[A-Z][A-Z0-9_]*", name):
                 yield f"{place} indexes {name or 'a value'}"
 
 
@@ -148,10 +163,11 @@ def index_faults(texts, index_types):
                 continue
             size = next(it.body for other in texts for it in other.functions if (it.holder, it.name) == (name, "heap_size"))
             for field, ty in owned:
-                if kept.search(ty):
+                is_plain = PLAIN_FIELDS.get(name, {}).get(field) == ty
+                if kept.search(ty) or is_plain:
                     if not re.search(rf"\bself\s*\.\s*{field}\b", size):
                         yield f"{text.path}: heap_size of {name} leaves out {field}"
-                elif LISTS.search(ty) and field not in PLAIN_FIELDS.get(name, ()):
+                elif LISTS.search(ty):
                     yield f"{text.path}: {name}.{field} keeps a list outside a counted vector: {ty}"
 
 
@@ -254,6 +270,19 @@ impl<A: Allocator + Copy> High<A> {
     pub fn rank_counted(&self, i: usize, tally: &mut Tally) -> usize { self.low.rank1_counted(i, tally) }
 }
 """},
+    "vers_rmq": {"rmq.rt": """
+pub struct BinaryRmq<A: Allocator + Copy> {
+    items: CountedItems<A>,
+    table: Vec<u32, A>,
+}
+impl<A: Allocator + Copy> BinaryRmq<A> {
+    pub fn heap_size(&self) -> usize { 8 * self.items.len() + 4 * self.table.len() }
+    pub fn item_counted(&self, i: usize, tally: &mut Tally) -> u64 {
+        let table = self.table.as_slice();
+        self.items.read(table[i] as usize, tally)
+    }
+}
+"""},
 }
 # what is wanted to be said, and the change to the good crates that asks for it
 PLANTS = (
@@ -277,6 +306,12 @@ PLANTS = (
     ("no counted body of High asks low", "vers_high", "self.low.rank1_counted(i, tally)", "self.words.scan_counted(i, tally)"),
     ("no counted body of High asks low", "vers_high", "self.low.rank1_counted(i, tally)", "scan(&self.low, i, tally)"),
     ("owns the counted vector blocks and has no heap_size", "vers_low", "fn heap_size", "fn size"),
+    ("BinaryRmq.table keeps a list outside a counted vector", "vers_rmq", "table: Vec<u32, A>", "table: Vec<u64, A>"),
+    ("BinaryRmq.lower keeps a list outside a counted vector", "vers_rmq", "table: Vec<u32, A>,", "lower: Vec<u32, A>,"),
+    ("heap_size of BinaryRmq leaves out table", "vers_rmq", " + 4 * self.table.len()", ""),
+    ("reads by as_slice without the counter", "vers_rmq", "self.items.read(table[i] as usize, tally)", "let items = self.items.as_slice();\n        items[table[i] as usize]"),
+    ("reads by iter without the counter", "vers_rmq", "table[i] as usize", "table.iter().count()"),
+    ("indexes table", "vers_rmq", "self.table.as_slice();", "self.items.as_slice();"),
     ("raises nothing", COUNTERS, "        tally.block_entries = tally.block_entries.saturating_add(1);\n", ""),
     ("BlockEntries::read is handed no counter", COUNTERS, "k: usize, tally: &mut Tally", "k: usize"),
 )

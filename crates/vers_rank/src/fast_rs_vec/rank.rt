@@ -8,9 +8,6 @@ use super::{BLOCK, RsVec};
 use std::alloc::Allocator;
 use vers_tally::tally::Tally;
 
-/// From how many bits on a list is not expected to lie in a cache near the processor.
-const LARGE: usize = 1 << 23;
-
 impl<A: Allocator + Copy> RsVec<A> {
     /// How many zeros stand below a place. Past the end all zeros count.
     #[inline]
@@ -77,16 +74,16 @@ impl<A: Allocator + Copy> RsVec<A> {
         self.blocks.read(block, tally) as usize + self.superblocks.read(block / 16, tally) as usize
     }
 
-    // The ones from the start of a block up to a place in it. In a short list, a block of 8 limbs
-    // is counted with no branch on the place, which would be guessed wrong: limbs past it are read,
-    // and left out of the sum. In a long one what counts is to wait for no cache line past it.
+    // The ones from the start of a block up to a place in it. A block of 8 limbs is counted with no
+    // branch on the place, which would be guessed wrong: limbs past it are read, and left out of the
+    // sum.
     #[inline(always)]
     fn ones_in_block(&self, block: usize, place: usize, tally: &mut Tally) -> usize
         requires within { (512 * block ≤ place) × (place < 512 * block + 512) × (place < length self.now) }
         ensures value { count true self.now (512 * block) + result ≡ count true self.now place }
         ensures adds { AddsAtMost tally.old tally.new (only_data_words 8) }
     {
-        if self.len() >= LARGE || self.len() - BLOCK * block < BLOCK {
+        if self.len() - BLOCK * block < BLOCK {
             return self.ones_limb_by_limb(block, place, tally);
         }
         let from = 8 * block;
@@ -98,7 +95,7 @@ impl<A: Allocator + Copy> RsVec<A> {
         ones + self.ones_of_part(place, tally)
     }
 
-    // The same, and no limb past the place is read.
+    // The same in the last block, which may have fewer limbs: none past the place is read.
     #[inline(always)]
     fn ones_limb_by_limb(&self, block: usize, place: usize, tally: &mut Tally) -> usize
         requires within { (512 * block ≤ place) × (place < 512 * block + 512) × (place < length self.now) }

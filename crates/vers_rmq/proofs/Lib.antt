@@ -1,0 +1,6 @@
+pub mod Logs
+pub mod Minima
+pub mod Tables
+pub mod Masks
+pub mod Blocks
+pub mod Gathers

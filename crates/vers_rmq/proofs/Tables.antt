@@ -1,0 +1,117 @@
+-- The table of places.
+use Rattle.std.proofs.Common.{◌≡◌, ℕ, ◌+◌, ◌-◌, ◌*◌, ◌^◌, ◌<◌, ◌≤◌, List, [], ◌∷◌, ◌++◌, length, get_or, ap, subst, inl, inr, arith}
+use Rattle.std.proofs.Math.Nat.{mul-le-mul_left}
+use Rattle.std.proofs.lemmas.Nat.{pow_pos}
+use Rattle.std.proofs.lemmas.Bool.{cases_lt}
+use Rattle.std.proofs.lemmas.List.{length_push, get_or_push, get_or_append_left}
+use Rattle.vers_rmq.specs.Layout.{clog, binary_heap_size}
+use Rattle.vers_rmq.specs.Minima.{IsFirstLeast, lesser}
+use Rattle.vers_rmq.specs.Tables.{HoldsPlaces, IsTable, reach}
+use Rattle.vers_rmq.proofs.Logs.{clog_is, clog_up, pow_next, digits-le}
+use Rattle.vers_rmq.proofs.Minima.{least_at, least_join, least_ends}
+
+-- a place of the table has one level
+same_row : (n a b i j : ℕ) → i < n → j < n → n * a + i ≡ n * b + j → a ≡ b
+same_row n a b i j il jl e = elim (cases_lt a b) [
+  | inl h ↦ absurd (omega (arith, mul-le-mul_left {m = a + 1} {n = b} n (omega arith)))
+  | inr h ↦ elim (cases_lt b a) [
+    | inl h2 ↦ absurd (omega (arith, mul-le-mul_left {m = b + 1} {n = a} n (omega arith)))
+    | inr h2 ↦ omega arith
+  ]
+]
+
+-- one more entry
+pub add_place : (xs table more : List ℕ) (k i m : ℕ) → HoldsPlaces xs table → length table ≡ length xs * k + i → i < length xs
+    → IsFirstLeast xs i (reach (length xs) k i) m → more ≡ table ++ m ∷ [] → HoldsPlaces xs more
+add_place xs table more k i m holds counted inside place e = rw e (record {
+  place = λ a j jl at. elim (cases_lt (length xs * a + j) (length table)) [
+    | inl old ↦ rw (get_or_append_left table (m ∷ []) 0 (length xs * a + j) old) (holds.place a j jl old)
+    | inr new ↦
+        let last : length xs * a + j ≡ length xs * k + i = omega (arith, length_push table m) in
+        let row : a ≡ k = same_row (length xs) a k j i jl inside last in
+        let column : j ≡ i = omega (arith, last, ap (λ r. length xs * r) row) in
+        rw (row, column, get_or_push table m 0 (length xs * k + i) counted) place
+  ];
+})
+
+pub level_zero : (xs : List ℕ) (i : ℕ) → i < length xs → IsFirstLeast xs i (reach (length xs) 0 i) i
+level_zero xs i h = least_ends xs i i (reach (length xs) 0 i) i (omega arith) (least_at xs i)
+
+pub no_places : (xs table : List ℕ) → table ≡ [] → HoldsPlaces xs table
+no_places xs table e = rw e (record { place = λ k i h at. absurd (omega arith) })
+
+-- an entry of the next level
+pub next_joined : (xs table : List ℕ) (k i : ℕ) → HoldsPlaces xs table → length xs * k + length xs ≤ length table → i + 2 ^ k < length xs
+    → IsFirstLeast xs i (reach (length xs) (k + 1) i) (lesser xs (get_or table (length xs * k + i) 0) (get_or table (length xs * k + (i + 2 ^ k)) 0))
+next_joined xs table k i holds room inside =
+    let here : i < length xs = omega arith in
+    least_join xs i (reach (length xs) k i) (i + 2 ^ k) (reach (length xs) (k + 1) i) _ _
+    (holds.place k i here (omega arith))
+    (least_ends xs (i + 2 ^ k) (reach (length xs) k (i + 2 ^ k)) (reach (length xs) (k + 1) i) _ (omega (arith, pow_next k)) (holds.place k (i + 2 ^ k) inside (omega arith)))
+    (omega arith) (omega (arith, pow_pos k)) (omega (arith, pow_next k))
+
+pub next_same : (xs table : List ℕ) (k i : ℕ) → HoldsPlaces xs table → length xs * k + length xs ≤ length table → i < length xs → length xs ≤ i + 2 ^ k
+    → IsFirstLeast xs i (reach (length xs) (k + 1) i) (get_or table (length xs * k + i) 0)
+next_same xs table k i holds room here far =
+    least_ends xs i (reach (length xs) k i) (reach (length xs) (k + 1) i) _ (omega (arith, pow_next k)) (holds.place k i here (omega arith))
+
+pub level_inside : (xs table : List ℕ) (k : ℕ) → IsTable xs table → 2 ^ k ≤ length xs → length xs * k + length xs ≤ length table
+level_inside xs table k t h = omega (arith, t.counted, mul-le-mul_left (length xs) (clog_up (length xs) k h))
+
+pub room_of : (xs table : List ℕ) (k i n : ℕ) → IsTable xs table → i + 2 ^ k ≤ length xs → n ≡ length xs → n * k + i < length table
+room_of xs table k i n t h e = rw e (omega (arith, level_inside xs table k t (omega (arith, h)), pow_pos k))
+
+pub entry_at : (xs table : List ℕ) (k i : ℕ) → IsTable xs table → i + 2 ^ k ≤ length xs
+    → IsFirstLeast xs i (i + 2 ^ k - 1) (get_or table (length xs * k + i) 0)
+entry_at xs table k i t h =
+    let room = level_inside xs table k t (omega arith) in
+    least_ends xs i (reach (length xs) k i) (i + 2 ^ k - 1) _ (omega arith) (t.places.place k i (omega (arith, pow_pos k)) (omega (arith, pow_pos k, room)))
+
+pub table_is : (xs table : List ℕ) (k : ℕ) → length xs < 2 ^ 32 → HoldsPlaces xs table → length table ≡ length xs * (k + 1) → length xs ≤ 2 ^ k → (0 < length xs → 2 ^ k < 2 * length xs) → IsTable xs table
+table_is xs table k few holds counted up down = record {
+  bounded = few;
+  places = holds;
+  counted = elim (cases_lt 0 (length xs)) [
+    | inl some ↦ rw (clog_is (length xs) k up (down some)) counted
+    | inr none ↦ let e : length xs ≡ 0 = omega arith in omega (arith, counted, ap (λ r. r * (k + 1)) e, ap (λ r. r * (clog (length xs) + 1)) e)
+  ];
+}
+
+pub entry_is : (xs ys table t : List ℕ) (k i n : ℕ) → IsTable xs table → xs ≡ ys → t ≡ table → i + 2 ^ k ≤ length ys → n ≡ length xs
+    → IsFirstLeast ys i (i + 2 ^ k - 1) (get_or t (n * k + i) 0)
+entry_is xs ys table t k i n holds e et h en =
+    let P : List ℕ → Type 0 = λ zs. IsFirstLeast zs i (i + 2 ^ k - 1) (get_or t (n * k + i) 0) in
+    let inside : i + 2 ^ k ≤ length xs = omega (arith, ap length e) in
+    subst P e (rw (et, en) (entry_at xs table k i holds inside))
+
+pub room_is : (xs table t : List ℕ) (k i n : ℕ) → IsTable xs table → t ≡ table → i + 2 ^ k ≤ length xs → n ≡ length xs → n * k + i < length t
+room_is xs table t k i n holds e h en = rw e (room_of xs table k i n holds h en)
+
+-- a query from two entries
+pub asked : (xs ys : List ℕ) (k i j w h m n r : ℕ) → xs ≡ ys → i ≤ j → w ≡ 2 ^ k → 2 ^ k ≤ j - i + 1 → j - i + 1 < 2 * 2 ^ k → h ≡ j + 1 - w
+    → IsFirstLeast ys i (i + 2 ^ k - 1) m → IsFirstLeast ys h (h + 2 ^ k - 1) n → r ≡ lesser xs m n → IsFirstLeast ys i j r
+asked xs ys k i j w h m n r e ij ew low high eh a b v = rw (v, e)
+    (least_join ys i (i + 2 ^ k - 1) h j m n a (least_ends ys h (h + 2 ^ k - 1) j n (omega arith) b) (omega arith) (omega arith) (omega arith))
+
+pub next_is : (xs table : List ℕ) (k i w m n r : ℕ) → HoldsPlaces xs table → length xs * k + length xs ≤ length table → w ≡ 2 ^ k → i + w < length xs
+    → r ≡ lesser xs (get_or table (length xs * k + i) 0) (get_or table (length xs * k + (i + w)) 0) → IsFirstLeast xs i (reach (length xs) (k + 1) i) r
+next_is xs table k i w m n r holds room ew inside v = rw (v, ew) (next_joined xs table k i holds room (omega arith))
+
+pub ruleset entries = (level_inside, room_of)
+
+pub ruleset next_level = (next_joined, next_same)
+
+pub ruleset filling = (add_place, level_zero, no_places, table_is, pow_next)
+
+-- the sizes of the table
+pub table_size : (xs table : List ℕ) → IsTable xs table → (length table ≡ length xs * (clog (length xs) + 1)) × (length table ≤ 33 * length xs) × (length xs < 2 ^ 32)
+table_size xs table t =
+    let few : clog (length xs) ≤ 32 = digits-le 32 (length xs - 1) (omega (arith, t.bounded)) in
+    (t.counted, omega (arith, t.counted, mul-le-mul_left {m = clog (length xs) + 1} {n = 33} (length xs) (omega (arith, few))), t.bounded)
+
+pub size_bounded : (n : ℕ) → n < 2 ^ 32 → binary_heap_size n ≤ 140 * n
+size_bounded n h =
+    let few : clog n ≤ 32 = digits-le 32 (n - 1) (omega (arith, h)) in
+    omega (arith, mul-le-mul_left {m = clog n + 1} {n = 33} n (omega (arith, few)))
+
+pub ruleset sizing = (table_size)

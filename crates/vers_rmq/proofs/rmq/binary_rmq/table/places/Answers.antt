@@ -1,0 +1,13 @@
+use Rattle.std.proofs.Common.{length, arith, ap}
+use Rattle.std.proofs.lemmas.List.{length_push}
+use Rattle.vers_rmq.proofs.Tables.{add_place, level_zero, table_is}
+use Rattle.vers_rmq.proofs.rmq.binary_rmq.table.places.Goals as goal
+
+pub loop-i-preserved : goal.loop-i-preserved
+loop-i-preserved g c = record {
+  counted = omega (arith, ap length c.in_ok-push.ensures.items, length_push c.loop-i.table.items c.loop-i.i, c.loop-i.invariant.counted);
+  places = add_place c.args.items.now c.loop-i.table.items c.push.new.self.items 0 c.loop-i.i c.loop-i.i c.loop-i.invariant.places c.loop-i.invariant.counted c.loop-i-test.true (level_zero c.args.items.now c.loop-i.i c.loop-i-test.true) c.in_ok-push.ensures.items;
+}
+
+pub returns : goal.returns
+returns g c = table_is c.args.items.now c.levels.table.items c.levels.k c.requires c.levels.invariant.places c.levels.invariant.counted (omega (arith, c.levels-test.false)) c.levels.invariant.width

@@ -1,0 +1,13 @@
+-- The first place of a least item in a range.
+use Rattle.std.specs.Prelude.{ℕ, ◌<◌, ◌≤◌, List, slice_index, nat_le, if◌then◌else◌}
+
+-- m is a place from i to j, both included, no item from i to j is below the one at m, and those from i to before m are above it
+pub record IsFirstLeast (items : List ℕ) (i j m : ℕ) : Type 0 where
+  pub from : i ≤ m
+  pub to : m ≤ j
+  pub least : (p : ℕ) → i ≤ p → p ≤ j → slice_index items m ≤ slice_index items p
+  pub leftmost : (p : ℕ) → i ≤ p → p < m → slice_index items m < slice_index items p
+
+-- the one of two places that has the lesser item, the first where they are equal
+unfoldable pub lesser : List ℕ → ℕ → ℕ → ℕ
+lesser items m n = if nat_le (slice_index items m) (slice_index items n) then m else n

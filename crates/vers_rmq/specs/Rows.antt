@@ -1,0 +1,57 @@
+-- Worked rows of the definitions, which compute.
+use Rattle.std.specs.Prelude.{◌≡◌, ℕ, List, [], ◌∷◌, refl}
+use Rattle.std.specs.declared.ops.Bound.TheVariants.{Included, Excluded, Unbounded}
+use Rattle.vers_tally.specs.Reads.{digits}
+use Rattle.vers_rmq.specs.Minima.{lesser}
+use Rattle.vers_rmq.specs.Layout.{clog, binary_heap_size, fast_heap_size}
+use Rattle.vers_rmq.specs.Ranges.{start_place, end_place}
+
+-- items of which some are equal
+abbrev items_31211 : List ℕ
+items_31211 = 3 ∷ 1 ∷ 2 ∷ 1 ∷ 1 ∷ []
+
+pub lesser-0-1 : lesser items_31211 0 1 ≡ 1
+unfolding lesser
+lesser-0-1 = refl
+
+pub lesser-1-3 : lesser items_31211 1 3 ≡ 1
+unfolding lesser
+lesser-1-3 = refl
+
+pub start_place-excluded : start_place (Excluded 0) 5 ≡ 1
+start_place-excluded = refl
+
+pub start_place-past : start_place (Included 9) 5 ≡ 4
+start_place-past = refl
+
+pub end_place-excluded : end_place (Excluded 3) 5 ≡ 2
+end_place-excluded = refl
+
+pub end_place-included : end_place (Included 3) 5 ≡ 3
+end_place-included = refl
+
+pub end_place-unbounded : end_place Unbounded 5 ≡ 4
+end_place-unbounded = refl
+
+pub end_place-greatest : end_place (Excluded 18446744073709551615) 5 ≡ 4
+end_place-greatest = refl
+
+pub clog-0 : clog 0 ≡ 0
+unfolding digits
+clog-0 = refl
+
+pub clog-11 : clog 11 ≡ 4
+unfolding digits
+clog-11 = refl
+
+pub binary_heap_size-11 : binary_heap_size 11 ≡ 308
+unfolding digits
+binary_heap_size-11 = refl
+
+pub fast_heap_size-0 : fast_heap_size 0 ≡ 0
+unfolding digits
+fast_heap_size-0 = refl
+
+pub fast_heap_size-300 : fast_heap_size 300 ≡ 2559
+unfolding digits
+fast_heap_size-300 = refl

@@ -1,0 +1,6 @@
+//! Range minima.
+pub mod binary_rmq;
+mod bounds;
+pub mod fast_rmq;
+mod gather;
+mod least;

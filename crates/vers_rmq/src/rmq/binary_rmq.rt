@@ -1,0 +1,205 @@
+//! Range minima by two items read.
+ghost use Rattle.std.specs.Prelude.{◌≡◌, ◌+◌, ◌-◌, ◌^◌, ◌<◌, ◌≤◌, ◌↔◌, [], length, IsTrue, IfOk, IfErr};
+ghost use Rattle.std.specs.Iterator.{Drains, IsFinite};
+ghost use Rattle.std.specs.Range.Bound.{start_index, end_index};
+ghost use Rattle.vers_tally.specs.Reads.{only_items, AddsAtMost};
+ghost use Rattle.vers_rmq.specs.Minima.{IsFirstLeast};
+ghost use Rattle.vers_rmq.specs.Layout.{binary_heap_size};
+ghost use Rattle.vers_rmq.specs.Ranges.{start_place, end_place};
+ghost use Rattle.vers_rmq.specs.Makers.{Refused};
+
+mod table;
+
+use crate::rmq::binary_rmq::table::{log2, places, width};
+use crate::rmq::bounds::{end_place, start_place};
+use crate::rmq::gather::gathered;
+use crate::rmq::least::lesser_counted;
+use std::alloc::{AllocError, Allocator};
+use std::marker::Model;
+use std::ops::Bound;
+use vers_bits::bit_vec::GrowError;
+use vers_tally::tally::{CountedItems, Tally};
+
+/// The most items that a `BinaryRmq` holds.
+pub const MAX_LEN: usize = 4294967295;
+
+/// A list of numbers with a table by which the place of a least item of any range is found from two
+/// items. Contracts see a `BinaryRmq` as the list of its items.
+///
+/// The table, which is the sparse table of Bender and Farach-Colton, has for each place and each power
+/// of two up to the first that is not below the number of items the place of the least of as many items
+/// from there on, in 4 bytes. A range is covered by two such ranges, which may overlap.
+#[derive(Drop)]
+pub struct BinaryRmq<A: Allocator + Copy> {
+    items: CountedItems<A>,
+    table: Vec<u32, A>,
+}
+
+impl<A: Allocator + Copy> Model for BinaryRmq<A> {
+    ghost use Rattle.std.specs.Prelude.{List, ℕ};
+    ghost use Rattle.vers_rmq.specs.Tables.{IsTable};
+
+    ghost Value = { List ℕ };
+
+    ghost view = { λ v. v.items };
+
+    ghost invariant = { λ v. IsTable v.items v.table.items };
+}
+
+impl<A: Allocator + Copy> Clone for BinaryRmq<A> {
+    ghost is_clone = { λ old new. new ≡ old };
+
+    /// A second value of the same items, with a copy of the table.
+    fn clone(&self) -> Result<Self, AllocError> {
+        let alloc = *self.table.allocator();
+        let items = Vec::from_slice(alloc, self.items.as_slice())?;
+        let table = Vec::from_slice(alloc, self.table.as_slice())?;
+        Ok(BinaryRmq {
+            items: CountedItems::new(items),
+            table,
+        })
+    }
+}
+
+impl<A: Allocator + Copy> BinaryRmq<A> {
+    /// The items, with their table. The items are dropped for want of memory.
+    pub fn from_vec(items: Vec<u64, A>) -> Result<Self, AllocError>
+        requires { length items.items ≤ MAX_LEN }
+        ensures { IfOk result (λ v. v ≡ items.items) }
+    {
+        let alloc = *items.allocator();
+        let table = places(items.as_slice(), alloc)?;
+        Ok(BinaryRmq {
+            items: CountedItems::new(items),
+            table,
+        })
+    }
+
+    /// The items of an iterator that ends. TooLong at the item that would pass `MAX_LEN`, which is
+    /// tested before memory is asked for; Memory where an item or the table finds no memory.
+    pub fn from_iter<I: Iterator<Item = u64> + Drop>(alloc: A, items: I) -> Result<Self, GrowError>
+        requires can { I.can_next items }
+        requires ends { IsFinite (I.remaining items) }
+        ensures made { IfOk result (λ v. Drains I.next_gives items v) }
+        ensures refused { IfErr result (λ e. Refused I.next_gives items MAX_LEN e) }
+    {
+        let list = gathered(alloc, items, MAX_LEN)?;
+        Ok(BinaryRmq::from_vec(list)?)
+    }
+
+    /// How many items there are.
+    #[inline]
+    pub fn len(&self) -> usize
+        ensures value { result ≡ length self.now }
+        ensures bounded { length self.now ≤ MAX_LEN }
+    {
+        self.items.len()
+    }
+
+    /// Whether there are no items.
+    #[inline]
+    pub fn is_empty(&self) -> bool
+        ensures { IsTrue result ↔ (self.now ≡ []) }
+    {
+        self.len() == 0
+    }
+
+    /// All items.
+    #[inline]
+    pub fn as_slice(&self) -> &[u64]
+        ensures { result.now ≡ self.now }
+    {
+        self.items.as_slice()
+    }
+
+    /// The bytes that the items and the table take.
+    #[tactic(auto, using(crate::proofs::Tables::sizing))]
+    pub fn heap_size(&self) -> usize
+        ensures { result ≡ binary_heap_size (length self.now) }
+    {
+        8 * self.items.len() + 4 * self.table.len()
+    }
+
+    // The entry of level `k` for the range from `i` on.
+    #[inline(always)]
+    #[tactic(auto, using(crate::proofs::Tables::entries))]
+    fn entry(&self, k: usize, i: usize) -> usize
+        requires { i + 2 ^ k ≤ length self.now }
+        ensures value { IsFirstLeast self.now i (i + 2 ^ k - 1) result }
+        ensures inside { result < length self.now }
+    {
+        let table = self.table.as_slice();
+        table[self.items.len() * k + i] as usize
+    }
+
+    /// The first place of a least item from place `i` to place `j`, both included, by at most 2 items
+    /// read.
+    #[inline(always)]
+    #[tactic(auto, using(crate::proofs::Minima::joins))]
+    pub fn range_min_counted(&self, i: usize, j: usize, tally: &mut Tally) -> usize
+        requires order { i ≤ j }
+        requires inside { j < length self.now }
+        ensures value { IsFirstLeast self.now i j result }
+        ensures adds { AddsAtMost tally.old tally.new (only_items 2) }
+    {
+        let _ = &self.items;
+        let k = log2(j - i + 1);
+        lesser_counted(
+            &self.items,
+            self.entry(k, i),
+            self.entry(k, j + 1 - width(k)),
+            tally,
+        )
+    }
+
+    /// The first place of a least item from place `i` to place `j`, both included.
+    #[inline]
+    pub fn range_min(&self, i: usize, j: usize) -> usize
+        requires order { i ≤ j }
+        requires inside { j < length self.now }
+        ensures { IsFirstLeast self.now i j result }
+    {
+        let mut tally = Tally::new();
+        self.range_min_counted(i, j, &mut tally)
+    }
+
+    /// The first place of a least item in a range of which the ends are cut to the places of the list,
+    /// by at most 2 items read.
+    ///
+    /// There is at least one item, a start excluded is not the greatest number, an end excluded is not
+    /// 0, and the start, cut so, is not past the end.
+    #[inline(always)]
+    pub fn range_min_with_range_counted(
+        &self,
+        start: Bound<usize>,
+        end: Bound<usize>,
+        tally: &mut Tally,
+    ) -> usize
+        requires some { 0 < length self.now }
+        requires start { start_index start < 2 ^ 64 }
+        requires end { 0 < end_index end (length self.now) }
+        requires order { start_place start (length self.now) ≤ end_place end (length self.now) }
+        ensures value { IsFirstLeast self.now (start_place start (length self.now)) (end_place end (length self.now)) result }
+        ensures adds { AddsAtMost tally.old tally.new (only_items 2) }
+    {
+        let n = self.len();
+        self.range_min_counted(start_place(start, n), end_place(end, n), tally)
+    }
+
+    /// The first place of a least item in a range of which the ends are cut to the places of the list:
+    /// an unbounded start is 0, an unbounded end the last place.
+    ///
+    /// There is at least one item, a start excluded is not the greatest number, an end excluded is not
+    /// 0, and the start, cut so, is not past the end.
+    #[inline]
+    pub fn range_min_with_range(&self, start: Bound<usize>, end: Bound<usize>) -> usize
+        requires some { 0 < length self.now }
+        requires start { start_index start < 2 ^ 64 }
+        requires end { 0 < end_index end (length self.now) }
+        requires order { start_place start (length self.now) ≤ end_place end (length self.now) }
+        ensures { IsFirstLeast self.now (start_place start (length self.now)) (end_place end (length self.now)) result }
+    {
+        let mut tally = Tally::new();
+        self.range_min_with_range_counted(start, end, &mut tally)
+    }
+}

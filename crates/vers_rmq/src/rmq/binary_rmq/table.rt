@@ -1,0 +1,73 @@
+//! The table of the places of least items, by powers of two.
+ghost use Rattle.std.specs.Prelude.{◌≡◌, ◌+◌, ◌*◌, ◌^◌, ◌<◌, ◌≤◌, length, IfOk};
+ghost use Rattle.vers_rmq.specs.Minima.{IsFirstLeast};
+ghost use Rattle.vers_rmq.specs.Tables.{reach, HoldsPlaces, IsTable};
+
+use crate::rmq::least::lesser_place;
+use std::alloc::{AllocError, Allocator};
+
+// The exponent of the greatest power of two that is not above a number.
+#[inline(always)]
+#[tactic(auto, using(crate::proofs::Logs::tops))]
+pub(super) fn log2(a: usize) -> usize
+    requires { 0 < a }
+    ensures low { 2 ^ result ≤ a }
+    ensures high { a < 2 * 2 ^ result }
+    ensures few { result < 64 }
+{
+    63 - a.leading_zeros() as usize
+}
+
+// Two to the power of `k`.
+#[inline(always)]
+#[tactic(auto, using(crate::proofs::Logs::shifts))]
+pub(super) fn width(k: usize) -> usize
+    requires { k < 64 }
+    ensures { result ≡ 2 ^ k }
+{
+    1 << k
+}
+
+// The entry of level `k + 1` for the range from `i` on, from two entries of level `k`.
+#[tactic(auto, using(crate::proofs::Tables::next_level))]
+fn next_place(items: &[u64], table: &[u32], k: usize, i: usize) -> u32
+    requires places { HoldsPlaces items.now table.now }
+    requires inside { length items.now * k + length items.now ≤ length table.now }
+    requires width { 2 ^ k < length items.now }
+    requires few { length items.now < 2 ^ 32 }
+    requires small { k < 32 }
+    requires here { i < length items.now }
+    ensures { IsFirstLeast items.now i (reach (length items.now) (k + 1) i) result }
+{
+    let m = table[items.len() * k + i];
+    let h = i + width(k);
+    if h < items.len() {
+        return lesser_place(items, m as usize, table[items.len() * k + h] as usize) as u32;
+    }
+    m
+}
+
+// The table: a level for each power of two up to the first that is not below the number of items,
+// and on it an entry for each item.
+#[tactic(auto, using(crate::proofs::Tables::filling))]
+pub(super) fn places<A: Allocator + Copy>(
+    items: &[u64],
+    alloc: A,
+) -> Result<Vec<u32, A>, AllocError>
+    requires { length items.now < 2 ^ 32 }
+    ensures { IfOk result (λ v. IsTable items.now v.items) }
+{
+    let mut table = Vec::new(alloc);
+    for i in 0..items.len() {
+        table.push(i as u32)?;
+    }
+    let mut k = 0;
+    'levels: while width(k) < items.len() {
+        for j in 0..items.len() {
+            let place = next_place(items, table.as_slice(), k, j);
+            table.push(place)?;
+        }
+        k += 1;
+    }
+    Ok(table)
+}

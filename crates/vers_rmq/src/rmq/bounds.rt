@@ -1,0 +1,36 @@
+//! The ends of a range as places of a list.
+ghost use Rattle.std.specs.Prelude.{◌≡◌, ◌^◌, ◌<◌};
+ghost use Rattle.std.specs.Range.Bound.{start_index, end_index};
+ghost use Rattle.vers_rmq.specs.Ranges.{start_place, end_place};
+
+use std::ops::Bound;
+
+// The first place of a range that starts at the bound, among `n` places.
+#[inline(always)]
+pub(super) fn start_place(start: Bound<usize>, n: usize) -> usize
+    requires some { 0 < n }
+    requires start { start_index start < 2 ^ 64 }
+    ensures { result ≡ start_place start n }
+{
+    let first = match start {
+        Bound::Included(place) => place,
+        Bound::Excluded(place) => place + 1,
+        Bound::Unbounded => 0,
+    };
+    first.min(n - 1)
+}
+
+// The last place of a range that ends at the bound, among `n` places.
+#[inline(always)]
+pub(super) fn end_place(end: Bound<usize>, n: usize) -> usize
+    requires some { 0 < n }
+    requires end { 0 < end_index end n }
+    ensures { result ≡ end_place end n }
+{
+    let last = match end {
+        Bound::Included(place) => place,
+        Bound::Excluded(place) => place - 1,
+        Bound::Unbounded => n - 1,
+    };
+    last.min(n - 1)
+}

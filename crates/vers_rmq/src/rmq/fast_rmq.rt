@@ -1,0 +1,262 @@
+//! Range minima in few more bits than the items take.
+ghost use Rattle.std.specs.Prelude.{◌≡◌, ◌+◌, ◌-◌, ◌*◌, ◌/◌, ◌^◌, ◌<◌, ◌≤◌, ◌↔◌, [], length, IsTrue, IfOk, IfErr};
+ghost use Rattle.std.specs.Iterator.{Drains, IsFinite};
+ghost use Rattle.std.specs.Range.Bound.{start_index, end_index};
+ghost use Rattle.vers_tally.specs.Reads.{only_items, AddsAtMost};
+ghost use Rattle.vers_rmq.specs.Minima.{IsFirstLeast};
+ghost use Rattle.vers_rmq.specs.Layout.{fast_heap_size};
+ghost use Rattle.vers_rmq.specs.Ranges.{start_place, end_place};
+ghost use Rattle.vers_rmq.specs.Makers.{Refused};
+ghost use Rattle.vers_rmq.specs.Blocks.{block_end};
+
+mod block;
+mod mask;
+
+use crate::rmq::binary_rmq::BinaryRmq;
+use crate::rmq::bounds::{end_place, start_place};
+use crate::rmq::fast_rmq::block::{Blocks, all_blocks};
+use crate::rmq::fast_rmq::mask::{first_set, last_set};
+use crate::rmq::gather::gathered;
+use crate::rmq::least::{lesser_counted, scan};
+use std::alloc::{AllocError, Allocator};
+use std::marker::Model;
+use std::ops::Bound;
+use vers_bits::bit_vec::GrowError;
+use vers_tally::tally::{CountedItems, Tally};
+
+/// The most items that a `FastRmq` holds.
+pub const MAX_LEN: usize = 549755813760;
+
+/// A list of numbers, of which the place of a least item of any range is found with few of them read.
+/// Contracts see a `FastRmq` as the list of its items.
+///
+/// Of each block of 128 items it keeps the place of the least one in 1 byte, a mask of 128 bits of the
+/// items that are below all before them in the block, a mask of those that none after them in the block
+/// is below, and over the least items of the blocks a `BinaryRmq`. A range over more than one block is
+/// the end of one, whole blocks and the start of another, and each mask has the place of the least item
+/// of an end or a start.
+#[derive(Drop)]
+pub struct FastRmq<A: Allocator + Copy> {
+    items: CountedItems<A>,
+    minima: BinaryRmq<A>,
+    places: Vec<u8, A>,
+    prefix_masks: Vec<u128, A>,
+    suffix_masks: Vec<u128, A>,
+}
+
+impl<A: Allocator + Copy> Model for FastRmq<A> {
+    ghost use Rattle.std.specs.Prelude.{List, ℕ};
+    ghost use Rattle.vers_rmq.specs.Blocks.{AreAllBlocks};
+
+    ghost Value = { List ℕ };
+
+    ghost view = { λ v. v.items };
+
+    ghost invariant = { λ v. AreAllBlocks v.items v.minima v.places.items v.prefix_masks.items v.suffix_masks.items };
+}
+
+impl<A: Allocator + Copy> Clone for FastRmq<A> {
+    ghost is_clone = { λ old new. new ≡ old };
+
+    /// A second value of the same items, with a copy of what is kept of the blocks.
+    fn clone(&self) -> Result<Self, AllocError> {
+        let alloc = *self.places.allocator();
+        let items = Vec::from_slice(alloc, self.items.as_slice())?;
+        let minima = self.minima.clone()?;
+        let places = Vec::from_slice(alloc, self.places.as_slice())?;
+        let prefix_masks = Vec::from_slice(alloc, self.prefix_masks.as_slice())?;
+        let suffix_masks = Vec::from_slice(alloc, self.suffix_masks.as_slice())?;
+        Ok(FastRmq {
+            items: CountedItems::new(items),
+            minima,
+            places,
+            prefix_masks,
+            suffix_masks,
+        })
+    }
+}
+
+impl<A: Allocator + Copy> FastRmq<A> {
+    /// The items, with what is kept of their blocks. The items are dropped for want of memory.
+    pub fn from_vec(items: Vec<u64, A>) -> Result<Self, AllocError>
+        requires { length items.items ≤ MAX_LEN }
+        ensures { IfOk result (λ v. v ≡ items.items) }
+    {
+        let alloc = *items.allocator();
+        let Blocks {
+            minima,
+            places,
+            prefix_masks,
+            suffix_masks,
+        } = all_blocks(items.as_slice(), alloc)?;
+        let minima = BinaryRmq::from_vec(minima)?;
+        Ok(FastRmq {
+            items: CountedItems::new(items),
+            minima,
+            places,
+            prefix_masks,
+            suffix_masks,
+        })
+    }
+
+    /// The items of an iterator that ends. TooLong at the item that would pass `MAX_LEN`, which is
+    /// tested before memory is asked for; Memory where an item or what is kept of the blocks finds no
+    /// memory.
+    pub fn from_iter<I: Iterator<Item = u64> + Drop>(alloc: A, items: I) -> Result<Self, GrowError>
+        requires can { I.can_next items }
+        requires ends { IsFinite (I.remaining items) }
+        ensures made { IfOk result (λ v. Drains I.next_gives items v) }
+        ensures refused { IfErr result (λ e. Refused I.next_gives items MAX_LEN e) }
+    {
+        let list = gathered(alloc, items, MAX_LEN)?;
+        Ok(FastRmq::from_vec(list)?)
+    }
+
+    /// How many items there are.
+    #[inline]
+    pub fn len(&self) -> usize
+        ensures value { result ≡ length self.now }
+        ensures bounded { length self.now ≤ MAX_LEN }
+    {
+        self.items.len()
+    }
+
+    /// Whether there are no items.
+    #[inline]
+    pub fn is_empty(&self) -> bool
+        ensures { IsTrue result ↔ (self.now ≡ []) }
+    {
+        self.len() == 0
+    }
+
+    /// All items.
+    #[inline]
+    pub fn as_slice(&self) -> &[u64]
+        ensures { result.now ≡ self.now }
+    {
+        self.items.as_slice()
+    }
+
+    /// The bytes that the items and what is kept of the blocks take.
+    #[tactic(auto, using(crate::proofs::Blocks::sizing))]
+    pub fn heap_size(&self) -> usize
+        ensures { result ≡ fast_heap_size (length self.now) }
+    {
+        let masks = self.prefix_masks.len() + self.suffix_masks.len();
+        8 * self.items.len() + self.minima.heap_size() + self.places.len() + 16 * masks
+    }
+
+    // The first place of a least item from the start of the block of `j` to `j`.
+    #[inline(always)]
+    #[tactic(auto, using(crate::proofs::Blocks::prefixes))]
+    fn prefix_place(&self, j: usize) -> usize
+        requires { j < length self.now }
+        ensures value { IsFirstLeast self.now (128 * (j / 128)) j result }
+        ensures inside { result < length self.now }
+    {
+        let prefix_masks = self.prefix_masks.as_slice();
+        128 * (j / 128) + last_set(prefix_masks[j / 128], j % 128)
+    }
+
+    // The first place of a least item from `i` to the end of its block.
+    #[inline(always)]
+    #[tactic(auto, using(crate::proofs::Blocks::suffixes))]
+    fn suffix_place(&self, i: usize) -> usize
+        requires { i < length self.now }
+        ensures value { IsFirstLeast self.now i (block_end (length self.now) (i / 128) - 1) result }
+        ensures inside { result < length self.now }
+    {
+        let suffix_masks = self.suffix_masks.as_slice();
+        128 * (i / 128) + first_set(suffix_masks[i / 128], i % 128)
+    }
+
+    // The first place of a least item of the blocks from `a` to `c`, which are whole.
+    #[inline(always)]
+    fn between(&self, a: usize, c: usize, tally: &mut Tally) -> usize
+        requires order { a ≤ c }
+        requires within { 128 * c + 128 ≤ length self.now }
+        ensures value { IsFirstLeast self.now (128 * a) (128 * c + 127) result }
+        ensures inside { result < length self.now }
+        ensures adds { AddsAtMost tally.old tally.new (only_items 2) }
+    {
+        let _ = self.items.len();
+        let places = self.places.as_slice();
+        let q = self.minima.range_min_counted(a, c, tally);
+        128 * q + places[q] as usize
+    }
+
+    /// The first place of a least item from place `i` to place `j`, both included, by at most 130 items
+    /// read: those of the range where it lies in one block, else two of the least items of blocks and
+    /// two for each choice between places of two parts.
+    #[inline(always)]
+    pub fn range_min_counted(&self, i: usize, j: usize, tally: &mut Tally) -> usize
+        requires order { i ≤ j }
+        requires inside { j < length self.now }
+        ensures value { IsFirstLeast self.now i j result }
+        ensures adds { AddsAtMost tally.old tally.new (only_items 130) }
+    {
+        let _ = self.items.len();
+        if i / 128 == j / 128 {
+            return scan(&self.items, i, j, tally);
+        }
+        let first = self.suffix_place(i);
+        let last = self.prefix_place(j);
+        if i / 128 + 1 == j / 128 {
+            return lesser_counted(&self.items, first, last, tally);
+        }
+        let middle = self.between(i / 128 + 1, j / 128 - 1, tally);
+        let left = lesser_counted(&self.items, first, middle, tally);
+        lesser_counted(&self.items, left, last, tally)
+    }
+
+    /// The first place of a least item from place `i` to place `j`, both included.
+    #[inline]
+    pub fn range_min(&self, i: usize, j: usize) -> usize
+        requires order { i ≤ j }
+        requires inside { j < length self.now }
+        ensures { IsFirstLeast self.now i j result }
+    {
+        let mut tally = Tally::new();
+        self.range_min_counted(i, j, &mut tally)
+    }
+
+    /// The first place of a least item in a range of which the ends are cut to the places of the list,
+    /// by as many items read as `range_min_counted`.
+    ///
+    /// There is at least one item, a start excluded is not the greatest number, an end excluded is not
+    /// 0, and the start, cut so, is not past the end.
+    #[inline(always)]
+    pub fn range_min_with_range_counted(
+        &self,
+        start: Bound<usize>,
+        end: Bound<usize>,
+        tally: &mut Tally,
+    ) -> usize
+        requires some { 0 < length self.now }
+        requires start { start_index start < 2 ^ 64 }
+        requires end { 0 < end_index end (length self.now) }
+        requires order { start_place start (length self.now) ≤ end_place end (length self.now) }
+        ensures value { IsFirstLeast self.now (start_place start (length self.now)) (end_place end (length self.now)) result }
+        ensures adds { AddsAtMost tally.old tally.new (only_items 130) }
+    {
+        let n = self.len();
+        self.range_min_counted(start_place(start, n), end_place(end, n), tally)
+    }
+
+    /// The first place of a least item in a range of which the ends are cut to the places of the list:
+    /// an unbounded start is 0, an unbounded end the last place.
+    ///
+    /// There is at least one item, a start excluded is not the greatest number, an end excluded is not
+    /// 0, and the start, cut so, is not past the end.
+    #[inline]
+    pub fn range_min_with_range(&self, start: Bound<usize>, end: Bound<usize>) -> usize
+        requires some { 0 < length self.now }
+        requires start { start_index start < 2 ^ 64 }
+        requires end { 0 < end_index end (length self.now) }
+        requires order { start_place start (length self.now) ≤ end_place end (length self.now) }
+        ensures { IsFirstLeast self.now (start_place start (length self.now)) (end_place end (length self.now)) result }
+    {
+        let mut tally = Tally::new();
+        self.range_min_with_range_counted(start, end, &mut tally)
+    }
+}

@@ -1,0 +1,32 @@
+//! The items of an iterator as a vector, up to a greatest number of them.
+ghost use Rattle.std.specs.Prelude.{◌≤◌, length, IfOk, IfErr};
+ghost use Rattle.std.specs.Iterator.{Drains, IsFinite};
+ghost use Rattle.vers_rmq.specs.Makers.{Refused};
+
+use std::alloc::Allocator;
+use vers_bits::bit_vec::GrowError;
+
+// The items of an iterator that ends, which are tested to be no more than `most` before memory is asked
+// for each.
+pub(super) fn gathered<A: Allocator + Copy, I: Iterator<Item = u64> + Drop>(
+    alloc: A,
+    items: I,
+    most: usize,
+) -> Result<Vec<u64, A>, GrowError>
+    requires can { I.can_next items }
+    requires ends { IsFinite (I.remaining items) }
+    ensures made { IfOk result (λ v. Drains I.next_gives items v.items) }
+    ensures within { IfOk result (λ v. length v.items ≤ most) }
+    ensures refused { IfErr result (λ e. Refused I.next_gives items most e) }
+{
+    let mut list = Vec::new(alloc);
+    for item in items {
+        if list.len() == most {
+            return Err(GrowError::TooLong);
+        }
+        if list.push(item).is_err() {
+            return Err(GrowError::Memory);
+        }
+    }
+    Ok(list)
+}
