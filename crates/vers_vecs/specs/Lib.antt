@@ -9,3 +9,7 @@ pub use Rattle.vers_rank.specs.Queries
 pub use Rattle.vers_sorted.specs.Sorted
 pub use Rattle.vers_sorted.specs.Ones
 pub use Rattle.vers_sorted.specs.Layout
+pub use Rattle.vers_rmq.specs.Minima
+pub use Rattle.vers_rmq.specs.Ranges
+pub use Rattle.vers_rmq.specs.Makers
+pub use Rattle.vers_rmq.specs.Layout as MinimaLayout

@@ -31,6 +31,19 @@ pub mod elias_fano {
     pub use vers_sorted::elias_fano::{EliasFanoIter, EliasFanoRefIter, EliasFanoVec};
 }
 
+/// Range minima.
+pub mod rmq {
+    /// Range minima by two items read.
+    pub mod binary_rmq {
+        pub use vers_rmq::rmq::binary_rmq::BinaryRmq;
+    }
+
+    /// Range minima in few more bits than the items take.
+    pub mod fast_rmq {
+        pub use vers_rmq::rmq::fast_rmq::FastRmq;
+    }
+}
+
 /// Counters of reads.
 pub mod tally {
     pub use vers_tally::tally::Tally;
@@ -38,5 +51,7 @@ pub mod tally {
 
 pub use vers_bits::bit_vec::BitVec;
 pub use vers_rank::fast_rs_vec::RsVec;
+pub use vers_rmq::rmq::binary_rmq::BinaryRmq;
+pub use vers_rmq::rmq::fast_rmq::FastRmq;
 pub use vers_sorted::elias_fano::EliasFanoVec;
 pub use vers_sorted::sparse::SparseRSVec;
