@@ -9,6 +9,7 @@ pub mod Limbs
 pub mod Holds
 pub mod Equal
 pub mod Growing
+pub mod Gather
 pub mod Edits
 pub mod Filling
 pub mod Stops

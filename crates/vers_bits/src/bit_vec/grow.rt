@@ -5,7 +5,7 @@ ghost use Rattle.std.specs.Iterator.{Drains, IsFinite};
 ghost use Rattle.vers_bits.specs.Bits.{low_bits};
 ghost use Rattle.vers_bits.specs.Makers.{StopsAt};
 
-use crate::bit_vec::words::{add_bit, add_bits, add_zeros, low_part};
+use crate::bit_vec::words::{add_bit, add_bits, add_within, add_zeros, low_part};
 use crate::bit_vec::{BitVec, GrowError, MAX_LEN};
 use std::alloc::{AllocError, Allocator};
 
@@ -85,6 +85,31 @@ impl<A: Allocator + Copy> BitVec<A> {
         Ok(())
     }
 
+    // Appends the `n` digits of a number, which the last limb has room for.
+    pub(super) fn append_within(&mut self, bits: u64, n: usize)
+        requires small { bits < 2 ^ n }
+        requires room { n ≤ (64 - length self.old % 64) % 64 }
+        ensures { self.new ≡ self.old ++ low_bits bits n }
+    {
+        if n == 0 {
+            return;
+        }
+        add_within(&mut self.data, self.len, bits, n);
+        self.len += n;
+    }
+
+    // Appends the 64 bits of a number.
+    #[inline(always)]
+    fn append_limb(&mut self, limb: u64) -> Result<(), AllocError>
+        requires { length self.old + 64 ≤ MAX_LEN }
+        ensures grown { OnOk result (self.new ≡ self.old ++ low_bits limb 64) }
+        ensures kept { OnErr result (self.new ≡ self.old) }
+    {
+        add_bits(&mut self.data, self.len, limb, 64)?;
+        self.len += 64;
+        Ok(())
+    }
+
     // Appends zeros.
     fn append_zeros(&mut self, n: usize) -> Result<(), AllocError>
         requires { length self.old + n ≤ MAX_LEN }
@@ -136,6 +161,7 @@ impl<A: Allocator + Copy> BitVec<A> {
 
     // Appends the bits of another list from a place on. Where the call is refused some of them may
     // have been appended.
+    #[inline(always)]
     fn append_from(&mut self, other: &BitVec<A>, start: usize) -> Result<(), GrowError>
         requires start { start ≤ length other.now }
         requires short { length self.old + (length other.now - start) ≤ MAX_LEN }
@@ -145,13 +171,15 @@ impl<A: Allocator + Copy> BitVec<A> {
         let added = other.len() - start;
         self.reserve(added)?;
         for k in 0..added / 64 {
-            self.append_bits(other.get_bits_unchecked(start + 64 * k, 64), 64)?;
+            self.append_limb(other.get_bits_unchecked(start + 64 * k, 64))?;
         }
         let rest = added % 64;
         self.append_bits(other.get_bits_unchecked(start + (added - rest), rest), rest)
     }
 
-    // Appends the bits of another list from a place on.
+    // Appends the bits of another list from a place on. It is put where it is called: onto an empty
+    // list, or from the first place on, one of both shifts of a limb is none.
+    #[inline(always)]
     pub(super) fn extend_from(&mut self, other: &BitVec<A>, start: usize) -> Result<(), GrowError>
         requires { start ≤ length other.now }
         ensures grown { OnOk result (self.new ≡ self.old ++ drop start other.now) }

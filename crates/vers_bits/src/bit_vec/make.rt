@@ -1,7 +1,7 @@
 //! Makers of lists of bits.
 ghost use Rattle.std.specs.Prelude.{◌≡◌, ℕ, Bool, ◌+◌, ◌-◌, ◌*◌, ◌/◌, ◌%◌, ◌^◌, ◌<◌, ◌≤◌, ◌↔◌, ◌==◌, List, [], ◌∷◌, ◌++◌, length, map, flat_map, replicate, true, false, IfOk, IfErr, IsOk, OnOk, OnErr, if◌then◌else◌};
 ghost use Rattle.std.specs.Iterator.{Drains, IsFinite};
-ghost use Rattle.vers_bits.specs.Bits.{bit_value, low_bits, pack};
+ghost use Rattle.vers_bits.specs.Bits.{bit_value, number, low_bits, pack};
 ghost use Rattle.vers_bits.specs.Makers.{StopsAt};
 
 use crate::bit_vec::words::cut;
@@ -163,15 +163,17 @@ impl<A: Allocator + Copy> BitVec<A> {
         ensures too_long { (result ≡ Err GrowError.TooLong) ↔ (MAX_LEN < length items.now) }
     {
         let mut list = BitVec::with_capacity(alloc, items.len())?;
-        for item in items {
-            if list.append(item.is_odd()).is_err() {
-                return Err(GrowError::Memory);
-            }
+        let mut rest = items;
+        while !rest.is_empty() {
+            let (limb, others) = rest.split_at(rest.len().min(64));
+            list.append_bits(parities(limb), limb.len())?;
+            rest = others;
         }
         Ok(list)
     }
 
-    // A bit an item of an iterator.
+    // A bit an item of an iterator. The first bit of each limb is appended, which may take memory.
+    // The others are gathered in a word until the limb is full.
     fn odd_items_of<T: Item, I: Iterator<Item = T> + Drop>(
         alloc: A,
         items: I,
@@ -182,9 +184,22 @@ impl<A: Allocator + Copy> BitVec<A> {
         ensures refused { IfErr result (λ e. StopsAt I.next_gives items (λ xs x. (e ≡ GrowError.TooLong) ↔ (MAX_LEN < length xs + 1))) }
     {
         let mut list = BitVec::new(alloc);
+        let mut word = 0;
+        let mut gathered = 0;
+        let mut room = 0;
         for item in items {
-            list.append(item.is_odd())?;
+            if gathered < room {
+                word = with_digit(word, gathered, item.is_odd());
+                gathered += 1;
+            } else {
+                list.append_within(word, gathered);
+                list.append(item.is_odd())?;
+                word = 0;
+                gathered = 0;
+                room = 63;
+            }
         }
+        list.append_within(word, gathered);
         Ok(list)
     }
 
@@ -430,4 +445,26 @@ fn equal_word(bit: bool) -> u64
     ensures { result ≡ (if bit then 18446744073709551615 else 0) }
 {
     if bit { u64::MAX } else { 0 }
+}
+
+// The number whose digits say which items are odd, the lowest digit of the first item.
+fn parities<T: Item>(items: &[T]) -> u64
+    requires { length items.now ≤ 64 }
+    ensures { result ≡ number (map T.is_odd items.now) }
+{
+    let mut word = 0;
+    for place in (0..items.len()).rev() {
+        word = 2 * word + u64::from(items[place].is_odd());
+    }
+    word
+}
+
+// A number of `n` digits with one more digit above them.
+fn with_digit(word: u64, n: usize, digit: bool) -> u64
+    requires short { n < 64 }
+    requires small { word < 2 ^ n }
+    ensures digits { low_bits result (n + 1) ≡ low_bits word n ++ digit ∷ [] }
+    ensures small { result < 2 ^ (n + 1) }
+{
+    word | (u64::from(digit) << n)
 }

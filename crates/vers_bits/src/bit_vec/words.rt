@@ -36,7 +36,24 @@ fn or_into<A: Allocator + Copy>(words: &mut Vec<u64, A>, k: usize, bits: u64)
     words[k] |= bits;
 }
 
+// Makes the words hold `n` bits more, those of the number `bits`, which the last word has room for.
+pub(super) fn add_within<A: Allocator + Copy>(
+    words: &mut Vec<u64, A>,
+    len: usize,
+    bits: u64,
+    n: usize,
+)
+    requires held { HoldsBits words.old.items len }
+    requires begun { 0 < len % 64 }
+    requires room { len % 64 + n ≤ 64 }
+    requires small { bits < 2 ^ n }
+    ensures { Holds words.new.items (len + n) (word_bits words.old.items len ++ low_bits bits n) }
+{
+    or_into(words, len / 64, bits << (len % 64));
+}
+
 // Makes the words hold `n` bits more, those of the number `bits`.
+#[inline(always)]
 #[tactic(auto, using(crate::proofs::Holds::adds))]
 pub(super) fn add_bits<A: Allocator + Copy>(
     words: &mut Vec<u64, A>,
@@ -58,7 +75,7 @@ pub(super) fn add_bits<A: Allocator + Copy>(
         return push_word(words, bits);
     }
     if n <= 64 - used {
-        or_into(words, len / 64, bits << used);
+        add_within(words, len, bits, n);
         return Ok(());
     }
     push_word(words, bits >> (64 - used))?;

@@ -1,19 +1,51 @@
-use Rattle.std.proofs.Common.{rules, ◌≡◌, ◌≤◌, length, Err, ap, ◌∙◌, arith}
+use Rattle.std.proofs.Common.{rules, ◌≡◌, ◌++◌, ◌∷◌, ◌≤◌, [], length, map, Err, ap, sym, ◌∙◌, arith}
 use Rattle.std.proofs.lemmas.Result.{err_from_is_err_and}
-use Rattle.std.proofs.lemmas.List.{length-map}
+use Rattle.std.proofs.lemmas.List.{length-map, append-nil, map-append}
+use Rattle.vers_bits.specs.Bits.{low_bits}
 use Rattle.vers_bits.specs.declared.bit_vec.fault.GrowError.TheVariants.{TooLong}
 use Rattle.vers_bits.specs.declared.bit_vec.TheConstants.{MAX_LEN}
 use Rattle.vers_bits.proofs.Words.{length-word_bits}
+use Rattle.vers_bits.proofs.LowBits.{low_bits_none}
+use Rattle.vers_bits.proofs.Gather.{limb_begun}
 use Rattle.vers_bits.proofs.Stops.{stops_at}
 use Rattle.vers_bits.proofs.bit_vec.BitVec.odd_items_of.Goals as goal
+
+pub loop-item-init : goal.loop-item-init
+loop-item-init g c = record {
+  bits = ap (λ l. l ++ low_bits 0 0) c.new-list.ensures ∙ low_bits_none 0;
+  small = omega arith;
+  within = omega arith;
+  room = omega (arith, ap length c.new-list.ensures);
+}
+
+pub loop-item-preserved : goal.loop-item-preserved
+loop-item-preserved g c =
+    let odd = g.T.Item.is_odd in
+    let xs = c.loop-item.yielded in
+    let bit = c.is_odd-else-gathered-room.result in
+    let full = c.append_within.ensures in
+    let grown = c.in_ok-append.ensures.grown in
+    record {
+      bits =
+          ap (λ l. c.append.new.self ++ l) (low_bits_none 0) ∙ append-nil c.append.new.self ∙ grown ∙ ap (λ l. l ++ bit ∷ []) (full ∙ c.loop-item.invariant.bits)
+          ∙ ap (λ b. map odd xs ++ b ∷ []) c.is_odd-else-gathered-room.ensures ∙ sym (map-append odd xs (c.in-Some.item ∷ []));
+      small = omega arith;
+      within = omega arith;
+      room =
+          limb_begun c.loop-item.list c.append.new.self c.loop-item.word c.loop-item.gathered c.loop-item.room bit c.loop-item.invariant.within c.if-gathered-room.false
+          c.loop-item.invariant.room (grown ∙ ap (λ l. l ++ bit ∷ []) full);
+    }
 
 pub returns-in_err-append-clause-refused : goal.returns-in_err-append-clause-refused
 returns-in_err-append-clause-refused g c =
     let p = err_from_is_err_and c.from_residual.result c.from_residual.ensures.1 in
-    let long : length c.loop-item.list ≡ length c.loop-item.yielded = ap length c.loop-item.invariant ∙ length-map c.loop-item.yielded g.T.Item.is_odd in
-    let short : length c.loop-item.list ≤ MAX_LEN =
+    let xs = c.loop-item.yielded in
+    let before = c.append_within.new.self in
+    let full : before ≡ map g.T.Item.is_odd xs = c.append_within.ensures ∙ c.loop-item.invariant.bits in
+    let long : length before ≡ length xs = ap length full ∙ length-map xs g.T.Item.is_odd in
+    let short : length before ≤ MAX_LEN =
     omega (arith, ap length c.in_err-append.ensures.kept, ap length c.list.view_is, length-word_bits c.list.inside.«data».items c.list.inside.len, c.list.invariant.bounded) in
     let exact = c.in_err-append.ensures.too_long in
     rw (p.1, p.2)
-    (stops_at g.I.Iterator.next_gives c.args.items _ c.loop-item.yielded c.in-Some.item c.loop-item.item-iterator c.next.new.self (search rules) c.in-Some.ensures.steps
+    (stops_at g.I.Iterator.next_gives c.args.items _ xs c.in-Some.item c.loop-item.item-iterator c.next.new.self (search rules) c.in-Some.ensures.steps
     ((λ e. omega (arith, exact.0 (ap Err e))), (λ h. let q : Err c.in_err-append.field-0.0 ≡ Err TooLong = exact.1 (omega arith) in cc)))

@@ -1,5 +1,11 @@
-use Rattle.std.proofs.Common.{◌≡◌, map}
+use Rattle.std.proofs.Common.{◌≡◌, ◌++◌, ◌-◌, ◌%◌, ◌^◌, ◌<◌, ◌≤◌, map, length}
+use Rattle.vers_bits.specs.Bits.{low_bits}
 use Rattle.vers_bits.proofs.bit_vec.BitVec.odd_items_of.Given as goal
 
 abbrev pub invariant-loop-item : goal.invariant-loop-item
-invariant-loop-item g l = l.list ≡ map g.T.Item.is_odd l.yielded
+invariant-loop-item g l = record {
+  bits : l.list ++ low_bits l.word l.gathered ≡ map g.T.Item.is_odd l.yielded;
+  small : l.word < 2 ^ l.gathered;
+  within : l.gathered ≤ l.room;
+  room : l.room ≡ (64 - length l.list % 64) % 64;
+}

@@ -1,16 +1,12 @@
 use Rattle.std.proofs.Common.{◌∷◌, [], ◌<◌, ◌-◌, ◌/◌, ◌%◌, ◌^◌, length, arith}
 use Rattle.std.proofs.lemmas.List.{get_or_append_left}
-use Rattle.vers_bits.proofs.Holds.{added_inside, added_across}
+use Rattle.vers_bits.proofs.Holds.{added_across}
 use Rattle.vers_bits.proofs.bit_vec.words.add_bits.Goals as goal
-
-pub returns-then-n-used-clause-grown : goal.returns-then-n-used-clause-grown
-returns-then-n-used-clause-grown g c =
-    rw c.or_into.ensures (added_inside _ _ _ _ c.requires.held c.requires.small (omega arith) (omega arith) c.requires.short)
 
 pub returns-clause-grown : goal.returns-clause-grown
 returns-clause-grown g c =
     let words = c.args.words.now.items in
     let within : c.args.len / 64 < length words = omega (arith, c.requires.held.counted) in
     let last = get_or_append_left words (c.args.bits / 2 ^ (64 - c.args.len % 64) ∷ []) 0 (c.args.len / 64) within in
-    rw (c.or_into-2.ensures, c.in_ok-push_word.ensures.pushed, last)
+    rw (c.or_into.ensures, c.in_ok-push_word.ensures.pushed, last)
     (added_across words _ _ _ c.requires.held c.requires.small (omega arith) (omega arith) c.requires.few c.requires.short)

@@ -1,0 +1,27 @@
+use Rattle.std.proofs.Common.{◌≡◌, ◌+◌, ◌*◌, ◌<◌, ◌^◌, ◌∙◌, ◌-◌, map, drop, ap, arith}
+use Rattle.std.proofs.lemmas.List.{length-map, length-drop}
+use Rattle.vers_bits.specs.Bits.{bit_value, number}
+use Rattle.vers_bits.proofs.Num.{bit_value_le}
+use Rattle.vers_bits.proofs.Gather.{byte_value, number_below, number_from}
+use Rattle.vers_bits.proofs.bit_vec.make.parities.Goals as goal
+
+pub overflow_mul-word : goal.overflow_mul-word
+overflow_mul-word g c =
+    let odd = g.T.Item.is_odd in
+    let rest = drop c.loop-place.place c.args.items.now in
+    let small : number (map odd rest) < 2 ^ 63 = number_below (map odd rest) 63 (omega (arith, length-map rest odd, length-drop c.loop-place.place c.args.items.now)) in
+    omega (arith, c.loop-place.invariant)
+
+pub overflow_add-word : goal.overflow_add-word
+overflow_add-word g c =
+    let odd = g.T.Item.is_odd in
+    let rest = drop c.loop-place.place c.args.items.now in
+    let small : number (map odd rest) < 2 ^ 63 = number_below (map odd rest) 63 (omega (arith, length-map rest odd, length-drop c.loop-place.place c.args.items.now)) in
+    omega (arith, c.loop-place.invariant, c.from.ensures, byte_value c.is_odd.result, bit_value_le c.is_odd.result)
+
+pub loop-place-preserved : goal.loop-place-preserved
+loop-place-preserved g c =
+    let item = c.index-items-place.result in
+    let digit : c.from.result ≡ bit_value (g.T.Item.is_odd item) = c.from.ensures ∙ byte_value c.is_odd.result ∙ ap bit_value c.is_odd.ensures in
+    ap (λ w. 2 * w + c.from.result) c.loop-place.invariant ∙ ap (λ d. 2 * number (map g.T.Item.is_odd (drop c.loop-place.place c.args.items.now)) + d) digit
+    ∙ number_from g.T.Item.is_odd c.args.items.now (c.loop-place.place - 1) c.loop-place.place item (omega arith) (omega arith) c.index-items-place.is
