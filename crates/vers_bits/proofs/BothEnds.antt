@@ -3,15 +3,16 @@ use Rattle.std.proofs.Common.{◌≡◌, ℕ, ◌+◌, ◌-◌, ◌<◌, ◌≤�
 use Rattle.std.specs.Option.{option_to_list}
 use Rattle.std.specs.List.{last_or}
 use Rattle.std.specs.Iterator.{YieldsFirst, YieldsLast, MakesProgress, item_count}
-use Rattle.std.proofs.lemmas.List.{length-map, length-take, length-drop, get_or-take, get_or-drop, get_or-reverse, length-reverse, drop-drop, drop-take, drop_all, take_all, take_more, take-take, reverse-append, append-nil}
+use Rattle.std.proofs.lemmas.List.{length-map, length-take, length-drop, get_or-take, get_or-drop, get_or-reverse, length-reverse, drop-drop, drop-take, drop_all, take_all, take_more, take_at, take-take, take-append-drop, length_push, reverse-append, reverse-reverse, append-nil}
 use Rattle.std.proofs.lemmas.List.FromFn.{length-map-range_with_len, get_or-map-range_with_len}
 use Rattle.std.proofs.lemmas.Slice.{between_from_start}
 use Rattle.std.proofs.lemmas.Bool.{cases_lt}
-use Rattle.std.proofs.lemmas.Option.{slice_get-map, slice_get_past, slice_get-get_or, get_or_from_slice_get, slice_get_within}
+use Rattle.std.proofs.lemmas.Option.{slice_get-map, slice_get_past, slice_get_cases, slice_get-get_or, get_or_from_slice_get, slice_get_within}
 use Rattle.vers_bits.specs.Bits.{bit_value, limb, limbs, limb_count}
 use Rattle.vers_bits.specs.declared.walk.Span.{Span}
-use Rattle.vers_bits.specs.Walk.{TakesNth, TakesNthBack, TakesFirst, TakesLast, items_in, Walk}
-use Rattle.vers_bits.specs.Walk.Walk.{no_call, next, next_back}
+use Rattle.vers_bits.specs.Walk.{TakesNth, TakesNthBack, TakesFirst, TakesLast, items_in, nth_passes, Step, PassesEachOnce, StaysEnded, NextIsNthOfZero, NextBackIsNthBackOfZero}
+use Rattle.vers_bits.specs.Walk.Step.{next, next_back, nth, nth_back}
+use Rattle.vers_bits.specs.Walk.Walk.{no_call, call}
 
 module _ {X : Type 0} where
   -- ---- the items at the places of a span
@@ -153,6 +154,27 @@ module _ {X : Type 0} where
       (none, h.left ∙ ap (λ l. take (length l - 1) l) none)
   yields_last old (Some x) new h = last_some old x h.given ∙ ap (λ l. l ++ x ∷ []) (sym h.left)
 
+  -- the other way round
+  takes_first : (old : List X) (taken : Option X) (new : List X) → YieldsFirst (λ (s : List X). s) old taken new → TakesFirst old taken new
+  takes_first old None new h = record { given = sym (ap (λ l. slice_get l 0) h.0); left = h.1 ∙ sym (ap (drop 1) h.0) }
+  takes_first old (Some x) new h = record { given = sym (ap (λ l. slice_get l 0) h); left = sym (ap (drop 1) h) }
+
+  takes_last : (old : List X) (taken : Option X) (new : List X) → YieldsLast (λ (s : List X). s) old taken new → TakesLast old taken new
+  takes_last old None new h = record { given = sym (ap (λ l. slice_get (reverse l) 0) h.0); left = h.1 ∙ sym (ap (λ l. take (length l - 1) l) h.0) }
+  takes_last old (Some x) new h =
+      let turned : reverse old ≡ x ∷ reverse new = ap reverse h ∙ reverse-append new (x ∷ []) in
+      let fewer : length old - 1 ≡ length new = omega (arith, ap length h, length_push new x) in
+      record {
+        given = sym (ap (λ l. slice_get l 0) turned);
+        left = sym (ap (λ k. take k old) fewer ∙ ap (take (length new)) h ∙ take_at new (x ∷ []) (length new) refl);
+      }
+
+  pub next_is_nth_of_zero : NextIsNthOfZero X
+  next_is_nth_of_zero old taken new = (takes_first old taken new, yields_first old taken new)
+
+  pub next_back_is_nth_back_of_zero : NextBackIsNthBackOfZero X
+  next_back_is_nth_back_of_zero old taken new = (takes_last old taken new, yields_last old taken new)
+
   -- a step that gave an item leaves fewer
   goes_on : (can : List X → Type 0) (old : List X) (r : Option X) (new : List X) → can new → (length old ≡ 0 → r ≡ None) → length new ≡ length old - 1 → MakesProgress can (item_count (λ s. s)) old r new
   goes_on can old None new may ended fewer = record { on = λ _. tt; keeps = tt; rests = λ _. tt }
@@ -180,30 +202,59 @@ module _ {X : Type 0} where
   last_is old (Some x) new h = sym (ap (last_or None) (last_some old x h.given) ∙ last_or-push None (take (length old - 1) old) x)
 
   -- ---- walks
-  first_split : (old : List X) (taken : Option X) (new : List X) → TakesFirst old taken new → option_to_list taken ++ new ≡ old
-  first_split [] None new h = h.left
-  first_split [] (Some x) new h = cc (h.given)
-  first_split (y ∷ ys) None new h = cc (h.given)
-  first_split (y ∷ ys) (Some x) new h = cc (h.given, h.left)
+  passes_next : (n : ℕ) (l : List X) (taken : Option X) → taken ≡ slice_get l n → nth_passes n l taken ≡ take (n + 1) l
+  passes_next n l taken given = elim ((slice_get_cases l n).1) [
+    | inl (x, within, is, at) ↦
+        ap (λ o. take n l ++ option_to_list o) (given ∙ is) ∙ ap (λ y. take n l ++ y ∷ []) (sym at) ∙ sym (take_more l n x within)
+    | inr (past, none) ↦
+        ap (λ o. take n l ++ option_to_list o) (given ∙ none) ∙ append-nil (take n l) ∙ take_all n l past ∙ sym (take_all (n + 1) l (omega arith))
+  ]
 
-  last_taken : (old : List X) (taken : Option X) (new : List X) → TakesLast old taken new → new ++ reverse (option_to_list taken) ≡ old
-  last_taken old None new h =
-      let none : old ≡ [] = last_none old h.given in
-      append-nil new ∙ h.left ∙ ap (λ l. take (length l - 1) l) none ∙ sym none
-  last_taken old (Some x) new h = ap (λ l. l ++ x ∷ []) h.left ∙ sym (last_some old x h.given)
+  -- the last of a list, the last of them first
+  last_turned : (m : ℕ) (l : List X) → reverse (take m (reverse l)) ≡ drop (length l - m) l
+  last_turned m l =
+      let front : List X = take (length l - m) l in
+      let back : List X = drop (length l - m) l in
+      let turned : reverse l ≡ reverse back ++ reverse front = ap reverse (sym (take-append-drop (length l - m) l)) ∙ reverse-append front back in
+      elim (cases_lt (length l) m) [
+        | inl all ↦
+            let none : length l - m ≡ 0 = omega arith in
+            ap reverse (take_all m (reverse l) (omega (arith, length-reverse l))) ∙ reverse-reverse l ∙ sym (ap (λ k. drop k l) none)
+        | inr some ↦
+            ap (λ r. reverse (take m r)) turned ∙ ap reverse (take_at (reverse back) (reverse front) m (length-reverse back ∙ length-drop (length l - m) l ∙ omega arith))
+            ∙ reverse-reverse back
+      ]
 
-  pub passes_each_once : (old fronts backs new : List X) → Walk old fronts backs new → fronts ++ (new ++ reverse backs) ≡ old
+  -- what one call passes and what it leaves make up the list
+  step_passes : (old : List X) (taken : Option X) (fronts backs new : List X) → Step old taken fronts backs new → fronts ++ (new ++ reverse backs) ≡ old
+  step_passes old None _ _ new (next _ _ _ h) = append-nil new ∙ h.1 ∙ sym h.0
+  step_passes old (Some x) _ _ new (next _ _ _ h) = ap (λ l. x ∷ l) (append-nil new) ∙ sym h
+  step_passes old None _ _ new (next_back _ _ _ h) = append-nil new ∙ h.1 ∙ sym h.0
+  step_passes old (Some x) _ _ new (next_back _ _ _ h) = sym h
+  step_passes old taken _ _ new (nth n _ _ _ h) =
+      ap (λ l. nth_passes n old taken ++ l) (append-nil new ∙ h.left) ∙ ap (λ l. l ++ drop (n + 1) old) (passes_next n old taken h.given) ∙ take-append-drop (n + 1) old
+  step_passes old taken _ _ new (nth_back n _ _ _ h) =
+      ap (λ l. new ++ reverse l) (passes_next n (reverse old) taken h.given) ∙ ap (λ l. new ++ l) (last_turned (n + 1) old)
+      ∙ ap (λ l. l ++ drop (length old - (n + 1)) old) h.left ∙ take-append-drop (length old - (n + 1)) old
+
+  pub passes_each_once : PassesEachOnce X
   passes_each_once old [] [] new (no_call _) = append-nil old
-  passes_each_once old _ backs new (next _ between _ fronts _ taken step rest) =
-      append_assoc (option_to_list taken) fronts (new ++ reverse backs)
-      ∙ ap (λ l. option_to_list taken ++ l) (passes_each_once between fronts backs new rest)
-      ∙ first_split old taken between step
-  passes_each_once old fronts _ new (next_back _ between _ _ backs taken step rest) =
-      ap (λ l. fronts ++ (new ++ l)) (reverse-append (option_to_list taken) backs)
-      ∙ ap (λ l. fronts ++ l) (sym (append_assoc new (reverse backs) (reverse (option_to_list taken))))
-      ∙ sym (append_assoc fronts (new ++ reverse backs) (reverse (option_to_list taken)))
-      ∙ ap (λ l. l ++ reverse (option_to_list taken)) (passes_each_once between fronts backs new rest)
-      ∙ last_taken old taken between step
+  passes_each_once old _ _ new (call _ between _ fronts backs more_fronts more_backs taken step rest) =
+      append_assoc fronts more_fronts (new ++ reverse (backs ++ more_backs))
+      ∙ ap (λ l. fronts ++ (more_fronts ++ (new ++ l))) (reverse-append backs more_backs)
+      ∙ ap (λ l. fronts ++ (more_fronts ++ l)) (sym (append_assoc new (reverse more_backs) (reverse backs)))
+      ∙ ap (λ l. fronts ++ l) (sym (append_assoc more_fronts (new ++ reverse more_backs) (reverse backs)))
+      ∙ ap (λ l. fronts ++ (l ++ reverse backs)) (passes_each_once between more_fronts more_backs new rest)
+      ∙ step_passes old taken fronts backs between step
+
+  pub stays_ended : StaysEnded X
+  stays_ended None _ _ new (next _ _ _ h) = (refl, h.1)
+  stays_ended (Some x) _ _ new (next _ _ _ h) = cc h
+  stays_ended None _ _ new (next_back _ _ _ h) = (refl, h.1)
+  stays_ended (Some x) _ _ [] (next_back _ _ _ h) = cc h
+  stays_ended (Some x) _ _ (y ∷ new) (next_back _ _ _ h) = cc h
+  stays_ended taken _ _ new (nth n _ _ _ h) = (h.given, h.left ∙ drop_all (n + 1) [] (omega arith))
+  stays_ended taken _ _ new (nth_back n _ _ _ h) = (h.given, h.left ∙ take_all (0 - (n + 1)) [] (omega arith))
 
 -- ---- items that are the bits of a list, as numbers
 bit_item : (bits : List Bool) (p : ℕ) (x : ℕ) → p < length bits → x ≡ bit_value (get_or bits p false) → slice_get (map bit_value bits) p ≡ Some x

@@ -5,7 +5,7 @@ use Rattle.std.specs.List.{last_or}
 use Rattle.std.proofs.lemmas.Bool.{cases_lt, cases_Bool, lt-ltb, le-ltb}
 use Rattle.vers_bits.specs.Bits.{is_bit, count, places, select, place_after, place_before}
 use Rattle.vers_bits.proofs.Count.{count_both, count_le_all, count_up, count_past}
-use Rattle.vers_bits.specs.Laws.{IsNextPlace}
+use Rattle.vers_bits.specs.Laws.{IsNextPlace, NoneUpToNeighbour, NoneDownToNeighbour}
 use Rattle.vers_bits.proofs.Places.{length-places, IsPlace, select_is_place, select_past, select_below, select_not_below, count_more_yes}
 
 -- the first item that passes, in a list whose items pass from number k on
@@ -113,6 +113,41 @@ next_place b l i within = elim (cases_lt (count b l i) (count b l (length l))) [
         ];
         holds = λ h. absurd (omega arith);
       }
+]
+
+-- none stands between a place and its neighbours
+pub none_up : NoneUpToNeighbour
+none_up b l p = elim (cases_lt (count b l (p + 1)) (count b l (length l))) [
+  | inl some ↦
+      let at : IsPlace b l (count b l (p + 1)) (select b l (count b l (p + 1))) = select_is_place b l (count b l (p + 1)) some in
+      let inside : p + 1 ≤ length l = elim (cases_lt p (length l)) [ inl h ↦ omega arith | inr h ↦ absurd (omega (arith, count_past b l (p + 1) (omega arith))) ] in
+      let next : IsNextPlace b l (p + 1) (select b l (count b l (p + 1))) = next_place b l (p + 1) inside in
+      rw (place_after_some b l p some) (omega (arith, next.from), (at.within, at.holds), next.none_between)
+  | inr none ↦
+      rw (place_after_none b l p none) (λ q h k. elim (cases_Bool (is_bit b (get_or l q false))) [
+        | inl on ↦ absurd (omega (arith, count_more_yes b l q k on, count_up b l (p + 1) q h, count_le_all b l (q + 1)))
+        | inr off ↦ off
+      ])
+]
+
+pub none_down : NoneDownToNeighbour
+none_down b l p = elim (cases_lt 0 (count b l p)) [
+  | inl some ↦
+      let few : count b l p - 1 < count b l (length l) = omega (arith, count_le_all b l p) in
+      let at : IsPlace b l (count b l p - 1) (select b l (count b l p - 1)) = select_is_place b l (count b l p - 1) few in
+      rw (place_before_some b l p some) (
+        select_below b l (count b l p - 1) p (omega arith),
+        (at.within, at.holds),
+        (λ q h k. elim (cases_Bool (is_bit b (get_or l q false))) [
+          | inl on ↦ absurd (omega (arith, at.before, count_more_yes b l (select b l (count b l p - 1)) at.within at.holds, count_up b l (select b l (count b l p - 1) + 1) q h, count_more_yes b l q (omega arith) on, count_up b l (q + 1) p (omega arith)))
+          | inr off ↦ off
+        ]),
+      )
+  | inr none ↦
+      rw (place_before_none b l p (omega arith)) (λ q h k. elim (cases_Bool (is_bit b (get_or l q false))) [
+        | inl on ↦ absurd (omega (arith, count_more_yes b l q (omega arith) on, count_up b l (q + 1) p (omega arith)))
+        | inr off ↦ off
+      ])
 ]
 
 -- what the laws of counts and places say

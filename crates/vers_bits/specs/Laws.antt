@@ -1,6 +1,6 @@
 -- The laws of lists of bits, as statements.
-use Rattle.std.specs.Prelude.{◌≡◌, ℕ, ◌*◌, ◌%◌, ◌^◌, ◌<◌, ◌≤◌, ◌||◌, ◌&&◌, Bool, false, List, ◌++◌, length, take, drop, slice_index, slice_index_or, Some, bit_or, bit_and, bit_xor, ◌+◌, min, true}
-use Rattle.vers_bits.specs.Bits.{number, low_bits, pack, part_number, masked, is_bit, count, select}
+use Rattle.std.specs.Prelude.{◌≡◌, ℕ, ◌*◌, ◌%◌, ◌^◌, ◌<◌, ◌≤◌, ◌||◌, ◌&&◌, Bool, false, List, ◌++◌, length, take, drop, slice_index, slice_index_or, MatchOption, Some, bit_or, bit_and, bit_xor, ◌+◌, min, true}
+use Rattle.vers_bits.specs.Bits.{number, low_bits, pack, part_number, masked, is_bit, count, select, place_after, place_before}
 use Rattle.vers_bits.specs.Masks.{zip_bits, xor}
 use Rattle.vers_bits.specs.Equality.{hash_input}
 
@@ -55,3 +55,33 @@ pub record IsNextPlace (bit : Bool) (bits : List Bool) (i p : ℕ) : Type 0 wher
 -- to select what a count gave is to go on to the next one (or zero)
 abbrev pub SelectOfCountIsNext : Type 0
 SelectOfCountIsNext = (bit : Bool) (bits : List Bool) (i : ℕ) → i ≤ length bits → IsNextPlace bit bits i (select bit bits (count bit bits i))
+
+-- more places hold no fewer ones (or zeros)
+abbrev pub CountsGrow : Type 0
+CountsGrow = (bit : Bool) (bits : List Bool) (i j : ℕ) → i ≤ j → count bit bits i ≤ count bit bits j
+
+-- at most one a place
+abbrev pub CountsAreFew : Type 0
+CountsAreFew = (bit : Bool) (bits : List Bool) (i : ℕ) → (count bit bits i ≤ i) × (count bit bits i ≤ length bits)
+
+-- past the last one (or zero) a select is the length
+abbrev pub SelectPastLastIsLength : Type 0
+SelectPastLastIsLength = (bit : Bool) (bits : List Bool) (r : ℕ) → count bit bits (length bits) ≤ r → select bit bits r ≡ length bits
+
+-- no place from i up to j holds a one (or zero)
+abbrev pub NoneFrom : Bool → List Bool → ℕ → ℕ → Type 0
+NoneFrom bit bits i j = (q : ℕ) → i ≤ q → q < j → is_bit bit (slice_index_or bits q false) ≡ false
+
+-- p is a place that holds a one (or zero)
+abbrev pub HoldsAt : Bool → List Bool → ℕ → Type 0
+HoldsAt bit bits p = (p < length bits) × (is_bit bit (slice_index_or bits p false) ≡ true)
+
+-- the neighbour above a place holds a one (or zero), with none between, and where there is no neighbour there is none above
+abbrev pub NoneUpToNeighbour : Type 0
+NoneUpToNeighbour = (bit : Bool) (bits : List Bool) (p : ℕ)
+    → MatchOption (place_after bit bits p) (NoneFrom bit bits (p + 1) (length bits)) (λ q. (p < q) × HoldsAt bit bits q × NoneFrom bit bits (p + 1) q)
+
+-- the neighbour below a place holds a one (or zero), with none between, and where there is no neighbour there is none below
+abbrev pub NoneDownToNeighbour : Type 0
+NoneDownToNeighbour = (bit : Bool) (bits : List Bool) (p : ℕ)
+    → MatchOption (place_before bit bits p) (NoneFrom bit bits 0 (min p (length bits))) (λ q. (q < p) × HoldsAt bit bits q × NoneFrom bit bits (q + 1) (min p (length bits)))

@@ -1,6 +1,7 @@
 -- Iterators from both ends, over the list of the items that are still to come.
-use Rattle.std.specs.Prelude.{◌≡◌, ℕ, ◌+◌, ◌-◌, ◌<◌, ◌≤◌, ◌++◌, ◌⊎◌, List, [], length, take, drop, reverse, slice_get, slice_range, Option, None, MatchOption}
+use Rattle.std.specs.Prelude.{◌≡◌, ℕ, ◌+◌, ◌-◌, ◌<◌, ◌≤◌, ◌++◌, ◌↔◌, List, [], length, take, drop, reverse, slice_get, slice_range, Option, None, MatchOption}
 use Rattle.std.specs.Option.{option_to_list}
+use Rattle.std.specs.Iterator.{YieldsFirst, YieldsLast}
 use Rattle.vers_bits.specs.declared.walk.Span.{Span}
 
 module _ {X : Type 0} where
@@ -34,16 +35,35 @@ DropsThenGives n s given t = MatchOption given ((s.to ≤ s.from + n) × (t.from
 abbrev pub DropsThenGivesBack : ℕ → Span → Option ℕ → Span → Type 0
 DropsThenGivesBack n s given t = MatchOption given ((s.to ≤ s.from + n) × (t.from ≡ s.to) × (t.to ≡ s.to)) (λ p. (p + n + 1 ≡ s.to) × (s.from ≤ p) × (t.from ≡ s.from) × (t.to ≡ p))
 
--- calls of `next` and `next_back`, in any mixture, led from old to new: they took fronts from the front and backs from the back, each in the order of the calls
+-- the items that `nth` passes: n of those that are left, or all of them, and then the one that it takes. To `nth_back` they are left the last first
+abbrev pub nth_passes : {X : Type 0} → ℕ → List X → Option X → List X
+nth_passes n left taken = take n left ++ option_to_list taken
+
+-- a call led from old to new and took an item, or none: it passed fronts from the front and backs from the back
+pub data Step {X : Type 0} : (old : List X) (taken : Option X) (fronts backs new : List X) → Type 0 where
+  next : (old : List X) (taken : Option X) (new : List X) → YieldsFirst (λ s. s) old taken new → Step old taken (option_to_list taken) [] new
+  next_back : (old : List X) (taken : Option X) (new : List X) → YieldsLast (λ s. s) old taken new → Step old taken [] (option_to_list taken) new
+  nth : (n : ℕ) (old : List X) (taken : Option X) (new : List X) → TakesNth n old taken new → Step old taken (nth_passes n old taken) [] new
+  nth_back : (n : ℕ) (old : List X) (taken : Option X) (new : List X) → TakesNthBack n old taken new → Step old taken [] (nth_passes n (reverse old) taken) new
+
+-- calls of `next`, `next_back`, `nth` and `nth_back`, in any mixture, led from old to new: they passed fronts from the front and backs from the back, each in the order of the calls
 pub data Walk {X : Type 0} : (old fronts backs new : List X) → Type 0 where
   no_call : (old : List X) → Walk old [] [] old
-  next : (old between new fronts backs : List X) (taken : Option X) → TakesFirst old taken between → Walk between fronts backs new → Walk old (option_to_list taken ++ fronts) backs new
-  next_back : (old between new fronts backs : List X) (taken : Option X) → TakesLast old taken between → Walk between fronts backs new → Walk old fronts (option_to_list taken ++ backs) new
+  call : (old between new fronts backs more_fronts more_backs : List X) (taken : Option X) → Step old taken fronts backs between → Walk between more_fronts more_backs new
+      → Walk old (fronts ++ more_fronts) (backs ++ more_backs) new
 
--- each item is passed once: those taken from the front, those left, and those taken from the back, the last of them first, are the list
+-- each item is passed once: those passed from the front, those left, and those passed from the back, the last of them first, are the list
 abbrev pub PassesEachOnce : Type 0 → Type 0
 PassesEachOnce X = (old fronts backs new : List X) → Walk old fronts backs new → fronts ++ (new ++ reverse backs) ≡ old
 
 -- an ended iterator stays ended, whatever is asked of it
 abbrev pub StaysEnded : Type 0 → Type 0
-StaysEnded X = (n : ℕ) (taken : Option X) (new : List X) → (TakesNth n [] taken new) ⊎ (TakesNthBack n [] taken new) → (taken ≡ None) × (new ≡ [])
+StaysEnded X = (taken : Option X) (fronts backs new : List X) → Step [] taken fronts backs new → (taken ≡ None) × (new ≡ [])
+
+-- `next` is `nth` of 0
+abbrev pub NextIsNthOfZero : Type 0 → Type 0
+NextIsNthOfZero X = (old : List X) (taken : Option X) (new : List X) → YieldsFirst (λ s. s) old taken new ↔ TakesNth 0 old taken new
+
+-- `next_back` is `nth_back` of 0
+abbrev pub NextBackIsNthBackOfZero : Type 0 → Type 0
+NextBackIsNthBackOfZero X = (old : List X) (taken : Option X) (new : List X) → YieldsLast (λ s. s) old taken new ↔ TakesNthBack 0 old taken new

@@ -1,7 +1,7 @@
 //! Laws over the definitions, which hold of every list of bits. Each function does nothing:
 //! its contract is the law, and its proof is checked with the crate.
-ghost use Rattle.vers_bits.specs.Laws.{EqualListsHashEqually, SplitListsJoin, LowBitsAreAsMany, LowBitsAreTheRest, BitsFollowFromNumber, PackedElementsAreItems, ZippedBitsAreCombined, MaskOfOrIsOr, MaskOfAndIsAnd, MaskOfXorIsXor, ZerosAndOnesAddUp, SelectFindsNumber, SelectOfCountIsNext};
-ghost use Rattle.vers_bits.specs.Walk.{PassesEachOnce, StaysEnded};
+ghost use Rattle.vers_bits.specs.Laws.{EqualListsHashEqually, SplitListsJoin, LowBitsAreAsMany, LowBitsAreTheRest, BitsFollowFromNumber, PackedElementsAreItems, ZippedBitsAreCombined, MaskOfOrIsOr, MaskOfAndIsAnd, MaskOfXorIsXor, ZerosAndOnesAddUp, SelectFindsNumber, SelectOfCountIsNext, CountsGrow, CountsAreFew, SelectPastLastIsLength, NoneUpToNeighbour, NoneDownToNeighbour};
+ghost use Rattle.vers_bits.specs.Walk.{PassesEachOnce, StaysEnded, NextIsNthOfZero, NextBackIsNthBackOfZero};
 
 /// Equal lists are fed to a hasher alike, so that they hash equally.
 pub fn equal_lists_hash_equally()
@@ -72,7 +72,35 @@ pub fn select_of_count_is_next()
     ensures { SelectOfCountIsNext }
 {}
 
-/// Calls of `next` and `next_back` in any mixture pass each item of the list once.
+/// More places hold no fewer ones (or zeros).
+pub fn counts_grow()
+    ensures { CountsGrow }
+{}
+
+/// A count is at most the number of places, and at most the length.
+pub fn counts_are_few()
+    ensures { CountsAreFew }
+{}
+
+/// Past the last one (or zero), to select gives the length.
+pub fn select_past_last_is_length()
+    ensures { SelectPastLastIsLength }
+{}
+
+/// The neighbour above a place holds a one (or zero), and no place between them does. Where there is
+/// no neighbour, no place above does.
+pub fn none_up_to_neighbour()
+    ensures { NoneUpToNeighbour }
+{}
+
+/// The neighbour below a place holds a one (or zero), and no place between them does. Where there is
+/// no neighbour, no place below does.
+pub fn none_down_to_neighbour()
+    ensures { NoneDownToNeighbour }
+{}
+
+/// Calls of `next`, `next_back`, `nth` and `nth_back` in any mixture pass each item of the list
+/// once: those passed from the front, those left, and those passed from the back make up the list.
 pub fn both_ends_pass_each_item_once<T>()
     ensures { PassesEachOnce T }
 {}
@@ -80,4 +108,14 @@ pub fn both_ends_pass_each_item_once<T>()
 /// An iterator that has ended stays ended, whatever is asked of it.
 pub fn ended_iterators_stay_ended<T>()
     ensures { StaysEnded T }
+{}
+
+/// What the trait says of `next` is what the iterators of this library say of `nth(0)`.
+pub fn next_is_nth_of_zero<T>()
+    ensures { NextIsNthOfZero T }
+{}
+
+/// What the trait says of `next_back` is what the iterators of this library say of `nth_back(0)`.
+pub fn next_back_is_nth_back_of_zero<T>()
+    ensures { NextBackIsNthBackOfZero T }
 {}

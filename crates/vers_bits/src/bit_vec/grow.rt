@@ -51,8 +51,7 @@ impl<A: Allocator + Copy> BitVec<A> {
         if len == 0 {
             return Ok(());
         }
-        add_bits(&mut self.data, self.len, low_part(bits, len), len)?;
-        self.len += len;
+        self.append_number(low_part(bits, len), len)?;
         Ok(())
     }
 
@@ -98,15 +97,19 @@ impl<A: Allocator + Copy> BitVec<A> {
         self.len += n;
     }
 
-    // Appends the 64 bits of a number.
+    // Appends the `n` digits of a number.
     #[inline(always)]
-    fn append_limb(&mut self, limb: u64) -> Result<(), AllocError>
-        requires { length self.old + 64 ≤ MAX_LEN }
-        ensures grown { OnOk result (self.new ≡ self.old ++ low_bits limb 64) }
+    fn append_number(&mut self, number: u64, n: usize) -> Result<(), AllocError>
+        requires some { 0 < n }
+        requires few { n ≤ 64 }
+        requires small { number < 2 ^ n }
+        requires short { length self.old + n ≤ MAX_LEN }
+        ensures grown { OnOk result (self.new ≡ self.old ++ low_bits number n) }
         ensures kept { OnErr result (self.new ≡ self.old) }
+        ensures room { 0 < length self.old % 64 → length self.old % 64 + n ≤ 64 → IsOk result }
     {
-        add_bits(&mut self.data, self.len, limb, 64)?;
-        self.len += 64;
+        add_bits(&mut self.data, self.len, number, n)?;
+        self.len += n;
         Ok(())
     }
 
@@ -171,7 +174,7 @@ impl<A: Allocator + Copy> BitVec<A> {
         let added = other.len() - start;
         self.reserve(added)?;
         for k in 0..added / 64 {
-            self.append_limb(other.get_bits_unchecked(start + 64 * k, 64))?;
+            self.append_number(other.get_bits_unchecked(start + 64 * k, 64), 64)?;
         }
         let rest = added % 64;
         self.append_bits(other.get_bits_unchecked(start + (added - rest), rest), rest)

@@ -13,7 +13,7 @@ loop-k-preserved g c =
     let word = c.get_bits_unchecked.result in
     let within : c.args.start + 64 * k + 64 ≤ length l = omega arith in
     let next = next_limb l c.args.start k within in
-    c.in_ok-append_limb.ensures.grown ∙ ap (λ xs. xs ++ low_bits word 64) c.loop-k.invariant ∙ append_assoc c.args.self.now before (low_bits word 64)
+    c.in_ok-append_number.ensures.grown ∙ ap (λ xs. xs ++ low_bits word 64) c.loop-k.invariant ∙ append_assoc c.args.self.now before (low_bits word 64)
     ∙ ap (λ xs. c.args.self.now ++ xs) (ap (λ v. before ++ low_bits v 64) c.get_bits_unchecked.ensures ∙ next)
 
 pub returns-clause-grown : goal.returns-clause-grown
