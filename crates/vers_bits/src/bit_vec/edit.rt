@@ -60,17 +60,21 @@ impl<A: Allocator + Copy> BitVec<A> {
         put_bit(&mut self.data, place, value % 2 == 1);
     }
 
-    /// The first `at` bits, and the others. At the length the second list is empty, and the call
-    /// takes no memory. The list comes back as it was where there is no memory.
+    /// The first `at` bits, and the others. At 0 and at the length one of the lists is empty, and the
+    /// call takes no memory. The list comes back as it was where there is no memory.
     pub fn split_at_unchecked(mut self, at: usize) -> Result<(Self, Self), Self>
         requires { at ≤ length self }
         ensures halves { IfOk result (λ h. (h.0 ≡ take at self) × (h.1 ≡ drop at self)) }
         ensures kept { IfErr result (λ v. v ≡ self) }
+        ensures at_start { at ≡ 0 → IsOk result }
         ensures at_end { at ≡ length self → IsOk result }
     {
         let mut rest = BitVec::new(self.allocator());
         if at == self.len() {
             return Ok((self, rest));
+        }
+        if at == 0 {
+            return Ok((rest, self));
         }
         if rest.extend_from(&self, at).is_err() {
             return Err(self);
@@ -79,13 +83,14 @@ impl<A: Allocator + Copy> BitVec<A> {
         Ok((self, rest))
     }
 
-    /// The first `at` bits, and the others. OutOfRange for an `at` above the length. At the length
-    /// the second list is empty, and the call takes no memory. A refusal hands the list back as it
-    /// was.
+    /// The first `at` bits, and the others. OutOfRange for an `at` above the length. At 0 and at the
+    /// length one of the lists is empty, and the call takes no memory. A refusal hands the list back
+    /// as it was.
     pub fn split_at(self, at: usize) -> Result<(Self, Self), SplitError<A>>
         ensures halves { IfOk result (λ h. (h.0 ≡ take at self) × (h.1 ≡ drop at self)) }
         ensures kept { IfErr result (λ e. e.vec ≡ self) }
         ensures out_of_range { MatchResult result (λ _. at ≤ length self) (λ e. (e.cause ≡ SplitCause.OutOfRange) ↔ (length self < at)) }
+        ensures at_start { at ≡ 0 → IsOk result }
         ensures at_end { at ≡ length self → IsOk result }
     {
         if at > self.len() {
