@@ -244,8 +244,9 @@ impl<A: Allocator + Copy> CountedBits<A> {
     #[inline(always)]
     pub fn get_bits(&self, place: usize, n: usize, tally: &mut Tally) -> Option<u64>
         ensures value { result ≡ part_number self.now place n }
-        ensures both { OnSome result
-            (tally.new ≡ record tally.old { data_words = one_more (one_more tally.old.data_words) }) }
+        ensures both { OnSome result (
+            tally.new ≡ record tally.old { data_words = one_more (one_more tally.old.data_words) }
+            ) }
         ensures none { IfNone result (tally.new ≡ tally.old) }
         ensures adds { AddsAtMost tally.old tally.new (only_data_words 2) }
     {
