@@ -3,7 +3,7 @@ use Rattle.std.proofs.Common.{◌≡◌, ℕ, ◌+◌, ◌-◌, ◌*◌, ◌/◌
 use Rattle.std.proofs.lemmas.Bool.{cases_lt, cases_Bool}
 use Rattle.vers_bits.specs.Bits.{is_bit, count, limb, select}
 use Rattle.vers_bits.proofs.Count.{count_le_all, count_le, count_up, count_near, count_limb, count_limb_whole, count_both, count_past}
-use Rattle.vers_bits.proofs.Places.{select_at, select_past, count_more_yes, count_more_no}
+use Rattle.vers_bits.proofs.Places.{select_at, select_past, count_at_select, count_more_yes, count_more_no}
 use Rattle.vers_tally.specs.Reads.{digits}
 use Rattle.vers_tally.proofs.Halves.{digits_up, digits_halved, digits-le}
 use Rattle.vers_rank.specs.Index.{held, held_in, IsSample, IsLimbWith}
@@ -39,6 +39,13 @@ place_is b l r p some from to =
       | inl on ↦ select_at b l r p within on (omega (arith, count_more_yes b l p within on))
       | inr off ↦ absurd (omega (arith, count_more_no b l p within off))
     ]
+
+-- every place that a select gives is within the list, or its end
+pub select_le : (b : Bool) (l : List Bool) (r : ℕ) → select b l r ≤ length l
+select_le b l r = elim (cases_lt r (count b l (length l))) [
+  | inl some ↦ omega (arith, (count_at_select b l r some).0)
+  | inr none ↦ omega (arith, select_past b l r none)
+]
 
 -- one limb more
 pub held_more : (b : Bool) (l : List Bool) (k : ℕ) → held b l (64 * (k + 1)) ≡ held b l (64 * k) + held_in b (limb l k) 64
@@ -112,7 +119,7 @@ pub ruleset in_block = (held_more, held_is)
 pub superblock_few : (b : Bool) (l : List Bool) (s r : ℕ) → r < count b l (8192 * (s + 1)) → r < count b l (8192 * s) + 8192
 superblock_few b l s r h = omega (arith, count_near b l (8192 * s) (8192 * (s + 1)) (omega arith))
 
-pub ruleset totals = (count_both, count_le, select_past)
+pub ruleset totals = (count_both, count_le, select_past, select_le)
 
 pub ruleset between = (samples_bound, digits_up)
 

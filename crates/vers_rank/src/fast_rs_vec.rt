@@ -86,7 +86,8 @@ impl<A: Allocator + Copy> Clone for RsVec<A> {
 }
 
 impl<A: Allocator + Copy> RsVec<A> {
-    /// The same bits, with ranks and selects. The list is dropped for want of memory.
+    /// The same bits, with ranks and selects. `AllocError` only where a request for memory was
+    /// refused. The list is dropped then.
     #[tactic(auto, using(crate::proofs::Builds::whole))]
     pub fn from_bit_vec(bits: BitVec<A>) -> Result<Self, AllocError>
         ensures { IfOk result (λ v. v ≡ bits) }
@@ -176,7 +177,7 @@ impl<A: Allocator + Copy> RsVec<A> {
     }
 
     /// The bit at a place, 1 or 0, by one data word. None for a place that the list doesn't have.
-    #[inline]
+    #[inline(always)]
     pub fn get_counted(&self, place: usize, tally: &mut Tally) -> Option<u64>
         ensures value { result ≡ option_map bit_value (slice_get self.now place) }
         ensures counted { tally.new.rank_calls ≡ one_more tally.old.rank_calls }
@@ -197,7 +198,7 @@ impl<A: Allocator + Copy> RsVec<A> {
     }
 
     /// Whether the bit at a place of the list is a one, by one data word.
-    #[inline]
+    #[inline(always)]
     pub fn is_one_counted(&self, place: usize, tally: &mut Tally) -> bool
         requires { place < length self.now }
         ensures value { result ≡ slice_index_or self.now place false }
@@ -220,7 +221,7 @@ impl<A: Allocator + Copy> RsVec<A> {
 
     /// The number of the `n` bits from `place` on, by at most two data words; 0 for no bits. None
     /// where there are not so many, or `n` is above 64.
-    #[inline]
+    #[inline(always)]
     #[tactic(auto, using(crate::proofs::Parts::parts))]
     pub fn get_bits_counted(&self, place: usize, n: usize, tally: &mut Tally) -> Option<u64>
         ensures value { result ≡ part_number_or_zero self.now place n }

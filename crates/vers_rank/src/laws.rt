@@ -1,9 +1,17 @@
 //! Laws of indexed lists.
 ghost use Rattle.std.specs.Prelude.{◌≡◌, IfOk};
+ghost use Rattle.vers_rank.specs.Laws.{IndexIsSmall};
 
 use crate::fast_rs_vec::RsVec;
 use std::alloc::{AllocError, Allocator};
 use vers_bits::bit_vec::BitVec;
+
+/// Beside the bits, the entries and the samples of an index take at most 56 bytes for each
+/// superblock of 8192 bits, and 32 more.
+#[tactic(auto, using(crate::proofs::Ranks::sums))]
+pub fn index_is_small()
+    ensures { IndexIsSmall }
+{}
 
 /// Makes an indexed list and takes it apart again: the bits come back as they were.
 pub fn bits_come_back<A: Allocator + Copy>(bits: BitVec<A>) -> Result<BitVec<A>, AllocError>

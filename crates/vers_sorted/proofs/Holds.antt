@@ -45,6 +45,10 @@ place_within s up i h =
       high_up s (slice_index s i) (last_of s) (up i (length s - 1) 0 (omega arith) (omega arith)) (member_from s i up h),
     )
 
+pub length-high_parts : (s : List ℕ) → length (high_parts s) ≡ high_length s
+unfolding high_parts
+length-high_parts s = length-ones_at (places_of s) (high_length s)
+
 pub hold_high : (s : List ℕ) → IsNonDecreasing s → HoldHigh s (high_parts s)
 unfolding high_parts
 hold_high s up = record {
@@ -53,7 +57,7 @@ hold_high s up = record {
       let at : slice_index (places_of s) (length (places_of s) - 1) ≡ slice_index (places_of s) (length s - 1) =
       ap (λ n. slice_index (places_of s) (n - 1)) (length-places_of s) in
       omega (arith, at, place_of s (length s - 1) last, place_within s up (length s - 1) last)) ∙ length-places_of s;
-  total = length-ones_at (places_of s) (high_length s);
+  total = length-high_parts s;
   place = λ i h.
       select-ones_at (places_of s) (places_of-rise s up) (high_length s) i (omega (arith, length-places_of s)) (omega (arith, place_of s i h, place_within s up i h))
       ∙ place_of s i h;

@@ -7,6 +7,7 @@ pub mod Packed
 pub mod Buckets
 pub mod Makes
 pub mod Widths
+pub mod Lengths
 pub mod Bounds
 pub mod SparseBits
 pub mod BothEnds

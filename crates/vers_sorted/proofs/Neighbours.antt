@@ -7,7 +7,7 @@ use Rattle.std.proofs.lemmas.Bool.{cases_lt, le-leb, lt-leb, ne_eqb}
 use Rattle.vers_sorted.specs.Sorted.{below, greatest_not_above, least_not_below, delta}
 use Rattle.std.proofs.lemmas.Option.{slice_get-get_or, slice_get_past}
 use Rattle.vers_sorted.specs.Parts.{IsPacked}
-use Rattle.vers_sorted.proofs.Below.{below_le, below_from, below_to}
+use Rattle.vers_sorted.proofs.Below.{below_le, below_up, below_from, below_to}
 
 -- what stands before and after
 pub below_before : (s : List ℕ) (v i : ℕ) → IsNonDecreasing s → i < below s v → slice_index s i < v
@@ -92,3 +92,6 @@ pub member_before : {s : List ℕ} {high low : List Bool} {first last width : �
 member_before i packed h some = packed.ascending (i - 1) i 0 (omega arith) h
 
 pub ruleset deltas = (delta_first, delta_later, delta_none, member_before)
+
+-- what the laws say of `below` and of the neighbours
+pub ruleset laws = (below_le, below_up, below_before, below_after, succ_is, pred_some, pred_none)

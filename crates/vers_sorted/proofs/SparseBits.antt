@@ -4,7 +4,7 @@ use Rattle.std.specs.Prelude.{slice_index, slice_get, map, count_ones}
 use Rattle.std.specs.List.Sorted.{IsNonDecreasing}
 use Rattle.std.proofs.lemmas.Bool.{cases_lt, cases_eq, eq-eqb, ne_eqb}
 use Rattle.std.proofs.lemmas.List.{get_or_default, map-id, take_more, take_all}
-use Rattle.std.proofs.lemmas.Option.{slice_get-get_or, slice_get_past}
+use Rattle.std.proofs.lemmas.Option.{slice_get-get_or, slice_get_past, slice_get_within, get_or_from_slice_get}
 use Rattle.vers_bits.specs.Bits.{is_bit, count, places, select, limb}
 use Rattle.vers_bits.proofs.Count.{count_none, count_both, count_past, count_up, count_limb_whole}
 use Rattle.vers_bits.proofs.Places.{select_at, select_past, length-places, count_more_yes, count_more_no}
@@ -86,6 +86,14 @@ module _ {s : List ℕ} {n : ℕ} (sparse : AreSparse s n) where
             ]
       ]
 
+-- the list has no fewer bits than ones, and each member is one of its places
+pub members_few : {s : List ℕ} {n : ℕ} → AreSparse s n → length s ≤ length (ones_at s n)
+members_few {s} {n} sparse = omega (arith, all_ones s sparse.rising n (last_within sparse), count_both (ones_at s n) (length (ones_at s n)))
+
+pub member_few : {s : List ℕ} {n : ℕ} → AreSparse s n → (r v : ℕ) → slice_get s r ≡ Some v → v ≤ length (ones_at s n)
+member_few {s} {n} sparse r v e =
+    omega (arith, sparse.within r 0 (slice_get_within s r v e), get_or_from_slice_get s r v 0 e, length-ones_at s n)
+
 -- ---- from the places of a list's bits
 
 pub sparse_places : (b : Bool) (l : List Bool) → AreSparse (places b l) (length l)
@@ -159,7 +167,7 @@ zeros_are l i = omega (arith, count_both l i)
 pub ones_few : (l : List Bool) (i : ℕ) → count true l i ≤ min i (length l)
 ones_few l i = omega (arith, count_both l i)
 
-pub ruleset sparse = (length-ones_at, places_are, count_is, select_some, select_none, bit_some, bit_none, ascends, map_ones)
+pub ruleset sparse = (length-ones_at, members_few, places_are, count_is, select_some, select_none, bit_some, bit_none, ascends, map_ones)
 
 pub ruleset from_places = (sparse_places, places_ascend, ones_at-places)
 

@@ -1,11 +1,13 @@
 -- Whole-number logarithms.
-use Rattle.std.proofs.Common.{◌≡◌, ℕ, zero, suc, ◌+◌, ◌-◌, ◌*◌, ◌/◌, ◌^◌, ◌<◌, ◌≤◌, arith, max}
+use Rattle.std.proofs.Common.{◌≡◌, ℕ, zero, suc, ◌+◌, ◌-◌, ◌*◌, ◌/◌, ◌^◌, ◌<◌, ◌≤◌, ap, arith, max, inl, inr}
 use lib.Count.{count_leading_zeros}
-use Rattle.std.proofs.Math.Nat.{pow-suc}
-use Rattle.std.proofs.lemmas.Nat.{leading_length, pow_pos}
+use Rattle.std.specs.Prelude.{◌↔◌}
+use Rattle.std.proofs.Math.Nat.{pow-suc, pow-le-pow_right}
+use Rattle.std.proofs.lemmas.Bool.{cases_lt}
+use Rattle.std.proofs.lemmas.Nat.{leading_length, pow_pos, pow-add}
 use Rattle.vers_tally.specs.Reads.{digits}
 use Rattle.vers_tally.proofs.Halves.{digits_half, digits-le, digits_up}
-use Rattle.vers_sorted.specs.Layout.{clog}
+use Rattle.vers_sorted.specs.Layout.{clog, width}
 
 digits_is : (m n : ℕ) → n < 2 ^ m → 2 ^ m ≤ 2 * n + 1 → digits n ≡ m
 digits_is zero n low high = omega (arith, digits-le 0 n low)
@@ -32,6 +34,37 @@ width_narrow n u h =
     let some : digits (max n 2 - 1) ≡ digits ((max n 2 - 1) / 2) + 1 = digits_half (max n 2 - 1) (omega arith) in
     let step : digits (n + 2 - 1) ≡ digits ((n + 2 - 1) / 2) + 1 = digits_half (n + 2 - 1) (omega arith) in
     omega (arith, digits_up ((n + 2 - 1) / 2) (max n 2 - 1) (omega arith))
+
+-- ---- logarithms and powers
+
+below_power : (f n : ℕ) → n ≤ f → n < 2 ^ digits n
+below_power zero n few = omega (arith, pow_pos (digits n))
+below_power (suc f) n few = elim (cases_lt 0 n) [
+  | inl some ↦
+      let one : digits n ≡ digits (n / 2) + 1 = digits_half n some in
+      omega (arith, below_power f (n / 2) (omega arith), ap (λ k. 2 ^ k) one, pow-add 2 (digits (n / 2)) 1)
+  | inr none ↦ omega (arith, pow_pos (digits n))
+]
+
+pub clog_most : (n : ℕ) → n ≤ 2 ^ clog n
+unfolding clog
+clog_most n = omega (arith, below_power (n - 1) (n - 1) (omega arith))
+
+pub clog_least : (n k : ℕ) → n ≤ 2 ^ k → clog n ≤ k
+unfolding clog
+clog_least n k h = digits-le k (n - 1) (omega (arith, pow_pos k))
+
+pub clog_is_least : (n k : ℕ) → (n ≤ 2 ^ k) ↔ (clog n ≤ k)
+clog_is_least n k = (clog_least n k, λ h. omega (arith, clog_most n, pow-le-pow_right {n = 2} (omega arith) {i = clog n} {j = k} h))
+
+-- a low part has so many bits that what lies u above 0 has no higher high part than a power of two says
+pub width_enough : (n u : ℕ) → clog (max u 2) ≤ width n u + clog (max n 2)
+unfolding width
+width_enough n u = omega arith
+
+pub width_few : (n u : ℕ) → n + 2 ≤ 18446744073709551616 → u ≤ 18446744073709551616 → width n u + clog (max n 2) ≤ 64
+unfolding width
+width_few n u few h = omega (arith, width_least n u, clog_least (max u 2) 64 (omega arith), clog_least (n + 2) 64 (omega arith))
 
 pub ruleset logs = (digits_leading, clog_none)
 

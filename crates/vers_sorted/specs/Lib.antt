@@ -5,4 +5,5 @@ pub mod Parts
 pub mod Buckets
 pub mod Ahead
 pub mod Walks
+pub mod Laws
 pub mod Rows

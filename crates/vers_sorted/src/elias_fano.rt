@@ -1,5 +1,5 @@
 //! Ascending lists of numbers.
-ghost use Rattle.std.specs.Prelude.{◌≡◌, ◌<◌, ◌↔◌, [], length, slice_index, slice_get, IsTrue, IsSome, Some};
+ghost use Rattle.std.specs.Prelude.{◌≡◌, ◌<◌, ◌≤◌, ◌↔◌, [], length, slice_index, slice_get, IsTrue, IsSome, Some};
 ghost use Rattle.std.specs.List.Sorted.{IsNonDecreasing};
 ghost use Rattle.vers_sorted.specs.Sorted.{below, greatest_not_above, least_not_below, delta};
 ghost use Rattle.vers_sorted.specs.Layout.{heap_size_of};
@@ -20,7 +20,8 @@ use vers_rank::fast_rs_vec::RsVec;
 use vers_tally::tally::{CountedBits, Tally};
 
 /// An ascending list of numbers, equal ones allowed, in about two bits a member and as many more
-/// as a low part has. Contracts see an `EliasFanoVec` as the list of its members.
+/// as a low part has. Contracts see an `EliasFanoVec` as the list of its members, and each query
+/// promises that it ascends.
 ///
 /// Each member is kept as how far it lies above the first. The lowest digits of that, as many of
 /// each member, stand one after another in a list of bits; the rest, the high part `h` of member
@@ -96,7 +97,8 @@ impl<A: Allocator + Copy> EliasFanoVec<A> {
     /// The member at a place. None past the last.
     #[inline]
     pub fn get(&self, i: usize) -> Option<u64>
-        ensures { result ≡ slice_get self.now i }
+        ensures value { result ≡ slice_get self.now i }
+        ensures ascending { IsNonDecreasing self.now }
     {
         let mut tally = Tally::new();
         self.get_counted(i, &mut tally)
@@ -106,8 +108,10 @@ impl<A: Allocator + Copy> EliasFanoVec<A> {
     #[inline]
     pub fn get_unchecked(&self, i: usize) -> u64
         requires { i < length self.now }
-        ensures { result ≡ slice_index self.now i }
+        ensures value { result ≡ slice_index self.now i }
+        ensures ascending { IsNonDecreasing self.now }
     {
+        let _ = &self.len;
         let mut tally = Tally::new();
         self.member(i, &mut tally)
     }
@@ -115,7 +119,8 @@ impl<A: Allocator + Copy> EliasFanoVec<A> {
     /// The same as `get`.
     #[inline]
     pub fn select(&self, i: usize) -> Option<u64>
-        ensures { result ≡ slice_get self.now i }
+        ensures value { result ≡ slice_get self.now i }
+        ensures ascending { IsNonDecreasing self.now }
     {
         self.get(i)
     }
@@ -124,7 +129,8 @@ impl<A: Allocator + Copy> EliasFanoVec<A> {
     /// past the last.
     #[inline]
     pub fn delta(&self, i: usize) -> Option<u64>
-        ensures { result ≡ delta self.now i }
+        ensures value { result ≡ delta self.now i }
+        ensures ascending { IsNonDecreasing self.now }
     {
         let mut tally = Tally::new();
         self.delta_counted(i, &mut tally)
@@ -133,7 +139,9 @@ impl<A: Allocator + Copy> EliasFanoVec<A> {
     /// How many members are below `v`.
     #[inline]
     pub fn rank(&self, v: u64) -> u64
-        ensures { result ≡ below self.now v }
+        ensures value { result ≡ below self.now v }
+        ensures within { result ≤ length self.now }
+        ensures ascending { IsNonDecreasing self.now }
     {
         let mut tally = Tally::new();
         self.rank_counted(v, &mut tally)
@@ -142,7 +150,8 @@ impl<A: Allocator + Copy> EliasFanoVec<A> {
     /// The greatest member that is not above `v`. None where there is none.
     #[inline]
     pub fn predecessor(&self, v: u64) -> Option<u64>
-        ensures { result ≡ greatest_not_above self.now v }
+        ensures value { result ≡ greatest_not_above self.now v }
+        ensures ascending { IsNonDecreasing self.now }
     {
         let mut tally = Tally::new();
         self.predecessor_counted(v, &mut tally)
@@ -152,7 +161,8 @@ impl<A: Allocator + Copy> EliasFanoVec<A> {
     #[inline]
     pub fn predecessor_unchecked(&self, v: u64) -> u64
         requires { IsSome (greatest_not_above self.now v) }
-        ensures { greatest_not_above self.now v ≡ Some result }
+        ensures value { greatest_not_above self.now v ≡ Some result }
+        ensures ascending { IsNonDecreasing self.now }
     {
         self.predecessor(v).unwrap()
     }
@@ -160,7 +170,8 @@ impl<A: Allocator + Copy> EliasFanoVec<A> {
     /// The least member that is not below `v`. None where there is none.
     #[inline]
     pub fn successor(&self, v: u64) -> Option<u64>
-        ensures { result ≡ least_not_below self.now v }
+        ensures value { result ≡ least_not_below self.now v }
+        ensures ascending { IsNonDecreasing self.now }
     {
         let mut tally = Tally::new();
         self.successor_counted(v, &mut tally)
@@ -170,7 +181,8 @@ impl<A: Allocator + Copy> EliasFanoVec<A> {
     #[inline]
     pub fn successor_unchecked(&self, v: u64) -> u64
         requires { IsSome (least_not_below self.now v) }
-        ensures { least_not_below self.now v ≡ Some result }
+        ensures value { least_not_below self.now v ≡ Some result }
+        ensures ascending { IsNonDecreasing self.now }
     {
         self.successor(v).unwrap()
     }

@@ -2,4 +2,5 @@
 #![tactic(auto)]
 
 pub mod elias_fano;
+pub mod laws;
 pub mod sparse;

@@ -1,5 +1,5 @@
 //! Lists of bits with few ones.
-ghost use Rattle.std.specs.Prelude.{◌≡◌, ◌+◌, ◌*◌, ◌<◌, ◌↔◌, [], All, not, length, take, map, slice_index_or, slice_get, option_map, IsTrue, IfOk, OnOk, true, false};
+ghost use Rattle.std.specs.Prelude.{◌≡◌, ◌+◌, ◌*◌, ◌<◌, ◌≤◌, ◌↔◌, [], All, not, length, take, map, slice_index_or, slice_get, option_map, IsTrue, IfOk, OnOk, true, false};
 ghost use Rattle.std.specs.List.Sorted.{IsStrictlyIncreasing};
 ghost use Rattle.vers_bits.specs.Bits.{bit_value, count, is_bit, places, select};
 ghost use Rattle.vers_tally.specs.Reads.{AddsAtMost};
@@ -33,7 +33,8 @@ impl<A: Allocator + Copy> Model for SparseRSVec<A> {
 
 #[tactic(auto, using(crate::proofs::SparseBits::sparse))]
 impl<A: Allocator + Copy> SparseRSVec<A> {
-    /// The list of `len` bits whose ones stand at the given places.
+    /// The list of `len` bits whose ones stand at the given places. `AllocError` only where a
+    /// request for memory was refused.
     pub fn new(alloc: A, ones: &[u64], len: u64) -> Result<Self, AllocError>
         requires rising { IsStrictlyIncreasing ones.now }
         requires within { All (λ place. place < len) ones.now }
@@ -44,14 +45,16 @@ impl<A: Allocator + Copy> SparseRSVec<A> {
         Ok(SparseRSVec { ones, len })
     }
 
-    /// The same bits as those of a list that keeps them all.
+    /// The same bits as those of a list that keeps them all. `AllocError` only where a request for
+    /// memory was refused.
     pub fn from_bitvec(bits: &BitVec<A>) -> Result<Self, AllocError>
         ensures { IfOk result (λ v. v ≡ bits.now) }
     {
         SparseRSVec::from_places(bits, true)
     }
 
-    /// The bits of another list with ones and zeros exchanged.
+    /// The bits of another list with ones and zeros exchanged. `AllocError` only where a request
+    /// for memory was refused.
     pub fn from_bitvec_inverted(bits: &BitVec<A>) -> Result<Self, AllocError>
         ensures { IfOk result (λ v. v ≡ map not bits.now) }
     {
@@ -172,7 +175,8 @@ impl<A: Allocator + Copy> SparseRSVec<A> {
     /// The place of one number `r`, counted from 0, or the length where there are no more.
     #[inline]
     pub fn select1(&self, r: usize) -> u64
-        ensures { result ≡ select true self.now r }
+        ensures value { result ≡ select true self.now r }
+        ensures within { result ≤ length self.now }
     {
         let mut tally = Tally::new();
         self.select1_counted(r, &mut tally)
@@ -182,6 +186,7 @@ impl<A: Allocator + Copy> SparseRSVec<A> {
     #[inline(always)]
     pub fn select1_counted(&self, r: usize, tally: &mut Tally) -> u64
         ensures value { result ≡ select true self.now r }
+        ensures within { result ≤ length self.now }
         ensures adds { AddsAtMost tally.old tally.new (member_reads (places true self.now)) }
     {
         let _ = &self.len;
@@ -194,7 +199,8 @@ impl<A: Allocator + Copy> SparseRSVec<A> {
     /// How many ones stand below a place.
     #[inline]
     pub fn rank1(&self, place: u64) -> u64
-        ensures { result ≡ count true self.now place }
+        ensures value { result ≡ count true self.now place }
+        ensures within { result ≤ length self.now }
     {
         let mut tally = Tally::new();
         self.rank1_counted(place, &mut tally)
@@ -204,6 +210,7 @@ impl<A: Allocator + Copy> SparseRSVec<A> {
     #[inline(always)]
     pub fn rank1_counted(&self, place: u64, tally: &mut Tally) -> u64
         ensures value { result ≡ count true self.now place }
+        ensures within { result ≤ length self.now }
         ensures adds { AddsAtMost tally.old tally.new (search_reads (places true self.now)) }
     {
         let _ = &self.len;
@@ -213,7 +220,8 @@ impl<A: Allocator + Copy> SparseRSVec<A> {
     /// How many zeros stand below a place.
     #[inline]
     pub fn rank0(&self, place: u64) -> u64
-        ensures { result ≡ count false self.now place }
+        ensures value { result ≡ count false self.now place }
+        ensures within { result ≤ length self.now }
     {
         let mut tally = Tally::new();
         self.rank0_counted(place, &mut tally)
@@ -224,6 +232,7 @@ impl<A: Allocator + Copy> SparseRSVec<A> {
     #[tactic(auto, using(crate::proofs::SparseBits::zeros))]
     pub fn rank0_counted(&self, place: u64, tally: &mut Tally) -> u64
         ensures value { result ≡ count false self.now place }
+        ensures within { result ≤ length self.now }
         ensures adds { AddsAtMost tally.old tally.new (search_reads (places true self.now)) }
     {
         let ones = self.rank1_counted(place, tally);

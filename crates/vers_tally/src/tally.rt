@@ -1,5 +1,5 @@
 //! Counters of reads, and the vectors whose entries are read only with one.
-ghost use Rattle.std.specs.Prelude.{◌≡◌, ℕ, ◌+◌, ◌*◌, ◌%◌, ◌<◌, ◌≤◌, ◌^◌, List, length, slice_index, slice_index_or, slice_get, option_map, false};
+ghost use Rattle.std.specs.Prelude.{◌≡◌, ℕ, ◌+◌, ◌*◌, ◌<◌, ◌≤◌, ◌^◌, List, length, slice_index, slice_index_or, slice_get, option_map, false, OnSome, IfNone};
 ghost use Rattle.vers_bits.specs.Bits.{bit_value, number, part, part_number, limb};
 ghost use Rattle.vers_tally.specs.Reads.{Reads, no_reads, one_more, only_data_words, only_block_entries, only_superblock_entries, only_low_parts, only_rank_calls, only_items, only_blocks, only_nodes, only_chunks, AddsAtMost};
 
@@ -238,23 +238,27 @@ impl<A: Allocator + Copy> CountedBits<A> {
         self.bits.is_bit_set(place).unwrap()
     }
 
-    /// The number of the `n` bits from `place` on. Reads one data word, or two where the bits reach
-    /// past the first. None where there are not so many, or `n` is 0 or above 64.
-    #[inline]
+    /// The number of the `n` bits from `place` on. Reads two data words, the limb of the first bit
+    /// and that of the last: bits of one limb are read from it twice, and both reads count. None,
+    /// and nothing is read, where there are not so many bits, or `n` is 0 or above 64.
+    #[inline(always)]
     pub fn get_bits(&self, place: usize, n: usize, tally: &mut Tally) -> Option<u64>
         ensures value { result ≡ part_number self.now place n }
-        ensures one { place % 64 + n ≤ 64 → tally.new ≡ record tally.old { data_words = one_more tally.old.data_words } }
-        ensures two { 64 < place % 64 + n → tally.new ≡ record tally.old { data_words = one_more (one_more tally.old.data_words) } }
+        ensures both { OnSome result (
+            tally.new ≡ record tally.old { data_words = one_more (one_more tally.old.data_words) }
+            ) }
+        ensures none { IfNone result (tally.new ≡ tally.old) }
         ensures adds { AddsAtMost tally.old tally.new (only_data_words 2) }
     {
-        tally.data_words = tally.data_words.saturating_add(1);
-        if n > 64 - place % 64 {
-            tally.data_words = tally.data_words.saturating_add(1);
+        let number = self.bits.get_bits(place, n);
+        if number.is_some() {
+            tally.data_words = tally.data_words.saturating_add(2);
         }
-        self.bits.get_bits(place, n)
+        number
     }
 
-    /// The number of the `n` bits from `place` on, one low part; 0 for `n` 0.
+    /// The number of the `n` bits from `place` on, one low part whatever the number of its limbs; 0
+    /// for `n` 0, which counts as one too.
     #[inline]
     pub fn low_part(&self, place: usize, n: usize, tally: &mut Tally) -> u64
         requires few { n ≤ 64 }

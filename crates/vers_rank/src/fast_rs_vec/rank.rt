@@ -12,7 +12,8 @@ impl<A: Allocator + Copy> RsVec<A> {
     /// How many zeros stand below a place. Past the end all zeros count.
     #[inline]
     pub fn rank0(&self, place: usize) -> usize
-        ensures { result ≡ count false self.now place }
+        ensures value { result ≡ count false self.now place }
+        ensures within { result ≤ length self.now }
     {
         let mut tally = Tally::new();
         self.rank0_counted(place, &mut tally)
@@ -21,7 +22,8 @@ impl<A: Allocator + Copy> RsVec<A> {
     /// How many ones stand below a place. Past the end all ones count.
     #[inline]
     pub fn rank1(&self, place: usize) -> usize
-        ensures { result ≡ count true self.now place }
+        ensures value { result ≡ count true self.now place }
+        ensures within { result ≤ length self.now }
     {
         let mut tally = Tally::new();
         self.rank1_counted(place, &mut tally)
@@ -33,6 +35,7 @@ impl<A: Allocator + Copy> RsVec<A> {
     #[tactic(auto, using(crate::proofs::Ranks::sums))]
     pub fn rank0_counted(&self, place: usize, tally: &mut Tally) -> usize
         ensures value { result ≡ count false self.now place }
+        ensures within { result ≤ length self.now }
         ensures counted { tally.new.rank_calls ≡ one_more tally.old.rank_calls }
         ensures adds { AddsAtMost tally.old tally.new rank_reads }
     {
@@ -51,6 +54,7 @@ impl<A: Allocator + Copy> RsVec<A> {
     #[tactic(auto, using(crate::proofs::Ranks::sums))]
     pub fn rank1_counted(&self, place: usize, tally: &mut Tally) -> usize
         ensures value { result ≡ count true self.now place }
+        ensures within { result ≤ length self.now }
         ensures counted { tally.new.rank_calls ≡ one_more tally.old.rank_calls }
         ensures adds { AddsAtMost tally.old tally.new rank_reads }
     {

@@ -51,7 +51,8 @@ impl<A: Allocator + Copy> RsVec<A> {
     /// The place of zero number `r`, counted from 0, or the length where there are no more.
     #[inline]
     pub fn select0(&self, r: usize) -> usize
-        ensures { result ≡ select false self.now r }
+        ensures value { result ≡ select false self.now r }
+        ensures within { result ≤ length self.now }
     {
         let mut tally = Tally::new();
         self.select0_counted(r, &mut tally)
@@ -60,7 +61,8 @@ impl<A: Allocator + Copy> RsVec<A> {
     /// The place of one number `r`, counted from 0, or the length where there are no more.
     #[inline]
     pub fn select1(&self, r: usize) -> usize
-        ensures { result ≡ select true self.now r }
+        ensures value { result ≡ select true self.now r }
+        ensures within { result ≤ length self.now }
     {
         let mut tally = Tally::new();
         self.select1_counted(r, &mut tally)
@@ -72,6 +74,7 @@ impl<A: Allocator + Copy> RsVec<A> {
     #[inline(always)]
     pub fn select0_counted(&self, r: usize, tally: &mut Tally) -> usize
         ensures value { result ≡ select false self.now r }
+        ensures within { result ≤ length self.now }
         ensures counted { tally.new.rank_calls ≡ one_more tally.old.rank_calls }
         ensures adds { AddsAtMost tally.old tally.new (select_reads (superblock_count (length self.now))) }
     {
@@ -84,6 +87,7 @@ impl<A: Allocator + Copy> RsVec<A> {
     #[inline(always)]
     pub fn select1_counted(&self, r: usize, tally: &mut Tally) -> usize
         ensures value { result ≡ select true self.now r }
+        ensures within { result ≤ length self.now }
         ensures counted { tally.new.rank_calls ≡ one_more tally.old.rank_calls }
         ensures adds { AddsAtMost tally.old tally.new (select_reads (superblock_count (length self.now))) }
     {
@@ -95,6 +99,7 @@ impl<A: Allocator + Copy> RsVec<A> {
     #[tactic(auto, using(crate::proofs::Selects::totals))]
     pub(super) fn select_counted(&self, bit: bool, r: usize, tally: &mut Tally) -> usize
         ensures value { result ≡ select bit self.now r }
+        ensures within { result ≤ length self.now }
         ensures counted { tally.new.rank_calls ≡ one_more tally.old.rank_calls }
         ensures adds { AddsAtMost tally.old tally.new (select_reads (superblock_count (length self.now))) }
     {

@@ -38,7 +38,8 @@ impl<A: Allocator + Copy> EliasFanoVec<A> {
     /// An iterator over the members.
     #[tactic(auto, using(crate::proofs::BothEnds::lists))]
     pub fn iter(&self) -> EliasFanoRefIter<'_, A>
-        ensures { result ≡ record { list = self.now; left = self.now } }
+        ensures value { result ≡ record { list = self.now; left = self.now } }
+        ensures ascending { IsNonDecreasing self.now }
     {
         EliasFanoRefIter {
             list: self,

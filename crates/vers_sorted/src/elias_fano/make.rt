@@ -1,18 +1,18 @@
 //! The maker of ascending lists.
-ghost use Rattle.std.specs.Prelude.{◌≡◌, ◌-◌, ◌^◌, ◌<◌, ◌≤◌, min, IfOk};
+ghost use Rattle.std.specs.Prelude.{◌≡◌, ◌≢◌, ◌*◌, ◌<◌, ◌≤◌, length, IfOk};
 ghost use Rattle.std.specs.List.Sorted.{IsNonDecreasing};
 ghost use Rattle.vers_tally.specs.Reads.{digits};
 ghost use Rattle.vers_sorted.specs.Layout.{clog, first_of, last_of, width, low_width, high_length, high_parts, low_parts};
 
 use crate::elias_fano::EliasFanoVec;
 use std::alloc::{AllocError, Allocator};
-use vers_bits::bit_vec::BitVec;
+use vers_bits::bit_vec::{BitVec, GrowError, MAX_LEN};
 use vers_rank::fast_rs_vec::RsVec;
 use vers_tally::tally::CountedBits;
 
 #[tactic(auto, using(crate::proofs::Packed::packed))]
 impl<A: Allocator + Copy> EliasFanoVec<A> {
-    /// The list of ascending numbers.
+    /// The list of ascending numbers. `AllocError` only where a request for memory was refused.
     pub fn from_slice(alloc: A, numbers: &[u64]) -> Result<Self, AllocError>
         requires { IsNonDecreasing numbers.now }
         ensures { IfOk result (λ v. v ≡ numbers.now) }
@@ -84,7 +84,7 @@ fn digit_count(n: u128) -> usize
     (128 - n.leading_zeros()) as usize
 }
 
-// How many bits the high parts take, or the greatest number of the machine where that is more.
+// How many bits the high parts take.
 #[tactic(auto, using(crate::proofs::Makes::lengths))]
 fn high_length_of(numbers: &[u64], first: u64, last: u64, width: usize) -> usize
     requires order { first ≤ last }
@@ -92,13 +92,25 @@ fn high_length_of(numbers: &[u64], first: u64, last: u64, width: usize) -> usize
     requires last { last ≡ last_of numbers.now }
     requires width { width ≡ low_width numbers.now }
     requires narrow { width < 64 }
-    ensures { result ≡ min (high_length numbers.now) (2 ^ 64 - 1) }
+    ensures value { result ≡ high_length numbers.now }
+    ensures fits { result ≤ MAX_LEN }
 {
     if numbers.is_empty() {
         return 0;
     }
-    let high = ((last - first) >> width) as usize;
-    high.saturating_add(numbers.len()).saturating_add(2)
+    2 + numbers.len() + ((last - first) >> width) as usize
+}
+
+// The answer of a call on a list that is known to fit: it is refused only for memory.
+fn known_to_fit<T>(answer: Result<T, GrowError>) -> Result<T, AllocError>
+    requires { answer ≢ Err GrowError.TooLong }
+    ensures { IfOk result (λ value. answer ≡ Ok value) }
+{
+    match answer {
+        Ok(value) => Ok(value),
+        Err(GrowError::Memory) => Err(AllocError),
+        Err(GrowError::TooLong) => unreachable!(),
+    }
 }
 
 // The high parts: a list of zeros in which the one of each number is set.
@@ -118,7 +130,7 @@ fn high_parts<A: Allocator + Copy>(
     ensures { IfOk result (λ v. v ≡ high_parts numbers.now) }
 {
     let len = high_length_of(numbers, first, last, width);
-    let mut high = BitVec::from_zeros(alloc, len).map_err(|_| AllocError)?;
+    let mut high = known_to_fit(BitVec::from_zeros(alloc, len))?;
     for i in 0..numbers.len() {
         let _ = high.len();
         let place = ((numbers[i] - first) >> width) as usize + i + 1;
@@ -139,13 +151,12 @@ fn low_parts<A: Allocator + Copy>(
     requires first { first ≡ first_of numbers.now }
     requires width { width ≡ low_width numbers.now }
     requires narrow { width < 64 }
+    requires fits { length numbers.now * width ≤ MAX_LEN }
     ensures { IfOk result (λ v. v ≡ low_parts numbers.now) }
 {
-    let len = numbers.len().saturating_mul(width);
-    let mut low = BitVec::with_capacity(alloc, len).map_err(|_| AllocError)?;
+    let mut low = known_to_fit(BitVec::with_capacity(alloc, numbers.len() * width))?;
     for i in 0..numbers.len() {
-        low.append_bits(numbers[i] - first, width)
-            .map_err(|_| AllocError)?;
+        known_to_fit(low.append_bits(numbers[i] - first, width))?;
     }
     Ok(low)
 }

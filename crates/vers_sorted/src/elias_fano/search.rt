@@ -1,5 +1,6 @@
 //! What is asked of an ascending list.
 ghost use Rattle.std.specs.Prelude.{◌≡◌, ℕ, ◌+◌, ◌-◌, ◌*◌, ◌<◌, ◌≤◌, List, length, slice_index, slice_get};
+ghost use Rattle.std.specs.List.Sorted.{IsNonDecreasing};
 ghost use Rattle.vers_tally.specs.Reads.{only_low_parts, digits, AddsAtMost};
 ghost use Rattle.vers_sorted.specs.Sorted.{below, greatest_not_above, least_not_below, delta};
 ghost use Rattle.vers_sorted.specs.Layout.{first_of, last_of, high_of, low_of, high_length, member_reads, search_reads};
@@ -137,6 +138,7 @@ impl<A: Allocator + Copy> EliasFanoVec<A> {
     #[tactic(auto, using(crate::proofs::Packed::gets, crate::proofs::Bounds::bounds))]
     pub fn get_counted(&self, i: usize, tally: &mut Tally) -> Option<u64>
         ensures value { result ≡ slice_get self.now i }
+        ensures ascending { IsNonDecreasing self.now }
         ensures adds { AddsAtMost tally.old tally.new (member_reads self.now) }
     {
         if i >= self.len() {
@@ -149,6 +151,7 @@ impl<A: Allocator + Copy> EliasFanoVec<A> {
     #[inline(always)]
     pub fn select_counted(&self, i: usize, tally: &mut Tally) -> Option<u64>
         ensures value { result ≡ slice_get self.now i }
+        ensures ascending { IsNonDecreasing self.now }
         ensures adds { AddsAtMost tally.old tally.new (member_reads self.now) }
     {
         self.get_counted(i, tally)
@@ -160,6 +163,7 @@ impl<A: Allocator + Copy> EliasFanoVec<A> {
     #[tactic(auto, using(crate::proofs::Neighbours::deltas, crate::proofs::Bounds::bounds))]
     pub fn delta_counted(&self, i: usize, tally: &mut Tally) -> Option<u64>
         ensures value { result ≡ delta self.now i }
+        ensures ascending { IsNonDecreasing self.now }
         ensures adds { AddsAtMost tally.old tally.new (member_reads self.now) }
     {
         let _ = &self.first;
@@ -181,6 +185,8 @@ impl<A: Allocator + Copy> EliasFanoVec<A> {
     #[tactic(auto, using(crate::proofs::Bounds::bounds, crate::proofs::Buckets::ends))]
     pub fn rank_counted(&self, v: u64, tally: &mut Tally) -> u64
         ensures value { result ≡ below self.now v }
+        ensures within { result ≤ length self.now }
+        ensures ascending { IsNonDecreasing self.now }
         ensures adds { AddsAtMost tally.old tally.new (search_reads self.now) }
     {
         let _ = &self.first;
@@ -202,6 +208,7 @@ impl<A: Allocator + Copy> EliasFanoVec<A> {
     #[tactic(auto, using(crate::proofs::Bounds::bounds, crate::proofs::Buckets::ends))]
     pub fn predecessor_counted(&self, v: u64, tally: &mut Tally) -> Option<u64>
         ensures value { result ≡ greatest_not_above self.now v }
+        ensures ascending { IsNonDecreasing self.now }
         ensures adds { AddsAtMost tally.old tally.new (search_reads self.now) }
     {
         let _ = &self.first;
@@ -224,6 +231,7 @@ impl<A: Allocator + Copy> EliasFanoVec<A> {
     #[tactic(auto, using(crate::proofs::Bounds::bounds, crate::proofs::Buckets::ends))]
     pub fn successor_counted(&self, v: u64, tally: &mut Tally) -> Option<u64>
         ensures value { result ≡ least_not_below self.now v }
+        ensures ascending { IsNonDecreasing self.now }
         ensures adds { AddsAtMost tally.old tally.new (search_reads self.now) }
     {
         let _ = &self.first;

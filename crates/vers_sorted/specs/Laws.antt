@@ -1,0 +1,47 @@
+-- The laws of ascending lists, as statements.
+use Rattle.std.specs.Prelude.{◌≡◌, ◌↔◌, ℕ, ◌+◌, ◌-◌, ◌^◌, ◌<◌, ◌≤◌, max, List, length, slice_index, slice_get, None}
+use Rattle.std.specs.List.Sorted.{IsNonDecreasing}
+use Rattle.vers_sorted.specs.Sorted.{below, greatest_not_above, least_not_below}
+use Rattle.vers_sorted.specs.Layout.{clog, high_parts}
+
+-- no more members are below a number than there are
+abbrev pub BelowIsAtMostAll : Type 0
+BelowIsAtMostAll = (members : List ℕ) (v : ℕ) → below members v ≤ length members
+
+-- no fewer members are below a greater number
+abbrev pub BelowRises : Type 0
+BelowRises = (members : List ℕ) (v w : ℕ) → v ≤ w → below members v ≤ below members w
+
+-- of an ascending list, the members before place `below members v` are below v
+abbrev pub FirstMembersAreBelow : Type 0
+FirstMembersAreBelow = (members : List ℕ) (v i : ℕ) → IsNonDecreasing members
+    → i < below members v → slice_index members i < v
+
+-- and those from this place on are not
+abbrev pub OtherMembersAreNotBelow : Type 0
+OtherMembersAreNotBelow = (members : List ℕ) (v i : ℕ) → IsNonDecreasing members
+    → below members v ≤ i → i < length members → v ≤ slice_index members i
+
+-- the least member that is not below v stands at this place, or there is none
+abbrev pub LeastNotBelowIsNext : Type 0
+LeastNotBelowIsNext = (members : List ℕ) (v : ℕ) → IsNonDecreasing members
+    → least_not_below members v ≡ slice_get members (below members v)
+
+-- the greatest member that is not above v is the last one below v + 1, where there is one
+abbrev pub GreatestNotAboveIsLast : Type 0
+GreatestNotAboveIsLast = (members : List ℕ) (v : ℕ) → IsNonDecreasing members → 0 < below members (v + 1)
+    → greatest_not_above members v ≡ slice_get members (below members (v + 1) - 1)
+
+-- where no member is below v + 1, there is none that is not above v
+abbrev pub NoneBelowNoneNotAbove : Type 0
+NoneBelowNoneNotAbove = (members : List ℕ) (v : ℕ) → IsNonDecreasing members → below members (v + 1) ≡ 0
+    → greatest_not_above members v ≡ None
+
+-- 2 ^ clog n is the least power of two that is not below n
+abbrev pub ClogIsLeast : Type 0
+ClogIsLeast = (n k : ℕ) → (n ≤ 2 ^ k) ↔ (clog n ≤ k)
+
+-- the high parts of n members have at most 2 + n + p bits, where p is the least power of two that is below neither n nor 2
+abbrev pub HighPartsAreFew : Type 0
+HighPartsAreFew = (members : List ℕ)
+    → length (high_parts members) ≤ 2 + length members + 2 ^ clog (max (length members) 2)
