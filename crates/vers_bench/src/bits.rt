@@ -1,6 +1,6 @@
 //! The series of lists of bits with ranks and selects.
 use crate::report::{
-    Series, Settings, nanoseconds_since, per_operation, print_line, print_size, run_series,
+    Series, Settings, asked, let_go, nanoseconds_since, print_size, run_builds, run_series,
 };
 use crate::workload::{Random, fold, limbs};
 use std::alloc::{AllocError, Global};
@@ -83,25 +83,16 @@ fn copied(rt: &HostRuntime, limbs: &[u64]) -> Result<BitVec<Global>, AllocError>
     BitVec::from_limbs(rt.alloc(), limbs).map_err(|_| AllocError)
 }
 
-// Builds the list anew for each repetition, from a copy of its bits that isn't timed.
-fn build(
-    rt: &HostRuntime,
-    settings: &Settings,
-    series: &Series,
-    limbs: &[u64],
-) -> io::Result<Bits> {
-    let mut times = Vec::new(rt.alloc());
-    let mut bits = RsVec::from_bit_vec(copied(rt, limbs)?)?;
-    for _ in 0..settings.repetitions() {
-        let source = copied(rt, limbs)?;
-        let start = rt.thread_cpu_time()?;
-        bits = RsVec::from_bit_vec(source)?;
-        times.push(nanoseconds_since(rt, start)?)?;
-    }
-    let len = bits.len();
-    let time = per_operation(times, len as u64);
-    print_line(rt, settings, series, time, bits.rank1(len) as u64)?;
-    Ok(bits)
+fn indexed(rt: &HostRuntime, limbs: &[u64]) -> Result<Bits, AllocError> {
+    RsVec::from_bit_vec(copied(rt, limbs)?)
+}
+
+// The time of a build from a copy of the bits, which isn't timed.
+fn build_time(rt: &HostRuntime, limbs: &[u64]) -> io::Result<u64> {
+    let source = copied(rt, limbs)?;
+    let start = rt.thread_cpu_time()?;
+    let_go(RsVec::from_bit_vec(source))?;
+    nanoseconds_since(rt, start)
 }
 
 // How much more memory the list takes than its bits alone, in thousandths of a percent.
@@ -175,14 +166,47 @@ pub fn run(
         parameters: parameters.as_str(),
     };
     let limbs = limbs(rt.alloc(), limb_count, percent)?;
-    let bits = build(rt, settings, &series, limbs.as_slice())?;
-    print_size(
+    let limbs = limbs.as_slice();
+    let made = indexed(rt, limbs).map_err(io::Error::from);
+    asked(
+        made,
+        |bits| run_built(rt, settings, &series, limbs, bits, query_count),
+    )
+}
+
+fn run_built<'a>(
+    rt: &HostRuntime,
+    settings: &Settings,
+    series: &Series<'a>,
+    limbs: &[u64],
+    bits: &Bits,
+    query_count: usize,
+) -> io::Result<()> {
+    let len = bits.len();
+    let ones = bits.rank1(len) as u64;
+    run_builds(
         rt,
         settings,
-        &series.of("heap_overhead_percent"),
-        overhead(&bits),
+        series,
+        len as u64,
+        ones,
+        || build_time(rt, limbs),
     )?;
-    let queries = queries_of(rt, &bits, query_count)?;
-    run_ranks(rt, settings, &series, &bits, queries.places.as_slice())?;
-    run_selects(rt, settings, &series, &bits, &queries)
+    let size = series.of("heap_overhead_percent");
+    print_size(rt, settings, &size, overhead(bits))?;
+    asked(
+        queries_of(rt, bits, query_count),
+        |queries| run_queries(rt, settings, series, bits, queries),
+    )
+}
+
+fn run_queries<'a>(
+    rt: &HostRuntime,
+    settings: &Settings,
+    series: &Series<'a>,
+    bits: &Bits,
+    queries: &Queries,
+) -> io::Result<()> {
+    run_ranks(rt, settings, series, bits, queries.places.as_slice())?;
+    run_selects(rt, settings, series, bits, queries)
 }

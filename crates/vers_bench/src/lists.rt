@@ -1,9 +1,9 @@
 //! The series of plain lists of bits: making, appending, reading and counting, by limbs.
 //!
 //! Each pass is a function of its own in the machine code, so that a profiler counts its instructions.
-use crate::report::{Series, Settings, run_series};
+use crate::report::{Series, Settings, asked, run_series};
 use crate::workload::{Random, fold, limbs};
-use std::alloc::Global;
+use std::alloc::{AllocError, Global};
 use std::io;
 use vers_bits::bit_vec::{BitVec, GrowError};
 
@@ -62,21 +62,35 @@ pub fn run(
     };
     let limbs = limbs(alloc, limb_count, 50)?;
     let limbs = limbs.as_slice();
-    let bits = BitVec::from_limbs(alloc, limbs).map_err(|_| std::alloc::AllocError)?;
-    let places = Random::new(7).many_below(alloc, query_count, len)?;
-    let places = places.as_slice();
     run_series(rt, settings, &series, len, || from_limbs_pass(alloc, limbs))?;
+    let made = BitVec::from_limbs(alloc, limbs).map_err(|_| io::Error::from(AllocError));
+    asked(
+        made,
+        |bits| run_built(rt, settings, &series, bits, query_count),
+    )
+}
+
+fn run_built<'a>(
+    rt: &HostRuntime,
+    settings: &Settings,
+    series: &Series<'a>,
+    bits: &Bits,
+    query_count: usize,
+) -> io::Result<()> {
+    let len = bits.len() as u64;
+    let places = Random::new(7).many_below(rt.alloc(), query_count, len)?;
+    let places = places.as_slice();
     let extend = series.of("extend_bitvec");
     run_series(
         rt,
         settings,
         &extend,
         len,
-        || extend_bitvec_pass(alloc, &bits),
+        || extend_bitvec_pass(rt.alloc(), bits),
     )?;
     let get = series.of("get_bits");
     let count = places.len() as u64;
-    run_series(rt, settings, &get, count, || get_bits_pass(&bits, places))?;
+    run_series(rt, settings, &get, count, || get_bits_pass(bits, places))?;
     let ones = series.of("count_ones");
-    run_series(rt, settings, &ones, len, || count_ones_pass(&bits))
+    run_series(rt, settings, &ones, len, || count_ones_pass(bits))
 }

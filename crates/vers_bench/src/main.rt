@@ -14,88 +14,112 @@ mod workload;
 use report::{Mode, Settings};
 use std::io;
 
-fn read_settings(rt: &HostRuntime) -> io::Result<Settings> {
-    let mut name = String::new(rt.alloc());
-    let mut structures = Vec::new(rt.alloc());
-    let mut repetitions = 5;
-    let mut divisor = 1;
-    let mut is_count_next = false;
-    for word in std::env::args(rt)?.into_iter().skip(1) {
-        if is_count_next {
-            repetitions = word.as_str().parse::<usize>().unwrap_or(repetitions);
-            is_count_next = false;
+/// What the arguments said so far.
+#[derive(Drop)]
+struct Arguments {
+    name: String,
+    structures: Vec<String>,
+    repetitions: usize,
+    divisor: usize,
+    is_count_next: bool,
+}
+
+impl Arguments {
+    fn take(&mut self, word: String) -> io::Result<()> {
+        if self.is_count_next {
+            self.repetitions = word.as_str().parse::<usize>().unwrap_or(self.repetitions);
+            self.is_count_next = false;
         } else if word.as_str() == "--small" {
-            divisor = 16;
+            self.divisor = 16;
         } else if word.as_str() == "--reps" {
-            is_count_next = true;
-        } else if name.is_empty() {
-            name = word;
+            self.is_count_next = true;
+        } else if self.name.is_empty() {
+            self.name = word;
         } else {
-            structures.push(word)?;
+            self.structures.push(word)?;
+        }
+        Ok(())
+    }
+
+    fn settings(self) -> Settings {
+        let mode = if self.name.is_empty() {
+            Mode::Checksums
+        } else {
+            Mode::Times {
+                repetitions: self.repetitions,
+                divisor: self.divisor,
+            }
+        };
+        Settings {
+            name: self.name,
+            structures: self.structures,
+            mode,
         }
     }
-    let mode = if name.is_empty() {
-        Mode::Checksums
-    } else {
-        Mode::Times {
-            repetitions,
-            divisor,
-        }
+}
+
+fn take_words(rt: &HostRuntime, arguments: &mut Arguments) -> io::Result<()> {
+    for word in std::env::args(rt)?.into_iter().skip(1) {
+        arguments.take(word)?;
+    }
+    Ok(())
+}
+
+fn read_arguments(rt: &HostRuntime) -> io::Result<Arguments> {
+    let mut arguments = Arguments {
+        name: String::new(rt.alloc()),
+        structures: Vec::new(rt.alloc()),
+        repetitions: 5,
+        divisor: 1,
+        is_count_next: false,
     };
-    Ok(Settings {
-        name,
-        structures,
-        mode,
-    })
+    take_words(rt, &mut arguments)?;
+    Ok(arguments)
 }
 
-/// How large the series of lists of bits are.
-#[derive(Drop)]
-struct BitsSizes {
-    limb_counts: Vec<usize>,
-    query_count: usize,
+// How many limbs the lists of bits have. The checksums are those of one small list.
+fn limb_counts(settings: &Settings) -> [usize; 2] {
+    let large = match settings.mode {
+        Mode::Checksums => 0,
+        Mode::Times { .. } => 1_048_576,
+    };
+    [settings.scaled(16_384), settings.scaled(large)]
 }
 
-fn bits_sizes(rt: &HostRuntime, mode: Mode) -> io::Result<BitsSizes> {
-    let (small, large, queries) = (16_384, 1_048_576, 1_000_000);
-    Ok(match mode {
-        Mode::Checksums => BitsSizes {
-            limb_counts: vec![in rt.alloc(); small / 16]?,
-            query_count: queries / 16,
-        },
-        Mode::Times { divisor, .. } => {
-            let divisor = divisor.max(1);
-            BitsSizes {
-                limb_counts: vec![in rt.alloc(); small / divisor, large / divisor]?,
-                query_count: queries / divisor,
-            }
+fn run_bits(rt: &HostRuntime, settings: &Settings, query_count: usize) -> io::Result<()> {
+    for limb_count in limb_counts(settings) {
+        if limb_count > 0 {
+            bits::run(rt, settings, limb_count, 50, query_count)?;
+            bits::run(rt, settings, limb_count, 5, query_count)?;
         }
-    })
+    }
+    Ok(())
+}
+
+fn run_lists(rt: &HostRuntime, settings: &Settings, query_count: usize) -> io::Result<()> {
+    for limb_count in limb_counts(settings) {
+        if limb_count > 0 {
+            lists::run(rt, settings, limb_count, query_count)?;
+        }
+    }
+    Ok(())
+}
+
+fn run(rt: &HostRuntime, settings: &Settings) -> io::Result<()> {
+    let query_count = settings.scaled(1_000_000);
+    if settings.wants("bits") {
+        run_bits(rt, settings, query_count)?;
+    }
+    if settings.wants("list") {
+        run_lists(rt, settings, query_count)?;
+    }
+    if settings.wants("sorted") {
+        sorted::run(rt, settings, query_count, settings.scaled(2_000))?;
+    }
+    Ok(())
 }
 
 fn main(rt: HostRuntime) -> io::Result<()> {
-    let settings = read_settings(&rt)?;
-    if settings.wants("bits") {
-        let sizes = bits_sizes(&rt, settings.mode)?;
-        for limb_count in sizes.limb_counts.iter() {
-            for percent in [50, 5] {
-                bits::run(&rt, &settings, *limb_count, percent, sizes.query_count)?;
-            }
-        }
-    }
-    if settings.wants("list") {
-        let sizes = bits_sizes(&rt, settings.mode)?;
-        for limb_count in sizes.limb_counts.iter() {
-            lists::run(&rt, &settings, *limb_count, sizes.query_count)?;
-        }
-    }
-    if settings.wants("sorted") {
-        let divisor = match settings.mode {
-            Mode::Checksums => 16,
-            Mode::Times { divisor, .. } => divisor.max(1),
-        };
-        let len = 1_000_000 / divisor;
-        sorted::run(&rt, &settings, len, len, 2_000 / divisor)?;
-    }
-    Ok(())
+    let settings = read_arguments(&rt)?.settings();
+    run(&rt, &settings)
 }

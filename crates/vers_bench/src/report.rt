@@ -28,6 +28,14 @@ pub struct Settings {
 }
 
 impl Settings {
+    /// A size, divided by what all sizes are divided by.
+    pub fn scaled(&self, size: usize) -> usize {
+        match self.mode {
+            Mode::Checksums => size / 16,
+            Mode::Times { divisor, .. } => size / divisor.max(1),
+        }
+    }
+
     /// How often a series is run.
     pub fn repetitions(&self) -> usize {
         match self.mode {
@@ -112,7 +120,48 @@ pub fn per_operation(mut times: Vec<u64>, count: u64) -> u64 {
     median.saturating_mul(1000) / count.max(1)
 }
 
-/// Runs a series of `count` operations and prints its line. `pass` does them all and answers the
+/// What is asked of a value that was made. The value may be of any type, so that a caller's proof
+/// doesn't go through its fields.
+pub fn asked<T: Drop, R, E, F: FnOnce(&T) -> Result<R, E>>(
+    made: Result<T, E>,
+    ask: F,
+) -> Result<R, E>
+    requires { F.IsAlwaysCallable ask }
+{
+    match made {
+        Ok(owned) => ask(&owned),
+        Err(error) => Err(error),
+    }
+}
+
+/// Whether a value was made, which is let go.
+pub fn let_go<T: Drop, E>(made: Result<T, E>) -> Result<(), E> {
+    match made {
+        Ok(_) => Ok(()),
+        Err(error) => Err(error),
+    }
+}
+
+/// Runs a series of builds of `count` items and prints its line. `build` makes the value, lets it go
+/// and returns the time that both took.
+pub fn run_builds<F: FnMut() -> io::Result<u64>>(
+    rt: &HostRuntime,
+    settings: &Settings,
+    series: &Series,
+    count: u64,
+    checksum: u64,
+    mut build: F,
+) -> io::Result<()>
+    requires { F.IsAlwaysCallable build }
+{
+    let mut times = Vec::new(rt.alloc());
+    for _ in 0..settings.repetitions() {
+        times.push(build()?)?;
+    }
+    print_line(rt, settings, series, per_operation(times, count), checksum)
+}
+
+/// Runs a series of `count` operations and prints its line. `pass` does them all and returns the
 /// checksum.
 pub fn run_series<F: FnMut() -> u64>(
     rt: &HostRuntime,

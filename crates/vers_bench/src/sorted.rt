@@ -3,7 +3,8 @@ ghost use Rattle.std.specs.Prelude.{IsTrue};
 ghost use Rattle.std.specs.List.Sorted.{IsNonDecreasing};
 
 use crate::report::{
-    Series, Settings, nanoseconds_since, per_operation, print_line, print_size, run_series,
+    Series, Settings, asked, let_go, nanoseconds_since, per_operation, print_line, print_size,
+    run_series,
 };
 use crate::workload::{Clustered, NONE, Random, fold, members_clustered, members_uniform};
 use std::alloc::Global;
@@ -57,25 +58,24 @@ fn is_ascending(numbers: &[u64]) -> bool
     numbers.is_sorted()
 }
 
-// Builds the list anew for each repetition. Numbers that don't ascend are left out.
-fn build(
-    rt: &HostRuntime,
-    settings: &Settings,
-    series: &Series,
-    numbers: &[u64],
-) -> io::Result<Members> {
-    let mut list = EliasFanoVec::from_slice(rt.alloc(), &[])?;
+// The time of a build.
+fn build_time(rt: &HostRuntime, numbers: &[u64]) -> io::Result<u64>
+    requires { IsNonDecreasing numbers.now }
+{
+    let start = rt.thread_cpu_time()?;
+    let_go(EliasFanoVec::from_slice(rt.alloc(), numbers))?;
+    nanoseconds_since(rt, start)
+}
+
+// The times of the builds.
+fn build_times(rt: &HostRuntime, settings: &Settings, numbers: &[u64]) -> io::Result<Vec<u64>>
+    requires { IsNonDecreasing numbers.now }
+{
     let mut times = Vec::new(rt.alloc());
-    if is_ascending(numbers) {
-        for _ in 0..settings.repetitions() {
-            let start = rt.thread_cpu_time()?;
-            list = EliasFanoVec::from_slice(rt.alloc(), numbers)?;
-            times.push(nanoseconds_since(rt, start)?)?;
-        }
+    for _ in 0..settings.repetitions() {
+        times.push(build_time(rt, numbers)?)?;
     }
-    let len = list.len() as u64;
-    print_line(rt, settings, series, per_operation(times, len), len)?;
-    Ok(list)
+    Ok(times)
 }
 
 // How many bits a member takes, in thousandths.
@@ -117,16 +117,62 @@ fn run_queries<'a>(
     run_series(rt, settings, &iter, list.len() as u64, || iter_pass(list))
 }
 
-// Runs all series over a list of numbers, with queries of `span` values from `first` on.
+// Numbers from `first` on.
+fn values_from(
+    rt: &HostRuntime,
+    random: &mut Random,
+    first: u64,
+    span: u64,
+    count: usize,
+) -> io::Result<Vec<u64>> {
+    let mut values = Vec::with_capacity(rt.alloc(), count)?;
+    for _ in 0..count {
+        values.push(first.wrapping_add(random.below(span)))?;
+    }
+    Ok(values)
+}
+
+/// Which values are asked for: `count` of them, `span` values from `first` on.
+#[derive(Clone, Copy)]
+struct Asked {
+    first: u64,
+    span: u64,
+    count: usize,
+}
+
+fn run_built<'a>(
+    rt: &HostRuntime,
+    settings: &Settings,
+    series: &Series<'a>,
+    list: &Members,
+    asked: Asked,
+) -> io::Result<()> {
+    let size = series.of("heap_bits_per_item");
+    print_size(rt, settings, &size, bits_per_member(list))?;
+    let mut random = Random::new(8);
+    let places = random.many_below(rt.alloc(), asked.count, list.len() as u64)?;
+    let values = values_from(rt, &mut random, asked.first, asked.span, asked.count)?;
+    run_queries(
+        rt,
+        settings,
+        series,
+        list,
+        places.as_slice(),
+        values.as_slice(),
+    )
+}
+
+// Runs all series over a list of numbers. Numbers that don't ascend are left out.
 fn run_list(
     rt: &HostRuntime,
     settings: &Settings,
     name: &str,
     numbers: &[u64],
-    first: u64,
-    span: u64,
-    query_count: usize,
+    values: Asked,
 ) -> io::Result<()> {
+    if !is_ascending(numbers) {
+        return Ok(());
+    }
     let len = numbers.len();
     let parameters = format!(in rt.alloc(); "{name} n={len}")?;
     let series = Series {
@@ -134,61 +180,47 @@ fn run_list(
         operation: "build",
         parameters: parameters.as_str(),
     };
-    let list = build(rt, settings, &series, numbers)?;
-    print_size(
-        rt,
-        settings,
-        &series.of("heap_bits_per_item"),
-        bits_per_member(&list),
-    )?;
-    let mut random = Random::new(8);
-    let places = random.many_below(rt.alloc(), query_count, len as u64)?;
-    let mut values = Vec::with_capacity(rt.alloc(), query_count)?;
-    for _ in 0..query_count {
-        values.push(first.wrapping_add(random.below(span)))?;
-    }
-    run_queries(
-        rt,
-        settings,
-        &series,
-        &list,
-        places.as_slice(),
-        values.as_slice(),
-    )
+    let times = build_times(rt, settings, numbers)?;
+    let time = per_operation(times, len as u64);
+    print_line(rt, settings, &series, time, len as u64)?;
+    let made = EliasFanoVec::from_slice(rt.alloc(), numbers).map_err(io::Error::from);
+    asked(made, |list| run_built(rt, settings, &series, list, values))
+}
+
+fn run_uniform(rt: &HostRuntime, settings: &Settings, len: usize) -> io::Result<()> {
+    let members = members_uniform(rt.alloc(), len)?;
+    let values = Asked {
+        first: 0,
+        span: members.last().copied().unwrap_or(0).wrapping_add(1),
+        count: len,
+    };
+    run_list(rt, settings, "uniform", members.as_slice(), values)
+}
+
+fn run_equal(rt: &HostRuntime, settings: &Settings, len: usize, count: usize) -> io::Result<()> {
+    let Clustered { members, first } = members_clustered(rt.alloc(), len, true)?;
+    let values = Asked {
+        first: first.wrapping_sub(1),
+        span: 3,
+        count,
+    };
+    run_list(rt, settings, "equal", members.as_slice(), values)
+}
+
+fn run_cluster(rt: &HostRuntime, settings: &Settings, len: usize, count: usize) -> io::Result<()> {
+    let Clustered { members, first } = members_clustered(rt.alloc(), len, false)?;
+    let values = Asked {
+        first,
+        span: (len as u64).saturating_mul(2) / 10,
+        count,
+    };
+    run_list(rt, settings, "cluster", members.as_slice(), values)
 }
 
 /// Runs all series over lists of `len` members: far apart, with many equal ones, and with a dense
-/// cluster. Each is of `query_count` queries, and of `few` where members are close.
-pub fn run(
-    rt: &HostRuntime,
-    settings: &Settings,
-    len: usize,
-    query_count: usize,
-    few: usize,
-) -> io::Result<()> {
-    let uniform = members_uniform(rt.alloc(), len)?;
-    let past = uniform.last().copied().unwrap_or(0).wrapping_add(1);
-    run_list(
-        rt,
-        settings,
-        "uniform",
-        uniform.as_slice(),
-        0,
-        past,
-        query_count,
-    )?;
-    let Clustered { members, first } = members_clustered(rt.alloc(), len, true)?;
-    let before = first.wrapping_sub(1);
-    run_list(rt, settings, "equal", members.as_slice(), before, 3, few)?;
-    let Clustered { members, first } = members_clustered(rt.alloc(), len, false)?;
-    let span = (len as u64).saturating_mul(2) / 10;
-    run_list(
-        rt,
-        settings,
-        "cluster",
-        members.as_slice(),
-        first,
-        span,
-        few,
-    )
+/// cluster. The first has `len` queries, the others `few`.
+pub fn run(rt: &HostRuntime, settings: &Settings, len: usize, few: usize) -> io::Result<()> {
+    run_uniform(rt, settings, len)?;
+    run_equal(rt, settings, len, few)?;
+    run_cluster(rt, settings, len, few)
 }

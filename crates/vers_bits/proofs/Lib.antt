@@ -17,3 +17,4 @@ pub mod Masks
 pub mod Zips
 pub mod Packed
 pub mod BothEnds
+pub mod PublicLaws

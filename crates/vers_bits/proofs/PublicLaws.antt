@@ -1,0 +1,142 @@
+-- The laws that proofs of other crates may cite. A crate above imports this file and no other of this folder.
+use Rattle.std.proofs.Common.{◌≡◌, ℕ, ◌+◌, ◌-◌, ◌*◌, ◌%◌, ◌/◌, ◌^◌, ◌<◌, ◌≤◌, min, Bool, true, false, List, length, drop, get_or, Option, None, Some}
+use Rattle.std.specs.Prelude.{count_ones}
+use Rattle.std.specs.Int.{bit_at}
+use Rattle.vers_bits.specs.Bits.{bit_value, number, low_bits, is_bit, count, places, select, place_after, place_before, limb}
+-- `IsPlace bit bits r p`: place p is number r of those that hold the bit
+pub use Rattle.vers_bits.proofs.Places.{IsPlace}
+use Rattle.vers_bits.proofs.Num as Num
+use Rattle.vers_bits.proofs.LowBits as LowBits
+use Rattle.vers_bits.proofs.Count as Count
+use Rattle.vers_bits.proofs.Places as Places
+use Rattle.vers_bits.proofs.Neighbours as Neighbours
+
+-- ---- counts
+
+-- a count is at most the place, and at most the length
+pub count_le : (bit : Bool) (bits : List Bool) (i : ℕ) → (count bit bits i ≤ i) × (count bit bits i ≤ length bits)
+count_le = Count.count_le
+
+-- a count is at most that of the whole list
+pub count_le_all : (bit : Bool) (bits : List Bool) (i : ℕ) → count bit bits i ≤ count bit bits (length bits)
+count_le_all = Count.count_le_all
+
+-- nothing stands before the first place
+pub count_none : (bit : Bool) (bits : List Bool) → count bit bits 0 ≡ 0
+count_none = Count.count_none
+
+-- past the end all count
+pub count_past : (bit : Bool) (bits : List Bool) (i : ℕ) → length bits ≤ i → count bit bits i ≡ count bit bits (length bits)
+count_past = Count.count_past
+
+-- a count never falls from a place to a later one
+pub count_up : (bit : Bool) (bits : List Bool) (i j : ℕ) → i ≤ j → count bit bits i ≤ count bit bits j
+count_up = Count.count_up
+
+-- between two places a count rises by at most the places between them
+pub count_near : (bit : Bool) (bits : List Bool) (i j : ℕ) → i ≤ j → count bit bits j ≤ count bit bits i + (j - i)
+count_near = Count.count_near
+
+-- each place holds a zero or a one
+pub count_both : (bits : List Bool) (i : ℕ) → count false bits i + count true bits i ≡ min i (length bits)
+count_both = Count.count_both
+
+-- past a place that holds the bit the count is one more, past another it is the same
+pub count_more_yes : (bit : Bool) (bits : List Bool) (p : ℕ) → p < length bits → is_bit bit (get_or bits p false) ≡ true → count bit bits (p + 1) ≡ count bit bits p + 1
+count_more_yes = Places.count_more_yes
+
+pub count_more_no : (bit : Bool) (bits : List Bool) (p : ℕ) → p < length bits → is_bit bit (get_or bits p false) ≡ false → count bit bits (p + 1) ≡ count bit bits p
+count_more_no = Places.count_more_no
+
+-- the ones below a place of a limb are those before the limb, and those of the limb's low bits
+pub count_limb : (bits : List Bool) (k r : ℕ) → r ≤ 64 → count true bits (64 * k + r) ≡ count true bits (64 * k) + count_ones (limb bits k % 2 ^ r)
+count_limb = Count.count_limb
+
+pub count_limb_whole : (bits : List Bool) (k : ℕ) → count true bits (64 * k + 64) ≡ count true bits (64 * k) + count_ones (limb bits k)
+count_limb_whole = Count.count_limb_whole
+
+-- ---- places
+
+-- all places are as many as the whole list counts
+pub length-places : (bit : Bool) (bits : List Bool) → length (places bit bits) ≡ count bit bits (length bits)
+length-places = Places.length-places
+
+-- where there is a place of number r, `select` is that place
+pub select_is_place : (bit : Bool) (bits : List Bool) (r : ℕ) → r < count bit bits (length bits) → IsPlace bit bits r (select bit bits r)
+select_is_place = Places.select_is_place
+
+-- a place that holds the bit is the one with the number that its count says
+pub select_at : (bit : Bool) (bits : List Bool) (r p : ℕ) → p < length bits → is_bit bit (get_or bits p false) ≡ true → count bit bits p ≡ r → select bit bits r ≡ p
+select_at = Places.select_at
+
+-- past the last number `select` is the length
+pub select_past : (bit : Bool) (bits : List Bool) (r : ℕ) → count bit bits (length bits) ≤ r → select bit bits r ≡ length bits
+select_past = Places.select_past
+
+-- the count up to the place of number r, and past it
+pub count_at_select : (bit : Bool) (bits : List Bool) (r : ℕ) → r < count bit bits (length bits)
+    → (select bit bits r < length bits) × (count bit bits (select bit bits r) ≡ r) × (count bit bits (select bit bits r + 1) ≡ r + 1)
+count_at_select = Places.count_at_select
+
+-- number r stands below p where more than r places below p hold the bit, and not below p where at most r do
+pub select_below : (bit : Bool) (bits : List Bool) (r p : ℕ) → r < count bit bits p → select bit bits r < p
+select_below = Places.select_below
+
+pub select_not_below : (bit : Bool) (bits : List Bool) (r p : ℕ) → r < count bit bits (length bits) → count bit bits p ≤ r → p ≤ select bit bits r
+select_not_below = Places.select_not_below
+
+-- a greater number stands at a later place
+pub select_up : (bit : Bool) (bits : List Bool) (r q : ℕ) → r < q → q < count bit bits (length bits) → select bit bits r < select bit bits q
+select_up = Places.select_up
+
+-- number r of the first n places stands there, holds the bit, and r stand before it
+pub select_holds : (bit : Bool) (bits : List Bool) (r n : ℕ) → n ≤ length bits → r < count bit bits n
+    → (select bit bits r < n) × (is_bit bit (get_or bits (select bit bits r) false) ≡ true) × (count bit bits (select bit bits r) ≡ r)
+select_holds = Places.select_holds
+
+-- ---- neighbours
+
+-- the neighbour above p is number `count (p + 1)`, where there is one
+pub place_after_some : (bit : Bool) (bits : List Bool) (p : ℕ) → count bit bits (p + 1) < count bit bits (length bits) → place_after bit bits p ≡ Some (select bit bits (count bit bits (p + 1)))
+place_after_some = Neighbours.place_after_some
+
+pub place_after_none : (bit : Bool) (bits : List Bool) (p : ℕ) → count bit bits (length bits) ≤ count bit bits (p + 1) → place_after bit bits p ≡ None
+place_after_none = Neighbours.place_after_none
+
+-- there is none above a place past the end
+pub place_after_past : (bit : Bool) (bits : List Bool) (p : ℕ) → length bits ≤ p → place_after bit bits p ≡ None
+place_after_past = Neighbours.place_after_past
+
+-- the neighbour below p is the last of those that `count p` counts, where it counts some
+pub place_before_some : (bit : Bool) (bits : List Bool) (p : ℕ) → 0 < count bit bits p → place_before bit bits p ≡ Some (select bit bits (count bit bits p - 1))
+place_before_some = Neighbours.place_before_some
+
+pub place_before_none : (bit : Bool) (bits : List Bool) (p : ℕ) → count bit bits p ≡ 0 → place_before bit bits p ≡ None
+place_before_none = Neighbours.place_before_none
+
+-- ---- numbers of bits
+
+-- the number of n bits is below 2 ^ n
+pub number-lt : (bits : List Bool) → number bits < 2 ^ length bits
+number-lt = Num.number-lt
+
+-- digit i of the number is bit i
+pub bit_at-number : (bits : List Bool) (i : ℕ) → bit_at (number bits) i ≡ bit_value (get_or bits i false)
+bit_at-number = Num.bit_at-number
+
+-- without the low k bits the number is divided by 2 ^ k
+pub number-drop : (k : ℕ) (bits : List Bool) → number (drop k bits) ≡ number bits / 2 ^ k
+number-drop = Num.number-drop
+
+-- the n low bits of v are n bits, and their number is v modulo 2 ^ n
+pub length-low_bits : (v n : ℕ) → length (low_bits v n) ≡ n
+length-low_bits = LowBits.length-low_bits
+
+pub number-low_bits : (v n : ℕ) → number (low_bits v n) ≡ v % 2 ^ n
+number-low_bits = LowBits.number-low_bits
+
+-- ---- lists
+
+-- inside a list no default is taken
+pub any_default : {X : Type 0} (xs : List X) (i : ℕ) (d e : X) → i < length xs → get_or xs i d ≡ get_or xs i e
+any_default = Neighbours.any_default
