@@ -251,9 +251,9 @@ impl<A: Allocator + Copy> CountedBits<A> {
         ensures adds { AddsAtMost tally.old tally.new (only_data_words 2) }
     {
         let number = self.bits.get_bits(place, n);
-        if number.is_some() {
-            tally.data_words = tally.data_words.saturating_add(2);
-        }
+        // With no branch, of which something would be left where the count is not asked for.
+        let reads = 2 * u64::from(number.is_some());
+        tally.data_words = tally.data_words.saturating_add(reads);
         number
     }
 

@@ -44,7 +44,7 @@ impl<A: Allocator + Copy> RsVecIter<A> {
         self.span.len()
     }
 
-    /// How many bits are left, at the least and at the most, which are the same.
+    /// How many bits are left, at least and at most, which are the same.
     pub fn size_hint(&self) -> (usize, Option<usize>)
         ensures { result ≡ (length self.now, Some (length self.now)) }
     {

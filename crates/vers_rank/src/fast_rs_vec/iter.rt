@@ -56,7 +56,7 @@ impl<'a, A: Allocator + Copy> RsVecRefIter<'a, A> {
         self.span.len()
     }
 
-    /// How many bits are left, at the least and at the most, which are the same.
+    /// How many bits are left, at least and at most, which are the same.
     pub fn size_hint(&self) -> (usize, Option<usize>)
         ensures { result ≡ (length self.now, Some (length self.now)) }
     {

@@ -123,7 +123,7 @@ impl<const ZERO: bool, A: Allocator + Copy> SelectIntoIter<ZERO, A> {
         self.rest.len()
     }
 
-    /// How many places are left, at the least and at the most, which are the same.
+    /// How many places are left, at least and at most, which are the same.
     pub fn size_hint(&self) -> (usize, Option<usize>)
         ensures { result ≡ (length self.now.rest.left, Some (length self.now.rest.left)) }
     {

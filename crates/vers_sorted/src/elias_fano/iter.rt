@@ -61,7 +61,7 @@ impl<'a, A: Allocator + Copy> EliasFanoRefIter<'a, A> {
         self.span.len()
     }
 
-    /// How many members are left, at the least and at the most, which are the same.
+    /// How many members are left, at least and at most, which are the same.
     pub fn size_hint(&self) -> (usize, Option<usize>)
         ensures { result ≡ (length self.now.left, Some (length self.now.left)) }
     {
