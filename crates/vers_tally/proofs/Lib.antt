@@ -1,2 +1,4 @@
 pub mod Adding
 pub mod Halves
+pub mod Steps
+pub mod Made
