@@ -3,4 +3,5 @@ pub mod Index
 pub mod Walks
 pub use Rattle.vers_bits.specs.Bits
 pub use Rattle.vers_tally.specs.Reads
+pub use Rattle.vers_tally.specs.Ends
 pub use Rattle.vers_bits.specs.Equality

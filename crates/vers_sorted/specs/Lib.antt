@@ -4,5 +4,5 @@ pub mod Layout
 pub mod Parts
 pub mod Buckets
 pub mod Ahead
-pub mod Walks
 pub mod Rows
+pub use Rattle.vers_tally.specs.Ends

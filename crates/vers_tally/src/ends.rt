@@ -215,7 +215,8 @@ impl<S: Source> BothEnds<S> {
     pub fn last(mut self) -> Option<S::Item>
         ensures { result ≡ last_or None self.left }
     {
-        self.nth_back(0)
+        let mut tally = Tally::new();
+        self.nth_back_counted(0, &mut tally)
     }
 }
 
@@ -224,8 +225,9 @@ impl<S: Borrowing> BothEnds<S> {
     pub fn clone(&self) -> Self
         ensures { result ≡ self.now }
     {
+        let source = self.source.second();
         BothEnds {
-            source: self.source.second(),
+            source,
             span: self.span,
         }
     }

@@ -1,4 +1,4 @@
-use Rattle.std.proofs.Common.{◌≡◌, ◌<◌, arith}
+use Rattle.std.proofs.Common.{◌<◌, arith}
 use Rattle.vers_bits.specs.Bits.{limb}
 use Rattle.vers_rank.proofs.Reading.{new_reading, new_some}
 use Rattle.vers_rank.proofs.fast_rs_vec.reader.Reader.seek.Goals as goal
