@@ -257,24 +257,14 @@ module _ {X : Type 0} where
   stays_ended taken _ _ new (nth_back n _ _ _ h) = (h.given, h.left ∙ take_all (0 - (n + 1)) [] (omega arith))
 
 -- ---- items that are the bits of a list, as numbers
-bit_item : (bits : List Bool) (p : ℕ) (x : ℕ) → p < length bits → x ≡ bit_value (get_or bits p false) → slice_get (map bit_value bits) p ≡ Some x
-bit_item bits p x h is = slice_get-map bit_value bits p ∙ ap (option_map bit_value) (slice_get-get_or bits p false h) ∙ ap Some (sym is)
+pub length-bits : (bits : List Bool) → length (map bit_value bits) ≡ length bits
+length-bits bits = length-map bits bit_value
 
-pub all_bits : (bits : List Bool) (s : Span) → s.from ≡ 0 → s.to ≡ length bits → items_in (map bit_value bits) s ≡ map bit_value bits
-all_bits bits s from to = all_items (map bit_value bits) s from (to ∙ sym (length-map bits bit_value))
-
-pub bits_left : (bits : List Bool) (s : Span) → s.to ≤ length bits → length (items_in (map bit_value bits) s) ≡ s.to - s.from
-bits_left bits s within = length-items_in (map bit_value bits) s (omega (arith, length-map bits bit_value))
-
-pub gave_bit : (n : ℕ) (bits : List Bool) (s t : Span) {old : List ℕ} {p x : ℕ} → items_in (map bit_value bits) s ≡ old → s.to ≤ length bits
-    → (p ≡ s.from + n) × (p < s.to) × (t.from ≡ p + 1) × (t.to ≡ s.to) → x ≡ bit_value (get_or bits p false) → TakesNth n old (Some x) (items_in (map bit_value bits) t)
-gave_bit n bits s t {p = p} {x = x} view within some is =
-    gave n (map bit_value bits) s t view (omega (arith, length-map bits bit_value)) some (bit_item bits p x (omega arith) is)
-
-pub gave_bit_back : (n : ℕ) (bits : List Bool) (s t : Span) {old : List ℕ} {p x : ℕ} → items_in (map bit_value bits) s ≡ old → s.to ≤ length bits
-    → (p + n + 1 ≡ s.to) × (s.from ≤ p) × (t.from ≡ s.from) × (t.to ≡ p) → x ≡ bit_value (get_or bits p false) → TakesNthBack n old (Some x) (items_in (map bit_value bits) t)
-gave_bit_back n bits s t {p = p} {x = x} view within some is =
-    gave_back n (map bit_value bits) s t view (omega (arith, length-map bits bit_value)) some (bit_item bits p x (omega arith) is)
+pub bit_item : (bits : List Bool) (p : ℕ) (x : ℕ) → p < length (map bit_value bits) → x ≡ bit_value (get_or bits p false) → slice_get (map bit_value bits) p ≡ Some x
+bit_item bits p x h is =
+    slice_get-map bit_value bits p
+    ∙ ap (option_map bit_value) (slice_get-get_or bits p false (omega (arith, length-bits bits)))
+    ∙ ap Some (sym is)
 
 -- ---- items that are the limbs of a list
 pub length-limbs : (bits : List Bool) → length (limbs bits) ≡ limb_count (length bits)
@@ -288,7 +278,10 @@ limb_item bits k x h is =
     slice_get-get_or (limbs bits) k 0 h ∙ ap Some (get_or-map-range_with_len (limb bits) 0 (limb_count (length bits)) k k 0 inside (omega arith) ∙ sym is)
 
 -- makers, lengths and the last item
-pub ruleset lists = (all_items, length-limbs, length-items_in, all_bits, bits_left, last_is)
+pub ruleset lists = (all_items, length-items_in, last_is)
+
+-- the items of the sources
+pub ruleset items = (length-bits, bit_item, length-limbs, limb_item)
 
 -- `next` and `next_back`
 pub ruleset ends = (yields_first, yields_last, goes_first, goes_last)

@@ -3,4 +3,5 @@
 
 pub mod bit_vec;
 pub mod laws;
+pub mod list_ends;
 pub mod walk;

@@ -2,20 +2,14 @@
 use Rattle.std.specs.Prelude.{◌≡◌, ℕ, ◌+◌, ◌-◌, ◌*◌, ◌/◌, ◌<◌, ◌≤◌, Bool, true, false, List, length, drop, slice_index_or, if◌then◌else◌}
 use Rattle.std.specs.Int.{bit_at}
 use Rattle.vers_bits.specs.Bits.{is_bit, number, part, count, places}
-use Rattle.vers_bits.specs.Walk.{items_in}
 use Rattle.vers_tally.specs.Reads.{Reads, no_reads}
 use Rattle.vers_rank.specs.declared.fast_rs_vec.reader.Reader.{Reader}
-use Rattle.vers_rank.specs.declared.fast_rs_vec.walk.PlaceWalk.{PlaceWalk}
 use Rattle.vers_rank.specs.declared.fast_rs_vec.bit_set_iter.ChunkWalk.{ChunkWalk}
 
--- the list of bits, and the places of it that are still to come
+-- a list of bits, and the bit whose places are asked for
 pub record PlacesOf : Type 0 where
   pub bits : List Bool
-  pub left : List ℕ
-
--- the places that a walk has still to give
-abbrev pub places_left : List Bool → PlaceWalk → List ℕ
-places_left bits walk = items_in (places walk.bit bits) walk.span
+  pub bit : Bool
 
 -- place p holds the bit, and at least n places before it do
 pub record IsFrom (bit : Bool) (bits : List Bool) (n p : ℕ) : Type 0 where
@@ -33,11 +27,6 @@ pub record IsReading (bit : Bool) (bits : List Bool) (reader : Reader) : Type 0 
 -- a word, or its complement where zeros are asked for
 abbrev pub marked : Bool → ℕ → ℕ
 marked bit word = if bit then word else 18446744073709551615 - word
-
--- the walk is one over the places of the list
-pub record IsWalkOf (bits : List Bool) (walk : PlaceWalk) : Type 0 where
-  pub within : walk.span.to ≤ length (places walk.bit bits)
-  pub front : IsReading walk.bit bits walk.front
 
 -- ---- chunks of 16 bits
 

@@ -6,22 +6,17 @@ ghost use Rattle.vers_rank.specs.Queries.{part_number_or_zero, superblock_count,
 
 mod bit_set_iter;
 mod equality;
-mod into_iter;
 mod iter;
 mod neighbours;
 mod rank;
 mod reader;
 mod select;
-mod select_into_iter;
 mod select_iter;
-mod walk;
 
 use crate::build::{add_entries, samples};
 pub use bit_set_iter::BitSetIter;
-pub use into_iter::RsVecIter;
-pub use iter::RsVecRefIter;
-pub use select_into_iter::SelectIntoIter;
-pub use select_iter::SelectIter;
+pub use iter::{RsVecIter, RsVecRefIter};
+pub use select_iter::{SelectIntoIter, SelectIter};
 use std::alloc::{AllocError, Allocator};
 use std::marker::Model;
 use vers_bits::bit_vec::{BitVec, MAX_LEN};

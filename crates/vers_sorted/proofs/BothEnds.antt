@@ -1,68 +1,18 @@
--- Iterators over the members from both ends.
-use Rattle.std.proofs.Common.{◌≡◌, ℕ, ◌-◌, ◌<◌, ◌≤◌, List, [], ◌∷◌, length, drop, get_or, reverse, refl, sym, ap, ◌∙◌, arith, Option, Some, None, slice_get}
-use Rattle.std.specs.Prelude.{All, IfSome, slice_index}
-use Rattle.std.specs.List.{Contains}
+-- The items of the iterators over the members.
+use Rattle.std.proofs.Common.{◌≡◌, ℕ, ◌-◌, ◌<◌, List, length, drop, sym, ap, ◌∙◌, Some, slice_get}
+use Rattle.std.specs.Prelude.{slice_index}
 use Rattle.std.specs.List.Sorted.{IsNonDecreasing}
-use Rattle.std.proofs.lemmas.List.{get_or-reverse, length-reverse}
 use Rattle.std.proofs.lemmas.List.Sorted.{IsNonDecreasingBy-take, IsNonDecreasingBy-drop}
-use Rattle.std.proofs.lemmas.Option.{slice_get-get_or, slice_get_within, get_or_from_slice_get}
+use Rattle.std.proofs.lemmas.Option.{slice_get-get_or}
 use Rattle.vers_bits.specs.declared.walk.Span.{Span}
 use Rattle.vers_bits.specs.Walk.{items_in}
-use Rattle.vers_bits.proofs.BothEnds.{all_items, gave, gave_back, length-items_in, last_is, yields_first, yields_last, goes_first, goes_last}
 
 pub member_item : (s : List ℕ) (i x : ℕ) → i < length s → x ≡ slice_index s i → slice_get s i ≡ Some x
 member_item s i x h is = slice_get-get_or s i 0 h ∙ ap (λ m. Some m) (sym is)
 
--- the members left ascend too
-pub left_ascend : (s : List ℕ) (span : Span) → IsNonDecreasing s → IsNonDecreasing (items_in s span)
+-- the members in a span ascend too
+pub span_ascends : (s : List ℕ) (span : Span) → IsNonDecreasing s → IsNonDecreasing (items_in s span)
 unfolding items_in
-left_ascend s span up = IsNonDecreasingBy-take (λ x. x) (span.to - span.from) (drop span.from s) (IsNonDecreasingBy-drop (λ x. x) span.from s up)
+span_ascends s span up = IsNonDecreasingBy-take (λ x. x) (span.to - span.from) (drop span.from s) (IsNonDecreasingBy-drop (λ x. x) span.from s up)
 
--- ---- the first member left is the least, and the last the greatest
-
-pub first_member : (xs : List ℕ) (m : ℕ) → Some m ≡ slice_get xs 0 → Contains xs m
-first_member xs m e = (0, slice_get_within xs 0 m (sym e), get_or_from_slice_get xs 0 m m (sym e))
-
-pub first_least : (xs : List ℕ) (m : ℕ) → IsNonDecreasing xs → Some m ≡ slice_get xs 0 → All (λ x. m ≤ x) xs
-first_least xs m up e k d h = omega (arith, up 0 k d (omega arith) h, get_or_from_slice_get xs 0 m d (sym e))
-
-last_place : (xs : List ℕ) (m d : ℕ) → Some m ≡ slice_get (reverse xs) 0 → (0 < length xs) × (get_or xs (length xs - 1) d ≡ m)
-last_place xs m d e =
-    let inside : 0 < length (reverse xs) = slice_get_within (reverse xs) 0 m (sym e) in
-    let some : 0 < length xs = omega (arith, length-reverse xs) in
-    let z : length xs - 1 - 0 ≡ length xs - 1 = omega arith in
-    (some, ap (λ k. get_or xs k d) (sym z) ∙ sym (get_or-reverse xs 0 d some) ∙ get_or_from_slice_get (reverse xs) 0 m d (sym e))
-
-pub last_member : (xs : List ℕ) (m : ℕ) → Some m ≡ slice_get (reverse xs) 0 → Contains xs m
-last_member xs m e = (length xs - 1, omega (arith, (last_place xs m m e).0), (last_place xs m m e).1)
-
-pub last_greatest : (xs : List ℕ) (m : ℕ) → IsNonDecreasing xs → Some m ≡ slice_get (reverse xs) 0 → All (λ x. x ≤ m) xs
-last_greatest xs m up e k d h = omega (arith, up k (length xs - 1) d (omega arith) (omega (arith, (last_place xs m d e).0)), (last_place xs m d e).1)
-
-pub first_none : (xs : List ℕ) → None ≡ slice_get xs 0 → xs ≡ []
-first_none [] e = refl
-first_none (x ∷ xs) e = cc e
-
-pub last_none : (xs : List ℕ) → None ≡ slice_get (reverse xs) 0 → xs ≡ []
-last_none [] e = refl
-last_none (x ∷ xs) e =
-    let inside : 0 < length (reverse (x ∷ xs)) = omega (arith, length-reverse (x ∷ xs)) in
-    cc (e, slice_get-get_or (reverse (x ∷ xs)) 0 x inside)
-
-pub least_is : (xs : List ℕ) (r : Option ℕ) → IsNonDecreasing xs → r ≡ slice_get xs 0 → IfSome r (λ m. All (λ x. m ≤ x) xs)
-least_is xs None up e = tt
-least_is xs (Some m) up e = first_least xs m up e
-
-pub greatest_is : (xs : List ℕ) (r : Option ℕ) → IsNonDecreasing xs → r ≡ slice_get (reverse xs) 0 → IfSome r (λ m. All (λ x. x ≤ m) xs)
-greatest_is xs None up e = tt
-greatest_is xs (Some m) up e = last_greatest xs m up e
-
--- makers, lengths and the last item
-pub ruleset lists = (all_items, length-items_in, last_is, left_ascend)
-
--- `next` and `next_back`
-pub ruleset ends = (yields_first, yields_last, goes_first, goes_last)
-
-pub ruleset least = (first_member, least_is, first_none)
-
-pub ruleset greatest = (last_member, greatest_is, last_none)
+pub ruleset members = (member_item, span_ascends)

@@ -4,6 +4,6 @@ pub mod Layout
 pub mod Parts
 pub mod Buckets
 pub mod Ahead
-pub mod Walks
 pub mod Laws
 pub mod Rows
+pub use Rattle.vers_tally.specs.Ends

@@ -5,15 +5,13 @@ ghost use Rattle.vers_sorted.specs.Sorted.{below, greatest_not_above, least_not_
 ghost use Rattle.vers_sorted.specs.Layout.{heap_size_of};
 
 mod ahead;
-mod into_iter;
 mod iter;
 mod make;
 mod narrow;
 mod scan;
 mod search;
 
-pub use into_iter::EliasFanoIter;
-pub use iter::EliasFanoRefIter;
+pub use iter::{EliasFanoIter, EliasFanoRefIter};
 use std::alloc::{AllocError, Allocator};
 use std::marker::Model;
 use vers_rank::fast_rs_vec::RsVec;

@@ -241,7 +241,7 @@ impl<A: Allocator + Copy> SparseRSVec<A> {
 
     /// An iterator over the places of the ones.
     pub fn iter1(&self) -> EliasFanoRefIter<'_, A>
-        ensures { result ≡ record { list = places true self.now; left = places true self.now } }
+        ensures { result ≡ record { left = places true self.now; step = member_reads (places true self.now) } }
     {
         let _ = &self.len;
         self.ones.iter()

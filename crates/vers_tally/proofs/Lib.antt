@@ -1,3 +1,5 @@
 pub mod Adding
 pub mod Halves
+pub mod Steps
+pub mod Made
 pub mod PublicLaws

@@ -5,6 +5,7 @@ pub use Rattle.vers_bits.specs.Walk
 pub use Rattle.vers_bits.specs.declared.bit_vec.fault.GrowError as GrowErrors
 pub use Rattle.vers_bits.specs.declared.bit_vec.fault.SplitCause as SplitCauses
 pub use Rattle.vers_tally.specs.Reads
+pub use Rattle.vers_tally.specs.Ends
 pub use Rattle.vers_rank.specs.Queries
 pub use Rattle.vers_sorted.specs.Sorted
 pub use Rattle.vers_sorted.specs.Ones

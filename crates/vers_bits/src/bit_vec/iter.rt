@@ -1,140 +1,112 @@
-//! The iterator over the bits of a borrowed list.
-ghost use Rattle.std.specs.Prelude.{◌≡◌, None, length, map};
-ghost use Rattle.std.specs.Iterator.{item_count, YieldsFirst, YieldsLast};
-ghost use Rattle.std.specs.List.{last_or};
-ghost use Rattle.vers_bits.specs.Bits.{bit_value};
-ghost use Rattle.vers_bits.specs.Walk.{TakesNth, TakesNthBack};
+//! The iterators over the bits and over the limbs of a list of bits.
+ghost use Rattle.std.specs.Prelude.{◌≡◌, map};
+ghost use Rattle.vers_bits.specs.Bits.{bit_value, limbs};
 
 use crate::bit_vec::BitVec;
-use crate::walk::Span;
-use std::alloc::Allocator;
-use std::marker::Model;
+use crate::list_ends::{BorrowedList, ListEnds, Listed, OwnedList};
+use std::alloc::{AllocError, Allocator};
 
-/// An iterator over the bits of a list, as numbers: 1 for a one, 0 for a zero. Contracts see it as
-/// the list of the bits that are still to come.
-#[derive(Drop)]
-pub struct BitVecRefIter<'a, A: Allocator + Copy> {
-    bits: &'a BitVec<A>,
-    span: Span,
-}
+#[tactic(auto, using(crate::proofs::BothEnds::items))]
+impl<'a, A: Allocator + Copy> Listed for &'a BitVec<A> {
+    type Item = u64;
 
-impl<'a, A: Allocator + Copy> Model for BitVecRefIter<'a, A> {
-    ghost use Rattle.std.specs.Prelude.{List, ℕ, ◌≤◌, length, map};
-    ghost use Rattle.vers_bits.specs.Bits.{bit_value};
-    ghost use Rattle.vers_bits.specs.Walk.{items_in};
+    ghost items = { λ bits. map bit_value bits.now };
 
-    ghost Value = { List ℕ };
-
-    ghost view = { λ s. items_in (map bit_value s.bits.now) s.span };
-
-    ghost invariant = { λ s. s.span.to ≤ length s.bits.now };
-}
-
-impl<A: Allocator + Copy> BitVec<A> {
-    /// An iterator over the bits, as numbers.
-    #[tactic(auto, using(crate::proofs::BothEnds::lists))]
-    pub fn iter(&self) -> BitVecRefIter<'_, A>
-        ensures { result ≡ map bit_value self.now }
-    {
-        BitVecRefIter {
-            bits: self,
-            span: Span::below(self.len()),
-        }
-    }
-}
-
-#[tactic(auto, using(crate::proofs::BothEnds::lists))]
-impl<'a, A: Allocator + Copy> BitVecRefIter<'a, A> {
-    /// How many bits are left.
     #[inline]
-    pub fn len(&self) -> usize
-        ensures { result ≡ length self.now }
-    {
-        self.span.len()
-    }
-
-    /// How many bits are left, at the least and at the most, which are the same.
-    pub fn size_hint(&self) -> (usize, Option<usize>)
-        ensures { result ≡ (length self.now, Some (length self.now)) }
-    {
-        let len = self.len();
-        (len, Some(len))
-    }
-
-    /// How many bits are left.
-    pub fn count(self) -> usize
-        ensures { result ≡ length self.entry }
-    {
+    fn count_items(&self) -> usize {
         self.len()
     }
 
-    /// Drops `n` bits and takes the next. Where no more than `n` are left, none is taken and the
-    /// iterator has ended.
     #[inline]
-    pub fn nth(&mut self, n: usize) -> Option<u64>
-        ensures { TakesNth n self.old result self.new }
-    {
-        let place = self.span.nth(n)?;
-        Some(self.bits.get_unchecked(place))
-    }
-
-    /// Drops `n` bits from the back and takes the next. Where no more than `n` are left, none is
-    /// taken and the iterator has ended.
-    #[inline]
-    pub fn nth_back(&mut self, n: usize) -> Option<u64>
-        ensures { TakesNthBack n self.old result self.new }
-    {
-        let place = self.span.nth_back(n)?;
-        Some(self.bits.get_unchecked(place))
-    }
-
-    /// The last bit.
-    pub fn last(mut self) -> Option<u64>
-        ensures { result ≡ last_or None self.entry }
-    {
-        self.nth_back(0)
-    }
-
-    /// A second iterator over what is left. Takes no memory.
-    pub fn clone(&self) -> Self
-        ensures { result ≡ self.now }
-    {
-        BitVecRefIter {
-            bits: self.bits,
-            span: self.span,
-        }
+    fn item_at(&self, i: usize) -> u64 {
+        self.get_unchecked(i)
     }
 }
 
-#[tactic(auto, using(crate::proofs::BothEnds::ends))]
-impl<'a, A: Allocator + Copy> Iterator for BitVecRefIter<'a, A> {
+impl<'a, A: Allocator + Copy> BorrowedList for &'a BitVec<A> {
+    fn second(&self) -> Self {
+        *self
+    }
+}
+
+#[tactic(auto, using(crate::proofs::BothEnds::items))]
+impl<A: Allocator + Copy> Listed for BitVec<A> {
     type Item = u64;
 
-    ghost next_gives = { YieldsFirst (λ s. s) };
-
-    ghost remaining = { item_count (λ s. s) };
+    ghost items = { λ bits. map bit_value bits };
 
     #[inline]
-    fn next(&mut self) -> Option<u64> {
-        self.nth(0)
+    fn count_items(&self) -> usize {
+        self.len()
     }
 
-    fn size_hint(&self) -> (usize, Option<usize>) {
-        self.size_hint()
+    #[inline]
+    fn item_at(&self, i: usize) -> u64 {
+        self.get_unchecked(i)
     }
 }
 
-#[tactic(auto, using(crate::proofs::BothEnds::ends))]
-impl<'a, A: Allocator + Copy> DoubleEndedIterator for BitVecRefIter<'a, A> {
-    ghost next_back_gives = { YieldsLast (λ s. s) };
-
-    #[inline]
-    fn next_back(&mut self) -> Option<u64> {
-        self.nth_back(0)
+impl<A: Allocator + Copy> OwnedList for BitVec<A> {
+    fn second(&self) -> Result<Self, AllocError> {
+        self.clone()
     }
 }
 
-#[tactic(auto, using(crate::proofs::BothEnds::lists))]
+/// The limbs of a list of bits, which iterators read one by one.
+#[derive(Drop)]
+pub struct Limbs<'a, A: Allocator + Copy> {
+    bits: &'a BitVec<A>,
+}
+
+#[tactic(auto, using(crate::proofs::BothEnds::items))]
+impl<'a, A: Allocator + Copy> Listed for Limbs<'a, A> {
+    type Item = u64;
+
+    ghost items = { λ s. limbs s.bits.now };
+
+    #[inline]
+    fn count_items(&self) -> usize {
+        self.bits.len().div_ceil(64)
+    }
+
+    #[inline]
+    fn item_at(&self, i: usize) -> u64 {
+        self.bits.limb(i)
+    }
+}
+
+impl<'a, A: Allocator + Copy> BorrowedList for Limbs<'a, A> {
+    fn second(&self) -> Self {
+        Limbs { bits: self.bits }
+    }
+}
+
+/// An iterator over the bits of a list, as numbers: 1 for a one, 0 for a zero.
+pub type BitVecRefIter<'a, A> = ListEnds<&'a BitVec<A>>;
+
+/// An iterator over the bits of a list that it owns, as numbers: 1 for a one, 0 for a zero.
+pub type BitVecIter<A> = ListEnds<BitVec<A>>;
+
+/// An iterator over the limbs of a list of bits, 64 bits each, the first as the least significant
+/// one, with zeros past the length.
+pub type LimbIter<'a, A> = ListEnds<Limbs<'a, A>>;
+
+impl<A: Allocator + Copy> BitVec<A> {
+    /// An iterator over the bits, as numbers.
+    pub fn iter(&self) -> BitVecRefIter<'_, A>
+        ensures { result ≡ map bit_value self.now }
+    {
+        ListEnds::new(self)
+    }
+
+    /// An iterator over the limbs.
+    pub fn iter_limbs(&self) -> LimbIter<'_, A>
+        ensures { result ≡ limbs self.now }
+    {
+        ListEnds::new(Limbs { bits: self })
+    }
+}
+
 impl<'a, A: Allocator + Copy> IntoIterator for &'a BitVec<A> {
     type Item = u64;
 
@@ -147,7 +119,6 @@ impl<'a, A: Allocator + Copy> IntoIterator for &'a BitVec<A> {
     }
 }
 
-#[tactic(auto, using(crate::proofs::BothEnds::lists))]
 impl<'a, A: Allocator + Copy> IntoIterator for &'a mut BitVec<A> {
     type Item = u64;
 
@@ -157,5 +128,18 @@ impl<'a, A: Allocator + Copy> IntoIterator for &'a mut BitVec<A> {
 
     fn into_iter(self) -> BitVecRefIter<'a, A> {
         self.iter()
+    }
+}
+
+impl<A: Allocator + Copy> IntoIterator for BitVec<A> {
+    type Item = u64;
+
+    type IntoIter = BitVecIter<A>;
+
+    ghost into_iter_gives = { λ bits items. items ≡ map bit_value bits };
+
+    /// An iterator over the bits, as numbers, which owns the list.
+    fn into_iter(self) -> BitVecIter<A> {
+        ListEnds::new(self)
     }
 }

@@ -1,262 +1,152 @@
-//! The iterators over the places of the zeros or the ones of a borrowed list.
-ghost use Rattle.std.specs.Prelude.{◌≡◌, None, not, true, false, length};
-ghost use Rattle.std.specs.Iterator.{item_count, YieldsFirst, YieldsLast};
-ghost use Rattle.std.specs.List.{last_or};
+//! The iterators over the places of the zeros or the ones of an indexed list.
+ghost use Rattle.std.specs.Prelude.{◌≡◌, not, true, false, length};
 ghost use Rattle.vers_bits.specs.Bits.{places};
-ghost use Rattle.vers_bits.specs.Walk.{TakesNth, TakesNthBack, TakesFirst, TakesLast};
-ghost use Rattle.vers_tally.specs.Reads.{AddsAtMost};
 ghost use Rattle.vers_rank.specs.Queries.{superblock_count, select_reads};
 
 use super::RsVec;
-use super::walk::PlaceWalk;
-use std::alloc::Allocator;
-use std::marker::Model;
+use super::iter::Indexed;
+use super::reader::Reader;
+use std::alloc::{AllocError, Allocator};
+use std::marker::{Model, PhantomData};
+use vers_tally::ends::{Borrowing, BothEnds, Owning, Source};
 use vers_tally::tally::Tally;
 
-// The places of one kind of bit that are still to come, of a borrowed list.
+/// Marks an iterator over the zeros of a list where `ZERO` is true, and else over its ones.
 #[derive(Drop)]
-struct Places<'a, A: Allocator + Copy> {
-    bits: &'a RsVec<A>,
-    walk: PlaceWalk,
+pub struct Kind<const ZERO: bool>;
+
+/// The places of one kind of bit of an indexed list, which iterators of type `K` read one by one.
+/// It keeps the limb that it reads.
+#[derive(Drop)]
+pub struct Places<K, L: Indexed> {
+    list: L,
+    bit: bool,
+    front: Reader,
+    kind: PhantomData<K>,
 }
 
-impl<'a, A: Allocator + Copy> Model for Places<'a, A> {
-    ghost use Rattle.vers_rank.specs.Walks.{PlacesOf, places_left, IsWalkOf};
+impl<K, L: Indexed> Model for Places<K, L> {
+    ghost use Rattle.vers_rank.specs.Walks.{PlacesOf, IsReading};
 
     ghost Value = { PlacesOf };
 
-    ghost view = { λ s. record { bits = s.bits.now; left = places_left s.bits.now s.walk } };
+    ghost view = { λ s. record { bits = L.bits s.list; bit = s.bit } };
 
-    ghost invariant = { λ s. IsWalkOf s.bits.now s.walk };
+    ghost invariant = { λ s. IsReading s.bit (L.bits s.list) s.front };
 }
 
-#[tactic(auto, using(crate::proofs::BothEnds::left))]
-impl<'a, A: Allocator + Copy> Places<'a, A> {
-    fn new(bits: &'a RsVec<A>, bit: bool) -> Self
-        ensures { result ≡ record { bits = bits.now; left = places bit bits.now } }
+#[tactic(auto, using(crate::proofs::BothEnds::kinds))]
+impl<K, L: Indexed> Places<K, L> {
+    fn new(list: L, bit: bool) -> Self
+        ensures { result ≡ record { bits = L.bits list; bit = bit } }
     {
-        let walk = PlaceWalk::new(bits, bit);
-        Places { bits, walk }
-    }
-
-    #[inline]
-    fn len(&self) -> usize
-        ensures { result ≡ length self.now.left }
-    {
-        self.walk.len()
-    }
-
-    #[inline]
-    fn nth_counted(&mut self, n: usize, tally: &mut Tally) -> Option<usize>
-        ensures steps { TakesNth n self.old.left result self.new.left }
-        ensures same_list { self.new.bits ≡ self.old.bits }
-        ensures adds { AddsAtMost tally.old tally.new (select_reads (superblock_count (length self.old.bits))) }
-    {
-        self.walk.nth_counted(n, self.bits, tally)
-    }
-
-    #[inline]
-    fn nth_back_counted(&mut self, n: usize, tally: &mut Tally) -> Option<usize>
-        ensures steps { TakesNthBack n self.old.left result self.new.left }
-        ensures same_list { self.new.bits ≡ self.old.bits }
-        ensures adds { AddsAtMost tally.old tally.new (select_reads (superblock_count (length self.old.bits))) }
-    {
-        self.walk.nth_back_counted(n, self.bits, tally)
-    }
-
-    fn clone(&self) -> Self
-        ensures { result ≡ self.now }
-    {
+        let front = Reader {
+            word: 0,
+            limb: 0,
+            next: 0,
+        };
         Places {
-            bits: self.bits,
-            walk: self.walk,
+            list,
+            bit,
+            front,
+            kind: PhantomData,
         }
+    }
+}
+
+#[tactic(auto, using(crate::proofs::BothEnds::kinds))]
+impl<K, L: Indexed> Source for Places<K, L> {
+    type Item = usize;
+
+    ghost items = { λ s. places s.bit s.bits };
+
+    ghost step = { λ s. select_reads (superblock_count (length s.bits)) };
+
+    #[inline]
+    fn count_items(&self) -> usize {
+        let list = self.list.list();
+        if self.bit { list.ones() } else { list.zeros() }
+    }
+
+    #[inline]
+    fn item_at(&mut self, i: usize, tally: &mut Tally) -> usize {
+        self.front.place(self.bit, i, self.list.list(), tally)
+    }
+
+    #[inline]
+    fn item_at_back(&mut self, i: usize, tally: &mut Tally) -> usize {
+        let list = self.list.list();
+        if self.bit {
+            list.select1_counted(i, tally)
+        } else {
+            list.select0_counted(i, tally)
+        }
+    }
+}
+
+impl<'a, K, A: Allocator + Copy> Borrowing for Places<K, &'a RsVec<A>> {
+    fn second(&self) -> Self {
+        Places::new(self.list, self.bit)
+    }
+}
+
+impl<K, A: Allocator + Copy> Owning for Places<K, RsVec<A>> {
+    fn second(&self) -> Result<Self, AllocError> {
+        let list = self.list.clone()?;
+        Ok(Places::new(list, self.bit))
     }
 }
 
 /// An iterator over the places of a list: of its zeros where `ZERO` is true, and else of its ones,
-/// ascending. Contracts see its `rest` as the list of `bits` and the places `left`, which are still
-/// to come. Each step reads at most what one select does.
-#[derive(Drop)]
-pub struct SelectIter<'a, const ZERO: bool, A: Allocator + Copy> {
-    rest: Places<'a, A>,
-}
+/// ascending. Each step reads at most what one select does.
+pub type SelectIter<'a, const ZERO: bool, A> = BothEnds<Places<Kind<ZERO>, &'a RsVec<A>>>;
+
+/// An iterator over the places of a list that it owns: of its zeros where `ZERO` is true, and else
+/// of its ones, ascending. Each step reads at most what one select does.
+pub type SelectIntoIter<const ZERO: bool, A> = BothEnds<Places<Kind<ZERO>, RsVec<A>>>;
 
 impl<A: Allocator + Copy> RsVec<A> {
     /// An iterator over the places of the zeros where `ZERO` is true, and else of the ones.
     pub fn select_iter<const ZERO: bool>(&self) -> SelectIter<'_, ZERO, A>
-        ensures { result.rest ≡ record { bits = self.now; left = places (not ZERO) self.now } }
+        ensures { result ≡ record { left = places (not ZERO) self.now; step = select_reads (superblock_count (length self.now)) } }
     {
-        SelectIter {
-            rest: Places::new(self, !ZERO),
-        }
+        BothEnds::new(Places::new(self, !ZERO))
     }
 
     /// An iterator over the places of the zeros.
     pub fn iter0(&self) -> SelectIter<'_, true, A>
-        ensures { result.rest ≡ record { bits = self.now; left = places false self.now } }
+        ensures { result ≡ record { left = places false self.now; step = select_reads (superblock_count (length self.now)) } }
     {
         self.select_iter::<true>()
     }
 
     /// An iterator over the places of the ones.
     pub fn iter1(&self) -> SelectIter<'_, false, A>
-        ensures { result.rest ≡ record { bits = self.now; left = places true self.now } }
+        ensures { result ≡ record { left = places true self.now; step = select_reads (superblock_count (length self.now)) } }
     {
         self.select_iter::<false>()
     }
-}
 
-impl<'a, const ZERO: bool, A: Allocator + Copy> SelectIter<'a, ZERO, A> {
-    /// How many places are left.
-    #[inline]
-    pub fn len(&self) -> usize
-        ensures { result ≡ length self.now.rest.left }
+    /// An iterator over the places of the zeros where `ZERO` is true, and else of the ones, which
+    /// owns the list.
+    pub fn into_select_iter<const ZERO: bool>(self) -> SelectIntoIter<ZERO, A>
+        ensures { result ≡ record { left = places (not ZERO) self; step = select_reads (superblock_count (length self)) } }
     {
-        self.rest.len()
+        let places = Places::new(self, !ZERO);
+        BothEnds::new(places)
     }
 
-    /// How many places are left, at least and at most, which are the same.
-    pub fn size_hint(&self) -> (usize, Option<usize>)
-        ensures { result ≡ (length self.now.rest.left, Some (length self.now.rest.left)) }
+    /// An iterator over the places of the zeros, which owns the list.
+    pub fn into_iter0(self) -> SelectIntoIter<true, A>
+        ensures { result ≡ record { left = places false self; step = select_reads (superblock_count (length self)) } }
     {
-        let len = self.len();
-        (len, Some(len))
+        BothEnds::new(Places::new(self, false))
     }
 
-    /// How many places are left.
-    pub fn count(self) -> usize
-        ensures { result ≡ length self.entry.rest.left }
+    /// An iterator over the places of the ones, which owns the list.
+    pub fn into_iter1(self) -> SelectIntoIter<false, A>
+        ensures { result ≡ record { left = places true self; step = select_reads (superblock_count (length self)) } }
     {
-        self.len()
-    }
-
-    /// Drops `n` places and takes the next. Where no more than `n` are left, none is taken and the
-    /// iterator has ended.
-    #[inline]
-    pub fn nth(&mut self, n: usize) -> Option<usize>
-        ensures steps { TakesNth n self.old.rest.left result self.new.rest.left }
-        ensures same_list { self.new.rest.bits ≡ self.old.rest.bits }
-    {
-        let mut tally = Tally::new();
-        self.nth_counted(n, &mut tally)
-    }
-
-    /// Drops `n` places from the back and takes the next. Where no more than `n` are left, none is
-    /// taken and the iterator has ended.
-    #[inline]
-    pub fn nth_back(&mut self, n: usize) -> Option<usize>
-        ensures steps { TakesNthBack n self.old.rest.left result self.new.rest.left }
-        ensures same_list { self.new.rest.bits ≡ self.old.rest.bits }
-    {
-        let mut tally = Tally::new();
-        self.nth_back_counted(n, &mut tally)
-    }
-
-    /// The first of the places left, which is taken.
-    #[inline]
-    pub fn next(&mut self) -> Option<usize>
-        ensures steps { TakesFirst self.old.rest.left result self.new.rest.left }
-        ensures same_list { self.new.rest.bits ≡ self.old.rest.bits }
-    {
-        let mut tally = Tally::new();
-        self.next_counted(&mut tally)
-    }
-
-    /// The last of the places left, which is taken.
-    #[inline]
-    pub fn next_back(&mut self) -> Option<usize>
-        ensures steps { TakesLast self.old.rest.left result self.new.rest.left }
-        ensures same_list { self.new.rest.bits ≡ self.old.rest.bits }
-    {
-        let mut tally = Tally::new();
-        self.next_back_counted(&mut tally)
-    }
-
-    /// The first of the places left, which is taken, by the reads of one select.
-    #[inline]
-    pub fn next_counted(&mut self, tally: &mut Tally) -> Option<usize>
-        ensures steps { TakesFirst self.old.rest.left result self.new.rest.left }
-        ensures same_list { self.new.rest.bits ≡ self.old.rest.bits }
-        ensures adds { AddsAtMost tally.old tally.new (select_reads (superblock_count (length self.old.rest.bits))) }
-    {
-        self.nth_counted(0, tally)
-    }
-
-    /// The last of the places left, which is taken, by the reads of one select.
-    #[inline]
-    pub fn next_back_counted(&mut self, tally: &mut Tally) -> Option<usize>
-        ensures steps { TakesLast self.old.rest.left result self.new.rest.left }
-        ensures same_list { self.new.rest.bits ≡ self.old.rest.bits }
-        ensures adds { AddsAtMost tally.old tally.new (select_reads (superblock_count (length self.old.rest.bits))) }
-    {
-        self.nth_back_counted(0, tally)
-    }
-
-    /// Drops `n` places and takes the next, by the reads of one select. Where no more than `n` are
-    /// left, none is taken and the iterator has ended.
-    #[inline]
-    pub fn nth_counted(&mut self, n: usize, tally: &mut Tally) -> Option<usize>
-        ensures steps { TakesNth n self.old.rest.left result self.new.rest.left }
-        ensures same_list { self.new.rest.bits ≡ self.old.rest.bits }
-        ensures adds { AddsAtMost tally.old tally.new (select_reads (superblock_count (length self.old.rest.bits))) }
-    {
-        self.rest.nth_counted(n, tally)
-    }
-
-    /// Drops `n` places from the back and takes the next, by the reads of one select. Where no
-    /// more than `n` are left, none is taken and the iterator has ended.
-    #[inline]
-    pub fn nth_back_counted(&mut self, n: usize, tally: &mut Tally) -> Option<usize>
-        ensures steps { TakesNthBack n self.old.rest.left result self.new.rest.left }
-        ensures same_list { self.new.rest.bits ≡ self.old.rest.bits }
-        ensures adds { AddsAtMost tally.old tally.new (select_reads (superblock_count (length self.old.rest.bits))) }
-    {
-        self.rest.nth_back_counted(n, tally)
-    }
-
-    /// The last place.
-    #[tactic(auto, using(crate::proofs::BothEnds::left))]
-    pub fn last(mut self) -> Option<usize>
-        ensures { result ≡ last_or None self.entry.rest.left }
-    {
-        self.nth_back(0)
-    }
-
-    /// A second iterator over what is left. Takes no memory.
-    pub fn clone(&self) -> Self
-        ensures { result.rest ≡ self.now.rest }
-    {
-        SelectIter {
-            rest: self.rest.clone(),
-        }
-    }
-}
-
-#[tactic(auto, using(crate::proofs::BothEnds::ends))]
-impl<'a, const ZERO: bool, A: Allocator + Copy> Iterator for SelectIter<'a, ZERO, A> {
-    type Item = usize;
-
-    ghost next_gives = { YieldsFirst (λ s. s.rest.left) };
-
-    ghost remaining = { item_count (λ s. s.rest.left) };
-
-    #[inline]
-    fn next(&mut self) -> Option<usize> {
-        self.next()
-    }
-
-    fn size_hint(&self) -> (usize, Option<usize>) {
-        self.size_hint()
-    }
-}
-
-#[tactic(auto, using(crate::proofs::BothEnds::ends))]
-impl<'a, const ZERO: bool, A: Allocator + Copy> DoubleEndedIterator for SelectIter<'a, ZERO, A> {
-    ghost next_back_gives = { YieldsLast (λ s. s.rest.left) };
-
-    #[inline]
-    fn next_back(&mut self) -> Option<usize> {
-        self.next_back()
+        BothEnds::new(Places::new(self, true))
     }
 }

@@ -29,15 +29,6 @@ impl Ahead {
             word: 0,
         }
     }
-
-    // What is read ahead of the next member, once `n` members are dropped.
-    #[inline]
-    pub(super) fn after(self, n: usize) -> Ahead
-        ensures kept { n ≡ 0 → result ≡ self }
-        ensures dropped { 0 < n → result.word ≡ 0 }
-    {
-        if n == 0 { self } else { Ahead::none() }
-    }
 }
 
 impl<A: Allocator + Copy> EliasFanoVec<A> {

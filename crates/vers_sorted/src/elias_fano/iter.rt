@@ -1,240 +1,143 @@
-//! The iterator over the members of a borrowed list.
-ghost use Rattle.std.specs.Prelude.{◌≡◌, ◌≤◌, ◌↔◌, [], All, IsNone, IfSome, None, length};
-ghost use Rattle.std.specs.Iterator.{item_count, YieldsFirst, YieldsLast};
-ghost use Rattle.std.specs.List.{Contains, last_or};
+//! The iterators over the members of an ascending list.
+ghost use Rattle.std.specs.Prelude.{◌≡◌, ℕ, List};
 ghost use Rattle.std.specs.List.Sorted.{IsNonDecreasing};
-ghost use Rattle.vers_bits.specs.Walk.{TakesNth, TakesNthBack, TakesFirst, TakesLast};
-ghost use Rattle.vers_tally.specs.Reads.{AddsAtMost};
 ghost use Rattle.vers_sorted.specs.Layout.{member_reads};
 
 use super::EliasFanoVec;
 use super::ahead::Ahead;
-use std::alloc::Allocator;
+use std::alloc::{AllocError, Allocator};
 use std::marker::Model;
-use vers_bits::walk::Span;
+use vers_tally::ends::{Ascending, Borrowing, BothEnds, Owning, Source};
 use vers_tally::tally::Tally;
 
-/// An iterator over the members of a list. Contracts see it as the `list` and the members `left`,
-/// which are still to come. Each step reads at most what one `get` does.
+/// An ascending list, which is borrowed or owned.
+pub trait Sorted: Drop {
+    type Alloc: Allocator + Copy;
+
+    ghost members: { Self → List ℕ };
+
+    /// The list itself.
+    fn list(&self) -> &EliasFanoVec<Self::Alloc>
+        ensures { result.now ≡ members self.now };
+}
+
+impl<'a, A: Allocator + Copy> Sorted for &'a EliasFanoVec<A> {
+    type Alloc = A;
+
+    ghost members = { λ list. list.now };
+
+    #[inline]
+    fn list(&self) -> &EliasFanoVec<A> {
+        *self
+    }
+}
+
+impl<A: Allocator + Copy> Sorted for EliasFanoVec<A> {
+    type Alloc = A;
+
+    ghost members = { λ list. list };
+
+    #[inline]
+    fn list(&self) -> &EliasFanoVec<A> {
+        self
+    }
+}
+
+/// The members of an ascending list, which iterators read one by one. It keeps the bits that it
+/// has read ahead of member `next`.
 #[derive(Drop)]
-pub struct EliasFanoRefIter<'a, A: Allocator + Copy> {
-    list: &'a EliasFanoVec<A>,
-    span: Span,
+pub struct Members<L: Sorted> {
+    list: L,
+    next: usize,
     ahead: Ahead,
 }
 
-impl<'a, A: Allocator + Copy> Model for EliasFanoRefIter<'a, A> {
-    ghost use Rattle.vers_bits.specs.Walk.{items_in};
-    ghost use Rattle.vers_sorted.specs.Walks.{Members, IsMemberWalk};
+impl<L: Sorted> Model for Members<L> {
+    ghost use Rattle.std.specs.Prelude.{List, ℕ};
+    ghost use Rattle.vers_sorted.specs.Ahead.{IsAhead};
 
-    ghost Value = { Members };
+    ghost Value = { List ℕ };
 
-    ghost view = { λ s. record { list = s.list.now; left = items_in s.list.now s.span } };
+    ghost view = { λ s. L.members s.list };
 
-    ghost invariant = { λ s. IsMemberWalk s.list.now s.span s.ahead };
+    ghost invariant = { λ s. IsAhead (L.members s.list) s.next s.ahead };
 }
 
-impl<A: Allocator + Copy> EliasFanoVec<A> {
-    /// An iterator over the members.
-    #[tactic(auto, using(crate::proofs::BothEnds::lists))]
-    pub fn iter(&self) -> EliasFanoRefIter<'_, A>
-        ensures value { result ≡ record { list = self.now; left = self.now } }
-        ensures ascending { IsNonDecreasing self.now }
+impl<L: Sorted> Members<L> {
+    fn new(list: L) -> Self
+        ensures { result ≡ L.members list }
     {
-        EliasFanoRefIter {
-            list: self,
-            span: Span::below(self.len()),
+        Members {
+            list,
+            next: 0,
             ahead: Ahead::none(),
         }
     }
 }
 
-#[tactic(auto, using(crate::proofs::BothEnds::lists))]
-impl<'a, A: Allocator + Copy> EliasFanoRefIter<'a, A> {
-    /// How many members are left.
-    #[inline]
-    pub fn len(&self) -> usize
-        ensures value { result ≡ length self.now.left }
-        ensures ascending { IsNonDecreasing self.now.left }
-    {
-        let _ = self.list.len();
-        self.span.len()
-    }
-
-    /// How many members are left, at least and at most, which are the same.
-    pub fn size_hint(&self) -> (usize, Option<usize>)
-        ensures { result ≡ (length self.now.left, Some (length self.now.left)) }
-    {
-        let len = self.len();
-        (len, Some(len))
-    }
-
-    /// How many members are left.
-    pub fn count(self) -> usize
-        ensures { result ≡ length self.entry.left }
-    {
-        self.len()
-    }
-
-    /// Drops `n` members and takes the next. Where no more than `n` are left, none is taken and
-    /// the iterator has ended.
-    #[inline]
-    pub fn nth(&mut self, n: usize) -> Option<u64>
-        ensures steps { TakesNth n self.old.left result self.new.left }
-        ensures same_list { self.new.list ≡ self.old.list }
-    {
-        let mut tally = Tally::new();
-        self.nth_counted(n, &mut tally)
-    }
-
-    /// Drops `n` members from the back and takes the next. Where no more than `n` are left, none
-    /// is taken and the iterator has ended.
-    #[inline]
-    pub fn nth_back(&mut self, n: usize) -> Option<u64>
-        ensures steps { TakesNthBack n self.old.left result self.new.left }
-        ensures same_list { self.new.list ≡ self.old.list }
-    {
-        let mut tally = Tally::new();
-        self.nth_back_counted(n, &mut tally)
-    }
-
-    /// The first of the members left, which is taken.
-    #[inline]
-    pub fn next(&mut self) -> Option<u64>
-        ensures steps { TakesFirst self.old.left result self.new.left }
-        ensures same_list { self.new.list ≡ self.old.list }
-    {
-        let mut tally = Tally::new();
-        self.next_counted(&mut tally)
-    }
-
-    /// The last of the members left, which is taken.
-    #[inline]
-    pub fn next_back(&mut self) -> Option<u64>
-        ensures steps { TakesLast self.old.left result self.new.left }
-        ensures same_list { self.new.list ≡ self.old.list }
-    {
-        let mut tally = Tally::new();
-        self.next_back_counted(&mut tally)
-    }
-
-    /// The first of the members left, which is taken, by the reads of one `get`.
-    #[inline]
-    pub fn next_counted(&mut self, tally: &mut Tally) -> Option<u64>
-        ensures steps { TakesFirst self.old.left result self.new.left }
-        ensures same_list { self.new.list ≡ self.old.list }
-        ensures adds { AddsAtMost tally.old tally.new (member_reads self.old.list) }
-    {
-        self.nth_counted(0, tally)
-    }
-
-    /// The last of the members left, which is taken, by the reads of one `get`.
-    #[inline]
-    pub fn next_back_counted(&mut self, tally: &mut Tally) -> Option<u64>
-        ensures steps { TakesLast self.old.left result self.new.left }
-        ensures same_list { self.new.list ≡ self.old.list }
-        ensures adds { AddsAtMost tally.old tally.new (member_reads self.old.list) }
-    {
-        self.nth_back_counted(0, tally)
-    }
-
-    /// Drops `n` members and takes the next, by the reads of one `get`. Where no more than `n` are
-    /// left, none is taken and the iterator has ended.
-    #[inline]
-    pub fn nth_counted(&mut self, n: usize, tally: &mut Tally) -> Option<u64>
-        ensures steps { TakesNth n self.old.left result self.new.left }
-        ensures same_list { self.new.list ≡ self.old.list }
-        ensures adds { AddsAtMost tally.old tally.new (member_reads self.old.list) }
-    {
-        self.ahead = self.ahead.after(n);
-        let Some(i) = self.span.nth(n) else {
-            self.ahead = Ahead::none();
-            return None;
-        };
-        Some(self.list.member_ahead(i, &mut self.ahead, tally))
-    }
-
-    /// Drops `n` members from the back and takes the next, by the reads of one `get`. Where no
-    /// more than `n` are left, none is taken and the iterator has ended.
-    #[inline]
-    pub fn nth_back_counted(&mut self, n: usize, tally: &mut Tally) -> Option<u64>
-        ensures steps { TakesNthBack n self.old.left result self.new.left }
-        ensures same_list { self.new.list ≡ self.old.list }
-        ensures adds { AddsAtMost tally.old tally.new (member_reads self.old.list) }
-    {
-        let Some(i) = self.span.nth_back(n) else {
-            self.ahead = Ahead::none();
-            return None;
-        };
-        Some(self.list.member(i, tally))
-    }
-
-    /// The last member.
-    pub fn last(mut self) -> Option<u64>
-        ensures { result ≡ last_or None self.entry.left }
-    {
-        self.nth_back(0)
-    }
-
-    /// The least of the members left.
-    #[tactic(auto, using(crate::proofs::BothEnds::least))]
-    pub fn min(mut self) -> Option<u64>
-        ensures none { IsNone result ↔ (self.entry.left ≡ []) }
-        ensures member { IfSome result (Contains self.entry.left) }
-        ensures least { IfSome result (λ m. All (λ x. m ≤ x) self.entry.left) }
-    {
-        let _ = self.len();
-        self.nth(0)
-    }
-
-    /// The greatest of the members left.
-    #[tactic(auto, using(crate::proofs::BothEnds::greatest))]
-    pub fn max(mut self) -> Option<u64>
-        ensures none { IsNone result ↔ (self.entry.left ≡ []) }
-        ensures member { IfSome result (Contains self.entry.left) }
-        ensures greatest { IfSome result (λ m. All (λ x. x ≤ m) self.entry.left) }
-    {
-        let _ = self.len();
-        self.nth_back(0)
-    }
-
-    /// A second iterator over what is left. Takes no memory.
-    pub fn clone(&self) -> Self
-        ensures { result ≡ self.now }
-    {
-        EliasFanoRefIter {
-            list: self.list,
-            span: self.span,
-            ahead: self.ahead,
-        }
-    }
-}
-
-#[tactic(auto, using(crate::proofs::BothEnds::ends))]
-impl<'a, A: Allocator + Copy> Iterator for EliasFanoRefIter<'a, A> {
+#[tactic(auto, using(crate::proofs::BothEnds::members))]
+impl<L: Sorted> Source for Members<L> {
     type Item = u64;
 
-    ghost next_gives = { YieldsFirst (λ s. s.left) };
+    ghost items = { λ members. members };
 
-    ghost remaining = { item_count (λ s. s.left) };
+    ghost step = { λ members. member_reads members };
+
+    ghost in_order = { IsNonDecreasing };
 
     #[inline]
-    fn next(&mut self) -> Option<u64> {
-        self.next()
+    fn count_items(&self) -> usize {
+        self.list.list().len()
     }
 
-    fn size_hint(&self) -> (usize, Option<usize>) {
-        self.size_hint()
+    #[inline]
+    fn item_at(&mut self, i: usize, tally: &mut Tally) -> u64 {
+        let list = self.list.list();
+        let _ = list.len();
+        if i != self.next {
+            self.ahead = Ahead::none();
+        }
+        self.next = i + 1;
+        list.member_ahead(i, &mut self.ahead, tally)
+    }
+
+    #[inline]
+    fn item_at_back(&mut self, i: usize, tally: &mut Tally) -> u64 {
+        self.list.list().member(i, tally)
     }
 }
 
-#[tactic(auto, using(crate::proofs::BothEnds::ends))]
-impl<'a, A: Allocator + Copy> DoubleEndedIterator for EliasFanoRefIter<'a, A> {
-    ghost next_back_gives = { YieldsLast (λ s. s.left) };
+impl<L: Sorted> Ascending for Members<L> {
+    ghost ascends = { λ numbers up. up };
+}
 
-    #[inline]
-    fn next_back(&mut self) -> Option<u64> {
-        self.next_back()
+impl<'a, A: Allocator + Copy> Borrowing for Members<&'a EliasFanoVec<A>> {
+    fn second(&self) -> Self {
+        Members::new(self.list)
+    }
+}
+
+impl<A: Allocator + Copy> Owning for Members<EliasFanoVec<A>> {
+    fn second(&self) -> Result<Self, AllocError> {
+        let list = self.list.clone()?;
+        Ok(Members::new(list))
+    }
+}
+
+/// An iterator over the members of a list. Each step reads at most what one `get` does.
+pub type EliasFanoRefIter<'a, A> = BothEnds<Members<&'a EliasFanoVec<A>>>;
+
+/// An iterator over the members of a list that it owns. Each step reads at most what one `get`
+/// does.
+pub type EliasFanoIter<A> = BothEnds<Members<EliasFanoVec<A>>>;
+
+impl<A: Allocator + Copy> EliasFanoVec<A> {
+    /// An iterator over the members.
+    pub fn iter(&self) -> EliasFanoRefIter<'_, A>
+        ensures value { result ≡ record { left = self.now; step = member_reads self.now } }
+        ensures ascending { IsNonDecreasing self.now }
+    {
+        BothEnds::new(Members::new(self))
     }
 }
 
@@ -243,7 +146,7 @@ impl<'a, A: Allocator + Copy> IntoIterator for &'a EliasFanoVec<A> {
 
     type IntoIter = EliasFanoRefIter<'a, A>;
 
-    ghost into_iter_gives = { λ list items. items ≡ record { list = list.now; left = list.now } };
+    ghost into_iter_gives = { λ list items. items ≡ record { left = list.now; step = member_reads list.now } };
 
     fn into_iter(self) -> EliasFanoRefIter<'a, A> {
         self.iter()
@@ -255,9 +158,22 @@ impl<'a, A: Allocator + Copy> IntoIterator for &'a mut EliasFanoVec<A> {
 
     type IntoIter = EliasFanoRefIter<'a, A>;
 
-    ghost into_iter_gives = { λ list items. items ≡ record { list = list.now; left = list.now } };
+    ghost into_iter_gives = { λ list items. items ≡ record { left = list.now; step = member_reads list.now } };
 
     fn into_iter(self) -> EliasFanoRefIter<'a, A> {
         self.iter()
+    }
+}
+
+impl<A: Allocator + Copy> IntoIterator for EliasFanoVec<A> {
+    type Item = u64;
+
+    type IntoIter = EliasFanoIter<A>;
+
+    ghost into_iter_gives = { λ list items. items ≡ record { left = list; step = member_reads list } };
+
+    /// An iterator over the members, which owns the list.
+    fn into_iter(self) -> EliasFanoIter<A> {
+        BothEnds::new(Members::new(self))
     }
 }

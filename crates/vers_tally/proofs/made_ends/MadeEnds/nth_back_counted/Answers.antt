@@ -1,0 +1,13 @@
+use Rattle.std.proofs.Common.{ap}
+use Rattle.vers_tally.proofs.Made.{made_back_none, made_back}
+use Rattle.vers_tally.specs.Ends.{Walking}
+use Rattle.vers_tally.proofs.made_ends.MadeEnds.nth_back_counted.Goals as goal
+
+pub returns-in_err-i-clause-steps : goal.returns-in_err-i-clause-steps
+returns-in_err-i-clause-steps g c =
+    made_back_none c.args.n (g.M.Maker.items c.self.inside.maker) c.self.inside.span c.nth_back.new.self (ap (λ (w : Walking _). w.left) c.self.view_is) c.in_err-i.ensures c.from_residual.ensures
+
+pub returns-clause-steps : goal.returns-clause-steps
+returns-clause-steps g c =
+    rw c.make_at.ensures.same_items
+    (made_back c.args.n (g.M.Maker.items c.self.inside.maker) c.self.inside.span c.nth_back.new.self (ap (λ (w : Walking _). w.left) c.self.view_is) c.self.invariant c.in_ok-i.ensures c.make_at.ensures.value)

@@ -1,0 +1,299 @@
+//! One body for all iterators that take items from both ends and count what they read.
+ghost use Rattle.std.specs.Prelude.{◌≡◌, ◌<◌, ◌≤◌, ◌↔◌, ℕ, [], List, All, IsNone, IfSome, IfOk, Some, None, length, slice_get};
+ghost use Rattle.std.specs.Iterator.{item_count, YieldsFirst, YieldsLast};
+ghost use Rattle.std.specs.List.{Contains, last_or};
+ghost use Rattle.std.specs.List.Sorted.{IsNonDecreasing};
+ghost use Rattle.vers_bits.specs.declared.walk.Span.{Span};
+ghost use Rattle.vers_bits.specs.Walk.{items_in, TakesNth, TakesNthBack, TakesFirst, TakesLast};
+ghost use Rattle.vers_tally.specs.Reads.{Reads, AddsAtMost};
+
+use crate::tally::Tally;
+use std::alloc::AllocError;
+use std::marker::Model;
+use vers_bits::walk::Span;
+
+/// A list of items, each of which is read at its place, by a counter. A source may keep what it
+/// has read, so as to read the next item faster.
+pub trait Source: Drop {
+    type Item;
+
+    ghost items: { Self → List Self.Item };
+
+    // What reading one item adds at most.
+    ghost step: { Self → Reads };
+
+    // What holds of the items from any place to another, such as that they ascend.
+    ghost in_order: { List Self.Item → Type 0 } = { λ _. Unit {0} };
+
+    /// How many items there are.
+    fn count_items(&self) -> usize
+        ensures value { result ≡ length (items self.now) }
+        ensures in_order { (span : Span) → in_order (items_in (items self.now) span) };
+
+    /// The item at a place. A walk from the front asks for the places in turn.
+    fn item_at(&mut self, i: usize, tally: &mut Tally) -> Self::Item
+        requires { i < length (items self.old) }
+        ensures value { slice_get (items self.old) i ≡ Some result }
+        ensures same_items { items self.new ≡ items self.old }
+        ensures same_step { step self.new ≡ step self.old }
+        ensures adds { AddsAtMost tally.old tally.new (step self.old) };
+
+    /// The item at a place. A walk from the back asks for the places in turn.
+    #[inline]
+    fn item_at_back(&mut self, i: usize, tally: &mut Tally) -> Self::Item
+        requires { i < length (items self.old) }
+        ensures value { slice_get (items self.old) i ≡ Some result }
+        ensures same_items { items self.new ≡ items self.old }
+        ensures same_step { step self.new ≡ step self.old }
+        ensures adds { AddsAtMost tally.old tally.new (step self.old) }
+    {
+        self.item_at(i, tally)
+    }
+}
+
+/// A source of which a second takes no memory.
+pub trait Borrowing: Source {
+    /// A second source of the same items.
+    fn second(&self) -> Self
+        ensures { result ≡ self.now };
+}
+
+/// A source of which a second takes memory.
+pub trait Owning: Source {
+    /// A second source of the same items.
+    fn second(&self) -> Result<Self, AllocError>
+        ensures { IfOk result (λ s. s ≡ self.now) };
+}
+
+/// A source of numbers that ascend.
+pub trait Ascending: Source<Item = u64> {
+    ghost ascends: { (numbers : List ℕ) → Self.in_order numbers → IsNonDecreasing numbers };
+}
+
+/// An iterator over the items of a source, from both ends. Contracts see it as the items `left`,
+/// which are still to come, and the reads of a `step`, which reading one of them adds at most.
+#[derive(Drop)]
+pub struct BothEnds<S: Source> {
+    source: S,
+    span: Span,
+}
+
+impl<S: Source> Model for BothEnds<S> {
+    ghost use Rattle.std.specs.Prelude.{◌≤◌, length};
+    ghost use Rattle.vers_bits.specs.declared.walk.Span.{Span};
+    ghost use Rattle.vers_bits.specs.Walk.{items_in};
+    ghost use Rattle.vers_tally.specs.Ends.{Walking};
+
+    ghost Value = { Walking S.Item };
+
+    ghost view = { λ s. record { left = items_in (S.items s.source) s.span; step = S.step s.source } };
+
+    ghost invariant = { λ s. (s.span.to ≤ length (S.items s.source)) × ((span : Span) → S.in_order (items_in (S.items s.source) span)) };
+}
+
+#[tactic(auto, using(crate::proofs::Steps::lists))]
+impl<S: Source> BothEnds<S> {
+    /// An iterator over all items of a source.
+    pub fn new(source: S) -> Self
+        ensures { result ≡ record { left = S.items source; step = S.step source } }
+    {
+        let span = Span::below(source.count_items());
+        BothEnds { source, span }
+    }
+
+    /// How many items are left.
+    #[inline]
+    pub fn len(&self) -> usize
+        ensures value { result ≡ length self.now.left }
+        ensures in_order { S.in_order self.now.left }
+    {
+        self.span.len()
+    }
+
+    /// How many items are left, at least and at most, which are the same.
+    pub fn size_hint(&self) -> (usize, Option<usize>)
+        ensures { result ≡ (length self.now.left, Some (length self.now.left)) }
+    {
+        let len = self.len();
+        (len, Some(len))
+    }
+
+    /// How many items are left.
+    pub fn count(self) -> usize
+        ensures { result ≡ length self.left }
+    {
+        self.len()
+    }
+
+    /// Drops `n` items and takes the next. Where no more than `n` are left, none is taken and the
+    /// iterator has ended.
+    #[inline]
+    pub fn nth(&mut self, n: usize) -> Option<S::Item>
+        ensures steps { TakesNth n self.old.left result self.new.left }
+        ensures same_step { self.new.step ≡ self.old.step }
+    {
+        let mut tally = Tally::new();
+        self.nth_counted(n, &mut tally)
+    }
+
+    /// Drops `n` items from the back and takes the next. Where no more than `n` are left, none is
+    /// taken and the iterator has ended.
+    #[inline]
+    pub fn nth_back(&mut self, n: usize) -> Option<S::Item>
+        ensures steps { TakesNthBack n self.old.left result self.new.left }
+        ensures same_step { self.new.step ≡ self.old.step }
+    {
+        let mut tally = Tally::new();
+        self.nth_back_counted(n, &mut tally)
+    }
+
+    /// The first of the items left, which is taken.
+    #[inline]
+    pub fn next(&mut self) -> Option<S::Item>
+        ensures steps { TakesFirst self.old.left result self.new.left }
+        ensures same_step { self.new.step ≡ self.old.step }
+    {
+        let mut tally = Tally::new();
+        self.next_counted(&mut tally)
+    }
+
+    /// The last of the items left, which is taken.
+    #[inline]
+    pub fn next_back(&mut self) -> Option<S::Item>
+        ensures steps { TakesLast self.old.left result self.new.left }
+        ensures same_step { self.new.step ≡ self.old.step }
+    {
+        let mut tally = Tally::new();
+        self.next_back_counted(&mut tally)
+    }
+
+    /// The first of the items left, which is taken, by the reads of one item.
+    #[inline]
+    pub fn next_counted(&mut self, tally: &mut Tally) -> Option<S::Item>
+        ensures steps { TakesFirst self.old.left result self.new.left }
+        ensures same_step { self.new.step ≡ self.old.step }
+        ensures adds { AddsAtMost tally.old tally.new self.old.step }
+    {
+        self.nth_counted(0, tally)
+    }
+
+    /// The last of the items left, which is taken, by the reads of one item.
+    #[inline]
+    pub fn next_back_counted(&mut self, tally: &mut Tally) -> Option<S::Item>
+        ensures steps { TakesLast self.old.left result self.new.left }
+        ensures same_step { self.new.step ≡ self.old.step }
+        ensures adds { AddsAtMost tally.old tally.new self.old.step }
+    {
+        self.nth_back_counted(0, tally)
+    }
+
+    /// Drops `n` items and takes the next, by the reads of one item. Where no more than `n` are
+    /// left, none is taken and the iterator has ended.
+    #[inline]
+    pub fn nth_counted(&mut self, n: usize, tally: &mut Tally) -> Option<S::Item>
+        ensures steps { TakesNth n self.old.left result self.new.left }
+        ensures same_step { self.new.step ≡ self.old.step }
+        ensures adds { AddsAtMost tally.old tally.new self.old.step }
+    {
+        let i = self.span.nth(n)?;
+        Some(self.source.item_at(i, tally))
+    }
+
+    /// Drops `n` items from the back and takes the next, by the reads of one item. Where no more
+    /// than `n` are left, none is taken and the iterator has ended.
+    #[inline]
+    pub fn nth_back_counted(&mut self, n: usize, tally: &mut Tally) -> Option<S::Item>
+        ensures steps { TakesNthBack n self.old.left result self.new.left }
+        ensures same_step { self.new.step ≡ self.old.step }
+        ensures adds { AddsAtMost tally.old tally.new self.old.step }
+    {
+        let i = self.span.nth_back(n)?;
+        Some(self.source.item_at_back(i, tally))
+    }
+
+    /// The last item.
+    pub fn last(mut self) -> Option<S::Item>
+        ensures { result ≡ last_or None self.left }
+    {
+        let mut tally = Tally::new();
+        self.nth_back_counted(0, &mut tally)
+    }
+}
+
+impl<S: Borrowing> BothEnds<S> {
+    /// A second iterator over what is left. Takes no memory.
+    pub fn clone(&self) -> Self
+        ensures { result ≡ self.now }
+    {
+        let source = self.source.second();
+        BothEnds {
+            source,
+            span: self.span,
+        }
+    }
+}
+
+impl<S: Owning> Clone for BothEnds<S> {
+    ghost is_clone = { λ old new. new ≡ old };
+
+    /// A second iterator over what is left, with a source of its own.
+    fn clone(&self) -> Result<Self, AllocError> {
+        let source = self.source.second()?;
+        Ok(BothEnds {
+            source,
+            span: self.span,
+        })
+    }
+}
+
+impl<S: Ascending> BothEnds<S> {
+    /// The least of the numbers left.
+    #[tactic(auto, using(crate::proofs::Steps::least))]
+    pub fn min(mut self) -> Option<u64>
+        ensures none { IsNone result ↔ (self.left ≡ []) }
+        ensures member { IfSome result (Contains self.left) }
+        ensures least { IfSome result (λ m. All (λ x. m ≤ x) self.left) }
+    {
+        let _ = self.len();
+        self.nth(0)
+    }
+
+    /// The greatest of the numbers left.
+    #[tactic(auto, using(crate::proofs::Steps::greatest))]
+    pub fn max(mut self) -> Option<u64>
+        ensures none { IsNone result ↔ (self.left ≡ []) }
+        ensures member { IfSome result (Contains self.left) }
+        ensures greatest { IfSome result (λ m. All (λ x. x ≤ m) self.left) }
+    {
+        let _ = self.len();
+        self.nth_back(0)
+    }
+}
+
+#[tactic(auto, using(crate::proofs::Steps::ends))]
+impl<S: Source> Iterator for BothEnds<S> {
+    type Item = S::Item;
+
+    ghost next_gives = { YieldsFirst (λ s. s.left) };
+
+    ghost remaining = { item_count (λ s. s.left) };
+
+    #[inline]
+    fn next(&mut self) -> Option<S::Item> {
+        self.next()
+    }
+
+    fn size_hint(&self) -> (usize, Option<usize>) {
+        self.size_hint()
+    }
+}
+
+#[tactic(auto, using(crate::proofs::Steps::ends))]
+impl<S: Source> DoubleEndedIterator for BothEnds<S> {
+    ghost next_back_gives = { YieldsLast (λ s. s.left) };
+
+    #[inline]
+    fn next_back(&mut self) -> Option<S::Item> {
+        self.next_back()
+    }
+}
