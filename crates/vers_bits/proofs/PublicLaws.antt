@@ -1,8 +1,12 @@
 -- The laws that proofs of other crates may cite. A crate above imports this file and no other of this folder.
-use Rattle.std.proofs.Common.{◌≡◌, ℕ, ◌+◌, ◌-◌, ◌*◌, ◌%◌, ◌/◌, ◌^◌, ◌<◌, ◌≤◌, min, Bool, true, false, List, length, drop, get_or, Option, None, Some}
+use Rattle.std.proofs.Common.{◌≡◌, ℕ, ◌+◌, ◌-◌, ◌*◌, ◌%◌, ◌/◌, ◌^◌, ◌<◌, ◌≤◌, min, Bool, true, false, List, length, drop, get_or, slice_get, Option, None, Some}
 use Rattle.std.specs.Prelude.{count_ones}
+use Rattle.std.specs.Iterator.{YieldsFirst, YieldsLast, MakesProgress, item_count}
 use Rattle.std.specs.Int.{bit_at}
+use Rattle.std.specs.List.{last_or}
 use Rattle.vers_bits.specs.Bits.{bit_value, number, low_bits, is_bit, count, places, select, place_after, place_before, limb}
+use Rattle.vers_bits.specs.declared.walk.Span.{Span}
+use Rattle.vers_bits.specs.Walk.{TakesNth, TakesNthBack, TakesFirst, TakesLast, items_in}
 -- `IsPlace bit bits r p`: place p is number r of those that hold the bit
 pub use Rattle.vers_bits.proofs.Places.{IsPlace}
 use Rattle.vers_bits.proofs.Num as Num
@@ -10,6 +14,7 @@ use Rattle.vers_bits.proofs.LowBits as LowBits
 use Rattle.vers_bits.proofs.Count as Count
 use Rattle.vers_bits.proofs.Places as Places
 use Rattle.vers_bits.proofs.Neighbours as Neighbours
+use Rattle.vers_bits.proofs.BothEnds as BothEnds
 
 -- ---- counts
 
@@ -140,3 +145,48 @@ number-low_bits = LowBits.number-low_bits
 -- inside a list no default is taken
 pub any_default : {X : Type 0} (xs : List X) (i : ℕ) (d e : X) → i < length xs → get_or xs i d ≡ get_or xs i e
 any_default = Neighbours.any_default
+
+-- ---- iterators from both ends, over the items at the places of a span
+
+-- a span of all places has all items
+pub all_items : {X : Type 0} (xs : List X) (s : Span) → s.from ≡ 0 → s.to ≡ length xs → items_in xs s ≡ xs
+all_items = BothEnds.all_items
+
+-- it has as many items as places
+pub length-items_in : {X : Type 0} (xs : List X) (s : Span) → s.to ≤ length xs → length (items_in xs s) ≡ s.to - s.from
+length-items_in = BothEnds.length-items_in
+
+-- a span that dropped n places and gave the next took item n, and one that had no more than n places ended
+pub gave : {X : Type 0} (n : ℕ) (xs : List X) (s t : Span) {old : List X} {p : ℕ} {x : X} → items_in xs s ≡ old → s.to ≤ length xs
+    → (p ≡ s.from + n) × (p < s.to) × (t.from ≡ p + 1) × (t.to ≡ s.to) → slice_get xs p ≡ Some x → TakesNth n old (Some x) (items_in xs t)
+gave n xs s t view within some is = BothEnds.gave n xs s t view within some is
+
+pub ended : {X : Type 0} (n : ℕ) (xs : List X) (s t : Span) {old : List X} {r : Option X} → items_in xs s ≡ old → (s.to ≤ s.from + n) × (t.from ≡ s.to) × (t.to ≡ s.to)
+    → r ≡ None → TakesNth n old r (items_in xs t)
+ended n xs s t view none is = BothEnds.ended n xs s t view none is
+
+-- the same from the back
+pub gave_back : {X : Type 0} (n : ℕ) (xs : List X) (s t : Span) {old : List X} {p : ℕ} {x : X} → items_in xs s ≡ old → s.to ≤ length xs
+    → (p + n + 1 ≡ s.to) × (s.from ≤ p) × (t.from ≡ s.from) × (t.to ≡ p) → slice_get xs p ≡ Some x → TakesNthBack n old (Some x) (items_in xs t)
+gave_back n xs s t view within some is = BothEnds.gave_back n xs s t view within some is
+
+pub ended_back : {X : Type 0} (n : ℕ) (xs : List X) (s t : Span) {old : List X} {r : Option X} → items_in xs s ≡ old → (s.to ≤ s.from + n) × (t.from ≡ s.to) × (t.to ≡ s.to)
+    → r ≡ None → TakesNthBack n old r (items_in xs t)
+ended_back n xs s t view none is = BothEnds.ended_back n xs s t view none is
+
+-- what was taken first, or last, is what the traits of the standard library promise
+pub yields_first : {X : Type 0} (old : List X) (r : Option X) (new : List X) → TakesFirst old r new → YieldsFirst (λ (s : List X). s) old r new
+yields_first = BothEnds.yields_first
+
+pub yields_last : {X : Type 0} (old : List X) (r : Option X) (new : List X) → TakesLast old r new → YieldsLast (λ (s : List X). s) old r new
+yields_last = BothEnds.yields_last
+
+pub goes_first : {X : Type 0} (can : List X → Type 0) (old : List X) (r : Option X) (new : List X) → can new → TakesFirst old r new → MakesProgress can (item_count (λ s. s)) old r new
+goes_first = BothEnds.goes_first
+
+pub goes_last : {X : Type 0} (can : List X → Type 0) (old : List X) (r : Option X) (new : List X) → can new → TakesLast old r new → MakesProgress can (item_count (λ s. s)) old r new
+goes_last = BothEnds.goes_last
+
+-- what was taken last is the last item
+pub last_is : {X : Type 0} (old : List X) (r : Option X) (new : List X) → TakesLast old r new → r ≡ last_or None old
+last_is = BothEnds.last_is

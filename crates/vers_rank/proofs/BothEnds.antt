@@ -4,8 +4,7 @@ use Rattle.std.proofs.lemmas.List.{length-map}
 use Rattle.std.proofs.lemmas.Option.{slice_get-get_or, slice_get-map}
 use mir.Val.{bool_byte}
 use Rattle.vers_bits.specs.Bits.{bit_value, places, select}
-use Rattle.vers_bits.proofs.Places.{length-places}
-use Rattle.vers_bits.proofs.BothEnds.{last_is, yields_first, yields_last, goes_first, goes_last}
+use Rattle.vers_bits.proofs.PublicLaws.{length-places, last_is, yields_first, yields_last, goes_first, goes_last}
 use Rattle.vers_rank.proofs.Reading.{no_reading}
 
 -- a truth value as a number

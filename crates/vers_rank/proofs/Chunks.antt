@@ -4,10 +4,9 @@ use Rattle.std.proofs.lemmas.List.{drop_more, drop_all}
 use Rattle.std.specs.Bool.{beq}
 use Rattle.vers_bits.specs.Bits.{bit_value, number, part, is_bit, count, places, select}
 use Rattle.vers_bits.specs.Walk.{TakesFirst}
-use Rattle.vers_bits.proofs.Count.{count_past, count_none, count_le_all}
-use Rattle.vers_bits.proofs.Places.{length-places, select_at, count_more_yes, count_more_no}
+use Rattle.vers_bits.proofs.PublicLaws.{count_past, count_none, count_le_all, length-places, select_at, count_more_yes, count_more_no}
 use Rattle.vers_tally.specs.Reads.{Reads, AddsAtMost}
-use Rattle.vers_tally.proofs.Adding.{adds_then}
+use Rattle.vers_tally.proofs.PublicLaws.{adds_then}
 use Rattle.vers_rank.specs.declared.fast_rs_vec.bit_set_iter.ChunkWalk.{ChunkWalk}
 use Rattle.vers_rank.specs.Walks.{places_from, chunk_reads, IsChunkWalkOf}
 

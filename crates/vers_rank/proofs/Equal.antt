@@ -2,9 +2,7 @@
 use Rattle.std.proofs.Common.{◌≡◌, ℕ, ◌+◌, ◌<◌, Bool, true, false, List, length, get_or, refl, sym, ap, ◌∙◌, arith}
 use Rattle.std.proofs.lemmas.List.{same_lists}
 use Rattle.vers_bits.specs.Bits.{is_bit, count, select}
-use Rattle.vers_bits.proofs.Count.{count_le_all}
-use Rattle.vers_bits.proofs.Neighbours.{any_default}
-use Rattle.vers_bits.proofs.Places.{IsPlace, select_at, select_is_place, count_more_yes}
+use Rattle.vers_bits.proofs.PublicLaws.{count_le_all, any_default, IsPlace, select_at, select_is_place, count_more_yes}
 
 -- each place of l is one of m
 module _ (b : Bool) (l m : List Bool) (long : length l ≡ length m) (many : count b l (length l) ≡ count b m (length m))

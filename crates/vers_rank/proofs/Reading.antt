@@ -7,9 +7,7 @@ use Rattle.std.proofs.lemmas.List.{get_or-take, get_or-drop}
 use Rattle.std.proofs.lemmas.Nat.{and_le_l}
 use Rattle.std.proofs.lemmas.Nat.Bits.{bit_at-zero, bit_at-lt, bit_at_and, bit_at_not, bit_at-trailing_zeros, bit_at_clear_same, bit_at_clear_other, ones_shl, bit_at_mask_inside, bit_at_mask_below}
 use Rattle.vers_bits.specs.Bits.{bit_value, is_bit, count, limb, select}
-use Rattle.vers_bits.proofs.Num.{bit_at-number}
-use Rattle.vers_bits.proofs.Count.{count_up, count_none, count_le}
-use Rattle.vers_bits.proofs.Places.{select_at, count_at_select, select_not_below, select_holds, count_more_yes}
+use Rattle.vers_bits.proofs.PublicLaws.{bit_at-number, count_up, count_none, count_le, select_at, count_at_select, select_not_below, select_holds, count_more_yes}
 use Rattle.vers_rank.specs.declared.fast_rs_vec.reader.Reader.{Reader}
 use Rattle.vers_rank.specs.Walks.{IsFrom, IsReading, marked}
 

@@ -2,10 +2,9 @@
 use Rattle.std.proofs.Common.{◌≡◌, ℕ, ◌+◌, ◌-◌, ◌*◌, ◌/◌, ◌<◌, ◌≤◌, Bool, true, false, List, length, get_or, ap, ◌∙◌, refl, inl, inr, arith, min}
 use Rattle.std.proofs.lemmas.Bool.{cases_lt, cases_Bool}
 use Rattle.vers_bits.specs.Bits.{is_bit, count, limb, select}
-use Rattle.vers_bits.proofs.Count.{count_le_all, count_le, count_up, count_near, count_limb, count_limb_whole, count_both, count_past}
-use Rattle.vers_bits.proofs.Places.{select_at, select_past, count_at_select, count_more_yes, count_more_no}
+use Rattle.vers_bits.proofs.PublicLaws.{count_le_all, count_le, count_up, count_near, count_limb, count_limb_whole, count_both, count_past, select_at, select_past, count_at_select, count_more_yes, count_more_no}
 use Rattle.vers_tally.specs.Reads.{digits}
-use Rattle.vers_tally.proofs.Halves.{digits_up, digits_halved, digits-le}
+use Rattle.vers_tally.proofs.PublicLaws.{digits_up, digits_halved, digits-le}
 use Rattle.vers_rank.specs.Index.{held, held_in, IsSample, IsLimbWith}
 use Rattle.vers_rank.proofs.Words.{ones_few}
 

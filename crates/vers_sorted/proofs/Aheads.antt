@@ -10,8 +10,7 @@ use Rattle.std.proofs.lemmas.Grind.{same_number_lists}
 use Rattle.std.proofs.lemmas.List.{get_or_past, get_or_default, length-take, drop-take, drop-drop, map-id}
 use Rattle.std.proofs.lemmas.Nat.Bits.{bit_at-trailing_zeros}
 use Rattle.vers_bits.specs.Bits.{bit_value, number, count, places, select}
-use Rattle.vers_bits.proofs.Num.{bit_at-number, number-lt, number-drop}
-use Rattle.vers_bits.proofs.Places.{select_at, count_at_select, count_more_yes, length-places}
+use Rattle.vers_bits.proofs.PublicLaws.{bit_at-number, number-lt, number-drop, select_at, count_at_select, count_more_yes, length-places}
 use Rattle.vers_rank.specs.Queries.{part_number_or_zero}
 use Rattle.vers_sorted.specs.declared.elias_fano.ahead.Ahead.{Ahead}
 use Rattle.vers_sorted.specs.Layout.{high_parts, high_place}

@@ -5,10 +5,9 @@ use Rattle.std.specs.List.Sorted.{IsNonDecreasing}
 use Rattle.std.proofs.lemmas.Nat.{and_mask, one_shl}
 use Rattle.std.proofs.lemmas.Bool.{cases_lt}
 use Rattle.vers_bits.specs.Bits.{count, select}
-use Rattle.vers_bits.proofs.Count.{count_both, count_up}
-use Rattle.vers_bits.proofs.Places.{count_at_select, select_below, select_not_below}
+use Rattle.vers_bits.proofs.PublicLaws.{count_both, count_up, count_at_select, select_below, select_not_below}
 use Rattle.vers_tally.specs.Reads.{digits}
-use Rattle.vers_tally.proofs.Halves.{digits_halved, digits_up}
+use Rattle.vers_tally.proofs.PublicLaws.{digits_halved, digits_up}
 use Rattle.vers_sorted.specs.Sorted.{below}
 use Rattle.vers_sorted.specs.Layout.{first_of, last_of, low_width, high_of, low_of}
 use Rattle.vers_sorted.specs.Parts.{IsPacked, IsStart}

@@ -13,3 +13,4 @@ pub mod SparseBits
 pub mod BothEnds
 pub mod Scans
 pub mod Aheads
+pub mod PublicLaws

@@ -13,8 +13,7 @@ use Rattle.std.proofs.lemmas.List.Folds.{list_any-from_Any, Any-from_list_any, l
 use Rattle.std.proofs.lemmas.List.Sorted.{IsNonDecreasingBy-from_default}
 use Rattle.std.proofs.lemmas.List.{get_or_default}
 use Rattle.vers_bits.specs.Bits.{is_bit, count, places, select}
-use Rattle.vers_bits.proofs.Count.{count_none, count_up}
-use Rattle.vers_bits.proofs.Places.{count_more_yes, count_more_no, select_at, length-places, select_is_place, select_up, IsPlace}
+use Rattle.vers_bits.proofs.PublicLaws.{count_none, count_up, count_more_yes, count_more_no, select_at, length-places, select_is_place, select_up, IsPlace}
 use Rattle.vers_sorted.specs.Sorted.{below}
 use Rattle.vers_sorted.specs.Ones.{ones_at}
 use Rattle.vers_sorted.proofs.Below.{below_le, below_from, below_to}

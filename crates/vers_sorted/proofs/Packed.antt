@@ -7,7 +7,7 @@ use Rattle.std.proofs.lemmas.Nat.{or_shifted}
 use Rattle.std.proofs.lemmas.Option.{slice_get-get_or, slice_get_past}
 use Rattle.std.proofs.lemmas.List.FromFn.{length-map-range_with_len}
 use Rattle.vers_bits.specs.Bits.{select, number, limb_count}
-use Rattle.vers_bits.proofs.Count.{count_both}
+use Rattle.vers_bits.proofs.PublicLaws.{count_both}
 use Rattle.vers_rank.specs.Queries.{index_size}
 use Rattle.vers_sorted.specs.Layout.{first_of, last_of, low_width, high_of, low_of, high_length, high_parts, low_parts, heap_size_of}
 use Rattle.vers_sorted.specs.Parts.{member, members, HoldHigh, IsPacked}

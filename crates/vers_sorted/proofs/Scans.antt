@@ -8,9 +8,7 @@ use Rattle.std.proofs.lemmas.Option.{cond_some}
 use Rattle.std.proofs.lemmas.List.{get_or-take, get_or-drop}
 use Rattle.std.proofs.lemmas.Nat.Bits.{bit_at-trailing_ones}
 use Rattle.vers_bits.specs.Bits.{bit_value, is_bit, number, count, select}
-use Rattle.vers_bits.proofs.Count.{count_le}
-use Rattle.vers_bits.proofs.Num.{bit_at-number}
-use Rattle.vers_bits.proofs.Places.{select_at, count_at_select, count_more_no}
+use Rattle.vers_bits.proofs.PublicLaws.{count_le, bit_at-number, select_at, count_at_select, count_more_no}
 use Rattle.vers_rank.specs.Queries.{part_number_or_zero}
 
 -- a bit of the part from p on, by the part's number

@@ -6,8 +6,7 @@ use Rattle.std.proofs.lemmas.Bool.{cases_lt, cases_eq, eq-eqb, ne_eqb}
 use Rattle.std.proofs.lemmas.List.{get_or_default, map-id, take_more, take_all}
 use Rattle.std.proofs.lemmas.Option.{slice_get-get_or, slice_get_past, slice_get_within, get_or_from_slice_get}
 use Rattle.vers_bits.specs.Bits.{is_bit, count, places, select, limb}
-use Rattle.vers_bits.proofs.Count.{count_none, count_both, count_past, count_up, count_limb_whole}
-use Rattle.vers_bits.proofs.Places.{select_at, select_past, length-places, count_more_yes, count_more_no}
+use Rattle.vers_bits.proofs.PublicLaws.{count_none, count_both, count_past, count_up, count_limb_whole, select_at, select_past, length-places, count_more_yes, count_more_no}
 use Rattle.vers_sorted.specs.Sorted.{below, least_not_below}
 use Rattle.vers_sorted.specs.Ones.{ones_at, AreSparse, ones_without}
 use Rattle.vers_sorted.proofs.Below.{below_le, below_from, below_to}

@@ -6,7 +6,7 @@ use Rattle.std.proofs.Math.Nat.{pow-suc, pow-le-pow_right}
 use Rattle.std.proofs.lemmas.Bool.{cases_lt}
 use Rattle.std.proofs.lemmas.Nat.{leading_length, pow_pos, pow-add}
 use Rattle.vers_tally.specs.Reads.{digits}
-use Rattle.vers_tally.proofs.Halves.{digits_half, digits-le, digits_up}
+use Rattle.vers_tally.proofs.PublicLaws.{digits_half, digits-le, digits_up}
 use Rattle.vers_sorted.specs.Layout.{clog, width}
 
 digits_is : (m n : ℕ) → n < 2 ^ m → 2 ^ m ≤ 2 * n + 1 → digits n ≡ m

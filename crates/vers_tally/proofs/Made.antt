@@ -8,7 +8,7 @@ use Rattle.std.proofs.lemmas.List.{length-drop, length-take, length-reverse}
 use Rattle.std.proofs.lemmas.Option.{slice_get_past}
 use Rattle.vers_bits.specs.declared.walk.Span.{Span}
 use Rattle.vers_bits.specs.Walk.{TakesNth, TakesNthBack, items_in}
-use Rattle.vers_bits.proofs.BothEnds.{all_items, gave, gave_back, ended, ended_back, length-items_in, last_is}
+use Rattle.vers_bits.proofs.PublicLaws.{all_items, gave, gave_back, ended, ended_back, length-items_in, last_is}
 use Rattle.vers_tally.specs.Ends.{MakesNth, MakesNthBack, MayRefuse}
 
 -- the item at a place

@@ -5,7 +5,7 @@ use Rattle.std.specs.List.{Contains}
 use Rattle.std.specs.List.Sorted.{IsNonDecreasing}
 use Rattle.std.proofs.lemmas.List.{get_or-reverse, length-reverse}
 use Rattle.std.proofs.lemmas.Option.{slice_get-get_or, slice_get_within, get_or_from_slice_get}
-use Rattle.vers_bits.proofs.BothEnds.{all_items, length-items_in, last_is, yields_first, yields_last, goes_first, goes_last}
+use Rattle.vers_bits.proofs.PublicLaws.{all_items, length-items_in, last_is, yields_first, yields_last, goes_first, goes_last}
 
 -- ---- the first of ascending numbers is the least, and the last the greatest
 

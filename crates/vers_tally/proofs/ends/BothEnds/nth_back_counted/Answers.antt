@@ -1,5 +1,5 @@
 use Rattle.std.proofs.Common.{ap}
-use Rattle.vers_bits.proofs.BothEnds.{ended_back, gave_back}
+use Rattle.vers_bits.proofs.PublicLaws.{ended_back, gave_back}
 use Rattle.vers_tally.specs.Ends.{Walking}
 use Rattle.vers_tally.proofs.ends.BothEnds.nth_back_counted.Goals as goal
 

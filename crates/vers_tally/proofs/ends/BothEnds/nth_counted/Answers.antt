@@ -1,5 +1,5 @@
 use Rattle.std.proofs.Common.{ap}
-use Rattle.vers_bits.proofs.BothEnds.{ended, gave}
+use Rattle.vers_bits.proofs.PublicLaws.{ended, gave}
 use Rattle.vers_tally.specs.Ends.{Walking}
 use Rattle.vers_tally.proofs.ends.BothEnds.nth_counted.Goals as goal
 

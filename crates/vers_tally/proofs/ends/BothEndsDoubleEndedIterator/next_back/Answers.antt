@@ -1,4 +1,4 @@
-use Rattle.vers_bits.proofs.BothEnds.{yields_last}
+use Rattle.vers_bits.proofs.PublicLaws.{yields_last}
 use Rattle.vers_tally.proofs.ends.BothEndsDoubleEndedIterator.next_back.Goals as goal
 
 pub returns-clause-steps : goal.returns-clause-steps

@@ -1,0 +1,45 @@
+-- The laws that proofs of other crates may cite. A crate above imports this file and no other of this folder.
+use Rattle.std.proofs.Common.{◌≡◌, ℕ, ◌+◌, ◌-◌, ◌<◌, ◌≤◌, Bool, List, length, slice_get, None}
+use Rattle.std.specs.Prelude.{slice_index, map}
+use Rattle.std.specs.List.Sorted.{IsNonDecreasing}
+use Rattle.vers_bits.specs.Bits.{is_bit, places}
+use Rattle.vers_sorted.specs.Ones.{ones_at}
+use Rattle.vers_sorted.specs.Sorted.{below, greatest_not_above, least_not_below}
+use Rattle.vers_sorted.proofs.Below as Below
+use Rattle.vers_sorted.proofs.Neighbours as Neighbours
+use Rattle.vers_sorted.proofs.Ones as Ones
+
+-- ---- members below a number
+
+-- no more members are below a number than there are, and no fewer below a greater number
+pub below_le : (members : List ℕ) (v : ℕ) → below members v ≤ length members
+below_le = Below.below_le
+
+pub below_up : (members : List ℕ) (v w : ℕ) → v ≤ w → below members v ≤ below members w
+below_up = Below.below_up
+
+-- of an ascending list, the members before place `below members v` are below v, and those from it on are not
+pub below_before : (members : List ℕ) (v i : ℕ) → IsNonDecreasing members → i < below members v → slice_index members i < v
+below_before = Neighbours.below_before
+
+pub below_after : (members : List ℕ) (v i : ℕ) → IsNonDecreasing members → below members v ≤ i → i < length members → v ≤ slice_index members i
+below_after = Neighbours.below_after
+
+-- ---- neighbours of a number
+
+-- the least member that is not below v stands at place `below members v`, or there is none
+pub least_not_below_is : (members : List ℕ) (v : ℕ) → IsNonDecreasing members → least_not_below members v ≡ slice_get members (below members v)
+least_not_below_is = Neighbours.succ_is
+
+-- the greatest member that is not above v is the last one below v + 1, where there is one
+pub greatest_not_above_some : (members : List ℕ) (v : ℕ) → IsNonDecreasing members → 0 < below members (v + 1) → greatest_not_above members v ≡ slice_get members (below members (v + 1) - 1)
+greatest_not_above_some = Neighbours.pred_some
+
+pub greatest_not_above_none : (members : List ℕ) (v : ℕ) → IsNonDecreasing members → below members (v + 1) ≡ 0 → greatest_not_above members v ≡ None
+greatest_not_above_none = Neighbours.pred_none
+
+-- ---- bits by their places
+
+-- the list whose ones stand at the places of a bit has a one wherever a list holds this bit
+pub ones_at-places : (bit : Bool) (bits : List Bool) → ones_at (places bit bits) (length bits) ≡ map (is_bit bit) bits
+ones_at-places = Ones.ones_at-places
