@@ -1,16 +1,16 @@
 -- Numbers, found from the front of their digits.
-use Rattle.std.proofs.Common.{◌≡◌, ◌==◌, ◌+◌, ◌*◌, ◌-◌, ◌^◌, ◌<◌, ◌≤◌, ℕ, Bool, true, false, List, [], ◌∷◌, zero, suc, map, length, take, get_or, Option, Some, None, refl, arith}
+use Rattle.std.proofs.Common.{◌≡◌, ◌==◌, ◌+◌, ◌*◌, ◌-◌, ◌^◌, ◌<◌, ◌≤◌, ℕ, Bool, true, false, List, [], ◌∷◌, ◌++◌, append_assoc, sym, ap, inl, inr, map, length, take, get_or, Option, Some, None, refl, arith}
 use Rattle.std.proofs.Math.Bool.{◌&&◌}
 use Rattle.std.specs.List.{list_all}
 use Rattle.std.specs.Char.{is_ascii_digit, digit_value}
 use Rattle.std.specs.Str.Parse.{digits_value}
-use Rattle.std.proofs.lemmas.Bool.{lt-ltb, le-ltb}
+use Rattle.std.proofs.lemmas.Bool.{lt-ltb, le-ltb, eqb-true, or_cases, and_parts}
 use Rattle.std.proofs.lemmas.Bool.Decides.{nat_tests}
 use Rattle.std.proofs.lemmas.Int.Digits.{digits_value_more}
 use Rattle.std.proofs.lemmas.Str.Parse.{digits_value-take-le}
-use Rattle.std.specs.Prelude.{option_and_then}
+use Rattle.std.specs.Prelude.{option_map, ◌%◌}
 use Rattle.vers_cli.specs.Text.{number_of}
-use Rattle.vers_cli.specs.Arguments.{all_numbers}
+use Rattle.vers_cli.specs.Arguments.{is_bit_digit, bits_of_digits}
 
 -- the value of a decimal digit is its distance from the digit 0
 pub digit_value-decimal : (b : ℕ) → is_ascii_digit b ≡ true → digit_value b ≡ b - 48
@@ -48,22 +48,28 @@ pub number_of-small : (w : List ℕ) → (length w == 0) ≡ false → list_all 
 unfolding number_of
 number_of-small w e a h = rw (lt-ltb (digits_value 10 w) (2 ^ 64) h, a, e) refl
 
--- words that each write a number
-pub all_numbers-each : (words : List (List ℕ)) (ns : List ℕ) → map number_of words ≡ map Some ns → all_numbers words ≡ Some ns
-all_numbers-each [] [] h = refl
-all_numbers-each [] (n ∷ ns) h = cc
-all_numbers-each (w ∷ words) [] h = cc
-all_numbers-each (w ∷ words) (n ∷ ns) h =
-    let first : number_of w ≡ Some n = cc in
-    let others : map number_of words ≡ map Some ns = cc in
-    rw (first, all_numbers-each words ns others) refl
+-- numbers, and then those of further words
+abbrev pub numbers_then : List ℕ → Option (List ℕ) → Option (List ℕ)
+numbers_then numbers others = option_map (λ more. numbers ++ more) others
 
-none_after : (o : Option ℕ) → ◌≡◌ {A = Option (List ℕ)} (option_and_then (λ n. None) o) None
-none_after None = refl
-none_after (Some n) = refl
+pub numbers_then-none : (others : Option (List ℕ)) → numbers_then [] others ≡ others
+numbers_then-none None = refl
+numbers_then-none (Some more) = refl
 
--- one of the words writes none
-pub all_numbers-none : (words : List (List ℕ)) (i : ℕ) → i < length words → number_of (get_or words i []) ≡ None → all_numbers words ≡ None
-all_numbers-none [] i l h = absurd (omega arith)
-all_numbers-none (w ∷ words) zero l h = rw h refl
-all_numbers-none (w ∷ words) (suc i) l h = rw (all_numbers-none words i (omega arith) h) (none_after (number_of w))
+pub numbers_then-push : (numbers : List ℕ) (n : ℕ) (others : Option (List ℕ)) → numbers_then numbers (option_map (λ more. n ∷ more) others) ≡ numbers_then (numbers ++ n ∷ []) others
+numbers_then-push numbers n None = refl
+numbers_then-push numbers n (Some more) = ap Some (sym (append_assoc numbers (n ∷ []) more))
+
+-- the digits 0 and 1 are even and odd
+odd_digit : (b : ℕ) → is_bit_digit b ≡ true → (b % 2 == 1) ≡ (b == 49)
+odd_digit b h =
+    elim (or_cases (b == 48) (b == 49) h) [
+      | inl e ↦ let at : b ≡ 48 = eqb-true b 48 e in rw at refl
+      | inr e ↦ let at : b ≡ 49 = eqb-true b 49 e in rw at refl
+    ]
+
+pub odd_digits : (digits : List ℕ) → list_all is_bit_digit digits ≡ true → map (λ n. n % 2 == 1) digits ≡ bits_of_digits digits
+odd_digits [] h = refl
+odd_digits (b ∷ digits) h =
+    let p = and_parts (is_bit_digit b) (list_all is_bit_digit digits) h in
+    rw (odd_digit b p.0, odd_digits digits p.1) refl

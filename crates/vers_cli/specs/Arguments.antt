@@ -1,12 +1,7 @@
 -- The arguments of a line: its words after the first. None where they are malformed.
 use Rattle.std.specs.Prelude.{ℕ, Bool, true, ◌||◌, ◌&&◌, ◌==◌, List, [], ◌∷◌, map, Option, Some, None, option_map, option_and_then, if◌then◌else◌}
-use Rattle.std.specs.Borrow.{Bor}
 use Rattle.std.specs.List.{list_all}
 use Rattle.vers_cli.specs.Text.{number_of}
-
--- the words that these references point to
-abbrev pub texts : List (Bor (List ℕ)) → List (List ℕ)
-texts words = map (λ word. word.now) words
 
 -- no argument
 abbrev pub no_arguments : List (List ℕ) → Option (Unit {0})

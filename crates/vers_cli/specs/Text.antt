@@ -33,9 +33,13 @@ last_part text = last_or [] (slice_split (λ byte. byte == 10) text)
 abbrev pub lines_of : List ℕ → List (List ℕ)
 lines_of text = whole_lines text ++ filter has_bytes (last_part text ∷ [])
 
--- the words of a line: the longest runs of bytes other than 32, without one byte 13 at its end
+-- the words of a text: its longest runs of bytes other than 32
+abbrev pub words_in : List ℕ → List (List ℕ)
+words_in text = filter has_bytes (slice_split (λ byte. byte == 32) text)
+
+-- the words of a line, without one byte 13 at its end
 abbrev pub words_of : List ℕ → List (List ℕ)
-words_of line = filter has_bytes (slice_split (λ byte. byte == 32) (strip_last 13 line))
+words_of line = words_in (strip_last 13 line)
 
 -- the number that a word writes: one or more decimal digits, of a value that 64 bits hold
 unfoldable pub number_of : List ℕ → Option ℕ

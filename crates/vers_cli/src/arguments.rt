@@ -1,53 +1,64 @@
-//! The arguments of a line. Each function answers None where they are malformed.
-ghost use Rattle.std.specs.Prelude.{◌≡◌, option_map, IfOk};
+//! The arguments of a line, which are the words of what stands after its first one. Each function
+//! answers None where they are malformed.
+ghost use Rattle.std.specs.Prelude.{◌≡◌, true, option_map, IfOk, IfSome};
 ghost use Rattle.std.specs.List.{list_all};
-ghost use Rattle.vers_cli.specs.Arguments.{no_arguments as none_of, one_number as number_alone, all_numbers as numbers_all, texts, is_bit_digit, bits_of_digits, bits_of};
+ghost use Rattle.vers_cli.specs.Text.{words_in};
+ghost use Rattle.vers_cli.specs.Arguments.{no_arguments as none_of, one_number as number_alone, all_numbers as numbers_all, is_bit_digit, bits_of_digits, bits_of};
 
-use crate::text;
+use crate::text::{number, split_first_word};
 use std::alloc::{AllocError, Allocator};
 
 /// No argument.
-pub fn no_arguments(arguments: &[&[u8]]) -> Option<()>
-    ensures { result ≡ none_of (texts arguments.now) }
+pub fn no_arguments(arguments: &[u8]) -> Option<()>
+    ensures { result ≡ none_of (words_in arguments.now) }
 {
-    if arguments.is_empty() { Some(()) } else { None }
+    match split_first_word(arguments) {
+        None => Some(()),
+        Some(_) => None,
+    }
 }
 
 /// One number.
-pub fn one_number(arguments: &[&[u8]]) -> Option<u64>
-    ensures { result ≡ number_alone (texts arguments.now) }
+pub fn one_number(arguments: &[u8]) -> Option<u64>
+    ensures { result ≡ number_alone (words_in arguments.now) }
 {
-    match arguments {
-        [word] => text::number(*word),
-        _ => None,
-    }
+    let (word, others) = split_first_word(arguments)?;
+    no_arguments(others)?;
+    number(word)
 }
 
 /// Any number of numbers.
 pub fn all_numbers<A: Allocator + Copy>(
     alloc: A,
-    arguments: &[&[u8]],
+    arguments: &[u8],
 ) -> Result<Option<Vec<u64, A>>, AllocError>
-    ensures { IfOk result (λ found. option_map (λ numbers. numbers.items) found ≡ numbers_all (texts arguments.now)) }
+    ensures { IfOk result (λ found. option_map (λ numbers. numbers.items) found ≡ numbers_all (words_in arguments.now)) }
 {
     let mut numbers = Vec::new(alloc);
-    for word in arguments {
-        let Some(number) = text::number(*word) else {
+    let mut rest = arguments;
+    while let Some((word, others)) = split_first_word(rest) {
+        let Some(value) = number(word) else {
             return Ok(None);
         };
-        numbers.push(number)?;
+        numbers.push(value)?;
+        rest = others;
     }
     Ok(Some(numbers))
 }
 
 /// One word of the digits 0 and 1, or no word for the empty list.
-pub fn bit_digits<'a>(arguments: &[&'a [u8]]) -> Option<&'a [u8]>
-    ensures { option_map (λ digits. bits_of_digits digits.now) result ≡ bits_of (texts arguments.now) }
+pub fn bit_digits(arguments: &[u8]) -> Option<&[u8]>
+    ensures bits { option_map (λ digits. bits_of_digits digits.now) result ≡ bits_of (words_in arguments.now) }
+    ensures digits { IfSome result (λ digits. list_all is_bit_digit digits.now ≡ true) }
 {
-    match arguments {
-        [] => Some(b""),
-        [word] if are_bit_digits(*word) => Some(*word),
-        _ => None,
+    let Some((word, others)) = split_first_word(arguments) else {
+        return Some(b"");
+    };
+    no_arguments(others)?;
+    if are_bit_digits(word) {
+        Some(word)
+    } else {
+        None
     }
 }
 

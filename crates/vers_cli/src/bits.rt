@@ -1,6 +1,8 @@
 //! The lines of a list of bits.
-ghost use Rattle.std.specs.Prelude.{◌≡◌, ◌≤◌, length, IfOk};
-ghost use Rattle.vers_cli.specs.Arguments.{texts, bits_of, bits_of_digits};
+ghost use Rattle.std.specs.Prelude.{◌≡◌, ◌≤◌, true, length, IfOk};
+ghost use Rattle.std.specs.List.{list_all};
+ghost use Rattle.vers_cli.specs.Text.{words_in};
+ghost use Rattle.vers_cli.specs.Arguments.{is_bit_digit, bits_of, bits_of_digits};
 ghost use Rattle.vers_cli.specs.BitsLines.{bits_loaded, bits_reply};
 ghost use Rattle.vers_cli.specs.Held.{loaded_of};
 ghost use Rattle.vers_cli.specs.Reply.{plain_reply};
@@ -14,8 +16,8 @@ use vers_bits::bit_vec::{BitVec, MAX_LEN};
 use vers_rank::fast_rs_vec::RsVec;
 
 /// What the load line `bits S` gives.
-pub fn load<A: Allocator + Copy>(alloc: A, arguments: &[&[u8]]) -> Result<Loading<A>, AllocError>
-    ensures { IfOk result (λ loading. loaded_of loading ≡ bits_loaded (bits_of (texts arguments.now))) }
+pub fn load<A: Allocator + Copy>(alloc: A, arguments: &[u8]) -> Result<Loading<A>, AllocError>
+    ensures { IfOk result (λ loading. loaded_of loading ≡ bits_loaded (bits_of (words_in arguments.now))) }
 {
     let Some(digits) = bit_digits(arguments) else {
         return Ok(Loading::Malformed);
@@ -29,22 +31,17 @@ pub fn load<A: Allocator + Copy>(alloc: A, arguments: &[&[u8]]) -> Result<Loadin
 
 /// The list that digits 0 and 1 write.
 pub fn bit_vec<A: Allocator + Copy>(alloc: A, digits: &[u8]) -> Result<BitVec<A>, AllocError>
-    requires { length digits.now ≤ MAX_LEN }
+    requires short { length digits.now ≤ MAX_LEN }
+    requires digits { list_all is_bit_digit digits.now ≡ true }
     ensures { IfOk result (λ bits. bits ≡ bits_of_digits digits.now) }
 {
-    let mut bits = BitVec::new(alloc);
-    for digit in digits {
-        // The list is never too long, so an error is want of memory.
-        if bits.append(*digit == b'1').is_err() {
-            return Err(AllocError);
-        }
-    }
-    Ok(bits)
+    // The digit 1 is odd and 0 is even. The list is never too long, so an error is of memory.
+    BitVec::from_bits(alloc, digits).map_err(|_| AllocError)
 }
 
 /// The reply of a query line, where these bits are held.
-pub fn reply<A: Allocator + Copy>(bits: &RsVec<A>, query: Query, arguments: &[&[u8]]) -> Reply<A>
-    ensures { plain_reply result ≡ bits_reply bits.now query (texts arguments.now) }
+pub fn reply<A: Allocator + Copy>(bits: &RsVec<A>, query: Query, arguments: &[u8]) -> Reply<A>
+    ensures { plain_reply result ≡ bits_reply bits.now query (words_in arguments.now) }
 {
     match query {
         Query::Len => no_arguments(arguments).map_or(

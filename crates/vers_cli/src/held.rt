@@ -1,6 +1,6 @@
 //! What is held between lines.
 ghost use Rattle.std.specs.Prelude.{◌≡◌, IfOk};
-ghost use Rattle.vers_cli.specs.Arguments.{texts};
+ghost use Rattle.vers_cli.specs.Text.{words_in};
 ghost use Rattle.vers_cli.specs.Holding.{length_of};
 ghost use Rattle.vers_cli.specs.Rules.{loaded, IsQueryReply};
 ghost use Rattle.vers_cli.specs.Held.{loaded_of};
@@ -37,9 +37,9 @@ pub enum Loading<A: Allocator + Copy> {
 pub fn load<A: Allocator + Copy>(
     alloc: A,
     load: Load,
-    arguments: &[&[u8]],
+    arguments: &[u8],
 ) -> Result<Loading<A>, AllocError>
-    ensures { IfOk result (λ loading. loaded_of loading ≡ loaded load (texts arguments.now)) }
+    ensures { IfOk result (λ loading. loaded_of loading ≡ loaded load (words_in arguments.now)) }
 {
     match load {
         Load::Bits => bits::load(alloc, arguments),
@@ -65,8 +65,8 @@ impl<A: Allocator + Copy> Held<A> {
     }
 
     /// The reply of a query line.
-    pub fn reply(&self, alloc: A, query: Query, arguments: &[&[u8]]) -> Result<Reply<A>, AllocError>
-        ensures { IfOk result (λ reply. IsQueryReply (holding_of self.now) query (texts arguments.now) (plain_reply reply)) }
+    pub fn reply(&self, alloc: A, query: Query, arguments: &[u8]) -> Result<Reply<A>, AllocError>
+        ensures { IfOk result (λ reply. IsQueryReply (holding_of self.now) query (words_in arguments.now) (plain_reply reply)) }
     {
         match self {
             Held::Nothing => Ok(Reply::WrongStructure),

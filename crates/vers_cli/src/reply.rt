@@ -1,5 +1,5 @@
 //! What a line is answered by.
-ghost use Rattle.std.specs.Prelude.{◌≡◌, ◌++◌, ◌∷◌, decimal, OnOk};
+ghost use Rattle.std.specs.Prelude.{◌≡◌, ◌++◌, ◌∷◌, length, take, decimal, OnOk, OnErr};
 ghost use Rattle.vers_cli.specs.Reply.{numbers_text};
 
 use std::alloc::{AllocError, Allocator};
@@ -34,47 +34,55 @@ impl<A: Allocator + Copy> Reply<A> {
         }
     }
 
-    /// Appends the text of the reply.
-    pub fn append_to(self, alloc: A, line: &mut Vec<u8, A>) -> Result<(), AllocError>
-        ensures { OnOk result (line.new.items ≡ line.old.items ++ reply_text (plain_reply self)) }
+    /// Appends the text of the reply. Where memory is refused a part of it may stand appended.
+    pub fn append_to(self, line: &mut Vec<u8, A>) -> Result<(), AllocError>
+        ensures text { OnOk result (line.new.items ≡ line.old.items ++ reply_text (plain_reply self)) }
+        ensures kept { take (length line.old.items) line.new.items ≡ line.old.items }
     {
         match self {
             Reply::BadLine => line.extend_from_slice(b"bad line"),
             Reply::WrongStructure => line.extend_from_slice(b"wrong structure"),
             Reply::Refused => line.extend_from_slice(b"refused"),
-            Reply::Number(n) => append_number(alloc, n, line),
+            Reply::Number(n) => append_number(n, line),
             Reply::Absent => line.extend_from_slice(b"none"),
-            Reply::Numbers(numbers) => append_numbers(alloc, numbers.as_slice(), line),
+            Reply::Numbers(numbers) => append_numbers(numbers.as_slice(), line),
         }
     }
 }
 
-// Appends a number as a decimal.
-fn append_number<A: Allocator + Copy>(
-    alloc: A,
-    number: u64,
-    line: &mut Vec<u8, A>,
-) -> Result<(), AllocError>
-    ensures { OnOk result (line.new.items ≡ line.old.items ++ decimal number) }
+// How many digits a number has at most.
+const MAX_DIGITS: usize = 20;
+
+// Appends a number as a decimal, or nothing.
+fn append_number<A: Allocator>(number: u64, line: &mut Vec<u8, A>) -> Result<(), AllocError>
+    ensures text { OnOk result (line.new.items ≡ line.old.items ++ decimal number) }
+    ensures kept { OnErr result (line.new.items ≡ line.old.items) }
 {
-    line.extend_from_slice(number.to_string(alloc)?.as_bytes())
+    let mut digits = [0u8; MAX_DIGITS];
+    let mut start = MAX_DIGITS;
+    let mut rest = number;
+    while rest >= 10 {
+        start -= 1;
+        digits[start] = b'0' + (rest % 10) as u8;
+        rest /= 10;
+    }
+    start -= 1;
+    digits[start] = b'0' + rest as u8;
+    line.extend_from_slice(&digits[start..])
 }
 
-// Appends numbers with one space between them.
-fn append_numbers<A: Allocator + Copy>(
-    alloc: A,
-    numbers: &[u64],
-    line: &mut Vec<u8, A>,
-) -> Result<(), AllocError>
-    ensures { OnOk result (line.new.items ≡ line.old.items ++ numbers_text numbers.now) }
+// Appends numbers with one space between them. Where memory is refused a part may stand appended.
+fn append_numbers<A: Allocator>(numbers: &[u64], line: &mut Vec<u8, A>) -> Result<(), AllocError>
+    ensures text { OnOk result (line.new.items ≡ line.old.items ++ numbers_text numbers.now) }
+    ensures kept { take (length line.old.items) line.new.items ≡ line.old.items }
 {
     let Some((first, others)) = numbers.split_first() else {
         return Ok(());
     };
-    append_number(alloc, *first, line)?;
+    append_number(*first, line)?;
     for number in others {
         line.push(b' ')?;
-        append_number(alloc, *number, line)?;
+        append_number(*number, line)?;
     }
     Ok(())
 }

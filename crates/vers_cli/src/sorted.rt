@@ -1,6 +1,7 @@
 //! The lines of an ascending list.
 ghost use Rattle.std.specs.Prelude.{◌≡◌, nat_le, IfOk};
-ghost use Rattle.vers_cli.specs.Arguments.{texts, each_next, all_numbers as numbers_all};
+ghost use Rattle.vers_cli.specs.Text.{words_in};
+ghost use Rattle.vers_cli.specs.Arguments.{each_next, all_numbers as numbers_all};
 ghost use Rattle.vers_cli.specs.SortedLines.{sorted_loaded, sorted_reply};
 ghost use Rattle.vers_cli.specs.Held.{loaded_of};
 ghost use Rattle.vers_cli.specs.Reply.{plain_reply};
@@ -13,8 +14,8 @@ use std::alloc::{AllocError, Allocator};
 use vers_sorted::elias_fano::{EliasFanoRefIter, EliasFanoVec};
 
 /// What the load line `sorted n ..` gives.
-pub fn load<A: Allocator + Copy>(alloc: A, arguments: &[&[u8]]) -> Result<Loading<A>, AllocError>
-    ensures { IfOk result (λ loading. loaded_of loading ≡ sorted_loaded (numbers_all (texts arguments.now))) }
+pub fn load<A: Allocator + Copy>(alloc: A, arguments: &[u8]) -> Result<Loading<A>, AllocError>
+    ensures { IfOk result (λ loading. loaded_of loading ≡ sorted_loaded (numbers_all (words_in arguments.now))) }
 {
     let Some(numbers) = all_numbers(alloc, arguments)? else {
         return Ok(Loading::Malformed);
@@ -38,9 +39,9 @@ pub fn reply<A: Allocator + Copy>(
     alloc: A,
     members: &EliasFanoVec<A>,
     query: Query,
-    arguments: &[&[u8]],
+    arguments: &[u8],
 ) -> Result<Reply<A>, AllocError>
-    ensures { IfOk result (λ reply. plain_reply reply ≡ sorted_reply members.now query (texts arguments.now)) }
+    ensures { IfOk result (λ reply. plain_reply reply ≡ sorted_reply members.now query (words_in arguments.now)) }
 {
     match query {
         Query::Len => Ok(no_arguments(arguments).map_or(

@@ -1,7 +1,8 @@
 //! The lines of a sparse list of bits.
 ghost use Rattle.std.specs.Prelude.{◌≡◌, ◌&&◌, nat_lt, IfOk};
 ghost use Rattle.std.specs.List.{list_all};
-ghost use Rattle.vers_cli.specs.Arguments.{texts, each_next, all_numbers as numbers_all};
+ghost use Rattle.vers_cli.specs.Text.{words_in};
+ghost use Rattle.vers_cli.specs.Arguments.{each_next, all_numbers as numbers_all};
 ghost use Rattle.vers_cli.specs.SparseLines.{sparse_loaded, sparse_reply};
 ghost use Rattle.vers_cli.specs.Held.{loaded_of};
 ghost use Rattle.vers_cli.specs.Reply.{plain_reply};
@@ -15,8 +16,8 @@ use std::alloc::{AllocError, Allocator};
 use vers_sorted::sparse::SparseRSVec;
 
 /// What the load line `sparse LEN p ..` gives.
-pub fn load<A: Allocator + Copy>(alloc: A, arguments: &[&[u8]]) -> Result<Loading<A>, AllocError>
-    ensures { IfOk result (λ loading. loaded_of loading ≡ sparse_loaded (numbers_all (texts arguments.now))) }
+pub fn load<A: Allocator + Copy>(alloc: A, arguments: &[u8]) -> Result<Loading<A>, AllocError>
+    ensures { IfOk result (λ loading. loaded_of loading ≡ sparse_loaded (numbers_all (words_in arguments.now))) }
 {
     let Some(numbers) = all_numbers(alloc, arguments)? else {
         return Ok(Loading::Malformed);
@@ -50,9 +51,9 @@ pub fn reply<A: Allocator + Copy>(
     alloc: A,
     bits: &SparseRSVec<A>,
     query: Query,
-    arguments: &[&[u8]],
+    arguments: &[u8],
 ) -> Result<Reply<A>, AllocError>
-    ensures { IfOk result (λ reply. plain_reply reply ≡ sparse_reply bits.now query (texts arguments.now)) }
+    ensures { IfOk result (λ reply. plain_reply reply ≡ sparse_reply bits.now query (words_in arguments.now)) }
 {
     match query {
         Query::Len => Ok(no_arguments(arguments).map_or(

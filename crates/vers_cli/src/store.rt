@@ -1,16 +1,17 @@
 //! How a line is answered, and what is held after it.
-ghost use Rattle.std.specs.Prelude.{◌≡◌, IfOk, OnOk};
-ghost use Rattle.vers_cli.specs.Arguments.{texts};
+ghost use Rattle.std.specs.Prelude.{◌≡◌, ◌++◌, List, ℕ, length, take, IfOk, OnOk, OnErr};
+ghost use Rattle.vers_cli.specs.Text.{words_in};
 ghost use Rattle.vers_cli.specs.Name.{name_of};
 ghost use Rattle.vers_cli.specs.Holding.{Nothing};
 ghost use Rattle.vers_cli.specs.Reply.{plain_reply};
 ghost use Rattle.vers_cli.specs.Rules.{loaded, load_reply, holding_after_load, IsReply, holding_after_name};
-ghost use Rattle.vers_cli.specs.Answers.{IsAnswerToWords, holding_after_words, IsAnswerTo, holding_after};
+ghost use Rattle.vers_cli.specs.Answers.{IsAnswerTo, holding_after};
 
+use crate::held;
 use crate::held::{Held, Loading};
 use crate::name::{Load, Name};
 use crate::reply::Reply;
-use crate::{held, text};
+use crate::text::{split_first_word, without_return};
 use std::alloc::{AllocError, Allocator};
 use std::marker::Model;
 
@@ -42,9 +43,9 @@ impl<A: Allocator + Copy> Store<A> {
     }
 
     // The reply of a load line. What was held is kept, unless the line is accepted.
-    fn load(&mut self, load: Load, arguments: &[&[u8]]) -> Result<Reply<A>, AllocError>
-        ensures reply { IfOk result (λ reply. plain_reply reply ≡ load_reply (loaded load (texts arguments.now))) }
-        ensures holds { OnOk result (self.new ≡ holding_after_load self.old (loaded load (texts arguments.now))) }
+    fn load(&mut self, load: Load, arguments: &[u8]) -> Result<Reply<A>, AllocError>
+        ensures reply { IfOk result (λ reply. plain_reply reply ≡ load_reply (loaded load (words_in arguments.now))) }
+        ensures holds { OnOk result (self.new ≡ holding_after_load self.old (loaded load (words_in arguments.now))) }
     {
         match held::load(self.alloc, load, arguments)? {
             Loading::Malformed => Ok(Reply::BadLine),
@@ -57,10 +58,10 @@ impl<A: Allocator + Copy> Store<A> {
         }
     }
 
-    // The reply of a line, by its first word and the others.
-    fn reply(&mut self, word: &[u8], arguments: &[&[u8]]) -> Result<Reply<A>, AllocError>
-        ensures reply { IfOk result (λ reply. IsReply self.old (name_of word.now) (texts arguments.now) (plain_reply reply)) }
-        ensures holds { OnOk result (self.new ≡ holding_after_name self.old (name_of word.now) (texts arguments.now)) }
+    // The reply of a line, by its first word and what stands after it.
+    fn reply(&mut self, word: &[u8], arguments: &[u8]) -> Result<Reply<A>, AllocError>
+        ensures reply { IfOk result (λ reply. IsReply self.old (name_of word.now) (words_in arguments.now) (plain_reply reply)) }
+        ensures holds { OnOk result (self.new ≡ holding_after_name self.old (name_of word.now) (words_in arguments.now)) }
     {
         match Name::of(word) {
             None => Ok(Reply::BadLine),
@@ -69,27 +70,34 @@ impl<A: Allocator + Copy> Store<A> {
         }
     }
 
-    // The answer of a line of these words.
-    fn answer_words(&mut self, words: &[&[u8]]) -> Result<Vec<u8, A>, AllocError>
-        ensures answer { IfOk result (λ text. IsAnswerToWords self.old (texts words.now) text.items) }
-        ensures holds { OnOk result (self.new ≡ holding_after_words self.old (texts words.now)) }
+    // Appends the answer of a line. Where memory is refused a part of it may stand appended.
+    fn append_answer(&mut self, line: &[u8], answers: &mut Vec<u8, A>) -> Result<(), AllocError>
+        ensures answer { OnOk result ((text : List ℕ)
+            × IsAnswerTo self.old line.now text × (answers.new.items ≡ answers.old.items ++ text)) }
+        ensures holds { OnOk result (self.new ≡ holding_after self.old line.now) }
+        ensures kept { take (length answers.old.items) answers.new.items ≡ answers.old.items }
     {
-        let mut answer = Vec::new(self.alloc);
-        let Some((word, arguments)) = words.split_first() else {
-            return Ok(answer);
+        let Some((word, arguments)) = split_first_word(without_return(line)) else {
+            return Ok(());
         };
-        let reply = self.reply(*word, arguments)?;
-        reply.append_to(self.alloc, &mut answer)?;
-        answer.push(b'\n')?;
-        Ok(answer)
+        self.reply(word, arguments)?.append_to(answers)?;
+        answers.push(b'\n')?;
+        Ok(())
     }
 
-    /// The answer of a line, with its end. A line without words has none.
-    pub fn answer(&mut self, line: &[u8]) -> Result<Vec<u8, A>, AllocError>
-        ensures answer { IfOk result (λ text. IsAnswerTo self.old line.now text.items) }
+    /// Appends the answer of a line, with its end. A line without words has none. Where memory is
+    /// refused the answers stay as they were.
+    pub fn answer(&mut self, line: &[u8], answers: &mut Vec<u8, A>) -> Result<(), AllocError>
+        ensures answer { OnOk result ((text : List ℕ)
+            × IsAnswerTo self.old line.now text × (answers.new.items ≡ answers.old.items ++ text)) }
         ensures holds { OnOk result (self.new ≡ holding_after self.old line.now) }
+        ensures kept { OnErr result (answers.new.items ≡ answers.old.items) }
     {
-        let words = text::words(self.alloc, line)?;
-        self.answer_words(words.as_slice())
+        let len = answers.len();
+        let result = self.append_answer(line, answers);
+        if result.is_err() {
+            answers.truncate(len);
+        }
+        result
     }
 }

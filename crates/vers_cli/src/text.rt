@@ -1,51 +1,35 @@
 //! The words and numbers of a line.
-ghost use Rattle.std.specs.Prelude.{◌≡◌, ◌≤◌, ◌==◌, ◌++◌, ◌∷◌, [], filter, IfOk, OnOk};
+ghost use Rattle.std.specs.Prelude.{◌≡◌, ◌<◌, ◌==◌, ◌∷◌, [], not, length, position, IfSome, MatchOption};
 ghost use Rattle.std.specs.Io.BufRead.{strip_last};
-ghost use Rattle.std.specs.List.{slice_split};
-ghost use Rattle.vers_cli.specs.Arguments.{texts};
-ghost use Rattle.vers_cli.specs.Text.{has_bytes, words_of, number_of};
+ghost use Rattle.vers_cli.specs.Text.{words_in, number_of};
 
-use std::alloc::{AllocError, Allocator};
-
-/// The words of a line, in order.
-pub fn words<'a, A: Allocator>(alloc: A, line: &'a [u8]) -> Result<Vec<&'a [u8], A>, AllocError>
-    ensures { IfOk result (λ words. texts words.items ≡ words_of line.now) }
+/// Where a byte stands first in a text.
+pub fn place_of(byte: u8, text: &[u8]) -> Option<usize>
+    ensures { result ≡ position (λ b. b == byte) text.now }
 {
-    split_words(alloc, without_return(line))
+    text.iter().position(|other| *other == byte)
 }
 
-// The parts between spaces that have bytes.
-fn split_words<'a, A: Allocator>(alloc: A, line: &'a [u8]) -> Result<Vec<&'a [u8], A>, AllocError>
-    ensures { IfOk result (λ words. texts words.items ≡ filter has_bytes (slice_split (λ byte. byte == 32) line.now)) }
+// Where the first byte stands that is no space.
+fn first_of_word(text: &[u8]) -> Option<usize>
+    ensures { result ≡ position (λ b. not (b == 32)) text.now }
 {
-    let mut words = Vec::new(alloc);
-    let mut start = 0;
-    for i in 0..line.len() {
-        if line[i] == b' ' {
-            push_word(&mut words, &line[start..i])?;
-            start = i + 1;
-        }
-    }
-    push_word(&mut words, &line[start..])?;
-    Ok(words)
+    text.iter().position(|byte| *byte != b' ')
 }
 
-// Adds a part of a line, unless it is empty.
-fn push_word<'a, A: Allocator>(
-    words: &mut Vec<&'a [u8], A>,
-    part: &'a [u8],
-) -> Result<(), AllocError>
-    ensures { OnOk result (texts words.new.items
-        ≡ texts words.old.items ++ filter has_bytes (part.now ∷ [])) }
+/// The first word of a text and what stands after it. None where the text has no word.
+pub fn split_first_word(text: &[u8]) -> Option<(&[u8], &[u8])>
+    ensures words { MatchOption result (words_in text.now ≡ [])
+        (λ parts. words_in text.now ≡ parts.0.now ∷ words_in parts.1.now) }
+    ensures shorter { IfSome result (λ parts. length parts.1.now < length text.now) }
 {
-    if !part.is_empty() {
-        words.push(part)?;
-    }
-    Ok(())
+    let from_word = &text[first_of_word(text)?..];
+    let len = place_of(b' ', from_word).unwrap_or(from_word.len());
+    Some((&from_word[..len], &from_word[len..]))
 }
 
-// A line without one byte 13 at its end.
-fn without_return(line: &[u8]) -> &[u8]
+/// A line without one byte 13 at its end.
+pub fn without_return(line: &[u8]) -> &[u8]
     ensures { result.now ≡ strip_last 13 line.now }
 {
     let n = line.len();

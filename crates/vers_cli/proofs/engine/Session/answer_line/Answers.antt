@@ -1,15 +1,13 @@
-use Rattle.std.proofs.Common.{ap, ◌∙◌}
-use Rattle.vers_cli.specs.Answers.{holding_after}
-use Rattle.vers_cli.proofs.Steps.{AnswersOrFails-from}
+use Rattle.std.proofs.Common.{◌≡◌, length, sym, arith}
+use Rattle.std.proofs.lemmas.Bool.{eqb-true}
+use Rattle.std.proofs.lemmas.List.{nil_from_length}
+use Rattle.vers_cli.proofs.Steps.{AnswersOrStays-from}
 use Rattle.vers_cli.proofs.engine.Session.answer_line.Goals as goal
 
-pub returns-clause-written : goal.returns-clause-written
-returns-clause-written g c =
-    let w = c.write_piece.ensures.written in (
-      w.0,
-      w.2,
-      AnswersOrFails-from c.write_piece.result _ _ w.0 w.1 _ _
-          (rw (c.as_slice-2.ensures.value, ← c.as_slice.ensures.value) c.in_ok-answer.ensures.answer)
-          (c.in_ok-answer.ensures.holds ∙ ap (holding_after c.args.self.now.store) c.as_slice.ensures.value)
-          w.3 w.4 c.write_piece.ensures.kind,
-    )
+pub returns-then-is_empty-clause-answered : goal.returns-then-is_empty-clause-answered
+returns-then-is_empty-clause-answered g c =
+    let s = c.args.self.now in
+    let long : length s.pending.items ≡ 0 = omega (arith, s.pending.ok.0, eqb-true _ 0 (sym c.if-is_empty.ensures)) in
+    rw (nil_from_length s.pending.items long)
+    (AnswersOrStays-from c.answer.result s.store c.args.end.now s.answers.items c.answer.new.answers.items c.answer.new.self
+    c.answer.ensures.answer c.answer.ensures.holds c.answer.ensures.kept)
