@@ -8,7 +8,7 @@ use Rattle.std.proofs.lemmas.List.{get_or_default, map-id}
 use Rattle.std.proofs.lemmas.List.Sorted.{IsNonDecreasingBy-from_all_adjacent}
 use Rattle.vers_bits.specs.Bits.{places}
 use Rattle.vers_sorted.specs.Ones.{ones_at}
-use Rattle.vers_sorted.proofs.Ones.{ones_at-places}
+use Rattle.vers_sorted.proofs.PublicLaws.{ones_at-places}
 use Rattle.vers_cli.specs.Arguments.{each_next}
 use Rattle.vers_cli.specs.Holding.{Accepted, SparseHeld}
 use Rattle.vers_cli.specs.SparseLines.{sparse_loaded}
