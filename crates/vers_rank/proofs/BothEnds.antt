@@ -7,6 +7,7 @@ use Rattle.vers_bits.specs.Bits.{bit_value, places, select}
 use Rattle.vers_bits.proofs.Places.{length-places}
 use Rattle.vers_bits.proofs.BothEnds.{last_is, yields_first, yields_last, goes_first, goes_last}
 use Rattle.vers_rank.proofs.Reading.{no_reading}
+use Rattle.vers_rank.proofs.ReadingBack.{no_reading_back}
 
 -- a truth value as a number
 byte_is_value : (bit : Bool) → bool_byte bit ≡ bit_value bit
@@ -30,7 +31,7 @@ place_item b bits r x h is = slice_get-get_or (places b bits) r (length bits) h 
 
 pub ruleset bits = (length-bits, bit_item)
 
-pub ruleset kinds = (length-places, place_item, no_reading)
+pub ruleset kinds = (length-places, place_item, no_reading, no_reading_back)
 
 -- `next` and `next_back`
 pub ruleset ends = (yields_first, yields_last, goes_first, goes_last)

@@ -1,12 +1,12 @@
 -- The word that a walk over places is reading.
-use Rattle.std.proofs.Common.{◌≡◌, ℕ, ◌+◌, ◌-◌, ◌*◌, ◌/◌, ◌%◌, ◌^◌, ◌<◌, ◌≤◌, min, Bool, true, false, List, length, get_or, take, drop, refl, sym, ap, ◌∙◌, arith, inl, inr, w64}
+use Rattle.std.proofs.Common.{◌≡◌, ℕ, ◌+◌, ◌-◌, ◌*◌, ◌%◌, ◌^◌, ◌<◌, ◌≤◌, min, Bool, true, false, List, length, get_or, take, drop, refl, sym, ap, ◌∙◌, arith, inl, inr, w64}
 use Rattle.std.specs.Prelude.{bit_and}
 use Rattle.std.specs.Int.{bit_at, bit_not, trailing_zeros}
 use Rattle.std.proofs.lemmas.Bool.{cases_lt, cases_eq, cases_Bool}
 use Rattle.std.proofs.lemmas.List.{get_or-take, get_or-drop}
 use Rattle.std.proofs.lemmas.Nat.{and_le_l}
 use Rattle.std.proofs.lemmas.Nat.Bits.{bit_at-zero, bit_at-lt, bit_at_and, bit_at_not, bit_at-trailing_zeros, bit_at_clear_same, bit_at_clear_other, ones_shl, bit_at_mask_inside, bit_at_mask_below}
-use Rattle.vers_bits.specs.Bits.{bit_value, is_bit, number, count, limb, select}
+use Rattle.vers_bits.specs.Bits.{bit_value, is_bit, count, limb, select}
 use Rattle.vers_bits.proofs.Num.{bit_at-number}
 use Rattle.vers_bits.proofs.Count.{count_up, count_none, count_le}
 use Rattle.vers_bits.proofs.Places.{select_at, count_at_select, select_not_below, select_holds, count_more_yes}
@@ -110,13 +110,16 @@ not_value : (x : Bool) → 1 - bit_value x ≡ bit_value (is_bit false x)
 not_value true = refl
 not_value false = refl
 
-marked_bit : (b : Bool) (l : List Bool) (k i : ℕ) → limb l k < 18446744073709551616 → i < 64 → bit_at (marked b (limb l k)) i ≡ bit_value (is_bit b (get_or l (64 * k + i) false))
+pub marked_bit : (b : Bool) (l : List Bool) (k i : ℕ) → limb l k < 18446744073709551616 → i < 64 → bit_at (marked b (limb l k)) i ≡ bit_value (is_bit b (get_or l (64 * k + i) false))
 marked_bit true l k i fits h = limb_bit l k i h
 marked_bit false l k i fits h = bit_at_not w64 (limb l k) i fits h ∙ ap (λ x. 1 - x) (limb_bit l k i h) ∙ not_value (get_or l (64 * k + i) false)
 
-value_one : (x : Bool) → bit_value x ≡ 1 → x ≡ true
+pub value_one : (x : Bool) → bit_value x ≡ 1 → x ≡ true
 value_one true e = refl
 value_one false e = absurd (omega arith)
+
+pub marked_fits : (b : Bool) (word : ℕ) → word < 18446744073709551616 → marked b word < 18446744073709551616
+marked_fits b word fits = elim (cases_Bool b) [ inl on ↦ rw on fits | inr off ↦ rw off (omega arith) ]
 
 mask_is : (q : ℕ) → q < 64 → 18446744073709551615 * 2 ^ q % 18446744073709551616 ≡ 2 ^ 64 - 2 ^ q
 mask_is q h = ones_shl 64 q (omega arith)
@@ -172,13 +175,10 @@ module _ (b : Bool) (l : List Bool) (r k q : ℕ) (some : r < count b l (length 
         | inr none ↦ (let zero : new_word ≡ 0 = omega arith in absurd (omega (arith, on, ap (λ w. bit_at w q) zero, bit_at-zero q)))
       ]
 
-  marked_fits : marked b (limb l k) < 18446744073709551616
-  marked_fits = elim (cases_Bool b) [ inl on ↦ rw on fits | inr off ↦ rw off (omega arith) ]
-
   pub new_reading : IsReading b l (record { word = bit_and (marked b (limb l k)) (18446744073709551615 * 2 ^ q % 18446744073709551616); limb = k; next = r })
   unfolding new_word mask
   new_reading = record {
-    fits = omega (arith, and_le_l (marked b (limb l k)) mask, marked_fits);
+    fits = omega (arith, and_le_l (marked b (limb l k)) mask, marked_fits b (limb l k) fits);
     before = omega (arith, start, count_up b l (64 * k) (64 * k + q) (omega arith));
     sound = from_on;
     complete = λ _. on_from;
