@@ -1,11 +1,12 @@
 -- The items of the iterators over an indexed list.
-use Rattle.std.proofs.Common.{◌≡◌, ℕ, ◌<◌, Bool, true, false, List, Some, length, get_or, map, option_map, refl, sym, ap, ◌∙◌, arith, slice_get}
-use Rattle.std.proofs.lemmas.List.{length-map}
-use Rattle.std.proofs.lemmas.Option.{slice_get-get_or, slice_get-map}
+use Rattle.std.proofs.Common.{◌≡◌, ℕ, ◌<◌, Bool, true, false, List, Some, length, get_or, map, refl, sym, ap, ◌∙◌, slice_get}
+use Rattle.std.proofs.lemmas.Option.{slice_get-get_or}
 use mir.Val.{bool_byte}
 use Rattle.vers_bits.specs.Bits.{bit_value, places, select}
-use Rattle.vers_bits.proofs.PublicLaws.{length-places, last_is, yields_first, yields_last, goes_first, goes_last}
+use Rattle.vers_bits.proofs.PublicLaws.{length-places, yields_first, goes_first}
+use Rattle.vers_bits.proofs.BothEnds.{length-bits, bit_item}
 use Rattle.vers_rank.proofs.Reading.{no_reading}
+use Rattle.vers_rank.proofs.ReadingBack.{no_reading_back}
 
 -- a truth value as a number
 byte_is_value : (bit : Bool) → bool_byte bit ≡ bit_value bit
@@ -13,23 +14,17 @@ byte_is_value true = refl
 byte_is_value false = refl
 
 -- ---- items that are bits, as numbers
-pub length-bits : (bits : List Bool) → length (map bit_value bits) ≡ length bits
-length-bits bits = length-map bits bit_value
-
-pub bit_item : (bits : List Bool) (p x : ℕ) (at : Bool) → p < length (map bit_value bits) → x ≡ bool_byte at → at ≡ get_or bits p false → slice_get (map bit_value bits) p ≡ Some x
-bit_item bits p x at h number is =
-    slice_get-map bit_value bits p
-    ∙ ap (option_map bit_value) (slice_get-get_or bits p false (omega (arith, length-bits bits)))
-    ∙ ap Some (sym (number ∙ byte_is_value at ∙ ap bit_value is))
+pub number_item : (bits : List Bool) (p x : ℕ) (at : Bool) → p < length (map bit_value bits) → x ≡ bool_byte at → at ≡ get_or bits p false → slice_get (map bit_value bits) p ≡ Some x
+number_item bits p x at h number is = bit_item bits p x h (number ∙ byte_is_value at ∙ ap bit_value is)
 
 -- ---- items that are the places of a bit
 pub place_item : (b : Bool) (bits : List Bool) (r x : ℕ) → r < length (places b bits) → x ≡ select b bits r → slice_get (places b bits) r ≡ Some x
 unfolding select
 place_item b bits r x h is = slice_get-get_or (places b bits) r (length bits) h ∙ ap Some (sym is)
 
-pub ruleset bits = (length-bits, bit_item)
+pub ruleset bits = (length-bits, number_item)
 
-pub ruleset kinds = (length-places, place_item, no_reading)
+pub ruleset kinds = (length-places, place_item, no_reading, no_reading_back)
 
--- `next` and `next_back`
-pub ruleset ends = (yields_first, yields_last, goes_first, goes_last)
+-- `next`
+pub ruleset ends = (yields_first, goes_first)

@@ -8,3 +8,4 @@ pub mod Chunks
 pub mod Neighbours
 pub mod Equal
 pub mod Reading
+pub mod ReadingBack

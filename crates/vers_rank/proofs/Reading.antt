@@ -108,13 +108,16 @@ not_value : (x : Bool) → 1 - bit_value x ≡ bit_value (is_bit false x)
 not_value true = refl
 not_value false = refl
 
-marked_bit : (b : Bool) (l : List Bool) (k i : ℕ) → limb l k < 18446744073709551616 → i < 64 → bit_at (marked b (limb l k)) i ≡ bit_value (is_bit b (get_or l (64 * k + i) false))
+pub marked_bit : (b : Bool) (l : List Bool) (k i : ℕ) → limb l k < 18446744073709551616 → i < 64 → bit_at (marked b (limb l k)) i ≡ bit_value (is_bit b (get_or l (64 * k + i) false))
 marked_bit true l k i fits h = limb_bit l k i h
 marked_bit false l k i fits h = bit_at_not w64 (limb l k) i fits h ∙ ap (λ x. 1 - x) (limb_bit l k i h) ∙ not_value (get_or l (64 * k + i) false)
 
-value_one : (x : Bool) → bit_value x ≡ 1 → x ≡ true
+pub value_one : (x : Bool) → bit_value x ≡ 1 → x ≡ true
 value_one true e = refl
 value_one false e = absurd (omega arith)
+
+pub marked_fits : (b : Bool) (word : ℕ) → word < 18446744073709551616 → marked b word < 18446744073709551616
+marked_fits b word fits = elim (cases_Bool b) [ inl on ↦ rw on fits | inr off ↦ rw off (omega arith) ]
 
 mask_is : (q : ℕ) → q < 64 → 18446744073709551615 * 2 ^ q % 18446744073709551616 ≡ 2 ^ 64 - 2 ^ q
 mask_is q h = ones_shl 64 q (omega arith)
@@ -170,13 +173,10 @@ module _ (b : Bool) (l : List Bool) (r k q : ℕ) (some : r < count b l (length 
         | inr none ↦ (let zero : new_word ≡ 0 = omega arith in absurd (omega (arith, on, ap (λ w. bit_at w q) zero, bit_at-zero q)))
       ]
 
-  marked_fits : marked b (limb l k) < 18446744073709551616
-  marked_fits = elim (cases_Bool b) [ inl on ↦ rw on fits | inr off ↦ rw off (omega arith) ]
-
   pub new_reading : IsReading b l (record { word = bit_and (marked b (limb l k)) (18446744073709551615 * 2 ^ q % 18446744073709551616); limb = k; next = r })
   unfolding new_word mask
   new_reading = record {
-    fits = omega (arith, and_le_l (marked b (limb l k)) mask, marked_fits);
+    fits = omega (arith, and_le_l (marked b (limb l k)) mask, marked_fits b (limb l k) fits);
     before = omega (arith, start, count_up b l (64 * k) (64 * k + q) (omega arith));
     sound = from_on;
     complete = λ _. on_from;

@@ -24,6 +24,19 @@ pub record IsReading (bit : Bool) (bits : List Bool) (reader : Reader) : Type 0 
   pub sound : (i : ℕ) → i < 64 → bit_at reader.word i ≡ 1 → 64 * reader.limb + i < length bits → IsFrom bit bits reader.next (64 * reader.limb + i)
   pub complete : 0 < reader.word → (i : ℕ) → i < 64 → IsFrom bit bits reader.next (64 * reader.limb + i) → bit_at reader.word i ≡ 1
 
+-- place p holds the bit, and fewer than n places before it do
+pub record IsBelow (bit : Bool) (bits : List Bool) (n p : ℕ) : Type 0 where
+  pub inside : p < length bits
+  pub holds : is_bit bit (slice_index_or bits p false) ≡ true
+  pub number : count bit bits p < n
+
+-- the ones of the word are the places of the limb below number next; an empty word says nothing of the limb
+pub record IsReadingBack (bit : Bool) (bits : List Bool) (reader : Reader) : Type 0 where
+  pub fits : reader.word < 18446744073709551616
+  pub after : reader.next ≤ count bit bits (64 * reader.limb + 64)
+  pub sound : (i : ℕ) → i < 64 → bit_at reader.word i ≡ 1 → IsBelow bit bits reader.next (64 * reader.limb + i)
+  pub complete : 0 < reader.word → (i : ℕ) → i < 64 → IsBelow bit bits reader.next (64 * reader.limb + i) → bit_at reader.word i ≡ 1
+
 -- a word, or its complement where zeros are asked for
 abbrev pub marked : Bool → ℕ → ℕ
 marked bit word = if bit then word else 18446744073709551615 - word

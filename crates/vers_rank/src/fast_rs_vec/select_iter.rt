@@ -16,23 +16,24 @@ use vers_tally::tally::Tally;
 pub struct Kind<const ZERO: bool>;
 
 /// The places of one kind of bit of an indexed list, which iterators of type `K` read one by one.
-/// It keeps the limb that it reads.
+/// It keeps the limbs that it reads, one for each end.
 #[derive(Drop)]
 pub struct Places<K, L: Indexed> {
     list: L,
     bit: bool,
     front: Reader,
+    back: Reader,
     kind: PhantomData<K>,
 }
 
 impl<K, L: Indexed> Model for Places<K, L> {
-    ghost use Rattle.vers_rank.specs.Walks.{PlacesOf, IsReading};
+    ghost use Rattle.vers_rank.specs.Walks.{PlacesOf, IsReading, IsReadingBack};
 
     ghost Value = { PlacesOf };
 
     ghost view = { λ s. record { bits = L.bits s.list; bit = s.bit } };
 
-    ghost invariant = { λ s. IsReading s.bit (L.bits s.list) s.front };
+    ghost invariant = { λ s. IsReading s.bit (L.bits s.list) s.front × IsReadingBack s.bit (L.bits s.list) s.back };
 }
 
 #[tactic(auto, using(crate::proofs::BothEnds::kinds))]
@@ -40,7 +41,7 @@ impl<K, L: Indexed> Places<K, L> {
     fn new(list: L, bit: bool) -> Self
         ensures { result ≡ record { bits = L.bits list; bit = bit } }
     {
-        let front = Reader {
+        let nothing = Reader {
             word: 0,
             limb: 0,
             next: 0,
@@ -48,7 +49,8 @@ impl<K, L: Indexed> Places<K, L> {
         Places {
             list,
             bit,
-            front,
+            front: nothing,
+            back: nothing,
             kind: PhantomData,
         }
     }
@@ -75,12 +77,7 @@ impl<K, L: Indexed> Source for Places<K, L> {
 
     #[inline]
     fn item_at_back(&mut self, i: usize, tally: &mut Tally) -> usize {
-        let list = self.list.list();
-        if self.bit {
-            list.select1_counted(i, tally)
-        } else {
-            list.select0_counted(i, tally)
-        }
+        self.back.place_back(self.bit, i, self.list.list(), tally)
     }
 }
 
