@@ -4,7 +4,7 @@ A counted vector is a struct of that crate that keeps a list.
 """
 import re
 
-from counted_bodies import READ_NOTHING
+from counted_bodies import LOOKING, READ_NOTHING
 from rattle_bodies import Node, body_of
 from rattle_types import Unread, base
 from source_model import COUNTER, COUNTERS, LANES, LISTS, NUMBERS
@@ -81,7 +81,7 @@ class Reading:
         self.function, self.faults, self.least, self.most, self.raised, self.handed_on = function, [], 0, 0, 0, False
         scope = library.scope(function)
         counters = [name for name, type_ in library.signature(function).parameters if library.kind(type_, scope) == COUNTER]
-        self.counter = counters[0] if counters else ""
+        self.counter, self.lets = counters[0] if counters else "", {}
 
     def fault(self, node, what, allowed):
         self.faults.append((node.start, f"{what}; allowed: {allowed}"))
@@ -128,25 +128,40 @@ class Reading:
     def at_let(self, node):
         """Looks at a `let`; a function without the counter may take its own vector apart by one."""
         is_whole = node.value is not None and node.value.kind == "path" and node.value.path == ["self"]
+        if node.pattern.kind == "bind":
+            self.lets[node.pattern.name] = node.value
         return node.pattern.kind == "record" and is_whole and not self.counter
 
     def at_record(self, node):
         self.fault(node, "takes a value apart", "`self.` with the list's name")
 
     def at_assign(self, node):
-        """Notes a raise: `tally.x = tally.x.saturating_add(n);`."""
+        """Notes a raise: `tally.x = tally.x.saturating_add(n);`, or of `n * u64::from(whether)`."""
         place, value = node.place, node.value
         if not (place.kind == "field" and self.is_counter(place.of)):
             return False
         is_sum = node.operator == "=" and value.kind == "method" and value.name == "saturating_add" and value.of.kind == "field"
         is_same = is_sum and self.is_counter(value.of.of) and value.of.name == place.name
-        numbers = [re.match(r"\d+", it.text) for it in value.arguments if it.kind == "literal"] if is_same else []
-        if len(numbers) == 1 and numbers[0]:
-            self.raised += int(numbers[0][0])
-        else:
+        amount = self.amount(value.arguments[0]) if is_same and value.arguments else 0
+        self.raised += amount
+        self.look_in(value.arguments if amount else [])
+        if not amount:
             counter = f"{self.counter}.{place.name}"
             self.fault(node, f"writes to `{place.name}` of the counter", f"`{counter} = {counter}.saturating_add(1);`")
         return True
+
+    def amount(self, node):
+        """Returns by how much the counter is raised: a number, or that many where something holds; 0 for anything else."""
+        if node.kind == "literal":
+            number = re.match(r"\d+", node.text)
+            return int(number[0]) if number else 0
+        if node.kind == "path":
+            value = self.lets.get(node.path[0])
+            return self.amount(value) if value and value.kind != "path" else 0
+        if node.kind == "binary" and node.operator == "*" and node.left.kind == "literal":
+            return self.amount(node.left) * self.amount(node.right)
+        is_truth = node.kind == "call" and node.function.kind == "path" and node.function.path == ["u64", "from"]
+        return 1 if is_truth and all(it.kind == "method" and it.name in LOOKING for it in node.arguments) else 0
 
     def is_counter(self, node):
         return bool(self.counter) and node.kind == "path" and node.path == [self.counter]

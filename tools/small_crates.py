@@ -73,9 +73,8 @@ impl<A: Allocator + Copy> CountedBits<A> {
     }
     pub fn get_bits(&self, place: usize, n: usize, tally: &mut Tally) -> Option<u64> {
         let number = self.bits.get_bits(place, n);
-        if number.is_some() {
-            tally.data_words = tally.data_words.saturating_add(2);
-        }
+        let reads = 2 * u64::from(number.is_some());
+        tally.data_words = tally.data_words.saturating_add(reads);
         number
     }
 }

@@ -306,6 +306,7 @@ VECTORS = (
     plant(f"{READ} reads 1 times and raises the counter by 2", Instead(READ, "saturating_add(1)", "saturating_add(2)")),
     plant(f"{READ} is handed the counter and raises nothing", Instead(READ, RAISE, "")),
     plant(f"{READ} writes to `block_entries` of the counter", Instead(READ, RAISE, "tally.block_entries = 1;")),
+    plant(f"{READ} writes to `block_entries` of the counter", Instead(READ, "saturating_add(1)", "saturating_add(u64::from(k as u32))")),
     plant(f"{READ} reads in a loop", Body(READ, "for j in 0..k { let _entry = self.entries[j]; }")),
     plant(f"{READ} asks its list by `iter`", Body(READ, "let _count = self.entries.iter().count();")),
     plant(f"{READ} hands on `self.entries` whole", Body(READ, "let list = &self.entries;")),
