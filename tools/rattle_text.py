@@ -1,5 +1,30 @@
-"""Reads the text of .rt files: comments and literals blanked, tests left out, functions taken apart."""
+"""Reads the text of .rt files: as tokens, or with comments and literals blanked, tests left out, functions taken apart."""
 import re
+from typing import NamedTuple
+
+TOKEN = re.compile(
+    r"""(?P<space>\s+|//[^\n]*|/\*.*?\*/)
+    |(?P<text>b?"(?:\\.|[^"\\])*"|b?'(?:\\.[^']*|[^'\\])')
+    |(?P<lifetime>'[^\W\d]\w*)
+    |(?P<name>[^\W\d]\w*)
+    |(?P<number>\d(?:\w|\.(?=\d))*)
+    |(?P<mark>::|->|=>|\.\.=|\.\.|==|!=|<=|&&|\|\||[-+*/%^&|]=|\S)""",
+    re.S | re.X,
+)
+
+
+class Token(NamedTuple):
+    """A word of the text, with its kind (name, number, text, lifetime or mark) and the place where it starts.
+    Each `>` is a token of its own, since it may close a list of types."""
+
+    kind: str
+    text: str
+    start: int
+
+
+def tokens(text):
+    """Returns the tokens of a text, without comments."""
+    return [Token(it.lastgroup, it[0], it.start()) for it in TOKEN.finditer(text) if it.lastgroup != "space"]
 
 
 class Function:

@@ -5,6 +5,7 @@
 - Files stay below 800 lines, and functions below 60, but for tests, which may list many cases.
 - `crates.txt` lists the folders of `crates/`, each once.
 - Nothing cites a label of a paper or a path of one machine, and the links of the documents lead somewhere.
+- Documents and comments are in plain English: `UNPLAIN` has the phrases that aren't, with those to write instead.
 
 Exit status 1 where a rule is broken, with a line for each place. `--self-test` breaks each rule in a small
 repository of its own and wants every break found.
@@ -30,6 +31,8 @@ PUBLIC = re.compile(r"(?m)^[ \t]*pub (?:const )?(?:unsafe )?(fn|struct|enum|trai
 PASSES_ON = re.compile(r"\{\s*(?:[\w.:&*]+(?:::<\w+>)?(?:\([\w\s,&.*]*\)|\s*\{\s*\w+\s*\})?\s*)?\}")
 LINK = re.compile(r"\]\(([^)#:\s]+)(?:#[^)]*)?\)")
 TEXTS = (".md", ".rt", ".antt", ".edit", ".py", ".sh", ".txt")
+# phrases that are not plain English, and what to write instead
+UNPLAIN = {"want of memory": "out of memory", "at the most": "at most"}
 
 
 def read(path):
@@ -68,6 +71,15 @@ def too_long(path, text, is_tests):
         length = function.body.count("\n") + 1
         if length > LONGEST_FUNCTION:
             yield f"{path}:{function.line}: {function.name} has {length} lines"
+
+
+def unplain(path, text):
+    """Yields a line for each phrase of a document or a comment that isn't plain English; it may go over the end of a line."""
+    for phrase, instead in UNPLAIN.items():
+        # between two words may stand the end of a line and the marks of a comment; `at the most recent` is plain
+        words = r"(?:\s|//[/!]?)+".join(phrase.split(" "))
+        for found in re.finditer(rf"(?i)\b{words}\b(?!(?:\s|//[/!]?)+\w+[ae]nt\b)", text):
+            yield f"{path}:{text.count(chr(10), 0, found.start()) + 1}: says `{phrase}`; write `{instead}`"
 
 
 def functions_by_path(sources):
@@ -179,6 +191,8 @@ def faults(top):
             label = None if path.endswith("_rules.py") else LABEL.search(line) or MACHINE_PATH.search(line)
             if label:
                 yield f"{path}:{number}: cites {label[0]}, which the repository doesn't hold"
+        if path.endswith((".md", ".rt")):
+            yield from unplain(path, text)
         if path.endswith(".md"):
             for link in LINK.finditer(text):
                 if not os.path.exists(os.path.join(top, os.path.dirname(path), link[1])):
@@ -203,6 +217,8 @@ BREAKS = {
     "cites F7": ("docs/PAGE.md", "A page.", "As F7 says."),
     "cites /srv/": ("docs/PAGE.md", "A page.", "In /srv/kit."),
     "leads nowhere": ("README.md", "docs/PAGE.md", "docs/NONE.md"),
+    "says `at the most`": ("docs/PAGE.md", "A page.", "A page has at\nthe most one link."),
+    "says `want of memory`": ("crates/low/src/lib.rt", "/// One more.\n", "/// One more. Err for want\n/// of memory.\n"),
 }
 
 

@@ -1,0 +1,430 @@
+"""The self-test of the rules over the source text: faults that are planted, and what has to be said of each.
+
+A plant names the functions and the types that it changes. So it is planted twice: into the small crates of
+`small_crates.py`, which keep the rules and bear the same names, and into the sources themselves. A plant whose place is
+gone is an error. Those that only the small crates have a place for are listed apart.
+"""
+from typing import NamedTuple
+
+from rattle_items import file_of
+from small_crates import SMALL, SMALL_TABLES
+
+
+class Body(NamedTuple):
+    """Code at the beginning of a function's body."""
+
+    place: str
+    code: str
+
+
+class Field(NamedTuple):
+    """Fields at the beginning of a struct."""
+
+    place: str
+    code: str
+
+
+class Beside(NamedTuple):
+    """Items at the end of the file in which a struct or a function stands."""
+
+    place: str
+    code: str
+
+
+class Instead(NamedTuple):
+    """A text in place of one that stands once in a function or a struct."""
+
+    place: str
+    old: str
+    new: str
+
+
+class Plant(NamedTuple):
+    """What has to be said, and the changes that make it so."""
+
+    wanted: str
+    changes: tuple
+
+
+def plant(wanted, *changes):
+    return Plant(wanted, changes)
+
+
+RANK0, RANK1, RANK, MINIMA, READ = (
+    "RsVec::rank0_counted", "RsVec::rank1_counted", "EliasFanoVec::rank_counted", "BinaryRmq::range_min_counted", "BlockEntries::read",
+)
+ANY = "<A: Allocator + Copy>"
+KEEPER = "an index or a counted vector"
+NO_RANGE = "loops over what is no range of numbers"
+ALONE = "has `self` alone"
+WHOLE = "reads by `CountedBits::as_bit_vec` without the counter"
+PEEK = f"{ANY}(bits: &CountedBits<A>) -> u64 {{ bits.as_bit_vec().limb(0) }}"
+
+
+def called(function, code, *items):
+    """A function of the crate that reads the whole list, which `rank0_counted` calls by the code."""
+    return plant(f"{function}, which the counted body {RANK0} calls, {WHOLE}", Body(RANK0, code), *items)
+
+
+# ways to read a list of an index in a counted body, and ways around the counter
+LOOPS = (
+    plant(f"{RANK0} {NO_RANGE}", Body(RANK0, "for _bit in self {}")),
+    plant(f"SparseRSVec::rank1_counted {NO_RANGE}", Body("SparseRSVec::rank1_counted", "for _ in &self.ones {}")),
+    plant(f"SparseRSVec::rank1_counted {NO_RANGE}", Body("SparseRSVec::rank1_counted", "for _place in self.iter1() {}")),
+    plant(f"{MINIMA} {NO_RANGE}", Body(MINIMA, "for _item in self.items.as_slice() {}")),
+    plant(f"RsVec::iter, which the counted body {RANK0} calls, {ALONE}", Body(RANK0, "while let Some(_bit) = self.iter().next() {}")),
+    plant(f"{RANK1} has a closure", Body(RANK1, "let _sum = self.bit_set_iter1().fold(0, |sum, place| sum + place);")),
+    plant(f"{RANK1} asks {KEEPER} by `sum`, which its type doesn't have", Body(RANK1, "let _sum = self.bit_set_iter1().sum();")),
+    plant(
+        "EliasFanoRefIter::nth, which the counted body EliasFanoRefIter::min calls, makes a counter",
+        Body("SparseRSVec::rank1_counted", "let _least = self.iter1().min();"),
+    ),
+    plant(f"{MINIMA} asks a list by `iter`", Body(MINIMA, "let _count = self.table.as_slice().iter().count();")),
+)
+COMPARISONS = (
+    plant(f"{RANK0} {ALONE}", Body(RANK0, "let _same = *self == *self;")),
+    plant(f"{RANK0} {ALONE}", Body(RANK0, "let _same = self.full_equals(self);")),
+    plant(f"{RANK0} {ALONE}", Body(RANK0, "let _same = self.sparse_equals::<true>(self);")),
+    plant(f"{RANK} compares {KEEPER}", Body(RANK, "let _same = self.high == self.high;")),
+    plant(
+        f"RsVec::full_equals, which the counted body {RANK} calls, {ALONE}",
+        Body(RANK, "let _same = self.high.full_equals(&self.high);"),
+    ),
+    plant(f"{RANK} hands {KEEPER} to `PartialEq::eq`", Body(RANK, "let _same = PartialEq::eq(&self.high, &self.high);")),
+    plant(f"{RANK} computes with {KEEPER}", Body(RANK, "let _less = &self.high - 1;")),
+)
+COUNTER = (
+    plant(f"{RANK1} makes a counter", Body(RANK1, "let mut own = Tally::new();")),
+    plant(f"{RANK1} makes a counter", Body(RANK1, "let _word = self.bits.limb(0, &mut Tally::new());")),
+    plant(
+        f"{RANK1} hands `CountedBits::limb` another counter than its own",
+        Body(RANK1, "let _word = self.bits.limb(0, &mut self.spare);"),
+    ),
+    plant(f"{RANK1} has the counter `tally` alone", Body(RANK1, "let _word = self.bits.limb(0, &mut *tally);")),
+    plant(f"{RANK1} has a path in angle brackets", Body(RANK1, "let mut own = <Tally>::new();")),
+    plant("`= < Tally > ::` uses the counter's type", Body(RANK1, "let mut own = <Tally>::new();")),
+    plant(f"{RANK1} gives the counter's name `tally` to another value", Body(RANK1, "let tally = &mut Tally::new();")),
+    plant(f"{RANK1} gives the counter's name `tally` to another value", Body(RANK1, "if let Some(tally) = spare(place) {}")),
+    plant(f"{RANK1} asks the counter by `data_words`", Body(RANK1, "let _zeros = self.rank0(tally.data_words() as usize);")),
+    plant(
+        f"RsVec::rank0, which the counted body {RANK1} calls, makes a counter",
+        Body(RANK1, "let _zeros = self.rank0(tally.data_words() as usize);"),
+    ),
+    plant(
+        "two is handed two counters",
+        Beside(RANK1, f"fn two{ANY}(bits: &CountedBits<A>, tally: &mut Tally, other: &mut Tally) -> u64 {{ bits.limb(0, other) }}"),
+    ),
+    plant("`tally :: Tally as Counter` uses the counter's type", Beside(RANK1, "use vers_tally::tally::Tally as Counter;")),
+    plant("`Counter = Tally ;` uses the counter's type", Beside(RANK1, "type Counter = Tally;")),
+    plant("`'t mut Tally , }` uses the counter's type", Beside(RANK1, "struct Walk<'t> { tally: &'t mut Tally, }")),
+    plant("`Count for Tally {", Beside(RANK1, "trait Count { fn count(&mut self); }\nimpl Count for Tally { fn count(&mut self) {} }")),
+)
+PLAIN_FORMS = (
+    plant(
+        "SparseRSVec::is_set_unchecked, which the counted body SparseRSVec::get_counted calls, makes a counter",
+        Body("SparseRSVec::get_counted", "let _one = self.is_set_unchecked(place);"),
+    ),
+    plant(
+        "EliasFanoVec::successor, which the counted body EliasFanoVec::successor_unchecked calls, makes a counter",
+        Body("SparseRSVec::is_set_counted", "let _one = self.ones.successor_unchecked(place);"),
+    ),
+    plant(f"RsVec::rank1, which the counted body {RANK} calls, makes a counter", Body(RANK, "let _ones = self.high.rank1(0);")),
+    plant(f"RsVec::rank1, which the counted body {RANK} calls, makes a counter", Body(RANK, "let _ones = RsVec::rank1(&self.high, 0);")),
+)
+OTHER_NAMES = (
+    plant(
+        f"{RANK0} has the path `CountedBits::as_bit_vec` as a value",
+        Body(RANK0, "let whole = CountedBits::as_bit_vec;\nlet _word = whole(&self.bits).limb(0);"),
+    ),
+    plant(f"{RANK0} {ALONE}", Body(RANK0, "let span = self;\nlet _zeros = span.rank0(place);")),
+    plant(f"{RANK0} {ALONE}", Body(RANK0, "let RsVec { bits, .. } = self;")),
+    plant(f"{RANK0} {ALONE}", Body(RANK0, "match self { RsVec { zeros, .. } => {} }")),
+    plant(f"{RANK} takes {KEEPER} apart by a pattern", Body(RANK, "match self.high { RsVec { .. } => {} }")),
+    plant(f"{RANK} gives {KEEPER} the name `high`", Body(RANK, "let high = &self.high;")),
+    plant(f"{RANK0} has a pattern of a list", Body(RANK0, "let [_first, ..] = self.blocks.as_slice() else { return 0; };")),
+    plant(f"{RANK0} has a closure", Body(RANK0, "let peek = |k: usize| self.bits.as_bit_vec().limb(k);")),
+    plant(f"{RANK0} has a macro (`word_of!`)", Body(RANK0, "let _word = word_of!(self);")),
+    plant("the macro `macro_rules!` writes code", Beside(RANK0, "macro_rules! word_of { ($x:expr) => { $x.bits.as_bit_vec().limb(0) }; }")),
+    plant(f"{RANK0} has a block marked `unsafe`", Body(RANK0, "let _word = unsafe { *place_of(0) };")),
+    plant(f"{RANK0} has an item (`fn`) in a body", Body(RANK0, f"fn peek{PEEK}")),
+    plant(f"{RANK0} casts to `*`", Body(RANK0, "let _place = &place as *const usize;")),
+    plant(f"{RANK0} takes an entry of {KEEPER} by an index", Body(RANK0, "let _entry = self.blocks[0];")),
+    plant(f"{RANK0} takes `.entries` of {KEEPER}", Body(RANK0, "let _entry = self.blocks.entries[0];")),
+    plant(f"{RANK0} asks {KEEPER} by `entries`, which its type doesn't have", Body(RANK0, "let _entry = self.entries()[0];")),
+    plant(f"{RANK0} lends {KEEPER} by `&mut`", Body(RANK0, "let _old = std::mem::replace(&mut self.bits, spare());")),
+    plant(f"{RANK0} hands {KEEPER} to `u64::from`", Body(RANK0, "let _number = u64::from(&self.bits);")),
+    plant(
+        f"{RANK0} asks a counted vector by the path `CountedBits::limb`",
+        Body(RANK0, "let _word = CountedBits::limb(&self.bits, 0, tally);"),
+    ),
+    plant(f"{RANK0} reads by `BlockEntries::as_slice` without the counter", Body(RANK0, "let _entries = self.blocks.as_slice();")),
+)
+FUNCTIONS = (
+    called("word_of", "let _word = peeks::word_of(&self.bits);", Beside(RANK0, f"mod peeks {{ pub fn word_of{PEEK} }}")),
+    called(
+        "word_of", "let _word = peeks::word_of(&self.bits);",
+        Beside(RANK0, f"mod peeks {{ pub fn word_of{PEEK} }}\nfn word_of{ANY}(bits: &CountedBits<A>) -> u64 {{ 0 }}"),
+    ),
+    called(
+        "word_of", "let _word = tidy(&self.bits);",
+        Beside(RANK0, f"use crate::peeks::word_of as tidy;\nmod peeks {{ pub fn word_of{PEEK} }}"),
+        Beside(RANK0, f"mod other {{ fn tidy{ANY}(bits: &CountedBits<A>) -> u64 {{ 0 }} }}"),
+    ),
+    called(
+        "RsVec::list", "let _ones = self.list().count_ones();",
+        Beside(RANK0, f"impl{ANY} RsVec<A> {{ pub fn list(&self) -> &BitVec<A> {{ self.bits.as_bit_vec() }} }}"),
+    ),
+    called(
+        "RsVec::part", "if let Some(list) = self.part() { let _word = list.limb(0); }",
+        Beside(RANK0, f"impl{ANY} RsVec<A> {{ fn part(&self) -> Option<&BitVec<A>> {{ Some(self.bits.as_bit_vec()) }} }}"),
+    ),
+    called(
+        "RsVec::peek", "let _word = self.peek();",
+        Beside(RANK0, "trait Peek { fn peek(self) -> u64; }"),
+        Beside(RANK0, f"impl{ANY} Peek for &'_ RsVec<A> {{ fn peek(self) -> u64 {{ self.bits.as_bit_vec().limb(0) }} }}"),
+    ),
+    called(
+        "Listed::first", "let _word = self.first();",
+        Beside(RANK0, "trait Listed<A> { fn list(&self) -> &CountedBits<A>; fn first(&self) -> u64 { self.list().as_bit_vec().limb(0) } }"),
+        Beside(RANK0, f"impl{ANY} Listed<A> for RsVec<A> {{ fn list(&self) -> &CountedBits<A> {{ &self.bits }} }}"),
+    ),
+    called(
+        "RsVec::word_at", "let _word = self.word_at::<3>();",
+        Beside(RANK0, f"impl{ANY} RsVec<A> {{ fn word_at<const K: usize>(&self) -> u64 {{ self.bits.as_bit_vec().limb(K) }} }}"),
+    ),
+    called(
+        "Listed::first", "let _word = self.first();",
+        Beside(RANK0, "mod own { pub trait Listed<A> { fn list(&self) -> &CountedBits<A>; fn first(&self) -> u64 { self.list().as_bit_vec().limb(0) } } }"),
+        Beside(RANK0, "mod other { pub trait Listed { fn first(&self) -> u64 { 0 } } }"),
+        Beside(RANK0, f"impl{ANY} own::Listed<A> for RsVec<A> {{ fn list(&self) -> &CountedBits<A> {{ &self.bits }} }}"),
+    ),
+    called(
+        "usize::peek", "let _word = place.peek(&self.bits);",
+        Beside(RANK0, f"trait Peek {{ fn peek{ANY}(self, bits: &CountedBits<A>) -> u64; }}"),
+        Beside(RANK0, f"impl Peek for usize {{ fn peek{ANY}(self, bits: &CountedBits<A>) -> u64 {{ bits.as_bit_vec().limb(0) }} }}"),
+    ),
+    plant(
+        f"{RANK} asks {KEEPER} by `limb`, which its type doesn't have", Body(RANK, "let _word = self.high.limb(0);"),
+        Beside("RsVec", f"impl{ANY} Deref for RsVec<A> {{ type Target = BitVec<A>; fn deref(&self) -> &BitVec<A> {{ self.bits.as_bit_vec() }} }}"),
+    ),
+    plant(
+        f"counted body CountedBits::fast {WHOLE}",
+        Beside(RANK0, "trait Fast { fn fast(&self, tally: &mut Tally) -> u64; }"),
+        Beside(RANK0, f"impl{ANY} Fast for CountedBits<A> {{ fn fast(&self, tally: &mut Tally) -> u64 {{ self.as_bit_vec().limb(0) }} }}"),
+    ),
+    plant(
+        f"RsVec::by, which the counted body {RANK0} calls, calls a value", Body(RANK0, "let _word = self.by(CountedBits::first);"),
+        Beside(RANK0, f"impl{ANY} RsVec<A> {{ fn by(&self, read: fn(&CountedBits<A>) -> u64) -> u64 {{ read(&self.bits) }} }}"),
+    ),
+    plant(
+        f"{RANK0} hands {KEEPER} to `value` of `hashed`", Body(RANK0, "let _hash = hashed(&self.bits);"),
+        Beside(RANK0, "fn hashed<T: Hash>(value: &T) -> usize { 0 }"),
+    ),
+    plant(
+        f"{RANK} asks an index by `ones_of`, which lies below the counter", Body(RANK, "let _ones = ones_of(&self.high);"),
+        Beside("BitVec", "pub trait Listing { fn ones(&self) -> u64; }\npub fn ones_of<T: Listing>(bits: &T) -> u64 { bits.ones() }"),
+    ),
+    plant(
+        f"twice, which the counted body {RANK0} calls, asks a list by `iter`", Body(RANK0, "let _twice = twice(self.blocks.as_slice());"),
+        Beside(RANK0, "fn twice(numbers: &[u16]) -> usize { 2 * numbers.iter().count() }"),
+    ),
+)
+# lists that types keep
+KEPT = (
+    plant("RsVec.cache keeps `Vec<u64, A>`", Field("RsVec", "cache: Vec<u64, A>,")),
+    plant("RsVec.cache.", Field("RsVec", "cache: Option<BitVec<A>>,")),
+    plant("RsVec.cache keeps `BTreeMap<u64, u64>`", Field("RsVec", "cache: BTreeMap<u64, u64>,")),
+    plant("RsVec.cache keeps `[u64; 4]`", Field("RsVec", "cache: [u64; 4],")),
+    plant("RsVec.cache keeps `u64x8`", Field("RsVec", "cache: u64x8,")),
+    plant(
+        "RsVec.cache.words keeps `[u64; ",
+        Field("RsVec", "cache: Cache<8>,"),
+        Beside("RsVec", "struct Cache<const N: usize> { words: [u64; N] }"),
+    ),
+    plant(
+        "RsVec.cache.words keeps `Vec<u64, A>`",
+        Field("RsVec", "cache: Cache<A>,"),
+        Beside("RsVec", f"struct Cache{ANY} {{ words: Vec<u64, A> }}"),
+    ),
+    plant("RsVec.cache.0 keeps `Vec<u64, A>`", Field("RsVec", "cache: Cache<A>,"), Beside("RsVec", f"struct Cache{ANY}(Vec<u64, A>);")),
+    plant(
+        "RsVec.cache keeps `Vec<u64, A>`",
+        Field("RsVec", "cache: Cache<A>,"),
+        Beside("RsVec", f"enum Cache{ANY} {{ None, Words(Vec<u64, A>) }}"),
+    ),
+    plant("RsVec.cache keeps `Vec<u64, A>`", Field("RsVec", "cache: Cache<A>,"), Beside("RsVec", "type Cache<A> = Vec<u64, A>;")),
+    plant("RsVec.cache.inner keeps `Rc<A>`", Field("RsVec", "cache: Cache<A>,"), Beside("RsVec", "struct Cache<T> { inner: Rc<T> }")),
+    plant(
+        "RsVec.cache keeps `Cache, of which there are several",
+        Field("RsVec", "cache: Cache<A>,"),
+        Beside("RsVec", f"struct Cache{ANY} {{ words: Vec<u64, A> }}\nmod other {{ struct Cache {{ word: u64 }} }}"),
+    ),
+    plant("RsVecRefIter.seen keeps `Vec<u64, A>`", Field("RsVecRefIter", "seen: Vec<u64, A>,")),
+    plant("RsVecRefIter.seen keeps `[u64]`", Field("RsVecRefIter", "seen: &'a [u64],")),
+    plant("EliasFanoVec.members keeps `Vec<u64, A>`", Field("EliasFanoVec", "members: Vec<u64, A>,")),
+    plant("EliasFanoVec.nodes keeps `CountedNodes<[u64; 64], A>`", Field("EliasFanoVec", "nodes: CountedNodes<[u64; 64], A>,")),
+    plant("BinaryRmq.table keeps `Vec<u64, A>`", Instead("BinaryRmq", "table: Vec<u32, A>", "table: Vec<u64, A>")),
+    plant("BinaryRmq.lower keeps `Vec<u32, A>`", Field("BinaryRmq", "lower: Vec<u32, A>,")),
+    plant("TABLES names BinaryRmq.table", Instead("BinaryRmq", "table: Vec<u32, A>", "places: Vec<u32, A>")),
+    plant("heap_size of RsVec leaves out self.more", Field("RsVec", "more: BlockEntries<A>,")),
+    plant(
+        "heap_size of RsVec leaves out self.more.entries",
+        Field("RsVec", "more: More<A>,"),
+        Beside("RsVec", f"struct More{ANY} {{ entries: BlockEntries<A> }}"),
+    ),
+    plant("heap_size of EliasFanoVec leaves out self.high", Instead("EliasFanoVec::heap_size", "self.high.heap_size()", "0")),
+    plant("heap_size of BinaryRmq leaves out self.table", Instead("BinaryRmq::heap_size", "self.table.len()", "0")),
+    plant("no counted body of SparseRSVec asks spare", Field("SparseRSVec", "spare: EliasFanoVec<A>,")),
+    plant(
+        "no counted body of SparseRSVec asks spare", Field("SparseRSVec", "spare: EliasFanoVec<A>,"),
+        Body("SparseRSVec::rank1_counted", "let _len = passed(&self.spare, tally);"),
+        Beside("SparseRSVec", f"fn passed{ANY}(list: &EliasFanoVec<A>, tally: &mut Tally) -> usize {{ list.heap_size() }}"),
+    ),
+    plant("no counted body of EliasFanoVec asks levels", Field("EliasFanoVec", "levels: Vec<RsVec<A>, A>,")),
+    plant("RsVec owns the counted vector bits and has no heap_size", Instead("RsVec::heap_size", "fn heap_size", "fn size")),
+)
+# the crate of the counters
+RAISE = "tally.block_entries = tally.block_entries.saturating_add(1);"
+VECTORS = (
+    plant(
+        "entry_of takes a counted vector apart by `.entries`",
+        Beside(READ, f"pub fn entry_of{ANY}(blocks: &BlockEntries<A>) -> u16 {{ blocks.entries[0] }}"),
+    ),
+    plant(
+        "entry_of takes a counted vector apart by `BlockEntries {`",
+        Beside(READ, f"pub fn entry_of{ANY}(blocks: &BlockEntries<A>) -> u16 {{ let BlockEntries {{ entries }} = blocks; entries[0] }}"),
+    ),
+    plant(
+        "Tally::entry takes a counted vector apart by `.entries`",
+        Beside(READ, f"impl Tally {{ pub fn entry{ANY}(&mut self, blocks: &BlockEntries<A>) -> u16 {{ blocks.entries[0] }} }}"),
+    ),
+    plant(
+        "BlockEntries::deref is handed no counter",
+        Beside(READ, f"impl{ANY} Deref for BlockEntries<A> {{ fn deref(&self) -> &[u16] {{ &self.entries }} }}"),
+    ),
+    plant(f"{READ} reads 2 times and raises the counter by 1", Body(READ, "let _first = self.entries[0];")),
+    plant(f"{READ} reads 1 times and raises the counter by 2", Instead(READ, "saturating_add(1)", "saturating_add(2)")),
+    plant(f"{READ} is handed the counter and raises nothing", Instead(READ, RAISE, "")),
+    plant(f"{READ} writes to `block_entries` of the counter", Instead(READ, RAISE, "tally.block_entries = 1;")),
+    plant(f"{READ} writes to `block_entries` of the counter", Instead(READ, "saturating_add(1)", "saturating_add(u64::from(k as u32))")),
+    plant(f"{READ} reads in a loop", Body(READ, "for j in 0..k { let _entry = self.entries[j]; }")),
+    plant(f"{READ} asks its list by `iter`", Body(READ, "let _count = self.entries.iter().count();")),
+    plant(f"{READ} hands on `self.entries` whole", Body(READ, "let list = &self.entries;")),
+    plant(f"{READ} has `self` alone", Body(READ, "let BlockEntries { entries } = self;")),
+    plant(f"{READ} takes a value apart", Body(READ, "let BlockEntries { entries } = other;")),
+    plant(f"{READ} takes `.entries` of another value", Body(READ, "let _first = other.entries[0];")),
+    plant(f"{READ} asks itself by `as_slice` without the counter", Body(READ, "let _first = self.as_slice()[0];")),
+    plant(f"{READ} has a closure", Body(READ, "let peek = |j: usize| self.entries[j];")),
+    plant(f"{READ} is handed no counter", Instead(READ, "k: usize, tally: &mut Tally", "k: usize")),
+    plant("CountedBits::is_one reads 2 times and raises the counter by 1", Body("CountedBits::is_one", "let _word = self.bits.limb(0);")),
+    plant("BlockEntries::len reads an entry without the counter", Body("BlockEntries::len", "let _first = self.entries[0];")),
+    plant("BlockEntries.entries can be read from outside", Instead("BlockEntries", "entries: Vec<u16, A>", "pub entries: Vec<u16, A>")),
+    plant("BlockEntries.entries keeps `Vec<[u16; 16], A>`", Instead("BlockEntries", "entries: Vec<u16, A>", "entries: Vec<[u16; 16], A>")),
+)
+# plain queries
+NOT_PLAIN, ASKED = "RsVec::rank1 is not rank1_counted with a fresh counter", "self.rank1_counted(place, &mut tally)"
+QUERIES = (
+    plant(NOT_PLAIN, Instead("RsVec::rank1", ASKED, "self.scan(place, &mut tally)")),
+    plant(NOT_PLAIN, Instead("RsVec::rank1", ASKED, "self.rank1_counted(place, &mut tally) + self.len()")),
+    plant(NOT_PLAIN, Instead("RsVec::rank1", ASKED, "self.rank1_counted(self.bits.as_bit_vec().len(), &mut tally)")),
+    plant(NOT_PLAIN, Instead("RsVec::rank1", ASKED, "self.rank1_counted(place, &mut spare)")),
+    plant(NOT_PLAIN, Instead("RsVec::rank1", "let mut tally = Tally::new();", ""), Instead("RsVec::rank1", ASKED, "self.rank1(place)")),
+    plant(NOT_PLAIN, Body("RsVec::rank1", "let _word = self.bits.as_bit_vec().limb(0);")),
+)
+# what only the small crates have a place for: byte tables, lanes, nodes, lists of indexes
+SMALL_ALONE = (
+    plant("Tree.forward keeps `[u64; 512]`", Instead("Tree", "forward: [u64; 256]", "forward: [u64; 512]")),
+    plant("Tree::close_counted asks a list by `contains`", Body("Tree::close_counted", "let _is_there = self.forward.contains(&0);")),
+    plant("Tree::close_counted compares a list", Body("Tree::close_counted", "let _same = self.forward == self.forward;")),
+    plant(f"Tree::close_counted {NO_RANGE}", Body("Tree::close_counted", "for _entry in self.forward {}")),
+    plant("heap_size of Tree leaves out self.nodes", Instead("Tree::heap_size", "self.nodes.len()", "0")),
+    plant(
+        "BlockEntries::read_16 reads 16 times and raises the counter by 1",
+        Instead("BlockEntries::read_16", "saturating_add(16)", "saturating_add(1)"),
+    ),
+    plant(
+        f"{RANK0} reads by `BlockEntries::as_slice` without the counter",
+        Body(RANK0, "let _lanes = u16x16::from_slice(self.blocks.as_slice());"),
+    ),
+    plant(
+        "Levels::rank_counted asks a list of indexes by `iter`",
+        Body("Levels::rank_counted", "let _count = self.levels.iter().count();"),
+    ),
+    plant(f"Levels::rank_counted takes the whole of {KEEPER}", Body("Levels::rank_counted", "let _first = *self.levels[0];")),
+    plant(
+        "heap_size of Levels leaves out self.levels", Instead("Levels::heap_size", "self.levels.len()", "self.len"),
+        Instead("Levels::heap_size", "self.levels[k].heap_size()", "k"),
+    ),
+    plant("no counted body of Levels asks levels", Instead("below", "level.rank1_counted(place, tally)", "level.len()")),
+    plant(
+        "RsVec::rank1, which the counted body RsVec::item_at calls, makes a counter",
+        Instead("RsVec::item_at", "self.rank1_counted(i, tally)", "self.rank1(i)"),
+    ),
+)
+EVERYWHERE = LOOPS + COMPARISONS + COUNTER + PLAIN_FORMS + OTHER_NAMES + FUNCTIONS + KEPT + VECTORS + QUERIES
+
+
+def self_test(crates, faults):
+    """Plants each fault, and wants it found; nothing is said of the small crates without a plant."""
+    said = list(faults(SMALL, SMALL_TABLES))
+    assert not said, said
+    for one in EVERYWHERE + SMALL_ALONE:
+        try_plant(one, faults(planted(one, SMALL), SMALL_TABLES), ())
+    before = set(faults(crates))
+    for one in EVERYWHERE:
+        try_plant(one, faults(planted(one, crates)), before)
+    count = len(EVERYWHERE)
+    print(f"source rules: {count + len(SMALL_ALONE)} planted faults are found in small crates, and {count} of them in the sources")
+
+
+def try_plant(one, said, before):
+    """Wants a planted fault among what is said, and not before."""
+    lines = []
+    for line in said:
+        if one.wanted in line and line not in before:
+            return
+        lines.append(line)
+    raise AssertionError("\n".join([f"not found: {one}", "said:"] + lines))
+
+
+def planted(one, crates):
+    """Returns the crates with the changes of a plant."""
+    crates = {crate: dict(texts) for crate, texts in crates.items()}
+    for change in one.changes:
+        crate, path, text = changed(change, crates)
+        crates[crate][path] = text
+    return crates
+
+
+def changed(change, crates):
+    """Returns the crate and the path of the file that a change is for, and its new text."""
+    for crate, texts in sorted(crates.items()):
+        for path, text in sorted(texts.items()):
+            file = file_of(crate, path, text) if change.place.split("::")[-1] in text else None
+            found = extent(file, change.place) if file else None
+            if found:
+                first, end, new = edit(change, file, *found)
+                return crate, path, text[:first] + new + text[end:]
+    raise AssertionError(f"the place of a plant is gone: {change}")
+
+
+def extent(file, place):
+    """Returns where a struct or a function begins, where its body begins, and where it ends; None where it isn't there."""
+    for struct in file.structs:
+        if struct.name == place:
+            return struct.start, file.words[struct.body].start + 1, file.words[file.closings[struct.body]].start
+    for function in file.functions:
+        if function.body and function.full_name == place:
+            return function.start, file.words[function.body[0]].start + 1, file.words[function.body[1] - 1].start
+    return None
+
+
+def edit(change, file, start, inside, end):
+    """Returns where a change begins and ends in a file's text, and what stands there then."""
+    if isinstance(change, Beside):
+        return len(file.contents), len(file.contents), f"\n{change.code}\n"
+    if not isinstance(change, Instead):
+        return inside, inside, f" {change.code}\n"
+    assert file.contents.count(change.old, start, end) == 1, f"the text of a plant is gone: {change}"
+    place = file.contents.index(change.old, start)
+    return place, place + len(change.old), change.new
