@@ -1,5 +1,5 @@
 -- The laws that proofs of other crates may cite. A crate above imports this file and no other of this folder.
-use Rattle.std.proofs.Common.{◌≡◌, ℕ, ◌+◌, ◌-◌, ◌*◌, ◌%◌, ◌/◌, ◌^◌, ◌<◌, ◌≤◌, min, Bool, true, false, List, length, drop, get_or, slice_get, Option, None, Some}
+use Rattle.std.proofs.Common.{◌≡◌, ℕ, ◌+◌, ◌-◌, ◌*◌, ◌%◌, ◌/◌, ◌^◌, ◌<◌, ◌≤◌, min, Bool, true, false, List, length, map, drop, get_or, slice_get, Option, None, Some}
 use Rattle.std.specs.Prelude.{count_ones}
 use Rattle.std.specs.Iterator.{YieldsFirst, YieldsLast, MakesProgress, item_count}
 use Rattle.std.specs.Int.{bit_at}
@@ -190,3 +190,10 @@ goes_last = BothEnds.goes_last
 -- what was taken last is the last item
 pub last_is : {X : Type 0} (old : List X) (r : Option X) (new : List X) → TakesLast old r new → r ≡ last_or None old
 last_is = BothEnds.last_is
+
+-- bits as numbers are as many as the bits, and item p is bit p
+pub length-bits : (bits : List Bool) → length (map bit_value bits) ≡ length bits
+length-bits = BothEnds.length-bits
+
+pub bit_item : (bits : List Bool) (p : ℕ) (x : ℕ) → p < length (map bit_value bits) → x ≡ bit_value (get_or bits p false) → slice_get (map bit_value bits) p ≡ Some x
+bit_item = BothEnds.bit_item

@@ -3,8 +3,7 @@ use Rattle.std.proofs.Common.{◌≡◌, ℕ, ◌<◌, Bool, true, false, List, 
 use Rattle.std.proofs.lemmas.Option.{slice_get-get_or}
 use mir.Val.{bool_byte}
 use Rattle.vers_bits.specs.Bits.{bit_value, places, select}
-use Rattle.vers_bits.proofs.PublicLaws.{length-places, yields_first, goes_first}
-use Rattle.vers_bits.proofs.BothEnds.{length-bits, bit_item}
+use Rattle.vers_bits.proofs.PublicLaws.{length-places, yields_first, goes_first, length-bits, bit_item}
 use Rattle.vers_rank.proofs.Reading.{no_reading}
 use Rattle.vers_rank.proofs.ReadingBack.{no_reading_back}
 
