@@ -3,6 +3,7 @@ use Rattle.std.proofs.Common.{◌≡◌, ℕ, ◌+◌, ◌-◌, ◌*◌, ◌/◌
 use Rattle.std.specs.Int.{bit_at}
 use Rattle.std.proofs.lemmas.Bool.{cases_lt}
 use Rattle.std.proofs.lemmas.List.{length_push, get_or_push, get_or_append_left}
+use Rattle.vers_rmq.specs.declared.rmq.fast_rmq.TheConstants.{MAX_LEN}
 use Rattle.vers_rmq.specs.declared.rmq.least.Candidate.{Candidate}
 use Rattle.vers_rmq.specs.declared.rmq.fast_rmq.mask.Masks.{Masks}
 use Rattle.vers_rmq.specs.declared.rmq.fast_rmq.block.BlockMasks.{BlockMasks}
@@ -53,7 +54,7 @@ no_blocks xs mi pl ms e1 e2 e3 = rw (e1, e2, e3) (record {
   block = λ a l. absurd (omega arith);
 })
 
-pub all_blocks : (xs mi pl : List ℕ) (ms : List BlockMasks) (b : ℕ) → length xs ≤ 549755813760 → b ≡ block_count (length xs) → AreBlocks xs b mi pl ms → AreAllBlocks xs mi pl ms
+pub all_blocks : (xs mi pl : List ℕ) (ms : List BlockMasks) (b : ℕ) → length xs ≤ MAX_LEN → b ≡ block_count (length xs) → AreBlocks xs b mi pl ms → AreAllBlocks xs mi pl ms
 all_blocks xs mi pl ms b few e h = record { bounded = few; blocks = rw (← e) h }
 
 pub ruleset starting = (no_blocks, all_blocks)
@@ -61,7 +62,7 @@ pub ruleset starting = (no_blocks, all_blocks)
 -- ---- the sizes of what is kept
 pub sizes : (xs mi pl : List ℕ) (ms : List BlockMasks) → AreAllBlocks xs mi pl ms
     → (binary_heap_size (length mi) ≡ binary_heap_size (block_count (length xs))) × (length pl ≡ block_count (length xs)) × (length ms ≡ block_count (length xs))
-    × (binary_heap_size (length mi) ≤ 140 * block_count (length xs)) × (length xs ≤ 549755813760)
+    × (binary_heap_size (length mi) ≤ 140 * block_count (length xs)) × (length xs ≤ MAX_LEN)
 sizes xs mi pl ms h =
     let same = ap binary_heap_size h.blocks.minima_counted in
     (same, h.blocks.places_counted, h.blocks.masks_counted, omega (arith, same, size_bounded (block_count (length xs)) (omega (arith, h.bounded))), h.bounded)

@@ -1,5 +1,6 @@
 -- What is kept of blocks of 128 items.
 use Rattle.std.specs.Prelude.{◌≡◌, ℕ, ◌+◌, ◌-◌, ◌*◌, ◌<◌, ◌≤◌, min, List, length, slice_index, slice_index_or}
+use Rattle.vers_rmq.specs.declared.rmq.fast_rmq.TheConstants.{MAX_LEN}
 use Rattle.vers_rmq.specs.declared.rmq.fast_rmq.block.BlockMasks.{BlockMasks}
 use Rattle.vers_rmq.specs.Minima.{IsFirstLeast}
 use Rattle.vers_rmq.specs.Layout.{block_count}
@@ -29,5 +30,5 @@ pub record AreBlocks (items : List ℕ) (n : ℕ) (minima places : List ℕ) (ma
 
 -- what is kept of all blocks
 pub record AreAllBlocks (items minima places : List ℕ) (masks : List BlockMasks) : Type 0 where
-  pub bounded : length items ≤ 549755813760
+  pub bounded : length items ≤ MAX_LEN
   pub blocks : AreBlocks items (block_count (length items)) minima places masks

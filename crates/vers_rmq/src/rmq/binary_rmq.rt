@@ -62,7 +62,7 @@ impl<A: Allocator + Copy> Clone for BinaryRmq<A> {
 }
 
 impl<A: Allocator + Copy> BinaryRmq<A> {
-    /// The items, with their table. The items are dropped for want of memory.
+    /// The items, with their table. They are dropped if it is out of memory.
     pub fn from_vec(items: Vec<u64, A>) -> Result<Self, AllocError>
         requires { length items.items ≤ MAX_LEN }
         ensures { IfOk result (λ v. v ≡ items.items) }
@@ -76,7 +76,7 @@ impl<A: Allocator + Copy> BinaryRmq<A> {
     }
 
     /// The items of an iterator that ends. TooLong at the item that would pass `MAX_LEN`, which is
-    /// tested before memory is asked for; Memory where an item or the table finds no memory.
+    /// tested before memory is asked for. Memory where there is none for an item or for the table.
     pub fn from_iter<I: Iterator<Item = u64> + Drop>(alloc: A, items: I) -> Result<Self, GrowError>
         requires can { I.can_next items }
         requires ends { IsFinite (I.remaining items) }

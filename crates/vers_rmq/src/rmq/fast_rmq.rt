@@ -29,12 +29,15 @@ pub const MAX_LEN: usize = 549755813760;
 /// A list of numbers, of which the place of a least item of any range is found with few of them read.
 /// Contracts see a `FastRmq` as the list of its items.
 ///
-/// Of each block of 128 items it keeps the place of the least one in 1 byte, and over the least items
-/// of the blocks a `BinaryRmq`. A mask of 128 bits has the items that are below all before them in the
-/// block, and another one those that none after them in the block is below, so that each start and each
-/// end of a block has its least item in a mask. Two more masks have the same of each part of 16 items.
-/// A range over more than one block is the end of one, whole blocks and the start of another; a range in
-/// one block is the end of a part, whole parts and the start of another.
+/// Of each block of 128 items it keeps the place of the least one in 1 byte, and four masks of 128 bits.
+/// One mask has the items that are below all before them in the block, and one those that none after them
+/// in the block is below. So each start and each end of a block has the place of its least item in a mask.
+/// The other two masks have the same of each part of 16 items. Over the least items of the blocks there is
+/// a `BinaryRmq`.
+///
+/// A range over more than one block is the end of one, whole blocks and the start of another. A range over
+/// more than one part of a block is the end of one, whole parts and the start of another. A range in one
+/// part has its least item in a mask, or is read.
 #[derive(Drop)]
 pub struct FastRmq<A: Allocator + Copy> {
     items: CountedItems<A>,
@@ -74,7 +77,7 @@ impl<A: Allocator + Copy> Clone for FastRmq<A> {
 }
 
 impl<A: Allocator + Copy> FastRmq<A> {
-    /// The items, with what is kept of their blocks. The items are dropped for want of memory.
+    /// The items, with what is kept of their blocks. They are dropped if it is out of memory.
     pub fn from_vec(items: Vec<u64, A>) -> Result<Self, AllocError>
         requires { length items.items ≤ MAX_LEN }
         ensures { IfOk result (λ v. v ≡ items.items) }
@@ -95,8 +98,8 @@ impl<A: Allocator + Copy> FastRmq<A> {
     }
 
     /// The items of an iterator that ends. TooLong at the item that would pass `MAX_LEN`, which is
-    /// tested before memory is asked for; Memory where an item or what is kept of the blocks finds no
-    /// memory.
+    /// tested before memory is asked for. Memory where there is none for an item or for what is kept of
+    /// the blocks.
     pub fn from_iter<I: Iterator<Item = u64> + Drop>(alloc: A, items: I) -> Result<Self, GrowError>
         requires can { I.can_next items }
         requires ends { IsFinite (I.remaining items) }
@@ -274,7 +277,8 @@ impl<A: Allocator + Copy> FastRmq<A> {
     }
 
     /// The first place of a least item from place `i` to place `j`, both included, by at most 18 items
-    /// read.
+    /// read. Over more than one block they are at most 4, over parts of one block at most 8, and in one
+    /// part at most 16.
     #[inline(always)]
     pub fn range_min_counted(&self, i: usize, j: usize, tally: &mut Tally) -> usize
         requires order { i ≤ j }
