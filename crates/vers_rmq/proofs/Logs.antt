@@ -51,3 +51,16 @@ pub shifted : (k : ℕ) → k < 64 → (1 * 2 ^ k) % 2 ^ 64 ≡ 2 ^ k
 shifted k h = one_shl k 64 h
 
 pub ruleset shifts = (shifted)
+
+-- as many levels as the top digit of n - 1 asks for
+pub levels_are : (n k : ℕ) → 2 ≤ n → 2 ^ k ≤ n - 1 → n - 1 < 2 * 2 ^ k → k + 2 ≡ clog n + 1
+levels_are n k some low high =
+    let e : clog n ≡ k + 1 = clog_is n (k + 1) (omega (arith, pow_next k, high)) (omega (arith, pow_next k, low)) in omega (arith, e)
+
+pub one_level : (n : ℕ) → n < 2 → 1 ≡ clog n + 1
+one_level n few = let none : clog n ≤ 0 = digits-le 0 (n - 1) (omega arith) in omega (arith, none)
+
+pub few_levels : (n : ℕ) → n < 2 ^ 32 → clog n ≤ 32
+few_levels n h = digits-le 32 (n - 1) (omega (arith, h))
+
+pub ruleset counting = (levels_are, one_level, few_levels)

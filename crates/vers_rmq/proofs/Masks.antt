@@ -1,164 +1,194 @@
 -- Masks of least places.
-use Rattle.std.proofs.Common.{◌≡◌, ◌≢◌, ℕ, suc, ◌+◌, ◌-◌, ◌*◌, ◌/◌, ◌%◌, ◌^◌, ◌<◌, ◌≤◌, List, get_or, sym, ap, ◌∙◌, subst, inl, inr, arith, bit_and, bit_or}
-use Rattle.std.specs.Int.{bit_at, w128, trailing_zeros}
+use Rattle.std.proofs.Common.{◌≡◌, ◌≢◌, ℕ, suc, ◌+◌, ◌-◌, ◌*◌, ◌/◌, ◌%◌, ◌^◌, ◌<◌, ◌≤◌, List, get_or, sym, ap, ◌∙◌, subst, inl, inr, arith, max, bit_and, bit_or}
+use Rattle.std.specs.Int.{bit_at, w64, w128, trailing_zeros}
+use Rattle.std.specs.Int.Bits.{or_zero_r}
 use Rattle.std.specs.Int.Count.{count_leading_zeros}
-use Rattle.std.proofs.Math.Nat.{pow-suc}
-use Rattle.std.proofs.lemmas.Nat.{pow_pos, leading_top, le-div, div_below, and_le_l}
-use Rattle.std.proofs.lemmas.Nat.Bits.{bit_at_and, bit_at_ones, bit_at_ones_above, bit_at_above, bit_at-lt, bit_at_set_same, bit_at_set_other, bit_at-trailing_zeros, bit_at-zero, bit_at_cat_high, ones_shr, same_from_bits}
+use Rattle.std.proofs.Math.Nat.{pow-suc, pow-le-pow_right}
+use Rattle.std.proofs.lemmas.Nat.{pow_pos, leading_top, le-div, div_below, and_le_l, one_shl, shl_below}
+use Rattle.std.proofs.lemmas.Nat.Bits.{bit_at_and, bit_at_or, bit_at_ones, bit_at_ones_above, bit_at_above, bit_at-lt, bit_at_set_same, bit_at_set_other, bit_at-trailing_zeros, bit_at-zero, bit_at-pow_same, bit_at-pow_other, bit_at_cat_low, bit_at_cat_high, ones_shr, same_from_bits}
 use Rattle.std.proofs.lemmas.Bool.{cases_lt}
 use Rattle.vers_rmq.specs.Minima.{IsFirstLeast}
-use Rattle.vers_rmq.specs.Blocks.{IsLastSet, IsFirstSet, AddsOne, IsPrefixMask, IsSuffixMask}
-use Rattle.vers_rmq.proofs.Minima.{least_at, least_left, least_right, least_ends}
-
--- a prefix mask up to k, with what its loop knows
-pub record PrefixUpTo (xs : List ℕ) (s k mask least : ℕ) : Type 0 where
-  pub mask_is : IsPrefixMask xs s k mask
-  pub best : IsFirstLeast xs s (k - 1) least
-
-pub record SuffixFrom (xs : List ℕ) (s k e mask least : ℕ) : Type 0 where
-  pub mask_is : IsSuffixMask xs s k e mask
-  pub best : IsFirstLeast xs k (e - 1) least
-  pub below : (q : ℕ) → s + q < k → bit_at mask q ≡ 0
+use Rattle.vers_rmq.specs.Masks.{IsLastSet, IsFirstSet, AddsOne, PrefixUpTo, SuffixFrom, IsPrefixMask, IsSuffixMask, part_end}
+use Rattle.vers_rmq.proofs.Minima.{least_at, least_longer, least_earlier, least_left, least_right, least_ends}
 
 -- the items at two least places are the same
 same_value : (xs : List ℕ) (i j m n : ℕ) → IsFirstLeast xs i j m → IsFirstLeast xs i j n → get_or xs m 0 ≤ get_or xs n 0
 same_value xs i j m n a b = a.least n b.from b.to
 
-pub prefix_start : (xs : List ℕ) (s mask : ℕ) → AddsOne 0 mask 0 → PrefixUpTo xs s (s + 1) mask s
-prefix_start xs s mask a = record {
-  mask_is = record {
-    first = a.here;
-    places = λ j p h t. let ej : s + j ≡ s = omega arith in let ep : s + p ≡ s = omega (arith, t.within) in rw (ej, ep) (least_at xs s);
-    above = λ q h. let ne : q ≢ 0 = omega arith in a.others q ne ∙ bit_at-zero q;
-  };
-  best = let e : s ≡ s + 1 - 1 = omega arith in least_ends xs s s (s + 1 - 1) s e (least_at xs s);
+-- ---- a prefix mask of one part
+pub prefix_start : (xs : List ℕ) (s f mask : ℕ) → s ≤ f → AddsOne 0 mask (f - s) → PrefixUpTo xs s f (f + 1) mask f
+prefix_start xs s f mask sf a = record {
+  base = sf;
+  some = omega arith;
+  first = a.here;
+  places = λ j p g h t. elim (cases_lt p (f - s)) [
+    | inl less ↦ let np : p ≢ f - s = omega arith in absurd (omega (arith, t.set_at, a.others p np, bit_at-zero p))
+    | inr rest ↦ let ej : s + j ≡ f = omega arith in let ep : s + p ≡ f = omega (arith, t.within) in rw (ej, ep) (least_at xs f)
+  ];
+  best = let e : f ≡ f + 1 - 1 = omega arith in least_ends xs f f (f + 1 - 1) f e (least_at xs f);
+  above = λ q h. let ne : q ≢ f - s = omega arith in a.others q ne ∙ bit_at-zero q;
+  below = λ q h. let ne : q ≢ f - s = omega arith in a.others q ne ∙ bit_at-zero q;
 }
 
 -- an item below the least so far
-pub prefix_more : (xs : List ℕ) (s k mask more least : ℕ) → s < k → PrefixUpTo xs s k mask least → get_or xs k 0 < get_or xs least 0 → AddsOne mask more (k - s)
-    → PrefixUpTo xs s (k + 1) more k
-prefix_more xs s k mask more least sk u lt a =
-    let here : IsFirstLeast xs s k k = least_right xs s (k - 1) k k least k u.best (least_at xs k) (omega arith) (omega arith) (omega arith) lt in
+pub prefix_more : (xs : List ℕ) (s f k mask more least : ℕ) → PrefixUpTo xs s f k mask least → get_or xs k 0 < get_or xs least 0 → AddsOne mask more (k - s)
+    → PrefixUpTo xs s f (k + 1) more k
+prefix_more xs s f k mask more least u lt a =
+    let base : s ≤ f = u.base in
+    let some : f < k = u.some in
+    let here : IsFirstLeast xs f k k = least_right xs f (k - 1) k k least k u.best (least_at xs k) (omega arith) (omega arith) (omega arith) lt in
     record {
-      mask_is = record {
-        first = let ne : 0 ≢ k - s = omega arith in a.others 0 ne ∙ u.mask_is.first;
-        places = λ j p h t. elim (cases_lt (s + j) k) [
-          | inl old ↦ u.mask_is.places j p old (record {
-            within = t.within;
-            set_at = let ne : p ≢ k - s = omega (arith, t.within) in sym (a.others p ne) ∙ t.set_at;
-            clear = λ q f g. let ne : q ≢ k - s = omega arith in sym (a.others q ne) ∙ t.clear q f g;
-          })
-          | inr new ↦ let ej : j ≡ k - s = omega arith in elim (cases_lt p j) [
-            | inl less ↦ absurd (omega (arith, a.here, t.clear (k - s) (omega arith) (omega arith)))
-            | inr same ↦ let e : s + j ≡ k = omega arith in let f : s + p ≡ k = omega (arith, t.within) in rw (e, f) here
-          ]
-        ];
-        above = λ q h. let ne : q ≢ k - s = omega arith in a.others q ne ∙ u.mask_is.above q (omega arith);
-      };
-      best = least_ends xs s k (k + 1 - 1) k (omega arith) here;
+      base = base;
+      some = omega arith;
+      first = let ne : f - s ≢ k - s = omega arith in a.others (f - s) ne ∙ u.first;
+      places = λ j p g h t. elim (cases_lt (s + j) k) [
+        | inl old ↦ u.places j p g old (record {
+          within = t.within;
+          set_at = let ne : p ≢ k - s = omega (arith, t.within) in sym (a.others p ne) ∙ t.set_at;
+          clear = λ q y l. let ne : q ≢ k - s = omega arith in sym (a.others q ne) ∙ t.clear q y l;
+        })
+        | inr new ↦ elim (cases_lt p j) [
+          | inl less ↦ absurd (omega (arith, a.here, t.clear (k - s) (omega arith) (omega arith)))
+          | inr same ↦ let ej : s + j ≡ k = omega arith in let ep : s + p ≡ k = omega (arith, t.within) in rw (ej, ep) here
+        ]
+      ];
+      best = least_ends xs f k (k + 1 - 1) k (omega arith) here;
+      above = λ q h. let ne : q ≢ k - s = omega arith in a.others q ne ∙ u.above q (omega arith);
+      below = λ q h. let ne : q ≢ k - s = omega arith in a.others q ne ∙ u.below q h;
+    }
+
+-- items of which none is below the least so far
+pub prefix_skip : (xs : List ℕ) (s f k e mask least m : ℕ) → k < e → PrefixUpTo xs s f k mask least → IsFirstLeast xs k (e - 1) m → get_or xs least 0 ≤ get_or xs m 0
+    → PrefixUpTo xs s f e mask least
+prefix_skip xs s f k e mask least m ke u b le =
+    let base : s ≤ f = u.base in
+    let some : f < k = u.some in
+    record {
+      base = base;
+      some = omega arith;
+      first = u.first;
+      places = λ j p g h t. elim (cases_lt (s + j) k) [
+        | inl old ↦ u.places j p g old t
+        | inr new ↦ elim (cases_lt p (k - s)) [
+          | inl on ↦
+              let before : IsFirstLeast xs f (s + (k - 1 - s)) (s + p) = u.places (k - 1 - s) p (omega arith) (omega arith) (record { within = omega arith; set_at = t.set_at; clear = λ q y l. t.clear q y (omega arith) }) in
+              let here : IsFirstLeast xs f (k - 1) (s + p) = least_ends xs f (s + (k - 1 - s)) (k - 1) (s + p) (omega arith) before in
+              least_longer xs f (k - 1) k (s + j) (e - 1) (s + p) m here b (omega arith) (omega arith) (omega arith) (omega arith) (omega (arith, same_value xs f (k - 1) (s + p) least here u.best))
+          | inr off ↦ absurd (omega (arith, t.set_at, u.above p (omega arith)))
+        ]
+      ];
+      best = least_left xs f (k - 1) k (e - 1) least m u.best b (omega arith) (omega arith) (omega arith) le;
+      above = λ q h. u.above q (omega arith);
+      below = u.below;
     }
 
 -- an item not below the least so far
-pub prefix_same : (xs : List ℕ) (s k mask least : ℕ) → s < k → PrefixUpTo xs s k mask least → get_or xs least 0 ≤ get_or xs k 0 → PrefixUpTo xs s (k + 1) mask least
-prefix_same xs s k mask least sk u le = record {
-  mask_is = record {
-    first = u.mask_is.first;
-    places = λ j p h t. elim (cases_lt (s + j) k) [
-      | inl old ↦ u.mask_is.places j p old t
-      | inr new ↦
-          let ej : j ≡ k - s = omega arith in
-          let off : bit_at mask j ≡ 0 = u.mask_is.above j (omega arith) in
-          let ne : p ≢ j = λ e. absurd (omega (arith, off, t.set_at, ap (bit_at mask) e)) in
-          let before : IsFirstLeast xs s (s + (j - 1)) (s + p) = u.mask_is.places (j - 1) p (omega arith) (record { within = omega (arith, ne, t.within); set_at = t.set_at; clear = λ q f g. t.clear q f (omega arith) }) in
-          let b2 : IsFirstLeast xs s (k - 1) (s + p) = least_ends xs s (s + (j - 1)) (k - 1) (s + p) (omega arith) before in
-          least_ends xs s k (s + j) (s + p) (omega arith)
-          (least_left xs s (k - 1) k k (s + p) k b2 (least_at xs k) (omega arith) (omega arith) (omega arith) (omega (arith, same_value xs s (k - 1) (s + p) least b2 u.best, le)))
-    ];
-    above = λ q h. u.mask_is.above q (omega arith);
-  };
-  best = least_ends xs s k (k + 1 - 1) least (omega arith) (least_left xs s (k - 1) k k least k u.best (least_at xs k) (omega arith) (omega arith) (omega arith) le);
-}
+pub prefix_same : (xs : List ℕ) (s f k mask least : ℕ) → PrefixUpTo xs s f k mask least → get_or xs least 0 ≤ get_or xs k 0 → PrefixUpTo xs s f (k + 1) mask least
+prefix_same xs s f k mask least u le = prefix_skip xs s f k (k + 1) mask least k (omega arith) u (least_ends xs k k (k + 1 - 1) k (omega arith) (least_at xs k)) le
 
+-- ---- a suffix mask of one part
 pub suffix_start : (xs : List ℕ) (s k mask : ℕ) → s ≤ k → AddsOne 0 mask (k - s) → SuffixFrom xs s k (k + 1) mask k
 suffix_start xs s k mask sk a = record {
-  mask_is = record {
-    last = let e : k + 1 - 1 - s ≡ k - s = omega arith in rw e a.here;
-    places = λ i p h f t.
-        let ne : i ≡ k - s = omega arith in
-        elim (cases_lt (k - s) p) [
-          | inl more ↦ let np : p ≢ k - s = omega arith in absurd (omega (arith, t.set_at, a.others p np, bit_at-zero p))
-          | inr same ↦ let ei : s + i ≡ k = omega arith in let ep : s + p ≡ k = omega (arith, t.within) in let ek : k + 1 - 1 ≡ k = omega arith in rw (ei, ep, ek) (least_at xs k)
-        ];
-    above = λ q h. let ne : q ≢ k - s = omega arith in a.others q ne ∙ bit_at-zero q;
-  };
+  base = sk;
+  some = omega arith;
+  last = let e : k + 1 - 1 - s ≡ k - s = omega arith in rw e a.here;
+  places = λ i p h f t. elim (cases_lt (k - s) p) [
+    | inl more ↦ let np : p ≢ k - s = omega arith in absurd (omega (arith, t.set_at, a.others p np, bit_at-zero p))
+    | inr same ↦ let ei : s + i ≡ k = omega arith in let ep : s + p ≡ k = omega (arith, t.within) in let ek : k + 1 - 1 ≡ k = omega arith in rw (ei, ep, ek) (least_at xs k)
+  ];
   best = let e : k ≡ k + 1 - 1 = omega arith in least_ends xs k k (k + 1 - 1) k e (least_at xs k);
+  above = λ q h. let ne : q ≢ k - s = omega arith in a.others q ne ∙ bit_at-zero q;
   below = λ q h. let ne : q ≢ k - s = omega arith in a.others q ne ∙ bit_at-zero q;
 }
 
 -- an item not above the least after it
-pub suffix_more : (xs : List ℕ) (s k e mask more least : ℕ) → s ≤ k → k + 1 < e → SuffixFrom xs s (k + 1) e mask least → get_or xs k 0 ≤ get_or xs least 0 → AddsOne mask more (k - s)
+pub suffix_more : (xs : List ℕ) (s k n e mask more least : ℕ) → s ≤ k → n ≡ k + 1 → SuffixFrom xs s n e mask least → get_or xs k 0 ≤ get_or xs least 0 → AddsOne mask more (k - s)
     → SuffixFrom xs s k e more k
-suffix_more xs s k e mask more least sk ke u le a =
-    let here : IsFirstLeast xs k (e - 1) k = least_left xs k k (k + 1) (e - 1) k least (least_at xs k) u.best (omega arith) (omega arith) (omega arith) le in
+suffix_more xs s k n e mask more least sk en u le a =
+    let some : n < e = u.some in
+    let here : IsFirstLeast xs k (e - 1) k = least_left xs k k n (e - 1) k least (least_at xs k) u.best (omega arith) (omega arith) (omega arith) le in
     record {
-      mask_is = record {
-        last = let ne : e - 1 - s ≢ k - s = omega arith in a.others (e - 1 - s) ne ∙ u.mask_is.last;
-        places = λ i p h f t. elim (cases_lt k (s + i)) [
-          | inl old ↦ u.mask_is.places i p (omega arith) f (record {
-            within = t.within;
-            set_at = let ne : p ≢ k - s = omega (arith, t.within) in sym (a.others p ne) ∙ t.set_at;
-            clear = λ q g l. let ne : q ≢ k - s = omega arith in sym (a.others q ne) ∙ t.clear q g l;
-          })
-          | inr new ↦ let ei : i ≡ k - s = omega arith in elim (cases_lt i p) [
-            | inl less ↦ absurd (omega (arith, a.here, t.clear (k - s) (omega arith) (omega arith)))
-            | inr same ↦ let e1 : s + i ≡ k = omega arith in let e2 : s + p ≡ k = omega (arith, t.within) in rw (e1, e2) here
-          ]
-        ];
-        above = λ q h. let ne : q ≢ k - s = omega arith in a.others q ne ∙ u.mask_is.above q h;
-      };
+      base = sk;
+      some = omega arith;
+      last = let ne : e - 1 - s ≢ k - s = omega arith in a.others (e - 1 - s) ne ∙ u.last;
+      places = λ i p h f t. elim (cases_lt k (s + i)) [
+        | inl old ↦ u.places i p (omega arith) f (record {
+          within = t.within;
+          set_at = let ne : p ≢ k - s = omega (arith, t.within) in sym (a.others p ne) ∙ t.set_at;
+          clear = λ q g l. let ne : q ≢ k - s = omega arith in sym (a.others q ne) ∙ t.clear q g l;
+        })
+        | inr new ↦ elim (cases_lt i p) [
+          | inl less ↦ absurd (omega (arith, a.here, t.clear (k - s) (omega arith) (omega arith)))
+          | inr same ↦ let ei : s + i ≡ k = omega arith in let ep : s + p ≡ k = omega (arith, t.within) in rw (ei, ep) here
+        ]
+      ];
       best = here;
+      above = λ q h. let ne : q ≢ k - s = omega arith in a.others q ne ∙ u.above q h;
       below = λ q h. let ne : q ≢ k - s = omega arith in a.others q ne ∙ u.below q (omega arith);
     }
 
+-- items that are all above the least after them
+pub suffix_skip : (xs : List ℕ) (s c k e mask least m : ℕ) → s ≤ c → c < k → SuffixFrom xs s k e mask least → IsFirstLeast xs c (k - 1) m → get_or xs least 0 < get_or xs m 0
+    → SuffixFrom xs s c e mask least
+suffix_skip xs s c k e mask least m sc ck u b lt =
+    let some : k < e = u.some in
+    record {
+      base = sc;
+      some = omega arith;
+      last = u.last;
+      places = λ i p h f t. elim (cases_lt (s + i) k) [
+        | inl new ↦ elim (cases_lt p (k - s)) [
+          | inl off ↦ absurd (omega (arith, t.set_at, u.below p (omega arith)))
+          | inr on ↦
+              let after : IsFirstLeast xs (s + (k - s)) (e - 1) (s + p) = u.places (k - s) p (omega arith) (omega arith) (record { within = on; set_at = t.set_at; clear = λ q g l. t.clear q (omega arith) l }) in
+              let ek : s + (k - s) ≡ k = omega arith in
+              let here : IsFirstLeast xs k (e - 1) (s + p) = rw ek at after in
+              least_earlier xs c (s + i) (k - 1) k (e - 1) m (s + p) b here (omega arith) (omega arith) (omega arith) (omega arith) (omega (arith, same_value xs k (e - 1) (s + p) least here u.best))
+        ]
+        | inr old ↦ u.places i p old f t
+      ];
+      best = least_right xs c (k - 1) k (e - 1) m least b u.best (omega arith) (omega arith) (omega arith) lt;
+      above = u.above;
+      below = λ q h. u.below q (omega arith);
+    }
+
 -- an item above the least after it
-pub suffix_same : (xs : List ℕ) (s k e mask least : ℕ) → s ≤ k → k + 1 < e → SuffixFrom xs s (k + 1) e mask least → get_or xs least 0 < get_or xs k 0 → SuffixFrom xs s k e mask least
-suffix_same xs s k e mask least sk ke u lt = record {
-  mask_is = record {
-    last = u.mask_is.last;
-    places = λ i p h f t. elim (cases_lt k (s + i)) [
-      | inl old ↦ u.mask_is.places i p (omega arith) f t
-      | inr new ↦
-          let ei : i ≡ k - s = omega arith in
-          let off : bit_at mask i ≡ 0 = u.below i (omega arith) in
-          let ne : p ≢ i = λ c. absurd (omega (arith, off, t.set_at, ap (bit_at mask) c)) in
-          let after : IsFirstLeast xs (s + (i + 1)) (e - 1) (s + p) = u.mask_is.places (i + 1) p (omega arith) (omega arith) (record { within = omega (arith, ne, t.within); set_at = t.set_at; clear = λ q g l. t.clear q (omega arith) l }) in
-          let e1 : s + (i + 1) ≡ k + 1 = omega arith in
-          let a2 : IsFirstLeast xs (k + 1) (e - 1) (s + p) = rw e1 at after in
-          let e2 : s + i ≡ k = omega arith in
-          rw e2 (least_right xs k k (k + 1) (e - 1) k (s + p) (least_at xs k) a2 (omega arith) (omega arith) (omega arith) (omega (arith, same_value xs (k + 1) (e - 1) (s + p) least a2 u.best, lt)))
-    ];
-    above = u.mask_is.above;
-  };
-  best = least_right xs k k (k + 1) (e - 1) k least (least_at xs k) u.best (omega arith) (omega arith) (omega arith) lt;
-  below = λ q h. u.below q (omega arith);
+pub suffix_same : (xs : List ℕ) (s k n e mask least : ℕ) → s ≤ k → n ≡ k + 1 → SuffixFrom xs s n e mask least → get_or xs least 0 < get_or xs k 0 → SuffixFrom xs s k e mask least
+suffix_same xs s k n e mask least sk en u lt = suffix_skip xs s k n e mask least k sk (omega arith) u (least_ends xs k k (n - 1) k (omega arith) (least_at xs k)) lt
+
+-- ---- bits that are put into a mask from place o on
+placed_high : (n o d : ℕ) → bit_at (n * 2 ^ o) (d + o) ≡ bit_at n d
+placed_high n o d =
+    let whole : n * 2 ^ o ≡ n * 2 ^ o + 0 = omega arith in
+    let back : d + o - o ≡ d = omega arith in
+    ap (λ v. bit_at v (d + o)) whole ∙ bit_at_cat_high n o 0 (d + o) (pow_pos o) (omega arith) ∙ ap (bit_at n) back
+
+placed_low : (n o q : ℕ) → q < o → bit_at (n * 2 ^ o) q ≡ 0
+placed_low n o q h =
+    let whole : n * 2 ^ o ≡ n * 2 ^ o + 0 = omega arith in
+    ap (λ v. bit_at v q) whole ∙ bit_at_cat_low n o 0 q h ∙ bit_at-zero q
+
+placed_other : (bits more d o q : ℕ) → AddsOne bits more d → q ≢ d + o → bit_at (more * 2 ^ o) q ≡ bit_at (bits * 2 ^ o) q
+placed_other bits more d o q a ne = elim (cases_lt q o) [
+  | inl low ↦ placed_low more o q low ∙ sym (placed_low bits o q low)
+  | inr high ↦
+      let e : q ≡ q - o + o = omega arith in
+      let nd : q - o ≢ d = omega arith in
+      ap (bit_at (more * 2 ^ o)) e ∙ placed_high more o (q - o) ∙ a.others (q - o) nd ∙ sym (placed_high bits o (q - o)) ∙ ap (bit_at (bits * 2 ^ o)) (sym e)
+]
+
+-- one bit more makes one 1 more in the mask
+pub merged_one : (mask bits more d o t : ℕ) → t ≡ d + o → AddsOne bits more d → AddsOne (bit_or mask (bits * 2 ^ o)) (bit_or mask (more * 2 ^ o)) t
+merged_one mask bits more d o t e a = record {
+  here = bit_at_or mask (more * 2 ^ o) t ∙ omega (arith, ap (bit_at (more * 2 ^ o)) e, placed_high more o d, a.here, bit_at-lt mask t);
+  others = λ q ne. let nd : q ≢ d + o = omega arith in
+      bit_at_or mask (more * 2 ^ o) q ∙ ap (λ r. max (bit_at mask q) r) (placed_other bits more d o q a nd) ∙ sym (bit_at_or mask (bits * 2 ^ o) q);
 }
 
-pub suffix_more_at : (xs : List ℕ) (s k n e mask more least : ℕ) → n ≡ k + 1 → s ≤ k → n < e → SuffixFrom xs s n e mask least → get_or xs k 0 ≤ get_or xs least 0 → AddsOne mask more (k - s)
-    → SuffixFrom xs s k e more k
-suffix_more_at xs s k n e mask more least en sk ke u = suffix_more xs s k e mask more least sk (omega arith) (rw en at u)
+pub merged_none : (mask o : ℕ) → bit_or mask (0 * 2 ^ o) ≡ mask
+merged_none mask o = let z : 0 * 2 ^ o ≡ 0 = omega arith in ap (bit_or mask) z ∙ or_zero_r mask
 
-pub suffix_same_at : (xs : List ℕ) (s k n e mask least : ℕ) → n ≡ k + 1 → s ≤ k → n < e → SuffixFrom xs s n e mask least → get_or xs least 0 < get_or xs k 0 → SuffixFrom xs s k e mask least
-suffix_same_at xs s k n e mask least en sk ke u = suffix_same xs s k e mask least sk (omega arith) (rw en at u)
-
-pub prefix_end : (xs : List ℕ) (s k e mask least : ℕ) → k ≡ e → PrefixUpTo xs s k mask least → IsPrefixMask xs s e mask
-prefix_end xs s k e mask least q u = rw (← q) u.mask_is
-
-pub suffix_end : (xs : List ℕ) (s k e mask least : ℕ) → k ≡ s → SuffixFrom xs s k e mask least → IsSuffixMask xs s s e mask
-suffix_end xs s k e mask least q u = let P : ℕ → Type 0 = λ j. IsSuffixMask xs s j e mask in subst P q u.mask_is
-
-pub adds_one : (mask d : ℕ) → d < 128 → AddsOne mask (bit_or mask (1 * 2 ^ d % 2 ^ 128)) d
-adds_one mask d h = record { here = bit_at_set_same w128 mask d h; others = λ q ne. bit_at_set_other w128 mask d h q ne }
-
+-- ---- the highest and the lowest 1
 top_bit : (n m : ℕ) → 2 ^ m ≤ n → n < 2 ^ suc m → bit_at n m ≡ 1
 top_bit n m low high =
     let one : 1 ≤ n / 2 ^ m = le-div 1 n (2 ^ m) (pow_pos m) (omega (arith, low)) in
@@ -201,17 +231,145 @@ first_is mask i some fits =
       clear = λ q f l. let e : q ≡ i + (q - i) = omega arith in ap (bit_at mask) e ∙ shifted_bit mask i (q - i) ∙ t.2 (q - i) (omega arith);
     }
 
--- a mask with no 1 from d on
+-- bits of which none stands from d on
 narrow : (mask d : ℕ) → ((q : ℕ) → d ≤ q → bit_at mask q ≡ 0) → mask < 2 ^ d
 narrow mask d h =
     let none : mask / 2 ^ d ≡ 0 = same_from_bits (mask / 2 ^ d) 0 (λ i. sym (shifted_bit mask d i) ∙ h (d + i) (omega arith) ∙ sym (bit_at-zero i)) in
     omega (arith, pow_pos d, ap (λ r. r * 2 ^ d) none)
 
-pub narrow_prefix : (xs : List ℕ) (s e mask d : ℕ) → e ≤ s + d → IsPrefixMask xs s e mask → mask < 2 ^ d
-narrow_prefix xs s e mask d few m = narrow mask d (λ q h. m.above q (omega arith))
+-- few bits have room in the mask
+pub few_bits : (bits n o : ℕ) → n + o ≤ 128 → ((q : ℕ) → n ≤ q → bit_at bits q ≡ 0) → bits * 2 ^ o < 2 ^ 128
+few_bits bits n o room none = omega (arith, shl_below bits n o (narrow bits n none), pow-le-pow_right {n = 2} (omega arith) {i = n + o} {j = 128} room)
 
-pub narrow_suffix : (xs : List ℕ) (s k e mask d : ℕ) → e ≤ s + d → IsSuffixMask xs s k e mask → mask < 2 ^ d
-narrow_suffix xs s k e mask d few m = narrow mask d (λ q h. m.above q (omega arith))
+-- ---- the loops over a part
+pub prefixes_none : (xs : List ℕ) (s f k mask o least : ℕ) → PrefixUpTo xs s f k mask least → PrefixUpTo xs s f k (bit_or mask (0 * 2 ^ o)) least
+prefixes_none xs s f k mask o least u = rw (merged_none mask o) u
+
+pub prefixes_more : (xs : List ℕ) (s f from k mask bits more least : ℕ) → s ≤ from → from ≤ k → PrefixUpTo xs s f k (bit_or mask (bits * 2 ^ (from - s))) least
+    → get_or xs k 0 < get_or xs least 0 → AddsOne bits more (k - from) → PrefixUpTo xs s f (k + 1) (bit_or mask (more * 2 ^ (from - s))) k
+prefixes_more xs s f from k mask bits more least sf fk u lt a =
+    prefix_more xs s f k (bit_or mask (bits * 2 ^ (from - s))) (bit_or mask (more * 2 ^ (from - s))) least u lt (merged_one mask bits more (k - from) (from - s) (k - s) (omega arith) a)
+
+pub prefixes_to : (xs : List ℕ) (s f k e mask more least : ℕ) → k ≡ e → more ≡ mask → PrefixUpTo xs s f k mask least → PrefixUpTo xs s f e more least
+prefixes_to xs s f k e mask more least ek em u =
+    let P : ℕ → Type 0 = λ n. PrefixUpTo xs s f n mask least in rw em (subst P ek u)
+
+pub suffixes_none : (xs : List ℕ) (s k e mask o least : ℕ) → SuffixFrom xs s k e mask least → SuffixFrom xs s k e (bit_or mask (0 * 2 ^ o)) least
+suffixes_none xs s k e mask o least u = rw (merged_none mask o) u
+
+pub suffixes_more : (xs : List ℕ) (s from k n e mask bits more least : ℕ) → s ≤ from → from ≤ k → n ≡ k + 1 → SuffixFrom xs s n e (bit_or mask (bits * 2 ^ (from - s))) least
+    → get_or xs k 0 ≤ get_or xs least 0 → AddsOne bits more (k - from) → SuffixFrom xs s k e (bit_or mask (more * 2 ^ (from - s))) k
+suffixes_more xs s from k n e mask bits more least sf fk en u le a =
+    suffix_more xs s k n e (bit_or mask (bits * 2 ^ (from - s))) (bit_or mask (more * 2 ^ (from - s))) least (omega arith) en u le (merged_one mask bits more (k - from) (from - s) (k - s) (omega arith) a)
+
+pub suffixes_to : (xs : List ℕ) (s k f e mask more least : ℕ) → k ≡ f → more ≡ mask → SuffixFrom xs s k e mask least → SuffixFrom xs s f e more least
+suffixes_to xs s k f e mask more least ek em u =
+    let P : ℕ → Type 0 = λ n. SuffixFrom xs s n e mask least in rw em (subst P ek u)
+
+-- one bit more, where none stands from n on
+pub none_above : (bits more d n : ℕ) → d < n → AddsOne bits more d → ((q : ℕ) → n ≤ q → bit_at bits q ≡ 0) → (q : ℕ) → n ≤ q → bit_at more q ≡ 0
+none_above bits more d n dn a none q h = let ne : q ≢ d = omega arith in a.others q ne ∙ none q h
+
+-- ---- masks of parts
+or_left : (a b q : ℕ) → bit_at b q ≡ 0 → bit_at (bit_or a b) q ≡ bit_at a q
+or_left a b q off = bit_at_or a b q ∙ omega (arith, off)
+
+or_right : (a b q : ℕ) → bit_at a q ≡ 0 → bit_at (bit_or a b) q ≡ bit_at b q
+or_right a b q off = bit_at_or a b q ∙ omega (arith, off)
+
+or_first : (a b q : ℕ) → bit_at a q ≡ 1 → bit_at (bit_or a b) q ≡ 1
+or_first a b q on = bit_at_or a b q ∙ omega (arith, on, bit_at-lt b q)
+
+or_second : (a b q : ℕ) → bit_at b q ≡ 1 → bit_at (bit_or a b) q ≡ 1
+or_second a b q on = bit_at_or a b q ∙ omega (arith, on, bit_at-lt a q)
+
+-- one part is all
+prefix_alone : (xs : List ℕ) (w s k mask least : ℕ) → ((j : ℕ) → s + j < k → w * (j / w) ≡ 0) → PrefixUpTo xs s s k mask least → IsPrefixMask xs w s k mask
+prefix_alone xs w s k mask least one u = record {
+  starts = λ j h. let e : w * (j / w) ≡ s - s = omega (arith, one j h) in ap (bit_at mask) e ∙ u.first;
+  places = λ j p h t. let e : s + w * (j / w) ≡ s = omega (arith, one j h) in rw e (u.places j p (omega arith) h t);
+  above = u.above;
+}
+
+suffix_alone : (xs : List ℕ) (w s k e mask least : ℕ) → ((i : ℕ) → k ≤ s + i → s + i < e → e ≤ s + (w * (i / w) + w)) → SuffixFrom xs s k e mask least → IsSuffixMask xs w s k e mask
+suffix_alone xs w s k e mask least one u = record {
+  ends = λ i h f. let q : part_end w s e i - 1 - s ≡ e - 1 - s = omega (arith, one i h f) in ap (bit_at mask) q ∙ u.last;
+  places = λ i p h f t. least_ends xs (s + i) (e - 1) (part_end w s e i - 1) (s + p) (omega (arith, one i h f)) (u.places i p h f t);
+  above = u.above;
+  below = u.below;
+}
+
+pub prefix_whole : (xs : List ℕ) (s k e mask least : ℕ) → k ≡ e → e ≤ s + 128 → PrefixUpTo xs s s k mask least → IsPrefixMask xs 128 s e mask
+prefix_whole xs s k e mask least ek few u = let P : ℕ → Type 0 = λ n. IsPrefixMask xs 128 s n mask in subst P ek (prefix_alone xs 128 s k mask least (λ j h. omega arith) u)
+
+pub suffix_whole : (xs : List ℕ) (s k e mask least : ℕ) → k ≡ s → e ≤ s + 128 → SuffixFrom xs s k e mask least → IsSuffixMask xs 128 s s e mask
+suffix_whole xs s k e mask least ek few u = let P : ℕ → Type 0 = λ n. IsSuffixMask xs 128 s n e mask in subst P ek (suffix_alone xs 128 s k e mask least (λ i h f. omega arith) u)
+
+pub prefix_first : (xs : List ℕ) (s k mask least : ℕ) → k ≤ s + 16 → PrefixUpTo xs s s k mask least → IsPrefixMask xs 16 s k mask
+prefix_first xs s k mask least few u = prefix_alone xs 16 s k mask least (λ j h. omega arith) u
+
+pub suffix_last : (xs : List ℕ) (s k e mask least : ℕ) → 16 * ((k - s) / 16) ≡ k - s → e ≤ k + 16 → SuffixFrom xs s k e mask least → IsSuffixMask xs 16 s k e mask
+suffix_last xs s k e mask least aligned few u = let base : s ≤ k = u.base in suffix_alone xs 16 s k e mask least (λ i h f. omega arith) u
+
+-- a part more
+pub prefix_part : (xs : List ℕ) (s k e mask part least : ℕ) → 16 * ((k - s) / 16) ≡ k - s → e ≤ k + 16 → IsPrefixMask xs 16 s k mask → PrefixUpTo xs s k e part least
+    → IsPrefixMask xs 16 s e (bit_or mask part)
+prefix_part xs s k e mask part least aligned few m u =
+    let base : s ≤ k = u.base in
+    let some : k < e = u.some in
+    let on : bit_at (bit_or mask part) (k - s) ≡ 1 = or_second mask part (k - s) u.first in
+    record {
+      starts = λ j h. elim (cases_lt (s + j) k) [
+        | inl old ↦ or_first mask part (16 * (j / 16)) (m.starts j old)
+        | inr new ↦ let e : 16 * (j / 16) ≡ k - s = omega arith in ap (bit_at (bit_or mask part)) e ∙ on
+      ];
+      places = λ j p h t. elim (cases_lt (s + j) k) [
+        | inl old ↦
+            let keeps : (q : ℕ) → q ≤ j → bit_at (bit_or mask part) q ≡ bit_at mask q = λ q l. or_left mask part q (u.below q (omega arith)) in
+            m.places j p old (record { within = t.within; set_at = sym (keeps p t.within) ∙ t.set_at; clear = λ q y l. sym (keeps q l) ∙ t.clear q y l })
+        | inr new ↦
+            let keeps : (q : ℕ) → k ≤ s + q → bit_at (bit_or mask part) q ≡ bit_at part q = λ q l. or_right mask part q (m.above q l) in
+            let e : s + 16 * (j / 16) ≡ k = omega arith in
+            elim (cases_lt p (k - s)) [
+              | inl less ↦ absurd (omega (arith, on, t.clear (k - s) less (omega arith)))
+              | inr rest ↦ rw e (u.places j p new h (record { within = t.within; set_at = sym (keeps p (omega arith)) ∙ t.set_at; clear = λ q y l. sym (keeps q (omega arith)) ∙ t.clear q y l }))
+            ]
+      ];
+      above = λ q h. or_right mask part q (m.above q (omega arith)) ∙ u.above q h;
+    }
+
+pub suffix_part : (xs : List ℕ) (s c k e mask part least : ℕ) → 16 * ((c - s) / 16) ≡ c - s → k ≡ c + 16 → k ≤ e → IsSuffixMask xs 16 s k e mask → SuffixFrom xs s c k part least
+    → IsSuffixMask xs 16 s c e (bit_or mask part)
+suffix_part xs s c k e mask part least aligned next ke m u =
+    let base : s ≤ c = u.base in
+    let on : bit_at (bit_or mask part) (k - 1 - s) ≡ 1 = or_second mask part (k - 1 - s) u.last in
+    record {
+      ends = λ i h f. elim (cases_lt (s + i) k) [
+        | inl new ↦ let q : part_end 16 s e i - 1 - s ≡ k - 1 - s = omega arith in ap (bit_at (bit_or mask part)) q ∙ on
+        | inr old ↦ or_first mask part (part_end 16 s e i - 1 - s) (m.ends i old f)
+      ];
+      places = λ i p h f t. elim (cases_lt (s + i) k) [
+        | inl new ↦
+            let keeps : (q : ℕ) → s + q < k → bit_at (bit_or mask part) q ≡ bit_at part q = λ q l. or_right mask part q (m.below q l) in
+            elim (cases_lt (k - 1 - s) p) [
+              | inl more ↦ absurd (omega (arith, on, t.clear (k - 1 - s) (omega arith) more))
+              | inr rest ↦ least_ends xs (s + i) (k - 1) (part_end 16 s e i - 1) (s + p) (omega arith)
+                  (u.places i p h new (record { within = t.within; set_at = sym (keeps p (omega arith)) ∙ t.set_at; clear = λ q g l. sym (keeps q (omega arith)) ∙ t.clear q g l }))
+            ]
+        | inr old ↦
+            let keeps : (q : ℕ) → k ≤ s + q → bit_at (bit_or mask part) q ≡ bit_at mask q = λ q l. or_left mask part q (u.above q l) in
+            m.places i p old f (record { within = t.within; set_at = sym (keeps p (omega (arith, t.within))) ∙ t.set_at; clear = λ q g l. sym (keeps q (omega arith)) ∙ t.clear q g l })
+      ];
+      above = λ q h. or_left mask part q (u.above q (omega arith)) ∙ m.above q h;
+      below = λ q h. or_right mask part q (m.below q (omega arith)) ∙ u.below q h;
+    }
+
+-- ---- single ones
+pub adds_one : (bits d : ℕ) → d < 64 → AddsOne bits (bit_or bits (1 * 2 ^ d % 2 ^ 64)) d
+adds_one bits d h = record { here = bit_at_set_same w64 bits d h; others = λ q ne. bit_at_set_other w64 bits d h q ne }
+
+pub only_one : (d : ℕ) → d < 128 → AddsOne 0 (1 * 2 ^ d % 2 ^ 128) d
+only_one d h = rw (one_shl d 128 h) (record { here = bit_at-pow_same d; others = λ q ne. bit_at-pow_other d q ne ∙ sym (bit_at-zero q) })
 
 -- a mask with a 1 from i on
 pub some_from : (mask i d : ℕ) → i ≤ d → bit_at mask d ≡ 1 → 0 < mask / 2 ^ i
@@ -230,8 +388,10 @@ last_few mask j h first fits =
 
 pub ruleset finding = (last_found, last_few, first_is)
 
-pub ruleset ones = (adds_one)
+pub ruleset prefixing = (prefix_start, prefix_skip, few_bits)
 
-pub ruleset prefixing = (prefix_start, prefix_more, prefix_same)
+pub ruleset suffixing = (suffix_start, suffix_skip, few_bits)
 
-pub ruleset suffixing = (suffix_start, suffix_more, suffix_same)
+pub ruleset prefix_parts = (prefix_whole, prefix_first, prefix_part)
+
+pub ruleset suffix_parts = (suffix_whole, suffix_last, suffix_part)

@@ -1,14 +1,16 @@
 -- The table of places.
-use Rattle.std.proofs.Common.{◌≡◌, ℕ, ◌+◌, ◌-◌, ◌*◌, ◌^◌, ◌<◌, ◌≤◌, List, [], ◌∷◌, ◌++◌, length, get_or, ap, subst, inl, inr, arith}
+use Rattle.std.proofs.Common.{◌≡◌, ℕ, ◌+◌, ◌-◌, ◌*◌, ◌^◌, ◌<◌, ◌≤◌, ◌∙◌, List, [], ◌∷◌, ◌++◌, length, get_or, ap, subst, inl, inr, arith}
 use Rattle.std.proofs.Math.Nat.{mul-le-mul_left}
 use Rattle.std.proofs.lemmas.Nat.{pow_pos}
 use Rattle.std.proofs.lemmas.Bool.{cases_lt}
 use Rattle.std.proofs.lemmas.List.{length_push, get_or_push, get_or_append_left}
 use Rattle.vers_rmq.specs.Layout.{clog, binary_heap_size}
+use Rattle.vers_rmq.specs.declared.rmq.least.Candidate.{Candidate}
 use Rattle.vers_rmq.specs.Minima.{IsFirstLeast, lesser}
+use Rattle.vers_rmq.specs.Candidates.{IsLeastItem, lesser_candidate}
 use Rattle.vers_rmq.specs.Tables.{HoldsPlaces, IsTable, reach}
 use Rattle.vers_rmq.proofs.Logs.{clog_is, clog_up, pow_next, digits-le}
-use Rattle.vers_rmq.proofs.Minima.{least_at, least_join, least_ends}
+use Rattle.vers_rmq.proofs.Minima.{least_at, least_join, least_ends, item_at, item_join, item_ends}
 
 -- a place of the table has one level
 same_row : (n a b i j : ℕ) → i < n → j < n → n * a + i ≡ n * b + j → a ≡ b
@@ -88,10 +90,14 @@ pub room_is : (xs table t : List ℕ) (k i n : ℕ) → IsTable xs table → t �
 room_is xs table t k i n holds e h en = rw e (room_of xs table k i n holds h en)
 
 -- a query from two entries
-pub asked : (xs ys : List ℕ) (k i j w h m n r : ℕ) → xs ≡ ys → i ≤ j → w ≡ 2 ^ k → 2 ^ k ≤ j - i + 1 → j - i + 1 < 2 * 2 ^ k → h ≡ j + 1 - w
-    → IsFirstLeast ys i (i + 2 ^ k - 1) m → IsFirstLeast ys h (h + 2 ^ k - 1) n → r ≡ lesser xs m n → IsFirstLeast ys i j r
-asked xs ys k i j w h m n r e ij ew low high eh a b v = rw (v, e)
-    (least_join ys i (i + 2 ^ k - 1) h j m n a (least_ends ys h (h + 2 ^ k - 1) j n (omega arith) b) (omega arith) (omega arith) (omega arith))
+pub asked : (xs ys : List ℕ) (k i j w h m n : ℕ) (a b r : Candidate) → xs ≡ ys → i ≤ j → w ≡ 2 ^ k → 2 ^ k ≤ j - i + 1 → j - i + 1 < 2 * 2 ^ k → h ≡ j + 1 - w
+    → IsFirstLeast ys i (i + 2 ^ k - 1) m → IsFirstLeast ys h (h + 2 ^ k - 1) n → a.place ≡ m → a.value ≡ get_or xs m 0 → b.place ≡ n → b.value ≡ get_or xs n 0
+    → r ≡ lesser_candidate a b → IsLeastItem ys i j r
+asked xs ys k i j w h m n a b r e ij ew low high eh left right pa va pb vb v =
+    item_join ys i (i + 2 ^ k - 1) h j a b r
+    (item_at ys i (i + 2 ^ k - 1) m a left pa (va ∙ ap (λ zs. get_or zs m 0) e))
+    (item_ends ys h (h + 2 ^ k - 1) j b (omega arith) (item_at ys h (h + 2 ^ k - 1) n b right pb (vb ∙ ap (λ zs. get_or zs n 0) e)))
+    (omega arith) (omega arith) (omega arith) v
 
 pub next_is : (xs table : List ℕ) (k i w m n r : ℕ) → HoldsPlaces xs table → length xs * k + length xs ≤ length table → w ≡ 2 ^ k → i + w < length xs
     → r ≡ lesser xs (get_or table (length xs * k + i) 0) (get_or table (length xs * k + (i + w)) 0) → IsFirstLeast xs i (reach (length xs) (k + 1) i) r
@@ -101,7 +107,11 @@ pub ruleset entries = (level_inside, room_of)
 
 pub ruleset next_level = (next_joined, next_same)
 
-pub ruleset filling = (add_place, level_zero, no_places, table_is, pow_next)
+-- the room that is asked for is a number of the machine
+pub room_fits : (n r : ℕ) → n < 2 ^ 32 → r ≤ 33 → n * r < 2 ^ 64
+room_fits n r few most = omega (arith, few, mul-le-mul_left {m = r} {n = 33} n most)
+
+pub ruleset filling = (add_place, level_zero, no_places, table_is, pow_next, room_fits)
 
 -- the sizes of the table
 pub table_size : (xs table : List ℕ) → IsTable xs table → (length table ≡ length xs * (clog (length xs) + 1)) × (length table ≤ 33 * length xs) × (length xs < 2 ^ 32)

@@ -14,6 +14,6 @@ binary_heap_size n = 8 * n + 4 * (n * (clog n + 1))
 abbrev pub block_count : ℕ → ℕ
 block_count n = (n + 127) / 128
 
--- the bytes of n items of 8 bytes, of the least items of the blocks with their table, and for each block of two masks of 16 bytes and a place of 1
+-- the bytes of n items of 8 bytes, of the least items of the blocks with their table, and for each block of a place of 1 byte and of four masks of 16: two of the block, and two of its parts
 abbrev pub fast_heap_size : ℕ → ℕ
-fast_heap_size n = 8 * n + binary_heap_size (block_count n) + 33 * block_count n
+fast_heap_size n = 8 * n + binary_heap_size (block_count n) + 65 * block_count n

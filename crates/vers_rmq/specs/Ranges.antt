@@ -1,5 +1,5 @@
 -- The ends of a range as places of a list.
-use Rattle.std.specs.Prelude.{ℕ, ◌-◌, min}
+use Rattle.std.specs.Prelude.{ℕ, ◌-◌, ◌^◌, ◌<◌, ◌≤◌, min}
 use Rattle.std.specs.declared.ops.Bound.{Bound}
 use Rattle.std.specs.Range.Bound.{start_index, end_index}
 
@@ -10,3 +10,10 @@ start_place start n = min (start_index start) (n - 1)
 -- the last place of a range that ends at the bound, cut to n places
 abbrev pub end_place : Bound ℕ → ℕ → ℕ
 end_place end n = min (end_index end n - 1) (n - 1)
+
+-- the bounds name a range of places of n items: there is an item, a start excluded is not the greatest number, an end excluded is not 0, and the start, cut to the places, is not past the end
+pub record IsRangeOf (start end : Bound ℕ) (n : ℕ) : Type 0 where
+  pub some : 0 < n
+  pub start_fits : start_index start < 2 ^ 64
+  pub end_above : 0 < end_index end n
+  pub ordered : start_place start n ≤ end_place end n

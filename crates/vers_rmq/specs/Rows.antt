@@ -52,6 +52,10 @@ pub fast_heap_size-0 : fast_heap_size 0 ≡ 0
 unfolding digits
 fast_heap_size-0 = refl
 
-pub fast_heap_size-300 : fast_heap_size 300 ≡ 2559
+pub fast_heap_size-128 : fast_heap_size 128 ≡ 1101
+unfolding digits
+fast_heap_size-128 = refl
+
+pub fast_heap_size-300 : fast_heap_size 300 ≡ 2655
 unfolding digits
 fast_heap_size-300 = refl

@@ -9,6 +9,8 @@ mod minima;
 #[cfg(test)]
 mod queries;
 #[cfg(test)]
+mod ranges;
+#[cfg(test)]
 mod refusals;
 #[cfg(test)]
 mod scans;

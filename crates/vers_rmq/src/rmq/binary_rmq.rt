@@ -1,11 +1,11 @@
 //! Range minima by two items read.
 ghost use Rattle.std.specs.Prelude.{◌≡◌, ◌+◌, ◌-◌, ◌^◌, ◌<◌, ◌≤◌, ◌↔◌, [], length, IsTrue, IfOk, IfErr};
 ghost use Rattle.std.specs.Iterator.{Drains, IsFinite};
-ghost use Rattle.std.specs.Range.Bound.{start_index, end_index};
 ghost use Rattle.vers_tally.specs.Reads.{only_items, AddsAtMost};
 ghost use Rattle.vers_rmq.specs.Minima.{IsFirstLeast};
+ghost use Rattle.vers_rmq.specs.Candidates.{IsLeastItem};
 ghost use Rattle.vers_rmq.specs.Layout.{binary_heap_size};
-ghost use Rattle.vers_rmq.specs.Ranges.{start_place, end_place};
+ghost use Rattle.vers_rmq.specs.Ranges.{start_place, end_place, IsRangeOf};
 ghost use Rattle.vers_rmq.specs.Makers.{Refused};
 
 mod table;
@@ -13,7 +13,7 @@ mod table;
 use crate::rmq::binary_rmq::table::{log2, places, width};
 use crate::rmq::bounds::{end_place, start_place};
 use crate::rmq::gather::gathered;
-use crate::rmq::least::lesser_counted;
+use crate::rmq::least::{Candidate, lesser_of, read_at};
 use std::alloc::{AllocError, Allocator};
 use std::marker::Model;
 use std::ops::Bound;
@@ -62,7 +62,7 @@ impl<A: Allocator + Copy> Clone for BinaryRmq<A> {
 }
 
 impl<A: Allocator + Copy> BinaryRmq<A> {
-    /// The items, with their table. The items are dropped for want of memory.
+    /// The items, with their table. They are dropped if it is out of memory.
     pub fn from_vec(items: Vec<u64, A>) -> Result<Self, AllocError>
         requires { length items.items ≤ MAX_LEN }
         ensures { IfOk result (λ v. v ≡ items.items) }
@@ -76,7 +76,7 @@ impl<A: Allocator + Copy> BinaryRmq<A> {
     }
 
     /// The items of an iterator that ends. TooLong at the item that would pass `MAX_LEN`, which is
-    /// tested before memory is asked for; Memory where an item or the table finds no memory.
+    /// tested before memory is asked for. Memory where there is none for an item or for the table.
     pub fn from_iter<I: Iterator<Item = u64> + Drop>(alloc: A, items: I) -> Result<Self, GrowError>
         requires can { I.can_next items }
         requires ends { IsFinite (I.remaining items) }
@@ -132,24 +132,31 @@ impl<A: Allocator + Copy> BinaryRmq<A> {
         table[self.items.len() * k + i] as usize
     }
 
+    // The first least item from place `i` to place `j`, both included, by at most 2 items read.
+    #[inline(always)]
+    pub(super) fn least_counted(&self, i: usize, j: usize, tally: &mut Tally) -> Candidate
+        requires order { i ≤ j }
+        requires inside { j < length self.now }
+        ensures value { IsLeastItem self.now i j result }
+        ensures adds { AddsAtMost tally.old tally.new (only_items 2) }
+    {
+        let _ = &self.items;
+        let k = log2(j - i + 1);
+        let left = read_at(&self.items, self.entry(k, i), tally);
+        let right = read_at(&self.items, self.entry(k, j + 1 - width(k)), tally);
+        lesser_of(left, right)
+    }
+
     /// The first place of a least item from place `i` to place `j`, both included, by at most 2 items
     /// read.
     #[inline(always)]
-    #[tactic(auto, using(crate::proofs::Minima::joins))]
     pub fn range_min_counted(&self, i: usize, j: usize, tally: &mut Tally) -> usize
         requires order { i ≤ j }
         requires inside { j < length self.now }
         ensures value { IsFirstLeast self.now i j result }
         ensures adds { AddsAtMost tally.old tally.new (only_items 2) }
     {
-        let _ = &self.items;
-        let k = log2(j - i + 1);
-        lesser_counted(
-            &self.items,
-            self.entry(k, i),
-            self.entry(k, j + 1 - width(k)),
-            tally,
-        )
+        self.least_counted(i, j, tally).place
     }
 
     /// The first place of a least item from place `i` to place `j`, both included.
@@ -175,10 +182,7 @@ impl<A: Allocator + Copy> BinaryRmq<A> {
         end: Bound<usize>,
         tally: &mut Tally,
     ) -> usize
-        requires some { 0 < length self.now }
-        requires start { start_index start < 2 ^ 64 }
-        requires end { 0 < end_index end (length self.now) }
-        requires order { start_place start (length self.now) ≤ end_place end (length self.now) }
+        requires { IsRangeOf start end (length self.now) }
         ensures value { IsFirstLeast self.now (start_place start (length self.now)) (end_place end (length self.now)) result }
         ensures adds { AddsAtMost tally.old tally.new (only_items 2) }
     {
@@ -193,10 +197,7 @@ impl<A: Allocator + Copy> BinaryRmq<A> {
     /// 0, and the start, cut so, is not past the end.
     #[inline]
     pub fn range_min_with_range(&self, start: Bound<usize>, end: Bound<usize>) -> usize
-        requires some { 0 < length self.now }
-        requires start { start_index start < 2 ^ 64 }
-        requires end { 0 < end_index end (length self.now) }
-        requires order { start_place start (length self.now) ≤ end_place end (length self.now) }
+        requires { IsRangeOf start end (length self.now) }
         ensures { IsFirstLeast self.now (start_place start (length self.now)) (end_place end (length self.now)) result }
     {
         let mut tally = Tally::new();

@@ -1,23 +1,22 @@
 //! Range minima in few more bits than the items take.
-ghost use Rattle.std.specs.Prelude.{◌≡◌, ◌+◌, ◌-◌, ◌*◌, ◌/◌, ◌^◌, ◌<◌, ◌≤◌, ◌↔◌, [], length, IsTrue, IfOk, IfErr};
+ghost use Rattle.std.specs.Prelude.{◌≡◌, ◌+◌, ◌-◌, ◌*◌, ◌/◌, ◌^◌, ◌<◌, ◌≤◌, ◌↔◌, [], length, min, IsTrue, IfOk, IfErr};
 ghost use Rattle.std.specs.Iterator.{Drains, IsFinite};
-ghost use Rattle.std.specs.Range.Bound.{start_index, end_index};
 ghost use Rattle.vers_tally.specs.Reads.{only_items, AddsAtMost};
 ghost use Rattle.vers_rmq.specs.Minima.{IsFirstLeast};
+ghost use Rattle.vers_rmq.specs.Candidates.{IsLeastItem};
 ghost use Rattle.vers_rmq.specs.Layout.{fast_heap_size};
-ghost use Rattle.vers_rmq.specs.Ranges.{start_place, end_place};
+ghost use Rattle.vers_rmq.specs.Ranges.{start_place, end_place, IsRangeOf};
 ghost use Rattle.vers_rmq.specs.Makers.{Refused};
-ghost use Rattle.vers_rmq.specs.Blocks.{block_end};
 
 mod block;
 mod mask;
 
 use crate::rmq::binary_rmq::BinaryRmq;
 use crate::rmq::bounds::{end_place, start_place};
-use crate::rmq::fast_rmq::block::{Blocks, all_blocks};
+use crate::rmq::fast_rmq::block::{BlockMasks, Blocks, all_blocks};
 use crate::rmq::fast_rmq::mask::{first_set, last_set};
 use crate::rmq::gather::gathered;
-use crate::rmq::least::{lesser_counted, scan};
+use crate::rmq::least::{Candidate, lesser_of, read_at, scan};
 use std::alloc::{AllocError, Allocator};
 use std::marker::Model;
 use std::ops::Bound;
@@ -30,18 +29,21 @@ pub const MAX_LEN: usize = 549755813760;
 /// A list of numbers, of which the place of a least item of any range is found with few of them read.
 /// Contracts see a `FastRmq` as the list of its items.
 ///
-/// Of each block of 128 items it keeps the place of the least one in 1 byte, a mask of 128 bits of the
-/// items that are below all before them in the block, a mask of those that none after them in the block
-/// is below, and over the least items of the blocks a `BinaryRmq`. A range over more than one block is
-/// the end of one, whole blocks and the start of another, and each mask has the place of the least item
-/// of an end or a start.
+/// Of each block of 128 items it keeps the place of the least one in 1 byte, and four masks of 128 bits.
+/// One mask has the items that are below all before them in the block, and one those that none after them
+/// in the block is below. So each start and each end of a block has the place of its least item in a mask.
+/// The other two masks have the same of each part of 16 items. Over the least items of the blocks there is
+/// a `BinaryRmq`.
+///
+/// A range over more than one block is the end of one, whole blocks and the start of another. A range over
+/// more than one part of a block is the end of one, whole parts and the start of another. A range in one
+/// part has its least item in a mask, or is read.
 #[derive(Drop)]
 pub struct FastRmq<A: Allocator + Copy> {
     items: CountedItems<A>,
     minima: BinaryRmq<A>,
     places: Vec<u8, A>,
-    prefix_masks: Vec<u128, A>,
-    suffix_masks: Vec<u128, A>,
+    masks: Vec<BlockMasks, A>,
 }
 
 impl<A: Allocator + Copy> Model for FastRmq<A> {
@@ -52,7 +54,7 @@ impl<A: Allocator + Copy> Model for FastRmq<A> {
 
     ghost view = { λ v. v.items };
 
-    ghost invariant = { λ v. AreAllBlocks v.items v.minima v.places.items v.prefix_masks.items v.suffix_masks.items };
+    ghost invariant = { λ v. AreAllBlocks v.items v.minima v.places.items v.masks.items };
 }
 
 impl<A: Allocator + Copy> Clone for FastRmq<A> {
@@ -64,20 +66,18 @@ impl<A: Allocator + Copy> Clone for FastRmq<A> {
         let items = Vec::from_slice(alloc, self.items.as_slice())?;
         let minima = self.minima.clone()?;
         let places = Vec::from_slice(alloc, self.places.as_slice())?;
-        let prefix_masks = Vec::from_slice(alloc, self.prefix_masks.as_slice())?;
-        let suffix_masks = Vec::from_slice(alloc, self.suffix_masks.as_slice())?;
+        let masks = Vec::from_slice(alloc, self.masks.as_slice())?;
         Ok(FastRmq {
             items: CountedItems::new(items),
             minima,
             places,
-            prefix_masks,
-            suffix_masks,
+            masks,
         })
     }
 }
 
 impl<A: Allocator + Copy> FastRmq<A> {
-    /// The items, with what is kept of their blocks. The items are dropped for want of memory.
+    /// The items, with what is kept of their blocks. They are dropped if it is out of memory.
     pub fn from_vec(items: Vec<u64, A>) -> Result<Self, AllocError>
         requires { length items.items ≤ MAX_LEN }
         ensures { IfOk result (λ v. v ≡ items.items) }
@@ -86,22 +86,20 @@ impl<A: Allocator + Copy> FastRmq<A> {
         let Blocks {
             minima,
             places,
-            prefix_masks,
-            suffix_masks,
+            masks,
         } = all_blocks(items.as_slice(), alloc)?;
         let minima = BinaryRmq::from_vec(minima)?;
         Ok(FastRmq {
             items: CountedItems::new(items),
             minima,
             places,
-            prefix_masks,
-            suffix_masks,
+            masks,
         })
     }
 
     /// The items of an iterator that ends. TooLong at the item that would pass `MAX_LEN`, which is
-    /// tested before memory is asked for; Memory where an item or what is kept of the blocks finds no
-    /// memory.
+    /// tested before memory is asked for. Memory where there is none for an item or for what is kept of
+    /// the blocks.
     pub fn from_iter<I: Iterator<Item = u64> + Drop>(alloc: A, items: I) -> Result<Self, GrowError>
         requires can { I.can_next items }
         requires ends { IsFinite (I.remaining items) }
@@ -142,71 +140,159 @@ impl<A: Allocator + Copy> FastRmq<A> {
     pub fn heap_size(&self) -> usize
         ensures { result ≡ fast_heap_size (length self.now) }
     {
-        let masks = self.prefix_masks.len() + self.suffix_masks.len();
-        8 * self.items.len() + self.minima.heap_size() + self.places.len() + 16 * masks
+        let kept = self.places.len() + 64 * self.masks.len();
+        8 * self.items.len() + self.minima.heap_size() + kept
     }
 
     // The first place of a least item from the start of the block of `j` to `j`.
     #[inline(always)]
-    #[tactic(auto, using(crate::proofs::Blocks::prefixes))]
+    #[tactic(auto, using(crate::proofs::Blocks::reading))]
     fn prefix_place(&self, j: usize) -> usize
         requires { j < length self.now }
         ensures value { IsFirstLeast self.now (128 * (j / 128)) j result }
         ensures inside { result < length self.now }
     {
-        let prefix_masks = self.prefix_masks.as_slice();
-        128 * (j / 128) + last_set(prefix_masks[j / 128], j % 128)
+        let masks = self.masks.as_slice();
+        128 * (j / 128) + last_set(masks[j / 128].whole.prefixes, j % 128)
     }
 
     // The first place of a least item from `i` to the end of its block.
     #[inline(always)]
-    #[tactic(auto, using(crate::proofs::Blocks::suffixes))]
+    #[tactic(auto, using(crate::proofs::Blocks::reading))]
     fn suffix_place(&self, i: usize) -> usize
         requires { i < length self.now }
-        ensures value { IsFirstLeast self.now i (block_end (length self.now) (i / 128) - 1) result }
+        ensures value { IsFirstLeast self.now i (min (128 * (i / 128) + 128) (length self.now) - 1) result }
         ensures inside { result < length self.now }
     {
-        let suffix_masks = self.suffix_masks.as_slice();
-        128 * (i / 128) + first_set(suffix_masks[i / 128], i % 128)
+        let masks = self.masks.as_slice();
+        128 * (i / 128) + first_set(masks[i / 128].whole.suffixes, i % 128)
     }
 
-    // The first place of a least item of the blocks from `a` to `c`, which are whole.
+    // The first place of a least item from the start of the part of `j` to `j`.
     #[inline(always)]
-    fn between(&self, a: usize, c: usize, tally: &mut Tally) -> usize
+    #[tactic(auto, using(crate::proofs::Blocks::reading))]
+    fn part_prefix_place(&self, j: usize) -> usize
+        requires { j < length self.now }
+        ensures value { IsFirstLeast self.now (16 * (j / 16)) j result }
+        ensures inside { result < length self.now }
+    {
+        let masks = self.masks.as_slice();
+        128 * (j / 128) + last_set(masks[j / 128].parts.prefixes, j % 128)
+    }
+
+    // The first place of a least item from `i` to the end of its part.
+    #[inline(always)]
+    #[tactic(auto, using(crate::proofs::Blocks::reading))]
+    fn part_suffix_place(&self, i: usize) -> usize
+        requires { i < length self.now }
+        ensures value { IsFirstLeast self.now i (min (16 * (i / 16) + 16) (length self.now) - 1) result }
+        ensures inside { result < length self.now }
+    {
+        let masks = self.masks.as_slice();
+        128 * (i / 128) + first_set(masks[i / 128].parts.suffixes, i % 128)
+    }
+
+    // The first least item of the blocks from `a` to `c`, which are whole.
+    #[inline(always)]
+    fn between(&self, a: usize, c: usize, tally: &mut Tally) -> Candidate
         requires order { a ≤ c }
         requires within { 128 * c + 128 ≤ length self.now }
-        ensures value { IsFirstLeast self.now (128 * a) (128 * c + 127) result }
-        ensures inside { result < length self.now }
+        ensures value { IsLeastItem self.now (128 * a) (128 * c + 127) result }
         ensures adds { AddsAtMost tally.old tally.new (only_items 2) }
     {
         let _ = self.items.len();
         let places = self.places.as_slice();
-        let q = self.minima.range_min_counted(a, c, tally);
-        128 * q + places[q] as usize
+        let least = self.minima.least_counted(a, c, tally);
+        Candidate {
+            place: 128 * least.place + places[least.place] as usize,
+            value: least.value,
+        }
     }
 
-    /// The first place of a least item from place `i` to place `j`, both included, by at most 130 items
-    /// read: those of the range where it lies in one block, else two of the least items of blocks and
-    /// two for each choice between places of two parts.
+    // The first place of a least item of a range in one part: by its masks, or by reading its items.
+    #[inline(always)]
+    #[tactic(auto, using(crate::proofs::Minima::inner))]
+    fn least_in_part(&self, i: usize, j: usize, tally: &mut Tally) -> usize
+        requires order { i ≤ j }
+        requires inside { j < length self.now }
+        requires part { i / 16 ≡ j / 16 }
+        ensures value { IsFirstLeast self.now i j result }
+        ensures adds { AddsAtMost tally.old tally.new (only_items 16) }
+    {
+        let last = self.part_prefix_place(j);
+        if i <= last {
+            return last;
+        }
+        let first = self.part_suffix_place(i);
+        if first <= j {
+            return first;
+        }
+        scan(&self.items, i, j, tally).place
+    }
+
+    // The first place of a least item of a range over parts of one block: by the masks of the block, or
+    // by reading the least items of the end of a part, of whole parts and of the start of a part.
+    #[inline(always)]
+    #[tactic(auto, using(crate::proofs::Minima::inner))]
+    fn least_in_block(&self, i: usize, j: usize, tally: &mut Tally) -> usize
+        requires inside { j < length self.now }
+        requires parts { i / 16 < j / 16 }
+        requires block { i / 128 ≡ j / 128 }
+        ensures value { IsFirstLeast self.now i j result }
+        ensures adds { AddsAtMost tally.old tally.new (only_items 8) }
+    {
+        let last = self.prefix_place(j);
+        if i <= last {
+            return last;
+        }
+        let first = self.suffix_place(i);
+        if first <= j {
+            return first;
+        }
+        let mut least = read_at(&self.items, self.part_suffix_place(i), tally);
+        for part in i / 16 + 1..j / 16 {
+            let here = read_at(&self.items, self.part_prefix_place(16 * part + 15), tally);
+            least = lesser_of(least, here);
+        }
+        let here = read_at(&self.items, self.part_prefix_place(j), tally);
+        lesser_of(least, here).place
+    }
+
+    // The first place of a least item of a range over blocks, by reading the least items of the end of
+    // a block, of whole blocks and of the start of a block.
+    #[inline(always)]
+    fn least_over_blocks(&self, i: usize, j: usize, tally: &mut Tally) -> usize
+        requires inside { j < length self.now }
+        requires blocks { i / 128 < j / 128 }
+        ensures value { IsFirstLeast self.now i j result }
+        ensures adds { AddsAtMost tally.old tally.new (only_items 4) }
+    {
+        let first = read_at(&self.items, self.suffix_place(i), tally);
+        let last = read_at(&self.items, self.prefix_place(j), tally);
+        if i / 128 + 1 == j / 128 {
+            return lesser_of(first, last).place;
+        }
+        let middle = self.between(i / 128 + 1, j / 128 - 1, tally);
+        lesser_of(lesser_of(first, middle), last).place
+    }
+
+    /// The first place of a least item from place `i` to place `j`, both included, by at most 18 items
+    /// read. Over more than one block they are at most 4, over parts of one block at most 8, and in one
+    /// part at most 16.
     #[inline(always)]
     pub fn range_min_counted(&self, i: usize, j: usize, tally: &mut Tally) -> usize
         requires order { i ≤ j }
         requires inside { j < length self.now }
         ensures value { IsFirstLeast self.now i j result }
-        ensures adds { AddsAtMost tally.old tally.new (only_items 130) }
+        ensures adds { AddsAtMost tally.old tally.new (only_items 18) }
     {
-        let _ = self.items.len();
+        if i / 16 == j / 16 {
+            return self.least_in_part(i, j, tally);
+        }
         if i / 128 == j / 128 {
-            return scan(&self.items, i, j, tally);
+            return self.least_in_block(i, j, tally);
         }
-        let first = self.suffix_place(i);
-        let last = self.prefix_place(j);
-        if i / 128 + 1 == j / 128 {
-            return lesser_counted(&self.items, first, last, tally);
-        }
-        let middle = self.between(i / 128 + 1, j / 128 - 1, tally);
-        let left = lesser_counted(&self.items, first, middle, tally);
-        lesser_counted(&self.items, left, last, tally)
+        self.least_over_blocks(i, j, tally)
     }
 
     /// The first place of a least item from place `i` to place `j`, both included.
@@ -232,12 +318,9 @@ impl<A: Allocator + Copy> FastRmq<A> {
         end: Bound<usize>,
         tally: &mut Tally,
     ) -> usize
-        requires some { 0 < length self.now }
-        requires start { start_index start < 2 ^ 64 }
-        requires end { 0 < end_index end (length self.now) }
-        requires order { start_place start (length self.now) ≤ end_place end (length self.now) }
+        requires { IsRangeOf start end (length self.now) }
         ensures value { IsFirstLeast self.now (start_place start (length self.now)) (end_place end (length self.now)) result }
-        ensures adds { AddsAtMost tally.old tally.new (only_items 130) }
+        ensures adds { AddsAtMost tally.old tally.new (only_items 18) }
     {
         let n = self.len();
         self.range_min_counted(start_place(start, n), end_place(end, n), tally)
@@ -250,10 +333,7 @@ impl<A: Allocator + Copy> FastRmq<A> {
     /// 0, and the start, cut so, is not past the end.
     #[inline]
     pub fn range_min_with_range(&self, start: Bound<usize>, end: Bound<usize>) -> usize
-        requires some { 0 < length self.now }
-        requires start { start_index start < 2 ^ 64 }
-        requires end { 0 < end_index end (length self.now) }
-        requires order { start_place start (length self.now) ≤ end_place end (length self.now) }
+        requires { IsRangeOf start end (length self.now) }
         ensures { IsFirstLeast self.now (start_place start (length self.now)) (end_place end (length self.now)) result }
     {
         let mut tally = Tally::new();

@@ -1,10 +1,30 @@
-//! The lesser of two items, and the least of a few.
-ghost use Rattle.std.specs.Prelude.{◌≡◌, ◌+◌, ◌-◌, ◌<◌, ◌≤◌, length};
+//! The choice between items, and the least of a few.
+ghost use Rattle.std.specs.Prelude.{◌≡◌, ◌+◌, ◌-◌, ◌<◌, ◌≤◌, length, slice_index};
 ghost use Rattle.vers_tally.specs.Reads.{only_items, AddsAtMost};
-ghost use Rattle.vers_rmq.specs.Minima.{IsFirstLeast, lesser};
+ghost use Rattle.vers_rmq.specs.Minima.{lesser};
+ghost use Rattle.vers_rmq.specs.Candidates.{IsLeastItem, lesser_candidate};
 
 use std::alloc::Allocator;
 use vers_tally::tally::{CountedItems, Tally};
+
+// A place of a list, and the item there.
+#[derive(Clone, Copy)]
+pub(super) struct Candidate {
+    pub(super) place: usize,
+    pub(super) value: u64,
+}
+
+// The one of two candidates that has the lesser item, the first where they are equal.
+#[inline(always)]
+pub(super) fn lesser_of(first: Candidate, second: Candidate) -> Candidate
+    ensures { result ≡ lesser_candidate first second }
+{
+    if first.value <= second.value {
+        first
+    } else {
+        second
+    }
+}
 
 // The one of two places that has the lesser item, the first where they are equal.
 #[tactic(auto, using(crate::proofs::Minima::lessers))]
@@ -14,54 +34,52 @@ pub(super) fn lesser_place(items: &[u64], m: usize, n: usize) -> usize
     ensures value { result ≡ lesser items.now m n }
     ensures inside { result < length items.now }
 {
-    if items[m] <= items[n] { m } else { n }
+    let first = Candidate {
+        place: m,
+        value: items[m],
+    };
+    let second = Candidate {
+        place: n,
+        value: items[n],
+    };
+    lesser_of(first, second).place
 }
 
-// The same by two items read.
+// The item at a place, by one item read.
 #[inline(always)]
-#[tactic(auto, using(crate::proofs::Minima::lessers))]
-pub(super) fn lesser_counted<A: Allocator + Copy>(
+pub(super) fn read_at<A: Allocator + Copy>(
     items: &CountedItems<A>,
-    m: usize,
-    n: usize,
+    place: usize,
     tally: &mut Tally,
-) -> usize
-    requires first { m < length items.now }
-    requires second { n < length items.now }
-    ensures value { result ≡ lesser items.now m n }
-    ensures inside { result < length items.now }
-    ensures adds { AddsAtMost tally.old tally.new (only_items 2) }
+) -> Candidate
+    requires { place < length items.now }
+    ensures at { result.place ≡ place }
+    ensures item { result.value ≡ slice_index items.now place }
+    ensures adds { AddsAtMost tally.old tally.new (only_items 1) }
 {
-    if items.read(m, tally) <= items.read(n, tally) {
-        m
-    } else {
-        n
-    }
+    let value = items.read(place, tally);
+    Candidate { place, value }
 }
 
-// The first place of a least item from `i` to `j`, by reading each of them once.
+// The first least item from `i` to `j`, by reading each of them once.
 #[inline(always)]
-#[tactic(auto, using(crate::proofs::Minima::scanning))]
+#[tactic(auto, using(crate::proofs::Minima::choosing))]
 pub(super) fn scan<A: Allocator + Copy>(
     items: &CountedItems<A>,
     i: usize,
     j: usize,
     tally: &mut Tally,
-) -> usize
+) -> Candidate
     requires order { i ≤ j }
     requires inside { j < length items.now }
-    ensures value { IsFirstLeast items.now i j result }
+    ensures value { IsLeastItem items.now i j result }
     ensures adds { AddsAtMost tally.old tally.new (only_items (j - i + 1)) }
 {
     let _ = items.len();
-    let mut least = i;
-    let mut value = items.read(i, tally);
+    let mut least = read_at(items, i, tally);
     for k in i + 1..j + 1 {
-        let here = items.read(k, tally);
-        if here < value {
-            least = k;
-            value = here;
-        }
+        let here = read_at(items, k, tally);
+        least = lesser_of(least, here);
     }
     least
 }

@@ -1,5 +1,6 @@
 //! The table of the places of least items, by powers of two.
 ghost use Rattle.std.specs.Prelude.{◌≡◌, ◌+◌, ◌*◌, ◌^◌, ◌<◌, ◌≤◌, length, IfOk};
+ghost use Rattle.vers_rmq.specs.Layout.{clog};
 ghost use Rattle.vers_rmq.specs.Minima.{IsFirstLeast};
 ghost use Rattle.vers_rmq.specs.Tables.{reach, HoldsPlaces, IsTable};
 
@@ -28,6 +29,17 @@ pub(super) fn width(k: usize) -> usize
     1 << k
 }
 
+// How many levels the table of `n` items has: one for each power of two up to the first that is not
+// below `n`.
+#[tactic(auto, using(crate::proofs::Logs::counting))]
+fn level_count(n: usize) -> usize
+    requires { n < 2 ^ 32 }
+    ensures value { result ≡ clog n + 1 }
+    ensures few { result ≤ 33 }
+{
+    if n < 2 { 1 } else { log2(n - 1) + 2 }
+}
+
 // The entry of level `k + 1` for the range from `i` on, from two entries of level `k`.
 #[tactic(auto, using(crate::proofs::Tables::next_level))]
 fn next_place(items: &[u64], table: &[u32], k: usize, i: usize) -> u32
@@ -48,7 +60,7 @@ fn next_place(items: &[u64], table: &[u32], k: usize, i: usize) -> u32
 }
 
 // The table: a level for each power of two up to the first that is not below the number of items,
-// and on it an entry for each item.
+// and on it an entry for each item. Room is asked for once.
 #[tactic(auto, using(crate::proofs::Tables::filling))]
 pub(super) fn places<A: Allocator + Copy>(
     items: &[u64],
@@ -57,7 +69,7 @@ pub(super) fn places<A: Allocator + Copy>(
     requires { length items.now < 2 ^ 32 }
     ensures { IfOk result (λ v. IsTable items.now v.items) }
 {
-    let mut table = Vec::new(alloc);
+    let mut table = Vec::with_capacity(alloc, items.len() * level_count(items.len()))?;
     for i in 0..items.len() {
         table.push(i as u32)?;
     }

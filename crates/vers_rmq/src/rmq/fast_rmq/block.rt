@@ -1,17 +1,47 @@
 //! What is kept of blocks of 128 items.
-ghost use Rattle.std.specs.Prelude.{◌+◌, ◌*◌, ◌<◌, ◌≤◌, length, IfOk};
+ghost use Rattle.std.specs.Prelude.{◌+◌, ◌-◌, ◌*◌, ◌<◌, ◌≤◌, length, IfOk, slice_index_or};
+ghost use Rattle.vers_rmq.specs.Minima.{IsFirstLeast};
+ghost use Rattle.vers_rmq.specs.Masks.{AreMasks};
 ghost use Rattle.vers_rmq.specs.Blocks.{AreBlocks, AreAllBlocks};
 
-use crate::rmq::fast_rmq::mask::{prefix_mask, suffix_mask};
+use crate::rmq::fast_rmq::MAX_LEN;
+use crate::rmq::fast_rmq::mask::{Masks, prefix_masks, suffix_masks};
 use std::alloc::{AllocError, Allocator};
+
+// The masks of a block, which take 64 bytes: those of all of it, and those of its parts of 16 items.
+#[derive(Clone, Copy)]
+pub(super) struct BlockMasks {
+    pub(super) whole: Masks,
+    pub(super) parts: Masks,
+}
 
 // Of each block the least item, how far its first place is from the block's start, and the masks.
 #[derive(Drop)]
 pub(super) struct Blocks<A: Allocator + Copy> {
     pub(super) minima: Vec<u64, A>,
     pub(super) places: Vec<u8, A>,
-    pub(super) prefix_masks: Vec<u128, A>,
-    pub(super) suffix_masks: Vec<u128, A>,
+    pub(super) masks: Vec<BlockMasks, A>,
+}
+
+// The masks of the block from `start` to before `end`, and the first place of its least item.
+fn block_masks(items: &[u64], start: usize, end: usize) -> (BlockMasks, usize)
+    requires some { start < end }
+    requires few { end ≤ start + 128 }
+    requires inside { end ≤ length items.now }
+    ensures whole { AreMasks items.now 128 start end result.0.whole }
+    ensures parts { AreMasks items.now 16 start end result.0.parts }
+    ensures least { IsFirstLeast items.now start (end - 1) result.1 }
+{
+    let (prefixes, part_prefixes, least) = prefix_masks(items, start, end);
+    let (suffixes, part_suffixes) = suffix_masks(items, start, end);
+    let masks = BlockMasks {
+        whole: Masks { prefixes, suffixes },
+        parts: Masks {
+            prefixes: part_prefixes,
+            suffixes: part_suffixes,
+        },
+    };
+    (masks, least)
 }
 
 // Adds what is kept of block `b`.
@@ -20,37 +50,36 @@ fn add_block<A: Allocator + Copy>(
     blocks: &mut Blocks<A>,
     b: usize,
 ) -> Result<(), AllocError>
-    requires few { length items.now ≤ 549755813760 }
+    requires few { length items.now ≤ MAX_LEN }
     requires inside { 128 * b < length items.now }
-    requires before { AreBlocks items.now b blocks.old.minima.items blocks.old.places.items blocks.old.prefix_masks.items blocks.old.suffix_masks.items }
-    ensures { IfOk result (λ _. AreBlocks items.now (b + 1) blocks.new.minima.items blocks.new.places.items blocks.new.prefix_masks.items blocks.new.suffix_masks.items) }
+    requires before { AreBlocks items.now b blocks.old.minima.items blocks.old.places.items blocks.old.masks.items }
+    ensures { IfOk result (λ _. AreBlocks items.now (b + 1) blocks.new.minima.items blocks.new.places.items blocks.new.masks.items) }
 {
-    let end = (128 * b + 128).min(items.len());
-    let (prefix, place) = prefix_mask(items, 128 * b, end);
-    let suffix = suffix_mask(items, 128 * b, end);
-    blocks.minima.push(items[place])?;
-    blocks.places.push((place - 128 * b) as u8)?;
-    blocks.prefix_masks.push(prefix)?;
-    blocks.suffix_masks.push(suffix)?;
+    let start = 128 * b;
+    let end = items.len().min(start + 128);
+    let (masks, least) = block_masks(items, start, end);
+    blocks.minima.push(items[least])?;
+    blocks.places.push((least - start) as u8)?;
+    blocks.masks.push(masks)?;
     Ok(())
 }
 
-// What is kept of all blocks.
+// What is kept of all blocks, with room asked for once.
 #[tactic(auto, using(crate::proofs::Blocks::starting))]
 pub(super) fn all_blocks<A: Allocator + Copy>(
     items: &[u64],
     alloc: A,
 ) -> Result<Blocks<A>, AllocError>
-    requires { length items.now ≤ 549755813760 }
-    ensures { IfOk result (λ v. AreAllBlocks items.now v.minima.items v.places.items v.prefix_masks.items v.suffix_masks.items) }
+    requires { length items.now ≤ MAX_LEN }
+    ensures { IfOk result (λ v. AreAllBlocks items.now v.minima.items v.places.items v.masks.items) }
 {
+    let count = items.len().div_ceil(128);
     let mut blocks = Blocks {
-        minima: Vec::new(alloc),
-        places: Vec::new(alloc),
-        prefix_masks: Vec::new(alloc),
-        suffix_masks: Vec::new(alloc),
+        minima: Vec::with_capacity(alloc, count)?,
+        places: Vec::with_capacity(alloc, count)?,
+        masks: Vec::with_capacity(alloc, count)?,
     };
-    for b in 0..items.len().div_ceil(128) {
+    for b in 0..count {
         add_block(items, &mut blocks, b)?;
     }
     Ok(blocks)

@@ -1,57 +1,244 @@
-//! Masks of up to 128 items: which of them are below all before them, and which none after them is below.
-ghost use Rattle.std.specs.Prelude.{◌≡◌, ◌+◌, ◌-◌, ◌/◌, ◌^◌, ◌<◌, ◌≤◌, length};
+//! Masks of a block of up to 128 items: where the least item of each start and of each end of its
+//! parts stands. All of the block is one part, or each 16 items are.
+ghost use Rattle.std.specs.Prelude.{◌≡◌, ℕ, ◌+◌, ◌-◌, ◌*◌, ◌/◌, ◌^◌, ◌<◌, ◌≤◌, length, slice_index, bit_or};
 ghost use Rattle.std.specs.Int.{bit_at};
 ghost use Rattle.vers_rmq.specs.Minima.{IsFirstLeast};
-ghost use Rattle.vers_rmq.specs.Blocks.{IsLastSet, IsFirstSet, AddsOne, IsPrefixMask, IsSuffixMask};
+ghost use Rattle.vers_rmq.specs.Masks.{IsLastSet, IsFirstSet, AddsOne, PrefixUpTo, SuffixFrom, IsPrefixMask, IsSuffixMask};
 
-// The mask with a 1 more, at `d`.
-#[tactic(auto, using(crate::proofs::Masks::ones))]
-fn with_one(mask: u128, d: usize) -> u128
+// The two masks of a block by one width of its parts.
+#[derive(Clone, Copy)]
+pub(super) struct Masks {
+    pub(super) prefixes: u128,
+    pub(super) suffixes: u128,
+}
+
+// A mask as far as it is made, and the first place of the least of the items that it stands for.
+#[derive(Clone, Copy)]
+pub(super) struct Partial {
+    pub(super) mask: u128,
+    pub(super) least: usize,
+}
+
+// The bits with a 1 more, at `d`.
+#[inline(always)]
+fn with_one(bits: u64, d: usize) -> u64
+    requires { d < 64 }
+    ensures { AddsOne bits result d }
+{
+    bits | 1 << d
+}
+
+// The mask with one 1, at `d`.
+#[inline(always)]
+fn one_at(d: usize) -> u128
     requires { d < 128 }
-    ensures { AddsOne mask result d }
+    ensures { AddsOne 0 result d }
 {
-    mask | 1 << d
+    1 << d
 }
 
-// The mask of the items that are below all before them, and the first place of the least.
+// The mask with the bits, of which the first goes to `d`.
+#[inline(always)]
+fn with_bits(mask: u128, bits: u64, d: usize) -> u128
+    requires within { d < 128 }
+    requires room { bits * 2 ^ d < 2 ^ 128 }
+    ensures { result ≡ bit_or mask (bits * 2 ^ d) }
+{
+    mask | (bits as u128) << d
+}
+
+// The prefix mask that reaches to before `from`, with the items from there to before `to`.
+#[inline(always)]
 #[tactic(auto, using(crate::proofs::Masks::prefixing))]
-pub(super) fn prefix_mask(items: &[u64], start: usize, end: usize) -> (u128, usize)
-    requires some { start < end }
-    requires few { end ≤ start + 128 }
-    requires inside { end ≤ length items.now }
-    ensures mask { IsPrefixMask items.now start end result.0 }
-    ensures place { IsFirstLeast items.now start (end - 1) result.1 }
+fn more_prefixes(items: &[u64], start: usize, from: usize, to: usize, done: Partial) -> Partial
+    requires base { start ≤ from }
+    requires block { from < start + 128 }
+    requires order { from ≤ to }
+    requires few { to ≤ from + 16 }
+    requires within { to ≤ start + 128 }
+    requires inside { to ≤ length items.now }
+    requires least { done.least < length items.now }
+    ensures { (first : ℕ) → PrefixUpTo items.now start first from done.mask done.least → PrefixUpTo items.now start first to result.mask result.least }
 {
-    let mut mask = with_one(0, 0);
-    let mut least = start;
-    for k in start + 1..end {
-        if items[k] < items[least] {
+    let mut bits = 0;
+    let mut least = done.least;
+    let mut value = items[least];
+    for k in from..to {
+        let here = items[k];
+        if here < value {
+            bits = with_one(bits, k - from);
             least = k;
-            mask = with_one(mask, k - start);
+            value = here;
         }
     }
-    (mask, least)
+    let mask = with_bits(done.mask, bits, from - start);
+    Partial { mask, least }
 }
 
-// The mask of the items that none after them is below.
-#[tactic(auto, using(crate::proofs::Masks::suffixing))]
-pub(super) fn suffix_mask(items: &[u64], start: usize, end: usize) -> u128
+// The prefix mask of the part from `from` to before `to`.
+#[inline(always)]
+#[tactic(auto, using(crate::proofs::Masks::prefixing))]
+fn part_prefixes(items: &[u64], start: usize, from: usize, to: usize) -> Partial
+    requires base { start ≤ from }
+    requires some { from < to }
+    requires few { to ≤ from + 16 }
+    requires within { from + 16 ≤ start + 128 }
+    requires inside { to ≤ length items.now }
+    ensures { PrefixUpTo items.now start from to result.mask result.least }
+{
+    let first = Partial {
+        mask: one_at(from - start),
+        least: from,
+    };
+    more_prefixes(items, start, from + 1, to, first)
+}
+
+// The prefix mask that reaches to before `from`, with a part of which the least item stands at `least`.
+#[inline(always)]
+#[tactic(auto, using(crate::proofs::Masks::prefixing))]
+fn prefixes_past(
+    items: &[u64],
+    start: usize,
+    from: usize,
+    to: usize,
+    done: Partial,
+    least: usize,
+) -> Partial
+    requires base { start < from }
+    requires some { from < to }
+    requires few { to ≤ from + 16 }
+    requires within { to ≤ start + 128 }
+    requires inside { to ≤ length items.now }
+    requires done { PrefixUpTo items.now start start from done.mask done.least }
+    requires least { IsFirstLeast items.now from (to - 1) least }
+    ensures { PrefixUpTo items.now start start to result.mask result.least }
+{
+    if items[least] < items[done.least] {
+        more_prefixes(items, start, from, to, done)
+    } else {
+        done
+    }
+}
+
+// The prefix masks of the block from `start` to before `end`, of all of it and by parts of 16 items, and
+// the first place of its least item.
+#[tactic(auto, using(crate::proofs::Masks::prefix_parts))]
+pub(super) fn prefix_masks(items: &[u64], start: usize, end: usize) -> (u128, u128, usize)
     requires some { start < end }
     requires few { end ≤ start + 128 }
     requires inside { end ≤ length items.now }
-    ensures { IsSuffixMask items.now start start end result }
+    ensures whole { IsPrefixMask items.now 128 start end result.0 }
+    ensures parts { IsPrefixMask items.now 16 start end result.1 }
+    ensures least { IsFirstLeast items.now start (end - 1) result.2 }
 {
-    let mut k = end - 1;
-    let mut least = k;
-    let mut mask = with_one(0, k - start);
-    'down: while k > start {
+    let mut at = end.min(start + 16);
+    let mut whole = part_prefixes(items, start, start, at);
+    let mut parts = whole.mask;
+    'parts: while at < end {
+        let stop = end.min(at + 16);
+        let part = part_prefixes(items, start, at, stop);
+        parts |= part.mask;
+        whole = prefixes_past(items, start, at, stop, whole, part.least);
+        at = stop;
+    }
+    (whole.mask, parts, whole.least)
+}
+
+// The suffix mask that begins at `to`, with the items before it from `from` on.
+#[inline(always)]
+#[tactic(auto, using(crate::proofs::Masks::suffixing))]
+fn more_suffixes(items: &[u64], start: usize, from: usize, to: usize, done: Partial) -> Partial
+    requires base { start ≤ from }
+    requires block { from < start + 128 }
+    requires order { from ≤ to }
+    requires few { to ≤ from + 16 }
+    requires within { to ≤ start + 128 }
+    requires inside { to ≤ length items.now }
+    requires least { done.least < length items.now }
+    ensures { (end : ℕ) → SuffixFrom items.now start to end done.mask done.least → SuffixFrom items.now start from end result.mask result.least }
+{
+    let mut bits = 0;
+    let mut least = done.least;
+    let mut value = items[least];
+    let mut k = to;
+    'down: while k > from {
         k -= 1;
-        if items[k] <= items[least] {
+        let here = items[k];
+        if here <= value {
+            bits = with_one(bits, k - from);
             least = k;
-            mask = with_one(mask, k - start);
+            value = here;
         }
     }
-    mask
+    let mask = with_bits(done.mask, bits, from - start);
+    Partial { mask, least }
+}
+
+// The suffix mask of the part from `from` to before `to`.
+#[inline(always)]
+#[tactic(auto, using(crate::proofs::Masks::suffixing))]
+fn part_suffixes(items: &[u64], start: usize, from: usize, to: usize) -> Partial
+    requires base { start ≤ from }
+    requires some { from < to }
+    requires few { to ≤ from + 16 }
+    requires within { to ≤ start + 128 }
+    requires inside { to ≤ length items.now }
+    ensures { SuffixFrom items.now start from to result.mask result.least }
+{
+    let last = Partial {
+        mask: one_at(to - 1 - start),
+        least: to - 1,
+    };
+    more_suffixes(items, start, from, to - 1, last)
+}
+
+// The suffix mask that begins at `to`, with a part before it of which the least item stands at `least`.
+#[inline(always)]
+#[tactic(auto, using(crate::proofs::Masks::suffixing))]
+fn suffixes_past(
+    items: &[u64],
+    start: usize,
+    from: usize,
+    to: usize,
+    done: Partial,
+    least: usize,
+) -> Partial
+    requires base { start ≤ from }
+    requires some { from < to }
+    requires few { to ≤ from + 16 }
+    requires within { to ≤ start + 128 }
+    requires inside { to ≤ length items.now }
+    requires done { done.least < length items.now }
+    requires least { IsFirstLeast items.now from (to - 1) least }
+    ensures { (end : ℕ) → SuffixFrom items.now start to end done.mask done.least → SuffixFrom items.now start from end result.mask result.least }
+{
+    if items[least] <= items[done.least] {
+        more_suffixes(items, start, from, to, done)
+    } else {
+        done
+    }
+}
+
+// The suffix masks of the block from `start` to before `end`: of all of it, and by parts of 16 items.
+#[tactic(auto, using(crate::proofs::Masks::suffix_parts))]
+pub(super) fn suffix_masks(items: &[u64], start: usize, end: usize) -> (u128, u128)
+    requires some { start < end }
+    requires few { end ≤ start + 128 }
+    requires inside { end ≤ length items.now }
+    ensures whole { IsSuffixMask items.now 128 start start end result.0 }
+    ensures parts { IsSuffixMask items.now 16 start start end result.1 }
+{
+    let mut at = start + (end - 1 - start) / 16 * 16;
+    let mut whole = part_suffixes(items, start, at, end);
+    let mut parts = whole.mask;
+    'parts: while at > start {
+        let stop = at;
+        at -= 16;
+        let part = part_suffixes(items, start, at, stop);
+        parts |= part.mask;
+        whole = suffixes_past(items, start, at, stop, whole, part.least);
+    }
+    (whole.mask, parts)
 }
 
 // The last place up to `j` with a 1.

@@ -1,0 +1,10 @@
+use Rattle.std.proofs.Common.{◌-◌, ◌*◌, ◌/◌}
+use Rattle.vers_tally.specs.Reads.{AddsAtMost, only_items}
+use Rattle.vers_rmq.specs.Candidates.{IsLeastItem}
+use Rattle.vers_rmq.proofs.rmq.fast_rmq.FastRmq.least_in_block.Given as goal
+
+abbrev pub invariant-loop-part : goal.invariant-loop-part
+invariant-loop-part g l = record {
+  best : IsLeastItem l.self l.i (16 * l.part - 1) l.least;
+  adds : AddsAtMost l.fn.tally l.tally (only_items (l.part - l.i / 16));
+}

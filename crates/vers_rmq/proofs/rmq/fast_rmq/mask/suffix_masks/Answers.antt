@@ -1,0 +1,26 @@
+use Rattle.std.proofs.Common.{◌+◌, ◌-◌, ◌*◌, ◌/◌, arith}
+use Rattle.vers_rmq.proofs.Masks.{suffix_last, suffix_part, suffix_whole}
+use Rattle.vers_rmq.proofs.rmq.fast_rmq.mask.suffix_masks.Goals as goal
+
+pub parts-init : goal.parts-init
+parts-init c = record {
+  low = omega arith;
+  high = omega arith;
+  aligned = omega arith;
+  whole = c.part_suffixes-whole.ensures;
+  parts = suffix_last c.args.items.now c.args.start (c.args.start + (c.args.end - 1 - c.args.start) / 16 * 16) c.args.end c.part_suffixes-whole.result.mask c.part_suffixes-whole.result.least
+      (omega arith) (omega arith) c.part_suffixes-whole.ensures;
+}
+
+pub parts-preserved : goal.parts-preserved
+parts-preserved c = record {
+  low = omega arith;
+  high = omega arith;
+  aligned = omega arith;
+  whole = c.suffixes_past-whole.ensures c.args.end c.parts.invariant.whole;
+  parts = suffix_part c.args.items.now c.args.start (c.parts.at - 16) c.parts.at c.args.end c.parts.parts c.part_suffixes-part.result.mask c.part_suffixes-part.result.least
+      (omega arith) (omega arith) (omega arith) c.parts.invariant.parts c.part_suffixes-part.ensures;
+}
+
+pub returns-clause-whole : goal.returns-clause-whole
+returns-clause-whole c = suffix_whole c.args.items.now c.args.start c.parts.at c.args.end c.parts.whole.mask c.parts.whole.least (omega arith) c.requires.few c.parts.invariant.whole
