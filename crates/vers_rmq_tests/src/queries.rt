@@ -59,9 +59,9 @@ const CASES: [(&[u64], &[Query], &[Option<usize>]); 4] = [
 // How many items there are, and the sizes of both types.
 const SIZES: [(usize, usize, usize); 4] = [
     (0, 0, 0),
-    (11, 308, 133),
-    (128, 5120, 1069),
-    (300, 14400, 2559),
+    (11, 308, 165),
+    (128, 5120, 1101),
+    (300, 14400, 2655),
 ];
 
 // The answer of one query, a truth value as 1 or 0.

@@ -122,7 +122,7 @@ fn every_range_is_that_of_a_scan(rt: HostRuntime) -> Result<(), Fail> {
         for (n, ranges) in LENGTHS {
             let (binary, fast) = compared_both(rt.alloc(), shape, n)?;
             assert!(rt; binary.is_right(ranges, 2));
-            assert!(rt; fast.is_right(ranges, 130));
+            assert!(rt; fast.is_right(ranges, 18));
         }
     }
     Ok(())
