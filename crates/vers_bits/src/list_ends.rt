@@ -75,7 +75,7 @@ impl<L: Listed> ListEnds<L> {
         self.span.len()
     }
 
-    /// How many items are left, at the least and at the most, which are the same.
+    /// How many items are left, at least and at most, which are the same.
     pub fn size_hint(&self) -> (usize, Option<usize>)
         ensures { result ≡ (length self.now, Some (length self.now)) }
     {

@@ -95,7 +95,8 @@ impl<S: Source> Model for BothEnds<S> {
 impl<S: Source> BothEnds<S> {
     /// An iterator over all items of a source.
     pub fn new(source: S) -> Self
-        ensures { result ≡ record { left = S.items source; step = S.step source } }
+        ensures value { result ≡ record { left = S.items source; step = S.step source } }
+        ensures in_order { S.in_order (S.items source) }
     {
         let span = Span::below(source.count_items());
         BothEnds { source, span }
@@ -110,7 +111,7 @@ impl<S: Source> BothEnds<S> {
         self.span.len()
     }
 
-    /// How many items are left, at the least and at the most, which are the same.
+    /// How many items are left, at least and at most, which are the same.
     pub fn size_hint(&self) -> (usize, Option<usize>)
         ensures { result ≡ (length self.now.left, Some (length self.now.left)) }
     {

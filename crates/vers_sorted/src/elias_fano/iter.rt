@@ -134,7 +134,8 @@ pub type EliasFanoIter<A> = BothEnds<Members<EliasFanoVec<A>>>;
 impl<A: Allocator + Copy> EliasFanoVec<A> {
     /// An iterator over the members.
     pub fn iter(&self) -> EliasFanoRefIter<'_, A>
-        ensures { result ≡ record { left = self.now; step = member_reads self.now } }
+        ensures value { result ≡ record { left = self.now; step = member_reads self.now } }
+        ensures ascending { IsNonDecreasing self.now }
     {
         BothEnds::new(Members::new(self))
     }
