@@ -95,7 +95,8 @@ impl<S: Source> Model for BothEnds<S> {
 impl<S: Source> BothEnds<S> {
     /// An iterator over all items of a source.
     pub fn new(source: S) -> Self
-        ensures { result ≡ record { left = S.items source; step = S.step source } }
+        ensures value { result ≡ record { left = S.items source; step = S.step source } }
+        ensures in_order { S.in_order (S.items source) }
     {
         let span = Span::below(source.count_items());
         BothEnds { source, span }
