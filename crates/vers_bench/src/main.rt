@@ -7,6 +7,7 @@
 
 mod bits;
 mod lists;
+mod minima;
 mod report;
 mod sorted;
 mod workload;
@@ -105,6 +106,14 @@ fn run_lists(rt: &HostRuntime, settings: &Settings, query_count: usize) -> io::R
     Ok(())
 }
 
+fn run_minima(rt: &HostRuntime, settings: &Settings, query_count: usize) -> io::Result<()> {
+    minima::run(rt, settings, settings.scaled(1_000_000), query_count)?;
+    match settings.mode {
+        Mode::Checksums => Ok(()),
+        Mode::Times { .. } => minima::run(rt, settings, settings.scaled(10_000_000), query_count),
+    }
+}
+
 fn run(rt: &HostRuntime, settings: &Settings) -> io::Result<()> {
     let query_count = settings.scaled(1_000_000);
     if settings.wants("bits") {
@@ -115,6 +124,9 @@ fn run(rt: &HostRuntime, settings: &Settings) -> io::Result<()> {
     }
     if settings.wants("sorted") {
         sorted::run(rt, settings, query_count, settings.scaled(2_000))?;
+    }
+    if settings.wants("rmq") {
+        run_minima(rt, settings, query_count)?;
     }
     Ok(())
 }

@@ -70,6 +70,16 @@ pub fn limbs(alloc: Global, count: usize, percent: u64) -> Result<Vec<u64>, Allo
     Ok(limbs)
 }
 
+/// Numbers of 64 bits.
+pub fn values(alloc: Global, count: usize) -> Result<Vec<u64>, AllocError> {
+    let mut random = Random::new(5);
+    let mut values = Vec::with_capacity(alloc, count)?;
+    for _ in 0..count {
+        values.push(random.step())?;
+    }
+    Ok(values)
+}
+
 /// Ascending members with gaps below 2^20.
 pub fn members_uniform(alloc: Global, count: usize) -> Result<Vec<u64>, AllocError> {
     let mut random = Random::new(2);

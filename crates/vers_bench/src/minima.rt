@@ -1,0 +1,247 @@
+//! The series of range minima.
+ghost use Rattle.std.specs.Prelude.{◌≡◌, ◌≤◌, length, IfOk};
+
+use crate::report::{
+    Series, Settings, asked, let_go, nanoseconds_since, print_size, run_builds, run_series,
+};
+use crate::workload::{Random, fold, values};
+use std::alloc::{AllocError, Global};
+use std::io;
+use std::time::CpuClock;
+use vers_rmq::rmq::binary_rmq::BinaryRmq;
+use vers_rmq::rmq::fast_rmq::FastRmq;
+
+// The most items that both types take.
+const MOST: usize = 4_294_967_295;
+
+/// What is measured of both types.
+trait RangeMinima: Drop {
+    /// The items, with what is kept for queries.
+    fn made(items: Vec<u64>) -> Result<Self, AllocError>
+        requires { length items.items ≤ 4294967295 };
+
+    /// The first place of a least item of a range, or the greatest number where there is no such
+    /// range.
+    fn least(&self, first: usize, last: usize) -> usize;
+
+    /// How many items there are.
+    fn count(&self) -> usize;
+
+    /// How many bytes are kept.
+    fn bytes(&self) -> usize;
+}
+
+impl RangeMinima for FastRmq<Global> {
+    fn made(items: Vec<u64>) -> Result<Self, AllocError> {
+        FastRmq::from_vec(items)
+    }
+
+    #[inline]
+    fn least(&self, first: usize, last: usize) -> usize {
+        if first <= last && last < self.len() {
+            self.range_min(first, last)
+        } else {
+            usize::MAX
+        }
+    }
+
+    fn count(&self) -> usize {
+        self.len()
+    }
+
+    fn bytes(&self) -> usize {
+        self.heap_size()
+    }
+}
+
+impl RangeMinima for BinaryRmq<Global> {
+    fn made(items: Vec<u64>) -> Result<Self, AllocError> {
+        BinaryRmq::from_vec(items)
+    }
+
+    #[inline]
+    fn least(&self, first: usize, last: usize) -> usize {
+        if first <= last && last < self.len() {
+            self.range_min(first, last)
+        } else {
+            usize::MAX
+        }
+    }
+
+    fn count(&self) -> usize {
+        self.len()
+    }
+
+    fn bytes(&self) -> usize {
+        self.heap_size()
+    }
+}
+
+/// A range of places, both included.
+#[derive(Clone, Copy, Drop)]
+struct Places {
+    first: usize,
+    last: usize,
+}
+
+/// The ranges that are asked for: of any length, and of at most 64 items.
+#[derive(Drop)]
+struct Ranges {
+    wide: Vec<Places>,
+    short: Vec<Places>,
+}
+
+fn wide_ranges(
+    alloc: Global,
+    random: &mut Random,
+    n: u64,
+    count: usize,
+) -> Result<Vec<Places>, AllocError> {
+    let mut ranges = Vec::with_capacity(alloc, count)?;
+    for _ in 0..count {
+        let one = random.below(n) as usize;
+        let other = random.below(n) as usize;
+        ranges.push(Places {
+            first: one.min(other),
+            last: one.max(other),
+        })?;
+    }
+    Ok(ranges)
+}
+
+fn short_ranges(
+    alloc: Global,
+    random: &mut Random,
+    n: u64,
+    count: usize,
+) -> Result<Vec<Places>, AllocError> {
+    let mut ranges = Vec::with_capacity(alloc, count)?;
+    for _ in 0..count {
+        let first = random.below(n);
+        let last = first
+            .saturating_add(random.below(64))
+            .min(n.saturating_sub(1));
+        ranges.push(Places {
+            first: first as usize,
+            last: last as usize,
+        })?;
+    }
+    Ok(ranges)
+}
+
+fn ranges_of(rt: &HostRuntime, n: usize, count: usize) -> io::Result<Ranges> {
+    let mut random = Random::new(10);
+    let wide = wide_ranges(rt.alloc(), &mut random, n as u64, count)?;
+    let short = short_ranges(rt.alloc(), &mut random, n as u64, count)?;
+    Ok(Ranges { wide, short })
+}
+
+#[inline(never)]
+fn least_pass<M: RangeMinima>(minima: &M, ranges: &[Places]) -> u64 {
+    let mut sum = 0;
+    for range in ranges {
+        sum = fold(sum, minima.least(range.first, range.last) as u64);
+    }
+    sum
+}
+
+// A copy of the items, which a build takes.
+fn copied(rt: &HostRuntime, items: &[u64]) -> Result<Vec<u64>, AllocError>
+    ensures { IfOk result (λ copy. copy.items ≡ items.now) }
+{
+    let mut copy = Vec::with_capacity(rt.alloc(), items.len())?;
+    copy.extend_from_slice(items)?;
+    Ok(copy)
+}
+
+// The time of a build from a copy of the items, which isn't timed.
+fn build_time<M: RangeMinima>(rt: &HostRuntime, items: &[u64]) -> io::Result<u64> {
+    if items.len() > MOST {
+        return Ok(0);
+    }
+    let copy = copied(rt, items)?;
+    let start = rt.thread_cpu_time()?;
+    let_go(M::made(copy))?;
+    nanoseconds_since(rt, start)
+}
+
+fn made<M: RangeMinima>(rt: &HostRuntime, items: &[u64]) -> io::Result<M> {
+    if items.len() > MOST {
+        return Err(io::Error::from(io::ErrorKind::InvalidInput));
+    }
+    Ok(M::made(copied(rt, items)?)?)
+}
+
+// How many bits an item takes, in thousandths.
+fn bits_per_item<M: RangeMinima>(minima: &M) -> u64 {
+    let heap_bits = (minima.bytes() as u64).saturating_mul(8);
+    heap_bits.saturating_mul(1000) / (minima.count() as u64).max(1)
+}
+
+fn run_built<'a, M: RangeMinima>(
+    rt: &HostRuntime,
+    settings: &Settings,
+    series: &Series<'a>,
+    minima: &M,
+    ranges: &Ranges,
+) -> io::Result<()> {
+    let size = series.of("heap_bits_per_item");
+    print_size(rt, settings, &size, bits_per_item(minima))?;
+    let wide = series.of("range_min");
+    let all = ranges.wide.as_slice();
+    run_series(
+        rt,
+        settings,
+        &wide,
+        all.len() as u64,
+        || least_pass(minima, all),
+    )?;
+    let short = series.of("range_min_short");
+    let few = ranges.short.as_slice();
+    run_series(
+        rt,
+        settings,
+        &short,
+        few.len() as u64,
+        || least_pass(minima, few),
+    )
+}
+
+fn run_type<M: RangeMinima>(
+    rt: &HostRuntime,
+    settings: &Settings,
+    structure: &str,
+    items: &[u64],
+    ranges: &Ranges,
+) -> io::Result<()> {
+    let n = items.len();
+    let parameters = format!(in rt.alloc(); "n={n}")?;
+    let series = Series {
+        structure,
+        operation: "build",
+        parameters: parameters.as_str(),
+    };
+    let count = n as u64;
+    run_builds(
+        rt,
+        settings,
+        &series,
+        count,
+        count,
+        || build_time::<M>(rt, items),
+    )?;
+    asked(
+        made::<M>(rt, items),
+        |minima| run_built(rt, settings, &series, minima, ranges),
+    )
+}
+
+/// Runs all series over `n` items, each of `query_count` queries.
+pub fn run(rt: &HostRuntime, settings: &Settings, n: usize, query_count: usize) -> io::Result<()> {
+    let items = values(rt.alloc(), n)?;
+    let items = items.as_slice();
+    asked(ranges_of(rt, n, query_count), |ranges| {
+        run_type::<FastRmq<Global>>(rt, settings, "rmq_fast", items, ranges)?;
+        run_type::<BinaryRmq<Global>>(rt, settings, "rmq_binary", items, ranges)
+    })
+}
