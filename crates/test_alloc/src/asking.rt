@@ -63,9 +63,9 @@ pub enum Step {
 }
 
 /// The number of the first step of a walk, counted from 0, that does not give what its row says.
-pub fn first_wrong_step<W, R: PartialEq + Drop, F: Fn(&mut W, Step) -> R>(
+pub fn first_wrong_step<W, S: Copy + Drop, R: PartialEq + Drop, F: Fn(&mut W, S) -> R>(
     walk: &mut W,
-    rows: &[(Step, R)],
+    rows: &[(S, R)],
     take: F,
 ) -> Option<usize>
     requires { F.IsAlwaysCallable take }
