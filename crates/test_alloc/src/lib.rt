@@ -1,11 +1,20 @@
 //! An allocator for tests: it counts the requests for memory and refuses those that it is told to.
 #![tactic(auto)]
 
+mod asking;
+mod tries;
+
+pub use asking::{Step, asked, asked_both, asked_mut, first_wrong, first_wrong_step};
 use std::alloc::{AllocError, Allocator};
 use std::cell::Cell;
+pub use tries::{
+    Ending, LENGTHS, each_refused, takes_memory, try_change, try_clone, try_convert, try_make,
+    try_use,
+};
 
 /// Which requests are refused, and what has been asked so far. Requests count from 1.
 pub struct Plan {
+    next: Cell<u64>,
     first: Cell<u64>,
     last: Cell<u64>,
     asked: Cell<u64>,
@@ -16,6 +25,7 @@ pub struct Plan {
 impl Drop for Plan {
     fn drop(self) {
         let Self {
+            next: _,
             first: _,
             last: _,
             asked: _,
@@ -38,6 +48,7 @@ impl<B: Allocator> Refusing<B> {
         Refusing {
             inner,
             plan: Plan {
+                next: Cell::new(0),
                 first: Cell::new(first),
                 last: Cell::new(last),
                 asked: Cell::new(0),
@@ -60,6 +71,23 @@ impl<B: Allocator> Refusing<B> {
     /// Refuses every request.
     pub fn all(inner: B) -> Refusing<B> {
         Refusing::between(inner, 0, u64::MAX)
+    }
+
+    /// Refuses nothing before `start`, and then the `n`th request from there on. `n` is above 0.
+    pub fn after_start(inner: B, n: u64) -> Refusing<B> {
+        let heap = Refusing::none(inner);
+        heap.plan.next.set(n);
+        heap
+    }
+
+    /// Starts to refuse what `after_start` was told to. The call that is tried comes next.
+    pub fn start(&self) {
+        self.refuse_next(self.plan.next.replace(0));
+    }
+
+    /// Whether what `after_start` was told to refuse waits for `start`.
+    pub fn is_waiting(&self) -> bool {
+        self.plan.next.get() > 0
     }
 
     /// From here on, the next request that is refused is the `n`th from now on.
@@ -89,6 +117,11 @@ impl<B: Allocator> Refusing<B> {
     /// How many of them were refused by the plan.
     pub fn refused(&self) -> u64 {
         self.plan.refused.get()
+    }
+
+    /// Whether every block that was granted was given back.
+    pub fn is_empty(&self) -> bool {
+        self.asked().checked_sub(self.refused()) == Some(self.freed())
     }
 
     /// How many blocks were given back.

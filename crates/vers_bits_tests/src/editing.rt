@@ -1,109 +1,209 @@
-//! Reads, edits and splits.
+//! Lists that are changed by scripts, and splits.
+use crate::makers::{Items, Maker, make};
+use crate::queries::{Change, Line, Query, answer, first_wrong_line};
+use std::alloc::{Allocator, Global};
 use std::test::Fail;
-use vers_bits::bit_vec::{BitVec, OutOfRange, SplitCause};
+use test_alloc::{asked, asked_mut, first_wrong};
+use vers_bits::bit_vec::{BitVec, GrowError, OutOfRange, SplitCause};
 
-#[test]
-fn bits_are_read_at_their_places(rt: HostRuntime) -> Result<(), Fail> {
-    let list = BitVec::pack_sequence_u8(rt.alloc(), &[7, 255], 10)?;
-    assert_eq!(rt; list.len(), 20);
-    assert!(rt; list.is_bit_set_unchecked(2));
-    assert_eq!(rt; list.get_unchecked(3), 0);
-    assert_eq!(rt; list.get_bits_unchecked(8, 4), 12);
-    assert_eq!(rt; list.get_bits_unchecked(20, 0), 0);
-    assert_eq!(rt; list.unpack_element(1, 10), Some(255));
-    assert_eq!(rt; list.unpack_element(2, 10), None);
-    assert_eq!(rt; list.unpack_element(0, 0), None);
-    assert_eq!(rt; list.unpack_element_unchecked(1, 10), 255);
-    Ok(())
+// The maker of a list, its length, and what is done and asked then.
+const SCRIPTS: [(Maker, usize, &[Line]); 7] = [
+    (
+        Maker::WithCapacity,
+        0,
+        &[
+            Line::Make(Change::Append(false)),
+            Line::Make(Change::Append(true)),
+            Line::Make(Change::Append(true)),
+            Line::Make(Change::Append(false)),
+            Line::Ask(Query::Len, Some(4)),
+            Line::Ask(Query::IsEmpty, Some(0)),
+            Line::Ask(Query::Get(0), Some(0)),
+            Line::Ask(Query::Get(1), Some(1)),
+            Line::Ask(Query::IsBitSet(2), Some(1)),
+            Line::Ask(Query::Get(3), Some(0)),
+            Line::Ask(Query::Get(4), None),
+            Line::Ask(Query::IsBitSet(4), None),
+            Line::Ask(Query::Get(usize::MAX), None),
+        ],
+    ),
+    (
+        Maker::WithCapacity,
+        0,
+        &[
+            Line::Make(Change::AppendBit(1)),
+            Line::Make(Change::AppendBit(0)),
+            Line::Make(Change::AppendBit(u64::MAX)),
+            Line::Make(Change::AppendBit(2)),
+            Line::Ask(Query::Len, Some(4)),
+            Line::Ask(Query::GetBits(0, 4), Some(5)),
+        ],
+    ),
+    (
+        Maker::WithCapacity,
+        0,
+        &[
+            Line::Make(Change::AppendBitU8(255)),
+            Line::Make(Change::AppendBitU8(254)),
+            Line::Make(Change::AppendBitU16(1)),
+            Line::Make(Change::AppendBitU16(2)),
+            Line::Make(Change::AppendBitU32(3)),
+            Line::Make(Change::AppendBitU32(4)),
+            Line::Ask(Query::Len, Some(6)),
+            Line::Ask(Query::GetBits(0, 6), Some(21)),
+        ],
+    ),
+    (
+        Maker::WithCapacity,
+        0,
+        &[
+            Line::Make(Change::AppendBits(11, 3)),
+            Line::Ask(Query::Len, Some(3)),
+            Line::Ask(Query::GetBits(0, 3), Some(3)),
+            Line::Make(Change::AppendBits(u64::MAX, 0)),
+            Line::Ask(Query::Len, Some(3)),
+            Line::Make(Change::AppendWord(u64::MAX)),
+            Line::Ask(Query::Len, Some(67)),
+            Line::Ask(Query::GetBits(3, 64), Some(u64::MAX)),
+            Line::Make(Change::AppendBitsUnchecked(2, 2)),
+            Line::Ask(Query::GetBits(66, 3), Some(5)),
+            Line::Ask(Query::HeapSize, Some(16)),
+        ],
+    ),
+    (
+        Maker::WithCapacity,
+        0,
+        &[
+            Line::Make(Change::AppendBit(1)),
+            Line::Make(Change::AppendBit(0)),
+            Line::Make(Change::AppendBits(u64::MAX, 10)),
+            Line::Make(Change::DropLast(10)),
+            Line::Ask(Query::Len, Some(2)),
+            Line::Ask(Query::GetBits(0, 2), Some(1)),
+            Line::Ask(Query::Limb(0), Some(1)),
+            Line::Ask(Query::HeapSize, Some(8)),
+        ],
+    ),
+    (
+        Maker::FromZeros,
+        70,
+        &[
+            Line::Make(Change::Set(69, 3)),
+            Line::Ask(Query::Len, Some(70)),
+            Line::Make(Change::SetUnchecked(0, 1)),
+            Line::Make(Change::FlipBit(64)),
+            Line::Make(Change::FlipBitUnchecked(0)),
+            Line::Ask(Query::GetBits(64, 6), Some(33)),
+            Line::Ask(Query::CountOnes, Some(2)),
+            Line::Make(Change::Set(69, 2)),
+            Line::Ask(Query::CountOnes, Some(1)),
+            Line::Refuse(Change::Set(70, 1)),
+            Line::Ask(Query::Len, Some(70)),
+            Line::Ask(Query::CountOnes, Some(1)),
+            Line::Ask(Query::Get(64), Some(1)),
+        ],
+    ),
+    (
+        Maker::FromOnes,
+        130,
+        &[
+            Line::Make(Change::DropLast(60)),
+            Line::Ask(Query::Len, Some(70)),
+            Line::Ask(Query::CountOnes, Some(70)),
+            Line::Ask(Query::HeapSize, Some(16)),
+            Line::Make(Change::DropLast(6)),
+            Line::Ask(Query::HeapSize, Some(8)),
+            Line::Make(Change::DropLast(usize::MAX)),
+            Line::Ask(Query::IsEmpty, Some(1)),
+        ],
+    ),
+];
+
+// The first wrong line of a script over a list that a maker makes.
+fn first_wrong_of(
+    alloc: Global,
+    maker: Maker,
+    len: usize,
+    script: &[Line],
+) -> Result<Option<usize>, GrowError> {
+    asked(
+        Items::of_pattern(alloc, len),
+        |items| asked_mut(
+            make(alloc, maker, items),
+            |list| first_wrong_line(list, script),
+        ),
+    )?
 }
 
 #[test]
-fn sums_and_products_past_the_machine_are_past_the_list(rt: HostRuntime) -> Result<(), Fail> {
-    let list = BitVec::from_ones(rt.alloc(), 10)?;
-    assert_eq!(rt; list.unpack_element(9223372036854775808, 2), None);
-    assert_eq!(rt; list.get_bits(usize::MAX, 2), None);
-    assert_eq!(rt; list.get_bits(8, 3), None);
-    assert_eq!(rt; list.get_bits(8, 2), Some(3));
-    Ok(())
-}
-
-#[test]
-fn bits_are_set_and_flipped(rt: HostRuntime) -> Result<(), Fail> {
-    let alloc = rt.alloc();
-    let mut list = BitVec::from_zeros(alloc, 70)?;
-    assert_eq!(rt; list.set(69, 3), Ok(()));
-    assert_eq!(rt; list.len(), 70);
-    list.set_unchecked(0, 1);
-    list.flip_bit(64);
-    list.flip_bit_unchecked(0);
-    assert_eq!(rt; list.get_bits(64, 6), Some(33));
-    assert_eq!(rt; list.count_ones(), 2);
-    assert_eq!(rt; list.set(69, 2), Ok(()));
-    assert_eq!(rt; list.count_ones(), 1);
-    let before = list.clone()?;
-    assert_eq!(rt; list.set(70, 1), Err(OutOfRange));
-    assert!(rt; list == before);
+fn scripts_go_as_they_say(rt: HostRuntime) -> Result<(), Fail> {
+    for (number, (maker, len, script)) in SCRIPTS.iter().enumerate() {
+        let wrong = first_wrong_of(rt.alloc(), *maker, *len, script)?;
+        assert_eq!(rt; wrong, None, "script {number}");
+    }
     assert_eq!(rt;
-        format!(in alloc; "{}", OutOfRange)?.as_str(),
+        format!(in rt.alloc(); "{}", OutOfRange)?.as_str(),
         "out of range"
     );
     Ok(())
 }
 
-#[test]
-fn the_last_bits_are_dropped(rt: HostRuntime) -> Result<(), Fail> {
-    let mut list = BitVec::from_ones(rt.alloc(), 130)?;
-    list.drop_last(60);
-    assert!(rt; list == BitVec::from_ones(rt.alloc(), 70)?);
-    assert_eq!(rt; list.heap_size(), 16);
-    list.drop_last(6);
-    assert_eq!(rt; list.heap_size(), 8);
-    list.drop_last(usize::MAX);
-    assert!(rt; list.is_empty());
-    Ok(())
+// Whether a list has `len` bits, at most 64, with a number.
+fn is_list<A: Allocator + Copy>(list: &BitVec<A>, len: usize, number: u64) -> bool {
+    list.len() == len && list.get_bits(0, len).unwrap_or(0) == number
 }
 
-#[test]
-fn a_list_is_split_in_two(rt: HostRuntime) -> Result<(), Fail> {
-    let alloc = rt.alloc();
-    let list = BitVec::from_bits(alloc, &[1, 1, 0, 1, 0])?;
+// Whether 11010 is split into 110 and 10, and the halves make it again.
+fn is_split_in_two<A: Allocator + Copy>(list: BitVec<A>) -> bool {
     let Ok((mut first, second)) = list.split_at(3) else {
-        assert!(rt; false, "split");
-        return Ok(());
+        return false;
     };
-    assert!(rt; first == BitVec::from_bits(alloc, &[1, 1, 0])?);
-    assert!(rt; second == BitVec::from_bits(alloc, &[1, 0])?);
-    first.extend_bitvec(&second)?;
-    assert!(rt; first == BitVec::from_bits(alloc, &[1, 1, 0, 1, 0])?);
+    is_list(&first, 3, 3)
+        && is_list(&second, 2, 1)
+        && first.extend_bitvec(&second).is_ok()
+        && is_list(&first, 5, 11)
+}
 
-    let list = BitVec::from_limbs(alloc, &[1, 2, 3])?;
-    assert_eq!(rt; list.len(), 192);
+// Whether a list of 192 bits is split after 70.
+fn is_split_inside_a_limb<A: Allocator + Copy>(list: BitVec<A>) -> bool {
+    if list.len() != 192 {
+        return false;
+    }
     let Ok((first, second)) = list.split_at_unchecked(70) else {
-        assert!(rt; false, "split unchecked");
-        return Ok(());
+        return false;
     };
-    assert_eq!(rt; first.len(), 70);
-    assert_eq!(rt; first.get_bits(60, 10), Some(32));
-    assert_eq!(rt; second.len(), 122);
-    assert_eq!(rt; second.get_bits(58, 64), Some(3));
-    Ok(())
+    first.len() == 70
+        && first.get_bits(60, 10) == Some(32)
+        && second.len() == 122
+        && second.get_bits(58, 64) == Some(3)
+}
+
+// Whether 1001 comes back from a split past its end, and is split at its end.
+fn is_kept_whole<A: Allocator + Copy>(list: BitVec<A>) -> bool {
+    match list.split_at(5) {
+        Ok(_) => false,
+        Err(refused) => {
+            refused.cause == SplitCause::OutOfRange
+                && is_list(&refused.vec, 4, 9)
+                && is_split_at_the_end(refused.vec)
+        }
+    }
+}
+
+fn is_split_at_the_end<A: Allocator + Copy>(list: BitVec<A>) -> bool {
+    match list.split_at(4) {
+        Ok((first, second)) => is_list(&first, 4, 9) && second.is_empty(),
+        Err(_) => false,
+    }
 }
 
 #[test]
-fn a_place_past_the_end_splits_nothing(rt: HostRuntime) -> Result<(), Fail> {
+fn lists_are_split(rt: HostRuntime) {
     let alloc = rt.alloc();
-    let want = BitVec::from_bits(alloc, &[1, 0, 0, 1])?;
-    let Err(refused) = want.clone()?.split_at(5) else {
-        assert!(rt; false, "refused");
-        return Ok(());
-    };
-    assert_eq!(rt; refused.cause, SplitCause::OutOfRange);
-    assert!(rt; refused.vec == want);
-    let Ok((first, second)) = refused.vec.split_at(4) else {
-        assert!(rt; false, "split at the length");
-        return Ok(());
-    };
-    assert!(rt; first == want);
-    assert!(rt; second.is_empty());
-    Ok(())
+    let five = BitVec::from_bits(alloc, &[1, 1, 0, 1, 0]);
+    assert!(rt; five.is_ok_and(|list| is_split_in_two(list)));
+    let limbs = BitVec::from_limbs(alloc, &[1, 2, 3]);
+    assert!(rt; limbs.is_ok_and(|list| is_split_inside_a_limb(list)));
+    let four = BitVec::from_bits(alloc, &[1, 0, 0, 1]);
+    assert!(rt; four.is_ok_and(|list| is_kept_whole(list)));
 }

@@ -1,162 +1,279 @@
 //! Walks over the bits and the limbs of a list, from both ends.
-use std::alloc::{Allocator, Global};
+use std::alloc::{AllocError, Allocator, Global};
 use std::test::Fail;
-use test_alloc::{Refusing, takes_none};
-use vers_bits::bit_vec::{BitVec, GrowError};
+use test_alloc::{Step, asked, asked_mut, first_wrong_step};
+use vers_bits::bit_vec::{BitVec, BitVecIter, BitVecRefIter, GrowError, LimbIter};
 
-// The list 10110.
+fn take<A: Allocator + Copy>(bits: &mut BitVecRefIter<'_, A>, step: Step) -> Option<u64> {
+    match step {
+        Step::Next => bits.next(),
+        Step::NextBack => bits.next_back(),
+        Step::Nth(n) => bits.nth(n),
+        Step::NthBack(n) => bits.nth_back(n),
+        Step::Len => Some(bits.len() as u64),
+    }
+}
+
+fn take_owned<A: Allocator + Copy>(bits: &mut BitVecIter<A>, step: Step) -> Option<u64> {
+    match step {
+        Step::Next => bits.next(),
+        Step::NextBack => bits.next_back(),
+        Step::Nth(n) => bits.nth(n),
+        Step::NthBack(n) => bits.nth_back(n),
+        Step::Len => Some(bits.len() as u64),
+    }
+}
+
+fn take_limb<A: Allocator + Copy>(limbs: &mut LimbIter<'_, A>, step: Step) -> Option<u64> {
+    match step {
+        Step::Next => limbs.next(),
+        Step::NextBack => limbs.next_back(),
+        Step::Nth(n) => limbs.nth(n),
+        Step::NthBack(n) => limbs.nth_back(n),
+        Step::Len => Some(limbs.len() as u64),
+    }
+}
+
+// Walks over the bits 10110.
+const BITS: [&[(Step, Option<u64>)]; 5] = [
+    &[
+        (Step::Len, Some(5)),
+        (Step::Next, Some(1)),
+        (Step::NextBack, Some(0)),
+        (Step::Next, Some(0)),
+        (Step::Len, Some(2)),
+        (Step::NextBack, Some(1)),
+        (Step::Next, Some(1)),
+        (Step::NextBack, None),
+        (Step::Next, None),
+        (Step::Len, Some(0)),
+    ],
+    &[(Step::Nth(usize::MAX), None), (Step::Next, None)],
+    &[(Step::NthBack(5), None), (Step::NextBack, None)],
+    &[
+        (Step::Nth(1), Some(0)),
+        (Step::NthBack(1), Some(1)),
+        (Step::Next, Some(1)),
+        (Step::Next, None),
+    ],
+    &[
+        (Step::Nth(2), Some(1)),
+        (Step::NthBack(1), Some(1)),
+        (Step::Next, None),
+        (Step::NextBack, None),
+    ],
+];
+
+// Walks over the limbs 7, all ones, 9, 1.
+const LIMBS: [&[(Step, Option<u64>)]; 3] = [
+    &[
+        (Step::Len, Some(4)),
+        (Step::NextBack, Some(1)),
+        (Step::Next, Some(7)),
+        (Step::Nth(1), Some(9)),
+        (Step::Next, None),
+        (Step::NextBack, None),
+    ],
+    &[
+        (Step::NextBack, Some(1)),
+        (Step::Next, Some(7)),
+        (Step::NthBack(1), Some(u64::MAX)),
+        (Step::Len, Some(0)),
+    ],
+    &[(Step::Nth(4), None)],
+];
+
 fn list_10110<A: Allocator + Copy>(alloc: A) -> Result<BitVec<A>, GrowError> {
-    let mut list = BitVec::new(alloc);
-    list.append(true)?;
-    list.append(false)?;
-    list.append(true)?;
-    list.append(true)?;
-    list.append(false)?;
-    Ok(list)
+    BitVec::from_bits(alloc, &[1, 0, 1, 1, 0])
+}
+
+fn walk_10110<A: Allocator + Copy>(alloc: A) -> Result<BitVecIter<A>, GrowError> {
+    match list_10110(alloc) {
+        Ok(list) => Ok(list.into_iter()),
+        Err(fault) => Err(fault),
+    }
+}
+
+// The first wrong step of a walk over the bits of a list, or of one over its limbs.
+fn wrong_step<A: Allocator + Copy>(
+    list: &BitVec<A>,
+    rows: &[(Step, Option<u64>)],
+) -> Option<usize> {
+    first_wrong_step(
+        &mut list.iter(),
+        rows,
+        |bits: &mut BitVecRefIter<'_, A>, step| take(bits, step),
+    )
+}
+
+fn wrong_limb_step<A: Allocator + Copy>(
+    list: &BitVec<A>,
+    rows: &[(Step, Option<u64>)],
+) -> Option<usize> {
+    first_wrong_step(
+        &mut list.iter_limbs(),
+        rows,
+        |limbs: &mut LimbIter<'_, A>, step| take_limb(limbs, step),
+    )
+}
+
+fn wrong_owned_step<A: Allocator + Copy>(
+    bits: &mut BitVecIter<A>,
+    rows: &[(Step, Option<u64>)],
+) -> Option<usize> {
+    first_wrong_step(bits, rows, |bits, step| take_owned(bits, step))
 }
 
 #[test]
 fn bits_from_both_ends(rt: HostRuntime) -> Result<(), Fail> {
-    let list = list_10110(rt.alloc())?;
-    let mut bits = list.iter();
-    assert_eq!(rt; bits.len(), 5);
-    assert_eq!(rt; bits.next(), Some(1));
-    assert_eq!(rt; bits.next_back(), Some(0));
-    assert_eq!(rt; bits.next(), Some(0));
-    assert_eq!(rt; bits.size_hint(), (2, Some(2)));
-    assert_eq!(rt; bits.next_back(), Some(1));
-    assert_eq!(rt; bits.next(), Some(1));
-    assert_eq!(rt; bits.next_back(), None);
-    assert_eq!(rt; bits.next(), None);
-    assert_eq!(rt; bits.len(), 0);
-    Ok(())
-}
-
-#[test]
-fn bits_past_the_end(rt: HostRuntime) -> Result<(), Fail> {
-    let list = list_10110(rt.alloc())?;
-    let mut bits = list.iter();
-    assert_eq!(rt; bits.nth(usize::MAX), None);
-    assert_eq!(rt; bits.next(), None);
-    let mut again = list.iter();
-    assert_eq!(rt; again.nth_back(5), None);
-    assert_eq!(rt; again.next_back(), None);
-    assert_eq!(rt; list.iter().last(), Some(0));
-    assert_eq!(rt; list.iter().count(), 5);
-    Ok(())
-}
-
-#[test]
-fn bits_in_the_middle(rt: HostRuntime) -> Result<(), Fail> {
-    let list = list_10110(rt.alloc())?;
-    let mut bits = list.iter();
-    assert_eq!(rt; bits.nth(1), Some(0));
-    let mut second = bits.clone();
-    assert_eq!(rt; bits.nth_back(1), Some(1));
-    assert_eq!(rt; bits.next(), Some(1));
-    assert_eq!(rt; bits.next(), None);
-    assert_eq!(rt; second.len(), 3);
-    assert_eq!(rt; second.next_back(), Some(0));
-    Ok(())
-}
-
-#[test]
-fn bits_of_an_owned_list(rt: HostRuntime) -> Result<(), Fail> {
-    let mut bits = list_10110(rt.alloc())?.into_iter();
-    assert_eq!(rt; bits.nth(2), Some(1));
-    let mut second = bits.clone()?;
-    assert_eq!(rt; bits.nth_back(1), Some(1));
-    assert_eq!(rt; bits.next(), None);
-    assert_eq!(rt; bits.next_back(), None);
-    assert_eq!(rt; second.size_hint(), (2, Some(2)));
-    assert_eq!(rt; second.next_back(), Some(0));
-    assert_eq!(rt; second.next(), Some(1));
-    assert_eq!(rt; second.nth(0), None);
-    assert_eq!(rt; list_10110(rt.alloc())?.into_iter().last(), Some(0));
-    assert_eq!(rt; list_10110(rt.alloc())?.into_iter().count(), 5);
-    Ok(())
-}
-
-#[test]
-fn loops_over_the_list_and_its_references(rt: HostRuntime) -> Result<(), Fail> {
-    let mut list = list_10110(rt.alloc())?;
-    let mut number: u64 = 0;
-    for bit in &list {
-        number = number.wrapping_mul(2).wrapping_add(bit);
+    for (walk, rows) in BITS.iter().enumerate() {
+        let wrong = asked(list_10110(rt.alloc()), |list| wrong_step(list, rows))?;
+        assert_eq!(rt; wrong, None, "walk {walk}");
+        let wrong = asked_mut(walk_10110(rt.alloc()), |bits| wrong_owned_step(bits, rows))?;
+        assert_eq!(rt; wrong, None, "walk {walk}, owned");
     }
-    assert_eq!(rt; number, 22);
-    number = 0;
-    for bit in &mut list {
-        number = number.wrapping_mul(2).wrapping_add(bit);
-    }
-    assert_eq!(rt; number, 22);
-    number = 0;
-    for bit in list {
-        number = number.wrapping_mul(2).wrapping_add(bit);
-    }
-    assert_eq!(rt; number, 22);
     Ok(())
 }
 
 #[test]
 fn limbs_from_both_ends(rt: HostRuntime) -> Result<(), Fail> {
-    let mut list = BitVec::from_limbs(rt.alloc(), &[7, u64::MAX, 9])?;
-    list.append(true)?;
+    for (walk, rows) in LIMBS.iter().enumerate() {
+        let wrong = asked(
+            BitVec::from_limbs(rt.alloc(), &[7, u64::MAX, 9, 1]),
+            |list| wrong_limb_step(list, rows),
+        )?;
+        assert_eq!(rt; wrong, None, "walk {walk}");
+    }
+    Ok(())
+}
+
+// Whether walks over 10110 have their last items, counts and sizes, and go on alone once they are cloned.
+fn ends_work<A: Allocator + Copy>(list: &BitVec<A>) -> bool {
+    let mut bits = list.iter();
+    let first = bits.nth(1);
+    let mut second = bits.clone();
+    first == Some(0)
+        && second.len() == 3
+        && second.next_back() == Some(0)
+        && second.size_hint() == (2, Some(2))
+        && bits.size_hint() == (3, Some(3))
+        && list.iter().last() == Some(0)
+        && list.iter().count() == 5
+}
+
+// The same of the limbs 7, all ones, 9, 1.
+fn limb_ends_work<A: Allocator + Copy>(list: &BitVec<A>) -> bool {
     let mut limbs = list.iter_limbs();
-    assert_eq!(rt; limbs.len(), 4);
-    assert_eq!(rt; limbs.next_back(), Some(1));
-    assert_eq!(rt; limbs.next(), Some(7));
+    let last = limbs.next_back();
     let mut second = limbs.clone();
-    assert_eq!(rt; limbs.nth(1), Some(9));
-    assert_eq!(rt; limbs.next(), None);
-    assert_eq!(rt; limbs.next_back(), None);
-    assert_eq!(rt; second.nth_back(1), Some(u64::MAX));
-    assert_eq!(rt; second.size_hint(), (0, Some(0)));
-    assert_eq!(rt; list.iter_limbs().nth(4), None);
-    assert_eq!(rt; list.iter_limbs().last(), Some(1));
-    assert_eq!(rt; list.iter_limbs().count(), 4);
     let mut ones: u32 = 0;
     for limb in list.iter_limbs() {
         ones = ones.wrapping_add(limb.count_ones());
     }
-    assert_eq!(rt; ones, 70);
-    Ok(())
+    last == Some(1)
+        && second.nth_back(1) == Some(u64::MAX)
+        && second.size_hint() == (1, Some(1))
+        && limbs.len() == 3
+        && list.iter_limbs().last() == Some(1)
+        && list.iter_limbs().count() == 4
+        && ones == 70
+}
+
+// Whether a walk that owns 10110 goes on alone once it is cloned.
+fn clones_work<A: Allocator + Copy>(bits: &mut BitVecIter<A>) -> bool {
+    let third = bits.nth(2);
+    let copy: Result<_, _> = bits.clone();
+    let copied = asked_mut(copy, |second: &mut BitVecIter<A>| goes_on(second));
+    third == Some(1) && copied == Ok(true) && bits.nth_back(1) == Some(1)
+}
+
+fn goes_on<A: Allocator + Copy>(bits: &mut BitVecIter<A>) -> bool {
+    bits.size_hint() == (2, Some(2))
+        && bits.next_back() == Some(0)
+        && bits.next() == Some(1)
+        && bits.nth(0).is_none()
+}
+
+fn last_of<A: Allocator + Copy>(walk: Result<BitVecIter<A>, GrowError>) -> Option<u64> {
+    match walk {
+        Ok(bits) => bits.last(),
+        Err(_) => None,
+    }
+}
+
+fn count_of<A: Allocator + Copy>(walk: Result<BitVecIter<A>, GrowError>) -> usize {
+    match walk {
+        Ok(bits) => bits.count(),
+        Err(_) => 0,
+    }
 }
 
 #[test]
-fn an_empty_list_has_ended(rt: HostRuntime) -> Result<(), Fail> {
-    let list = BitVec::new(rt.alloc());
-    assert_eq!(rt; list.iter().next(), None);
-    assert_eq!(rt; list.iter().next_back(), None);
-    assert_eq!(rt; list.iter().last(), None);
-    assert_eq!(rt; list.iter_limbs().next(), None);
-    assert_eq!(rt; list.into_iter().next_back(), None);
+fn walks_end_and_are_cloned(rt: HostRuntime) -> Result<(), Fail> {
+    let alloc = rt.alloc();
+    assert!(rt; asked(list_10110(alloc), |list| ends_work(list))?);
+    assert!(rt; asked_mut(walk_10110(alloc), |bits| clones_work(bits))?);
+    assert_eq!(rt; last_of(walk_10110(alloc)), Some(0));
+    assert_eq!(rt; count_of(walk_10110(alloc)), 5);
+    let limbs = BitVec::from_limbs(alloc, &[7, u64::MAX, 9, 1]);
+    assert!(rt; asked(limbs, |list| limb_ends_work(list))?);
     Ok(())
 }
 
-#[test]
-fn a_refused_clone_of_an_owning_iterator(rt: HostRuntime) -> Result<(), Fail> {
-    let heap = Refusing::none(rt.alloc());
-    let mut bits = list_10110(&heap)?.into_iter();
-    assert_eq!(rt; bits.next(), Some(1));
-    heap.refuse_all();
-    assert!(rt; bits.clone().is_err());
-    assert_eq!(rt; bits.next(), Some(0));
-    heap.allow_all();
-    let mut second = bits.clone()?;
-    assert_eq!(rt; second.next(), Some(1));
-    assert_eq!(rt; bits.len(), 3);
-    Ok(())
+// The number of 10110 by loops over a reference, over a `&mut` and over the list.
+fn number_by_reference<A: Allocator + Copy>(list: &BitVec<A>) -> u64 {
+    let mut number: u64 = 0;
+    for bit in list {
+        number = number.wrapping_mul(2).wrapping_add(bit);
+    }
+    number
+}
+
+fn number_by_mut<A: Allocator + Copy>(list: &mut BitVec<A>) -> u64 {
+    let mut number: u64 = 0;
+    for bit in list {
+        number = number.wrapping_mul(2).wrapping_add(bit);
+    }
+    number
+}
+
+fn number_by_value<A: Allocator + Copy>(list: BitVec<A>) -> u64 {
+    let mut number: u64 = 0;
+    for bit in list {
+        number = number.wrapping_mul(2).wrapping_add(bit);
+    }
+    number
 }
 
 #[test]
-fn borrowing_iterators_take_no_memory(rt: HostRuntime) -> Result<(), Fail> {
-    let works = |heap: &Refusing<Global>| {
-        let list = BitVec::new(heap);
-        let bits = list.iter();
-        let limbs = list.iter_limbs();
-        bits.clone().count() == 0 && limbs.clone().count() == 0
-    };
-    assert!(rt; takes_none(rt.alloc(), works));
+fn loops_over_the_list_and_its_references(rt: HostRuntime) -> Result<(), Fail> {
+    let alloc = rt.alloc();
+    assert_eq!(rt;
+        asked(list_10110(alloc), |list| number_by_reference(list))?,
+        22
+    );
+    assert_eq!(rt;
+        asked_mut(list_10110(alloc), |list| number_by_mut(list))?,
+        22
+    );
+    assert_eq!(rt; list_10110(alloc).map(|list| number_by_value(list))?, 22);
     Ok(())
+}
+
+// Whether walks over no bits have ended.
+fn have_ended<A: Allocator + Copy>(list: &BitVec<A>) -> bool {
+    list.iter().next().is_none()
+        && list.iter().next_back().is_none()
+        && list.iter().last().is_none()
+        && list.iter_limbs().next().is_none()
+}
+
+#[test]
+fn an_empty_list_has_ended(rt: HostRuntime) {
+    let none = Ok::<_, AllocError>(BitVec::new(rt.alloc()));
+    assert_eq!(rt;
+        asked(none, |list: &BitVec<Global>| have_ended(list)),
+        Ok(true)
+    );
+    assert_eq!(rt; BitVec::new(rt.alloc()).into_iter().next_back(), None);
 }

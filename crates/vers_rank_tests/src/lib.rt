@@ -1,4 +1,7 @@
 //! Tests of lists of bits with ranks and selects, and of their iterators.
+//!
+//! What is asked stands in tables. A test holds no list itself, which would be slow to prove: it hands what
+//! a maker answers to an owner of any type, and helpers over any allocator ask it by a reference.
 #![tactic(auto)]
 
 #[cfg(test)]

@@ -42,3 +42,47 @@ pub fn spread<A: Allocator + Copy>(
 pub fn list_10110<A: Allocator + Copy>(alloc: A) -> Result<RsVec<A>, GrowError> {
     runs(alloc, &[(true, 1), (false, 1), (true, 2), (false, 1)])
 }
+
+/// What a list looks like.
+#[derive(Clone, Copy, Drop)]
+pub enum Look {
+    Zeros,
+    Ones,
+    Mixed,
+    Sparse,
+}
+
+/// The bit at a place.
+pub fn bit_of(look: Look, place: usize) -> bool {
+    match look {
+        Look::Zeros => false,
+        Look::Ones => true,
+        Look::Mixed => (place as u64).wrapping_mul(0x9E37_79B9_7F4A_7C15) >> 63 == 1,
+        Look::Sparse => place % 1000 == 999,
+    }
+}
+
+/// So many bits of a look.
+pub fn bits_of<A: Allocator + Copy>(
+    alloc: A,
+    look: Look,
+    len: usize,
+) -> Result<BitVec<A>, GrowError> {
+    let mut bits = BitVec::new(alloc);
+    for place in 0..len {
+        bits.append(bit_of(look, place))?;
+    }
+    Ok(bits)
+}
+
+/// The same, indexed.
+pub fn list_of<A: Allocator + Copy>(
+    alloc: A,
+    look: Look,
+    len: usize,
+) -> Result<RsVec<A>, GrowError> {
+    match bits_of(alloc, look, len) {
+        Ok(bits) => indexed(bits),
+        Err(fault) => Err(fault),
+    }
+}

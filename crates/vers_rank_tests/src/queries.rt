@@ -1,13 +1,13 @@
 //! Each query by its plain and its counted form, over tables of queries and their answers.
-use std::alloc::Global;
-use std::process::Abort;
+use std::alloc::Allocator;
 use vers_rank::fast_rs_vec::RsVec;
 use vers_tally::tally::Tally;
 
 /// A query and its arguments.
-#[derive(Clone, Copy)]
+#[derive(Clone, Copy, Drop)]
 pub enum Query {
     Len,
+    IsEmpty,
     Zeros,
     Ones,
     HeapSize,
@@ -24,9 +24,10 @@ pub enum Query {
 }
 
 /// What a query answers in its plain form.
-pub fn answer(list: &RsVec<Global>, query: Query) -> Option<u64> {
+pub fn answer<A: Allocator + Copy>(list: &RsVec<A>, query: Query) -> Option<u64> {
     match query {
         Query::Len => Some(list.len() as u64),
+        Query::IsEmpty => Some(u64::from(list.is_empty())),
         Query::Zeros => Some(list.zeros() as u64),
         Query::Ones => Some(list.ones() as u64),
         Query::HeapSize => Some(list.heap_size() as u64),
@@ -44,9 +45,12 @@ pub fn answer(list: &RsVec<Global>, query: Query) -> Option<u64> {
 }
 
 /// What a query answers in its counted form, which the calls without one have not.
-pub fn counted(list: &RsVec<Global>, query: Query, tally: &mut Tally) -> Option<u64> {
+pub fn counted<A: Allocator + Copy>(
+    list: &RsVec<A>,
+    query: Query,
+    tally: &mut Tally,
+) -> Option<u64> {
     match query {
-        Query::Len | Query::Zeros | Query::Ones | Query::HeapSize => answer(list, query),
         Query::Get(place) => list.get_counted(place, tally),
         Query::GetBits(place, n) => list.get_bits_counted(place, n, tally),
         Query::Rank0(place) => Some(list.rank0_counted(place, tally) as u64),
@@ -57,6 +61,7 @@ pub fn counted(list: &RsVec<Global>, query: Query, tally: &mut Tally) -> Option<
         Query::Successor1(place) => list.successor1_counted(place, tally),
         Query::Predecessor0(place) => list.predecessor0_counted(place, tally),
         Query::Predecessor1(place) => list.predecessor1_counted(place, tally),
+        _ => answer(list, query),
     }
 }
 
@@ -81,15 +86,18 @@ fn digits(n: usize) -> u64 {
 }
 
 /// The most that each counter may show after one query.
-pub fn bounds(list: &RsVec<Global>, query: Query) -> [u64; 9] {
+pub fn bounds<A: Allocator + Copy>(list: &RsVec<A>, query: Query) -> [u64; 9] {
     let superblocks = digits(list.len().div_ceil(8192)).wrapping_add(12);
     match query {
-        Query::Len | Query::Zeros | Query::Ones | Query::HeapSize => [0, 0, 0, 0, 0, 0, 0, 0, 0],
         Query::Get(_) => [1, 0, 0, 0, 1, 0, 0, 0, 0],
         Query::GetBits(..) => [2, 0, 0, 0, 1, 0, 0, 0, 0],
         Query::Rank0(_) | Query::Rank1(_) => [8, 1, 1, 0, 1, 0, 0, 0, 0],
         Query::Select0(_) | Query::Select1(_) => [8, 17, superblocks, 0, 1, 0, 0, 0, 0],
-        _ => [16, 18, superblocks.wrapping_add(1), 0, 2, 0, 0, 0, 0],
+        Query::Successor0(_)
+        | Query::Successor1(_)
+        | Query::Predecessor0(_)
+        | Query::Predecessor1(_) => [16, 18, superblocks.wrapping_add(1), 0, 2, 0, 0, 0, 0],
+        _ => [0, 0, 0, 0, 0, 0, 0, 0, 0],
     }
 }
 
@@ -101,20 +109,40 @@ pub fn is_within(counters: [u64; 9], bounds: [u64; 9]) -> bool {
         .all(|(counter, bound)| *counter <= *bound)
 }
 
-/// Asserts the answer of each query, in both forms, and that the counted form stays within its bounds.
-pub fn answers_are(rt: &impl Abort, list: &RsVec<Global>, rows: &[(Query, Option<u64>)]) {
-    for (row, (query, want)) in rows.iter().enumerate() {
-        assert_eq!(rt; answer(list, *query), *want, "row {row}");
-        let mut tally = Tally::new();
-        assert_eq!(rt;
-            counted(list, *query, &mut tally),
-            *want,
-            "row {row}, counted"
-        );
-        let shown = counters(&tally);
-        assert!(rt;
-            is_within(shown, bounds(list, *query)),
-            "row {row}, what it counted"
-        );
+/// Whether both forms of a query answer so, the counted one within its bounds.
+pub fn is_right<A: Allocator + Copy>(list: &RsVec<A>, query: Query, wanted: Option<u64>) -> bool {
+    let mut tally = Tally::new();
+    answer(list, query) == wanted
+        && counted(list, query, &mut tally) == wanted
+        && is_within(counters(&tally), bounds(list, query))
+}
+
+/// The number of the first query that is answered otherwise, or reads more than it may.
+pub fn first_wrong_answer<A: Allocator + Copy>(
+    list: &RsVec<A>,
+    rows: &[(Query, Option<u64>)],
+) -> Option<usize> {
+    for (row, (query, wanted)) in rows.iter().enumerate() {
+        if !is_right(list, *query, *wanted) {
+            return Some(row);
+        }
     }
+    None
+}
+
+/// The queries about a place, or about the bits of that number.
+pub fn queries_at(place: usize) -> [Query; 11] {
+    [
+        Query::Get(place),
+        Query::GetBits(place, 1),
+        Query::GetBits(place, 64),
+        Query::Rank0(place),
+        Query::Rank1(place),
+        Query::Select0(place),
+        Query::Select1(place),
+        Query::Successor0(place),
+        Query::Successor1(place),
+        Query::Predecessor0(place),
+        Query::Predecessor1(place),
+    ]
 }

@@ -1,131 +1,149 @@
 //! The queries of ascending lists.
-use crate::lists::{Query, answers, answers_of_copy, counted_answers, with_equal};
+use crate::lists::{Query, answer, counted_answer, list_of, with_equal};
+use std::alloc::Allocator;
 use std::test::Fail;
+use test_alloc::{asked, first_wrong};
+use vers_sorted::elias_fano::EliasFanoVec;
 
-// The members, what is asked, and the answers.
-const CASES: [(&[u64], &[Query], &[Option<u64>]); 6] = [
+// The members, what is asked and the answers.
+const CASES: [(&[u64], &[(Query, Option<u64>)]); 7] = [
     (
         &[],
         &[
-            Query::Len,
-            Query::IsEmpty,
-            Query::Rank(3),
-            Query::Get(0),
-            Query::Delta(0),
-            Query::Predecessor(u64::MAX),
-            Query::Successor(0),
-            Query::HeapSize,
+            (Query::Len, Some(0)),
+            (Query::IsEmpty, Some(1)),
+            (Query::Rank(3), Some(0)),
+            (Query::Get(0), None),
+            (Query::Delta(0), None),
+            (Query::Predecessor(u64::MAX), None),
+            (Query::Successor(0), None),
+            (Query::HeapSize, Some(32)),
         ],
-        &[Some(0), Some(1), Some(0), None, None, None, None, Some(32)],
     ),
     (
         &[1000],
         &[
-            Query::Rank(1000),
-            Query::Rank(1001),
-            Query::Get(0),
-            Query::Get(1),
-            Query::IsEmpty,
-            Query::HeapSize,
+            (Query::Rank(1000), Some(0)),
+            (Query::Rank(1001), Some(1)),
+            (Query::Get(0), Some(1000)),
+            (Query::Get(1), None),
+            (Query::IsEmpty, Some(0)),
+            (Query::HeapSize, Some(58)),
         ],
-        &[Some(0), Some(1), Some(1000), None, Some(0), Some(58)],
     ),
     (
         &[0, u64::MAX],
         &[
-            Query::Get(1),
-            Query::Successor(1),
-            Query::Delta(1),
-            Query::Predecessor(u64::MAX),
-            Query::Rank(u64::MAX),
-            Query::HeapSize,
-        ],
-        &[
-            Some(18446744073709551615),
-            Some(18446744073709551615),
-            Some(18446744073709551615),
-            Some(18446744073709551615),
-            Some(1),
-            Some(66),
+            (Query::Get(1), Some(18446744073709551615)),
+            (Query::Successor(1), Some(18446744073709551615)),
+            (Query::Delta(1), Some(18446744073709551615)),
+            (Query::Predecessor(u64::MAX), Some(18446744073709551615)),
+            (Query::Rank(u64::MAX), Some(1)),
+            (Query::HeapSize, Some(66)),
         ],
     ),
     (
         &[0, 1, 4, 7],
-        &[Query::Len, Query::Get(2), Query::HeapSize],
-        &[Some(4), Some(4), Some(58)],
+        &[
+            (Query::Len, Some(4)),
+            (Query::Get(2), Some(4)),
+            (Query::HeapSize, Some(58)),
+        ],
     ),
     (
         &[0, 500, 600, 800, 900, 1001, 1002, 1003, 1004, 3000],
         &[
-            Query::Rank(1004),
-            Query::Rank(3001),
-            Query::Get(4),
-            Query::GetUnchecked(4),
-            Query::Select(9),
-            Query::Select(10),
-            Query::Predecessor(899),
-            Query::PredecessorUnchecked(900),
-            Query::Successor(1005),
-            Query::SuccessorUnchecked(1004),
-            Query::Successor(3001),
-            Query::Delta(5),
-            Query::Delta(10),
-        ],
-        &[
-            Some(8),
-            Some(10),
-            Some(900),
-            Some(900),
-            Some(3000),
-            None,
-            Some(800),
-            Some(900),
-            Some(3000),
-            Some(1004),
-            None,
-            Some(101),
-            None,
+            (Query::Rank(1004), Some(8)),
+            (Query::Rank(3001), Some(10)),
+            (Query::Get(4), Some(900)),
+            (Query::GetUnchecked(4), Some(900)),
+            (Query::Select(9), Some(3000)),
+            (Query::Select(10), None),
+            (Query::Predecessor(899), Some(800)),
+            (Query::PredecessorUnchecked(900), Some(900)),
+            (Query::Successor(1005), Some(3000)),
+            (Query::SuccessorUnchecked(1004), Some(1004)),
+            (Query::Successor(3001), None),
+            (Query::Delta(5), Some(101)),
+            (Query::Delta(10), None),
         ],
     ),
     (
         &[100, 101, 102, 103],
         &[
-            Query::Delta(0),
-            Query::Delta(1),
-            Query::Predecessor(99),
-            Query::Successor(0),
+            (Query::Delta(0), Some(100)),
+            (Query::Delta(1), Some(1)),
+            (Query::Predecessor(99), None),
+            (Query::Successor(0), Some(100)),
         ],
-        &[Some(100), Some(1), None, Some(100)],
+    ),
+    (
+        &[2, 4, 4, 9],
+        &[
+            (Query::Rank(5), Some(3)),
+            (Query::Predecessor(8), Some(4)),
+            (Query::Successor(5), Some(9)),
+        ],
     ),
 ];
 
+// The number of the first query of a list that is answered wrong, by the plain form or by the counted one.
+fn first_wrong_answer<A: Allocator + Copy>(
+    list: &EliasFanoVec<A>,
+    rows: &[(Query, Option<u64>)],
+) -> Option<usize> {
+    first_wrong(list, rows, |list, query| answer(list, query)).or(first_wrong(
+        list,
+        rows,
+        |list, query| counted_answer(list, query).answer,
+    ))
+}
+
+// The same of a copy; as many as there are rows where there is none.
+fn first_wrong_of_copy<A: Allocator + Copy>(
+    list: &EliasFanoVec<A>,
+    rows: &[(Query, Option<u64>)],
+) -> Option<usize> {
+    let copy: Result<_, _> = list.clone();
+    asked(
+        copy,
+        |copy: &EliasFanoVec<A>| first_wrong_answer(copy, rows),
+    )
+    .unwrap_or(Some(rows.len()))
+}
+
 #[test]
 fn queries_and_their_answers(rt: HostRuntime) -> Result<(), Fail> {
-    for (numbers, queries, wanted) in CASES {
-        let found = answers(rt.alloc(), numbers, queries)?;
-        assert_eq!(rt; found.as_slice(), wanted);
-        let of_copy = answers_of_copy(rt.alloc(), numbers, queries)?;
-        assert_eq!(rt; of_copy.as_slice(), wanted);
-        for (counted, answer) in counted_answers(rt.alloc(), numbers, queries)?
-            .iter()
-            .zip(wanted)
-        {
-            assert_eq!(rt; counted.answer, *answer);
-        }
+    for (case, (numbers, rows)) in CASES.iter().enumerate() {
+        let wrong = asked(
+            list_of(rt.alloc(), numbers),
+            |list| first_wrong_answer(list, rows).or(first_wrong_of_copy(list, rows)),
+        )?;
+        assert_eq!(rt; wrong, None, "case {case}");
     }
     Ok(())
+}
+
+// Whether a query is answered so by its counted form, with few low parts and rank calls.
+fn is_cheap<A: Allocator + Copy>(list: &EliasFanoVec<A>, query: Query, wanted: u64) -> bool {
+    let counted = counted_answer(list, query);
+    counted.answer == Some(wanted) && counted.low_parts <= 29 && counted.rank_calls <= 29
+}
+
+fn are_cheap<A: Allocator + Copy>(list: &EliasFanoVec<A>) -> bool {
+    is_cheap(list, Query::Rank(5), 4)
+        && is_cheap(list, Query::Rank(6), 1048580)
+        && is_cheap(list, Query::Len, 1048581)
 }
 
 // A rank reads no more low parts than the length has digits, and 8, with any number of equal members.
 #[test]
 fn many_equal_members_take_few_reads(rt: HostRuntime) -> Result<(), Fail> {
-    let numbers = with_equal(rt.alloc(), &[0, 1, 2, 3], 1048576, 5, 16777216)?;
-    let queries = [Query::Rank(5), Query::Rank(6), Query::Len];
-    let found = counted_answers(rt.alloc(), numbers.as_slice(), &queries)?;
-    for (counted, answer) in found.iter().zip(&[4, 1048580, 1048581]) {
-        assert_eq!(rt; counted.answer, Some(*answer));
-        assert!(rt; counted.low_parts <= 29);
-        assert!(rt; counted.rank_calls <= 29);
-    }
+    let alloc = rt.alloc();
+    let are_cheap = asked(
+        with_equal(alloc, &[0, 1, 2, 3], 1048576, 5, 16777216),
+        |numbers| asked(list_of(alloc, numbers), |list| are_cheap(list)),
+    )??;
+    assert!(rt; are_cheap);
     Ok(())
 }

@@ -4,7 +4,6 @@ ghost use Rattle.std.specs.List.{list_all};
 ghost use Rattle.std.specs.List.Sorted.{IsStrictlyIncreasing};
 
 use std::alloc::{AllocError, Allocator};
-use vers_bits::bit_vec::{BitVec, GrowError};
 use vers_sorted::sparse::SparseRSVec;
 use vers_tally::tally::Tally;
 
@@ -50,9 +49,9 @@ pub enum Query {
     Iter1(usize),
 }
 
-// The answer of one query, a truth value as 1 or 0. An unchecked one is asked only where its
-// condition holds; `Iter1` asks the iterator over the ones for its item of that number.
-fn answer<A: Allocator + Copy>(bits: &SparseRSVec<A>, query: Query) -> Option<u64> {
+/// The answer of one query, a truth value as 1 or 0. An unchecked one is asked only where its
+/// condition holds; `Iter1` asks the iterator over the ones for its item of that number.
+pub fn answer<A: Allocator + Copy>(bits: &SparseRSVec<A>, query: Query) -> Option<u64> {
     match query {
         Query::Len => Some(bits.len()),
         Query::IsEmpty => Some(u64::from(bits.is_empty())),
@@ -70,8 +69,8 @@ fn answer<A: Allocator + Copy>(bits: &SparseRSVec<A>, query: Query) -> Option<u6
     }
 }
 
-// The answer of the counted form of a query. A query that has none is asked as it is.
-fn counted<A: Allocator + Copy>(bits: &SparseRSVec<A>, query: Query) -> Option<u64> {
+/// The answer of the counted form of a query. A query that has none is asked as it is.
+pub fn counted<A: Allocator + Copy>(bits: &SparseRSVec<A>, query: Query) -> Option<u64> {
     let mut tally = Tally::new();
     match query {
         Query::IsSet(place) => bits
@@ -83,47 +82,4 @@ fn counted<A: Allocator + Copy>(bits: &SparseRSVec<A>, query: Query) -> Option<u
         Query::Select1(r) => Some(bits.select1_counted(r, &mut tally)),
         _ => answer(bits, query),
     }
-}
-
-/// The answers of queries of a sparse list.
-pub fn answers<A: Allocator + Copy>(
-    alloc: A,
-    bits: &SparseRSVec<A>,
-    queries: &[Query],
-) -> Result<Vec<Option<u64>, A>, AllocError> {
-    let mut found = Vec::new(alloc);
-    for query in queries {
-        found.push(answer(bits, *query))?;
-    }
-    Ok(found)
-}
-
-/// The answers of queries of a list, of its copy and by the counted forms, one after another.
-pub fn answers_thrice<A: Allocator + Copy>(
-    alloc: A,
-    ones: &[u64],
-    len: u64,
-    queries: &[Query],
-) -> Result<Vec<Option<u64>, A>, AllocError> {
-    let bits = bits_of(alloc, ones, len)?;
-    let mut found = answers(alloc, &bits, queries)?;
-    let copy = bits.clone()?;
-    found.extend_from_slice(answers(alloc, &copy, queries)?.as_slice())?;
-    for query in queries {
-        found.push(counted(&bits, *query))?;
-    }
-    Ok(found)
-}
-
-/// The answers of queries of the sparse list of bits, and of the one with ones and zeros exchanged.
-pub fn answers_of_all_bits<A: Allocator + Copy>(
-    alloc: A,
-    bits: &[bool],
-    queries: &[Query],
-) -> Result<Vec<Option<u64>, A>, GrowError> {
-    let all = BitVec::from_bools(alloc, bits)?;
-    let mut found = answers(alloc, &SparseRSVec::from_bitvec(&all)?, queries)?;
-    let inverted = SparseRSVec::from_bitvec_inverted(&all)?;
-    found.extend_from_slice(answers(alloc, &inverted, queries)?.as_slice())?;
-    Ok(found)
 }

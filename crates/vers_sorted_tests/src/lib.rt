@@ -1,7 +1,7 @@
 //! Tests of ascending lists and of sparse lists of bits.
 //!
-//! What is asked stands in tables. Helpers over any allocator make the lists and ask them, and a test
-//! compares their answers, so that no test holds a list itself, which would be slow to prove.
+//! What is asked stands in tables. A test holds no list itself, which would be slow to prove: it hands what
+//! a maker answers to an owner of any type, and helpers over any allocator ask it by a reference.
 #![tactic(auto)]
 
 #[cfg(test)]
@@ -13,7 +13,7 @@ mod iterators;
 #[cfg(test)]
 mod lists;
 #[cfg(test)]
-mod refusals;
+mod memory;
 #[cfg(test)]
 mod sparse;
 #[cfg(test)]

@@ -56,8 +56,8 @@ pub enum Query {
     SuccessorUnchecked(u64),
 }
 
-// The answer of one query. An unchecked one is asked only where its condition holds.
-fn answer<A: Allocator + Copy>(list: &EliasFanoVec<A>, query: Query) -> Option<u64> {
+/// The answer of one query. An unchecked one is asked only where its condition holds.
+pub fn answer<A: Allocator + Copy>(list: &EliasFanoVec<A>, query: Query) -> Option<u64> {
     match query {
         Query::Len => Some(list.len() as u64),
         Query::IsEmpty => Some(u64::from(list.is_empty())),
@@ -84,20 +84,6 @@ fn answer<A: Allocator + Copy>(list: &EliasFanoVec<A>, query: Query) -> Option<u
     }
 }
 
-/// The answers of queries of the list of the numbers.
-pub fn answers<A: Allocator + Copy>(
-    alloc: A,
-    numbers: &[u64],
-    queries: &[Query],
-) -> Result<Vec<Option<u64>, A>, AllocError> {
-    let list = list_of(alloc, numbers)?;
-    let mut found = Vec::new(alloc);
-    for query in queries {
-        found.push(answer(&list, *query))?;
-    }
-    Ok(found)
-}
-
 /// The answer of a counted call, with the low parts and the rank calls that it read by.
 #[derive(Clone, Copy, Drop)]
 pub struct Counted {
@@ -106,8 +92,8 @@ pub struct Counted {
     pub rank_calls: u64,
 }
 
-// The answer of the counted form of a query. A query that has none is asked as it is.
-fn counted_answer<A: Allocator + Copy>(list: &EliasFanoVec<A>, query: Query) -> Counted {
+/// The answer of the counted form of a query. A query that has none is asked as it is.
+pub fn counted_answer<A: Allocator + Copy>(list: &EliasFanoVec<A>, query: Query) -> Counted {
     let mut tally = Tally::new();
     let found = match query {
         Query::Get(i) => list.get_counted(i, &mut tally),
@@ -123,32 +109,4 @@ fn counted_answer<A: Allocator + Copy>(list: &EliasFanoVec<A>, query: Query) -> 
         low_parts: tally.low_parts(),
         rank_calls: tally.rank_calls(),
     }
-}
-
-/// The answers of the counted forms of queries of the list of the numbers.
-pub fn counted_answers<A: Allocator + Copy>(
-    alloc: A,
-    numbers: &[u64],
-    queries: &[Query],
-) -> Result<Vec<Counted, A>, AllocError> {
-    let list = list_of(alloc, numbers)?;
-    let mut found = Vec::new(alloc);
-    for query in queries {
-        found.push(counted_answer(&list, *query))?;
-    }
-    Ok(found)
-}
-
-/// The answers of queries of a copy of the list of the numbers.
-pub fn answers_of_copy<A: Allocator + Copy>(
-    alloc: A,
-    numbers: &[u64],
-    queries: &[Query],
-) -> Result<Vec<Option<u64>, A>, AllocError> {
-    let copy = list_of(alloc, numbers)?.clone()?;
-    let mut found = Vec::new(alloc);
-    for query in queries {
-        found.push(answer(&copy, *query))?;
-    }
-    Ok(found)
 }

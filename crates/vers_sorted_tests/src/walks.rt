@@ -1,10 +1,11 @@
 //! Walks along the members of a list.
 use crate::lists::list_of;
 use std::alloc::{AllocError, Allocator};
-use vers_sorted::elias_fano::{EliasFanoIter, EliasFanoRefIter};
+use test_alloc::{asked_mut, first_wrong_step};
+use vers_sorted::elias_fano::{EliasFanoIter, EliasFanoRefIter, EliasFanoVec};
 use vers_tally::tally::Tally;
 
-/// What is asked of an iterator. The last five are asked of a copy.
+/// What is asked of an iterator. The last four are asked of a copy.
 #[derive(Clone, Copy, Drop)]
 pub enum Step {
     Len,
@@ -47,13 +48,32 @@ fn answer_of_step<A: Allocator + Copy>(
     }
 }
 
+// What a walk that owns its list ends with; a walk that is there.
+fn end<A: Allocator + Copy>(members: EliasFanoIter<A>, asked: Step) -> Option<u64> {
+    match asked {
+        Step::Last => members.last(),
+        Step::Count => Some(members.count() as u64),
+        Step::Min => members.min(),
+        _ => members.max(),
+    }
+}
+
+// The same of a copy of a walk. None where there is none.
+fn end_of_copy<A: Allocator + Copy>(members: &EliasFanoIter<A>, asked: Step) -> Option<u64> {
+    let copy: Result<_, _> = members.clone();
+    match copy {
+        Ok(second) => end(second, asked),
+        Err(_) => None,
+    }
+}
+
 // One step of an iterator that owns its list.
 fn owned_step<A: Allocator + Copy>(
     members: &mut EliasFanoIter<A>,
     asked: Step,
     tally: &mut Tally,
-) -> Result<Option<u64>, AllocError> {
-    Ok(match asked {
+) -> Option<u64> {
+    match asked {
         Step::Len => Some(members.len() as u64),
         Step::SizeHint => members.size_hint().1.map(|n| n as u64),
         Step::Next => members.next(),
@@ -64,57 +84,78 @@ fn owned_step<A: Allocator + Copy>(
         Step::NextBackCounted => members.next_back_counted(tally),
         Step::NthCounted(n) => members.nth_counted(n, tally),
         Step::NthBackCounted(n) => members.nth_back_counted(n, tally),
-        Step::Last => members.clone()?.last(),
-        Step::Count => Some(members.clone()?.count() as u64),
-        Step::Min => members.clone()?.min(),
-        Step::Max => members.clone()?.max(),
-    })
+        _ => end_of_copy(members, asked),
+    }
 }
 
-/// What the steps of one iterator over the numbers answer.
-pub fn walk<A: Allocator + Copy>(
+/// The number of the first step of a walk over a list that answers wrong.
+pub fn wrong_step<A: Allocator + Copy>(
+    list: &EliasFanoVec<A>,
+    rows: &[(Step, Option<u64>)],
+) -> Option<usize> {
+    first_wrong_step(
+        &mut list.iter(),
+        rows,
+        |members: &mut EliasFanoRefIter<'_, A>, step: Step| {
+            answer_of_step(members, step, &mut Tally::new())
+        },
+    )
+}
+
+/// The same of a walk that owns its list.
+pub fn wrong_owned_step<A: Allocator + Copy>(
+    members: &mut EliasFanoIter<A>,
+    rows: &[(Step, Option<u64>)],
+) -> Option<usize> {
+    first_wrong_step(
+        members,
+        rows,
+        |members: &mut EliasFanoIter<A>, step: Step| owned_step(members, step, &mut Tally::new()),
+    )
+}
+
+/// A walk that owns the list of the numbers.
+pub fn walk_over<A: Allocator + Copy>(
     alloc: A,
     numbers: &[u64],
-    steps: &[Step],
-) -> Result<Vec<Option<u64>, A>, AllocError> {
-    let list = list_of(alloc, numbers)?;
-    let mut members = list.iter();
-    let mut tally = Tally::new();
-    let mut found = Vec::new(alloc);
-    for asked in steps {
-        found.push(answer_of_step(&mut members, *asked, &mut tally))?;
+) -> Result<EliasFanoIter<A>, AllocError> {
+    match list_of(alloc, numbers) {
+        Ok(list) => Ok(list.into_iter()),
+        Err(fault) => Err(fault),
     }
-    Ok(found)
 }
 
-/// The same of an iterator that owns its list.
-pub fn owned_walk<A: Allocator + Copy>(
-    alloc: A,
-    numbers: &[u64],
-    steps: &[Step],
-) -> Result<Vec<Option<u64>, A>, AllocError> {
-    let mut members = list_of(alloc, numbers)?.into_iter();
-    let mut tally = Tally::new();
-    let mut found = Vec::new(alloc);
-    for asked in steps {
-        found.push(owned_step(&mut members, *asked, &mut tally)?)?;
-    }
-    Ok(found)
-}
-
-/// The sum of the members by three loops: over a borrowed list, over one borrowed for writing, and
-/// over the list itself.
-pub fn summed_thrice<A: Allocator + Copy>(alloc: A, numbers: &[u64]) -> Result<u64, AllocError> {
-    let mut list = list_of(alloc, numbers)?;
+/// The sum of the members by a loop over a reference to the list.
+pub fn sum_by_reference<A: Allocator + Copy>(list: &EliasFanoVec<A>) -> u64 {
     let mut sum = 0u64;
-    for member in &list {
-        sum = sum.wrapping_add(member);
-    }
-    for member in &mut list {
-        sum = sum.wrapping_add(member);
-    }
     for member in list {
         sum = sum.wrapping_add(member);
     }
-    Ok(sum)
+    sum
+}
+
+/// The same by a loop over a `&mut` to it.
+pub fn sum_by_mut<A: Allocator + Copy>(list: &mut EliasFanoVec<A>) -> u64 {
+    let mut sum = 0u64;
+    for member in list {
+        sum = sum.wrapping_add(member);
+    }
+    sum
+}
+
+// The same by a loop over the list itself.
+fn sum_of<A: Allocator + Copy>(list: EliasFanoVec<A>) -> u64 {
+    let mut sum = 0u64;
+    for member in list {
+        sum = sum.wrapping_add(member);
+    }
+    sum
+}
+
+/// The same of a list that was made. 0 where none was.
+pub fn sum_by_value<A: Allocator + Copy>(list: Result<EliasFanoVec<A>, AllocError>) -> u64 {
+    match list {
+        Ok(list) => sum_of(list),
+        Err(_) => 0,
+    }
 }

@@ -1,0 +1,79 @@
+//! Questions about a value that was made, of which the caller holds nothing itself.
+//!
+//! A function that owns nested structures is slow to prove. These own a value of any type, so that a test
+//! makes a value in one call and asks it by a reference.
+
+/// What is asked of a value that was made; or why it was not made.
+pub fn asked<T: Drop, R, E, F: FnOnce(&T) -> R>(made: Result<T, E>, ask: F) -> Result<R, E>
+    requires { F.IsAlwaysCallable ask }
+{
+    match made {
+        Ok(it) => Ok(ask(&it)),
+        Err(fault) => Err(fault),
+    }
+}
+
+/// The same of a value that may change meanwhile.
+pub fn asked_mut<T: Drop, R, E, F: FnOnce(&mut T) -> R>(made: Result<T, E>, ask: F) -> Result<R, E>
+    requires { F.IsAlwaysCallable ask }
+{
+    match made {
+        Ok(mut it) => Ok(ask(&mut it)),
+        Err(fault) => Err(fault),
+    }
+}
+
+/// The number of the first row, counted from 0, whose question is not answered as it says.
+pub fn first_wrong<T, Q: Copy + Drop, R: PartialEq + Drop, F: Fn(&T, Q) -> R>(
+    it: &T,
+    rows: &[(Q, R)],
+    answer: F,
+) -> Option<usize>
+    requires { F.IsAlwaysCallable answer }
+{
+    for (row, (question, wanted)) in rows.iter().enumerate() {
+        if answer(it, *question) != *wanted {
+            return Some(row);
+        }
+    }
+    None
+}
+
+/// The same of two values.
+pub fn asked_both<T: Drop, U: Drop, R, E: Drop, F: FnOnce(&T, &U) -> R>(
+    one: Result<T, E>,
+    other: Result<U, E>,
+    ask: F,
+) -> Result<R, E>
+    requires { F.IsAlwaysCallable ask }
+{
+    let one = one?;
+    let other = other?;
+    Ok(ask(&one, &other))
+}
+
+/// A call of a walk that takes an item, or asks how many are left.
+#[derive(Clone, Copy, Drop)]
+pub enum Step {
+    Next,
+    NextBack,
+    Nth(usize),
+    NthBack(usize),
+    Len,
+}
+
+/// The number of the first step of a walk, counted from 0, that does not give what its row says.
+pub fn first_wrong_step<W, S: Copy + Drop, R: PartialEq + Drop, F: Fn(&mut W, S) -> R>(
+    walk: &mut W,
+    rows: &[(S, R)],
+    take: F,
+) -> Option<usize>
+    requires { F.IsAlwaysCallable take }
+{
+    for (row, (step, wanted)) in rows.iter().enumerate() {
+        if take(walk, *step) != *wanted {
+            return Some(row);
+        }
+    }
+    None
+}

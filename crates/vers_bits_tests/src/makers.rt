@@ -1,0 +1,112 @@
+//! Every maker of a list of bits, by one table of items in each type that lists are made of.
+use crate::pattern::item;
+use std::alloc::{AllocError, Allocator, Global};
+use vers_bits::bit_vec::{BitVec, GrowError};
+
+/// A maker; where it packs, with the number of bits that each item gets.
+#[derive(Clone, Copy, Drop)]
+pub enum Maker {
+    WithCapacity,
+    FromZeros,
+    FromOnes,
+    FromBools,
+    FromBoolIter,
+    FromBits,
+    FromBitsU16,
+    FromBitsU32,
+    FromBitsU64,
+    FromBitsIter,
+    FromLimbs,
+    FromLimbsIter,
+    PackU8(usize),
+    PackU16(usize),
+    PackU32(usize),
+    PackU64(usize),
+    PackIterU8(usize),
+    PackIterU16(usize),
+    PackIterU32(usize),
+    PackIterU64(usize),
+}
+
+/// Items in each type of which lists are made.
+#[derive(Drop)]
+pub struct Items {
+    bools: Vec<bool>,
+    bytes: Vec<u8>,
+    shorts: Vec<u16>,
+    words: Vec<u32>,
+    longs: Vec<u64>,
+}
+
+impl Items {
+    fn new(alloc: Global) -> Items {
+        Items {
+            bools: Vec::new(alloc),
+            bytes: Vec::new(alloc),
+            shorts: Vec::new(alloc),
+            words: Vec::new(alloc),
+            longs: Vec::new(alloc),
+        }
+    }
+
+    // Adds the lowest digits of a number, as many as each type has.
+    fn add(&mut self, number: u64) -> Result<(), AllocError> {
+        let [first, second, third, fourth, ..] = number.to_le_bytes();
+        self.bools.push(number % 2 == 1)?;
+        self.bytes.push(first)?;
+        self.shorts.push(u16::from_le_bytes([first, second]))?;
+        self.words
+            .push(u32::from_le_bytes([first, second, third, fourth]))?;
+        self.longs.push(number)?;
+        Ok(())
+    }
+
+    /// The items with the lowest digits of the numbers.
+    pub fn of_numbers(alloc: Global, numbers: &[u64]) -> Result<Items, AllocError> {
+        let mut items = Items::new(alloc);
+        for number in numbers {
+            items.add(*number)?;
+        }
+        Ok(items)
+    }
+
+    /// The first items of the pattern.
+    pub fn of_pattern(alloc: Global, len: usize) -> Result<Items, AllocError> {
+        let mut items = Items::new(alloc);
+        for place in 0..len {
+            items.add(u64::from(item(place)))?;
+        }
+        Ok(items)
+    }
+}
+
+/// The list that a maker makes of items; where it takes only a length, of as many bits.
+pub fn make<A: Allocator + Copy>(
+    alloc: A,
+    maker: Maker,
+    items: &Items,
+) -> Result<BitVec<A>, GrowError> {
+    let longs = items.longs.as_slice();
+    match maker {
+        Maker::WithCapacity => BitVec::with_capacity(alloc, longs.len()),
+        Maker::FromZeros => BitVec::from_zeros(alloc, longs.len()),
+        Maker::FromOnes => BitVec::from_ones(alloc, longs.len()),
+        Maker::FromBools => BitVec::from_bools(alloc, &items.bools),
+        Maker::FromBoolIter => BitVec::from_bool_iter(alloc, items.bools.iter().copied()),
+        Maker::FromBits => BitVec::from_bits(alloc, &items.bytes),
+        Maker::FromBitsU16 => BitVec::from_bits_u16(alloc, &items.shorts),
+        Maker::FromBitsU32 => BitVec::from_bits_u32(alloc, &items.words),
+        Maker::FromBitsU64 => BitVec::from_bits_u64(alloc, longs),
+        Maker::FromBitsIter => BitVec::from_bits_iter(alloc, longs.iter().copied()),
+        Maker::FromLimbs => BitVec::from_limbs(alloc, longs),
+        Maker::FromLimbsIter => BitVec::from_limbs_iter(alloc, longs.iter().copied()),
+        Maker::PackU8(k) => BitVec::pack_sequence_u8(alloc, &items.bytes, k),
+        Maker::PackU16(k) => BitVec::pack_sequence_u16(alloc, &items.shorts, k),
+        Maker::PackU32(k) => BitVec::pack_sequence_u32(alloc, &items.words, k),
+        Maker::PackU64(k) => BitVec::pack_sequence_u64(alloc, longs, k),
+        Maker::PackIterU8(k) => BitVec::pack_from_iter_u8(alloc, items.bytes.iter().copied(), k),
+        Maker::PackIterU16(k) => BitVec::pack_from_iter_u16(alloc, items.shorts.iter().copied(), k),
+        Maker::PackIterU32(k) => BitVec::pack_from_iter_u32(alloc, items.words.iter().copied(), k),
+        Maker::PackIterU64(k) => BitVec::pack_from_iter_u64(alloc, longs.iter().copied(), k),
+    }
+}
