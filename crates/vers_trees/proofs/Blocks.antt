@@ -31,7 +31,7 @@ met_downward f w t a (suc d) lo hi =
     (λ x. (a + suc d, omega arith, omega arith, omega (arith, ints)))
     (λ x. let r = met_downward f w t a d lo x in let r2 = r.2 in (r.0, r.1, omega arith, r.3))
 
-pub part_meets : (l : List Bool) (a b : ℕ) (x : Node) (t : ℤ) → IsPart l a b x → (excess l a +ℤ x.least) ≤ℤ t → t ≤ℤ (excess l a +ℤ x.greatest) → (j : ℕ) × (a < j) × (j ≤ b) × (excess l j ≡ t)
+part_meets : (l : List Bool) (a b : ℕ) (x : Node) (t : ℤ) → IsPart l a b x → (excess l a +ℤ x.least) ≤ℤ t → t ≤ℤ (excess l a +ℤ x.greatest) → (j : ℕ) × (a < j) × (j ≤ b) × (excess l j ≡ t)
 part_meets l a b x t p lo hi = ⊎_elim rising falling (cases_lt p.least.0 p.greatest.0)
   where
     rising : p.least.0 < p.greatest.0 → (j : ℕ) × (a < j) × (j ≤ b) × (excess l j ≡ t)

@@ -18,7 +18,7 @@ total_past (x ∷ xs) zero h = absurd (omega arith)
 total_past (x ∷ xs) (suc k) h = let ih = rw add-one at (total_past xs k (omega arith)) in rw add-one (ap (λ (z : ℤ). x.total +ℤ z) ih)
 
 -- a leaf covers its block, and one past the blocks nothing
-pub covers_leaf : (blocks : List Node) → ((k : ℕ) → k < length blocks → IsRange (get_or blocks k empty_node)) → (s : ℕ) → Covers blocks s (s + 1) (get_or blocks s empty_node)
+covers_leaf : (blocks : List Node) → ((k : ℕ) → k < length blocks → IsRange (get_or blocks k empty_node)) → (s : ℕ) → Covers blocks s (s + 1) (get_or blocks s empty_node)
 covers_leaf blocks r s = ⊎_elim inside outside (cases_lt s (length blocks))
   where
     inside : s < length blocks → Covers blocks s (s + 1) (get_or blocks s empty_node)
@@ -50,7 +50,7 @@ covered_leaves first nodes r m s e h p =
     let same : get_or (drop first nodes) s empty_node ≡ get_or nodes m empty_node = get_or-drop first nodes s empty_node ∙ ap (λ (n : ℕ). get_or nodes n empty_node) place in
     subst (λ (x : Node). Covers (drop first nodes) s e x) same (subst (λ (n : ℕ). Covers (drop first nodes) s n (get_or (drop first nodes) s empty_node)) (sym e0) (covers_leaf (drop first nodes) r s))
 
-pub covered_step : (first : ℕ) (nodes : List Node) (i : ℕ) → i < first → i < length nodes → CoveredFrom first nodes (i + 1) → CoveredFrom first (set nodes i (combined (get_or nodes (2 * i + 1) empty_node) (get_or nodes (2 * i + 2) empty_node))) i
+covered_step : (first : ℕ) (nodes : List Node) (i : ℕ) → i < first → i < length nodes → CoveredFrom first nodes (i + 1) → CoveredFrom first (set nodes i (combined (get_or nodes (2 * i + 1) empty_node) (get_or nodes (2 * i + 2) empty_node))) i
 covered_step first nodes i h len c m s e a p =
     let both : Node = combined (get_or nodes (2 * i + 1) empty_node) (get_or nodes (2 * i + 2) empty_node) in
     let d : drop first (set nodes i both) ≡ drop first nodes = drop-set-lt first nodes i both h in
@@ -120,7 +120,7 @@ root_is_part l size blocks e x b some le c = record {
         (j.0, omega arith, omega arith, j.3 ∙ eq)
 
 -- the sums of a node's two parts fit, and where the second has no place the first node serves for both
-pub children_fit : (blocks : List Node) (s m e : ℕ) (x y : Node) → AreLeaves blocks → s ≤ m → Covers blocks s m x → Covers blocks m e y → JoinFits x y
+children_fit : (blocks : List Node) (s m e : ℕ) (x y : Node) → AreLeaves blocks → s ≤ m → Covers blocks s m x → Covers blocks m e y → JoinFits x y
 children_fit blocks s m e x y a sm p q = record { total = λ h. fit y.total (low_total h) (high_total h); least = λ h. fit y.least (omega (arith, ints)) h; greatest = λ h. fit y.greatest h (omega (arith, ints)) }
   where
     fit : (z : ℤ) → y.least ≤ℤ z → z ≤ℤ y.greatest → FitsSigned w64 (x.total +ℤ z)
@@ -143,7 +143,7 @@ children_fit blocks s m e x y a sm p q = record { total = λ h. fit y.total (low
 pub same_node : (a b : Node) → a.total ≡ b.total → a.least ≡ b.least → a.greatest ≡ b.greatest → a ≡ b
 same_node a b p q r = λ i. record { total = p i; least = q i; greatest = r i }
 
-pub alone_shape : (x : Node) → IsRange x ⊎ (x ≡ empty_node) → combined x empty_node ≡ x
+alone_shape : (x : Node) → IsRange x ⊎ (x ≡ empty_node) → combined x empty_node ≡ x
 alone_shape x (inl r) =
     let a = r.low in let b = r.high in
     same_node (combined x empty_node) x (omega (arith, ints, clamps)) (omega (arith, ints, clamps)) (omega (arith, ints, clamps))
@@ -162,12 +162,12 @@ pair_at first h nodes i lv a c =
     let k = stands_children first i p.0 p.1 p.2 a in
     record { start = p.0; stop = p.1; parts = k; left = c (2 * i + 1) p.0 k.middle (omega arith) k.left; right = c (2 * i + 2) k.middle p.1 (omega arith) k.right }
 
-pub fill_fits : (first h : ℕ) (nodes : List Node) (i : ℕ) → 2 ^ h ≡ first + 1 → i < first → AreLeaves (drop first nodes) → CoveredFrom first nodes (i + 1) → JoinFits (get_or nodes (2 * i + 1) empty_node) (get_or nodes (2 * i + 2) empty_node)
+fill_fits : (first h : ℕ) (nodes : List Node) (i : ℕ) → 2 ^ h ≡ first + 1 → i < first → AreLeaves (drop first nodes) → CoveredFrom first nodes (i + 1) → JoinFits (get_or nodes (2 * i + 1) empty_node) (get_or nodes (2 * i + 2) empty_node)
 fill_fits first h nodes i lv a l c =
     let p = pair_at first h nodes i lv a c in
     children_fit (drop first nodes) p.start p.parts.middle p.stop _ _ l p.parts.after p.left p.right
 
-pub fill_joins : (first h : ℕ) (nodes : List Node) (i : ℕ) (r : Node) → 2 ^ h ≡ first + 1 → i < first → CoveredFrom first nodes (i + 1) → ((get_or nodes (2 * i + 2) empty_node).least ≤ℤ (get_or nodes (2 * i + 2) empty_node).greatest → r ≡ combined (get_or nodes (2 * i + 1) empty_node) (get_or nodes (2 * i + 2) empty_node)) → ((get_or nodes (2 * i + 2) empty_node).greatest <ℤ (get_or nodes (2 * i + 2) empty_node).least → r ≡ get_or nodes (2 * i + 1) empty_node) → r ≡ combined (get_or nodes (2 * i + 1) empty_node) (get_or nodes (2 * i + 2) empty_node)
+fill_joins : (first h : ℕ) (nodes : List Node) (i : ℕ) (r : Node) → 2 ^ h ≡ first + 1 → i < first → CoveredFrom first nodes (i + 1) → ((get_or nodes (2 * i + 2) empty_node).least ≤ℤ (get_or nodes (2 * i + 2) empty_node).greatest → r ≡ combined (get_or nodes (2 * i + 1) empty_node) (get_or nodes (2 * i + 2) empty_node)) → ((get_or nodes (2 * i + 2) empty_node).greatest <ℤ (get_or nodes (2 * i + 2) empty_node).least → r ≡ get_or nodes (2 * i + 1) empty_node) → r ≡ combined (get_or nodes (2 * i + 1) empty_node) (get_or nodes (2 * i + 2) empty_node)
 fill_joins first h nodes i r lv a c both alone =
     let p = pair_at first h nodes i lv a c in
     ⊎_elim

@@ -9,13 +9,13 @@ use Rattle.vers_trees.specs.MinMax.{IsInRange, total_before, empty_node, Reaches
 use Rattle.vers_trees.proofs.MinMax.{stands_children, parent_of_left, parent_of_right, stands_leaf, leaf_stands, root_stands}
 
 -- the block that a node in range leads to, and the facts on it that keep sums small
-pub leads_found : (first : ℕ) (nodes : List Node) (from : ℕ) (t : ℤ) (place : ℕ) (left : ℤ) → IsMinMax first nodes → (p : LeadsTo first nodes from t place left) → (k : ℕ) × (p.start ≤ k) × (k < p.stop) × Reaches (drop first nodes) k t
+leads_found : (first : ℕ) (nodes : List Node) (from : ℕ) (t : ℤ) (place : ℕ) (left : ℤ) → IsMinMax first nodes → (p : LeadsTo first nodes from t place left) → (k : ℕ) × (p.start ≤ k) × (k < p.stop) × Reaches (drop first nodes) k t
 leads_found first nodes from t place left m p =
     let c = m.covers place p.start p.stop p.stands in
     let r = p.remains in let lo = p.range.low in let hi = p.range.high in
     c.found t (omega (arith, ints)) (omega (arith, ints))
 
-pub leads_left : (first : ℕ) (nodes : List Node) (from : ℕ) (t : ℤ) (place : ℕ) (left : ℤ) → IsMinMax first nodes → LeadsTo first nodes from t place left → place < first → IsInRange (get_or nodes (2 * place + 1) empty_node) left → LeadsTo first nodes from t (2 * place + 1) left
+leads_left : (first : ℕ) (nodes : List Node) (from : ℕ) (t : ℤ) (place : ℕ) (left : ℤ) → IsMinMax first nodes → LeadsTo first nodes from t place left → place < first → IsInRange (get_or nodes (2 * place + 1) empty_node) left → LeadsTo first nodes from t (2 * place + 1) left
 leads_left first nodes from t place left m p h i =
     let c = stands_children first place p.start p.stop p.stands h in
     record { start = p.start; stop = c.middle; stands = c.left; after = p.after; remains = p.remains; none = p.none; range = i }
@@ -29,7 +29,7 @@ none_in blocks s e x t r c q o k a b w =
     let lo = c.low k t a b w in let hi = c.high k t a b w in
     o (record { low = omega (arith, ints); high = omega (arith, ints) })
 
-pub leads_right : (first : ℕ) (nodes : List Node) (from : ℕ) (t : ℤ) (place : ℕ) (left : ℤ) → IsMinMax first nodes → LeadsTo first nodes from t place left → place < first → NotInRange (get_or nodes (2 * place + 1) empty_node) left → FitsSigned w64 (left -ℤ (get_or nodes (2 * place + 1) empty_node).total) × LeadsTo first nodes from t (2 * place + 2) (left -ℤ (get_or nodes (2 * place + 1) empty_node).total)
+leads_right : (first : ℕ) (nodes : List Node) (from : ℕ) (t : ℤ) (place : ℕ) (left : ℤ) → IsMinMax first nodes → LeadsTo first nodes from t place left → place < first → NotInRange (get_or nodes (2 * place + 1) empty_node) left → FitsSigned w64 (left -ℤ (get_or nodes (2 * place + 1) empty_node).total) × LeadsTo first nodes from t (2 * place + 2) (left -ℤ (get_or nodes (2 * place + 1) empty_node).total)
 leads_right first nodes from t place left m p h o =
     let c = stands_children first place p.start p.stop p.stands h in
     let x = m.covers (2 * place + 1) p.start c.middle c.left in
@@ -75,7 +75,7 @@ pub passed_start : (first : ℕ) (nodes : List Node) (begin : ℕ) (r : ℤ) →
 passed_start first nodes begin r m h =
     record { start = begin; stop = begin + 1; stands = stands_leaf first nodes m begin h; after = omega arith; remains = refl; none = λ k a b w. omega arith }
 
-pub passed_found : (first : ℕ) (nodes : List Node) (from : ℕ) (t : ℤ) (j : ℕ) (left : ℤ) → PassedTo first nodes from t (2 * j + 1) left → IsInRange (get_or nodes (2 * j + 2) empty_node) left → LeadsTo first nodes from t (2 * j + 2) left
+passed_found : (first : ℕ) (nodes : List Node) (from : ℕ) (t : ℤ) (j : ℕ) (left : ℤ) → PassedTo first nodes from t (2 * j + 1) left → IsInRange (get_or nodes (2 * j + 2) empty_node) left → LeadsTo first nodes from t (2 * j + 2) left
 passed_found first nodes from t j left p i =
     let u = parent_of_left first j p.start p.stop p.stands in
     record { start = p.stop; stop = u.0; stands = u.2; after = p.after; remains = p.remains; none = p.none; range = i }
@@ -89,20 +89,20 @@ passed_none first nodes from t j left m p o k a b w =
     (λ (c : p.stop ≤ k). none_in (drop first nodes) p.stop u.0 (get_or nodes (2 * j + 2) empty_node) t left y p.remains o k c b w)
     (cases_lt k p.stop)
 
-pub passed_left : (first : ℕ) (nodes : List Node) (from : ℕ) (t : ℤ) (j : ℕ) (left : ℤ) → IsMinMax first nodes → PassedTo first nodes from t (2 * j + 1) left → NotInRange (get_or nodes (2 * j + 2) empty_node) left → PassedTo first nodes from t j (left -ℤ (get_or nodes (2 * j + 2) empty_node).total)
+passed_left : (first : ℕ) (nodes : List Node) (from : ℕ) (t : ℤ) (j : ℕ) (left : ℤ) → IsMinMax first nodes → PassedTo first nodes from t (2 * j + 1) left → NotInRange (get_or nodes (2 * j + 2) empty_node) left → PassedTo first nodes from t j (left -ℤ (get_or nodes (2 * j + 2) empty_node).total)
 passed_left first nodes from t j left m p o =
     let u = parent_of_left first j p.start p.stop p.stands in
     let y = m.covers (2 * j + 2) p.stop u.0 u.2 in
     let tot = y.total in let rem = p.remains in let pa = p.after in let le = u.3 in
     record { start = p.start; stop = u.0; stands = u.1; after = omega arith; remains = omega (arith, ints); none = passed_none first nodes from t j left m p o }
 
-pub passed_right : (first : ℕ) (nodes : List Node) (from : ℕ) (t : ℤ) (j : ℕ) (left : ℤ) → PassedTo first nodes from t (2 * j + 2) left → PassedTo first nodes from t j left
+passed_right : (first : ℕ) (nodes : List Node) (from : ℕ) (t : ℤ) (j : ℕ) (left : ℤ) → PassedTo first nodes from t (2 * j + 2) left → PassedTo first nodes from t j left
 passed_right first nodes from t j left p =
     let u = parent_of_right first j p.start p.stop p.stands in
     record { start = u.0; stop = p.stop; stands = u.1; after = p.after; remains = p.remains; none = p.none }
 
 -- where what would remain is too long for a number, no later block reaches the sum
-pub passed_too_far : (first : ℕ) (nodes : List Node) (from : ℕ) (t : ℤ) (j : ℕ) (left : ℤ) → IsMinMax first nodes → PassedTo first nodes from t (2 * j + 1) left → NotInRange (get_or nodes (2 * j + 2) empty_node) left → (FitsSigned w64 (left -ℤ (get_or nodes (2 * j + 2) empty_node).total) → ⊥) → (k : ℕ) → from ≤ k → Reaches (drop first nodes) k t → ⊥
+passed_too_far : (first : ℕ) (nodes : List Node) (from : ℕ) (t : ℤ) (j : ℕ) (left : ℤ) → IsMinMax first nodes → PassedTo first nodes from t (2 * j + 1) left → NotInRange (get_or nodes (2 * j + 2) empty_node) left → (FitsSigned w64 (left -ℤ (get_or nodes (2 * j + 2) empty_node).total) → ⊥) → (k : ℕ) → from ≤ k → Reaches (drop first nodes) k t → ⊥
 passed_too_far first nodes from t j left m p o long k a w =
     let u = parent_of_left first j p.start p.stop p.stands in
     let y = m.covers (2 * j + 2) p.stop u.0 u.2 in

@@ -91,15 +91,6 @@ close_from_fall l i d h r = go (get_or l i d) refl
     go false e = e
     go true e = let s = excess_after_open l i d h e in absurd (omega (arith, ints))
 
--- the excess before place i is at most i, and at least its negative
-pub excess_small : (l : List Bool) (i : ℕ) → (excess l i ≤ℤ pos i) × (pos 0 ≤ℤ (excess l i +ℤ pos i))
-excess_small l zero = let z = excess-zero l in (omega (arith, ints), omega (arith, ints))
-excess_small l (suc i) =
-    let h = excess_small l i in let a = h.0 in let b = h.1 in
-    let u = rw add-one at ((excess-is_walk l).up i) in
-    let d = rw add-one at ((excess-is_walk l).down i) in
-    (omega (arith, ints), omega (arith, ints))
-
 pub excess_after_bit : (l : List Bool) (i : ℕ) (d : Bool) → i < length l → excess l (i + 1) ≡ excess l i +ℤ bit_step (get_or l i d)
 excess_after_bit l i d h = go (get_or l i d) refl
   where

@@ -197,9 +197,6 @@ block_end l size blocks b j c h ins =
     let s = start_is l size blocks b (j + 1) (omega arith) in let s1 = s.1 in
     (s.0 ∙ ap (excess l) (let g : (j + 1) * size ≡ j * size + size = omega arith in g), omega arith)
 
-pub block_end_inside : (l : List Bool) (size : ℕ) (blocks : List Node) → AreBlocks l size blocks → (i : ℕ) (t : ℤ) (j : ℕ) (left : ℤ) → 0 < i → i < length l → IsPreviousBefore blocks ((i - 1) / size) t j left → j * size + size < length l
-block_end_inside l size blocks b i t j left some h n = (block_end l size blocks b j ((i - 1) / size) n.before (block_inside l size blocks b (i - 1) (omega arith))).1
-
 pub before_there : (l : List Bool) (size : ℕ) (blocks : List Node) (i : ℕ) (r rise : ℤ) (j : ℕ) (left : ℤ) (place : ℕ) → AreBlocks l size blocks → 0 < i → i < length l → HasNoRiseBefore l ((i - 1) / size * size) i r rise → IsPreviousBefore blocks ((i - 1) / size) (excess l i +ℤ r) j left → IsLastRise l (j * size) (j * size + size) left place → IsLastRiseBefore l i r place
 before_there l size blocks i r rise j left place b some h p n f =
     let re = n.remains in let be = n.before in

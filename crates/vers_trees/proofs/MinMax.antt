@@ -74,10 +74,6 @@ covers_combined blocks s m e x y sm me p q = record {
       (cases_lt k m);
 }
 
--- ---- the parts of the nodes
-abbrev blocks_of : ℕ → List Node → List Node
-blocks_of first nodes = drop first nodes
-
 pow_more : (k l : ℕ) → l ≡ k + 1 → 2 ^ l ≡ 2 * 2 ^ k
 pow_more k l e = ap (λ (n : ℕ). 2 ^ n) (let g : l ≡ suc k = omega arith in g) ∙ pow_suc k
 

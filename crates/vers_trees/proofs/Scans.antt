@@ -25,7 +25,7 @@ near_by l i (suc d) =
     let v = (excess-is_walk l).down (i + d) in
     (omega (arith, ints), omega (arith, ints))
 
-pub excess_near : (l : List Bool) (i j : ℕ) → i ≤ j → (excess l j ≤ℤ (excess l i +ℤ pos (j - i))) × (excess l i ≤ℤ (excess l j +ℤ pos (j - i)))
+excess_near : (l : List Bool) (i j : ℕ) → i ≤ j → (excess l j ≤ℤ (excess l i +ℤ pos (j - i))) × (excess l i ≤ℤ (excess l j +ℤ pos (j - i)))
 excess_near l i j h =
     let n = near_by l i (j - i) in let a = n.0 in let b = n.1 in
     let e : excess l (i + (j - i)) ≡ excess l j = ap (excess l) (let g : i + (j - i) ≡ j = omega arith in g) in
@@ -46,10 +46,6 @@ pub step_fits : (b : Bool) (d : ℤ) → d ≡ bit_step b → FitsSigned w64 d
 step_fits true d e = rw e (fits_small (pos 1) (omega (arith, ints)) (omega (arith, ints)))
 step_fits false d e = rw e (fits_small (negsuc 0) (omega (arith, ints)) (omega (arith, ints)))
 
--- what two equal numbers in the machine are
-pub same_bits : (a b : ℤ) → FitsSigned w64 a → FitsSigned w64 b → of_z w64 a ≡ of_z w64 b → a ≡ b
-same_bits a b f g e = sym (to_z-of_z w64 a f) ∙ ap (to_z w64) e ∙ to_z-of_z w64 b g
-
 -- a sum and a difference as the code has them
 pub plus_is : (a x : ℤ) → FitsSigned w64 x → FitsSigned w64 (a +ℤ x) → to_z w64 (of_z w64 (a +ℤ to_z w64 (of_z w64 x))) ≡ a +ℤ x
 plus_is a x f h = rw (to_z-of_z w64 x f) (to_z-of_z w64 (a +ℤ x) h)
@@ -58,7 +54,7 @@ pub minus_is : (a x : ℤ) → FitsSigned w64 x → FitsSigned w64 (a -ℤ x) �
 minus_is a x f h = rw (to_z-of_z w64 x f) (to_z-of_z w64 (a -ℤ x) h)
 
 -- ---- forwards
-pub rise_more : (l : List Bool) (from place : ℕ) (r rise d : ℤ) (b : Bool) → HasNoRise l from place r rise → place < length l → b ≡ get_or l place false → d ≡ bit_step b → excess l (place + 1) ≡ excess l from +ℤ (rise +ℤ d)
+rise_more : (l : List Bool) (from place : ℕ) (r rise d : ℤ) (b : Bool) → HasNoRise l from place r rise → place < length l → b ≡ get_or l place false → d ≡ bit_step b → excess l (place + 1) ≡ excess l from +ℤ (rise +ℤ d)
 rise_more l from place r rise d b p h e q =
     let ri = p.risen in
     let s = excess_after_bit l place false h in
@@ -85,7 +81,7 @@ forward_more l from place r rise d b p o h e q ne =
     }
 
 -- ---- backwards
-pub fall_more : (l : List Bool) (place end : ℕ) (r rise d : ℤ) (b : Bool) → HasNoRiseBefore l place end r rise → 0 < place → place ≤ length l → b ≡ get_or l (place - 1) false → d ≡ bit_step b → excess l (place - 1) ≡ excess l end +ℤ (rise -ℤ d)
+fall_more : (l : List Bool) (place end : ℕ) (r rise d : ℤ) (b : Bool) → HasNoRiseBefore l place end r rise → 0 < place → place ≤ length l → b ≡ get_or l (place - 1) false → d ≡ bit_step b → excess l (place - 1) ≡ excess l end +ℤ (rise -ℤ d)
 fall_more l place end r rise d b p some h e q =
     let ri = p.risen in
     let s = excess_after_bit l (place - 1) false (omega arith) in

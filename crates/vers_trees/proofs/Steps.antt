@@ -4,10 +4,10 @@ use Rattle.vers_tally.specs.Reads.{Reads, AddsAtMost, only_nodes, IsWithin, plus
 use Rattle.vers_tally.proofs.Adding.{adds_then, adds_weaker, adds_nothing}
 use Rattle.vers_tally.proofs.Halves.{digits_half, digits_up}
 
-pub nodes_within : (m n : ℕ) → m ≤ n → IsWithin (only_nodes m) (only_nodes n)
+nodes_within : (m n : ℕ) → m ≤ n → IsWithin (only_nodes m) (only_nodes n)
 nodes_within m n h = record { data_words = omega arith; block_entries = omega arith; superblock_entries = omega arith; low_parts = omega arith; rank_calls = omega arith; items = omega arith; blocks = omega arith; nodes = h; chunks = omega arith }
 
-pub nodes_both : (m n k : ℕ) → m + n ≤ k → IsWithin (plus (only_nodes m) (only_nodes n)) (only_nodes k)
+nodes_both : (m n k : ℕ) → m + n ≤ k → IsWithin (plus (only_nodes m) (only_nodes n)) (only_nodes k)
 nodes_both m n k h = record { data_words = omega arith; block_entries = omega arith; superblock_entries = omega arith; low_parts = omega arith; rank_calls = omega arith; items = omega arith; blocks = omega arith; nodes = h; chunks = omega arith }
 
 pub no_nodes : (a : Reads) (n : ℕ) → AddsAtMost a a (only_nodes n)
@@ -53,7 +53,7 @@ up_ends a b first node h p =
     adds_weaker p (nodes_within _ _ (omega arith))
 
 -- the last step up, which reads a node, and then nothing or the way down
-pub up_then : (a b c : Reads) (first node : ℕ) → node ≤ 2 * first → 0 < node → AddsAtMost a b (only_nodes (digits (2 * first + 1) - digits (node + 1))) → AddsAtMost b c (only_nodes 1) → AddsAtMost a c (only_nodes (digits first))
+up_then : (a b c : Reads) (first node : ℕ) → node ≤ 2 * first → 0 < node → AddsAtMost a b (only_nodes (digits (2 * first + 1) - digits (node + 1))) → AddsAtMost b c (only_nodes 1) → AddsAtMost a c (only_nodes (digits first))
 up_then a b c first node h some p q =
     let d = digits_child first (2 * first + 1) (omega arith) (omega arith) in
     let e = digits_child ((node + 1) / 2) (node + 1) (omega arith) (omega arith) in

@@ -4,7 +4,7 @@ use Rattle.std.proofs.lemmas.Bool.{cases_lt}
 use Rattle.std.proofs.lemmas.Grind.{div_ceil_times}
 use Rattle.std.proofs.lemmas.List.{get_or_append_left, get_or_at, get_or-drop}
 use Rattle.std.proofs.Math.Seq.{take-append_seam}
-use Rattle.std.proofs.Math.Nat.{pow-succ', pow-le-pow_right, mul-le-mul_right, mul-le-mul_left}
+use Rattle.std.proofs.Math.Nat.{pow-succ', pow-le-pow_right}
 use Rattle.vers_tally.specs.Reads.{digits}
 use Rattle.vers_tally.proofs.Halves.{digits_half, digits-le, digits_up}
 use Rattle.vers_trees.specs.declared.trees.bp.min_max.Node.{Node}
@@ -144,7 +144,7 @@ few_levels l size first some h = let e = levels_some size (length l) some in ome
 pub blocks_are_leaves : (l : List Bool) (size first : ℕ) (nodes : List Node) → 0 < size → length l < 2 ^ 63 → AreFirstBlocks l size first (block_count size (length l)) nodes → AreLeaves (drop first nodes)
 blocks_are_leaves l size first nodes so short b = leaves_of l size (drop first nodes) (are_blocks l size first nodes so b) short
 
-pub room_for : (l : List Bool) (size first : ℕ) (nodes : List Node) → 0 < size → 0 < length l → AreFirstBlocks l size first (block_count size (length l)) nodes → first < length nodes
+room_for : (l : List Bool) (size first : ℕ) (nodes : List Node) → 0 < size → 0 < length l → AreFirstBlocks l size first (block_count size (length l)) nodes → first < length nodes
 room_for l size first nodes so some b =
     let c = b.counted in
     let g : 0 < block_count size (length l) = one_at_least (length l) size so some in omega arith
@@ -171,14 +171,6 @@ tree_made l size first leaves nodes so some short w b n e c =
       blocks = blocks;
       few = few_levels l size first some (subst (λ (m : ℕ). digits m ≤ max 1 (clog (block_count size (length l)))) same w.least);
     }
-
-pub count_bounded : (n size : ℕ) → 0 < size → block_count size n ≤ n
-count_bounded n size so =
-    let d = (div_ceil_times n size so).1 in
-    ⊎_elim
-    (λ (x : n < block_count size n). let x1 : n + 1 ≤ block_count size n = omega arith in let m : (n + 1) * size ≤ block_count size n * size = mul-le-mul_right size x1 in let k : n * 1 ≤ n * size = mul-le-mul_left n so in absurd (omega arith))
-    (λ (x : block_count size n ≤ n). x)
-    (cases_lt n (block_count size n))
 
 pub empty_indexed : (l : List Bool) (size first : ℕ) (nodes : List Node) → length l ≡ 0 → nodes ≡ [] → 0 < size → size ≤ 4294967296 → IsIndexed l size first nodes
 empty_indexed l size first nodes z e so b =

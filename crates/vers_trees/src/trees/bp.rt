@@ -108,7 +108,6 @@ impl<const BLOCK_SIZE: usize, A: Allocator + Copy> BpTree<BLOCK_SIZE, A> {
         ensures value { result ≡ length self.now }
         ensures bounded { length self.now ≤ MAX_LEN }
     {
-        let _ = &self.tree;
         self.bits.len()
     }
 
@@ -164,7 +163,6 @@ impl<const BLOCK_SIZE: usize, A: Allocator + Copy> BpTree<BLOCK_SIZE, A> {
         ensures value { result ≡ excess self.now (i + 1) }
         ensures adds { AddsAtMost tally.old tally.new rank_reads }
     {
-        let _ = &self.tree;
         let ones = self.bits.rank1_counted(i + 1, tally);
         let zeros = i + 1 - ones;
         ones as i64 - zeros as i64
@@ -273,11 +271,12 @@ impl<const BLOCK_SIZE: usize, A: Allocator + Copy> BpTree<BLOCK_SIZE, A> {
         if i >= self.bits.len() {
             return None;
         }
-        if self.bits.is_one_counted(i, tally) {
-            self.bwd_search_counted(i, -1, tally)
+        let rise = if self.bits.is_one_counted(i, tally) {
+            -1
         } else {
-            self.bwd_search_counted(i, -2, tally)
-        }
+            -2
+        };
+        self.bwd_search_counted(i, rise, tally)
     }
 
     /// Whether the parentheses are balanced: they are a forest written down.
@@ -295,7 +294,7 @@ impl<const BLOCK_SIZE: usize, A: Allocator + Copy> BpTree<BLOCK_SIZE, A> {
         ensures value { Decides result (IsBalanced self.now) }
         ensures adds { AddsAtMost tally.old tally.new (only_nodes 1) }
     {
-        if self.bits.is_empty() {
+        if self.is_empty() {
             return true;
         }
         self.tree.root_counted(tally).is_level()

@@ -32,26 +32,15 @@ pub(super) fn forward<A: Allocator + Copy>(
     let block = i / size;
     let end = (block * size + size).min(len);
     tally.add_block();
-    match scan_forward(bits, i + 1, end, r, tally) {
-        Ok(place) => Some(place),
-        Err(rise) => {
-            let left = match r.checked_sub(rise) {
-                Some(left) => left,
-                None => return None,
-            };
-            match tree.next_block_counted(block, left, tally) {
-                Some((next, rest)) => {
-                    tally.add_block();
-                    let next_end = (next * size + size).min(len);
-                    match scan_forward(bits, next * size, next_end, rest, tally) {
-                        Ok(place) => Some(place),
-                        Err(_past) => None,
-                    }
-                }
-                None => None,
-            }
-        }
-    }
+    let rise = match scan_forward(bits, i + 1, end, r, tally) {
+        Ok(place) => return Some(place),
+        Err(rise) => rise,
+    };
+    let left = r.checked_sub(rise)?;
+    let (next, rest) = tree.next_block_counted(block, left, tally)?;
+    tally.add_block();
+    let next_end = (next * size + size).min(len);
+    scan_forward(bits, next * size, next_end, rest, tally).ok()
 }
 
 // The last place before `i` before which the excess is `r` more than before `i`.
@@ -73,24 +62,13 @@ pub(super) fn backward<A: Allocator + Copy>(
     }
     let block = (i - 1) / size;
     tally.add_block();
-    match scan_backward(bits, block * size, i, r, tally) {
-        Ok(place) => Some(place),
-        Err(rise) => {
-            let left = match r.checked_sub(rise) {
-                Some(left) => left,
-                None => return None,
-            };
-            match tree.previous_block_counted(block, left, tally) {
-                Some((previous, rest)) => {
-                    tally.add_block();
-                    let start = previous * size;
-                    match scan_backward(bits, start, start + size, rest, tally) {
-                        Ok(place) => Some(place),
-                        Err(_past) => None,
-                    }
-                }
-                None => None,
-            }
-        }
-    }
+    let rise = match scan_backward(bits, block * size, i, r, tally) {
+        Ok(place) => return Some(place),
+        Err(rise) => rise,
+    };
+    let left = r.checked_sub(rise)?;
+    let (previous, rest) = tree.previous_block_counted(block, left, tally)?;
+    tally.add_block();
+    let start = previous * size;
+    scan_backward(bits, start, start + size, rest, tally).ok()
 }
