@@ -2,14 +2,13 @@
 ghost use Rattle.std.specs.Prelude.{◌<◌, ◌≤◌};
 
 use crate::lists::asked;
-use std::alloc::Allocator;
-use std::test::Fail;
+use std::alloc::{Allocator, Global};
 use vers_bits::bit_vec::GrowError;
 use vers_trees::trees::bp::{BpBuilder, BpTree, BuildError, MAX_BLOCK_SIZE};
 
-/// What a builder is told: to enter a node, or to leave one.
+// What a builder is told: to enter a node, or to leave one.
 #[derive(Clone, Copy, Drop)]
-pub enum Step {
+enum Step {
     Enter,
     Leave,
 }
@@ -52,10 +51,10 @@ fn walk<const N: usize, A: Allocator + Copy>(
 }
 
 // A builder after the steps, with room for as many nodes.
-fn builder_of<const N: usize, A: Allocator + Copy>(
-    alloc: A,
+fn builder_of<const N: usize>(
+    alloc: Global,
     steps: &[Step],
-) -> Result<BpBuilder<N, A>, GrowError>
+) -> Result<BpBuilder<N, Global>, GrowError>
     requires some { 0 < N }
     requires bounded { N ≤ MAX_BLOCK_SIZE }
 {
@@ -64,40 +63,40 @@ fn builder_of<const N: usize, A: Allocator + Copy>(
     Ok(builder)
 }
 
-/// What is built of the steps.
-pub fn built<const N: usize, A: Allocator + Copy>(
-    alloc: A,
-    steps: &[Step],
-) -> Result<(usize, usize, bool), BuildError>
+// What is built of the steps.
+fn built<const N: usize>(alloc: Global, steps: &[Step]) -> Result<(usize, usize, bool), BuildError>
     requires some { 0 < N }
     requires bounded { N ≤ MAX_BLOCK_SIZE }
 {
-    let Ok(builder) = builder_of::<N, A>(alloc, steps) else {
+    let Ok(builder) = builder_of::<N>(alloc, steps) else {
         return Err(BuildError::Memory);
     };
     asked(
         builder.build(),
-        |tree: &BpTree<N, A>| Ok((tree.len(), tree.size(), tree.is_balanced())),
+        |tree: &BpTree<N, Global>| Ok((tree.len(), tree.size(), tree.is_balanced())),
     )
 }
 
 #[test]
 fn what_is_built(rt: HostRuntime) {
     for (steps, wanted) in CASES {
-        assert_eq!(rt; built::<1, _>(rt.alloc(), steps), wanted);
-        assert_eq!(rt; built::<12, _>(rt.alloc(), steps), wanted);
-        assert_eq!(rt; built::<4294967296, _>(rt.alloc(), steps), wanted);
+        assert_eq!(rt; built::<1>(rt.alloc(), steps), wanted);
+        assert_eq!(rt; built::<12>(rt.alloc(), steps), wanted);
+        assert_eq!(rt; built::<4294967296>(rt.alloc(), steps), wanted);
     }
 }
 
 // Why a builder with room for so many nodes is refused; None where it is made.
-fn refusal<A: Allocator + Copy>(alloc: A, nodes: u64) -> Option<GrowError> {
-    BpBuilder::<8, A>::with_capacity(alloc, nodes).err()
+fn refusal(alloc: Global, nodes: u64) -> Option<GrowError> {
+    BpBuilder::<8, Global>::with_capacity(alloc, nodes).err()
 }
 
 #[test]
 fn ends_of_the_capacity(rt: HostRuntime) {
-    assert_eq!(rt; refusal(rt.alloc(), 4611686018427387904), Some(GrowError::TooLong));
+    assert_eq!(rt;
+        refusal(rt.alloc(), 4611686018427387904),
+        Some(GrowError::TooLong)
+    );
     assert_eq!(rt; refusal(rt.alloc(), u64::MAX), Some(GrowError::TooLong));
     assert_eq!(rt; refusal(rt.alloc(), 100), None);
 }

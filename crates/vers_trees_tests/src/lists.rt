@@ -1,7 +1,7 @@
 //! Trees of parentheses, and what is asked of them.
 ghost use Rattle.std.specs.Prelude.{◌<◌, ◌≤◌};
 
-use std::alloc::{AllocError, Allocator};
+use std::alloc::{AllocError, Allocator, Global};
 use vers_bits::bit_vec::{BitVec, GrowError};
 use vers_tally::tally::Tally;
 use vers_trees::trees::bp::{BpTree, MAX_BLOCK_SIZE};
@@ -75,7 +75,7 @@ fn excess<const N: usize, A: Allocator + Copy>(tree: &BpTree<N, A>, i: usize) ->
 
 /// The answers of a query, a truth value as 1 or 0. The excess is asked only of places that the tree
 /// has.
-pub fn answer<const N: usize, A: Allocator + Copy>(tree: &BpTree<N, A>, query: Query) -> Answer {
+pub fn ask<const N: usize, A: Allocator + Copy>(tree: &BpTree<N, A>, query: Query) -> Answer {
     let mut tally = Tally::new();
     match query {
         Query::Len => uncounted(number(tree.len())),
@@ -88,10 +88,16 @@ pub fn answer<const N: usize, A: Allocator + Copy>(tree: &BpTree<N, A>, query: Q
         },
         Query::Excess(i) => excess(tree, i),
         Query::Forward(i, r) => {
-            places(tree.fwd_search(i, r), tree.fwd_search_counted(i, r, &mut tally))
+            places(
+                tree.fwd_search(i, r),
+                tree.fwd_search_counted(i, r, &mut tally),
+            )
         }
         Query::Backward(i, r) => {
-            places(tree.bwd_search(i, r), tree.bwd_search_counted(i, r, &mut tally))
+            places(
+                tree.bwd_search(i, r),
+                tree.bwd_search_counted(i, r, &mut tally),
+            )
         }
         Query::Close(i) => places(tree.close(i), tree.close_counted(i, &mut tally)),
         Query::Open(i) => places(tree.open(i), tree.open_counted(i, &mut tally)),
@@ -106,21 +112,18 @@ pub fn answer<const N: usize, A: Allocator + Copy>(tree: &BpTree<N, A>, query: Q
 /// Asks what was made, or hands on why it was not.
 pub fn asked<T: Drop, R, E, F: FnOnce(&T) -> Result<R, E>>(
     made: Result<T, E>,
-    ask: F,
+    question: F,
 ) -> Result<R, E>
-    requires { F.IsAlwaysCallable ask }
+    requires { F.IsAlwaysCallable question }
 {
     match made {
-        Ok(owned) => ask(&owned),
+        Ok(owned) => question(&owned),
         Err(error) => Err(error),
     }
 }
 
 /// The tree of bits, each a one where the number is odd.
-pub fn tree_of<const N: usize, A: Allocator + Copy>(
-    alloc: A,
-    bits: &[u8],
-) -> Result<BpTree<N, A>, GrowError>
+pub fn tree_of<const N: usize>(alloc: Global, bits: &[u8]) -> Result<BpTree<N, Global>, GrowError>
     requires some { 0 < N }
     requires bounded { N ≤ MAX_BLOCK_SIZE }
 {
@@ -128,47 +131,47 @@ pub fn tree_of<const N: usize, A: Allocator + Copy>(
 }
 
 // Asks all queries of a tree.
-fn ask_all<const N: usize, A: Allocator + Copy>(
-    alloc: A,
-    tree: &BpTree<N, A>,
+fn ask_all<const N: usize>(
+    alloc: Global,
+    tree: &BpTree<N, Global>,
     queries: &[Query],
-) -> Result<Vec<Answer, A>, AllocError> {
+) -> Result<Vec<Answer, Global>, AllocError> {
     let mut found = Vec::new(alloc);
     for query in queries {
-        found.push(answer(tree, *query))?;
+        found.push(ask(tree, *query))?;
     }
     Ok(found)
 }
 
 // The answers of a tree with blocks of `N` bits.
-fn answers_at<const N: usize, A: Allocator + Copy>(
-    alloc: A,
+fn answers_at<const N: usize>(
+    alloc: Global,
     bits: &[u8],
     queries: &[Query],
-) -> Result<Vec<Answer, A>, GrowError>
+) -> Result<Vec<Answer, Global>, GrowError>
     requires some { 0 < N }
     requires bounded { N ≤ MAX_BLOCK_SIZE }
 {
     asked(
-        tree_of::<N, A>(alloc, bits),
-        |tree: &BpTree<N, A>| Ok(ask_all(alloc, tree, queries)?),
+        tree_of::<N>(alloc, bits),
+        |tree: &BpTree<N, Global>| Ok(ask_all(alloc, tree, queries)?),
     )
 }
 
 /// The answers of a tree with blocks of one of the sizes.
-pub fn answers<A: Allocator + Copy>(
-    alloc: A,
+pub fn answers(
+    alloc: Global,
     size: usize,
     bits: &[u8],
     queries: &[Query],
-) -> Result<Vec<Answer, A>, GrowError> {
+) -> Result<Vec<Answer, Global>, GrowError> {
     match size {
-        1 => answers_at::<1, A>(alloc, bits, queries),
-        3 => answers_at::<3, A>(alloc, bits, queries),
-        8 => answers_at::<8, A>(alloc, bits, queries),
-        12 => answers_at::<12, A>(alloc, bits, queries),
-        64 => answers_at::<64, A>(alloc, bits, queries),
-        512 => answers_at::<512, A>(alloc, bits, queries),
-        _ => answers_at::<4294967296, A>(alloc, bits, queries),
+        1 => answers_at::<1>(alloc, bits, queries),
+        3 => answers_at::<3>(alloc, bits, queries),
+        8 => answers_at::<8>(alloc, bits, queries),
+        12 => answers_at::<12>(alloc, bits, queries),
+        64 => answers_at::<64>(alloc, bits, queries),
+        512 => answers_at::<512>(alloc, bits, queries),
+        _ => answers_at::<4294967296>(alloc, bits, queries),
     }
 }

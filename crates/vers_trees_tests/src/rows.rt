@@ -1,9 +1,11 @@
 //! Queries and their answers, at each of the block sizes.
+ghost use Rattle.std.specs.Prelude.{◌<◌, ◌≤◌};
+
 use crate::lists::{Query, SIZES, answers, asked, tree_of};
-use std::alloc::{AllocError, Allocator};
+use std::alloc::Global;
 use std::test::Fail;
 use vers_bits::bit_vec::GrowError;
-use vers_trees::trees::bp::BpTree;
+use vers_trees::trees::bp::{BpTree, MAX_BLOCK_SIZE};
 
 // 11100111 01011100 10010000
 const THREE_BYTES: [u8; 24] = [
@@ -166,36 +168,24 @@ fn queries_and_their_answers(rt: HostRuntime) -> Result<(), Fail> {
     Ok(())
 }
 
-// The bytes of a tree with blocks of `N` bits, and of its copy.
-fn bytes<const N: usize, A: Allocator + Copy>(
-    tree: &BpTree<N, A>,
-) -> Result<(usize, usize), GrowError> {
-    match tree.clone() {
-        Ok(copy) => Ok((tree.heap_size(), copy.heap_size())),
-        Err(AllocError) => Err(GrowError::Memory),
-    }
-}
-
-// The bytes of trees of the three bytes and of 110100 at some block sizes, and of no bits.
-fn sizes<A: Allocator + Copy>(alloc: A) -> Result<[(usize, usize); 6], GrowError> {
-    let node_with_two = [1, 1, 0, 1, 0, 0];
-    Ok([
-        asked(tree_of::<8, A>(alloc, &THREE_BYTES), |tree| bytes(tree))?,
-        asked(tree_of::<12, A>(alloc, &THREE_BYTES), |tree| bytes(tree))?,
-        asked(tree_of::<512, A>(alloc, &THREE_BYTES), |tree| bytes(tree))?,
-        asked(tree_of::<1, A>(alloc, &node_with_two), |tree| bytes(tree))?,
-        asked(tree_of::<512, A>(alloc, &node_with_two), |tree| bytes(tree))?,
-        asked(tree_of::<1, A>(alloc, &[]), |tree| bytes(tree))?,
-    ])
+// The bytes of a tree with blocks of `N` bits.
+fn bytes<const N: usize>(alloc: Global, bits: &[u8]) -> Result<usize, GrowError>
+    requires some { 0 < N }
+    requires bounded { N ≤ MAX_BLOCK_SIZE }
+{
+    asked(
+        tree_of::<N>(alloc, bits),
+        |tree: &BpTree<N, Global>| Ok(tree.heap_size()),
+    )
 }
 
 #[test]
-fn sizes_of_trees(rt: HostRuntime) -> Result<(), Fail> {
-    let found = sizes(rt.alloc())?;
-    let wanted = [194, 122, 98, 362, 98, 32];
-    for ((bytes, of_copy), want) in found.iter().copied().zip(wanted.iter()) {
-        assert_eq!(rt; bytes, *want);
-        assert_eq!(rt; of_copy, *want);
-    }
-    Ok(())
+fn sizes_of_trees(rt: HostRuntime) {
+    let node_with_two = [1, 1, 0, 1, 0, 0];
+    assert_eq!(rt; bytes::<8>(rt.alloc(), &THREE_BYTES), Ok(194));
+    assert_eq!(rt; bytes::<12>(rt.alloc(), &THREE_BYTES), Ok(122));
+    assert_eq!(rt; bytes::<512>(rt.alloc(), &THREE_BYTES), Ok(98));
+    assert_eq!(rt; bytes::<1>(rt.alloc(), &node_with_two), Ok(362));
+    assert_eq!(rt; bytes::<512>(rt.alloc(), &node_with_two), Ok(98));
+    assert_eq!(rt; bytes::<1>(rt.alloc(), &[]), Ok(32));
 }

@@ -1,8 +1,8 @@
 //! Every list of up to 10 bits, asked everything and compared with a plain scan of its excesses.
 ghost use Rattle.std.specs.Prelude.{◌<◌, ◌≤◌};
 
-use crate::lists::{Query, SIZES, answer, asked};
-use std::alloc::{AllocError, Allocator};
+use crate::lists::{Query, ask, asked};
+use std::alloc::{AllocError, Allocator, Global};
 use std::test::Fail;
 use vers_bits::bit_vec::{BitVec, GrowError};
 use vers_trees::trees::bp::{BpTree, MAX_BLOCK_SIZE};
@@ -10,14 +10,16 @@ use vers_trees::trees::bp::{BpTree, MAX_BLOCK_SIZE};
 // How many bits the longest lists have.
 const LONGEST: usize = 10;
 
-// How far the excess is asked to rise, up and down.
-const WINDOW: i64 = 12;
+// How far the excess is asked to rise, up and down: once more than it can.
+const WINDOW: i64 = 11;
 
 // How many lists, searches and other queries there are for each block size: 2 ^ n lists of n bits, two
-// searches by 25 numbers at each place up to the length, and two queries of a list and five at such a
+// searches by 23 numbers at each place up to the length, and two queries of a list and five at such a
 // place.
 const LISTS: u64 = 2047;
-const SEARCHES: u64 = 1024050;
+
+const SEARCHES: u64 = 942126;
+
 const OTHERS: u64 = 106499;
 
 // Bit `k` of list number `code` is bit `k` of the number.
@@ -76,7 +78,14 @@ fn place_of_one(sums: &[i64], i: usize) -> Option<i64> {
             left -= 1;
         }
     }
-    i64::try_from(sums.len()).ok().and_then(|places| places.checked_sub(1))
+    i64::try_from(sums.len())
+        .ok()
+        .and_then(|places| places.checked_sub(1))
+}
+
+// A place as a number with a sign.
+fn number(place: Option<usize>) -> Option<i64> {
+    place.and_then(|place| i64::try_from(place).ok())
 }
 
 // Whether no excess is below 0, and the last is 0.
@@ -108,11 +117,11 @@ impl Compared {
         sums: &[i64],
         i: usize,
     ) {
-        for step in 0..25u8 {
-            let r = i64::from(step) - WINDOW;
+        for step in 0..23u8 {
+            let r = i64::from(step).saturating_sub(WINDOW);
             self.searches = self.searches.saturating_add(2);
-            self.note(answer(tree, Query::Forward(i, r)).is(rise_after(sums, i, r)));
-            self.note(answer(tree, Query::Backward(i, r)).is(rise_before(sums, i, r)));
+            self.note(number(tree.fwd_search(i, r)) == rise_after(sums, i, r));
+            self.note(number(tree.bwd_search(i, r)) == rise_before(sums, i, r));
         }
     }
 
@@ -127,11 +136,11 @@ impl Compared {
         let past = i.checked_add(1).and_then(|next| sums.get(next).copied());
         let depth = if is_one(code, i) { -1 } else { -2 };
         self.others = self.others.saturating_add(5);
-        self.note(answer(tree, Query::Excess(i)).is(past));
-        self.note(answer(tree, Query::Close(i)).is(rise_after(sums, i, -1)));
-        self.note(answer(tree, Query::Open(i)).is(rise_before(sums, i, -1)));
-        self.note(answer(tree, Query::Enclose(i)).is(rise_before(sums, i, depth)));
-        self.note(answer(tree, Query::Handle(i)).is(place_of_one(sums, i)));
+        self.note(ask(tree, Query::Excess(i)).is(past));
+        self.note(ask(tree, Query::Close(i)).is(rise_after(sums, i, -1)));
+        self.note(ask(tree, Query::Open(i)).is(rise_before(sums, i, -1)));
+        self.note(ask(tree, Query::Enclose(i)).is(rise_before(sums, i, depth)));
+        self.note(ask(tree, Query::Handle(i)).is(place_of_one(sums, i)));
     }
 
     // All queries of a tree of the list.
@@ -144,9 +153,9 @@ impl Compared {
         self.lists = self.lists.saturating_add(1);
         self.others = self.others.saturating_add(2);
         let balanced = i64::from(is_level(sums));
-        self.note(answer(tree, Query::IsBalanced).is(Some(balanced)));
+        self.note(ask(tree, Query::IsBalanced).is(Some(balanced)));
         let ones = i64::from(code.count_ones());
-        self.note(answer(tree, Query::Size).is(Some(ones)));
+        self.note(ask(tree, Query::Size).is(Some(ones)));
         for i in 0..sums.len() {
             self.note_searches(tree, sums, i);
             self.note_others(tree, sums, code, i);
@@ -155,11 +164,11 @@ impl Compared {
 }
 
 // The tree of list number `code` of `n` bits.
-fn tree_of_code<const N: usize, A: Allocator + Copy>(
-    alloc: A,
+fn tree_of_code<const N: usize>(
+    alloc: Global,
     n: usize,
     code: usize,
-) -> Result<BpTree<N, A>, GrowError>
+) -> Result<BpTree<N, Global>, GrowError>
     requires some { 0 < N }
     requires bounded { N ≤ MAX_BLOCK_SIZE }
 {
@@ -171,7 +180,7 @@ fn tree_of_code<const N: usize, A: Allocator + Copy>(
 }
 
 // All lists of up to the longest, with blocks of `N` bits.
-fn compared_at<const N: usize, A: Allocator + Copy>(alloc: A) -> Result<Compared, GrowError>
+fn compared_at<const N: usize>(alloc: Global) -> Result<Compared, GrowError>
     requires some { 0 < N }
     requires bounded { N ≤ MAX_BLOCK_SIZE }
 {
@@ -186,8 +195,8 @@ fn compared_at<const N: usize, A: Allocator + Copy>(alloc: A) -> Result<Compared
             let sums = excesses(alloc, n, code)?;
             let before = all;
             all = asked(
-                tree_of_code::<N, A>(alloc, n, code),
-                |tree: &BpTree<N, A>| {
+                tree_of_code::<N>(alloc, n, code),
+                |tree: &BpTree<N, Global>| {
                     let mut after = before;
                     after.note_tree(tree, sums.as_slice(), code);
                     Ok(after)
@@ -198,19 +207,6 @@ fn compared_at<const N: usize, A: Allocator + Copy>(alloc: A) -> Result<Compared
     Ok(all)
 }
 
-// The same with blocks of one of the sizes.
-fn compared<A: Allocator + Copy>(alloc: A, size: usize) -> Result<Compared, GrowError> {
-    match size {
-        1 => compared_at::<1, A>(alloc),
-        3 => compared_at::<3, A>(alloc),
-        8 => compared_at::<8, A>(alloc),
-        12 => compared_at::<12, A>(alloc),
-        64 => compared_at::<64, A>(alloc),
-        512 => compared_at::<512, A>(alloc),
-        _ => compared_at::<4294967296, A>(alloc),
-    }
-}
-
 #[test]
 fn every_answer_is_that_of_a_scan(rt: HostRuntime) -> Result<(), Fail> {
     let wanted = Compared {
@@ -219,8 +215,9 @@ fn every_answer_is_that_of_a_scan(rt: HostRuntime) -> Result<(), Fail> {
         others: OTHERS,
         wrong: 0,
     };
-    for size in SIZES {
-        assert_eq!(rt; compared(rt.alloc(), size)?, wanted);
-    }
+    assert_eq!(rt; compared_at::<1>(rt.alloc())?, wanted);
+    assert_eq!(rt; compared_at::<3>(rt.alloc())?, wanted);
+    assert_eq!(rt; compared_at::<8>(rt.alloc())?, wanted);
+    assert_eq!(rt; compared_at::<12>(rt.alloc())?, wanted);
     Ok(())
 }

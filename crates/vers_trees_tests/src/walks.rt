@@ -1,9 +1,8 @@
-//! Walks over the nodes of trees, and what trees are turned into.
+//! Walks over the nodes of trees.
 use crate::lists::{asked, tree_of};
-use std::alloc::{AllocError, Allocator};
+use std::alloc::{AllocError, Allocator, Global};
 use std::test::Fail;
-use vers_bits::bit_vec::{BitVec, GrowError};
-use vers_rank::fast_rs_vec::RsVec;
+use vers_bits::bit_vec::GrowError;
 use vers_tally::tally::Tally;
 use vers_trees::trees::bp::{BpTree, DfsIter};
 
@@ -11,10 +10,7 @@ use vers_trees::trees::bp::{BpTree, DfsIter};
 pub const NODE_WITH_TWO: [u8; 6] = [1, 1, 0, 1, 0, 0];
 
 // The places that both walks over the nodes give, one after another.
-fn nodes<const N: usize, A: Allocator + Copy>(
-    alloc: A,
-    tree: &BpTree<N, A>,
-) -> Result<Vec<usize, A>, AllocError> {
+fn nodes(alloc: Global, tree: &BpTree<3, Global>) -> Result<Vec<usize, Global>, AllocError> {
     let mut found = Vec::new(alloc);
     for place in tree.iter() {
         found.push(place)?;
@@ -26,10 +22,10 @@ fn nodes<const N: usize, A: Allocator + Copy>(
 }
 
 // The same of bits, with blocks of three.
-fn nodes_of<A: Allocator + Copy>(alloc: A, bits: &[u8]) -> Result<Vec<usize, A>, GrowError> {
+fn nodes_of(alloc: Global, bits: &[u8]) -> Result<Vec<usize, Global>, GrowError> {
     asked(
-        tree_of::<3, A>(alloc, bits),
-        |tree: &BpTree<3, A>| Ok(nodes(alloc, tree)?),
+        tree_of::<3>(alloc, bits),
+        |tree: &BpTree<3, Global>| Ok(nodes(alloc, tree)?),
     )
 }
 
@@ -70,54 +66,15 @@ pub const STEPS: [(Option<usize>, bool); 5] = [
     (None, true),
 ];
 
-#[test]
-fn a_walk_that_has_ended_stays_ended(rt: HostRuntime) -> Result<(), Fail> {
-    let found = asked(
-        tree_of::<1, _>(rt.alloc(), &NODE_WITH_TWO),
-        |tree| Ok::<_, GrowError>(steps(tree)),
-    )?;
-    assert_eq!(rt; found, STEPS);
-    Ok(())
-}
-
-/// The first node, the last, and what is left, of a walk that owns its tree.
-pub fn owned_steps<const N: usize, A: Allocator + Copy>(
-    tree: BpTree<N, A>,
-) -> [Option<usize>; 4] {
-    let mut nodes = tree.into_iter();
-    let first = nodes.next();
-    let last = nodes.next_back();
-    let middle = nodes.next();
-    [first, last, middle, nodes.next()]
-}
-
-/// How many ones, and the place of the second zero.
-pub fn parentheses<const N: usize, A: Allocator + Copy>(tree: BpTree<N, A>) -> (usize, usize) {
-    let list = tree.into_parentheses_vec();
-    (list.ones(), list.select0(1))
-}
-
-/// The same by the conversion.
-pub fn converted<const N: usize, A: Allocator + Copy>(tree: BpTree<N, A>) -> (usize, usize) {
-    let list: RsVec<A> = RsVec::from(tree);
-    (list.ones(), list.select0(1))
-}
-
-/// How many bits and ones the list alone has.
-pub fn bits_alone<const N: usize, A: Allocator + Copy>(tree: BpTree<N, A>) -> (usize, u64) {
-    let list: BitVec<A> = BitVec::from(tree);
-    (list.len(), list.count_ones())
+// The steps of a walk over bits.
+fn steps_of(alloc: Global, bits: &[u8]) -> Result<[(Option<usize>, bool); 5], GrowError> {
+    asked(
+        tree_of::<1>(alloc, bits),
+        |tree: &BpTree<1, Global>| Ok(steps(tree)),
+    )
 }
 
 #[test]
-fn what_a_tree_is_turned_into(rt: HostRuntime) -> Result<(), Fail> {
-    let steps = tree_of::<8, _>(rt.alloc(), &NODE_WITH_TWO).map(|tree| owned_steps(tree))?;
-    assert_eq!(rt; steps, [Some(0), Some(3), Some(1), None]);
-    let list = tree_of::<8, _>(rt.alloc(), &NODE_WITH_TWO).map(|tree| parentheses(tree))?;
-    assert_eq!(rt; list, (3, 4));
-    let list = tree_of::<8, _>(rt.alloc(), &NODE_WITH_TWO).map(|tree| converted(tree))?;
-    assert_eq!(rt; list, (3, 4));
-    let list = tree_of::<8, _>(rt.alloc(), &NODE_WITH_TWO).map(|tree| bits_alone(tree))?;
-    assert_eq!(rt; list, (6, 3));
-    Ok(())
+fn a_walk_that_has_ended_stays_ended(rt: HostRuntime) {
+    assert_eq!(rt; steps_of(rt.alloc(), &NODE_WITH_TWO), Ok(STEPS));
 }
