@@ -84,10 +84,7 @@ impl<const BLOCK_SIZE: usize, A: Allocator + Copy> BpTree<BLOCK_SIZE, A> {
         if bits.len() > MAX_LEN {
             return Err(GrowError::TooLong);
         }
-        match BpTree::indexed(bits) {
-            Ok(tree) => Ok(tree),
-            Err(_) => Err(GrowError::Memory),
-        }
+        Ok(BpTree::indexed(bits)?)
     }
 
     // The tree of a list that is not too long.

@@ -1,10 +1,11 @@
 //! Trees from a walk through their nodes.
 ghost use Rattle.std.specs.Prelude.{◌≡◌, ◌≢◌, ◌+◌, ◌*◌, ◌%◌, ◌<◌, ◌≤◌, ◌++◌, ◌∷◌, ◌↔◌, [], length, true, false, pos, IfOk, IfErr, IsOk, OnOk, OnErr};
 ghost use Rattle.vers_trees.specs.Excess.{excess};
+ghost use Rattle.vers_trees.specs.declared.trees.bp.builder.BuildError.TheVariants.{Memory};
 
 use super::scan::step;
 use super::{BpTree, MAX_BLOCK_SIZE, MAX_LEN};
-use std::alloc::Allocator;
+use std::alloc::{AllocError, Allocator};
 use std::marker::Model;
 use vers_bits::bit_vec::{BitVec, GrowError};
 
@@ -16,6 +17,14 @@ pub enum BuildError {
     Excess(i64),
     /// The allocator has no memory.
     Memory,
+}
+
+impl From<AllocError> for BuildError {
+    ghost from_gives = { λ _ e. e ≡ Memory };
+
+    fn from(_: AllocError) -> BuildError {
+        BuildError::Memory
+    }
 }
 
 /// A list of parentheses that grows while the nodes of a forest are entered and left. Contracts see a
@@ -117,9 +126,6 @@ impl<const BLOCK_SIZE: usize, A: Allocator + Copy> BpBuilder<BLOCK_SIZE, A> {
             return Err(BuildError::Excess(self.excess));
         }
         let BpBuilder { bits, excess: _ } = self;
-        match BpTree::indexed(bits) {
-            Ok(tree) => Ok(tree),
-            Err(_) => Err(BuildError::Memory),
-        }
+        Ok(BpTree::indexed(bits)?)
     }
 }

@@ -4,8 +4,8 @@ use Rattle.vers_trees.specs.Excess.{excess}
 use Rattle.vers_trees.proofs.Building.{built_fits}
 use Rattle.vers_trees.proofs.trees.bp.builder.BpBuilder.build.Goals as goal
 
-pub returns-in-Ok-clause-uneven : goal.returns-in-Ok-clause-uneven
-returns-in-Ok-clause-uneven g c = λ uneven.
+pub returns-clause-uneven : goal.returns-clause-uneven
+returns-clause-uneven g c = λ uneven.
     let f = built_fits g.row.BLOCK_SIZE c.self.inside.bits c.self.inside.excess c.self.invariant in
     let zero : c.self.inside.excess ≡ pos 0 = sym (to_z-of_z w64 c.self.inside.excess f) ∙ ap (to_z w64) c.if-self-ne0.false in
     absurd (uneven (ap (λ (l : List Bool). excess l (length l)) (sym c.self.view_is) ∙ c.self.invariant.sum ∙ zero))
