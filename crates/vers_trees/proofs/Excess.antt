@@ -49,7 +49,7 @@ excess-is_walk l = record { up = walk_up l; down = walk_down l }
     walk_down (true ∷ l) (suc i) = let e = excess-open l i in let r = excess-open l (suc i) in let h = rw add-one at (walk_down l i) in rw (add-one) (omega (arith, ints))
     walk_down (false ∷ l) (suc i) = let e = excess-close l i in let r = excess-close l (suc i) in let h = rw add-one at (walk_down l i) in rw (add-one) (omega (arith, ints))
 
--- past an open bracket the excess is one more, past a close one less
+-- past a one the excess is one more, past a zero one less
 pub excess_after_open : (l : List Bool) (i : ℕ) (d : Bool) → i < length l → get_or l i d ≡ true → excess l (i + 1) ≡ excess l i +ℤ pos 1
 excess_after_open [] i d h b = absurd (omega arith)
 excess_after_open (true ∷ l) zero d h b = let e = excess-open l 0 in let z = excess-zero l in let y = excess-zero (true ∷ l) in rw (add-one) (omega (arith, ints))

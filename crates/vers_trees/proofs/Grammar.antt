@@ -7,8 +7,8 @@ use Rattle.vers_trees.proofs.Paired.{never_negative, total_is_zero}
 use Rattle.vers_trees.specs.Excess.{excess}
 use Rattle.vers_trees.specs.Forest.{Forest, none, tree, text, IsBalanced}
 
--- the list read from the left: the forest up to the first bracket that closes nothing, and the forests between
--- such brackets after it. A bracket that nothing closes is taken to close at the end
+-- the list read from the left: the forest up to the first zero that closes nothing, and the forests between such
+-- zeros after it. A one that nothing closes is taken to close at the end
 abbrev closed : Forest → List Forest → Forest × List Forest
 closed F [] = (tree F none, [])
 closed F (G ∷ Gs) = (tree F G, Gs)
@@ -46,7 +46,7 @@ forest_of-text : (F : Forest) → forest_of (text F) ≡ F
 unfolding forest_of
 forest_of-text F = ap (λ (m : List Bool). (parse m).0) (sym (append-nil (text F))) ∙ ap (λ (p : Forest × List Forest). p.0) (parse-text F []) ∙ joined-none F
 
--- the brackets that close nothing, each with the forest after it
+-- the zeros that close nothing, each with the forest after it
 abbrev rest_text : List Forest → List Bool
 rest_text [] = []
 rest_text (G ∷ Gs) = false ∷ (text G ++ rest_text Gs)
@@ -64,7 +64,7 @@ open_reads l d F (G ∷ Gs) r =
 close_reads : (l : List Bool) (d : ℕ) (F : Forest) (Gs : List Forest) → Reads l d F Gs → Reads (false ∷ l) (suc d) none (F ∷ Gs)
 close_reads l d F Gs r = record { count = ap suc r.count; back = ap (λ (m : List Bool). false ∷ m) r.back }
 
--- with d brackets still open before it, a list that closes them all and no more
+-- with d ones still open before it, a list that closes them all and no more
 record Ends (l : List Bool) (d : ℕ) : Type 0 where
   pub above : (i : ℕ) → i ≤ length l → pos 0 ≤ℤ (excess l i +ℤ pos d)
   pub total : excess l (length l) +ℤ pos d ≡ pos 0

@@ -1,4 +1,4 @@
--- What the searches find in a list of parentheses: partners, ancestors and neighbours of a level.
+-- From one place of a pair a search for an excess that is one less finds the other.
 use Rattle.std.proofs.Common.{◌≡◌, ℕ, zero, suc, ◌+◌, ◌<◌, ◌≤◌, ◌≢◌, Bool, true, false, List, get_or, pos, negsuc, ◌+ℤ◌, arith, subst}
 use Rattle.std.proofs.lemmas.Int.{ints}
 use Rattle.vers_trees.proofs.Walk.{above_until, above_since}
@@ -6,8 +6,6 @@ use Rattle.vers_trees.proofs.Excess.{excess-is_walk, excess_after_open, excess_a
 use Rattle.vers_trees.proofs.Paired.{Closes, closes_rises, closes_falls}
 use Rattle.vers_trees.specs.Excess.{excess}
 use Rattle.vers_trees.specs.Laws.{IsFirstRiseAfter, IsLastRiseBefore}
-
--- ---- partners
 
 pub after_from_closes : (l : List Bool) (v c : ℕ) → Closes l v c → IsFirstRiseAfter l v (negsuc 0) c
 after_from_closes l v c p =
