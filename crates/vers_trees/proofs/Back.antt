@@ -1,0 +1,173 @@
+-- The steps of a search backwards in a tree of excesses.
+use Rattle.std.proofs.Common.{◌≡◌, ℕ, ◌+◌, ◌-◌, ◌*◌, ◌/◌, ◌%◌, ◌<◌, ◌≤◌, inl, inr, List, length, get_or, drop, ℤ, ◌+ℤ◌, ◌-ℤ◌, arith, ⊎_elim, subst, sym, refl, ap, ◌∙◌, FitsSigned}
+use mir.Syntax.{w64}
+use Rattle.std.proofs.lemmas.Int.{ints}
+use Rattle.std.proofs.lemmas.Bool.{cases_lt}
+use Rattle.std.proofs.Math.Nat.{eq-or-lt_of_le}
+use Rattle.vers_trees.specs.declared.trees.bp.min_max.Node.{Node}
+use Rattle.vers_trees.specs.MinMax.{IsInRangeOrStart, total_before, empty_node, Reaches, Meets, IsRange, Covers, IsMinMax, LeadsBack, PassedBack, IsPreviousBefore}
+use Rattle.vers_trees.proofs.MinMax.{stands_children, parent_of_left, parent_of_right, stands_leaf, leaf_stands, stands_some, root_starts}
+use Rattle.vers_trees.proofs.Blocks.{total_more}
+
+-- what the range of a node says is met in its part
+range_found : (blocks : List Node) (s e : ℕ) (x : Node) (t r : ℤ) → s < e → Covers blocks s e x → total_before blocks s +ℤ r ≡ t → IsInRangeOrStart x r → (k : ℕ) × (s ≤ k) × (k < e) × Meets blocks k t
+range_found blocks s e x t r h c q (inl z) = (s, omega arith, h, inl (omega (arith, ints)))
+range_found blocks s e x t r h c q (inr i) =
+    let lo = i.low in let hi = i.high in
+    let f = c.found t (omega (arith, ints)) (omega (arith, ints)) in
+    (f.0, f.1, f.2, inr f.3)
+
+-- and what is met in its part its range says
+range_meets : (blocks : List Node) (s e : ℕ) (x : Node) (t r : ℤ) → Covers blocks s e x → ((k : ℕ) → k < length blocks → IsRange (get_or blocks k empty_node)) → total_before blocks s +ℤ r ≡ t → (k : ℕ) → s ≤ k → k < e → k < length blocks → Meets blocks k t → IsInRangeOrStart x r
+range_meets blocks s e x t r c g q k a b n (inr w) =
+    let lo = c.low k t a b w in let hi = c.high k t a b w in
+    inr (record { low = omega (arith, ints); high = omega (arith, ints) })
+range_meets blocks s e x t r c g q k a b n (inl z) = ⊎_elim
+    (λ (y : s ≡ k). let y' = ap (total_before blocks) y in inl (omega (arith, ints)))
+    (λ (y : s < k).
+    let m = total_more blocks (k - 1) (omega arith) in
+    let here : total_before blocks (k - 1 + 1) ≡ total_before blocks k = ap (total_before blocks) (let h : k - 1 + 1 ≡ k = omega arith in h) in
+    let ra = g (k - 1) (omega arith) in let rl = ra.low in let rh = ra.high in
+    let w : Reaches blocks (k - 1) t = record { inside = omega arith; low = omega (arith, ints); high = omega (arith, ints) } in
+    let lo = c.low (k - 1) t (omega arith) (omega arith) w in let hi = c.high (k - 1) t (omega arith) (omega arith) w in
+    inr (record { low = omega (arith, ints); high = omega (arith, ints) }))
+    (eq-or-lt_of_le a)
+
+-- ---- going down
+pub back_fits : (first : ℕ) (nodes : List Node) (to : ℕ) (t : ℤ) (place : ℕ) (left : ℤ) (x : Node) → IsMinMax first nodes → LeadsBack first nodes to t place left → place < first → x ≡ get_or nodes (2 * place + 2) empty_node → FitsSigned w64 (left +ℤ x.total)
+back_fits first nodes to t place left x m p h e =
+    let c = stands_children first place p.start p.stop p.stands h in
+    let y = m.covers (2 * place + 2) c.middle p.stop c.right in
+    let tot = y.total in let rem = p.remains in
+    let be = p.before in let wi = p.within in let lo = p.below in
+    let small = m.near c.middle p.found t (omega arith) p.meets in
+    let same : t -ℤ total_before (drop first nodes) c.middle ≡ left +ℤ (get_or nodes (2 * place + 2) empty_node).total = omega (arith, ints) in
+    rw e (subst (FitsSigned w64) same small)
+
+pub back_right : (first : ℕ) (nodes : List Node) (to : ℕ) (t : ℤ) (place : ℕ) (left : ℤ) (x : Node) → IsMinMax first nodes → LeadsBack first nodes to t place left → place < first → x ≡ get_or nodes (2 * place + 2) empty_node → IsInRangeOrStart x (left +ℤ x.total) → LeadsBack first nodes to t (2 * place + 2) left
+back_right first nodes to t place left x m p h e i =
+    let c = stands_children first place p.start p.stop p.stands h in
+    let y = m.covers (2 * place + 2) c.middle p.stop c.right in
+    let y' : Covers (drop first nodes) c.middle p.stop x = subst (Covers (drop first nodes) c.middle p.stop) (sym e) y in
+    let tot = y'.total in let rem = p.remains in
+    let f = range_found (drop first nodes) c.middle p.stop x t (left +ℤ x.total) (stands_some first _ _ _ c.right) y' (omega (arith, ints)) i in
+    record { start = c.middle; stop = p.stop; stands = c.right; before = p.before; within = p.within; remains = p.remains; none = p.none; found = f.0; from = f.1; below = f.2; meets = f.3 }
+
+pub back_left : (first : ℕ) (nodes : List Node) (to : ℕ) (t : ℤ) (place : ℕ) (left : ℤ) (x : Node) → IsMinMax first nodes → LeadsBack first nodes to t place left → place < first → x ≡ get_or nodes (2 * place + 2) empty_node → (IsInRangeOrStart x (left +ℤ x.total) → ⊥) → LeadsBack first nodes to t (2 * place + 1) (left +ℤ x.total)
+back_left first nodes to t place left x m p h e o =
+    let c = stands_children first place p.start p.stop p.stands h in
+    let y = m.covers (2 * place + 2) c.middle p.stop c.right in
+    let y' : Covers (drop first nodes) c.middle p.stop x = subst (Covers (drop first nodes) c.middle p.stop) (sym e) y in
+    let tot = y'.total in let rem = p.remains in
+    let be = p.before in let wi = p.within in let lo = p.below in let ca = c.before in
+    let no : (k : ℕ) → c.middle ≤ k → k < p.stop → Meets (drop first nodes) k t → ⊥ = λ k a b w. o (range_meets (drop first nodes) c.middle p.stop x t (left +ℤ x.total) y' m.range (omega (arith, ints)) k a b (omega arith) w) in
+    record {
+      start = p.start;
+      stop = c.middle;
+      stands = c.left;
+      before = omega arith;
+      within = p.within;
+      remains = omega (arith, ints);
+      none = λ k a b w. ⊎_elim (λ (u : k < p.stop). no k a u w) (λ (u : p.stop ≤ k). p.none k u b w) (cases_lt k p.stop);
+      found = p.found;
+      from = p.from;
+      below = ⊎_elim (λ (u : p.found < c.middle). u) (λ (u : c.middle ≤ p.found). absurd (no p.found u p.below p.meets)) (cases_lt p.found c.middle);
+      meets = p.meets;
+    }
+
+pub back_leaf : (first : ℕ) (nodes : List Node) (to : ℕ) (t : ℤ) (place : ℕ) (left : ℤ) → IsMinMax first nodes → LeadsBack first nodes to t place left → first ≤ place → IsPreviousBefore (drop first nodes) to t (place - first) left
+back_leaf first nodes to t place left m p h =
+    let s = leaf_stands first place p.start p.stop p.stands h in
+    let s0 = s.0 in let s1 = s.1 in
+    let fr = p.from in let be = p.below in let bf = p.before in
+    let here : p.found ≡ place - first = omega arith in
+    let end : p.stop ≡ place - first + 1 = omega arith in
+    record {
+      before = omega arith;
+      remains = subst (λ (n : ℕ). total_before (drop first nodes) n +ℤ left ≡ t) end p.remains;
+      meets = subst (λ (n : ℕ). Meets (drop first nodes) n t) here p.meets;
+      last = λ k x y w. p.none k (omega arith) y w;
+    }
+
+-- ---- climbing
+pub rise_start : (first : ℕ) (nodes : List Node) (begin : ℕ) (r : ℤ) → IsMinMax first nodes → begin < length (drop first nodes) → PassedBack first nodes begin (total_before (drop first nodes) begin +ℤ r) (first + begin) r
+rise_start first nodes begin r m h =
+    record { start = begin; stop = begin + 1; stands = stands_leaf first nodes m begin h; before = omega arith; within = omega arith; remains = refl; none = λ k a b w. omega arith }
+
+passed_back_found : (first : ℕ) (nodes : List Node) (to : ℕ) (t : ℤ) (j : ℕ) (left : ℤ) (x : Node) → IsMinMax first nodes → PassedBack first nodes to t (2 * j + 2) left → x ≡ get_or nodes (2 * j + 1) empty_node → IsInRangeOrStart x (left +ℤ x.total) → LeadsBack first nodes to t (2 * j + 1) left
+passed_back_found first nodes to t j left x m p e i =
+    let u = parent_of_right first j p.start p.stop p.stands in
+    let y = m.covers (2 * j + 1) u.0 p.start u.2 in
+    let y' : Covers (drop first nodes) u.0 p.start x = subst (Covers (drop first nodes) u.0 p.start) (sym e) y in
+    let tot = y'.total in let rem = p.remains in
+    let f = range_found (drop first nodes) u.0 p.start x t (left +ℤ x.total) (stands_some first _ _ _ u.2) y' (omega (arith, ints)) i in
+    record { start = u.0; stop = p.start; stands = u.2; before = p.before; within = p.within; remains = p.remains; none = p.none; found = f.0; from = f.1; below = f.2; meets = f.3 }
+
+passed_back_left : (first : ℕ) (nodes : List Node) (to : ℕ) (t : ℤ) (j : ℕ) (left : ℤ) (x : Node) → IsMinMax first nodes → PassedBack first nodes to t (2 * j + 2) left → x ≡ get_or nodes (2 * j + 1) empty_node → (IsInRangeOrStart x (left +ℤ x.total) → ⊥) → PassedBack first nodes to t j (left +ℤ x.total)
+passed_back_left first nodes to t j left x m p e o =
+    let u = parent_of_right first j p.start p.stop p.stands in
+    let y = m.covers (2 * j + 1) u.0 p.start u.2 in
+    let y' : Covers (drop first nodes) u.0 p.start x = subst (Covers (drop first nodes) u.0 p.start) (sym e) y in
+    let tot = y'.total in let rem = p.remains in let be = p.before in let wi = p.within in
+    let so = stands_some first _ _ _ u.2 in
+    record {
+      start = u.0;
+      stop = p.stop;
+      stands = u.1;
+      before = omega arith;
+      within = p.within;
+      remains = omega (arith, ints);
+      none = λ k a b w. ⊎_elim
+          (λ (v : k < p.start). o (range_meets (drop first nodes) u.0 p.start x t (left +ℤ x.total) y' m.range (omega (arith, ints)) k a v (omega arith) w))
+          (λ (v : p.start ≤ k). p.none k v b w)
+          (cases_lt k p.start);
+    }
+
+passed_back_same : (first : ℕ) (nodes : List Node) (to : ℕ) (t : ℤ) (j : ℕ) (left : ℤ) → PassedBack first nodes to t (2 * j + 1) left → PassedBack first nodes to t j left
+passed_back_same first nodes to t j left p =
+    let u = parent_of_left first j p.start p.stop p.stands in
+    record { start = p.start; stop = u.0; stands = u.1; before = p.before; within = p.within; remains = p.remains; none = p.none }
+
+passed_back_far : (first : ℕ) (nodes : List Node) (to : ℕ) (t : ℤ) (j : ℕ) (left : ℤ) (x : Node) → IsMinMax first nodes → PassedBack first nodes to t (2 * j + 2) left → x ≡ get_or nodes (2 * j + 1) empty_node → (FitsSigned w64 (left +ℤ x.total) → ⊥) → (k : ℕ) → k < to → Meets (drop first nodes) k t → ⊥
+passed_back_far first nodes to t j left x m p e long k a w =
+    let u = parent_of_right first j p.start p.stop p.stands in
+    let y = m.covers (2 * j + 1) u.0 p.start u.2 in
+    let y' : Covers (drop first nodes) u.0 p.start x = subst (Covers (drop first nodes) u.0 p.start) (sym e) y in
+    let tot = y'.total in let rem = p.remains in let wi = p.within in
+    let same : t -ℤ total_before (drop first nodes) u.0 ≡ left +ℤ x.total = omega (arith, ints) in
+    long (subst (FitsSigned w64) same (m.near u.0 k t (omega arith) w))
+
+-- the same in the words of the code
+pub rise_found : (first : ℕ) (nodes : List Node) (to : ℕ) (t : ℤ) (place : ℕ) (left : ℤ) (x : Node) → IsMinMax first nodes → PassedBack first nodes to t place left → 0 < place → place % 2 ≡ 0 → x ≡ get_or nodes (place - 1) empty_node → IsInRangeOrStart x (left +ℤ x.total) → LeadsBack first nodes to t (place - 1) left
+rise_found first nodes to t place left x m p some even e i =
+    let here : place ≡ 2 * ((place - 2) / 2) + 2 = omega arith in
+    let next : place - 1 ≡ 2 * ((place - 2) / 2) + 1 = omega arith in
+    let p' = subst (λ (n : ℕ). PassedBack first nodes to t n left) here p in
+    let e' : x ≡ get_or nodes (2 * ((place - 2) / 2) + 1) empty_node = e ∙ ap (λ (n : ℕ). get_or nodes n empty_node) next in
+    subst (λ (n : ℕ). LeadsBack first nodes to t n left) (sym next) (passed_back_found first nodes to t ((place - 2) / 2) left x m p' e' i)
+
+pub rise_left : (first : ℕ) (nodes : List Node) (to : ℕ) (t : ℤ) (place : ℕ) (left : ℤ) (x : Node) → IsMinMax first nodes → PassedBack first nodes to t place left → 0 < place → place % 2 ≡ 0 → x ≡ get_or nodes (place - 1) empty_node → (IsInRangeOrStart x (left +ℤ x.total) → ⊥) → PassedBack first nodes to t ((place - 1) / 2) (left +ℤ x.total)
+rise_left first nodes to t place left x m p some even e o =
+    let here : place ≡ 2 * ((place - 2) / 2) + 2 = omega arith in
+    let next : place - 1 ≡ 2 * ((place - 2) / 2) + 1 = omega arith in
+    let p' = subst (λ (n : ℕ). PassedBack first nodes to t n left) here p in
+    let e' : x ≡ get_or nodes (2 * ((place - 2) / 2) + 1) empty_node = e ∙ ap (λ (n : ℕ). get_or nodes n empty_node) next in
+    subst (λ (n : ℕ). PassedBack first nodes to t n (left +ℤ x.total)) (let g : (place - 2) / 2 ≡ (place - 1) / 2 = omega arith in g) (passed_back_left first nodes to t ((place - 2) / 2) left x m p' e' o)
+
+pub rise_same : (first : ℕ) (nodes : List Node) (to : ℕ) (t : ℤ) (place : ℕ) (left : ℤ) → PassedBack first nodes to t place left → (place % 2 ≡ 0 → ⊥) → PassedBack first nodes to t ((place - 1) / 2) left
+rise_same first nodes to t place left p odd =
+    let here : place ≡ 2 * ((place - 1) / 2) + 1 = omega arith in
+    passed_back_same first nodes to t ((place - 1) / 2) left (subst (λ (n : ℕ). PassedBack first nodes to t n left) here p)
+
+pub rise_too_far : (first : ℕ) (nodes : List Node) (to : ℕ) (t : ℤ) (place : ℕ) (left : ℤ) (x : Node) → IsMinMax first nodes → PassedBack first nodes to t place left → 0 < place → place % 2 ≡ 0 → x ≡ get_or nodes (place - 1) empty_node → (FitsSigned w64 (left +ℤ x.total) → ⊥) → (k : ℕ) → k < to → Meets (drop first nodes) k t → ⊥
+rise_too_far first nodes to t place left x m p some even e long =
+    let here : place ≡ 2 * ((place - 2) / 2) + 2 = omega arith in
+    let next : place - 1 ≡ 2 * ((place - 2) / 2) + 1 = omega arith in
+    let p' = subst (λ (n : ℕ). PassedBack first nodes to t n left) here p in
+    let e' : x ≡ get_or nodes (2 * ((place - 2) / 2) + 1) empty_node = e ∙ ap (λ (n : ℕ). get_or nodes n empty_node) next in
+    passed_back_far first nodes to t ((place - 2) / 2) left x m p' e' long
+
+pub rise_root : (first : ℕ) (nodes : List Node) (to : ℕ) (t : ℤ) (left : ℤ) → PassedBack first nodes to t 0 left → (k : ℕ) → k < to → Meets (drop first nodes) k t → ⊥
+rise_root first nodes to t left p k a w =
+    let s = root_starts first p.start p.stop p.stands in
+    p.none k (omega arith) a w

@@ -1,0 +1,57 @@
+-- The laws of parentheses.
+use Rattle.std.proofs.Common.{◌≡◌, ℕ, zero, suc, ◌<◌, ◌↔◌, Bool, true, false, List, [], ◌∷◌, length, get_or, ℤ, negsuc, Some, arith}
+use Rattle.std.specs.Prelude.{slice_get}
+use Rattle.std.specs.List.{Contains}
+use Rattle.vers_trees.specs.Excess.{first_rise_after, last_rise_before}
+use Rattle.vers_trees.specs.Forest.{Forest, text, pairs}
+use Rattle.vers_trees.specs.Laws.{IsFirstRiseAfter, IsLastRiseBefore}
+use Rattle.vers_trees.proofs.Searches.{after_some, after_is, before_some, before_is}
+use Rattle.vers_trees.proofs.Paired.{paired_closes, closes_paired, open_is_paired, close_is_paired}
+use Rattle.vers_trees.proofs.Pairs.{contains_from_paired, paired_from_contains}
+use Rattle.vers_trees.proofs.Partners.{after_from_closes, closes_from_after, before_from_closes, closes_from_before}
+use Rattle.vers_trees.proofs.Grammar.{one_forest}
+
+pub forward_first : (l : List Bool) (i : ℕ) (r : ℤ) (j : ℕ) → (first_rise_after l i r ≡ Some j) ↔ IsFirstRiseAfter l i r j
+forward_first l i r j = (after_some l i r j, after_is l i r j)
+
+pub backward_last : (l : List Bool) (i : ℕ) (r : ℤ) (j : ℕ) → (last_rise_before l i r ≡ Some j) ↔ IsLastRiseBefore l i r j
+backward_last l i r j = (before_some l i r j, before_is l i r j)
+
+pub ruleset searches = (forward_first, backward_last)
+
+-- what a list has at a place
+same_bit : (a b : Bool) → Some a ≡ Some b → a ≡ b
+same_bit a b e = cc
+
+has_bit : (l : List Bool) (i : ℕ) (b : Bool) → slice_get l i ≡ Some b → (i < length l) × (get_or l i false ≡ b)
+has_bit [] i b e = absurd (cc)
+has_bit (x ∷ l) zero b e = (omega arith, same_bit x b e)
+has_bit (x ∷ l) (suc i) b e = let h = has_bit l i b e in let h0 = h.0 in (omega arith, h.1)
+
+pub close_pair : (F : Forest) (v c : ℕ) → slice_get (text F) v ≡ Some true → (first_rise_after (text F) v (negsuc 0) ≡ Some c) ↔ Contains (pairs F) (v, c)
+close_pair F v c h = (
+  λ e. contains_from_paired F v c (closes_paired F v c (closes_from_after (text F) v c false (has_bit (text F) v true h).1 (after_some (text F) v (negsuc 0) c e))),
+  λ k. after_is (text F) v (negsuc 0) c (after_from_closes (text F) v c (paired_closes F v c (paired_from_contains F (v, c) k))),
+)
+
+pub open_pair : (F : Forest) (v c : ℕ) → slice_get (text F) c ≡ Some false → (last_rise_before (text F) c (negsuc 0) ≡ Some v) ↔ Contains (pairs F) (v, c)
+open_pair F v c h = (
+  λ e. contains_from_paired F v c (closes_paired F v c (closes_from_before (text F) v c false (has_bit (text F) c false h).1 (before_some (text F) c (negsuc 0) v e))),
+  λ k. before_is (text F) c (negsuc 0) v (before_from_closes (text F) v c (paired_closes F v c (paired_from_contains F (v, c) k))),
+)
+
+pub open_of_close : (F : Forest) (v : ℕ) → slice_get (text F) v ≡ Some true → (c : ℕ) × (first_rise_after (text F) v (negsuc 0) ≡ Some c) × (last_rise_before (text F) c (negsuc 0) ≡ Some v)
+open_of_close F v h =
+    let b = has_bit (text F) v true h in
+    let p = open_is_paired F v false b.0 b.1 in
+    let q = paired_closes F v p.0 p.1 in
+    (p.0, after_is (text F) v (negsuc 0) p.0 (after_from_closes (text F) v p.0 q), before_is (text F) p.0 (negsuc 0) v (before_from_closes (text F) v p.0 q))
+
+pub close_of_open : (F : Forest) (c : ℕ) → slice_get (text F) c ≡ Some false → (v : ℕ) × (last_rise_before (text F) c (negsuc 0) ≡ Some v) × (first_rise_after (text F) v (negsuc 0) ≡ Some c)
+close_of_open F c h =
+    let b = has_bit (text F) c false h in
+    let p = close_is_paired F c false b.0 b.1 in
+    let q = paired_closes F p.0 c p.1 in
+    (p.0, before_is (text F) c (negsuc 0) p.0 (before_from_closes (text F) p.0 c q), after_is (text F) p.0 (negsuc 0) c (after_from_closes (text F) p.0 c q))
+
+pub ruleset partners = (one_forest, close_pair, open_pair, open_of_close, close_of_open)

@@ -1,0 +1,235 @@
+-- The pairs of a forest are the places between which the excess stays above where it began.
+use Rattle.std.proofs.Common.{◌≡◌, ℕ, zero, suc, ◌+◌, ◌-◌, ◌<◌, ◌≤◌, ◌⊎◌, inl, inr, Bool, true, false, List, ◌∷◌, ◌++◌, length, get_or, pos, ◌+ℤ◌, ◌≤ℤ◌, ◌<ℤ◌, arith, add-one, length-append, subst, sym, refl, ap, ◌∙◌}
+use Rattle.std.proofs.lemmas.Int.{ints}
+use Rattle.std.proofs.lemmas.Bool.{cases_lt, cases_order}
+use Rattle.std.proofs.lemmas.List.{get_or_append_left, get_or_at, get_or-append-add}
+use Rattle.vers_trees.proofs.Excess.{excess-zero, excess-nil, excess-open, excess-close, excess-append_left, excess-append_right, open_from_rise, close_from_fall}
+use Rattle.vers_trees.specs.Excess.{excess}
+use Rattle.vers_trees.specs.Forest.{Forest, none, tree, text}
+
+-- v opens and c closes one tree of the forest
+abbrev pub Paired : Forest → ℕ → ℕ → Type 0
+Paired none v c = ⊥
+Paired (tree X Y) v c =
+    ((v ≡ 0) × (c ≡ length (text X) + 1))
+    ⊎ (((x : ℕ) × (y : ℕ) × (v ≡ x + 1) × (c ≡ y + 1) × Paired X x y)
+    ⊎ ((x : ℕ) × (y : ℕ) × (v ≡ length (text X) + 2 + x) × (c ≡ length (text X) + 2 + y) × Paired Y x y))
+
+-- from v on the excess is above what it is before v, up to c, after which it is that again
+pub record Closes (l : List Bool) (v c : ℕ) : Type 0 where
+  pub after : v < c
+  pub inside : c < length l
+  pub back : excess l (c + 1) ≡ excess l v
+  pub above : (j : ℕ) → v < j → j ≤ c → excess l v <ℤ excess l j
+
+length-tree : (X Y : Forest) → length (text (tree X Y)) ≡ length (text X) + length (text Y) + 2
+length-tree X Y = let e = length-append (text X) (false ∷ text Y) in omega arith
+
+-- inside the first tree
+excess_in_first : (X Y : Forest) (i : ℕ) → i ≤ length (text X) → excess (text (tree X Y)) (i + 1) ≡ excess (text X) i +ℤ pos 1
+excess_in_first X Y i h =
+    let e = excess-open (text X ++ false ∷ text Y) i in
+    let r = excess-append_left (text X) (false ∷ text Y) i h in
+    rw add-one (omega (arith, ints))
+
+rest_from_zero : (X Y : Forest) (i : ℕ) → excess (text X) (length (text X)) ≡ pos 0 → excess (text (tree X Y)) (length (text X) + 2 + i) ≡ excess (text Y) i
+rest_from_zero X Y i z =
+    let n = length (text X) in
+    let a = excess-open (text X ++ false ∷ text Y) (n + suc i) in
+    let b = excess-append_right (text X) (false ∷ text Y) (suc i) in
+    let c = excess-close (text Y) i in
+    let r : excess (text (tree X Y)) (suc (n + suc i)) ≡ excess (text Y) i = omega (arith, ints) in
+    subst (λ (m : ℕ). excess (text (tree X Y)) m ≡ excess (text Y) i) (omega arith) r
+
+pub total_is_zero : (F : Forest) → excess (text F) (length (text F)) ≡ pos 0
+total_is_zero none = excess-nil 0
+total_is_zero (tree X Y) =
+    let zx = total_is_zero X in
+    let zy = total_is_zero Y in
+    let r = rest_from_zero X Y (length (text Y)) zx in
+    let len = length-tree X Y in
+    let at : length (text X) + 2 + length (text Y) ≡ length (text (tree X Y)) = omega arith in
+    subst (λ (m : ℕ). excess (text (tree X Y)) m ≡ pos 0) at (r ∙ zy)
+
+-- past the first tree
+excess_in_rest : (X Y : Forest) (i : ℕ) → excess (text (tree X Y)) (length (text X) + 2 + i) ≡ excess (text Y) i
+excess_in_rest X Y i = rest_from_zero X Y i (total_is_zero X)
+
+abbrev Above : Forest → Type 0
+Above F = (i : ℕ) → i ≤ length (text F) → pos 0 ≤ℤ excess (text F) i
+
+-- the excess of a forest is nowhere negative
+pub never_negative : (F : Forest) (i : ℕ) → i ≤ length (text F) → pos 0 ≤ℤ excess (text F) i
+never_negative none i h = let e = excess-nil i in omega (arith, ints)
+never_negative (tree X Y) zero h = let e = excess-zero (text (tree X Y)) in omega (arith, ints)
+never_negative (tree X Y) (suc i) h = go (never_negative X) (never_negative Y) (cases_lt (length (text X)) i)
+  where
+    rest : Above Y → (k : ℕ) → length (text X) + 2 + k ≡ suc i → pos 0 ≤ℤ excess (text (tree X Y)) (suc i)
+    rest my k e =
+        let len = length-tree X Y in
+        let r = excess_in_rest X Y k in
+        let ih = my k (omega arith) in
+        let g : pos 0 ≤ℤ excess (text (tree X Y)) (length (text X) + 2 + k) = omega (arith, ints) in
+        subst (λ (m : ℕ). pos 0 ≤ℤ excess (text (tree X Y)) m) e g
+
+    go : Above X → Above Y → ((length (text X) < i) ⊎ (i ≤ length (text X))) → pos 0 ≤ℤ excess (text (tree X Y)) (suc i)
+    go mx my (inl a) = rest my (i - length (text X) - 1) (omega arith)
+    go mx my (inr a) =
+        let r = rw add-one at (excess_in_first X Y i a) in
+        let ih = mx i a in
+        omega (arith, ints)
+
+-- each pair closes as the excess says
+closes_root : (X Y : Forest) → Closes (text (tree X Y)) 0 (length (text X) + 1)
+closes_root X Y = record { after = omega arith; inside = let len = length-tree X Y in omega arith; back = back; above = above }
+  where
+    start : excess (text (tree X Y)) 0 ≡ pos 0
+    start = excess-zero (text (tree X Y))
+
+    back : excess (text (tree X Y)) (length (text X) + 1 + 1) ≡ excess (text (tree X Y)) 0
+    back =
+        let r = excess_in_rest X Y 0 in
+        let z = excess-zero (text Y) in
+        let g : excess (text (tree X Y)) (length (text X) + 2 + 0) ≡ excess (text (tree X Y)) 0 = omega (arith, ints, start) in
+        subst (λ (m : ℕ). excess (text (tree X Y)) m ≡ excess (text (tree X Y)) 0) (omega arith) g
+
+    above : (j : ℕ) → 0 < j → j ≤ length (text X) + 1 → excess (text (tree X Y)) 0 <ℤ excess (text (tree X Y)) j
+    above zero h k = absurd (omega arith)
+    above (suc j) h k =
+        let r = rw add-one at (excess_in_first X Y j (omega arith)) in
+        let n = never_negative X j (omega arith) in
+        omega (arith, ints, start)
+
+closes_first : (X Y : Forest) (x y : ℕ) → Closes (text X) x y → Closes (text (tree X Y)) (x + 1) (y + 1)
+closes_first X Y x y p = record { after = let a = p.after in omega arith; inside = inside; back = back; above = above }
+  where
+    inside : y + 1 < length (text (tree X Y))
+    inside = let len = length-tree X Y in let i = p.inside in omega arith
+
+    back : excess (text (tree X Y)) (y + 1 + 1) ≡ excess (text (tree X Y)) (x + 1)
+    back =
+        let i = p.inside in let a = p.after in let b = p.back in
+        let r = excess_in_first X Y (y + 1) (omega arith) in
+        let s = excess_in_first X Y x (omega arith) in
+        omega (arith, ints)
+
+    above : (j : ℕ) → x + 1 < j → j ≤ y + 1 → excess (text (tree X Y)) (x + 1) <ℤ excess (text (tree X Y)) j
+    above zero h k = absurd (omega arith)
+    above (suc j) h k =
+        let i = p.inside in let a = p.after in
+        let b = p.above j (omega arith) (omega arith) in
+        let r = rw add-one at (excess_in_first X Y j (omega arith)) in
+        let s = excess_in_first X Y x (omega arith) in
+        omega (arith, ints)
+
+closes_rest : (X Y : Forest) (x y : ℕ) → Closes (text Y) x y → Closes (text (tree X Y)) (length (text X) + 2 + x) (length (text X) + 2 + y)
+closes_rest X Y x y p = record { after = let a = p.after in omega arith; inside = inside; back = back; above = above }
+  where
+    inside : length (text X) + 2 + y < length (text (tree X Y))
+    inside = let len = length-tree X Y in let i = p.inside in omega arith
+
+    back : excess (text (tree X Y)) (length (text X) + 2 + y + 1) ≡ excess (text (tree X Y)) (length (text X) + 2 + x)
+    back =
+        let b = p.back in
+        let r = excess_in_rest X Y (y + 1) in
+        let s = excess_in_rest X Y x in
+        let g : excess (text (tree X Y)) (length (text X) + 2 + (y + 1)) ≡ excess (text (tree X Y)) (length (text X) + 2 + x) = omega (arith, ints) in
+        subst (λ (m : ℕ). excess (text (tree X Y)) m ≡ excess (text (tree X Y)) (length (text X) + 2 + x)) (omega arith) g
+
+    at : (k : ℕ) → x < k → k ≤ y → excess (text (tree X Y)) (length (text X) + 2 + x) <ℤ excess (text (tree X Y)) (length (text X) + 2 + k)
+    at k h g =
+        let b = p.above k h g in
+        let r = excess_in_rest X Y k in
+        let s = excess_in_rest X Y x in
+        omega (arith, ints)
+
+    above : (j : ℕ) → length (text X) + 2 + x < j → j ≤ length (text X) + 2 + y → excess (text (tree X Y)) (length (text X) + 2 + x) <ℤ excess (text (tree X Y)) j
+    above j h k =
+        let a = at (j - (length (text X) + 2)) (omega arith) (omega arith) in
+        subst (λ (m : ℕ). excess (text (tree X Y)) (length (text X) + 2 + x) <ℤ excess (text (tree X Y)) m) (omega arith) a
+
+pub paired_closes : (F : Forest) (v c : ℕ) → Paired F v c → Closes (text F) v c
+paired_closes none v c p = absurd p
+paired_closes (tree X Y) v c (inl p) = rw (p.0, p.1) (closes_root X Y)
+paired_closes (tree X Y) v c (inr (inl p)) = rw (p.2, p.3) (closes_first X Y p.0 p.1 (paired_closes X p.0 p.1 p.4))
+paired_closes (tree X Y) v c (inr (inr p)) = rw (p.2, p.3) (closes_rest X Y p.0 p.1 (paired_closes Y p.0 p.1 p.4))
+
+-- what stands in a tree written down
+open_in_first : (X Y : Forest) (i : ℕ) (d : Bool) → i < length (text X) → get_or (text (tree X Y)) (suc i) d ≡ get_or (text X) i d
+open_in_first X Y i d h = get_or_append_left (text X) (false ∷ text Y) d i h
+
+close_of_first : (X Y : Forest) (d : Bool) → get_or (text (tree X Y)) (suc (length (text X))) d ≡ false
+close_of_first X Y d = get_or_at (text X) false (text Y) d (length (text X)) refl
+
+bit_in_rest : (X Y : Forest) (i : ℕ) (d : Bool) → get_or (text (tree X Y)) (suc (length (text X) + suc i)) d ≡ get_or (text Y) i d
+bit_in_rest X Y i d = get_or-append-add (text X) (false ∷ text Y) (suc i) d
+
+-- each bit is one end of a pair
+abbrev OpensPaired : Forest → Type 0
+OpensPaired F = (v : ℕ) (d : Bool) → v < length (text F) → get_or (text F) v d ≡ true → (c : ℕ) × Paired F v c
+
+abbrev ClosesPaired : Forest → Type 0
+ClosesPaired F = (c : ℕ) (d : Bool) → c < length (text F) → get_or (text F) c d ≡ false → (v : ℕ) × Paired F v c
+
+pub open_is_paired : (F : Forest) (v : ℕ) (d : Bool) → v < length (text F) → get_or (text F) v d ≡ true → (c : ℕ) × Paired F v c
+open_is_paired none v d h b = absurd (omega arith)
+open_is_paired (tree X Y) zero d h b = (length (text X) + 1, inl (refl, refl))
+open_is_paired (tree X Y) (suc i) d h b = go (open_is_paired X) (open_is_paired Y) (cases_order i (length (text X)))
+  where
+    rest : OpensPaired Y → (k : ℕ) → length (text X) + suc k ≡ i → (c : ℕ) × Paired (tree X Y) (suc i) c
+    rest oy k e =
+        let len = length-tree X Y in
+        let b' : get_or (text Y) k d ≡ true = sym (bit_in_rest X Y k d) ∙ ap (λ (m : ℕ). get_or (text (tree X Y)) (suc m) d) e ∙ b in
+        let r = oy k d (omega arith) b' in
+        (length (text X) + 2 + r.0, inr (inr (k, r.0, omega arith, refl, r.1)))
+
+    go : OpensPaired X → OpensPaired Y → ((i ≡ length (text X)) ⊎ ((i < length (text X)) ⊎ (length (text X) < i))) → (c : ℕ) × Paired (tree X Y) (suc i) c
+    go ox oy (inl e) =
+        let f : get_or (text (tree X Y)) (suc i) d ≡ false = ap (λ (m : ℕ). get_or (text (tree X Y)) (suc m) d) e ∙ close_of_first X Y d in
+        absurd (cc)
+    go ox oy (inr (inl a)) =
+        let r = ox i d a (sym (open_in_first X Y i d a) ∙ b) in
+        (r.0 + 1, inr (inl (i, r.0, omega arith, refl, r.1)))
+    go ox oy (inr (inr a)) = rest oy (i - length (text X) - 1) (omega arith)
+
+pub close_is_paired : (F : Forest) (c : ℕ) (d : Bool) → c < length (text F) → get_or (text F) c d ≡ false → (v : ℕ) × Paired F v c
+close_is_paired none c d h b = absurd (omega arith)
+close_is_paired (tree X Y) zero d h b = absurd (cc)
+close_is_paired (tree X Y) (suc i) d h b = go (close_is_paired X) (close_is_paired Y) (cases_order i (length (text X)))
+  where
+    rest : ClosesPaired Y → (k : ℕ) → length (text X) + suc k ≡ i → (v : ℕ) × Paired (tree X Y) v (suc i)
+    rest cy k e =
+        let len = length-tree X Y in
+        let b' : get_or (text Y) k d ≡ false = sym (bit_in_rest X Y k d) ∙ ap (λ (m : ℕ). get_or (text (tree X Y)) (suc m) d) e ∙ b in
+        let r = cy k d (omega arith) b' in
+        (length (text X) + 2 + r.0, inr (inr (r.0, k, refl, omega arith, r.1)))
+
+    go : ClosesPaired X → ClosesPaired Y → ((i ≡ length (text X)) ⊎ ((i < length (text X)) ⊎ (length (text X) < i))) → (v : ℕ) × Paired (tree X Y) v (suc i)
+    go cx cy (inl e) = (0, inl (refl, omega arith))
+    go cx cy (inr (inl a)) =
+        let r = cx i d a (sym (open_in_first X Y i d a) ∙ b) in
+        (r.0 + 1, inr (inl (r.0, i, refl, omega arith, r.1)))
+    go cx cy (inr (inr a)) = rest cy (i - length (text X) - 1) (omega arith)
+
+-- what closes at v does so at one place, and opens at one place
+closes_once : (l : List Bool) (v c d : ℕ) → Closes l v c → Closes l v d → c ≡ d
+closes_once l v c d p q = go (cases_order c d)
+  where
+    go : ((c ≡ d) ⊎ ((c < d) ⊎ (d < c))) → c ≡ d
+    go (inl e) = e
+    go (inr (inl a)) = let x = q.above (c + 1) (let m = p.after in omega arith) (omega arith) in let y = p.back in absurd (omega (arith, ints))
+    go (inr (inr a)) = let x = p.above (d + 1) (let m = q.after in omega arith) (omega arith) in let y = q.back in absurd (omega (arith, ints))
+
+-- an opening place rises, and a closing place falls
+pub closes_rises : (l : List Bool) (v c : ℕ) (d : Bool) → Closes l v c → get_or l v d ≡ true
+closes_rises l v c d p = let a = p.after in let i = p.inside in open_from_rise l v d (omega arith) (p.above (v + 1) (omega arith) (omega arith))
+
+pub closes_falls : (l : List Bool) (v c : ℕ) (d : Bool) → Closes l v c → get_or l c d ≡ false
+closes_falls l v c d p = let a = p.after in let i = p.inside in let x = p.above c a (omega arith) in let b = p.back in close_from_fall l c d i (omega (arith, ints))
+
+pub closes_paired : (F : Forest) (v c : ℕ) → Closes (text F) v c → Paired F v c
+closes_paired F v c p =
+    let a = p.after in let i = p.inside in
+    let r = open_is_paired F v false (omega arith) (closes_rises (text F) v c false p) in
+    let e : r.0 ≡ c = closes_once (text F) v r.0 c (paired_closes F v r.0 r.1) p in
+    subst (λ (m : ℕ). Paired F v m) e r.1

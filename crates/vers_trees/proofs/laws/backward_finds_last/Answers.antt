@@ -1,0 +1,5 @@
+use Rattle.vers_trees.proofs.Matching.{backward_last}
+use Rattle.vers_trees.proofs.laws.backward_finds_last.Goals as goal
+
+pub returns : goal.returns
+returns c = backward_last

@@ -1,0 +1,5 @@
+use Rattle.vers_trees.proofs.Matching.{close_pair}
+use Rattle.vers_trees.proofs.laws.close_finds_pair.Goals as goal
+
+pub returns : goal.returns
+returns c = close_pair

@@ -1,0 +1,9 @@
+use Rattle.std.proofs.Common.{◌≡◌, ◌≤◌, drop}
+use Rattle.vers_trees.specs.MinMax.{CoveredFrom}
+use Rattle.vers_trees.proofs.trees.bp.min_max.build.fill.Given as goal
+
+abbrev pub invariant-loop-i : goal.invariant-loop-i
+invariant-loop-i l = (l.i ≤ l.first) × (drop l.first l.nodes ≡ drop l.first l.fn.nodes) × CoveredFrom l.first l.nodes l.i
+
+abbrev pub decreases-loop-i : goal.decreases-loop-i
+decreases-loop-i l = l.i

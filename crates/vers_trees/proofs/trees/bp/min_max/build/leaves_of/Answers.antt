@@ -1,0 +1,19 @@
+use Rattle.std.proofs.Common.{◌≡◌, ℕ, List, [], ◌∷◌, ◌++◌, ◌+◌, ◌*◌, min, length, arith, sym, subst, ap, ◌∙◌}
+use Rattle.vers_trees.specs.declared.trees.bp.min_max.Node.{Node}
+use Rattle.vers_trees.specs.MinMax.{IsPart}
+use Rattle.vers_trees.specs.Layout.{block_count}
+use Rattle.vers_trees.specs.Index.{AreFirstBlocks}
+use Rattle.vers_trees.proofs.Widths.{block_added}
+use Rattle.vers_trees.proofs.trees.bp.min_max.build.leaves_of.Goals as goal
+
+pub loop-block-preserved : goal.loop-block-preserved
+loop-block-preserved g c =
+    let e : c.push.new.self.items ≡ c.loop-block.nodes.items ++ c.node_of.result ∷ [] = cc (c.in_ok-push.ensures.items) in
+    let m : c.min-end.result ≡ min (c.loop-block.block * c.args.size + c.args.size) (length c.args.bits.now) = c.min-end.ensures ∙ ap (min (c.loop-block.block * c.args.size + c.args.size)) c.len-len.ensures.value in
+    subst (λ (l : List Node). AreFirstBlocks c.args.bits.now c.args.size c.args.first (c.loop-block.block + 1) l) (sym e)
+    (block_added c.args.bits.now c.args.size c.args.first c.loop-block.block c.loop-block.nodes.items c.node_of.result c.loop-block.invariant (subst (λ (n : ℕ). IsPart c.args.bits.now (c.loop-block.block * c.args.size) n c.node_of.result) m c.node_of.ensures))
+
+pub returns : goal.returns
+returns g c =
+    let e : c.loop-block.block ≡ block_count c.args.size (length c.args.bits.now) = (let x = c.loop-block-test.false in let y = c.loop-block.auto.block-end in let d = c.div_ceil-block-end.ensures in let h : c.loop-block.block ≡ c.div_ceil-block-end.result = omega arith in h ∙ d) ∙ ap (block_count c.args.size) c.len-len.ensures.value in
+    subst (λ (n : ℕ). AreFirstBlocks c.args.bits.now c.args.size c.args.first n c.loop-block.nodes.items) e c.loop-block.invariant

@@ -1,0 +1,27 @@
+-- Ordered forests, and the lists of parentheses that write them down.
+use Rattle.std.specs.Prelude.{◌≡◌, ℕ, ◌+◌, Bool, true, false, List, [], ◌∷◌, ◌++◌, map, length}
+
+-- ordered trees: the children of the first tree, and then the trees after it
+pub data Forest : Type 0 where
+  none : Forest
+  tree : Forest → Forest → Forest
+
+-- a forest written down: each tree opens, gives its children, and closes
+abbrev pub text : Forest → List Bool
+text none = []
+text (tree X Y) = true ∷ (text X ++ false ∷ text Y)
+
+-- the pair of numbers moved to the right by n
+abbrev pub moved : ℕ → ℕ × ℕ → ℕ × ℕ
+moved n p = (n + p.0, n + p.1)
+
+-- where each tree opens and closes, in the order in which they open
+abbrev pub pairs : Forest → List (ℕ × ℕ)
+pairs none = []
+pairs (tree X Y) =
+    (0, length (text X) + 1) ∷ (map (moved 1) (pairs X) ++ map (moved (length (text X) + 2)) (pairs Y))
+
+-- the parentheses are balanced: they are some forest written down
+pub record IsBalanced (bits : List Bool) : Type 0 where
+  pub forest : Forest
+  pub written : text forest ≡ bits

@@ -1,0 +1,50 @@
+-- The laws of parentheses, as statements.
+use Rattle.std.specs.Prelude.{◌≡◌, ◌≢◌, ℕ, ◌+◌, ◌<◌, ◌↔◌, Bool, true, false, List, length, slice_get, Contains, ℤ, negsuc, ◌+ℤ◌, Some}
+use Rattle.vers_trees.specs.Excess.{excess, first_rise_after, last_rise_before}
+use Rattle.vers_trees.specs.Forest.{Forest, text, pairs}
+
+-- j is a place after i, past which the excess is r more than past i, and the first such
+pub record IsFirstRiseAfter (bits : List Bool) (i : ℕ) (r : ℤ) (j : ℕ) : Type 0 where
+  pub after : i < j
+  pub inside : j < length bits
+  pub sum : excess bits (j + 1) ≡ excess bits (i + 1) +ℤ r
+  pub first : (k : ℕ) → i < k → k < j → excess bits (k + 1) ≢ excess bits (i + 1) +ℤ r
+
+-- j is a place before i, before which the excess is r more than before i, and the last such
+pub record IsLastRiseBefore (bits : List Bool) (i : ℕ) (r : ℤ) (j : ℕ) : Type 0 where
+  pub before : j < i
+  pub inside : i < length bits
+  pub sum : excess bits j ≡ excess bits i +ℤ r
+  pub last : (k : ℕ) → j < k → k < i → excess bits k ≢ excess bits i +ℤ r
+
+-- a search forwards finds the first place of them all
+abbrev pub ForwardFindsFirst : Type 0
+ForwardFindsFirst = (bits : List Bool) (i : ℕ) (r : ℤ) (j : ℕ) → (first_rise_after bits i r ≡ Some j) ↔ IsFirstRiseAfter bits i r j
+
+-- a search backwards finds the last place of them all
+abbrev pub BackwardFindsLast : Type 0
+BackwardFindsLast = (bits : List Bool) (i : ℕ) (r : ℤ) (j : ℕ) → (last_rise_before bits i r ≡ Some j) ↔ IsLastRiseBefore bits i r j
+
+-- no list writes down two forests
+abbrev pub OneForest : Type 0
+OneForest = (F G : Forest) → text F ≡ text G → F ≡ G
+
+-- from a one, the first place past which the excess is one less is where its pair closes
+abbrev pub CloseFindsPair : Type 0
+CloseFindsPair = (F : Forest) (v c : ℕ) → slice_get (text F) v ≡ Some true
+    → (first_rise_after (text F) v (negsuc 0) ≡ Some c) ↔ Contains (pairs F) (v, c)
+
+-- from a zero, the last place before which the excess is one less is where its pair opens
+abbrev pub OpenFindsPair : Type 0
+OpenFindsPair = (F : Forest) (v c : ℕ) → slice_get (text F) c ≡ Some false
+    → (last_rise_before (text F) c (negsuc 0) ≡ Some v) ↔ Contains (pairs F) (v, c)
+
+-- each one is closed somewhere, and what opens there is that one
+abbrev pub OpenUndoesClose : Type 0
+OpenUndoesClose = (F : Forest) (v : ℕ) → slice_get (text F) v ≡ Some true
+    → (c : ℕ) × (first_rise_after (text F) v (negsuc 0) ≡ Some c) × (last_rise_before (text F) c (negsuc 0) ≡ Some v)
+
+-- each zero closes what opens somewhere, and what closes that is this zero
+abbrev pub CloseUndoesOpen : Type 0
+CloseUndoesOpen = (F : Forest) (c : ℕ) → slice_get (text F) c ≡ Some false
+    → (v : ℕ) × (last_rise_before (text F) c (negsuc 0) ≡ Some v) × (first_rise_after (text F) v (negsuc 0) ≡ Some c)

@@ -1,0 +1,35 @@
+-- How many nodes the tree over the blocks of a list has, how much memory it takes, and what a search in it reads.
+use Rattle.std.specs.Prelude.{ℕ, zero, suc, ◌+◌, ◌-◌, ◌*◌, ◌^◌, max, min, List, Bool, length}
+use Rattle.std.specs.Int.{div_ceil}
+use Rattle.vers_tally.specs.Reads.{Reads, no_reads, plus, digits}
+use Rattle.vers_rank.specs.Queries.{index_size, get_reads}
+
+-- the least k for which n is at most 2 ^ k
+abbrev pub clog : ℕ → ℕ
+clog n = digits (n - 1)
+
+-- how many blocks of `size` bits n bits fill, the last perhaps in part
+abbrev pub block_count : ℕ → ℕ → ℕ
+block_count size n = div_ceil n size
+
+-- how many levels the tree has over n bits in blocks of `size`
+unfoldable pub levels : ℕ → ℕ → ℕ
+levels size zero = 0
+levels size (suc n) = max 1 (clog (block_count size (suc n))) + 1
+
+-- how many nodes it has: one for each block, and one less than the least power of two that is not below their number, but at least one
+unfoldable pub node_count : ℕ → ℕ → ℕ
+node_count size zero = 0
+node_count size (suc n) = block_count size (suc n) + max 1 (2 ^ clog (block_count size (suc n)) - 1)
+
+-- the bytes of a list with its index and its tree of nodes of 24, up to the greatest number of the machine
+abbrev pub tree_heap_size : ℕ → List Bool → ℕ
+tree_heap_size size bits = min (index_size bits + 24 * node_count size (length bits)) 18446744073709551615
+
+-- what one search over n bits adds at most: two blocks begun, four nodes a level, and each bit of two blocks once
+abbrev pub search_reads : ℕ → ℕ → Reads
+search_reads size n = record no_reads { data_words = 2 * size + 4; rank_calls = 2 * size + 4; blocks = 2; nodes = 4 * levels size n }
+
+-- the same with one bit more, by which the search is chosen
+abbrev pub enclose_reads : ℕ → ℕ → Reads
+enclose_reads size n = plus get_reads (search_reads size n)

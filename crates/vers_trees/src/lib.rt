@@ -1,0 +1,5 @@
+//! Ordered trees as lists of parentheses: excess, searches for a place where it rises, balance.
+#![tactic(auto)]
+
+pub mod laws;
+pub mod trees;

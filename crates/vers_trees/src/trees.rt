@@ -1,0 +1,2 @@
+//! Ordered trees.
+pub mod bp;

@@ -1,0 +1,334 @@
+//! Ordered trees as lists of balanced parentheses.
+ghost use Rattle.std.specs.Prelude.{◌≡◌, ◌≢◌, ℕ, ◌+◌, ◌<◌, ◌≤◌, ◌↔◌, ◌^◌, [], length, true, IfOk, IsTrue, Decides, Some, None};
+ghost use Rattle.std.specs.Prelude.{negsuc};
+ghost use Rattle.vers_bits.specs.Bits.{count, places, select};
+ghost use Rattle.vers_tally.specs.Reads.{AddsAtMost, only_nodes};
+ghost use Rattle.vers_rank.specs.Queries.{superblock_count, rank_reads, select_reads};
+ghost use Rattle.vers_trees.specs.Excess.{excess, first_rise_after, last_rise_before, enclosing};
+ghost use Rattle.vers_trees.specs.Forest.{IsBalanced};
+ghost use Rattle.vers_trees.specs.Layout.{tree_heap_size, search_reads, enclose_reads};
+
+mod builder;
+mod dfs_iter;
+mod into;
+mod min_max;
+mod scan;
+mod search;
+
+pub use crate::trees::bp::builder::{BpBuilder, BuildError};
+pub use crate::trees::bp::dfs_iter::DfsIter;
+use crate::trees::bp::min_max::MinMaxTree;
+use crate::trees::bp::search::{backward, forward};
+use std::alloc::{AllocError, Allocator};
+use std::marker::Model;
+use vers_bits::bit_vec::{BitVec, GrowError};
+use vers_rank::fast_rs_vec::RsVec;
+use vers_tally::tally::Tally;
+
+/// The most bits that a tree has.
+pub const MAX_LEN: usize = 9223372036854775807;
+
+/// The most bits that a block of a tree has.
+pub const MAX_BLOCK_SIZE: usize = 4294967296;
+
+/// A list of parentheses, of which a one opens and a zero closes. Where they are balanced they write
+/// down a forest of ordered trees, each node of which is named by the place of its one. Contracts see
+/// a `BpTree` as the list of its bits.
+///
+/// The excess before a place is the ones less the zeros before it. Over blocks of `BLOCK_SIZE` bits a
+/// tree of 24 bytes a node keeps the total, the least and the greatest excess of each part, by which a
+/// search for a place where the excess has risen by a number passes over the blocks without one. No
+/// answer but that of `heap_size` depends on `BLOCK_SIZE`.
+///
+/// Each query has a form `_counted`, which counts its reads in a `Tally`; the plain form is that
+/// one with a counter of its own.
+#[derive(Drop)]
+pub struct BpTree<const BLOCK_SIZE: usize, A: Allocator + Copy> {
+    bits: RsVec<A>,
+    tree: MinMaxTree<A>,
+}
+
+impl<const BLOCK_SIZE: usize, A: Allocator + Copy> Model for BpTree<BLOCK_SIZE, A> {
+    ghost use Rattle.std.specs.Prelude.{List, Bool};
+    ghost use Rattle.vers_trees.specs.Index.{IsIndexed};
+
+    ghost Value = { List Bool };
+
+    ghost view = { λ t. t.bits };
+
+    ghost invariant = { λ t. IsIndexed t.bits BLOCK_SIZE t.tree.first t.tree.nodes };
+}
+
+impl<const BLOCK_SIZE: usize, A: Allocator + Copy> Clone for BpTree<BLOCK_SIZE, A> {
+    ghost is_clone = { λ old new. new ≡ old };
+
+    /// A second tree of the same bits, with a copy of the index.
+    fn clone(&self) -> Result<Self, AllocError> {
+        let bits = self.bits.clone()?;
+        let tree = self.tree.copied()?;
+        Ok(BpTree { bits, tree })
+    }
+}
+
+impl<const BLOCK_SIZE: usize, A: Allocator + Copy> BpTree<BLOCK_SIZE, A> {
+    /// The tree of a list of parentheses, balanced or not. TooLong above `MAX_LEN` bits, which is
+    /// tested before memory is asked for. The list is dropped where the tree is refused.
+    ///
+    /// The block size is from 1 to `MAX_BLOCK_SIZE`.
+    pub fn from_bit_vector(bits: BitVec<A>) -> Result<Self, GrowError>
+        requires some { 0 < BLOCK_SIZE }
+        requires bounded { BLOCK_SIZE ≤ MAX_BLOCK_SIZE }
+        ensures made { IfOk result (λ t. t ≡ bits) }
+        ensures too_long { (result ≡ Err GrowError.TooLong) ↔ (MAX_LEN < length bits) }
+    {
+        if bits.len() > MAX_LEN {
+            return Err(GrowError::TooLong);
+        }
+        Ok(BpTree::indexed(bits)?)
+    }
+
+    // The tree of a list that is not too long.
+    fn indexed(bits: BitVec<A>) -> Result<Self, AllocError>
+        requires some { 0 < BLOCK_SIZE }
+        requires bounded { BLOCK_SIZE ≤ MAX_BLOCK_SIZE }
+        requires short { length bits ≤ MAX_LEN }
+        ensures { IfOk result (λ t. t ≡ bits) }
+    {
+        let tree = MinMaxTree::over(&bits, BLOCK_SIZE)?;
+        let bits = RsVec::from_bit_vec(bits)?;
+        Ok(BpTree { bits, tree })
+    }
+
+    /// How many bits the list has.
+    #[inline]
+    pub fn len(&self) -> usize
+        ensures value { result ≡ length self.now }
+        ensures bounded { length self.now ≤ MAX_LEN }
+    {
+        self.bits.len()
+    }
+
+    /// How many ones the list has: in balanced parentheses, how many nodes there are.
+    #[inline]
+    pub fn size(&self) -> usize
+        ensures { result ≡ count true self.now (length self.now) }
+    {
+        self.bits.ones()
+    }
+
+    /// Whether the list has no bits.
+    #[inline]
+    pub fn is_empty(&self) -> bool
+        ensures { IsTrue result ↔ (self.now ≡ []) }
+    {
+        self.bits.is_empty()
+    }
+
+    /// The place of the first bit, which opens the first tree of balanced parentheses. None where the
+    /// list has no bits.
+    #[inline]
+    pub fn root(&self) -> Option<usize>
+        ensures none { self.now ≡ [] → result ≡ None }
+        ensures some { self.now ≢ [] → result ≡ Some 0 }
+    {
+        if self.is_empty() { None } else { Some(0) }
+    }
+
+    /// The bytes that the bits, their index and the tree take, beside those of the `BpTree` itself, up
+    /// to the greatest number of the machine.
+    pub fn heap_size(&self) -> usize
+        ensures { result ≡ tree_heap_size BLOCK_SIZE self.now }
+    {
+        self.bits.heap_size().saturating_add(self.tree.heap_size())
+    }
+
+    /// The excess past the bit at a place: the ones less the zeros up to it, itself among them.
+    #[inline]
+    pub fn excess(&self, i: usize) -> i64
+        requires { i < length self.now }
+        ensures { result ≡ excess self.now (i + 1) }
+    {
+        let mut tally = Tally::new();
+        self.excess_counted(i, &mut tally)
+    }
+
+    /// The excess past the bit at a place: the ones less the zeros up to it, itself among them. By the
+    /// reads of one rank.
+    #[inline(always)]
+    pub fn excess_counted(&self, i: usize, tally: &mut Tally) -> i64
+        requires { i < length self.now }
+        ensures value { result ≡ excess self.now (i + 1) }
+        ensures adds { AddsAtMost tally.old tally.new rank_reads }
+    {
+        let ones = self.bits.rank1_counted(i + 1, tally);
+        let zeros = i + 1 - ones;
+        ones as i64 - zeros as i64
+    }
+
+    /// The first place after `i` past which the excess is `r` more than past `i`. None where there is
+    /// none, and for a place that the list doesn't have.
+    #[inline]
+    pub fn fwd_search(&self, i: usize, r: i64) -> Option<usize>
+        ensures { result ≡ first_rise_after self.now i r }
+    {
+        let mut tally = Tally::new();
+        self.fwd_search_counted(i, r, &mut tally)
+    }
+
+    /// The first place after `i` past which the excess is `r` more than past `i`, by at most two
+    /// blocks, four nodes a level, and twice as many bits as a block has. None where there is none, and
+    /// for a place that the list doesn't have.
+    #[inline(always)]
+    pub fn fwd_search_counted(&self, i: usize, r: i64, tally: &mut Tally) -> Option<usize>
+        ensures value { result ≡ first_rise_after self.now i r }
+        ensures adds { AddsAtMost tally.old tally.new (search_reads BLOCK_SIZE (length self.now)) }
+    {
+        forward(&self.bits, &self.tree, BLOCK_SIZE, i, r, tally)
+    }
+
+    /// The last place before `i` before which the excess is `r` more than before `i`. None where there
+    /// is none, and for a place that the list doesn't have.
+    #[inline]
+    pub fn bwd_search(&self, i: usize, r: i64) -> Option<usize>
+        ensures { result ≡ last_rise_before self.now i r }
+    {
+        let mut tally = Tally::new();
+        self.bwd_search_counted(i, r, &mut tally)
+    }
+
+    /// The last place before `i` before which the excess is `r` more than before `i`, by at most two
+    /// blocks, four nodes a level, and twice as many bits as a block has. None where there is none, and
+    /// for a place that the list doesn't have.
+    #[inline(always)]
+    pub fn bwd_search_counted(&self, i: usize, r: i64, tally: &mut Tally) -> Option<usize>
+        ensures value { result ≡ last_rise_before self.now i r }
+        ensures adds { AddsAtMost tally.old tally.new (search_reads BLOCK_SIZE (length self.now)) }
+    {
+        backward(&self.bits, &self.tree, BLOCK_SIZE, i, r, tally)
+    }
+
+    /// The first place after `i` past which the excess is one less than past `i`: in balanced
+    /// parentheses, where the one at `i` is closed. None where there is none, and for a place that the
+    /// list doesn't have.
+    #[inline]
+    pub fn close(&self, i: usize) -> Option<usize>
+        ensures { result ≡ first_rise_after self.now i (negsuc 0) }
+    {
+        let mut tally = Tally::new();
+        self.close_counted(i, &mut tally)
+    }
+
+    /// The same as `close`, by the reads of one search.
+    #[inline(always)]
+    pub fn close_counted(&self, i: usize, tally: &mut Tally) -> Option<usize>
+        ensures value { result ≡ first_rise_after self.now i (negsuc 0) }
+        ensures adds { AddsAtMost tally.old tally.new (search_reads BLOCK_SIZE (length self.now)) }
+    {
+        self.fwd_search_counted(i, -1, tally)
+    }
+
+    /// The last place before `i` before which the excess is one less than before `i`: in balanced
+    /// parentheses, where the pair that the zero at `i` closes is opened. None where there is none, and
+    /// for a place that the list doesn't have.
+    #[inline]
+    pub fn open(&self, i: usize) -> Option<usize>
+        ensures { result ≡ last_rise_before self.now i (negsuc 0) }
+    {
+        let mut tally = Tally::new();
+        self.open_counted(i, &mut tally)
+    }
+
+    /// The same as `open`, by the reads of one search.
+    #[inline(always)]
+    pub fn open_counted(&self, i: usize, tally: &mut Tally) -> Option<usize>
+        ensures value { result ≡ last_rise_before self.now i (negsuc 0) }
+        ensures adds { AddsAtMost tally.old tally.new (search_reads BLOCK_SIZE (length self.now)) }
+    {
+        self.bwd_search_counted(i, -1, tally)
+    }
+
+    /// The last place before `i` before which the excess is one less than before `i` where there is a
+    /// one, and two less where there is a zero: in balanced parentheses, where the nearest pair opens
+    /// that holds the bit's own pair between its places. None where there is none, and for a place that
+    /// the list doesn't have.
+    #[inline]
+    pub fn enclose(&self, i: usize) -> Option<usize>
+        ensures { result ≡ enclosing self.now i }
+    {
+        let mut tally = Tally::new();
+        self.enclose_counted(i, &mut tally)
+    }
+
+    /// The same as `enclose`, by one bit read and the reads of one search.
+    #[inline(always)]
+    pub fn enclose_counted(&self, i: usize, tally: &mut Tally) -> Option<usize>
+        ensures value { result ≡ enclosing self.now i }
+        ensures adds { AddsAtMost tally.old tally.new (enclose_reads BLOCK_SIZE (length self.now)) }
+    {
+        if i >= self.bits.len() {
+            return None;
+        }
+        let rise = if self.bits.is_one_counted(i, tally) {
+            -1
+        } else {
+            -2
+        };
+        self.bwd_search_counted(i, rise, tally)
+    }
+
+    /// Whether the parentheses are balanced: they are a forest written down.
+    #[inline]
+    pub fn is_balanced(&self) -> bool
+        ensures { Decides result (IsBalanced self.now) }
+    {
+        let mut tally = Tally::new();
+        self.is_balanced_counted(&mut tally)
+    }
+
+    /// Whether the parentheses are balanced, by one node and no bit.
+    #[inline(always)]
+    pub fn is_balanced_counted(&self, tally: &mut Tally) -> bool
+        ensures value { Decides result (IsBalanced self.now) }
+        ensures adds { AddsAtMost tally.old tally.new (only_nodes 1) }
+    {
+        if self.is_empty() {
+            return true;
+        }
+        self.tree.root_counted(tally).is_level()
+    }
+
+    /// The place of one number `i`, counted from 0, or the number of bits where there are no more: in
+    /// balanced parentheses, node number `i` in preorder.
+    #[inline]
+    pub fn node_handle(&self, i: usize) -> usize
+        ensures { result ≡ select true self.now i }
+    {
+        let mut tally = Tally::new();
+        self.node_handle_counted(i, &mut tally)
+    }
+
+    /// The place of one number `i`, counted from 0, or the number of bits where there are no more, by
+    /// the reads of one select.
+    #[inline(always)]
+    pub fn node_handle_counted(&self, i: usize, tally: &mut Tally) -> usize
+        ensures value { result ≡ select true self.now i }
+        ensures adds { AddsAtMost tally.old tally.new (select_reads (superblock_count (length self.now))) }
+    {
+        self.bits.select1_counted(i, tally)
+    }
+
+    /// An iterator over the places of the ones, ascending: in balanced parentheses, the nodes in
+    /// preorder.
+    pub fn iter(&self) -> DfsIter<'_, A>
+        ensures { result ≡ record { bits = self.now; left = places true self.now } }
+    {
+        DfsIter::new(&self.bits)
+    }
+
+    /// The same as `iter`.
+    pub fn dfs_iter(&self) -> DfsIter<'_, A>
+        ensures { result ≡ record { bits = self.now; left = places true self.now } }
+    {
+        self.iter()
+    }
+}

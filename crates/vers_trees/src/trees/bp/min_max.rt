@@ -1,0 +1,260 @@
+//! The tree of excesses over the blocks of a list.
+ghost use Rattle.std.specs.Prelude.{◌≡◌, ℕ, ℤ, ◌+◌, ◌-◌, ◌*◌, ◌<◌, ◌≤◌, ◌^◌, ◌+ℤ◌, length, drop, min, slice_index_or, IfOk, MatchOption, Decides};
+ghost use Rattle.vers_tally.specs.Reads.{AddsAtMost, only_nodes, digits};
+ghost use Rattle.vers_trees.specs.Index.{IsIndexed};
+ghost use Rattle.vers_trees.specs.MinMax.{IsInRange, IsInRangeOrStart, IsLevel, empty_node, total_before, Reaches, Meets, IsMinMax, LeadsTo, LeadsBack, IsNextFrom, IsPreviousBefore};
+
+mod build;
+
+use crate::trees::bp::min_max::build::{nodes_over, width};
+use std::alloc::{AllocError, Allocator};
+use vers_bits::bit_vec::BitVec;
+use vers_tally::tally::{CountedNodes, Tally};
+
+// The total, least and greatest excess of a part.
+#[derive(Clone, Copy)]
+pub(super) struct Node {
+    pub(super) total: i64,
+    pub(super) least: i64,
+    pub(super) greatest: i64,
+}
+
+impl Node {
+    // What a node over no block holds: no sum lies from its least to its greatest.
+    fn empty() -> Node
+        ensures { result ≡ empty_node }
+    {
+        Node {
+            total: 0,
+            least: 1,
+            greatest: -1,
+        }
+    }
+
+    // Whether some place of the part has the sum `left` after it, counted from before the part.
+    #[inline]
+    fn reaches(&self, left: i64) -> bool
+        ensures { Decides result (IsInRange self.now left) }
+    {
+        self.least <= left && left <= self.greatest
+    }
+
+    // Whether some place of the part has the sum `left` before it, counted from before the part, or
+    // the part's end has it.
+    #[inline]
+    fn meets(&self, left: i64) -> bool
+        ensures { Decides result (IsInRangeOrStart self.now left) }
+    {
+        left == 0 || self.reaches(left)
+    }
+
+    // Whether the part's total is 0 and no place of it is below its start.
+    #[inline]
+    pub(super) fn is_level(&self) -> bool
+        ensures { Decides result (IsLevel self.now) }
+    {
+        self.total == 0 && self.least >= 0
+    }
+}
+
+// The tree of excesses over the blocks of a list, as a heap: the root is node 0, and the children of
+// node `i` are the nodes `2 * i + 1` and `2 * i + 2`. The nodes before `first` stand over two
+// children each, and from `first` on stand those of the blocks, in order. No node stands for a
+// block that the list doesn't have.
+#[derive(Drop)]
+pub(super) struct MinMaxTree<A: Allocator + Copy> {
+    alloc: A,
+    nodes: CountedNodes<Node, A>,
+    first: usize,
+}
+
+impl<A: Allocator + Copy> MinMaxTree<A> {
+    // The tree over the blocks of `size` bits of a list.
+    pub(super) fn over(bits: &BitVec<A>, size: usize) -> Result<Self, AllocError>
+        requires short { length bits.now < 2 ^ 63 }
+        requires some { 0 < size }
+        requires bounded { size ≤ 4294967296 }
+        ensures { IfOk result (λ t. IsIndexed bits.now size t.first t.nodes) }
+    {
+        let alloc = bits.allocator();
+        let len = bits.len();
+        if len == 0 {
+            return Ok(MinMaxTree {
+                alloc,
+                nodes: CountedNodes::new(Vec::new(alloc)),
+                first: 0,
+            });
+        }
+        let first = width(len.div_ceil(size)) - 1;
+        let nodes = nodes_over(bits, size, first)?;
+        Ok(MinMaxTree {
+            alloc,
+            nodes: CountedNodes::new(nodes),
+            first,
+        })
+    }
+
+    // A second tree of the same nodes.
+    pub(super) fn copied(&self) -> Result<Self, AllocError>
+        ensures same_nodes { IfOk result (λ t. t.nodes ≡ self.now.nodes) }
+        ensures same_first { IfOk result (λ t. t.first ≡ self.now.first) }
+    {
+        let nodes = Vec::from_slice(self.alloc, self.nodes.as_slice())?;
+        Ok(MinMaxTree {
+            alloc: self.alloc,
+            nodes: CountedNodes::new(nodes),
+            first: self.first,
+        })
+    }
+
+    // The bytes that the nodes take, 24 each, up to the greatest number of the machine.
+    pub(super) fn heap_size(&self) -> usize
+        ensures { result ≡ min (24 * length self.now.nodes) 18446744073709551615 }
+    {
+        self.nodes.len().saturating_mul(24)
+    }
+
+    // Node `i`, or one over no block past the end.
+    #[inline(always)]
+    fn node_counted(&self, i: usize, tally: &mut Tally) -> Node
+        ensures value { result ≡ slice_index_or self.now.nodes i empty_node }
+        ensures adds { AddsAtMost tally.old tally.new (only_nodes 1) }
+    {
+        if i < self.nodes.len() {
+            self.nodes.read(i, tally)
+        } else {
+            Node::empty()
+        }
+    }
+
+    // The node over all blocks.
+    #[inline(always)]
+    pub(super) fn root_counted(&self, tally: &mut Tally) -> Node
+        ensures value { result ≡ slice_index_or self.now.nodes 0 empty_node }
+        ensures adds { AddsAtMost tally.old tally.new (only_nodes 1) }
+    {
+        self.node_counted(0, tally)
+    }
+
+    // The first block below the node at `place` that reaches a sum, given what remains to it there; and what remains at that block.
+    #[inline(always)]
+    fn descend_counted(&self, place: usize, mut left: i64, tally: &mut Tally) -> (usize, i64)
+        requires tree { IsMinMax self.now.first self.now.nodes }
+        requires within { place ≤ 2 * self.now.first }
+        requires leads { (from : ℕ) × (t : ℤ) × LeadsTo self.now.first self.now.nodes from t place left }
+        ensures found { (from : ℕ) (t : ℤ) →
+            LeadsTo self.now.first self.now.nodes from t place left →
+            IsNextFrom (drop self.now.first self.now.nodes) from t result.0 result.1 }
+        ensures adds { AddsAtMost tally.old tally.new (only_nodes (digits self.now.first)) }
+    {
+        let mut node = place;
+        while node < self.first {
+            let below = self.node_counted(2 * node + 1, tally);
+            if below.reaches(left) {
+                node = 2 * node + 1;
+            } else {
+                left -= below.total;
+                node = 2 * node + 2;
+            }
+        }
+        (node - self.first, left)
+    }
+
+    // The first block after `begin` that reaches `left` above the sum after `begin`, and what remains
+    // to it at that block's start.
+    #[inline(always)]
+    pub(super) fn next_block_counted(
+        &self,
+        begin: usize,
+        mut left: i64,
+        tally: &mut Tally,
+    ) -> Option<(usize, i64)>
+        requires tree { IsMinMax self.now.first self.now.nodes }
+        requires begins { begin < length (drop self.now.first self.now.nodes) }
+        ensures value { let t = total_before (drop self.now.first self.now.nodes) (begin + 1) +ℤ left in
+            MatchOption
+            result
+            ((k : ℕ) → begin + 1 ≤ k → Reaches (drop self.now.first self.now.nodes) k t → ⊥)
+            (λ p. IsNextFrom (drop self.now.first self.now.nodes) (begin + 1) t p.0 p.1) }
+        ensures adds { AddsAtMost tally.old tally.new (only_nodes (2 * digits self.now.first)) }
+    {
+        let mut node = self.first + begin;
+        while node > 0 {
+            if node % 2 == 1 {
+                let beside = self.node_counted(node + 1, tally);
+                if beside.reaches(left) {
+                    return Some(self.descend_counted(node + 1, left, tally));
+                }
+                match left.checked_sub(beside.total) {
+                    Some(rest) => left = rest,
+                    None => return None,
+                }
+            }
+            node = (node - 1) / 2;
+        }
+        None
+    }
+
+    // The last block below the node at `place` that meets a sum, given what remains to it at the node's
+    // end; and what remains at that block's end.
+    #[inline(always)]
+    fn descend_back_counted(&self, place: usize, mut left: i64, tally: &mut Tally) -> (usize, i64)
+        requires tree { IsMinMax self.now.first self.now.nodes }
+        requires within { place ≤ 2 * self.now.first }
+        requires leads { (to : ℕ) × (t : ℤ) × LeadsBack self.now.first self.now.nodes to t place left }
+        ensures found { (to : ℕ) (t : ℤ) →
+            LeadsBack self.now.first self.now.nodes to t place left →
+            IsPreviousBefore (drop self.now.first self.now.nodes) to t result.0 result.1 }
+        ensures adds { AddsAtMost tally.old tally.new (only_nodes (digits self.now.first)) }
+    {
+        let mut node = place;
+        while node < self.first {
+            let below = self.node_counted(2 * node + 2, tally);
+            let before = left + below.total;
+            if below.meets(before) {
+                node = 2 * node + 2;
+            } else {
+                left = before;
+                node = 2 * node + 1;
+            }
+        }
+        (node - self.first, left)
+    }
+
+    // The last block before `begin` that meets `left` above the sum before `begin`, and what remains to
+    // it at that block's end.
+    #[inline(always)]
+    pub(super) fn previous_block_counted(
+        &self,
+        begin: usize,
+        mut left: i64,
+        tally: &mut Tally,
+    ) -> Option<(usize, i64)>
+        requires tree { IsMinMax self.now.first self.now.nodes }
+        requires begins { begin < length (drop self.now.first self.now.nodes) }
+        ensures value { let t = total_before (drop self.now.first self.now.nodes) begin +ℤ left in
+            MatchOption
+            result
+            ((k : ℕ) → k < begin → Meets (drop self.now.first self.now.nodes) k t → ⊥)
+            (λ p. IsPreviousBefore (drop self.now.first self.now.nodes) begin t p.0 p.1) }
+        ensures adds { AddsAtMost tally.old tally.new (only_nodes (2 * digits self.now.first)) }
+    {
+        let mut node = self.first + begin;
+        while node > 0 {
+            if node % 2 == 0 {
+                let beside = self.node_counted(node - 1, tally);
+                match left.checked_add(beside.total) {
+                    Some(before) => {
+                        if beside.meets(before) {
+                            return Some(self.descend_back_counted(node - 1, left, tally));
+                        }
+                        left = before;
+                    }
+                    None => return None,
+                }
+            }
+            node = (node - 1) / 2;
+        }
+        None
+    }
+}

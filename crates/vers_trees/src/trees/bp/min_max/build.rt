@@ -1,0 +1,109 @@
+//! Building the tree of excesses of a list, from its blocks up to the root.
+ghost use Rattle.std.specs.Prelude.{◌≡◌, ℕ, ◌+◌, ◌*◌, ◌<◌, ◌≤◌, ◌≤ℤ◌, ◌<ℤ◌, ◌^◌, length, drop, slice_index_or, IfOk};
+ghost use Rattle.vers_trees.specs.Index.{IsTreeOf, IsWidth, AreFirstBlocks};
+ghost use Rattle.vers_trees.specs.Layout.{block_count, node_count};
+ghost use Rattle.vers_trees.specs.MinMax.{JoinFits, AreLeaves, CoveredFrom, combined, empty_node};
+
+use crate::trees::bp::min_max::Node;
+use crate::trees::bp::scan::node_of;
+use std::alloc::{AllocError, Allocator};
+use vers_bits::bit_vec::BitVec;
+
+// The least power of two, from 2, that is not below the number.
+#[tactic(auto, using(crate::proofs::Widths::widths))]
+pub(super) fn width(leaves: usize) -> usize
+    requires { leaves < 2 ^ 63 }
+    ensures { IsWidth leaves result }
+{
+    let mut width = 2;
+    while width < leaves {
+        width *= 2;
+    }
+    width
+}
+
+// The nodes of the blocks of `size` bits, after `first` nodes that are still to be filled.
+#[tactic(auto, using(crate::proofs::Widths::gathering))]
+fn leaves_of<A: Allocator + Copy>(
+    bits: &BitVec<A>,
+    size: usize,
+    first: usize,
+) -> Result<Vec<Node, A>, AllocError>
+    requires short { length bits.now < 2 ^ 63 }
+    requires some { 0 < size }
+    requires bounded { size ≤ 4294967296 }
+    ensures { IfOk result (λ v. AreFirstBlocks bits.now size first (block_count size (length bits.now)) v.items) }
+{
+    let len = bits.len();
+    let mut nodes = Vec::new(bits.allocator());
+    nodes.resize(first, Node::empty())?;
+    for block in 0..len.div_ceil(size) {
+        let end = (block * size + size).min(len);
+        nodes.push(node_of(bits, block * size, end))?;
+    }
+    Ok(nodes)
+}
+
+// The nodes of the tree over the blocks of `size` bits of a list that has some bits.
+pub(super) fn nodes_over<A: Allocator + Copy>(
+    bits: &BitVec<A>,
+    size: usize,
+    first: usize,
+) -> Result<Vec<Node, A>, AllocError>
+    requires short { length bits.now < 2 ^ 63 }
+    requires some { 0 < size }
+    requires bounded { size ≤ 4294967296 }
+    requires bits { 0 < length bits.now }
+    requires wide { IsWidth (block_count size (length bits.now)) (first + 1) }
+    ensures tree { IfOk result (λ v. IsTreeOf bits.now size first v.items) }
+    ensures counted { IfOk result (λ v. length v.items ≡ node_count size (length bits.now)) }
+{
+    let mut nodes = leaves_of(bits, size, first)?;
+    fill(&mut nodes, first);
+    Ok(nodes)
+}
+
+// The node over two neighbouring parts.
+fn joined(left: Node, right: Node) -> Node
+    requires { JoinFits left right }
+    ensures both { right.least ≤ℤ right.greatest → result ≡ combined left right }
+    ensures alone { right.greatest <ℤ right.least → result ≡ left }
+{
+    if right.least > right.greatest {
+        return left;
+    }
+    Node {
+        total: left.total + right.total,
+        least: left.least.min(left.total + right.least),
+        greatest: left.greatest.max(left.total + right.greatest),
+    }
+}
+
+// Node i of nodes that are not yet counted, or one over no block past the end.
+fn node_or_empty(nodes: &[Node], i: usize) -> Node
+    ensures { result ≡ slice_index_or nodes.now i empty_node }
+{
+    if i < nodes.len() {
+        nodes[i]
+    } else {
+        Node::empty()
+    }
+}
+
+// Fills the `first` nodes above the leaves.
+fn fill(nodes: &mut [Node], first: usize)
+    requires levels { (h : ℕ) × (2 ^ h ≡ first + 1) }
+    requires leaves { AreLeaves (drop first nodes.old) }
+    requires room { first < length nodes.old }
+    requires short { first < 2 ^ 63 }
+    ensures blocks { drop first nodes.new ≡ drop first nodes.old }
+    ensures covers { CoveredFrom first nodes.new 0 }
+{
+    let mut i = first;
+    while i > 0 {
+        i -= 1;
+        let left = node_or_empty(nodes, 2 * i + 1);
+        let right = node_or_empty(nodes, 2 * i + 2);
+        nodes[i] = joined(left, right);
+    }
+}

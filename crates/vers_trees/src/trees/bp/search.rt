@@ -1,0 +1,74 @@
+//! Searches for a sum: first in the block of a place, then in the tree for another block, then there.
+ghost use Rattle.std.specs.Prelude.{◌≡◌, length};
+ghost use Rattle.vers_tally.specs.Reads.{AddsAtMost};
+ghost use Rattle.vers_trees.specs.Excess.{first_rise_after, last_rise_before};
+ghost use Rattle.vers_trees.specs.Index.{IsIndexed};
+ghost use Rattle.vers_trees.specs.Layout.{search_reads};
+
+use crate::trees::bp::min_max::MinMaxTree;
+use crate::trees::bp::scan::{scan_backward, scan_forward};
+use std::alloc::Allocator;
+use vers_rank::fast_rs_vec::RsVec;
+use vers_tally::tally::Tally;
+
+// The first place after `i` past which the excess is `r` more than past `i`.
+#[inline(always)]
+pub(super) fn forward<A: Allocator + Copy>(
+    bits: &RsVec<A>,
+    tree: &MinMaxTree<A>,
+    size: usize,
+    i: usize,
+    r: i64,
+    tally: &mut Tally,
+) -> Option<usize>
+    requires { IsIndexed bits.now size tree.now.first tree.now.nodes }
+    ensures value { result ≡ first_rise_after bits.now i r }
+    ensures adds { AddsAtMost tally.old tally.new (search_reads size (length bits.now)) }
+{
+    let len = bits.len();
+    if i >= len {
+        return None;
+    }
+    let block = i / size;
+    let end = (block * size + size).min(len);
+    tally.add_block();
+    let rise = match scan_forward(bits, i + 1, end, r, tally) {
+        Ok(place) => return Some(place),
+        Err(rise) => rise,
+    };
+    let left = r.checked_sub(rise)?;
+    let (next, rest) = tree.next_block_counted(block, left, tally)?;
+    tally.add_block();
+    let next_end = (next * size + size).min(len);
+    scan_forward(bits, next * size, next_end, rest, tally).ok()
+}
+
+// The last place before `i` before which the excess is `r` more than before `i`.
+#[inline(always)]
+pub(super) fn backward<A: Allocator + Copy>(
+    bits: &RsVec<A>,
+    tree: &MinMaxTree<A>,
+    size: usize,
+    i: usize,
+    r: i64,
+    tally: &mut Tally,
+) -> Option<usize>
+    requires { IsIndexed bits.now size tree.now.first tree.now.nodes }
+    ensures value { result ≡ last_rise_before bits.now i r }
+    ensures adds { AddsAtMost tally.old tally.new (search_reads size (length bits.now)) }
+{
+    if i == 0 || i >= bits.len() {
+        return None;
+    }
+    let block = (i - 1) / size;
+    tally.add_block();
+    let rise = match scan_backward(bits, block * size, i, r, tally) {
+        Ok(place) => return Some(place),
+        Err(rise) => rise,
+    };
+    let left = r.checked_sub(rise)?;
+    let (previous, rest) = tree.previous_block_counted(block, left, tally)?;
+    tally.add_block();
+    let start = previous * size;
+    scan_backward(bits, start, start + size, rest, tally).ok()
+}
