@@ -3,7 +3,7 @@ use Rattle.std.proofs.Common.{◌≡◌, ℕ, ◌-◌, ◌<◌, ◌≤◌, true,
 use mir.Syntax.{w64}
 use Rattle.std.proofs.lemmas.Int.{ints, to_z-of_z}
 use Rattle.vers_bits.specs.Bits.{count}
-use Rattle.vers_bits.proofs.Count.{count_both}
+use Rattle.vers_bits.proofs.PublicLaws.{count_both}
 use Rattle.vers_trees.specs.Excess.{excess, last_rise_before, enclosing}
 use Rattle.vers_trees.proofs.Searches.{before_past}
 use Rattle.vers_trees.proofs.Scans.{fits_small}

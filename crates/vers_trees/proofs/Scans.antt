@@ -5,7 +5,7 @@ use Rattle.std.specs.Int.{int_min, int_max}
 use Rattle.std.proofs.lemmas.Int.{ints, clamps, by_lt_z, to_z-of_z}
 use Rattle.std.proofs.lemmas.Bool.{cases_lt}
 use Rattle.vers_tally.specs.Reads.{Reads, AddsAtMost}
-use Rattle.vers_tally.proofs.Adding.{adds_then}
+use Rattle.vers_tally.proofs.PublicLaws.{adds_then}
 use Rattle.vers_rank.specs.Queries.{get_reads}
 use Rattle.vers_trees.specs.declared.trees.bp.min_max.Node.{Node}
 use Rattle.vers_trees.specs.Excess.{excess, bit_step}

@@ -1,8 +1,7 @@
 -- How many nodes a search reads: a level has a digit more than the one above it.
 use Rattle.std.proofs.Common.{◌≡◌, ℕ, ◌+◌, ◌-◌, ◌*◌, ◌/◌, ◌<◌, ◌≤◌, arith, ap}
 use Rattle.vers_tally.specs.Reads.{Reads, AddsAtMost, only_nodes, IsWithin, plus, digits}
-use Rattle.vers_tally.proofs.Adding.{adds_then, adds_weaker, adds_nothing}
-use Rattle.vers_tally.proofs.Halves.{digits_half, digits_up}
+use Rattle.vers_tally.proofs.PublicLaws.{adds_then, adds_weaker, adds_nothing, digits_half, digits_up}
 
 nodes_within : (m n : ℕ) → m ≤ n → IsWithin (only_nodes m) (only_nodes n)
 nodes_within m n h = record { data_words = omega arith; block_entries = omega arith; superblock_entries = omega arith; low_parts = omega arith; rank_calls = omega arith; items = omega arith; blocks = omega arith; nodes = h; chunks = omega arith }

@@ -6,7 +6,7 @@ use Rattle.std.proofs.lemmas.List.{get_or_append_left, get_or_at, get_or-drop}
 use Rattle.std.proofs.Math.Seq.{take-append_seam}
 use Rattle.std.proofs.Math.Nat.{pow-succ', pow-le-pow_right}
 use Rattle.vers_tally.specs.Reads.{digits}
-use Rattle.vers_tally.proofs.Halves.{digits_half, digits-le, digits_up}
+use Rattle.vers_tally.proofs.PublicLaws.{digits_half, digits-le, digits_up}
 use Rattle.vers_trees.specs.declared.trees.bp.min_max.Node.{Node}
 use Rattle.vers_trees.specs.MinMax.{IsPart, AreBlocks, CoveredFrom, AreLeaves, empty_node}
 use Rattle.vers_trees.specs.Layout.{block_count, clog, levels, node_count}
