@@ -42,6 +42,14 @@ class Constant(NamedTuple):
     type: Type
 
 
+class Trait(NamedTuple):
+    """A trait: its file, its name and the traits that it stands on."""
+
+    file: object
+    name: str
+    bounds: tuple
+
+
 class Owner:
     """An `impl` or a `trait`: the type that it is of (a trait's own name), the trait's name or "", and its parameters."""
 
@@ -249,7 +257,7 @@ def read_owner(file, cursor):
         name, generics = cursor.name(), read_generics(cursor)
         bounds = [it.name for it in read_bounds(cursor)] if cursor.accept(":") else []
         owner = Owner(Type(name), name, generics + [Generic("Self", (name,) + tuple(bounds))], True)
-        file.traits.append((name, bounds))
+        file.traits.append(Trait(file, name, tuple(bounds)))
     else:
         generics = read_generics(cursor)
         cursor.accept("!")
