@@ -21,14 +21,15 @@ import subprocess
 import sys
 import tempfile
 
-from rattle_text import blanked, closed, functions, owners, without_tests
+from rattle_items import file_of
+from rattle_types import Unread, base
 
 LONGEST_FILE = 800
 LONGEST_FUNCTION = 60
 LABEL = re.compile(r"(?<![\w-])[DFRTW][12]?\d(?![\w-])")
 MACHINE_PATH = re.compile(r"(?<![\w./-])/(?:work|opt|tmp|home|root|srv)/")
-PUBLIC = re.compile(r"(?m)^[ \t]*pub (?:const )?(?:unsafe )?(fn|struct|enum|trait|const|static|type) (\w+)")
-PASSES_ON = re.compile(r"\{\s*(?:[\w.:&*]+(?:::<\w+>)?(?:\([\w\s,&.*]*\)|\s*\{\s*\w+\s*\})?\s*)?\}")
+PUBLIC = re.compile(r"[ \t]*pub (?:const )?(?:unsafe )?(fn|struct|enum|trait|const|static|type) (\w+)")
+PASSES_ON = re.compile(r"\{(?:[\w.:&*]+(?:::<\w+>)?(?:\([\w\s,&.*]*\)|\{\w+\})?)?\}")
 LINK = re.compile(r"\]\(([^)#:\s]+)(?:#[^)]*)?\)")
 TEXTS = (".md", ".rt", ".antt", ".edit", ".py", ".sh", ".txt")
 # phrases that are not plain English, and what to write instead
@@ -54,12 +55,14 @@ def undocumented(path, text):
     lines = text.split("\n")
     if not text.startswith("//!"):
         yield f"{path}: the first line doesn't say what the module is"
-    for item in PUBLIC.finditer(without_tests(blanked(text))):
-        above = text.count("\n", 0, item.start()) - 1
+    file = file_of("", path, text)
+    skipped = {file.line(file.words[at].start) for first, end in file.skipped for at in range(first, end)}
+    for number, line in enumerate(lines):
+        item, above = PUBLIC.match(line), number - 1
         while above >= 0 and lines[above].strip().startswith("#["):
             above -= 1
-        if above < 0 or not lines[above].strip().startswith("///"):
-            yield f"{path}:{text.count(chr(10), 0, item.start()) + 1}: {item[1]} {item[2]} has no doc comment"
+        if item and number + 1 not in skipped and (above < 0 or not lines[above].strip().startswith("///")):
+            yield f"{path}:{number + 1}: {item[1]} {item[2]} has no doc comment"
 
 
 def too_long(path, text, is_tests):
@@ -67,10 +70,10 @@ def too_long(path, text, is_tests):
     count = text.count("\n") + 1
     if count > LONGEST_FILE:
         yield f"{path}: {count} lines"
-    for function in [] if is_tests else functions(without_tests(blanked(text))):
-        length = function.body.count("\n") + 1
-        if length > LONGEST_FUNCTION:
-            yield f"{path}:{function.line}: {function.name} has {length} lines"
+    for function in [] if is_tests else file_of("", path, text).functions:
+        length = function.body and text.count("\n", function.file.words[function.body[0]].start, function.end) + 1
+        if length and length > LONGEST_FUNCTION:
+            yield f"{function.where}: {function.name} has {length} lines"
 
 
 def unplain(path, text):
@@ -82,20 +85,8 @@ def unplain(path, text):
             yield f"{path}:{text.count(chr(10), 0, found.start()) + 1}: says `{phrase}`; write `{instead}`"
 
 
-def functions_by_path(sources):
-    """Returns the functions of a crate, tests left out, by their file and place, each with the type that it belongs to."""
-    found = {}
-    for path, text in sources.items():
-        plain = without_tests(blanked(text))
-        blocks = list(owners(plain))
-        for function in functions(plain):
-            around = [block for block in blocks if block[0] < function.start < block[1]]
-            found[path, function.start] = (around[-1][2] if around else "", function)
-    return found
-
-
 def changed_functions(top, crate, sources, found):
-    """Returns the files and places of the functions in which the crate's edits change something."""
+    """Returns those of the crate's functions in which its edits change something."""
     changed = set()
     folder = os.path.join(top, "crates", crate, "must-fail")
     for name in sorted(os.listdir(folder)) if os.path.isdir(folder) else []:
@@ -103,54 +94,39 @@ def changed_functions(top, crate, sources, found):
         path = f"crates/{crate}/" + next((line[len("file: "):] for line in lines if line.startswith("file: ")), "")
         text = sources.get(path, "")
         places = [text.find(line[len("old: "):]) for line in lines if line.startswith("old: ")]
-        for (file, start), (_, function) in found.items():
-            if file == path and any(start <= place < function.end for place in places):
-                changed.add((file, start))
+        changed.update(it for it in found if it.file.path == path and any(it.start <= place < it.end for place in places))
     return changed
 
 
-def field_types(sources):
-    """Returns the type of each field of the crate's structs, by the struct and the field."""
-    types = {}
-    for text in sources.values():
-        plain = without_tests(blanked(text))
-        for struct in re.finditer(r"\bstruct\s+(\w+)[^;{]*\{", plain):
-            fields = plain[struct.end():closed(plain, struct.end() - 1)]
-            for field in re.finditer(r"\b(\w+)\s*:\s*(?:&\s*(?:'\w+\s*)?)?(?:\w+::)*(\w+)", fields):
-                types[struct[1], field[1]] = field[2]
-    return types
-
-
-def called_functions(path, owner, function, found, fields):
-    """Returns the files and places of the functions of the crate that a body calls, as far as the text tells them."""
+def called_functions(function, found, fields):
+    """Returns those of the crate's functions that a body calls, as far as the text tells them."""
     called = set()
-    for call in re.finditer(r"(?:\b(\w+)\s*(?:::<[^>]*>)?(::|\.)\s*)?\b(\w+)\s*(?:::<[^>]*>)?\(", function.body):
+    for call in re.finditer(r"(?:\b(\w+)(?:::<[^>]*>)?(::|\.))?\b(\w+)(?:::<[^>]*>)?\(", function.text):
         before, by, name = call.groups()
-        named = [(key, its) for key, (its, other) in found.items() if other.name == name]
-        of = owner if before in ("self", "Self") else before if by == "::" else fields.get((owner, before))
-        exact = [key for key, its in named if its == of] if of else []
-        own_file = [key for key, its in named if not its and key[0] == path] if not by else []
-        named_once = [key for key, _ in named] if len(named) == 1 else []
-        called.update(exact or own_file or named_once)
+        named = [it for it in found if it.name == name]
+        of = function.holder if before in ("self", "Self") else before if by == "::" else fields.get((function.holder, before))
+        exact = [it for it in named if it.holder == of] if of else []
+        own_file = [it for it in named if not it.owner and it.file is function.file] if not by else []
+        called.update(exact or own_file or (named if len(named) == 1 else []))
     return called
 
 
 def without_wrong_body(top, crate, sources):
     """Yields a line for each public function that computes something and that no edit of the crate reaches."""
-    found = functions_by_path(sources)
-    fields = field_types(sources)
-    calls = {key: called_functions(key[0], owner, function, found, fields) for key, (owner, function) in found.items()}
+    files = [file_of(crate, path, text) for path, text in sources.items()]
+    found = [it for file in files for it in file.functions if it.body]
+    fields = {(struct.name, name): base(type_).name for file in files for struct in file.structs for name, type_, _ in struct.fields}
+    calls = {it: called_functions(it, found, fields) for it in found}
     reached = changed_functions(top, crate, sources, found)
     while True:
-        more = {key for key, called in calls.items() if called & reached} - reached
+        more = {it for it, called in calls.items() if called & reached} - reached
         if not more:
             break
         reached |= more
-    for key, (owner, function) in found.items():
-        computes = function.has_ensures and not PASSES_ON.fullmatch(function.body)
-        if function.is_public and computes and key not in reached:
-            whole = f"{owner}::{function.name}" if owner else function.name
-            yield f"{key[0]}:{function.line}: no wrong body reaches {whole}"
+    for it in found:
+        computes = any(word.text == "ensures" for word in it.clauses) and not PASSES_ON.fullmatch(it.text)
+        if it.is_public and computes and it not in reached:
+            yield f"{it.where}: no wrong body reaches {it.full_name}"
 
 
 def sources_of(top, crate, files):
@@ -182,7 +158,10 @@ def faults(top):
     if sorted(listed) != there:
         yield f"crates.txt lists {sorted(listed)}, and crates/ holds {there}"
     for crate in there:
-        yield from crate_faults(top, crate, files)
+        try:
+            yield from crate_faults(top, crate, files)
+        except Unread as form:
+            yield f"crates/{crate}: {form.what}, which `rattle_items.py` can't read"
     for path in files:
         if not path.endswith(TEXTS) and os.path.basename(path) not in ("test", "vers", "run"):
             continue
