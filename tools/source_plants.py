@@ -78,6 +78,7 @@ LOOPS = (
         "BothEnds::nth, which the counted body BothEnds::min calls, makes a counter",
         Body("SparseRSVec::rank1_counted", "let _least = self.iter1().min();"),
     ),
+    plant(f"{MINIMA} hands `get` of a list what is no number", Body(MINIMA, "let _entry = self.table.get(&self.items);")),
     plant(f"{MINIMA} asks a list by `iter`", Body(MINIMA, "let _count = self.table.as_slice().iter().count();")),
 )
 COMPARISONS = (
@@ -94,12 +95,14 @@ COMPARISONS = (
 )
 COUNTER = (
     plant(f"{RANK1} makes a counter", Body(RANK1, "let mut own = Tally::new();")),
+    plant(f"{RANK1} makes a counter", Body(RANK1, "let mut own = Tally { items: 0 };")),
     plant(f"{RANK1} makes a counter", Body(RANK1, "let _word = self.bits.limb(0, &mut Tally::new());")),
     plant(
         f"{RANK1} hands `CountedBits::limb` another counter than its own",
         Body(RANK1, "let _word = self.bits.limb(0, &mut self.spare);"),
     ),
     plant(f"{RANK1} has the counter `tally` alone", Body(RANK1, "let _word = self.bits.limb(0, &mut *tally);")),
+    plant(f"{RANK1} hands the counter to `n` of `twice`", Body(RANK1, "let _n = twice(tally);"), Beside(RANK1, "fn twice(n: u64) -> u64 { 2 * n }")),
     plant(f"{RANK1} has a path in angle brackets", Body(RANK1, "let mut own = <Tally>::new();")),
     plant("`= < Tally > ::` uses the counter's type", Body(RANK1, "let mut own = <Tally>::new();")),
     plant(f"{RANK1} gives the counter's name `tally` to another value", Body(RANK1, "let tally = &mut Tally::new();")),
@@ -138,6 +141,12 @@ OTHER_NAMES = (
     plant(f"{RANK0} {ALONE}", Body(RANK0, "let span = self;\nlet _zeros = span.rank0(place);")),
     plant(f"{RANK0} {ALONE}", Body(RANK0, "let RsVec { bits, .. } = self;")),
     plant(f"{RANK0} {ALONE}", Body(RANK0, "match self { RsVec { zeros, .. } => {} }")),
+    plant(f"{RANK0} puts {KEEPER} into `Some`", Body(RANK0, "if let Some(bits) = Some(&self.bits) {}")),
+    plant(
+        f"RsVec::part, which the counted body {RANK0} calls, answers {KEEPER}", Body(RANK0, "let _part = self.part();"),
+        Beside(RANK0, f"impl{ANY} RsVec<A> {{ fn part(&self) -> impl Sized {{ &self.bits }} }}"),
+    ),
+    plant("which these rules can't read", Beside(RANK0, "union Word { bits: u64 }")),
     plant(f"{RANK} takes {KEEPER} apart by a pattern", Body(RANK, "match self.high { RsVec { .. } => {} }")),
     plant(f"{RANK} gives {KEEPER} the name `high`", Body(RANK, "let high = &self.high;")),
     plant(f"{RANK0} has a pattern of a list", Body(RANK0, "let [_first, ..] = self.blocks.as_slice() else { return 0; };")),
@@ -305,6 +314,7 @@ VECTORS = (
     plant(f"{READ} writes to `block_entries` of the counter", Instead(READ, RAISE, "tally.block_entries = 1;")),
     plant(f"{READ} writes to `block_entries` of the counter", Instead(READ, "saturating_add(1)", "saturating_add(u64::from(k as u32))")),
     plant(f"{READ} reads in a loop", Body(READ, "for j in 0..k { let _entry = self.entries[j]; }")),
+    plant(f"{READ} takes a part of the list", Body(READ, "let _part = &self.entries[1..];")),
     plant(f"{READ} asks its list by `iter`", Body(READ, "let _count = self.entries.iter().count();")),
     plant(f"{READ} hands on `self.entries` whole", Body(READ, "let list = &self.entries;")),
     plant(f"{READ} has `self` alone", Body(READ, "let BlockEntries { entries } = self;")),
@@ -315,6 +325,7 @@ VECTORS = (
     plant(f"{READ} is handed no counter", Instead(READ, "k: usize, tally: &mut Tally", "k: usize")),
     plant("CountedBits::is_one reads 2 times and raises the counter by 1", Body("CountedBits::is_one", "let _word = self.bits.limb(0);")),
     plant("BlockEntries::len reads an entry without the counter", Body("BlockEntries::len", "let _first = self.entries[0];")),
+    plant("BlockEntries::len calls a function", Body("BlockEntries::len", "let _n = twice(0);")),
     plant("BlockEntries.entries can be read from outside", Instead("BlockEntries", "entries: Vec<u16, A>", "pub entries: Vec<u16, A>")),
     plant("BlockEntries.entries keeps `Vec<[u16; 16], A>`", Instead("BlockEntries", "entries: Vec<u16, A>", "entries: Vec<[u16; 16], A>")),
 )
@@ -326,6 +337,7 @@ QUERIES = (
     plant(NOT_PLAIN, Instead("RsVec::rank1", ASKED, "self.rank1_counted(self.bits.as_bit_vec().len(), &mut tally)")),
     plant(NOT_PLAIN, Instead("RsVec::rank1", ASKED, "self.rank1_counted(place, &mut spare)")),
     plant(NOT_PLAIN, Instead("RsVec::rank1", "let mut tally = Tally::new();", ""), Instead("RsVec::rank1", ASKED, "self.rank1(place)")),
+    plant(NOT_PLAIN, Body("RsVec::rank1", "let _word = word_of!(self);")),
     plant(NOT_PLAIN, Body("RsVec::rank1", "let _word = self.bits.as_bit_vec().limb(0);")),
 )
 # sources of items, which read a list that they borrow or own by a trait's call that hands it out
