@@ -8,10 +8,13 @@ from source_model import (
     BITS, COUNTER_TYPE, COUNTERS, KEEPER, LANES, LISTS, NUMBER, NUMBERS, WRAPPERS, Scope,
 )
 
-# plain lists of numbers that index types may keep, by the type and the field: reading them counts nothing
+# plain lists of numbers that index types may keep, by the type and the field: reading them counts nothing; a struct that is
+# an entry of one stands here with all its fields
 TABLES = {
     "BinaryRmq": {"table": "Vec<u32, A>"},
-    "FastRmq": {"places": "Vec<u8, A>", "prefix_masks": "Vec<u128, A>", "suffix_masks": "Vec<u128, A>"},
+    "FastRmq": {"places": "Vec<u8, A>", "masks": "Vec<BlockMasks, A>"},
+    "BlockMasks": {"whole": "Masks", "parts": "Masks"},
+    "Masks": {"prefixes": "u128", "suffixes": "u128"},
 }
 ALLOWED = (
     "numbers, the allocator, spans, counted vectors, types with a `heap_size` and lists of them, structs and enums of these, "
@@ -85,13 +88,15 @@ class Keeping:
             yield from self.of_type(kept, scope, path, is_borrowed, around + (any_of,))
 
     def holds_numbers(self, type_, scope):
-        """Whether a table's entries are numbers, arrays of numbers, or structs of such."""
+        """Whether a table's entries are numbers, arrays of numbers, or structs of such that are named with all their fields."""
         type_ = base(type_)
         if type_.name in LISTS:
             return bool(type_.args) and self.holds_numbers(type_.args[0], scope)
         struct = self.library.structs.get(type_.name)
         if struct:
-            return all(self.holds_numbers(it, scope) and it.name != "Vec" for it in self.library.fields(type_, scope).values())
+            fields = self.library.fields(type_, scope)
+            is_named = {name: str(it) for name, it in fields.items()} == self.tables.get(struct.name)
+            return is_named and all(self.holds_numbers(it, scope) for it in fields.values())
         return bool(NUMBERS.fullmatch(type_.name))
 
 

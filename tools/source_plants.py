@@ -271,6 +271,8 @@ KEPT = (
     plant("EliasFanoVec.nodes keeps `CountedNodes<[u64; 64], A>`", Field("EliasFanoVec", "nodes: CountedNodes<[u64; 64], A>,")),
     plant("BinaryRmq.table keeps `Vec<u64, A>`", Instead("BinaryRmq", "table: Vec<u32, A>", "table: Vec<u64, A>")),
     plant("BinaryRmq.lower keeps `Vec<u32, A>`", Field("BinaryRmq", "lower: Vec<u32, A>,")),
+    plant("FastRmq.masks keeps `Vec<BlockMasks, A>`", Field("BlockMasks", "items: [u64; 128],")),
+    plant("FastRmq.masks keeps `Vec<BlockMasks, A>`", Instead("Masks", "prefixes: u128", "prefixes: u64")),
     plant("TABLES names BinaryRmq.table", Instead("BinaryRmq", "table: Vec<u32, A>", "places: Vec<u32, A>")),
     plant("heap_size of RsVec leaves out self.more", Field("RsVec", "more: BlockEntries<A>,")),
     plant(
