@@ -5,6 +5,7 @@
 - Files stay below 800 lines, and functions below 60, but for tests, which may list many cases.
 - `crates.txt` lists the folders of `crates/`, each once.
 - Nothing cites a label of a paper or a path of one machine, and the links of the documents lead somewhere.
+- Each word of a crate's `specs/` that the contract of a public function cites stands in `docs/DEFINITIONS.md`, in backticks.
 - Documents and comments are in plain English: `UNPLAIN` has the phrases that aren't, with those to write instead.
 
 Exit status 1 where a rule is broken, with a line for each place. `--self-test` breaks each rule in a small
@@ -30,6 +31,8 @@ LABEL = re.compile(r"(?<![\w-])[DFRTW][12]?\d(?![\w-])")
 MACHINE_PATH = re.compile(r"(?<![\w./-])/(?:work|opt|tmp|home|root|srv)/")
 PUBLIC = re.compile(r"[ \t]*pub (?:const )?(?:unsafe )?(fn|struct|enum|trait|const|static|type) (\w+)")
 PASSES_ON = re.compile(r"\{(?:[\w.:&*]+(?:::<\w+>)?(?:\([\w\s,&.*]*\)|\{\w+\})?)?\}")
+SPECS = re.compile(r"\bghost use Rattle\.(?!std\b)\w+\.specs\.(?!declared\b)[\w.]+\.\{([^}]*)\}")
+DEFINITIONS = "docs/DEFINITIONS.md"
 LINK = re.compile(r"\]\(([^)#:\s]+)(?:#[^)]*)?\)")
 TEXTS = (".md", ".rt", ".antt", ".edit", ".py", ".sh", ".txt")
 # phrases that are not plain English, and what to write instead
@@ -142,6 +145,46 @@ def crate_faults(top, crate, files):
             yield from undocumented(path, text)
 
 
+def public_files(crate, sources):
+    """Returns the paths of a library's files that are public modules, down from its `lib.rt`."""
+    found = {f"crates/{crate}/src/lib.rt"} & set(sources)
+    queue = list(found)
+    while queue:
+        path = queue.pop()
+        folder = os.path.dirname(path) if path.endswith("/lib.rt") else path[:-len(".rt")]
+        below = {f"{folder}/{name}.rt" for name in re.findall(r"(?m)^pub mod (\w+);", sources[path])}
+        queue += (below & set(sources)) - found
+        found |= below & set(sources)
+    return found
+
+
+def public_functions(crate, sources):
+    """Yields a library's functions that can be called from outside: by their module, or by that of their type or trait."""
+    parsed, public = [file_of(crate, path, text) for path, text in sources.items()], public_files(crate, sources)
+    exported = set(re.findall(r"\w+", " ".join(it for path in public for it in re.findall(r"\bpub use ([^;]*);", sources[path]))))
+    named = [it for file in parsed for it in file.structs + file.traits if it.is_public]
+    shown = {it.name for it in named if it.file.path in public or it.name in exported}
+    for function in [it for file in parsed for it in file.functions]:
+        is_open = function.is_public or function.owner and function.owner.is_trait
+        is_free = not function.owner and (function.file.path in public or function.name in exported)
+        if is_open and (is_free or function.holder in shown):
+            yield function
+
+
+def undefined(crate, sources, defined):
+    """Yields a line for each word of `specs/` that the contract of a public function cites and that isn't defined."""
+    cited = {}
+    for function in public_functions(crate, sources):
+        imported = [it.split(" as ") for names in SPECS.findall(function.file.contents) for it in names.split(",")]
+        words = {names[-1].strip(): names[0].strip() for names in imported}
+        for before, word in zip(function.clauses, function.clauses[1:]):
+            if word.text in words and before.text != ".":
+                cited.setdefault(words[word.text], function)
+    for word, function in sorted(cited.items()):
+        if word not in defined:
+            yield f"{function.file.path}: {function.full_name} cites `{word}`, which {DEFINITIONS} doesn't define"
+
+
 def missing_wrong_bodies(top):
     """Yields a line for each public function of the repository at `top` that wants a wrong body."""
     files = listed_files(top)
@@ -157,9 +200,12 @@ def faults(top):
     there = sorted({path.split("/")[1] for path in files if path.startswith("crates/")})
     if sorted(listed) != there:
         yield f"crates.txt lists {sorted(listed)}, and crates/ holds {there}"
+    words = read(os.path.join(top, DEFINITIONS)) if DEFINITIONS in files else ""
+    defined = {word for text in re.findall(r"`([^`]*)`", words) for word in re.findall(r"\w+", text)}
     for crate in there:
         try:
             yield from crate_faults(top, crate, files)
+            yield from undefined(crate, sources_of(top, crate, files), defined)
         except Unread as form:
             yield f"crates/{crate}: {form.what}, which `rattle_items.py` can't read"
     for path in files:
@@ -182,7 +228,8 @@ GOOD = {
     "crates.txt": "low: # a comment\n",
     "README.md": "See [the page](docs/PAGE.md).\n",
     "docs/PAGE.md": "A page.\n",
-    "crates/low/src/lib.rt": "//! A crate.\n\n/// One more.\n#[inline]\npub fn next(x: u8) -> u8\n    ensures { result ≡ more x }\n{\n    helper(x) & 255\n}\n\nfn helper(x: u8) -> u8 {\n    x + 1\n}\n",
+    "docs/DEFINITIONS.md": "`more x` is the number after `x`.\n",
+    "crates/low/src/lib.rt": "//! A crate.\nghost use Rattle.low.specs.More.{more};\n\n/// One more.\n#[inline]\npub fn next(x: u8) -> u8\n    ensures { result ≡ more x }\n{\n    helper(x) & 255\n}\n\nfn helper(x: u8) -> u8 {\n    x + 1\n}\n",
     "crates/low/must-fail/off.edit": "file: src/lib.rt\nold:     x + 1\nnew:     x + 2\n",
 }
 # what is wanted to be said, and the change to the good repository that asks for it
@@ -195,6 +242,8 @@ BREAKS = {
     "crates.txt lists": ("crates.txt", "low:", "high:"),
     "cites F7": ("docs/PAGE.md", "A page.", "As F7 says."),
     "cites /srv/": ("docs/PAGE.md", "A page.", "In /srv/kit."),
+    "cites `more`": ("docs/DEFINITIONS.md", "`more x`", "More"),
+    "cites `less`": ("crates/low/src/lib.rt", "{more}", "{less as more}"),
     "leads nowhere": ("README.md", "docs/PAGE.md", "docs/NONE.md"),
     "says `at the most`": ("docs/PAGE.md", "A page.", "A page has at\nthe most one link."),
     "says `want of memory`": ("crates/low/src/lib.rt", "/// One more.\n", "/// One more. Err for want\n/// of memory.\n"),
