@@ -16,7 +16,7 @@ class Values:
     def __init__(self, library, function):
         self.library, self.function = library, function
         self.signature, self.scope = library.signature(function), library.scope(function)
-        self.faults, self.names, self.counter = [], [{}], ""
+        self.faults, self.names, self.counter, self.origins = [], [{}], "", {}
 
     def fault(self, node, what, allowed):
         """Notes a fault, and returns a value that causes no other."""
@@ -43,10 +43,14 @@ class Values:
         """Notes a local name with its value."""
         if name == self.counter:
             value = self.fault(node, f"gives the counter's name `{name}` to another value", "another name")
-        elif value.kind in (KEEPER, COUNTER, UNKNOWN):
+        elif value.kind in (KEEPER, COUNTER, UNKNOWN) and not self.is_lent(value):
             what = f"gives {KIND_NAMES[value.kind]} the name `{name}`"
             value = self.fault(node, what, "the field or the parameter itself, before `.` or as a whole argument")
         self.names[-1][name] = value
+
+    def is_lent(self, value):
+        """Whether a value is a reference to a counted vector or an index, which is used by a second name as by the first."""
+        return bool(value.type) and value.type.name == "&" and self.library.is_keeper(value.type, self.scope)
 
     def bind(self, pattern, value):
         """Notes the names of a pattern that takes a value apart."""
@@ -106,9 +110,20 @@ class Values:
 
     def leave(self, node):
         """Looks at an expression whose value the function answers."""
+        if self.hands_out_self(node):
+            return
         value, wanted = self.value(node), self.library.kind(self.signature.returns, self.scope)
         if value.kind > wanted and value.kind >= SHELF:
             self.fault(node, f"answers {KIND_NAMES[value.kind]}", "what the answer's type says")
+
+    def hands_out_self(self, node):
+        """Whether a body is `self` or `*self` alone, and answers a reference to the index that `self` is or refers to."""
+        while node and (node.kind == "block" and not node.statements or node.kind == "unary" and node.operator == "*"):
+            node = node.value if node.kind == "block" else node.of
+        returns, of = self.signature.returns, self.known("self")
+        is_self = bool(node) and bool(of) and node.kind == "path" and node.path == ["self"]
+        is_same = is_self and self.library.own(of.type, self.scope).name == self.library.own(returns, self.scope).name
+        return is_same and returns.name == "&" and self.library.is_keeper(returns, self.scope)
 
     def joined(self, values):
         """Returns what is known of a value that is one of several."""
@@ -227,7 +242,18 @@ class Values:
         if node.otherwise:
             self.value(node.otherwise)
         self.bind(node.pattern, value)
+        if node.pattern.kind == "bind":
+            self.origins[node.pattern.name] = self.source(node.value) if node.value else ""
         return NOTHING
+
+    def source(self, node):
+        """Returns the parameter, or the field of `self`, that an expression starts from; "" where there is none."""
+        while node.kind in ("borrow", "index", "field", "method"):
+            if node.kind == "field" and node.of.kind == "path" and node.of.path == ["self"]:
+                return f"self.{node.name}"
+            node = node.of
+        name = node.path[0] if node.kind == "path" else ""
+        return self.origins.get(name) or name
 
     def is_named(self, node):
         """Whether an expression only names a value that is there, as in `let _ = &self.len;`, which reads nothing."""

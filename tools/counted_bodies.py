@@ -11,7 +11,7 @@ A call in a counted body is one of these, and nothing else:
 """
 from body_values import ANYTHING, Values
 from rattle_bodies import body_of
-from rattle_types import Type, Unread
+from rattle_types import Type, Unread, base
 from source_model import (
     BITS, COUNTER, COUNTER_REFERENCE, COUNTER_TYPE, COUNTERS, KEEPER, KIND_NAMES, LANES, LIST, LISTS, NUMBER, NUMBERS, SHELF,
     UNKNOWN, Value,
@@ -188,14 +188,6 @@ class Checker(Values):
             if source and value.kind in (SHELF, KEEPER):
                 self.asked.add((source, function, name))
 
-    def source(self, node):
-        """Returns the parameter, or the field of `self`, that an expression starts from; "" where there is none."""
-        while node.kind in ("borrow", "index", "field", "method"):
-            if node.kind == "field" and node.of.kind == "path" and node.of.path == ["self"]:
-                return f"self.{node.name}"
-            node = node.of
-        return node.path[0] if node.kind == "path" else ""
-
 
 def takes_counter(library, function):
     """Whether a function takes the counter, and is none of the counted vectors' own."""
@@ -234,7 +226,7 @@ def body_faults(checks, callers):
 def asked_fields(library, checks):
     """Returns, as (type, field), the fields of which a counted body asks an index by a counted call of the index's own."""
     edges = {(function, source, called, name) for function, checker in checks.items() for source, called, name in checker.asked}
-    asks = {(function, source) for function, source, called, name in edges if name == "self" and has_heap_size(library, called)}
+    asks = {(function, source) for function, source, called, name in edges if name == "self" and is_index_call(library, called)}
     more = asks
     while more:
         more = {(function, source) for function, source, called, name in edges if (called, name) in asks} - asks
@@ -242,7 +234,7 @@ def asked_fields(library, checks):
     return {(library.signature(function).owner.name, source[len("self."):]) for function, source in asks if source.startswith("self.")}
 
 
-def has_heap_size(library, function):
-    """Whether a function belongs to an index type, which is one with a `heap_size`."""
+def is_index_call(library, function):
+    """Whether a function belongs to an index type."""
     owner = library.signature(function).owner
-    return bool(owner) and (owner.name, "heap_size") in library.methods
+    return bool(owner) and base(owner).name in library.indexes

@@ -5,13 +5,16 @@ import re
 
 from rattle_types import Type, base
 from source_model import (
-    BITS, COUNTER_REFERENCE, COUNTER_TYPE, COUNTERS, KEEPER, LANES, LISTS, NUMBER, NUMBERS, WRAPPERS, Scope,
+    BITS, COUNTER_TYPE, COUNTERS, KEEPER, LANES, LISTS, NUMBER, NUMBERS, WRAPPERS, Scope,
 )
 
-# plain lists of numbers that index types may keep, by the type and the field: reading them counts nothing
+# plain lists of numbers that index types may keep, by the type and the field: reading them counts nothing; a struct that is
+# an entry of one stands here with all its fields
 TABLES = {
     "BinaryRmq": {"table": "Vec<u32, A>"},
-    "FastRmq": {"places": "Vec<u8, A>", "prefix_masks": "Vec<u128, A>", "suffix_masks": "Vec<u128, A>"},
+    "FastRmq": {"places": "Vec<u8, A>", "masks": "Vec<BlockMasks, A>"},
+    "BlockMasks": {"whole": "Masks", "parts": "Masks"},
+    "Masks": {"prefixes": "u128", "suffixes": "u128"},
 }
 ALLOWED = (
     "numbers, the allocator, spans, counted vectors, types with a `heap_size` and lists of them, structs and enums of these, "
@@ -31,23 +34,18 @@ class Keeping:
     """What the types of a library keep."""
 
     def __init__(self, library, tables):
-        self.library, self.tables = library, tables
-        self.indexes = {holder for holder, name in library.methods if name == "heap_size" and self.crate(holder) != BITS}
-
-    def crate(self, name):
-        struct = self.library.structs.get(name)
-        return struct.file.crate if struct else ""
+        self.library, self.tables, self.indexes = library, tables, library.indexes
 
     def leaves(self, struct):
         """Yields what a struct or an enum keeps, numbers and allocators left out."""
         names = tuple(Type(it.name) for it in struct.generics)
-        yield from self.inside(Type(self.library.key(struct), names), Scope(None, struct.bounds()), (), False, ())
+        yield from self.inside(Type(self.library.key(struct), names), Scope(None, struct.bounds(), struct.file), (), False, ())
 
     def inside(self, type_, scope, path, is_borrowed, around):
         """Yields what the fields of a type keep."""
         struct = self.library.structs[type_.name]
         tables = self.tables.get(struct.name, {})
-        inner = Scope(None, {**scope.bounds, **struct.bounds()})
+        inner = Scope(None, {**scope.bounds, **struct.bounds()}, struct.file)
         for name, field in self.library.fields(type_, scope).items():
             step = path if "." in name else path + (name,)
             if name in tables and str(field) == tables[name] and self.holds_numbers(field, inner):
@@ -61,8 +59,9 @@ class Keeping:
         type_ = base(type_)
         bounds = scope.bounds.get(type_.name)
         if bounds is not None:
-            if "Allocator" not in bounds and not any(self.is_counted_trait(it) for it in bounds):
-                yield Kept(path, type_, OTHER, is_borrowed)
+            yield from self.of_parameter(type_, scope, path, is_borrowed, around)
+        elif type_.name == "PhantomData":
+            return
         elif self.library.is_vector(type_):
             is_plain = all(self.library.kind(it, scope) == NUMBER and not LANES.fullmatch(it.name) for it in type_.args)
             yield Kept(path, type_, VECTOR if is_plain else OTHER, is_borrowed)
@@ -76,19 +75,28 @@ class Keeping:
         elif LANES.fullmatch(type_.name) or not NUMBERS.fullmatch(type_.name):
             yield Kept(path, type_, LANE if LANES.fullmatch(type_.name) else OTHER, is_borrowed)
 
-    def is_counted_trait(self, name):
-        """Whether a trait of these crates has a call that takes the counter, so that its types are looked at by themselves."""
-        calls = [it for (owner, _), found in self.library.methods.items() if owner == name for it in found]
-        return name in self.library.traits and any(type_ == COUNTER_REFERENCE for it in calls for _, type_ in it.parameters)
+    def of_parameter(self, type_, scope, path, is_borrowed, around):
+        """Yields what a value of a parameter's type keeps: what all types keep that have its trait of these crates."""
+        bounds = scope.bounds[type_.name]
+        traits = self.library.with_supertraits(bounds)
+        if not traits and "Allocator" not in bounds:
+            yield Kept(path, type_, OTHER, is_borrowed)
+        any_of = Type("impl", tuple(Type(it) for it in traits))
+        for file, owner in self.library.owners_of(traits, scope.file) if any_of not in around else ():
+            scope = Scope(None, {it.name: it.bounds for it in owner.generics if not it.is_const}, file)
+            kept = self.library.resolved(owner.type, file, scope.bounds)
+            yield from self.of_type(kept, scope, path, is_borrowed, around + (any_of,))
 
     def holds_numbers(self, type_, scope):
-        """Whether a table's entries are numbers, arrays of numbers, or structs of such."""
+        """Whether a table's entries are numbers, arrays of numbers, or structs of such that are named with all their fields."""
         type_ = base(type_)
         if type_.name in LISTS:
             return bool(type_.args) and self.holds_numbers(type_.args[0], scope)
         struct = self.library.structs.get(type_.name)
         if struct:
-            return all(self.holds_numbers(it, scope) and it.name != "Vec" for it in self.library.fields(type_, scope).values())
+            fields = self.library.fields(type_, scope)
+            is_named = {name: str(it) for name, it in fields.items()} == self.tables.get(struct.name)
+            return is_named and all(self.holds_numbers(it, scope) for it in fields.values())
         return bool(NUMBERS.fullmatch(type_.name))
 
 

@@ -25,21 +25,6 @@ class Node:
         self.kind, self.start, self.names = kind, start, tuple(parts)
         self.__dict__.update(parts)
 
-    def all(self):
-        """Yields the form and all forms in it."""
-        yield self
-        for name in self.names:
-            yield from forms_in(getattr(self, name))
-
-
-def forms_in(part):
-    """Yields the forms in a part, which may be a form, or a list or a tuple with forms in it."""
-    if isinstance(part, Node):
-        yield from part.all()
-    elif isinstance(part, (list, tuple)):
-        for one in part:
-            yield from forms_in(one)
-
 
 @lru_cache(maxsize=None)
 def body_of(function):

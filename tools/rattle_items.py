@@ -42,6 +42,15 @@ class Constant(NamedTuple):
     type: Type
 
 
+class Trait(NamedTuple):
+    """A trait: its file, its name, the traits that it stands on, and whether it is public."""
+
+    file: object
+    name: str
+    bounds: tuple
+    is_public: bool
+
+
 class Owner:
     """An `impl` or a `trait`: the type that it is of (a trait's own name), the trait's name or "", and its parameters."""
 
@@ -50,11 +59,12 @@ class Owner:
 
 
 class Function:
-    """A function: its owner or None, its parameters as (name, type) with `self` first, and where its body lies."""
+    """A function: its owner or None, its parameters as (name, type) with `self` first, the words of its clauses, and where
+    its body lies."""
 
     def __init__(self, file, owner, name, start, is_public):
         self.file, self.owner, self.name, self.start, self.is_public = file, owner, name, start, is_public
-        self.generics, self.parameters, self.returns, self.body = [], [], UNIT, None
+        self.generics, self.parameters, self.returns, self.clauses, self.body = [], [], UNIT, [], None
 
     @property
     def where(self):
@@ -80,6 +90,18 @@ class Function:
     def cursor(self):
         """Returns a cursor over the body, braces included."""
         return Cursor(self.file.words, self.file.closings, *self.body)
+
+    @property
+    def end(self):
+        """The place in the text behind the body."""
+        return self.file.words[self.body[1] - 1].start + 1
+
+    @property
+    def text(self):
+        """The body without comments and layout."""
+        words = self.file.words[slice(*self.body)]
+        spaced = [" " * (one.kind == other.kind == "name") + other.text for one, other in zip(words, words[1:])]
+        return words[0].text + "".join(spaced)
 
 
 class File:
@@ -160,7 +182,7 @@ def read_item(file, cursor, owner):
         read_struct(file, cursor, start, is_public)
     elif cursor.see("impl", "unsafe", "trait") and "fn" not in (cursor.text(1), cursor.text(2)):
         cursor.accept("unsafe")
-        read_owner(file, cursor)
+        read_owner(file, cursor, is_public)
     elif cursor.see("const", "static") and cursor.text(1) not in ("fn", "unsafe"):
         read_constant(file, cursor)
     elif cursor.accept("type"):
@@ -242,14 +264,14 @@ def read_variants(file, inside):
     return fields
 
 
-def read_owner(file, cursor):
+def read_owner(file, cursor, is_public):
     """Takes an `impl` or a `trait` with its items."""
     is_trait = cursor.take() == "trait"
     if is_trait:
         name, generics = cursor.name(), read_generics(cursor)
         bounds = [it.name for it in read_bounds(cursor)] if cursor.accept(":") else []
         owner = Owner(Type(name), name, generics + [Generic("Self", (name,) + tuple(bounds))], True)
-        file.traits.append((name, bounds))
+        file.traits.append(Trait(file, name, tuple(bounds), is_public))
     else:
         generics = read_generics(cursor)
         cursor.accept("!")
@@ -328,4 +350,5 @@ def pass_clauses(function, cursor):
             function.generics = function.generics + read_where(cursor)
         else:
             cursor.pass_to("{")
+            function.clauses += cursor.words[first:cursor.at]
             function.file.skipped.append((first, cursor.at))

@@ -1,10 +1,33 @@
-"""Tokens taken one after the other, and the types, parameters and bounds that are read so.
+"""The tokens of a .rt file, taken one after the other, and the types, parameters and bounds that are read so.
 
 A form that isn't known raises `Unread`, with its place.
 """
+import re
 from typing import NamedTuple
 
-from rattle_text import tokens
+TOKEN = re.compile(
+    r"""(?P<space>\s+|//[^\n]*|/\*.*?\*/)
+    |(?P<text>b?"(?:\\.|[^"\\])*"|b?'(?:\\.[^']*|[^'\\])')
+    |(?P<lifetime>'[^\W\d]\w*)
+    |(?P<name>[^\W\d]\w*)
+    |(?P<number>\d(?:\w|\.(?=\d))*)
+    |(?P<mark>::|->|=>|\.\.=|\.\.|==|!=|<=|&&|\|\||[-+*/%^&|]=|\S)""",
+    re.S | re.X,
+)
+
+
+class Token(NamedTuple):
+    """A word of the text, with its kind (name, number, text, lifetime or mark) and the place where it starts.
+    Each `>` is a token of its own, since it may close a list of types."""
+
+    kind: str
+    text: str
+    start: int
+
+
+def tokens(text):
+    """Returns the tokens of a text, without comments."""
+    return [Token(it.lastgroup, it[0], it.start()) for it in TOKEN.finditer(text) if it.lastgroup != "space"]
 
 OPENING, CLOSING = {"(": ")", "[": "]", "{": "}"}, {")", "]", "}"}
 

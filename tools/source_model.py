@@ -7,7 +7,7 @@ The kinds, from the harmless to the unknown:
 - a list: a plain list, or a struct that holds one;
 - a shelf: a list of keepers;
 - a keeper: a counted vector, or a value that holds or borrows one, as an index does and an iterator over it; and a value
-  of which generic code knows a trait of these crates;
+  of which generic code knows a trait of these crates, which stands for all types that have it;
 - the counter: what is behind a `&mut Tally`;
 - unknown: anything else.
 """
@@ -34,10 +34,11 @@ ANY_OF = ("impl", "dyn")
 
 
 class Scope(NamedTuple):
-    """What `Self` is where a type is written, and the bounds of the parameters in sight."""
+    """What `Self` is where a type is written, the bounds of the parameters in sight, and the file."""
 
     self_type: object
     bounds: dict
+    file: object
 
 
 class Value(NamedTuple):
@@ -96,11 +97,11 @@ class Library:
     """The files of all crates, and what their names stand for. Where several structs share a name, it is taken with its place."""
 
     def __init__(self, files):
-        self.files, self.kinds, self.meant, self.signatures, self.scopes = files, {}, {}, {}, {}
+        self.files, self.kinds, self.meant, self.signatures, self.scopes, self.named_traits = files, {}, {}, {}, {}, {}
         self.functions = [function for file in files for function in file.functions]
         self.traits = {}
-        for name, bounds in [it for file in files for it in file.traits]:
-            self.traits.setdefault(name, set()).update(bounds)
+        for trait in [it for file in files for it in file.traits]:
+            self.traits.setdefault(trait.name, []).append(trait)
         self.types, self.constants, self.free, self.methods, self.impls = {}, {}, {}, {}, {}
         for file in files:
             for type_ in file.structs + file.aliases:
@@ -114,6 +115,8 @@ class Library:
                 self.methods.setdefault((self.holder(function), function.name), []).append(function)
             else:
                 self.free.setdefault(function.name, []).append(function)
+        indexes = {holder for holder, name in self.methods if name == "heap_size"}
+        self.indexes = {it for it in indexes if it in self.structs and self.structs[it].file.crate != BITS}
         for file in files:
             for owner in file.owners:
                 self.impls.setdefault(self.resolved(owner.type, file, {}).name, set()).add(owner.trait)
@@ -160,7 +163,7 @@ class Library:
 
     def scope(self, function):
         if function not in self.scopes:
-            self.scopes[function] = Scope(self.signature(function).owner, function.bounds())
+            self.scopes[function] = Scope(self.signature(function).owner, function.bounds(), function.file)
         return self.scopes[function]
 
     def fields(self, type_, scope):
@@ -182,6 +185,22 @@ class Library:
     def is_vector(self, type_):
         """Whether a type is a counted vector."""
         return base(type_).name in self.vectors
+
+    def is_keeper(self, type_, scope):
+        """Whether a type is a counted vector or an index, or a reference to one."""
+        return self.own(type_, scope).name in self.vectors | self.indexes
+
+    def meant_traits(self, name, file):
+        """Returns the traits of these crates that a name may mean in a file."""
+        if (file, name) not in self.named_traits:
+            self.named_traits[file, name] = nearest(self.traits, file, name)
+        return self.named_traits[file, name]
+
+    def owners_of(self, names, file):
+        """Returns the impls of the traits that some names mean in a file, with their own files."""
+        traits = [it for name in names for it in self.meant_traits(name, file)]
+        owners = [(other, owner) for other in self.files for owner in other.owners]
+        return [it for it in owners if any(one in traits for one in self.meant_traits(it[1].trait, it[0]))]
 
     def constant(self, name, file):
         """Returns the type of a constant, or None."""
@@ -228,7 +247,7 @@ class Library:
             return UNKNOWN
         if type_ not in self.kinds:
             self.kinds[type_] = KEEPER
-            worst = self.worst(self.fields(type_, scope).values(), Scope(None, {**scope.bounds, **struct.bounds()}))
+            worst = self.worst(self.fields(type_, scope).values(), Scope(None, {**scope.bounds, **struct.bounds()}, struct.file))
             self.kinds[type_] = worst if worst < SHELF else KEEPER
         return self.kinds[type_]
 
@@ -255,13 +274,15 @@ class Library:
         found = []
         for bound in bounds:
             if bound in self.traits and bound not in found:
-                found += [bound] + [it for it in self.with_supertraits(sorted(self.traits[bound] - {bound})) if it not in found]
+                below = sorted({it for trait in self.traits[bound] for it in trait.bounds} - {bound})
+                found += [bound] + [it for it in self.with_supertraits(below) if it not in found]
         return found
 
     def calls_of_trait(self, trait, name):
         """Returns a trait's function and those that its impls write for it."""
         own = self.methods.get((trait, name), [])
-        return own + [it for it in self.functions if it.owner and it.owner.trait == trait and it.name == name and it not in own]
+        others = [it for it in self.functions if it.owner and it.owner.trait and it.name == name and it not in own]
+        return own + [it for it in others if any(one.name == trait for one in self.meant_traits(it.owner.trait, it.file))]
 
     def free_functions(self, path, file):
         """Returns the functions that a path may mean; where it has a module, all of the name."""

@@ -1,13 +1,12 @@
 """The self-test of the rules over the source text: faults that are planted, and what has to be said of each.
 
-A plant names the functions and the types that it changes. So it is planted twice: into the small crates of
-`small_crates.py`, which keep the rules and bear the same names, and into the sources themselves. A plant whose place is
-gone is an error. Those that only the small crates have a place for are listed apart.
+A plant names the functions and the types that it changes, in the sources or in the small crates of `small_crates.py`, which
+stand beside them and have the forms that the sources don't have. A plant whose place is gone is an error.
 """
 from typing import NamedTuple
 
 from rattle_items import file_of
-from small_crates import SMALL, SMALL_TABLES
+from small_crates import MORE, MORE_TABLES
 
 
 class Body(NamedTuple):
@@ -76,9 +75,10 @@ LOOPS = (
     plant(f"{RANK1} has a closure", Body(RANK1, "let _sum = self.bit_set_iter1().fold(0, |sum, place| sum + place);")),
     plant(f"{RANK1} asks {KEEPER} by `sum`, which its type doesn't have", Body(RANK1, "let _sum = self.bit_set_iter1().sum();")),
     plant(
-        "EliasFanoRefIter::nth, which the counted body EliasFanoRefIter::min calls, makes a counter",
+        "BothEnds::nth, which the counted body BothEnds::min calls, makes a counter",
         Body("SparseRSVec::rank1_counted", "let _least = self.iter1().min();"),
     ),
+    plant(f"{MINIMA} hands `get` of a list what is no number", Body(MINIMA, "let _entry = self.table.get(&self.items);")),
     plant(f"{MINIMA} asks a list by `iter`", Body(MINIMA, "let _count = self.table.as_slice().iter().count();")),
 )
 COMPARISONS = (
@@ -95,12 +95,14 @@ COMPARISONS = (
 )
 COUNTER = (
     plant(f"{RANK1} makes a counter", Body(RANK1, "let mut own = Tally::new();")),
+    plant(f"{RANK1} makes a counter", Body(RANK1, "let mut own = Tally { items: 0 };")),
     plant(f"{RANK1} makes a counter", Body(RANK1, "let _word = self.bits.limb(0, &mut Tally::new());")),
     plant(
         f"{RANK1} hands `CountedBits::limb` another counter than its own",
         Body(RANK1, "let _word = self.bits.limb(0, &mut self.spare);"),
     ),
     plant(f"{RANK1} has the counter `tally` alone", Body(RANK1, "let _word = self.bits.limb(0, &mut *tally);")),
+    plant(f"{RANK1} hands the counter to `n` of `twice`", Body(RANK1, "let _n = twice(tally);"), Beside(RANK1, "fn twice(n: u64) -> u64 { 2 * n }")),
     plant(f"{RANK1} has a path in angle brackets", Body(RANK1, "let mut own = <Tally>::new();")),
     plant("`= < Tally > ::` uses the counter's type", Body(RANK1, "let mut own = <Tally>::new();")),
     plant(f"{RANK1} gives the counter's name `tally` to another value", Body(RANK1, "let tally = &mut Tally::new();")),
@@ -139,6 +141,12 @@ OTHER_NAMES = (
     plant(f"{RANK0} {ALONE}", Body(RANK0, "let span = self;\nlet _zeros = span.rank0(place);")),
     plant(f"{RANK0} {ALONE}", Body(RANK0, "let RsVec { bits, .. } = self;")),
     plant(f"{RANK0} {ALONE}", Body(RANK0, "match self { RsVec { zeros, .. } => {} }")),
+    plant(f"{RANK0} puts {KEEPER} into `Some`", Body(RANK0, "if let Some(bits) = Some(&self.bits) {}")),
+    plant(
+        f"RsVec::part, which the counted body {RANK0} calls, answers {KEEPER}", Body(RANK0, "let _part = self.part();"),
+        Beside(RANK0, f"impl{ANY} RsVec<A> {{ fn part(&self) -> impl Sized {{ &self.bits }} }}"),
+    ),
+    plant("which these rules can't read", Beside(RANK0, "union Word { bits: u64 }")),
     plant(f"{RANK} takes {KEEPER} apart by a pattern", Body(RANK, "match self.high { RsVec { .. } => {} }")),
     plant(f"{RANK} gives {KEEPER} the name `high`", Body(RANK, "let high = &self.high;")),
     plant(f"{RANK0} has a pattern of a list", Body(RANK0, "let [_first, ..] = self.blocks.as_slice() else { return 0; };")),
@@ -259,12 +267,12 @@ KEPT = (
         Field("RsVec", "cache: Cache<A>,"),
         Beside("RsVec", f"struct Cache{ANY} {{ words: Vec<u64, A> }}\nmod other {{ struct Cache {{ word: u64 }} }}"),
     ),
-    plant("RsVecRefIter.seen keeps `Vec<u64, A>`", Field("RsVecRefIter", "seen: Vec<u64, A>,")),
-    plant("RsVecRefIter.seen keeps `[u64]`", Field("RsVecRefIter", "seen: &'a [u64],")),
     plant("EliasFanoVec.members keeps `Vec<u64, A>`", Field("EliasFanoVec", "members: Vec<u64, A>,")),
     plant("EliasFanoVec.nodes keeps `CountedNodes<[u64; 64], A>`", Field("EliasFanoVec", "nodes: CountedNodes<[u64; 64], A>,")),
     plant("BinaryRmq.table keeps `Vec<u64, A>`", Instead("BinaryRmq", "table: Vec<u32, A>", "table: Vec<u64, A>")),
     plant("BinaryRmq.lower keeps `Vec<u32, A>`", Field("BinaryRmq", "lower: Vec<u32, A>,")),
+    plant("FastRmq.masks keeps `Vec<BlockMasks, A>`", Field("BlockMasks", "items: [u64; 128],")),
+    plant("FastRmq.masks keeps `Vec<BlockMasks, A>`", Instead("Masks", "prefixes: u128", "prefixes: u64")),
     plant("TABLES names BinaryRmq.table", Instead("BinaryRmq", "table: Vec<u32, A>", "places: Vec<u32, A>")),
     plant("heap_size of RsVec leaves out self.more", Field("RsVec", "more: BlockEntries<A>,")),
     plant(
@@ -308,6 +316,7 @@ VECTORS = (
     plant(f"{READ} writes to `block_entries` of the counter", Instead(READ, RAISE, "tally.block_entries = 1;")),
     plant(f"{READ} writes to `block_entries` of the counter", Instead(READ, "saturating_add(1)", "saturating_add(u64::from(k as u32))")),
     plant(f"{READ} reads in a loop", Body(READ, "for j in 0..k { let _entry = self.entries[j]; }")),
+    plant(f"{READ} takes a part of the list", Body(READ, "let _part = &self.entries[1..];")),
     plant(f"{READ} asks its list by `iter`", Body(READ, "let _count = self.entries.iter().count();")),
     plant(f"{READ} hands on `self.entries` whole", Body(READ, "let list = &self.entries;")),
     plant(f"{READ} has `self` alone", Body(READ, "let BlockEntries { entries } = self;")),
@@ -318,6 +327,7 @@ VECTORS = (
     plant(f"{READ} is handed no counter", Instead(READ, "k: usize, tally: &mut Tally", "k: usize")),
     plant("CountedBits::is_one reads 2 times and raises the counter by 1", Body("CountedBits::is_one", "let _word = self.bits.limb(0);")),
     plant("BlockEntries::len reads an entry without the counter", Body("BlockEntries::len", "let _first = self.entries[0];")),
+    plant("BlockEntries::len calls a function", Body("BlockEntries::len", "let _n = twice(0);")),
     plant("BlockEntries.entries can be read from outside", Instead("BlockEntries", "entries: Vec<u16, A>", "pub entries: Vec<u16, A>")),
     plant("BlockEntries.entries keeps `Vec<[u16; 16], A>`", Instead("BlockEntries", "entries: Vec<u16, A>", "entries: Vec<[u16; 16], A>")),
 )
@@ -329,52 +339,99 @@ QUERIES = (
     plant(NOT_PLAIN, Instead("RsVec::rank1", ASKED, "self.rank1_counted(self.bits.as_bit_vec().len(), &mut tally)")),
     plant(NOT_PLAIN, Instead("RsVec::rank1", ASKED, "self.rank1_counted(place, &mut spare)")),
     plant(NOT_PLAIN, Instead("RsVec::rank1", "let mut tally = Tally::new();", ""), Instead("RsVec::rank1", ASKED, "self.rank1(place)")),
+    plant(NOT_PLAIN, Body("RsVec::rank1", "let _word = word_of!(self);")),
     plant(NOT_PLAIN, Body("RsVec::rank1", "let _word = self.bits.as_bit_vec().limb(0);")),
 )
-# what only the small crates have a place for: byte tables, lanes, nodes, lists of indexes
-SMALL_ALONE = (
-    plant("Tree.forward keeps `[u64; 512]`", Instead("Tree", "forward: [u64; 256]", "forward: [u64; 512]")),
-    plant("Tree::close_counted asks a list by `contains`", Body("Tree::close_counted", "let _is_there = self.forward.contains(&0);")),
-    plant("Tree::close_counted compares a list", Body("Tree::close_counted", "let _same = self.forward == self.forward;")),
-    plant(f"Tree::close_counted {NO_RANGE}", Body("Tree::close_counted", "for _entry in self.forward {}")),
-    plant("heap_size of Tree leaves out self.nodes", Instead("Tree::heap_size", "self.nodes.len()", "0")),
+# sources of items, which read a list that they borrow or own by a trait's call that hands it out
+ITEM_AT = "Bits::item_at"
+WORDS = f"pub struct Words{ANY} {{ words: Vec<u64, A>, bits: RsVec<A> }}"
+HANDED_OUT = "{ type Alloc = A; fn list(&self) -> &RsVec<A> { &self.bits } }"
+SOURCES = (
+    plant(f"RsVec::rank1, which the counted body {ITEM_AT} calls, makes a counter", Body(ITEM_AT, "let _one = self.list.list().rank1(i);")),
     plant(
-        "BlockEntries::read_16 reads 16 times and raises the counter by 1",
-        Instead("BlockEntries::read_16", "saturating_add(16)", "saturating_add(1)"),
+        "RsVec::rank1, which the counted body Bits::peek calls, makes a counter", Body(ITEM_AT, "let _one = self.peek();"),
+        Beside("Bits", "impl<L: Indexed> Bits<L> { fn peek(&self) -> usize { self.list.list().rank1(0) } }"),
     ),
     plant(
-        f"{RANK0} reads by `BlockEntries::as_slice` without the counter",
-        Body(RANK0, "let _lanes = u16x16::from_slice(self.blocks.as_slice());"),
+        "EliasFanoVec::rank, which the counted body Members::item_at calls, makes a counter",
+        Body("Members::item_at", "let other = self.list.list();\nlet _rank = other.rank(0);"),
+    ),
+    plant(f"{ITEM_AT} compares {KEEPER}", Body(ITEM_AT, "let other = self.list.list();\nlet _same = other == other;")),
+    plant(f"{ITEM_AT} {NO_RANGE}", Body(ITEM_AT, "let other = self.list.list();\nfor _bit in other {}")),
+    plant(f"{ITEM_AT} hands {KEEPER} to `u64::from`", Body(ITEM_AT, "let other = self.list.list();\nlet _number = u64::from(other);")),
+    plant(f"{ITEM_AT} takes {KEEPER} apart by a pattern", Body(ITEM_AT, "let other = self.list.list();\nlet RsVec { .. } = other;")),
+    plant(f"{ITEM_AT} gives {KEEPER} the name `other`", Body(ITEM_AT, "let other = self.list;")),
+    plant(f"{ITEM_AT} asks {KEEPER} by `first`, which its type doesn't have", Body(ITEM_AT, "let _first = self.list.first();")),
+    plant(f"{ITEM_AT} asks {KEEPER} by `sum`, which its type doesn't have", Body(ITEM_AT, "let _sum = self.list.list().sum();")),
+    plant(
+        f"RsVec::words, which the counted body {ITEM_AT} calls, {WHOLE}", Body(ITEM_AT, "let _word = self.list.list().words().limb(0);"),
+        Beside(RANK0, f"impl{ANY} RsVec<A> {{ fn words(&self) -> &BitVec<A> {{ self.bits.as_bit_vec() }} }}"),
     ),
     plant(
-        "Levels::rank_counted asks a list of indexes by `iter`",
-        Body("Levels::rank_counted", "let _count = self.levels.iter().count();"),
+        f"RsVec::words, which the counted body Listed::at calls, {WHOLE}",
+        Beside(RANK0, f"trait Worded {{ fn words(&self) -> &BitVec<Global>; }}\npub struct Listed<W: Worded> {{ list: W }}"),
+        Beside(RANK0, f"impl{ANY} Worded for RsVec<A> {{ fn words(&self) -> &BitVec<A> {{ self.bits.as_bit_vec() }} }}"),
+        Beside(RANK0, "impl<W: Worded> Listed<W> { fn at(&self, tally: &mut Tally) -> u64 { self.list.words().limb(0) } }"),
     ),
+    plant(
+        f"RsVec::words, which the counted body {RANK0} calls, {ALONE}", Body(RANK0, "let _word = self.words().limb(0);"),
+        Beside(RANK0, f"impl{ANY} RsVec<A> {{ fn words(&self) -> &BitVec<A> {{ self }} }}"),
+    ),
+    plant(
+        f"RsVec::words, which the counted body {RANK0} calls, {ALONE}", Body(RANK0, "let _word = self.words().sum();"),
+        Beside(RANK0, f"impl{ANY} RsVec<A> {{ fn words(&self) -> impl Iterator<Item = u64> {{ self }} }}"),
+    ),
+    plant("Bits.cache keeps `Vec<u64, L::Alloc>`", Field("Bits", "cache: Vec<u64, L::Alloc>,")),
+    plant("BothEnds.source.cache keeps `[u64]`", Field("Bits", "cache: &'static [u64],")),
+    plant("Places.last keeps `K`", Field("Places", "last: K,")),
+    plant("BothEnds.seen keeps `S::Item`", Field("BothEnds", "seen: S::Item,")),
+    plant("Bits.list.words keeps `Vec<u64, A>`", Beside("Bits", f"{WORDS}\nimpl{ANY} Indexed for Words<A> {HANDED_OUT}")),
+    plant(
+        "Bits.list.words keeps `Vec<u64, A>`",
+        Beside("RsVec", f"use iter::Indexed as Lent;\n{WORDS}\nimpl<'a, A: Allocator + Copy> Lent for &'a Words<A> {HANDED_OUT}"),
+    ),
+    plant("Bits.list keeps `T`", Beside("Bits", "impl<T: Send> Indexed for T { type Alloc = Global; fn list(&self) -> &RsVec<Global> { held() } }")),
+)
+# forms of the small crates: byte tables, lanes, nodes, lists of indexes
+CLOSE = "ByteTree::close_counted"
+SMALL = (
+    plant("ByteTree.forward keeps `[u64; 512]`", Instead("ByteTree", "forward: [u64; 256]", "forward: [u64; 512]")),
+    plant(f"{CLOSE} asks a list by `contains`", Body(CLOSE, "let _is_there = self.forward.contains(&0);")),
+    plant(f"{CLOSE} compares a list", Body(CLOSE, "let _same = self.forward == self.forward;")),
+    plant(f"{CLOSE} {NO_RANGE}", Body(CLOSE, "for _entry in self.forward {}")),
+    plant("heap_size of ByteTree leaves out self.nodes", Instead("ByteTree::heap_size", "self.nodes.len()", "0")),
+    plant(
+        "LaneEntries::read_16 reads 16 times and raises the counter by 1",
+        Instead("LaneEntries::read_16", "saturating_add(16)", "saturating_add(1)"),
+    ),
+    plant(
+        f"{CLOSE} reads by `LaneEntries::as_slice` without the counter",
+        Body(CLOSE, "let _lanes = u16x16::from_slice(self.lanes.as_slice());"),
+    ),
+    plant("Levels::rank_counted asks a list of indexes by `iter`", Body("Levels::rank_counted", "let _count = self.levels.iter().count();")),
     plant(f"Levels::rank_counted takes the whole of {KEEPER}", Body("Levels::rank_counted", "let _first = *self.levels[0];")),
     plant(
         "heap_size of Levels leaves out self.levels", Instead("Levels::heap_size", "self.levels.len()", "self.len"),
         Instead("Levels::heap_size", "self.levels[k].heap_size()", "k"),
     ),
-    plant("no counted body of Levels asks levels", Instead("below", "level.rank1_counted(place, tally)", "level.len()")),
+    plant("no counted body of Levels asks levels", Instead("below_level", "level.rank1_counted(place, tally)", "level.len()")),
     plant(
-        "RsVec::rank1, which the counted body RsVec::item_at calls, makes a counter",
-        Instead("RsVec::item_at", "self.rank1_counted(i, tally)", "self.rank1(i)"),
+        "no counted body of Single asks level", Instead("Single::rank_counted", "below_level(level, place, tally)", "level.len()"),
+        Instead("Single::rank_counted", "self.level().rank1_counted(place, tally)", "self.level().len()"),
     ),
 )
-EVERYWHERE = LOOPS + COMPARISONS + COUNTER + PLAIN_FORMS + OTHER_NAMES + FUNCTIONS + KEPT + VECTORS + QUERIES
+PLANTS = LOOPS + COMPARISONS + COUNTER + PLAIN_FORMS + OTHER_NAMES + FUNCTIONS + KEPT + VECTORS + QUERIES + SOURCES + SMALL
 
 
 def self_test(crates, faults):
-    """Plants each fault, and wants it found; nothing is said of the small crates without a plant."""
-    said = list(faults(SMALL, SMALL_TABLES))
-    assert not said, said
-    for one in EVERYWHERE + SMALL_ALONE:
-        try_plant(one, faults(planted(one, SMALL), SMALL_TABLES), ())
-    before = set(faults(crates))
-    for one in EVERYWHERE:
-        try_plant(one, faults(planted(one, crates)), before)
-    count = len(EVERYWHERE)
-    print(f"source rules: {count + len(SMALL_ALONE)} planted faults are found in small crates, and {count} of them in the sources")
+    """Plants each fault into the sources with the small crates beside them, of which nothing is said, and wants it found."""
+    said = set(faults(crates))
+    crates = {crate: {**crates.get(crate, {}), **MORE.get(crate, {})} for crate in set(crates) | set(MORE)}
+    before = set(faults(crates, MORE_TABLES))
+    assert before <= said, "\n".join(before - said)
+    for one in PLANTS:
+        try_plant(one, faults(planted(one, crates), MORE_TABLES), before)
+    print(f"source rules: {len(PLANTS)} planted faults are found")
 
 
 def try_plant(one, said, before):

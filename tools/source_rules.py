@@ -7,7 +7,8 @@ counters that keeps a list. An *index type* is one with a `heap_size`.
 
 1. In a counted body (`counted_bodies.py`, `body_values.py`)
    - `self` stands only as `self.`, where it holds a counted vector; a counted vector, an index, or a value that holds
-     one stands only before `.`, or as a whole argument for a parameter of its own type;
+     one stands only before `.`, or as a whole argument for a parameter of its own type; a call may hand out a reference
+     to an index, its own `self` or a field, and a reference to one may get a second name, which is used so too;
    - the counter stands only as a whole argument for a parameter `&mut Tally`, or before a call that raises it; none is made;
    - a call of a counted vector is handed the counter, or is `len`, `is_empty` or `allocator`; a call of a function of these
      crates is followed; any other call is handed numbers alone;
@@ -17,7 +18,8 @@ counters that keeps a list. An *index type* is one with a `heap_size`.
      macros, no `unsafe`, no items, no paths in angle brackets, no patterns of lists.
 2. What an index type keeps, and every type that counted bodies are asked of, with the structs and enums inside it, is
    numbers, the allocator, counted vectors, index types, lists of index types, and the tables of numbers that
-   `kept_types.TABLES` names. `heap_size` sums each of them that takes memory. A public type that owns a counted vector has
+   `kept_types.TABLES` names. A type parameter with a trait of these crates stands for all types that have it: each of
+   them is followed and looked at so. `heap_size` sums each of them that takes memory. A public type that owns a counted vector has
    a `heap_size`. Where an index type keeps another, some counted body asks that one by a counted call.
 3. In the crate of the counters (`counted_vectors.py`) a counted vector is taken apart in its own `impl`s alone. Its calls
    that are handed the counter raise it once a read; the others read no entry, or are those that hand on the whole.
@@ -28,8 +30,8 @@ counters that keeps a list. An *index type* is one with a `heap_size`.
 
 The forms are read by `rattle_items.py` and `rattle_bodies.py`, and `source_model.py` knows what names stand for. Exit
 status 1 where a rule is broken, with a line for each place: where it is, what stands there, and what is allowed instead.
-`--self-test` plants each fault (`source_plants.py`) into small crates that keep the rules and into the sources themselves,
-and wants every fault found.
+`--self-test` plants each fault (`source_plants.py`) into the sources, or into small crates beside them with the forms that
+they don't have (`small_crates.py`), and wants every fault found.
 """
 import os
 import sys

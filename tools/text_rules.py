@@ -5,6 +5,7 @@
 - Files stay below 800 lines, and functions below 60, but for tests, which may list many cases.
 - `crates.txt` lists the folders of `crates/`, each once.
 - Nothing cites a label of a paper or a path of one machine, and the links of the documents lead somewhere.
+- Each word of a crate's `specs/` that the contract of a public function cites stands in `docs/DEFINITIONS.md`, in backticks.
 - Documents and comments are in plain English: `UNPLAIN` has the phrases that aren't, with those to write instead.
 
 Exit status 1 where a rule is broken, with a line for each place. `--self-test` breaks each rule in a small
@@ -21,14 +22,17 @@ import subprocess
 import sys
 import tempfile
 
-from rattle_text import blanked, closed, functions, owners, without_tests
+from rattle_items import file_of
+from rattle_types import Unread, base
 
 LONGEST_FILE = 800
 LONGEST_FUNCTION = 60
 LABEL = re.compile(r"(?<![\w-])[DFRTW][12]?\d(?![\w-])")
 MACHINE_PATH = re.compile(r"(?<![\w./-])/(?:work|opt|tmp|home|root|srv)/")
-PUBLIC = re.compile(r"(?m)^[ \t]*pub (?:const )?(?:unsafe )?(fn|struct|enum|trait|const|static|type) (\w+)")
-PASSES_ON = re.compile(r"\{\s*(?:[\w.:&*]+(?:::<\w+>)?(?:\([\w\s,&.*]*\)|\s*\{\s*\w+\s*\})?\s*)?\}")
+PUBLIC = re.compile(r"[ \t]*pub (?:const )?(?:unsafe )?(fn|struct|enum|trait|const|static|type) (\w+)")
+PASSES_ON = re.compile(r"\{(?:[\w.:&*]+(?:::<\w+>)?(?:\([\w\s,&.*]*\)|\{\w+\})?)?\}")
+SPECS = re.compile(r"\bghost use Rattle\.(?!std\b)\w+\.specs\.(?!declared\b)[\w.]+\.\{([^}]*)\}")
+DEFINITIONS = "docs/DEFINITIONS.md"
 LINK = re.compile(r"\]\(([^)#:\s]+)(?:#[^)]*)?\)")
 TEXTS = (".md", ".rt", ".antt", ".edit", ".py", ".sh", ".txt")
 # phrases that are not plain English, and what to write instead
@@ -54,12 +58,14 @@ def undocumented(path, text):
     lines = text.split("\n")
     if not text.startswith("//!"):
         yield f"{path}: the first line doesn't say what the module is"
-    for item in PUBLIC.finditer(without_tests(blanked(text))):
-        above = text.count("\n", 0, item.start()) - 1
+    file = file_of("", path, text)
+    skipped = {file.line(file.words[at].start) for first, end in file.skipped for at in range(first, end)}
+    for number, line in enumerate(lines):
+        item, above = PUBLIC.match(line), number - 1
         while above >= 0 and lines[above].strip().startswith("#["):
             above -= 1
-        if above < 0 or not lines[above].strip().startswith("///"):
-            yield f"{path}:{text.count(chr(10), 0, item.start()) + 1}: {item[1]} {item[2]} has no doc comment"
+        if item and number + 1 not in skipped and (above < 0 or not lines[above].strip().startswith("///")):
+            yield f"{path}:{number + 1}: {item[1]} {item[2]} has no doc comment"
 
 
 def too_long(path, text, is_tests):
@@ -67,10 +73,10 @@ def too_long(path, text, is_tests):
     count = text.count("\n") + 1
     if count > LONGEST_FILE:
         yield f"{path}: {count} lines"
-    for function in [] if is_tests else functions(without_tests(blanked(text))):
-        length = function.body.count("\n") + 1
-        if length > LONGEST_FUNCTION:
-            yield f"{path}:{function.line}: {function.name} has {length} lines"
+    for function in [] if is_tests else file_of("", path, text).functions:
+        length = function.body and text.count("\n", function.file.words[function.body[0]].start, function.end) + 1
+        if length and length > LONGEST_FUNCTION:
+            yield f"{function.where}: {function.name} has {length} lines"
 
 
 def unplain(path, text):
@@ -82,20 +88,8 @@ def unplain(path, text):
             yield f"{path}:{text.count(chr(10), 0, found.start()) + 1}: says `{phrase}`; write `{instead}`"
 
 
-def functions_by_path(sources):
-    """Returns the functions of a crate, tests left out, by their file and place, each with the type that it belongs to."""
-    found = {}
-    for path, text in sources.items():
-        plain = without_tests(blanked(text))
-        blocks = list(owners(plain))
-        for function in functions(plain):
-            around = [block for block in blocks if block[0] < function.start < block[1]]
-            found[path, function.start] = (around[-1][2] if around else "", function)
-    return found
-
-
 def changed_functions(top, crate, sources, found):
-    """Returns the files and places of the functions in which the crate's edits change something."""
+    """Returns those of the crate's functions in which its edits change something."""
     changed = set()
     folder = os.path.join(top, "crates", crate, "must-fail")
     for name in sorted(os.listdir(folder)) if os.path.isdir(folder) else []:
@@ -103,54 +97,39 @@ def changed_functions(top, crate, sources, found):
         path = f"crates/{crate}/" + next((line[len("file: "):] for line in lines if line.startswith("file: ")), "")
         text = sources.get(path, "")
         places = [text.find(line[len("old: "):]) for line in lines if line.startswith("old: ")]
-        for (file, start), (_, function) in found.items():
-            if file == path and any(start <= place < function.end for place in places):
-                changed.add((file, start))
+        changed.update(it for it in found if it.file.path == path and any(it.start <= place < it.end for place in places))
     return changed
 
 
-def field_types(sources):
-    """Returns the type of each field of the crate's structs, by the struct and the field."""
-    types = {}
-    for text in sources.values():
-        plain = without_tests(blanked(text))
-        for struct in re.finditer(r"\bstruct\s+(\w+)[^;{]*\{", plain):
-            fields = plain[struct.end():closed(plain, struct.end() - 1)]
-            for field in re.finditer(r"\b(\w+)\s*:\s*(?:&\s*(?:'\w+\s*)?)?(?:\w+::)*(\w+)", fields):
-                types[struct[1], field[1]] = field[2]
-    return types
-
-
-def called_functions(path, owner, function, found, fields):
-    """Returns the files and places of the functions of the crate that a body calls, as far as the text tells them."""
+def called_functions(function, found, fields):
+    """Returns those of the crate's functions that a body calls, as far as the text tells them."""
     called = set()
-    for call in re.finditer(r"(?:\b(\w+)\s*(?:::<[^>]*>)?(::|\.)\s*)?\b(\w+)\s*(?:::<[^>]*>)?\(", function.body):
+    for call in re.finditer(r"(?:\b(\w+)(?:::<[^>]*>)?(::|\.))?\b(\w+)(?:::<[^>]*>)?\(", function.text):
         before, by, name = call.groups()
-        named = [(key, its) for key, (its, other) in found.items() if other.name == name]
-        of = owner if before in ("self", "Self") else before if by == "::" else fields.get((owner, before))
-        exact = [key for key, its in named if its == of] if of else []
-        own_file = [key for key, its in named if not its and key[0] == path] if not by else []
-        named_once = [key for key, _ in named] if len(named) == 1 else []
-        called.update(exact or own_file or named_once)
+        named = [it for it in found if it.name == name]
+        of = function.holder if before in ("self", "Self") else before if by == "::" else fields.get((function.holder, before))
+        exact = [it for it in named if it.holder == of] if of else []
+        own_file = [it for it in named if not it.owner and it.file is function.file] if not by else []
+        called.update(exact or own_file or (named if len(named) == 1 else []))
     return called
 
 
 def without_wrong_body(top, crate, sources):
     """Yields a line for each public function that computes something and that no edit of the crate reaches."""
-    found = functions_by_path(sources)
-    fields = field_types(sources)
-    calls = {key: called_functions(key[0], owner, function, found, fields) for key, (owner, function) in found.items()}
+    files = [file_of(crate, path, text) for path, text in sources.items()]
+    found = [it for file in files for it in file.functions if it.body]
+    fields = {(struct.name, name): base(type_).name for file in files for struct in file.structs for name, type_, _ in struct.fields}
+    calls = {it: called_functions(it, found, fields) for it in found}
     reached = changed_functions(top, crate, sources, found)
     while True:
-        more = {key for key, called in calls.items() if called & reached} - reached
+        more = {it for it, called in calls.items() if called & reached} - reached
         if not more:
             break
         reached |= more
-    for key, (owner, function) in found.items():
-        computes = function.has_ensures and not PASSES_ON.fullmatch(function.body)
-        if function.is_public and computes and key not in reached:
-            whole = f"{owner}::{function.name}" if owner else function.name
-            yield f"{key[0]}:{function.line}: no wrong body reaches {whole}"
+    for it in found:
+        computes = any(word.text == "ensures" for word in it.clauses) and not PASSES_ON.fullmatch(it.text)
+        if it.is_public and computes and it not in reached:
+            yield f"{it.where}: no wrong body reaches {it.full_name}"
 
 
 def sources_of(top, crate, files):
@@ -164,6 +143,46 @@ def crate_faults(top, crate, files):
         yield from too_long(path, text, crate.endswith("_tests"))
         if not os.path.basename(path) == "main.rt":
             yield from undocumented(path, text)
+
+
+def public_files(crate, sources):
+    """Returns the paths of a library's files that are public modules, down from its `lib.rt`."""
+    found = {f"crates/{crate}/src/lib.rt"} & set(sources)
+    queue = list(found)
+    while queue:
+        path = queue.pop()
+        folder = os.path.dirname(path) if path.endswith("/lib.rt") else path[:-len(".rt")]
+        below = {f"{folder}/{name}.rt" for name in re.findall(r"(?m)^pub mod (\w+);", sources[path])}
+        queue += (below & set(sources)) - found
+        found |= below & set(sources)
+    return found
+
+
+def public_functions(crate, sources):
+    """Yields a library's functions that can be called from outside: by their module, or by that of their type or trait."""
+    parsed, public = [file_of(crate, path, text) for path, text in sources.items()], public_files(crate, sources)
+    exported = set(re.findall(r"\w+", " ".join(it for path in public for it in re.findall(r"\bpub use ([^;]*);", sources[path]))))
+    named = [it for file in parsed for it in file.structs + file.traits if it.is_public]
+    shown = {it.name for it in named if it.file.path in public or it.name in exported}
+    for function in [it for file in parsed for it in file.functions]:
+        is_open = function.is_public or function.owner and function.owner.is_trait
+        is_free = not function.owner and (function.file.path in public or function.name in exported)
+        if is_open and (is_free or function.holder in shown):
+            yield function
+
+
+def undefined(crate, sources, defined):
+    """Yields a line for each word of `specs/` that the contract of a public function cites and that isn't defined."""
+    cited = {}
+    for function in public_functions(crate, sources):
+        imported = [it.split(" as ") for names in SPECS.findall(function.file.contents) for it in names.split(",")]
+        words = {names[-1].strip(): names[0].strip() for names in imported}
+        for before, word in zip(function.clauses, function.clauses[1:]):
+            if word.text in words and before.text != ".":
+                cited.setdefault(words[word.text], function)
+    for word, function in sorted(cited.items()):
+        if word not in defined:
+            yield f"{function.file.path}: {function.full_name} cites `{word}`, which {DEFINITIONS} doesn't define"
 
 
 def missing_wrong_bodies(top):
@@ -181,8 +200,14 @@ def faults(top):
     there = sorted({path.split("/")[1] for path in files if path.startswith("crates/")})
     if sorted(listed) != there:
         yield f"crates.txt lists {sorted(listed)}, and crates/ holds {there}"
+    words = read(os.path.join(top, DEFINITIONS)) if DEFINITIONS in files else ""
+    defined = {word for text in re.findall(r"`([^`]*)`", words) for word in re.findall(r"\w+", text)}
     for crate in there:
-        yield from crate_faults(top, crate, files)
+        try:
+            yield from crate_faults(top, crate, files)
+            yield from undefined(crate, sources_of(top, crate, files), defined)
+        except Unread as form:
+            yield f"crates/{crate}: {form.what}, which `rattle_items.py` can't read"
     for path in files:
         if not path.endswith(TEXTS) and os.path.basename(path) not in ("test", "vers", "run"):
             continue
@@ -203,7 +228,8 @@ GOOD = {
     "crates.txt": "low: # a comment\n",
     "README.md": "See [the page](docs/PAGE.md).\n",
     "docs/PAGE.md": "A page.\n",
-    "crates/low/src/lib.rt": "//! A crate.\n\n/// One more.\n#[inline]\npub fn next(x: u8) -> u8\n    ensures { result ≡ more x }\n{\n    helper(x) & 255\n}\n\nfn helper(x: u8) -> u8 {\n    x + 1\n}\n",
+    "docs/DEFINITIONS.md": "`more x` is the number after `x`.\n",
+    "crates/low/src/lib.rt": "//! A crate.\nghost use Rattle.low.specs.More.{more};\n\n/// One more.\n#[inline]\npub fn next(x: u8) -> u8\n    ensures { result ≡ more x }\n{\n    helper(x) & 255\n}\n\nfn helper(x: u8) -> u8 {\n    x + 1\n}\n",
     "crates/low/must-fail/off.edit": "file: src/lib.rt\nold:     x + 1\nnew:     x + 2\n",
 }
 # what is wanted to be said, and the change to the good repository that asks for it
@@ -216,6 +242,8 @@ BREAKS = {
     "crates.txt lists": ("crates.txt", "low:", "high:"),
     "cites F7": ("docs/PAGE.md", "A page.", "As F7 says."),
     "cites /srv/": ("docs/PAGE.md", "A page.", "In /srv/kit."),
+    "cites `more`": ("docs/DEFINITIONS.md", "`more x`", "More"),
+    "cites `less`": ("crates/low/src/lib.rt", "{more}", "{less as more}"),
     "leads nowhere": ("README.md", "docs/PAGE.md", "docs/NONE.md"),
     "says `at the most`": ("docs/PAGE.md", "A page.", "A page has at\nthe most one link."),
     "says `want of memory`": ("crates/low/src/lib.rt", "/// One more.\n", "/// One more. Err for want\n/// of memory.\n"),
