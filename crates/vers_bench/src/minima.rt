@@ -22,7 +22,7 @@ trait RangeMinima: Drop {
 
     /// The first place of a least item of a range, or the greatest number where there is no such
     /// range.
-    fn least(&self, first: usize, last: usize) -> usize;
+    fn first_least(&self, first: usize, last: usize) -> usize;
 
     /// How many items there are.
     fn count(&self) -> usize;
@@ -37,7 +37,7 @@ impl RangeMinima for FastRmq<Global> {
     }
 
     #[inline]
-    fn least(&self, first: usize, last: usize) -> usize {
+    fn first_least(&self, first: usize, last: usize) -> usize {
         if first <= last && last < self.len() {
             self.range_min(first, last)
         } else {
@@ -60,7 +60,7 @@ impl RangeMinima for BinaryRmq<Global> {
     }
 
     #[inline]
-    fn least(&self, first: usize, last: usize) -> usize {
+    fn first_least(&self, first: usize, last: usize) -> usize {
         if first <= last && last < self.len() {
             self.range_min(first, last)
         } else {
@@ -79,7 +79,7 @@ impl RangeMinima for BinaryRmq<Global> {
 
 /// A range of places, both included.
 #[derive(Clone, Copy, Drop)]
-struct Places {
+struct PlaceRange {
     first: usize,
     last: usize,
 }
@@ -87,8 +87,8 @@ struct Places {
 /// The ranges that are asked for: of any length, and of at most 64 items.
 #[derive(Drop)]
 struct Ranges {
-    wide: Vec<Places>,
-    short: Vec<Places>,
+    wide: Vec<PlaceRange>,
+    short: Vec<PlaceRange>,
 }
 
 fn wide_ranges(
@@ -96,12 +96,12 @@ fn wide_ranges(
     random: &mut Random,
     n: u64,
     count: usize,
-) -> Result<Vec<Places>, AllocError> {
+) -> Result<Vec<PlaceRange>, AllocError> {
     let mut ranges = Vec::with_capacity(alloc, count)?;
     for _ in 0..count {
         let one = random.below(n) as usize;
         let other = random.below(n) as usize;
-        ranges.push(Places {
+        ranges.push(PlaceRange {
             first: one.min(other),
             last: one.max(other),
         })?;
@@ -114,14 +114,14 @@ fn short_ranges(
     random: &mut Random,
     n: u64,
     count: usize,
-) -> Result<Vec<Places>, AllocError> {
+) -> Result<Vec<PlaceRange>, AllocError> {
     let mut ranges = Vec::with_capacity(alloc, count)?;
     for _ in 0..count {
         let first = random.below(n);
         let last = first
             .saturating_add(random.below(64))
             .min(n.saturating_sub(1));
-        ranges.push(Places {
+        ranges.push(PlaceRange {
             first: first as usize,
             last: last as usize,
         })?;
@@ -137,10 +137,10 @@ fn ranges_of(rt: &HostRuntime, n: usize, count: usize) -> io::Result<Ranges> {
 }
 
 #[inline(never)]
-fn least_pass<M: RangeMinima>(minima: &M, ranges: &[Places]) -> u64 {
+fn least_pass<M: RangeMinima>(minima: &M, ranges: &[PlaceRange]) -> u64 {
     let mut sum = 0;
     for range in ranges {
-        sum = fold(sum, minima.least(range.first, range.last) as u64);
+        sum = fold(sum, minima.first_least(range.first, range.last) as u64);
     }
     sum
 }

@@ -295,8 +295,7 @@ fn tried_into_places(heap: &Refusing<Global>, len: usize) -> Ending {
         return Ending::Wrong;
     };
     heap.start();
-    let ones = list.into_select_iter::<false>();
-    if ones.len() == ones_of(len) {
+    if list.into_iter1().count() == ones_of(len) {
         Ending::Done
     } else {
         Ending::Wrong
