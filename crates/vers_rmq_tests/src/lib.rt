@@ -5,10 +5,10 @@
 #![tactic(auto)]
 
 #[cfg(test)]
+mod memory;
+#[cfg(test)]
 mod minima;
 #[cfg(test)]
 mod queries;
-#[cfg(test)]
-mod refusals;
 #[cfg(test)]
 mod scans;
