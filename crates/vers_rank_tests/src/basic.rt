@@ -9,7 +9,7 @@ use vers_rank::fast_rs_vec::RsVec;
 use vers_rank::laws::bits_come_back;
 
 // Runs of equal bits, what is asked of the list, and the answers.
-const CASES: [(&[(bool, usize)], &[(Query, Option<u64>)]); 8] = [
+const CASES: [(&[(bool, usize)], &[(Query, Option<u64>)]); 9] = [
     (
         &[(false, 1), (true, 2), (false, 1)],
         &[
@@ -110,6 +110,16 @@ const CASES: [(&[(bool, usize)], &[(Query, Option<u64>)]); 8] = [
             (Query::Rank1(84_001), Some(4001)),
             (Query::Successor1(3999), Some(84_000)),
             (Query::Predecessor1(84_000), Some(3999)),
+        ],
+    ),
+    (
+        &[(true, 1), (false, 1), (true, 2), (false, 1)],
+        &[
+            (Query::Rank1(3), Some(2)),
+            (Query::Select0(1), Some(4)),
+            (Query::Successor1(0), Some(2)),
+            (Query::Predecessor0(9), Some(4)),
+            (Query::GetBits(1, 3), Some(6)),
         ],
     ),
 ];

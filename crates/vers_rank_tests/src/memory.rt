@@ -1,7 +1,7 @@
 //! Every call that takes memory, each of its requests refused in turn, and the calls that take none, of
 //! lists of every length.
 use crate::iterators::Walk;
-use crate::lists::{Look, bit_of, bits_of, list_10110, list_of};
+use crate::lists::{Look, bit_of, bits_of, list_of};
 use crate::queries::{answer, counted, queries_at};
 use std::alloc::{AllocError, Allocator, Global};
 use test_alloc::{
@@ -382,26 +382,4 @@ fn these_calls_take_no_memory(rt: HostRuntime) {
             );
         }
     }
-}
-
-// Whether queries and walks over 10110 answer.
-fn works<A: Allocator + Copy>(list: &RsVec<A>) -> bool {
-    list.rank1(3) == 2
-        && list.select0(1) == 4
-        && list.successor1(0) == Some(2)
-        && list.predecessor0(9) == Some(4)
-        && list.get_bits(1, 3) == Some(6)
-        && list.iter().last() == Some(0)
-        && list.iter1().clone().count() == 3
-        && list.bit_set_iter0().next() == Some(1)
-}
-
-fn tried_10110<B: Allocator, A: Allocator + Copy>(heap: &Refusing<B>, alloc: A) -> Ending {
-    try_use(heap, list_10110(alloc), |list: &mut RsVec<A>| works(list))
-}
-
-#[test]
-fn queries_of_a_small_list(rt: HostRuntime) {
-    let is_tried = |heap: &Refusing<Global>| tried_10110(heap, heap);
-    assert_eq!(rt; each_refused(rt.alloc(), is_tried), Ok(0));
 }

@@ -5,12 +5,12 @@
 #![tactic(auto)]
 
 #[cfg(test)]
+mod memory;
+#[cfg(test)]
 mod minima;
 #[cfg(test)]
 mod queries;
 #[cfg(test)]
 mod ranges;
-#[cfg(test)]
-mod refusals;
 #[cfg(test)]
 mod scans;

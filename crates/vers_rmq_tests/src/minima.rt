@@ -1,5 +1,5 @@
 //! Range minima of lists, and what is asked of them.
-ghost use Rattle.std.specs.Prelude.{◌^◌, ◌<◌, ◌≤◌, IsTrue};
+ghost use Rattle.std.specs.Prelude.{◌≡◌, ℕ, ◌^◌, ◌<◌, ◌≤◌, IsTrue, length};
 ghost use Rattle.std.specs.Range.Bound.{start_index, end_index};
 ghost use Rattle.vers_rmq.specs.Ranges.{start_place, end_place};
 
@@ -20,17 +20,57 @@ pub struct Found {
 /// What both types are asked. A query is asked only where its condition holds, and None is answered
 /// too where its counted form has another answer.
 pub trait RangeMinima: Drop {
+    ghost item_count: { Self → ℕ };
+
     fn numbers(&self) -> &[u64];
 
-    fn count(&self) -> usize;
+    fn count(&self) -> usize
+        ensures { result ≡ item_count self.now };
 
     fn has_none(&self) -> bool;
 
     fn bytes(&self) -> usize;
 
-    fn least(&self, i: usize, j: usize) -> Option<Found>;
+    // The query and its counted form, and both with ends.
+    fn place(&self, i: usize, j: usize) -> usize
+        requires order { i ≤ j }
+        requires inside { j < item_count self.now };
 
-    fn least_in(&self, start: Bound<usize>, end: Bound<usize>) -> Option<Found>;
+    fn place_counted(&self, i: usize, j: usize, tally: &mut Tally) -> usize
+        requires order { i ≤ j }
+        requires inside { j < item_count self.now };
+
+    fn place_in(&self, start: Bound<usize>, end: Bound<usize>) -> usize
+        requires some { 0 < item_count self.now }
+        requires start { start_index start < 2 ^ 64 }
+        requires end { 0 < end_index end (item_count self.now) }
+        requires order { start_place start (item_count self.now) ≤ end_place end (item_count self.now) };
+
+    fn place_in_counted(&self, start: Bound<usize>, end: Bound<usize>, tally: &mut Tally) -> usize
+        requires some { 0 < item_count self.now }
+        requires start { start_index start < 2 ^ 64 }
+        requires end { 0 < end_index end (item_count self.now) }
+        requires order { start_place start (item_count self.now) ≤ end_place end (item_count self.now) };
+
+    fn least(&self, i: usize, j: usize) -> Option<Found> {
+        if i > j || j >= self.count() {
+            return None;
+        }
+        let mut tally = Tally::new();
+        let place = self.place_counted(i, j, &mut tally);
+        let items = tally.items();
+        (self.place(i, j) == place).then(|| Found { place, items })
+    }
+
+    fn least_in(&self, start: Bound<usize>, end: Bound<usize>) -> Option<Found> {
+        if !may_ask(start, end, self.count()) {
+            return None;
+        }
+        let mut tally = Tally::new();
+        let place = self.place_in_counted(start, end, &mut tally);
+        let items = tally.items();
+        (self.place_in(start, end) == place).then(|| Found { place, items })
+    }
 }
 
 // Whether the ends may be asked of a list of `n` items.
@@ -67,6 +107,8 @@ fn may_ask(start: Bound<usize>, end: Bound<usize>, n: usize) -> bool
 }
 
 impl<A: Allocator + Copy> RangeMinima for BinaryRmq<A> {
+    ghost item_count = { λ items. length items };
+
     fn numbers(&self) -> &[u64] {
         self.as_slice()
     }
@@ -83,28 +125,26 @@ impl<A: Allocator + Copy> RangeMinima for BinaryRmq<A> {
         self.heap_size()
     }
 
-    fn least(&self, i: usize, j: usize) -> Option<Found> {
-        if i > j || j >= self.len() {
-            return None;
-        }
-        let mut tally = Tally::new();
-        let place = self.range_min_counted(i, j, &mut tally);
-        let items = tally.items();
-        (self.range_min(i, j) == place).then(|| Found { place, items })
+    fn place(&self, i: usize, j: usize) -> usize {
+        self.range_min(i, j)
     }
 
-    fn least_in(&self, start: Bound<usize>, end: Bound<usize>) -> Option<Found> {
-        if !may_ask(start, end, self.len()) {
-            return None;
-        }
-        let mut tally = Tally::new();
-        let place = self.range_min_with_range_counted(start, end, &mut tally);
-        let items = tally.items();
-        (self.range_min_with_range(start, end) == place).then(|| Found { place, items })
+    fn place_counted(&self, i: usize, j: usize, tally: &mut Tally) -> usize {
+        self.range_min_counted(i, j, tally)
+    }
+
+    fn place_in(&self, start: Bound<usize>, end: Bound<usize>) -> usize {
+        self.range_min_with_range(start, end)
+    }
+
+    fn place_in_counted(&self, start: Bound<usize>, end: Bound<usize>, tally: &mut Tally) -> usize {
+        self.range_min_with_range_counted(start, end, tally)
     }
 }
 
 impl<A: Allocator + Copy> RangeMinima for FastRmq<A> {
+    ghost item_count = { λ items. length items };
+
     fn numbers(&self) -> &[u64] {
         self.as_slice()
     }
@@ -121,24 +161,20 @@ impl<A: Allocator + Copy> RangeMinima for FastRmq<A> {
         self.heap_size()
     }
 
-    fn least(&self, i: usize, j: usize) -> Option<Found> {
-        if i > j || j >= self.len() {
-            return None;
-        }
-        let mut tally = Tally::new();
-        let place = self.range_min_counted(i, j, &mut tally);
-        let items = tally.items();
-        (self.range_min(i, j) == place).then(|| Found { place, items })
+    fn place(&self, i: usize, j: usize) -> usize {
+        self.range_min(i, j)
     }
 
-    fn least_in(&self, start: Bound<usize>, end: Bound<usize>) -> Option<Found> {
-        if !may_ask(start, end, self.len()) {
-            return None;
-        }
-        let mut tally = Tally::new();
-        let place = self.range_min_with_range_counted(start, end, &mut tally);
-        let items = tally.items();
-        (self.range_min_with_range(start, end) == place).then(|| Found { place, items })
+    fn place_counted(&self, i: usize, j: usize, tally: &mut Tally) -> usize {
+        self.range_min_counted(i, j, tally)
+    }
+
+    fn place_in(&self, start: Bound<usize>, end: Bound<usize>) -> usize {
+        self.range_min_with_range(start, end)
+    }
+
+    fn place_in_counted(&self, start: Bound<usize>, end: Bound<usize>, tally: &mut Tally) -> usize {
+        self.range_min_with_range_counted(start, end, tally)
     }
 }
 

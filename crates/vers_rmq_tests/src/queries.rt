@@ -3,7 +3,7 @@ use crate::minima::{RangeMinima, binary_of, binary_of_iter, fast_of, fast_of_ite
 use std::alloc::{AllocError, Allocator};
 use std::ops::Bound;
 use std::test::Fail;
-use vers_bits::bit_vec::GrowError;
+use test_alloc::{asked, first_wrong};
 
 // What is asked of a list.
 #[derive(Clone, Copy, Drop)]
@@ -14,45 +14,60 @@ enum Query {
     LeastIn(Bound<usize>, Bound<usize>),
 }
 
-// The items, what is asked, and the answers.
-const CASES: [(&[u64], &[Query], &[Option<usize>]); 4] = [
+// The items, what is asked and the answers.
+const CASES: [(&[u64], &[(Query, Option<usize>)]); 4] = [
     (
         &[],
         &[
-            Query::Len,
-            Query::IsEmpty,
-            Query::Least(0, 0),
-            Query::LeastIn(Bound::Unbounded, Bound::Unbounded),
+            (Query::Len, Some(0)),
+            (Query::IsEmpty, Some(1)),
+            (Query::Least(0, 0), None),
+            (Query::LeastIn(Bound::Unbounded, Bound::Unbounded), None),
         ],
-        &[Some(0), Some(1), None, None],
     ),
     (
         &[9, 6, 10, 4, 0, 8, 3, 7, 1, 2, 5],
         &[
-            Query::Len,
-            Query::IsEmpty,
-            Query::Least(0, 2),
-            Query::Least(5, 9),
-            Query::Least(9, 10),
-            Query::Least(0, 10),
+            (Query::Len, Some(11)),
+            (Query::IsEmpty, Some(0)),
+            (Query::Least(0, 2), Some(1)),
+            (Query::Least(5, 9), Some(8)),
+            (Query::Least(9, 10), Some(9)),
+            (Query::Least(0, 10), Some(4)),
         ],
-        &[Some(11), Some(0), Some(1), Some(8), Some(9), Some(4)],
     ),
     (
         &[5, 4, 3, 2, 1],
         &[
-            Query::LeastIn(Bound::Included(0), Bound::Excluded(3)),
-            Query::LeastIn(Bound::Included(0), Bound::Included(3)),
-            Query::LeastIn(Bound::Excluded(0), Bound::Included(3)),
-            Query::LeastIn(Bound::Unbounded, Bound::Excluded(usize::MAX)),
-            Query::LeastIn(Bound::Included(9), Bound::Unbounded),
+            (
+                Query::LeastIn(Bound::Included(0), Bound::Excluded(3)),
+                Some(2),
+            ),
+            (
+                Query::LeastIn(Bound::Included(0), Bound::Included(3)),
+                Some(3),
+            ),
+            (
+                Query::LeastIn(Bound::Excluded(0), Bound::Included(3)),
+                Some(3),
+            ),
+            (
+                Query::LeastIn(Bound::Unbounded, Bound::Excluded(usize::MAX)),
+                Some(4),
+            ),
+            (
+                Query::LeastIn(Bound::Included(9), Bound::Unbounded),
+                Some(4),
+            ),
         ],
-        &[Some(2), Some(3), Some(3), Some(4), Some(4)],
     ),
     (
         &[3, 1, 2, 1, 1],
-        &[Query::Least(0, 4), Query::Least(2, 4), Query::Least(4, 4)],
-        &[Some(1), Some(3), Some(4)],
+        &[
+            (Query::Least(0, 4), Some(1)),
+            (Query::Least(2, 4), Some(3)),
+            (Query::Least(4, 4), Some(4)),
+        ],
     ),
 ];
 
@@ -74,53 +89,49 @@ fn answer<R: RangeMinima>(minima: &R, query: Query) -> Option<usize> {
     }
 }
 
-// Appends the answers of queries.
-fn ask<R: RangeMinima, A: Allocator + Copy>(
+// The number of the first query of a list that is answered wrong.
+fn first_wrong_answer<R: RangeMinima>(
     minima: &R,
-    queries: &[Query],
-    found: &mut Vec<Option<usize>, A>,
-) -> Result<(), AllocError> {
-    for query in queries {
-        found.push(answer(minima, *query))?;
-    }
-    Ok(())
+    rows: &[(Query, Option<usize>)],
+) -> Option<usize> {
+    first_wrong(
+        minima,
+        rows,
+        |minima: &R, query: Query| answer(minima, query),
+    )
 }
 
-// The answers of both types, of their copies and of those by an iterator, one after another.
-fn answers_of_all<A: Allocator + Copy>(
-    alloc: A,
-    numbers: &[u64],
-    queries: &[Query],
-) -> Result<Vec<Option<usize>, A>, GrowError> {
-    let mut found = Vec::new(alloc);
-    let binary = binary_of(alloc, numbers)?;
-    ask(&binary, queries, &mut found)?;
-    ask(&binary.clone()?, queries, &mut found)?;
-    ask(&binary_of_iter(alloc, numbers)?, queries, &mut found)?;
-    let fast = fast_of(alloc, numbers)?;
-    ask(&fast, queries, &mut found)?;
-    ask(&fast.clone()?, queries, &mut found)?;
-    ask(&fast_of_iter(alloc, numbers)?, queries, &mut found)?;
-    Ok(found)
+// The same of a list that was made, and of its copy; as many as there are rows where there is no copy.
+fn first_wrong_of<R: RangeMinima + Clone, E>(
+    made: Result<R, E>,
+    rows: &[(Query, Option<usize>)],
+) -> Result<Option<usize>, E> {
+    asked(
+        made,
+        |minima: &R| first_wrong_answer(minima, rows).or(first_wrong_of_copy(minima, rows)),
+    )
 }
 
-// Whether the answers are the wanted ones six times, one after another.
-fn is_six_times(found: &[Option<usize>], wanted: &[Option<usize>]) -> bool {
-    let mut left = found;
-    for _ in 0..6 {
-        let Some(others) = left.strip_prefix(wanted) else {
-            return false;
-        };
-        left = others;
-    }
-    left.is_empty()
+fn first_wrong_of_copy<R: RangeMinima + Clone>(
+    minima: &R,
+    rows: &[(Query, Option<usize>)],
+) -> Option<usize> {
+    let copy: Result<_, _> = minima.clone();
+    asked(copy, |copy: &R| first_wrong_answer(copy, rows)).unwrap_or(Some(rows.len()))
 }
 
 #[test]
 fn queries_and_their_answers(rt: HostRuntime) -> Result<(), Fail> {
-    for (numbers, queries, wanted) in CASES {
-        let found = answers_of_all(rt.alloc(), numbers, queries)?;
-        assert!(rt; is_six_times(found.as_slice(), wanted));
+    let alloc = rt.alloc();
+    for (case, (numbers, rows)) in CASES.iter().enumerate() {
+        let wrong = first_wrong_of(binary_of(alloc, numbers), rows)?;
+        assert_eq!(rt; wrong, None, "case {case}, binary");
+        let wrong = first_wrong_of(binary_of_iter(alloc, numbers), rows)?;
+        assert_eq!(rt; wrong, None, "case {case}, binary of an iterator");
+        let wrong = first_wrong_of(fast_of(alloc, numbers), rows)?;
+        assert_eq!(rt; wrong, None, "case {case}, fast");
+        let wrong = first_wrong_of(fast_of_iter(alloc, numbers), rows)?;
+        assert_eq!(rt; wrong, None, "case {case}, fast of an iterator");
     }
     Ok(())
 }
@@ -132,30 +143,36 @@ fn sevens<A: Allocator + Copy>(alloc: A, n: usize) -> Result<Vec<u64, A>, AllocE
     Ok(numbers)
 }
 
-// The sizes of both types of `n` items.
-fn sizes_of<A: Allocator + Copy>(alloc: A, n: usize) -> Result<(usize, usize), AllocError> {
-    let numbers = sevens(alloc, n)?;
-    let binary = binary_of(alloc, numbers.as_slice())?;
-    let fast = fast_of(alloc, numbers.as_slice())?;
-    Ok((binary.heap_size(), fast.heap_size()))
-}
-
 #[test]
 fn sizes(rt: HostRuntime) -> Result<(), Fail> {
     for (n, binary, fast) in SIZES {
-        let found = sizes_of(rt.alloc(), n)?;
-        assert_eq!(rt; found.0, binary);
-        assert_eq!(rt; found.1, fast);
+        let numbers = sevens(rt.alloc(), n)?;
+        let bytes = asked(
+            binary_of(rt.alloc(), numbers.as_slice()),
+            |minima| minima.bytes(),
+        )?;
+        assert_eq!(rt; bytes, binary);
+        let bytes = asked(
+            fast_of(rt.alloc(), numbers.as_slice()),
+            |minima| minima.bytes(),
+        )?;
+        assert_eq!(rt; bytes, fast);
     }
     Ok(())
 }
 
 #[test]
 fn the_first_of_many_equal_items(rt: HostRuntime) -> Result<(), Fail> {
-    let numbers = sevens(rt.alloc(), 300)?;
-    let found = answers_of_all(rt.alloc(), numbers.as_slice(), &[Query::Least(5, 290)])?;
-    for place in found.as_slice() {
-        assert_eq!(rt; *place, Some(5));
-    }
+    let alloc = rt.alloc();
+    let numbers = sevens(alloc, 300)?;
+    let rows = [(Query::Least(5, 290), Some(5))];
+    let binary = first_wrong_of(binary_of(alloc, numbers.as_slice()), &rows)?;
+    assert_eq!(rt; binary, None);
+    let binary = first_wrong_of(binary_of_iter(alloc, numbers.as_slice()), &rows)?;
+    assert_eq!(rt; binary, None);
+    let fast = first_wrong_of(fast_of(alloc, numbers.as_slice()), &rows)?;
+    assert_eq!(rt; fast, None);
+    let fast = first_wrong_of(fast_of_iter(alloc, numbers.as_slice()), &rows)?;
+    assert_eq!(rt; fast, None);
     Ok(())
 }
