@@ -6,11 +6,12 @@ use Rattle.vers_cli.specs.declared.name.Name.TheVariants as name
 use Rattle.vers_cli.specs.declared.name.Query.{Query}
 use Rattle.vers_cli.specs.Text.{words_of}
 use Rattle.vers_cli.specs.Name.{name_of}
-use Rattle.vers_cli.specs.Holding.{Holding, Nothing, BitsHeld, SortedHeld, SparseHeld}
+use Rattle.vers_cli.specs.Holding.{Holding, Nothing, BitsHeld, SortedHeld, SparseHeld, ValuesHeld}
 use Rattle.vers_cli.specs.Reply.{PlainReply, BadLine, WrongStructure, reply_text}
 use Rattle.vers_cli.specs.BitsLines.{bits_reply}
 use Rattle.vers_cli.specs.SortedLines.{sorted_reply}
 use Rattle.vers_cli.specs.SparseLines.{sparse_reply}
+use Rattle.vers_cli.specs.ValuesLines.{values_reply}
 use Rattle.vers_cli.specs.Rules.{loaded, load_reply, IsQueryReply, IsReply}
 use Rattle.vers_cli.specs.Answers.{IsAnswerToWords, IsAnswerTo, holding_after, AnswersLines, holding_after_all}
 
@@ -35,6 +36,7 @@ some_query_reply Nothing q arguments = (WrongStructure, refl)
 some_query_reply (BitsHeld bits) q arguments = (bits_reply bits q arguments, refl)
 some_query_reply (SortedHeld members) q arguments = (sorted_reply members q arguments, refl)
 some_query_reply (SparseHeld bits) q arguments = (sparse_reply bits q arguments, refl)
+some_query_reply (ValuesHeld values) q arguments = (values_reply values q arguments, refl)
 
 -- each line with words has some reply
 some_reply : (h : Holding) (n : Option Name) (arguments : List (List ℕ)) → (r : PlainReply) × IsReply h n arguments r

@@ -14,6 +14,13 @@ one_number [] = None
 one_number (word ∷ []) = number_of word
 one_number (word ∷ other ∷ more) = None
 
+-- two numbers
+abbrev pub two_numbers : List (List ℕ) → Option (ℕ × ℕ)
+two_numbers [] = None
+two_numbers (first ∷ []) = None
+two_numbers (first ∷ second ∷ []) = option_and_then (λ m. option_map (λ n. (m, n)) (number_of second)) (number_of first)
+two_numbers (first ∷ second ∷ other ∷ more) = None
+
 -- any number of numbers
 abbrev pub all_numbers : List (List ℕ) → Option (List ℕ)
 all_numbers [] = Some []

@@ -1,5 +1,5 @@
 -- What the program holds, as the plain list.
-use Rattle.vers_cli.specs.Holding.{Holding, Nothing, BitsHeld, SortedHeld, SparseHeld, Loaded, Malformed, Inadmissible, Accepted}
+use Rattle.vers_cli.specs.Holding.{Holding, Nothing, BitsHeld, SortedHeld, SparseHeld, ValuesHeld, Loaded, Malformed, Inadmissible, Accepted}
 use Rattle.vers_cli.specs.declared.held.Held.{Held}
 use Rattle.vers_cli.specs.declared.held.Held.TheVariants as held
 use Rattle.vers_cli.specs.declared.held.Loading.{Loading}
@@ -11,6 +11,7 @@ holding_of held.Nothing = Nothing
 holding_of (held.Bits bits) = BitsHeld bits
 holding_of (held.Sorted members) = SortedHeld members
 holding_of (held.Sparse bits) = SparseHeld bits
+holding_of (held.Values values) = ValuesHeld values
 
 -- what a load line gives, in the same way
 abbrev pub loaded_of : {A : Type 0} → Loading A → Loaded

@@ -7,6 +7,7 @@ pub data Holding : Type 0 where
   BitsHeld : List Bool → Holding
   SortedHeld : List ℕ → Holding
   SparseHeld : List Bool → Holding
+  ValuesHeld : List ℕ → Holding
 
 -- the length of what is held
 abbrev pub length_of : Holding → ℕ
@@ -14,6 +15,7 @@ length_of Nothing = 0
 length_of (BitsHeld bits) = length bits
 length_of (SortedHeld members) = length members
 length_of (SparseHeld bits) = length bits
+length_of (ValuesHeld values) = length values
 
 -- what the arguments of a load line give: they are malformed, or well formed but not admitted,
 -- or there is something to hold from now on

@@ -7,6 +7,7 @@ pub mod Reply
 pub mod BitsLines
 pub mod SortedLines
 pub mod SparseLines
+pub mod ValuesLines
 pub mod Rules
 pub mod Answers
 pub mod Held

@@ -40,6 +40,11 @@ abbrev pub number_or_absent : Option ℕ → PlainReply
 number_or_absent None = Absent
 number_or_absent (Some n) = Number n
 
+-- the reply of a query that finds a number, or whose condition is not met
+abbrev pub number_or_refused : Option ℕ → PlainReply
+number_or_refused None = Refused
+number_or_refused (Some n) = Number n
+
 -- the reply of a query whose arguments these are, `BadLine` where they are malformed
 abbrev pub if_well_formed : {X : Type 0} → Option X → (X → PlainReply) → PlainReply
 if_well_formed None reply = BadLine

@@ -7,9 +7,10 @@ use Rattle.vers_sorted.specs.Ones.{ones_at}
 use Rattle.vers_cli.specs.declared.name.Name.TheVariants.{Query}
 use Rattle.vers_cli.specs.declared.name.Query.TheVariants.{Rank1}
 use Rattle.vers_cli.specs.Text.{number_of, words_of, whole_lines, last_part, lines_of}
-use Rattle.vers_cli.specs.Arguments.{bits_of, all_numbers, each_next}
+use Rattle.vers_cli.specs.Arguments.{bits_of, two_numbers, all_numbers, each_next}
 use Rattle.vers_cli.specs.Name.{name_of}
-use Rattle.vers_cli.specs.Holding.{Holding, Nothing, BitsHeld, SortedHeld, SparseHeld}
+use Rattle.vers_cli.specs.Holding.{Holding, Nothing, BitsHeld, SortedHeld, SparseHeld, ValuesHeld}
+use Rattle.vers_cli.specs.ValuesLines.{places_between, first_least}
 use Rattle.vers_cli.specs.Reply.{BadLine, WrongStructure, Refused, Number, Absent, Numbers}
 use Rattle.vers_cli.specs.Answers.{IsAnswerToWords, IsAnswerTo, holding_after_words, holding_after, AnswersLines}
 
@@ -20,6 +21,10 @@ ended text = text ++ 10 ∷ []
 -- the members 4, 4 and 9, held
 abbrev held_449 : Holding
 held_449 = SortedHeld (4 ∷ 4 ∷ 9 ∷ [])
+
+-- values of which some are equal
+abbrev values_31211 : List ℕ
+values_31211 = 3 ∷ 1 ∷ 2 ∷ 1 ∷ 1 ∷ []
 
 -- the bits 0110, held
 abbrev held_0110 : Holding
@@ -181,6 +186,42 @@ answer-place_outside = (Refused, refl, refl)
 pub answer-no_length : IsAnswerTo held_449 (codes "sparse") (ended (codes "bad line"))
 unfolding IsAnswerToWords
 answer-no_length = (BadLine, refl, refl)
+
+-- a line with two arguments
+pub two_numbers-some : two_numbers (codes "2" ∷ codes "4" ∷ []) ≡ Some (2, 4)
+unfolding number_of
+two_numbers-some = refl
+
+pub two_numbers-three : two_numbers (codes "2" ∷ codes "4" ∷ codes "4" ∷ []) ≡ None
+two_numbers-three = refl
+
+-- a range has both its ends, and of equal least values the first place counts
+pub places_between-2-4 : places_between 2 4 ≡ 2 ∷ 3 ∷ 4 ∷ []
+places_between-2-4 = refl
+
+pub first_least-0-4 : first_least values_31211 0 4 ≡ Some 1
+first_least-0-4 = refl
+
+pub first_least-2-4 : first_least values_31211 2 4 ≡ Some 3
+first_least-2-4 = refl
+
+pub first_least-4-4 : first_least values_31211 4 4 ≡ Some 4
+first_least-4-4 = refl
+
+-- the start is past the end, or the end is no place
+pub first_least-2-1 : first_least values_31211 2 1 ≡ None
+first_least-2-1 = refl
+
+pub first_least-0-5 : first_least values_31211 0 5 ≡ None
+first_least-0-5 = refl
+
+pub answer-range_min_2_4 : IsAnswerTo (ValuesHeld values_31211) (codes "range_min 2 4") (ended (codes "3"))
+unfolding IsAnswerToWords number_of digits
+answer-range_min_2_4 = (Number 3, refl, refl)
+
+pub answer-range_min_0_5 : IsAnswerTo (ValuesHeld values_31211) (codes "range_min 0 5") (ended (codes "refused"))
+unfolding IsAnswerToWords number_of
+answer-range_min_0_5 = (Refused, refl, refl)
 
 -- a line without words has no answer
 pub answer-no_words : IsAnswerTo held_0110 (codes "  ") []

@@ -12,17 +12,19 @@ use Rattle.vers_cli.specs.declared.name.Query.{Query}
 use Rattle.vers_cli.specs.declared.name.Name.TheVariants as name
 use Rattle.vers_cli.specs.declared.name.Load.TheVariants as load
 use Rattle.vers_cli.specs.Arguments.{bits_of, all_numbers}
-use Rattle.vers_cli.specs.Holding.{Holding, Nothing, BitsHeld, SortedHeld, SparseHeld, length_of, Loaded, Malformed, Inadmissible, Accepted}
+use Rattle.vers_cli.specs.Holding.{Holding, Nothing, BitsHeld, SortedHeld, SparseHeld, ValuesHeld, length_of, Loaded, Malformed, Inadmissible, Accepted}
 use Rattle.vers_cli.specs.Reply.{PlainReply, BadLine, WrongStructure, Refused, Number}
 use Rattle.vers_cli.specs.BitsLines.{bits_loaded, bits_reply}
 use Rattle.vers_cli.specs.SortedLines.{sorted_loaded, sorted_reply}
 use Rattle.vers_cli.specs.SparseLines.{sparse_loaded, sparse_reply}
+use Rattle.vers_cli.specs.ValuesLines.{values_loaded, values_reply}
 
 -- what a load line gives
 abbrev pub loaded : Load → List (List ℕ) → Loaded
 loaded load.Bits arguments = bits_loaded (bits_of arguments)
 loaded load.Sorted arguments = sorted_loaded (all_numbers arguments)
 loaded load.Sparse arguments = sparse_loaded (all_numbers arguments)
+loaded load.Values arguments = values_loaded (all_numbers arguments)
 
 -- the reply of a load line: the length where it is accepted
 abbrev pub load_reply : Loaded → PlainReply
@@ -42,6 +44,7 @@ IsQueryReply Nothing query arguments reply = reply ≡ WrongStructure
 IsQueryReply (BitsHeld bits) query arguments reply = reply ≡ bits_reply bits query arguments
 IsQueryReply (SortedHeld members) query arguments reply = reply ≡ sorted_reply members query arguments
 IsQueryReply (SparseHeld bits) query arguments reply = reply ≡ sparse_reply bits query arguments
+IsQueryReply (ValuesHeld values) query arguments reply = reply ≡ values_reply values query arguments
 
 -- the replies that a line may have whose first word is this name, or none
 abbrev pub IsReply : Holding → Option Name → List (List ℕ) → PlainReply → Type 0

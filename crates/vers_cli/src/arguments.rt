@@ -3,7 +3,7 @@
 ghost use Rattle.std.specs.Prelude.{◌≡◌, true, option_map, IfOk, IfSome};
 ghost use Rattle.std.specs.List.{list_all};
 ghost use Rattle.vers_cli.specs.Text.{words_in};
-ghost use Rattle.vers_cli.specs.Arguments.{no_arguments as none_of, one_number as number_alone, all_numbers as numbers_all, is_bit_digit, bits_of_digits, bits_of};
+ghost use Rattle.vers_cli.specs.Arguments.{no_arguments as none_of, one_number as number_alone, two_numbers as numbers_two, all_numbers as numbers_all, is_bit_digit, bits_of_digits, bits_of};
 
 use crate::text::{number, split_first_word};
 use std::alloc::{AllocError, Allocator};
@@ -25,6 +25,16 @@ pub fn one_number(arguments: &[u8]) -> Option<u64>
     let (word, others) = split_first_word(arguments)?;
     no_arguments(others)?;
     number(word)
+}
+
+/// Two numbers.
+pub fn two_numbers(arguments: &[u8]) -> Option<(u64, u64)>
+    ensures { result ≡ numbers_two (words_in arguments.now) }
+{
+    let (first, others) = split_first_word(arguments)?;
+    let (second, more) = split_first_word(others)?;
+    no_arguments(more)?;
+    Some((number(first)?, number(second)?))
 }
 
 /// Any number of numbers.

@@ -7,9 +7,10 @@ ghost use Rattle.vers_cli.specs.Held.{loaded_of};
 
 use crate::name::{Load, Query};
 use crate::reply::Reply;
-use crate::{bits, sorted, sparse};
+use crate::{bits, sorted, sparse, values};
 use std::alloc::{AllocError, Allocator};
 use vers_rank::fast_rs_vec::RsVec;
+use vers_rmq::rmq::fast_rmq::FastRmq;
 use vers_sorted::elias_fano::EliasFanoVec;
 use vers_sorted::sparse::SparseRSVec;
 
@@ -20,6 +21,7 @@ pub enum Held<A: Allocator + Copy> {
     Bits(RsVec<A>),
     Sorted(EliasFanoVec<A>),
     Sparse(SparseRSVec<A>),
+    Values(FastRmq<A>),
 }
 
 /// What the arguments of a load line give.
@@ -45,6 +47,7 @@ pub fn load<A: Allocator + Copy>(
         Load::Bits => bits::load(alloc, arguments),
         Load::Sorted => sorted::load(alloc, arguments),
         Load::Sparse => sparse::load(alloc, arguments),
+        Load::Values => values::load(alloc, arguments),
     }
 }
 
@@ -61,6 +64,7 @@ impl<A: Allocator + Copy> Held<A> {
             Held::Bits(bits) => bits.len() as u64,
             Held::Sorted(members) => members.len() as u64,
             Held::Sparse(bits) => bits.len(),
+            Held::Values(values) => values.len() as u64,
         }
     }
 
@@ -73,6 +77,7 @@ impl<A: Allocator + Copy> Held<A> {
             Held::Bits(bits) => Ok(bits::reply(bits, query, arguments)),
             Held::Sorted(members) => sorted::reply(alloc, members, query, arguments),
             Held::Sparse(bits) => sparse::reply(alloc, bits, query, arguments),
+            Held::Values(values) => Ok(values::reply(values, query, arguments)),
         }
     }
 }

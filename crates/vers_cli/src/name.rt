@@ -7,6 +7,7 @@ pub enum Load {
     Bits,
     Sorted,
     Sparse,
+    Values,
 }
 
 /// The first word of a query line.
@@ -24,6 +25,7 @@ pub enum Query {
     Delta,
     Iter,
     Iter1,
+    RangeMin,
 }
 
 /// The first word of a line.
@@ -34,10 +36,11 @@ pub enum Name {
 }
 
 // All names.
-static NAMES: [Name; 15] = [
+static NAMES: [Name; 17] = [
     Name::Load(Load::Bits),
     Name::Load(Load::Sorted),
     Name::Load(Load::Sparse),
+    Name::Load(Load::Values),
     Name::Query(Query::Len),
     Name::Query(Query::Get),
     Name::Query(Query::Rank0),
@@ -50,6 +53,7 @@ static NAMES: [Name; 15] = [
     Name::Query(Query::Delta),
     Name::Query(Query::Iter),
     Name::Query(Query::Iter1),
+    Name::Query(Query::RangeMin),
 ];
 
 impl Name {
@@ -63,6 +67,7 @@ impl Name {
             Name::Load(Load::Bits) => b"bits",
             Name::Load(Load::Sorted) => b"sorted",
             Name::Load(Load::Sparse) => b"sparse",
+            Name::Load(Load::Values) => b"values",
             Name::Query(Query::Len) => b"len",
             Name::Query(Query::Get) => b"get",
             Name::Query(Query::Rank0) => b"rank0",
@@ -75,6 +80,7 @@ impl Name {
             Name::Query(Query::Delta) => b"delta",
             Name::Query(Query::Iter) => b"iter",
             Name::Query(Query::Iter1) => b"iter1",
+            Name::Query(Query::RangeMin) => b"range_min",
         }
     }
 

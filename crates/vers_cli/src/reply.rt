@@ -22,7 +22,7 @@ pub enum Reply<A: Allocator + Copy> {
 }
 
 impl<A: Allocator + Copy> Reply<A> {
-    ghost use Rattle.vers_cli.specs.Reply.{plain_reply, reply_text, number_or_absent as reply_of};
+    ghost use Rattle.vers_cli.specs.Reply.{plain_reply, reply_text, number_or_absent as reply_of, number_or_refused as admitted_reply_of};
 
     /// A number, or that there is none.
     pub fn number_or_absent(number: Option<u64>) -> Reply<A>
@@ -31,6 +31,16 @@ impl<A: Allocator + Copy> Reply<A> {
         match number {
             Some(n) => Reply::Number(n),
             None => Reply::Absent,
+        }
+    }
+
+    /// A number, or that the query is refused.
+    pub fn number_or_refused(number: Option<u64>) -> Reply<A>
+        ensures { plain_reply result ≡ admitted_reply_of number }
+    {
+        match number {
+            Some(n) => Reply::Number(n),
+            None => Reply::Refused,
         }
     }
 

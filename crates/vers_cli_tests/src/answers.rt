@@ -1,5 +1,6 @@
 //! What lines are answered by.
 use crate::devices::answers;
+use crate::memory::repeated;
 use std::test::Fail;
 
 #[test]
@@ -37,7 +38,7 @@ fn malformed_lines(rt: HostRuntime) -> Result<(), Fail> {
 }
 
 // What a case shows, its input and its output.
-const CASES: [(&str, &[u8], &[u8]); 13] = [
+const CASES: [(&str, &[u8], &[u8]); 17] = [
     (
         "every query of a list of bits",
         b"bits 0110\nlen\nget 0\nget 1\nrank0 2\nrank0 9\nrank1 2\nselect0 1\nselect0 2\nselect1 0\n",
@@ -99,7 +100,38 @@ const CASES: [(&str, &[u8], &[u8]); 13] = [
         b"bits 0110\nsorted 3 1\nsorted 3 x\nsparse x\nsparse 5 3 3\nsparse 5 3 1\nsparse 5 5\nsorted 18446744073709551616\nlen\niter 1\nsorted 7\niter 1\nget\nrank 1 2\n",
         b"4\nrefused\nbad line\nbad line\nrefused\nrefused\nrefused\nbad line\n4\nwrong structure\n1\nbad line\nbad line\nbad line\n",
     ),
+    (
+        "a range of values outside the list, or from its end to its start, is refused",
+        b"values 9 6 10\nrange_min 0 2\nrange_min 2 1\nrange_min 0 3\nvalues\nrange_min 0 0\n",
+        b"3\n1\nrefused\nrefused\n0\nrefused\n",
+    ),
+    (
+        "the first of equal least values",
+        b"values 3 1 2 1 1\nrange_min 0 4\nrange_min 2 4\nrange_min 4 4\nlen\n",
+        b"5\n1\n3\n4\n5\n",
+    ),
+    (
+        "ranges of values",
+        b"values 9 6 10 4 0 8 3 7 1 2 5\nrange_min 0 2\nrange_min 5 9\nrange_min 9 10\nrange_min 0 10\n",
+        b"11\n1\n8\n9\n4\n",
+    ),
+    (
+        "values have no other queries, a range has two ends, and a malformed load line keeps them",
+        b"range_min 0 0\nvalues 4 18446744073709551615\nget 0\niter\nrank 4\nrank1 1\nrange_min\nrange_min 0\nrange_min 0 1 1\nrange_min 0 x\nrange_min x 0\nvalues 4 x\nrange_min 1 1\nrange_min 18446744073709551615 18446744073709551615\nrange_min 0 18446744073709551616\nlen 0\nlen\nbits 01\nrange_min 0 1\n",
+        b"wrong structure\n2\nwrong structure\nwrong structure\nwrong structure\nwrong structure\nbad line\nbad line\nbad line\nbad line\nbad line\nbad line\n1\nrefused\nbad line\nbad line\n2\n2\nwrong structure\n",
+    ),
 ];
+
+// Equal values over more than two blocks of 128.
+#[test]
+fn the_first_of_many_equal_values(rt: HostRuntime) -> Result<(), Fail> {
+    let mut input = repeated(rt.alloc(), b"values", 1)?;
+    input.extend_from_slice(repeated(rt.alloc(), b" 7", 300)?.as_slice())?;
+    input.extend_from_slice(b"\nrange_min 5 290\nrange_min 299 299\nrange_min 0 300\n")?;
+    let text = answers(rt.alloc(), input.as_slice())?;
+    assert_eq!(rt; text.as_slice(), b"300\n5\n299\nrefused\n".as_slice());
+    Ok(())
+}
 
 #[test]
 fn lines_and_their_answers(rt: HostRuntime) -> Result<(), Fail> {

@@ -1,0 +1,57 @@
+//! The lines of a list of values.
+ghost use Rattle.std.specs.Prelude.{◌≡◌, IfOk};
+ghost use Rattle.vers_cli.specs.Text.{words_in};
+ghost use Rattle.vers_cli.specs.Arguments.{all_numbers as numbers_all};
+ghost use Rattle.vers_cli.specs.ValuesLines.{first_least, values_loaded, values_reply};
+ghost use Rattle.vers_cli.specs.Held.{loaded_of};
+ghost use Rattle.vers_cli.specs.Reply.{plain_reply};
+
+use crate::arguments::{all_numbers, no_arguments, two_numbers};
+use crate::held::{Held, Loading};
+use crate::name::Query;
+use crate::reply::Reply;
+use std::alloc::{AllocError, Allocator};
+use vers_rmq::rmq::fast_rmq::{FastRmq, MAX_LEN};
+
+/// What the load line `values n ..` gives.
+pub fn load<A: Allocator + Copy>(alloc: A, arguments: &[u8]) -> Result<Loading<A>, AllocError>
+    ensures { IfOk result (λ loading. loaded_of loading ≡ values_loaded (numbers_all (words_in arguments.now))) }
+{
+    let Some(numbers) = all_numbers(alloc, arguments)? else {
+        return Ok(Loading::Malformed);
+    };
+    if numbers.len() > MAX_LEN {
+        return Ok(Loading::Inadmissible);
+    }
+    let values = FastRmq::from_vec(numbers)?;
+    Ok(Loading::Accepted(Held::Values(values)))
+}
+
+/// The reply of a query line, where these values are held.
+pub fn reply<A: Allocator + Copy>(values: &FastRmq<A>, query: Query, arguments: &[u8]) -> Reply<A>
+    ensures { plain_reply result ≡ values_reply values.now query (words_in arguments.now) }
+{
+    match query {
+        Query::Len => no_arguments(arguments).map_or(
+            Reply::BadLine,
+            |()| Reply::Number(values.len() as u64),
+        ),
+        Query::RangeMin => two_numbers(arguments).map_or(Reply::BadLine, |(i, j)| {
+            Reply::number_or_refused(range_min(values, i, j))
+        }),
+        _ => Reply::WrongStructure,
+    }
+}
+
+// The first place of a least value from place `i` to place `j`, both included. None where `i` is past
+// `j`, or `j` is no place.
+fn range_min<A: Allocator + Copy>(values: &FastRmq<A>, i: u64, j: u64) -> Option<u64>
+    ensures { result ≡ first_least values.now i j }
+{
+    if i <= j && j < values.len() as u64 {
+        let first = values.range_min(i as usize, j as usize);
+        Some(first as u64)
+    } else {
+        None
+    }
+}
