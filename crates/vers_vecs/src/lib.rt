@@ -56,12 +56,12 @@ pub mod laws {
     pub mod bits {
         pub use vers_bits::laws::{
             bits_follow_from_number, both_ends_pass_each_item_once, counts_are_few, counts_grow,
-            ended_iterators_stay_ended, equal_lists_hash_equally, low_bits_are_as_many,
-            low_bits_are_the_rest, mask_of_and_is_and, mask_of_or_is_or, mask_of_xor_is_xor,
-            next_back_is_nth_back_of_zero, next_is_nth_of_zero, none_down_to_neighbour,
-            none_up_to_neighbour, packed_elements_are_items, select_finds_number,
-            select_of_count_is_next, select_past_last_is_length, split_lists_join,
-            zeros_and_ones_add_up, zipped_bits_are_combined,
+            counts_of_spans_add_up, ended_iterators_stay_ended, equal_lists_hash_equally,
+            low_bits_are_as_many, low_bits_are_the_rest, mask_of_and_is_and, mask_of_or_is_or,
+            mask_of_xor_is_xor, next_back_is_nth_back_of_zero, next_is_nth_of_zero,
+            none_down_to_neighbour, none_up_to_neighbour, packed_elements_are_items,
+            select_finds_number, select_of_count_is_next, select_past_last_is_length,
+            split_lists_join, zeros_and_ones_add_up, zipped_bits_are_combined,
         };
     }
 
