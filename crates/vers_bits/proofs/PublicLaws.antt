@@ -38,6 +38,10 @@ count_past = Count.count_past
 pub count_up : (bit : Bool) (bits : List Bool) (i j : ℕ) → i ≤ j → count bit bits i ≤ count bit bits j
 count_up = Count.count_up
 
+-- the count up to a later place is that up to an earlier one, and that of the places between them
+pub count_to : (bit : Bool) (bits : List Bool) (i j : ℕ) → i ≤ j → count bit bits j ≡ count bit bits i + count bit (drop i bits) (j - i)
+count_to = Count.count_to
+
 -- between two places a count rises by at most the places between them
 pub count_near : (bit : Bool) (bits : List Bool) (i j : ℕ) → i ≤ j → count bit bits j ≤ count bit bits i + (j - i)
 count_near = Count.count_near

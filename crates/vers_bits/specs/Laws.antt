@@ -1,5 +1,5 @@
 -- The laws of lists of bits, as statements.
-use Rattle.std.specs.Prelude.{◌≡◌, ℕ, ◌*◌, ◌%◌, ◌^◌, ◌<◌, ◌≤◌, ◌||◌, ◌&&◌, Bool, false, List, ◌++◌, length, take, drop, slice_index, slice_index_or, MatchOption, Some, bit_or, bit_and, bit_xor, ◌+◌, min, true}
+use Rattle.std.specs.Prelude.{◌≡◌, ℕ, ◌*◌, ◌-◌, ◌%◌, ◌^◌, ◌<◌, ◌≤◌, ◌||◌, ◌&&◌, Bool, false, List, ◌++◌, length, take, drop, slice_index, slice_index_or, MatchOption, Some, bit_or, bit_and, bit_xor, ◌+◌, min, true}
 use Rattle.vers_bits.specs.Bits.{number, low_bits, pack, part_number, masked, is_bit, count, select, place_after, place_before}
 use Rattle.vers_bits.specs.Masks.{zip_bits, xor}
 use Rattle.vers_bits.specs.Equality.{hash_input}
@@ -59,6 +59,10 @@ SelectOfCountIsNext = (bit : Bool) (bits : List Bool) (i : ℕ) → i ≤ length
 -- more places hold no fewer ones (or zeros)
 abbrev pub CountsGrow : Type 0
 CountsGrow = (bit : Bool) (bits : List Bool) (i j : ℕ) → i ≤ j → count bit bits i ≤ count bit bits j
+
+-- the count up to a later place is that up to an earlier one, and that of the places between them
+abbrev pub CountsOfSpansAddUp : Type 0
+CountsOfSpansAddUp = (bit : Bool) (bits : List Bool) (i j : ℕ) → i ≤ j → count bit bits j ≡ count bit bits i + count bit (drop i bits) (j - i)
 
 -- at most one a place
 abbrev pub CountsAreFew : Type 0

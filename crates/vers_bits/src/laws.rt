@@ -1,6 +1,6 @@
 //! Laws over the definitions, which hold of every list of bits. Each function does nothing:
 //! its contract is the law, and its proof is checked with the crate.
-ghost use Rattle.vers_bits.specs.Laws.{EqualListsHashEqually, SplitListsJoin, LowBitsAreAsMany, LowBitsAreTheRest, BitsFollowFromNumber, PackedElementsAreItems, ZippedBitsAreCombined, MaskOfOrIsOr, MaskOfAndIsAnd, MaskOfXorIsXor, ZerosAndOnesAddUp, SelectFindsNumber, SelectOfCountIsNext, CountsGrow, CountsAreFew, SelectPastLastIsLength, NoneUpToNeighbour, NoneDownToNeighbour};
+ghost use Rattle.vers_bits.specs.Laws.{EqualListsHashEqually, SplitListsJoin, LowBitsAreAsMany, LowBitsAreTheRest, BitsFollowFromNumber, PackedElementsAreItems, ZippedBitsAreCombined, MaskOfOrIsOr, MaskOfAndIsAnd, MaskOfXorIsXor, ZerosAndOnesAddUp, SelectFindsNumber, SelectOfCountIsNext, CountsGrow, CountsOfSpansAddUp, CountsAreFew, SelectPastLastIsLength, NoneUpToNeighbour, NoneDownToNeighbour};
 ghost use Rattle.vers_bits.specs.Walk.{PassesEachOnce, StaysEnded, NextIsNthOfZero, NextBackIsNthBackOfZero};
 
 /// Equal lists are fed to a hasher alike, so that they hash equally.
@@ -75,6 +75,12 @@ pub fn select_of_count_is_next()
 /// More places hold no fewer ones (or zeros).
 pub fn counts_grow()
     ensures { CountsGrow }
+{}
+
+/// The count up to a later place is the count up to an earlier one, and that of the places between
+/// them.
+pub fn counts_of_spans_add_up()
+    ensures { CountsOfSpansAddUp }
 {}
 
 /// A count is at most the number of places, and at most the length.

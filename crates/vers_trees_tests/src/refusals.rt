@@ -43,7 +43,7 @@ fn outcome(
     }
 }
 
-// Whether a tree could not be built, for want of memory.
+// Whether a tree could not be built since it was out of memory.
 fn fails_to_build(heap: &Refusing<Global>) -> bool {
     match builder_of_64_bits(heap) {
         Ok(builder) => outcome(builder.build()) == Err(BuildError::Memory),

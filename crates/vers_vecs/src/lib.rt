@@ -35,18 +35,61 @@ pub mod elias_fano {
 pub mod rmq {
     /// Range minima by two items read.
     pub mod binary_rmq {
-        pub use vers_rmq::rmq::binary_rmq::BinaryRmq;
+        pub use vers_rmq::rmq::binary_rmq::{BinaryRmq, MAX_LEN};
     }
 
     /// Range minima in few more bits than the items take.
     pub mod fast_rmq {
-        pub use vers_rmq::rmq::fast_rmq::FastRmq;
+        pub use vers_rmq::rmq::fast_rmq::{FastRmq, MAX_LEN};
     }
 }
 
 /// Counters of reads.
 pub mod tally {
     pub use vers_tally::tally::Tally;
+}
+
+/// Laws over the definitions. Each function does nothing: a body that calls it may use the law that
+/// stands in its contract.
+pub mod laws {
+    /// Laws of lists of bits.
+    pub mod bits {
+        pub use vers_bits::laws::{
+            bits_follow_from_number, both_ends_pass_each_item_once, counts_are_few, counts_grow,
+            counts_of_spans_add_up, ended_iterators_stay_ended, equal_lists_hash_equally,
+            low_bits_are_as_many, low_bits_are_the_rest, mask_of_and_is_and, mask_of_or_is_or,
+            mask_of_xor_is_xor, next_back_is_nth_back_of_zero, next_is_nth_of_zero,
+            none_down_to_neighbour, none_up_to_neighbour, packed_elements_are_items,
+            select_finds_number, select_of_count_is_next, select_past_last_is_length,
+            split_lists_join, zeros_and_ones_add_up, zipped_bits_are_combined,
+        };
+    }
+
+    /// Laws of counting.
+    pub mod tally {
+        pub use vers_tally::laws::{
+            bounds_add, greater_bounds_hold, halving_takes_a_digit, reading_nothing_adds_nothing,
+        };
+    }
+
+    /// Laws of indexed lists.
+    pub mod rank {
+        pub use vers_rank::laws::{bits_come_back, index_is_small};
+    }
+
+    /// Laws of ascending lists.
+    pub mod sorted {
+        pub use vers_sorted::laws::{
+            below_is_at_most_all, below_rises, clog_is_least, first_members_are_below,
+            greatest_not_above_is_last, high_parts_are_few, least_not_below_is_next,
+            none_below_none_not_above, other_members_are_not_below,
+        };
+    }
+
+    /// Laws of range minima.
+    pub mod rmq {
+        pub use vers_rmq::laws::one_first_least;
+    }
 }
 
 pub use vers_bits::bit_vec::BitVec;

@@ -94,7 +94,7 @@ impl<const BLOCK_SIZE: usize, A: Allocator + Copy> BpBuilder<BLOCK_SIZE, A> {
         Ok(())
     }
 
-    /// Enters a node: appends a one. TooLong at the most bits that a tree has.
+    /// Enters a node: appends a one. TooLong where the list has as many bits as a tree may have.
     pub fn enter_node(&mut self) -> Result<(), GrowError>
         ensures grown { OnOk result (self.new ≡ self.old ++ true ∷ []) }
         ensures kept { OnErr result (self.new ≡ self.old) }
@@ -104,7 +104,7 @@ impl<const BLOCK_SIZE: usize, A: Allocator + Copy> BpBuilder<BLOCK_SIZE, A> {
         self.append(true)
     }
 
-    /// Leaves a node: appends a zero. TooLong at the most bits that a tree has.
+    /// Leaves a node: appends a zero. TooLong where the list has as many bits as a tree may have.
     pub fn leave_node(&mut self) -> Result<(), GrowError>
         ensures grown { OnOk result (self.new ≡ self.old ++ false ∷ []) }
         ensures kept { OnErr result (self.new ≡ self.old) }

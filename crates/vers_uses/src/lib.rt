@@ -1,0 +1,9 @@
+//! A use of the library: an index of documents, the bases of a genome, and prices by the day.
+#![tactic(auto)]
+
+pub mod budget;
+pub mod documents;
+pub mod genome;
+pub mod prices;
+#[cfg(test)]
+mod tests;

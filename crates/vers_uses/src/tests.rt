@@ -1,0 +1,56 @@
+//! What no contract says: values that were worked out by hand.
+use crate::budget::{Window, has_more};
+use crate::documents::{Documents, are_ascending};
+use crate::genome::Genome;
+use crate::prices::Prices;
+use std::test::Fail;
+use vers_vecs::tally::Tally;
+
+#[test]
+fn documents_of_bytes(rt: HostRuntime) -> Result<(), Fail> {
+    let starts = [2, 10, 10, 25];
+    assert!(rt; are_ascending(&starts));
+    let texts = Documents::new(rt.alloc(), &starts, 40)?;
+    let wanted = [
+        (1, None),
+        (2, Some(0)),
+        (10, Some(2)),
+        (39, Some(3)),
+        (40, None),
+    ];
+    for (byte, document) in wanted {
+        assert_eq!(rt; texts.document_of(byte), document, "at {byte}");
+    }
+    Ok(())
+}
+
+#[test]
+fn bases_of_a_genome(rt: HostRuntime) -> Result<(), Fail> {
+    let genome = Genome::from_bases(rt.alloc(), b"ACGTGGCA")?;
+    assert_eq!(rt; genome.gc_between(1, 5), 3);
+    assert_eq!(rt; genome.nth_gc(4), Some(6));
+    assert_eq!(rt; genome.nth_gc(5), None);
+    assert_eq!(rt; genome.next_gc(2), Some(4));
+    assert_eq!(rt; genome.next_gc(6), None);
+    Ok(())
+}
+
+#[test]
+fn more_in_the_second_window(rt: HostRuntime) -> Result<(), Fail> {
+    let genome = Genome::from_bases(rt.alloc(), b"ACGTGGCA")?;
+    let mut tally = Tally::new();
+    let first = Window { from: 0, to: 4 };
+    let second = Window { from: 4, to: 8 };
+    assert!(rt; has_more(&genome, first, second, &mut tally));
+    assert_eq!(rt; tally.rank_calls(), 4);
+    Ok(())
+}
+
+#[test]
+fn cheapest_days(rt: HostRuntime) -> Result<(), Fail> {
+    let prices = Prices::new(Vec::from_slice(rt.alloc(), &[9, 6, 10, 6])?)?;
+    for (from, to, day) in [(0, 4, Some(1)), (2, 4, Some(3)), (2, 5, None), (2, 2, None)] {
+        assert_eq!(rt; prices.cheapest(from, to), day, "from {from} up to {to}");
+    }
+    Ok(())
+}
