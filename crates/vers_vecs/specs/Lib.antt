@@ -28,3 +28,8 @@ pub use Rattle.vers_rmq.specs.Ranges
 pub use Rattle.vers_rmq.specs.Makers as MinimaMakers
 pub use Rattle.vers_rmq.specs.Layout as MinimaLayout
 pub use Rattle.vers_rmq.specs.Laws as MinimaLaws
+-- trees of parentheses
+pub use Rattle.vers_trees.specs.Excess
+pub use Rattle.vers_trees.specs.Forest
+pub use Rattle.vers_trees.specs.Layout as TreesLayout
+pub use Rattle.vers_trees.specs.Laws as TreesLaws

@@ -18,6 +18,7 @@ pub mod bit_vec {
     /// Lists of bits that keep the places of their ones alone.
     pub mod sparse {
         pub use vers_sorted::sparse::SparseRSVec;
+        pub use vers_trees::trees::bp::{BpBuilder, BpTree};
     }
 
     /// Two lists combined limb by limb.
@@ -41,6 +42,16 @@ pub mod rmq {
     /// Range minima in few more bits than the items take.
     pub mod fast_rmq {
         pub use vers_rmq::rmq::fast_rmq::{FastRmq, MAX_LEN};
+    }
+}
+
+/// Ordered trees as lists of parentheses.
+pub mod trees {
+    /// Trees of parentheses with searches by a tree of excesses, and their builder.
+    pub mod bp {
+        pub use vers_trees::trees::bp::{
+            BpBuilder, BpTree, BuildError, DfsIter, MAX_BLOCK_SIZE, MAX_LEN,
+        };
     }
 }
 
@@ -90,6 +101,14 @@ pub mod laws {
     pub mod rmq {
         pub use vers_rmq::laws::one_first_least;
     }
+
+    /// Laws of trees of parentheses.
+    pub mod trees {
+        pub use vers_trees::laws::{
+            backward_finds_last, close_finds_pair, close_undoes_open, forward_finds_first,
+            one_forest, open_finds_pair, open_undoes_close,
+        };
+    }
 }
 
 pub use vers_bits::bit_vec::BitVec;
@@ -98,3 +117,4 @@ pub use vers_rmq::rmq::binary_rmq::BinaryRmq;
 pub use vers_rmq::rmq::fast_rmq::FastRmq;
 pub use vers_sorted::elias_fano::EliasFanoVec;
 pub use vers_sorted::sparse::SparseRSVec;
+pub use vers_trees::trees::bp::{BpBuilder, BpTree};

@@ -63,22 +63,23 @@ fn tried_unchecked<B: Allocator, A: Allocator + Copy>(
     )
 }
 
-// Memory is taken for a second half that has bits, and for no other.
+// Memory is taken where both halves have bits, and nowhere else.
 #[test]
 fn splits_are_refused_in_turn(rt: HostRuntime) {
     for len in LENGTHS {
         for place in [0, 1, len / 2, len.saturating_sub(1), len] {
             let at = place.min(len);
+            let takes = 0 < at && at < len;
             let checked = |heap: &Refusing<Global>| tried(heap, heap, len, at);
             assert_eq!(rt;
                 takes_memory(rt.alloc(), checked),
-                Some(at < len),
+                Some(takes),
                 "{len} at {at}"
             );
             let unchecked = |heap: &Refusing<Global>| tried_unchecked(heap, heap, len, at);
             assert_eq!(rt;
                 takes_memory(rt.alloc(), unchecked),
-                Some(at < len),
+                Some(takes),
                 "{len} at {at}"
             );
         }
