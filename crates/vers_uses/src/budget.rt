@@ -1,4 +1,4 @@
-//! What a caller reads who asks several counted queries.
+//! What several counted queries read together.
 ghost use Rattle.std.specs.Prelude.{◌<◌, ◌≤◌, ◌↔◌, IsTrue};
 ghost use Rattle.vers_vecs.specs.Reads.{AddsAtMost, times};
 ghost use Rattle.vers_vecs.specs.Queries.{rank_reads};

@@ -1,4 +1,5 @@
 //! A use of the library: an index of documents, the bases of a genome, and prices by the day.
+//! docs/USING.md goes through it.
 #![tactic(auto)]
 
 pub mod budget;
