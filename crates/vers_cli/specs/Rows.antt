@@ -231,6 +231,7 @@ answer-no_words = refl
 abbrev input : List ℕ
 input = ended (codes "bits 0110") ++ ended (codes "rank1 3") ++ ended (codes "select1 1") ++ ended (codes "select1 2") ++ ended (codes "get 9")
 
-pub answers-input : answers_to Nothing (lines_of input) ≡ ended (codes "4") ++ ended (codes "2") ++ ended (codes "2") ++ ended (codes "4") ++ ended (codes "none")
+pub answers-input : answers_to Nothing (lines_of input)
+    ≡ ended (codes "4") ++ ended (codes "2") ++ ended (codes "2") ++ ended (codes "4") ++ ended (codes "none")
 unfolding answer_to_words holding_after_words number_of count select places digits
 answers-input = refl
