@@ -1,11 +1,11 @@
 -- How a run ends.
-use Rattle.std.proofs.Common.{ℕ, List, [], ◌++◌, Option, Ok, Err, Result, refl, sym, inl, inr}
+use Rattle.std.proofs.Common.{◌≡◌, ℕ, List, [], ◌++◌, Option, Ok, Err, Result, refl, sym, inl, inr}
 use Rattle.std.specs.Io.KnownBytes.{IsAtEnd}
 use Rattle.vers_cli.specs.declared.engine.RunError.{RunError}
 use Rattle.vers_cli.specs.declared.engine.RunError.TheVariants.{Read, Write, Memory}
 use Rattle.vers_cli.specs.Text.{whole_lines, lines_of}
 use Rattle.vers_cli.specs.Holding.{Holding, Nothing}
-use Rattle.vers_cli.specs.Answers.{AnswersLines, AreLinesRead, WrittenAt}
+use Rattle.vers_cli.specs.Answers.{answers_to, AreLinesRead, WrittenAt}
 use Rattle.vers_cli.specs.Session.{StandsAt, TakesOrFails, FinishesOrFails}
 use Rattle.vers_cli.proofs.Splits.{IsSplit-none}
 use Rattle.vers_cli.proofs.Steps.{whole_lines-IsSplit}
@@ -34,5 +34,5 @@ breaks Write left h p bytes text new rest read written s f =
     let w = f read written s in (w.0, inl (sym (whole_lines-IsSplit _ w.0 w.1 w.2)), w.3)
 
 -- at a fault of the reader
-pub stops : (h : Holding) (p read written : List ℕ) → StandsAt read written h p → AnswersLines Nothing (whole_lines read) written
+pub stops : (h : Holding) (p read written : List ℕ) → StandsAt read written h p → written ≡ answers_to Nothing (whole_lines read)
 stops h p read written s = rw (whole_lines-IsSplit read s.lines p s.split) s.answered

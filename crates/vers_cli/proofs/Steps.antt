@@ -6,10 +6,10 @@ use Rattle.vers_cli.specs.declared.engine.RunError.TheVariants.{Read, Write, Mem
 use Rattle.std.specs.List.{filter, All}
 use Rattle.vers_cli.specs.Text.{front, last_or, has_bytes, whole_lines, last_part, lines_of}
 use Rattle.vers_cli.specs.Holding.{Holding, Nothing}
-use Rattle.vers_cli.specs.Answers.{IsAnswerTo, holding_after, AnswersLines, holding_after_all, BeginsAnswer}
+use Rattle.vers_cli.specs.Answers.{answer_to, holding_after, answers_to, holding_after_all, BeginsAnswer}
 use Rattle.vers_cli.specs.Session.{IsSplit, AnswersOrStays, TakesOrFails, TakesSome, FinishesOrFails}
 use Rattle.vers_cli.proofs.Splits.{IsSplit-end, IsSplit-others, IsSplit-more, slice_split-IsSplit, front-push, last_or-push}
-use Rattle.vers_cli.proofs.Lines.{AnswersLines-then, AnswersLines-one, holding_after_all-append, some_answers}
+use Rattle.vers_cli.proofs.Lines.{answers_to-append, holding_after_all-append}
 
 -- the lines of a text that is split at its line ends
 pub whole_lines-IsSplit : (read : List ℕ) (lines : List (List ℕ)) (rest : List ℕ) → IsSplit 10 read lines rest → whole_lines read ≡ lines
@@ -26,23 +26,25 @@ pub lines_of-IsSplit : (read : List ℕ) (lines : List (List ℕ)) (rest : List 
 lines_of-IsSplit read lines rest h = rw (whole_lines-IsSplit read lines rest h, last_part-IsSplit read lines rest h)
 
 -- one more line was answered
-AnswersLines-more : (lines : List (List ℕ)) (answers : List ℕ) (h : Holding) (line text : List ℕ) → AnswersLines Nothing lines answers → h ≡ holding_after_all Nothing lines → IsAnswerTo h line text → AnswersLines Nothing (lines ++ line ∷ []) (answers ++ text)
-AnswersLines-more lines answers h line text whole holds a =
-    AnswersLines-then Nothing lines (line ∷ []) answers text whole (rw (← holds) (AnswersLines-one h line text a))
+answers-more : (lines : List (List ℕ)) (answers : List ℕ) (h : Holding) (line text : List ℕ) → answers ≡ answers_to Nothing lines → h ≡ holding_after_all Nothing lines → text ≡ answer_to h line → answers ++ text ≡ answers_to Nothing (lines ++ line ∷ [])
+answers-more lines answers h line text whole holds a =
+    ap (λ t. t ++ text) whole
+    ∙ ap (λ t. answers_to Nothing lines ++ t) (a ∙ ap (λ x. answer_to x line) holds ∙ sym (append-nil (answer_to (holding_after_all Nothing lines) line)))
+    ∙ sym (answers_to-append Nothing lines (line ∷ []))
 
 -- the answer of a line was gathered, or there was no memory for it
 pub AnswersOrStays-from : {E : Type 0} (r : Result (Unit {0}) E) (h : Holding) (line old answers : List ℕ) (new : Holding)
-    → OnOk r ((text : List ℕ) × IsAnswerTo h line text × (answers ≡ old ++ text)) → OnOk r (new ≡ holding_after h line) → OnErr r (answers ≡ old)
+    → OnOk r (answers ≡ old ++ answer_to h line) → OnOk r (new ≡ holding_after h line) → OnErr r (answers ≡ old)
     → (text : List ℕ) × (answers ≡ old ++ text) × AnswersOrStays r h line text new
-AnswersOrStays-from (Ok u) h line old answers new a n kept = (a.0, a.2, (a.1, n))
+AnswersOrStays-from (Ok u) h line old answers new a n kept = (answer_to h line, a, (refl, n))
 AnswersOrStays-from (Err e) h line old answers new a n kept = ([], kept ∙ sym (append-nil old), refl)
 
 -- bytes in which a line ends, and its answer
-pub TakesOrFails-line : (h : Holding) (p bs text : List ℕ) (new : Holding) → All (λ b. (b == 10) ≡ false) bs → IsAnswerTo h (p ++ bs) text → new ≡ holding_after h (p ++ bs) → TakesOrFails (Ok tt) h p (bs ++ 10 ∷ []) text new []
+pub TakesOrFails-line : (h : Holding) (p bs text : List ℕ) (new : Holding) → All (λ b. (b == 10) ≡ false) bs → text ≡ answer_to h (p ++ bs) → new ≡ holding_after h (p ++ bs) → TakesOrFails (Ok tt) h p (bs ++ 10 ∷ []) text new []
 TakesOrFails-line h p bs text new others a n read answers s = record {
   lines = s.lines ++ (p ++ bs) ∷ [];
   split = rw (← append_assoc read bs (10 ∷ [])) (IsSplit-end 10 (read ++ bs) s.lines (p ++ bs) (IsSplit-others 10 read s.lines p bs others s.split));
-  answered = AnswersLines-more s.lines answers h (p ++ bs) text s.answered s.holds a;
+  answered = answers-more s.lines answers h (p ++ bs) text s.answered s.holds a;
   holds = n ∙ ap (λ x. holding_after x (p ++ bs)) s.holds ∙ sym (holding_after_all-append Nothing s.lines ((p ++ bs) ∷ []));
 }
 
@@ -79,11 +81,11 @@ TakesOrFails-fails e h p bs t h1 p1 cs u h2 p2 h3 p3 a b read answers s =
     (f.0, f.1, rw (← append_assoc read bs cs) f.2, rw (← append_assoc answers t u) f.3)
 
 -- a beginning of the answers of some lines, where more lines were read
-BeginsAnswer-more : (lines more : List (List ℕ)) (answers text rest : List ℕ) → AnswersLines Nothing lines (answers ++ (text ++ rest)) → BeginsAnswer (lines ++ more) (answers ++ text)
+BeginsAnswer-more : (lines more : List (List ℕ)) (answers text rest : List ℕ) → answers ++ (text ++ rest) ≡ answers_to Nothing lines → BeginsAnswer (lines ++ more) (answers ++ text)
 BeginsAnswer-more lines more answers text rest whole =
-    let x = some_answers (holding_after_all Nothing lines) more in
-    let grouped : (answers ++ text) ++ (rest ++ x.0) ≡ (answers ++ (text ++ rest)) ++ x.0 = simp append_assoc in
-    (rest ++ x.0, rw grouped (AnswersLines-then Nothing lines more (answers ++ (text ++ rest)) x.0 whole x.1))
+    let others : List ℕ = answers_to (holding_after_all Nothing lines) more in
+    let grouped : (answers ++ text) ++ (rest ++ others) ≡ (answers ++ (text ++ rest)) ++ others = simp append_assoc in
+    (rest ++ others, grouped ∙ ap (λ t. t ++ others) whole ∙ sym (answers_to-append Nothing lines more))
 
 -- the answers of what was taken were written in part
 pub TakesOrFails-cut : {E : Type 0} (r : Result ℕ E) (h : Holding) (p bs text rest : List ℕ) (h1 : Holding) (p1 : List ℕ) (h2 : Holding) (p2 : List ℕ)
@@ -109,13 +111,13 @@ FinishesOrFails-stays h p read answers s =
     (s.lines, filter has_bytes (p ∷ []), lines_of-IsSplit read s.lines p s.split, rw append-nil s.answered)
 
 -- the end of the input, with a last line, of whose answer `text` was written
-pub FinishesOrFails-line : (r : Result (Unit {0}) RunError) (h : Holding) (p text rest : List ℕ) → (length p == 0) ≡ false → IsAnswerTo h p (text ++ rest)
+pub FinishesOrFails-line : (r : Result (Unit {0}) RunError) (h : Holding) (p text rest : List ℕ) → (length p == 0) ≡ false → text ++ rest ≡ answer_to h p
     → OnOk r (rest ≡ []) → IfErr r (λ e. e ≡ Write) → FinishesOrFails r h p text
 FinishesOrFails-line (Ok u) h p text rest some a none k =
     λ read answers s. rw (lines_of-IsSplit read s.lines p s.split, last_line-some p some)
-    (AnswersLines-more s.lines answers h p text s.answered s.holds (rw (none, append-nil) at a))
+    (answers-more s.lines answers h p text s.answered s.holds (rw (none, append-nil) at a))
 FinishesOrFails-line (Err Read) h p text rest some a none k = cc
 FinishesOrFails-line (Err Memory) h p text rest some a none k = cc
 FinishesOrFails-line (Err Write) h p text rest some a none k =
     λ read answers s. rw (lines_of-IsSplit read s.lines p s.split, last_line-some p some)
-    (rest, rw append_assoc (AnswersLines-more s.lines answers h p (text ++ rest) s.answered s.holds a))
+    (rest, rw append_assoc (answers-more s.lines answers h p (text ++ rest) s.answered s.holds a))

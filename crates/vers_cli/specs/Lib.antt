@@ -10,6 +10,5 @@ pub mod SparseLines
 pub mod ValuesLines
 pub mod Rules
 pub mod Answers
-pub mod Held
 pub mod Session
 pub mod Rows

@@ -11,8 +11,7 @@ use Rattle.vers_cli.specs.Arguments.{bits_of, two_numbers, all_numbers, each_nex
 use Rattle.vers_cli.specs.Name.{name_of}
 use Rattle.vers_cli.specs.Holding.{Holding, Nothing, BitsHeld, SortedHeld, SparseHeld, ValuesHeld}
 use Rattle.vers_cli.specs.ValuesLines.{places_between, first_least}
-use Rattle.vers_cli.specs.Reply.{BadLine, WrongStructure, Refused, Number, Absent, Numbers}
-use Rattle.vers_cli.specs.Answers.{IsAnswerToWords, IsAnswerTo, holding_after_words, holding_after, AnswersLines}
+use Rattle.vers_cli.specs.Answers.{answer_to_words, answer_to, holding_after_words, holding_after, answers_to}
 
 -- a text with the end of a line
 abbrev ended : List ℕ → List ℕ
@@ -90,9 +89,9 @@ pub bits_of-two_words : bits_of (codes "0" ∷ codes "1" ∷ []) ≡ None
 bits_of-two_words = refl
 
 -- a load line answers the length, and its list is held
-pub answer-bits_0110 : IsAnswerTo Nothing (codes "bits 0110") (ended (codes "4"))
-unfolding IsAnswerToWords digits
-answer-bits_0110 = (Number 4, refl, refl)
+pub answer-bits_0110 : answer_to Nothing (codes "bits 0110") ≡ ended (codes "4")
+unfolding answer_to_words digits
+answer-bits_0110 = refl
 
 pub held-bits_0110 : holding_after Nothing (codes "bits 0110") ≡ held_0110
 unfolding holding_after_words
@@ -103,34 +102,34 @@ pub held-bits_2 : holding_after held_0110 (codes "bits 2") ≡ held_0110
 unfolding holding_after_words
 held-bits_2 = refl
 
-pub answer-rank1_3 : IsAnswerTo held_0110 (codes "rank1 3") (ended (codes "2"))
-unfolding IsAnswerToWords number_of count digits
-answer-rank1_3 = (Number 2, refl, refl)
+pub answer-rank1_3 : answer_to held_0110 (codes "rank1 3") ≡ ended (codes "2")
+unfolding answer_to_words number_of count digits
+answer-rank1_3 = refl
 
-pub answer-select1_1 : IsAnswerTo held_0110 (codes "select1 1") (ended (codes "2"))
-unfolding IsAnswerToWords number_of select places digits
-answer-select1_1 = (Number 2, refl, refl)
+pub answer-select1_1 : answer_to held_0110 (codes "select1 1") ≡ ended (codes "2")
+unfolding answer_to_words number_of select places digits
+answer-select1_1 = refl
 
-pub answer-select1_2 : IsAnswerTo held_0110 (codes "select1 2") (ended (codes "4"))
-unfolding IsAnswerToWords number_of select places digits
-answer-select1_2 = (Number 4, refl, refl)
+pub answer-select1_2 : answer_to held_0110 (codes "select1 2") ≡ ended (codes "4")
+unfolding answer_to_words number_of select places digits
+answer-select1_2 = refl
 
-pub answer-get_9 : IsAnswerTo held_0110 (codes "get 9") (ended (codes "none"))
-unfolding IsAnswerToWords number_of
-answer-get_9 = (Absent, refl, refl)
+pub answer-get_9 : answer_to held_0110 (codes "get 9") ≡ ended (codes "none")
+unfolding answer_to_words number_of
+answer-get_9 = refl
 
 -- the name comes before what is held, and what is held before the arguments
-pub answer-no_name : IsAnswerTo Nothing (codes "foo 1") (ended (codes "bad line"))
-unfolding IsAnswerToWords
-answer-no_name = (BadLine, refl, refl)
+pub answer-no_name : answer_to Nothing (codes "foo 1") ≡ ended (codes "bad line")
+unfolding answer_to_words
+answer-no_name = refl
 
-pub answer-nothing_held : IsAnswerTo Nothing (codes "rank1 x") (ended (codes "wrong structure"))
-unfolding IsAnswerToWords
-answer-nothing_held = (WrongStructure, refl, refl)
+pub answer-nothing_held : answer_to Nothing (codes "rank1 x") ≡ ended (codes "wrong structure")
+unfolding answer_to_words
+answer-nothing_held = refl
 
-pub answer-malformed : IsAnswerTo held_0110 (codes "rank1 x") (ended (codes "bad line"))
-unfolding IsAnswerToWords number_of
-answer-malformed = (BadLine, refl, refl)
+pub answer-malformed : answer_to held_0110 (codes "rank1 x") ≡ ended (codes "bad line")
+unfolding answer_to_words number_of
+answer-malformed = refl
 
 -- numbers of a load line
 pub all_numbers-some : all_numbers (codes "12" ∷ codes "7" ∷ []) ≡ Some (12 ∷ 7 ∷ [])
@@ -148,44 +147,44 @@ each_next-equal = refl
 pub each_next-strict : each_next nat_lt (4 ∷ 4 ∷ 9 ∷ []) ≡ false
 each_next-strict = refl
 
-pub answer-sorted_449 : IsAnswerTo Nothing (codes "sorted 4 4 9") (ended (codes "3"))
-unfolding IsAnswerToWords number_of digits
-answer-sorted_449 = (Number 3, refl, refl)
+pub answer-sorted_449 : answer_to Nothing (codes "sorted 4 4 9") ≡ ended (codes "3")
+unfolding answer_to_words number_of digits
+answer-sorted_449 = refl
 
 pub held-sorted_449 : holding_after Nothing (codes "sorted 4 4 9") ≡ held_449
 unfolding holding_after_words number_of
 held-sorted_449 = refl
 
-pub answer-rank_5 : IsAnswerTo held_449 (codes "rank 5") (ended (codes "2"))
-unfolding IsAnswerToWords number_of below digits
-answer-rank_5 = (Number 2, refl, refl)
+pub answer-rank_5 : answer_to held_449 (codes "rank 5") ≡ ended (codes "2")
+unfolding answer_to_words number_of below digits
+answer-rank_5 = refl
 
 -- a list is answered with one space between its numbers, the empty list by an empty line
-pub answer-iter : IsAnswerTo held_449 (codes "iter") (ended (codes "4 4 9"))
-unfolding IsAnswerToWords digits
-answer-iter = (Numbers (4 ∷ 4 ∷ 9 ∷ []), refl, refl)
+pub answer-iter : answer_to held_449 (codes "iter") ≡ ended (codes "4 4 9")
+unfolding answer_to_words digits
+answer-iter = refl
 
-pub answer-iter_none : IsAnswerTo (SortedHeld []) (codes "iter") (ended [])
-unfolding IsAnswerToWords
-answer-iter_none = (Numbers [], refl, refl)
+pub answer-iter_none : answer_to (SortedHeld []) (codes "iter") ≡ ended []
+unfolding answer_to_words
+answer-iter_none = refl
 
 -- the lines of another structure
-pub answer-rank1_of_sorted : IsAnswerTo held_449 (codes "rank1 5") (ended (codes "wrong structure"))
-unfolding IsAnswerToWords
-answer-rank1_of_sorted = (WrongStructure, refl, refl)
+pub answer-rank1_of_sorted : answer_to held_449 (codes "rank1 5") ≡ ended (codes "wrong structure")
+unfolding answer_to_words
+answer-rank1_of_sorted = refl
 
 pub held-sparse_5_13 : holding_after Nothing (codes "sparse 5 1 3") ≡ SparseHeld (false ∷ true ∷ false ∷ true ∷ false ∷ [])
 unfolding holding_after_words number_of ones_at
 held-sparse_5_13 = refl
 
 -- a place that is not below the length, and a line without a length
-pub answer-place_outside : IsAnswerTo held_449 (codes "sparse 3 3") (ended (codes "refused"))
-unfolding IsAnswerToWords number_of
-answer-place_outside = (Refused, refl, refl)
+pub answer-place_outside : answer_to held_449 (codes "sparse 3 3") ≡ ended (codes "refused")
+unfolding answer_to_words number_of
+answer-place_outside = refl
 
-pub answer-no_length : IsAnswerTo held_449 (codes "sparse") (ended (codes "bad line"))
-unfolding IsAnswerToWords
-answer-no_length = (BadLine, refl, refl)
+pub answer-no_length : answer_to held_449 (codes "sparse") ≡ ended (codes "bad line")
+unfolding answer_to_words
+answer-no_length = refl
 
 -- a line with two arguments
 pub two_numbers-some : two_numbers (codes "2" ∷ codes "4" ∷ []) ≡ Some (2, 4)
@@ -215,47 +214,24 @@ first_least-2-1 = refl
 pub first_least-0-5 : first_least values_31211 0 5 ≡ None
 first_least-0-5 = refl
 
-pub answer-range_min_2_4 : IsAnswerTo (ValuesHeld values_31211) (codes "range_min 2 4") (ended (codes "3"))
-unfolding IsAnswerToWords number_of digits
-answer-range_min_2_4 = (Number 3, refl, refl)
+pub answer-range_min_2_4 : answer_to (ValuesHeld values_31211) (codes "range_min 2 4") ≡ ended (codes "3")
+unfolding answer_to_words number_of digits
+answer-range_min_2_4 = refl
 
-pub answer-range_min_0_5 : IsAnswerTo (ValuesHeld values_31211) (codes "range_min 0 5") (ended (codes "refused"))
-unfolding IsAnswerToWords number_of
-answer-range_min_0_5 = (Refused, refl, refl)
+pub answer-range_min_0_5 : answer_to (ValuesHeld values_31211) (codes "range_min 0 5") ≡ ended (codes "refused")
+unfolding answer_to_words number_of
+answer-range_min_0_5 = refl
 
 -- a line without words has no answer
-pub answer-no_words : IsAnswerTo held_0110 (codes "  ") []
-unfolding IsAnswerToWords
+pub answer-no_words : answer_to held_0110 (codes "  ") ≡ []
+unfolding answer_to_words
 answer-no_words = refl
 
 -- an input of five lines and all its answers
 abbrev input : List ℕ
 input = ended (codes "bits 0110") ++ ended (codes "rank1 3") ++ ended (codes "select1 1") ++ ended (codes "select1 2") ++ ended (codes "get 9")
 
-pub answers-input : AnswersLines Nothing (lines_of input) (ended (codes "4") ++ ended (codes "2") ++ ended (codes "2") ++ ended (codes "4") ++ ended (codes "none"))
-unfolding IsAnswerToWords holding_after_words
-answers-input = (
-  ended (codes "4"),
-  ended (codes "2") ++ ended (codes "2") ++ ended (codes "4") ++ ended (codes "none"),
-  answer-bits_0110,
-  (
-    ended (codes "2"),
-    ended (codes "2") ++ ended (codes "4") ++ ended (codes "none"),
-    answer-rank1_3,
-    (
-      ended (codes "2"),
-      ended (codes "4") ++ ended (codes "none"),
-      answer-select1_1,
-      (
-        ended (codes "4"),
-        ended (codes "none"),
-        answer-select1_2,
-        (ended (codes "none"), [], answer-get_9, refl, refl),
-        refl,
-      ),
-      refl,
-    ),
-    refl,
-  ),
-  refl,
-)
+pub answers-input : answers_to Nothing (lines_of input)
+    ≡ ended (codes "4") ++ ended (codes "2") ++ ended (codes "2") ++ ended (codes "4") ++ ended (codes "none")
+unfolding answer_to_words holding_after_words number_of count select places digits
+answers-input = refl

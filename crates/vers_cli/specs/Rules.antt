@@ -5,7 +5,7 @@
 -- 4. a query with malformed arguments, or another number of them: bad line;
 -- 5. a load line whose arguments are not admitted, or a query whose condition is not met: refused;
 -- 6. the answer.
-use Rattle.std.specs.Prelude.{◌≡◌, ℕ, List, Option, Some, None}
+use Rattle.std.specs.Prelude.{ℕ, List, Option, Some, None}
 use Rattle.vers_cli.specs.declared.name.Name.{Name}
 use Rattle.vers_cli.specs.declared.name.Load.{Load}
 use Rattle.vers_cli.specs.declared.name.Query.{Query}
@@ -38,19 +38,19 @@ holding_after_load held Malformed = held
 holding_after_load held Inadmissible = held
 holding_after_load held (Accepted new) = new
 
--- the replies that a query line may have
-abbrev pub IsQueryReply : Holding → Query → List (List ℕ) → PlainReply → Type 0
-IsQueryReply Nothing query arguments reply = reply ≡ WrongStructure
-IsQueryReply (BitsHeld bits) query arguments reply = reply ≡ bits_reply bits query arguments
-IsQueryReply (SortedHeld members) query arguments reply = reply ≡ sorted_reply members query arguments
-IsQueryReply (SparseHeld bits) query arguments reply = reply ≡ sparse_reply bits query arguments
-IsQueryReply (ValuesHeld values) query arguments reply = reply ≡ values_reply values query arguments
+-- the reply of a query line
+abbrev pub query_reply : Holding → Query → List (List ℕ) → PlainReply
+query_reply Nothing query arguments = WrongStructure
+query_reply (BitsHeld bits) query arguments = bits_reply bits query arguments
+query_reply (SortedHeld members) query arguments = sorted_reply members query arguments
+query_reply (SparseHeld bits) query arguments = sparse_reply bits query arguments
+query_reply (ValuesHeld values) query arguments = values_reply values query arguments
 
--- the replies that a line may have whose first word is this name, or none
-abbrev pub IsReply : Holding → Option Name → List (List ℕ) → PlainReply → Type 0
-IsReply held None arguments reply = reply ≡ BadLine
-IsReply held (Some (name.Load line)) arguments reply = reply ≡ load_reply (loaded line arguments)
-IsReply held (Some (name.Query line)) arguments reply = IsQueryReply held line arguments reply
+-- the reply of a line whose first word is this name, or none
+abbrev pub reply_to : Holding → Option Name → List (List ℕ) → PlainReply
+reply_to held None arguments = BadLine
+reply_to held (Some (name.Load line)) arguments = load_reply (loaded line arguments)
+reply_to held (Some (name.Query line)) arguments = query_reply held line arguments
 
 -- what is held after a line whose first word is this name, or none
 abbrev pub holding_after_name : Holding → Option Name → List (List ℕ) → Holding

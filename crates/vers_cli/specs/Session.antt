@@ -5,7 +5,7 @@ use Rattle.vers_cli.specs.declared.engine.RunError.{RunError}
 use Rattle.vers_cli.specs.declared.engine.RunError.TheVariants.{Read, Write, Memory}
 use Rattle.vers_cli.specs.Text.{lines_of}
 use Rattle.vers_cli.specs.Holding.{Holding, Nothing}
-use Rattle.vers_cli.specs.Answers.{IsAnswerTo, holding_after, AnswersLines, holding_after_all, AnswersFirst, BeginsAnswer}
+use Rattle.vers_cli.specs.Answers.{answer_to, holding_after, answers_to, holding_after_all, AnswersFirst, BeginsAnswer}
 
 -- each part, and the byte after it
 abbrev pub ended_by : ℕ → List (List ℕ) → List ℕ
@@ -23,7 +23,7 @@ pub record IsSplit (byte : ℕ) (text : List ℕ) (parts : List (List ℕ)) (res
 pub record StandsAt (read answers : List ℕ) (held : Holding) (pending : List ℕ) : Type 0 where
   pub lines : List (List ℕ)
   pub split : IsSplit 10 read lines pending
-  pub answered : AnswersLines Nothing lines answers
+  pub answered : answers ≡ answers_to Nothing lines
   pub holds : held ≡ holding_after_all Nothing lines
 
 -- what was written of the answers of lines at a fault that is not the reader's
@@ -34,7 +34,7 @@ FailsAt Write lines written = BeginsAnswer lines written
 
 -- the text answers one line, after which `new` is held, or there was no memory for it
 abbrev pub AnswersOrStays : {E : Type 0} → Result (Unit {0}) E → Holding → List ℕ → List ℕ → Holding → Type 0
-AnswersOrStays (Ok u) held line text new = IsAnswerTo held line text × (new ≡ holding_after held line)
+AnswersOrStays (Ok u) held line text new = (text ≡ answer_to held line) × (new ≡ holding_after held line)
 AnswersOrStays (Err e) held line text new = text ≡ []
 
 -- a session took the bytes and answered by the text, or met a fault on the way
@@ -55,7 +55,7 @@ TakesSome (Err e) held pending bytes text new rest = TakesOrFails (Err Memory) h
 -- at the end of the input the text answers what was pending, or a fault cut it off
 abbrev pub FinishesOrFails : Result (Unit {0}) RunError → Holding → List ℕ → List ℕ → Type 0
 FinishesOrFails (Ok u) held pending text =
-    (read answers : List ℕ) → StandsAt read answers held pending → AnswersLines Nothing (lines_of read) (answers ++ text)
+    (read answers : List ℕ) → StandsAt read answers held pending → answers ++ text ≡ answers_to Nothing (lines_of read)
 FinishesOrFails (Err e) held pending text =
     (read answers : List ℕ) → StandsAt read answers held pending → FailsAt e (lines_of read) (answers ++ text)
 

@@ -18,7 +18,10 @@ is_least values places m = list_all (λ p. nat_le (slice_index values m) (slice_
 
 -- the first place of a least value from i to j, where i is at most j and j is a place
 abbrev pub first_least : List ℕ → ℕ → ℕ → Option ℕ
-first_least values i j = if nat_le i j && nat_lt j (length values) then find (is_least values (places_between i j)) (places_between i j) else None
+first_least values i j =
+    if nat_le i j && nat_lt j (length values)
+    then find (is_least values (places_between i j)) (places_between i j)
+    else None
 
 -- the load line `values n ..`, for its numbers
 abbrev pub values_loaded : Option (List ℕ) → Loaded
@@ -28,5 +31,6 @@ values_loaded (Some values) = if nat_le (length values) MAX_LEN then Accepted (V
 -- the query lines, where these values are held
 abbrev pub values_reply : List ℕ → Query → List (List ℕ) → PlainReply
 values_reply values Len arguments = if_well_formed (no_arguments arguments) (λ _. Number (length values))
-values_reply values RangeMin arguments = if_well_formed (two_numbers arguments) (λ ends. number_or_refused (first_least values ends.0 ends.1))
+values_reply values RangeMin arguments =
+    if_well_formed (two_numbers arguments) (λ ends. number_or_refused (first_least values ends.0 ends.1))
 values_reply values _ arguments = WrongStructure

@@ -1,9 +1,8 @@
 //! What is held between lines.
 ghost use Rattle.std.specs.Prelude.{◌≡◌, IfOk};
 ghost use Rattle.vers_cli.specs.Text.{words_in};
-ghost use Rattle.vers_cli.specs.Holding.{length_of};
-ghost use Rattle.vers_cli.specs.Rules.{loaded, IsQueryReply};
-ghost use Rattle.vers_cli.specs.Held.{loaded_of};
+ghost use Rattle.vers_cli.specs.Holding.{length_of, loaded_of};
+ghost use Rattle.vers_cli.specs.Rules.{loaded, query_reply};
 
 use crate::name::{Load, Query};
 use crate::reply::Reply;
@@ -52,7 +51,7 @@ pub fn load<A: Allocator + Copy>(
 }
 
 impl<A: Allocator + Copy> Held<A> {
-    ghost use Rattle.vers_cli.specs.Held.{holding_of};
+    ghost use Rattle.vers_cli.specs.Holding.{holding_of};
     ghost use Rattle.vers_cli.specs.Reply.{plain_reply};
 
     /// The length of what is held.
@@ -70,7 +69,7 @@ impl<A: Allocator + Copy> Held<A> {
 
     /// The reply of a query line.
     pub fn reply(&self, alloc: A, query: Query, arguments: &[u8]) -> Result<Reply<A>, AllocError>
-        ensures { IfOk result (λ reply. IsQueryReply (holding_of self.now) query (words_in arguments.now) (plain_reply reply)) }
+        ensures { IfOk result (λ reply. plain_reply reply ≡ query_reply (holding_of self.now) query (words_in arguments.now)) }
     {
         match self {
             Held::Nothing => Ok(Reply::WrongStructure),

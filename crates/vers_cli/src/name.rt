@@ -1,5 +1,5 @@
 //! The names of lines.
-ghost use Rattle.std.specs.Prelude.{◌≡◌};
+ghost use Rattle.std.specs.Prelude.{◌≡◌, map, find, bytes_eq, option_map};
 
 /// The first word of a load line.
 #[derive(Clone, Copy, Drop)]
@@ -35,59 +35,53 @@ pub enum Name {
     Query(Query),
 }
 
-// All names.
-static NAMES: [Name; 17] = [
-    Name::Load(Load::Bits),
-    Name::Load(Load::Sorted),
-    Name::Load(Load::Sparse),
-    Name::Load(Load::Values),
-    Name::Query(Query::Len),
-    Name::Query(Query::Get),
-    Name::Query(Query::Rank0),
-    Name::Query(Query::Rank1),
-    Name::Query(Query::Select0),
-    Name::Query(Query::Select1),
-    Name::Query(Query::Rank),
-    Name::Query(Query::Predecessor),
-    Name::Query(Query::Successor),
-    Name::Query(Query::Delta),
-    Name::Query(Query::Iter),
-    Name::Query(Query::Iter1),
-    Name::Query(Query::RangeMin),
+/// All names, and how they are written. It is the one table of names: the contract of `Name::of`
+/// reads it too.
+pub const NAMES: [(&[u8], Name); 17] = [
+    (b"bits", Name::Load(Load::Bits)),
+    (b"sorted", Name::Load(Load::Sorted)),
+    (b"sparse", Name::Load(Load::Sparse)),
+    (b"values", Name::Load(Load::Values)),
+    (b"len", Name::Query(Query::Len)),
+    (b"get", Name::Query(Query::Get)),
+    (b"rank0", Name::Query(Query::Rank0)),
+    (b"rank1", Name::Query(Query::Rank1)),
+    (b"select0", Name::Query(Query::Select0)),
+    (b"select1", Name::Query(Query::Select1)),
+    (b"rank", Name::Query(Query::Rank)),
+    (b"predecessor", Name::Query(Query::Predecessor)),
+    (b"successor", Name::Query(Query::Successor)),
+    (b"delta", Name::Query(Query::Delta)),
+    (b"iter", Name::Query(Query::Iter)),
+    (b"iter1", Name::Query(Query::Iter1)),
+    (b"range_min", Name::Query(Query::RangeMin)),
 ];
 
 impl Name {
-    ghost use Rattle.vers_cli.specs.Name.{name_text, name_of};
+    ghost use Rattle.vers_cli.specs.Name.{named, name_of};
 
-    // How the name is written.
-    fn text(self) -> &'static [u8]
-        ensures { result.now ≡ name_text self }
+    // The entry of a table that is written so.
+    fn entry_of<'a>(
+        table: &'a [(&'static [u8], Name)],
+        word: &[u8],
+    ) -> Option<&'a (&'static [u8], Name)>
+        ensures { option_map (λ entry. entry.now) result ≡ find (λ entry. bytes_eq entry.0.now word.now) table.now }
     {
-        match self {
-            Name::Load(Load::Bits) => b"bits",
-            Name::Load(Load::Sorted) => b"sorted",
-            Name::Load(Load::Sparse) => b"sparse",
-            Name::Load(Load::Values) => b"values",
-            Name::Query(Query::Len) => b"len",
-            Name::Query(Query::Get) => b"get",
-            Name::Query(Query::Rank0) => b"rank0",
-            Name::Query(Query::Rank1) => b"rank1",
-            Name::Query(Query::Select0) => b"select0",
-            Name::Query(Query::Select1) => b"select1",
-            Name::Query(Query::Rank) => b"rank",
-            Name::Query(Query::Predecessor) => b"predecessor",
-            Name::Query(Query::Successor) => b"successor",
-            Name::Query(Query::Delta) => b"delta",
-            Name::Query(Query::Iter) => b"iter",
-            Name::Query(Query::Iter1) => b"iter1",
-            Name::Query(Query::RangeMin) => b"range_min",
-        }
+        table.iter().find(|entry| entry.0 == word)
+    }
+
+    // The name that a word is in a table of names.
+    fn named(table: &[(&'static [u8], Name)], word: &[u8]) -> Option<Name>
+        ensures { result ≡ named (map (λ entry. (entry.0.now, entry.1)) table.now) word.now }
+    {
+        let (_, name) = Name::entry_of(table, word)?;
+        Some(*name)
     }
 
     /// The name that a word is, unless it is none.
     pub fn of(word: &[u8]) -> Option<Name>
         ensures { result ≡ name_of word.now }
     {
-        NAMES.iter().copied().find(|name| name.text() == word)
+        Name::named(&NAMES, word)
     }
 }

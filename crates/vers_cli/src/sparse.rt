@@ -4,7 +4,7 @@ ghost use Rattle.std.specs.List.{list_all};
 ghost use Rattle.vers_cli.specs.Text.{words_in};
 ghost use Rattle.vers_cli.specs.Arguments.{each_next, all_numbers as numbers_all};
 ghost use Rattle.vers_cli.specs.SparseLines.{sparse_loaded, sparse_reply};
-ghost use Rattle.vers_cli.specs.Held.{loaded_of};
+ghost use Rattle.vers_cli.specs.Holding.{loaded_of};
 ghost use Rattle.vers_cli.specs.Reply.{plain_reply};
 
 use crate::arguments::{all_numbers, no_arguments, one_number};

@@ -1,11 +1,11 @@
 //! How a line is answered, and what is held after it.
-ghost use Rattle.std.specs.Prelude.{◌≡◌, ◌++◌, List, ℕ, length, take, IfOk, OnOk, OnErr};
+ghost use Rattle.std.specs.Prelude.{◌≡◌, ◌++◌, length, take, IfOk, OnOk, OnErr};
 ghost use Rattle.vers_cli.specs.Text.{words_in};
 ghost use Rattle.vers_cli.specs.Name.{name_of};
 ghost use Rattle.vers_cli.specs.Holding.{Nothing};
 ghost use Rattle.vers_cli.specs.Reply.{plain_reply};
-ghost use Rattle.vers_cli.specs.Rules.{loaded, load_reply, holding_after_load, IsReply, holding_after_name};
-ghost use Rattle.vers_cli.specs.Answers.{IsAnswerTo, holding_after};
+ghost use Rattle.vers_cli.specs.Rules.{loaded, load_reply, holding_after_load, reply_to, holding_after_name};
+ghost use Rattle.vers_cli.specs.Answers.{answer_to, holding_after};
 
 use crate::held;
 use crate::held::{Held, Loading};
@@ -24,7 +24,7 @@ pub struct Store<A: Allocator + Copy> {
 
 impl<A: Allocator + Copy> Model for Store<A> {
     ghost use Rattle.vers_cli.specs.Holding.{Holding};
-    ghost use Rattle.vers_cli.specs.Held.{holding_of};
+    ghost use Rattle.vers_cli.specs.Holding.{holding_of};
 
     ghost Value = { Holding };
 
@@ -60,7 +60,7 @@ impl<A: Allocator + Copy> Store<A> {
 
     // The reply of a line, by its first word and what stands after it.
     fn reply(&mut self, word: &[u8], arguments: &[u8]) -> Result<Reply<A>, AllocError>
-        ensures reply { IfOk result (λ reply. IsReply self.old (name_of word.now) (words_in arguments.now) (plain_reply reply)) }
+        ensures reply { IfOk result (λ reply. plain_reply reply ≡ reply_to self.old (name_of word.now) (words_in arguments.now)) }
         ensures holds { OnOk result (self.new ≡ holding_after_name self.old (name_of word.now) (words_in arguments.now)) }
     {
         match Name::of(word) {
@@ -72,8 +72,7 @@ impl<A: Allocator + Copy> Store<A> {
 
     // Appends the answer of a line. Where memory is refused a part of it may stand appended.
     fn append_answer(&mut self, line: &[u8], answers: &mut Vec<u8, A>) -> Result<(), AllocError>
-        ensures answer { OnOk result ((text : List ℕ)
-            × IsAnswerTo self.old line.now text × (answers.new.items ≡ answers.old.items ++ text)) }
+        ensures answer { OnOk result (answers.new.items ≡ answers.old.items ++ answer_to self.old line.now) }
         ensures holds { OnOk result (self.new ≡ holding_after self.old line.now) }
         ensures kept { take (length answers.old.items) answers.new.items ≡ answers.old.items }
     {
@@ -88,8 +87,7 @@ impl<A: Allocator + Copy> Store<A> {
     /// Appends the answer of a line, with its end. A line without words has none. Where memory is
     /// refused the answers stay as they were.
     pub fn answer(&mut self, line: &[u8], answers: &mut Vec<u8, A>) -> Result<(), AllocError>
-        ensures answer { OnOk result ((text : List ℕ)
-            × IsAnswerTo self.old line.now text × (answers.new.items ≡ answers.old.items ++ text)) }
+        ensures answer { OnOk result (answers.new.items ≡ answers.old.items ++ answer_to self.old line.now) }
         ensures holds { OnOk result (self.new ≡ holding_after self.old line.now) }
         ensures kept { OnErr result (answers.new.items ≡ answers.old.items) }
     {

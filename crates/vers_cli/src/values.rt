@@ -3,7 +3,7 @@ ghost use Rattle.std.specs.Prelude.{◌≡◌, IfOk};
 ghost use Rattle.vers_cli.specs.Text.{words_in};
 ghost use Rattle.vers_cli.specs.Arguments.{all_numbers as numbers_all};
 ghost use Rattle.vers_cli.specs.ValuesLines.{first_least, values_loaded, values_reply};
-ghost use Rattle.vers_cli.specs.Held.{loaded_of};
+ghost use Rattle.vers_cli.specs.Holding.{loaded_of};
 ghost use Rattle.vers_cli.specs.Reply.{plain_reply};
 
 use crate::arguments::{all_numbers, no_arguments, two_numbers};
