@@ -320,14 +320,14 @@ impl<const BLOCK_SIZE: usize, A: Allocator + Copy> BpTree<BLOCK_SIZE, A> {
     /// An iterator over the places of the ones, ascending: in balanced parentheses, the nodes in
     /// preorder.
     pub fn iter(&self) -> DfsIter<'_, A>
-        ensures { result ≡ record { bits = self.now; left = places true self.now } }
+        ensures { result ≡ record { left = places true self.now; step = select_reads (superblock_count (length self.now)) } }
     {
         DfsIter::new(&self.bits)
     }
 
     /// The same as `iter`.
     pub fn dfs_iter(&self) -> DfsIter<'_, A>
-        ensures { result ≡ record { bits = self.now; left = places true self.now } }
+        ensures { result ≡ record { left = places true self.now; step = select_reads (superblock_count (length self.now)) } }
     {
         self.iter()
     }

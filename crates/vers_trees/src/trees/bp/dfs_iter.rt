@@ -11,24 +11,26 @@ use std::marker::Model;
 use vers_rank::fast_rs_vec::{RsVec, SelectIter};
 use vers_tally::tally::Tally;
 
-/// An iterator over the places of the ones of a list, ascending. Contracts see it as the list of
-/// `bits` and the places `left`, which are still to come. An iterator that has ended stays ended.
+/// An iterator over the places of the ones of a list, ascending. Contracts see it as the places
+/// `left`, which are still to come, and what a `step` reads at most. An iterator that has ended
+/// stays ended.
 #[derive(Drop)]
 pub struct DfsIter<'a, A: Allocator + Copy> {
     places: SelectIter<'a, false, A>,
 }
 
 impl<'a, A: Allocator + Copy> Model for DfsIter<'a, A> {
-    ghost use Rattle.vers_rank.specs.Walks.{PlacesOf};
+    ghost use Rattle.std.specs.Prelude.{ℕ};
+    ghost use Rattle.vers_tally.specs.Ends.{Walking};
 
-    ghost Value = { PlacesOf };
+    ghost Value = { Walking ℕ };
 
-    ghost view = { λ s. s.places.rest };
+    ghost view = { λ s. s.places };
 }
 
 impl<'a, A: Allocator + Copy> DfsIter<'a, A> {
     pub(super) fn new(bits: &'a RsVec<A>) -> Self
-        ensures { result ≡ record { bits = bits.now; left = places true bits.now } }
+        ensures { result ≡ record { left = places true bits.now; step = select_reads (superblock_count (length bits.now)) } }
     {
         DfsIter {
             places: bits.iter1(),
@@ -39,7 +41,7 @@ impl<'a, A: Allocator + Copy> DfsIter<'a, A> {
     #[inline]
     pub fn next(&mut self) -> Option<usize>
         ensures steps { TakesFirst self.old.left result self.new.left }
-        ensures same_list { self.new.bits ≡ self.old.bits }
+        ensures same_step { self.new.step ≡ self.old.step }
     {
         let mut tally = Tally::new();
         self.next_counted(&mut tally)
@@ -49,8 +51,8 @@ impl<'a, A: Allocator + Copy> DfsIter<'a, A> {
     #[inline(always)]
     pub fn next_counted(&mut self, tally: &mut Tally) -> Option<usize>
         ensures steps { TakesFirst self.old.left result self.new.left }
-        ensures same_list { self.new.bits ≡ self.old.bits }
-        ensures adds { AddsAtMost tally.old tally.new (select_reads (superblock_count (length self.old.bits))) }
+        ensures same_step { self.new.step ≡ self.old.step }
+        ensures adds { AddsAtMost tally.old tally.new self.old.step }
     {
         self.places.next_counted(tally)
     }

@@ -1,6 +1,7 @@
 //! What a tree is turned into.
-ghost use Rattle.std.specs.Prelude.{◌≡◌, true};
+ghost use Rattle.std.specs.Prelude.{◌≡◌, true, length};
 ghost use Rattle.vers_bits.specs.Bits.{places};
+ghost use Rattle.vers_rank.specs.Queries.{superblock_count, select_reads};
 
 use super::BpTree;
 use std::alloc::Allocator;
@@ -40,7 +41,7 @@ impl<const BLOCK_SIZE: usize, A: Allocator + Copy> IntoIterator for BpTree<BLOCK
 
     type IntoIter = SelectIntoIter<false, A>;
 
-    ghost into_iter_gives = { λ t items. items.rest ≡ record { bits = t; left = places true t } };
+    ghost into_iter_gives = { λ t items. items ≡ record { left = places true t; step = select_reads (superblock_count (length t)) } };
 
     /// An iterator over the places of the ones, ascending, which owns the list. Takes no memory.
     fn into_iter(self) -> SelectIntoIter<false, A> {
