@@ -6,7 +6,11 @@
 - `crates.txt` lists the folders of `crates/`, each once.
 - Nothing cites a label of a paper or a path of one machine, and the links of the documents lead somewhere.
 - Each word of a crate's `specs/` that the contract of a public function cites stands in `docs/DEFINITIONS.md`, in backticks.
+- `let _ =` is a mention for the prover, of a field (`&self.len`) or of a length (`high.len()`), and nothing else.
 - Documents and comments are in plain English: `UNPLAIN` has the phrases that aren't, with those to write instead.
+- Of the proofs of a crate below, a crate imports the page of laws (`PublicLaws`) alone, and of its `specs/inside` nothing.
+- What only proofs need stands in `specs/inside`: no contract of a public function and no other page of `specs/` cites a word of it.
+- What is said to stand on the contracts of another part of its crate imports nothing of that part's inside: `ON_CONTRACTS`.
 
 Exit status 1 where a rule is broken, with a line for each place. `--self-test` breaks each rule in a small
 repository of its own and wants every break found.
@@ -31,10 +35,20 @@ LABEL = re.compile(r"(?<![\w-])[DFRTW][12]?\d(?![\w-])")
 MACHINE_PATH = re.compile(r"(?<![\w./-])/(?:work|opt|tmp|home|root|srv)/")
 PUBLIC = re.compile(r"[ \t]*pub (?:const )?(?:unsafe )?(fn|struct|enum|trait|const|static|type) (\w+)")
 PASSES_ON = re.compile(r"\{(?:[\w.:&*]+(?:::<\w+>)?(?:\([\w\s,&.*]*\)|\{\w+\})?)?\}")
-SPECS = re.compile(r"\bghost use Rattle\.(?!std\b)\w+\.specs\.(?!declared\b)[\w.]+\.\{([^}]*)\}")
+SPECS = re.compile(r"\bghost use Rattle\.(?!std\b)\w+\.specs\.(?!declared\b)([\w.]+)\.\{([^}]*)\}")
 DEFINITIONS = "docs/DEFINITIONS.md"
 LINK = re.compile(r"\]\(([^)#:\s]+)(?:#[^)]*)?\)")
 TEXTS = (".md", ".rt", ".antt", ".edit", ".py", ".sh", ".txt")
+DROPPED = re.compile(r"\blet _ = ([^;]*);")
+MENTION = re.compile(r"&\w+(?:\.\w+)+|\w+(?:\.\w+)*\.len\(\)")
+# the page of a crate's `proofs/` that crates above may import
+PAGE_OF_LAWS = "PublicLaws"
+FOREIGN = re.compile(r"\b(\w+)(?:\.|::)(proofs|specs)(?:\.|::)(\w+)(?:(?:\.|::)(\w+))?")
+# proofs that stand on the contracts of a part of their own crate, and the files of that part's inside
+ON_CONTRACTS = {
+    "crates/vers_sorted/proofs/SparseBits.antt": {"Holds", "Packed", "Buckets", "Makes", "Split", "Scans", "Aheads", "inside"},
+    "crates/vers_rmq/proofs/Blocks.antt": {"Tables"},
+}
 # phrases that are not plain English, and what to write instead
 UNPLAIN = {"want of memory": "out of memory", "at the most": "at most"}
 
@@ -79,6 +93,13 @@ def too_long(path, text, is_tests):
             yield f"{function.where}: {function.name} has {length} lines"
 
 
+def no_mentions(path, text):
+    """Yields a line for each value that is dropped at once and is no mention of a field or a length."""
+    for found in DROPPED.finditer(text):
+        if not MENTION.fullmatch(found[1]):
+            yield f"{path}:{text.count(chr(10), 0, found.start()) + 1}: drops `{found[1]}`; allowed: a mention of a field or a length"
+
+
 def unplain(path, text):
     """Yields a line for each phrase of a document or a comment that isn't plain English; it may go over the end of a line."""
     for phrase, instead in UNPLAIN.items():
@@ -86,6 +107,22 @@ def unplain(path, text):
         words = r"(?:\s|//[/!]?)+".join(phrase.split(" "))
         for found in re.finditer(rf"(?i)\b{words}\b(?!(?:\s|//[/!]?)+\w+[ae]nt\b)", text):
             yield f"{path}:{text.count(chr(10), 0, found.start()) + 1}: says `{phrase}`; write `{instead}`"
+
+
+def imported_insides(path, text, crates):
+    """Yields a line for each import of what a crate, or a part of it, keeps to itself."""
+    own = path.split("/")[1]
+    for found in FOREIGN.finditer(text):
+        crate, folder, name, part = found.groups()
+        line = f"{path}:{text.count(chr(10), 0, found.start()) + 1}"
+        if crate == own and name == "inside" and re.fullmatch(rf"crates/{own}/specs/\w+\.antt", path):
+            yield f"{line}: a word of public contracts stands on `{folder}.{name}.{part}`, which only proofs need"
+        elif crate in crates and crate != own:
+            if name == "inside" or folder == "proofs" and name != PAGE_OF_LAWS:
+                allowed = f"`{PAGE_OF_LAWS}`" if folder == "proofs" else "its other words"
+                yield f"{line}: imports `{folder}.{name}` of {crate}; allowed: {allowed}"
+        elif crate in (own, "crate") and {name, part} & ON_CONTRACTS.get(path, set()):
+            yield f"{line}: imports `{part or name}`, and is said to stand on contracts alone"
 
 
 def changed_functions(top, crate, sources, found):
@@ -143,6 +180,7 @@ def crate_faults(top, crate, files):
         yield from too_long(path, text, crate.endswith("_tests"))
         if not os.path.basename(path) == "main.rt":
             yield from undocumented(path, text)
+            yield from no_mentions(path, text)
 
 
 def public_files(crate, sources):
@@ -172,17 +210,22 @@ def public_functions(crate, sources):
 
 
 def undefined(crate, sources, defined):
-    """Yields a line for each word of `specs/` that the contract of a public function cites and that isn't defined."""
-    cited = {}
+    """Yields a line for each word of `specs/` that the contract of a public function cites, and that isn't defined or is of `specs/inside`."""
+    cited, inside = {}, {}
     for function in public_functions(crate, sources):
-        imported = [it.split(" as ") for names in SPECS.findall(function.file.contents) for it in names.split(",")]
-        words = {names[-1].strip(): names[0].strip() for names in imported}
+        words = {}
+        for page, names in SPECS.findall(function.file.contents):
+            for name in [it.split(" as ") for it in names.split(",")]:
+                words[name[-1].strip()] = name[0].strip(), page
         for before, word in zip(function.clauses, function.clauses[1:]):
             if word.text in words and before.text != ".":
-                cited.setdefault(words[word.text], function)
+                name, page = words[word.text]
+                (inside if page.startswith("inside") else cited).setdefault(name, function)
     for word, function in sorted(cited.items()):
         if word not in defined:
             yield f"{function.file.path}: {function.full_name} cites `{word}`, which {DEFINITIONS} doesn't define"
+    for word, function in sorted(inside.items()):
+        yield f"{function.file.path}: {function.full_name} cites `{word}` of `specs/inside`, which no public contract may"
 
 
 def missing_wrong_bodies(top):
@@ -218,6 +261,8 @@ def faults(top):
                 yield f"{path}:{number}: cites {label[0]}, which the repository doesn't hold"
         if path.endswith((".md", ".rt")):
             yield from unplain(path, text)
+        if path.startswith("crates/") and path.endswith((".antt", ".rt")):
+            yield from imported_insides(path, text, there)
         if path.endswith(".md"):
             for link in LINK.finditer(text):
                 if not os.path.exists(os.path.join(top, os.path.dirname(path), link[1])):
@@ -225,12 +270,17 @@ def faults(top):
 
 
 GOOD = {
-    "crates.txt": "low: # a comment\n",
+    "crates.txt": "low: # a comment\nhigh: low\nvers_rmq:\n",
     "README.md": "See [the page](docs/PAGE.md).\n",
     "docs/PAGE.md": "A page.\n",
     "docs/DEFINITIONS.md": "`more x` is the number after `x`.\n",
-    "crates/low/src/lib.rt": "//! A crate.\nghost use Rattle.low.specs.More.{more};\n\n/// One more.\n#[inline]\npub fn next(x: u8) -> u8\n    ensures { result ≡ more x }\n{\n    helper(x) & 255\n}\n\nfn helper(x: u8) -> u8 {\n    x + 1\n}\n",
+    "crates/low/src/lib.rt": "//! A crate.\nghost use Rattle.low.specs.More.{more};\n\n/// One more.\n#[inline]\npub fn next(x: u8) -> u8\n    ensures { result ≡ more x }\n{\n    let _ = &x.first;\n    let _ = x.len();\n    helper(x) & 255\n}\n\nfn helper(x: u8) -> u8 {\n    x + 1\n}\n",
     "crates/low/must-fail/off.edit": "file: src/lib.rt\nold:     x + 1\nnew:     x + 2\n",
+    "crates/low/specs/More.antt": "use Rattle.low.specs.Less.{less}\n",
+    "crates/low/proofs/PublicLaws.antt": "use Rattle.low.proofs.Own.{law}\n",
+    "crates/high/src/lib.rt": "//! A crate above.\nghost use Rattle.low.specs.More.{more};\n",
+    "crates/high/proofs/More.antt": "use Rattle.low.proofs.PublicLaws.{law}\nuse Rattle.high.proofs.Own.{law}\n",
+    "crates/vers_rmq/proofs/Blocks.antt": "use Rattle.vers_rmq.proofs.Minima.{law}\n",
 }
 # what is wanted to be said, and the change to the good repository that asks for it
 BREAKS = {
@@ -239,11 +289,17 @@ BREAKS = {
     "no wrong body reaches next": ("crates/low/must-fail/off.edit", "x + 1", "y + 1"),
     "has 64 lines": ("crates/low/src/lib.rt", "    x + 1\n", "    x + 1\n" + "\n" * 61),
     " lines": ("crates/low/src/lib.rt", "//! A crate.\n", "//! A crate.\n" + "\n" * 800),
-    "crates.txt lists": ("crates.txt", "low:", "high:"),
+    "crates.txt lists": ("crates.txt", "high:", "higher:"),
     "cites F7": ("docs/PAGE.md", "A page.", "As F7 says."),
     "cites /srv/": ("docs/PAGE.md", "A page.", "In /srv/kit."),
     "cites `more`": ("docs/DEFINITIONS.md", "`more x`", "More"),
     "cites `less`": ("crates/low/src/lib.rt", "{more}", "{less as more}"),
+    "imports `proofs.Own` of low": ("crates/high/proofs/More.antt", "low.proofs.PublicLaws", "low.proofs.Own"),
+    "imports `specs.inside` of low": ("crates/high/src/lib.rt", "low.specs.More", "low.specs.inside.More"),
+    "stands on `specs.inside.Part`": ("crates/low/specs/More.antt", "specs.Less", "specs.inside.Part"),
+    "cites `more` of `specs/inside`": ("crates/low/src/lib.rt", "specs.More", "specs.inside.More"),
+    "drops `helper(x)`": ("crates/low/src/lib.rt", "let _ = x.len();", "let _ = helper(x);"),
+    "imports `Tables`": ("crates/vers_rmq/proofs/Blocks.antt", "proofs.Minima", "specs.inside.Tables"),
     "leads nowhere": ("README.md", "docs/PAGE.md", "docs/NONE.md"),
     "says `at the most`": ("docs/PAGE.md", "A page.", "A page has at\nthe most one link."),
     "says `want of memory`": ("crates/low/src/lib.rt", "/// One more.\n", "/// One more. Err for want\n/// of memory.\n"),

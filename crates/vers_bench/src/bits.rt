@@ -1,4 +1,6 @@
 //! The series of lists of bits with ranks and selects.
+//!
+//! Each pass is a function of its own in the machine code, so that a profiler counts its instructions.
 use crate::report::{
     Series, Settings, asked, let_go, nanoseconds_since, print_size, run_builds, run_series,
 };
@@ -11,6 +13,7 @@ use vers_rank::fast_rs_vec::RsVec;
 
 type Bits = RsVec<Global>;
 
+#[inline(never)]
 fn rank1_pass(bits: &Bits, places: &[u64]) -> u64 {
     let mut sum = 0;
     for place in places {
@@ -20,6 +23,7 @@ fn rank1_pass(bits: &Bits, places: &[u64]) -> u64 {
 }
 
 // Each query waits for the answer of the one before.
+#[inline(never)]
 fn rank1_chained_pass(bits: &Bits, places: &[u64]) -> u64 {
     let mut sum = 0;
     let mut answer = 0u64;
@@ -30,6 +34,7 @@ fn rank1_chained_pass(bits: &Bits, places: &[u64]) -> u64 {
     sum
 }
 
+#[inline(never)]
 fn select1_pass(bits: &Bits, numbers: &[u64]) -> u64 {
     let mut sum = 0;
     for number in numbers {
@@ -38,6 +43,7 @@ fn select1_pass(bits: &Bits, numbers: &[u64]) -> u64 {
     sum
 }
 
+#[inline(never)]
 fn select1_chained_pass(bits: &Bits, numbers: &[u64]) -> u64 {
     let mut sum = 0;
     let mut answer = 0u64;
@@ -48,6 +54,7 @@ fn select1_chained_pass(bits: &Bits, numbers: &[u64]) -> u64 {
     sum
 }
 
+#[inline(never)]
 fn select0_pass(bits: &Bits, numbers: &[u64]) -> u64 {
     let mut sum = 0;
     for number in numbers {
@@ -56,6 +63,7 @@ fn select0_pass(bits: &Bits, numbers: &[u64]) -> u64 {
     sum
 }
 
+#[inline(never)]
 fn iter1_pass(bits: &Bits) -> u64 {
     bits.iter1()
         .fold(0u64, |sum, place| sum.wrapping_add(place as u64))

@@ -10,6 +10,9 @@ mod lists;
 mod minima;
 mod report;
 mod sorted;
+mod sparse;
+mod symbols;
+mod walks;
 mod workload;
 
 use report::{Mode, Settings};
@@ -97,6 +100,16 @@ fn run_bits(rt: &HostRuntime, settings: &Settings, query_count: usize) -> io::Re
     Ok(())
 }
 
+fn run_walks(rt: &HostRuntime, settings: &Settings) -> io::Result<()> {
+    for limb_count in limb_counts(settings) {
+        if limb_count > 0 {
+            walks::run(rt, settings, limb_count, 50)?;
+            walks::run(rt, settings, limb_count, 5)?;
+        }
+    }
+    Ok(())
+}
+
 fn run_lists(rt: &HostRuntime, settings: &Settings, query_count: usize) -> io::Result<()> {
     for limb_count in limb_counts(settings) {
         if limb_count > 0 {
@@ -104,6 +117,12 @@ fn run_lists(rt: &HostRuntime, settings: &Settings, query_count: usize) -> io::R
         }
     }
     Ok(())
+}
+
+fn run_sparse(rt: &HostRuntime, settings: &Settings, query_count: usize) -> io::Result<()> {
+    let limb_count = settings.scaled(16_384);
+    sparse::run(rt, settings, limb_count, 5, query_count)?;
+    sparse::run(rt, settings, limb_count, 1, query_count)
 }
 
 fn run_minima(rt: &HostRuntime, settings: &Settings, query_count: usize) -> io::Result<()> {
@@ -114,16 +133,32 @@ fn run_minima(rt: &HostRuntime, settings: &Settings, query_count: usize) -> io::
     }
 }
 
+fn run_symbols(rt: &HostRuntime, settings: &Settings) -> io::Result<()> {
+    let n = settings.scaled(1_000_000);
+    let query_count = settings.scaled(200_000);
+    symbols::run(rt, settings, n, 8, query_count)?;
+    symbols::run(rt, settings, n, 32, query_count)
+}
+
 fn run(rt: &HostRuntime, settings: &Settings) -> io::Result<()> {
     let query_count = settings.scaled(1_000_000);
     if settings.wants("bits") {
         run_bits(rt, settings, query_count)?;
+    }
+    if settings.wants("walks") {
+        run_walks(rt, settings)?;
     }
     if settings.wants("list") {
         run_lists(rt, settings, query_count)?;
     }
     if settings.wants("sorted") {
         sorted::run(rt, settings, query_count, settings.scaled(2_000))?;
+    }
+    if settings.wants("sparse") {
+        run_sparse(rt, settings, query_count)?;
+    }
+    if settings.wants("wavelet") {
+        run_symbols(rt, settings)?;
     }
     if settings.wants("rmq") {
         run_minima(rt, settings, query_count)?;

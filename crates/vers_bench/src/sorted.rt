@@ -1,5 +1,6 @@
 //! The series of ascending lists.
-ghost use Rattle.std.specs.Prelude.{IsTrue};
+//!
+//! Each pass is a function of its own in the machine code, so that a profiler counts its instructions.
 ghost use Rattle.std.specs.List.Sorted.{IsNonDecreasing};
 
 use crate::report::{
@@ -7,13 +8,15 @@ use crate::report::{
     run_series,
 };
 use crate::workload::{Clustered, NONE, Random, fold, members_clustered, members_uniform};
-use std::alloc::Global;
+use std::alloc::{AllocError, Global};
 use std::io;
 use std::time::CpuClock;
 use vers_sorted::elias_fano::EliasFanoVec;
+use vers_sorted::order::is_ascending;
 
 type Members = EliasFanoVec<Global>;
 
+#[inline(never)]
 fn get_pass(list: &Members, places: &[u64]) -> u64 {
     let mut sum = 0;
     for place in places {
@@ -22,6 +25,7 @@ fn get_pass(list: &Members, places: &[u64]) -> u64 {
     sum
 }
 
+#[inline(never)]
 fn rank_pass(list: &Members, values: &[u64]) -> u64 {
     let mut sum = 0;
     for value in values {
@@ -30,6 +34,7 @@ fn rank_pass(list: &Members, values: &[u64]) -> u64 {
     sum
 }
 
+#[inline(never)]
 fn predecessor_pass(list: &Members, values: &[u64]) -> u64 {
     let mut sum = 0;
     for value in values {
@@ -38,6 +43,7 @@ fn predecessor_pass(list: &Members, values: &[u64]) -> u64 {
     sum
 }
 
+#[inline(never)]
 fn successor_pass(list: &Members, values: &[u64]) -> u64 {
     let mut sum = 0;
     for value in values {
@@ -46,16 +52,17 @@ fn successor_pass(list: &Members, values: &[u64]) -> u64 {
     sum
 }
 
+#[inline(never)]
 fn iter_pass(list: &Members) -> u64 {
     list.iter()
         .fold(0u64, |sum, member| sum.wrapping_add(member))
 }
 
-// Whether the numbers ascend.
-fn is_ascending(numbers: &[u64]) -> bool
-    ensures { IsTrue result → IsNonDecreasing numbers.now }
+#[inline(never)]
+fn made_of(alloc: Global, numbers: &[u64]) -> Result<Members, AllocError>
+    requires { IsNonDecreasing numbers.now }
 {
-    numbers.is_sorted()
+    EliasFanoVec::from_slice(alloc, numbers)
 }
 
 // The time of a build.
@@ -63,7 +70,7 @@ fn build_time(rt: &HostRuntime, numbers: &[u64]) -> io::Result<u64>
     requires { IsNonDecreasing numbers.now }
 {
     let start = rt.thread_cpu_time()?;
-    let_go(EliasFanoVec::from_slice(rt.alloc(), numbers))?;
+    let_go(made_of(rt.alloc(), numbers))?;
     nanoseconds_since(rt, start)
 }
 

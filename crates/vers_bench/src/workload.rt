@@ -80,6 +80,17 @@ pub fn values(alloc: Global, count: usize) -> Result<Vec<u64>, AllocError> {
     Ok(values)
 }
 
+/// Symbols of at most 64 bits: the highest bits of numbers of 64.
+pub fn symbols(alloc: Global, count: usize, width: u16) -> Result<Vec<u64>, AllocError> {
+    let mut random = Random::new(4);
+    let shift = 64u32.saturating_sub(width as u32).min(63);
+    let mut symbols = Vec::with_capacity(alloc, count)?;
+    for _ in 0..count {
+        symbols.push(random.step() >> shift)?;
+    }
+    Ok(symbols)
+}
+
 /// Ascending members with gaps below 2^20.
 pub fn members_uniform(alloc: Global, count: usize) -> Result<Vec<u64>, AllocError> {
     let mut random = Random::new(2);

@@ -7,7 +7,7 @@ use Rattle.std.proofs.lemmas.Nat.{one_shl}
 use Rattle.std.proofs.lemmas.Nat.Bits.{bit_at-lt, bit_at_xor, bit_at-pow_same, bit_at-pow_other, bit_at_set_same, bit_at_set_other, bit_at_clear_same, bit_at_clear_other}
 use Rattle.std.proofs.lemmas.List.{get_or-take, get_or-set_same, get_or-set_other, length-take, length-set}
 use Rattle.vers_bits.specs.Bits.{limb_count}
-use Rattle.vers_bits.specs.Words.{word_bit, word_bits, HoldsBits, CutsTo, Puts}
+use Rattle.vers_bits.specs.inside.Words.{word_bit, word_bits, HoldsBits, CutsTo, Puts}
 use Rattle.vers_bits.proofs.Words.{length-word_bits, get_or-word_bits, word_bits_are, take-word_bits, past_words}
 use Rattle.vers_bits.proofs.LowBits.{bit_at_mod, bit_at_mod_above}
 

@@ -9,7 +9,7 @@ use Rattle.std.specs.Cmp.Lexicographic.{pointwise}
 use Rattle.std.proofs.lemmas.Slice.Eq.{bytes_eq-Decides}
 use Rattle.vers_bits.specs.Equality.{same_bits-Decides}
 use Rattle.vers_bits.specs.Bits.{bit_value, limb, limbs, limb_count}
-use Rattle.vers_bits.specs.Words.{word_bits, HoldsBits}
+use Rattle.vers_bits.specs.inside.Words.{word_bits, HoldsBits}
 use Rattle.vers_bits.specs.Equality.{same_bits}
 use Rattle.vers_bits.proofs.Words.{length-word_bits, limb-word_bits}
 use Rattle.vers_bits.proofs.Num.{bit_at-number}

@@ -4,7 +4,7 @@ use Rattle.std.specs.Int.{bit_at}
 use Rattle.std.proofs.lemmas.Nat.Bits.{bit_at_ones, bit_at-zero}
 use Rattle.std.proofs.lemmas.List.{get_or-replicate, length-replicate}
 use Rattle.vers_bits.specs.Bits.{limb_count}
-use Rattle.vers_bits.specs.Words.{word_bits, CutsTo}
+use Rattle.vers_bits.specs.inside.Words.{word_bits, CutsTo}
 use Rattle.vers_bits.proofs.Words.{word_bits_are}
 use Rattle.vers_bits.proofs.Edits.{cut_holds}
 

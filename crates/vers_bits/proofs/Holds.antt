@@ -7,7 +7,7 @@ use Rattle.std.proofs.lemmas.Nat.{shr-shr, pow_pos}
 use Rattle.std.proofs.lemmas.Nat.Bits.{bit_at-lt, bit_at_or, bit_at_above, bit_at_cat_low, bit_at_cat_high, bit_at-zero}
 use Rattle.std.proofs.lemmas.List.{get_or_past, get_or_push, get_or_append_left, get_or-append_right, get_or-set_same, get_or-set_other, length-append, length-replicate, get_or-replicate, length_push, length-set, take_all}
 use Rattle.vers_bits.specs.Bits.{bit_value, low_bits, limb_count}
-use Rattle.vers_bits.specs.Words.{word_bit, word_bits, HoldsBits, Holds}
+use Rattle.vers_bits.specs.inside.Words.{word_bit, word_bits, HoldsBits, Holds}
 use Rattle.vers_bits.proofs.Words.{length-word_bits, get_or-word_bits, word_bits_are, past_words}
 use Rattle.vers_bits.proofs.LowBits.{length-low_bits, get_or-low_bits, bit_at_mod, bit_value_test}
 

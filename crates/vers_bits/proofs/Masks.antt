@@ -9,7 +9,7 @@ use Rattle.std.proofs.lemmas.Option.{slice_get-get_or, slice_get_past}
 use Rattle.std.proofs.lemmas.List.{get_or-take, get_or-drop, get_or_past, get_or-set_same, get_or-set_other, length-take, length-drop}
 use Rattle.std.proofs.lemmas.List.FromFn.{length-map-range_with_len, get_or-map-range_with_len}
 use Rattle.vers_bits.specs.Bits.{bit_value, limb, masked}
-use Rattle.vers_bits.specs.Words.{word_bits, CutsTo}
+use Rattle.vers_bits.specs.inside.Words.{word_bits, CutsTo}
 use Rattle.vers_bits.proofs.Words.{word_bits_are}
 use Rattle.vers_bits.proofs.Edits.{cut_holds}
 use Rattle.vers_bits.proofs.Num.{bit_at-number}

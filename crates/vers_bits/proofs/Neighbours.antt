@@ -3,6 +3,7 @@ use Rattle.std.proofs.Common.{◌≡◌, ℕ, zero, suc, ◌+◌, ◌-◌, ◌<�
 use Rattle.std.specs.Prelude.{nat_lt, slice_get, filter, find}
 use Rattle.std.specs.List.{last_or}
 use Rattle.std.proofs.lemmas.Bool.{cases_lt, cases_Bool, lt-ltb, le-ltb}
+use Rattle.std.proofs.lemmas.Option.{slice_get-get_or, slice_get_past}
 use Rattle.vers_bits.specs.Bits.{is_bit, count, places, select, place_after, place_before}
 use Rattle.vers_bits.proofs.Count.{count_both, count_le_all, count_up, count_past}
 use Rattle.vers_bits.specs.Laws.{IsNextPlace, NoneUpToNeighbour, NoneDownToNeighbour}
@@ -15,36 +16,27 @@ find_is p (x ∷ s) zero h off on = ap (λ b. cond b (Some x) (find p s)) (on (o
 find_is p (x ∷ s) (suc k) h off on =
     ap (λ b. cond b (Some x) (find p s)) (off 0 (omega arith)) ∙ find_is p s k (omega arith) (λ i small. off (suc i) (omega arith)) (λ small. on (omega arith))
 
-pub last_none_of : (o : Option ℕ) (p : ℕ → Bool) (s : List ℕ) → ((i : ℕ) → i < length s → p (get_or s i 0) ≡ false) → last_or o (filter p s) ≡ o
-last_none_of o p [] off = refl
-last_none_of o p (x ∷ s) off =
-    ap (λ b. last_or o (cond b (x ∷ filter p s) (filter p s))) (off 0 (omega arith)) ∙ last_none_of o p s (λ i small. off (suc i) (omega arith))
+-- where no item passes
+pub none_passing : (o : Option ℕ) (p : ℕ → Bool) (s : List ℕ) → ((i : ℕ) → i < length s → p (get_or s i 0) ≡ false) → last_or o (filter p s) ≡ o
+none_passing o p [] off = refl
+none_passing o p (x ∷ s) off =
+    ap (λ b. last_or o (cond b (x ∷ filter p s) (filter p s))) (off 0 (omega arith)) ∙ none_passing o p s (λ i small. off (suc i) (omega arith))
 
 -- the last item that passes, in a list whose items pass up to number k
-pub last_is : (o : Option ℕ) (p : ℕ → Bool) (s : List ℕ) (k : ℕ) → k < length s → ((i : ℕ) → i < k + 1 → p (get_or s i 0) ≡ true)
+pub last_passing_is : (o : Option ℕ) (p : ℕ → Bool) (s : List ℕ) (k : ℕ) → k < length s → ((i : ℕ) → i < k + 1 → p (get_or s i 0) ≡ true)
     → ((i : ℕ) → k + 1 ≤ i → i < length s → p (get_or s i 0) ≡ false) → last_or o (filter p s) ≡ slice_get s k
-last_is o p [] k h on off = absurd (omega arith)
-last_is o p (x ∷ s) zero h on off =
-    ap (λ b. last_or o (cond b (x ∷ filter p s) (filter p s))) (on 0 (omega arith)) ∙ last_none_of (Some x) p s (λ i small. off (suc i) (omega arith) (omega arith))
-last_is o p (x ∷ s) (suc k) h on off =
+last_passing_is o p [] k h on off = absurd (omega arith)
+last_passing_is o p (x ∷ s) zero h on off =
+    ap (λ b. last_or o (cond b (x ∷ filter p s) (filter p s))) (on 0 (omega arith)) ∙ none_passing (Some x) p s (λ i small. off (suc i) (omega arith) (omega arith))
+last_passing_is o p (x ∷ s) (suc k) h on off =
     ap (λ b. last_or o (cond b (x ∷ filter p s) (filter p s))) (on 0 (omega arith))
-    ∙ last_is (Some x) p s k (omega arith) (λ i small. on (suc i) (omega arith)) (λ i large small. off (suc i) (omega arith) (omega arith))
+    ∙ last_passing_is (Some x) p s k (omega arith) (λ i small. on (suc i) (omega arith)) (λ i large small. off (suc i) (omega arith) (omega arith))
 
 -- inside a list no default is taken
 pub any_default : {X : Type 0} (s : List X) (i : ℕ) (d e : X) → i < length s → get_or s i d ≡ get_or s i e
 any_default [] i d e h = absurd (omega arith)
 any_default (x ∷ s) zero d e h = refl
 any_default (x ∷ s) (suc i) d e h = any_default s i d e (omega arith)
-
-get_is : (s : List ℕ) (i d : ℕ) → i < length s → slice_get s i ≡ Some (get_or s i d)
-get_is [] i d h = absurd (omega arith)
-get_is (x ∷ s) zero d h = refl
-get_is (x ∷ s) (suc i) d h = get_is s i d (omega arith)
-
-get_past : (s : List ℕ) (i : ℕ) → length s ≤ i → slice_get s i ≡ None
-get_past [] i h = refl
-get_past (x ∷ s) zero h = absurd (omega arith)
-get_past (x ∷ s) (suc i) h = get_past s i (omega arith)
 
 module _ (b : Bool) (l : List Bool) where
   place_number : (i : ℕ) → i < length (places b l) → get_or (places b l) i 0 ≡ select b l i
@@ -53,7 +45,7 @@ module _ (b : Bool) (l : List Bool) where
 
   get_place : (i : ℕ) → i < count b l (length l) → slice_get (places b l) i ≡ Some (select b l i)
   unfolding select
-  get_place i h = get_is (places b l) i (length l) (omega (arith, length-places b l))
+  get_place i h = slice_get-get_or (places b l) i (length l) (omega (arith, length-places b l))
 
   after_is : (p : ℕ) → place_after b l p ≡ slice_get (places b l) (count b l (p + 1))
   unfolding place_after
@@ -66,7 +58,7 @@ module _ (b : Bool) (l : List Bool) where
   place_after_some p h = after_is p ∙ get_place (count b l (p + 1)) h
 
   pub place_after_none : (p : ℕ) → count b l (length l) ≤ count b l (p + 1) → place_after b l p ≡ None
-  place_after_none p h = after_is p ∙ get_past (places b l) (count b l (p + 1)) (omega (arith, length-places b l))
+  place_after_none p h = after_is p ∙ slice_get_past (places b l) (count b l (p + 1)) (omega (arith, length-places b l))
 
   pub place_after_past : (p : ℕ) → length l ≤ p → place_after b l p ≡ None
   place_after_past p h = place_after_none p (omega (arith, count_past b l (p + 1) (omega arith)))
@@ -75,7 +67,7 @@ module _ (b : Bool) (l : List Bool) where
   pub place_before_some : (p : ℕ) → 0 < count b l p → place_before b l p ≡ Some (select b l (count b l p - 1))
   unfolding place_before
   place_before_some p h =
-      last_is None (λ q. nat_lt q p) (places b l) (count b l p - 1) (omega (arith, length-places b l, count_le_all b l p))
+      last_passing_is None (λ q. nat_lt q p) (places b l) (count b l p - 1) (omega (arith, length-places b l, count_le_all b l p))
       (λ i small. ap (λ q. nat_lt q p) (place_number i (omega (arith, length-places b l, count_le_all b l p))) ∙ lt-ltb (select b l i) p (select_below b l i p (omega arith)))
       (λ i large small. ap (λ q. nat_lt q p) (place_number i small) ∙ le-ltb (select b l i) p (select_not_below b l i p (omega (arith, length-places b l)) (omega arith)))
       ∙ get_place (count b l p - 1) (omega (arith, count_le_all b l p))
@@ -83,7 +75,7 @@ module _ (b : Bool) (l : List Bool) where
   pub place_before_none : (p : ℕ) → count b l p ≡ 0 → place_before b l p ≡ None
   unfolding place_before
   place_before_none p h =
-      last_none_of None (λ q. nat_lt q p) (places b l)
+      none_passing None (λ q. nat_lt q p) (places b l)
       (λ i small. ap (λ q. nat_lt q p) (place_number i small) ∙ le-ltb (select b l i) p (select_not_below b l i p (omega (arith, length-places b l)) (omega arith)))
 
 pub ruleset neighbours = (place_after_some, place_after_none, place_before_some, place_before_none)

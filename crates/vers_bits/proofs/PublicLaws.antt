@@ -1,6 +1,6 @@
 -- The laws that proofs of other crates may cite. A crate above imports this file and no other of this folder.
 use Rattle.std.proofs.Common.{◌≡◌, ℕ, ◌+◌, ◌-◌, ◌*◌, ◌%◌, ◌/◌, ◌^◌, ◌<◌, ◌≤◌, min, Bool, true, false, List, length, map, drop, get_or, slice_get, Option, None, Some}
-use Rattle.std.specs.Prelude.{count_ones}
+use Rattle.std.specs.Prelude.{count_ones, filter, find}
 use Rattle.std.specs.Iterator.{YieldsFirst, YieldsLast, MakesProgress, item_count}
 use Rattle.std.specs.Int.{bit_at}
 use Rattle.std.specs.List.{last_or}
@@ -149,6 +149,17 @@ number-low_bits = LowBits.number-low_bits
 -- inside a list no default is taken
 pub any_default : {X : Type 0} (xs : List X) (i : ℕ) (d e : X) → i < length xs → get_or xs i d ≡ get_or xs i e
 any_default = Neighbours.any_default
+
+-- the first item that passes a test, where none before number k does; no item passes; the last item that passes, where those up to number k do and no other does
+pub find_is : (p : ℕ → Bool) (s : List ℕ) (k : ℕ) → k ≤ length s → ((i : ℕ) → i < k → p (get_or s i 0) ≡ false) → (k < length s → p (get_or s k 0) ≡ true) → find p s ≡ slice_get s k
+find_is = Neighbours.find_is
+
+pub none_passing : (o : Option ℕ) (p : ℕ → Bool) (s : List ℕ) → ((i : ℕ) → i < length s → p (get_or s i 0) ≡ false) → last_or o (filter p s) ≡ o
+none_passing = Neighbours.none_passing
+
+pub last_passing_is : (o : Option ℕ) (p : ℕ → Bool) (s : List ℕ) (k : ℕ) → k < length s → ((i : ℕ) → i < k + 1 → p (get_or s i 0) ≡ true)
+    → ((i : ℕ) → k + 1 ≤ i → i < length s → p (get_or s i 0) ≡ false) → last_or o (filter p s) ≡ slice_get s k
+last_passing_is = Neighbours.last_passing_is
 
 -- ---- iterators from both ends, over the items at the places of a span
 

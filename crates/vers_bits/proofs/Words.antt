@@ -12,7 +12,7 @@ use Rattle.std.proofs.lemmas.List.{same_lists, places, get_or-take, get_or-drop,
 use Rattle.std.proofs.lemmas.List.FromFn.{length-map-range_with_len, get_or-map-range_with_len, take-map-range_with_len, map-range_with_len_more}
 use Rattle.std.proofs.lemmas.Option.{slice_get-get_or, slice_get_past}
 use Rattle.vers_bits.specs.Bits.{bit_value, limb}
-use Rattle.vers_bits.specs.Words.{word_bit, word_bits, HoldsBits, AddsBit}
+use Rattle.vers_bits.specs.inside.Words.{word_bit, word_bits, HoldsBits, AddsBit}
 use Rattle.vers_bits.proofs.Num.{number-lt, bit_at-number, bit_value_le}
 
 pub length-word_bits : (ws : List ℕ) (n : ℕ) → length (word_bits ws n) ≡ n

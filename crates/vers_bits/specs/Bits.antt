@@ -2,7 +2,7 @@
 -- These are the words that the contracts of every crate of the library are written in.
 use Rattle.std.specs.Prelude.{ℕ, ◌+◌, ◌*◌, ◌/◌, ◌%◌, ◌==◌, ◌&&◌, Bool, false, not, List, [], ◌∷◌, map, length, take, drop, count_by, filter, find, flat_map, slice_index_or, nat_lt, nat_le, Option, None, Some, if◌then◌else◌}
 use Rattle.std.specs.List.{range_with_len, last_or}
-use Rattle.std.specs.Int.{bit_at}
+use Rattle.std.specs.Int.{bit_at, div_ceil}
 
 -- a bit as a number: 1 for a one, 0 for a zero
 abbrev pub bit_value : Bool → ℕ
@@ -57,9 +57,13 @@ pack items k = flat_map (λ v. low_bits v k) items
 unfoldable pub limb : List Bool → ℕ → ℕ
 limb bits k = number (part bits (64 * k) 64)
 
--- how many limbs n bits fill, the last perhaps in part
+-- how many blocks of `size` n items fill, the last perhaps in part: n / size, rounded up
+abbrev pub block_count : ℕ → ℕ → ℕ
+block_count size n = div_ceil n size
+
+-- how many limbs n bits fill
 abbrev pub limb_count : ℕ → ℕ
-limb_count n = (n + 63) / 64
+limb_count n = block_count 64 n
 
 -- all limbs of a list
 unfoldable pub limbs : List Bool → List ℕ

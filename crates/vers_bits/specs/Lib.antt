@@ -1,9 +1,8 @@
 pub mod Bits
-pub mod Words
 pub mod Equality
 pub mod Makers
 pub mod Masks
-pub mod Kinds
 pub mod Laws
 pub mod Walk
 pub mod Rows
+pub mod inside

@@ -1,7 +1,7 @@
 //! The list of bits.
 ghost use Rattle.std.specs.Prelude.{◌≡◌, ℕ, ◌+◌, ◌-◌, ◌*◌, ◌/◌, ◌%◌, ◌^◌, ◌<◌, ◌≤◌, ◌↔◌, [], ◌∷◌, ◌++◌, length, take, drop, IsTrue, IsOk, OnOk, OnErr, IfOk, Some, None, slice_get, slice_index, slice_index_or, true, false, ◌==◌, Bool, List, option_map, flat_map};
 ghost use Rattle.vers_bits.specs.Bits.{bit_value, number, count, limb, limbs, limb_count, part, part_number};
-ghost use Rattle.vers_bits.specs.Words.{HoldsBits, AddsBit};
+ghost use Rattle.vers_bits.specs.inside.Words.{HoldsBits, AddsBit};
 ghost use Rattle.vers_bits.specs.Equality.{same_bits, hash_input, same_bits_per, same_bits_equiv, hash_input-Alike};
 
 pub use crate::bit_vec::fault::{GrowError, LengthMismatch, OutOfRange, SplitCause, SplitError};
@@ -32,7 +32,7 @@ pub struct BitVec<A: Allocator + Copy> {
 
 impl<A: Allocator + Copy> Model for BitVec<A> {
     ghost use Rattle.std.specs.Prelude.{List, Bool};
-    ghost use Rattle.vers_bits.specs.Words.{word_bits, HoldsBits};
+    ghost use Rattle.vers_bits.specs.inside.Words.{word_bits, HoldsBits};
 
     ghost Value = { List Bool };
 
@@ -90,7 +90,7 @@ impl<A: Allocator + Copy> Clone for BitVec<A> {
 #[tactic(auto, using(crate::proofs::Words::words))]
 impl<A: Allocator + Copy> BitVec<A> {
     /// The empty list, which takes no memory.
-    #[tactic(auto, unfolding(crate::specs::Words::word_bits))]
+    #[tactic(auto, unfolding(crate::specs::inside::Words::word_bits))]
     pub fn new(alloc: A) -> Self
         ensures { result ≡ [] }
     {

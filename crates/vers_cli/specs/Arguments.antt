@@ -1,7 +1,8 @@
 -- The arguments of a line: its words after the first. None where they are malformed.
-use Rattle.std.specs.Prelude.{ℕ, Bool, true, ◌||◌, ◌&&◌, ◌==◌, List, [], ◌∷◌, map, Option, Some, None, option_map, option_and_then, if◌then◌else◌}
+use Rattle.std.specs.Prelude.{ℕ, ℤ, Bool, true, ◌||◌, ◌&&◌, ◌==◌, List, [], ◌∷◌, map, Option, Some, None, option_map, option_and_then, if◌then◌else◌}
 use Rattle.std.specs.List.{list_all}
-use Rattle.vers_cli.specs.Text.{number_of}
+pub use Rattle.vers_sorted.specs.Sorted.{each_next}
+use Rattle.vers_cli.specs.Text.{number_of, signed_number_of}
 
 -- no argument
 abbrev pub no_arguments : List (List ℕ) → Option (Unit {0})
@@ -21,16 +22,17 @@ two_numbers (first ∷ []) = None
 two_numbers (first ∷ second ∷ []) = option_and_then (λ m. option_map (λ n. (m, n)) (number_of second)) (number_of first)
 two_numbers (first ∷ second ∷ other ∷ more) = None
 
+-- a number and a signed number
+abbrev pub number_and_signed : List (List ℕ) → Option (ℕ × ℤ)
+number_and_signed [] = None
+number_and_signed (first ∷ []) = None
+number_and_signed (first ∷ second ∷ []) = option_and_then (λ m. option_map (λ n. (m, n)) (signed_number_of second)) (number_of first)
+number_and_signed (first ∷ second ∷ other ∷ more) = None
+
 -- any number of numbers
 abbrev pub all_numbers : List (List ℕ) → Option (List ℕ)
 all_numbers [] = Some []
 all_numbers (word ∷ more) = option_and_then (λ n. option_map (λ others. n ∷ others) (all_numbers more)) (number_of word)
-
--- whether each number stands in this order to the next one
-abbrev pub each_next : (ℕ → ℕ → Bool) → List ℕ → Bool
-each_next order [] = true
-each_next order (n ∷ []) = true
-each_next order (n ∷ next ∷ more) = order n next && each_next order (next ∷ more)
 
 -- whether a byte is the digit 0 or 1
 abbrev pub is_bit_digit : ℕ → Bool

@@ -5,13 +5,14 @@ use Rattle.vers_bits.specs.declared.bit_vec.TheConstants.{MAX_LEN}
 use Rattle.vers_cli.specs.declared.name.Query.{Query}
 use Rattle.vers_cli.specs.declared.name.Query.TheVariants.{Len, Get, Rank0, Rank1, Select0, Select1}
 use Rattle.vers_cli.specs.Arguments.{no_arguments, one_number}
-use Rattle.vers_cli.specs.Holding.{Loaded, Malformed, Inadmissible, Accepted, BitsHeld}
+use Rattle.vers_cli.specs.declared.loading.Loading.{Loading}
+use Rattle.vers_cli.specs.declared.loading.Loading.TheVariants.{Malformed, Inadmissible, Accepted}
 use Rattle.vers_cli.specs.Reply.{PlainReply, WrongStructure, Number, if_well_formed, number_or_absent}
 
 -- the load line `bits S`, for the bits that S writes
-abbrev pub bits_loaded : Option (List Bool) → Loaded
+abbrev pub bits_loaded : Option (List Bool) → Loading (List Bool)
 bits_loaded None = Malformed
-bits_loaded (Some bits) = if nat_le (length bits) MAX_LEN then Accepted (BitsHeld bits) else Inadmissible
+bits_loaded (Some bits) = if nat_le (length bits) MAX_LEN then Accepted bits else Inadmissible
 
 -- the query lines, where these bits are held
 abbrev pub bits_reply : List Bool → Query → List (List ℕ) → PlainReply

@@ -2,12 +2,14 @@ pub mod Device
 pub mod Text
 pub mod Arguments
 pub mod Name
+pub mod Loading
 pub mod Holding
 pub mod Reply
 pub mod BitsLines
 pub mod SortedLines
 pub mod SparseLines
 pub mod ValuesLines
+pub mod TreeLines
 pub mod Rules
 pub mod Answers
 pub mod Session

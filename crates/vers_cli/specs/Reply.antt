@@ -1,5 +1,6 @@
 -- What a line is answered by.
-use Rattle.std.specs.Prelude.{ℕ, ◌++◌, List, [], ◌∷◌, flat_map, codes, decimal, Option, Some, None}
+use Rattle.std.specs.Prelude.{ℕ, ℤ, ◌++◌, List, [], ◌∷◌, flat_map, codes, decimal, Option, Some, None}
+use Rattle.std.specs.Fmt.{signed_decimal}
 use Rattle.vers_cli.specs.declared.reply.Reply.{Reply}
 use Rattle.vers_cli.specs.declared.reply.Reply.TheVariants as reply
 
@@ -9,6 +10,7 @@ pub data PlainReply : Type 0 where
   WrongStructure : PlainReply
   Refused : PlainReply
   Number : ℕ → PlainReply
+  Signed : ℤ → PlainReply
   Absent : PlainReply
   Numbers : List ℕ → PlainReply
 
@@ -18,6 +20,7 @@ plain_reply reply.BadLine = BadLine
 plain_reply reply.WrongStructure = WrongStructure
 plain_reply reply.Refused = Refused
 plain_reply (reply.Number n) = Number n
+plain_reply (reply.Signed n) = Signed n
 plain_reply reply.Absent = Absent
 plain_reply (reply.Numbers numbers) = Numbers numbers.items
 
@@ -32,6 +35,7 @@ reply_text BadLine = codes "bad line"
 reply_text WrongStructure = codes "wrong structure"
 reply_text Refused = codes "refused"
 reply_text (Number n) = decimal n
+reply_text (Signed n) = signed_decimal n
 reply_text Absent = codes "none"
 reply_text (Numbers numbers) = numbers_text numbers
 

@@ -1,16 +1,21 @@
 -- Worked rows of the definitions, which compute.
-use Rattle.std.specs.Prelude.{◌≡◌, ℕ, ◌++◌, true, false, nat_le, nat_lt, List, [], ◌∷◌, codes, Some, None, refl}
+use Rattle.std.specs.Prelude.{◌≡◌, ℕ, ◌++◌, pos, negsuc, true, false, List, [], ◌∷◌, codes, Some, None, refl}
 use Rattle.std.specs.Fmt.{digits}
 use Rattle.vers_bits.specs.Bits.{count, places, select}
 use Rattle.vers_sorted.specs.Sorted.{below}
 use Rattle.vers_sorted.specs.Ones.{ones_at}
+use Rattle.vers_trees.specs.Excess.{excess, first_rise_after, last_rise_before, enclosing}
 use Rattle.vers_cli.specs.declared.name.Name.TheVariants.{Query}
-use Rattle.vers_cli.specs.declared.name.Query.TheVariants.{Rank1}
-use Rattle.vers_cli.specs.Text.{number_of, words_of, whole_lines, last_part, lines_of}
-use Rattle.vers_cli.specs.Arguments.{bits_of, two_numbers, all_numbers, each_next}
+use Rattle.vers_cli.specs.declared.name.Query.TheVariants.{Rank1, Tree}
+use Rattle.vers_cli.specs.declared.name.TreeQuery.TheVariants.{Place, Search}
+use Rattle.vers_cli.specs.declared.name.PlaceQuery.TheVariants.{Open}
+use Rattle.vers_cli.specs.declared.name.SearchQuery.TheVariants.{BwdSearch}
+use Rattle.vers_cli.specs.Text.{number_of, signed_number_of, words_of, whole_lines, last_part, lines_of}
+use Rattle.vers_cli.specs.Arguments.{bits_of, two_numbers, number_and_signed, all_numbers}
 use Rattle.vers_cli.specs.Name.{name_of}
-use Rattle.vers_cli.specs.Holding.{Holding, Nothing, BitsHeld, SortedHeld, SparseHeld, ValuesHeld}
+use Rattle.vers_cli.specs.Holding.{Holding, Nothing, BitsHeld, SortedHeld, SparseHeld, ValuesHeld, TreeHeld}
 use Rattle.vers_cli.specs.ValuesLines.{places_between, first_least}
+use Rattle.vers_cli.specs.TreeLines.{are_balanced}
 use Rattle.vers_cli.specs.Answers.{answer_to_words, answer_to, holding_after_words, holding_after, answers_to}
 
 -- a text with the end of a line
@@ -49,6 +54,35 @@ pub number_of-no_digit : number_of [] ≡ None
 unfolding number_of
 number_of-no_digit = refl
 
+-- a sign, and the ends of the range
+pub signed_number_of-minus : signed_number_of (codes "-12") ≡ Some (negsuc 11)
+unfolding signed_number_of number_of
+signed_number_of-minus = refl
+
+pub signed_number_of-minus_zero : signed_number_of (codes "-00") ≡ Some (pos 0)
+unfolding signed_number_of number_of
+signed_number_of-minus_zero = refl
+
+pub signed_number_of-least : signed_number_of (codes "-9223372036854775808") ≡ Some (negsuc 9223372036854775807)
+unfolding signed_number_of number_of
+signed_number_of-least = refl
+
+pub signed_number_of-below_least : signed_number_of (codes "-9223372036854775809") ≡ None
+unfolding signed_number_of number_of
+signed_number_of-below_least = refl
+
+pub signed_number_of-greatest : signed_number_of (codes "9223372036854775807") ≡ Some (pos 9223372036854775807)
+unfolding signed_number_of number_of
+signed_number_of-greatest = refl
+
+pub signed_number_of-above_greatest : signed_number_of (codes "9223372036854775808") ≡ None
+unfolding signed_number_of number_of
+signed_number_of-above_greatest = refl
+
+pub signed_number_of-sign_alone : signed_number_of (codes "-") ≡ None
+unfolding signed_number_of number_of
+signed_number_of-sign_alone = refl
+
 -- runs of spaces make no words, and one byte 13 at the end is dropped
 pub words_of-spaces : words_of (codes " rank1  3 " ++ 13 ∷ []) ≡ codes "rank1" ∷ codes "3" ∷ []
 words_of-spaces = refl
@@ -78,6 +112,12 @@ name_of-rank1 = refl
 
 pub name_of-rank2 : name_of (codes "rank2") ≡ None
 name_of-rank2 = refl
+
+pub name_of-open : name_of (codes "open") ≡ Some (Query (Tree (Place Open)))
+name_of-open = refl
+
+pub name_of-bwd_search : name_of (codes "bwd_search") ≡ Some (Query (Tree (Search BwdSearch)))
+name_of-bwd_search = refl
 
 pub bits_of-none : bits_of [] ≡ Some []
 bits_of-none = refl
@@ -141,12 +181,6 @@ unfolding number_of
 all_numbers-malformed = refl
 
 -- an ascending list may have equal members, and a sparse list takes each place once
-pub each_next-equal : each_next nat_le (4 ∷ 4 ∷ 9 ∷ []) ≡ true
-each_next-equal = refl
-
-pub each_next-strict : each_next nat_lt (4 ∷ 4 ∷ 9 ∷ []) ≡ false
-each_next-strict = refl
-
 pub answer-sorted_449 : answer_to Nothing (codes "sorted 4 4 9") ≡ ended (codes "3")
 unfolding answer_to_words number_of digits
 answer-sorted_449 = refl
@@ -221,6 +255,54 @@ answer-range_min_2_4 = refl
 pub answer-range_min_0_5 : answer_to (ValuesHeld values_31211) (codes "range_min 0 5") ≡ ended (codes "refused")
 unfolding answer_to_words number_of
 answer-range_min_0_5 = refl
+
+-- a line with a signed argument
+pub number_and_signed-some : number_and_signed (codes "2" ∷ codes "-1" ∷ []) ≡ Some (2, negsuc 0)
+unfolding number_of signed_number_of
+number_and_signed-some = refl
+
+-- parentheses read from the left: all that open close, one stays open, and one closes what didn't open
+pub are_balanced-110100 : are_balanced (true ∷ true ∷ false ∷ true ∷ false ∷ false ∷ []) ≡ true
+are_balanced-110100 = refl
+
+pub are_balanced-110 : are_balanced (true ∷ true ∷ false ∷ []) ≡ false
+are_balanced-110 = refl
+
+pub are_balanced-01 : are_balanced (false ∷ true ∷ []) ≡ false
+are_balanced-01 = refl
+
+-- a node with two leaves, held
+abbrev held_tree : Holding
+held_tree = TreeHeld (true ∷ true ∷ false ∷ true ∷ false ∷ false ∷ [])
+
+pub held-tree_110100 : holding_after held_0110 (codes "tree 110100") ≡ held_tree
+unfolding holding_after_words
+held-tree_110100 = refl
+
+pub answer-close_0 : answer_to held_tree (codes "close 0") ≡ ended (codes "5")
+unfolding answer_to_words number_of first_rise_after excess count digits
+answer-close_0 = refl
+
+pub answer-enclose_4 : answer_to held_tree (codes "enclose 4") ≡ ended (codes "0")
+unfolding answer_to_words number_of enclosing last_rise_before excess count digits
+answer-enclose_4 = refl
+
+pub answer-bwd_search_5 : answer_to held_tree (codes "bwd_search 5 -1") ≡ ended (codes "0")
+unfolding answer_to_words number_of signed_number_of last_rise_before excess count digits
+answer-bwd_search_5 = refl
+
+pub answer-dfs_iter : answer_to held_tree (codes "dfs_iter") ≡ ended (codes "0 1 3")
+unfolding answer_to_words places digits
+answer-dfs_iter = refl
+
+-- the excess may be below 0, and is refused past the end
+pub answer-excess_0 : answer_to (TreeHeld (false ∷ true ∷ [])) (codes "excess 0") ≡ ended (codes "-1")
+unfolding answer_to_words number_of excess count digits
+answer-excess_0 = refl
+
+pub answer-excess_2 : answer_to (TreeHeld (false ∷ true ∷ [])) (codes "excess 2") ≡ ended (codes "refused")
+unfolding answer_to_words number_of
+answer-excess_2 = refl
 
 -- a line without words has no answer
 pub answer-no_words : answer_to held_0110 (codes "  ") ≡ []

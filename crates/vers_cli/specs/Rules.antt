@@ -12,28 +12,33 @@ use Rattle.vers_cli.specs.declared.name.Query.{Query}
 use Rattle.vers_cli.specs.declared.name.Name.TheVariants as name
 use Rattle.vers_cli.specs.declared.name.Load.TheVariants as load
 use Rattle.vers_cli.specs.Arguments.{bits_of, all_numbers}
-use Rattle.vers_cli.specs.Holding.{Holding, Nothing, BitsHeld, SortedHeld, SparseHeld, ValuesHeld, length_of, Loaded, Malformed, Inadmissible, Accepted}
+use Rattle.vers_cli.specs.Holding.{Holding, Nothing, BitsHeld, SortedHeld, SparseHeld, ValuesHeld, TreeHeld, length_of}
+use Rattle.vers_cli.specs.Loading.{map_loading}
+use Rattle.vers_cli.specs.declared.loading.Loading.{Loading}
+use Rattle.vers_cli.specs.declared.loading.Loading.TheVariants.{Malformed, Inadmissible, Accepted}
 use Rattle.vers_cli.specs.Reply.{PlainReply, BadLine, WrongStructure, Refused, Number}
 use Rattle.vers_cli.specs.BitsLines.{bits_loaded, bits_reply}
 use Rattle.vers_cli.specs.SortedLines.{sorted_loaded, sorted_reply}
 use Rattle.vers_cli.specs.SparseLines.{sparse_loaded, sparse_reply}
 use Rattle.vers_cli.specs.ValuesLines.{values_loaded, values_reply}
+use Rattle.vers_cli.specs.TreeLines.{tree_loaded, tree_reply}
 
 -- what a load line gives
-abbrev pub loaded : Load → List (List ℕ) → Loaded
-loaded load.Bits arguments = bits_loaded (bits_of arguments)
-loaded load.Sorted arguments = sorted_loaded (all_numbers arguments)
-loaded load.Sparse arguments = sparse_loaded (all_numbers arguments)
-loaded load.Values arguments = values_loaded (all_numbers arguments)
+abbrev pub loaded : Load → List (List ℕ) → Loading Holding
+loaded load.Bits arguments = map_loading BitsHeld (bits_loaded (bits_of arguments))
+loaded load.Sorted arguments = map_loading SortedHeld (sorted_loaded (all_numbers arguments))
+loaded load.Sparse arguments = map_loading SparseHeld (sparse_loaded (all_numbers arguments))
+loaded load.Values arguments = map_loading ValuesHeld (values_loaded (all_numbers arguments))
+loaded load.Tree arguments = map_loading TreeHeld (tree_loaded (bits_of arguments))
 
 -- the reply of a load line: the length where it is accepted
-abbrev pub load_reply : Loaded → PlainReply
+abbrev pub load_reply : Loading Holding → PlainReply
 load_reply Malformed = BadLine
 load_reply Inadmissible = Refused
 load_reply (Accepted held) = Number (length_of held)
 
 -- what is held after a load line: as before, unless it is accepted
-abbrev pub holding_after_load : Holding → Loaded → Holding
+abbrev pub holding_after_load : Holding → Loading Holding → Holding
 holding_after_load held Malformed = held
 holding_after_load held Inadmissible = held
 holding_after_load held (Accepted new) = new
@@ -45,6 +50,7 @@ query_reply (BitsHeld bits) query arguments = bits_reply bits query arguments
 query_reply (SortedHeld members) query arguments = sorted_reply members query arguments
 query_reply (SparseHeld bits) query arguments = sparse_reply bits query arguments
 query_reply (ValuesHeld values) query arguments = values_reply values query arguments
+query_reply (TreeHeld bits) query arguments = tree_reply bits query arguments
 
 -- the reply of a line whose first word is this name, or none
 abbrev pub reply_to : Holding → Option Name → List (List ℕ) → PlainReply

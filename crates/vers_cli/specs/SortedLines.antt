@@ -4,13 +4,14 @@ use Rattle.vers_sorted.specs.Sorted.{below, greatest_not_above, least_not_below,
 use Rattle.vers_cli.specs.declared.name.Query.{Query}
 use Rattle.vers_cli.specs.declared.name.Query.TheVariants.{Len, Get, Rank, Predecessor, Successor, Delta, Iter}
 use Rattle.vers_cli.specs.Arguments.{no_arguments, one_number, each_next}
-use Rattle.vers_cli.specs.Holding.{Loaded, Malformed, Inadmissible, Accepted, SortedHeld}
+use Rattle.vers_cli.specs.declared.loading.Loading.{Loading}
+use Rattle.vers_cli.specs.declared.loading.Loading.TheVariants.{Malformed, Inadmissible, Accepted}
 use Rattle.vers_cli.specs.Reply.{PlainReply, WrongStructure, Number, Numbers, if_well_formed, number_or_absent}
 
 -- the load line `sorted n ..`, for its numbers, which have to ascend
-abbrev pub sorted_loaded : Option (List ℕ) → Loaded
+abbrev pub sorted_loaded : Option (List ℕ) → Loading (List ℕ)
 sorted_loaded None = Malformed
-sorted_loaded (Some numbers) = if each_next nat_le numbers then Accepted (SortedHeld numbers) else Inadmissible
+sorted_loaded (Some numbers) = if each_next nat_le numbers then Accepted numbers else Inadmissible
 
 -- the query lines, where these members are held
 abbrev pub sorted_reply : List ℕ → Query → List (List ℕ) → PlainReply

@@ -6,14 +6,15 @@ use Rattle.vers_sorted.specs.Ones.{ones_at}
 use Rattle.vers_cli.specs.declared.name.Query.{Query}
 use Rattle.vers_cli.specs.declared.name.Query.TheVariants.{Len, Get, Rank0, Rank1, Select1, Iter1}
 use Rattle.vers_cli.specs.Arguments.{no_arguments, one_number, each_next}
-use Rattle.vers_cli.specs.Holding.{Loaded, Malformed, Inadmissible, Accepted, SparseHeld}
+use Rattle.vers_cli.specs.declared.loading.Loading.{Loading}
+use Rattle.vers_cli.specs.declared.loading.Loading.TheVariants.{Malformed, Inadmissible, Accepted}
 use Rattle.vers_cli.specs.Reply.{PlainReply, WrongStructure, Number, Numbers, if_well_formed, number_or_absent}
 
 -- the load line `sparse LEN p ..`, for its numbers: the places have to ascend strictly, below LEN
-abbrev pub sparse_loaded : Option (List ℕ) → Loaded
+abbrev pub sparse_loaded : Option (List ℕ) → Loading (List Bool)
 sparse_loaded None = Malformed
 sparse_loaded (Some []) = Malformed
-sparse_loaded (Some (len ∷ ones)) = if each_next nat_lt ones && list_all (λ place. nat_lt place len) ones then Accepted (SparseHeld (ones_at ones len)) else Inadmissible
+sparse_loaded (Some (len ∷ ones)) = if each_next nat_lt ones && list_all (λ place. nat_lt place len) ones then Accepted (ones_at ones len) else Inadmissible
 
 -- the query lines, where these bits are held
 abbrev pub sparse_reply : List Bool → Query → List (List ℕ) → PlainReply

@@ -1,6 +1,6 @@
 -- Lines, words and numbers of a text. A text is a list of bytes: 10 ends a line, 13 may stand
 -- before that end, and 32 stands between words.
-use Rattle.std.specs.Prelude.{ℕ, ◌^◌, Bool, ◌&&◌, ◌==◌, not, nat_lt, List, [], ◌∷◌, ◌++◌, filter, length, Option, Some, None, if◌then◌else◌}
+use Rattle.std.specs.Prelude.{ℕ, ◌^◌, ℤ, pos, neg_ℤ, Bool, true, false, ◌&&◌, ◌==◌, not, nat_le, nat_lt, List, [], ◌∷◌, ◌++◌, filter, length, Option, Some, None, option_and_then, if◌then◌else◌}
 use Rattle.std.specs.List.{slice_split, list_all}
 use Rattle.std.specs.Char.{is_ascii_digit}
 use Rattle.std.specs.Str.Parse.{digits_value}
@@ -47,3 +47,16 @@ number_of word =
     if has_bytes word && (list_all is_ascii_digit word && nat_lt (digits_value 10 word) (2 ^ 64))
     then Some (digits_value 10 word)
     else None
+
+-- a number, or what is as far below 0, where 64 bits with a sign hold it
+abbrev pub with_sign : Bool → ℕ → Option ℤ
+with_sign false n = if nat_lt n (2 ^ 63) then Some (pos n) else None
+with_sign true n = if nat_le n (2 ^ 63) then Some (neg_ℤ (pos n)) else None
+
+-- the signed number that a word writes: decimal digits, or the byte `-` and decimal digits
+unfoldable pub signed_number_of : List ℕ → Option ℤ
+signed_number_of [] = None
+signed_number_of (byte ∷ bytes) =
+    if byte == 45
+    then option_and_then (with_sign true) (number_of bytes)
+    else option_and_then (with_sign false) (number_of (byte ∷ bytes))

@@ -5,7 +5,8 @@ use Rattle.vers_rmq.specs.declared.rmq.fast_rmq.TheConstants.{MAX_LEN}
 use Rattle.vers_cli.specs.declared.name.Query.{Query}
 use Rattle.vers_cli.specs.declared.name.Query.TheVariants.{Len, RangeMin}
 use Rattle.vers_cli.specs.Arguments.{no_arguments, two_numbers}
-use Rattle.vers_cli.specs.Holding.{Loaded, Malformed, Inadmissible, Accepted, ValuesHeld}
+use Rattle.vers_cli.specs.declared.loading.Loading.{Loading}
+use Rattle.vers_cli.specs.declared.loading.Loading.TheVariants.{Malformed, Inadmissible, Accepted}
 use Rattle.vers_cli.specs.Reply.{PlainReply, WrongStructure, Number, if_well_formed, number_or_refused}
 
 -- the places from i to j, both included
@@ -24,9 +25,9 @@ first_least values i j =
     else None
 
 -- the load line `values n ..`, for its numbers
-abbrev pub values_loaded : Option (List ℕ) → Loaded
+abbrev pub values_loaded : Option (List ℕ) → Loading (List ℕ)
 values_loaded None = Malformed
-values_loaded (Some values) = if nat_le (length values) MAX_LEN then Accepted (ValuesHeld values) else Inadmissible
+values_loaded (Some values) = if nat_le (length values) MAX_LEN then Accepted values else Inadmissible
 
 -- the query lines, where these values are held
 abbrev pub values_reply : List ℕ → Query → List (List ℕ) → PlainReply

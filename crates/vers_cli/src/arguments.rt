@@ -3,9 +3,9 @@
 ghost use Rattle.std.specs.Prelude.{◌≡◌, true, option_map, IfOk, IfSome};
 ghost use Rattle.std.specs.List.{list_all};
 ghost use Rattle.vers_cli.specs.Text.{words_in};
-ghost use Rattle.vers_cli.specs.Arguments.{no_arguments as none_of, one_number as number_alone, two_numbers as numbers_two, all_numbers as numbers_all, is_bit_digit, bits_of_digits, bits_of};
+ghost use Rattle.vers_cli.specs.Arguments.{no_arguments as none_of, one_number as number_alone, two_numbers as numbers_two, number_and_signed as number_and_signed_number, all_numbers as numbers_all, is_bit_digit, bits_of_digits, bits_of};
 
-use crate::text::{number, split_first_word};
+use crate::text::{number, signed_number, split_first_word};
 use std::alloc::{AllocError, Allocator};
 
 /// No argument.
@@ -35,6 +35,16 @@ pub fn two_numbers(arguments: &[u8]) -> Option<(u64, u64)>
     let (second, more) = split_first_word(others)?;
     no_arguments(more)?;
     Some((number(first)?, number(second)?))
+}
+
+/// A number and a signed number.
+pub fn number_and_signed(arguments: &[u8]) -> Option<(u64, i64)>
+    ensures { result ≡ number_and_signed_number (words_in arguments.now) }
+{
+    let (first, others) = split_first_word(arguments)?;
+    let (second, more) = split_first_word(others)?;
+    no_arguments(more)?;
+    Some((number(first)?, signed_number(second)?))
 }
 
 /// Any number of numbers.

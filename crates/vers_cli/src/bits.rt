@@ -4,11 +4,10 @@ ghost use Rattle.std.specs.List.{list_all};
 ghost use Rattle.vers_cli.specs.Text.{words_in};
 ghost use Rattle.vers_cli.specs.Arguments.{is_bit_digit, bits_of, bits_of_digits};
 ghost use Rattle.vers_cli.specs.BitsLines.{bits_loaded, bits_reply};
-ghost use Rattle.vers_cli.specs.Holding.{loaded_of};
 ghost use Rattle.vers_cli.specs.Reply.{plain_reply};
 
 use crate::arguments::{bit_digits, no_arguments, one_number};
-use crate::held::{Held, Loading};
+use crate::loading::Loading;
 use crate::name::Query;
 use crate::reply::Reply;
 use std::alloc::{AllocError, Allocator};
@@ -16,8 +15,11 @@ use vers_bits::bit_vec::{BitVec, MAX_LEN};
 use vers_rank::fast_rs_vec::RsVec;
 
 /// What the load line `bits S` gives.
-pub fn load<A: Allocator + Copy>(alloc: A, arguments: &[u8]) -> Result<Loading<A>, AllocError>
-    ensures { IfOk result (λ loading. loaded_of loading ≡ bits_loaded (bits_of (words_in arguments.now))) }
+pub fn load<A: Allocator + Copy>(
+    alloc: A,
+    arguments: &[u8],
+) -> Result<Loading<RsVec<A>>, AllocError>
+    ensures { IfOk result (λ loading. loading ≡ bits_loaded (bits_of (words_in arguments.now))) }
 {
     let Some(digits) = bit_digits(arguments) else {
         return Ok(Loading::Malformed);
@@ -26,7 +28,7 @@ pub fn load<A: Allocator + Copy>(alloc: A, arguments: &[u8]) -> Result<Loading<A
         return Ok(Loading::Inadmissible);
     }
     let bits = RsVec::from_bit_vec(bit_vec(alloc, digits)?)?;
-    Ok(Loading::Accepted(Held::Bits(bits)))
+    Ok(Loading::Accepted(bits))
 }
 
 /// The list that digits 0 and 1 write.

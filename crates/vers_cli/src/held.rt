@@ -1,57 +1,70 @@
 //! What is held between lines.
 ghost use Rattle.std.specs.Prelude.{◌≡◌, IfOk};
 ghost use Rattle.vers_cli.specs.Text.{words_in};
-ghost use Rattle.vers_cli.specs.Holding.{length_of, loaded_of};
+ghost use Rattle.vers_cli.specs.Holding.{holding_of, length_of};
+ghost use Rattle.vers_cli.specs.Loading.{map_loading};
 ghost use Rattle.vers_cli.specs.Rules.{loaded, query_reply};
 
+use crate::loading::Loading;
 use crate::name::{Load, Query};
 use crate::reply::Reply;
-use crate::{bits, sorted, sparse, values};
+use crate::{bits, sorted, sparse, tree, values};
 use std::alloc::{AllocError, Allocator};
 use vers_rank::fast_rs_vec::RsVec;
 use vers_rmq::rmq::fast_rmq::FastRmq;
 use vers_sorted::elias_fano::EliasFanoVec;
 use vers_sorted::sparse::SparseRSVec;
+use vers_trees::trees::bp::BpTree;
 
 /// What is held: nothing, or the structure of the last load line that was accepted.
 #[derive(Drop)]
-pub enum Held<A: Allocator + Copy> {
+pub enum Held<'a, A: Allocator + Copy> {
     Nothing,
     Bits(RsVec<A>),
     Sorted(EliasFanoVec<A>),
     Sparse(SparseRSVec<A>),
     Values(FastRmq<A>),
-}
-
-/// What the arguments of a load line give.
-#[derive(Drop)]
-pub enum Loading<A: Allocator + Copy> {
-    /// They are not what the line takes.
-    Malformed,
-    /// They are well formed, and outside its limits.
-    Inadmissible,
-    /// This is held from now on.
-    Accepted(Held<A>),
+    Tree(BpTree<512, &'a A>),
 }
 
 /// What a load line gives.
-pub fn load<A: Allocator + Copy>(
-    alloc: A,
+pub fn load<'a, A: Allocator + Copy>(
+    alloc: &'a A,
     load: Load,
     arguments: &[u8],
-) -> Result<Loading<A>, AllocError>
-    ensures { IfOk result (λ loading. loaded_of loading ≡ loaded load (words_in arguments.now)) }
+) -> Result<Loading<Held<'a, A>>, AllocError>
+    ensures { IfOk result (λ loading. map_loading holding_of loading ≡ loaded load (words_in arguments.now)) }
 {
     match load {
-        Load::Bits => bits::load(alloc, arguments),
-        Load::Sorted => sorted::load(alloc, arguments),
-        Load::Sparse => sparse::load(alloc, arguments),
-        Load::Values => values::load(alloc, arguments),
+        Load::Bits => match bits::load(*alloc, arguments)? {
+            Loading::Malformed => Ok(Loading::Malformed),
+            Loading::Inadmissible => Ok(Loading::Inadmissible),
+            Loading::Accepted(bits) => Ok(Loading::Accepted(Held::Bits(bits))),
+        },
+        Load::Sorted => match sorted::load(*alloc, arguments)? {
+            Loading::Malformed => Ok(Loading::Malformed),
+            Loading::Inadmissible => Ok(Loading::Inadmissible),
+            Loading::Accepted(members) => Ok(Loading::Accepted(Held::Sorted(members))),
+        },
+        Load::Sparse => match sparse::load(*alloc, arguments)? {
+            Loading::Malformed => Ok(Loading::Malformed),
+            Loading::Inadmissible => Ok(Loading::Inadmissible),
+            Loading::Accepted(bits) => Ok(Loading::Accepted(Held::Sparse(bits))),
+        },
+        Load::Values => match values::load(*alloc, arguments)? {
+            Loading::Malformed => Ok(Loading::Malformed),
+            Loading::Inadmissible => Ok(Loading::Inadmissible),
+            Loading::Accepted(values) => Ok(Loading::Accepted(Held::Values(values))),
+        },
+        Load::Tree => match tree::load(alloc, arguments)? {
+            Loading::Malformed => Ok(Loading::Malformed),
+            Loading::Inadmissible => Ok(Loading::Inadmissible),
+            Loading::Accepted(tree) => Ok(Loading::Accepted(Held::Tree(tree))),
+        },
     }
 }
 
-impl<A: Allocator + Copy> Held<A> {
-    ghost use Rattle.vers_cli.specs.Holding.{holding_of};
+impl<A: Allocator + Copy> Held<'_, A> {
     ghost use Rattle.vers_cli.specs.Reply.{plain_reply};
 
     /// The length of what is held.
@@ -64,6 +77,7 @@ impl<A: Allocator + Copy> Held<A> {
             Held::Sorted(members) => members.len() as u64,
             Held::Sparse(bits) => bits.len(),
             Held::Values(values) => values.len() as u64,
+            Held::Tree(tree) => tree.len() as u64,
         }
     }
 
@@ -77,6 +91,7 @@ impl<A: Allocator + Copy> Held<A> {
             Held::Sorted(members) => sorted::reply(alloc, members, query, arguments),
             Held::Sparse(bits) => sparse::reply(alloc, bits, query, arguments),
             Held::Values(values) => Ok(values::reply(values, query, arguments)),
+            Held::Tree(tree) => tree::reply(alloc, tree, query, arguments),
         }
     }
 }

@@ -8,6 +8,7 @@ pub enum Load {
     Sorted,
     Sparse,
     Values,
+    Tree,
 }
 
 /// The first word of a query line.
@@ -26,6 +27,44 @@ pub enum Query {
     Iter,
     Iter1,
     RangeMin,
+    Tree(TreeQuery),
+}
+
+/// The first word of a query line of parentheses, by the arguments that it takes.
+#[derive(Clone, Copy, Drop)]
+pub enum TreeQuery {
+    /// Of the whole list: no argument.
+    Whole(WholeQuery),
+    /// Of a place: a number.
+    Place(PlaceQuery),
+    /// A search from a place: a number and a signed number.
+    Search(SearchQuery),
+}
+
+/// A query of a whole list of parentheses.
+#[derive(Clone, Copy, Drop)]
+pub enum WholeQuery {
+    Size,
+    Root,
+    IsBalanced,
+    DfsIter,
+}
+
+/// A query of a place in a list of parentheses.
+#[derive(Clone, Copy, Drop)]
+pub enum PlaceQuery {
+    Excess,
+    Close,
+    Open,
+    Enclose,
+    NodeHandle,
+}
+
+/// A search along a list of parentheses.
+#[derive(Clone, Copy, Drop)]
+pub enum SearchQuery {
+    FwdSearch,
+    BwdSearch,
 }
 
 /// The first word of a line.
@@ -37,11 +76,12 @@ pub enum Name {
 
 /// All names, and how they are written. It is the one table of names: the contract of `Name::of`
 /// reads it too.
-pub const NAMES: [(&[u8], Name); 17] = [
+pub const NAMES: [(&[u8], Name); 29] = [
     (b"bits", Name::Load(Load::Bits)),
     (b"sorted", Name::Load(Load::Sorted)),
     (b"sparse", Name::Load(Load::Sparse)),
     (b"values", Name::Load(Load::Values)),
+    (b"tree", Name::Load(Load::Tree)),
     (b"len", Name::Query(Query::Len)),
     (b"get", Name::Query(Query::Get)),
     (b"rank0", Name::Query(Query::Rank0)),
@@ -55,6 +95,50 @@ pub const NAMES: [(&[u8], Name); 17] = [
     (b"iter", Name::Query(Query::Iter)),
     (b"iter1", Name::Query(Query::Iter1)),
     (b"range_min", Name::Query(Query::RangeMin)),
+    (
+        b"size",
+        Name::Query(Query::Tree(TreeQuery::Whole(WholeQuery::Size))),
+    ),
+    (
+        b"root",
+        Name::Query(Query::Tree(TreeQuery::Whole(WholeQuery::Root))),
+    ),
+    (
+        b"is_balanced",
+        Name::Query(Query::Tree(TreeQuery::Whole(WholeQuery::IsBalanced))),
+    ),
+    (
+        b"dfs_iter",
+        Name::Query(Query::Tree(TreeQuery::Whole(WholeQuery::DfsIter))),
+    ),
+    (
+        b"excess",
+        Name::Query(Query::Tree(TreeQuery::Place(PlaceQuery::Excess))),
+    ),
+    (
+        b"close",
+        Name::Query(Query::Tree(TreeQuery::Place(PlaceQuery::Close))),
+    ),
+    (
+        b"open",
+        Name::Query(Query::Tree(TreeQuery::Place(PlaceQuery::Open))),
+    ),
+    (
+        b"enclose",
+        Name::Query(Query::Tree(TreeQuery::Place(PlaceQuery::Enclose))),
+    ),
+    (
+        b"node_handle",
+        Name::Query(Query::Tree(TreeQuery::Place(PlaceQuery::NodeHandle))),
+    ),
+    (
+        b"fwd_search",
+        Name::Query(Query::Tree(TreeQuery::Search(SearchQuery::FwdSearch))),
+    ),
+    (
+        b"bwd_search",
+        Name::Query(Query::Tree(TreeQuery::Search(SearchQuery::BwdSearch))),
+    ),
 ];
 
 impl Name {

@@ -1,5 +1,6 @@
 //! What a line is answered by.
 ghost use Rattle.std.specs.Prelude.{◌≡◌, ◌++◌, ◌∷◌, length, take, decimal, OnOk, OnErr};
+ghost use Rattle.std.specs.Fmt.{signed_decimal};
 ghost use Rattle.vers_cli.specs.Reply.{numbers_text};
 
 use std::alloc::{AllocError, Allocator};
@@ -15,6 +16,8 @@ pub enum Reply<A: Allocator + Copy> {
     Refused,
     /// A number.
     Number(u64),
+    /// A number with a sign.
+    Signed(i64),
     /// There is no such number.
     Absent,
     /// Any number of numbers.
@@ -32,6 +35,16 @@ impl<A: Allocator + Copy> Reply<A> {
             Some(n) => Reply::Number(n),
             None => Reply::Absent,
         }
+    }
+
+    /// A place, or that there is none.
+    pub fn place_or_absent(place: Option<usize>) -> Reply<A>
+        ensures { plain_reply result ≡ reply_of place }
+    {
+        let Some(p) = place else {
+            return Reply::Absent;
+        };
+        Reply::Number(p as u64)
     }
 
     /// A number, or that the query is refused.
@@ -54,6 +67,7 @@ impl<A: Allocator + Copy> Reply<A> {
             Reply::WrongStructure => line.extend_from_slice(b"wrong structure"),
             Reply::Refused => line.extend_from_slice(b"refused"),
             Reply::Number(n) => append_number(n, line),
+            Reply::Signed(n) => append_signed_number(n, line),
             Reply::Absent => line.extend_from_slice(b"none"),
             Reply::Numbers(numbers) => append_numbers(numbers.as_slice(), line),
         }
@@ -79,6 +93,18 @@ fn append_number<A: Allocator>(number: u64, line: &mut Vec<u8, A>) -> Result<(),
     start -= 1;
     digits[start] = b'0' + rest as u8;
     line.extend_from_slice(&digits[start..])
+}
+
+// Appends a number as a decimal, with `-` before it where it is below 0. Where memory is refused a
+// part may stand appended.
+fn append_signed_number<A: Allocator>(number: i64, line: &mut Vec<u8, A>) -> Result<(), AllocError>
+    ensures text { OnOk result (line.new.items ≡ line.old.items ++ signed_decimal number) }
+    ensures kept { take (length line.old.items) line.new.items ≡ line.old.items }
+{
+    if number < 0 {
+        line.push(b'-')?;
+    }
+    append_number(number.unsigned_abs(), line)
 }
 
 // Appends numbers with one space between them. Where memory is refused a part may stand appended.

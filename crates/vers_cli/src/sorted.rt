@@ -1,37 +1,33 @@
 //! The lines of an ascending list.
-ghost use Rattle.std.specs.Prelude.{◌≡◌, nat_le, IfOk};
+ghost use Rattle.std.specs.Prelude.{◌≡◌, IfOk};
 ghost use Rattle.vers_cli.specs.Text.{words_in};
-ghost use Rattle.vers_cli.specs.Arguments.{each_next, all_numbers as numbers_all};
+ghost use Rattle.vers_cli.specs.Arguments.{all_numbers as numbers_all};
 ghost use Rattle.vers_cli.specs.SortedLines.{sorted_loaded, sorted_reply};
-ghost use Rattle.vers_cli.specs.Holding.{loaded_of};
 ghost use Rattle.vers_cli.specs.Reply.{plain_reply};
 
 use crate::arguments::{all_numbers, no_arguments, one_number};
-use crate::held::{Held, Loading};
+use crate::loading::Loading;
 use crate::name::Query;
 use crate::reply::Reply;
 use std::alloc::{AllocError, Allocator};
 use vers_sorted::elias_fano::{EliasFanoRefIter, EliasFanoVec};
+use vers_sorted::order::is_ascending;
 
 /// What the load line `sorted n ..` gives.
-pub fn load<A: Allocator + Copy>(alloc: A, arguments: &[u8]) -> Result<Loading<A>, AllocError>
-    ensures { IfOk result (λ loading. loaded_of loading ≡ sorted_loaded (numbers_all (words_in arguments.now))) }
+pub fn load<A: Allocator + Copy>(
+    alloc: A,
+    arguments: &[u8],
+) -> Result<Loading<EliasFanoVec<A>>, AllocError>
+    ensures { IfOk result (λ loading. loading ≡ sorted_loaded (numbers_all (words_in arguments.now))) }
 {
     let Some(numbers) = all_numbers(alloc, arguments)? else {
         return Ok(Loading::Malformed);
     };
-    if !are_ascending(numbers.as_slice()) {
+    if !is_ascending(numbers.as_slice()) {
         return Ok(Loading::Inadmissible);
     }
     let members = EliasFanoVec::from_slice(alloc, numbers.as_slice())?;
-    Ok(Loading::Accepted(Held::Sorted(members)))
-}
-
-// Whether no number is below the one before it.
-fn are_ascending(numbers: &[u64]) -> bool
-    ensures { result ≡ each_next nat_le numbers.now }
-{
-    numbers.is_sorted_by(|one, next| *one <= *next)
+    Ok(Loading::Accepted(members))
 }
 
 /// The reply of a query line, where these members are held.

@@ -1,23 +1,25 @@
 //! The lines of a sparse list of bits.
-ghost use Rattle.std.specs.Prelude.{◌≡◌, ◌&&◌, nat_lt, IfOk};
-ghost use Rattle.std.specs.List.{list_all};
+ghost use Rattle.std.specs.Prelude.{◌≡◌, IfOk};
 ghost use Rattle.vers_cli.specs.Text.{words_in};
-ghost use Rattle.vers_cli.specs.Arguments.{each_next, all_numbers as numbers_all};
+ghost use Rattle.vers_cli.specs.Arguments.{all_numbers as numbers_all};
 ghost use Rattle.vers_cli.specs.SparseLines.{sparse_loaded, sparse_reply};
-ghost use Rattle.vers_cli.specs.Holding.{loaded_of};
 ghost use Rattle.vers_cli.specs.Reply.{plain_reply};
 
 use crate::arguments::{all_numbers, no_arguments, one_number};
-use crate::held::{Held, Loading};
+use crate::loading::Loading;
 use crate::name::Query;
 use crate::reply::Reply;
 use crate::sorted::members_left;
 use std::alloc::{AllocError, Allocator};
+use vers_sorted::order::{are_below, is_strictly_ascending};
 use vers_sorted::sparse::SparseRSVec;
 
 /// What the load line `sparse LEN p ..` gives.
-pub fn load<A: Allocator + Copy>(alloc: A, arguments: &[u8]) -> Result<Loading<A>, AllocError>
-    ensures { IfOk result (λ loading. loaded_of loading ≡ sparse_loaded (numbers_all (words_in arguments.now))) }
+pub fn load<A: Allocator + Copy>(
+    alloc: A,
+    arguments: &[u8],
+) -> Result<Loading<SparseRSVec<A>>, AllocError>
+    ensures { IfOk result (λ loading. loading ≡ sparse_loaded (numbers_all (words_in arguments.now))) }
 {
     let Some(numbers) = all_numbers(alloc, arguments)? else {
         return Ok(Loading::Malformed);
@@ -25,25 +27,11 @@ pub fn load<A: Allocator + Copy>(alloc: A, arguments: &[u8]) -> Result<Loading<A
     let Some((len, ones)) = numbers.as_slice().split_first() else {
         return Ok(Loading::Malformed);
     };
-    if !are_rising(ones) || !are_below(ones, *len) {
+    if !is_strictly_ascending(ones) || !are_below(ones, *len) {
         return Ok(Loading::Inadmissible);
     }
     let bits = SparseRSVec::new(alloc, ones, *len)?;
-    Ok(Loading::Accepted(Held::Sparse(bits)))
-}
-
-// Whether each number is above the one before it.
-fn are_rising(numbers: &[u64]) -> bool
-    ensures { result ≡ each_next nat_lt numbers.now }
-{
-    numbers.is_sorted_by(|one, next| *one < *next)
-}
-
-// Whether all numbers are below `limit`.
-fn are_below(numbers: &[u64], limit: u64) -> bool
-    ensures { result ≡ list_all (λ n. nat_lt n limit) numbers.now }
-{
-    numbers.iter().all(|number| *number < limit)
+    Ok(Loading::Accepted(bits))
 }
 
 /// The reply of a query line, where these bits are held.

@@ -8,7 +8,8 @@ ghost use Rattle.vers_cli.specs.Rules.{loaded, load_reply, holding_after_load, r
 ghost use Rattle.vers_cli.specs.Answers.{answer_to, holding_after};
 
 use crate::held;
-use crate::held::{Held, Loading};
+use crate::held::Held;
+use crate::loading::Loading;
 use crate::name::{Load, Name};
 use crate::reply::Reply;
 use crate::text::{split_first_word, without_return};
@@ -17,12 +18,12 @@ use std::marker::Model;
 
 /// What is held, with the allocator for answers and for what is held next.
 #[derive(Drop)]
-pub struct Store<A: Allocator + Copy> {
-    alloc: A,
-    held: Held<A>,
+pub struct Store<'a, A: Allocator + Copy> {
+    alloc: &'a A,
+    held: Held<'a, A>,
 }
 
-impl<A: Allocator + Copy> Model for Store<A> {
+impl<'a, A: Allocator + Copy> Model for Store<'a, A> {
     ghost use Rattle.vers_cli.specs.Holding.{Holding};
     ghost use Rattle.vers_cli.specs.Holding.{holding_of};
 
@@ -31,9 +32,9 @@ impl<A: Allocator + Copy> Model for Store<A> {
     ghost view = { λ s. holding_of s.held };
 }
 
-impl<A: Allocator + Copy> Store<A> {
+impl<'a, A: Allocator + Copy> Store<'a, A> {
     /// Nothing is held.
-    pub fn new(alloc: A) -> Store<A>
+    pub fn new(alloc: &'a A) -> Store<'a, A>
         ensures { result ≡ Nothing }
     {
         Store {
@@ -66,7 +67,7 @@ impl<A: Allocator + Copy> Store<A> {
         match Name::of(word) {
             None => Ok(Reply::BadLine),
             Some(Name::Load(load)) => self.load(load, arguments),
-            Some(Name::Query(query)) => self.held.reply(self.alloc, query, arguments),
+            Some(Name::Query(query)) => self.held.reply(*self.alloc, query, arguments),
         }
     }
 

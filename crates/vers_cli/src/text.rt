@@ -1,7 +1,7 @@
 //! The words and numbers of a line.
 ghost use Rattle.std.specs.Prelude.{◌≡◌, ◌<◌, ◌==◌, ◌∷◌, [], not, length, position, IfSome, MatchOption};
 ghost use Rattle.std.specs.Io.BufRead.{strip_last};
-ghost use Rattle.vers_cli.specs.Text.{words_in, number_of};
+ghost use Rattle.vers_cli.specs.Text.{words_in, number_of, signed_number_of};
 
 /// Where a byte stands first in a text.
 pub fn place_of(byte: u8, text: &[u8]) -> Option<usize>
@@ -55,4 +55,16 @@ pub fn number(word: &[u8]) -> Option<u64>
         value = value.checked_mul(10)?.checked_add(u64::from(*byte - b'0'))?;
     }
     Some(value)
+}
+
+/// The signed number that a word writes, unless it writes none.
+pub fn signed_number(word: &[u8]) -> Option<i64>
+    ensures { result ≡ signed_number_of word.now }
+{
+    let (first, digits) = word.split_first()?;
+    if *first == b'-' {
+        0i64.checked_sub_unsigned(number(digits)?)
+    } else {
+        0i64.checked_add_unsigned(number(word)?)
+    }
 }

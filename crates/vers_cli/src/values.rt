@@ -3,19 +3,21 @@ ghost use Rattle.std.specs.Prelude.{◌≡◌, IfOk};
 ghost use Rattle.vers_cli.specs.Text.{words_in};
 ghost use Rattle.vers_cli.specs.Arguments.{all_numbers as numbers_all};
 ghost use Rattle.vers_cli.specs.ValuesLines.{first_least, values_loaded, values_reply};
-ghost use Rattle.vers_cli.specs.Holding.{loaded_of};
 ghost use Rattle.vers_cli.specs.Reply.{plain_reply};
 
 use crate::arguments::{all_numbers, no_arguments, two_numbers};
-use crate::held::{Held, Loading};
+use crate::loading::Loading;
 use crate::name::Query;
 use crate::reply::Reply;
 use std::alloc::{AllocError, Allocator};
 use vers_rmq::rmq::fast_rmq::{FastRmq, MAX_LEN};
 
 /// What the load line `values n ..` gives.
-pub fn load<A: Allocator + Copy>(alloc: A, arguments: &[u8]) -> Result<Loading<A>, AllocError>
-    ensures { IfOk result (λ loading. loaded_of loading ≡ values_loaded (numbers_all (words_in arguments.now))) }
+pub fn load<A: Allocator + Copy>(
+    alloc: A,
+    arguments: &[u8],
+) -> Result<Loading<FastRmq<A>>, AllocError>
+    ensures { IfOk result (λ loading. loading ≡ values_loaded (numbers_all (words_in arguments.now))) }
 {
     let Some(numbers) = all_numbers(alloc, arguments)? else {
         return Ok(Loading::Malformed);
@@ -24,7 +26,7 @@ pub fn load<A: Allocator + Copy>(alloc: A, arguments: &[u8]) -> Result<Loading<A
         return Ok(Loading::Inadmissible);
     }
     let values = FastRmq::from_vec(numbers)?;
-    Ok(Loading::Accepted(Held::Values(values)))
+    Ok(Loading::Accepted(values))
 }
 
 /// The reply of a query line, where these values are held.

@@ -141,3 +141,77 @@ fn lines_and_their_answers(rt: HostRuntime) -> Result<(), Fail> {
     assert_eq!(rt; answers(rt.alloc(), b"")?.len(), 0);
     Ok(())
 }
+
+// The same of parentheses.
+const TREE_CASES: [(&str, &[u8], &[u8]); 9] = [
+    (
+        "every query of parentheses",
+        b"tree 110100\nsize\nroot\nis_balanced\nexcess 0\nexcess 2\nexcess 5\nclose 0\nclose 1\nopen 5\nopen 4\nenclose 4\nenclose 1\nenclose 0\nfwd_search 0 -1\nbwd_search 5 -1\nnode_handle 2\nnode_handle 3\ndfs_iter\n",
+        b"6\n3\n0\n1\n1\n1\n0\n5\n2\n0\n3\n0\n0\nnone\n5\n0\n3\n6\n0 1 3\n",
+    ),
+    (
+        "parentheses that are not balanced, and an excess below 0",
+        b"tree 01\nis_balanced\nsize\nroot\nexcess 0\nexcess 1\nfwd_search 0 1\nbwd_search 1 1\nclose 1\nopen 0\nfwd_search 0 -9223372036854775808\ndfs_iter\ntree 0000000000000\nexcess 11\nis_balanced\n",
+        b"2\n0\n1\n0\n-1\n0\n1\n0\nnone\nnone\nnone\n1\n13\n-12\n0\n",
+    ),
+    (
+        "no parentheses",
+        b"tree\nsize\nroot\nis_balanced\nfwd_search 0 0\nbwd_search 0 0\nexcess 0\nenclose 0\nnode_handle 0\ndfs_iter\n",
+        b"0\n0\nnone\n1\nnone\nnone\nrefused\nnone\n0\n\n",
+    ),
+    (
+        "searches pass the place they begin at, and find the nearest",
+        b"tree 1010101011\nbwd_search 8 0\nfwd_search 0 0\ntree 111111111111111111111111\nbwd_search 16 0\nbwd_search 16 -16\nfwd_search 3 4\nis_balanced\n",
+        b"10\n6\n2\n24\nnone\n0\n7\n0\n",
+    ),
+    (
+        "pairs of a longer list",
+        b"tree 111001110101110010010000\nclose 1\nclose 5\nopen 18\nsize\nis_balanced\n",
+        b"24\n4\n22\n11\n12\n1\n",
+    ),
+    (
+        "places and rises at the ends of their types",
+        b"tree 110100\nfwd_search 0 9223372036854775807\nfwd_search 5 0\nfwd_search 18446744073709551615 0\nbwd_search 6 -1\nbwd_search 5 -9223372036854775808\nnode_handle 18446744073709551615\nclose 6\nopen 6\nenclose 6\nexcess 6\nexcess 18446744073709551615\n",
+        b"6\nnone\nnone\nnone\nnone\nnone\n6\nnone\nnone\nnone\nrefused\nrefused\n",
+    ),
+    (
+        "signed numbers are digits, or a minus and digits",
+        b"tree 10101010\nfwd_search 0 0\nfwd_search 0 -0\nfwd_search 0 000\nfwd_search 0 -00000000000000000000001\nfwd_search 0 -9223372036854775809\nfwd_search 0 9223372036854775808\nfwd_search 0 -18446744073709551616\nfwd_search 0 +1\nfwd_search 0 -\nfwd_search 0 --1\nfwd_search 0 - 1\nfwd_search 0 1-\nfwd_search 0 x\nfwd_search -1 0\nclose -1\nbwd_search 2 -1x\n",
+        b"8\n2\n2\n2\n1\nbad line\nbad line\nbad line\nbad line\nbad line\nbad line\nbad line\nbad line\nbad line\nbad line\nbad line\nbad line\n",
+    ),
+    (
+        "another number of arguments is malformed, and comes before what is refused",
+        b"tree 10\nsize 0\nroot 0\nis_balanced x\ndfs_iter 0\nexcess\nexcess 9 9\nexcess x\nclose\nopen 0 0\nenclose\nnode_handle\nfwd_search 0\nfwd_search 0 0 0\nbwd_search\nbwd_search 1 -1\n",
+        b"2\nbad line\nbad line\nbad line\nbad line\nbad line\nbad line\nbad line\nbad line\nbad line\nbad line\nbad line\nbad line\nbad line\nbad line\n0\n",
+    ),
+    (
+        "parentheses have queries of their own, and a malformed load line keeps them",
+        b"size\nexcess x\nbits 10\nclose 0\ntree 1x\nlen\ntree 10\nlen\nget 0\nrank1 1\niter\nrange_min 0 0\ntree 1 0\ntree 102\nclose 0\nsorted 1\ndfs_iter\n",
+        b"wrong structure\nwrong structure\n2\nwrong structure\nbad line\n2\n2\nwrong structure\nwrong structure\nwrong structure\nwrong structure\nwrong structure\nbad line\nbad line\n1\n1\nwrong structure\n",
+    ),
+];
+
+#[test]
+fn lines_of_parentheses(rt: HostRuntime) -> Result<(), Fail> {
+    for (case, input, output) in TREE_CASES {
+        assert_eq!(rt; answers(rt.alloc(), input)?.as_slice(), output, "{case}");
+    }
+    Ok(())
+}
+
+// Parentheses over more than two blocks of 512: 700 that open, and then 700 that close.
+#[test]
+fn parentheses_over_blocks(rt: HostRuntime) -> Result<(), Fail> {
+    let mut input = repeated(rt.alloc(), b"tree ", 1)?;
+    input.extend_from_slice(repeated(rt.alloc(), b"1", 700)?.as_slice())?;
+    input.extend_from_slice(repeated(rt.alloc(), b"0", 700)?.as_slice())?;
+    input.extend_from_slice(
+        b"\nis_balanced\nclose 0\nclose 600\nopen 1300\nenclose 700\nexcess 699\nexcess 1398\nfwd_search 10 -11\nbwd_search 1399 -1\n",
+    )?;
+    let text = answers(rt.alloc(), input.as_slice())?;
+    assert_eq!(rt;
+        text.as_slice(),
+        b"1400\n1\n1399\n799\n99\n698\n700\n1\n1399\n0\n".as_slice()
+    );
+    Ok(())
+}

@@ -1,4 +1,6 @@
 pub mod Words
+pub mod ByteOnes
+pub mod BytePlaces
 pub mod Ranks
 pub mod Selects
 pub mod Builds
@@ -9,3 +11,4 @@ pub mod Neighbours
 pub mod Equal
 pub mod Reading
 pub mod ReadingBack
+pub mod LimbByLimb

@@ -1,5 +1,5 @@
 -- The word that a walk over places is reading.
-use Rattle.std.proofs.Common.{◌≡◌, ℕ, ◌+◌, ◌-◌, ◌*◌, ◌%◌, ◌^◌, ◌<◌, ◌≤◌, min, Bool, true, false, List, length, get_or, take, drop, refl, sym, ap, ◌∙◌, arith, inl, inr, w64}
+use Rattle.std.proofs.Common.{◌≡◌, ℕ, ◌+◌, ◌-◌, ◌*◌, ◌/◌, ◌%◌, ◌^◌, ◌<◌, ◌≤◌, min, Bool, true, false, List, length, get_or, take, drop, refl, sym, ap, ◌∙◌, arith, inl, inr, w64}
 use Rattle.std.specs.Prelude.{bit_and}
 use Rattle.std.specs.Int.{bit_at, bit_not, trailing_zeros}
 use Rattle.std.proofs.lemmas.Bool.{cases_lt, cases_eq, cases_Bool}
@@ -9,7 +9,7 @@ use Rattle.std.proofs.lemmas.Nat.Bits.{bit_at-zero, bit_at-lt, bit_at_and, bit_a
 use Rattle.vers_bits.specs.Bits.{bit_value, is_bit, count, limb, select}
 use Rattle.vers_bits.proofs.PublicLaws.{bit_at-number, count_up, count_none, count_le, select_at, count_at_select, select_not_below, select_holds, count_more_yes}
 use Rattle.vers_rank.specs.declared.fast_rs_vec.reader.Reader.{Reader}
-use Rattle.vers_rank.specs.Walks.{IsFrom, IsReading, marked}
+use Rattle.vers_rank.specs.inside.Walks.{IsFrom, IsReading, marked}
 
 -- number n is the first place from number n on
 first_from : (b : Bool) (l : List Bool) (n p : ℕ) → n < count b l (length l) → IsFrom b l n p → p ≤ select b l n → p ≡ select b l n
@@ -54,7 +54,7 @@ module _ (b : Bool) (l : List Bool) (reader : Reader) (some : reader.next < coun
       elim (cases_lt (s - 64 * reader.limb) 64) [
         | inl here ↦
             let from : IsFrom b l reader.next (64 * reader.limb + (s - 64 * reader.limb)) = rw rest (select_from b l reader.next some) in
-            let on : bit_at reader.word (s - 64 * reader.limb) ≡ 1 = is.complete left (s - 64 * reader.limb) here from in
+            let on : bit_at reader.word (s - 64 * reader.limb) ≡ 1 = is.complete (is.begun left) (s - 64 * reader.limb) here from in
             elim (cases_lt (s - 64 * reader.limb) lowest) [
               | inl below ↦ absurd (omega (arith, on, lowest_is.2 (s - 64 * reader.limb) below))
               | inr above ↦ omega arith
@@ -73,16 +73,19 @@ module _ (b : Bool) (l : List Bool) (reader : Reader) (some : reader.next < coun
   rest_reading = record {
     fits = omega (arith, and_le_l reader.word (bit_not w64 (1 * 2 ^ lowest % 18446744073709551616)), is.fits);
     before = omega (arith, is.before);
+    after = omega (arith, ap (count b l) lowest_place, (count_at_select b l reader.next some).1, (count_at_select b l reader.next some).2, count_up b l (64 * reader.limb + lowest + 1) (64 * reader.limb + 64) (omega (arith, lowest_is.0)), ap (λ p. count b l (p + 1)) lowest_place);
+    begun = λ _. is.begun left;
+    in_block = is.in_block;
     sound = λ i h on inside. elim (cases_eq i lowest) [
       | inl same ↦ absurd (omega (arith, on, ap (bit_at (bit_and reader.word (bit_not w64 (1 * 2 ^ lowest % 18446744073709551616)))) same, bit_at_clear_same w64 reader.word lowest lowest_is.0))
       | inr other ↦
           let was : bit_at reader.word i ≡ 1 = sym (bit_at_clear_other w64 reader.word lowest lowest_is.0 i h other) ∙ on in
           from_more b l reader.next (64 * reader.limb + i) (is.sound i h was inside) (λ e. other (omega (arith, e, lowest_place)))
     ];
-    complete = λ _ i h from. elim (cases_eq i lowest) [
+    complete = λ known i h from. elim (cases_eq i lowest) [
       | inl same ↦ absurd (omega (arith, from.number, ap (λ k. count b l (64 * reader.limb + k)) same, ap (count b l) lowest_place, (count_at_select b l reader.next some).1))
       | inr other ↦ bit_at_clear_other w64 reader.word lowest lowest_is.0 i h other
-          ∙ is.complete left i h (record { inside = from.inside; holds = from.holds; number = omega (arith, from.number) })
+          ∙ is.complete known i h (record { inside = from.inside; holds = from.holds; number = omega (arith, from.number) })
     ];
   }
 
@@ -104,7 +107,7 @@ limb_bit l k i h =
     bit_at-number (take 64 (drop (64 * k) l)) i
     ∙ ap bit_value (get_or-take 64 (drop (64 * k) l) i false h ∙ get_or-drop (64 * k) l i false)
 
-not_value : (x : Bool) → 1 - bit_value x ≡ bit_value (is_bit false x)
+pub not_value : (x : Bool) → 1 - bit_value x ≡ bit_value (is_bit false x)
 not_value true = refl
 not_value false = refl
 
@@ -173,25 +176,40 @@ module _ (b : Bool) (l : List Bool) (r k q : ℕ) (some : r < count b l (length 
         | inr none ↦ (let zero : new_word ≡ 0 = omega arith in absurd (omega (arith, on, ap (λ w. bit_at w q) zero, bit_at-zero q)))
       ]
 
-  pub new_reading : IsReading b l (record { word = bit_and (marked b (limb l k)) (18446744073709551615 * 2 ^ q % 18446744073709551616); limb = k; next = r })
+  -- number r stands before the limb's end
+  in_limb : r < count b l (64 * k + 64)
+  in_limb =
+      let more : count b l (64 * k + q + 1) ≡ r + 1 = ap (λ p. count b l (p + 1)) place ∙ (count_at_select b l r some).2 in
+      omega (arith, more, count_up b l (64 * k + q + 1) (64 * k + 64) (omega arith))
+
+  pub new_reading : (edge : ℕ) → edge ≡ count b l (512 * (k / 8 + 1)) → IsReading b l (record { word = bit_and (marked b (limb l k)) (18446744073709551615 * 2 ^ q % 18446744073709551616); limb = k; next = r; edge = edge })
   unfolding new_word mask
-  new_reading = record {
-    fits = omega (arith, and_le_l (marked b (limb l k)) mask, marked_fits b (limb l k) fits);
-    before = omega (arith, start, count_up b l (64 * k) (64 * k + q) (omega arith));
-    sound = from_on;
-    complete = λ _. on_from;
-  }
+  new_reading edge end =
+      let block : 512 * (k / 8 + 1) ≡ 512 * (k / 8) + 512 = omega arith in
+      let known : 0 < edge = omega (arith, end, in_limb, count_up b l (64 * k + 64) (512 * (k / 8 + 1)) (omega arith)) in
+      record {
+        fits = omega (arith, and_le_l (marked b (limb l k)) mask, marked_fits b (limb l k) fits);
+        before = omega (arith, start, count_up b l (64 * k) (64 * k + q) (omega arith));
+        after = omega (arith, in_limb);
+        sound = from_on;
+        begun = λ _. known;
+        complete = λ _. on_from;
+        in_block = omega (arith, end, ap (count b l) block);
+      }
 
   pub new_some : 0 < bit_and (marked b (limb l k)) (18446744073709551615 * 2 ^ q % 18446744073709551616)
   unfolding new_word mask
   new_some = new_left
 
-pub no_reading : (b : Bool) (l : List Bool) → IsReading b l (record { word = 0; limb = 0; next = 0 })
+pub no_reading : (b : Bool) (l : List Bool) → IsReading b l (record { word = 0; limb = 0; next = 0; edge = 0 })
 no_reading b l = record {
   fits = omega arith;
   before = omega (arith, count_none b l);
+  after = omega arith;
   sound = λ i h on inside. absurd (omega (arith, bit_at-zero i));
-  complete = λ some. absurd (omega arith);
+  begun = λ some. absurd (omega arith);
+  complete = λ known. absurd (omega arith);
+  in_block = omega arith;
 }
 
 pub ruleset walks = (no_reading)

@@ -8,9 +8,9 @@ use Rattle.std.proofs.lemmas.Bool.{cases_lt, cases_eq}
 use Rattle.std.proofs.lemmas.Nat.{pow_pos, leading_top, le-div, div_below, and_le_l}
 use Rattle.std.proofs.lemmas.Nat.Bits.{bit_at-zero, bit_at-lt, bit_at_above, bit_at_and, bit_at_clear_same, bit_at_clear_other, bit_at_ones, bit_at_ones_above, ones_shr}
 use Rattle.vers_bits.specs.Bits.{bit_value, is_bit, count, limb, select}
-use Rattle.vers_bits.proofs.PublicLaws.{count_up, select_at, count_at_select, select_below, select_holds}
+use Rattle.vers_bits.proofs.PublicLaws.{count_up, count_none, select_at, count_at_select, select_below, select_holds}
 use Rattle.vers_rank.specs.declared.fast_rs_vec.reader.Reader.{Reader}
-use Rattle.vers_rank.specs.Walks.{IsBelow, IsReadingBack, marked}
+use Rattle.vers_rank.specs.inside.Walks.{IsBelow, IsReadingBack, marked}
 use Rattle.vers_rank.proofs.Reading.{marked_bit, marked_fits, value_one}
 
 -- number r is a place below number r + 1
@@ -54,7 +54,7 @@ module _ (b : Bool) (l : List Bool) (reader : Reader) (r : ℕ) (here : reader.n
       let below : s < 64 * reader.limb + 64 = select_below b l r (64 * reader.limb + 64) (omega (arith, is.after, here)) in
       let rest : 64 * reader.limb + (s - 64 * reader.limb) ≡ s = omega (arith, highest_le) in
       let from : IsBelow b l reader.next (64 * reader.limb + (s - 64 * reader.limb)) = rw (rest, here) (select_is_below b l r some) in
-      let on : bit_at reader.word (s - 64 * reader.limb) ≡ 1 = is.complete left (s - 64 * reader.limb) (omega arith) from in
+      let on : bit_at reader.word (s - 64 * reader.limb) ≡ 1 = is.complete (s - 64 * reader.limb) (omega arith) from in
       elim (cases_lt highest (s - 64 * reader.limb)) [
         | inl above ↦ absurd (omega (arith, on, highest_is.2 (s - 64 * reader.limb) above))
         | inr low ↦ omega (arith, highest_le)
@@ -64,7 +64,10 @@ module _ (b : Bool) (l : List Bool) (reader : Reader) (r : ℕ) (here : reader.n
   pub rest_back_at : IsReadingBack b l (record reader { word = bit_and reader.word (bit_not w64 (1 * 2 ^ (63 - count_leading_zeros 64 reader.word) % 18446744073709551616)); next = r })
   rest_back_at = record {
     fits = omega (arith, and_le_l reader.word (bit_not w64 (1 * 2 ^ highest % 18446744073709551616)), is.fits);
+    inside = is.inside;
+    before = omega (arith, count_up b l (64 * reader.limb) (64 * reader.limb + highest) (omega arith), ap (count b l) highest_at, (count_at_select b l r some).1);
     after = omega (arith, is.after, here);
+    in_block = is.in_block;
     sound = λ i h on. elim (cases_eq i highest) [
       | inl same ↦ absurd (omega (arith, on, ap (bit_at (bit_and reader.word (bit_not w64 (1 * 2 ^ highest % 18446744073709551616)))) same, bit_at_clear_same w64 reader.word highest highest_is.0))
       | inr other ↦
@@ -81,10 +84,10 @@ module _ (b : Bool) (l : List Bool) (reader : Reader) (r : ℕ) (here : reader.n
             ];
           }
     ];
-    complete = λ _ i h from. elim (cases_eq i highest) [
+    complete = λ i h from. elim (cases_eq i highest) [
       | inl same ↦ absurd (omega (arith, from.number, ap (λ k. count b l (64 * reader.limb + k)) same, ap (count b l) highest_at, (count_at_select b l r some).1))
       | inr other ↦ bit_at_clear_other w64 reader.word highest highest_is.0 i h other
-          ∙ is.complete left i h (record { inside = from.inside; holds = from.holds; number = omega (arith, from.number, here) })
+          ∙ is.complete i h (record { inside = from.inside; holds = from.holds; number = omega (arith, from.number, here) })
     ];
   }
 
@@ -148,23 +151,29 @@ module _ (b : Bool) (l : List Bool) (r k q : ℕ) (some : r < count b l (length 
         | inr none ↦ (let zero : new_word ≡ 0 = omega arith in absurd (omega (arith, on, ap (λ w. bit_at w q) zero, bit_at-zero q)))
       ]
 
-  pub new_back : IsReadingBack b l (record { word = bit_and (marked b (limb l k)) (18446744073709551615 / 2 ^ (63 - q)); limb = k; next = r + 1 })
+  pub new_back : (edge : ℕ) → edge ≡ count b l (512 * (k / 8)) → IsReadingBack b l (record { word = bit_and (marked b (limb l k)) (18446744073709551615 / 2 ^ (63 - q)); limb = k; next = r + 1; edge = edge })
   unfolding new_word mask
-  new_back = record {
+  new_back edge begin = record {
     fits = omega (arith, and_le_l (marked b (limb l k)) mask, marked_fits b (limb l k) fits);
+    inside = omega (arith, place, (count_at_select b l r some).0);
+    before = omega (arith, start, count_up b l (64 * k) (64 * k + q) (omega arith));
     after = omega (arith, more, count_up b l (64 * k + q + 1) (64 * k + 64) (omega arith));
     sound = below_on;
-    complete = λ _. on_below;
+    complete = on_below;
+    in_block = omega (arith, begin);
   }
 
   pub new_back_some : 0 < bit_and (marked b (limb l k)) (18446744073709551615 / 2 ^ (63 - q))
   unfolding new_word mask
   new_back_some = new_left
 
-pub no_reading_back : (b : Bool) (l : List Bool) → IsReadingBack b l (record { word = 0; limb = 0; next = 0 })
+pub no_reading_back : (b : Bool) (l : List Bool) → IsReadingBack b l (record { word = 0; limb = 0; next = 0; edge = 0 })
 no_reading_back b l = record {
   fits = omega arith;
+  inside = omega arith;
+  before = omega (arith, count_none b l);
   after = omega arith;
   sound = λ i h on. absurd (omega (arith, on, bit_at-zero i));
-  complete = λ some. absurd (omega arith);
+  complete = λ i h below. absurd (omega (arith, below.number));
+  in_block = omega (arith, count_none b l);
 }

@@ -1,11 +1,11 @@
 -- From counts to places.
 use Rattle.std.proofs.Common.{◌≡◌, ℕ, ◌+◌, ◌-◌, ◌*◌, ◌/◌, ◌<◌, ◌≤◌, Bool, true, false, List, length, get_or, ap, ◌∙◌, refl, inl, inr, arith, min}
 use Rattle.std.proofs.lemmas.Bool.{cases_lt, cases_Bool}
-use Rattle.vers_bits.specs.Bits.{is_bit, count, limb, select}
+use Rattle.vers_bits.specs.Bits.{is_bit, count, limb, limb_count, select}
 use Rattle.vers_bits.proofs.PublicLaws.{count_le_all, count_le, count_up, count_near, count_limb, count_limb_whole, count_both, count_past, select_at, select_past, count_at_select, count_more_yes, count_more_no}
 use Rattle.vers_tally.specs.Reads.{digits}
 use Rattle.vers_tally.proofs.PublicLaws.{digits_up, digits_halved, digits-le}
-use Rattle.vers_rank.specs.Index.{held, held_in, IsSample, IsLimbWith}
+use Rattle.vers_rank.specs.inside.Index.{held, held_in, IsSample, IsLimbWith, IsAmongLimbs}
 use Rattle.vers_rank.proofs.Words.{ones_few}
 
 -- inside the list it is the count
@@ -72,7 +72,7 @@ place_found b l r k p seen some counted before small from to =
     (let next : held b l (64 * k + p + 1) ≡ held b l (64 * k + (p + 1)) = ap (held b l) (omega arith) in omega (arith, held_limb b l k (p + 1) (omega arith)))
 
 -- after the last limb of a block nothing of the block is left
-pub block_end : (b : Bool) (l : List Bool) (block end : ℕ) → end ≡ min (8 * block + 8) ((length l + 63) / 64) → count b l (512 * (block + 1)) ≤ held b l (64 * end)
+pub block_end : (b : Bool) (l : List Bool) (block end : ℕ) → end ≡ min (8 * block + 8) (limb_count (length l)) → count b l (512 * (block + 1)) ≤ held b l (64 * end)
 block_end b l block end e = elim (cases_lt (64 * end) (length l)) [
   | inl inside ↦ let same : 64 * end ≡ 512 * (block + 1) = omega arith in omega (arith, count_le_held b l (64 * end), ap (count b l) same)
   | inr past ↦ omega (arith, count_le_all b l (512 * (block + 1)), held_is b l (length l) (omega arith), held_up b l (length l) (64 * end) past)
@@ -127,6 +127,124 @@ pub ruleset within_superblock = (count_past)
 pub ruleset block_search = (count_up, count_le)
 
 pub ruleset limb_search = (held_more, held_up)
+
+-- half of the limbs, after those whose places don't pass number r, or else the first half
+pub passed_half : (b : Bool) (l : List Bool) (block r n limb before there : ℕ) → IsAmongLimbs b l block r (n + n) limb before → held b l (64 * limb) + there ≡ held b l (64 * (limb + n)) → there ≤ 64 * n
+    → before + there ≤ r → IsAmongLimbs b l block r n (limb + n) (before + there)
+passed_half b l block r n limb before there is counts small low = record {
+  start = omega (arith, is.start);
+  inside = omega (arith, is.inside);
+  counted = omega (arith, is.counted, counts);
+  from = low;
+  few = omega (arith, is.few, is.start);
+  to = λ h. let e : 64 * (limb + n + n) ≡ 64 * (limb + (n + n)) = omega arith in omega (arith, is.to (omega arith), ap (held b l) e);
+}
+
+pub kept_half : (b : Bool) (l : List Bool) (block r n limb before there : ℕ) → IsAmongLimbs b l block r (n + n) limb before → held b l (64 * limb) + there ≡ held b l (64 * (limb + n))
+    → r < before + there → IsAmongLimbs b l block r n limb before
+kept_half b l block r n limb before there is counts high = record {
+  start = is.start;
+  inside = omega (arith, is.inside);
+  counted = is.counted;
+  from = is.from;
+  few = is.few;
+  to = λ _. omega (arith, is.counted, counts);
+}
+
+-- the part that a choice by halves takes
+pub half_of : (b : Bool) (l : List Bool) (block r n limb before there more_limb more_before : ℕ) → IsAmongLimbs b l block r (n + n) limb before → held b l (64 * limb) + there ≡ held b l (64 * (limb + n)) → there ≤ 64 * n
+    → (before + there ≤ r → (more_limb ≡ limb + n) × (more_before ≡ before + there)) → (r < before + there → (more_limb ≡ limb) × (more_before ≡ before)) → IsAmongLimbs b l block r n more_limb more_before
+half_of b l block r n limb before there more_limb more_before is counts small on off = elim (cases_lt r (before + there)) [
+  | inl high ↦ rw ((off high).0, (off high).1) (kept_half b l block r n limb before there is counts high)
+  | inr low ↦ rw ((on low).0, (on low).1) (passed_half b l block r n limb before there is counts small low)
+]
+
+-- the limb that is left
+pub one_limb : (b : Bool) (l : List Bool) (block r limb before : ℕ) → IsAmongLimbs b l block r 1 limb before → IsLimbWith b l block r (8 * block + 7) limb before
+one_limb b l block r limb before is = record {
+  start = is.start;
+  inside = omega (arith, is.inside);
+  counted = is.counted;
+  from = is.from;
+  to = λ h. is.to (omega arith);
+}
+
+-- all 8 limbs of a block
+pub all_limbs : (b : Bool) (l : List Bool) (block r : ℕ) → IsAmongLimbs b l block r 8 (8 * block) 0
+all_limbs b l block r = record {
+  start = omega arith;
+  inside = omega arith;
+  counted = let e : 512 * block ≡ 64 * (8 * block) = omega arith in omega (arith, ap (held b l) e);
+  from = omega arith;
+  few = omega arith;
+  to = λ h. absurd (omega arith);
+}
+
+-- the places of four limbs are those of two and of the next two
+pub two_and_two : (b : Bool) (l : List Bool) (k x y : ℕ) → held b l (64 * k) + x ≡ held b l (64 * (k + 2)) → held b l (64 * (k + 2)) + y ≡ held b l (64 * (k + 2 + 2)) → held b l (64 * k) + (x + y) ≡ held b l (64 * (k + 4))
+two_and_two b l k x y one other = let e : 64 * (k + 2 + 2) ≡ 64 * (k + 4) = omega arith in omega (arith, one, other, ap (held b l) e)
+
+pub next_two : (b : Bool) (l : List Bool) (k x y : ℕ) → held b l (64 * k) + x ≡ held b l (64 * (k + 1)) → held b l (64 * (k + 1)) + y ≡ held b l (64 * (k + 1 + 1)) → held b l (64 * k) + (x + y) ≡ held b l (64 * (k + 2))
+next_two b l k x y one other = let e : 64 * (k + 1 + 1) ≡ 64 * (k + 2) = omega arith in omega (arith, one, other, ap (held b l) e)
+
+-- of the first j blocks of superblock s those that don't pass number r, and how far the last of them lies below it
+pub record ArePassed (b : Bool) (l : List Bool) (s r j blocks rest : ℕ) : Type 0 where
+  pub within : blocks ≤ j
+  pub some : 0 < j → 0 < blocks
+  pub none : j ≡ 0 → rest ≡ r
+  pub from : rest ≤ r
+  pub counted : 0 < blocks → count b l (512 * (16 * s + (blocks - 1))) + rest ≡ count b l (8192 * s) + r
+  pub to : blocks < j → count b l (8192 * s) + r < count b l (512 * (16 * s + blocks))
+
+pub none_passed : (b : Bool) (l : List Bool) (s r : ℕ) → ArePassed b l s r 0 0 r
+none_passed b l s r = record {
+  within = omega arith;
+  some = λ h. h;
+  none = λ _. refl;
+  from = omega arith;
+  counted = λ h. absurd (omega arith);
+  to = λ h. absurd (omega arith);
+}
+
+pub one_passed : (b : Bool) (l : List Bool) (s r j blocks rest entry more_blocks more_rest : ℕ) → ArePassed b l s r j blocks rest → count b l (8192 * s) + entry ≡ count b l (512 * (16 * s + j))
+    → (entry ≤ r → (more_blocks ≡ blocks + 1) × (more_rest ≡ min rest (r - entry))) → (r < entry → (more_blocks ≡ blocks) × (more_rest ≡ rest)) → ArePassed b l s r (j + 1) more_blocks more_rest
+one_passed b l s r j blocks rest entry more_blocks more_rest is counts on off = elim (cases_lt r entry) [
+  | inl high ↦
+      let first : 0 < j = elim (cases_lt 0 j) [
+        | inl h ↦ h
+        | inr none ↦ (let e : 512 * (16 * s + j) ≡ 8192 * s = omega arith in absurd (omega (arith, counts, ap (count b l) e)))
+      ] in
+      let same : (blocks ≡ j → count b l (8192 * s) + r < count b l (512 * (16 * s + blocks))) = λ e. omega (arith, counts, ap (λ k. count b l (512 * (16 * s + k))) e) in
+      rw ((off high).0, (off high).1) (record {
+        within = omega (arith, is.within);
+        some = λ _. is.some first;
+        none = λ e. absurd (omega arith);
+        from = is.from;
+        counted = is.counted;
+        to = λ h. elim (cases_lt blocks j) [ inl less ↦ is.to less | inr all ↦ same (omega (arith, is.within)) ];
+      })
+  | inr low ↦
+      let all : blocks ≡ j = elim (cases_lt blocks j) [
+        | inl less ↦ absurd (omega (arith, is.to less, counts, count_up b l (512 * (16 * s + blocks)) (512 * (16 * s + j)) (omega arith)))
+        | inr h ↦ omega (arith, is.within)
+      ] in
+      let below : r - entry ≤ rest = elim (cases_lt 0 j) [
+        | inl first ↦ omega (arith, is.counted (is.some first), counts, count_up b l (512 * (16 * s + (blocks - 1))) (512 * (16 * s + j)) (omega (arith, all)))
+        | inr none ↦ omega (arith, is.none (omega arith))
+      ] in
+      let last : 512 * (16 * s + (blocks + 1 - 1)) ≡ 512 * (16 * s + j) = omega (arith, all) in
+      let least : min rest (r - entry) ≡ r - entry = omega (arith, below) in
+      rw ((on low).0, (on low).1, least) (record {
+        within = omega (arith, is.within);
+        some = λ _. omega arith;
+        none = λ e. absurd (omega arith);
+        from = omega arith;
+        counted = λ _. omega (arith, counts, ap (count b l) last);
+        to = λ h. absurd (omega (arith, all));
+      })
+]
+
+pub ruleset halves_of_block = (held_up, next_two)
 
 -- the greater half of n has a digit less
 pub half_left : (n : ℕ) → 1 < n → digits (n - n / 2 - 1) + 1 ≤ digits (n - 1)

@@ -1,8 +1,9 @@
 pub mod Queries
-pub mod Index
 pub mod Walks
 pub mod Laws
+pub mod Rows
 pub use Rattle.vers_bits.specs.Bits
 pub use Rattle.vers_tally.specs.Reads
 pub use Rattle.vers_tally.specs.Ends
 pub use Rattle.vers_bits.specs.Equality
+pub mod inside

@@ -49,7 +49,7 @@ pub struct RsVec<A: Allocator + Copy> {
 
 impl<A: Allocator + Copy> Model for RsVec<A> {
     ghost use Rattle.std.specs.Prelude.{List, Bool};
-    ghost use Rattle.vers_rank.specs.Index.{IsIndexed};
+    ghost use Rattle.vers_rank.specs.inside.Index.{IsIndexed};
 
     ghost Value = { List Bool };
 

@@ -8,13 +8,14 @@ use Rattle.vers_rmq.specs.declared.rmq.least.Candidate.{Candidate}
 use Rattle.vers_rmq.specs.declared.rmq.fast_rmq.mask.Masks.{Masks}
 use Rattle.vers_rmq.specs.declared.rmq.fast_rmq.block.BlockMasks.{BlockMasks}
 use Rattle.vers_rmq.specs.Minima.{IsFirstLeast}
-use Rattle.vers_rmq.specs.Candidates.{IsLeastItem, lesser_candidate}
-use Rattle.vers_rmq.specs.Masks.{IsLastSet, IsFirstSet, AreMasks, part_end}
-use Rattle.vers_rmq.specs.Blocks.{IsBlock, AreBlocks, AreAllBlocks, block_end, no_masks}
-use Rattle.vers_rmq.specs.Layout.{block_count, binary_heap_size}
+use Rattle.vers_rmq.specs.inside.Candidates.{IsLeastItem, lesser_candidate}
+use Rattle.vers_rmq.specs.inside.Masks.{IsLastSet, IsFirstSet, AreMasks, part_end}
+use Rattle.vers_rmq.specs.inside.Blocks.{IsBlock, AreBlocks, AreAllBlocks, block_end, no_masks}
+use Rattle.vers_bits.specs.Bits.{block_count}
+use Rattle.vers_rmq.specs.Layout.{binary_heap_size}
 use Rattle.vers_rmq.proofs.Minima.{least_ends, item_at, item_join, item_ends}
 use Rattle.vers_rmq.proofs.Masks.{some_from}
-use Rattle.vers_rmq.proofs.Tables.{size_bounded}
+use Rattle.vers_rmq.proofs.Logs.{size_bounded}
 
 -- ---- how blocks are made
 pub block_is : (xs : List ℕ) (b e least value : ℕ) (masks : BlockMasks) → e ≡ block_end (length xs) b → AreMasks xs 128 (128 * b) e masks.whole → AreMasks xs 16 (128 * b) e masks.parts
@@ -54,18 +55,18 @@ no_blocks xs mi pl ms e1 e2 e3 = rw (e1, e2, e3) (record {
   block = λ a l. absurd (omega arith);
 })
 
-pub all_blocks : (xs mi pl : List ℕ) (ms : List BlockMasks) (b : ℕ) → length xs ≤ MAX_LEN → b ≡ block_count (length xs) → AreBlocks xs b mi pl ms → AreAllBlocks xs mi pl ms
+pub all_blocks : (xs mi pl : List ℕ) (ms : List BlockMasks) (b : ℕ) → length xs ≤ MAX_LEN → b ≡ block_count 128 (length xs) → AreBlocks xs b mi pl ms → AreAllBlocks xs mi pl ms
 all_blocks xs mi pl ms b few e h = record { bounded = few; blocks = rw (← e) h }
 
 pub ruleset starting = (no_blocks, all_blocks)
 
 -- ---- the sizes of what is kept
 pub sizes : (xs mi pl : List ℕ) (ms : List BlockMasks) → AreAllBlocks xs mi pl ms
-    → (binary_heap_size (length mi) ≡ binary_heap_size (block_count (length xs))) × (length pl ≡ block_count (length xs)) × (length ms ≡ block_count (length xs))
-    × (binary_heap_size (length mi) ≤ 140 * block_count (length xs)) × (length xs ≤ MAX_LEN)
+    → (binary_heap_size (length mi) ≡ binary_heap_size (block_count 128 (length xs))) × (length pl ≡ block_count 128 (length xs)) × (length ms ≡ block_count 128 (length xs))
+    × (binary_heap_size (length mi) ≤ 140 * block_count 128 (length xs)) × (length xs ≤ MAX_LEN)
 sizes xs mi pl ms h =
     let same = ap binary_heap_size h.blocks.minima_counted in
-    (same, h.blocks.places_counted, h.blocks.masks_counted, omega (arith, same, size_bounded (block_count (length xs)) (omega (arith, h.bounded))), h.bounded)
+    (same, h.blocks.places_counted, h.blocks.masks_counted, omega (arith, same, size_bounded (block_count 128 (length xs)) (omega (arith, h.bounded))), h.bounded)
 
 pub ruleset sizing = (sizes)
 

@@ -4,3 +4,5 @@ pub mod Tables
 pub mod Masks
 pub mod Blocks
 pub mod Gathers
+pub mod Found
+pub mod PublicLaws

@@ -1,43 +1,10 @@
 -- Binary logarithms.
-use Rattle.std.proofs.Common.{◌≡◌, ℕ, ◌+◌, ◌-◌, ◌*◌, ◌%◌, ◌^◌, ◌<◌, ◌≤◌, ◌∙◌, inl, inr, arith, add-one}
-use Rattle.std.specs.Int.Digits.{digits_of}
+use Rattle.std.proofs.Common.{◌≡◌, ℕ, ◌+◌, ◌-◌, ◌*◌, ◌%◌, ◌^◌, ◌<◌, ◌≤◌, arith}
 use Rattle.std.specs.Int.Count.{count_leading_zeros}
-use Rattle.std.proofs.Math.Nat.{pow-suc, pow-le-pow_right}
-use Rattle.std.proofs.lemmas.Nat.{leading_top, one_shl, pow_pos}
-use Rattle.std.proofs.lemmas.Int.Digits.{length-digits_of-le, number_lt, number_digits_of, all_below_base_digits_of}
-use Rattle.std.proofs.lemmas.Bool.{cases_lt}
-use Rattle.vers_tally.specs.Reads.{digits}
-use Rattle.vers_rmq.specs.Layout.{clog}
-
-pub digits-le : (k n : ℕ) → n < 2 ^ k → digits n ≤ k
-unfolding digits
-digits-le k n h = length-digits_of-le 2 k n (omega arith) h
-
-pub digits-lt : (n : ℕ) → n < 2 ^ digits n
-unfolding digits
-digits-lt n = omega (arith, number_lt 2 (digits_of 2 n) (all_below_base_digits_of 2 n (omega arith)), number_digits_of 2 n (omega arith))
-
-pub pow_next : (k : ℕ) → 2 ^ (k + 1) ≡ 2 * 2 ^ k
-pow_next k = rw add-one (pow-suc 2 k ∙ omega arith)
-
-pub below_pow : (i j : ℕ) → 2 ^ i < 2 ^ (j + 1) → i ≤ j
-below_pow i j h = elim (cases_lt j i) [
-  | inl more ↦ absurd (omega (arith, h, pow-le-pow_right {n = 2} (omega arith) {i = j + 1} {j = i} (omega arith)))
-  | inr less ↦ less
-]
-
--- the one power of two between a number and less than its double
-pub clog_is : (x k : ℕ) → x ≤ 2 ^ k → 2 ^ k < 2 * x → clog x ≡ k
-clog_is x k up down =
-    let few : clog x ≤ k = digits-le k (x - 1) (omega arith) in
-    let high : x ≤ 2 ^ clog x = omega (arith, digits-lt (x - 1)) in
-    let more : k ≤ clog x = below_pow k (clog x) (omega (arith, pow_next (clog x), high, down)) in
-    omega arith
-
-pub clog_up : (x k : ℕ) → 2 ^ k ≤ x → k ≤ clog x
-clog_up x k h =
-    let high : x ≤ 2 ^ clog x = omega (arith, digits-lt (x - 1)) in
-    below_pow k (clog x) (omega (arith, pow_next (clog x), high, h, pow_pos (clog x)))
+use Rattle.std.proofs.Math.Nat.{pow-suc, mul-le-mul_left}
+use Rattle.std.proofs.lemmas.Nat.{leading_top, one_shl}
+use Rattle.vers_tally.proofs.PublicLaws.{clog_is, digits-le, pow_next}
+use Rattle.vers_rmq.specs.Layout.{clog, binary_heap_size}
 
 pub top_is : (a : ℕ) → 0 < a → a < 2 ^ 64 → (2 ^ (63 - count_leading_zeros 64 a) ≤ a) × (a < 2 * 2 ^ (63 - count_leading_zeros 64 a)) × (count_leading_zeros 64 a ≤ 63)
 top_is a some few =
@@ -62,5 +29,10 @@ one_level n few = let none : clog n ≤ 0 = digits-le 0 (n - 1) (omega arith) in
 
 pub few_levels : (n : ℕ) → n < 2 ^ 32 → clog n ≤ 32
 few_levels n h = digits-le 32 (n - 1) (omega (arith, h))
+
+pub size_bounded : (n : ℕ) → n < 2 ^ 32 → binary_heap_size n ≤ 140 * n
+size_bounded n h =
+    let few : clog n ≤ 32 = digits-le 32 (n - 1) (omega (arith, h)) in
+    omega (arith, mul-le-mul_left {m = clog n + 1} {n = 33} n (omega (arith, few)))
 
 pub ruleset counting = (levels_are, one_level, few_levels)

@@ -4,7 +4,7 @@ use Rattle.std.proofs.lemmas.Bool.{cases_lt, cond-true, cond-false, le-leb, lt-l
 use Rattle.std.proofs.lemmas.Bool.Decides.{nat_tests}
 use Rattle.vers_rmq.specs.declared.rmq.least.Candidate.{Candidate}
 use Rattle.vers_rmq.specs.Minima.{IsFirstLeast, lesser}
-use Rattle.vers_rmq.specs.Candidates.{IsLeastItem, lesser_candidate}
+use Rattle.vers_rmq.specs.inside.Candidates.{IsLeastItem, lesser_candidate}
 
 -- a range of one place
 pub least_at : (xs : List ℕ) (i : ℕ) → IsFirstLeast xs i i i

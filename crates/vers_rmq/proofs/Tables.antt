@@ -7,9 +7,9 @@ use Rattle.std.proofs.lemmas.List.{length_push, get_or_push, get_or_append_left}
 use Rattle.vers_rmq.specs.Layout.{clog, binary_heap_size}
 use Rattle.vers_rmq.specs.declared.rmq.least.Candidate.{Candidate}
 use Rattle.vers_rmq.specs.Minima.{IsFirstLeast, lesser}
-use Rattle.vers_rmq.specs.Candidates.{IsLeastItem, lesser_candidate}
-use Rattle.vers_rmq.specs.Tables.{HoldsPlaces, IsTable, reach}
-use Rattle.vers_rmq.proofs.Logs.{clog_is, clog_up, pow_next, digits-le}
+use Rattle.vers_rmq.specs.inside.Candidates.{IsLeastItem, lesser_candidate}
+use Rattle.vers_rmq.specs.inside.Tables.{HoldsPlaces, IsTable, reach}
+use Rattle.vers_tally.proofs.PublicLaws.{clog_is, clog_up, pow_next, digits-le}
 use Rattle.vers_rmq.proofs.Minima.{least_at, least_join, least_ends, item_at, item_join, item_ends}
 
 -- a place of the table has one level
@@ -118,10 +118,5 @@ pub table_size : (xs table : List ℕ) → IsTable xs table → (length table �
 table_size xs table t =
     let few : clog (length xs) ≤ 32 = digits-le 32 (length xs - 1) (omega (arith, t.bounded)) in
     (t.counted, omega (arith, t.counted, mul-le-mul_left {m = clog (length xs) + 1} {n = 33} (length xs) (omega (arith, few))), t.bounded)
-
-pub size_bounded : (n : ℕ) → n < 2 ^ 32 → binary_heap_size n ≤ 140 * n
-size_bounded n h =
-    let few : clog n ≤ 32 = digits-le 32 (n - 1) (omega (arith, h)) in
-    omega (arith, mul-le-mul_left {m = clog n + 1} {n = 33} n (omega (arith, few)))
 
 pub ruleset sizing = (table_size)

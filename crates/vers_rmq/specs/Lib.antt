@@ -1,10 +1,7 @@
 pub mod Minima
-pub mod Candidates
 pub mod Layout
 pub mod Ranges
 pub mod Makers
 pub mod Laws
-pub mod Tables
-pub mod Masks
-pub mod Blocks
 pub mod Rows
+pub mod inside

@@ -1,5 +1,6 @@
 -- The first place of a least item in a range.
-use Rattle.std.specs.Prelude.{ℕ, ◌<◌, ◌≤◌, List, slice_index, nat_le, if◌then◌else◌}
+use Rattle.std.specs.Prelude.{ℕ, ◌<◌, ◌≤◌, Bool, List, Option, find, slice_index, nat_le, if◌then◌else◌}
+use Rattle.std.specs.List.{list_all}
 
 -- m is a place from i to j, both included, no item from i to j is below the one at m, and those from i to before m are above it
 pub record IsFirstLeast (items : List ℕ) (i j m : ℕ) : Type 0 where
@@ -11,3 +12,11 @@ pub record IsFirstLeast (items : List ℕ) (i j m : ℕ) : Type 0 where
 -- the one of two places that has the lesser item, the first where they are equal
 unfoldable pub lesser : List ℕ → ℕ → ℕ → ℕ
 lesser items m n = if nat_le (slice_index items m) (slice_index items n) then m else n
+
+-- whether none of the places has a lower item than place m
+unfoldable pub is_least : List ℕ → List ℕ → ℕ → Bool
+is_least items places m = list_all (λ p. nat_le (slice_index items m) (slice_index items p)) places
+
+-- the first of the places that has a least item of them
+unfoldable pub first_least_of : List ℕ → List ℕ → Option ℕ
+first_least_of items places = find (is_least items places) places

@@ -3,7 +3,7 @@ use Rattle.std.specs.Prelude.{◌≡◌, ℕ, List, [], ◌∷◌, refl}
 use Rattle.std.specs.declared.ops.Bound.TheVariants.{Included, Excluded, Unbounded}
 use Rattle.vers_tally.specs.Reads.{digits}
 use Rattle.vers_rmq.specs.Minima.{lesser}
-use Rattle.vers_rmq.specs.Layout.{clog, binary_heap_size, fast_heap_size}
+use Rattle.vers_rmq.specs.Layout.{binary_heap_size, fast_heap_size}
 use Rattle.vers_rmq.specs.Ranges.{start_place, end_place}
 
 -- items of which some are equal
@@ -35,14 +35,6 @@ end_place-unbounded = refl
 
 pub end_place-greatest : end_place (Excluded 18446744073709551615) 5 ≡ 4
 end_place-greatest = refl
-
-pub clog-0 : clog 0 ≡ 0
-unfolding digits
-clog-0 = refl
-
-pub clog-11 : clog 11 ≡ 4
-unfolding digits
-clog-11 = refl
 
 pub binary_heap_size-11 : binary_heap_size 11 ≡ 308
 unfolding digits

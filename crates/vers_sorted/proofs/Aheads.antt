@@ -14,12 +14,12 @@ use Rattle.vers_bits.proofs.PublicLaws.{bit_at-number, number-lt, number-drop, s
 use Rattle.vers_rank.specs.Queries.{part_number_or_zero}
 use Rattle.vers_sorted.specs.declared.elias_fano.ahead.Ahead.{Ahead}
 use Rattle.vers_sorted.specs.Layout.{high_parts, high_place}
-use Rattle.vers_sorted.specs.Parts.{HoldHigh, IsPacked}
-use Rattle.vers_sorted.specs.Ahead.{HasRead, IsAhead}
+use Rattle.vers_sorted.specs.inside.Parts.{HoldHigh, IsPacked}
+use Rattle.vers_sorted.specs.inside.Ahead.{HasRead, IsAhead}
 use Rattle.vers_sorted.specs.Ones.{ones_at}
 use Rattle.vers_sorted.proofs.Ones.{ones_at-places}
 use Rattle.vers_sorted.proofs.Holds.{hold_high}
-use Rattle.vers_sorted.proofs.Scans.{part_bit, zero_bit, one_bit, count_stays, part_read, counted_past}
+use Rattle.vers_sorted.proofs.Scans.{part_bit, zero_bit, one_bit, count_stays, part_of, counted_past}
 
 -- the high parts are those of the layout, since they have the same ones
 pub high_same : {s : List ℕ} {high low : List Bool} {first last width : ℕ} → IsPacked s high low first last width → high ≡ high_parts s
@@ -118,25 +118,25 @@ module _ (s : List ℕ) (i : ℕ) (a : Ahead) (up : IsNonDecreasing s) (read : H
 
 -- ---- the bits after a member's one
 
-pub read_after : {s : List ℕ} {high low : List Bool} {first last width : ℕ} (i p w : ℕ) → IsPacked s high low first last width → i < length s → p ≡ select true high i
-    → part_number_or_zero high (p + 1) 64 ≡ Some w → HasRead s (i + 1) (record { place = p + 1; len = 64; word = w })
-read_after {s} {high} i p w packed h e read =
+pub read_after : {s : List ℕ} {high low : List Bool} {first last width : ℕ} (i p n w : ℕ) → IsPacked s high low first last width → i < length s → p ≡ select true high i
+    → part_number_or_zero high (p + 1) n ≡ Some w → HasRead s (i + 1) (record { place = p + 1; len = n; word = w })
+read_after {s} {high} i p n w packed h e read =
     let same : high ≡ high_parts s = high_same packed in
     let made : HoldHigh s (high_parts s) = hold_high s packed.ascending in
-    let part = part_read (high_parts s) (p + 1) w (ap (λ l. part_number_or_zero l (p + 1) 64) (sym same) ∙ read) in
+    let part = part_of (high_parts s) (p + 1) n w (ap (λ l. part_number_or_zero l (p + 1) n) (sym same) ∙ read) in
     record {
       before = counted_past true (high_parts s) i p (omega (arith, made.ones)) (e ∙ ap (λ l. select true l i) same);
-      within = part.0;
-      few = omega arith;
-      bits = part.1;
+      within = part.1;
+      few = part.0;
+      bits = part.2;
     }
 
-pub read_maybe : {s : List ℕ} {high low : List Bool} {first last width : ℕ} (i p w : ℕ) (o : Option ℕ) → IsPacked s high low first last width → i < length s → p ≡ select true high i
-    → o ≡ part_number_or_zero high (p + 1) 64 → w ≡ unwrap_or o 0 → IsAhead s (i + 1) (record { place = p + 1; len = 64; word = w })
-read_maybe i p w None packed h e read is some = absurd (omega (arith, is, some))
-read_maybe {s} i p w (Some v) packed h e read is some =
-    let P : ℕ → Type 0 = λ x. HasRead s (i + 1) (record { place = p + 1; len = 64; word = x }) in
-    subst P (sym is) (read_after i p v packed h e (sym read))
+pub read_maybe : {s : List ℕ} {high low : List Bool} {first last width : ℕ} (i p n w : ℕ) (o : Option ℕ) → IsPacked s high low first last width → i < length s → p ≡ select true high i
+    → o ≡ part_number_or_zero high (p + 1) n → w ≡ unwrap_or o 0 → IsAhead s (i + 1) (record { place = p + 1; len = n; word = w })
+read_maybe i p n w None packed h e read is some = absurd (omega (arith, is, some))
+read_maybe {s} i p n w (Some v) packed h e read is some =
+    let P : ℕ → Type 0 = λ x. HasRead s (i + 1) (record { place = p + 1; len = n; word = x }) in
+    subst P (sym is) (read_after i p n v packed h e (sym read))
 
 -- the place after what was read stands among the bits
 pub read_fits : {s : List ℕ} {high low : List Bool} {first last width : ℕ} (i : ℕ) (a : Ahead) → IsPacked s high low first last width → HasRead s i a → a.place + a.len ≤ length high

@@ -10,8 +10,8 @@ use Rattle.vers_tally.specs.Reads.{digits}
 use Rattle.vers_tally.proofs.PublicLaws.{digits_halved, digits_up}
 use Rattle.vers_sorted.specs.Sorted.{below}
 use Rattle.vers_sorted.specs.Layout.{first_of, last_of, low_width, high_of, low_of}
-use Rattle.vers_sorted.specs.Parts.{IsPacked, IsStart}
-use Rattle.vers_sorted.specs.Buckets.{IsBucket}
+use Rattle.vers_sorted.specs.inside.Parts.{IsPacked, IsStart}
+use Rattle.vers_sorted.specs.inside.Buckets.{IsBucket}
 use Rattle.vers_sorted.specs.declared.elias_fano.search.Bucket.{Bucket}
 use Rattle.vers_sorted.proofs.Below.{below_le, below_from, below_to}
 use Rattle.vers_sorted.proofs.Split.{parts_sum, high_up, member_from, high_zeros}

@@ -12,7 +12,7 @@ use Rattle.std.proofs.lemmas.List.FromFn.{length-map-range_with_len, get_or-map-
 use Rattle.vers_bits.specs.Bits.{number, low_bits, pack, select}
 use Rattle.vers_bits.proofs.PublicLaws.{number-low_bits, length-low_bits}
 use Rattle.vers_sorted.specs.Layout.{first_of, last_of, low_width, high_of, low_of, high_length, high_place, high_parts, low_parts}
-use Rattle.vers_sorted.specs.Parts.{member, members, HoldHigh, HoldLow}
+use Rattle.vers_sorted.specs.inside.Parts.{member, members, HoldHigh, HoldLow}
 use Rattle.vers_sorted.proofs.Ones.{length-ones_at, select-ones_at, all_ones}
 use Rattle.vers_sorted.proofs.Split.{parts_sum, high_up, member_from, high_zeros}
 

@@ -6,7 +6,8 @@ use Rattle.std.proofs.lemmas.Nat.{pow-add}
 use Rattle.vers_sorted.specs.Layout.{clog, first_of, last_of, width, low_width, high_of, high_length, high_parts}
 use Rattle.vers_sorted.proofs.Split.{high_none, high_zeros}
 use Rattle.vers_sorted.proofs.Holds.{length-high_parts}
-use Rattle.vers_sorted.proofs.Widths.{clog_most, clog_least, clog_is_least, width_enough, width_few}
+use Rattle.vers_tally.proofs.PublicLaws.{clog_most, clog_least, clog_is_least}
+use Rattle.vers_sorted.proofs.Widths.{width_enough, width_few}
 
 -- the high part of the last member is at most the least power of two that isn't below the number of members
 high_few : (s : List ℕ) → high_of s (last_of s) ≤ 2 ^ clog (max (length s) 2)

@@ -1,4 +1,5 @@
 pub mod Split
+pub mod Orders
 pub mod Below
 pub mod Neighbours
 pub mod Ones
@@ -13,4 +14,6 @@ pub mod SparseBits
 pub mod BothEnds
 pub mod Scans
 pub mod Aheads
+pub mod Members
+pub mod Marks
 pub mod PublicLaws

@@ -12,7 +12,7 @@ use Rattle.std.proofs.lemmas.Grind.{flat_map-append}
 use Rattle.vers_bits.specs.Bits.{low_bits, pack}
 use Rattle.vers_sorted.specs.Ones.{ones_at}
 use Rattle.vers_sorted.specs.Layout.{first_of, last_of, width, low_width, high_of, high_length, high_place, high_parts, low_parts}
-use Rattle.vers_sorted.specs.Parts.{first_high_parts, first_low_parts}
+use Rattle.vers_sorted.specs.inside.Parts.{first_high_parts, first_low_parts}
 use Rattle.vers_sorted.proofs.Ones.{length-ones_at, ones_at_none, ones_at_more}
 use Rattle.vers_sorted.proofs.Split.{high_none, high_zeros, member_from}
 use Rattle.vers_sorted.proofs.Holds.{place_within, length-pack}

@@ -6,7 +6,8 @@ use Rattle.std.specs.List.Sorted.{IsNonDecreasing}
 use Rattle.std.proofs.lemmas.Bool.{cases_lt, le-leb, lt-leb, ne_eqb}
 use Rattle.vers_sorted.specs.Sorted.{below, greatest_not_above, least_not_below, delta}
 use Rattle.std.proofs.lemmas.Option.{slice_get-get_or, slice_get_past}
-use Rattle.vers_sorted.specs.Parts.{IsPacked}
+use Rattle.vers_bits.proofs.PublicLaws.{find_is, none_passing, last_passing_is}
+use Rattle.vers_sorted.specs.inside.Parts.{IsPacked}
 use Rattle.vers_sorted.proofs.Below.{below_le, below_up, below_from, below_to}
 
 -- what stands before and after
@@ -15,26 +16,6 @@ below_before s v i up h = elim (cases_lt (slice_index s i) v) [ inl fine ↦ fin
 
 pub below_after : (s : List ℕ) (v i : ℕ) → IsNonDecreasing s → below s v ≤ i → i < length s → v ≤ slice_index s i
 below_after s v i up h short = elim (cases_lt (slice_index s i) v) [ inr fine ↦ fine | inl less ↦ absurd (omega (arith, below_from s v i up short less)) ]
-
-find_is : (p : ℕ → Bool) (s : List ℕ) (k : ℕ) → k ≤ length s → ((i : ℕ) → i < k → p (get_or s i 0) ≡ false) → (k < length s → p (get_or s k 0) ≡ true) → find p s ≡ slice_get s k
-find_is p [] k h off on = refl
-find_is p (x ∷ s) zero h off on = ap (λ b. cond b (Some x) (find p s)) (on (omega arith))
-find_is p (x ∷ s) (suc k) h off on =
-    ap (λ b. cond b (Some x) (find p s)) (off 0 (omega arith)) ∙ find_is p s k (omega arith) (λ i small. off (suc i) (omega arith)) (λ small. on (omega arith))
-
-last_none_of : (o : Option ℕ) (p : ℕ → Bool) (s : List ℕ) → ((i : ℕ) → i < length s → p (get_or s i 0) ≡ false) → last_or o (filter p s) ≡ o
-last_none_of o p [] off = refl
-last_none_of o p (x ∷ s) off =
-    ap (λ b. last_or o (cond b (x ∷ filter p s) (filter p s))) (off 0 (omega arith)) ∙ last_none_of o p s (λ i small. off (suc i) (omega arith))
-
-last_is : (o : Option ℕ) (p : ℕ → Bool) (s : List ℕ) (k : ℕ) → k < length s → ((i : ℕ) → i < k + 1 → p (get_or s i 0) ≡ true)
-    → ((i : ℕ) → k + 1 ≤ i → i < length s → p (get_or s i 0) ≡ false) → last_or o (filter p s) ≡ slice_get s k
-last_is o p [] k h on off = absurd (omega arith)
-last_is o p (x ∷ s) zero h on off =
-    ap (λ b. last_or o (cond b (x ∷ filter p s) (filter p s))) (on 0 (omega arith)) ∙ last_none_of (Some x) p s (λ i small. off (suc i) (omega arith) (omega arith))
-last_is o p (x ∷ s) (suc k) h on off =
-    ap (λ b. last_or o (cond b (x ∷ filter p s) (filter p s))) (on 0 (omega arith))
-    ∙ last_is (Some x) p s k (omega arith) (λ i small. on (suc i) (omega arith)) (λ i large small. off (suc i) (omega arith) (omega arith))
 
 pub succ_is : (s : List ℕ) (v : ℕ) → IsNonDecreasing s → least_not_below s v ≡ slice_get s (below s v)
 unfolding least_not_below
@@ -45,12 +26,12 @@ succ_is s v up =
 pub pred_none : (s : List ℕ) (v : ℕ) → IsNonDecreasing s → below s (v + 1) ≡ 0 → greatest_not_above s v ≡ None
 unfolding greatest_not_above
 pred_none s v up e =
-    last_none_of None (λ m. nat_le m v) s (λ i h. lt-leb (slice_index s i) v (omega (arith, below_after s (v + 1) i up (omega arith) h)))
+    none_passing None (λ m. nat_le m v) s (λ i h. lt-leb (slice_index s i) v (omega (arith, below_after s (v + 1) i up (omega arith) h)))
 
 pub pred_some : (s : List ℕ) (v : ℕ) → IsNonDecreasing s → 0 < below s (v + 1) → greatest_not_above s v ≡ slice_get s (below s (v + 1) - 1)
 unfolding greatest_not_above
 pred_some s v up some =
-    last_is None (λ m. nat_le m v) s (below s (v + 1) - 1) (omega (arith, below_le s (v + 1)))
+    last_passing_is None (λ m. nat_le m v) s (below s (v + 1) - 1) (omega (arith, below_le s (v + 1)))
     (λ i h. le-leb (slice_index s i) v (omega (arith, below_before s (v + 1) i up (omega arith))))
     (λ i h short. lt-leb (slice_index s i) v (omega (arith, below_after s (v + 1) i up (omega arith) short)))
 

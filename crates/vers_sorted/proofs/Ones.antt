@@ -29,15 +29,15 @@ get_or-ones_at s n i d h = get_or-map-range_with_len (λ p. list_any (λ q. eqb 
 
 -- ---- whether a number is a member
 
-any_member : (s : List ℕ) (v k : ℕ) → k < length s → get_or s k 0 ≡ v → list_any (λ q. eqb q v) s ≡ true
+pub any_member : (s : List ℕ) (v k : ℕ) → k < length s → get_or s k 0 ≡ v → list_any (λ q. eqb q v) s ≡ true
 any_member s v k h e =
     list_any-from_Any (λ q. eqb q v) s (k, v, h, get_or_default s k v 0 h ∙ e, eq-eqb v v refl)
 
-no_member : (s : List ℕ) (v : ℕ) → ((k : ℕ) → k < length s → get_or s k 0 ≡ v → ⊥) → list_any (λ q. eqb q v) s ≡ false
+pub no_member : (s : List ℕ) (v : ℕ) → ((k : ℕ) → k < length s → get_or s k 0 ≡ v → ⊥) → list_any (λ q. eqb q v) s ≡ false
 no_member s v none =
     list_any_none (λ q. eqb q v) s (λ k d h. ne_eqb (get_or s k d) v (λ e. none k h (get_or_default s k 0 d h ∙ e)))
 
-member_place : (s : List ℕ) (v : ℕ) → list_any (λ q. eqb q v) s ≡ true → (k : ℕ) × (k < length s) × (get_or s k 0 ≡ v)
+pub member_place : (s : List ℕ) (v : ℕ) → list_any (λ q. eqb q v) s ≡ true → (k : ℕ) × (k < length s) × (get_or s k 0 ≡ v)
 member_place s v on =
     let found = Any-from_list_any (λ q. eqb q v) s on in
     (found.0, found.2, get_or_default s found.0 0 found.1 found.2 ∙ found.3 ∙ eqb-true found.1 v found.4)

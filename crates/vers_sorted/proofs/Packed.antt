@@ -1,16 +1,16 @@
 -- What the fields of a packed list say of its members.
-use Rattle.std.proofs.Common.{◌≡◌, ℕ, ◌+◌, ◌-◌, ◌*◌, ◌%◌, ◌^◌, ◌<◌, ◌≤◌, Bool, true, List, length, take, drop, ap, ◌∙◌, arith, Some, None}
+use Rattle.std.proofs.Common.{◌≡◌, ℕ, ◌+◌, ◌-◌, ◌*◌, ◌/◌, ◌%◌, ◌^◌, ◌<◌, ◌≤◌, max, Bool, true, false, List, length, take, drop, refl, sym, ap, ◌∙◌, arith, Some, None}
 use Rattle.std.specs.Prelude.{slice_index, slice_get, bit_or}
 use Rattle.std.specs.List.Sorted.{IsNonDecreasing}
 use Rattle.std.proofs.Math.Nat.{mul-le-mul_left, mul_comm, mod-eq_of_lt}
 use Rattle.std.proofs.lemmas.Nat.{or_shifted}
 use Rattle.std.proofs.lemmas.Option.{slice_get-get_or, slice_get_past}
 use Rattle.std.proofs.lemmas.List.FromFn.{length-map-range_with_len}
-use Rattle.vers_bits.specs.Bits.{select, number, limb_count}
+use Rattle.vers_bits.specs.Bits.{select, number, count, block_count, limb_count}
 use Rattle.vers_bits.proofs.PublicLaws.{count_both}
-use Rattle.vers_rank.specs.Queries.{index_size}
+use Rattle.vers_rank.specs.Queries.{index_size, superblock_count}
 use Rattle.vers_sorted.specs.Layout.{first_of, last_of, low_width, high_of, low_of, high_length, high_parts, low_parts, heap_size_of}
-use Rattle.vers_sorted.specs.Parts.{member, members, HoldHigh, IsPacked}
+use Rattle.vers_sorted.specs.inside.Parts.{member, members, HoldHigh, IsPacked}
 use Rattle.vers_sorted.proofs.Split.{parts_sum, low_below}
 use Rattle.vers_sorted.proofs.Holds.{hold_high, hold_low, packs}
 
@@ -80,14 +80,26 @@ joined {s} {first} {last} {width} i packed h =
 
 -- ---- sizes
 
+-- the size of a list with its index, by its length, its zeros and its ones
+abbrev sized : ℕ → ℕ → ℕ → ℕ
+sized n zeros_in ones_in = 8 * limb_count n + 2 * block_count 512 n + 8 * superblock_count n + 16 * (max zeros_in ones_in / 8192 + 2)
+
+same_sized : (n m z y o p : ℕ) → n ≡ m → z ≡ y → o ≡ p → sized n z o ≡ sized m y p
+same_sized n m z y o p e f g = rw (e, f, g) refl
+
 -- of the high parts the size follows from their length and their ones
 same_index : (s : List ℕ) (high : List Bool) → HoldHigh s high → HoldHigh s (high_parts s) → index_size high ≡ index_size (high_parts s)
 same_index s high holds made =
-    omega (arith, holds.ones, made.ones, holds.total, made.total, count_both high (length high), count_both (high_parts s) (length (high_parts s)))
+    let same_length : length high ≡ length (high_parts s) = holds.total ∙ sym made.total in
+    let same_ones : count true high (length high) ≡ count true (high_parts s) (length (high_parts s)) = holds.ones ∙ sym made.ones in
+    let same_zeros : count false high (length high) ≡ count false (high_parts s) (length (high_parts s)) =
+    omega (arith, same_length, same_ones, count_both high (length high), count_both (high_parts s) (length (high_parts s))) in
+    same_sized _ _ _ _ _ _ same_length same_zeros same_ones
 
 pub size_is : {s : List ℕ} {high low : List Bool} {first last width : ℕ} → IsPacked s high low first last width → index_size high + 8 * limb_count (length low) ≡ heap_size_of s
 size_is {s} {high} {low} packed =
-    omega (arith, same_index s high packed.high_parts (hold_high s packed.ascending), packed.low_parts.counted, (hold_low s).counted)
+    ap (λ k. k + 8 * limb_count (length low)) (same_index s high packed.high_parts (hold_high s packed.ascending))
+    ∙ ap (λ n. index_size (high_parts s) + 8 * limb_count n) (packed.low_parts.counted ∙ sym (hold_low s).counted)
 
 pub index_fits : (l : List Bool) → length l ≤ 18446744073709551552 → index_size l ≤ 4611686018427387904
 index_fits l h = omega (arith, count_both l (length l))

@@ -2,8 +2,8 @@
 use Rattle.std.proofs.Common.{◌≡◌, ℕ, zero, suc, ◌+◌, ◌<◌, ◌≤◌, Bool, true, false, List, length, take, drop, get_or, refl, sym, ap, ◌∙◌, arith, Some}
 use mir.Syntax.{w64}
 use Rattle.std.specs.Int.{bit_at, trailing_ones}
-use Rattle.std.specs.Prelude.{nat_le}
-use Rattle.std.proofs.lemmas.Bool.{leb-true}
+use Rattle.std.specs.Prelude.{nat_le, ◌&&◌}
+use Rattle.std.proofs.lemmas.Bool.{leb-true, and_parts}
 use Rattle.std.proofs.lemmas.Option.{cond_some}
 use Rattle.std.proofs.lemmas.List.{get_or-take, get_or-drop}
 use Rattle.std.proofs.lemmas.Nat.Bits.{bit_at-trailing_ones}
@@ -47,11 +47,16 @@ next_zero l p h within counted small =
 pub counted_past : (b : Bool) (l : List Bool) (h p : ℕ) → h < count b l (length l) → p ≡ select b l h → count b l (p + 1) ≡ h + 1
 counted_past b l h p some e = ap (λ q. count b l (q + 1)) e ∙ (count_at_select b l h some).2
 
-pub part_read : (l : List Bool) (p w : ℕ) → part_number_or_zero l p 64 ≡ Some w → (p + 64 ≤ length l) × (w ≡ number (take 64 (drop p l)))
+-- what a part of n bits says that was read
+pub part_of : (l : List Bool) (p n w : ℕ) → part_number_or_zero l p n ≡ Some w → (n ≤ 64) × (p + n ≤ length l) × (w ≡ number (take n (drop p l)))
 unfolding part_number_or_zero
-part_read l p w e =
-    let found = cond_some (nat_le (p + 64) (length l)) (number (take 64 (drop p l))) w e in
-    (leb-true (p + 64) (length l) found.0, sym found.1)
+part_of l p n w e =
+    let found = cond_some (nat_le n 64 && nat_le (p + n) (length l)) (number (take n (drop p l))) w e in
+    let both = and_parts (nat_le n 64) (nat_le (p + n) (length l)) found.0 in
+    (leb-true n 64 both.0, leb-true (p + n) (length l) both.1, sym found.1)
+
+pub part_read : (l : List Bool) (p w : ℕ) → part_number_or_zero l p 64 ≡ Some w → (p + 64 ≤ length l) × (w ≡ number (take 64 (drop p l)))
+part_read l p w e = let read = part_of l p 64 w e in (read.1, read.2)
 
 pub select_within : (b : Bool) (l : List Bool) (h p : ℕ) → h < count b l (length l) → p ≡ select b l h → p < length l
 select_within b l h p some e = omega (arith, e, (count_at_select b l h some).0)

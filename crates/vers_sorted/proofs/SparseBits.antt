@@ -1,14 +1,14 @@
 -- The queries of a sparse list of bits, by those of the list of its ones' places.
 use Rattle.std.proofs.Common.{◌≡◌, ℕ, ◌+◌, ◌-◌, ◌*◌, ◌<◌, ◌≤◌, Bool, true, false, List, [], ◌∷◌, ◌++◌, length, take, get_or, eqb, refl, sym, ap, ◌∙◌, arith, inl, inr, min, Some, None}
-use Rattle.std.specs.Prelude.{slice_index, slice_get, map, count_ones}
+use Rattle.std.specs.Prelude.{slice_index, slice_get, map}
 use Rattle.std.specs.List.Sorted.{IsNonDecreasing}
 use Rattle.std.proofs.lemmas.Bool.{cases_lt, cases_eq, eq-eqb, ne_eqb}
 use Rattle.std.proofs.lemmas.List.{get_or_default, map-id, take_more, take_all}
 use Rattle.std.proofs.lemmas.Option.{slice_get-get_or, slice_get_past, slice_get_within, get_or_from_slice_get}
-use Rattle.vers_bits.specs.Bits.{is_bit, count, places, select, limb}
-use Rattle.vers_bits.proofs.PublicLaws.{count_none, count_both, count_past, count_up, count_limb_whole, select_at, select_past, length-places, count_more_yes, count_more_no}
+use Rattle.vers_bits.specs.Bits.{is_bit, count, places, select}
+use Rattle.vers_bits.proofs.PublicLaws.{count_none, count_both, count_past, count_up, select_at, select_past, length-places, count_more_yes}
 use Rattle.vers_sorted.specs.Sorted.{below, least_not_below}
-use Rattle.vers_sorted.specs.Ones.{ones_at, AreSparse, ones_without}
+use Rattle.vers_sorted.specs.Ones.{ones_at, AreSparse}
 use Rattle.vers_sorted.proofs.Below.{below_le, below_from, below_to}
 use Rattle.vers_sorted.proofs.Neighbours.{below_after, succ_is}
 use Rattle.vers_sorted.proofs.Ones.{length-ones_at, get_or-ones_at, member_test, ascends, below_member, count-ones_at, select-ones_at, all_ones, places-ones_at, places_rise, places_within, ones_at-places}
@@ -107,16 +107,6 @@ places_ascend b l = ascends (places b l) (places_rise b l)
 pub map_ones : (l : List Bool) → map (is_bit true) l ≡ l
 map_ones l = map-id l
 
-pub held_bit : (b x : Bool) → x ≡ b → is_bit b x ≡ true
-held_bit true x e = e
-held_bit false x e = rw e refl
-
-pub other_bit : (b x : Bool) → (x ≡ b → ⊥) → is_bit b x ≡ false
-other_bit true true ne = absurd (ne refl)
-other_bit true false ne = refl
-other_bit false true ne = refl
-other_bit false false ne = absurd (ne refl)
-
 -- the places below 0, one more of them, and all of them
 pub first_places_none : (b : Bool) (l : List Bool) → take (count b l 0) (places b l) ≡ []
 first_places_none b l = ap (λ k. take k (places b l)) (count_none b l)
@@ -131,22 +121,8 @@ first_places_more b l i h on =
     ap (λ k. take k (places b l)) more ∙ take_more (places b l) (count b l i) (length l) few
     ∙ ap (λ p. take (count b l i) (places b l) ++ p ∷ []) at
 
-pub first_places_same : (b : Bool) (l : List Bool) (i : ℕ) → i < length l → is_bit b (get_or l i false) ≡ false
-    → take (count b l (i + 1)) (places b l) ≡ take (count b l i) (places b l)
-first_places_same b l i h off = ap (λ k. take k (places b l)) (count_more_no b l i h off)
-
 pub first_places_all : (b : Bool) (l : List Bool) → take (count b l (length l)) (places b l) ≡ places b l
 first_places_all b l = take_all (count b l (length l)) (places b l) (omega (arith, length-places b l))
-
--- a limb that has no bit of the kind
-limb_passed : (b : Bool) (l : List Bool) (k : ℕ) → count_ones (limb l k) ≡ ones_without b → count b l (64 * k + 64) ≡ count b l (64 * k)
-limb_passed true l k e = omega (arith, count_limb_whole l k)
-limb_passed false l k e =
-    omega (arith, count_limb_whole l k, count_both l (64 * k), count_both l (64 * k + 64), count_up false l (64 * k) (64 * k + 64) (omega arith))
-
-pub first_places_passed : (b : Bool) (l : List Bool) (k : ℕ) → count_ones (limb l k) ≡ ones_without b
-    → take (count b l (64 * k + 64)) (places b l) ≡ take (count b l (64 * k)) (places b l)
-first_places_passed b l k e = ap (λ n. take n (places b l)) (limb_passed b l k e)
 
 -- the places of a limb that ends at e, which is its own end or the list's
 pub first_places_limb : (b : Bool) (l : List Bool) (k e : ℕ) → e ≡ 64 * k + min (length l - 64 * k) 64 → 64 * k < length l
@@ -166,10 +142,10 @@ zeros_are l i = omega (arith, count_both l i)
 pub ones_few : (l : List Bool) (i : ℕ) → count true l i ≤ min i (length l)
 ones_few l i = omega (arith, count_both l i)
 
-pub ruleset sparse = (length-ones_at, members_few, places_are, count_is, select_some, select_none, bit_some, bit_none, ascends, map_ones)
+pub ruleset sparse = (length-ones_at, get_or-ones_at, members_few, places_are, count_is, select_some, select_none, bit_some, bit_none, ascends, map_ones)
 
 pub ruleset from_places = (sparse_places, places_ascend, ones_at-places)
 
-pub ruleset collecting = (held_bit, other_bit, first_places_none, first_places_more, first_places_same, first_places_passed, first_places_limb, first_places_end)
+pub ruleset collecting = (first_places_none, first_places_end)
 
 pub ruleset zeros = (zeros_are, ones_few)

@@ -1,18 +1,10 @@
--- Whole-number logarithms.
-use Rattle.std.proofs.Common.{◌≡◌, ℕ, zero, suc, ◌+◌, ◌-◌, ◌*◌, ◌/◌, ◌^◌, ◌<◌, ◌≤◌, ap, arith, max, inl, inr}
+-- The widths of low parts.
+use Rattle.std.proofs.Common.{◌≡◌, ℕ, ◌+◌, ◌-◌, ◌/◌, ◌<◌, ◌≤◌, arith, max}
 use lib.Count.{count_leading_zeros}
-use Rattle.std.specs.Prelude.{◌↔◌}
-use Rattle.std.proofs.Math.Nat.{pow-suc, pow-le-pow_right}
-use Rattle.std.proofs.lemmas.Bool.{cases_lt}
-use Rattle.std.proofs.lemmas.Nat.{leading_length, pow_pos, pow-add}
+use Rattle.std.proofs.lemmas.Nat.{leading_length}
 use Rattle.vers_tally.specs.Reads.{digits}
-use Rattle.vers_tally.proofs.PublicLaws.{digits_half, digits-le, digits_up}
+use Rattle.vers_tally.proofs.PublicLaws.{digits_half, digits-le, digits_up, digits_is, clog_least}
 use Rattle.vers_sorted.specs.Layout.{clog, width}
-
-digits_is : (m n : ℕ) → n < 2 ^ m → 2 ^ m ≤ 2 * n + 1 → digits n ≡ m
-digits_is zero n low high = omega (arith, digits-le 0 n low)
-digits_is (suc m) n low high =
-    omega (arith, digits_is m (n / 2) (omega (arith, pow-suc 2 m)) (omega (arith, pow-suc 2 m)), digits_half n (omega (arith, pow-suc 2 m, pow_pos m)))
 
 pub digits_leading : (n : ℕ) → n < 340282366920938463463374607431768211456 → 128 - count_leading_zeros 128 n ≡ digits n
 digits_leading n h =
@@ -20,42 +12,17 @@ digits_leading n h =
     omega (arith, found.1, digits_is found.0 n found.2 found.3)
 
 pub clog_none : (n : ℕ) → n ≡ 0 → clog n ≡ 0
-unfolding clog
 clog_none n e = let z : n - 1 ≡ 0 = omega arith in omega (arith, digits-le 0 (n - 1) (omega arith))
 
 pub width_least : (n u : ℕ) → clog (max n 2) ≤ max (clog (max u 2)) (clog (n + 2))
-unfolding clog
 width_least n u = omega (arith, digits_up (max n 2 - 1) (n + 2 - 1) (omega arith))
 
 pub width_narrow : (n u : ℕ) → u < 18446744073709551616 → max (clog (max u 2)) (clog (n + 2)) - clog (max n 2) < 64
-unfolding clog
 width_narrow n u h =
     let few : digits (max u 2 - 1) ≤ 64 = digits-le 64 (max u 2 - 1) (omega arith) in
     let some : digits (max n 2 - 1) ≡ digits ((max n 2 - 1) / 2) + 1 = digits_half (max n 2 - 1) (omega arith) in
     let step : digits (n + 2 - 1) ≡ digits ((n + 2 - 1) / 2) + 1 = digits_half (n + 2 - 1) (omega arith) in
     omega (arith, digits_up ((n + 2 - 1) / 2) (max n 2 - 1) (omega arith))
-
--- ---- logarithms and powers
-
-below_power : (f n : ℕ) → n ≤ f → n < 2 ^ digits n
-below_power zero n few = omega (arith, pow_pos (digits n))
-below_power (suc f) n few = elim (cases_lt 0 n) [
-  | inl some ↦
-      let one : digits n ≡ digits (n / 2) + 1 = digits_half n some in
-      omega (arith, below_power f (n / 2) (omega arith), ap (λ k. 2 ^ k) one, pow-add 2 (digits (n / 2)) 1)
-  | inr none ↦ omega (arith, pow_pos (digits n))
-]
-
-pub clog_most : (n : ℕ) → n ≤ 2 ^ clog n
-unfolding clog
-clog_most n = omega (arith, below_power (n - 1) (n - 1) (omega arith))
-
-pub clog_least : (n k : ℕ) → n ≤ 2 ^ k → clog n ≤ k
-unfolding clog
-clog_least n k h = digits-le k (n - 1) (omega (arith, pow_pos k))
-
-pub clog_is_least : (n k : ℕ) → (n ≤ 2 ^ k) ↔ (clog n ≤ k)
-clog_is_least n k = (clog_least n k, λ h. omega (arith, clog_most n, pow-le-pow_right {n = 2} (omega arith) {i = clog n} {j = k} h))
 
 -- a low part has so many bits that what lies u above 0 has no higher high part than a power of two says
 pub width_enough : (n u : ℕ) → clog (max u 2) ≤ width n u + clog (max n 2)

@@ -1,8 +1,9 @@
 -- The laws of ascending lists, as statements.
-use Rattle.std.specs.Prelude.{◌≡◌, ◌↔◌, ℕ, ◌+◌, ◌-◌, ◌^◌, ◌<◌, ◌≤◌, max, List, length, slice_index, slice_get, None}
+use Rattle.std.specs.Prelude.{◌≡◌, ℕ, ◌+◌, ◌-◌, ◌^◌, ◌<◌, ◌≤◌, max, List, length, slice_index, slice_get, None}
 use Rattle.std.specs.List.Sorted.{IsNonDecreasing}
 use Rattle.vers_sorted.specs.Sorted.{below, greatest_not_above, least_not_below}
 use Rattle.vers_sorted.specs.Layout.{clog, high_parts}
+pub use Rattle.vers_tally.specs.Laws.{ClogIsLeast}
 
 -- no more members are below a number than there are
 abbrev pub BelowIsAtMostAll : Type 0
@@ -36,10 +37,6 @@ GreatestNotAboveIsLast = (members : List ℕ) (v : ℕ) → IsNonDecreasing memb
 abbrev pub NoneBelowNoneNotAbove : Type 0
 NoneBelowNoneNotAbove = (members : List ℕ) (v : ℕ) → IsNonDecreasing members → below members (v + 1) ≡ 0
     → greatest_not_above members v ≡ None
-
--- 2 ^ clog n is the least power of two that is not below n
-abbrev pub ClogIsLeast : Type 0
-ClogIsLeast = (n k : ℕ) → (n ≤ 2 ^ k) ↔ (clog n ≤ k)
 
 -- the high parts of n members have at most 2 + n + p bits, where p is the least power of two that is below neither n nor 2
 abbrev pub HighPartsAreFew : Type 0

@@ -5,10 +5,7 @@ use Rattle.vers_bits.specs.Bits.{pack, limb_count}
 use Rattle.vers_rank.specs.Queries.{index_size, select_reads, superblock_count}
 use Rattle.vers_sorted.specs.Ones.{ones_at}
 use Rattle.vers_tally.specs.Reads.{Reads, times, digits}
-
--- the least k for which n is at most 2 ^ k
-unfoldable pub clog : ℕ → ℕ
-clog n = digits (n - 1)
+pub use Rattle.vers_tally.specs.Reads.{clog}
 
 -- the first and the last member, 0 of the empty list
 abbrev pub first_of : List ℕ → ℕ

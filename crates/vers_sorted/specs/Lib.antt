@@ -1,9 +1,7 @@
 pub mod Sorted
 pub mod Ones
 pub mod Layout
-pub mod Parts
-pub mod Buckets
-pub mod Ahead
 pub mod Laws
 pub mod Rows
+pub mod inside
 pub use Rattle.vers_tally.specs.Ends

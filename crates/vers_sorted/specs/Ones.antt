@@ -1,5 +1,7 @@
 -- Lists of bits given by the places of their ones.
-use Rattle.std.specs.Prelude.{ℕ, ◌<◌, ◌==◌, All, Bool, true, false, List, map}
+use Rattle.std.specs.Prelude.{◌≡◌, ℕ, ◌+◌, ◌<◌, ◌==◌, All, Bool, false, List, map, slice_index_or}
+use Rattle.std.specs.Int.{bit_at}
+use Rattle.vers_bits.specs.Bits.{bit_value, is_bit}
 use Rattle.std.specs.List.{list_any, range_with_len}
 use Rattle.std.specs.List.Sorted.{IsStrictlyIncreasing}
 
@@ -12,7 +14,6 @@ pub record AreSparse (numbers : List ℕ) (n : ℕ) : Type 0 where
   pub rising : IsStrictlyIncreasing numbers
   pub within : All (λ p. p < n) numbers
 
--- how many ones a limb has that has no bit of the kind
-abbrev pub ones_without : Bool → ℕ
-ones_without true = 0
-ones_without false = 64
+-- the n lowest digits of the word say which of the n bits from place p on are ones (or zeros)
+abbrev pub AreMarked : Bool → List Bool → ℕ → ℕ → ℕ → Type 0
+AreMarked bit bits p n word = (i : ℕ) → i < n → bit_at word i ≡ bit_value (is_bit bit (slice_index_or bits (p + i) false))

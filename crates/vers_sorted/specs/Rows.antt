@@ -1,6 +1,10 @@
 -- Worked rows of the definitions, which compute.
-use Rattle.std.specs.Prelude.{◌≡◌, ℕ, List, [], ◌∷◌, Some, None, refl}
-use Rattle.vers_sorted.specs.Sorted.{below, greatest_not_above, least_not_below, delta}
+use Rattle.std.specs.Prelude.{◌≡◌, ℕ, Bool, false, true, List, [], ◌∷◌, Some, None, nat_le, nat_lt, refl}
+use Rattle.vers_bits.specs.Bits.{count, low_bits}
+use Rattle.vers_tally.specs.Reads.{digits}
+use Rattle.vers_sorted.specs.Sorted.{each_next, below, greatest_not_above, least_not_below, delta}
+use Rattle.vers_sorted.specs.Ones.{ones_at}
+use Rattle.vers_sorted.specs.Layout.{width, low_width, high_of, high_length, high_parts, low_parts, heap_size_of}
 
 -- an ascending list with equal members
 abbrev members_2449 : List ℕ
@@ -49,3 +53,39 @@ delta-3 = refl
 pub delta-4 : delta members_2449 4 ≡ None
 unfolding delta
 delta-4 = refl
+
+pub each_next-equal : each_next nat_le members_2449 ≡ true
+each_next-equal = refl
+
+pub each_next-strict : each_next nat_lt members_2449 ≡ false
+each_next-strict = refl
+
+-- ---- the layout of four members
+abbrev members_0147 : List ℕ
+members_0147 = 0 ∷ 1 ∷ 4 ∷ 7 ∷ []
+
+pub low_width-0147 : low_width members_0147 ≡ 1
+unfolding low_width width digits
+low_width-0147 = refl
+
+-- nine bits with ones at the places 1, 2, 5 and 7
+pub high_parts-0147 : high_parts members_0147 ≡ false ∷ true ∷ true ∷ false ∷ false ∷ true ∷ false ∷ true ∷ false ∷ []
+unfolding high_parts high_length high_of ones_at low_width width digits
+high_parts-0147 = refl
+
+pub low_parts-0147 : low_parts members_0147 ≡ false ∷ true ∷ false ∷ true ∷ []
+unfolding low_parts low_width width digits low_bits
+low_parts-0147 = refl
+
+pub heap_size-0147 : heap_size_of members_0147 ≡ 58
+unfolding high_parts high_length high_of ones_at low_parts low_width width digits low_bits count
+heap_size-0147 = refl
+
+-- no members have no bits
+pub high_parts-nothing : high_parts [] ≡ []
+unfolding high_parts high_length ones_at
+high_parts-nothing = refl
+
+pub low_parts-nothing : low_parts [] ≡ []
+unfolding low_parts
+low_parts-nothing = refl

@@ -1,6 +1,12 @@
 -- Ascending lists of numbers, and what is asked of them.
-use Rattle.std.specs.Prelude.{ℕ, ◌-◌, ◌==◌, List, count_by, filter, find, slice_get, slice_index, nat_lt, nat_le, Option, None, option_map, if◌then◌else◌}
+use Rattle.std.specs.Prelude.{ℕ, ◌-◌, ◌==◌, ◌&&◌, Bool, true, List, [], ◌∷◌, count_by, filter, find, slice_get, slice_index, nat_lt, nat_le, Option, None, option_map, if◌then◌else◌}
 use Rattle.std.specs.List.{last_or}
+
+-- whether each number stands in this order to the next one
+abbrev pub each_next : (ℕ → ℕ → Bool) → List ℕ → Bool
+each_next order [] = true
+each_next order (n ∷ []) = true
+each_next order (n ∷ next ∷ more) = order n next && each_next order (next ∷ more)
 
 -- how many members are less than v
 unfoldable pub below : List ℕ → ℕ → ℕ

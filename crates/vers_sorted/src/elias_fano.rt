@@ -36,7 +36,7 @@ pub struct EliasFanoVec<A: Allocator + Copy> {
 
 impl<A: Allocator + Copy> Model for EliasFanoVec<A> {
     ghost use Rattle.std.specs.Prelude.{List, ℕ};
-    ghost use Rattle.vers_sorted.specs.Parts.{members, IsPacked};
+    ghost use Rattle.vers_sorted.specs.inside.Parts.{members, IsPacked};
 
     ghost Value = { List ℕ };
 

@@ -3,4 +3,5 @@
 
 pub mod elias_fano;
 pub mod laws;
+pub mod order;
 pub mod sparse;

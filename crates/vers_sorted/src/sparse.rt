@@ -4,7 +4,7 @@ ghost use Rattle.std.specs.List.Sorted.{IsStrictlyIncreasing};
 ghost use Rattle.vers_bits.specs.Bits.{bit_value, count, is_bit, places, select};
 ghost use Rattle.vers_tally.specs.Reads.{AddsAtMost};
 ghost use Rattle.vers_sorted.specs.Layout.{heap_size_of, member_reads, search_reads};
-ghost use Rattle.vers_sorted.specs.Ones.{ones_without};
+ghost use Rattle.vers_sorted.specs.Ones.{AreMarked};
 
 use crate::elias_fano::{EliasFanoRefIter, EliasFanoVec};
 use std::alloc::{AllocError, Allocator};
@@ -126,10 +126,7 @@ impl<A: Allocator + Copy> SparseRSVec<A> {
         ensures adds { AddsAtMost tally.old tally.new (search_reads (places true self.now)) }
     {
         let _ = &self.len;
-        match self.ones.successor_counted(place, tally) {
-            Some(one) => one == place,
-            None => false,
-        }
+        self.ones.has_counted(place, tally)
     }
 
     /// Whether the bit at a place of the list is a one.
@@ -260,9 +257,9 @@ fn places_of<A: Allocator + Copy>(bits: &BitVec<A>, bit: bool) -> Result<Vec<u64
     Ok(found)
 }
 
-// Adds the places of the ones or the zeros of one limb to those of the limbs before it. A limb that
-// has none of them is passed over whole.
-#[tactic(auto, using(crate::proofs::SparseBits::collecting))]
+// Adds the places of the ones or the zeros of one limb to those of the limbs before it, from the
+// lowest up.
+#[tactic(auto, using(crate::proofs::Marks::collecting))]
 fn push_places<A: Allocator + Copy>(
     found: &mut Vec<u64, A>,
     bits: &BitVec<A>,
@@ -273,23 +270,26 @@ fn push_places<A: Allocator + Copy>(
     requires before { found.old.items ≡ take (count bit bits.now (64 * k)) (places bit bits.now) }
     ensures { OnOk result (found.new.items ≡ take (count bit bits.now (64 * k + 64)) (places bit bits.now)) }
 {
-    if bits.limb(k).count_ones() == ones_without(bit) {
-        return Ok(());
-    }
     let len = bits.len();
-    let start = 64 * k;
-    let end = start + (len - start).min(64);
-    for place in start..end {
-        if bits.is_bit_set_unchecked(place) == bit {
-            found.push(place as u64)?;
-        }
+    let mut word = marks_of(bits, bit, k);
+    let mut place = 64 * k;
+    let end = place + (len - place).min(64);
+    let mut skip = word.trailing_zeros() as usize;
+    while skip < end - place {
+        found.push((place + skip) as u64)?;
+        word = (word >> skip) >> 1;
+        place += skip + 1;
+        skip = word.trailing_zeros() as usize;
     }
     Ok(())
 }
 
-// How many ones a limb has that has no bit of the kind.
-fn ones_without(bit: bool) -> u32
-    ensures { result ≡ ones_without bit }
+// The word in which the ones or the zeros of a limb are ones.
+#[tactic(auto, using(crate::proofs::Marks::limbs))]
+fn marks_of<A: Allocator + Copy>(bits: &BitVec<A>, bit: bool, k: usize) -> u64
+    requires { 64 * k < length bits.now }
+    ensures { AreMarked bit bits.now (64 * k) 64 result }
 {
-    if bit { 0 } else { 64 }
+    let limb = bits.limb(k);
+    if bit { limb } else { !limb }
 }

@@ -1,17 +1,8 @@
 //! Ascending lists, and what is asked of them.
-ghost use Rattle.std.specs.Prelude.{IsTrue};
-ghost use Rattle.std.specs.List.Sorted.{IsNonDecreasing};
-
 use std::alloc::{AllocError, Allocator};
 use vers_sorted::elias_fano::EliasFanoVec;
+use vers_sorted::order::is_ascending;
 use vers_tally::tally::Tally;
-
-// Whether the numbers ascend.
-fn is_ascending(numbers: &[u64]) -> bool
-    ensures { IsTrue result → IsNonDecreasing numbers.now }
-{
-    numbers.is_sorted()
-}
 
 /// The list of the numbers, or of none where they don't ascend.
 pub fn list_of<A: Allocator + Copy>(

@@ -1,8 +1,10 @@
 -- The laws that proofs of other crates may cite. A crate above imports this file and no other of this folder.
-use Rattle.std.proofs.Common.{◌≡◌, ℕ, ◌+◌, ◌/◌, ◌^◌, ◌<◌, ◌≤◌}
-use Rattle.vers_tally.specs.Reads.{Reads, no_reads, AddsAtMost, IsWithin, plus, digits}
+use Rattle.std.proofs.Common.{◌≡◌, ℕ, ◌+◌, ◌-◌, ◌*◌, ◌/◌, ◌^◌, ◌<◌, ◌≤◌}
+use Rattle.std.specs.Prelude.{◌↔◌}
+use Rattle.vers_tally.specs.Reads.{Reads, no_reads, AddsAtMost, IsWithin, plus, digits, clog}
 use Rattle.vers_tally.proofs.Adding as Adding
 use Rattle.vers_tally.proofs.Halves as Halves
+use Rattle.vers_tally.proofs.Logs as Logs
 
 -- ---- bounds on reads
 
@@ -34,3 +36,42 @@ digits-le = Halves.digits-le
 -- a greater number has no fewer digits
 pub digits_up : (m n : ℕ) → m ≤ n → digits m ≤ digits n
 digits_up = Halves.digits_up
+
+-- a number is below two to the number of its digits
+pub digits-lt : (n : ℕ) → n < 2 ^ digits n
+digits-lt = Logs.digits-lt
+
+-- the numbers of m digits
+pub digits_is : (m n : ℕ) → n < 2 ^ m → 2 ^ m ≤ 2 * n + 1 → digits n ≡ m
+digits_is = Logs.digits_is
+
+-- the next power of two is the double
+pub pow_next : (k : ℕ) → 2 ^ (k + 1) ≡ 2 * 2 ^ k
+pow_next = Logs.pow_next
+
+-- the digits of a power of two, and of the number before it
+pub digits_pow : (k : ℕ) → digits (2 ^ k) ≡ k + 1
+digits_pow = Logs.digits_pow
+
+pub digits_below_pow : (k : ℕ) → digits (2 ^ k - 1) ≡ k
+digits_below_pow = Logs.digits_below_pow
+
+-- ---- logarithms
+
+-- 2 ^ clog n is not below n, and is the least such power
+pub clog_most : (n : ℕ) → n ≤ 2 ^ clog n
+clog_most = Logs.clog_most
+
+pub clog_least : (n k : ℕ) → n ≤ 2 ^ k → clog n ≤ k
+clog_least = Logs.clog_least
+
+pub clog_is_least : (n k : ℕ) → (n ≤ 2 ^ k) ↔ (clog n ≤ k)
+clog_is_least = Logs.clog_is_least
+
+-- the one power of two that is not below a number and below its double
+pub clog_is : (n k : ℕ) → n ≤ 2 ^ k → 2 ^ k < 2 * n → clog n ≡ k
+clog_is = Logs.clog_is
+
+-- a power of two that is not above a number
+pub clog_up : (n k : ℕ) → 2 ^ k ≤ n → k ≤ clog n
+clog_up = Logs.clog_up

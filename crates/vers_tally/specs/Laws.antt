@@ -1,6 +1,6 @@
 -- The laws of counting, as statements.
-use Rattle.std.specs.Prelude.{◌≡◌, ℕ, ◌+◌, ◌/◌, ◌<◌}
-use Rattle.vers_tally.specs.Reads.{Reads, no_reads, AddsAtMost, IsWithin, plus, digits}
+use Rattle.std.specs.Prelude.{◌≡◌, ◌↔◌, ℕ, ◌+◌, ◌/◌, ◌^◌, ◌<◌, ◌≤◌}
+use Rattle.vers_tally.specs.Reads.{Reads, no_reads, AddsAtMost, IsWithin, plus, digits, clog}
 
 -- what reads nothing adds nothing
 abbrev pub ReadingNothingAddsNothing : Type 0
@@ -17,3 +17,7 @@ GreaterBoundsHold = (a b p q : Reads) → AddsAtMost a b p → IsWithin p q → 
 -- half a number has a digit less
 abbrev pub HalvingTakesADigit : Type 0
 HalvingTakesADigit = (n : ℕ) → 0 < n → digits n ≡ digits (n / 2) + 1
+
+-- 2 ^ clog n is the least power of two that is not below n
+abbrev pub ClogIsLeast : Type 0
+ClogIsLeast = (n k : ℕ) → (n ≤ 2 ^ k) ↔ (clog n ≤ k)

@@ -1,5 +1,5 @@
 -- How many entries of each kind were read, and bounds on what a call adds.
-use Rattle.std.specs.Prelude.{ℕ, ◌+◌, ◌*◌, ◌≤◌, min, length}
+use Rattle.std.specs.Prelude.{ℕ, ◌+◌, ◌-◌, ◌*◌, ◌≤◌, min, length}
 use Rattle.std.specs.Int.Digits.{digits_of}
 
 -- the nine counters
@@ -110,3 +110,7 @@ pub record IsWithin (p q : Reads) : Type 0 where
 -- how many binary digits a number has, and 0 for 0
 unfoldable pub digits : ℕ → ℕ
 digits n = length (digits_of 2 n)
+
+-- the least k for which n is at most 2 ^ k
+abbrev pub clog : ℕ → ℕ
+clog n = digits (n - 1)

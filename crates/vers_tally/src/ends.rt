@@ -88,7 +88,8 @@ impl<S: Source> Model for BothEnds<S> {
 
     ghost view = { λ s. record { left = items_in (S.items s.source) s.span; step = S.step s.source } };
 
-    ghost invariant = { λ s. (s.span.to ≤ length (S.items s.source)) × ((span : Span) → S.in_order (items_in (S.items s.source) span)) };
+    ghost invariant = { λ s. (s.span.to ≤ length (S.items s.source))
+        × ((span : Span) → S.in_order (items_in (S.items s.source) span)) };
 }
 
 #[tactic(auto, using(crate::proofs::Steps::lists))]
@@ -128,7 +129,7 @@ impl<S: Source> BothEnds<S> {
 
     /// Drops `n` items and takes the next. Where no more than `n` are left, none is taken and the
     /// iterator has ended.
-    #[inline]
+    #[inline(always)]
     pub fn nth(&mut self, n: usize) -> Option<S::Item>
         ensures steps { TakesNth n self.old.left result self.new.left }
         ensures same_step { self.new.step ≡ self.old.step }
@@ -139,7 +140,7 @@ impl<S: Source> BothEnds<S> {
 
     /// Drops `n` items from the back and takes the next. Where no more than `n` are left, none is
     /// taken and the iterator has ended.
-    #[inline]
+    #[inline(always)]
     pub fn nth_back(&mut self, n: usize) -> Option<S::Item>
         ensures steps { TakesNthBack n self.old.left result self.new.left }
         ensures same_step { self.new.step ≡ self.old.step }
@@ -149,7 +150,7 @@ impl<S: Source> BothEnds<S> {
     }
 
     /// The first of the items left, which is taken.
-    #[inline]
+    #[inline(always)]
     pub fn next(&mut self) -> Option<S::Item>
         ensures steps { TakesFirst self.old.left result self.new.left }
         ensures same_step { self.new.step ≡ self.old.step }
@@ -159,7 +160,7 @@ impl<S: Source> BothEnds<S> {
     }
 
     /// The last of the items left, which is taken.
-    #[inline]
+    #[inline(always)]
     pub fn next_back(&mut self) -> Option<S::Item>
         ensures steps { TakesLast self.old.left result self.new.left }
         ensures same_step { self.new.step ≡ self.old.step }
@@ -169,7 +170,7 @@ impl<S: Source> BothEnds<S> {
     }
 
     /// The first of the items left, which is taken, by the reads of one item.
-    #[inline]
+    #[inline(always)]
     pub fn next_counted(&mut self, tally: &mut Tally) -> Option<S::Item>
         ensures steps { TakesFirst self.old.left result self.new.left }
         ensures same_step { self.new.step ≡ self.old.step }
@@ -179,7 +180,7 @@ impl<S: Source> BothEnds<S> {
     }
 
     /// The last of the items left, which is taken, by the reads of one item.
-    #[inline]
+    #[inline(always)]
     pub fn next_back_counted(&mut self, tally: &mut Tally) -> Option<S::Item>
         ensures steps { TakesLast self.old.left result self.new.left }
         ensures same_step { self.new.step ≡ self.old.step }
@@ -190,7 +191,7 @@ impl<S: Source> BothEnds<S> {
 
     /// Drops `n` items and takes the next, by the reads of one item. Where no more than `n` are
     /// left, none is taken and the iterator has ended.
-    #[inline]
+    #[inline(always)]
     pub fn nth_counted(&mut self, n: usize, tally: &mut Tally) -> Option<S::Item>
         ensures steps { TakesNth n self.old.left result self.new.left }
         ensures same_step { self.new.step ≡ self.old.step }
@@ -202,7 +203,7 @@ impl<S: Source> BothEnds<S> {
 
     /// Drops `n` items from the back and takes the next, by the reads of one item. Where no more
     /// than `n` are left, none is taken and the iterator has ended.
-    #[inline]
+    #[inline(always)]
     pub fn nth_back_counted(&mut self, n: usize, tally: &mut Tally) -> Option<S::Item>
         ensures steps { TakesNthBack n self.old.left result self.new.left }
         ensures same_step { self.new.step ≡ self.old.step }
@@ -279,7 +280,7 @@ impl<S: Source> Iterator for BothEnds<S> {
 
     ghost remaining = { item_count (λ s. s.left) };
 
-    #[inline]
+    #[inline(always)]
     fn next(&mut self) -> Option<S::Item> {
         self.next()
     }
@@ -293,7 +294,7 @@ impl<S: Source> Iterator for BothEnds<S> {
 impl<S: Source> DoubleEndedIterator for BothEnds<S> {
     ghost next_back_gives = { YieldsLast (λ s. s.left) };
 
-    #[inline]
+    #[inline(always)]
     fn next_back(&mut self) -> Option<S::Item> {
         self.next_back()
     }

@@ -28,7 +28,17 @@ impl Model for Tally {
 
     ghost Value = { Reads };
 
-    ghost view = { λ t. record { data_words = t.data_words; block_entries = t.block_entries; superblock_entries = t.superblock_entries; low_parts = t.low_parts; rank_calls = t.rank_calls; items = t.items; blocks = t.blocks; nodes = t.nodes; chunks = t.chunks } };
+    ghost view = { λ t. record {
+      data_words = t.data_words;
+      block_entries = t.block_entries;
+      superblock_entries = t.superblock_entries;
+      low_parts = t.low_parts;
+      rank_calls = t.rank_calls;
+      items = t.items;
+      blocks = t.blocks;
+      nodes = t.nodes;
+      chunks = t.chunks;
+    } };
 }
 
 impl Tally {
@@ -216,7 +226,8 @@ impl<A: Allocator + Copy> CountedBits<A> {
     #[inline]
     pub fn get(&self, place: usize, tally: &mut Tally) -> Option<u64>
         ensures value { result ≡ option_map bit_value (slice_get self.now place) }
-        ensures inside { place < length self.now → tally.new ≡ record tally.old { data_words = one_more tally.old.data_words } }
+        ensures inside { place < length self.now
+            → tally.new ≡ record tally.old { data_words = one_more tally.old.data_words } }
         ensures past { length self.now ≤ place → tally.new ≡ tally.old }
         ensures adds { AddsAtMost tally.old tally.new (only_data_words 1) }
     {
@@ -370,7 +381,8 @@ impl<A: Allocator + Copy> SuperblockEntries<A> {
     pub fn read(&self, k: usize, tally: &mut Tally) -> u64
         requires { k < length self.now }
         ensures value { result ≡ slice_index self.now k }
-        ensures exact { tally.new ≡ record tally.old { superblock_entries = one_more tally.old.superblock_entries } }
+        ensures exact { tally.new
+            ≡ record tally.old { superblock_entries = one_more tally.old.superblock_entries } }
         ensures adds { AddsAtMost tally.old tally.new (only_superblock_entries 1) }
     {
         tally.superblock_entries = tally.superblock_entries.saturating_add(1);

@@ -5,7 +5,7 @@ use Rattle.std.proofs.lemmas.Int.{ints}
 use Rattle.std.proofs.lemmas.Bool.{cases_lt}
 use Rattle.std.proofs.Math.Nat.{eq-or-lt_of_le}
 use Rattle.vers_trees.specs.declared.trees.bp.min_max.Node.{Node}
-use Rattle.vers_trees.specs.MinMax.{IsInRangeOrStart, total_before, empty_node, Reaches, Meets, IsRange, Covers, IsMinMax, LeadsBack, PassedBack, IsPreviousBefore}
+use Rattle.vers_trees.specs.inside.MinMax.{IsInRangeOrStart, total_before, empty_node, Reaches, Meets, IsRange, Covers, IsMinMax, LeadsBack, PassedBack, IsPreviousBefore}
 use Rattle.vers_trees.proofs.MinMax.{stands_children, parent_of_left, parent_of_right, stands_leaf, leaf_stands, stands_some, root_starts}
 use Rattle.vers_trees.proofs.Blocks.{total_more}
 

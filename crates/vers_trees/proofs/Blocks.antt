@@ -5,7 +5,7 @@ use Rattle.std.proofs.lemmas.Bool.{cases_lt}
 use Rattle.vers_trees.specs.declared.trees.bp.min_max.Node.{Node}
 use Rattle.vers_trees.specs.Excess.{excess}
 use Rattle.vers_trees.specs.Forest.{IsBalanced}
-use Rattle.vers_trees.specs.MinMax.{total_before, empty_node, Reaches, IsPart, AreBlocks, IsRange}
+use Rattle.vers_trees.specs.inside.MinMax.{total_before, empty_node, Reaches, IsPart, AreBlocks, IsRange}
 use Rattle.vers_trees.proofs.Walk.{IsWalk}
 use Rattle.vers_trees.proofs.Excess.{excess-zero, excess-is_walk}
 use Rattle.vers_trees.proofs.Grammar.{balanced_from_excess, balanced_total, balanced_above}

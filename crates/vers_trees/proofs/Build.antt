@@ -8,7 +8,7 @@ use Rattle.std.proofs.Math.Nat.{eq-or-lt_of_le, div-lt_iff_lt-mul}
 use Rattle.vers_trees.proofs.Excess.{excess-zero}
 use Rattle.vers_trees.specs.declared.trees.bp.min_max.Node.{Node}
 use Rattle.vers_trees.specs.Excess.{excess}
-use Rattle.vers_trees.specs.MinMax.{combined, CoveredFrom, AreLeaves, JoinFits, total_before, empty_node, Reaches, Covers, StandsOver, IsPart, AreBlocks, IsRange}
+use Rattle.vers_trees.specs.inside.MinMax.{combined, CoveredFrom, AreLeaves, JoinFits, total_before, empty_node, Reaches, Covers, StandsOver, IsPart, AreBlocks, IsRange}
 use Rattle.vers_trees.proofs.MinMax.{covers_combined, HasChildren, stands_children, stands_every, leaf_stands}
 use Rattle.vers_trees.proofs.Blocks.{total_more, total_start, reaches_iff, sum_before_block}
 

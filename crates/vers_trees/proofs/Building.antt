@@ -4,7 +4,7 @@ use mir.Syntax.{w64}
 use Rattle.std.proofs.lemmas.Int.{ints, to_z-of_z}
 use Rattle.std.proofs.lemmas.List.{get_or_at}
 use Rattle.vers_trees.specs.Excess.{excess, bit_step}
-use Rattle.vers_trees.specs.Index.{IsBuilding}
+use Rattle.vers_trees.specs.inside.Index.{IsBuilding}
 use Rattle.vers_trees.proofs.Excess.{excess-zero, excess-append_left, excess_after_bit}
 use Rattle.vers_trees.proofs.Scans.{rise_fits, step_fits}
 

@@ -5,7 +5,7 @@ use mir.Syntax.{w64}
 use Rattle.std.proofs.lemmas.Int.{ints, to_z-of_z}
 use Rattle.std.proofs.lemmas.Bool.{cases_lt}
 use Rattle.vers_trees.specs.declared.trees.bp.min_max.Node.{Node}
-use Rattle.vers_trees.specs.MinMax.{IsInRange, total_before, empty_node, Reaches, Covers, IsMinMax, IsNextFrom, LeadsTo, PassedTo}
+use Rattle.vers_trees.specs.inside.MinMax.{IsInRange, total_before, empty_node, Reaches, Covers, IsMinMax, IsNextFrom, LeadsTo, PassedTo}
 use Rattle.vers_trees.proofs.MinMax.{stands_children, parent_of_left, parent_of_right, stands_leaf, leaf_stands, root_stands}
 
 -- the block that a node in range leads to, and the facts on it that keep sums small

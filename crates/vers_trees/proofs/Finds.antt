@@ -5,9 +5,9 @@ use Rattle.std.specs.Result.{result_ok}
 use Rattle.std.proofs.lemmas.Int.{ints, to_z-of_z}
 use Rattle.vers_trees.specs.declared.trees.bp.min_max.Node.{Node}
 use Rattle.vers_trees.specs.Excess.{excess, first_rise_after, last_rise_before}
-use Rattle.vers_trees.specs.Scans.{IsFirstRise, HasNoRise, IsLastRise, HasNoRiseBefore}
-use Rattle.vers_trees.specs.MinMax.{total_before, Reaches, Meets, IsMinMax, IsNextFrom, IsPreviousBefore}
-use Rattle.vers_trees.specs.Index.{IsTreeOf, IsIndexed}
+use Rattle.vers_trees.specs.inside.Scans.{IsFirstRise, HasNoRise, IsLastRise, HasNoRiseBefore}
+use Rattle.vers_trees.specs.inside.MinMax.{total_before, Reaches, Meets, IsMinMax, IsNextFrom, IsPreviousBefore}
+use Rattle.vers_trees.specs.inside.Index.{IsTreeOf, IsIndexed}
 use Rattle.vers_trees.proofs.Searches.{after_is, none_after, before_is, none_before, before_past}
 use Rattle.vers_trees.proofs.Scans.{rise_fits}
 use Rattle.vers_trees.proofs.Makes.{after_here, asked_next, after_nowhere, after_too_far, after_there, after_not_missed, before_here, asked_previous, before_nowhere, before_too_far, before_there, before_not_missed, block_inside, start_is, before_block}

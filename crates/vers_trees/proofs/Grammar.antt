@@ -5,22 +5,7 @@ use Rattle.std.proofs.lemmas.List.{append-nil}
 use Rattle.vers_trees.proofs.Excess.{excess-zero, excess-open, excess-close}
 use Rattle.vers_trees.proofs.Paired.{never_negative, total_is_zero}
 use Rattle.vers_trees.specs.Excess.{excess}
-use Rattle.vers_trees.specs.Forest.{Forest, none, tree, text, IsBalanced}
-
--- the list read from the left: the forest up to the first zero that closes nothing, and the forests between such
--- zeros after it. A one that nothing closes is taken to close at the end
-abbrev closed : Forest → List Forest → Forest × List Forest
-closed F [] = (tree F none, [])
-closed F (G ∷ Gs) = (tree F G, Gs)
-
-abbrev parse : List Bool → Forest × List Forest
-parse [] = (none, [])
-parse (true ∷ l) = closed (parse l).0 (parse l).1
-parse (false ∷ l) = (none, (parse l).0 ∷ (parse l).1)
-
--- the forest that a balanced list writes down
-unfoldable pub forest_of : List Bool → Forest
-forest_of l = (parse l).0
+use Rattle.vers_trees.specs.Forest.{Forest, none, tree, text, IsBalanced, closed, parse, forest_of}
 
 -- one forest after another
 abbrev joined : Forest → Forest → Forest
@@ -107,3 +92,7 @@ balanced_above l b = subst (λ (m : List Bool). (i : ℕ) → i ≤ length m →
 -- no list writes down two forests
 pub one_forest : (F G : Forest) → text F ≡ text G → F ≡ G
 one_forest F G e = sym (forest_of-text F) ∙ ap forest_of e ∙ forest_of-text G
+
+-- a balanced list is the forest that it is read as, written down
+pub text-forest_of : (l : List Bool) → IsBalanced l → text (forest_of l) ≡ l
+text-forest_of l b = ap (λ (m : List Bool). text (forest_of m)) (sym b.written) ∙ ap text (forest_of-text b.forest) ∙ b.written

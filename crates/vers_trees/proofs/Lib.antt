@@ -5,6 +5,21 @@ pub mod Paired
 pub mod Pairs
 pub mod Partners
 pub mod Grammar
+pub mod Ancestors
+pub mod Siblings
+pub mod LevelPlaces
+pub mod Counts
+pub mod NodeList
+pub mod Around
+pub mod Kin
+pub mod LevelNodes
+pub mod Handles
+pub mod Lists
+pub mod PostorderPlaces
+pub mod ListsBelow
+pub mod SiblingWalks
+pub mod ListsOfNodes
+pub mod WalksOfNodes
 pub mod Matching
 pub mod Scans
 pub mod MinMax
@@ -19,3 +34,4 @@ pub mod Finds
 pub mod Roots
 pub mod Queries
 pub mod Building
+pub mod AsTree

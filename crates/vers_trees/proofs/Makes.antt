@@ -7,8 +7,8 @@ use Rattle.std.proofs.Math.Nat.{div-lt_iff_lt-mul, mul-le-mul_right}
 use Rattle.vers_trees.specs.declared.trees.bp.min_max.Node.{Node}
 use Rattle.vers_trees.specs.Excess.{excess}
 use Rattle.vers_trees.specs.Laws.{IsFirstRiseAfter, IsLastRiseBefore}
-use Rattle.vers_trees.specs.Scans.{IsFirstRise, HasNoRise, IsLastRise, HasNoRiseBefore}
-use Rattle.vers_trees.specs.MinMax.{total_before, empty_node, Reaches, Meets, IsRange, AreBlocks, AreLeaves, CoveredFrom, IsMinMax, IsNextFrom, IsPreviousBefore}
+use Rattle.vers_trees.specs.inside.Scans.{IsFirstRise, HasNoRise, IsLastRise, HasNoRiseBefore}
+use Rattle.vers_trees.specs.inside.MinMax.{total_before, empty_node, Reaches, Meets, IsRange, AreBlocks, AreLeaves, CoveredFrom, IsMinMax, IsNextFrom, IsPreviousBefore}
 use Rattle.vers_trees.proofs.Blocks.{part_range, reaches_iff, sum_before_block}
 use Rattle.vers_trees.proofs.Build.{total_all}
 use Rattle.vers_trees.proofs.Scans.{rise_fits}

@@ -5,7 +5,7 @@ use Rattle.std.proofs.lemmas.Int.{ints, clamps, by_lt_z}
 use Rattle.std.proofs.lemmas.Bool.{cases_lt}
 use Rattle.std.proofs.lemmas.Nat.{pow_pos}
 use Rattle.vers_trees.specs.declared.trees.bp.min_max.Node.{Node}
-use Rattle.vers_trees.specs.MinMax.{combined, total_before, empty_node, IsRange, Covers, StandsOver, IsMinMax}
+use Rattle.vers_trees.specs.inside.MinMax.{combined, total_before, empty_node, IsRange, Covers, StandsOver, IsMinMax}
 
 pow_suc : (k : ℕ) → 2 ^ suc k ≡ 2 * 2 ^ k
 pow_suc k = pow-succ' 2 k

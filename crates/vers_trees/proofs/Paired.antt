@@ -22,11 +22,11 @@ pub record Closes (l : List Bool) (v c : ℕ) : Type 0 where
   pub back : excess l (c + 1) ≡ excess l v
   pub above : (j : ℕ) → v < j → j ≤ c → excess l v <ℤ excess l j
 
-length-tree : (X Y : Forest) → length (text (tree X Y)) ≡ length (text X) + length (text Y) + 2
+pub length-tree : (X Y : Forest) → length (text (tree X Y)) ≡ length (text X) + length (text Y) + 2
 length-tree X Y = let e = length-append (text X) (false ∷ text Y) in omega arith
 
 -- inside the first tree
-excess_in_first : (X Y : Forest) (i : ℕ) → i ≤ length (text X) → excess (text (tree X Y)) (i + 1) ≡ excess (text X) i +ℤ pos 1
+pub excess_in_first : (X Y : Forest) (i : ℕ) → i ≤ length (text X) → excess (text (tree X Y)) (i + 1) ≡ excess (text X) i +ℤ pos 1
 excess_in_first X Y i h =
     let e = excess-open (text X ++ false ∷ text Y) i in
     let r = excess-append_left (text X) (false ∷ text Y) i h in
@@ -52,7 +52,7 @@ total_is_zero (tree X Y) =
     subst (λ (m : ℕ). excess (text (tree X Y)) m ≡ pos 0) at (r ∙ zy)
 
 -- past the first tree
-excess_in_rest : (X Y : Forest) (i : ℕ) → excess (text (tree X Y)) (length (text X) + 2 + i) ≡ excess (text Y) i
+pub excess_in_rest : (X Y : Forest) (i : ℕ) → excess (text (tree X Y)) (length (text X) + 2 + i) ≡ excess (text Y) i
 excess_in_rest X Y i = rest_from_zero X Y i (total_is_zero X)
 
 abbrev Above : Forest → Type 0
@@ -212,13 +212,21 @@ close_is_paired (tree X Y) (suc i) d h b = go (close_is_paired X) (close_is_pair
     go cx cy (inr (inr a)) = rest cy (i - length (text X) - 1) (omega arith)
 
 -- what closes at v does so at one place, and opens at one place
-closes_once : (l : List Bool) (v c d : ℕ) → Closes l v c → Closes l v d → c ≡ d
+pub closes_once : (l : List Bool) (v c d : ℕ) → Closes l v c → Closes l v d → c ≡ d
 closes_once l v c d p q = go (cases_order c d)
   where
     go : ((c ≡ d) ⊎ ((c < d) ⊎ (d < c))) → c ≡ d
     go (inl e) = e
     go (inr (inl a)) = let x = q.above (c + 1) (let m = p.after in omega arith) (omega arith) in let y = p.back in absurd (omega (arith, ints))
     go (inr (inr a)) = let x = p.above (d + 1) (let m = q.after in omega arith) (omega arith) in let y = q.back in absurd (omega (arith, ints))
+
+pub opens_once : (l : List Bool) (v w c : ℕ) → Closes l v c → Closes l w c → v ≡ w
+opens_once l v w c p q = go (cases_order v w)
+  where
+    go : ((v ≡ w) ⊎ ((v < w) ⊎ (w < v))) → v ≡ w
+    go (inl e) = e
+    go (inr (inl a)) = let x = p.above w a (let m = q.after in omega arith) in let y = p.back in let z = q.back in absurd (omega (arith, ints))
+    go (inr (inr a)) = let x = q.above v a (let m = p.after in omega arith) in let y = p.back in let z = q.back in absurd (omega (arith, ints))
 
 -- an opening place rises, and a closing place falls
 pub closes_rises : (l : List Bool) (v c : ℕ) (d : Bool) → Closes l v c → get_or l v d ≡ true

@@ -6,30 +6,30 @@ use Rattle.std.proofs.lemmas.List.Elements.{Contains-get_or, Contains-append_lef
 use Rattle.vers_trees.proofs.Paired.{Paired}
 use Rattle.vers_trees.specs.Forest.{Forest, none, tree, text, moved, pairs}
 
-contains_first : {X : Type 0} → (x : X) (xs : List X) → Contains (x ∷ xs) x
+pub contains_first : {X : Type 0} → (x : X) (xs : List X) → Contains (x ∷ xs) x
 contains_first x xs = (0, omega arith, refl)
 
-contains_later : {X : Type 0} → (y : X) (xs : List X) (x : X) → Contains xs x → Contains (y ∷ xs) x
+pub contains_later : {X : Type 0} → (y : X) (xs : List X) (x : X) → Contains xs x → Contains (y ∷ xs) x
 contains_later y xs x c = (suc c.0, let h = c.1 in omega arith, c.2)
 
-contains_cons_cases : {X : Type 0} → (y : X) (xs : List X) (x : X) → Contains (y ∷ xs) x → (y ≡ x) ⊎ Contains xs x
+pub contains_cons_cases : {X : Type 0} → (y : X) (xs : List X) (x : X) → Contains (y ∷ xs) x → (y ≡ x) ⊎ Contains xs x
 contains_cons_cases y xs x c = go c.0 c.1 c.2
   where
     go : (k : ℕ) → k < length (y ∷ xs) → get_or (y ∷ xs) k x ≡ x → (y ≡ x) ⊎ Contains xs x
     go zero h e = inl e
     go (suc k) h e = inr (k, omega arith, e)
 
-contains_map : {X Y : Type 0} → (f : X → Y) (xs : List X) (x : X) → Contains xs x → Contains (map f xs) (f x)
+pub contains_map : {X Y : Type 0} → (f : X → Y) (xs : List X) (x : X) → Contains xs x → Contains (map f xs) (f x)
 contains_map f xs x c = (c.0, (let l = length-map xs f in let h = c.1 in omega arith), get_or-map f xs c.0 x (f x) c.1 ∙ ap f c.2)
 
-contains_map_cases : {X Y : Type 0} → (f : X → Y) (xs : List X) (d : X) (y : Y) → Contains (map f xs) y → (x : X) × Contains xs x × (f x ≡ y)
+pub contains_map_cases : {X Y : Type 0} → (f : X → Y) (xs : List X) (d : X) (y : Y) → Contains (map f xs) y → (x : X) × Contains xs x × (f x ≡ y)
 contains_map_cases f xs d y c =
     let l = length-map xs f in
     let h = c.1 in
     let i : c.0 < length xs = omega arith in
     (get_or xs c.0 d, Contains-get_or xs c.0 d i, sym (get_or-map f xs c.0 d y i) ∙ c.2)
 
-abbrev second : Forest → Forest → List (ℕ × ℕ)
+abbrev pub second : Forest → Forest → List (ℕ × ℕ)
 second X Y = map (moved 1) (pairs X) ++ map (moved (length (text X) + 2)) (pairs Y)
 
 -- the list of pairs holds just what `Paired` says

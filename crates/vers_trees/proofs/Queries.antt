@@ -1,10 +1,11 @@
 -- What the queries of a tree answer, in the words of the code.
-use Rattle.std.proofs.Common.{◌≡◌, ℕ, ◌-◌, ◌<◌, ◌≤◌, true, false, Bool, List, length, get_or, pos, negsuc, ◌-ℤ◌, FitsSigned, to_z, None, arith, sym, refl}
+use Rattle.std.proofs.Common.{neg_ℤ, of_z, ◌∙◌, ◌≡◌, ℕ, ◌-◌, ◌<◌, ◌≤◌, true, false, Bool, List, length, get_or, pos, negsuc, ◌-ℤ◌, FitsSigned, to_z, None, arith, sym, refl, zero, suc, ◌+◌, [], ◌∷◌, Some}
 use mir.Syntax.{w64}
 use Rattle.std.proofs.lemmas.Int.{ints, to_z-of_z}
 use Rattle.vers_bits.specs.Bits.{count}
 use Rattle.vers_bits.proofs.PublicLaws.{count_both}
 use Rattle.vers_trees.specs.Excess.{excess, last_rise_before, enclosing}
+use Rattle.vers_trees.specs.inside.Scans.{opened_after}
 use Rattle.vers_trees.proofs.Searches.{before_past}
 use Rattle.vers_trees.proofs.Scans.{fits_small}
 
@@ -32,7 +33,7 @@ excess_by_ones l i n h e = let b = count_both l i in let z : i - n ≡ count fal
 pub small_number : (n : ℕ) → n < 9223372036854775808 → FitsSigned w64 (pos n)
 small_number n h = fits_small (pos n) (omega (arith, ints)) (omega (arith, ints))
 
-with_sign : (n : ℕ) → n < 9223372036854775808 → to_z w64 n ≡ pos n
+pub with_sign : (n : ℕ) → n < 9223372036854775808 → to_z w64 n ≡ pos n
 with_sign n h = to_z-of_z w64 (pos n) (small_number n h)
 
 -- the ones less the rest are the excess
@@ -40,3 +41,25 @@ pub difference_is : (l : List Bool) (i n : ℕ) → length l < 92233720368547758
 difference_is l i n short h e =
     let few = few_ones l i n e in
     rw (with_sign n (omega arith), with_sign (i - n) (omega arith)) (fits_small (pos n -ℤ pos (i - n)) (omega (arith, ints)) (omega (arith, ints)), excess_by_ones l i n h e)
+
+-- its negative
+pub negated : (n : ℕ) → n < 9223372036854775808 → FitsSigned w64 (pos 0 -ℤ to_z w64 n) × (to_z w64 (of_z w64 (pos 0 -ℤ to_z w64 n)) ≡ neg_ℤ (pos n))
+negated n h =
+    let f : FitsSigned w64 (pos 0 -ℤ pos n) = fits_small (pos 0 -ℤ pos n) (omega (arith, ints)) (omega (arith, ints)) in
+    let e : pos 0 -ℤ pos n ≡ neg_ℤ (pos n) = omega (arith, ints) in
+    rw (with_sign n h) (f, to_z-of_z w64 (pos 0 -ℤ pos n) f ∙ e)
+
+-- the place after another
+past_end : (l : List Bool) (i : ℕ) → length l ≤ i → get_or l i false ≡ false
+past_end [] i h = refl
+past_end (x ∷ l) zero h = absurd (omega arith)
+past_end (x ∷ l) (suc i) h = past_end l i (omega arith)
+
+pub opens_there : (l : List Bool) (p : ℕ) → get_or l (p + 1) false ≡ true → Some (p + 1) ≡ opened_after l p
+opens_there l p e = rw e refl
+
+pub closes_there : (l : List Bool) (p : ℕ) → get_or l (p + 1) false ≡ false → None ≡ opened_after l p
+closes_there l p e = rw e refl
+
+pub ends_there : (l : List Bool) (p : ℕ) → length l ≤ p + 1 → None ≡ opened_after l p
+ends_there l p h = closes_there l p (past_end l (p + 1) h)

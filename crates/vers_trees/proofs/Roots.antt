@@ -2,8 +2,8 @@
 use Rattle.std.proofs.Common.{◌≡◌, ℕ, ◌+◌, ◌<◌, ◌↔◌, Bool, List, [], ◌∷◌, length, get_or, drop, arith, subst, sym, refl}
 use Rattle.vers_trees.specs.declared.trees.bp.min_max.Node.{Node}
 use Rattle.vers_trees.specs.Forest.{IsBalanced}
-use Rattle.vers_trees.specs.MinMax.{IsLevel, IsMinMax, Covers, empty_node}
-use Rattle.vers_trees.specs.Index.{IsIndexed}
+use Rattle.vers_trees.specs.inside.MinMax.{IsLevel, IsMinMax, Covers, empty_node}
+use Rattle.vers_trees.specs.inside.Index.{IsIndexed}
 use Rattle.vers_trees.proofs.MinMax.{stands_every, root_starts, root_stands}
 use Rattle.vers_trees.proofs.Build.{root_is_part}
 use Rattle.vers_trees.proofs.Blocks.{balanced_iff_root}

@@ -9,8 +9,8 @@ use Rattle.vers_tally.proofs.PublicLaws.{adds_then}
 use Rattle.vers_rank.specs.Queries.{get_reads}
 use Rattle.vers_trees.specs.declared.trees.bp.min_max.Node.{Node}
 use Rattle.vers_trees.specs.Excess.{excess, bit_step}
-use Rattle.vers_trees.specs.MinMax.{IsPart}
-use Rattle.vers_trees.specs.Scans.{IsFirstRise, HasNoRise, IsLastRise, HasNoRiseBefore, scan_reads}
+use Rattle.vers_trees.specs.inside.MinMax.{IsPart}
+use Rattle.vers_trees.specs.inside.Scans.{IsFirstRise, HasNoRise, IsLastRise, HasNoRiseBefore, scan_reads}
 use Rattle.vers_trees.proofs.Excess.{excess-is_walk, excess_after_bit}
 
 -- the excess changes by at most as much as there are places between

@@ -11,13 +11,13 @@ use Rattle.std.proofs.lemmas.Bool.Decides.{Decides-int_eq}
 use Rattle.vers_trees.specs.Excess.{excess, first_rise_after, last_rise_before}
 use Rattle.vers_trees.specs.Laws.{IsFirstRiseAfter, IsLastRiseBefore}
 
-record IsFirst (test : ℕ → Bool) (a n j : ℕ) : Type 0 where
+pub record IsFirst (test : ℕ → Bool) (a n j : ℕ) : Type 0 where
   pub from : a ≤ j
   pub below : j < a + n
   pub passes : test j ≡ true
   pub before : (k : ℕ) → a ≤ k → k < j → test k ≡ false
 
-record IsLast (test : ℕ → Bool) (n j : ℕ) : Type 0 where
+pub record IsLast (test : ℕ → Bool) (n j : ℕ) : Type 0 where
   pub below : j < n
   pub passes : test j ≡ true
   pub after : (k : ℕ) → j < k → k < n → test k ≡ false
@@ -40,7 +40,7 @@ find_some test a (suc n) j h = go (find_some test (a + 1) n j) (test a) refl
           before = λ k x y. ⊎_elim (λ (s : a ≡ k). subst (λ (m : ℕ). test m ≡ false) s e) (λ (s : a < k). r.before k (omega arith) y) (eq-or-lt_of_le x);
         }
 
-find_is : (test : ℕ → Bool) (a n j : ℕ) → IsFirst test a n j → find test (range_with_len a n) ≡ Some j
+pub find_is : (test : ℕ → Bool) (a n j : ℕ) → IsFirst test a n j → find test (range_with_len a n) ≡ Some j
 find_is test a zero j r = let f = r.from in let b = r.below in absurd (omega arith)
 find_is test a (suc n) j r = go (find_is test (a + 1) n j) (eq-or-lt_of_le r.from)
   where
@@ -51,14 +51,22 @@ find_is test a (suc n) j r = go (find_is test (a + 1) n j) (eq-or-lt_of_le r.fro
         let b = r.below in
         rw p (ih (record { from = omega arith; below = omega arith; passes = r.passes; before = λ k x y. r.before k (omega arith) y }))
 
-none_find : (test : ℕ → Bool) (a n : ℕ) → ((k : ℕ) → a ≤ k → k < a + n → test k ≡ false) → find test (range_with_len a n) ≡ None
+find_none : (test : ℕ → Bool) (a n : ℕ) → find test (range_with_len a n) ≡ None → (k : ℕ) → a ≤ k → k < a + n → test k ≡ false
+find_none test a zero h k x y = absurd (omega arith)
+find_none test a (suc n) h k x y = go (find_none test (a + 1) n) (test a) refl
+  where
+    go : (find test (range_with_len (a + 1) n) ≡ None → (k : ℕ) → a + 1 ≤ k → k < a + 1 + n → test k ≡ false) → (b : Bool) → test a ≡ b → test k ≡ false
+    go ih true e = let g = rw e at h in absurd (cc)
+    go ih false e = ⊎_elim (λ (s : a ≡ k). subst (λ (m : ℕ). test m ≡ false) s e) (λ (s : a < k). ih (rw e at h) k (omega arith) (omega arith)) (eq-or-lt_of_le x)
+
+pub none_find : (test : ℕ → Bool) (a n : ℕ) → ((k : ℕ) → a ≤ k → k < a + n → test k ≡ false) → find test (range_with_len a n) ≡ None
 none_find test a zero h = refl
 none_find test a (suc n) h =
     let p : test a ≡ false = h a (omega arith) (omega arith) in
     rw p (none_find test (a + 1) n (λ k x y. h k (omega arith) (omega arith)))
 
 -- the last of the numbers below n that passes the test
-abbrev last_below : (ℕ → Bool) → ℕ → Option ℕ
+abbrev pub last_below : (ℕ → Bool) → ℕ → Option ℕ
 last_below test zero = None
 last_below test (suc n) = cond (test n) (Some n) (last_below test n)
 
@@ -71,7 +79,7 @@ filter_more test n =
     let same = λ (m : ℕ). ap (filter test) (map-id (range_with_len 0 m)) in
     sym (same (n + 1)) ∙ filter_of_map_range_with_len_more test (λ (x : ℕ). x) 0 n n (omega arith) ∙ ap (λ (xs : List ℕ). xs ++ cond (test n) (n ∷ []) []) (same n)
 
-last_of_range : (test : ℕ → Bool) (n : ℕ) → last_or None (filter test (range_with_len 0 n)) ≡ last_below test n
+pub last_of_range : (test : ℕ → Bool) (n : ℕ) → last_or None (filter test (range_with_len 0 n)) ≡ last_below test n
 last_of_range test zero = refl
 last_of_range test (suc n) =
     let e : suc n ≡ n + 1 = omega arith in
@@ -101,7 +109,7 @@ last_below_some test (suc n) j h = go (last_below_some test n j) (test n) refl
           after = λ k x y. ⊎_elim (λ (s : k < n). r.after k x s) (λ (s : n ≤ k). let g : n ≡ k = omega arith in subst (λ (m : ℕ). test m ≡ false) g e) (cases_lt k n);
         }
 
-last_below_is : (test : ℕ → Bool) (n j : ℕ) → IsLast test n j → last_below test n ≡ Some j
+pub last_below_is : (test : ℕ → Bool) (n j : ℕ) → IsLast test n j → last_below test n ≡ Some j
 last_below_is test zero j r = let b = r.below in absurd (omega arith)
 last_below_is test (suc n) j r = go (last_below_is test n j) (cases_lt j n)
   where
@@ -115,7 +123,15 @@ last_below_is test (suc n) j r = go (last_below_is test n j) (cases_lt j n)
         let p : test n ≡ true = subst (λ (m : ℕ). test m ≡ true) (sym e) r.passes in
         rw p (ap Some e)
 
-none_last_below : (test : ℕ → Bool) (n : ℕ) → ((k : ℕ) → k < n → test k ≡ false) → last_below test n ≡ None
+last_below_none : (test : ℕ → Bool) (n : ℕ) → last_below test n ≡ None → (k : ℕ) → k < n → test k ≡ false
+last_below_none test zero h k y = absurd (omega arith)
+last_below_none test (suc n) h k y = go (last_below_none test n) (test n) refl
+  where
+    go : (last_below test n ≡ None → (k : ℕ) → k < n → test k ≡ false) → (b : Bool) → test n ≡ b → test k ≡ false
+    go ih true e = let g = rw e at h in absurd (cc)
+    go ih false e = ⊎_elim (λ (s : k < n). ih (rw e at h) k s) (λ (s : n ≤ k). let g : n ≡ k = omega arith in subst (λ (m : ℕ). test m ≡ false) g e) (cases_lt k n)
+
+pub none_last_below : (test : ℕ → Bool) (n : ℕ) → ((k : ℕ) → k < n → test k ≡ false) → last_below test n ≡ None
 none_last_below test zero h = refl
 none_last_below test (suc n) h =
     let p : test n ≡ false = h n (omega arith) in
@@ -157,6 +173,11 @@ after_is l i r j p =
       before = λ k x y. ne_false _ _ (p.first k (omega arith) y);
     })
 
+pub after_none : (l : List Bool) (i : ℕ) (r : ℤ) → first_rise_after l i r ≡ None → (k : ℕ) → i < k → k < length l → excess l (k + 1) ≢ excess l (i + 1) +ℤ r
+unfolding first_rise_after
+after_none l i r h k x y =
+    false_ne _ _ (find_none (λ j. int_eq (excess l (j + 1)) (excess l (i + 1) +ℤ r)) (i + 1) (length l - (i + 1)) h k (omega arith) (omega arith))
+
 pub none_after : (l : List Bool) (i : ℕ) (r : ℤ) → ((k : ℕ) → i < k → k < length l → excess l (k + 1) ≢ excess l (i + 1) +ℤ r) → first_rise_after l i r ≡ None
 unfolding first_rise_after
 none_after l i r h =
@@ -186,6 +207,12 @@ before_is l i r j p =
       passes = true_eq _ _ p.sum;
       after = λ k x y. ne_false _ _ (p.last k x y);
     }))
+
+pub before_none : (l : List Bool) (i : ℕ) (r : ℤ) → i < length l → last_rise_before l i r ≡ None → (k : ℕ) → k < i → excess l k ≢ excess l i +ℤ r
+unfolding last_rise_before
+before_none l i r g h k y =
+    let t : ltb i (length l) ≡ true = lt-ltb i (length l) g in
+    false_ne _ _ (last_below_none (λ j. int_eq (excess l j) (excess l i +ℤ r)) i (sym (last_of_range (λ j. int_eq (excess l j) (excess l i +ℤ r)) i) ∙ (rw t at h)) k y)
 
 pub none_before : (l : List Bool) (i : ℕ) (r : ℤ) → ((k : ℕ) → k < i → excess l k ≢ excess l i +ℤ r) → last_rise_before l i r ≡ None
 unfolding last_rise_before

@@ -6,22 +6,13 @@ use Rattle.std.proofs.lemmas.List.{get_or_append_left, get_or_at, get_or-drop}
 use Rattle.std.proofs.Math.Seq.{take-append_seam}
 use Rattle.std.proofs.Math.Nat.{pow-succ', pow-le-pow_right}
 use Rattle.vers_tally.specs.Reads.{digits}
-use Rattle.vers_tally.proofs.PublicLaws.{digits_half, digits-le, digits_up}
+use Rattle.vers_tally.proofs.PublicLaws.{digits-le, digits_up, digits_pow, digits_below_pow}
 use Rattle.vers_trees.specs.declared.trees.bp.min_max.Node.{Node}
-use Rattle.vers_trees.specs.MinMax.{IsPart, AreBlocks, CoveredFrom, AreLeaves, empty_node}
+use Rattle.vers_trees.specs.inside.MinMax.{IsPart, AreBlocks, CoveredFrom, AreLeaves, empty_node}
 use Rattle.vers_trees.specs.Layout.{block_count, clog, levels, node_count}
 use Rattle.vers_trees.proofs.Steps.{digit_some}
-use Rattle.vers_trees.specs.Index.{IsWidth, IsGrowing, AreFirstBlocks, IsTreeOf, IsIndexed}
+use Rattle.vers_trees.specs.inside.Index.{IsWidth, IsGrowing, AreFirstBlocks, IsTreeOf, IsIndexed}
 use Rattle.vers_trees.proofs.Makes.{minmax_of, leaves_of}
-
-digits_pow : (k : ℕ) → digits (2 ^ k) ≡ k + 1
-digits_pow zero = omega (arith, digits_half 1 (omega arith), digits-le 0 0 (omega arith))
-digits_pow (suc k) =
-    let p = pow-succ' 2 k in
-    let some = pow-le-pow_right {n = 2} (omega arith) {i = 0} {j = k} (omega arith) in
-    let h = digits_half (2 ^ suc k) (omega arith) in
-    let e : 2 ^ suc k / 2 ≡ 2 ^ k = omega arith in
-    omega (arith, ap digits e, digits_pow k)
 
 pub grow_start : (leaves : ℕ) → IsGrowing leaves 2
 grow_start leaves = record { exponent = 0; power = refl; short = inl refl }
@@ -61,15 +52,6 @@ grown leaves w h g enough =
 pub ruleset widths = (grow_start, grow_more, grown)
 
 -- ---- how many nodes there are
-digits_below_pow : (k : ℕ) → digits (2 ^ k - 1) ≡ k
-digits_below_pow zero = let d = digits-le 0 0 (omega arith) in omega arith
-digits_below_pow (suc k) =
-    let p = pow-succ' 2 k in
-    let some = pow-le-pow_right {n = 2} (omega arith) {i = 0} {j = k} (omega arith) in
-    let h = digits_half (2 ^ suc k - 1) (omega arith) in
-    let e : (2 ^ suc k - 1) / 2 ≡ 2 ^ k - 1 = omega arith in
-    omega (arith, ap digits e, digits_below_pow k)
-
 width_is : (leaves w : ℕ) → IsWidth leaves w → w - 1 ≡ max 1 (2 ^ clog leaves - 1)
 width_is leaves w h =
     let p = h.power in let s = h.some in let en = h.enough in let le = h.least in

@@ -25,3 +25,18 @@ pairs (tree X Y) =
 pub record IsBalanced (bits : List Bool) : Type 0 where
   pub forest : Forest
   pub written : text forest ≡ bits
+
+-- a list read from the left: the forest up to the first zero that closes nothing, and the forests between such
+-- zeros after it. A one that nothing closes is taken to close at the end
+abbrev pub closed : Forest → List Forest → Forest × List Forest
+closed F [] = (tree F none, [])
+closed F (G ∷ Gs) = (tree F G, Gs)
+
+abbrev pub parse : List Bool → Forest × List Forest
+parse [] = (none, [])
+parse (true ∷ bits) = closed (parse bits).0 (parse bits).1
+parse (false ∷ bits) = (none, (parse bits).0 ∷ (parse bits).1)
+
+-- the forest that a balanced list writes down
+unfoldable pub forest_of : List Bool → Forest
+forest_of bits = (parse bits).0

@@ -1,16 +1,9 @@
 -- How many nodes the tree over the blocks of a list has, how much memory it takes, and what a search in it reads.
 use Rattle.std.specs.Prelude.{ℕ, zero, suc, ◌+◌, ◌-◌, ◌*◌, ◌^◌, max, min, List, Bool, length}
-use Rattle.std.specs.Int.{div_ceil}
-use Rattle.vers_tally.specs.Reads.{Reads, no_reads, plus, digits}
+pub use Rattle.vers_bits.specs.Bits.{block_count}
+use Rattle.vers_tally.specs.Reads.{Reads, no_reads, plus}
+pub use Rattle.vers_tally.specs.Reads.{clog}
 use Rattle.vers_rank.specs.Queries.{index_size, get_reads}
-
--- the least k for which n is at most 2 ^ k
-abbrev pub clog : ℕ → ℕ
-clog n = digits (n - 1)
-
--- how many blocks of `size` bits n bits fill, the last perhaps in part
-abbrev pub block_count : ℕ → ℕ → ℕ
-block_count size n = div_ceil n size
 
 -- how many levels the tree has over n bits in blocks of `size`
 unfoldable pub levels : ℕ → ℕ → ℕ
@@ -33,3 +26,7 @@ search_reads size n = record no_reads { data_words = 2 * size + 4; rank_calls = 
 -- the same with one bit more, by which the search is chosen
 abbrev pub enclose_reads : ℕ → ℕ → Reads
 enclose_reads size n = plus get_reads (search_reads size n)
+
+-- what two searches add at most
+abbrev pub two_searches_reads : ℕ → ℕ → Reads
+two_searches_reads size n = plus (search_reads size n) (search_reads size n)

@@ -1,8 +1,12 @@
 pub mod Excess
 pub mod Forest
+pub mod Nodes
+pub mod Traversals
+pub mod Siblings
 pub mod Layout
+pub mod WalkReads
 pub mod Laws
-pub mod MinMax
-pub mod Index
-pub mod Scans
+pub mod WalkLaws
 pub mod Rows
+pub mod NodeRows
+pub mod inside

@@ -11,7 +11,7 @@ abbrev node_with_two : Forest
 node_with_two = tree (tree none (tree none none)) none
 
 -- the parentheses 110100
-abbrev bits_110100 : List Bool
+abbrev pub bits_110100 : List Bool
 bits_110100 = true ∷ true ∷ false ∷ true ∷ false ∷ false ∷ []
 
 pub text-two : text node_with_two ≡ bits_110100
@@ -33,7 +33,7 @@ unfolding node_count digits count
 heap_size-110100-512 = refl
 
 -- the parentheses 11100111 01011100 10010000
-abbrev three_bytes : List Bool
+abbrev pub three_bytes : List Bool
 three_bytes = true ∷ true ∷ true ∷ false ∷ false ∷ true ∷ true ∷ true ∷ false ∷ true ∷ false ∷ true ∷ true ∷ true ∷ false ∷ false ∷ true ∷ false ∷ false ∷ true ∷ false ∷ false ∷ false ∷ false ∷ []
 
 pub close-three_bytes-1 : first_rise_after three_bytes 1 (negsuc 0) ≡ Some 4

@@ -1,6 +1,7 @@
 //! Laws of parentheses. Each function does nothing: its contract is the law, and its proof is
 //! checked with the crate.
 ghost use Rattle.vers_trees.specs.Laws.{ForwardFindsFirst, BackwardFindsLast, OneForest, CloseFindsPair, OpenFindsPair, OpenUndoesClose, CloseUndoesOpen};
+ghost use Rattle.vers_trees.specs.WalkLaws.{PreorderOpensInOrder, PostorderClosesInOrder, OnesAreNodes};
 
 /// A search forwards finds the first place after the one asked for at which the excess has risen so.
 #[tactic(auto, using(crate::proofs::Matching::searches))]
@@ -42,4 +43,22 @@ pub fn open_undoes_close()
 #[tactic(auto, using(crate::proofs::Matching::partners))]
 pub fn close_undoes_open()
     ensures { CloseUndoesOpen }
+{}
+
+/// The nodes of a forest in preorder open at the ones of its text, each at the next one.
+#[tactic(auto, using(crate::proofs::ListsOfNodes::orders))]
+pub fn preorder_opens_in_order()
+    ensures { PreorderOpensInOrder }
+{}
+
+/// The nodes of a forest in postorder close at the zeros of its text, each at the next one.
+#[tactic(auto, using(crate::proofs::ListsOfNodes::orders))]
+pub fn postorder_closes_in_order()
+    ensures { PostorderClosesInOrder }
+{}
+
+/// In balanced parentheses one number `i` is a node: what `node_handle` answers below the `size`.
+#[tactic(auto, using(crate::proofs::WalksOfNodes::handles))]
+pub fn ones_are_nodes()
+    ensures { OnesAreNodes }
 {}

@@ -25,7 +25,8 @@ pub fn has_more<A: Allocator + Copy>(
     second: Window,
     tally: &mut Tally,
 ) -> bool
-    ensures value { IsTrue result ↔ (gc_in genome.now first.from first.to < gc_in genome.now second.from second.to) }
+    ensures value { IsTrue result
+        ↔ (gc_in genome.now first.from first.to < gc_in genome.now second.from second.to) }
     ensures adds { AddsAtMost tally.old tally.new (times 4 rank_reads) }
 {
     let before = genome.gc_between_counted(first.from, first.to, tally);

@@ -24,13 +24,6 @@ impl<A: Allocator + Copy> Model for Documents<A> {
     ghost view = { λ texts. record { starts = texts.starts; end = texts.end } };
 }
 
-/// Whether numbers ascend, as the starts of documents must. Equal numbers may follow one another.
-pub fn are_ascending(numbers: &[u64]) -> bool
-    ensures { IsTrue result ↔ IsNonDecreasing numbers.now }
-{
-    numbers.is_sorted()
-}
-
 impl<A: Allocator + Copy> Documents<A> {
     /// The documents that start at these bytes of a text of `end` bytes. Two documents may start at
     /// the same byte. Then the first is empty.

@@ -78,7 +78,8 @@ impl<A: Allocator + Copy> Genome<A> {
 
     /// The place of the next G or C after a place. None where there is none.
     pub fn next_gc(&self, place: usize) -> Option<u64>
-        ensures found { IfSome result (λ next. (place < next) × HoldsAt true self.now next × NoneFrom true self.now (place + 1) next) }
+        ensures found { IfSome result (λ next. (place < next) × HoldsAt true self.now next
+            × NoneFrom true self.now (place + 1) next) }
         ensures none { IsNone result → NoneFrom true self.now (place + 1) (length self.now) }
     {
         none_up_to_neighbour();

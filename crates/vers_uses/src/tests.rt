@@ -1,15 +1,16 @@
 //! What no contract says: values that were worked out by hand.
 use crate::budget::{Window, has_more};
-use crate::documents::{Documents, are_ascending};
+use crate::documents::Documents;
 use crate::genome::Genome;
 use crate::prices::Prices;
 use std::test::Fail;
+use vers_vecs::elias_fano::is_ascending;
 use vers_vecs::tally::Tally;
 
 #[test]
 fn documents_of_bytes(rt: HostRuntime) -> Result<(), Fail> {
     let starts = [2, 10, 10, 25];
-    assert!(rt; are_ascending(&starts));
+    assert!(rt; is_ascending(&starts));
     let texts = Documents::new(rt.alloc(), &starts, 40)?;
     let wanted = [
         (1, None),

@@ -31,5 +31,14 @@ pub use Rattle.vers_rmq.specs.Laws as MinimaLaws
 -- trees of parentheses
 pub use Rattle.vers_trees.specs.Excess
 pub use Rattle.vers_trees.specs.Forest
+pub use Rattle.vers_trees.specs.Nodes
+pub use Rattle.vers_trees.specs.Traversals
+pub use Rattle.vers_trees.specs.WalkReads as TreesWalkReads
+pub use Rattle.vers_trees.specs.WalkLaws as TreesWalkLaws
 pub use Rattle.vers_trees.specs.Layout as TreesLayout
 pub use Rattle.vers_trees.specs.Laws as TreesLaws
+-- lists of symbols
+pub use Rattle.vers_wavelet.specs.Symbols
+pub use Rattle.vers_wavelet.specs.Makers as SymbolsMakers
+pub use Rattle.vers_wavelet.specs.Reads as SymbolsReads
+pub use Rattle.vers_wavelet.specs.Laws as SymbolsLaws

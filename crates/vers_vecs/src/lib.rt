@@ -17,8 +17,8 @@ pub mod bit_vec {
 
     /// Lists of bits that keep the places of their ones alone.
     pub mod sparse {
+        pub use vers_sorted::order::{are_below, is_strictly_ascending};
         pub use vers_sorted::sparse::SparseRSVec;
-        pub use vers_trees::trees::bp::{BpBuilder, BpTree};
     }
 
     /// Two lists combined limb by limb.
@@ -30,6 +30,7 @@ pub mod bit_vec {
 /// Ascending lists of numbers.
 pub mod elias_fano {
     pub use vers_sorted::elias_fano::{EliasFanoIter, EliasFanoRefIter, EliasFanoVec};
+    pub use vers_sorted::order::is_ascending;
 }
 
 /// Range minima.
@@ -45,12 +46,23 @@ pub mod rmq {
     }
 }
 
-/// Ordered trees as lists of parentheses.
+/// Lists of symbols of one width.
+pub mod wavelet {
+    pub use vers_wavelet::wavelet::{
+        WaveletIter, WaveletMatrix, WaveletNumIter, WaveletNumRefIter, WaveletRefIter,
+        WaveletSortedIter, WaveletSortedNumIter, WaveletSortedNumRefIter, WaveletSortedRefIter,
+    };
+}
+
+/// Ordered trees.
 pub mod trees {
+    pub use vers_trees::trees::{IsAncestor, LevelTree, SubtreeSize, Tree, TreeBuilder};
+
     /// Trees of parentheses with searches by a tree of excesses, and their builder.
     pub mod bp {
         pub use vers_trees::trees::bp::{
-            BpBuilder, BpTree, BuildError, DfsIter, MAX_BLOCK_SIZE, MAX_LEN,
+            BpBuilder, BpTree, BuildError, ChildrenIter, DfsIter, MAX_BLOCK_SIZE, MAX_LEN,
+            PostIter, SubtreeIter, SubtreePostIter,
         };
     }
 }
@@ -106,7 +118,15 @@ pub mod laws {
     pub mod trees {
         pub use vers_trees::laws::{
             backward_finds_last, close_finds_pair, close_undoes_open, forward_finds_first,
-            one_forest, open_finds_pair, open_undoes_close,
+            one_forest, ones_are_nodes, open_finds_pair, open_undoes_close,
+            postorder_closes_in_order, preorder_opens_in_order,
+        };
+    }
+
+    /// Laws of lists of symbols.
+    pub mod wavelet {
+        pub use vers_wavelet::laws::{
+            one_member_of_a_number, sorted_members_ascend, sorting_keeps_members,
         };
     }
 }
@@ -118,3 +138,5 @@ pub use vers_rmq::rmq::fast_rmq::FastRmq;
 pub use vers_sorted::elias_fano::EliasFanoVec;
 pub use vers_sorted::sparse::SparseRSVec;
 pub use vers_trees::trees::bp::{BpBuilder, BpTree};
+pub use vers_trees::trees::{IsAncestor, LevelTree, SubtreeSize, Tree, TreeBuilder};
+pub use vers_wavelet::wavelet::WaveletMatrix;

@@ -43,7 +43,9 @@ impl<A: Allocator + Copy> BitVec<A> {
     /// Makes the bit at a place a one where `value` is odd, and else a zero. OutOfRange for a
     /// place that the list doesn't have, and the list is as it was.
     pub fn set(&mut self, place: usize, value: u64) -> Result<(), OutOfRange>
-        ensures { MatchResult result (λ _. (place < length self.old) × (self.new ≡ slice_set self.old place (value % 2 == 1))) (λ _. (length self.old ≤ place) × (self.new ≡ self.old)) }
+        ensures { MatchResult result
+            (λ _. (place < length self.old) × (self.new ≡ slice_set self.old place
+            (value % 2 == 1))) (λ _. (length self.old ≤ place) × (self.new ≡ self.old)) }
     {
         if place >= self.len() {
             return Err(OutOfRange);
@@ -89,7 +91,8 @@ impl<A: Allocator + Copy> BitVec<A> {
     pub fn split_at(self, at: usize) -> Result<(Self, Self), SplitError<A>>
         ensures halves { IfOk result (λ h. (h.0 ≡ take at self) × (h.1 ≡ drop at self)) }
         ensures kept { IfErr result (λ e. e.vec ≡ self) }
-        ensures out_of_range { MatchResult result (λ _. at ≤ length self) (λ e. (e.cause ≡ SplitCause.OutOfRange) ↔ (length self < at)) }
+        ensures out_of_range { MatchResult result (λ _. at ≤ length self)
+            (λ e. (e.cause ≡ SplitCause.OutOfRange) ↔ (length self < at)) }
         ensures at_start { at ≡ 0 → IsOk result }
         ensures at_end { at ≡ length self → IsOk result }
     {

@@ -187,7 +187,8 @@ impl<A: Allocator + Copy> BitVec<A> {
         requires { start ≤ length other.now }
         ensures grown { OnOk result (self.new ≡ self.old ++ drop start other.now) }
         ensures kept { OnErr result (self.new ≡ self.old) }
-        ensures too_long { (result ≡ Err GrowError.TooLong) ↔ (MAX_LEN < length self.old + (length other.now - start)) }
+        ensures too_long { (result ≡ Err GrowError.TooLong)
+            ↔ (MAX_LEN < length self.old + (length other.now - start)) }
     {
         let len = self.len();
         if other.len() - start > MAX_LEN - len {
@@ -218,8 +219,11 @@ impl<A: Allocator + Copy> BitVec<A> {
     ) -> Result<(), GrowError>
         requires can { I.can_next lists }
         requires ends { IsFinite (I.remaining lists) }
-        ensures grown { OnOk result ((xs : List (List Bool)) × Drains I.next_gives lists xs × (self.new ≡ self.old ++ flat_map (λ x. x) xs)) }
-        ensures refused { IfErr result (λ e. StopsAt I.next_gives lists (λ xs x. (self.new ≡ self.old ++ flat_map (λ y. y) xs) × ((e ≡ GrowError.TooLong) ↔ (MAX_LEN < length self.new + length x)))) }
+        ensures grown { OnOk result ((xs : List (List Bool)) × Drains I.next_gives lists xs
+            × (self.new ≡ self.old ++ flat_map (λ x. x) xs)) }
+        ensures refused { IfErr result (λ e. StopsAt I.next_gives lists (λ xs x.
+            (self.new ≡ self.old ++ flat_map (λ y. y) xs)
+            × ((e ≡ GrowError.TooLong) ↔ (MAX_LEN < length self.new + length x)))) }
     {
         for list in lists {
             self.extend_bitvec(&list)?;
@@ -236,8 +240,11 @@ impl<A: Allocator + Copy> BitVec<A> {
         A: 'a,
         requires can { I.can_next lists }
         requires ends { IsFinite (I.remaining lists) }
-        ensures grown { OnOk result ((xs : List (Bor (List Bool))) × Drains I.next_gives lists xs × (self.new ≡ self.old ++ flat_map (λ x. x.now) xs)) }
-        ensures refused { IfErr result (λ e. StopsAt I.next_gives lists (λ xs x. (self.new ≡ self.old ++ flat_map (λ y. y.now) xs) × ((e ≡ GrowError.TooLong) ↔ (MAX_LEN < length self.new + length x.now)))) }
+        ensures grown { OnOk result ((xs : List (Bor (List Bool))) × Drains I.next_gives lists xs
+            × (self.new ≡ self.old ++ flat_map (λ x. x.now) xs)) }
+        ensures refused { IfErr result (λ e. StopsAt I.next_gives lists (λ xs x.
+            (self.new ≡ self.old ++ flat_map (λ y. y.now) xs)
+            × ((e ≡ GrowError.TooLong) ↔ (MAX_LEN < length self.new + length x.now)))) }
     {
         for list in lists {
             self.extend_bitvec(list)?;

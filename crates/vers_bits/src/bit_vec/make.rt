@@ -96,7 +96,7 @@ impl Item for u64 {
 #[tactic(auto, using(crate::proofs::Limbs::from_words))]
 impl<A: Allocator + Copy> BitVec<A> {
     /// The empty list, with room for `n` bits. TooLong where `n` is above `MAX_LEN`.
-    #[tactic(auto, unfolding(crate::specs::Words::word_bits))]
+    #[tactic(auto, unfolding(crate::specs::inside::Words::word_bits))]
     pub fn with_capacity(alloc: A, n: usize) -> Result<Self, GrowError>
         ensures made { IfOk result (λ v. v ≡ []) }
         ensures too_long { (result ≡ Err GrowError.TooLong) ↔ (MAX_LEN < n) }
@@ -181,7 +181,8 @@ impl<A: Allocator + Copy> BitVec<A> {
         requires can { I.can_next items }
         requires ends { IsFinite (I.remaining items) }
         ensures made { IfOk result (λ v. (xs : List T) × Drains I.next_gives items xs × (v ≡ map T.is_odd xs)) }
-        ensures refused { IfErr result (λ e. StopsAt I.next_gives items (λ xs x. (e ≡ GrowError.TooLong) ↔ (MAX_LEN < length xs + 1))) }
+        ensures refused { IfErr result (λ e. StopsAt I.next_gives items
+            (λ xs x. (e ≡ GrowError.TooLong) ↔ (MAX_LEN < length xs + 1))) }
     {
         let mut list = BitVec::new(alloc);
         let mut word = 0;
@@ -228,8 +229,10 @@ impl<A: Allocator + Copy> BitVec<A> {
     ) -> Result<Self, GrowError>
         requires can { I.can_next items }
         requires ends { IsFinite (I.remaining items) }
-        ensures made { IfOk result (λ v. (xs : List T) × Drains I.next_gives items xs × (v ≡ flat_map (λ x. low_bits (T.number x) k) xs)) }
-        ensures refused { IfErr result (λ e. StopsAt I.next_gives items (λ xs x. (e ≡ GrowError.TooLong) ↔ (MAX_LEN < (length xs + 1) * k))) }
+        ensures made { IfOk result (λ v. (xs : List T) × Drains I.next_gives items xs
+            × (v ≡ flat_map (λ x. low_bits (T.number x) k) xs)) }
+        ensures refused { IfErr result (λ e. StopsAt I.next_gives items
+            (λ xs x. (e ≡ GrowError.TooLong) ↔ (MAX_LEN < (length xs + 1) * k))) }
     {
         let mut list = BitVec::new(alloc);
         for item in items {
@@ -278,8 +281,10 @@ impl<A: Allocator + Copy> BitVec<A> {
     ) -> Result<Self, GrowError>
         requires can { I.can_next bits }
         requires ends { IsFinite (I.remaining bits) }
-        ensures made { IfOk result (λ v. (xs : List ℕ) × Drains I.next_gives bits xs × (v ≡ map (λ n. n % 2 == 1) xs)) }
-        ensures refused { IfErr result (λ e. StopsAt I.next_gives bits (λ xs x. (e ≡ GrowError.TooLong) ↔ (MAX_LEN < length xs + 1))) }
+        ensures made { IfOk result
+            (λ v. (xs : List ℕ) × Drains I.next_gives bits xs × (v ≡ map (λ n. n % 2 == 1) xs)) }
+        ensures refused { IfErr result (λ e. StopsAt I.next_gives bits
+            (λ xs x. (e ≡ GrowError.TooLong) ↔ (MAX_LEN < length xs + 1))) }
     {
         BitVec::odd_items_of(alloc, bits)
     }
@@ -301,7 +306,8 @@ impl<A: Allocator + Copy> BitVec<A> {
         requires can { I.can_next bools }
         requires ends { IsFinite (I.remaining bools) }
         ensures made { IfOk result (λ v. Drains I.next_gives bools v) }
-        ensures refused { IfErr result (λ e. StopsAt I.next_gives bools (λ xs x. (e ≡ GrowError.TooLong) ↔ (MAX_LEN < length xs + 1))) }
+        ensures refused { IfErr result (λ e. StopsAt I.next_gives bools
+            (λ xs x. (e ≡ GrowError.TooLong) ↔ (MAX_LEN < length xs + 1))) }
     {
         BitVec::odd_items_of(alloc, bools)
     }
@@ -315,7 +321,8 @@ impl<A: Allocator + Copy> BitVec<A> {
         requires can { I.can_next limbs }
         requires ends { IsFinite (I.remaining limbs) }
         ensures made { IfOk result (λ v. (xs : List ℕ) × Drains I.next_gives limbs xs × (v ≡ pack xs 64)) }
-        ensures refused { IfErr result (λ e. StopsAt I.next_gives limbs (λ xs x. (e ≡ GrowError.TooLong) ↔ (MAX_LEN < (length xs + 1) * 64))) }
+        ensures refused { IfErr result (λ e. StopsAt I.next_gives limbs
+            (λ xs x. (e ≡ GrowError.TooLong) ↔ (MAX_LEN < (length xs + 1) * 64))) }
     {
         BitVec::packed_items_of(alloc, limbs, 64)
     }
@@ -366,7 +373,8 @@ impl<A: Allocator + Copy> BitVec<A> {
         requires can { I.can_next sequence }
         requires ends { IsFinite (I.remaining sequence) }
         ensures made { IfOk result (λ v. (xs : List ℕ) × Drains I.next_gives sequence xs × (v ≡ pack xs k)) }
-        ensures refused { IfErr result (λ e. StopsAt I.next_gives sequence (λ xs x. (e ≡ GrowError.TooLong) ↔ (MAX_LEN < (length xs + 1) * k))) }
+        ensures refused { IfErr result (λ e. StopsAt I.next_gives sequence
+            (λ xs x. (e ≡ GrowError.TooLong) ↔ (MAX_LEN < (length xs + 1) * k))) }
     {
         BitVec::packed_items_of(alloc, sequence, k)
     }
@@ -381,7 +389,8 @@ impl<A: Allocator + Copy> BitVec<A> {
         requires can { I.can_next sequence }
         requires ends { IsFinite (I.remaining sequence) }
         ensures made { IfOk result (λ v. (xs : List ℕ) × Drains I.next_gives sequence xs × (v ≡ pack xs k)) }
-        ensures refused { IfErr result (λ e. StopsAt I.next_gives sequence (λ xs x. (e ≡ GrowError.TooLong) ↔ (MAX_LEN < (length xs + 1) * k))) }
+        ensures refused { IfErr result (λ e. StopsAt I.next_gives sequence
+            (λ xs x. (e ≡ GrowError.TooLong) ↔ (MAX_LEN < (length xs + 1) * k))) }
     {
         BitVec::packed_items_of(alloc, sequence, k)
     }
@@ -396,7 +405,8 @@ impl<A: Allocator + Copy> BitVec<A> {
         requires can { I.can_next sequence }
         requires ends { IsFinite (I.remaining sequence) }
         ensures made { IfOk result (λ v. (xs : List ℕ) × Drains I.next_gives sequence xs × (v ≡ pack xs k)) }
-        ensures refused { IfErr result (λ e. StopsAt I.next_gives sequence (λ xs x. (e ≡ GrowError.TooLong) ↔ (MAX_LEN < (length xs + 1) * k))) }
+        ensures refused { IfErr result (λ e. StopsAt I.next_gives sequence
+            (λ xs x. (e ≡ GrowError.TooLong) ↔ (MAX_LEN < (length xs + 1) * k))) }
     {
         BitVec::packed_items_of(alloc, sequence, k)
     }
@@ -411,7 +421,8 @@ impl<A: Allocator + Copy> BitVec<A> {
         requires can { I.can_next sequence }
         requires ends { IsFinite (I.remaining sequence) }
         ensures made { IfOk result (λ v. (xs : List ℕ) × Drains I.next_gives sequence xs × (v ≡ pack xs k)) }
-        ensures refused { IfErr result (λ e. StopsAt I.next_gives sequence (λ xs x. (e ≡ GrowError.TooLong) ↔ (MAX_LEN < (length xs + 1) * k))) }
+        ensures refused { IfErr result (λ e. StopsAt I.next_gives sequence
+            (λ xs x. (e ≡ GrowError.TooLong) ↔ (MAX_LEN < (length xs + 1) * k))) }
     {
         BitVec::packed_items_of(alloc, sequence, k)
     }

@@ -1,8 +1,8 @@
 //! Two lists of bits of one length, seen as one through a function on their limbs.
-ghost use Rattle.std.specs.Prelude.{◌≡◌, ◌≢◌, ℕ, ◌+◌, ◌-◌, ◌*◌, ◌/◌, ◌%◌, ◌^◌, ◌<◌, ◌≤◌, ◌||◌, ◌&&◌, true, false, min, length, take, drop, option_map, slice_get, slice_index, slice_index_or, MatchResult, IfOk, bit_or, bit_and, bit_xor};
-ghost use Rattle.vers_bits.specs.Kinds.{limb_op};
+ghost use Rattle.std.specs.Prelude.{◌≡◌, ℕ, ◌+◌, ◌-◌, ◌*◌, ◌/◌, ◌%◌, ◌^◌, ◌<◌, ◌≤◌, ◌||◌, ◌&&◌, true, false, min, length, take, drop, option_map, slice_get, slice_index, slice_index_or, IfOk, bit_or, bit_and, bit_xor};
+ghost use Rattle.vers_bits.specs.inside.Kinds.{limb_op};
 ghost use Rattle.vers_bits.specs.Bits.{bit_value, number, count, limb, part, part_number, masked};
-ghost use Rattle.vers_bits.specs.Masks.{OnEveryPair, AnswersAs, zip_bits, xor};
+ghost use Rattle.vers_bits.specs.Masks.{OnEveryPair, AnswersAs, OfBoth, OfMasked, OfOneLength, Applied, zip_bits, xor};
 
 use crate::bit_vec::words::{cut, low_part};
 use crate::bit_vec::{BitVec, LengthMismatch};
@@ -35,7 +35,8 @@ impl<'a, 'b, F: Fn(u64, u64) -> u64, A: Allocator + Copy> MaskedBitVec<'a, 'b, F
     fn answer(&self, k: usize) -> u64
         requires may_call { OnEveryPair (F.pre self.now.mask) }
         requires within { 64 * k < length self.now.left }
-        ensures { (g : ℕ → ℕ → ℕ) → AnswersAs (F.post self.now.mask) g → result ≡ g (limb self.now.left k) (limb self.now.right k) }
+        ensures { (g : ℕ → ℕ → ℕ) → AnswersAs (F.post self.now.mask) g
+            → result ≡ g (limb self.now.left k) (limb self.now.right k) }
     {
         let mine = self.left.limb(k);
         let theirs = self.right.limb(k);
@@ -47,7 +48,7 @@ impl<'a, 'b, F: Fn(u64, u64) -> u64, A: Allocator + Copy> MaskedBitVec<'a, 'b, F
     fn limb(&self, k: usize) -> u64
         requires may_call { OnEveryPair (F.pre self.now.mask) }
         requires within { 64 * k < length self.now.left }
-        ensures value { (g : ℕ → ℕ → ℕ) → AnswersAs (F.post self.now.mask) g → result ≡ limb (masked g self.now.left self.now.right) k }
+        ensures value { OfMasked (F.post self.now.mask) self.now (λ bits. result ≡ limb bits k) }
         ensures short { result < 2 ^ min (length self.now.left - 64 * k) 64 }
     {
         let rest = self.left.len() - 64 * k;
@@ -59,7 +60,8 @@ impl<'a, 'b, F: Fn(u64, u64) -> u64, A: Allocator + Copy> MaskedBitVec<'a, 'b, F
     fn ones_of_limb(&self, k: usize) -> u64
         requires may_call { OnEveryPair (F.pre self.now.mask) }
         requires within { 64 * k < length self.now.left }
-        ensures value { (g : ℕ → ℕ → ℕ) → AnswersAs (F.post self.now.mask) g → count true (masked g self.now.left self.now.right) (64 * k) + result ≡ count true (masked g self.now.left self.now.right) (64 * k + 64) }
+        ensures value { OfMasked (F.post self.now.mask) self.now
+            (λ bits. count true bits (64 * k) + result ≡ count true bits (64 * k + 64)) }
         ensures few { result ≤ 64 }
         ensures inside { 64 * k + result ≤ length self.now.left }
     {
@@ -73,7 +75,7 @@ impl<'a, 'b, F: Fn(u64, u64) -> u64, A: Allocator + Copy> MaskedBitVec<'a, 'b, F
         requires some { 0 < n }
         requires one_limb { place % 64 + n ≤ 64 }
         requires within { place + n ≤ length self.now.left }
-        ensures { (g : ℕ → ℕ → ℕ) → AnswersAs (F.post self.now.mask) g → result ≡ number (part (masked g self.now.left self.now.right) place n) }
+        ensures { OfMasked (F.post self.now.mask) self.now (λ bits. result ≡ number (part bits place n)) }
     {
         (self.limb(place / 64) >> (place % 64)) & (u64::MAX >> (64 - n))
     }
@@ -82,7 +84,7 @@ impl<'a, 'b, F: Fn(u64, u64) -> u64, A: Allocator + Copy> MaskedBitVec<'a, 'b, F
     #[tactic(auto, using(crate::proofs::Masks::places))]
     pub fn is_bit_set(&self, place: usize) -> Option<bool>
         requires { OnEveryPair (F.pre self.now.mask) }
-        ensures { (g : ℕ → ℕ → ℕ) → AnswersAs (F.post self.now.mask) g → result ≡ slice_get (masked g self.now.left self.now.right) place }
+        ensures { OfMasked (F.post self.now.mask) self.now (λ bits. result ≡ slice_get bits place) }
     {
         if place >= self.left.len() {
             return None;
@@ -94,7 +96,8 @@ impl<'a, 'b, F: Fn(u64, u64) -> u64, A: Allocator + Copy> MaskedBitVec<'a, 'b, F
     #[tactic(auto, using(crate::proofs::Masks::places))]
     pub fn get(&self, place: usize) -> Option<u64>
         requires { OnEveryPair (F.pre self.now.mask) }
-        ensures { (g : ℕ → ℕ → ℕ) → AnswersAs (F.post self.now.mask) g → result ≡ option_map bit_value (slice_get (masked g self.now.left self.now.right) place) }
+        ensures { OfMasked (F.post self.now.mask) self.now
+            (λ bits. result ≡ option_map bit_value (slice_get bits place)) }
     {
         if place >= self.left.len() {
             return None;
@@ -107,7 +110,8 @@ impl<'a, 'b, F: Fn(u64, u64) -> u64, A: Allocator + Copy> MaskedBitVec<'a, 'b, F
     pub fn is_bit_set_unchecked(&self, place: usize) -> bool
         requires may_call { OnEveryPair (F.pre self.now.mask) }
         requires within { place < length self.now.left }
-        ensures { (g : ℕ → ℕ → ℕ) → AnswersAs (F.post self.now.mask) g → result ≡ slice_index_or (masked g self.now.left self.now.right) place false }
+        ensures { OfMasked (F.post self.now.mask) self.now
+            (λ bits. result ≡ slice_index_or bits place false) }
     {
         (self.answer(place / 64) >> (place % 64)) & 1 == 1
     }
@@ -117,7 +121,8 @@ impl<'a, 'b, F: Fn(u64, u64) -> u64, A: Allocator + Copy> MaskedBitVec<'a, 'b, F
     pub fn get_unchecked(&self, place: usize) -> u64
         requires may_call { OnEveryPair (F.pre self.now.mask) }
         requires within { place < length self.now.left }
-        ensures { (g : ℕ → ℕ → ℕ) → AnswersAs (F.post self.now.mask) g → result ≡ bit_value (slice_index_or (masked g self.now.left self.now.right) place false) }
+        ensures { OfMasked (F.post self.now.mask) self.now
+            (λ bits. result ≡ bit_value (slice_index_or bits place false)) }
     {
         u64::from(self.is_bit_set_unchecked(place))
     }
@@ -127,7 +132,7 @@ impl<'a, 'b, F: Fn(u64, u64) -> u64, A: Allocator + Copy> MaskedBitVec<'a, 'b, F
     #[tactic(auto, using(crate::proofs::Masks::parts))]
     pub fn get_bits(&self, place: usize, n: usize) -> Option<u64>
         requires { OnEveryPair (F.pre self.now.mask) }
-        ensures { (g : ℕ → ℕ → ℕ) → AnswersAs (F.post self.now.mask) g → result ≡ part_number (masked g self.now.left self.now.right) place n }
+        ensures { OfMasked (F.post self.now.mask) self.now (λ bits. result ≡ part_number bits place n) }
     {
         let len = self.left.len();
         if n == 0 || n > 64 || place > len || n > len - place {
@@ -142,7 +147,7 @@ impl<'a, 'b, F: Fn(u64, u64) -> u64, A: Allocator + Copy> MaskedBitVec<'a, 'b, F
         requires may_call { OnEveryPair (F.pre self.now.mask) }
         requires few { n ≤ 64 }
         requires within { place + n ≤ length self.now.left }
-        ensures { (g : ℕ → ℕ → ℕ) → AnswersAs (F.post self.now.mask) g → result ≡ number (part (masked g self.now.left self.now.right) place n) }
+        ensures { OfMasked (F.post self.now.mask) self.now (λ bits. result ≡ number (part bits place n)) }
     {
         let len = self.left.len();
         if n == 0 || place >= len {
@@ -159,7 +164,8 @@ impl<'a, 'b, F: Fn(u64, u64) -> u64, A: Allocator + Copy> MaskedBitVec<'a, 'b, F
     #[tactic(auto, using(crate::proofs::Masks::counts))]
     pub fn count_ones(&self) -> u64
         requires { OnEveryPair (F.pre self.now.mask) }
-        ensures value { (g : ℕ → ℕ → ℕ) → AnswersAs (F.post self.now.mask) g → result ≡ count true (masked g self.now.left self.now.right) (length self.now.left) }
+        ensures value { OfMasked (F.post self.now.mask) self.now
+            (λ bits. result ≡ count true bits (length self.now.left)) }
         ensures few { result ≤ length self.now.left }
     {
         let mut ones: u64 = 0;
@@ -173,7 +179,8 @@ impl<'a, 'b, F: Fn(u64, u64) -> u64, A: Allocator + Copy> MaskedBitVec<'a, 'b, F
     #[tactic(auto, using(crate::proofs::Masks::counts))]
     pub fn count_zeros(&self) -> u64
         requires { OnEveryPair (F.pre self.now.mask) }
-        ensures { (g : ℕ → ℕ → ℕ) → AnswersAs (F.post self.now.mask) g → result ≡ count false (masked g self.now.left self.now.right) (length self.now.left) }
+        ensures { OfMasked (F.post self.now.mask) self.now
+            (λ bits. result ≡ count false bits (length self.now.left)) }
     {
         self.left.len() as u64 - self.count_ones()
     }
@@ -181,7 +188,7 @@ impl<'a, 'b, F: Fn(u64, u64) -> u64, A: Allocator + Copy> MaskedBitVec<'a, 'b, F
     /// A list of its own with the bits.
     pub fn to_bit_vec(&self) -> Result<BitVec<A>, AllocError>
         requires { OnEveryPair (F.pre self.now.mask) }
-        ensures { IfOk result (λ v. (g : ℕ → ℕ → ℕ) → AnswersAs (F.post self.now.mask) g → v ≡ masked g self.now.left self.now.right) }
+        ensures { IfOk result (λ v. OfMasked (F.post self.now.mask) self.now (λ bits. v ≡ bits)) }
     {
         let mut bits = self.left.clone()?;
         bits.combine(self.right, &self.mask);
@@ -195,7 +202,7 @@ impl<A: Allocator + Copy> BitVec<A> {
     fn combine<F: Fn(u64, u64) -> u64>(&mut self, other: &BitVec<A>, mask: &F)
         requires same { length self.old ≡ length other.now }
         requires may_call { OnEveryPair (F.pre mask.now) }
-        ensures { (g : ℕ → ℕ → ℕ) → AnswersAs (F.post mask.now) g → self.new ≡ masked g self.old other.now }
+        ensures { OfBoth (F.post mask.now) self.old other.now (λ bits. self.new ≡ bits) }
     {
         combine_words(&mut self.data, other.limbs(), mask);
         cut(&mut self.data, self.len);
@@ -208,7 +215,8 @@ impl<A: Allocator + Copy> BitVec<A> {
         mask: F,
     ) -> Result<MaskedBitVec<'a, 'b, F, A>, LengthMismatch>
         requires { OnEveryPair (F.pre mask) }
-        ensures { MatchResult result (λ m. (length self.now ≡ length other.now) × (m.left ≡ self.now) × (m.right ≡ other.now) × (m.mask ≡ mask)) (λ _. length self.now ≢ length other.now) }
+        ensures { OfOneLength result self.now other.now
+            (λ m. (m.left ≡ self.now) × (m.right ≡ other.now) × (m.mask ≡ mask)) }
     {
         if self.len() != other.len() {
             return Err(LengthMismatch);
@@ -256,7 +264,7 @@ impl<'s, 'b, A: Allocator + Copy> Model for BitMask<'s, 'b, A> {
 
     ghost Value = { List Bool };
 
-    ghost use Rattle.vers_bits.specs.Kinds.{limb_op};
+    ghost use Rattle.vers_bits.specs.inside.Kinds.{limb_op};
 
     ghost view = { λ m. masked (limb_op m.kind) m.left.now m.right.now };
 
@@ -415,7 +423,8 @@ impl<A: Allocator + Copy> BitVec<A> {
         other: &'b BitVec<A>,
         kind: MaskKind,
     ) -> Result<BitMask<'s, 'b, A>, LengthMismatch>
-        ensures masked { MatchResult result (λ m. (length self.now ≡ length other.now) × (m ≡ masked (limb_op kind) self.now other.now)) (λ _. length self.now ≢ length other.now) }
+        ensures masked { OfOneLength result self.now other.now
+            (λ m. m ≡ masked (limb_op kind) self.now other.now) }
         ensures long { IfOk result (λ m. length m ≡ length self.now) }
     {
         if self.len() != other.len() {
@@ -434,7 +443,8 @@ impl<A: Allocator + Copy> BitVec<A> {
         &'s self,
         other: &'b BitVec<A>,
     ) -> Result<BitMask<'s, 'b, A>, LengthMismatch>
-        ensures masked { MatchResult result (λ m. (length self.now ≡ length other.now) × (m ≡ zip_bits (λ x y. x || y) self.now other.now)) (λ _. length self.now ≢ length other.now) }
+        ensures masked { OfOneLength result self.now other.now
+            (λ m. m ≡ zip_bits (λ x y. x || y) self.now other.now) }
         ensures long { IfOk result (λ m. length m ≡ length self.now) }
     {
         self.mask_by(other, MaskKind::Or)
@@ -446,7 +456,8 @@ impl<A: Allocator + Copy> BitVec<A> {
         &'s self,
         other: &'b BitVec<A>,
     ) -> Result<BitMask<'s, 'b, A>, LengthMismatch>
-        ensures masked { MatchResult result (λ m. (length self.now ≡ length other.now) × (m ≡ zip_bits (λ x y. x && y) self.now other.now)) (λ _. length self.now ≢ length other.now) }
+        ensures masked { OfOneLength result self.now other.now
+            (λ m. m ≡ zip_bits (λ x y. x && y) self.now other.now) }
         ensures long { IfOk result (λ m. length m ≡ length self.now) }
     {
         self.mask_by(other, MaskKind::And)
@@ -458,7 +469,7 @@ impl<A: Allocator + Copy> BitVec<A> {
         &'s self,
         other: &'b BitVec<A>,
     ) -> Result<BitMask<'s, 'b, A>, LengthMismatch>
-        ensures masked { MatchResult result (λ m. (length self.now ≡ length other.now) × (m ≡ zip_bits xor self.now other.now)) (λ _. length self.now ≢ length other.now) }
+        ensures masked { OfOneLength result self.now other.now (λ m. m ≡ zip_bits xor self.now other.now) }
         ensures long { IfOk result (λ m. length m ≡ length self.now) }
     {
         self.mask_by(other, MaskKind::Xor)
@@ -472,7 +483,8 @@ impl<A: Allocator + Copy> BitVec<A> {
         mask: &F,
     ) -> Result<(), LengthMismatch>
         requires { OnEveryPair (F.pre mask.now) }
-        ensures { MatchResult result (λ _. (length self.old ≡ length other.now) × ((g : ℕ → ℕ → ℕ) → AnswersAs (F.post mask.now) g → self.new ≡ masked g self.old other.now)) (λ _. (length self.old ≢ length other.now) × (self.new ≡ self.old)) }
+        ensures { Applied result self.old self.new other.now
+            (OfBoth (F.post mask.now) self.old other.now (λ bits. self.new ≡ bits)) }
     {
         if self.len() != other.len() {
             return Err(LengthMismatch);
@@ -485,7 +497,8 @@ impl<A: Allocator + Copy> BitVec<A> {
     /// differ, and the list is as it was.
     #[tactic(auto, using(crate::proofs::Zips::zips))]
     pub fn apply_mask_or(&mut self, other: &BitVec<A>) -> Result<(), LengthMismatch>
-        ensures { MatchResult result (λ _. (length self.old ≡ length other.now) × (self.new ≡ zip_bits (λ x y. x || y) self.old other.now)) (λ _. (length self.old ≢ length other.now) × (self.new ≡ self.old)) }
+        ensures { Applied result self.old self.new other.now
+            (self.new ≡ zip_bits (λ x y. x || y) self.old other.now) }
     {
         self.apply(other, &|x: u64, y: u64| x | y)
     }
@@ -494,7 +507,8 @@ impl<A: Allocator + Copy> BitVec<A> {
     /// differ, and the list is as it was.
     #[tactic(auto, using(crate::proofs::Zips::zips))]
     pub fn apply_mask_and(&mut self, other: &BitVec<A>) -> Result<(), LengthMismatch>
-        ensures { MatchResult result (λ _. (length self.old ≡ length other.now) × (self.new ≡ zip_bits (λ x y. x && y) self.old other.now)) (λ _. (length self.old ≢ length other.now) × (self.new ≡ self.old)) }
+        ensures { Applied result self.old self.new other.now
+            (self.new ≡ zip_bits (λ x y. x && y) self.old other.now) }
     {
         self.apply(other, &|x: u64, y: u64| x & y)
     }
@@ -503,7 +517,7 @@ impl<A: Allocator + Copy> BitVec<A> {
     /// differ, and the list is as it was.
     #[tactic(auto, using(crate::proofs::Zips::zips))]
     pub fn apply_mask_xor(&mut self, other: &BitVec<A>) -> Result<(), LengthMismatch>
-        ensures { MatchResult result (λ _. (length self.old ≡ length other.now) × (self.new ≡ zip_bits xor self.old other.now)) (λ _. (length self.old ≢ length other.now) × (self.new ≡ self.old)) }
+        ensures { Applied result self.old self.new other.now (self.new ≡ zip_bits xor self.old other.now) }
     {
         self.apply(other, &|x: u64, y: u64| x ^ y)
     }
@@ -516,7 +530,8 @@ impl<A: Allocator + Copy> BitVec<A> {
         mask: fn(u64, u64) -> u64,
     ) -> Result<(), LengthMismatch>
         requires { OnEveryPair (pre mask) }
-        ensures { MatchResult result (λ _. (length self.old ≡ length other.now) × ((g : ℕ → ℕ → ℕ) → AnswersAs (post mask) g → self.new ≡ masked g self.old other.now)) (λ _. (length self.old ≢ length other.now) × (self.new ≡ self.old)) }
+        ensures { Applied result self.old self.new other.now
+            (OfBoth (post mask) self.old other.now (λ bits. self.new ≡ bits)) }
     {
         self.apply(other, &mask)
     }
@@ -530,7 +545,9 @@ fn combine_words<F: Fn(u64, u64) -> u64, A: Allocator + Copy>(
 )
     requires same { length words.old.items ≡ length others.now }
     requires may_call { OnEveryPair (F.pre mask.now) }
-    ensures value { (g : ℕ → ℕ → ℕ) → AnswersAs (F.post mask.now) g → (k : ℕ) → k < length words.old.items → slice_index words.new.items k ≡ g (slice_index words.old.items k) (slice_index others.now k) }
+    ensures value { (g : ℕ → ℕ → ℕ) → AnswersAs (F.post mask.now) g → (k : ℕ) → k < length words.old.items
+        → slice_index words.new.items k
+        ≡ g (slice_index words.old.items k) (slice_index others.now k) }
     ensures long { length words.new.items ≡ length words.old.items }
     ensures fit { (k : ℕ) → slice_index words.old.items k < 2 ^ 64 }
 {

@@ -1,7 +1,7 @@
 //! Edits of the words that hold a list of bits.
 ghost use Rattle.std.specs.Prelude.{◌≡◌, ◌+◌, ◌*◌, ◌/◌, ◌%◌, ◌^◌, ◌<◌, ◌≤◌, [], ◌∷◌, ◌++◌, length, take, slice_index, slice_set, bit_or, IsOk, OnOk, OnErr, ◌↔◌, not, Bool, true, false, replicate};
 ghost use Rattle.vers_bits.specs.Bits.{low_bits, limb_count};
-ghost use Rattle.vers_bits.specs.Words.{word_bit, word_bits, HoldsBits, Holds, AddsBit, CutsTo, Puts};
+ghost use Rattle.vers_bits.specs.inside.Words.{word_bit, word_bits, HoldsBits, Holds, AddsBit, CutsTo, Puts};
 
 use crate::bit_vec::{GrowError, MAX_LEN};
 use std::alloc::{AllocError, Allocator};
@@ -66,7 +66,8 @@ pub(super) fn add_bits<A: Allocator + Copy>(
     requires few { n ≤ 64 }
     requires small { bits < 2 ^ n }
     requires short { len + n ≤ MAX_LEN }
-    ensures grown { OnOk result (Holds words.new.items (len + n) (word_bits words.old.items len ++ low_bits bits n)) }
+    ensures grown { OnOk result
+        (Holds words.new.items (len + n) (word_bits words.old.items len ++ low_bits bits n)) }
     ensures kept { OnErr result (words.new.items ≡ words.old.items) }
     ensures room { 0 < len % 64 → len % 64 + n ≤ 64 → IsOk result }
 {
@@ -91,7 +92,8 @@ pub(super) fn add_zeros<A: Allocator + Copy>(
 ) -> Result<(), AllocError>
     requires held { HoldsBits words.old.items len }
     requires short { len + n ≤ MAX_LEN }
-    ensures grown { OnOk result (Holds words.new.items (len + n) (word_bits words.old.items len ++ replicate n false)) }
+    ensures grown { OnOk result
+        (Holds words.new.items (len + n) (word_bits words.old.items len ++ replicate n false)) }
     ensures kept { OnErr result (words.new.items ≡ words.old.items) }
 {
     words.resize((len + n).div_ceil(64), 0)?;

@@ -1,12 +1,15 @@
 //! The iterators that scan chunks of 16 bits for zeros or ones.
 ghost use Rattle.std.specs.Prelude.{◌≡◌, ◌+◌, ◌-◌, ◌<◌, ◌≤◌, true, false, length};
 ghost use Rattle.std.specs.Iterator.{item_count, YieldsFirst};
-ghost use Rattle.vers_bits.specs.Bits.{places};
+ghost use Rattle.vers_bits.specs.Bits.{number, part, places};
 ghost use Rattle.vers_bits.specs.Walk.{TakesFirst};
-ghost use Rattle.vers_tally.specs.Reads.{AddsAtMost};
-ghost use Rattle.vers_rank.specs.Walks.{chunk_count, chunk_reads, chunk_places_left, chunks_unread, IsChunkWalkOf};
+ghost use Rattle.vers_tally.specs.Reads.{one_more, AddsAtMost};
+ghost use Rattle.vers_rank.specs.Queries.{get_bits_reads};
+ghost use Rattle.vers_rank.specs.Walks.{chunk_count, chunk_reads};
+ghost use Rattle.vers_rank.specs.inside.Walks.{chunk_places_left, chunks_unread, IsChunkWalkOf};
 
 use super::RsVec;
+use super::reader::marks;
 use std::alloc::Allocator;
 use std::marker::Model;
 use vers_tally::tally::Tally;
@@ -14,8 +17,8 @@ use vers_tally::tally::Tally;
 /// How many bits are loaded at a time.
 const CHUNK: usize = 16;
 
-// The chunk that was loaded last: its bits from `place` up to `end` are still to be scanned, the
-// one at `place` is the lowest of `chunk`.
+// The chunk that was loaded last: its places from `place` up to `end` that hold the bit are the ones
+// of `chunk`, of which the lowest bit stands for `place`.
 #[derive(Clone, Copy, Drop)]
 struct ChunkWalk {
     bit: bool,
@@ -25,7 +28,7 @@ struct ChunkWalk {
 }
 
 impl ChunkWalk {
-    // Scans for the next place of the bit, and loads chunks on the way.
+    // The next place of the bit, by the lowest one of the chunk. Loads chunks on the way.
     fn next_counted<A: Allocator + Copy>(
         &mut self,
         bits: &RsVec<A>,
@@ -40,19 +43,19 @@ impl ChunkWalk {
         let len = bits.len();
         while self.place < len {
             self.load(bits, tally);
-            let place = self.place;
-            let is_one = self.chunk % 2 == 1;
-            self.chunk /= 2;
-            self.place = place + 1;
-            if is_one == self.bit {
+            if self.chunk != 0 {
+                let lowest = self.chunk.trailing_zeros() as usize;
+                let place = self.place + lowest;
+                self.chunk = self.chunk >> lowest >> 1;
+                self.place = place + 1;
                 return Some(place);
             }
+            self.place = self.end;
         }
         None
     }
 
-    // Loads the next chunk where the last one is scanned.
-    #[tactic(auto, using(crate::proofs::Parts::parts))]
+    // Loads the next chunk where all places of the last one were passed.
     fn load<A: Allocator + Copy>(&mut self, bits: &RsVec<A>, tally: &mut Tally)
         requires walk { IsChunkWalkOf bits.now self.old }
         requires more { self.old.place < length bits.now }
@@ -68,9 +71,23 @@ impl ChunkWalk {
         }
         tally.add_chunk();
         let n = CHUNK.min(bits.len() - self.end);
-        self.chunk = bits.get_bits_counted(self.end, n, tally).unwrap();
+        let chunk = bits_at(bits, self.end, n, tally);
+        let held = marks(self.bit, chunk) & ((1 << n) - 1);
+        self.chunk = held;
         self.end += n;
     }
+}
+
+// The number of `n` bits of the list from `place` on.
+#[tactic(auto, using(crate::proofs::Parts::parts))]
+fn bits_at<A: Allocator + Copy>(bits: &RsVec<A>, place: usize, n: usize, tally: &mut Tally) -> u64
+    requires few { n ≤ 64 }
+    requires within { place + n ≤ length bits.now }
+    ensures value { result ≡ number (part bits.now place n) }
+    ensures counted { tally.new.rank_calls ≡ one_more tally.old.rank_calls }
+    ensures adds { AddsAtMost tally.old tally.new get_bits_reads }
+{
+    bits.get_bits_counted(place, n, tally).unwrap()
 }
 
 // The places of one kind of bit that are still to come, found by chunks.
@@ -81,7 +98,8 @@ struct Chunks<'a, A: Allocator + Copy> {
 }
 
 impl<'a, A: Allocator + Copy> Model for Chunks<'a, A> {
-    ghost use Rattle.vers_rank.specs.Walks.{ChunksOf, chunk_places_left, chunks_unread, IsChunkWalkOf};
+    ghost use Rattle.vers_rank.specs.Walks.{ChunksOf};
+    ghost use Rattle.vers_rank.specs.inside.Walks.{chunk_places_left, chunks_unread, IsChunkWalkOf};
 
     ghost Value = { ChunksOf };
 

@@ -1,9 +1,9 @@
 //! Equality of indexed lists.
 ghost use Rattle.std.specs.Prelude.{◌≡◌, ◌↔◌, IsTrue, length};
-ghost use Rattle.vers_bits.specs.Bits.{count, select};
 ghost use Rattle.vers_bits.specs.Equality.{same_bits, same_bits_per, same_bits_equiv};
 
 use super::RsVec;
+use super::reader::Reader;
 use std::alloc::Allocator;
 use vers_tally::tally::Tally;
 
@@ -25,7 +25,7 @@ impl<A: Allocator + Copy> RsVec<A> {
         self == other
     }
 
-    // Whether both lists have one length and the same places of a bit.
+    // Whether both lists have one length and the same places of a bit, by a walk over each.
     #[tactic(auto, using(crate::proofs::Equal::equality))]
     fn has_places_of(&self, bit: bool, other: &Self) -> bool
         ensures { IsTrue result ↔ (self.now ≡ other.now) }
@@ -36,20 +36,16 @@ impl<A: Allocator + Copy> RsVec<A> {
         if self.total(bit) != other.total(bit) {
             return false;
         }
+        let mut tally = Tally::new();
+        let mut here = Reader::new();
+        let mut there = Reader::new();
         for r in 0..self.total(bit) {
-            if self.place_of_number(bit, r) != other.place_of_number(bit, r) {
+            let place = here.place(bit, r, self, &mut tally);
+            if place != there.place(bit, r, other, &mut tally) {
                 return false;
             }
         }
         true
-    }
-
-    // The place of number `r` of the zeros or the ones, or the length.
-    fn place_of_number(&self, bit: bool, r: usize) -> usize
-        ensures { result ≡ select bit self.now r }
-    {
-        let mut tally = Tally::new();
-        self.select_counted(bit, r, &mut tally)
     }
 }
 

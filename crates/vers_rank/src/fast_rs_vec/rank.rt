@@ -70,7 +70,7 @@ impl<A: Allocator + Copy> RsVec<A> {
     // The zeros before a block.
     #[inline(always)]
     #[tactic(auto, using(crate::proofs::Ranks::entries))]
-    fn zeros_before(&self, block: usize, tally: &mut Tally) -> usize
+    pub(super) fn zeros_before(&self, block: usize, tally: &mut Tally) -> usize
         requires { 512 * block < length self.now }
         ensures value { result ≡ count false self.now (512 * block) }
         ensures adds { AddsAtMost tally.old tally.new (record no_reads { block_entries = 1; superblock_entries = 1 }) }
@@ -78,9 +78,10 @@ impl<A: Allocator + Copy> RsVec<A> {
         self.blocks.read(block, tally) as usize + self.superblocks.read(block / 16, tally) as usize
     }
 
-    // The ones from the start of a block up to a place in it. A block of 8 limbs is counted with no
-    // branch on the place, which would be guessed wrong: limbs past it are read, and left out of the
-    // sum.
+    // The ones from the start of a block up to a place in it. A block of 8 limbs is counted by halves,
+    // with no branch on the place, which would be guessed wrong: its first 4 limbs, the first 2 of the
+    // place's half and the first of the place's quarter are read, and left out of the sum where the
+    // place does not lie past them.
     #[inline(always)]
     fn ones_in_block(&self, block: usize, place: usize, tally: &mut Tally) -> usize
         requires within { (512 * block ≤ place) × (place < 512 * block + 512) × (place < length self.now) }
@@ -90,13 +91,10 @@ impl<A: Allocator + Copy> RsVec<A> {
         if self.len() - BLOCK * block < BLOCK {
             return self.ones_limb_by_limb(block, place, tally);
         }
-        let from = 8 * block;
-        let whole = place / 64 - from;
-        let mut ones = 0;
-        for k in 0..7 {
-            ones += self.ones_of_whole_limb(from, k, whole, tally);
-        }
-        ones + self.ones_of_part(place, tally)
+        let halves = self.ones_before_half(block, place, tally);
+        let quarters = self.ones_before_quarter(place, tally);
+        let limbs = self.ones_before_limb(place, tally);
+        halves + quarters + limbs + self.ones_of_part(place, tally)
     }
 
     // The same in the last block, which may have fewer limbs: none past the place is read.
@@ -113,6 +111,72 @@ impl<A: Allocator + Copy> RsVec<A> {
             ones += self.ones_of_whole_limb(from, k, whole, tally);
         }
         ones + self.ones_of_part(place, tally)
+    }
+
+    // The ones from the start of a whole block up to a place's half of it.
+    #[inline(always)]
+    #[tactic(auto, using(crate::proofs::Ranks::parts))]
+    fn ones_before_half(&self, block: usize, place: usize, tally: &mut Tally) -> usize
+        requires within { (512 * block ≤ place) × (place < 512 * block + 512) × (512 * block + 512 ≤ length self.now) }
+        ensures value { count true self.now (512 * block) + result ≡ count true self.now (256 * (place / 256)) }
+        ensures few { result ≤ 256 }
+        ensures adds { AddsAtMost tally.old tally.new (only_data_words 4) }
+    {
+        let from = 8 * block;
+        let middle = from + 2;
+        let first = self.ones_of_pair(from, tally) + self.ones_of_pair(middle, tally);
+        if place / 256 % 2 == 1 { first } else { 0 }
+    }
+
+    // The ones from the start of a place's half of a block up to its quarter.
+    #[inline(always)]
+    #[tactic(auto, using(crate::proofs::Ranks::parts))]
+    fn ones_before_quarter(&self, place: usize, tally: &mut Tally) -> usize
+        requires within { 256 * (place / 256) + 256 ≤ length self.now }
+        ensures value { count true self.now (256 * (place / 256)) + result ≡ count true self.now (128 * (place / 128)) }
+        ensures few { result ≤ 128 }
+        ensures adds { AddsAtMost tally.old tally.new (only_data_words 2) }
+    {
+        let first = self.ones_of_pair(place / 256 * 4, tally);
+        if place / 128 % 2 == 1 { first } else { 0 }
+    }
+
+    // The ones from the start of a place's quarter of a block up to its limb.
+    #[inline(always)]
+    #[tactic(auto, using(crate::proofs::Ranks::parts))]
+    fn ones_before_limb(&self, place: usize, tally: &mut Tally) -> usize
+        requires within { 128 * (place / 128) + 128 ≤ length self.now }
+        ensures value { count true self.now (128 * (place / 128)) + result ≡ count true self.now (64 * (place / 64)) }
+        ensures few { result ≤ 64 }
+        ensures adds { AddsAtMost tally.old tally.new (only_data_words 1) }
+    {
+        let first = self.ones_of_limb(place / 128 * 2, tally);
+        if place / 64 % 2 == 1 { first } else { 0 }
+    }
+
+    // The ones of two limbs.
+    #[inline(always)]
+    #[tactic(auto, using(crate::proofs::Ranks::parts))]
+    fn ones_of_pair(&self, k: usize, tally: &mut Tally) -> usize
+        requires within { 64 * k + 64 < length self.now }
+        requires is_place { 64 * k < 18446744073709551616 }
+        ensures value { count true self.now (64 * k) + result ≡ count true self.now (64 * (k + 2)) }
+        ensures few { result ≤ 128 }
+        ensures adds { AddsAtMost tally.old tally.new (only_data_words 2) }
+    {
+        self.ones_of_limb(k, tally) + self.ones_of_limb(k + 1, tally)
+    }
+
+    // The ones of a limb.
+    #[inline(always)]
+    #[tactic(auto, using(crate::proofs::Ranks::limbs))]
+    fn ones_of_limb(&self, k: usize, tally: &mut Tally) -> usize
+        requires { 64 * k < length self.now }
+        ensures value { count true self.now (64 * k) + result ≡ count true self.now (64 * (k + 1)) }
+        ensures few { result ≤ 64 }
+        ensures adds { AddsAtMost tally.old tally.new (only_data_words 1) }
+    {
+        self.bits.limb(k, tally).count_ones() as usize
     }
 
     // The ones of limb `k` from limb number `from` on, where it is one of the `whole` first, and 0

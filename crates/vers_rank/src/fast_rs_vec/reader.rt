@@ -1,28 +1,47 @@
 //! The limb that a walk over places is reading.
 ghost use Rattle.std.specs.Prelude.{◌≡◌, ◌+◌, ◌*◌, ◌<◌, ◌≤◌, length};
 ghost use Rattle.vers_bits.specs.Bits.{count, select};
-ghost use Rattle.vers_tally.specs.Reads.{AddsAtMost};
+ghost use Rattle.vers_tally.specs.Reads.{only_data_words, AddsAtMost};
 ghost use Rattle.vers_rank.specs.Queries.{superblock_count, select_reads};
-ghost use Rattle.vers_rank.specs.Walks.{IsReading, IsReadingBack, marked};
+ghost use Rattle.vers_rank.specs.inside.Walks.{IsReading, IsReadingBack, marked};
 
 use super::RsVec;
+use crate::word::place_in_word;
 use std::alloc::Allocator;
 use vers_tally::tally::Tally;
 
 /// How many bits a limb has.
 const LIMB: usize = 64;
 
-// The word of a limb in which the places from number `next` on are ones, or an empty word.
+// The word of a limb in which the places from number `next` on are ones, where the walk goes from
+// the front, and those below number `next`, where it goes from the back. The places from `next` up to
+// number `edge` stand in the limb's block, and from the back those from `edge` on. A reader that has
+// read nothing has no such numbers.
 #[derive(Clone, Copy, Drop)]
 pub(super) struct Reader {
     pub(super) word: u64,
     pub(super) limb: usize,
     pub(super) next: usize,
+    pub(super) edge: usize,
 }
 
 impl Reader {
-    // The place of number `r`, mostly from the word at hand, and else by a select.
-    #[inline]
+    // A reader that has read nothing.
+    #[inline(always)]
+    pub(super) fn new() -> Self
+        ensures { result ≡ record { word = 0; limb = 0; next = 0; edge = 0 } }
+    {
+        Reader {
+            word: 0,
+            limb: 0,
+            next: 0,
+            edge: 0,
+        }
+    }
+
+    // The place of number `r`: mostly from the word at hand, else from a word of the same block, and
+    // else by a select.
+    #[inline(always)]
     pub(super) fn place<A: Allocator + Copy>(
         &mut self,
         bit: bool,
@@ -45,7 +64,7 @@ impl Reader {
     }
 
     // Reads on at number `r`.
-    #[inline]
+    #[inline(always)]
     fn seek<A: Allocator + Copy>(&mut self, bit: bool, r: usize, bits: &RsVec<A>, tally: &mut Tally)
         requires reading { IsReading bit bits.now self.old }
         requires some { r < count bit bits.now (length bits.now) }
@@ -57,15 +76,74 @@ impl Reader {
         if self.word != 0 && self.next == r {
             return;
         }
+        if self.next <= r && r < self.edge {
+            self.seek_in_block(bit, r, bits, tally);
+        } else {
+            self.seek_anew(bit, r, bits, tally);
+        }
+    }
+
+    // Reads on at number `r` of the block at hand: limb by limb, by their ones, and then in a word.
+    #[inline(always)]
+    #[tactic(auto, using(crate::proofs::LimbByLimb::onward))]
+    fn seek_in_block<A: Allocator + Copy>(
+        &mut self,
+        bit: bool,
+        r: usize,
+        bits: &RsVec<A>,
+        tally: &mut Tally,
+    )
+        requires reading { IsReading bit bits.now self.old }
+        requires some { r < count bit bits.now (length bits.now) }
+        requires from { self.old.next ≤ r }
+        requires to { r < self.old.edge }
+        ensures reading { IsReading bit bits.now self.new }
+        ensures next { self.new.next ≡ r }
+        ensures some { 0 < self.new.word }
+        ensures adds { AddsAtMost tally.old tally.new (only_data_words 8) }
+    {
+        let _ = &bits.bits;
+        let mut ones = self.word.count_ones() as usize;
+        while ones <= r - self.next {
+            self.next += ones;
+            self.limb += 1;
+            let word = bits.bits.limb(self.limb, tally);
+            self.word = marks(bit, word);
+            ones = self.word.count_ones() as usize;
+        }
+        if self.next < r {
+            let place = place_in_word(self.word, true, r - self.next);
+            self.word &= u64::MAX << place;
+            self.next = r;
+        }
+    }
+
+    // Reads on at number `r` by a select, and by the entry of the block that comes next.
+    #[inline(always)]
+    fn seek_anew<A: Allocator + Copy>(
+        &mut self,
+        bit: bool,
+        r: usize,
+        bits: &RsVec<A>,
+        tally: &mut Tally,
+    )
+        requires some { r < count bit bits.now (length bits.now) }
+        ensures reading { IsReading bit bits.now self.new }
+        ensures next { self.new.next ≡ r }
+        ensures some { 0 < self.new.word }
+        ensures adds { AddsAtMost tally.old tally.new (select_reads (superblock_count (length bits.now))) }
+    {
         tally.add_rank_call();
         let at = bits.locate(bit, r, tally);
         self.word = marks(bit, at.word) & (u64::MAX << at.place);
         self.limb = at.limb;
         self.next = r;
+        let edge = bits.count_at_block(bit, at.limb / 8 + 1, tally);
+        self.edge = edge;
     }
 
     // The place of number `r`, in a walk from the back.
-    #[inline]
+    #[inline(always)]
     pub(super) fn place_back<A: Allocator + Copy>(
         &mut self,
         bit: bool,
@@ -88,7 +166,7 @@ impl Reader {
     }
 
     // Reads on at the last number below `end`.
-    #[inline]
+    #[inline(always)]
     fn seek_back<A: Allocator + Copy>(
         &mut self,
         bit: bool,
@@ -107,17 +185,76 @@ impl Reader {
         if self.word != 0 && self.next == end {
             return;
         }
+        if self.edge < end && end <= self.next {
+            self.seek_back_in_block(bit, end, bits, tally);
+        } else {
+            self.seek_back_anew(bit, end, bits, tally);
+        }
+    }
+
+    // Reads on at the last number below `end`, in the block at hand: limb by limb, by their ones, and
+    // then in a word.
+    #[inline(always)]
+    #[tactic(auto, using(crate::proofs::LimbByLimb::backward))]
+    fn seek_back_in_block<A: Allocator + Copy>(
+        &mut self,
+        bit: bool,
+        end: usize,
+        bits: &RsVec<A>,
+        tally: &mut Tally,
+    )
+        requires reading { IsReadingBack bit bits.now self.old }
+        requires from { self.old.edge < end }
+        requires to { end ≤ self.old.next }
+        ensures reading { IsReadingBack bit bits.now self.new }
+        ensures next { self.new.next ≡ end }
+        ensures some { 0 < self.new.word }
+        ensures adds { AddsAtMost tally.old tally.new (only_data_words 8) }
+    {
+        let mut ones = self.word.count_ones() as usize;
+        while ones <= self.next - end {
+            self.next -= ones;
+            self.limb -= 1;
+            let word = bits.bits.limb(self.limb, tally);
+            self.word = marks(bit, word);
+            ones = self.word.count_ones() as usize;
+        }
+        if end < self.next {
+            let place = place_in_word(self.word, true, ones - 1 - (self.next - end));
+            self.word &= u64::MAX >> (63 - place);
+            self.next = end;
+        }
+    }
+
+    // Reads on at the last number below `end` by a select, and by the entry of its block.
+    #[inline(always)]
+    fn seek_back_anew<A: Allocator + Copy>(
+        &mut self,
+        bit: bool,
+        end: usize,
+        bits: &RsVec<A>,
+        tally: &mut Tally,
+    )
+        requires some { 0 < end }
+        requires within { end ≤ count bit bits.now (length bits.now) }
+        ensures reading { IsReadingBack bit bits.now self.new }
+        ensures next { self.new.next ≡ end }
+        ensures some { 0 < self.new.word }
+        ensures adds { AddsAtMost tally.old tally.new (select_reads (superblock_count (length bits.now))) }
+    {
         tally.add_rank_call();
         let at = bits.locate(bit, end - 1, tally);
         self.word = marks(bit, at.word) & (u64::MAX >> (63 - at.place));
         self.limb = at.limb;
         self.next = end;
+        let edge = bits.count_at_block(bit, at.limb / 8, tally);
+        self.edge = edge;
     }
 }
 
 // The word in which the places that hold the bit are ones.
-#[inline]
-fn marks(bit: bool, word: u64) -> u64
+#[inline(always)]
+pub(super) fn marks(bit: bool, word: u64) -> u64
     ensures { result ≡ marked bit word }
 {
     if bit { word } else { !word }

@@ -3,7 +3,7 @@ ghost use Rattle.std.specs.Prelude.{◌≡◌, ℕ, ◌+◌, ◌-◌, ◌*◌, �
 ghost use Rattle.vers_bits.specs.Bits.{count, limb, select};
 ghost use Rattle.vers_tally.specs.Reads.{no_reads, one_more, only_block_entries, only_superblock_entries, only_data_words, digits, AddsAtMost};
 ghost use Rattle.vers_rank.specs.Queries.{superblock_count, select_reads};
-ghost use Rattle.vers_rank.specs.Index.{IsSample, IsLimbWith};
+ghost use Rattle.vers_rank.specs.inside.Index.{held, IsSample, IsLimbWith, IsAmongLimbs};
 
 use super::{BLOCK, RsVec, SUPERBLOCK};
 use crate::word::{held_in_word, place_in_word};
@@ -22,11 +22,64 @@ const FEW: usize = 4;
 /// How many superblocks from the one that is guessed a search looks at before it goes by halves.
 const STEPS: usize = 4;
 
+// A block of a superblock, and the number in it that a number of the superblock is.
+#[derive(Clone, Copy)]
+struct FoundBlock {
+    block: u16,
+    rest: u16,
+}
+
+// How many blocks of a superblock were passed, and how far the entry of the last of them lies below a
+// number.
+#[derive(Clone, Copy)]
+struct Passed {
+    blocks: u16,
+    rest: u16,
+}
+
+impl Passed {
+    // One block more where its entry does not pass number `r`: a choice of values, and no branch. An
+    // entry that passes `r` lies below it by more than any other, round the end of the numbers.
+    #[inline(always)]
+    fn and(self, entry: u16, r: u16) -> Passed
+        requires few { self.blocks < 16 }
+        requires rest { self.rest ≤ r }
+        ensures passed { entry ≤ r → (result.blocks ≡ self.blocks + 1) × (result.rest ≡ min self.rest (r - entry)) }
+        ensures kept { r < entry → (result.blocks ≡ self.blocks) × (result.rest ≡ self.rest) }
+    {
+        let more = if entry <= r { 1 } else { 0 };
+        Passed {
+            blocks: self.blocks + more,
+            rest: self.rest.min(r.wrapping_sub(entry)),
+        }
+    }
+}
+
 // A limb, and how many places of its block before it hold a bit.
 #[derive(Clone, Copy)]
-struct Found {
+struct FoundLimb {
     limb: usize,
     before: usize,
+}
+
+impl FoundLimb {
+    // `n` limbs further, where the `held` places of these don't pass number `r`: a choice of values,
+    // and no branch.
+    #[inline(always)]
+    fn passing(self, r: usize, n: usize, held: usize) -> FoundLimb
+        requires limbs { self.limb + n < 2 ^ 64 }
+        requires places { self.before + held < 2 ^ 64 }
+        ensures passed { self.before + held ≤ r → (result.limb ≡ self.limb + n) × (result.before ≡ self.before + held) }
+        ensures kept { r < self.before + held → (result.limb ≡ self.limb) × (result.before ≡ self.before) }
+    {
+        let limb = self.limb + n;
+        let before = self.before + held;
+        if before <= r {
+            FoundLimb { limb, before }
+        } else {
+            self
+        }
+    }
 }
 
 // Where a place stands: its limb with the word that the limb holds, and its place in the word.
@@ -120,14 +173,14 @@ impl<A: Allocator + Copy> RsVec<A> {
         ensures value { 64 * result.limb + result.place ≡ select bit self.now r }
         ensures within { (64 * result.limb < length self.now) × (result.place < 64) }
         ensures word { result.word ≡ limb self.now result.limb }
-        ensures adds { AddsAtMost tally.old tally.new (record no_reads { data_words = 8; block_entries = 17; superblock_entries = digits (superblock_count (length self.now)) + 12 }) }
+        ensures adds { AddsAtMost tally.old tally.new (record no_reads { data_words = 8; block_entries = 16; superblock_entries = digits (superblock_count (length self.now)) + 11 }) }
     {
         let _ = &self.bits;
         let s = self.superblock_with(bit, r, tally);
         let r_in_superblock = (r - self.count_at_superblock(bit, s, tally)) as u16;
-        let j = self.block_with(bit, r_in_superblock, s, tally);
-        let r_in_block = r_in_superblock - self.count_in_superblock(bit, s, j, tally);
-        self.place_in_block(bit, r_in_block as usize, BLOCKS * s + j as usize, tally)
+        let found = self.block_with(bit, r_in_superblock, s, tally);
+        let block = BLOCKS * s + found.block as usize;
+        self.place_in_block(bit, found.rest as usize, block, tally)
     }
 
     // How many places hold the bit.
@@ -161,6 +214,20 @@ impl<A: Allocator + Copy> RsVec<A> {
         let _ = &self.bits;
         let zeros = self.blocks.read(BLOCKS * s + j as usize, tally);
         if bit { BLOCK as u16 * j - zeros } else { zeros }
+    }
+
+    // How many places before a block hold the bit, or how many there are where the list ends before it.
+    #[inline(always)]
+    #[tactic(auto, using(crate::proofs::Ranks::sums))]
+    pub(super) fn count_at_block(&self, bit: bool, block: usize, tally: &mut Tally) -> usize
+        ensures value { result ≡ count bit self.now (512 * block) }
+        ensures adds { AddsAtMost tally.old tally.new (record no_reads { block_entries = 1; superblock_entries = 1 }) }
+    {
+        if block >= self.blocks.len() {
+            return self.total(bit);
+        }
+        let zeros = self.zeros_before(block, tally);
+        if bit { BLOCK * block - zeros } else { zeros }
     }
 
     // The superblock that sample number `j` names.
@@ -325,13 +392,14 @@ impl<A: Allocator + Copy> RsVec<A> {
     // The block of number `r` of a superblock.
     #[inline(always)]
     #[tactic(auto, using(crate::proofs::Selects::within_superblock))]
-    fn block_with(&self, bit: bool, r: u16, s: usize, tally: &mut Tally) -> u16
+    fn block_with(&self, bit: bool, r: u16, s: usize, tally: &mut Tally) -> FoundBlock
         requires within { 8192 * s < length self.now }
         requires to { count bit self.now (8192 * s) + r < count bit self.now (8192 * (s + 1)) }
-        ensures few { result < 16 }
-        ensures within { 512 * (16 * s + result) < length self.now }
-        ensures from { count bit self.now (512 * (16 * s + result)) ≤ count bit self.now (8192 * s) + r }
-        ensures to { count bit self.now (8192 * s) + r < count bit self.now (512 * (16 * s + result + 1)) }
+        ensures few { result.block < 16 }
+        ensures within { 512 * (16 * s + result.block) < length self.now }
+        ensures from { result.rest ≤ r }
+        ensures counted { count bit self.now (512 * (16 * s + result.block)) + result.rest ≡ count bit self.now (8192 * s) + r }
+        ensures to { count bit self.now (8192 * s) + r < count bit self.now (512 * (16 * s + result.block + 1)) }
         ensures adds { AddsAtMost tally.old tally.new (only_block_entries 16) }
     {
         let blocks = self.blocks.len() - BLOCKS * s;
@@ -342,24 +410,29 @@ impl<A: Allocator + Copy> RsVec<A> {
     }
 
     // The block of number `r` among the first `n` blocks of a superblock, or the last of them: by
-    // as many comparisons whatever the entries hold.
+    // as many comparisons whatever the entries hold. Of the entries that don't pass `r` that of the
+    // block lies least below it.
     #[inline(always)]
     #[tactic(auto, using(crate::proofs::Selects::block_search))]
-    fn block_among(&self, bit: bool, r: u16, s: usize, n: u16, tally: &mut Tally) -> u16
+    fn block_among(&self, bit: bool, r: u16, s: usize, n: u16, tally: &mut Tally) -> FoundBlock
         requires some { (0 < n) × (n ≤ 16) }
         requires within { 512 * (16 * s + n) < length self.now + 512 }
-        ensures few { result < n }
-        ensures from { count bit self.now (512 * (16 * s + result)) ≤ count bit self.now (8192 * s) + r }
-        ensures to { result + 1 < n → count bit self.now (8192 * s) + r < count bit self.now (512 * (16 * s + result + 1)) }
+        ensures few { result.block < n }
+        ensures from { result.rest ≤ r }
+        ensures counted { count bit self.now (512 * (16 * s + result.block)) + result.rest ≡ count bit self.now (8192 * s) + r }
+        ensures to { result.block + 1 < n → count bit self.now (8192 * s) + r < count bit self.now (512 * (16 * s + result.block + 1)) }
         ensures adds { AddsAtMost tally.old tally.new (only_block_entries n) }
     {
-        let mut passed: u16 = 0;
+        let mut passed = Passed { blocks: 0, rest: r };
         for j in 0..n {
-            if self.count_in_superblock(bit, s, j, tally) <= r {
-                passed += 1;
-            }
+            let entry = self.count_in_superblock(bit, s, j, tally);
+            let next = passed.and(entry, r);
+            passed = next;
         }
-        passed - 1
+        FoundBlock {
+            block: passed.blocks - 1,
+            rest: passed.rest,
+        }
     }
 
     // Where number `r` of a block stands.
@@ -385,22 +458,124 @@ impl<A: Allocator + Copy> RsVec<A> {
 
     // The limb of number `r` of a block.
     #[inline(always)]
-    fn limb_with(&self, bit: bool, r: usize, block: usize, tally: &mut Tally) -> Found
+    fn limb_with(&self, bit: bool, r: usize, block: usize, tally: &mut Tally) -> FoundLimb
         requires within { 512 * block < length self.now }
         ensures found { IsLimbWith bit self.now block r (min (8 * block + 7) ((length self.now - 1) / 64)) result.limb result.before }
         ensures adds { AddsAtMost tally.old tally.new (only_data_words 7) }
     {
         let last = (self.len() - 1) / LIMB;
         if last - 8 * block >= 7 {
-            return self.limb_up_to(bit, r, block, 8 * block + 7, tally);
+            return self.limb_by_halves(bit, r, block, tally);
         }
         self.limb_up_to(bit, r, block, last, tally)
+    }
+
+    // The limb of number `r` among the 8 of a block, or the last of them: by halves, with no branch
+    // on what they hold, which would be guessed wrong.
+    #[inline(always)]
+    fn limb_by_halves(&self, bit: bool, r: usize, block: usize, tally: &mut Tally) -> FoundLimb
+        requires within { 512 * block + 448 < length self.now }
+        ensures found { IsLimbWith bit self.now block r (8 * block + 7) result.limb result.before }
+        ensures adds { AddsAtMost tally.old tally.new (only_data_words 7) }
+    {
+        let half = self.half_with(bit, r, block, tally);
+        let quarter = self.quarter_with(bit, r, block, half, tally);
+        self.limb_of_two(bit, r, block, quarter, tally)
+    }
+
+    // The half of number `r` of a block.
+    #[inline(always)]
+    #[tactic(auto, using(crate::proofs::Selects::halves_of_block))]
+    fn half_with(&self, bit: bool, r: usize, block: usize, tally: &mut Tally) -> FoundLimb
+        requires within { 512 * block + 448 < length self.now }
+        ensures found { IsAmongLimbs bit self.now block r 4 result.limb result.before }
+        ensures adds { AddsAtMost tally.old tally.new (only_data_words 4) }
+    {
+        let _ = self.len();
+        let limb = 8 * block;
+        let middle = limb + 2;
+        let held = self.held_in_two(bit, limb, tally) + self.held_in_two(bit, middle, tally);
+        FoundLimb { limb, before: 0 }.passing(r, 4, held)
+    }
+
+    // The quarter of number `r` of a block, in the half that has it.
+    #[inline(always)]
+    #[tactic(auto, using(crate::proofs::Selects::halves_of_block))]
+    fn quarter_with(
+        &self,
+        bit: bool,
+        r: usize,
+        block: usize,
+        half: FoundLimb,
+        tally: &mut Tally,
+    ) -> FoundLimb
+        requires within { 512 * block + 448 < length self.now }
+        requires half { IsAmongLimbs bit self.now block r 4 half.limb half.before }
+        ensures found { IsAmongLimbs bit self.now block r 2 result.limb result.before }
+        ensures adds { AddsAtMost tally.old tally.new (only_data_words 2) }
+    {
+        let _ = self.len();
+        let held = self.held_in_two(bit, half.limb, tally);
+        half.passing(r, 2, held)
+    }
+
+    // The limb of number `r` of a block, in the quarter that has it.
+    #[inline(always)]
+    #[tactic(auto, using(crate::proofs::Selects::halves_of_block))]
+    fn limb_of_two(
+        &self,
+        bit: bool,
+        r: usize,
+        block: usize,
+        quarter: FoundLimb,
+        tally: &mut Tally,
+    ) -> FoundLimb
+        requires within { 512 * block + 448 < length self.now }
+        requires quarter { IsAmongLimbs bit self.now block r 2 quarter.limb quarter.before }
+        ensures found { IsLimbWith bit self.now block r (8 * block + 7) result.limb result.before }
+        ensures adds { AddsAtMost tally.old tally.new (only_data_words 1) }
+    {
+        let _ = self.len();
+        let held = self.held_in_limb(bit, quarter.limb, tally);
+        quarter.passing(r, 1, held)
+    }
+
+    // How many places of two limbs hold the bit.
+    #[inline(always)]
+    #[tactic(auto, using(crate::proofs::Selects::limb_search))]
+    fn held_in_two(&self, bit: bool, k: usize, tally: &mut Tally) -> usize
+        requires within { 64 * k + 64 < length self.now }
+        ensures value { held bit self.now (64 * k) + result ≡ held bit self.now (64 * (k + 2)) }
+        ensures few { result ≤ 128 }
+        ensures adds { AddsAtMost tally.old tally.new (only_data_words 2) }
+    {
+        let _ = self.len();
+        self.held_in_limb(bit, k, tally) + self.held_in_limb(bit, k + 1, tally)
+    }
+
+    // How many places of a limb hold the bit.
+    #[inline(always)]
+    #[tactic(auto, using(crate::proofs::Selects::limb_search))]
+    fn held_in_limb(&self, bit: bool, k: usize, tally: &mut Tally) -> usize
+        requires within { 64 * k < length self.now }
+        ensures value { held bit self.now (64 * k) + result ≡ held bit self.now (64 * (k + 1)) }
+        ensures few { result ≤ 64 }
+        ensures adds { AddsAtMost tally.old tally.new (only_data_words 1) }
+    {
+        held_in_word(self.bits.limb(k, tally), bit)
     }
 
     // The limb of number `r` among those of a block up to the one before `last`, or `last` itself.
     #[inline(always)]
     #[tactic(auto, using(crate::proofs::Selects::limb_search))]
-    fn limb_up_to(&self, bit: bool, r: usize, block: usize, last: usize, tally: &mut Tally) -> Found
+    fn limb_up_to(
+        &self,
+        bit: bool,
+        r: usize,
+        block: usize,
+        last: usize,
+        tally: &mut Tally,
+    ) -> FoundLimb
         requires order { (8 * block ≤ last) × (last ≤ 8 * block + 7) }
         requires within { 64 * last < length self.now }
         ensures found { IsLimbWith bit self.now block r last result.limb result.before }
@@ -416,6 +591,6 @@ impl<A: Allocator + Copy> RsVec<A> {
                 before = seen;
             }
         }
-        Found { limb, before }
+        FoundLimb { limb, before }
     }
 }

@@ -27,7 +27,7 @@ pub struct Places<K, L: Indexed> {
 }
 
 impl<K, L: Indexed> Model for Places<K, L> {
-    ghost use Rattle.vers_rank.specs.Walks.{PlacesOf, IsReading, IsReadingBack};
+    ghost use Rattle.vers_rank.specs.inside.Walks.{PlacesOf, IsReading, IsReadingBack};
 
     ghost Value = { PlacesOf };
 
@@ -41,11 +41,7 @@ impl<K, L: Indexed> Places<K, L> {
     fn new(list: L, bit: bool) -> Self
         ensures { result ≡ record { bits = L.bits list; bit = bit } }
     {
-        let nothing = Reader {
-            word: 0,
-            limb: 0,
-            next: 0,
-        };
+        let nothing = Reader::new();
         Places {
             list,
             bit,
@@ -70,12 +66,12 @@ impl<K, L: Indexed> Source for Places<K, L> {
         if self.bit { list.ones() } else { list.zeros() }
     }
 
-    #[inline]
+    #[inline(always)]
     fn item_at(&mut self, i: usize, tally: &mut Tally) -> usize {
         self.front.place(self.bit, i, self.list.list(), tally)
     }
 
-    #[inline]
+    #[inline(always)]
     fn item_at_back(&mut self, i: usize, tally: &mut Tally) -> usize {
         self.back.place_back(self.bit, i, self.list.list(), tally)
     }

@@ -3,7 +3,7 @@ ghost use Rattle.std.specs.Prelude.{◌≡◌, ◌+◌, ◌-◌, ◌^◌, ◌<�
 ghost use Rattle.std.specs.Iterator.{Drains, IsFinite};
 ghost use Rattle.vers_tally.specs.Reads.{only_items, AddsAtMost};
 ghost use Rattle.vers_rmq.specs.Minima.{IsFirstLeast};
-ghost use Rattle.vers_rmq.specs.Candidates.{IsLeastItem};
+ghost use Rattle.vers_rmq.specs.inside.Candidates.{IsLeastItem};
 ghost use Rattle.vers_rmq.specs.Layout.{binary_heap_size};
 ghost use Rattle.vers_rmq.specs.Ranges.{start_place, end_place, IsRangeOf};
 ghost use Rattle.vers_rmq.specs.Makers.{Refused};
@@ -37,7 +37,7 @@ pub struct BinaryRmq<A: Allocator + Copy> {
 
 impl<A: Allocator + Copy> Model for BinaryRmq<A> {
     ghost use Rattle.std.specs.Prelude.{List, ℕ};
-    ghost use Rattle.vers_rmq.specs.Tables.{IsTable};
+    ghost use Rattle.vers_rmq.specs.inside.Tables.{IsTable};
 
     ghost Value = { List ℕ };
 
@@ -183,7 +183,8 @@ impl<A: Allocator + Copy> BinaryRmq<A> {
         tally: &mut Tally,
     ) -> usize
         requires { IsRangeOf start end (length self.now) }
-        ensures value { IsFirstLeast self.now (start_place start (length self.now)) (end_place end (length self.now)) result }
+        ensures value { IsFirstLeast self.now
+            (start_place start (length self.now)) (end_place end (length self.now)) result }
         ensures adds { AddsAtMost tally.old tally.new (only_items 2) }
     {
         let n = self.len();
@@ -198,7 +199,8 @@ impl<A: Allocator + Copy> BinaryRmq<A> {
     #[inline]
     pub fn range_min_with_range(&self, start: Bound<usize>, end: Bound<usize>) -> usize
         requires { IsRangeOf start end (length self.now) }
-        ensures { IsFirstLeast self.now (start_place start (length self.now)) (end_place end (length self.now)) result }
+        ensures { IsFirstLeast self.now
+            (start_place start (length self.now)) (end_place end (length self.now)) result }
     {
         let mut tally = Tally::new();
         self.range_min_with_range_counted(start, end, &mut tally)

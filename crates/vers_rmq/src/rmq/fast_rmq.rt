@@ -3,7 +3,7 @@ ghost use Rattle.std.specs.Prelude.{◌≡◌, ◌+◌, ◌-◌, ◌*◌, ◌/�
 ghost use Rattle.std.specs.Iterator.{Drains, IsFinite};
 ghost use Rattle.vers_tally.specs.Reads.{only_items, AddsAtMost};
 ghost use Rattle.vers_rmq.specs.Minima.{IsFirstLeast};
-ghost use Rattle.vers_rmq.specs.Candidates.{IsLeastItem};
+ghost use Rattle.vers_rmq.specs.inside.Candidates.{IsLeastItem};
 ghost use Rattle.vers_rmq.specs.Layout.{fast_heap_size};
 ghost use Rattle.vers_rmq.specs.Ranges.{start_place, end_place, IsRangeOf};
 ghost use Rattle.vers_rmq.specs.Makers.{Refused};
@@ -48,7 +48,7 @@ pub struct FastRmq<A: Allocator + Copy> {
 
 impl<A: Allocator + Copy> Model for FastRmq<A> {
     ghost use Rattle.std.specs.Prelude.{List, ℕ};
-    ghost use Rattle.vers_rmq.specs.Blocks.{AreAllBlocks};
+    ghost use Rattle.vers_rmq.specs.inside.Blocks.{AreAllBlocks};
 
     ghost Value = { List ℕ };
 
@@ -133,6 +133,12 @@ impl<A: Allocator + Copy> FastRmq<A> {
         ensures { result.now ≡ self.now }
     {
         self.items.as_slice()
+    }
+
+    /// A copy of the allocator.
+    #[inline]
+    pub fn allocator(&self) -> A {
+        *self.places.allocator()
     }
 
     /// The bytes that the items and what is kept of the blocks take.
@@ -319,7 +325,8 @@ impl<A: Allocator + Copy> FastRmq<A> {
         tally: &mut Tally,
     ) -> usize
         requires { IsRangeOf start end (length self.now) }
-        ensures value { IsFirstLeast self.now (start_place start (length self.now)) (end_place end (length self.now)) result }
+        ensures value { IsFirstLeast self.now
+            (start_place start (length self.now)) (end_place end (length self.now)) result }
         ensures adds { AddsAtMost tally.old tally.new (only_items 18) }
     {
         let n = self.len();
@@ -334,7 +341,8 @@ impl<A: Allocator + Copy> FastRmq<A> {
     #[inline]
     pub fn range_min_with_range(&self, start: Bound<usize>, end: Bound<usize>) -> usize
         requires { IsRangeOf start end (length self.now) }
-        ensures { IsFirstLeast self.now (start_place start (length self.now)) (end_place end (length self.now)) result }
+        ensures { IsFirstLeast self.now
+            (start_place start (length self.now)) (end_place end (length self.now)) result }
     {
         let mut tally = Tally::new();
         self.range_min_with_range_counted(start, end, &mut tally)

@@ -2,7 +2,7 @@
 ghost use Rattle.std.specs.Prelude.{◌≡◌, ◌+◌, ◌-◌, ◌<◌, ◌≤◌, length, slice_index};
 ghost use Rattle.vers_tally.specs.Reads.{only_items, AddsAtMost};
 ghost use Rattle.vers_rmq.specs.Minima.{lesser};
-ghost use Rattle.vers_rmq.specs.Candidates.{IsLeastItem, lesser_candidate};
+ghost use Rattle.vers_rmq.specs.inside.Candidates.{IsLeastItem, lesser_candidate};
 
 use std::alloc::Allocator;
 use vers_tally::tally::{CountedItems, Tally};

@@ -1,9 +1,9 @@
 //! The bits of the high parts that a walk along the members has read before it is asked for them.
 ghost use Rattle.std.specs.Prelude.{◌≡◌, ◌+◌, ◌<◌, length, slice_index};
 ghost use Rattle.vers_tally.specs.Reads.{AddsAtMost};
-ghost use Rattle.vers_sorted.specs.Ahead.{IsAhead};
+ghost use Rattle.vers_sorted.specs.inside.Ahead.{IsAhead};
 ghost use Rattle.vers_sorted.specs.Layout.{high_length, high_place};
-ghost use Rattle.vers_sorted.specs.Parts.{reads};
+ghost use Rattle.vers_sorted.specs.inside.Parts.{reads};
 
 use super::EliasFanoVec;
 use std::alloc::Allocator;
@@ -42,7 +42,7 @@ impl<A: Allocator + Copy> EliasFanoVec<A> {
         ensures ahead { IsAhead self.now (i + 1) ahead.new }
         ensures adds { AddsAtMost tally.old tally.new (reads 0 2 (high_length self.now)) }
     {
-        let _ = self.high.len();
+        let bits = self.high.len();
         if ahead.word != 0 {
             let skip = ahead.word.trailing_zeros() as usize;
             ahead.word = (ahead.word >> skip) >> 1;
@@ -51,11 +51,12 @@ impl<A: Allocator + Copy> EliasFanoVec<A> {
             return ahead.place - 1;
         }
         let place = self.high.select1_counted(i, tally);
+        let len = (bits - place - 1).min(64);
         ahead.place = place + 1;
-        ahead.len = 64;
+        ahead.len = len;
         ahead.word = self
             .high
-            .get_bits_counted(place + 1, 64, tally)
+            .get_bits_counted(place + 1, len, tally)
             .unwrap_or(0);
         place
     }

@@ -54,7 +54,7 @@ pub struct Members<L: Sorted> {
 
 impl<L: Sorted> Model for Members<L> {
     ghost use Rattle.std.specs.Prelude.{List, ℕ};
-    ghost use Rattle.vers_sorted.specs.Ahead.{IsAhead};
+    ghost use Rattle.vers_sorted.specs.inside.Ahead.{IsAhead};
 
     ghost Value = { List ℕ };
 
@@ -90,7 +90,7 @@ impl<L: Sorted> Source for Members<L> {
         self.list.list().len()
     }
 
-    #[inline]
+    #[inline(always)]
     fn item_at(&mut self, i: usize, tally: &mut Tally) -> u64 {
         let list = self.list.list();
         let _ = list.len();
@@ -101,7 +101,7 @@ impl<L: Sorted> Source for Members<L> {
         list.member_ahead(i, &mut self.ahead, tally)
     }
 
-    #[inline]
+    #[inline(always)]
     fn item_at_back(&mut self, i: usize, tally: &mut Tally) -> u64 {
         self.list.list().member(i, tally)
     }

@@ -69,7 +69,7 @@ fn width_of(n: usize, u: u64) -> usize
 }
 
 // The least exponent of a power of two that is not below `n`.
-#[tactic(auto, using(crate::proofs::Widths::logs), unfolding(crate::specs::Layout::clog))]
+#[tactic(auto, using(crate::proofs::Widths::logs))]
 fn clog_of(n: u128) -> usize
     ensures { result ≡ clog n }
 {

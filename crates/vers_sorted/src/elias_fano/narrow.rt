@@ -1,8 +1,8 @@
 //! A guess at where a number stands among many members with one high part.
-ghost use Rattle.std.specs.Prelude.{◌≡◌, ◌≤◌};
+ghost use Rattle.std.specs.Prelude.{◌≡◌, ◌≤◌, slice_index};
 ghost use Rattle.vers_tally.specs.Reads.{only_low_parts, AddsAtMost};
 ghost use Rattle.vers_sorted.specs.Layout.{first_of, low_of};
-ghost use Rattle.vers_sorted.specs.Buckets.{IsBucket, IsBetween};
+ghost use Rattle.vers_sorted.specs.inside.Buckets.{IsBucket, IsBetween};
 
 use super::EliasFanoVec;
 use super::search::Bucket;
@@ -17,7 +17,7 @@ pub(super) struct Between {
 }
 
 // How many members with one high part are worth a guess.
-const MANY: usize = 256;
+pub(super) const MANY: usize = 256;
 
 // The place of a low part among `count` that rise evenly from `first` to `last`.
 #[inline(always)]
@@ -55,10 +55,12 @@ impl<A: Allocator + Copy> EliasFanoVec<A> {
         let last = bucket.end - 1 - count / 64;
         let from = self.low_part(start, tally);
         let to = self.low_part(last, tally);
+        let after = self.side_of(bucket, v, low, all, start, from);
+        let between = self.side_of(bucket, v, low, after, last, to);
         let near = start.saturating_add(guess(from, to, low, count - count / 32));
         let margin = count / MANY;
         let lower = near.saturating_sub(margin);
-        let after = self.probed(bucket, v, low, all, lower, tally);
+        let after = self.probed(bucket, v, low, between, lower, tally);
         self.probed(bucket, v, low, after, near.saturating_add(margin), tally)
     }
 
@@ -88,7 +90,37 @@ impl<A: Allocator + Copy> EliasFanoVec<A> {
         if i >= between.to {
             return between;
         }
-        if self.low_part(i, tally) < low {
+        let part = self.low_part(i, tally);
+        self.side_of(bucket, v, low, between, i, part)
+    }
+
+    // The same by the low part of the member at place `i`, which was read.
+    #[inline(always)]
+    #[tactic(auto, using(crate::proofs::Buckets::search_steps))]
+    fn side_of(
+        &self,
+        bucket: Bucket,
+        v: u64,
+        low: u64,
+        between: Between,
+        i: usize,
+        part: u64,
+    ) -> Between
+        requires above { first_of self.now ≤ v }
+        requires bucket { IsBucket self.now v bucket }
+        requires low { low ≡ low_of self.now v }
+        requires between { IsBetween self.now v bucket between }
+        requires part { part ≡ low_of self.now (slice_index self.now i) }
+        ensures { IsBetween self.now v bucket result }
+    {
+        let _ = &self.len;
+        if i < between.from {
+            return between;
+        }
+        if i >= between.to {
+            return between;
+        }
+        if part < low {
             return Between {
                 from: i + 1,
                 to: between.to,

@@ -2,7 +2,7 @@
 ghost use Rattle.std.specs.Prelude.{◌≡◌, ◌+◌, ◌<◌, true, false, length};
 ghost use Rattle.vers_bits.specs.Bits.{count, select};
 ghost use Rattle.vers_tally.specs.Reads.{AddsAtMost};
-ghost use Rattle.vers_sorted.specs.Parts.{reads};
+ghost use Rattle.vers_sorted.specs.inside.Parts.{reads};
 
 use std::alloc::Allocator;
 use vers_rank::fast_rs_vec::RsVec;

@@ -1,13 +1,15 @@
 //! What is asked of an ascending list.
-ghost use Rattle.std.specs.Prelude.{◌≡◌, ℕ, ◌+◌, ◌-◌, ◌*◌, ◌<◌, ◌≤◌, List, length, slice_index, slice_get};
+ghost use Rattle.std.specs.Prelude.{◌≡◌, ℕ, ◌+◌, ◌-◌, ◌*◌, ◌<◌, ◌≤◌, ◌==◌, List, length, slice_index, slice_get, IsTrue};
+ghost use Rattle.std.specs.List.{list_any};
 ghost use Rattle.std.specs.List.Sorted.{IsNonDecreasing};
 ghost use Rattle.vers_tally.specs.Reads.{only_low_parts, digits, AddsAtMost};
 ghost use Rattle.vers_sorted.specs.Sorted.{below, greatest_not_above, least_not_below, delta};
 ghost use Rattle.vers_sorted.specs.Layout.{first_of, last_of, high_of, low_of, high_length, member_reads, search_reads};
-ghost use Rattle.vers_sorted.specs.Parts.{reads};
-ghost use Rattle.vers_sorted.specs.Buckets.{IsBucket};
+ghost use Rattle.vers_sorted.specs.inside.Parts.{reads};
+ghost use Rattle.vers_sorted.specs.inside.Buckets.{IsBucket};
 
 use crate::elias_fano::EliasFanoVec;
+use crate::elias_fano::narrow::MANY;
 use crate::elias_fano::scan::zero_after;
 use std::alloc::Allocator;
 use vers_tally::tally::Tally;
@@ -117,6 +119,23 @@ impl<A: Allocator + Copy> EliasFanoVec<A> {
         from
     }
 
+    // Whether a bucket of many members has `v` in its middle, as most of those have in which many are
+    // equal to it. The bucket is that of another number.
+    #[inline(always)]
+    #[tactic(auto, using(crate::proofs::Buckets::members))]
+    fn is_amid(&self, bucket: Bucket, other: u64, v: u64, tally: &mut Tally) -> bool
+        requires { IsBucket self.now other bucket }
+        ensures member { IsTrue result → IsTrue (list_any (λ m. m == v) self.now) }
+        ensures adds { AddsAtMost tally.old tally.new (only_low_parts 1) }
+    {
+        let _ = &self.len;
+        let count = bucket.end.saturating_sub(bucket.start);
+        if count < MANY {
+            return false;
+        }
+        self.with_low_part(bucket.high, bucket.start + count / 2, tally) == v
+    }
+
     // A member, by no select where its high part is that of the bucket.
     #[inline(always)]
     #[tactic(auto, using(crate::proofs::Buckets::members))]
@@ -130,6 +149,32 @@ impl<A: Allocator + Copy> EliasFanoVec<A> {
             return self.with_low_part(bucket.high, i, tally);
         }
         self.member(i, tally)
+    }
+
+    /// Whether a number is a member. Reads as `rank_counted`, and no select beyond those for the
+    /// members with its high part.
+    #[inline(always)]
+    #[tactic(auto, using(crate::proofs::Members::members, crate::proofs::Bounds::bounds))]
+    pub(crate) fn has_counted(&self, v: u64, tally: &mut Tally) -> bool
+        ensures value { result ≡ list_any (λ m. m == v) self.now }
+        ensures adds { AddsAtMost tally.old tally.new (search_reads self.now) }
+    {
+        let _ = &self.first;
+        if self.len() == 0 {
+            return false;
+        }
+        if v < self.first {
+            return false;
+        }
+        if v > self.last {
+            return false;
+        }
+        let bucket = self.bucket_of(v, tally);
+        let k = self.below_in(bucket, v, tally);
+        if k >= bucket.end {
+            return false;
+        }
+        self.with_low_part(bucket.high, k, tally) == v
     }
 
     /// The member at a place. None past the last. By at most 2 low parts and 2 queries of the high
@@ -222,6 +267,9 @@ impl<A: Allocator + Copy> EliasFanoVec<A> {
             return Some(self.last);
         }
         let bucket = self.bucket_of(v + 1, tally);
+        if self.is_amid(bucket, v + 1, v, tally) {
+            return Some(v);
+        }
         let k = self.below_in(bucket, v + 1, tally);
         Some(self.member_near(bucket, v + 1, k - 1, tally))
     }
@@ -245,6 +293,9 @@ impl<A: Allocator + Copy> EliasFanoVec<A> {
             return Some(self.first);
         }
         let bucket = self.bucket_of(v, tally);
+        if self.is_amid(bucket, v, v, tally) {
+            return Some(v);
+        }
         let k = self.below_in(bucket, v, tally);
         Some(self.member_near(bucket, v, k, tally))
     }

@@ -8,17 +8,26 @@ ghost use Rattle.vers_trees.specs.Excess.{excess, first_rise_after, last_rise_be
 ghost use Rattle.vers_trees.specs.Forest.{IsBalanced};
 ghost use Rattle.vers_trees.specs.Layout.{tree_heap_size, search_reads, enclose_reads};
 
+mod as_tree;
 mod builder;
+mod children;
 mod dfs_iter;
 mod into;
+mod levels;
 mod min_max;
+mod navigation;
+mod post_iter;
 mod scan;
 mod search;
+mod subtree;
 
 pub use crate::trees::bp::builder::{BpBuilder, BuildError};
+pub use crate::trees::bp::children::ChildrenIter;
 pub use crate::trees::bp::dfs_iter::DfsIter;
 use crate::trees::bp::min_max::MinMaxTree;
+pub use crate::trees::bp::post_iter::{PostIter, SubtreePostIter};
 use crate::trees::bp::search::{backward, forward};
+pub use crate::trees::bp::subtree::SubtreeIter;
 use std::alloc::{AllocError, Allocator};
 use std::marker::Model;
 use vers_bits::bit_vec::{BitVec, GrowError};
@@ -50,7 +59,7 @@ pub struct BpTree<const BLOCK_SIZE: usize, A: Allocator + Copy> {
 
 impl<const BLOCK_SIZE: usize, A: Allocator + Copy> Model for BpTree<BLOCK_SIZE, A> {
     ghost use Rattle.std.specs.Prelude.{List, Bool};
-    ghost use Rattle.vers_trees.specs.Index.{IsIndexed};
+    ghost use Rattle.vers_trees.specs.inside.Index.{IsIndexed};
 
     ghost Value = { List Bool };
 

@@ -2,7 +2,7 @@
 ghost use Rattle.std.specs.Prelude.{◌≡◌, ◌+◌, ◌*◌, ◌^◌, ◌<◌, ◌≤◌, length, IfOk};
 ghost use Rattle.vers_rmq.specs.Layout.{clog};
 ghost use Rattle.vers_rmq.specs.Minima.{IsFirstLeast};
-ghost use Rattle.vers_rmq.specs.Tables.{reach, HoldsPlaces, IsTable};
+ghost use Rattle.vers_rmq.specs.inside.Tables.{reach, HoldsPlaces, IsTable};
 
 use crate::rmq::least::lesser_place;
 use std::alloc::{AllocError, Allocator};

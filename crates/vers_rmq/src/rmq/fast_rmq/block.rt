@@ -1,8 +1,8 @@
 //! What is kept of blocks of 128 items.
 ghost use Rattle.std.specs.Prelude.{◌+◌, ◌-◌, ◌*◌, ◌<◌, ◌≤◌, length, IfOk, slice_index_or};
 ghost use Rattle.vers_rmq.specs.Minima.{IsFirstLeast};
-ghost use Rattle.vers_rmq.specs.Masks.{AreMasks};
-ghost use Rattle.vers_rmq.specs.Blocks.{AreBlocks, AreAllBlocks};
+ghost use Rattle.vers_rmq.specs.inside.Masks.{AreMasks};
+ghost use Rattle.vers_rmq.specs.inside.Blocks.{AreBlocks, AreAllBlocks};
 
 use crate::rmq::fast_rmq::MAX_LEN;
 use crate::rmq::fast_rmq::mask::{Masks, prefix_masks, suffix_masks};
@@ -53,7 +53,8 @@ fn add_block<A: Allocator + Copy>(
     requires few { length items.now ≤ MAX_LEN }
     requires inside { 128 * b < length items.now }
     requires before { AreBlocks items.now b blocks.old.minima.items blocks.old.places.items blocks.old.masks.items }
-    ensures { IfOk result (λ _. AreBlocks items.now (b + 1) blocks.new.minima.items blocks.new.places.items blocks.new.masks.items) }
+    ensures { IfOk result (λ _. AreBlocks items.now (b + 1)
+        blocks.new.minima.items blocks.new.places.items blocks.new.masks.items) }
 {
     let start = 128 * b;
     let end = items.len().min(start + 128);

@@ -3,7 +3,7 @@
 ghost use Rattle.std.specs.Prelude.{◌≡◌, ℕ, ◌+◌, ◌-◌, ◌*◌, ◌/◌, ◌^◌, ◌<◌, ◌≤◌, length, slice_index, bit_or};
 ghost use Rattle.std.specs.Int.{bit_at};
 ghost use Rattle.vers_rmq.specs.Minima.{IsFirstLeast};
-ghost use Rattle.vers_rmq.specs.Masks.{IsLastSet, IsFirstSet, AddsOne, PrefixUpTo, SuffixFrom, IsPrefixMask, IsSuffixMask};
+ghost use Rattle.vers_rmq.specs.inside.Masks.{IsLastSet, IsFirstSet, AddsOne, PrefixUpTo, SuffixFrom, IsPrefixMask, IsSuffixMask};
 
 // The two masks of a block by one width of its parts.
 #[derive(Clone, Copy)]
@@ -58,7 +58,8 @@ fn more_prefixes(items: &[u64], start: usize, from: usize, to: usize, done: Part
     requires within { to ≤ start + 128 }
     requires inside { to ≤ length items.now }
     requires least { done.least < length items.now }
-    ensures { (first : ℕ) → PrefixUpTo items.now start first from done.mask done.least → PrefixUpTo items.now start first to result.mask result.least }
+    ensures { (first : ℕ) → PrefixUpTo items.now start first from done.mask done.least
+        → PrefixUpTo items.now start first to result.mask result.least }
 {
     let mut bits = 0;
     let mut least = done.least;
@@ -155,7 +156,8 @@ fn more_suffixes(items: &[u64], start: usize, from: usize, to: usize, done: Part
     requires within { to ≤ start + 128 }
     requires inside { to ≤ length items.now }
     requires least { done.least < length items.now }
-    ensures { (end : ℕ) → SuffixFrom items.now start to end done.mask done.least → SuffixFrom items.now start from end result.mask result.least }
+    ensures { (end : ℕ) → SuffixFrom items.now start to end done.mask done.least
+        → SuffixFrom items.now start from end result.mask result.least }
 {
     let mut bits = 0;
     let mut least = done.least;
@@ -210,7 +212,8 @@ fn suffixes_past(
     requires inside { to ≤ length items.now }
     requires done { done.least < length items.now }
     requires least { IsFirstLeast items.now from (to - 1) least }
-    ensures { (end : ℕ) → SuffixFrom items.now start to end done.mask done.least → SuffixFrom items.now start from end result.mask result.least }
+    ensures { (end : ℕ) → SuffixFrom items.now start to end done.mask done.least
+        → SuffixFrom items.now start from end result.mask result.least }
 {
     if items[least] <= items[done.least] {
         more_suffixes(items, start, from, to, done)

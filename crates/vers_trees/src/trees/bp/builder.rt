@@ -37,7 +37,7 @@ pub struct BpBuilder<const BLOCK_SIZE: usize, A: Allocator + Copy> {
 
 impl<const BLOCK_SIZE: usize, A: Allocator + Copy> Model for BpBuilder<BLOCK_SIZE, A> {
     ghost use Rattle.std.specs.Prelude.{List, Bool};
-    ghost use Rattle.vers_trees.specs.Index.{IsBuilding};
+    ghost use Rattle.vers_trees.specs.inside.Index.{IsBuilding};
 
     ghost Value = { List Bool };
 

@@ -1,8 +1,8 @@
 //! The tree of excesses over the blocks of a list.
 ghost use Rattle.std.specs.Prelude.{◌≡◌, ℕ, ℤ, ◌+◌, ◌-◌, ◌*◌, ◌<◌, ◌≤◌, ◌^◌, ◌+ℤ◌, length, drop, min, slice_index_or, IfOk, MatchOption, Decides};
 ghost use Rattle.vers_tally.specs.Reads.{AddsAtMost, only_nodes, digits};
-ghost use Rattle.vers_trees.specs.Index.{IsIndexed};
-ghost use Rattle.vers_trees.specs.MinMax.{IsInRange, IsInRangeOrStart, IsLevel, empty_node, total_before, Reaches, Meets, IsMinMax, LeadsTo, LeadsBack, IsNextFrom, IsPreviousBefore};
+ghost use Rattle.vers_trees.specs.inside.Index.{IsIndexed};
+ghost use Rattle.vers_trees.specs.inside.MinMax.{IsInRange, IsInRangeOrStart, IsLevel, empty_node, total_before, Reaches, Meets, IsMinMax, LeadsTo, LeadsBack, IsNextFrom, IsPreviousBefore};
 
 mod build;
 

@@ -2,8 +2,8 @@
 ghost use Rattle.std.specs.Prelude.{◌≡◌, ◌-◌, ◌^◌, ◌<◌, ◌≤◌, length, MatchResult};
 ghost use Rattle.vers_tally.specs.Reads.{AddsAtMost};
 ghost use Rattle.vers_trees.specs.Excess.{bit_step};
-ghost use Rattle.vers_trees.specs.Scans.{IsFirstRise, IsLastRise, HasNoRise, HasNoRiseBefore, scan_reads};
-ghost use Rattle.vers_trees.specs.MinMax.{IsPart};
+ghost use Rattle.vers_trees.specs.inside.Scans.{IsFirstRise, IsLastRise, HasNoRise, HasNoRiseBefore, scan_reads};
+ghost use Rattle.vers_trees.specs.inside.MinMax.{IsPart};
 
 use crate::trees::bp::min_max::Node;
 use std::alloc::Allocator;

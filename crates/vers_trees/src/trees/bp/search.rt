@@ -2,7 +2,7 @@
 ghost use Rattle.std.specs.Prelude.{◌≡◌, length};
 ghost use Rattle.vers_tally.specs.Reads.{AddsAtMost};
 ghost use Rattle.vers_trees.specs.Excess.{first_rise_after, last_rise_before};
-ghost use Rattle.vers_trees.specs.Index.{IsIndexed};
+ghost use Rattle.vers_trees.specs.inside.Index.{IsIndexed};
 ghost use Rattle.vers_trees.specs.Layout.{search_reads};
 
 use crate::trees::bp::min_max::MinMaxTree;

@@ -1,6 +1,12 @@
 use Rattle.std.proofs.Common.{◌≡◌, ℕ, ◌<◌}
 use Rattle.vers_bits.specs.Bits.{select}
+use Rattle.vers_rank.specs.inside.Walks.{IsReading}
 use Rattle.vers_rank.proofs.fast_rs_vec.RsVec.has_places_of.Given as goal
 
 abbrev pub invariant-loop-r : goal.invariant-loop-r
-invariant-loop-r g l = (k : ℕ) → k < l.r → select l.bit l.self k ≡ select l.bit l.other k
+invariant-loop-r g l =
+    record {
+      here : IsReading l.bit l.self l.here;
+      there : IsReading l.bit l.other l.there;
+      same : (k : ℕ) → k < l.r → select l.bit l.self k ≡ select l.bit l.other k;
+    }

@@ -1,5 +1,5 @@
 use Rattle.std.proofs.Common.{◌≡◌, ◌+◌, ◌-◌, ◌*◌, ◌≤◌}
-use Rattle.vers_rank.specs.Index.{held, IsLimbWith}
+use Rattle.vers_rank.specs.inside.Index.{held, IsLimbWith}
 use Rattle.vers_tally.specs.Reads.{only_data_words, AddsAtMost}
 use Rattle.vers_rank.proofs.fast_rs_vec.RsVec.limb_up_to.Given as goal
 

@@ -1,7 +1,7 @@
 use Rattle.std.proofs.Common.{◌≡◌, ◌+◌, ◌-◌, ◌*◌, refl, arith, sym, ap, ◌∙◌}
 use Rattle.vers_bits.specs.Bits.{count, limb}
 use Rattle.vers_bits.proofs.PublicLaws.{count_le_all}
-use Rattle.vers_rank.specs.Index.{held}
+use Rattle.vers_rank.specs.inside.Index.{held}
 use Rattle.vers_rank.proofs.Selects.{rest_in_limb, place_found, held_is}
 use Rattle.vers_rank.proofs.fast_rs_vec.RsVec.place_in_block.Goals as goal
 

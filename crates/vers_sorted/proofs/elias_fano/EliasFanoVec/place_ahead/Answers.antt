@@ -18,6 +18,16 @@ overflow_add-ahead-2 g c =
     let packed = rw c.self.view_is at c.self.invariant in
     record { fits = omega (arith, place_fits c.args.i packed c.requires.within, c.select1_counted-place.ensures.value) }
 
+pub overflow_sub-bits : goal.overflow_sub-bits
+overflow_sub-bits g c =
+    let packed = rw c.self.view_is at c.self.invariant in
+    omega (arith, place_fits c.args.i packed c.requires.within, c.select1_counted-place.ensures.value, c.len-bits.ensures.value)
+
+pub overflow_sub-bits-2 : goal.overflow_sub-bits-2
+overflow_sub-bits-2 g c =
+    let packed = rw c.self.view_is at c.self.invariant in
+    omega (arith, place_fits c.args.i packed c.requires.within, c.select1_counted-place.ensures.value, c.len-bits.ensures.value)
+
 pub overflow_add-place : goal.overflow_add-place
 overflow_add-place g c =
     let packed = rw c.self.view_is at c.self.invariant in
@@ -26,5 +36,5 @@ overflow_add-place g c =
 pub returns-clause-ahead : goal.returns-clause-ahead
 returns-clause-ahead g c =
     let packed = rw c.self.view_is at c.self.invariant in
-    read_maybe c.args.i c.select1_counted-place.result c.unwrap_or-ahead.result c.get_bits_counted.result packed c.requires.within c.select1_counted-place.ensures.value
+    read_maybe c.args.i c.select1_counted-place.result _ c.unwrap_or-ahead.result c.get_bits_counted.result packed c.requires.within c.select1_counted-place.ensures.value
     c.get_bits_counted.ensures.value c.unwrap_or-ahead.ensures

@@ -2,6 +2,7 @@ use Rattle.std.proofs.Common.{ℕ, sym, ap, ◌∙◌, arith, Some}
 use Rattle.vers_sorted.proofs.Below.{below_le}
 use Rattle.vers_sorted.proofs.Neighbours.{succ_past, succ_at, some_left}
 use Rattle.vers_sorted.proofs.Buckets.{none_below, all_below}
+use Rattle.vers_sorted.proofs.Members.{least_held}
 use Rattle.vers_sorted.proofs.elias_fano.EliasFanoVec.successor_counted.Goals as goal
 
 pub returns-then-len-eq0-clause-value : goal.returns-then-len-eq0-clause-value
@@ -31,3 +32,8 @@ returns-clause-value g c =
     let left = some_left c.args.self.now c.args.v packed.ascending (omega arith) (omega (arith, packed.last_is)) in
     ap (λ (m : ℕ). Some m) c.member_near.ensures.value
     ∙ sym (succ_at c.args.self.now c.args.v c.below_in-k.result packed.ascending c.below_in-k.ensures.value (omega (arith, left, c.below_in-k.ensures.value)))
+
+pub returns-then-is_amid-clause-value : goal.returns-then-is_amid-clause-value
+returns-then-is_amid-clause-value g c =
+    let packed = rw c.self.view_is at c.self.invariant in
+    sym (least_held c.args.self.now c.args.v packed.ascending (c.is_amid.ensures.member c.if-is_amid.true))

@@ -2,7 +2,7 @@ use Rattle.std.proofs.Common.{◌≡◌, ◌+◌, true, length, ap, ◌∙◌, a
 use Rattle.std.proofs.Math.ListN.{set}
 use Rattle.std.specs.Prelude.{slice_index}
 use Rattle.vers_sorted.specs.Layout.{high_place}
-use Rattle.vers_sorted.specs.Parts.{first_high_parts}
+use Rattle.vers_sorted.specs.inside.Parts.{first_high_parts}
 use Rattle.vers_sorted.proofs.Holds.{place_within}
 use Rattle.vers_sorted.proofs.Makes.{high_part_is, high_next, high_all, length-first_high_parts}
 use Rattle.vers_sorted.proofs.elias_fano.make.high_parts.Goals as goal

@@ -1,5 +1,5 @@
 use Rattle.std.proofs.Common.{◌≡◌, length, ap, ◌∙◌, arith}
-use Rattle.vers_sorted.specs.Parts.{first_low_parts}
+use Rattle.vers_sorted.specs.inside.Parts.{first_low_parts}
 use Rattle.vers_sorted.proofs.Makes.{low_all}
 use Rattle.vers_sorted.proofs.elias_fano.make.low_parts.Goals as goal
 

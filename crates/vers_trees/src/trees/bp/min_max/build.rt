@@ -1,8 +1,8 @@
 //! Building the tree of excesses of a list, from its blocks up to the root.
 ghost use Rattle.std.specs.Prelude.{◌≡◌, ℕ, ◌+◌, ◌*◌, ◌<◌, ◌≤◌, ◌≤ℤ◌, ◌<ℤ◌, ◌^◌, length, drop, slice_index_or, IfOk};
-ghost use Rattle.vers_trees.specs.Index.{IsTreeOf, IsWidth, AreFirstBlocks};
+ghost use Rattle.vers_trees.specs.inside.Index.{IsTreeOf, IsWidth, AreFirstBlocks};
 ghost use Rattle.vers_trees.specs.Layout.{block_count, node_count};
-ghost use Rattle.vers_trees.specs.MinMax.{JoinFits, AreLeaves, CoveredFrom, combined, empty_node};
+ghost use Rattle.vers_trees.specs.inside.MinMax.{JoinFits, AreLeaves, CoveredFrom, combined, empty_node};
 
 use crate::trees::bp::min_max::Node;
 use crate::trees::bp::scan::node_of;

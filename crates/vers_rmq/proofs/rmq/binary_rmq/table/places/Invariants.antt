@@ -1,5 +1,5 @@
 use Rattle.std.proofs.Common.{◌≡◌, ◌+◌, ◌-◌, ◌*◌, ◌^◌, ◌<◌, length}
-use Rattle.vers_rmq.specs.Tables.{HoldsPlaces}
+use Rattle.vers_rmq.specs.inside.Tables.{HoldsPlaces}
 use Rattle.vers_rmq.proofs.rmq.binary_rmq.table.places.Given as goal
 
 abbrev pub invariant-loop-i : goal.invariant-loop-i

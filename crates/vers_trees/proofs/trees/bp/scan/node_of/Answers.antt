@@ -2,7 +2,7 @@ use Rattle.std.proofs.Common.{rules, ◌≡◌, ◌+◌, ◌+ℤ◌, arith, w64,
 use Rattle.std.specs.Int.{int_min, int_max}
 use Rattle.std.proofs.lemmas.Int.{to_z-of_z}
 use Rattle.vers_trees.specs.declared.trees.bp.min_max.Node.{Node}
-use Rattle.vers_trees.specs.MinMax.{IsPart}
+use Rattle.vers_trees.specs.inside.MinMax.{IsPart}
 use Rattle.vers_trees.proofs.Build.{same_node}
 use Rattle.vers_trees.proofs.Scans.{step_fits, part_start, part_sum, part_more, part_fits, rise_fits}
 use Rattle.vers_trees.proofs.trees.bp.scan.node_of.Goals as goal

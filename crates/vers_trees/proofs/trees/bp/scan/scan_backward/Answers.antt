@@ -1,6 +1,6 @@
 use Rattle.std.proofs.Common.{ℤ, ◌-◌, ◌-ℤ◌, arith, w64, to_z, of_z, subst, sym, ap, ◌∙◌}
 use Rattle.std.proofs.lemmas.Int.{to_z-of_z}
-use Rattle.vers_trees.specs.Scans.{HasNoRiseBefore}
+use Rattle.vers_trees.specs.inside.Scans.{HasNoRiseBefore}
 use Rattle.vers_trees.proofs.Scans.{step_fits, minus_is, fall_more_fits, backward_found, backward_more, one_more_read}
 use Rattle.vers_trees.proofs.trees.bp.scan.scan_backward.Goals as goal
 

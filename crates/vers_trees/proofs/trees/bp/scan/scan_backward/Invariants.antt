@@ -1,6 +1,6 @@
 use Rattle.std.proofs.Common.{◌-◌, ◌≤◌}
 use Rattle.vers_tally.specs.Reads.{AddsAtMost}
-use Rattle.vers_trees.specs.Scans.{HasNoRiseBefore, scan_reads}
+use Rattle.vers_trees.specs.inside.Scans.{HasNoRiseBefore, scan_reads}
 use Rattle.vers_trees.proofs.trees.bp.scan.scan_backward.Given as goal
 
 abbrev pub invariant-loop-place : goal.invariant-loop-place

@@ -1,6 +1,6 @@
 use Rattle.std.proofs.Common.{ℤ, ◌-◌, ◌+ℤ◌, arith, w64, to_z, of_z, subst, sym, ap, ◌∙◌}
 use Rattle.std.proofs.lemmas.Int.{to_z-of_z}
-use Rattle.vers_trees.specs.Scans.{HasNoRise}
+use Rattle.vers_trees.specs.inside.Scans.{HasNoRise}
 use Rattle.vers_trees.proofs.Scans.{step_fits, plus_is, rise_more_fits, forward_found, forward_more, one_more_read}
 use Rattle.vers_trees.proofs.trees.bp.scan.scan_forward.Goals as goal
 

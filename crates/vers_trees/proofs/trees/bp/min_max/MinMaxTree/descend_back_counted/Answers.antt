@@ -1,6 +1,6 @@
 use Rattle.std.proofs.Common.{rules, ◌≡◌, ℤ, ◌*◌, ◌+◌, ◌+ℤ◌, arith, w64, FitsSigned, to_z, of_z, subst, sym}
 use Rattle.std.proofs.lemmas.Int.{to_z-of_z}
-use Rattle.vers_trees.specs.MinMax.{IsInRangeOrStart}
+use Rattle.vers_trees.specs.inside.MinMax.{IsInRangeOrStart}
 use Rattle.vers_trees.proofs.Back.{back_fits, back_right, back_left, back_leaf}
 use Rattle.vers_trees.proofs.Steps.{no_nodes, read_down, down_ends}
 use Rattle.vers_trees.proofs.trees.bp.min_max.MinMaxTree.descend_back_counted.Goals as goal

@@ -1,6 +1,6 @@
 use Rattle.std.proofs.Common.{ℕ, ℤ, ◌-◌, ◌*◌, ◌≤◌, ◌+◌}
 use Rattle.vers_tally.specs.Reads.{AddsAtMost, only_nodes, digits}
-use Rattle.vers_trees.specs.MinMax.{LeadsBack}
+use Rattle.vers_trees.specs.inside.MinMax.{LeadsBack}
 use Rattle.vers_trees.proofs.trees.bp.min_max.MinMaxTree.descend_back_counted.Given as goal
 
 abbrev pub invariant-loop-node : goal.invariant-loop-node

@@ -1,6 +1,6 @@
 use Rattle.std.proofs.Common.{◌-◌, ◌*◌, ◌≤◌, ◌+◌, ◌<◌, ◌+ℤ◌, drop, length}
 use Rattle.vers_tally.specs.Reads.{AddsAtMost, only_nodes, digits}
-use Rattle.vers_trees.specs.MinMax.{PassedTo, total_before}
+use Rattle.vers_trees.specs.inside.MinMax.{PassedTo, total_before}
 use Rattle.vers_trees.proofs.trees.bp.min_max.MinMaxTree.next_block_counted.Given as goal
 
 abbrev pub invariant-loop-node : goal.invariant-loop-node

@@ -1,6 +1,6 @@
 use Rattle.std.proofs.Common.{rules, ◌≡◌, ℕ, ℤ, ◌+ℤ◌, drop, w64, FitsSigned, to_z, of_z, arith, subst, sym, ap, ◌∙◌, length-drop}
 use Rattle.std.proofs.lemmas.Int.{to_z-of_z}
-use Rattle.vers_trees.specs.MinMax.{total_before, Meets, PassedBack, IsPreviousBefore, IsInRangeOrStart}
+use Rattle.vers_trees.specs.inside.MinMax.{total_before, Meets, PassedBack, IsPreviousBefore, IsInRangeOrStart}
 use Rattle.vers_trees.proofs.Back.{rise_start, rise_found, rise_left, rise_same, rise_too_far, rise_root}
 use Rattle.vers_trees.proofs.MinMax.{stands_within}
 use Rattle.vers_trees.proofs.Steps.{no_nodes, read_up, no_read_up, up_ends, up_then_down, up_then_none}

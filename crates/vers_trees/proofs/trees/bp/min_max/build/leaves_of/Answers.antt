@@ -1,8 +1,8 @@
 use Rattle.std.proofs.Common.{◌≡◌, ℕ, List, [], ◌∷◌, ◌++◌, ◌+◌, ◌*◌, min, length, arith, sym, subst, ap, ◌∙◌}
 use Rattle.vers_trees.specs.declared.trees.bp.min_max.Node.{Node}
-use Rattle.vers_trees.specs.MinMax.{IsPart}
+use Rattle.vers_trees.specs.inside.MinMax.{IsPart}
 use Rattle.vers_trees.specs.Layout.{block_count}
-use Rattle.vers_trees.specs.Index.{AreFirstBlocks}
+use Rattle.vers_trees.specs.inside.Index.{AreFirstBlocks}
 use Rattle.vers_trees.proofs.Widths.{block_added}
 use Rattle.vers_trees.proofs.trees.bp.min_max.build.leaves_of.Goals as goal
 

@@ -1,4 +1,4 @@
-use Rattle.vers_trees.specs.Index.{AreFirstBlocks}
+use Rattle.vers_trees.specs.inside.Index.{AreFirstBlocks}
 use Rattle.vers_trees.proofs.trees.bp.min_max.build.leaves_of.Given as goal
 
 abbrev pub invariant-loop-block : goal.invariant-loop-block

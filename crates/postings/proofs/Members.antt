@@ -1,0 +1,133 @@
+-- Whether a document is in a list, and what two lists share.
+use Rattle.std.proofs.Common.{◌≡◌, ℕ, zero, suc, ◌+◌, ◌<◌, ◌≤◌, Bool, true, false, List, [], ◌∷◌, length, get_or, Option, Some, None, refl, sym, ap, subst, ◌∙◌, inl, inr, arith}
+use Rattle.std.specs.Prelude.{◌==◌, filter}
+use Rattle.std.specs.List.{AllPairs}
+use Rattle.std.specs.List.Sorted.{IsStrictlyIncreasing}
+use Rattle.std.proofs.lemmas.Bool.{cases_lt, le-leb, lt-leb, eq-eqb, ne_eqb}
+use Rattle.std.proofs.lemmas.List.Kept.{AllPairs-from_increasing}
+use Rattle.vers_sorted.specs.Sorted.{least_not_below}
+use Rattle.postings.specs.Posted.{is_among, common}
+
+-- each number is below all later ones
+abbrev Rising : List ℕ → Type 0
+Rising xs = AllPairs (λ x y. x < y) xs
+
+-- a number is below all of a list
+abbrev IsBelowAll : ℕ → List ℕ → Type 0
+IsBelowAll x ys = (j : ℕ) → j < length ys → x < get_or ys j 0
+
+rising_tail : (x : ℕ) (xs : List ℕ) → Rising (x ∷ xs) → Rising xs
+rising_tail x xs up i j d before inside = up (suc i) (suc j) d (omega arith) (omega arith)
+
+rising_head : (x : ℕ) (xs : List ℕ) → Rising (x ∷ xs) → IsBelowAll x xs
+rising_head x xs up j inside = up 0 (suc j) 0 (omega arith) (omega arith)
+
+-- what is below all of a list is not in it
+not_among : (x : ℕ) (ys : List ℕ) → IsBelowAll x ys → is_among ys x ≡ false
+unfolding is_among
+not_among x [] below = refl
+not_among x (y ∷ ys) below =
+    let first : x < y = below 0 (omega arith) in
+    rw (ne_eqb y x (λ same. omega (arith, same, first))) (not_among x ys (λ j inside. below (suc j) (omega arith)))
+
+among_head : (y : ℕ) (ys : List ℕ) (x : ℕ) → y ≡ x → is_among (y ∷ ys) x ≡ true
+unfolding is_among
+among_head y ys x same = rw (eq-eqb y x same) refl
+
+among_tail : (y : ℕ) (ys : List ℕ) (x : ℕ) → (y ≡ x → ⊥) → is_among (y ∷ ys) x ≡ is_among ys x
+unfolding is_among
+among_tail y ys x apart = rw (ne_eqb y x apart) refl
+
+none_among : (x : ℕ) → is_among [] x ≡ false
+unfolding is_among
+none_among x = refl
+
+-- ---- by the next document
+
+-- whether what was found is the document
+abbrev pub is_found : ℕ → Option ℕ → Bool
+is_found v None = false
+is_found v (Some m) = m == v
+
+none_next : (v : ℕ) → least_not_below [] v ≡ None
+unfolding least_not_below
+none_next v = refl
+
+next_here : (x : ℕ) (xs : List ℕ) (v : ℕ) → v ≤ x → least_not_below (x ∷ xs) v ≡ Some x
+unfolding least_not_below
+next_here x xs v high = rw (le-leb v x high) refl
+
+next_later : (x : ℕ) (xs : List ℕ) (v : ℕ) → x < v → least_not_below (x ∷ xs) v ≡ least_not_below xs v
+unfolding least_not_below
+next_later x xs v low = rw (lt-leb v x low) refl
+
+-- a document is in the list where the next one that is not below it is this one
+pub among_next : (xs : List ℕ) (v : ℕ) → Rising xs → is_among xs v ≡ is_found v (least_not_below xs v)
+among_next [] v up = none_among v ∙ sym (ap (is_found v) (none_next v))
+among_next (x ∷ xs) v up = elim (cases_lt x v) [
+  | inl less ↦ among_tail x xs v (λ same. omega (arith, same, less)) ∙ among_next xs v (rising_tail x xs up) ∙ sym (ap (is_found v) (next_later x xs v less))
+  | inr more ↦ elim (cases_lt v x) [
+    | inl above ↦ among_tail x xs v (λ same. omega (arith, same, above)) ∙ not_among v xs (λ j inside. omega (arith, above, rising_head x xs up j inside))
+        ∙ sym (ap (is_found v) (next_here x xs v more) ∙ ne_eqb x v (λ same. omega (arith, same, above)))
+    | inr equal ↦ let same : x ≡ v = omega (arith, more, equal) in among_head x xs v same ∙ sym (ap (is_found v) (next_here x xs v more) ∙ eq-eqb x v same)
+  ]
+]
+
+-- ---- what two lists share
+
+filter_same : (p q : ℕ → Bool) (zs : List ℕ) → ((j : ℕ) → j < length zs → p (get_or zs j 0) ≡ q (get_or zs j 0)) → filter p zs ≡ filter q zs
+filter_same p q [] same = refl
+filter_same p q (z ∷ zs) same =
+    let first : p z ≡ q z = same 0 (omega arith) in
+    rw (first, filter_same p q zs (λ j inside. same (suc j) (omega arith))) refl
+
+filter_off : (p : ℕ → Bool) (z : ℕ) (zs : List ℕ) → p z ≡ false → filter p (z ∷ zs) ≡ filter p zs
+filter_off p z zs off = rw off refl
+
+filter_on : (p : ℕ → Bool) (z : ℕ) (zs : List ℕ) → p z ≡ true → filter p (z ∷ zs) ≡ z ∷ filter p zs
+filter_on p z zs on = rw on refl
+
+filter_none : (p : ℕ → Bool) (zs : List ℕ) → ((z : ℕ) → p z ≡ false) → filter p zs ≡ []
+filter_none p [] none = refl
+filter_none p (z ∷ zs) none = filter_off p z zs (none z) ∙ filter_none p zs none
+
+-- a document less than all of the other list is not shared
+shared_less : (x : ℕ) (xs ys : List ℕ) → IsBelowAll x ys → filter (is_among ys) xs ≡ filter (is_among xs) ys → filter (is_among ys) (x ∷ xs) ≡ filter (is_among (x ∷ xs)) ys
+shared_less x xs ys below rest =
+    filter_off (is_among ys) x xs (not_among x ys below) ∙ rest
+    ∙ sym (filter_same (is_among (x ∷ xs)) (is_among xs) ys (λ j inside. among_tail x xs (get_or ys j 0) (λ same. omega (arith, same, below j inside))))
+
+-- a document of both is
+shared_equal : (x : ℕ) (xs ys : List ℕ) → IsBelowAll x xs → filter (is_among ys) xs ≡ filter (is_among xs) ys → IsBelowAll x ys → filter (is_among (x ∷ ys)) (x ∷ xs) ≡ filter (is_among (x ∷ xs)) (x ∷ ys)
+shared_equal x xs ys first rest second =
+    filter_on (is_among (x ∷ ys)) x xs (among_head x ys x refl)
+    ∙ ap (λ (l : List ℕ). x ∷ l) (filter_same (is_among (x ∷ ys)) (is_among ys) xs (λ j inside. among_tail x ys (get_or xs j 0) (λ same. omega (arith, same, first j inside)))
+    ∙ rest ∙ sym (filter_same (is_among (x ∷ xs)) (is_among xs) ys (λ j inside. among_tail x xs (get_or ys j 0) (λ same. omega (arith, same, second j inside)))))
+    ∙ sym (filter_on (is_among (x ∷ xs)) x ys (among_head x xs x refl))
+
+below_head : (x y : ℕ) (ys : List ℕ) → x < y → IsBelowAll y ys → IsBelowAll x (y ∷ ys)
+below_head x y ys less above zero inside = less
+below_head x y ys less above (suc j) inside = omega (arith, less, above j (omega arith))
+
+shared : (n : ℕ) (xs ys : List ℕ) → length xs + length ys ≤ n → Rising xs → Rising ys → filter (is_among ys) xs ≡ filter (is_among xs) ys
+shared n [] ys few up upper = sym (filter_none (is_among []) ys none_among)
+shared n (x ∷ xs) [] few up upper = filter_none (is_among []) (x ∷ xs) none_among
+shared zero (x ∷ xs) (y ∷ ys) few up upper = absurd (omega (arith, few))
+shared (suc n) (x ∷ xs) (y ∷ ys) few up upper =
+    let after = rising_head x xs up in
+    let upon = rising_head y ys upper in
+    elim (cases_lt x y) [
+      | inl less ↦ shared_less x xs (y ∷ ys) (below_head x y ys less upon) (shared n xs (y ∷ ys) (omega (arith, few)) (rising_tail x xs up) upper)
+      | inr more ↦ elim (cases_lt y x) [
+        | inl less ↦ sym (shared_less y ys (x ∷ xs) (below_head y x xs less after) (sym (shared n (x ∷ xs) ys (omega (arith, few)) up (rising_tail y ys upper))))
+        | inr equal ↦ let same : y ≡ x = omega (arith, more, equal) in
+            subst (λ z. filter (is_among (z ∷ ys)) (x ∷ xs) ≡ filter (is_among (x ∷ xs)) (z ∷ ys)) (sym same)
+            (shared_equal x xs ys after (shared n xs ys (omega (arith, few)) (rising_tail x xs up) (rising_tail y ys upper)) (subst (λ z. IsBelowAll z ys) same upon))
+      ]
+    ]
+
+-- either of two lists may be looked through
+pub common_either : (documents others : List ℕ) → IsStrictlyIncreasing documents → IsStrictlyIncreasing others → common documents others ≡ common others documents
+unfolding common
+common_either documents others up upper =
+    shared (length documents + length others) documents others (omega arith) (AllPairs-from_increasing documents up) (AllPairs-from_increasing others upper)

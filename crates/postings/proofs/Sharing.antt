@@ -1,0 +1,119 @@
+-- The shorter list looked through from its start.
+use Rattle.std.proofs.Common.{◌≡◌, ℕ, ◌+◌, ◌*◌, ◌<◌, ◌≤◌, Bool, cond, List, [], ◌∷◌, ◌++◌, length, take, get_or, Some, None, refl, sym, ap, ◌∙◌, arith, rules}
+use Rattle.std.specs.Prelude.{filter, slice_get}
+use Rattle.std.proofs.lemmas.Option.{slice_get-get_or, get_or_from_slice_get, none-some}
+use Rattle.std.proofs.Math.Nat.{mul-le-mul_right}
+use Rattle.std.proofs.lemmas.Bool.{le-leb, lt-leb}
+use Rattle.std.proofs.lemmas.List.Elements.{filter_more}
+use Rattle.vers_sorted.specs.Layout.{member_reads, search_reads}
+use Rattle.vers_tally.specs.Reads.{Reads, AddsAtMost, IsWithin, plus, times}
+use Rattle.vers_tally.proofs.PublicLaws.{adds_then, adds_weaker}
+use Rattle.postings.specs.Posted.{is_among, common, lookups, intersect_reads}
+
+-- k documents were looked for, and those that the longer list has were found
+pub record SharedUpTo (shorter longer found : List ℕ) (old new : Reads) (k : ℕ) : Type 0 where
+  pub found_so_far : found ≡ common (take k shorter) longer
+  pub adds : AddsAtMost old new (times k (plus (member_reads shorter) (search_reads longer)))
+
+-- one more document was looked for
+pub common_more : (shorter longer : List ℕ) (k d : ℕ) (shares : Bool) → slice_get shorter k ≡ Some d → k < length shorter → shares ≡ is_among longer d
+    → common (take (k + 1) shorter) longer ≡ common (take k shorter) longer ++ cond shares (d ∷ []) []
+unfolding common
+common_more shorter longer k d shares at inside answer =
+    let here : get_or shorter k 0 ≡ d = get_or_from_slice_get shorter k d 0 at in
+    filter_more (is_among longer) shorter k 0 inside
+    ∙ ap (λ z. filter (is_among longer) (take k shorter) ++ cond (is_among longer z) (z ∷ []) []) here
+    ∙ ap (λ (b : Bool). filter (is_among longer) (take k shorter) ++ cond b (d ∷ []) []) (sym answer)
+
+common_start : (shorter longer : List ℕ) → common (take 0 shorter) longer ≡ []
+unfolding common
+common_start shorter longer = refl
+
+more_room : (k x y : ℕ) → k * (x + y) + x + y ≤ (k + 1) * (x + y)
+more_room k x y = omega arith
+
+within_same : (p : Reads) → IsWithin p p
+within_same p = record {
+  data_words = omega arith;
+  block_entries = omega arith;
+  superblock_entries = omega arith;
+  low_parts = omega arith;
+  rank_calls = omega arith;
+  items = omega arith;
+  blocks = omega arith;
+  nodes = omega arith;
+  chunks = omega arith;
+}
+
+-- one more look-up
+lookups_more : (k : ℕ) (p q old between next new : Reads) → AddsAtMost old between (times k (plus p q)) → AddsAtMost between next p → AddsAtMost next new q
+    → AddsAtMost old new (times (k + 1) (plus p q))
+lookups_more k p q a b c d before step look =
+    adds_then before (adds_then step look (within_same _))
+    (record {
+      data_words = omega (arith, more_room k p.data_words q.data_words);
+      block_entries = omega (arith, more_room k p.block_entries q.block_entries);
+      superblock_entries = omega (arith, more_room k p.superblock_entries q.superblock_entries);
+      low_parts = omega (arith, more_room k p.low_parts q.low_parts);
+      rank_calls = omega (arith, more_room k p.rank_calls q.rank_calls);
+      items = omega (arith, more_room k p.items q.items);
+      blocks = omega (arith, more_room k p.blocks q.blocks);
+      nodes = omega (arith, more_room k p.nodes q.nodes);
+      chunks = omega (arith, more_room k p.chunks q.chunks);
+    })
+
+-- fewer look-ups stay within more
+pub lookups_up : (k n : ℕ) (p : Reads) → k ≤ n → IsWithin (times k p) (times n p)
+lookups_up k n p few =
+    let up = λ (x : ℕ). mul-le-mul_right {m = k} {n = n} x few in
+    record {
+      data_words = up p.data_words;
+      block_entries = up p.block_entries;
+      superblock_entries = up p.superblock_entries;
+      low_parts = up p.low_parts;
+      rank_calls = up p.rank_calls;
+      items = up p.items;
+      blocks = up p.blocks;
+      nodes = up p.nodes;
+      chunks = up p.chunks;
+    }
+
+-- before the first
+pub shared_start : (shorter longer found : List ℕ) (reads : Reads) → found ≡ [] → SharedUpTo shorter longer found reads reads 0
+shared_start shorter longer found reads none = record { found_so_far = none ∙ sym (common_start shorter longer); adds = search rules }
+
+-- after one more
+pub shared_more : (shorter longer found more : List ℕ) (old between next new : Reads) (k d : ℕ) (shares : Bool)
+    → SharedUpTo shorter longer found old between k → k < length shorter → slice_get shorter k ≡ Some d → AddsAtMost between next (member_reads shorter)
+    → shares ≡ is_among longer d → AddsAtMost next new (search_reads longer) → more ≡ found ++ cond shares (d ∷ []) []
+    → SharedUpTo shorter longer more old new (k + 1)
+shared_more shorter longer found more a b c e k d shares before inside at read answer look grown = record {
+  found_so_far = grown ∙ ap (λ (l : List ℕ). l ++ cond shares (d ∷ []) []) before.found_so_far ∙ sym (common_more shorter longer k d shares at inside answer);
+  adds = lookups_more k (member_reads shorter) (search_reads longer) a b c e before.adds read look;
+}
+
+-- none is taken past the last alone
+pub never_ends : (shorter : List ℕ) (k : ℕ) → k < length shorter → slice_get shorter k ≡ None → ⊥
+never_ends shorter k inside none = absurd_some (get_or shorter k 0) (sym (slice_get-get_or shorter k 0 inside) ∙ none)
+  where
+    absurd_some : (d : ℕ) → Some d ≡ None → ⊥
+    absurd_some d e = none-some d (sym e)
+
+-- a stop after a look-up
+pub stopped_within : (shorter longer found : List ℕ) (old between next new : Reads) (k : ℕ) → SharedUpTo shorter longer found old between k → k < length shorter
+    → AddsAtMost between next (member_reads shorter) → AddsAtMost next new (search_reads longer) → AddsAtMost old new (lookups shorter longer)
+stopped_within shorter longer found a b c e k before inside read look =
+    adds_weaker (lookups_more k (member_reads shorter) (search_reads longer) a b c e before.adds read look)
+    (lookups_up (k + 1) (length shorter) (plus (member_reads shorter) (search_reads longer)) (omega (arith, inside)))
+
+-- a stop after all of them
+pub ended_within : (shorter longer found : List ℕ) (old new : Reads) (k : ℕ) → SharedUpTo shorter longer found old new k → k ≤ length shorter → AddsAtMost old new (lookups shorter longer)
+ended_within shorter longer found a b k before inside =
+    adds_weaker before.adds (lookups_up k (length shorter) (plus (member_reads shorter) (search_reads longer)) inside)
+
+-- the documents of the list that has fewer are looked for
+pub intersect_within : (documents others : List ℕ) (old new : Reads) → length documents ≤ length others → AddsAtMost old new (lookups documents others) → AddsAtMost old new (intersect_reads documents others)
+intersect_within documents others a b fewer adds = rw (le-leb (length documents) (length others) fewer) adds
+
+pub intersect_within_other : (documents others : List ℕ) (old new : Reads) → length others < length documents → AddsAtMost old new (lookups others documents) → AddsAtMost old new (intersect_reads documents others)
+intersect_within_other documents others a b fewer adds = rw (lt-leb (length documents) (length others) fewer) adds

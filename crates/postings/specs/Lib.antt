@@ -1,0 +1,3 @@
+pub mod Posted
+pub mod Makers
+pub mod Rows

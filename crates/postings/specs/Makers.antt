@@ -1,0 +1,12 @@
+-- When a list of documents is not made.
+use Rattle.std.specs.Prelude.{◌≡◌, ◌≢◌, ℕ, ◌<◌, ◌≤◌, List, length}
+use Rattle.std.specs.List.Sorted.{IsStrictlyIncreasing}
+use Rattle.postings.specs.declared.fault.PostingsError.{PostingsError}
+use Rattle.postings.specs.declared.fault.PostingsError.TheVariants.{LengthMismatch, TooLong, NotAscending, Memory}
+
+-- what each fault says of the documents and the costs, and of the most that a list holds
+abbrev pub IsRefusedFor : List ℕ → List ℕ → ℕ → PostingsError → Type 0
+IsRefusedFor documents costs most LengthMismatch = length documents ≢ length costs
+IsRefusedFor documents costs most TooLong = (length documents ≡ length costs) × (most < length documents)
+IsRefusedFor documents costs most NotAscending = (length documents ≡ length costs) × (length documents ≤ most) × (IsStrictlyIncreasing documents → ⊥)
+IsRefusedFor documents costs most Memory = (length documents ≡ length costs) × (length documents ≤ most) × IsStrictlyIncreasing documents

@@ -1,0 +1,48 @@
+-- Documents in ascending order, each with a cost, and what is asked of them.
+use Rattle.std.specs.Prelude.{◌≡◌, ℕ, ◌+◌, ◌*◌, ◌==◌, ◌&&◌, ◌≤◌, All, Bool, List, length, slice_index, filter, nat_le, Option, option_map, if◌then◌else◌}
+use Rattle.std.specs.List.{list_any, range_with_len}
+use Rattle.std.specs.List.Sorted.{IsStrictlyIncreasing}
+use Rattle.vers_rmq.specs.Minima.{first_least_of}
+use Rattle.vers_sorted.specs.Layout.{select_calls, member_reads, search_reads}
+use Rattle.vers_tally.specs.Reads.{Reads, digits, plus, times}
+
+-- documents, and the cost of each, at the same place
+pub record Posted : Type 0 where
+  pub documents : List ℕ
+  pub costs : List ℕ
+
+-- the documents ascend and are numbers of 64 bits, and there are as many costs
+pub record ArePaired (posted : Posted) : Type 0 where
+  pub ascending : IsStrictlyIncreasing posted.documents
+  pub paired : length posted.costs ≡ length posted.documents
+  pub numbers : All (λ d. d ≤ 18446744073709551615) posted.documents
+
+-- whether a document is one of a list
+unfoldable pub is_among : List ℕ → ℕ → Bool
+is_among documents d = list_any (λ m. m == d) documents
+
+-- the places of the documents from one number to another, both included
+unfoldable pub places_between : List ℕ → ℕ → ℕ → List ℕ
+places_between documents from to =
+    filter (λ i. nat_le from (slice_index documents i) && nat_le (slice_index documents i) to) (range_with_len 0 (length documents))
+
+-- the first document of least cost among those from one number to another, both included
+unfoldable pub cheapest : Posted → ℕ → ℕ → Option ℕ
+cheapest posted from to =
+    option_map (slice_index posted.documents) (first_least_of posted.costs (places_between posted.documents from to))
+
+-- the documents of one list that another has too
+unfoldable pub common : List ℕ → List ℕ → List ℕ
+common documents others = filter (is_among others) documents
+
+-- what `cheapest` reads at most: two searches and a document, and 18 costs
+abbrev pub cheapest_reads : List ℕ → Reads
+cheapest_reads documents = record (select_calls (2 * digits (length documents) + 18) documents) { items = 18 }
+
+-- what looking for each document of one list in another reads at most
+abbrev pub lookups : List ℕ → List ℕ → Reads
+lookups documents others = times (length documents) (plus (member_reads documents) (search_reads others))
+
+-- what `intersect` reads at most: it looks in the longer list for each document of the shorter
+abbrev pub intersect_reads : List ℕ → List ℕ → Reads
+intersect_reads documents others = if nat_le (length documents) (length others) then lookups documents others else lookups others documents

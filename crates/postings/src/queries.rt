@@ -1,0 +1,172 @@
+//! What is asked of a list of documents.
+ghost use Rattle.std.specs.Prelude.{◌≡◌, ◌+◌, ◌≤◌, All, length, IfOk};
+ghost use Rattle.std.specs.List.Sorted.{IsStrictlyIncreasing};
+ghost use Rattle.vers_tally.specs.Reads.{AddsAtMost};
+ghost use Rattle.vers_sorted.specs.Sorted.{below, least_not_below};
+ghost use Rattle.vers_sorted.specs.Layout.{search_reads};
+ghost use Rattle.postings.specs.Posted.{is_among, cheapest, common, cheapest_reads, intersect_reads, lookups};
+
+use crate::postings::Postings;
+use std::alloc::{AllocError, Allocator};
+use vers_sorted::elias_fano::EliasFanoVec;
+use vers_tally::tally::Tally;
+
+impl<A: Allocator + Copy> Postings<A> {
+    /// Whether a document is in the list.
+    #[inline]
+    pub fn contains(&self, document: u64) -> bool
+        ensures { result ≡ is_among self.now.documents document }
+    {
+        let mut tally = Tally::new();
+        self.contains_counted(document, &mut tally)
+    }
+
+    /// Whether a document is in the list, by one search among the documents.
+    #[inline(always)]
+    pub fn contains_counted(&self, document: u64, tally: &mut Tally) -> bool
+        ensures value { result ≡ is_among self.now.documents document }
+        ensures adds { AddsAtMost tally.old tally.new (search_reads self.now.documents) }
+    {
+        holds(&self.documents, document, tally)
+    }
+
+    /// How many documents are below a number.
+    #[inline]
+    pub fn rank(&self, document: u64) -> u64
+        ensures value { result ≡ below self.now.documents document }
+        ensures within { result ≤ length self.now.documents }
+    {
+        let mut tally = Tally::new();
+        self.rank_counted(document, &mut tally)
+    }
+
+    /// How many documents are below a number, by one search among the documents.
+    #[inline(always)]
+    pub fn rank_counted(&self, document: u64, tally: &mut Tally) -> u64
+        ensures value { result ≡ below self.now.documents document }
+        ensures within { result ≤ length self.now.documents }
+        ensures adds { AddsAtMost tally.old tally.new (search_reads self.now.documents) }
+    {
+        self.documents.rank_counted(document, tally)
+    }
+
+    /// The first document that is not below a number. None where there is none.
+    #[inline]
+    pub fn next_at_least(&self, document: u64) -> Option<u64>
+        ensures { result ≡ least_not_below self.now.documents document }
+    {
+        let mut tally = Tally::new();
+        self.next_at_least_counted(document, &mut tally)
+    }
+
+    /// The first document that is not below a number, by one search among the documents. None where
+    /// there is none.
+    #[inline(always)]
+    pub fn next_at_least_counted(&self, document: u64, tally: &mut Tally) -> Option<u64>
+        ensures value { result ≡ least_not_below self.now.documents document }
+        ensures adds { AddsAtMost tally.old tally.new (search_reads self.now.documents) }
+    {
+        self.documents.successor_counted(document, tally)
+    }
+
+    /// The first document of least cost among those from one number to another, both included. None
+    /// where there is none.
+    #[inline]
+    pub fn cheapest(&self, from: u64, to: u64) -> Option<u64>
+        ensures { result ≡ cheapest self.now from to }
+    {
+        let mut tally = Tally::new();
+        self.cheapest_counted(from, to, &mut tally)
+    }
+
+    /// The first document of least cost among those from one number to another, both included, by
+    /// two searches among the documents, at most 18 costs and one document. None where there is
+    /// none.
+    #[inline(always)]
+    pub fn cheapest_counted(&self, from: u64, to: u64, tally: &mut Tally) -> Option<u64>
+        ensures value { result ≡ cheapest self.now from to }
+        ensures adds { AddsAtMost tally.old tally.new (cheapest_reads self.now.documents) }
+    {
+        let start = self.documents.rank_counted(from, tally) as usize;
+        let end = up_to(&self.documents, to, tally);
+        if start >= end {
+            return None;
+        }
+        let place = self.costs.range_min_counted(start, end - 1, tally);
+        self.documents.get_counted(place, tally)
+    }
+
+    /// The documents that another list has too, ascending. Memory is that of this list.
+    pub fn intersect(&self, other: &Postings<A>) -> Result<Vec<u64, A>, AllocError>
+        ensures { IfOk result (λ found. found.items ≡ common self.now.documents other.now.documents) }
+    {
+        let mut tally = Tally::new();
+        self.intersect_counted(other, &mut tally)
+    }
+
+    /// The documents that another list has too, ascending, by one search in the longer list for each
+    /// document of the shorter. Memory is that of this list.
+    pub fn intersect_counted(
+        &self,
+        other: &Postings<A>,
+        tally: &mut Tally,
+    ) -> Result<Vec<u64, A>, AllocError>
+        ensures value { IfOk result (λ found. found.items ≡ common self.now.documents other.now.documents) }
+        ensures adds { AddsAtMost tally.old tally.new (intersect_reads self.now.documents other.now.documents) }
+    {
+        let alloc = self.costs.allocator();
+        if self.len() <= other.len() {
+            return common_documents(alloc, &self.documents, &other.documents, tally);
+        }
+        common_documents(alloc, &other.documents, &self.documents, tally)
+    }
+}
+
+// Whether a document is in an ascending list, by one search.
+#[inline(always)]
+fn holds<A: Allocator + Copy>(documents: &EliasFanoVec<A>, document: u64, tally: &mut Tally) -> bool
+    requires { IsStrictlyIncreasing documents.now }
+    ensures value { result ≡ is_among documents.now document }
+    ensures adds { AddsAtMost tally.old tally.new (search_reads documents.now) }
+{
+    match documents.successor_counted(document, tally) {
+        Some(next) => next == document,
+        None => false,
+    }
+}
+
+// How many documents are not above a number, by one search.
+#[inline(always)]
+fn up_to<A: Allocator + Copy>(documents: &EliasFanoVec<A>, to: u64, tally: &mut Tally) -> usize
+    requires { All (λ d. d ≤ 18446744073709551615) documents.now }
+    ensures value { result ≡ below documents.now (to + 1) }
+    ensures adds { AddsAtMost tally.old tally.new (search_reads documents.now) }
+{
+    match to.checked_add(1) {
+        Some(above) => documents.rank_counted(above, tally) as usize,
+        None => documents.len(),
+    }
+}
+
+// The documents of the shorter list that the longer has too.
+fn common_documents<A: Allocator + Copy>(
+    alloc: A,
+    shorter: &EliasFanoVec<A>,
+    longer: &EliasFanoVec<A>,
+    tally: &mut Tally,
+) -> Result<Vec<u64, A>, AllocError>
+    requires { IsStrictlyIncreasing longer.now }
+    ensures value { IfOk result (λ found. found.items ≡ common shorter.now longer.now) }
+    ensures adds { AddsAtMost tally.old tally.new (lookups shorter.now longer.now) }
+{
+    let mut found = Vec::new(alloc);
+    for place in 0..shorter.len() {
+        let Some(document) = shorter.get_counted(place, tally) else {
+            break;
+        };
+        if holds(longer, document, tally) {
+            found.push(document)?;
+        }
+    }
+    Ok(found)
+}

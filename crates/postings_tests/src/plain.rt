@@ -1,0 +1,233 @@
+//! All lists over a few documents beside plain lists, and what the counted calls read.
+use crate::shared::{Question, answer, posted};
+use postings::{Postings, PostingsError};
+use std::alloc::{AllocError, Allocator, Global};
+use std::test::Fail;
+use test_alloc::{asked, asked_both};
+use vers_tally::tally::Tally;
+
+// Documents at both ends of the numbers, side by side and apart.
+const DOCUMENTS: [u64; 6] = [0, 1, 7, 8, u64::MAX - 1, u64::MAX];
+
+// Their costs, some of them equal.
+const COSTS: [u64; 6] = [4, 2, 2, 9, 2, 4];
+
+// Numbers at the documents and beside them.
+const ASKED: [u64; 9] = [0, 1, 2, 6, 7, 8, 9, u64::MAX - 1, u64::MAX];
+
+// Those of six numbers whose bit of `chosen` is set.
+fn chosen_of<A: Allocator + Copy>(
+    alloc: A,
+    numbers: &[u64; 6],
+    chosen: u64,
+) -> Result<Vec<u64, A>, AllocError> {
+    let mut list = Vec::new(alloc);
+    for (k, number) in numbers.iter().enumerate() {
+        if (chosen >> k) & 1 == 1 {
+            list.push(*number)?;
+        }
+    }
+    Ok(list)
+}
+
+// The plain answer: by looking at each document.
+fn plain_answer(documents: &[u64], costs: &[u64], question: Question) -> Option<u64> {
+    let mut below = 0u64;
+    let mut next = None;
+    let mut best: Option<(u64, u64)> = None;
+    let (low, high) = match question {
+        Question::Cheapest(from, to) => (from, to),
+        Question::Contains(d) | Question::Rank(d) | Question::Next(d) => (d, d),
+        Question::Len | Question::IsEmpty => (0, 0),
+    };
+    for (document, cost) in documents.iter().zip(costs) {
+        if *document < low {
+            below = below.wrapping_add(1);
+        } else if next.is_none() {
+            next = Some(*document);
+        }
+        let is_inside = low <= *document && *document <= high;
+        if is_inside && !best.is_some_and(|(_, least)| least <= *cost) {
+            best = Some((*document, *cost));
+        }
+    }
+    match question {
+        Question::Len => Some(documents.len() as u64),
+        Question::IsEmpty => Some(u64::from(documents.is_empty())),
+        Question::Contains(document) => Some(u64::from(next == Some(document))),
+        Question::Rank(_) => Some(below),
+        Question::Next(_) => next,
+        Question::Cheapest(_, _) => best.map(|(document, _)| document),
+    }
+}
+
+// Whether a list answers a question as a plain one does.
+fn answers_as_plain<A: Allocator + Copy>(
+    list: &Postings<A>,
+    documents: &[u64],
+    costs: &[u64],
+    question: Question,
+) -> bool {
+    answer(list, question) == plain_answer(documents, costs, question)
+}
+
+// Whether a list answers all questions as a plain one does.
+fn is_of<A: Allocator + Copy>(list: &Postings<A>, documents: &[u64], costs: &[u64]) -> bool {
+    let as_plain = |question: Question| answers_as_plain(list, documents, costs, question);
+    let mut is_right = as_plain(Question::Len) && as_plain(Question::IsEmpty);
+    for from in ASKED {
+        let alone = [
+            Question::Contains(from),
+            Question::Rank(from),
+            Question::Next(from),
+        ];
+        is_right = is_right && alone.iter().all(|question| as_plain(*question));
+        for to in ASKED {
+            is_right = is_right && as_plain(Question::Cheapest(from, to));
+        }
+    }
+    is_right
+}
+
+// Whether the list of the chosen documents answers as a plain one does.
+fn chosen_is_right(alloc: Global, chosen: u64) -> Result<bool, PostingsError> {
+    let documents = chosen_of(alloc, &DOCUMENTS, chosen)?;
+    let costs = chosen_of(alloc, &COSTS, chosen)?;
+    asked(
+        posted(alloc, documents.as_slice(), costs.as_slice()),
+        |list: &Postings<Global>| is_of(list, documents.as_slice(), costs.as_slice()),
+    )
+}
+
+#[test]
+fn all_lists_of_few_documents(rt: HostRuntime) -> Result<(), Fail> {
+    for chosen in 0..64 {
+        assert_eq!(rt;
+            chosen_is_right(rt.alloc(), chosen),
+            Ok(true),
+            "of {chosen}"
+        );
+    }
+    Ok(())
+}
+
+// The list of the chosen documents.
+fn chosen_list(alloc: Global, chosen: u64) -> Result<Postings<Global>, PostingsError> {
+    let documents = chosen_of(alloc, &DOCUMENTS, chosen)?;
+    posted(alloc, documents.as_slice(), documents.as_slice())
+}
+
+// Whether two lists share the documents that were chosen for both.
+fn share_chosen(alloc: Global, one: u64, other: u64) -> Result<bool, PostingsError> {
+    let wanted = chosen_of(alloc, &DOCUMENTS, one & other)?;
+    asked_both(
+        chosen_list(alloc, one),
+        chosen_list(alloc, other),
+        |one: &Postings<Global>, other: &Postings<Global>| {
+            asked(
+                one.intersect(other),
+                |found: &Vec<u64, Global>| found.as_slice() == wanted.as_slice(),
+            ) == Ok(true)
+        },
+    )
+}
+
+#[test]
+fn all_pairs_of_lists_share_what_both_have(rt: HostRuntime) -> Result<(), Fail> {
+    for one in 0..64 {
+        for other in 0..64 {
+            assert_eq!(rt;
+                share_chosen(rt.alloc(), one, other),
+                Ok(true),
+                "of {one} and {other}"
+            );
+        }
+    }
+    Ok(())
+}
+
+// The first `count` multiples of `step`, modulo `limit`.
+fn multiples<A: Allocator + Copy>(
+    alloc: A,
+    count: u64,
+    step: u64,
+    limit: u64,
+) -> Result<Vec<u64, A>, AllocError> {
+    let mut numbers = Vec::new(alloc);
+    for k in 0..count {
+        let number = k.wrapping_mul(step);
+        numbers.push(number.checked_rem(limit).unwrap_or(number))?;
+    }
+    Ok(numbers)
+}
+
+// Documents `step` apart, with costs below 101.
+fn spread<A: Allocator + Copy>(
+    alloc: A,
+    count: u64,
+    step: u64,
+) -> Result<Postings<A>, PostingsError> {
+    let documents = multiples(alloc, count, step, u64::MAX)?;
+    let costs = multiples(alloc, count, 7, 101)?;
+    Postings::from_sorted(documents.as_slice(), costs)
+}
+
+// The most low parts and queries of the high parts that a search among 1,000 documents reads.
+const SEARCH: u64 = 10 + 8;
+
+// Whether the queries of a list of 1,000 documents read within their bounds.
+fn reads_are_few(list: &Postings<Global>) -> bool {
+    let mut is_within = true;
+    for document in 0..1000u64 {
+        let mut tally = Tally::new();
+        is_within = is_within && list.contains_counted(document, &mut tally);
+        is_within = is_within && tally.low_parts() <= SEARCH && tally.rank_calls() <= SEARCH;
+        let mut tally = Tally::new();
+        let cheapest = list.cheapest_counted(document / 2, document, &mut tally);
+        is_within = is_within && cheapest.is_some();
+        is_within = is_within && tally.low_parts() <= 2 * 10 + 18 && tally.items() <= 18;
+    }
+    is_within
+}
+
+#[test]
+fn queries_read_within_their_bounds(rt: HostRuntime) -> Result<(), Fail> {
+    let is_within = asked(spread(rt.alloc(), 1000, 1), reads_are_few);
+    assert_eq!(rt; is_within, Ok(true));
+    Ok(())
+}
+
+// How many low parts two lists read for what they share, which is ten documents.
+fn reads_of_shared(one: &Postings<Global>, other: &Postings<Global>) -> Option<u64> {
+    let mut tally = Tally::new();
+    let found = asked(
+        one.intersect_counted(other, &mut tally),
+        |found: &Vec<u64, Global>| found.len(),
+    );
+    (found == Ok(10)).then_some(tally.low_parts())
+}
+
+fn is_at_most(reads: Result<Option<u64>, PostingsError>, most: u64) -> bool {
+    match reads {
+        Ok(Some(reads)) => reads <= most,
+        _ => false,
+    }
+}
+
+#[test]
+fn the_longer_list_is_asked_for_each_document_of_the_shorter(rt: HostRuntime) -> Result<(), Fail> {
+    let most = 10 * (SEARCH + 2);
+    let forth = asked_both(
+        spread(rt.alloc(), 10, 99),
+        spread(rt.alloc(), 1000, 1),
+        reads_of_shared,
+    );
+    let back = asked_both(
+        spread(rt.alloc(), 1000, 1),
+        spread(rt.alloc(), 10, 99),
+        reads_of_shared,
+    );
+    assert!(rt; is_at_most(forth, most));
+    assert!(rt; is_at_most(back, most));
+    Ok(())
+}

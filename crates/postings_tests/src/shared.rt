@@ -1,0 +1,36 @@
+//! Lists of documents and what is asked of them, as tests need them.
+use postings::{Postings, PostingsError};
+use std::alloc::Allocator;
+
+/// A list of these documents with these costs.
+pub fn posted<A: Allocator + Copy>(
+    alloc: A,
+    documents: &[u64],
+    costs: &[u64],
+) -> Result<Postings<A>, PostingsError> {
+    let costs = Vec::from_slice(alloc, costs)?;
+    Postings::from_sorted(documents, costs)
+}
+
+/// A question to a list of documents. Truth values are answered as 1 and 0.
+#[derive(Clone, Copy, Drop)]
+pub enum Question {
+    Len,
+    IsEmpty,
+    Contains(u64),
+    Rank(u64),
+    Next(u64),
+    Cheapest(u64, u64),
+}
+
+/// The answer of a list.
+pub fn answer<A: Allocator + Copy>(list: &Postings<A>, question: Question) -> Option<u64> {
+    match question {
+        Question::Len => Some(list.len() as u64),
+        Question::IsEmpty => Some(u64::from(list.is_empty())),
+        Question::Contains(document) => Some(u64::from(list.contains(document))),
+        Question::Rank(document) => Some(list.rank(document)),
+        Question::Next(document) => list.next_at_least(document),
+        Question::Cheapest(from, to) => list.cheapest(from, to),
+    }
+}

@@ -1,0 +1,141 @@
+//! The lines of a list of parentheses.
+ghost use Rattle.std.specs.Prelude.{◌≡◌, true, IfOk, Decides};
+ghost use Rattle.vers_bits.specs.Bits.{places};
+ghost use Rattle.vers_trees.specs.Forest.{IsBalanced};
+ghost use Rattle.vers_cli.specs.Text.{words_in};
+ghost use Rattle.vers_cli.specs.Arguments.{bits_of};
+ghost use Rattle.vers_cli.specs.TreeLines.{first_place, are_balanced, tree_loaded, tree_reply, whole_reply as reply_of_whole, excess_reply, place_reply as reply_at_place, search_reply as reply_of_search};
+ghost use Rattle.vers_cli.specs.Reply.{plain_reply};
+
+use crate::arguments::{bit_digits, no_arguments, number_and_signed, one_number};
+use crate::bits::bit_vec;
+use crate::loading::Loading;
+use crate::name::{PlaceQuery, Query, SearchQuery, TreeQuery, WholeQuery};
+use crate::reply::Reply;
+use std::alloc::{AllocError, Allocator};
+use vers_trees::trees::bp::{BpTree, MAX_LEN};
+
+/// What the load line `tree S` gives.
+pub fn load<'a, A: Allocator + Copy>(
+    alloc: &'a A,
+    arguments: &[u8],
+) -> Result<Loading<BpTree<512, &'a A>>, AllocError>
+    ensures { IfOk result (λ loading. loading ≡ tree_loaded (bits_of (words_in arguments.now))) }
+{
+    let Some(digits) = bit_digits(arguments) else {
+        return Ok(Loading::Malformed);
+    };
+    if digits.len() > MAX_LEN {
+        return Ok(Loading::Inadmissible);
+    }
+    // The list is never too long, so an error is of memory.
+    let tree = BpTree::from_bit_vector(bit_vec(alloc, digits)?).map_err(|_| AllocError)?;
+    Ok(Loading::Accepted(tree))
+}
+
+/// The reply of a query line, where these parentheses are held.
+pub fn reply<A: Allocator + Copy>(
+    alloc: A,
+    tree: &BpTree<512, &A>,
+    query: Query,
+    arguments: &[u8],
+) -> Result<Reply<A>, AllocError>
+    ensures { IfOk result (λ reply. plain_reply reply ≡ tree_reply tree.now query (words_in arguments.now)) }
+{
+    match query {
+        Query::Tree(TreeQuery::Whole(query)) => match no_arguments(arguments) {
+            None => Ok(Reply::BadLine),
+            Some(()) => whole_reply(alloc, tree, query),
+        },
+        Query::Tree(TreeQuery::Place(query)) => match one_number(arguments) {
+            None => Ok(Reply::BadLine),
+            Some(i) => Ok(place_reply(tree, query, i as usize)),
+        },
+        Query::Tree(TreeQuery::Search(query)) => match number_and_signed(arguments) {
+            None => Ok(Reply::BadLine),
+            Some((i, r)) => Ok(search_reply(tree, query, i as usize, r)),
+        },
+        _ => Ok(Reply::WrongStructure),
+    }
+}
+
+// The reply of a query of the whole list.
+fn whole_reply<A: Allocator + Copy>(
+    alloc: A,
+    tree: &BpTree<512, &A>,
+    query: WholeQuery,
+) -> Result<Reply<A>, AllocError>
+    ensures { IfOk result (λ reply. plain_reply reply ≡ reply_of_whole tree.now query) }
+{
+    match query {
+        WholeQuery::Size => Ok(Reply::Number(tree.size() as u64)),
+        WholeQuery::Root => Ok(Reply::place_or_absent(root(tree))),
+        WholeQuery::IsBalanced => Ok(Reply::Number(u64::from(is_balanced(tree)))),
+        WholeQuery::DfsIter => Ok(Reply::Numbers(nodes(alloc, tree)?)),
+    }
+}
+
+// The place of the first bit. None where there are no bits.
+fn root<A: Allocator + Copy>(tree: &BpTree<512, &A>) -> Option<usize>
+    ensures { result ≡ first_place tree.now }
+{
+    tree.root()
+}
+
+// Whether the parentheses are balanced.
+fn is_balanced<A: Allocator + Copy>(tree: &BpTree<512, &A>) -> bool
+    ensures value { result ≡ are_balanced tree.now }
+    ensures grammar { Decides result (IsBalanced tree.now) }
+{
+    tree.is_balanced()
+}
+
+// The places of the ones.
+fn nodes<A: Allocator + Copy>(alloc: A, tree: &BpTree<512, &A>) -> Result<Vec<u64, A>, AllocError>
+    ensures { IfOk result (λ numbers. numbers.items ≡ places true tree.now) }
+{
+    let mut numbers = Vec::with_capacity(alloc, tree.size())?;
+    for place in tree.dfs_iter() {
+        numbers.push(place as u64)?;
+    }
+    Ok(numbers)
+}
+
+// The reply of a query of a place.
+fn place_reply<A: Allocator + Copy>(tree: &BpTree<512, &A>, query: PlaceQuery, i: usize) -> Reply<A>
+    ensures { plain_reply result ≡ reply_at_place tree.now query i }
+{
+    match query {
+        PlaceQuery::Excess => excess(tree, i),
+        PlaceQuery::Close => Reply::place_or_absent(tree.close(i)),
+        PlaceQuery::Open => Reply::place_or_absent(tree.open(i)),
+        PlaceQuery::Enclose => Reply::place_or_absent(tree.enclose(i)),
+        PlaceQuery::NodeHandle => Reply::Number(tree.node_handle(i) as u64),
+    }
+}
+
+// The excess past the bit at a place, which is refused past the end.
+fn excess<A: Allocator + Copy>(tree: &BpTree<512, &A>, i: usize) -> Reply<A>
+    ensures { plain_reply result ≡ excess_reply tree.now i }
+{
+    if i < tree.len() {
+        Reply::Signed(tree.excess(i))
+    } else {
+        Reply::Refused
+    }
+}
+
+// The reply of a search from a place for where the excess has risen by `r`.
+fn search_reply<A: Allocator + Copy>(
+    tree: &BpTree<512, &A>,
+    query: SearchQuery,
+    i: usize,
+    r: i64,
+) -> Reply<A>
+    ensures { plain_reply result ≡ reply_of_search tree.now query i r }
+{
+    match query {
+        SearchQuery::FwdSearch => Reply::place_or_absent(tree.fwd_search(i, r)),
+        SearchQuery::BwdSearch => Reply::place_or_absent(tree.bwd_search(i, r)),
+    }
+}

@@ -1,0 +1,10 @@
+use Rattle.std.proofs.Common.{arith}
+use Rattle.vers_rank.proofs.Reading.{no_reading}
+use Rattle.vers_rank.proofs.fast_rs_vec.RsVec.has_places_of.Goals as goal
+
+pub loop-r-init : goal.loop-r-init
+loop-r-init g c = record {
+  here = rw c.new-here.ensures (no_reading _ _);
+  there = rw c.new-there.ensures (no_reading _ _);
+  same = λ k h. absurd (omega arith);
+}

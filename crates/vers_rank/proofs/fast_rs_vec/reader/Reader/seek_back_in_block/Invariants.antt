@@ -1,0 +1,20 @@
+use Rattle.std.proofs.Common.{◌≡◌, ◌-◌, ◌/◌, ◌≤◌}
+use Rattle.std.specs.Prelude.{count_ones}
+use Rattle.vers_tally.specs.Reads.{only_data_words, AddsAtMost}
+use Rattle.vers_rank.specs.inside.Walks.{IsReadingBack}
+use Rattle.vers_rank.proofs.fast_rs_vec.reader.Reader.seek_back_in_block.Given as goal
+
+abbrev pub invariant-loop-ones : goal.invariant-loop-ones
+invariant-loop-ones g l =
+    record {
+      reading : IsReadingBack l.bit l.bits l.self;
+      to : l.end ≤ l.self.next;
+      edge : l.self.edge ≡ l.fn.self.edge;
+      ones : l.ones ≡ count_ones l.self.word;
+      down : l.self.limb ≤ l.fn.self.limb;
+      block : l.self.limb / 8 ≡ l.fn.self.limb / 8;
+      adds : AddsAtMost l.fn.tally l.tally (only_data_words (l.fn.self.limb - l.self.limb));
+    }
+
+abbrev pub decreases-loop-ones : goal.decreases-loop-ones
+decreases-loop-ones g l = l.self.limb

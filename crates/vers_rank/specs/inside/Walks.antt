@@ -1,0 +1,70 @@
+-- What the walks over the places of the ones (or zeros) of an indexed list keep.
+use Rattle.std.specs.Prelude.{◌≡◌, ℕ, ◌+◌, ◌-◌, ◌*◌, ◌/◌, ◌<◌, ◌≤◌, Bool, true, List, length, drop, slice_index_or, false, if◌then◌else◌}
+use Rattle.std.specs.Int.{bit_at}
+use Rattle.vers_bits.specs.Bits.{is_bit, count, places}
+use Rattle.vers_rank.specs.declared.fast_rs_vec.reader.Reader.{Reader}
+use Rattle.vers_rank.specs.declared.fast_rs_vec.bit_set_iter.ChunkWalk.{ChunkWalk}
+use Rattle.vers_rank.specs.Walks.{chunk_count}
+
+-- a list of bits, and the bit whose places are asked for
+pub record PlacesOf : Type 0 where
+  pub bits : List Bool
+  pub bit : Bool
+
+-- place p holds the bit, and at least n places before it do
+pub record IsFrom (bit : Bool) (bits : List Bool) (n p : ℕ) : Type 0 where
+  pub inside : p < length bits
+  pub holds : is_bit bit (slice_index_or bits p false) ≡ true
+  pub number : n ≤ count bit bits p
+
+-- the ones of the word are the places of the limb from number next on, and those up to number edge stand in the limb's block; a reader of which the edge is 0 has read nothing
+pub record IsReading (bit : Bool) (bits : List Bool) (reader : Reader) : Type 0 where
+  pub fits : reader.word < 18446744073709551616
+  pub before : count bit bits (64 * reader.limb) ≤ reader.next
+  pub after : reader.next ≤ count bit bits (64 * reader.limb + 64)
+  pub sound : (i : ℕ) → i < 64 → bit_at reader.word i ≡ 1 → 64 * reader.limb + i < length bits → IsFrom bit bits reader.next (64 * reader.limb + i)
+  pub begun : 0 < reader.word → 0 < reader.edge
+  pub complete : 0 < reader.edge → (i : ℕ) → i < 64 → IsFrom bit bits reader.next (64 * reader.limb + i) → bit_at reader.word i ≡ 1
+  pub in_block : reader.edge ≤ count bit bits (512 * (reader.limb / 8) + 512)
+
+-- place p holds the bit, and fewer than n places before it do
+pub record IsBelow (bit : Bool) (bits : List Bool) (n p : ℕ) : Type 0 where
+  pub inside : p < length bits
+  pub holds : is_bit bit (slice_index_or bits p false) ≡ true
+  pub number : count bit bits p < n
+
+-- the ones of the word are the places of the limb below number next, and those from number edge on stand in the limb's block
+pub record IsReadingBack (bit : Bool) (bits : List Bool) (reader : Reader) : Type 0 where
+  pub fits : reader.word < 18446744073709551616
+  pub inside : 64 * reader.limb ≤ length bits
+  pub before : count bit bits (64 * reader.limb) ≤ reader.next
+  pub after : reader.next ≤ count bit bits (64 * reader.limb + 64)
+  pub sound : (i : ℕ) → i < 64 → bit_at reader.word i ≡ 1 → IsBelow bit bits reader.next (64 * reader.limb + i)
+  pub complete : (i : ℕ) → i < 64 → IsBelow bit bits reader.next (64 * reader.limb + i) → bit_at reader.word i ≡ 1
+  pub in_block : count bit bits (512 * (reader.limb / 8)) ≤ reader.edge
+
+-- a word, or its complement where zeros are asked for
+abbrev pub marked : Bool → ℕ → ℕ
+marked bit word = if bit then word else 18446744073709551615 - word
+
+-- ---- chunks of 16 bits
+
+-- the places of the ones (or zeros) from p on
+unfoldable pub places_from : Bool → List Bool → ℕ → List ℕ
+places_from bit bits p = drop (count bit bits p) (places bit bits)
+
+-- the places that a walk by chunks has still to give
+abbrev pub chunk_places_left : List Bool → ChunkWalk → List ℕ
+chunk_places_left bits walk = places_from walk.bit bits walk.place
+
+-- how many chunks a walk has still to load
+abbrev pub chunks_unread : List Bool → ChunkWalk → ℕ
+chunks_unread bits walk = chunk_count (length bits - walk.end)
+
+-- the ones of the chunk, counted from place, are the places up to end that hold the bit
+pub record IsChunkWalkOf (bits : List Bool) (walk : ChunkWalk) : Type 0 where
+  pub ordered : walk.place ≤ walk.end
+  pub within : walk.end ≤ length bits
+  pub fits : walk.chunk < 18446744073709551616
+  pub sound : (i : ℕ) → bit_at walk.chunk i ≡ 1 → (walk.place + i < walk.end) × (is_bit walk.bit (slice_index_or bits (walk.place + i) false) ≡ true)
+  pub complete : (i : ℕ) → walk.place + i < walk.end → is_bit walk.bit (slice_index_or bits (walk.place + i) false) ≡ true → bit_at walk.chunk i ≡ 1

@@ -1,0 +1,35 @@
+-- The first place of a least item, found among the places of its range.
+use Rattle.std.proofs.Common.{◌≡◌, ℕ, zero, suc, ◌+◌, ◌-◌, ◌<◌, ◌≤◌, Bool, true, false, List, get_or, leb, Some, refl, inl, inr, arith}
+use Rattle.std.proofs.Math.Bool.{and-false}
+use Rattle.std.specs.List.{find, list_all, range_with_len}
+use Rattle.std.proofs.lemmas.Bool.{cases_lt, le-leb, lt-leb}
+use Rattle.vers_rmq.specs.Minima.{IsFirstLeast, is_least, first_least_of}
+
+-- the first of n numbers from a on that does
+find_first : (test : ℕ → Bool) (a n m : ℕ) → a ≤ m → m < a + n → test m ≡ true → ((k : ℕ) → a ≤ k → k < m → test k ≡ false) → find test (range_with_len a n) ≡ Some m
+find_first test a zero m from to here before = absurd (omega (arith, from, to))
+find_first test a (suc n) m from to here before = elim (cases_lt a m) [
+  | inl less ↦ rw (before a (omega arith) less) (find_first test (a + 1) n m (omega arith) (omega arith) here (λ k h l. before k (omega arith) l))
+  | inr more ↦ let same : m ≡ a = omega arith in rw (← same, here) refl
+]
+
+-- n numbers from a on that all do
+all_of_range : (test : ℕ → Bool) (a n : ℕ) → ((k : ℕ) → a ≤ k → k < a + n → test k ≡ true) → list_all test (range_with_len a n) ≡ true
+all_of_range test a zero each = refl
+all_of_range test a (suc n) each = rw (each a (omega arith) (omega arith), all_of_range test (a + 1) n (λ k h l. each k (omega arith) (omega arith))) refl
+
+-- one of them that doesn't
+one_of_range : (test : ℕ → Bool) (a n m : ℕ) → a ≤ m → m < a + n → test m ≡ false → list_all test (range_with_len a n) ≡ false
+one_of_range test a zero m from to here = absurd (omega (arith, from, to))
+one_of_range test a (suc n) m from to here = elim (cases_lt a m) [
+  | inl less ↦ rw (one_of_range test (a + 1) n m (omega arith) (omega arith) here) (and-false _)
+  | inr more ↦ let same : m ≡ a = omega arith in rw (← same, here) refl
+]
+
+-- of the n places from i on, the first with a least item is the first least place
+pub first_least_of-range : (items : List ℕ) (i n m : ℕ) → 0 < n → IsFirstLeast items i (i + n - 1) m → first_least_of items (range_with_len i n) ≡ Some m
+unfolding first_least_of is_least
+first_least_of-range items i n m some first =
+    find_first (is_least items (range_with_len i n)) i n m first.from (omega (arith, first.to, some))
+    (all_of_range (λ p. leb (get_or items m 0) (get_or items p 0)) i n (λ p f t. le-leb _ _ (first.least p f (omega arith))))
+    (λ k f t. one_of_range (λ p. leb (get_or items k 0) (get_or items p 0)) i n m first.from (omega (arith, first.to, some)) (lt-leb _ _ (first.leftmost k f t)))

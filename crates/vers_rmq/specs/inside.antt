@@ -1,0 +1,5 @@
+-- What only proofs and private functions need: no contract of a public function cites a word of it.
+pub mod Candidates
+pub mod Tables
+pub mod Masks
+pub mod Blocks

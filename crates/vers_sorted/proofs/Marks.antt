@@ -1,0 +1,101 @@
+-- The ones or the zeros of a limb, from the lowest up.
+use Rattle.std.proofs.Common.{◌≡◌, ℕ, ◌+◌, ◌-◌, ◌*◌, ◌/◌, ◌%◌, ◌^◌, ◌<◌, ◌≤◌, Bool, true, false, List, [], ◌∷◌, ◌++◌, length, take, get_or, not, refl, sym, ap, subst, ◌∙◌, arith, inl, inr, min}
+use mir.Syntax.{w64}
+use Rattle.std.specs.Int.{bit_at, bit_not, trailing_zeros}
+use Rattle.std.specs.Int.Count.{trailing_of_zero}
+use Rattle.std.proofs.lemmas.Bool.{cases_lt}
+use Rattle.std.proofs.lemmas.Nat.{shr-shr}
+use Rattle.std.proofs.lemmas.Nat.Bits.{bit_at-zero, bit_at-trailing_zeros, bit_at_not}
+use Rattle.vers_bits.specs.Bits.{bit_value, is_bit, count, places, limb}
+use Rattle.vers_sorted.specs.Ones.{AreMarked}
+use Rattle.vers_sorted.proofs.Scans.{part_bit, zero_bit, one_bit, count_stays}
+use Rattle.vers_sorted.proofs.SparseBits.{first_places_none, first_places_more, first_places_limb, first_places_end}
+
+-- ---- a limb
+
+limb_bit : (l : List Bool) (k i : ℕ) → i < 64 → bit_at (limb l k) i ≡ bit_value (get_or l (64 * k + i) false)
+unfolding limb
+limb_bit l k i h = part_bit l (64 * k) 64 i h
+
+other_value : (x : Bool) → 1 - bit_value x ≡ bit_value (not x)
+other_value true = refl
+other_value false = refl
+
+pub ones_marked : (l : List Bool) (k : ℕ) → AreMarked true l (64 * k) 64 (limb l k)
+ones_marked l k i h = limb_bit l k i h
+
+pub zeros_marked : (l : List Bool) (k : ℕ) → limb l k < 18446744073709551616 → AreMarked false l (64 * k) 64 (bit_not w64 (limb l k))
+zeros_marked l k small i h =
+    bit_at_not w64 (limb l k) i small h ∙ ap (λ v. 1 - v) (limb_bit l k i h) ∙ other_value (get_or l (64 * k + i) false)
+
+-- ---- the lowest digit that is left
+
+pub digits_past : (w t i : ℕ) → bit_at (w / 2 ^ t) i ≡ bit_at w (t + i)
+digits_past w t i = ap (λ m. m % 2) (shr-shr w t i)
+
+-- what is left past it
+pub marked_past : (b : Bool) (l : List Bool) (p n w t : ℕ) → t < n → AreMarked b l p n w → AreMarked b l (p + (t + 1)) (n - (t + 1)) (w / 2 ^ t / 2 ^ 1)
+marked_past b l p n w t h marked i small =
+    let e : t + (1 + i) ≡ t + 1 + i = omega arith in
+    let place : p + (t + 1 + i) ≡ p + (t + 1) + i = omega arith in
+    digits_past (w / 2 ^ t) 1 i ∙ digits_past w t (1 + i) ∙ ap (bit_at w) e ∙ marked (t + 1 + i) (omega arith)
+    ∙ ap (λ q. bit_value (is_bit b (get_or l q false))) place
+
+module _ (b : Bool) (l : List Bool) (p n w : ℕ) (within : p + n ≤ length l) (few : n ≤ 64) (fits : w < 18446744073709551616) (marked : AreMarked b l p n w) where
+  below_lowest : (i : ℕ) → i < trailing_zeros w64 w → bit_at w i ≡ 0
+  below_lowest i h = elim (cases_lt 0 w) [
+    | inl some ↦ (bit_at-trailing_zeros w64 w some fits).2 i h
+    | inr none ↦ let z : w ≡ 0 = omega arith in ap (λ v. bit_at v i) z ∙ bit_at-zero i
+  ]
+
+  off : (i : ℕ) → i < n → i < trailing_zeros w64 w → is_bit b (get_or l (p + i) false) ≡ false
+  off i h low = zero_bit (is_bit b (get_or l (p + i) false)) (sym (marked i h) ∙ below_lowest i low)
+
+  on : trailing_zeros w64 w < n → is_bit b (get_or l (p + trailing_zeros w64 w) false) ≡ true
+  on h = elim (cases_lt 0 w) [
+    | inl some ↦ one_bit (is_bit b (get_or l (p + trailing_zeros w64 w) false)) (sym (marked (trailing_zeros w64 w) h) ∙ (bit_at-trailing_zeros w64 w some fits).1)
+    | inr none ↦
+        let z : w ≡ 0 = omega arith in
+        let all : trailing_zeros w64 0 ≡ 64 = trailing_of_zero 64 in
+        absurd (omega (arith, ap (trailing_zeros w64) z, all))
+  ]
+
+  -- its place is the next, where it is one of the n
+  pub places_more : trailing_zeros w64 w < n
+      → take (count b l (p + (trailing_zeros w64 w + 1))) (places b l) ≡ take (count b l p) (places b l) ++ (p + trailing_zeros w64 w) ∷ []
+  places_more h =
+      let t : ℕ = trailing_zeros w64 w in
+      let e : p + (t + 1) ≡ p + t + 1 = omega arith in
+      let same : count b l (p + t) ≡ count b l p = count_stays b l p t (omega arith) (λ i low. off i (omega arith) low) in
+      ap (λ q. take (count b l q) (places b l)) e ∙ first_places_more b l (p + t) (omega arith) (on h)
+      ∙ ap (λ c. take c (places b l) ++ (p + t) ∷ []) same
+
+  -- else there is none
+  pub places_all : n ≤ trailing_zeros w64 w → take (count b l p) (places b l) ≡ take (count b l (p + n)) (places b l)
+  places_all h = ap (λ c. take c (places b l)) (sym (count_stays b l p n within (λ i low. off i low (omega arith))))
+
+-- the same up to a place e, with the digit that was found
+pub marked_past_to : (b : Bool) (l : List Bool) (p e w t : ℕ) → t < e - p → AreMarked b l p (e - p) w → AreMarked b l (p + (t + 1)) (e - (p + (t + 1))) (w / 2 ^ t / 2 ^ 1)
+marked_past_to b l p e w t h marked i small = marked_past b l p (e - p) w t h marked i (omega arith)
+
+pub more_found : (b : Bool) (l : List Bool) (p e w t : ℕ) (items more : List ℕ) → p ≤ e → e ≤ length l → e ≤ p + 64 → w < 18446744073709551616
+    → AreMarked b l p (e - p) w → t ≡ trailing_zeros w64 w → t < e - p → items ≡ take (count b l p) (places b l) → more ≡ items ++ (p + t) ∷ []
+    → more ≡ take (count b l (p + (t + 1))) (places b l)
+more_found b l p e w t items more to within few fits marked is h found put =
+    let P : ℕ → Type 0 = λ q. take (count b l (p + (q + 1))) (places b l) ≡ take (count b l p) (places b l) ++ (p + q) ∷ [] in
+    let step : take (count b l (p + (t + 1))) (places b l) ≡ take (count b l p) (places b l) ++ (p + t) ∷ [] =
+    subst P (sym is) (places_more b l p (e - p) w (omega arith) (omega arith) fits marked (omega (arith, is))) in
+    put ∙ ap (λ x. x ++ (p + t) ∷ []) found ∙ sym step
+
+-- ---- of one limb
+
+pub limb_done : (b : Bool) (l : List Bool) (k p e w : ℕ) → 64 * k < length l → 64 * k ≤ p → p ≤ e → e ≡ 64 * k + min (length l - 64 * k) 64 → w < 18446744073709551616
+    → AreMarked b l p (e - p) w → e - p ≤ trailing_zeros w64 w → take (count b l p) (places b l) ≡ take (count b l (64 * k + 64)) (places b l)
+limb_done b l k p e w some from to is fits marked past =
+    let whole : p + (e - p) ≡ e = omega arith in
+    places_all b l p (e - p) w (omega arith) (omega arith) fits marked past
+    ∙ ap (λ q. take (count b l q) (places b l)) whole ∙ sym (first_places_limb b l k e is some)
+
+pub ruleset limbs = (ones_marked, zeros_marked)
+
+pub ruleset collecting = (first_places_none, first_places_end)

@@ -1,0 +1,73 @@
+-- Numbers that stand in an order, each to the next.
+use Rattle.std.proofs.Common.{◌≡◌, ℕ, zero, suc, ◌<◌, Bool, true, false, List, [], ◌∷◌, length, get_or, nat_le, nat_lt, refl, sym, ◌∙◌, arith, add-one}
+use Rattle.std.specs.Prelude.{◌↔◌, All, IsTrue}
+use Rattle.std.proofs.Math.Bool.{◌&&◌, and-false}
+use Rattle.std.specs.List.{IsAllAdjacentAnswer, list_all}
+use Rattle.std.specs.List.Sorted.{IsNonDecreasing, IsStrictlyIncreasing}
+use Rattle.std.proofs.lemmas.Bool.{leb-true, le-leb, ltb-true, lt-ltb}
+use Rattle.std.proofs.lemmas.List.{get_or_default}
+use Rattle.std.proofs.lemmas.List.Sorted.{IsNonDecreasingBy-from_all_adjacent}
+use Rattle.std.proofs.lemmas.List.Sums.{AllPass-from_list_all, list_all-from_AllPass}
+use Rattle.vers_sorted.specs.Sorted.{each_next}
+
+-- number k and the next
+abbrev pair_at : (ℕ → ℕ → Bool) → List ℕ → ℕ → Bool
+pair_at order xs k = order (get_or xs k 0) (get_or xs (suc k) 0)
+
+-- all neighbours stand in the order
+each_next-true : (order : ℕ → ℕ → Bool) (xs : List ℕ) → ((k : ℕ) → suc k < length xs → pair_at order xs k ≡ true) → each_next order xs ≡ true
+each_next-true order [] h = refl
+each_next-true order (x ∷ []) h = refl
+each_next-true order (x ∷ y ∷ xs) h =
+    rw (h 0 (omega arith), each_next-true order (y ∷ xs) (λ k l. h (suc k) (omega arith))) refl
+
+-- some neighbours don't
+each_next-false : (order : ℕ → ℕ → Bool) (xs : List ℕ) (k : ℕ) → suc k < length xs → pair_at order xs k ≡ false → each_next order xs ≡ false
+each_next-false order [] k l h = absurd (omega arith)
+each_next-false order (x ∷ []) k l h = absurd (omega arith)
+each_next-false order (x ∷ y ∷ xs) zero l h = rw h refl
+each_next-false order (x ∷ y ∷ xs) (suc k) l h = rw (each_next-false order (y ∷ xs) k (omega arith) h) (and-false _)
+
+-- what a test of all neighbours answers
+pub each_next-answer : (order : ℕ → ℕ → Bool) (xs : List ℕ) (r : Bool) → IsAllAdjacentAnswer (λ x y b. b ≡ order x y) xs r → r ≡ each_next order xs
+each_next-answer order xs true h = sym (each_next-true order xs (λ k l. rw (← add-one k) (sym (h k 0 (omega arith)))))
+each_next-answer order xs false h = sym (each_next-false order xs h.0 (omega (arith, h.1)) (rw (← add-one h.0) (sym (h.2 0))))
+
+-- both sides of a conjunction
+both : (a b : Bool) → a && b ≡ true → (a ≡ true) × (b ≡ true)
+both true b h = (refl, h)
+both false b h = cc
+
+-- two neighbours, where all stand in the order
+each_next-at : (order : ℕ → ℕ → Bool) (xs : List ℕ) (k : ℕ) → suc k < length xs → each_next order xs ≡ true → pair_at order xs k ≡ true
+each_next-at order [] k l h = absurd (omega arith)
+each_next-at order (x ∷ []) k l h = absurd (omega arith)
+each_next-at order (x ∷ y ∷ xs) zero l h = (both (order x y) (each_next order (y ∷ xs)) h).0
+each_next-at order (x ∷ y ∷ xs) (suc k) l h = each_next-at order (y ∷ xs) k (omega arith) (both (order x y) (each_next order (y ∷ xs)) h).1
+
+rising : (xs : List ℕ) → each_next nat_lt xs ≡ true → IsStrictlyIncreasing xs
+rising xs h k l = rw (add-one k) (ltb-true _ _ (each_next-at nat_lt xs k (omega arith) h))
+
+ascending : (xs : List ℕ) → each_next nat_le xs ≡ true → IsNonDecreasing xs
+ascending xs h = IsNonDecreasingBy-from_all_adjacent (λ x. x) xs (λ k d l.
+    rw (add-one k, get_or_default xs k d 0 (omega arith), get_or_default xs (suc k) d 0 (omega arith))
+    (leb-true _ _ (each_next-at nat_le xs k (omega arith) h)))
+
+-- what the tests of a caller answer
+pub ascending_is : (xs : List ℕ) (r : Bool) → r ≡ each_next nat_le xs → IsTrue r ↔ IsNonDecreasing xs
+ascending_is xs r e = (
+  λ h. ascending xs (sym e ∙ h),
+  λ up. e ∙ each_next-true nat_le xs (λ k l. le-leb _ _ (up k (suc k) 0 (omega arith) l)),
+)
+
+pub rising_is : (xs : List ℕ) (r : Bool) → r ≡ each_next nat_lt xs → IsTrue r ↔ IsStrictlyIncreasing xs
+rising_is xs r e = (
+  λ h. rising xs (sym e ∙ h),
+  λ up. e ∙ each_next-true nat_lt xs (λ k l. lt-ltb _ _ (rw (← add-one k) (up k (omega arith)))),
+)
+
+pub below_is : (xs : List ℕ) (limit : ℕ) (r : Bool) → r ≡ list_all (λ n. nat_lt n limit) xs → IsTrue r ↔ All (λ n. n < limit) xs
+below_is xs limit r e = (
+  λ h k d l. ltb-true _ _ (AllPass-from_list_all (λ n. nat_lt n limit) xs (sym e ∙ h) k d l),
+  λ all. e ∙ list_all-from_AllPass (λ n. nat_lt n limit) xs (λ k d l. lt-ltb _ _ (all k d l)),
+)

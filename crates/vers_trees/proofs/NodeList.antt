@@ -1,0 +1,187 @@
+-- The nodes of a forest are the places of the ones that it is written down with.
+use Rattle.std.proofs.Common.{◌≡◌, ℕ, zero, suc, ◌+◌, ◌<◌, Bool, true, false, cond, ◌&&◌, List, [], ◌∷◌, ◌++◌, map, length, get_or, Option, Some, None, eqb, arith, ⊎_elim, add-zero, zero-add, subst, sym, refl, ap, ◌∙◌}
+use Rattle.std.specs.Prelude.{find, filter, slice_get, unwrap_or, option_map}
+use Rattle.std.specs.List.{Contains, range_with_len, last_or}
+use Rattle.std.proofs.lemmas.Bool.{cases_Bool}
+use Rattle.std.proofs.lemmas.Bool.Decides.{Decides-eqb}
+use Rattle.vers_bits.specs.Bits.{is_bit, places}
+use Rattle.vers_trees.specs.Forest.{Forest, none, tree, text, moved, pairs}
+use Rattle.vers_trees.specs.Nodes.{nodes, IsNode, closing}
+use Rattle.vers_trees.proofs.Searches.{find_is, none_find, last_below, last_of_range, last_below_is, none_last_below}
+use Rattle.vers_trees.proofs.Paired.{Closes, Paired, paired_closes, closes_paired, open_is_paired, closes_once}
+use Rattle.vers_trees.proofs.Pairs.{contains_first, contains_later, contains_map, contains_map_cases, contains_from_paired, paired_from_contains}
+
+-- the places of the ones of a list that begins at place a
+abbrev pub ones_from : List Bool → ℕ → List ℕ
+ones_from [] a = []
+ones_from (b ∷ l) a = cond b (a ∷ ones_from l (a + 1)) (ones_from l (a + 1))
+
+ones_from-append : (k l : List Bool) (a : ℕ) → ones_from (k ++ l) a ≡ ones_from k a ++ ones_from l (a + length k)
+ones_from-append [] l a = rw (add-zero a) refl
+ones_from-append (b ∷ k) l a =
+    let e : a + 1 + length k ≡ a + suc (length k) = omega arith in
+    let ih : ones_from (k ++ l) (a + 1) ≡ ones_from k (a + 1) ++ ones_from l (a + suc (length k)) = ones_from-append k l (a + 1) ∙ ap (λ (m : ℕ). ones_from k (a + 1) ++ ones_from l m) e in
+    go (ones_from l (a + suc (length k))) ih b
+  where
+    go : (rest : List ℕ) → ones_from (k ++ l) (a + 1) ≡ ones_from k (a + 1) ++ rest → (b : Bool) → ones_from (b ∷ (k ++ l)) a ≡ ones_from (b ∷ k) a ++ rest
+    go rest ih true = ap (λ (xs : List ℕ). a ∷ xs) ih
+    go rest ih false = ih
+
+ones_from-moved : (n : ℕ) (l : List Bool) (a : ℕ) → ones_from l (n + a) ≡ map (λ x. n + x) (ones_from l a)
+ones_from-moved n [] a = refl
+ones_from-moved n (b ∷ l) a =
+    let e : n + a + 1 ≡ n + (a + 1) = omega arith in
+    let ih : ones_from l (n + a + 1) ≡ map (λ x. n + x) (ones_from l (a + 1)) = ap (ones_from l) e ∙ ones_from-moved n l (a + 1) in
+    go ih b
+  where
+    go : ones_from l (n + a + 1) ≡ map (λ x. n + x) (ones_from l (a + 1)) → (b : Bool) → ones_from (b ∷ l) (n + a) ≡ map (λ x. n + x) (ones_from (b ∷ l) a)
+    go ih true = ap (λ (xs : List ℕ). (n + a) ∷ xs) ih
+    go ih false = ih
+
+map-append : {X Y : Type 0} → (f : X → Y) (xs ys : List X) → map f (xs ++ ys) ≡ map f xs ++ map f ys
+map-append f [] ys = refl
+map-append f (x ∷ xs) ys = ap (λ (zs : List _). f x ∷ zs) (map-append f xs ys)
+
+opens_moved : (n : ℕ) (ps : List (ℕ × ℕ)) → map (λ (p : ℕ × ℕ). p.0) (map (moved n) ps) ≡ map (λ x. n + x) (map (λ (p : ℕ × ℕ). p.0) ps)
+opens_moved n [] = refl
+opens_moved n (p ∷ ps) = ap (λ (xs : List ℕ). (n + p.0) ∷ xs) (opens_moved n ps)
+
+pub nodes_from_ones : (F : Forest) → nodes F ≡ ones_from (text F) 0
+nodes_from_ones none = refl
+nodes_from_ones (tree X Y) =
+    let n = length (text X) in
+    let x : map (λ (p : ℕ × ℕ). p.0) (map (moved 1) (pairs X)) ≡ ones_from (text X) 1 =
+    opens_moved 1 (pairs X) ∙ ap (map (λ x. 1 + x)) (nodes_from_ones X) ∙ sym (ones_from-moved 1 (text X) 0) in
+    let e : n + 2 + 0 ≡ 1 + n + 1 = omega arith in
+    let y : map (λ (p : ℕ × ℕ). p.0) (map (moved (n + 2)) (pairs Y)) ≡ ones_from (text Y) (1 + n + 1) =
+    opens_moved (n + 2) (pairs Y) ∙ ap (map (λ x. n + 2 + x)) (nodes_from_ones Y) ∙ sym (ones_from-moved (n + 2) (text Y) 0) ∙ ap (ones_from (text Y)) e in
+    let a = map-append (λ (p : ℕ × ℕ). p.0) (map (moved 1) (pairs X)) (map (moved (n + 2)) (pairs Y)) in
+    let r = ones_from-append (text X) (false ∷ text Y) 1 in
+    ap (λ (xs : List ℕ). 0 ∷ xs) (a ∙ ap (λ (xs : List ℕ). xs ++ map (λ (p : ℕ × ℕ). p.0) (map (moved (n + 2)) (pairs Y))) x ∙ ap (λ (xs : List ℕ). ones_from (text X) 1 ++ xs) y ∙ sym r)
+
+-- the ones of a list by a test of places
+ones_filtered : (test : ℕ → Bool) (l : List Bool) (a : ℕ) → ((i : ℕ) → i < length l → test (a + i) ≡ get_or l i false) → filter test (range_with_len a (length l)) ≡ ones_from l a
+ones_filtered test [] a h = refl
+ones_filtered test (b ∷ l) a h =
+    let e : test a ≡ b = ap test (sym (add-zero a)) ∙ h 0 (omega arith) in
+    let ih = ones_filtered test l (a + 1) (λ i x. ap test (let g : a + 1 + i ≡ a + suc i = omega arith in g) ∙ h (suc i) (omega arith)) in
+    rw e (ap (λ (xs : List ℕ). cond b (a ∷ xs) xs) ih)
+
+-- the nodes are the places of ones, so they ascend
+pub nodes_are_ones : (F : Forest) → nodes F ≡ places true (text F)
+unfolding places
+nodes_are_ones F = nodes_from_ones F ∙ sym (ones_filtered (λ p. is_bit true (get_or (text F) p false)) (text F) 0 (λ i x. ap (λ (k : ℕ). get_or (text F) k false) (zero-add i)))
+
+-- ---- a node and its pair
+pub record HasPair (F : Forest) (v : ℕ) : Type 0 where
+  pub is_pair : Contains (pairs F) (v, closing F v)
+  pub closes : Closes (text F) v (closing F v)
+
+find_only : {X : Type 0} → (test : X → Bool) (xs : List X) (y : X) → Contains xs y → test y ≡ true → ((x : X) → Contains xs x → test x ≡ true → x ≡ y) → find test xs ≡ Some y
+find_only {X = X} test [] y c t h = let l = c.1 in absurd (omega arith)
+find_only {X = X} test (x ∷ xs) y c t h = go (find_only test xs y) (test x) refl
+  where
+    later : Contains (x ∷ xs) y → test x ≡ false → Contains xs y
+    later (zero, l, e) f = let g : test y ≡ false = subst (λ (z : X). test z ≡ false) e f in absurd (cc)
+    later (suc k, l, e) f = (k, omega arith, e)
+
+    go : (Contains xs y → test y ≡ true → ((z : X) → Contains xs z → test z ≡ true → z ≡ y) → find test xs ≡ Some y) → (b : Bool) → test x ≡ b → find test (x ∷ xs) ≡ Some y
+    go ih true e = rw e (ap Some (h x (contains_first x xs) e))
+    go ih false e = rw e (ih (later c e) t (λ z d g. h z (contains_later x xs z d) g))
+
+pub closing_is : (F : Forest) (v c : ℕ) → Paired F v c → closing F v ≡ c
+unfolding closing
+closing_is F v c p =
+    let f = find_only (λ (q : ℕ × ℕ). eqb q.0 v) (pairs F) (v, c) (contains_from_paired F v c p) ((Decides-eqb v v).1 refl) (λ q d t. same q d ((Decides-eqb q.0 v).0 t)) in
+    ap (λ (o : Option (ℕ × ℕ)). unwrap_or (option_map (λ (q : ℕ × ℕ). q.1) o) v) f
+  where
+    same : (q : ℕ × ℕ) → Contains (pairs F) q → q.0 ≡ v → q ≡ (v, c)
+    same q d e =
+        let m = paired_closes F q.0 q.1 (paired_from_contains F q d) in
+        let m' : Closes (text F) v q.1 = subst (λ (k : ℕ). Closes (text F) k q.1) e m in
+        let o = closes_once (text F) v q.1 c m' (paired_closes F v c p) in
+        ap (λ (k : ℕ). (k, q.1)) e ∙ ap (λ (k : ℕ). (v, k)) o
+
+has_pair : (F : Forest) (v c : ℕ) → Paired F v c → HasPair F v
+has_pair F v c p =
+    let e = sym (closing_is F v c p) in
+    record {
+      is_pair = subst (λ (k : ℕ). Contains (pairs F) (v, k)) e (contains_from_paired F v c p);
+      closes = subst (λ (k : ℕ). Closes (text F) v k) e (paired_closes F v c p);
+    }
+
+pub closes_to : (F : Forest) (v c : ℕ) → Closes (text F) v c → closing F v ≡ c
+closes_to F v c p = closing_is F v c (closes_paired F v c p)
+
+pub one_pair : (F : Forest) (v : ℕ) → v < length (text F) → get_or (text F) v false ≡ true → HasPair F v
+one_pair F v i b = let p = open_is_paired F v false i b in has_pair F v p.0 p.1
+
+pub node_pair : (F : Forest) (v : ℕ) → IsNode F v → HasPair F v
+node_pair F v n =
+    let m = contains_map_cases (λ (q : ℕ × ℕ). q.0) (pairs F) (0, 0) v n in
+    let p = paired_from_contains F m.0 m.1 in
+    subst (HasPair F) m.2 (has_pair F m.0.0 m.0.1 p)
+
+pub pair_node : (F : Forest) (v : ℕ) → HasPair F v → IsNode F v
+pair_node F v h = contains_map (λ (q : ℕ × ℕ). q.0) (pairs F) (v, closing F v) h.is_pair
+
+-- ---- the first and the last node that pass a test
+pub find_filtered : {X : Type 0} → (p t : X → Bool) (xs : List X) → find t (filter p xs) ≡ find (λ x. p x && t x) xs
+find_filtered {X = X} p t [] = refl
+find_filtered {X = X} p t (x ∷ xs) = go (p x) (t x) (find_filtered p t xs)
+  where
+    go : (a b : Bool) → find t (filter p xs) ≡ find (λ x. p x && t x) xs → find t (cond a (x ∷ filter p xs) (filter p xs)) ≡ cond (a && t x) (Some x) (find (λ x. p x && t x) xs)
+    go true b ih = ap (λ (o : Option X). cond (t x) (Some x) o) ih
+    go false b ih = ih
+
+pub filter_filtered : {X : Type 0} → (p t : X → Bool) (xs : List X) → filter t (filter p xs) ≡ filter (λ x. p x && t x) xs
+filter_filtered {X = X} p t [] = refl
+filter_filtered {X = X} p t (x ∷ xs) = go (p x) (filter_filtered p t xs)
+  where
+    go : (a : Bool) → filter t (filter p xs) ≡ filter (λ x. p x && t x) xs → filter t (cond a (x ∷ filter p xs) (filter p xs)) ≡ cond (a && t x) (x ∷ filter (λ x. p x && t x) xs) (filter (λ x. p x && t x) xs)
+    go true ih = ap (λ (ys : List X). cond (t x) (x ∷ ys) ys) ih
+    go false ih = ih
+
+pub first_filtered : {X : Type 0} → (t : X → Bool) (xs : List X) → slice_get (filter t xs) 0 ≡ find t xs
+first_filtered {X = X} t [] = refl
+first_filtered {X = X} t (x ∷ xs) = go (t x) (first_filtered t xs)
+  where
+    go : (b : Bool) → slice_get (filter t xs) 0 ≡ find t xs → slice_get (cond b (x ∷ filter t xs) (filter t xs)) 0 ≡ cond b (Some x) (find t xs)
+    go true ih = refl
+    go false ih = ih
+
+abbrev node_test : Forest → (ℕ → Bool) → ℕ → Bool
+node_test F t v = get_or (text F) v false && t v
+
+passes : (F : Forest) (t : ℕ → Bool) (v : ℕ) → get_or (text F) v false ≡ true → t v ≡ true → node_test F t v ≡ true
+passes F t v a b = rw (a, b) refl
+
+fails : (F : Forest) (t : ℕ → Bool) (v : ℕ) → (get_or (text F) v false ≡ true → t v ≡ false) → node_test F t v ≡ false
+fails F t v h = ⊎_elim (λ (a : get_or (text F) v false ≡ true). let b = h a in rw (a, b) refl) (λ (a : get_or (text F) v false ≡ false). rw a refl) (cases_Bool (get_or (text F) v false))
+
+find_node : (F : Forest) (t : ℕ → Bool) → find t (nodes F) ≡ find (node_test F t) (range_with_len 0 (length (text F)))
+unfolding places
+find_node F t = ap (find t) (nodes_are_ones F) ∙ find_filtered (λ p. is_bit true (get_or (text F) p false)) t (range_with_len 0 (length (text F)))
+
+last_node_below : (F : Forest) (t : ℕ → Bool) → last_or None (filter t (nodes F)) ≡ last_below (node_test F t) (length (text F))
+unfolding places
+last_node_below F t =
+    ap (λ (xs : List ℕ). last_or None (filter t xs)) (nodes_are_ones F)
+    ∙ ap (last_or None) (filter_filtered (λ p. is_bit true (get_or (text F) p false)) t (range_with_len 0 (length (text F))))
+    ∙ last_of_range (node_test F t) (length (text F))
+
+-- v is the first
+pub first_node : (F : Forest) (t : ℕ → Bool) (v : ℕ) → v < length (text F) → get_or (text F) v false ≡ true → t v ≡ true → ((w : ℕ) → w < v → get_or (text F) w false ≡ true → t w ≡ false) → find t (nodes F) ≡ Some v
+first_node F t v i b p n =
+    find_node F t ∙ find_is (node_test F t) 0 (length (text F)) v (record { from = omega arith; below = omega arith; passes = passes F t v b p; before = λ k x y. fails F t k (λ c. n k y c) })
+
+pub no_first_node : (F : Forest) (t : ℕ → Bool) → ((w : ℕ) → w < length (text F) → get_or (text F) w false ≡ true → t w ≡ false) → find t (nodes F) ≡ None
+no_first_node F t n = find_node F t ∙ none_find (node_test F t) 0 (length (text F)) (λ k x y. fails F t k (λ c. n k (omega arith) c))
+
+-- v is the last
+pub last_node : (F : Forest) (t : ℕ → Bool) (v : ℕ) → v < length (text F) → get_or (text F) v false ≡ true → t v ≡ true → ((w : ℕ) → v < w → w < length (text F) → get_or (text F) w false ≡ true → t w ≡ false) → last_or None (filter t (nodes F)) ≡ Some v
+last_node F t v i b p n =
+    last_node_below F t ∙ last_below_is (node_test F t) (length (text F)) v (record { below = i; passes = passes F t v b p; after = λ k x y. fails F t k (λ c. n k x y c) })
+
+pub no_last_node : (F : Forest) (t : ℕ → Bool) → ((w : ℕ) → w < length (text F) → get_or (text F) w false ≡ true → t w ≡ false) → last_or None (filter t (nodes F)) ≡ None
+no_last_node F t n = last_node_below F t ∙ none_last_below (node_test F t) (length (text F)) (λ k y. fails F t k (λ c. n k y c))

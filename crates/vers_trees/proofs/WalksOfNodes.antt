@@ -1,0 +1,230 @@
+-- The walks over nodes meet the lists of their definitions.
+use Rattle.std.proofs.Common.{◌≡◌, ℕ, suc, ◌+◌, ◌-◌, ◌/◌, ◌<◌, ◌≤◌, Bool, true, false, List, [], ◌∷◌, ◌++◌, map, length, take, drop, reverse, get_or, negsuc, Option, Some, None, arith, length-append, subst, sym, refl, ap, ◌∙◌}
+use Rattle.std.specs.Prelude.{IsSome, unwrap_or}
+use Rattle.std.specs.List.{Contains}
+use Rattle.vers_bits.proofs.PublicLaws.{length-places}
+use Rattle.std.proofs.lemmas.List.{append-nil, append_assoc, length-map, length-reverse, length-take, length-drop}
+use Rattle.std.proofs.lemmas.List.Elements.{Contains-get_or, All-head, All-drop, All-take, All-weaker}
+use Rattle.vers_bits.specs.Bits.{count, places, select}
+use Rattle.vers_bits.specs.Walk.{TakesFirst}
+use Rattle.vers_tally.specs.Reads.{Reads}
+use Rattle.vers_tally.specs.Ends.{Walking}
+use Rattle.vers_trees.specs.Excess.{first_rise_after, last_rise_before}
+use Rattle.vers_trees.specs.Forest.{Forest, text, IsBalanced, forest_of}
+use Rattle.vers_trees.specs.Nodes.{nodes, IsNode, closing, children, subtree}
+use Rattle.vers_trees.specs.Siblings.{opening_of, AllOpened, tree_before, tree_beside, siblings_left, MeetsJust, IsWalkOfSiblings}
+use Rattle.vers_trees.specs.Traversals.{postorder, subtree_post}
+use Rattle.vers_trees.proofs.Grammar.{text-forest_of}
+use Rattle.vers_trees.proofs.Searches.{after_is, before_is}
+use Rattle.vers_trees.proofs.Partners.{after_from_closes, before_from_closes}
+use Rattle.vers_trees.proofs.Paired.{closes_rises, closes_falls, close_is_paired, paired_closes}
+use Rattle.vers_trees.proofs.NodeList.{HasPair, node_pair, nodes_are_ones}
+use Rattle.vers_trees.proofs.Around.{subtree_size_is}
+use Rattle.vers_trees.proofs.Lists.{shifted, HasBitAt, all_places}
+use Rattle.vers_trees.proofs.PostorderPlaces.{postorder_opens}
+use Rattle.vers_trees.proofs.ListsBelow.{below, branch, StandsAt, part_standing, half_of_text}
+use Rattle.vers_trees.proofs.SiblingWalks.{top_nodes, walk_is, walk_short, meets_forwards, meets_backwards, top_few}
+use Rattle.vers_trees.proofs.ListsOfNodes.{HasTree, has_tree, children_places, subtree_places, subtree_post_places, zero_here}
+
+-- ---- steps among siblings
+pub walk_ends : (l : List Bool) (forward : Bool) (p : ℕ) → IsWalkOfSiblings l forward p → tree_beside l forward p ≡ None → TakesFirst (siblings_left l forward p) None (siblings_left l forward p)
+walk_ends l forward p w e = go (siblings_left l forward p) w
+  where
+    go : (vs : List ℕ) → MeetsJust (tree_beside l forward) p vs → TakesFirst vs None vs
+    go [] m = record { given = refl; left = refl }
+    go (v ∷ vs) m = absurd (let f = m.1 in cc)
+
+pub walk_goes_on : (l : List Bool) (forward : Bool) (p v q : ℕ) → IsWalkOfSiblings l forward p → tree_beside l forward p ≡ Some (v, q) → TakesFirst (siblings_left l forward p) (Some v) (siblings_left l forward q) × IsWalkOfSiblings l forward q
+unfolding siblings_left
+walk_goes_on l forward p v q w e = go (siblings_left l forward p) w (walk_short (tree_beside l forward) (length l) p)
+  where
+    second : (a b : ℕ × ℕ) → Some a ≡ Some b → a ≡ b
+    second a b h = cc
+
+    go : (vs : List ℕ) → MeetsJust (tree_beside l forward) p vs → length vs ≤ length l → TakesFirst vs (Some v) (siblings_left l forward q) × MeetsJust (tree_beside l forward) q (siblings_left l forward q)
+    go [] m h = absurd (cc)
+    go (u ∷ vs) m h =
+        let s = second (v, q) (u, m.0) (sym e ∙ m.1) in
+        let a : v ≡ u = ap (λ (x : ℕ × ℕ). x.0) s in
+        let b : m.0 ≡ q = sym (ap (λ (x : ℕ × ℕ). x.1) s) in
+        let rest = subst (λ (x : ℕ). MeetsJust (tree_beside l forward) x vs) b m.2 in
+        let r = walk_is (tree_beside l forward) (length l) q vs rest (omega arith) in
+        (record { given = ap Some a; left = r }, subst (MeetsJust (tree_beside l forward) q) (sym r) rest)
+
+walk_from : (l : List Bool) (forward : Bool) (p : ℕ) (vs : List ℕ) → MeetsJust (tree_beside l forward) p vs → length vs ≤ length l → (siblings_left l forward p ≡ vs) × IsWalkOfSiblings l forward p
+unfolding siblings_left
+walk_from l forward p vs m h =
+    let e = walk_is (tree_beside l forward) (length l) p vs m h in
+    (e, subst (MeetsJust (tree_beside l forward) p) (sym e) m)
+
+-- what stands below a node begins right after it
+below_stands : (F : Forest) (v : ℕ) → HasTree F v → StandsAt (text F) (v + 1) (text (below F v))
+below_stands F v t =
+    let s = t.stands in
+    let m = text (below F v) in
+    record {
+      before = s.before ++ true ∷ [];
+      after = false ∷ s.after;
+      place = (let e = length-append s.before (true ∷ []) in let p = s.place in omega arith);
+      written = s.written ∙ ap (λ (l : List Bool). s.before ++ (true ∷ l)) (append_assoc m (false ∷ []) s.after) ∙ sym (append_assoc s.before (true ∷ []) (m ++ false ∷ s.after));
+    }
+
+children_short : (F : Forest) (v : ℕ) → HasPair F v → HasTree F v → length (shifted (v + 1) (top_nodes (below F v))) ≤ length (text F)
+children_short F v h t =
+    let a = length-map (top_nodes (below F v)) (λ w. v + 1 + w) in
+    let b = top_few (below F v) in
+    let c = t.closes in let i = h.closes.inside in omega arith
+
+forwards_in : (F : Forest) (v : ℕ) → IsNode F v → (siblings_left (text F) true (v + 1) ≡ children F v) × IsWalkOfSiblings (text F) true (v + 1)
+forwards_in F v n =
+    let h = node_pair F v n in
+    let t = has_tree F v h in
+    let c = t.closes in
+    let end : closing F v ≡ v + 1 + length (text (below F v)) = omega arith in
+    let bit = subst (λ (k : ℕ). get_or (text F) k false ≡ false) end (closes_falls (text F) v (closing F v) false h.closes) in
+    let m = meets_forwards (text F) (below F v) (v + 1) (below_stands F v t) bit in
+    let w = walk_from (text F) true (v + 1) (shifted (v + 1) (top_nodes (below F v))) m (children_short F v h t) in
+    (w.0 ∙ sym (children_places F v h), w.1)
+
+backwards_in : (F : Forest) (v : ℕ) → IsNode F v → (siblings_left (text F) false (closing F v) ≡ reverse (children F v)) × IsWalkOfSiblings (text F) false (closing F v)
+backwards_in F v n =
+    let h = node_pair F v n in
+    let t = has_tree F v h in
+    let c = t.closes in
+    let xs = shifted (v + 1) (top_nodes (below F v)) in
+    let end : v + 1 + length (text (below F v)) ≡ closing F v = omega arith in
+    let next : v + 1 ≡ suc v = omega arith in
+    let bit : get_or (text F) v true ≡ true = closes_rises (text F) v (closing F v) true h.closes in
+    let start : tree_before (text F) (suc v) ≡ None = rw bit refl in
+    let m = meets_backwards (text F) (below F v) (v + 1) [] (below_stands F v t) (ap (tree_before (text F)) next ∙ start) in
+    let m' = subst (λ (ys : List ℕ). MeetsJust (tree_before (text F)) (v + 1 + length (text (below F v))) ys) (append-nil (reverse xs)) m in
+    let m'' = subst (λ (k : ℕ). MeetsJust (tree_before (text F)) k (reverse xs)) end m' in
+    let w = walk_from (text F) false (closing F v) (reverse xs) m'' (let a = length-reverse xs in let b = children_short F v h t in omega arith) in
+    (w.0 ∙ ap (λ (ys : List ℕ). reverse ys) (sym (children_places F v h)), w.1)
+
+-- what a walk with these nodes left is seen as
+abbrev pub walking : List ℕ → Reads → Walking ℕ
+walking vs step = record { left = vs; step = step }
+
+-- a node closes inside the list
+pub node_inside : (l : List Bool) (v : ℕ) → IsBalanced l → IsNode (forest_of l) v → v + 1 < length l
+node_inside l v b n =
+    let h = (node_pair (forest_of l) v n).closes in
+    let a = h.after in let i = h.inside in
+    subst (λ (m : List Bool). v + 1 < length m) (text-forest_of l b) (let g : v + 1 < length (text (forest_of l)) = omega arith in g)
+
+-- where a node of a balanced list closes
+pub close_in : (l : List Bool) (v : ℕ) → IsBalanced l → IsNode (forest_of l) v → first_rise_after l v (negsuc 0) ≡ Some (closing (forest_of l) v)
+close_in l v b n =
+    let F = forest_of l in
+    subst (λ (m : List Bool). first_rise_after m v (negsuc 0) ≡ Some (closing F v)) (text-forest_of l b)
+    (after_is (text F) v (negsuc 0) (closing F v) (after_from_closes (text F) v (closing F v) (node_pair F v n).closes))
+
+pub end_in : (l : List Bool) (v : ℕ) (o : Option ℕ) (c : ℕ) → IsBalanced l → IsNode (forest_of l) v → o ≡ first_rise_after l v (negsuc 0) → c ≡ unwrap_or o v → c ≡ closing (forest_of l) v
+end_in l v o c b n e d = d ∙ ap (λ (x : Option ℕ). unwrap_or x v) (e ∙ close_in l v b n)
+
+pub forwards : (l : List Bool) (v : ℕ) → IsBalanced l → IsNode (forest_of l) v → (siblings_left l true (v + 1) ≡ children (forest_of l) v) × IsWalkOfSiblings l true (v + 1)
+forwards l v b n = subst (λ (m : List Bool). (siblings_left m true (v + 1) ≡ children (forest_of l) v) × IsWalkOfSiblings m true (v + 1)) (text-forest_of l b) (forwards_in (forest_of l) v n)
+
+pub backwards : (l : List Bool) (v c : ℕ) → IsBalanced l → IsNode (forest_of l) v → c ≡ closing (forest_of l) v → (siblings_left l false c ≡ reverse (children (forest_of l) v)) × IsWalkOfSiblings l false c
+backwards l v c b n e =
+    subst (λ (k : ℕ). (siblings_left l false k ≡ reverse (children (forest_of l) v)) × IsWalkOfSiblings l false k) (sym e)
+    (subst (λ (m : List Bool). (siblings_left m false (closing (forest_of l) v) ≡ reverse (children (forest_of l) v)) × IsWalkOfSiblings m false (closing (forest_of l) v)) (text-forest_of l b) (backwards_in (forest_of l) v n))
+
+-- ---- the tree of a node
+pub within_is : (l : List Bool) (v c : ℕ) → IsBalanced l → IsNode (forest_of l) v → c ≡ closing (forest_of l) v → (v ≤ c) × ((c - v) / 2 + 1 ≡ length (subtree (forest_of l) v))
+within_is l v c b n e =
+    let h = node_pair (forest_of l) v n in
+    let s = subtree_size_is (forest_of l) v h in
+    let a = h.closes.after in
+    (omega arith, omega arith)
+
+-- a part of as many as it says lies inside
+part_inside : (n k : ℕ) (xs ys : List ℕ) → 0 < n → length ys ≡ n → take n (drop k xs) ≡ ys → k + n ≤ length xs
+part_inside n k xs ys h e t =
+    let a = length-take n (drop k xs) in
+    let b = length-drop k xs in
+    let c : length (take n (drop k xs)) ≡ length ys = ap (λ (zs : List ℕ). length zs) t in
+    omega arith
+
+record PartIs (bit : Bool) (l : List Bool) (v n : ℕ) (m : List Bool) : Type 0 where
+  pub inside : count bit l v + n ≤ length (places bit l)
+  pub part : take n (drop (count bit l v) (places bit l)) ≡ shifted v (places bit m)
+
+part_is : (bit : Bool) (F : Forest) (v : ℕ) → IsNode F v → PartIs bit (text F) v (length (subtree F v)) (text (branch F v))
+part_is bit F v n =
+    let h = node_pair F v n in
+    let t = has_tree F v h in
+    let s = subtree_size_is F v h in
+    let a = h.closes.after in let c = t.closes in let k = t.long in
+    let half = half_of_text bit (branch F v) in
+    let e : length (subtree F v) ≡ length (places bit (text (branch F v))) = omega arith in
+    let p = part_standing bit (text F) v (text (branch F v)) (length (subtree F v)) t.stands e in
+    record { inside = part_inside (length (subtree F v)) (count bit (text F) v) (places bit (text F)) (shifted v (places bit (text (branch F v)))) (omega arith) (length-map (places bit (text (branch F v))) (λ w. v + w) ∙ sym e) p; part = p }
+
+pub subtree_inside : (bit : Bool) (l : List Bool) (v : ℕ) → IsBalanced l → IsNode (forest_of l) v → count bit l v + length (subtree (forest_of l) v) ≤ length (places bit l)
+subtree_inside bit l v b n = subst (λ (m : List Bool). count bit m v + length (subtree (forest_of l) v) ≤ length (places bit m)) (text-forest_of l b) (part_is bit (forest_of l) v n).inside
+
+pub subtree_part : (l : List Bool) (v : ℕ) → IsBalanced l → IsNode (forest_of l) v → take (length (subtree (forest_of l) v)) (drop (count true l v) (places true l)) ≡ subtree (forest_of l) v
+subtree_part l v b n =
+    let F = forest_of l in
+    subst (λ (m : List Bool). take (length (subtree F v)) (drop (count true m v) (places true m)) ≡ subtree F v) (text-forest_of l b)
+    ((part_is true F v n).part ∙ sym (subtree_places F v (node_pair F v n)))
+
+pub subtree_post_part : (l : List Bool) (v : ℕ) → IsBalanced l → IsNode (forest_of l) v → map (opening_of l) (take (length (subtree (forest_of l) v)) (drop (count false l v) (places false l))) ≡ subtree_post (forest_of l) v
+subtree_post_part l v b n =
+    let F = forest_of l in
+    subst (λ (m : List Bool). map (opening_of m) (take (length (subtree F v)) (drop (count false m v) (places false m))) ≡ subtree_post F v) (text-forest_of l b)
+    (ap (map (opening_of (text F))) (part_is false F v n).part ∙ sym (subtree_post_places F v (node_pair F v n)))
+
+pub post_all : (l : List Bool) → IsBalanced l → map (opening_of l) (places false l) ≡ postorder (forest_of l)
+post_all l b = subst (λ (m : List Bool). map (opening_of m) (places false m) ≡ postorder (forest_of l)) (text-forest_of l b) (postorder_opens (forest_of l))
+
+-- ---- what zeros close
+all_opened_in : (F : Forest) → AllOpened (text F) (places false (text F))
+all_opened_in F =
+    All-weaker (HasBitAt false (text F)) (λ c. IsSome (last_rise_before (text F) c (negsuc 0))) (λ c b.
+    let p = close_is_paired F c false b.inside (zero_here (text F) c b.holds) in
+    some_is (before_is (text F) c (negsuc 0) p.0 (before_from_closes (text F) p.0 c (paired_closes F p.0 c p.1)))) (places false (text F)) (all_places false (text F))
+  where
+    some_is : {o : Option ℕ} {w : ℕ} → o ≡ Some w → IsSome o
+    some_is e = rw e refl
+
+pub zeros_opened : (l : List Bool) → IsBalanced l → AllOpened l (places false l)
+zeros_opened l b = subst (λ (m : List Bool). AllOpened m (places false m)) (text-forest_of l b) (all_opened_in (forest_of l))
+
+pub part_opened : (l : List Bool) (k n : ℕ) → IsBalanced l → AllOpened l (take n (drop k (places false l)))
+part_opened l k n b =
+    let P = λ (c : ℕ). IsSome (last_rise_before l c (negsuc 0)) in
+    All-take P n (drop k (places false l)) (All-drop P k (places false l) (zeros_opened l b))
+
+pub opened_ends : (l : List Bool) (zs ws : List ℕ) → TakesFirst zs None ws → TakesFirst (map (opening_of l) zs) None (map (opening_of l) ws)
+opened_ends l [] ws t = record { given = refl; left = ap (map (opening_of l)) t.left }
+opened_ends l (z ∷ zs) ws t = absurd (let g = t.given in cc)
+
+pub opened_goes_on : (l : List Bool) (zs ws : List ℕ) (c : ℕ) → AllOpened l zs → TakesFirst zs (Some c) ws → TakesFirst (map (opening_of l) zs) (last_rise_before l c (negsuc 0)) (map (opening_of l) ws) × AllOpened l ws
+opened_goes_on l [] ws c a t = absurd (let g = t.given in cc)
+opened_goes_on l (z ∷ zs) ws c a t =
+    let P = λ (c : ℕ). IsSome (last_rise_before l c (negsuc 0)) in
+    let e : z ≡ c = same z c t.given in
+    let s = subst P e (All-head P z zs a) in (
+      record { given = first (last_rise_before l c (negsuc 0)) s ∙ ap (λ (w : ℕ). Some (opening_of l w)) (sym e); left = ap (map (opening_of l)) t.left },
+      subst (AllOpened l) (sym t.left) (All-drop P 1 (z ∷ zs) a),
+    )
+  where
+    same : (x y : ℕ) → Some y ≡ Some x → x ≡ y
+    same x y h = cc
+
+    first : (o : Option ℕ) → IsSome o → o ≡ Some (unwrap_or o 0)
+    first None s = absurd (let t : false ≡ true = s in cc)
+    first (Some w) s = refl
+
+-- ---- handles
+pub ones_are_nodes : (bits : List Bool) (i : ℕ) → IsBalanced bits → i < count true bits (length bits) → IsNode (forest_of bits) (select true bits i)
+unfolding select
+ones_are_nodes bits i b h =
+    let e : nodes (forest_of bits) ≡ places true bits = nodes_are_ones (forest_of bits) ∙ ap (places true) (text-forest_of bits b) in
+    let n = length-places true bits in
+    subst (λ (vs : List ℕ). Contains vs (get_or (places true bits) i (length bits))) (sym e) (Contains-get_or (places true bits) i (length bits) (omega arith))
+
+pub ruleset handles = (ones_are_nodes)

@@ -1,0 +1,16 @@
+use Rattle.std.proofs.Common.{ℕ, arith, sym, ap, ◌∙◌}
+use Rattle.vers_trees.specs.Forest.{forest_of}
+use Rattle.vers_trees.specs.Excess.{first_rise_after}
+use Rattle.vers_trees.specs.Nodes.{level, first_of}
+use Rattle.vers_trees.proofs.Queries.{with_sign}
+use Rattle.vers_trees.proofs.Handles.{leftmost_root, no_level_so_deep, level_leftmost_by}
+use Rattle.vers_trees.proofs.trees.bp.BpTree.level_leftmost_counted.Goals as goal
+
+pub returns-then-depth-len-clause-value : goal.returns-then-depth-len-clause-value
+returns-then-depth-len-clause-value g c = let t = c.if-depth-len.true in let v = c.len.ensures.value in sym ((no_level_so_deep c.args.self.now c.requires.balanced c.args.depth (omega arith)).0)
+
+pub returns-then-depth-eq0-clause-value : goal.returns-then-depth-eq0-clause-value
+returns-then-depth-eq0-clause-value g c = let v = c.len.ensures.value in let b = c.len.ensures.bounded in let t = c.if-depth-len.false in sym (leftmost_root c.args.self.now c.requires.balanced (omega arith)) ∙ ap (λ (d : ℕ). first_of (level (forest_of c.args.self.now) d)) (sym c.if-depth-eq0.true)
+
+pub returns-clause-value : goal.returns-clause-value
+returns-clause-value g c = let v = c.len.ensures.value in let b = c.len.ensures.bounded in let t = c.if-depth-len.false in let z = c.if-depth-eq0.false in c.fwd_search_counted.ensures.value ∙ ap (first_rise_after c.args.self.now 0) (with_sign c.args.depth (omega arith)) ∙ level_leftmost_by c.args.self.now c.requires.balanced c.args.depth (omega arith)

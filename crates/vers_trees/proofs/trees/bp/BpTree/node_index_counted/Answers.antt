@@ -1,0 +1,7 @@
+use Rattle.std.proofs.Common.{Bool, true, List, ap, ◌∙◌}
+use Rattle.vers_bits.specs.Bits.{count}
+use Rattle.vers_trees.proofs.Handles.{index_by}
+use Rattle.vers_trees.proofs.trees.bp.BpTree.node_index_counted.Goals as goal
+
+pub returns-clause-value : goal.returns-clause-value
+returns-clause-value g c = c.rank1_counted.ensures.value ∙ ap (λ (l : List Bool). count true l c.args.node) c.self.view_is ∙ index_by c.args.self.now c.requires.balanced c.args.node c.requires.node

@@ -1,0 +1,18 @@
+use Rattle.std.proofs.Common.{◌≡◌, ℕ, ◌+◌, ◌-◌, ◌<◌, ◌≤◌, Bool, true, false, List, length, get_or, Some, None, pos, negsuc, arith, refl, sym, ap, subst, ◌∙◌}
+use Rattle.vers_trees.specs.Forest.{IsBalanced, forest_of}
+use Rattle.vers_trees.specs.inside.Scans.{opened_after}
+use Rattle.vers_trees.specs.Nodes.{children, siblings, first_of, next_of, closing}
+use Rattle.vers_trees.proofs.Queries.{opens_there, closes_there, ends_there}
+use Rattle.vers_trees.proofs.trees.bp.navigation.opens_after.Goals as goal
+
+pub overflow_add-next : goal.overflow_add-next
+overflow_add-next g c = let i = c.requires.inside in let s = c.requires.short in record { fits = omega arith }
+
+pub returns-then-next-len-clause-value : goal.returns-then-next-len-clause-value
+returns-then-next-len-clause-value g c = let t = c.if-next-len.true in let v = c.len.ensures.value in ends_there c.args.bits.now c.args.place (omega arith)
+
+pub returns-then-is_one_counted-clause-value : goal.returns-then-is_one_counted-clause-value
+returns-then-is_one_counted-clause-value g c = opens_there c.args.bits.now c.args.place (sym c.is_one_counted.ensures.value ∙ c.if-is_one_counted.true)
+
+pub returns-else-is_one_counted-clause-value : goal.returns-else-is_one_counted-clause-value
+returns-else-is_one_counted-clause-value g c = closes_there c.args.bits.now c.args.place (sym c.is_one_counted.ensures.value ∙ c.if-is_one_counted.false)

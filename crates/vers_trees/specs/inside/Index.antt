@@ -1,0 +1,48 @@
+-- What a list with its tree of excesses is made of.
+use Rattle.std.specs.Prelude.{◌≡◌, ℕ, ◌+◌, ◌-◌, ◌*◌, ◌^◌, ◌<◌, ◌≤◌, ◌⊎◌, max, min, slice_index_or, Bool, List, length, drop, ℤ}
+use Rattle.vers_tally.specs.Reads.{digits}
+use Rattle.vers_trees.specs.Excess.{excess}
+use Rattle.vers_trees.specs.declared.trees.bp.min_max.Node.{Node}
+use Rattle.vers_trees.specs.inside.MinMax.{IsMinMax, AreBlocks, IsPart, empty_node}
+use Rattle.vers_trees.specs.Layout.{clog, node_count, levels}
+
+-- the tree over the blocks of a list that has some bits
+pub record IsTreeOf (l : List Bool) (size first : ℕ) (nodes : List Node) : Type 0 where
+  pub tree : IsMinMax first nodes
+  pub blocks : AreBlocks l size (drop first nodes)
+  pub few : digits first ≤ levels size (length l)
+
+-- the tree of a list, which may be empty
+pub record IsIndexed (l : List Bool) (size first : ℕ) (nodes : List Node) : Type 0 where
+  pub short : length l < 2 ^ 63
+  pub some : 0 < size
+  pub bounded : size ≤ 4294967296
+  pub counted : length nodes ≡ node_count size (length l)
+  pub over : 0 < length l → IsTreeOf l size first nodes
+
+-- w is the least power of two, from 2, that is not below the number of leaves
+pub record IsWidth (leaves w : ℕ) : Type 0 where
+  pub exponent : ℕ
+  pub power : 2 ^ exponent ≡ w
+  pub enough : leaves ≤ w
+  pub some : 2 ≤ w
+  pub bounded : w ≤ 2 ^ 63
+  pub least : digits (w - 1) ≤ max 1 (clog leaves)
+
+-- a width that is grown, so far
+pub record IsGrowing (leaves w : ℕ) : Type 0 where
+  pub exponent : ℕ
+  pub power : 2 * 2 ^ exponent ≡ w
+  pub short : (exponent ≡ 0) ⊎ (2 ^ exponent < leaves)
+
+-- after `first` nodes stand those of the first n blocks
+pub record AreFirstBlocks (l : List Bool) (size first n : ℕ) (nodes : List Node) : Type 0 where
+  pub counted : length nodes ≡ first + n
+  pub part : (k : ℕ) → k < n → IsPart l (k * size) (min (k * size + size) (length l)) (slice_index_or nodes (first + k) empty_node)
+
+-- a list that is built has this excess in all, and is not too long
+pub record IsBuilding (size : ℕ) (bits : List Bool) (total : ℤ) : Type 0 where
+  pub short : length bits < 2 ^ 63
+  pub some : 0 < size
+  pub bounded : size ≤ 4294967296
+  pub sum : excess bits (length bits) ≡ total

@@ -1,0 +1,204 @@
+//! The iterators over the children of a node.
+ghost use Rattle.std.specs.Prelude.{◌≡◌, length, reverse};
+ghost use Rattle.std.specs.Iterator.{item_count, YieldsFirst};
+ghost use Rattle.vers_bits.specs.Walk.{TakesFirst};
+ghost use Rattle.vers_tally.specs.Reads.{AddsAtMost};
+ghost use Rattle.vers_trees.specs.Forest.{IsBalanced, forest_of};
+ghost use Rattle.vers_trees.specs.inside.Index.{IsIndexed};
+ghost use Rattle.vers_trees.specs.Layout.{enclose_reads};
+ghost use Rattle.vers_trees.specs.Nodes.{IsNode, children};
+ghost use Rattle.vers_trees.specs.Siblings.{tree_from, tree_before, tree_beside, siblings_left, IsWalkOfSiblings};
+
+use super::BpTree;
+use super::min_max::MinMaxTree;
+use super::search::{backward, forward};
+use std::alloc::Allocator;
+use std::marker::{Model, PhantomData};
+use vers_rank::fast_rs_vec::RsVec;
+use vers_tally::tally::Tally;
+
+/// Marks an iterator that goes forwards where `FORWARD` is true, and else backwards.
+#[derive(Drop)]
+pub struct Direction<const FORWARD: bool>;
+
+/// A walk from tree to tree among siblings, forwards or backwards from a place between them, in the
+/// direction that `D` names. Contracts see it as the nodes `left`, which are still to come, and what
+/// a `step` reads at most. A walk that has ended stays ended.
+#[derive(Drop)]
+pub struct Siblings<'a, const BLOCK_SIZE: usize, D, A: Allocator + Copy> {
+    bits: &'a RsVec<A>,
+    tree: &'a MinMaxTree<A>,
+    forward: bool,
+    place: usize,
+    direction: PhantomData<D>,
+}
+
+impl<'a, const BLOCK_SIZE: usize, D, A: Allocator + Copy> Model for Siblings<'a, BLOCK_SIZE, D, A> {
+    ghost use Rattle.std.specs.Prelude.{ℕ, length};
+    ghost use Rattle.vers_tally.specs.Ends.{Walking};
+    ghost use Rattle.vers_trees.specs.inside.Index.{IsIndexed};
+    ghost use Rattle.vers_trees.specs.Layout.{enclose_reads};
+    ghost use Rattle.vers_trees.specs.Siblings.{siblings_left, IsWalkOfSiblings};
+
+    ghost Value = { Walking ℕ };
+
+    ghost view = { λ s. record { left = siblings_left s.bits.now s.forward s.place; step = enclose_reads BLOCK_SIZE (length s.bits.now) } };
+
+    ghost invariant = { λ s. IsIndexed s.bits.now BLOCK_SIZE s.tree.now.first s.tree.now.nodes × IsWalkOfSiblings s.bits.now s.forward s.place };
+}
+
+/// An iterator over the children of a node: in order where `FORWARD` is true, and else the last one
+/// first.
+pub type ChildrenIter<'a, const BLOCK_SIZE: usize, const FORWARD: bool, A> = Siblings<
+    'a,
+    BLOCK_SIZE,
+    Direction<FORWARD>,
+    A,
+>;
+
+impl<'a, const BLOCK_SIZE: usize, D, A: Allocator + Copy> Siblings<'a, BLOCK_SIZE, D, A> {
+    fn new(bits: &'a RsVec<A>, tree: &'a MinMaxTree<A>, forward: bool, place: usize) -> Self
+        requires indexed { IsIndexed bits.now BLOCK_SIZE tree.now.first tree.now.nodes }
+        requires walk { IsWalkOfSiblings bits.now forward place }
+        ensures { result ≡ record { left = siblings_left bits.now forward place; step = enclose_reads BLOCK_SIZE (length bits.now) } }
+    {
+        Siblings {
+            bits,
+            tree,
+            forward,
+            place,
+            direction: PhantomData,
+        }
+    }
+
+    /// The first of the nodes left, which is taken.
+    #[inline]
+    pub fn next(&mut self) -> Option<usize>
+        ensures steps { TakesFirst self.old.left result self.new.left }
+        ensures same_step { self.new.step ≡ self.old.step }
+    {
+        let mut tally = Tally::new();
+        self.next_counted(&mut tally)
+    }
+
+    /// The first of the nodes left, which is taken, by one bit read and the reads of one search.
+    #[inline(always)]
+    pub fn next_counted(&mut self, tally: &mut Tally) -> Option<usize>
+        ensures steps { TakesFirst self.old.left result self.new.left }
+        ensures same_step { self.new.step ≡ self.old.step }
+        ensures adds { AddsAtMost tally.old tally.new self.old.step }
+    {
+        let (node, place) = tree_beside(
+            self.bits,
+            self.tree,
+            BLOCK_SIZE,
+            self.forward,
+            self.place,
+            tally,
+        )?;
+        self.place = place;
+        Some(node)
+    }
+}
+
+impl<'a, const BLOCK_SIZE: usize, D, A: Allocator + Copy> Iterator
+    for Siblings<'a, BLOCK_SIZE, D, A> {
+    type Item = usize;
+
+    ghost next_gives = { YieldsFirst (λ s. s.left) };
+
+    ghost remaining = { item_count (λ s. s.left) };
+
+    #[inline]
+    fn next(&mut self) -> Option<usize> {
+        self.next()
+    }
+}
+
+// The next tree forwards or backwards from a place, and the place on its other side.
+#[inline(always)]
+fn tree_beside<A: Allocator + Copy>(
+    bits: &RsVec<A>,
+    tree: &MinMaxTree<A>,
+    size: usize,
+    forward: bool,
+    place: usize,
+    tally: &mut Tally,
+) -> Option<(usize, usize)>
+    requires { IsIndexed bits.now size tree.now.first tree.now.nodes }
+    ensures value { result ≡ tree_beside bits.now forward place }
+    ensures adds { AddsAtMost tally.old tally.new (enclose_reads size (length bits.now)) }
+{
+    if forward {
+        tree_from(bits, tree, size, place, tally)
+    } else {
+        tree_before(bits, tree, size, place, tally)
+    }
+}
+
+// The tree that opens at a place, and the place past it.
+#[inline(always)]
+fn tree_from<A: Allocator + Copy>(
+    bits: &RsVec<A>,
+    tree: &MinMaxTree<A>,
+    size: usize,
+    place: usize,
+    tally: &mut Tally,
+) -> Option<(usize, usize)>
+    requires { IsIndexed bits.now size tree.now.first tree.now.nodes }
+    ensures value { result ≡ tree_from bits.now place }
+    ensures adds { AddsAtMost tally.old tally.new (enclose_reads size (length bits.now)) }
+{
+    if place >= bits.len() {
+        return None;
+    }
+    if !bits.is_one_counted(place, tally) {
+        return None;
+    }
+    let close = forward(bits, tree, size, place, -1, tally)?;
+    Some((place, close + 1))
+}
+
+// The tree that closes right before a place, and the place where it opens.
+#[inline(always)]
+fn tree_before<A: Allocator + Copy>(
+    bits: &RsVec<A>,
+    tree: &MinMaxTree<A>,
+    size: usize,
+    place: usize,
+    tally: &mut Tally,
+) -> Option<(usize, usize)>
+    requires { IsIndexed bits.now size tree.now.first tree.now.nodes }
+    ensures value { result ≡ tree_before bits.now place }
+    ensures adds { AddsAtMost tally.old tally.new (enclose_reads size (length bits.now)) }
+{
+    if place == 0 || place > bits.len() {
+        return None;
+    }
+    if bits.is_one_counted(place - 1, tally) {
+        return None;
+    }
+    let open = backward(bits, tree, size, place - 1, -1, tally)?;
+    Some((open, open))
+}
+
+impl<const BLOCK_SIZE: usize, A: Allocator + Copy> BpTree<BLOCK_SIZE, A> {
+    /// An iterator over the children of a node, in order. The parentheses are balanced.
+    pub fn children(&self, node: usize) -> ChildrenIter<'_, BLOCK_SIZE, true, A>
+        requires balanced { IsBalanced self.now }
+        requires is_node { IsNode (forest_of self.now) node }
+        ensures { result ≡ record { left = children (forest_of self.now) node; step = enclose_reads BLOCK_SIZE (length self.now) } }
+    {
+        Siblings::new(&self.bits, &self.tree, true, node + 1)
+    }
+
+    /// An iterator over the children of a node, the last one first. The parentheses are balanced.
+    pub fn rev_children(&self, node: usize) -> ChildrenIter<'_, BLOCK_SIZE, false, A>
+        requires balanced { IsBalanced self.now }
+        requires is_node { IsNode (forest_of self.now) node }
+        ensures { result ≡ record { left = reverse (children (forest_of self.now) node); step = enclose_reads BLOCK_SIZE (length self.now) } }
+    {
+        let end = self.close(node).unwrap_or(node);
+        Siblings::new(&self.bits, &self.tree, false, end)
+    }
+}

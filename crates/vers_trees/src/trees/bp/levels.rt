@@ -1,0 +1,168 @@
+//! Up from a node of balanced parentheses by so many levels, and along the nodes of one depth.
+ghost use Rattle.std.specs.Prelude.{◌≡◌, length};
+ghost use Rattle.vers_tally.specs.Reads.{AddsAtMost};
+ghost use Rattle.vers_trees.specs.Forest.{IsBalanced, forest_of};
+ghost use Rattle.vers_trees.specs.Nodes.{IsNode, first_of, last_of, next_of, previous_of, depth, level, level_ancestor};
+ghost use Rattle.vers_trees.specs.Layout.{search_reads, two_searches_reads};
+
+use super::BpTree;
+use std::alloc::Allocator;
+use vers_tally::tally::Tally;
+
+impl<const BLOCK_SIZE: usize, A: Allocator + Copy> BpTree<BLOCK_SIZE, A> {
+    /// The ancestor of a node that is so many levels up, itself at 0. None where there is none.
+    ///
+    /// The parentheses are balanced, and a node opens at the place.
+    #[inline]
+    pub fn level_ancestor(&self, node: usize, levels: u64) -> Option<usize>
+        requires balanced { IsBalanced self.now }
+        requires node { IsNode (forest_of self.now) node }
+        ensures { result ≡ level_ancestor (forest_of self.now) node levels }
+    {
+        let mut tally = Tally::new();
+        self.level_ancestor_counted(node, levels, &mut tally)
+    }
+
+    /// The ancestor of a node that is so many levels up, itself at 0, by the reads of one search. None
+    /// where there is none.
+    ///
+    /// The parentheses are balanced, and a node opens at the place.
+    #[inline(always)]
+    pub fn level_ancestor_counted(
+        &self,
+        node: usize,
+        levels: u64,
+        tally: &mut Tally,
+    ) -> Option<usize>
+        requires balanced { IsBalanced self.now }
+        requires node { IsNode (forest_of self.now) node }
+        ensures value { result ≡ level_ancestor (forest_of self.now) node levels }
+        ensures adds { AddsAtMost tally.old tally.new (search_reads BLOCK_SIZE (length self.now)) }
+    {
+        if levels == 0 {
+            return Some(node);
+        }
+        if levels >= self.len() as u64 {
+            return None;
+        }
+        self.bwd_search_counted(node, -(levels as i64), tally)
+    }
+
+    /// The next node of the same depth. None where there is none.
+    ///
+    /// The parentheses are balanced, and a node opens at the place.
+    #[inline]
+    pub fn level_next(&self, node: usize) -> Option<usize>
+        requires balanced { IsBalanced self.now }
+        requires node { IsNode (forest_of self.now) node }
+        ensures { result ≡ next_of (level (forest_of self.now) (depth (forest_of self.now) node)) node }
+    {
+        let mut tally = Tally::new();
+        self.level_next_counted(node, &mut tally)
+    }
+
+    /// The next node of the same depth, by the reads of two searches. None where there is none.
+    ///
+    /// The parentheses are balanced, and a node opens at the place.
+    #[inline(always)]
+    pub fn level_next_counted(&self, node: usize, tally: &mut Tally) -> Option<usize>
+        requires balanced { IsBalanced self.now }
+        requires node { IsNode (forest_of self.now) node }
+        ensures value { result ≡ next_of (level (forest_of self.now) (depth (forest_of self.now) node)) node }
+        ensures adds { AddsAtMost tally.old tally.new (two_searches_reads BLOCK_SIZE (length self.now)) }
+    {
+        let close = self.close_counted(node, tally)?;
+        self.fwd_search_counted(close, 1, tally)
+    }
+
+    /// The node of the same depth before. None where there is none.
+    ///
+    /// The parentheses are balanced, and a node opens at the place.
+    #[inline]
+    pub fn level_prev(&self, node: usize) -> Option<usize>
+        requires balanced { IsBalanced self.now }
+        requires node { IsNode (forest_of self.now) node }
+        ensures { result ≡ previous_of (level (forest_of self.now) (depth (forest_of self.now) node)) node }
+    {
+        let mut tally = Tally::new();
+        self.level_prev_counted(node, &mut tally)
+    }
+
+    /// The node of the same depth before, by the reads of two searches. None where there is none.
+    ///
+    /// The parentheses are balanced, and a node opens at the place.
+    #[inline(always)]
+    pub fn level_prev_counted(&self, node: usize, tally: &mut Tally) -> Option<usize>
+        requires balanced { IsBalanced self.now }
+        requires node { IsNode (forest_of self.now) node }
+        ensures value { result ≡ previous_of (level (forest_of self.now) (depth (forest_of self.now) node)) node }
+        ensures adds { AddsAtMost tally.old tally.new (two_searches_reads BLOCK_SIZE (length self.now)) }
+    {
+        let close = self.bwd_search_counted(node, 1, tally)?;
+        self.open_counted(close, tally)
+    }
+
+    /// The first node of a depth, where roots have depth 0. None where no node is so deep.
+    ///
+    /// The parentheses are balanced.
+    #[inline]
+    pub fn level_leftmost(&self, depth: u64) -> Option<usize>
+        requires balanced { IsBalanced self.now }
+        ensures { result ≡ first_of (level (forest_of self.now) depth) }
+    {
+        let mut tally = Tally::new();
+        self.level_leftmost_counted(depth, &mut tally)
+    }
+
+    /// The first node of a depth, by the reads of one search, where roots have depth 0. None where no
+    /// node is so deep.
+    ///
+    /// The parentheses are balanced.
+    #[inline(always)]
+    pub fn level_leftmost_counted(&self, depth: u64, tally: &mut Tally) -> Option<usize>
+        requires balanced { IsBalanced self.now }
+        ensures value { result ≡ first_of (level (forest_of self.now) depth) }
+        ensures adds { AddsAtMost tally.old tally.new (search_reads BLOCK_SIZE (length self.now)) }
+    {
+        if depth >= self.len() as u64 {
+            return None;
+        }
+        if depth == 0 {
+            return Some(0);
+        }
+        self.fwd_search_counted(0, depth as i64, tally)
+    }
+
+    /// The last node of a depth, where roots have depth 0. None where no node is so deep.
+    ///
+    /// The parentheses are balanced.
+    #[inline]
+    pub fn level_rightmost(&self, depth: u64) -> Option<usize>
+        requires balanced { IsBalanced self.now }
+        ensures { result ≡ last_of (level (forest_of self.now) depth) }
+    {
+        let mut tally = Tally::new();
+        self.level_rightmost_counted(depth, &mut tally)
+    }
+
+    /// The last node of a depth, by the reads of two searches, where roots have depth 0. None where
+    /// no node is so deep.
+    ///
+    /// The parentheses are balanced.
+    #[inline(always)]
+    pub fn level_rightmost_counted(&self, depth: u64, tally: &mut Tally) -> Option<usize>
+        requires balanced { IsBalanced self.now }
+        ensures value { result ≡ last_of (level (forest_of self.now) depth) }
+        ensures adds { AddsAtMost tally.old tally.new (two_searches_reads BLOCK_SIZE (length self.now)) }
+    {
+        let len = self.len();
+        if depth >= len as u64 {
+            return None;
+        }
+        if depth == 0 {
+            return self.open_counted(len - 1, tally);
+        }
+        let close = self.bwd_search_counted(len - 1, depth as i64, tally)?;
+        self.open_counted(close, tally)
+    }
+}

@@ -1,0 +1,328 @@
+//! From a node of balanced parentheses to its parent, its children and its siblings; its depth and its
+//! tree.
+ghost use Rattle.std.specs.Prelude.{◌+◌, ◌<◌, ◌≤◌, ◌≡◌, ◌↔◌, [], length, IsTrue, Some};
+ghost use Rattle.vers_tally.specs.Reads.{AddsAtMost};
+ghost use Rattle.vers_rank.specs.Queries.{get_reads, rank_reads};
+ghost use Rattle.vers_trees.specs.Forest.{IsBalanced, forest_of};
+ghost use Rattle.vers_trees.specs.Nodes.{IsNode, parent, children, siblings, first_of, last_of, next_of, previous_of, node_index, depth, subtree, is_ancestor};
+ghost use Rattle.vers_trees.specs.inside.Scans.{opened_after};
+ghost use Rattle.vers_trees.specs.Layout.{search_reads, enclose_reads, two_searches_reads};
+
+use super::{BpTree, MAX_LEN};
+use std::alloc::Allocator;
+use vers_rank::fast_rs_vec::RsVec;
+use vers_tally::tally::Tally;
+
+impl<const BLOCK_SIZE: usize, A: Allocator + Copy> BpTree<BLOCK_SIZE, A> {
+    /// The parent of a node. None for a root.
+    ///
+    /// The parentheses are balanced, and a node opens at the place.
+    #[inline]
+    pub fn parent(&self, node: usize) -> Option<usize>
+        requires balanced { IsBalanced self.now }
+        requires node { IsNode (forest_of self.now) node }
+        ensures { result ≡ parent (forest_of self.now) node }
+    {
+        let mut tally = Tally::new();
+        self.parent_counted(node, &mut tally)
+    }
+
+    /// The parent of a node, by the reads of one search. None for a root.
+    ///
+    /// The parentheses are balanced, and a node opens at the place.
+    #[inline(always)]
+    pub fn parent_counted(&self, node: usize, tally: &mut Tally) -> Option<usize>
+        requires balanced { IsBalanced self.now }
+        requires node { IsNode (forest_of self.now) node }
+        ensures value { result ≡ parent (forest_of self.now) node }
+        ensures adds { AddsAtMost tally.old tally.new (search_reads BLOCK_SIZE (length self.now)) }
+    {
+        self.bwd_search_counted(node, -1, tally)
+    }
+
+    /// The first child of a node. None for a leaf.
+    ///
+    /// The parentheses are balanced, and a node opens at the place.
+    #[inline]
+    pub fn first_child(&self, node: usize) -> Option<usize>
+        requires balanced { IsBalanced self.now }
+        requires node { IsNode (forest_of self.now) node }
+        ensures { result ≡ first_of (children (forest_of self.now) node) }
+    {
+        let mut tally = Tally::new();
+        self.first_child_counted(node, &mut tally)
+    }
+
+    /// The first child of a node, by one bit read. None for a leaf.
+    ///
+    /// The parentheses are balanced, and a node opens at the place.
+    #[inline(always)]
+    pub fn first_child_counted(&self, node: usize, tally: &mut Tally) -> Option<usize>
+        requires balanced { IsBalanced self.now }
+        requires node { IsNode (forest_of self.now) node }
+        ensures value { result ≡ first_of (children (forest_of self.now) node) }
+        ensures adds { AddsAtMost tally.old tally.new get_reads }
+    {
+        opens_after(&self.bits, node, tally)
+    }
+
+    /// The last child of a node. None for a leaf.
+    ///
+    /// The parentheses are balanced, and a node opens at the place.
+    #[inline]
+    pub fn last_child(&self, node: usize) -> Option<usize>
+        requires balanced { IsBalanced self.now }
+        requires node { IsNode (forest_of self.now) node }
+        ensures { result ≡ last_of (children (forest_of self.now) node) }
+    {
+        let mut tally = Tally::new();
+        self.last_child_counted(node, &mut tally)
+    }
+
+    /// The last child of a node, by the reads of two searches. None for a leaf.
+    ///
+    /// The parentheses are balanced, and a node opens at the place.
+    #[inline(always)]
+    pub fn last_child_counted(&self, node: usize, tally: &mut Tally) -> Option<usize>
+        requires balanced { IsBalanced self.now }
+        requires node { IsNode (forest_of self.now) node }
+        ensures value { result ≡ last_of (children (forest_of self.now) node) }
+        ensures adds { AddsAtMost tally.old tally.new (two_searches_reads BLOCK_SIZE (length self.now)) }
+    {
+        let close = self.close_counted(node, tally)?;
+        let last = close - 1;
+        if last == node {
+            return None;
+        }
+        self.open_counted(last, tally)
+    }
+
+    /// The next node with the same parent; roots are siblings. None for the last of them.
+    ///
+    /// The parentheses are balanced, and a node opens at the place.
+    #[inline]
+    pub fn next_sibling(&self, node: usize) -> Option<usize>
+        requires balanced { IsBalanced self.now }
+        requires node { IsNode (forest_of self.now) node }
+        ensures { result ≡ next_of (siblings (forest_of self.now) node) node }
+    {
+        let mut tally = Tally::new();
+        self.next_sibling_counted(node, &mut tally)
+    }
+
+    /// The next node with the same parent, by the reads of one search and one bit; roots are
+    /// siblings. None for the last of them.
+    ///
+    /// The parentheses are balanced, and a node opens at the place.
+    #[inline(always)]
+    pub fn next_sibling_counted(&self, node: usize, tally: &mut Tally) -> Option<usize>
+        requires balanced { IsBalanced self.now }
+        requires node { IsNode (forest_of self.now) node }
+        ensures value { result ≡ next_of (siblings (forest_of self.now) node) node }
+        ensures adds { AddsAtMost tally.old tally.new (enclose_reads BLOCK_SIZE (length self.now)) }
+    {
+        let close = self.close_counted(node, tally)?;
+        opens_after(&self.bits, close, tally)
+    }
+
+    /// The node before with the same parent; roots are siblings. None for the first of them.
+    ///
+    /// The parentheses are balanced, and a node opens at the place.
+    #[inline]
+    pub fn previous_sibling(&self, node: usize) -> Option<usize>
+        requires balanced { IsBalanced self.now }
+        requires node { IsNode (forest_of self.now) node }
+        ensures { result ≡ previous_of (siblings (forest_of self.now) node) node }
+    {
+        let mut tally = Tally::new();
+        self.previous_sibling_counted(node, &mut tally)
+    }
+
+    /// The node before with the same parent, by one bit read and the reads of one search; roots are
+    /// siblings. None for the first of them.
+    ///
+    /// The parentheses are balanced, and a node opens at the place.
+    #[inline(always)]
+    pub fn previous_sibling_counted(&self, node: usize, tally: &mut Tally) -> Option<usize>
+        requires balanced { IsBalanced self.now }
+        requires node { IsNode (forest_of self.now) node }
+        ensures value { result ≡ previous_of (siblings (forest_of self.now) node) node }
+        ensures adds { AddsAtMost tally.old tally.new (enclose_reads BLOCK_SIZE (length self.now)) }
+    {
+        if node == 0 {
+            return None;
+        }
+        if self.bits.is_one_counted(node - 1, tally) {
+            return None;
+        }
+        self.open_counted(node - 1, tally)
+    }
+
+    /// Whether a node has no children.
+    ///
+    /// The parentheses are balanced, and a node opens at the place.
+    #[inline]
+    pub fn is_leaf(&self, node: usize) -> bool
+        requires balanced { IsBalanced self.now }
+        requires node { IsNode (forest_of self.now) node }
+        ensures { IsTrue result ↔ (children (forest_of self.now) node ≡ []) }
+    {
+        let mut tally = Tally::new();
+        self.is_leaf_counted(node, &mut tally)
+    }
+
+    /// Whether a node has no children, by one bit read.
+    ///
+    /// The parentheses are balanced, and a node opens at the place.
+    #[inline(always)]
+    pub fn is_leaf_counted(&self, node: usize, tally: &mut Tally) -> bool
+        requires balanced { IsBalanced self.now }
+        requires node { IsNode (forest_of self.now) node }
+        ensures value { IsTrue result ↔ (children (forest_of self.now) node ≡ []) }
+        ensures adds { AddsAtMost tally.old tally.new get_reads }
+    {
+        self.first_child_counted(node, tally).is_none()
+    }
+
+    /// The number of a node in preorder, counted from 0.
+    ///
+    /// The parentheses are balanced, and a node opens at the place.
+    #[inline]
+    pub fn node_index(&self, node: usize) -> usize
+        requires balanced { IsBalanced self.now }
+        requires node { IsNode (forest_of self.now) node }
+        ensures { result ≡ node_index (forest_of self.now) node }
+    {
+        let mut tally = Tally::new();
+        self.node_index_counted(node, &mut tally)
+    }
+
+    /// The number of a node in preorder, counted from 0, by the reads of one rank.
+    ///
+    /// The parentheses are balanced, and a node opens at the place.
+    #[inline(always)]
+    pub fn node_index_counted(&self, node: usize, tally: &mut Tally) -> usize
+        requires balanced { IsBalanced self.now }
+        requires node { IsNode (forest_of self.now) node }
+        ensures value { result ≡ node_index (forest_of self.now) node }
+        ensures adds { AddsAtMost tally.old tally.new rank_reads }
+    {
+        self.bits.rank1_counted(node, tally)
+    }
+
+    /// How many nodes a node lies in: 0 for a root.
+    ///
+    /// The parentheses are balanced, and a node opens at the place.
+    #[inline]
+    pub fn depth(&self, node: usize) -> u64
+        requires balanced { IsBalanced self.now }
+        requires node { IsNode (forest_of self.now) node }
+        ensures { result ≡ depth (forest_of self.now) node }
+    {
+        let mut tally = Tally::new();
+        self.depth_counted(node, &mut tally)
+    }
+
+    /// How many nodes a node lies in, by the reads of one rank: 0 for a root.
+    ///
+    /// The parentheses are balanced, and a node opens at the place.
+    #[inline(always)]
+    pub fn depth_counted(&self, node: usize, tally: &mut Tally) -> u64
+        requires balanced { IsBalanced self.now }
+        requires node { IsNode (forest_of self.now) node }
+        ensures value { result ≡ depth (forest_of self.now) node }
+        ensures adds { AddsAtMost tally.old tally.new rank_reads }
+    {
+        let ones = self.bits.rank1_counted(node, tally);
+        let zeros = node - ones;
+        (ones - zeros) as u64
+    }
+
+    /// How many nodes the tree of a node has, itself among them. It is never None.
+    ///
+    /// The parentheses are balanced, and a node opens at the place.
+    #[inline]
+    pub fn subtree_size(&self, node: usize) -> Option<usize>
+        requires balanced { IsBalanced self.now }
+        requires node { IsNode (forest_of self.now) node }
+        ensures { result ≡ Some (length (subtree (forest_of self.now) node)) }
+    {
+        let mut tally = Tally::new();
+        self.subtree_size_counted(node, &mut tally)
+    }
+
+    /// How many nodes the tree of a node has, itself among them, by the reads of one search. It is
+    /// never None.
+    ///
+    /// The parentheses are balanced, and a node opens at the place.
+    #[inline(always)]
+    pub fn subtree_size_counted(&self, node: usize, tally: &mut Tally) -> Option<usize>
+        requires balanced { IsBalanced self.now }
+        requires node { IsNode (forest_of self.now) node }
+        ensures value { result ≡ Some (length (subtree (forest_of self.now) node)) }
+        ensures adds { AddsAtMost tally.old tally.new (search_reads BLOCK_SIZE (length self.now)) }
+    {
+        let close = self.close_counted(node, tally)?;
+        let places = close - node;
+        Some(places.div_ceil(2))
+    }
+
+    /// Whether the first node is an ancestor of the second; each node is its own. It is never None.
+    ///
+    /// The parentheses are balanced, and nodes open at both places.
+    #[inline]
+    pub fn is_ancestor(&self, ancestor: usize, descendant: usize) -> Option<bool>
+        requires balanced { IsBalanced self.now }
+        requires ancestor { IsNode (forest_of self.now) ancestor }
+        requires descendant { IsNode (forest_of self.now) descendant }
+        ensures { result ≡ Some (is_ancestor (forest_of self.now) ancestor descendant) }
+    {
+        let mut tally = Tally::new();
+        self.is_ancestor_counted(ancestor, descendant, &mut tally)
+    }
+
+    /// Whether the first node is an ancestor of the second, by the reads of two searches; each node
+    /// is its own. It is never None.
+    ///
+    /// The parentheses are balanced, and nodes open at both places.
+    #[inline(always)]
+    pub fn is_ancestor_counted(
+        &self,
+        ancestor: usize,
+        descendant: usize,
+        tally: &mut Tally,
+    ) -> Option<bool>
+        requires balanced { IsBalanced self.now }
+        requires ancestor { IsNode (forest_of self.now) ancestor }
+        requires descendant { IsNode (forest_of self.now) descendant }
+        ensures value { result ≡ Some (is_ancestor (forest_of self.now) ancestor descendant) }
+        ensures adds { AddsAtMost tally.old tally.new (two_searches_reads BLOCK_SIZE (length self.now)) }
+    {
+        let outer = self.close_counted(ancestor, tally)?;
+        let inner = self.close_counted(descendant, tally)?;
+        Some(ancestor <= descendant && inner <= outer)
+    }
+}
+
+// The place after another, where a one stands there.
+#[inline(always)]
+fn opens_after<A: Allocator + Copy>(
+    bits: &RsVec<A>,
+    place: usize,
+    tally: &mut Tally,
+) -> Option<usize>
+    requires inside { place < length bits.now }
+    requires short { length bits.now ≤ MAX_LEN }
+    ensures value { result ≡ opened_after bits.now place }
+    ensures adds { AddsAtMost tally.old tally.new get_reads }
+{
+    let next = place + 1;
+    if next >= bits.len() {
+        return None;
+    }
+    if bits.is_one_counted(next, tally) {
+        Some(next)
+    } else {
+        None
+    }
+}

@@ -1,0 +1,97 @@
+-- Digits of numbers, and numbers that are made digit by digit from the highest on.
+use Rattle.std.proofs.Common.{◌≡◌, ℕ, zero, suc, ◌+◌, ◌*◌, ◌/◌, ◌%◌, ◌^◌, ◌<◌, ◌≤◌, Bool, true, false, eqb, List, [], ◌∷◌, length, set, get_or, replicate, refl, sym, ap, ◌∙◌, arith, add-one, inl, inr}
+use Rattle.std.specs.Int.{bit_at}
+use Rattle.std.specs.Prelude.{bit_and}
+use Rattle.std.proofs.Math.Nat.{pow-suc, pow-le-pow_right, mod-eq_of_lt}
+use Rattle.std.proofs.lemmas.Nat.Bits.{shr_and_one, bit_at-lt}
+use Rattle.std.proofs.lemmas.Nat.{one_shl, mod-pow-add, mod_low, div-add-mod', pow_pos}
+use Rattle.std.proofs.lemmas.Bool.{cases_eq}
+use Rattle.vers_bits.specs.Bits.{bit_value, number}
+use Rattle.vers_bits.proofs.PublicLaws.{bit_at-number, number-lt}
+use Rattle.vers_wavelet.specs.Levels.{digit, HasRoom}
+
+-- of a machine's number
+pub word_digit : (n i : ℕ) → eqb (bit_and (n / 2 ^ i) 1) 1 ≡ digit n i
+word_digit n i = ap (λ d. eqb d 1) (shr_and_one n i)
+
+pub word_room : (number i : ℕ) → i < 64 → HasRoom 64 (i + 1) number → number + 1 * 2 ^ i % 2 ^ 64 < 2 ^ 64
+word_room number i h room = omega (arith, one_shl i 64 h, room.fits, pow-suc 2 i, ap (λ n. 2 ^ n) (add-one i))
+
+pub ruleset words = (word_digit, word_room, one_shl)
+
+-- a bit as a number and back
+value_of_test : (m : ℕ) → m < 2 → bit_value (eqb m 1) ≡ m
+value_of_test m h = elim (cases_eq m 1) [ inl e ↦ rw e refl | inr ne ↦ let z : m ≡ 0 = omega arith in rw z refl ]
+
+test_of_value : (b : Bool) → eqb (bit_value b) 1 ≡ b
+test_of_value true = refl
+test_of_value false = refl
+
+-- of a list
+pub list_digit : (l : List Bool) (i : ℕ) → get_or l i false ≡ digit (number l) i
+list_digit l i = sym (test_of_value (get_or l i false)) ∙ ap (λ d. eqb d 1) (sym (bit_at-number l i))
+
+-- the highest of the k + 1 lowest digits, and the others
+pub digit_value : (s i : ℕ) → bit_value (digit s i) ≡ s / 2 ^ i % 2
+digit_value s i = value_of_test (bit_at s i) (bit_at-lt s i)
+
+pub top_digit : (s k : ℕ) → s % 2 ^ (k + 1) ≡ bit_value (digit s k) * 2 ^ k + s % 2 ^ k
+top_digit s k =
+    let e : k + 1 ≡ 1 + k = omega arith in
+    ap (λ n. s % 2 ^ n) e ∙ mod-pow-add s 1 k ∙ ap (λ d. d * 2 ^ k + s % 2 ^ k) (sym (digit_value s k))
+
+clear_digit : (s k : ℕ) → s % 2 ^ (k + 1) ≡ 0 → digit s k ≡ false
+clear_digit s k clear = off (digit s k) (omega (arith, top_digit s k))
+  where
+    off : (b : Bool) → bit_value b * 2 ^ k + s % 2 ^ k ≡ 0 → b ≡ false
+    off true e = absurd (omega (arith, pow_pos k))
+    off false e = refl
+
+clear_at : (l : List Bool) (i : ℕ) → number l % 2 ^ (i + 1) ≡ 0 → get_or l i false ≡ false
+clear_at l i clear = list_digit l i ∙ clear_digit (number l) i clear
+
+number-set : (l : List Bool) (i : ℕ) → i < length l → get_or l i false ≡ false → number (set l i true) ≡ number l + 2 ^ i
+number-set [] i h off = absurd (omega arith)
+number-set (b ∷ l) zero h off = omega (arith, ap bit_value off)
+number-set (b ∷ l) (suc i) h off = omega (arith, number-set l i (omega arith) off, pow-suc 2 i)
+
+pub list_set : (l : List Bool) (i : ℕ) → i < length l → HasRoom (length l) (i + 1) (number l) → number (set l i true) ≡ number l + 2 ^ i
+list_set l i h room = number-set l i h (clear_at l i room.clear)
+
+pub ruleset lists = (list_digit, list_set)
+
+-- ---- room for more digits
+
+pub room_none : (n k : ℕ) → k ≤ n → HasRoom n k 0
+room_none n k h = record { clear = omega arith; fits = omega (arith, pow-le-pow_right {n = 2} (omega arith) {i = k} {j = n} h) }
+
+pub room_wider : (m n k number : ℕ) → m ≤ n → HasRoom m k number → HasRoom n k number
+room_wider m n k number h room = record { clear = room.clear; fits = omega (arith, room.fits, pow-le-pow_right {n = 2} (omega arith) {i = m} {j = n} h) }
+
+pub room_more : (bit : Bool) (n k number : ℕ) → HasRoom n (k + 1) number → HasRoom n k (number + bit_value bit * 2 ^ k)
+room_more bit n k number room =
+    let two : 2 ^ (k + 1) ≡ 2 * 2 ^ k = omega (arith, pow-suc 2 k, ap (λ m. 2 ^ m) (add-one k)) in
+    let q : ℕ = number / 2 ^ (k + 1) in
+    let parts : number ≡ q * (2 * 2 ^ k) = sym (div-add-mod' number (2 ^ (k + 1))) ∙ ap (λ x. q * 2 ^ (k + 1) + x) room.clear ∙ ap (λ x. q * x + 0) two ∙ omega arith in
+    let e : number + bit_value bit * 2 ^ k ≡ (2 * q + bit_value bit) * 2 ^ k + 0 = omega (arith, parts) in
+    record {
+      clear = ap (λ x. x % 2 ^ k) e ∙ mod_low (2 * q + bit_value bit) k 0 (omega (arith, pow_pos k));
+      fits = room_fits bit (2 ^ k) number (2 ^ n) (omega (arith, room.fits, two));
+    }
+  where
+    room_fits : (b : Bool) (w m t : ℕ) → m + 2 * w ≤ t → m + bit_value b * w + w ≤ t
+    room_fits true w m t h = omega arith
+    room_fits false w m t h = omega arith
+
+pub ruleset adding = (room_more)
+
+-- ---- symbols as lists
+
+pub whole_symbol : (l : List Bool) (k : ℕ) → length l ≡ k → number l % 2 ^ k ≡ number l
+whole_symbol l k e = let h : number l < 2 ^ k = rw (← e) (number-lt l) in mod-eq_of_lt h
+
+pub number-zeros : (n : ℕ) → number (replicate n false) ≡ 0
+number-zeros zero = refl
+number-zeros (suc n) = omega (arith, number-zeros n)
+
+pub ruleset symbols = (whole_symbol, number-zeros)

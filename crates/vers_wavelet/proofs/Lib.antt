@@ -1,0 +1,13 @@
+pub mod Digits
+pub mod Values
+pub mod Steps
+pub mod Members
+pub mod Lists
+pub mod Makes
+pub mod BySize
+pub mod Items
+pub mod Sizes
+pub mod Gathering
+pub mod Sources
+pub mod Counting
+pub mod PublicLaws

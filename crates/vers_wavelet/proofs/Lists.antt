@@ -1,0 +1,186 @@
+-- What places and counts of the levels say of the list of symbols.
+use Rattle.std.proofs.Common.{◌≡◌, ℕ, zero, suc, ◌+◌, ◌-◌, ◌%◌, ◌^◌, ◌<◌, ◌≤◌, Bool, true, cond, ltb, leb, eqb, List, [], ◌∷◌, ◌++◌, length, get_or, take, drop, refl, sym, ap, ◌∙◌, subst, arith, add-one, add-zero, inl, inr}
+use Rattle.std.specs.Prelude.{map, filter, slice_range, slice_get, Option, Some, None, IsSome}
+use Rattle.std.specs.List.{count_by, range_with_len}
+use Rattle.std.proofs.Math.Seq.{take-add}
+use Rattle.std.proofs.lemmas.Bool.{cases_lt}
+use Rattle.std.proofs.lemmas.Bool.Decides.{nat_tests}
+use Rattle.std.proofs.lemmas.List.{map-id, get_or_append_left, get_or_push, length-take, length-drop}
+use Rattle.std.proofs.lemmas.List.Sums.{length-filter, sum_by-append, sum_by_more}
+use Rattle.std.proofs.lemmas.List.FromFn.{sum_by-map-range_with_len_more, filter_of_map_range_with_len_more, length-map-range_with_len, get_or-map-range_with_len}
+use Rattle.std.proofs.lemmas.Option.{slice_get-get_or, slice_get_past}
+use Rattle.vers_wavelet.specs.Levels.{value, values, hits, under, equal, way, AreLevels, KthOf}
+use Rattle.vers_wavelet.specs.Symbols.{occurrences, IsKth}
+use Rattle.vers_wavelet.proofs.Values.{way-up, equal_under}
+use Rattle.vers_wavelet.proofs.Members.{never}
+use Rattle.vers_wavelet.proofs.Steps.{way_equal, way_more, way_parts}
+
+pub length-values : (ls : List (List Bool)) (n : ℕ) → length (values ls n) ≡ n
+unfolding values
+length-values ls n = length-map-range_with_len (value ls) 0 n
+
+pub get_or-values : (ls : List (List Bool)) (n p d : ℕ) → p < n → get_or (values ls n) p d ≡ value ls p
+unfolding values
+get_or-values ls n p d h = get_or-map-range_with_len (value ls) 0 n p p d h (omega arith)
+
+-- ---- counts over a range of places
+
+range_hits : (q : ℕ → Bool) (a m : ℕ) → count_by q (range_with_len a m) + hits q a ≡ hits q (a + m)
+range_hits q a zero = omega (arith, ap (hits q) (add-zero a), none)
+  where
+    none : count_by q (range_with_len a 0) ≡ 0
+    none = refl
+range_hits q a (suc m) =
+    let same : (k : ℕ) → count_by q (map (λ (x : ℕ). x) (range_with_len a k)) ≡ count_by q (range_with_len a k) = λ k. ap (count_by q) (map-id (range_with_len a k)) in
+    let more : count_by q (range_with_len a (m + 1)) ≡ count_by q (range_with_len a m) + cond (q (a + m)) 1 0 =
+    sym (same (m + 1)) ∙ sum_by-map-range_with_len_more (λ x. cond (q x) 1 0) (λ (x : ℕ). x) a m (a + m) refl ∙ ap (λ k. k + cond (q (a + m)) 1 0) (same m) in
+    let e : a + suc m ≡ suc (a + m) = omega arith in
+    let whole : count_by q (range_with_len a (suc m)) ≡ count_by q (range_with_len a (m + 1)) = ap (λ k. count_by q (range_with_len a k)) (sym (add-one m)) in
+    omega (arith, more, range_hits q a m, ap (hits q) e, whole)
+
+pub hits_same : (q r : ℕ → Bool) (n : ℕ) → ((p : ℕ) → p < n → q p ≡ r p) → hits q n ≡ hits r n
+hits_same q r zero h = refl
+hits_same q r (suc n) h =
+    let here : cond {A = ℕ} (q n) 1 0 ≡ cond (r n) 1 0 = ap {B = ℕ} (λ t. cond t 1 0) (h n (omega arith)) in
+    omega (arith, hits_same q r n (λ p k. h p (omega arith)), here)
+
+hits-up : (q : ℕ → Bool) (a m : ℕ) → hits q a ≤ hits q (a + m)
+hits-up q a m = omega (arith, range_hits q a m)
+
+-- a count over the places of a range
+over_places : (ls : List (List Bool)) (n a b : ℕ) (t : ℕ → Bool) → a ≤ b → b ≤ n
+    → count_by (λ p. t (get_or (values ls n) p 0)) (range_with_len a (b - a)) + hits (λ p. t (value ls p)) a ≡ hits (λ p. t (value ls p)) b
+over_places ls n a b t order within =
+    let q = λ (p : ℕ). t (get_or (values ls n) p 0) in
+    let e : a + (b - a) ≡ b = omega arith in
+    let low : hits q a ≡ hits (λ p. t (value ls p)) a = hits_same q (λ p. t (value ls p)) a (λ p k. ap t (get_or-values ls n p 0 (omega arith))) in
+    let high : hits q b ≡ hits (λ p. t (value ls p)) b = hits_same q (λ p. t (value ls p)) b (λ p k. ap t (get_or-values ls n p 0 (omega arith))) in
+    omega (arith, range_hits q a (b - a), ap (hits q) e, low, high)
+
+-- a count over the members of a range
+first_hits : (t : ℕ → Bool) (ls : List (List Bool)) (n i : ℕ) → i ≤ n → count_by t (take i (values ls n)) ≡ hits (λ p. t (value ls p)) i
+first_hits t ls n zero h = refl
+first_hits t ls n (suc i) h =
+    let more : count_by t (take (i + 1) (values ls n)) ≡ count_by t (take i (values ls n)) + cond (t (get_or (values ls n) i 0)) 1 0 =
+    sum_by_more (λ x. cond (t x) 1 0) (values ls n) i 0 (omega (arith, length-values ls n)) in
+    let here : cond {A = ℕ} (t (get_or (values ls n) i 0)) 1 0 ≡ cond (t (value ls i)) 1 0 = ap {B = ℕ} (λ v. cond (t v) 1 0) (get_or-values ls n i 0 (omega arith)) in
+    omega (arith, more, first_hits t ls n i (omega arith), here, ap (λ k. count_by t (take k (values ls n))) (add-one i))
+
+over_members : (t : ℕ → Bool) (ls : List (List Bool)) (n a b : ℕ) → a ≤ b → b ≤ n
+    → count_by t (slice_range (values ls n) a b) + hits (λ p. t (value ls p)) a ≡ hits (λ p. t (value ls p)) b
+over_members t ls n a b order within =
+    let e : a + (b - a) ≡ b = omega arith in
+    let whole : count_by t (take b (values ls n)) ≡ count_by t (take a (values ls n)) + count_by t (slice_range (values ls n) a b) =
+    ap (λ k. count_by t (take k (values ls n))) (sym e) ∙ ap (count_by t) (take-add a (b - a) (values ls n))
+    ∙ sum_by-append (λ x. cond (t x) 1 0) (take a (values ls n)) (slice_range (values ls n) a b) in
+    omega (arith, whole, first_hits t ls n a (omega arith), first_hits t ls n b within)
+
+pub length-part : (ls : List (List Bool)) (n a b : ℕ) → a ≤ b → b ≤ n → length (slice_range (values ls n) a b) ≡ b - a
+length-part ls n a b order within = omega (arith, length-take (b - a) (drop a (values ls n)), length-drop a (values ls n), length-values ls n)
+
+-- ---- occurrences
+
+occurrences_are : (ls : List (List Bool)) (n a b s : ℕ) → a ≤ b → b ≤ n → length (occurrences (values ls n) a b s) + equal ls s a ≡ equal ls s b
+unfolding occurrences equal
+occurrences_are ls n a b s order within =
+    omega (arith, length-filter (λ p. eqb (get_or (values ls n) p 0) s) (range_with_len a (b - a)), over_places ls n a b (λ v. eqb v s) order within)
+
+pub count_is : {ls : List (List Bool)} {n : ℕ} → AreLevels ls n → (s a b from to : ℕ) → a ≤ b → b ≤ n → from ≡ way ls s a → to ≡ way ls s b
+    → to - from ≡ length (occurrences (values ls n) a b (s % 2 ^ length ls))
+count_is {ls} {n} levels s a b from to order within e f =
+    omega (arith, occurrences_are ls n a b (s % 2 ^ length ls) order within, way_parts levels s a b order within, way-up ls s a b order)
+
+-- the places of a range that pass a test: number r of them is the one before which r of them stand
+nth_passing : (q : ℕ → Bool) (a m p d r : ℕ) → a ≤ p → p < a + m → q p ≡ true → count_by q (range_with_len a (p - a)) ≡ r → get_or (filter q (range_with_len a m)) r d ≡ p
+nth_passing q a zero p d r low high on e = absurd (omega arith)
+nth_passing q a (suc m) p d r low high on e =
+    let xs = filter q (range_with_len a m) in
+    let same = λ (k : ℕ). ap (filter q) (map-id (range_with_len a k)) in
+    let more : filter q (range_with_len a (m + 1)) ≡ xs ++ cond (q (a + m)) ((a + m) ∷ []) [] =
+    sym (same (m + 1)) ∙ filter_of_map_range_with_len_more q (λ (x : ℕ). x) a m (a + m) refl ∙ ap (λ ys. ys ++ cond (q (a + m)) ((a + m) ∷ []) []) (same m) in
+    let long : length xs ≡ count_by q (range_with_len a m) = length-filter q (range_with_len a m) in
+    ap (λ n. get_or (filter q (range_with_len a n)) r d) (sym (add-one m)) ∙ elim (cases_lt p (a + m)) [
+      | inl lower ↦
+          let to : a + (p - a) ≡ p = omega arith in
+          let from : p + 1 + (a + m - (p + 1)) ≡ a + m = omega arith in
+          let here : hits q (p + 1) ≡ hits q p + 1 = ap (hits q) (add-one p) ∙ ap {B = ℕ} (λ t. hits q p + cond t 1 0) on in
+          let early : r < length xs =
+          omega (arith, long, e, range_hits q a (p - a), range_hits q a m, hits-up q (p + 1) (a + m - (p + 1)), ap (hits q) from, ap (hits q) to, here) in
+          ap (λ ys. get_or ys r d) more ∙ get_or_append_left xs _ d r early ∙ nth_passing q a m p d r low lower on e
+      | inr last ↦
+          let at : a + m ≡ p = omega arith in
+          let held : q (a + m) ≡ true = ap q at ∙ on in
+          let n : p - a ≡ m = omega arith in
+          ap (λ ys. get_or ys r d) (more ∙ ap (λ t. xs ++ cond t ((a + m) ∷ []) []) held)
+          ∙ get_or_push xs (a + m) d r (long ∙ ap (λ k. count_by q (range_with_len a k)) (sym n) ∙ e) ∙ at
+    ]
+
+same_test : (v s : ℕ) → v ≡ s → eqb v s ≡ true
+same_test v s e = grind (arith, nat_tests)
+
+-- the place whose way leads r past that of a is occurrence r from a on
+pub found_is : {ls : List (List Bool)} {n : ℕ} → AreLevels ls n → (s a r from to p : ℕ) → a ≤ n → from ≡ way ls s a → to ≡ way ls s n → r < to - from
+    → p < n → value ls p ≡ s % 2 ^ length ls → way ls s p ≡ from + r
+    → Some p ≡ slice_get (occurrences (values ls n) a n (s % 2 ^ length ls)) r
+unfolding occurrences equal
+found_is {ls} {n} levels s a r from to p start e f few within holds leads =
+    let v : ℕ = s % 2 ^ length ls in
+    let q = λ (i : ℕ). eqb (get_or (values ls n) i 0) v in
+    let order : a ≤ p = elim (cases_lt p a) [
+      | inl before ↦ absurd (omega (arith, way_more ls n levels.even s p within holds, way-up ls s (p + 1) a (omega arith)))
+      | inr fine ↦ fine
+    ] in
+    let many : length (occurrences (values ls n) a n v) ≡ to - from = sym (count_is levels s a n from to start (omega arith) e f) in
+    let before : count_by q (range_with_len a (p - a)) ≡ r =
+    omega (arith, over_places ls n a p (λ x. eqb x v) order (omega arith), way_equal ls n levels.even s a start, way_equal ls n levels.even s p (omega arith)) in
+    let at : get_or (filter q (range_with_len a (n - a))) r p ≡ p =
+    nth_passing q a (n - a) p p r order (omega arith) (ap (λ x. eqb x v) (get_or-values ls n p 0 within) ∙ same_test (value ls p) v holds) before in
+    sym (slice_get-get_or (occurrences (values ls n) a n v) r p (omega arith) ∙ ap Some at)
+
+pub found_none : {ls : List (List Bool)} {n : ℕ} → AreLevels ls n → (s a r from to : ℕ) → a ≤ n → from ≡ way ls s a → to ≡ way ls s n → to - from ≤ r
+    → None ≡ slice_get (occurrences (values ls n) a n (s % 2 ^ length ls)) r
+found_none {ls} {n} levels s a r from to start e f past =
+    sym (slice_get_past (occurrences (values ls n) a n (s % 2 ^ length ls)) r (omega (arith, count_is levels s a n from to start (omega arith) e f)))
+
+-- ---- members by size
+
+leb_is : (v x : ℕ) → leb v x ≡ ltb v (x + 1)
+leb_is v x = grind (arith, nat_tests)
+
+leb_hits : (ls : List (List Bool)) (x i : ℕ) → hits (λ p. leb (value ls p) x) i ≡ under ls (x + 1) i
+unfolding under
+leb_hits ls x i = hits_same _ _ i (λ p h. leb_is (value ls p) x)
+
+pub below_is : (ls : List (List Bool)) (n a b s less : ℕ) → a ≤ b → b ≤ n → less + under ls s a ≡ under ls s b → less ≡ count_by (λ y. ltb y s) (slice_range (values ls n) a b)
+unfolding under
+below_is ls n a b s less order within e = omega (arith, over_members (λ v. ltb v s) ls n a b order within)
+
+pub kth_is : (ls : List (List Bool)) (n a b i x : ℕ) → a ≤ b → b ≤ n → KthOf ls a b i x → IsKth (slice_range (values ls n) a b) i x
+unfolding under
+kth_is ls n a b i x order within kth = record {
+  less = omega (arith, over_members (λ v. ltb v x) ls n a b order within, kth.less);
+  more = omega (arith, over_members (λ v. leb v x) ls n a b order within, kth.more, leb_hits ls x a, leb_hits ls x b);
+}
+
+pub not_above_is : {ls : List (List Bool)} {n : ℕ} → AreLevels ls n → (s a b less from to : ℕ) → a ≤ b → b ≤ n → from ≡ way ls s a → to ≡ way ls s b
+    → less + under ls (s % 2 ^ length ls) a ≡ under ls (s % 2 ^ length ls) b
+    → less + (to - from) ≡ count_by (λ y. leb y (s % 2 ^ length ls)) (slice_range (values ls n) a b)
+not_above_is {ls} {n} levels s a b less from to order within e f g =
+    let v : ℕ = s % 2 ^ length ls in
+    omega (
+      arith,
+      over_members (λ x. leb x v) ls n a b order within,
+      leb_hits ls v a,
+      leb_hits ls v b,
+      equal_under ls v a,
+      equal_under ls v b,
+      way_parts levels s a b order within,
+      way-up ls s a b order,
+    )
+
+-- whether a list has a member of a number
+pub get_decides : (o : Option ℕ) (xs : List ℕ) (r : ℕ) → o ≡ slice_get xs r → (IsSome o → r < length xs) × (r < length xs → IsSome o)
+get_decides o xs r e =
+    (λ t. elim (cases_lt r (length xs)) [ inl h ↦ h | inr past ↦ never (subst IsSome (e ∙ slice_get_past xs r past) t) ], λ h. subst IsSome (sym (e ∙ slice_get-get_or xs r 0 h)) refl)
+
+pub ruleset lists = (length-values)

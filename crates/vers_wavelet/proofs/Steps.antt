@@ -1,0 +1,337 @@
+-- One level of a search.
+use Rattle.std.proofs.Common.{◌≡◌, ℕ, zero, suc, ◌+◌, ◌-◌, ◌*◌, ◌%◌, ◌^◌, ◌<◌, ◌≤◌, Bool, true, false, cond, List, [], ◌∷◌, length, drop, get_or, refl, sym, ap, ◌∙◌, subst, arith, add-one, inl, inr}
+use Rattle.std.specs.Prelude.{All}
+use Rattle.std.proofs.Math.Seq.{drop-cons}
+use Rattle.std.proofs.Math.Nat.{pow-suc, mod-lt}
+use Rattle.std.proofs.lemmas.Bool.{cases_lt}
+use Rattle.std.proofs.lemmas.Nat.{pow_pos}
+use Rattle.std.proofs.lemmas.List.{length-drop, drop_all}
+use Rattle.vers_bits.specs.Bits.{bit_value, is_bit, count, select}
+use Rattle.vers_bits.proofs.PublicLaws.{select_holds}
+use Rattle.vers_wavelet.specs.Levels.{start, next, value, under, equal, way, digit, AreLevels, Narrowed, KthOf, Searched, Rises}
+use Rattle.vers_wavelet.proofs.Digits.{digit_value, top_digit, room_none}
+use Rattle.vers_wavelet.proofs.Values.{under_low, under_high, equal_under, under_none, next_none, next-up, next-le, none_under, all_equal, one_under, value_is, value_none, next-lt, way_none, way_is, way-up, equal_more}
+
+pub under_step : (bit : Bool) (l : List Bool) (ls : List (List Bool)) (s i : ℕ) → s ≤ 2 ^ length ls → i ≤ length l
+    → under (l ∷ ls) (bit_value bit * 2 ^ length ls + s) i + under ls s (start bit l) ≡ cond bit (next false l i) 0 + under ls s (next bit l i)
+under_step true l ls s i small h =
+    let e : 1 * 2 ^ length ls + s ≡ 2 ^ length ls + s = omega arith in
+    omega (arith, ap (λ y. under (l ∷ ls) y i) e, under_high l ls s i h)
+under_step false l ls s i small h =
+    let e : 0 * 2 ^ length ls + s ≡ s = omega arith in
+    omega (arith, ap (λ y. under (l ∷ ls) y i) e, under_low l ls s small i h, under_none ls s)
+
+pub equal_step : (bit : Bool) (l : List Bool) (ls : List (List Bool)) (s i : ℕ) → s < 2 ^ length ls → i ≤ length l
+    → equal (l ∷ ls) (bit_value bit * 2 ^ length ls + s) i + equal ls s (start bit l) ≡ equal ls s (next bit l i)
+equal_step bit l ls s i small h =
+    let t : ℕ = bit_value bit * 2 ^ length ls in
+    let e : t + (s + 1) ≡ t + s + 1 = omega arith in
+    omega (
+      arith,
+      equal_under (l ∷ ls) (t + s) i,
+      equal_under ls s (start bit l),
+      equal_under ls s (next bit l i),
+      under_step bit l ls s i (omega arith) h,
+      under_step bit l ls (s + 1) i (omega arith) h,
+      ap (λ y. under (l ∷ ls) y i) e,
+    )
+
+pub kth_low : (l : List Bool) (ls : List (List Bool)) (a b i x : ℕ) → x < 2 ^ length ls → a ≤ length l → b ≤ length l
+    → KthOf ls (next false l a) (next false l b) i x → KthOf (l ∷ ls) a b i x
+kth_low l ls a b i x small ha hb k = record {
+  less = omega (arith, under_low l ls x (omega arith) a ha, under_low l ls x (omega arith) b hb, k.less);
+  more = omega (arith, under_low l ls (x + 1) (omega arith) a ha, under_low l ls (x + 1) (omega arith) b hb, k.more);
+}
+
+pub kth_high : (l : List Bool) (ls : List (List Bool)) (a b i j x : ℕ) → a ≤ length l → b ≤ length l → j + next false l b ≡ i + next false l a
+    → KthOf ls (next true l a) (next true l b) j x → KthOf (l ∷ ls) a b i (2 ^ length ls + x)
+kth_high l ls a b i j x ha hb e k =
+    let s : 2 ^ length ls + (x + 1) ≡ 2 ^ length ls + x + 1 = omega arith in
+    record {
+      less = omega (arith, under_high l ls x a ha, under_high l ls x b hb, k.less);
+      more = omega (arith, under_high l ls (x + 1) a ha, under_high l ls (x + 1) b hb, k.more, ap (λ y. under (l ∷ ls) y a) s, ap (λ y. under (l ∷ ls) y b) s);
+    }
+
+module _ (ls : List (List Bool)) (k : ℕ) (h : k < length ls) where
+  pub level_at : (v : List Bool) → v ≡ get_or ls k v → drop k ls ≡ v ∷ drop (k + 1) ls
+  level_at v at = drop-cons ls k v h ∙ ap (λ x. x ∷ drop (suc k) ls) (sym at) ∙ ap (λ n. v ∷ drop n ls) (sym (add-one k))
+
+  pub levels_left : length (drop (k + 1) ls) ≡ length ls - (k + 1)
+  levels_left = length-drop (k + 1) ls
+
+-- the digits of s from level k on: the first of them, and the others
+digit_from : (s m k : ℕ) → k < m → s % 2 ^ (m - k) ≡ bit_value (digit s (m - (k + 1))) * 2 ^ (m - (k + 1)) + s % 2 ^ (m - (k + 1))
+digit_from s m k h =
+    let e : m - k ≡ m - (k + 1) + 1 = omega arith in
+    ap (λ n. s % 2 ^ n) e ∙ top_digit s (m - (k + 1))
+
+less_more : (bit : Bool) (less ua ub va vb sa p q : ℕ) (za zb : ℕ) → za ≤ zb → ua + sa ≡ cond bit za 0 + va → ub + sa ≡ cond bit zb 0 + vb
+    → less + ub + p ≡ ua + q → less + cond bit (zb - za) 0 + vb + p ≡ va + q
+less_more true less ua ub va vb sa p q za zb order f g n = omega arith
+less_more false less ua ub va vb sa p q za zb order f g n = omega arith
+
+-- ---- the way down
+
+-- all levels have n places
+abbrev pub Even : List (List Bool) → ℕ → Type 0
+Even ls n = All (λ l. length l ≡ n) ls
+
+pub even_rest : (l : List Bool) (ls : List (List Bool)) (n : ℕ) → Even (l ∷ ls) n → Even ls n
+even_rest l ls n even = λ k d h. even (suc k) d (omega arith)
+
+pub even_first : (l : List Bool) (ls : List (List Bool)) (n : ℕ) → Even (l ∷ ls) n → length l ≡ n
+even_first l ls n even = even zero l (omega arith)
+
+start_le : (bit : Bool) (l : List Bool) → start bit l ≤ length l
+start_le bit l = omega (arith, next_none bit l, next-le bit l 0)
+
+-- the places that hold s before a place are as far apart below the last level
+pub way_equal : (ls : List (List Bool)) (n : ℕ) → Even ls n → (s i : ℕ) → i ≤ n → equal ls (s % 2 ^ length ls) i + way ls s 0 ≡ way ls s i
+way_equal [] n even s i h =
+    let none : s % 2 ^ 0 ≡ 0 = omega arith in
+    omega (arith, ap (λ y. equal [] y i) none, all_equal i, way_none s 0, way_none s i)
+way_equal (l ∷ ls) n even s i h =
+    let bit : Bool = digit s (length ls) in
+    let r : ℕ = s % 2 ^ length ls in
+    let long : length l ≡ n = even_first l ls n even in
+    let whole : s % 2 ^ length (l ∷ ls) ≡ bit_value bit * 2 ^ length ls + r = ap (λ m. s % 2 ^ m) (sym (add-one (length ls))) ∙ top_digit s (length ls) in
+    let here = way_equal ls n (even_rest l ls n even) s (next bit l i) (omega (arith, next-le bit l i)) in
+    let first = way_equal ls n (even_rest l ls n even) s (start bit l) (omega (arith, start_le bit l)) in
+    omega (
+      arith,
+      ap (λ y. equal (l ∷ ls) y i) whole,
+      equal_step bit l ls r i (mod-lt s (pow_pos (length ls))) (omega arith),
+      here,
+      first,
+      way_is l ls s i,
+      way_is l ls s 0,
+      ap (way ls s) (next_none bit l),
+    )
+
+-- a place that holds s has a place of its own there
+pub way_more : (ls : List (List Bool)) (n : ℕ) → Even ls n → (s i : ℕ) → i < n → value ls i ≡ s % 2 ^ length ls → way ls s (i + 1) ≡ way ls s i + 1
+way_more ls n even s i h e = omega (arith, way_equal ls n even s i (omega arith), way_equal ls n even s (i + 1) (omega arith), equal_more ls (s % 2 ^ length ls) i e)
+
+pub way_low : (ls : List (List Bool)) (s k : ℕ) → way (drop k ls) s 0 ≤ way ls s 0
+way_low ls s zero = omega arith
+way_low [] s (suc k) = omega arith
+way_low (l ∷ ls) s (suc k) = omega (arith, way_low ls s k, way-up ls s 0 (next (digit s (length ls)) l 0) (omega arith), way_is l ls s 0)
+
+pub way_high : (ls : List (List Bool)) (n : ℕ) → Even ls n → (s k : ℕ) → way ls s n ≤ way (drop k ls) s n
+way_high ls n even s zero = omega arith
+way_high [] n even s (suc k) = omega arith
+way_high (l ∷ ls) n even s (suc k) =
+    let bit : Bool = digit s (length ls) in
+    let down : next bit l n ≤ n = omega (arith, next-le bit l n, even_first l ls n even) in
+    omega (arith, way_high ls n (even_rest l ls n even) s k, way-up ls s (next bit l n) n down, way_is l ls s n)
+
+even_drop : (ls : List (List Bool)) (n : ℕ) → Even ls n → (k : ℕ) → Even (drop k ls) n
+even_drop ls n even zero = even
+even_drop [] n even (suc k) = even
+even_drop (l ∷ ls) n even (suc k) = even_drop ls n (even_rest l ls n even) k
+
+bit_of : (bit x : Bool) → is_bit bit x ≡ true → x ≡ bit
+bit_of true true e = refl
+bit_of true false e = e
+bit_of false true e = sym e
+bit_of false false e = refl
+
+module _ (ls : List (List Bool)) (s k : ℕ) (h : k < length ls) (v : List Bool) (at : v ≡ get_or ls k v) (bit : Bool) (is : bit ≡ digit s (length ls - (k + 1))) where
+  abbrev rest : ℕ
+  rest = s % 2 ^ (length ls - (k + 1))
+
+  abbrev lower : List (List Bool)
+  lower = drop (k + 1) ls
+
+  whole : s % 2 ^ (length ls - k) ≡ bit_value bit * 2 ^ length lower + rest
+  whole = digit_from s (length ls) k h ∙ ap (λ d. bit_value d * 2 ^ (length ls - (k + 1)) + rest) (sym is)
+      ∙ ap (λ n. bit_value bit * 2 ^ n + rest) (sym (levels_left ls k h))
+
+  small : rest < 2 ^ length lower
+  small = rw (levels_left ls k h) (mod-lt s (pow_pos (length ls - (k + 1))))
+
+  under_at : (i : ℕ) → i ≤ length v
+      → under (drop k ls) (s % 2 ^ (length ls - k)) i + under lower rest (start bit v)
+      ≡ cond bit (next false v i) 0 + under lower rest (next bit v i)
+  under_at i within =
+      ap (λ m. under m (s % 2 ^ (length ls - k)) i + under lower rest (start bit v)) (level_at ls k h v at)
+      ∙ ap (λ y. under (v ∷ lower) y i + under lower rest (start bit v)) whole
+      ∙ under_step bit v lower rest i (omega (arith, small)) within
+
+  pub way_down : (i : ℕ) → way (drop k ls) s i ≡ way lower s (next bit v i)
+  way_down i =
+      ap (λ m. way m s i) (level_at ls k h v at) ∙ way_is v lower s i
+      ∙ ap (λ n. way lower s (next (digit s n) v i)) (levels_left ls k h) ∙ ap (λ d. way lower s (next d v i)) (sym is)
+
+  -- the two ends of a range, one level down
+  pub narrowed_more : {from to a b less : ℕ} → a ≤ length v → b ≤ length v → a ≤ b
+      → Narrowed ls s from to k a b less
+      → Narrowed ls s from to (k + 1) (next bit v a) (next bit v b) (less + cond bit (next false v b - next false v a) 0)
+  narrowed_more {from} {to} {a} {b} {less} ha hb order n = record {
+    less_is = less_more bit less _ _ _ _ _ _ _ (next false v a) (next false v b) (next-up false v a b order) (under_at a ha) (under_at b hb) n.less_is;
+    from_is = sym (way_down a) ∙ n.from_is;
+    to_is = sym (way_down b) ∙ n.to_is;
+  }
+
+  -- one level up
+  module _ (n : ℕ) (even : Even ls n) (target q : ℕ) (low : way ls s 0 ≤ target) (high : target < way ls s n) (up : Rises ls n s target (k + 1) q) where
+    long : length v ≡ n
+    long = ap length at ∙ even k v h
+
+    holds_here : value lower q ≡ s % 2 ^ length lower
+    holds_here = up.holds ∙ ap (λ m. s % 2 ^ m) (sym (levels_left ls k h))
+
+    pub rise_from : start bit v ≤ q
+    rise_from = elim (cases_lt q (start bit v)) [
+      | inl less ↦ absurd (omega (
+        arith,
+        up.leads,
+        way_more lower n (even_drop ls n even (k + 1)) s q up.within holds_here,
+        way-up lower s (q + 1) (start bit v) (omega arith),
+        way_down 0,
+        ap (way lower s) (next_none bit v),
+        way_low ls s k,
+      ))
+      | inr fine ↦ fine
+    ]
+
+    rise_before : q < next bit v n
+    rise_before = elim (cases_lt q (next bit v n)) [
+      | inl fine ↦ fine
+      | inr past ↦ absurd (omega (arith, up.leads, way-up lower s (next bit v n) q past, way_down n, way_high ls n even s k))
+    ]
+
+    pub rise_few : q - start bit v < count bit v (length v)
+    unfolding next
+    rise_few = let e : count bit v (length v) ≡ count bit v n = ap (count bit v) long in omega (arith, rise_before, rise_from, e)
+
+    pub rise_to : Rises ls n s target k (select bit v (q - start bit v))
+    unfolding next
+    rise_to =
+        let r : ℕ = q - start bit v in
+        let at' = select_holds bit v r (length v) (omega arith) rise_few in
+        let p : ℕ = select bit v r in
+        let back : next bit v p ≡ q = omega (arith, at'.2, rise_from) in
+        record {
+          within = omega (arith, at'.0, long);
+          holds = ap (λ m. value m p) (level_at ls k h v at) ∙ value_is v lower p bit (bit_of bit _ at'.1) ∙ ap (λ i. bit_value bit * 2 ^ length lower + value lower i) back
+              ∙ ap (λ x. bit_value bit * 2 ^ length lower + x) up.holds ∙ sym whole;
+          leads = way_down p ∙ ap (way lower s) back ∙ up.leads;
+        }
+
+end_digits : (ls : List (List Bool)) (s : ℕ) → s % 2 ^ (length ls - length ls) ≡ 0
+end_digits ls s = let e : length ls - length ls ≡ 0 = omega arith in ap (λ n. s % 2 ^ n) e ∙ omega arith
+
+pub rise_none : (ls : List (List Bool)) (n s target : ℕ) → target < n → Rises ls n s target (length ls) target
+rise_none ls n s target h = record {
+  within = h;
+  holds = ap (λ m. value m target) (drop_all (length ls) ls (omega arith)) ∙ value_none target ∙ sym (end_digits ls s);
+  leads = ap (λ m. way m s target) (drop_all (length ls) ls (omega arith)) ∙ way_none s target;
+}
+
+-- one level of a search by size
+module _ (ls : List (List Bool)) (k : ℕ) (h : k < length ls) (v : List Bool) (at : v ≡ get_or ls k v) where
+  abbrev weight : ℕ
+  weight = 2 ^ (length ls - (k + 1))
+
+  next_power : 2 ^ (length ls - k) ≡ 2 * weight
+  next_power =
+      let e : length ls - k ≡ suc (length ls - (k + 1)) = omega arith in
+      ap (λ n. 2 ^ n) e ∙ omega (arith, pow-suc 2 (length ls - (k + 1)))
+
+  searched_low : {from to th a b i number : ℕ} → a ≤ length v → b ≤ length v
+      → Searched ls from to th k a b i number → Searched ls from to th (k + 1) (next false v a) (next false v b) i number
+  searched_low {from} {to} {th} {a} {b} {i} {number} ha hb s = record {
+    each = λ x small kth.
+        let here : KthOf (drop k ls) a b i x =
+        rw (level_at ls k h v at) (kth_low v (drop (k + 1) ls) a b i x (rw (levels_left ls k h) small) ha hb kth) in
+        s.each x (omega (arith, next_power)) here;
+  }
+
+  searched_high : {from to th a b i j number : ℕ} → a ≤ length v → b ≤ length v
+      → j + next false v b ≡ i + next false v a
+      → Searched ls from to th k a b i number → Searched ls from to th (k + 1) (next true v a) (next true v b) j (number + weight)
+  searched_high {from} {to} {th} {a} {b} {i} {j} {number} ha hb same s = record {
+    each = λ x small kth.
+        let e : number + (weight + x) ≡ number + weight + x = omega arith in
+        let more : KthOf (v ∷ drop (k + 1) ls) a b i (2 ^ length (drop (k + 1) ls) + x) =
+        kth_high v (drop (k + 1) ls) a b i j x ha hb same kth in
+        let here : KthOf (drop k ls) a b i (weight + x) =
+        rw (level_at ls k h v at) (subst (λ (n : ℕ). KthOf (v ∷ drop (k + 1) ls) a b i (2 ^ n + x)) (levels_left ls k h) more) in
+        subst (KthOf ls from to th) e (s.each (weight + x) (omega (arith, next_power)) here);
+  }
+
+  pub searched_more : (bit : Bool) (from to th a b i j number : ℕ) → a ≤ b → b ≤ length v → j + cond bit (next false v b - next false v a) 0 ≡ i
+      → Searched ls from to th k a b i number
+      → Searched ls from to th (k + 1) (next bit v a) (next bit v b) j (number + bit_value bit * weight)
+  searched_more true from to th a b i j number order within e s =
+      let r : number + 1 * weight ≡ number + weight = omega arith in
+      rw r (searched_high (omega arith) within (omega (arith, next-up false v a b order)) s)
+  searched_more false from to th a b i j number order within e s =
+      let same : j ≡ i = omega arith in
+      let r : number + 0 * weight ≡ number = omega arith in
+      rw (same, r) (searched_low (omega arith) within s)
+
+  -- one level of the symbol at a place
+  pub read_more : (bit : Bool) (p number x : ℕ) → get_or v p false ≡ bit
+      → number + value (drop k ls) p ≡ x
+      → number + bit_value bit * weight + value (drop (k + 1) ls) (next bit v p) ≡ x
+  read_more bit p number x is e =
+      let here : value (drop k ls) p ≡ bit_value bit * weight + value (drop (k + 1) ls) (next bit v p) =
+      ap (λ m. value m p) (level_at ls k h v at) ∙ value_is v (drop (k + 1) ls) p bit is
+      ∙ ap (λ n. bit_value bit * 2 ^ n + value (drop (k + 1) ls) (next bit v p)) (levels_left ls k h) in
+      omega (arith, e, here)
+
+pub searched_none : (ls : List (List Bool)) (from to i : ℕ) → Searched ls from to i 0 from to i 0
+searched_none ls from to i = record { each = λ x small k. let e : 0 + x ≡ x = omega arith in rw e k }
+
+pub searched_all : {ls : List (List Bool)} {from to th k a b i number : ℕ} → k ≡ length ls → Searched ls from to th k a b i number → a + i < b → KthOf ls from to th number
+searched_all {ls} {from} {to} {th} {k} {a} {b} {i} {number} e s order =
+    let none : drop k ls ≡ [] = drop_all k ls (omega arith) in
+    let w : 2 ^ (length ls - k) ≡ 1 = (let z : length ls - k ≡ 0 = omega arith in ap (λ n. 2 ^ n) z) in
+    let kth : KthOf [] a b i 0 = record { less = omega (arith, none_under a, none_under b); more = omega (arith, one_under a, one_under b) } in
+    let r : number + 0 ≡ number = omega arith in
+    subst (KthOf ls from to th) r (s.each 0 (omega (arith, w)) (rw none kth))
+
+pub read_all : (ls : List (List Bool)) (k p number x : ℕ) → k ≡ length ls → number + value (drop k ls) p ≡ x → number ≡ x
+read_all ls k p number x e s = omega (arith, s, ap (λ m. value m p) (drop_all k ls (omega arith)) ∙ value_none p)
+
+pub narrowed_none : (ls : List (List Bool)) (s from to : ℕ) → Narrowed ls s from to 0 from to 0
+narrowed_none ls s from to =
+    let e : length ls - 0 ≡ length ls = omega arith in
+    record { less_is = ap (λ n. 0 + under ls (s % 2 ^ n) to + under ls (s % 2 ^ length ls) from) e ∙ omega arith ∙ ap (λ n. under ls (s % 2 ^ n) from + under ls (s % 2 ^ length ls) to) (sym e); from_is = refl; to_is = refl }
+
+pub narrowed_all : {ls : List (List Bool)} {s from to k a b less : ℕ} → k ≡ length ls → Narrowed ls s from to k a b less
+    → (less + under ls (s % 2 ^ length ls) from ≡ under ls (s % 2 ^ length ls) to) × (a ≡ way ls s from) × (b ≡ way ls s to)
+narrowed_all {ls} {s} {from} {to} {k} {a} {b} {less} e n =
+    let none : drop k ls ≡ [] = drop_all k ls (omega arith) in
+    let z : length ls - k ≡ 0 = omega arith in
+    let zero_digits : s % 2 ^ (length ls - k) ≡ 0 = ap (λ m. s % 2 ^ m) z ∙ omega arith in
+    let low = ap (λ m. under m (s % 2 ^ (length ls - k)) a) none ∙ ap (λ y. under [] y a) zero_digits ∙ none_under a in
+    let high = ap (λ m. under m (s % 2 ^ (length ls - k)) b) none ∙ ap (λ y. under [] y b) zero_digits ∙ none_under b in (
+      omega (arith, n.less_is, low, high),
+      sym (way_none s a) ∙ ap (λ m. way m s a) (sym none) ∙ n.from_is,
+      sym (way_none s b) ∙ ap (λ m. way m s b) (sym none) ∙ n.to_is,
+    )
+
+-- those that hold s in a range, by the way down of its ends
+pub way_parts : {ls : List (List Bool)} {n : ℕ} → AreLevels ls n → (s a b : ℕ) → a ≤ b → b ≤ n → way ls s b - way ls s a + equal ls (s % 2 ^ length ls) a ≡ equal ls (s % 2 ^ length ls) b
+way_parts {ls} {n} levels s a b order within = omega (arith, way_equal ls n levels.even s a (omega arith), way_equal ls n levels.even s b within, way-up ls s a b order)
+
+pub ruleset narrowing = (next-le, next-up, narrowed_none)
+
+pub ruleset searching = (searched_none, room_none, next-le, next-up)
+
+pub rise_first : {ls : List (List Bool)} {n : ℕ} → AreLevels ls n → (s target : ℕ) → target < way ls s n → Rises ls n s target (length ls - 0) target
+rise_first {ls} {n} levels s target high =
+    let below : way ls s n ≤ n = omega (arith, way_high ls n levels.even s (length ls), ap (λ m. way m s n) (drop_all (length ls) ls (omega arith)) ∙ way_none s n) in
+    let e : length ls ≡ length ls - 0 = omega arith in
+    subst (λ (m : ℕ). Rises ls n s target m target) e (rise_none ls n s target (omega arith))
+
+pub rise_at : {ls : List (List Bool)} {n s target m q : ℕ} (k : ℕ) → m ≡ k + 1 → Rises ls n s target m q → Rises ls n s target (k + 1) q
+rise_at {ls} {n} {s} {target} {m} {q} k e up = subst (λ (j : ℕ). Rises ls n s target j q) e up
+
+pub rise_all : {ls : List (List Bool)} {n s target k q : ℕ} → k ≡ 0 → Rises ls n s target k q → (value ls q ≡ s % 2 ^ length ls) × (way ls s q ≡ target)
+rise_all {ls} {n} {s} {target} {k} {q} e up =
+    let top : Rises ls n s target 0 q = subst (λ (j : ℕ). Rises ls n s target j q) e up in
+    (top.holds ∙ (let z : length ls - 0 ≡ length ls = omega arith in ap (λ m. s % 2 ^ m) z), top.leads)

@@ -1,0 +1,8 @@
+use Rattle.vers_wavelet.proofs.Makes.{are_levels, symbols_made}
+use Rattle.vers_wavelet.proofs.wavelet.WaveletMatrix.sorted.Goals as goal
+
+pub invariant_of-result : goal.invariant_of-result
+invariant_of-result g c = are_levels _ _ _ _ _ c.in_ok-levels.ensures c.len-len.ensures.value c.requires.none c.requires.narrow c.len-len.ensures.bounded
+
+pub returns-clause-items : goal.returns-clause-items
+returns-clause-items g c = symbols_made _ _ _ _ _ c.in_ok-levels.ensures c.len-len.ensures.value

@@ -1,0 +1,5 @@
+pub mod Symbols
+pub mod Reads
+pub mod Levels
+pub mod Makers
+pub mod Laws

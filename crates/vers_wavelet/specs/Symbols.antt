@@ -1,0 +1,55 @@
+-- Lists of symbols: where a symbol stands in a range of them, and the members of a range by size.
+-- A symbol is a number; a range from a to b has the members at the places from a on, before b.
+use Rattle.std.specs.Prelude.{ℕ, ◌-◌, ◌<◌, ◌≤◌, ◌==◌, Bool, List, [], ◌∷◌, slice_index, filter, map, count_by, min, nat_lt, nat_le, All, Contains, if◌then◌else◌}
+use Rattle.std.specs.Int.{bit_at}
+use Rattle.std.specs.List.{range_with_len, sum_by}
+use Rattle.vers_bits.specs.Bits.{low_bits}
+use Rattle.vers_rank.specs.Queries.{index_size}
+
+-- a width, and a list of numbers of at most as many binary digits
+pub record Symbols : Type 0 where
+  pub width : ℕ
+  pub items : List ℕ
+
+-- the places of a range that hold the symbol s, ascending
+unfoldable pub occurrences : List ℕ → ℕ → ℕ → ℕ → List ℕ
+occurrences items a b s = filter (λ p. slice_index items p == s) (range_with_len a (b - a))
+
+-- x is member i of the list by size, from 0, equal ones counted: at most i members are below x, and more than i are not above x
+pub record IsKth (items : List ℕ) (i x : ℕ) : Type 0 where
+  pub less : count_by (λ y. nat_lt y x) items ≤ i
+  pub more : i < count_by (λ y. nat_le y x) items
+
+-- x is the greatest member of the list that is not above s
+pub record IsPredecessor (items : List ℕ) (s x : ℕ) : Type 0 where
+  pub member : Contains items x
+  pub within : x ≤ s
+  pub greatest : All (λ y. y ≤ s → y ≤ x) items
+
+-- x is the least member of the list that is not below s
+pub record IsSuccessor (items : List ℕ) (s x : ℕ) : Type 0 where
+  pub member : Contains items x
+  pub within : s ≤ x
+  pub least : All (λ y. s ≤ y → x ≤ y) items
+
+-- a number among the members of an ascending list, before the first that is not below it
+abbrev pub placed : ℕ → List ℕ → List ℕ
+placed x [] = x ∷ []
+placed x (y ∷ ys) = if nat_le x y then x ∷ y ∷ ys else y ∷ placed x ys
+
+-- the members of a list in ascending order, equal ones too
+abbrev pub by_size : List ℕ → List ℕ
+by_size [] = []
+by_size (x ∷ xs) = placed x (by_size xs)
+
+-- each number as the list of its k lowest bits
+abbrev pub in_bits : ℕ → List ℕ → List (List Bool)
+in_bits k numbers = map (λ y. low_bits y k) numbers
+
+-- binary digit j of each number, as bits
+abbrev pub digit_list : ℕ → List ℕ → List Bool
+digit_list j numbers = map (λ y. bit_at y j == 1) numbers
+
+-- the bytes of an indexed list of bits for each digit of the symbols, or the greatest usize where they are more
+abbrev pub matrix_size : Symbols → ℕ
+matrix_size symbols = min (sum_by (λ j. index_size (digit_list j symbols.items)) (range_with_len 0 symbols.width)) 18446744073709551615

@@ -1,0 +1,20 @@
+//! Laws of lists of symbols. Each function does nothing: its contract is the law, and its proof is
+//! checked with the crate.
+ghost use Rattle.vers_wavelet.specs.Laws.{SortedMembersAscend, SortingKeepsMembers, OneMemberOfANumber};
+
+/// In ascending order members ascend.
+#[tactic(auto, using(crate::proofs::BySize::ascending))]
+pub fn sorted_members_ascend()
+    ensures { SortedMembersAscend }
+{}
+
+/// Ascending order has the same members, each as often.
+#[tactic(auto, using(crate::proofs::BySize::count_by_size))]
+pub fn sorting_keeps_members()
+    ensures { SortingKeepsMembers }
+{}
+
+/// A list has one member of each number by size, so that a quantile is one number.
+pub fn one_member_of_a_number()
+    ensures { OneMemberOfANumber }
+{}

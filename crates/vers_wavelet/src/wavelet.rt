@@ -1,0 +1,92 @@
+//! The wavelet matrix.
+ghost use Rattle.std.specs.Prelude.{◌≡◌, ℕ, ◌+◌, ◌-◌, ◌*◌, ◌%◌, ◌^◌, ◌<◌, ◌≤◌, ◌↔◌, [], length, slice_get, slice_index, slice_range, count_by, nat_lt, nat_le, Some, None, IsTrue, IsSome, IfSome};
+ghost use Rattle.vers_wavelet.specs.Symbols.{Symbols};
+
+mod count;
+pub(crate) mod digits;
+mod find;
+mod iter;
+mod level;
+mod make;
+mod neighbours;
+mod order;
+mod queries;
+mod read;
+mod sizes;
+mod walk;
+
+pub use iter::{
+    Lists, Matrix, Numbers, SortedLists, SortedNumbers, WaveletIter, WaveletNumIter,
+    WaveletNumRefIter, WaveletRefIter, WaveletSortedIter, WaveletSortedNumIter,
+    WaveletSortedNumRefIter, WaveletSortedRefIter,
+};
+use std::alloc::Allocator;
+use std::marker::Model;
+use vers_bits::bit_vec::MAX_LEN;
+use vers_rank::fast_rs_vec::RsVec;
+
+/// A list of symbols, which are numbers of a width that all of them share. Contracts see the width
+/// and the list of numbers.
+///
+/// It keeps a list of bits, with its index, for each digit of the symbols: the highest digit of each
+/// first, and each next digit after a stable sort by the digit before, zeros first. This is the
+/// wavelet matrix of Claude, Navarro and Ordóñez (Information Systems 47, 2015).
+///
+/// A symbol is a `BitVec` of its bits, the lowest first; or, in the calls `_u64`, a number, of which
+/// the low digits count. Each query has a form `_counted`, which counts its reads in a `Tally`; the
+/// plain form is that one with a counter of its own. The forms `_unchecked` ask that what they are
+/// handed fits the list.
+#[derive(Drop)]
+pub struct WaveletMatrix<A: Allocator + Copy> {
+    levels: Vec<RsVec<A>, A>,
+    len: usize,
+}
+
+impl<A: Allocator + Copy> Model for WaveletMatrix<A> {
+    ghost use Rattle.std.specs.Prelude.{length};
+    ghost use Rattle.vers_wavelet.specs.Symbols.{Symbols};
+    ghost use Rattle.vers_wavelet.specs.Levels.{values, AreLevels};
+
+    ghost Value = { Symbols };
+
+    ghost view = { λ v. record { width = length v.levels.items; items = values v.levels.items v.len } };
+
+    ghost invariant = { λ v. AreLevels v.levels.items v.len };
+}
+
+#[tactic(auto, using(crate::proofs::Lists::lists))]
+impl<A: Allocator + Copy> WaveletMatrix<A> {
+    /// How many symbols there are.
+    #[inline]
+    pub fn len(&self) -> usize
+        ensures value { result ≡ length self.now.items }
+        ensures bounded { result ≤ MAX_LEN }
+    {
+        self.len
+    }
+
+    /// Whether there are no symbols.
+    #[inline]
+    pub fn is_empty(&self) -> bool
+        ensures { IsTrue result ↔ (self.now.items ≡ []) }
+    {
+        self.len() == 0
+    }
+
+    /// How many bits a symbol has.
+    #[inline]
+    pub fn bits_per_element(&self) -> usize
+        ensures value { result ≡ self.now.width }
+        ensures bounded { self.now.width ≤ 65535 }
+    {
+        self.levels.len()
+    }
+
+    /// The same as `bits_per_element`.
+    #[inline]
+    pub fn bit_len(&self) -> u16
+        ensures { result ≡ self.now.width }
+    {
+        self.bits_per_element() as u16
+    }
+}

@@ -1,0 +1,254 @@
+//! How often a symbol occurs.
+ghost use Rattle.std.specs.Prelude.{◌≡◌, ◌%◌, ◌^◌, ◌<◌, ◌≤◌, ◌↔◌, length, IsSome, IfSome};
+ghost use Rattle.vers_bits.specs.Bits.{number};
+ghost use Rattle.vers_tally.specs.Reads.{AddsAtMost};
+ghost use Rattle.vers_wavelet.specs.Symbols.{occurrences};
+ghost use Rattle.vers_wavelet.specs.Reads.{query_reads};
+
+use crate::wavelet::WaveletMatrix;
+use std::alloc::Allocator;
+use std::ops::Range;
+use vers_bits::bit_vec::BitVec;
+use vers_tally::tally::Tally;
+
+#[tactic(auto, using(crate::proofs::Lists::lists, crate::proofs::Digits::symbols))]
+impl<A: Allocator + Copy> WaveletMatrix<A> {
+    /// How many places of a range hold a symbol. None for a symbol of another length, and for a range
+    /// that starts at or past the end, ends past it or is reversed.
+    pub fn rank_range(&self, range: Range<usize>, symbol: &BitVec<A>) -> Option<usize>
+        ensures value { IfSome result (λ n. n ≡ length (occurrences self.now.items range.start range.end (number symbol.now))) }
+        ensures answered { IsSome result ↔ (length symbol.now ≡ self.now.width) × (range.start < length self.now.items) × (range.end ≤ length self.now.items) × (range.start ≤ range.end) }
+    {
+        let mut tally = Tally::new();
+        self.rank_range_counted(range, symbol, &mut tally)
+    }
+
+    /// How many places of a range hold a symbol. None for a symbol of another length, and for a range
+    /// that starts at or past the end, ends past it or is reversed. By at most four selects of a level
+    /// for each bit of a symbol.
+    pub fn rank_range_counted(
+        &self,
+        range: Range<usize>,
+        symbol: &BitVec<A>,
+        tally: &mut Tally,
+    ) -> Option<usize>
+        ensures value { IfSome result (λ n. n ≡ length (occurrences self.now.items range.start range.end (number symbol.now))) }
+        ensures answered { IsSome result ↔ (length symbol.now ≡ self.now.width) × (range.start < length self.now.items) × (range.end ≤ length self.now.items) × (range.start ≤ range.end) }
+        ensures adds { AddsAtMost tally.old tally.new (query_reads self.now) }
+    {
+        let len = self.len();
+        if symbol.len() != self.bits_per_element()
+            || range.start >= len
+            || range.end > len
+            || range.start > range.end
+        {
+            return None;
+        }
+        Some(self.count_in(range.start, range.end, symbol, tally))
+    }
+
+    /// How many places of a range of the list hold a symbol. The symbol has the length of those of the
+    /// list.
+    pub fn rank_range_unchecked(&self, range: Range<usize>, symbol: &BitVec<A>) -> usize
+        requires order { range.start ≤ range.end }
+        requires within { range.end ≤ length self.now.items }
+        requires wide { length symbol.now ≡ self.now.width }
+        ensures { result ≡ length (occurrences self.now.items range.start range.end (number symbol.now)) }
+    {
+        let mut tally = Tally::new();
+        self.count_in(range.start, range.end, symbol, &mut tally)
+    }
+
+    /// How many places from `offset` on, before `end`, hold a symbol. None for a symbol of another
+    /// length, for an `offset` at or past the end of the list, and for an `end` past it or before
+    /// `offset`.
+    pub fn rank_offset(&self, offset: usize, end: usize, symbol: &BitVec<A>) -> Option<usize>
+        ensures value { IfSome result (λ n. n ≡ length (occurrences self.now.items offset end (number symbol.now))) }
+        ensures answered { IsSome result ↔ (length symbol.now ≡ self.now.width) × (offset < length self.now.items) × (end ≤ length self.now.items) × (offset ≤ end) }
+    {
+        let mut tally = Tally::new();
+        self.rank_offset_counted(offset, end, symbol, &mut tally)
+    }
+
+    /// How many places from `offset` on, before `end`, hold a symbol. None for a symbol of another
+    /// length, for an `offset` at or past the end of the list, and for an `end` past it or before
+    /// `offset`. By at most four selects of a level for each bit of a symbol.
+    pub fn rank_offset_counted(
+        &self,
+        offset: usize,
+        end: usize,
+        symbol: &BitVec<A>,
+        tally: &mut Tally,
+    ) -> Option<usize>
+        ensures value { IfSome result (λ n. n ≡ length (occurrences self.now.items offset end (number symbol.now))) }
+        ensures answered { IsSome result ↔ (length symbol.now ≡ self.now.width) × (offset < length self.now.items) × (end ≤ length self.now.items) × (offset ≤ end) }
+        ensures adds { AddsAtMost tally.old tally.new (query_reads self.now) }
+    {
+        self.rank_range_counted(offset..end, symbol, tally)
+    }
+
+    /// How many places from `offset` on, before `end`, hold a symbol. The symbol has the length of
+    /// those of the list.
+    pub fn rank_offset_unchecked(&self, offset: usize, end: usize, symbol: &BitVec<A>) -> usize
+        requires order { offset ≤ end }
+        requires within { end ≤ length self.now.items }
+        requires wide { length symbol.now ≡ self.now.width }
+        ensures { result ≡ length (occurrences self.now.items offset end (number symbol.now)) }
+    {
+        self.rank_range_unchecked(offset..end, symbol)
+    }
+
+    /// How many of the first `end` places hold a symbol. None for a symbol of another length, and where
+    /// there are not so many places.
+    pub fn rank(&self, end: usize, symbol: &BitVec<A>) -> Option<usize>
+        ensures value { IfSome result (λ n. n ≡ length (occurrences self.now.items 0 end (number symbol.now))) }
+        ensures answered { IsSome result ↔ (length symbol.now ≡ self.now.width) × (end ≤ length self.now.items) }
+    {
+        let mut tally = Tally::new();
+        self.rank_counted(end, symbol, &mut tally)
+    }
+
+    /// How many of the first `end` places hold a symbol. None for a symbol of another length, and where
+    /// there are not so many places. By at most four selects of a level for each bit of a symbol.
+    pub fn rank_counted(&self, end: usize, symbol: &BitVec<A>, tally: &mut Tally) -> Option<usize>
+        ensures value { IfSome result (λ n. n ≡ length (occurrences self.now.items 0 end (number symbol.now))) }
+        ensures answered { IsSome result ↔ (length symbol.now ≡ self.now.width) × (end ≤ length self.now.items) }
+        ensures adds { AddsAtMost tally.old tally.new (query_reads self.now) }
+    {
+        if symbol.len() != self.bits_per_element() || end > self.len() {
+            return None;
+        }
+        Some(self.count_in(0, end, symbol, tally))
+    }
+
+    /// How many of the first `end` places hold a symbol. The symbol has the length of those of the
+    /// list.
+    pub fn rank_unchecked(&self, end: usize, symbol: &BitVec<A>) -> usize
+        requires within { end ≤ length self.now.items }
+        requires wide { length symbol.now ≡ self.now.width }
+        ensures { result ≡ length (occurrences self.now.items 0 end (number symbol.now)) }
+    {
+        self.rank_range_unchecked(0..end, symbol)
+    }
+
+    /// How many places of a range hold a symbol, of which the low digits count. None where the symbols
+    /// have more than 64 bits, and for a range that starts at or past the end, ends past it or is
+    /// reversed.
+    pub fn rank_range_u64(&self, range: Range<usize>, symbol: u64) -> Option<usize>
+        ensures value { IfSome result (λ n. n ≡ length (occurrences self.now.items range.start range.end (symbol % 2 ^ self.now.width))) }
+        ensures answered { IsSome result ↔ (self.now.width ≤ 64) × (range.start < length self.now.items) × (range.end ≤ length self.now.items) × (range.start ≤ range.end) }
+    {
+        let mut tally = Tally::new();
+        self.rank_range_u64_counted(range, symbol, &mut tally)
+    }
+
+    /// How many places of a range hold a symbol, of which the low digits count. None where the symbols
+    /// have more than 64 bits, and for a range that starts at or past the end, ends past it or is
+    /// reversed. By at most four selects of a level for each bit of a symbol.
+    pub fn rank_range_u64_counted(
+        &self,
+        range: Range<usize>,
+        symbol: u64,
+        tally: &mut Tally,
+    ) -> Option<usize>
+        ensures value { IfSome result (λ n. n ≡ length (occurrences self.now.items range.start range.end (symbol % 2 ^ self.now.width))) }
+        ensures answered { IsSome result ↔ (self.now.width ≤ 64) × (range.start < length self.now.items) × (range.end ≤ length self.now.items) × (range.start ≤ range.end) }
+        ensures adds { AddsAtMost tally.old tally.new (query_reads self.now) }
+    {
+        let len = self.len();
+        if self.bits_per_element() > 64
+            || range.start >= len
+            || range.end > len
+            || range.start > range.end
+        {
+            return None;
+        }
+        Some(self.count_in(range.start, range.end, &symbol, tally))
+    }
+
+    /// How many places of a range of the list hold a symbol, of which the low digits count. The symbols
+    /// have at most 64 bits.
+    pub fn rank_range_u64_unchecked(&self, range: Range<usize>, symbol: u64) -> usize
+        requires order { range.start ≤ range.end }
+        requires within { range.end ≤ length self.now.items }
+        requires wide { self.now.width ≤ 64 }
+        ensures { result ≡ length (occurrences self.now.items range.start range.end (symbol % 2 ^ self.now.width)) }
+    {
+        let mut tally = Tally::new();
+        self.count_in(range.start, range.end, &symbol, &mut tally)
+    }
+
+    /// How many places from `offset` on, before `end`, hold a symbol, of which the low digits count.
+    /// None where the symbols have more than 64 bits, for an `offset` at or past the end of the list,
+    /// and for an `end` past it or before `offset`.
+    pub fn rank_offset_u64(&self, offset: usize, end: usize, symbol: u64) -> Option<usize>
+        ensures value { IfSome result (λ n. n ≡ length (occurrences self.now.items offset end (symbol % 2 ^ self.now.width))) }
+        ensures answered { IsSome result ↔ (self.now.width ≤ 64) × (offset < length self.now.items) × (end ≤ length self.now.items) × (offset ≤ end) }
+    {
+        let mut tally = Tally::new();
+        self.rank_offset_u64_counted(offset, end, symbol, &mut tally)
+    }
+
+    /// How many places from `offset` on, before `end`, hold a symbol, of which the low digits count.
+    /// None where the symbols have more than 64 bits, for an `offset` at or past the end of the list,
+    /// and for an `end` past it or before `offset`. By at most four selects of a level for each bit of
+    /// a symbol.
+    pub fn rank_offset_u64_counted(
+        &self,
+        offset: usize,
+        end: usize,
+        symbol: u64,
+        tally: &mut Tally,
+    ) -> Option<usize>
+        ensures value { IfSome result (λ n. n ≡ length (occurrences self.now.items offset end (symbol % 2 ^ self.now.width))) }
+        ensures answered { IsSome result ↔ (self.now.width ≤ 64) × (offset < length self.now.items) × (end ≤ length self.now.items) × (offset ≤ end) }
+        ensures adds { AddsAtMost tally.old tally.new (query_reads self.now) }
+    {
+        self.rank_range_u64_counted(offset..end, symbol, tally)
+    }
+
+    /// How many places from `offset` on, before `end`, hold a symbol, of which the low digits count.
+    /// The symbols have at most 64 bits.
+    pub fn rank_offset_u64_unchecked(&self, offset: usize, end: usize, symbol: u64) -> usize
+        requires order { offset ≤ end }
+        requires within { end ≤ length self.now.items }
+        requires wide { self.now.width ≤ 64 }
+        ensures { result ≡ length (occurrences self.now.items offset end (symbol % 2 ^ self.now.width)) }
+    {
+        self.rank_range_u64_unchecked(offset..end, symbol)
+    }
+
+    /// How many of the first `end` places hold a symbol, of which the low digits count. None where the
+    /// symbols have more than 64 bits, and where there are not so many places.
+    pub fn rank_u64(&self, end: usize, symbol: u64) -> Option<usize>
+        ensures value { IfSome result (λ n. n ≡ length (occurrences self.now.items 0 end (symbol % 2 ^ self.now.width))) }
+        ensures answered { IsSome result ↔ (self.now.width ≤ 64) × (end ≤ length self.now.items) }
+    {
+        let mut tally = Tally::new();
+        self.rank_u64_counted(end, symbol, &mut tally)
+    }
+
+    /// How many of the first `end` places hold a symbol, of which the low digits count. None where the
+    /// symbols have more than 64 bits, and where there are not so many places. By at most four selects
+    /// of a level for each bit of a symbol.
+    pub fn rank_u64_counted(&self, end: usize, symbol: u64, tally: &mut Tally) -> Option<usize>
+        ensures value { IfSome result (λ n. n ≡ length (occurrences self.now.items 0 end (symbol % 2 ^ self.now.width))) }
+        ensures answered { IsSome result ↔ (self.now.width ≤ 64) × (end ≤ length self.now.items) }
+        ensures adds { AddsAtMost tally.old tally.new (query_reads self.now) }
+    {
+        if self.bits_per_element() > 64 || end > self.len() {
+            return None;
+        }
+        Some(self.count_in(0, end, &symbol, tally))
+    }
+
+    /// How many of the first `end` places hold a symbol, of which the low digits count. The symbols
+    /// have at most 64 bits.
+    pub fn rank_u64_unchecked(&self, end: usize, symbol: u64) -> usize
+        requires within { end ≤ length self.now.items }
+        requires wide { self.now.width ≤ 64 }
+        ensures { result ≡ length (occurrences self.now.items 0 end (symbol % 2 ^ self.now.width)) }
+    {
+        self.rank_range_u64_unchecked(0..end, symbol)
+    }
+}

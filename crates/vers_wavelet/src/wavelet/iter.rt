@@ -1,0 +1,372 @@
+//! The iterators over the symbols: in their order or by size, as numbers or as lists of their bits.
+ghost use Rattle.std.specs.Prelude.{◌≡◌, ◌≤◌, ◌↔◌, List, length, IsSome, IfSome};
+ghost use Rattle.vers_wavelet.specs.Symbols.{Symbols, by_size, in_bits};
+ghost use Rattle.vers_wavelet.specs.Reads.{query_reads};
+
+use crate::wavelet::WaveletMatrix;
+use std::alloc::{AllocError, Allocator};
+use std::marker::Model;
+use vers_bits::bit_vec::BitVec;
+use vers_tally::ends::{Borrowing, BothEnds, Owning, Source};
+use vers_tally::made_ends::{BorrowingMaker, MadeEnds, Maker, OwningMaker};
+use vers_tally::tally::Tally;
+
+/// A wavelet matrix, which is borrowed or owned.
+pub trait Matrix: Drop {
+    type Alloc: Allocator + Copy;
+
+    ghost symbols: { Self → Symbols };
+
+    /// The matrix itself.
+    fn matrix(&self) -> &WaveletMatrix<Self::Alloc>
+        ensures { result.now ≡ symbols self.now };
+}
+
+impl<'a, A: Allocator + Copy> Matrix for &'a WaveletMatrix<A> {
+    type Alloc = A;
+
+    ghost symbols = { λ matrix. matrix.now };
+
+    #[inline]
+    fn matrix(&self) -> &WaveletMatrix<A> {
+        *self
+    }
+}
+
+impl<A: Allocator + Copy> Matrix for WaveletMatrix<A> {
+    type Alloc = A;
+
+    ghost symbols = { λ matrix. matrix };
+
+    #[inline]
+    fn matrix(&self) -> &WaveletMatrix<A> {
+        self
+    }
+}
+
+/// The symbols of a matrix as numbers, in their order, which iterators read one by one. A symbol has
+/// at most 64 bits.
+#[derive(Drop)]
+pub struct Numbers<M: Matrix> {
+    matrix: M,
+}
+
+impl<M: Matrix> Model for Numbers<M> {
+    ghost use Rattle.std.specs.Prelude.{◌≤◌};
+    ghost use Rattle.vers_wavelet.specs.Symbols.{Symbols};
+
+    ghost Value = { Symbols };
+
+    ghost view = { λ s. M.symbols s.matrix };
+
+    ghost invariant = { λ s. (M.symbols s.matrix).width ≤ 64 };
+}
+
+#[tactic(auto, using(crate::proofs::Items::numbers))]
+impl<M: Matrix> Source for Numbers<M> {
+    type Item = u64;
+
+    ghost items = { λ symbols. symbols.items };
+
+    ghost step = { λ symbols. query_reads symbols };
+
+    #[inline]
+    fn count_items(&self) -> usize {
+        self.matrix.matrix().len()
+    }
+
+    fn item_at(&mut self, i: usize, tally: &mut Tally) -> u64 {
+        let mut answer: u64 = 0;
+        self.matrix.matrix().read_at(i, &mut answer, tally);
+        answer
+    }
+}
+
+impl<'a, A: Allocator + Copy> Borrowing for Numbers<&'a WaveletMatrix<A>> {
+    fn second(&self) -> Self {
+        Numbers {
+            matrix: self.matrix,
+        }
+    }
+}
+
+impl<A: Allocator + Copy> Owning for Numbers<WaveletMatrix<A>> {
+    fn second(&self) -> Result<Self, AllocError> {
+        let matrix = self.matrix.clone()?;
+        Ok(Numbers { matrix })
+    }
+}
+
+/// The symbols of a matrix as numbers, by size, which iterators read one by one. A symbol has at most
+/// 64 bits.
+#[derive(Drop)]
+pub struct SortedNumbers<M: Matrix> {
+    matrix: M,
+}
+
+impl<M: Matrix> Model for SortedNumbers<M> {
+    ghost use Rattle.std.specs.Prelude.{◌≤◌};
+    ghost use Rattle.vers_wavelet.specs.Symbols.{Symbols};
+
+    ghost Value = { Symbols };
+
+    ghost view = { λ s. M.symbols s.matrix };
+
+    ghost invariant = { λ s. (M.symbols s.matrix).width ≤ 64 };
+}
+
+#[tactic(auto, using(crate::proofs::Items::sorted_numbers))]
+impl<M: Matrix> Source for SortedNumbers<M> {
+    type Item = u64;
+
+    ghost items = { λ symbols. by_size symbols.items };
+
+    ghost step = { λ symbols. query_reads symbols };
+
+    #[inline]
+    fn count_items(&self) -> usize {
+        self.matrix.matrix().len()
+    }
+
+    fn item_at(&mut self, i: usize, tally: &mut Tally) -> u64 {
+        let matrix = self.matrix.matrix();
+        let mut answer: u64 = 0;
+        matrix.kth_in(0, matrix.len(), i, &mut answer, tally);
+        answer
+    }
+}
+
+impl<'a, A: Allocator + Copy> Borrowing for SortedNumbers<&'a WaveletMatrix<A>> {
+    fn second(&self) -> Self {
+        SortedNumbers {
+            matrix: self.matrix,
+        }
+    }
+}
+
+impl<A: Allocator + Copy> Owning for SortedNumbers<WaveletMatrix<A>> {
+    fn second(&self) -> Result<Self, AllocError> {
+        let matrix = self.matrix.clone()?;
+        Ok(SortedNumbers { matrix })
+    }
+}
+
+/// The symbols of a matrix as lists of their bits, in their order, which iterators make one by one.
+#[derive(Drop)]
+pub struct Lists<M: Matrix> {
+    matrix: M,
+}
+
+#[tactic(auto, using(crate::proofs::Items::lists))]
+impl<M: Matrix> Maker for Lists<M> {
+    type Item = BitVec<M::Alloc>;
+
+    ghost items = { λ s. in_bits (M.symbols s.matrix).width (M.symbols s.matrix).items };
+
+    ghost step = { λ s. query_reads (M.symbols s.matrix) };
+
+    #[inline]
+    fn count_items(&self) -> usize {
+        self.matrix.matrix().len()
+    }
+
+    fn make_at(&mut self, i: usize, tally: &mut Tally) -> Result<BitVec<M::Alloc>, AllocError> {
+        let matrix = self.matrix.matrix();
+        let mut answer = matrix.zero_symbol()?;
+        matrix.read_at(i, &mut answer, tally);
+        Ok(answer)
+    }
+}
+
+impl<'a, A: Allocator + Copy> BorrowingMaker for Lists<&'a WaveletMatrix<A>> {
+    fn second(&self) -> Self {
+        Lists {
+            matrix: self.matrix,
+        }
+    }
+}
+
+impl<A: Allocator + Copy> OwningMaker for Lists<WaveletMatrix<A>> {
+    fn second(&self) -> Result<Self, AllocError> {
+        let matrix = self.matrix.clone()?;
+        Ok(Lists { matrix })
+    }
+}
+
+/// The symbols of a matrix as lists of their bits, by size, which iterators make one by one.
+#[derive(Drop)]
+pub struct SortedLists<M: Matrix> {
+    matrix: M,
+}
+
+#[tactic(auto, using(crate::proofs::Items::sorted_lists))]
+impl<M: Matrix> Maker for SortedLists<M> {
+    type Item = BitVec<M::Alloc>;
+
+    ghost items = { λ s. in_bits (M.symbols s.matrix).width (by_size (M.symbols s.matrix).items) };
+
+    ghost step = { λ s. query_reads (M.symbols s.matrix) };
+
+    #[inline]
+    fn count_items(&self) -> usize {
+        self.matrix.matrix().len()
+    }
+
+    fn make_at(&mut self, i: usize, tally: &mut Tally) -> Result<BitVec<M::Alloc>, AllocError> {
+        let matrix = self.matrix.matrix();
+        let mut answer = matrix.zero_symbol()?;
+        matrix.kth_in(0, matrix.len(), i, &mut answer, tally);
+        Ok(answer)
+    }
+}
+
+impl<'a, A: Allocator + Copy> BorrowingMaker for SortedLists<&'a WaveletMatrix<A>> {
+    fn second(&self) -> Self {
+        SortedLists {
+            matrix: self.matrix,
+        }
+    }
+}
+
+impl<A: Allocator + Copy> OwningMaker for SortedLists<WaveletMatrix<A>> {
+    fn second(&self) -> Result<Self, AllocError> {
+        let matrix = self.matrix.clone()?;
+        Ok(SortedLists { matrix })
+    }
+}
+
+/// An iterator over the symbols as lists of their bits. Each item takes memory, and reads at most what
+/// one query does.
+pub type WaveletRefIter<'a, A> = MadeEnds<Lists<&'a WaveletMatrix<A>>>;
+
+/// An iterator over the symbols of a matrix that it owns, as lists of their bits. Each item takes
+/// memory, and reads at most what one query does.
+pub type WaveletIter<A> = MadeEnds<Lists<WaveletMatrix<A>>>;
+
+/// An iterator over the symbols by size, as lists of their bits. Each item takes memory, and reads at
+/// most what one query does.
+pub type WaveletSortedRefIter<'a, A> = MadeEnds<SortedLists<&'a WaveletMatrix<A>>>;
+
+/// An iterator over the symbols of a matrix that it owns, by size, as lists of their bits. Each item
+/// takes memory, and reads at most what one query does.
+pub type WaveletSortedIter<A> = MadeEnds<SortedLists<WaveletMatrix<A>>>;
+
+/// An iterator over the symbols as numbers. Each step reads at most what one query does.
+pub type WaveletNumRefIter<'a, A> = BothEnds<Numbers<&'a WaveletMatrix<A>>>;
+
+/// An iterator over the symbols of a matrix that it owns, as numbers. Each step reads at most what one
+/// query does.
+pub type WaveletNumIter<A> = BothEnds<Numbers<WaveletMatrix<A>>>;
+
+/// An iterator over the symbols by size, as numbers. Each step reads at most what one query does.
+pub type WaveletSortedNumRefIter<'a, A> = BothEnds<SortedNumbers<&'a WaveletMatrix<A>>>;
+
+/// An iterator over the symbols of a matrix that it owns, by size, as numbers. Each step reads at most
+/// what one query does.
+pub type WaveletSortedNumIter<A> = BothEnds<SortedNumbers<WaveletMatrix<A>>>;
+
+impl<A: Allocator + Copy> WaveletMatrix<A> {
+    /// An iterator over the symbols, as lists of their bits.
+    pub fn iter(&self) -> WaveletRefIter<'_, A>
+        ensures { result ≡ record { left = in_bits self.now.width self.now.items; step = query_reads self.now } }
+    {
+        MadeEnds::new(Lists { matrix: self })
+    }
+
+    /// An iterator over the symbols by size, as lists of their bits.
+    pub fn iter_sorted(&self) -> WaveletSortedRefIter<'_, A>
+        ensures { result ≡ record { left = in_bits self.now.width (by_size self.now.items); step = query_reads self.now } }
+    {
+        MadeEnds::new(SortedLists { matrix: self })
+    }
+
+    /// An iterator over the symbols by size, as lists of their bits, which owns the matrix.
+    pub fn into_iter_sorted(self) -> WaveletSortedIter<A>
+        ensures { result ≡ record { left = in_bits self.width (by_size self.items); step = query_reads self } }
+    {
+        MadeEnds::new(SortedLists { matrix: self })
+    }
+
+    /// An iterator over the symbols, as numbers. None where they have more than 64 bits.
+    pub fn iter_u64(&self) -> Option<WaveletNumRefIter<'_, A>>
+        ensures value { IfSome result (λ walk. walk ≡ record { left = self.now.items; step = query_reads self.now }) }
+        ensures answered { IsSome result ↔ (self.now.width ≤ 64) }
+    {
+        if self.bits_per_element() > 64 {
+            return None;
+        }
+        Some(BothEnds::new(Numbers { matrix: self }))
+    }
+
+    /// An iterator over the symbols, as numbers, which owns the matrix. None where they have more than
+    /// 64 bits.
+    pub fn into_iter_u64(self) -> Option<WaveletNumIter<A>>
+        ensures value { IfSome result (λ walk. walk ≡ record { left = self.items; step = query_reads self }) }
+        ensures answered { IsSome result ↔ (self.width ≤ 64) }
+    {
+        if self.bits_per_element() > 64 {
+            return None;
+        }
+        Some(BothEnds::new(Numbers { matrix: self }))
+    }
+
+    /// An iterator over the symbols by size, as numbers. None where they have more than 64 bits.
+    pub fn iter_sorted_u64(&self) -> Option<WaveletSortedNumRefIter<'_, A>>
+        ensures value { IfSome result (λ walk. walk ≡ record { left = by_size self.now.items; step = query_reads self.now }) }
+        ensures answered { IsSome result ↔ (self.now.width ≤ 64) }
+    {
+        if self.bits_per_element() > 64 {
+            return None;
+        }
+        Some(BothEnds::new(SortedNumbers { matrix: self }))
+    }
+
+    /// An iterator over the symbols by size, as numbers, which owns the matrix. None where they have
+    /// more than 64 bits.
+    pub fn into_iter_sorted_u64(self) -> Option<WaveletSortedNumIter<A>>
+        ensures value { IfSome result (λ walk. walk ≡ record { left = by_size self.items; step = query_reads self }) }
+        ensures answered { IsSome result ↔ (self.width ≤ 64) }
+    {
+        if self.bits_per_element() > 64 {
+            return None;
+        }
+        Some(BothEnds::new(SortedNumbers { matrix: self }))
+    }
+}
+
+impl<'a, A: Allocator + Copy> IntoIterator for &'a WaveletMatrix<A> {
+    type Item = Result<BitVec<A>, AllocError>;
+
+    type IntoIter = WaveletRefIter<'a, A>;
+
+    ghost into_iter_gives = { λ matrix items. items ≡ record { left = in_bits matrix.now.width matrix.now.items; step = query_reads matrix.now } };
+
+    fn into_iter(self) -> WaveletRefIter<'a, A> {
+        self.iter()
+    }
+}
+
+impl<'a, A: Allocator + Copy> IntoIterator for &'a mut WaveletMatrix<A> {
+    type Item = Result<BitVec<A>, AllocError>;
+
+    type IntoIter = WaveletRefIter<'a, A>;
+
+    ghost into_iter_gives = { λ matrix items. items ≡ record { left = in_bits matrix.now.width matrix.now.items; step = query_reads matrix.now } };
+
+    fn into_iter(self) -> WaveletRefIter<'a, A> {
+        self.iter()
+    }
+}
+
+impl<A: Allocator + Copy> IntoIterator for WaveletMatrix<A> {
+    type Item = Result<BitVec<A>, AllocError>;
+
+    type IntoIter = WaveletIter<A>;
+
+    ghost into_iter_gives = { λ matrix items. items ≡ record { left = in_bits matrix.width matrix.items; step = query_reads matrix } };
+
+    /// An iterator over the symbols, as lists of their bits, which owns the matrix.
+    fn into_iter(self) -> WaveletIter<A> {
+        MadeEnds::new(Lists { matrix: self })
+    }
+}

@@ -1,0 +1,383 @@
+//! Members of a range by size.
+ghost use Rattle.std.specs.Prelude.{◌≡◌, ℕ, ◌+◌, ◌-◌, ◌/◌, ◌<◌, ◌≤◌, ◌↔◌, length, slice_range, IsSome, IfSome, IfOk};
+ghost use Rattle.vers_bits.specs.Bits.{number};
+ghost use Rattle.vers_tally.specs.Reads.{AddsAtMost};
+ghost use Rattle.vers_wavelet.specs.Symbols.{IsKth};
+ghost use Rattle.vers_wavelet.specs.Reads.{query_reads};
+
+use crate::wavelet::WaveletMatrix;
+use std::alloc::{AllocError, Allocator};
+use std::ops::Range;
+use vers_bits::bit_vec::BitVec;
+use vers_tally::tally::Tally;
+
+#[tactic(auto, using(crate::proofs::Lists::lists, crate::proofs::Digits::symbols, crate::proofs::Items::all_places))]
+impl<A: Allocator + Copy> WaveletMatrix<A> {
+    /// Member `i` of a range by size, counted from 0, equal ones too. None for a range that ends past
+    /// the end, and where the range has not so many places.
+    pub fn quantile(&self, range: Range<usize>, i: usize) -> Result<Option<BitVec<A>>, AllocError>
+        ensures value { IfOk result (λ o. IfSome o (λ v. IsKth (slice_range self.now.items range.start range.end) i (number v) × (length v ≡ self.now.width))) }
+        ensures answered { IfOk result (λ o. IsSome o ↔ (range.end ≤ length self.now.items) × (range.start + i < range.end)) }
+    {
+        let mut tally = Tally::new();
+        self.quantile_counted(range, i, &mut tally)
+    }
+
+    /// Member `i` of a range by size, counted from 0, equal ones too. None for a range that ends past
+    /// the end, and where the range has not so many places. By at most four selects of a level for each
+    /// bit of a symbol.
+    pub fn quantile_counted(
+        &self,
+        range: Range<usize>,
+        i: usize,
+        tally: &mut Tally,
+    ) -> Result<Option<BitVec<A>>, AllocError>
+        ensures value { IfOk result (λ o. IfSome o (λ v. IsKth (slice_range self.now.items range.start range.end) i (number v) × (length v ≡ self.now.width))) }
+        ensures answered { IfOk result (λ o. IsSome o ↔ (range.end ≤ length self.now.items) × (range.start + i < range.end)) }
+        ensures adds { AddsAtMost tally.old tally.new (query_reads self.now) }
+    {
+        if range.end > self.len() || range.start >= range.end || i >= range.end - range.start {
+            return Ok(None);
+        }
+        let mut answer = self.zero_symbol()?;
+        self.kth_in(range.start, range.end, i, &mut answer, tally);
+        Ok(Some(answer))
+    }
+
+    /// Member `i` of a range of the list by size, counted from 0, equal ones too.
+    pub fn quantile_unchecked(&self, range: Range<usize>, i: usize) -> Result<BitVec<A>, AllocError>
+        requires order { range.start + i < range.end }
+        requires within { range.end ≤ length self.now.items }
+        ensures { IfOk result (λ v. IsKth (slice_range self.now.items range.start range.end) i (number v) × (length v ≡ self.now.width)) }
+    {
+        let mut tally = Tally::new();
+        let mut answer = self.zero_symbol()?;
+        self.kth_in(range.start, range.end, i, &mut answer, &mut tally);
+        Ok(answer)
+    }
+
+    /// Member `i` of all symbols by size, counted from 0, equal ones too. None where there are not so
+    /// many.
+    pub fn get_sorted(&self, i: usize) -> Result<Option<BitVec<A>>, AllocError>
+        ensures value { IfOk result (λ o. IfSome o (λ v. IsKth self.now.items i (number v) × (length v ≡ self.now.width))) }
+        ensures answered { IfOk result (λ o. IsSome o ↔ (i < length self.now.items)) }
+    {
+        let mut tally = Tally::new();
+        self.get_sorted_counted(i, &mut tally)
+    }
+
+    /// Member `i` of all symbols by size, counted from 0, equal ones too. None where there are not so
+    /// many. By at most four selects of a level for each bit of a symbol.
+    pub fn get_sorted_counted(
+        &self,
+        i: usize,
+        tally: &mut Tally,
+    ) -> Result<Option<BitVec<A>>, AllocError>
+        ensures value { IfOk result (λ o. IfSome o (λ v. IsKth self.now.items i (number v) × (length v ≡ self.now.width))) }
+        ensures answered { IfOk result (λ o. IsSome o ↔ (i < length self.now.items)) }
+        ensures adds { AddsAtMost tally.old tally.new (query_reads self.now) }
+    {
+        self.quantile_counted(0..self.len(), i, tally)
+    }
+
+    /// Member `i` of all symbols by size, counted from 0, equal ones too.
+    pub fn get_sorted_unchecked(&self, i: usize) -> Result<BitVec<A>, AllocError>
+        requires within { i < length self.now.items }
+        ensures { IfOk result (λ v. IsKth self.now.items i (number v) × (length v ≡ self.now.width)) }
+    {
+        self.quantile_unchecked(0..self.len(), i)
+    }
+
+    /// The least symbol of a range. None for a range that is empty, reversed or ends past the end.
+    pub fn range_min(&self, range: Range<usize>) -> Result<Option<BitVec<A>>, AllocError>
+        ensures value { IfOk result (λ o. IfSome o (λ v. IsKth (slice_range self.now.items range.start range.end) 0 (number v) × (length v ≡ self.now.width))) }
+        ensures answered { IfOk result (λ o. IsSome o ↔ (range.start < range.end) × (range.end ≤ length self.now.items)) }
+    {
+        let mut tally = Tally::new();
+        self.range_min_counted(range, &mut tally)
+    }
+
+    /// The least symbol of a range. None for a range that is empty, reversed or ends past the end. By
+    /// at most four selects of a level for each bit of a symbol.
+    pub fn range_min_counted(
+        &self,
+        range: Range<usize>,
+        tally: &mut Tally,
+    ) -> Result<Option<BitVec<A>>, AllocError>
+        ensures value { IfOk result (λ o. IfSome o (λ v. IsKth (slice_range self.now.items range.start range.end) 0 (number v) × (length v ≡ self.now.width))) }
+        ensures answered { IfOk result (λ o. IsSome o ↔ (range.start < range.end) × (range.end ≤ length self.now.items)) }
+        ensures adds { AddsAtMost tally.old tally.new (query_reads self.now) }
+    {
+        self.quantile_counted(range, 0, tally)
+    }
+
+    /// The least symbol of a range, which has a place of the list.
+    pub fn range_min_unchecked(&self, range: Range<usize>) -> Result<BitVec<A>, AllocError>
+        requires order { range.start < range.end }
+        requires within { range.end ≤ length self.now.items }
+        ensures { IfOk result (λ v. IsKth (slice_range self.now.items range.start range.end) 0 (number v) × (length v ≡ self.now.width)) }
+    {
+        self.quantile_unchecked(range, 0)
+    }
+
+    /// The greatest symbol of a range. None for a range that is empty, reversed or ends past the end.
+    pub fn range_max(&self, range: Range<usize>) -> Result<Option<BitVec<A>>, AllocError>
+        ensures value { IfOk result (λ o. IfSome o (λ v. IsKth (slice_range self.now.items range.start range.end) (range.end - range.start - 1) (number v) × (length v ≡ self.now.width))) }
+        ensures answered { IfOk result (λ o. IsSome o ↔ (range.start < range.end) × (range.end ≤ length self.now.items)) }
+    {
+        let mut tally = Tally::new();
+        self.range_max_counted(range, &mut tally)
+    }
+
+    /// The greatest symbol of a range. None for a range that is empty, reversed or ends past the end.
+    /// By at most four selects of a level for each bit of a symbol.
+    pub fn range_max_counted(
+        &self,
+        range: Range<usize>,
+        tally: &mut Tally,
+    ) -> Result<Option<BitVec<A>>, AllocError>
+        ensures value { IfOk result (λ o. IfSome o (λ v. IsKth (slice_range self.now.items range.start range.end) (range.end - range.start - 1) (number v) × (length v ≡ self.now.width))) }
+        ensures answered { IfOk result (λ o. IsSome o ↔ (range.start < range.end) × (range.end ≤ length self.now.items)) }
+        ensures adds { AddsAtMost tally.old tally.new (query_reads self.now) }
+    {
+        if range.start >= range.end {
+            return Ok(None);
+        }
+        let last = range.end - range.start - 1;
+        self.quantile_counted(range, last, tally)
+    }
+
+    /// The greatest symbol of a range, which has a place of the list.
+    pub fn range_max_unchecked(&self, range: Range<usize>) -> Result<BitVec<A>, AllocError>
+        requires order { range.start < range.end }
+        requires within { range.end ≤ length self.now.items }
+        ensures { IfOk result (λ v. IsKth (slice_range self.now.items range.start range.end) (range.end - range.start - 1) (number v) × (length v ≡ self.now.width)) }
+    {
+        let last = range.end - range.start - 1;
+        self.quantile_unchecked(range, last)
+    }
+
+    /// The symbol in the middle of a range by size, the lower one of two. None for a range that is
+    /// empty, reversed or ends past the end.
+    pub fn range_median(&self, range: Range<usize>) -> Result<Option<BitVec<A>>, AllocError>
+        ensures value { IfOk result (λ o. IfSome o (λ v. IsKth (slice_range self.now.items range.start range.end) ((range.end - 1 - range.start) / 2) (number v) × (length v ≡ self.now.width))) }
+        ensures answered { IfOk result (λ o. IsSome o ↔ (range.start < range.end) × (range.end ≤ length self.now.items)) }
+    {
+        let mut tally = Tally::new();
+        self.range_median_counted(range, &mut tally)
+    }
+
+    /// The symbol in the middle of a range by size, the lower one of two. None for a range that is
+    /// empty, reversed or ends past the end. By at most four selects of a level for each bit of a
+    /// symbol.
+    pub fn range_median_counted(
+        &self,
+        range: Range<usize>,
+        tally: &mut Tally,
+    ) -> Result<Option<BitVec<A>>, AllocError>
+        ensures value { IfOk result (λ o. IfSome o (λ v. IsKth (slice_range self.now.items range.start range.end) ((range.end - 1 - range.start) / 2) (number v) × (length v ≡ self.now.width))) }
+        ensures answered { IfOk result (λ o. IsSome o ↔ (range.start < range.end) × (range.end ≤ length self.now.items)) }
+        ensures adds { AddsAtMost tally.old tally.new (query_reads self.now) }
+    {
+        if range.start >= range.end {
+            return Ok(None);
+        }
+        let middle = (range.end - 1 - range.start) / 2;
+        self.quantile_counted(range, middle, tally)
+    }
+
+    /// The symbol in the middle of a range by size, the lower one of two, which has a place of the
+    /// list.
+    pub fn range_median_unchecked(&self, range: Range<usize>) -> Result<BitVec<A>, AllocError>
+        requires order { range.start < range.end }
+        requires within { range.end ≤ length self.now.items }
+        ensures { IfOk result (λ v. IsKth (slice_range self.now.items range.start range.end) ((range.end - 1 - range.start) / 2) (number v) × (length v ≡ self.now.width)) }
+    {
+        let middle = (range.end - 1 - range.start) / 2;
+        self.quantile_unchecked(range, middle)
+    }
+
+    /// Member `i` of a range by size, counted from 0, equal ones too. None where the symbols have more
+    /// than 64 bits, for a range that ends past the end, and where the range has not so many places.
+    pub fn quantile_u64(&self, range: Range<usize>, i: usize) -> Option<u64>
+        ensures value { IfSome result (λ x. IsKth (slice_range self.now.items range.start range.end) i x) }
+        ensures answered { IsSome result ↔ (self.now.width ≤ 64) × (range.end ≤ length self.now.items) × (range.start + i < range.end) }
+    {
+        let mut tally = Tally::new();
+        self.quantile_u64_counted(range, i, &mut tally)
+    }
+
+    /// Member `i` of a range by size, counted from 0, equal ones too. None where the symbols have more
+    /// than 64 bits, for a range that ends past the end, and where the range has not so many places. By
+    /// at most four selects of a level for each bit of a symbol.
+    pub fn quantile_u64_counted(
+        &self,
+        range: Range<usize>,
+        i: usize,
+        tally: &mut Tally,
+    ) -> Option<u64>
+        ensures value { IfSome result (λ x. IsKth (slice_range self.now.items range.start range.end) i x) }
+        ensures answered { IsSome result ↔ (self.now.width ≤ 64) × (range.end ≤ length self.now.items) × (range.start + i < range.end) }
+        ensures adds { AddsAtMost tally.old tally.new (query_reads self.now) }
+    {
+        if self.bits_per_element() > 64
+            || range.end > self.len()
+            || range.start >= range.end
+            || i >= range.end - range.start
+        {
+            return None;
+        }
+        let mut answer: u64 = 0;
+        self.kth_in(range.start, range.end, i, &mut answer, tally);
+        Some(answer)
+    }
+
+    /// Member `i` of a range of the list by size, counted from 0, equal ones too. The symbols have at
+    /// most 64 bits.
+    pub fn quantile_u64_unchecked(&self, range: Range<usize>, i: usize) -> u64
+        requires order { range.start + i < range.end }
+        requires within { range.end ≤ length self.now.items }
+        requires wide { self.now.width ≤ 64 }
+        ensures { IsKth (slice_range self.now.items range.start range.end) i result }
+    {
+        let mut tally = Tally::new();
+        let mut answer: u64 = 0;
+        self.kth_in(range.start, range.end, i, &mut answer, &mut tally);
+        answer
+    }
+
+    /// Member `i` of all symbols by size, counted from 0, equal ones too. None where the symbols have
+    /// more than 64 bits, and where there are not so many.
+    pub fn get_sorted_u64(&self, i: usize) -> Option<u64>
+        ensures value { IfSome result (λ x. IsKth self.now.items i x) }
+        ensures answered { IsSome result ↔ (self.now.width ≤ 64) × (i < length self.now.items) }
+    {
+        let mut tally = Tally::new();
+        self.get_sorted_u64_counted(i, &mut tally)
+    }
+
+    /// Member `i` of all symbols by size, counted from 0, equal ones too. None where the symbols have
+    /// more than 64 bits, and where there are not so many. By at most four selects of a level for each
+    /// bit of a symbol.
+    pub fn get_sorted_u64_counted(&self, i: usize, tally: &mut Tally) -> Option<u64>
+        ensures value { IfSome result (λ x. IsKth self.now.items i x) }
+        ensures answered { IsSome result ↔ (self.now.width ≤ 64) × (i < length self.now.items) }
+        ensures adds { AddsAtMost tally.old tally.new (query_reads self.now) }
+    {
+        self.quantile_u64_counted(0..self.len(), i, tally)
+    }
+
+    /// Member `i` of all symbols by size, counted from 0, equal ones too. The symbols have at most 64
+    /// bits.
+    pub fn get_sorted_u64_unchecked(&self, i: usize) -> u64
+        requires within { i < length self.now.items }
+        requires wide { self.now.width ≤ 64 }
+        ensures { IsKth self.now.items i result }
+    {
+        self.quantile_u64_unchecked(0..self.len(), i)
+    }
+
+    /// The least symbol of a range. None where the symbols have more than 64 bits, and for a range that
+    /// is empty, reversed or ends past the end.
+    pub fn range_min_u64(&self, range: Range<usize>) -> Option<u64>
+        ensures value { IfSome result (λ x. IsKth (slice_range self.now.items range.start range.end) 0 x) }
+        ensures answered { IsSome result ↔ (self.now.width ≤ 64) × (range.start < range.end) × (range.end ≤ length self.now.items) }
+    {
+        let mut tally = Tally::new();
+        self.range_min_u64_counted(range, &mut tally)
+    }
+
+    /// The least symbol of a range. None where the symbols have more than 64 bits, and for a range that
+    /// is empty, reversed or ends past the end. By at most four selects of a level for each bit of a
+    /// symbol.
+    pub fn range_min_u64_counted(&self, range: Range<usize>, tally: &mut Tally) -> Option<u64>
+        ensures value { IfSome result (λ x. IsKth (slice_range self.now.items range.start range.end) 0 x) }
+        ensures answered { IsSome result ↔ (self.now.width ≤ 64) × (range.start < range.end) × (range.end ≤ length self.now.items) }
+        ensures adds { AddsAtMost tally.old tally.new (query_reads self.now) }
+    {
+        self.quantile_u64_counted(range, 0, tally)
+    }
+
+    /// The least symbol of a range, which has a place of the list. The symbols have at most 64 bits.
+    pub fn range_min_u64_unchecked(&self, range: Range<usize>) -> u64
+        requires order { range.start < range.end }
+        requires within { range.end ≤ length self.now.items }
+        requires wide { self.now.width ≤ 64 }
+        ensures { IsKth (slice_range self.now.items range.start range.end) 0 result }
+    {
+        self.quantile_u64_unchecked(range, 0)
+    }
+
+    /// The greatest symbol of a range. None where the symbols have more than 64 bits, and for a range
+    /// that is empty, reversed or ends past the end.
+    pub fn range_max_u64(&self, range: Range<usize>) -> Option<u64>
+        ensures value { IfSome result (λ x. IsKth (slice_range self.now.items range.start range.end) (range.end - range.start - 1) x) }
+        ensures answered { IsSome result ↔ (self.now.width ≤ 64) × (range.start < range.end) × (range.end ≤ length self.now.items) }
+    {
+        let mut tally = Tally::new();
+        self.range_max_u64_counted(range, &mut tally)
+    }
+
+    /// The greatest symbol of a range. None where the symbols have more than 64 bits, and for a range
+    /// that is empty, reversed or ends past the end. By at most four selects of a level for each bit of
+    /// a symbol.
+    pub fn range_max_u64_counted(&self, range: Range<usize>, tally: &mut Tally) -> Option<u64>
+        ensures value { IfSome result (λ x. IsKth (slice_range self.now.items range.start range.end) (range.end - range.start - 1) x) }
+        ensures answered { IsSome result ↔ (self.now.width ≤ 64) × (range.start < range.end) × (range.end ≤ length self.now.items) }
+        ensures adds { AddsAtMost tally.old tally.new (query_reads self.now) }
+    {
+        if range.start >= range.end {
+            return None;
+        }
+        let last = range.end - range.start - 1;
+        self.quantile_u64_counted(range, last, tally)
+    }
+
+    /// The greatest symbol of a range, which has a place of the list. The symbols have at most 64 bits.
+    pub fn range_max_u64_unchecked(&self, range: Range<usize>) -> u64
+        requires order { range.start < range.end }
+        requires within { range.end ≤ length self.now.items }
+        requires wide { self.now.width ≤ 64 }
+        ensures { IsKth (slice_range self.now.items range.start range.end) (range.end - range.start - 1) result }
+    {
+        let last = range.end - range.start - 1;
+        self.quantile_u64_unchecked(range, last)
+    }
+
+    /// The symbol in the middle of a range by size, the lower one of two. None where the symbols have
+    /// more than 64 bits, and for a range that is empty, reversed or ends past the end.
+    pub fn range_median_u64(&self, range: Range<usize>) -> Option<u64>
+        ensures value { IfSome result (λ x. IsKth (slice_range self.now.items range.start range.end) ((range.end - 1 - range.start) / 2) x) }
+        ensures answered { IsSome result ↔ (self.now.width ≤ 64) × (range.start < range.end) × (range.end ≤ length self.now.items) }
+    {
+        let mut tally = Tally::new();
+        self.range_median_u64_counted(range, &mut tally)
+    }
+
+    /// The symbol in the middle of a range by size, the lower one of two. None where the symbols have
+    /// more than 64 bits, and for a range that is empty, reversed or ends past the end. By at most four
+    /// selects of a level for each bit of a symbol.
+    pub fn range_median_u64_counted(&self, range: Range<usize>, tally: &mut Tally) -> Option<u64>
+        ensures value { IfSome result (λ x. IsKth (slice_range self.now.items range.start range.end) ((range.end - 1 - range.start) / 2) x) }
+        ensures answered { IsSome result ↔ (self.now.width ≤ 64) × (range.start < range.end) × (range.end ≤ length self.now.items) }
+        ensures adds { AddsAtMost tally.old tally.new (query_reads self.now) }
+    {
+        if range.start >= range.end {
+            return None;
+        }
+        let middle = (range.end - 1 - range.start) / 2;
+        self.quantile_u64_counted(range, middle, tally)
+    }
+
+    /// The symbol in the middle of a range by size, the lower one of two, which has a place of the
+    /// list. The symbols have at most 64 bits.
+    pub fn range_median_u64_unchecked(&self, range: Range<usize>) -> u64
+        requires order { range.start < range.end }
+        requires within { range.end ≤ length self.now.items }
+        requires wide { self.now.width ≤ 64 }
+        ensures { IsKth (slice_range self.now.items range.start range.end) ((range.end - 1 - range.start) / 2) result }
+    {
+        let middle = (range.end - 1 - range.start) / 2;
+        self.quantile_u64_unchecked(range, middle)
+    }
+}

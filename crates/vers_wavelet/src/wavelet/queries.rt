@@ -1,0 +1,203 @@
+//! Queries of a wavelet matrix for symbols of both kinds.
+ghost use Rattle.std.specs.Prelude.{◌≡◌, ℕ, ◌+◌, ◌-◌, ◌*◌, ◌%◌, ◌^◌, ◌<◌, ◌≤◌, ◌↔◌, length, slice_get, slice_index, slice_index_or, slice_range, count_by, nat_lt, nat_le, Some, None, IsTrue, IfOk, Any};
+ghost use Rattle.vers_bits.specs.Bits.{number};
+ghost use Rattle.vers_tally.specs.Reads.{AddsAtMost, no_reads, times};
+ghost use Rattle.vers_rank.specs.Queries.{rank_reads};
+ghost use Rattle.vers_wavelet.specs.Symbols.{occurrences, IsKth, IsPredecessor, IsSuccessor};
+ghost use Rattle.vers_wavelet.specs.Reads.{query_reads};
+
+use crate::wavelet::WaveletMatrix;
+use crate::wavelet::digits::Digits;
+use crate::wavelet::walk::{climb, find_kth, narrow, read_symbol};
+use std::alloc::{AllocError, Allocator};
+use vers_bits::bit_vec::BitVec;
+use vers_tally::tally::Tally;
+
+#[tactic(auto, using(crate::proofs::Lists::lists))]
+impl<A: Allocator + Copy> WaveletMatrix<A> {
+    // A symbol that is 0.
+    #[tactic(auto, using(crate::proofs::Digits::symbols))]
+    pub(super) fn zero_symbol(&self) -> Result<BitVec<A>, AllocError>
+        ensures zero { IfOk result (λ v. number v ≡ 0) }
+        ensures wide { IfOk result (λ v. length v ≡ self.now.width) }
+    {
+        let alloc = *self.levels.allocator();
+        BitVec::from_zeros(alloc, self.bits_per_element()).map_err(|_| AllocError)
+    }
+
+    // How many places of a range hold a symbol.
+    pub(super) fn count_in<D: Digits>(
+        &self,
+        start: usize,
+        end: usize,
+        symbol: &D,
+        tally: &mut Tally,
+    ) -> usize
+        requires order { start ≤ end }
+        requires within { end ≤ length self.now.items }
+        requires wide { self.now.width ≤ D.width symbol.now }
+        ensures value { result ≡ length (occurrences self.now.items start end (D.number symbol.now % 2 ^ self.now.width)) }
+        ensures adds { AddsAtMost tally.old tally.new (query_reads self.now) }
+    {
+        let part = narrow(&self.levels, self.len, start, end, symbol, tally);
+        part.end - part.start
+    }
+
+    // The place of occurrence `rank` of a symbol from a place on.
+    pub(super) fn find_from<D: Digits>(
+        &self,
+        offset: usize,
+        rank: usize,
+        symbol: &D,
+        tally: &mut Tally,
+    ) -> Option<usize>
+        requires within { offset ≤ length self.now.items }
+        requires wide { self.now.width ≤ D.width symbol.now }
+        ensures value { result ≡ slice_get (occurrences self.now.items offset (length self.now.items) (D.number symbol.now % 2 ^ self.now.width)) rank }
+        ensures adds { AddsAtMost tally.old tally.new (query_reads self.now) }
+    {
+        let levels = self.levels.as_slice();
+        let part = narrow(levels, self.len, offset, self.len, symbol, tally);
+        if rank >= part.end - part.start {
+            return None;
+        }
+        Some(climb(levels, self.len, symbol, part.start + rank, tally))
+    }
+
+    // The same, or the length where there are not so many.
+    #[tactic(auto, using(crate::proofs::Items::found))]
+    pub(super) fn place_from<D: Digits>(&self, offset: usize, rank: usize, symbol: &D) -> usize
+        requires within { offset ≤ length self.now.items }
+        requires wide { self.now.width ≤ D.width symbol.now }
+        ensures { result ≡ slice_index_or (occurrences self.now.items offset (length self.now.items) (D.number symbol.now % 2 ^ self.now.width)) rank (length self.now.items) }
+    {
+        let mut tally = Tally::new();
+        self.find_from(offset, rank, symbol, &mut tally)
+            .unwrap_or(self.len())
+    }
+
+    // Writes the symbol at a place into a number that is 0.
+    pub(super) fn read_at<D: Digits>(&self, place: usize, answer: &mut D, tally: &mut Tally)
+        requires within { place < length self.now.items }
+        requires zero { D.number answer.old ≡ 0 }
+        requires wide { self.now.width ≤ D.width answer.old }
+        ensures value { D.number answer.new ≡ slice_index self.now.items place }
+        ensures same { D.width answer.new ≡ D.width answer.old }
+        ensures adds { AddsAtMost tally.old tally.new (query_reads self.now) }
+    {
+        read_symbol(&self.levels, self.len, place, answer, tally);
+    }
+
+    // Writes member `i` of a range by size into a number that is 0.
+    pub(super) fn kth_in<D: Digits>(
+        &self,
+        start: usize,
+        end: usize,
+        i: usize,
+        answer: &mut D,
+        tally: &mut Tally,
+    )
+        requires order { start + i < end }
+        requires within { end ≤ length self.now.items }
+        requires zero { D.number answer.old ≡ 0 }
+        requires wide { self.now.width ≤ D.width answer.old }
+        ensures value { IsKth (slice_range self.now.items start end) i (D.number answer.new) }
+        ensures same { D.width answer.new ≡ D.width answer.old }
+        ensures adds { AddsAtMost tally.old tally.new (times (2 * self.now.width) rank_reads) }
+    {
+        find_kth(&self.levels, self.len, start, end, i, answer, tally);
+    }
+
+    // How many symbols of a range are below a symbol.
+    fn count_below<D: Digits>(
+        &self,
+        start: usize,
+        end: usize,
+        symbol: &D,
+        tally: &mut Tally,
+    ) -> usize
+        requires order { start ≤ end }
+        requires within { end ≤ length self.now.items }
+        requires wide { self.now.width ≤ D.width symbol.now }
+        ensures value { result ≡ count_by (λ y. nat_lt y (D.number symbol.now % 2 ^ self.now.width)) (slice_range self.now.items start end) }
+        ensures few { result ≤ end - start }
+        ensures adds { AddsAtMost tally.old tally.new (times (2 * self.now.width) rank_reads) }
+    {
+        narrow(&self.levels, self.len, start, end, symbol, tally).less
+    }
+
+    // How many symbols of a range are not above a symbol.
+    fn count_not_above<D: Digits>(
+        &self,
+        start: usize,
+        end: usize,
+        symbol: &D,
+        tally: &mut Tally,
+    ) -> usize
+        requires order { start ≤ end }
+        requires within { end ≤ length self.now.items }
+        requires wide { self.now.width ≤ D.width symbol.now }
+        ensures value { result ≡ count_by (λ y. nat_le y (D.number symbol.now % 2 ^ self.now.width)) (slice_range self.now.items start end) }
+        ensures few { result ≤ end - start }
+        ensures adds { AddsAtMost tally.old tally.new (times (2 * self.now.width) rank_reads) }
+    {
+        let part = narrow(&self.levels, self.len, start, end, symbol, tally);
+        part.less + (part.end - part.start)
+    }
+
+    // Whether a range has a symbol that is not above a symbol; and writes the greatest of these into a
+    // number that is 0.
+    pub(super) fn predecessor_in<D: Digits>(
+        &self,
+        start: usize,
+        end: usize,
+        symbol: &D,
+        answer: &mut D,
+        tally: &mut Tally,
+    ) -> bool
+        requires order { start ≤ end }
+        requires within { end ≤ length self.now.items }
+        requires symbol { self.now.width ≤ D.width symbol.now }
+        requires zero { D.number answer.old ≡ 0 }
+        requires wide { self.now.width ≤ D.width answer.old }
+        ensures value { IsTrue result → IsPredecessor (slice_range self.now.items start end) (D.number symbol.now % 2 ^ self.now.width) (D.number answer.new) }
+        ensures some { IsTrue result ↔ Any (λ y. y ≤ D.number symbol.now % 2 ^ self.now.width) (slice_range self.now.items start end) }
+        ensures same { D.width answer.new ≡ D.width answer.old }
+        ensures adds { AddsAtMost tally.old tally.new (query_reads self.now) }
+    {
+        let n = self.count_not_above(start, end, symbol, tally);
+        if n == 0 {
+            return false;
+        }
+        self.kth_in(start, end, n - 1, answer, tally);
+        true
+    }
+
+    // Whether a range has a symbol that is not below a symbol; and writes the least of these into a
+    // number that is 0.
+    pub(super) fn successor_in<D: Digits>(
+        &self,
+        start: usize,
+        end: usize,
+        symbol: &D,
+        answer: &mut D,
+        tally: &mut Tally,
+    ) -> bool
+        requires order { start ≤ end }
+        requires within { end ≤ length self.now.items }
+        requires symbol { self.now.width ≤ D.width symbol.now }
+        requires zero { D.number answer.old ≡ 0 }
+        requires wide { self.now.width ≤ D.width answer.old }
+        ensures value { IsTrue result → IsSuccessor (slice_range self.now.items start end) (D.number symbol.now % 2 ^ self.now.width) (D.number answer.new) }
+        ensures some { IsTrue result ↔ Any (λ y. D.number symbol.now % 2 ^ self.now.width ≤ y) (slice_range self.now.items start end) }
+        ensures same { D.width answer.new ≡ D.width answer.old }
+        ensures adds { AddsAtMost tally.old tally.new (query_reads self.now) }
+    {
+        let n = self.count_below(start, end, symbol, tally);
+        if n == end - start {
+            return false;
+        }
+        self.kth_in(start, end, n, answer, tally);
+        true
+    }
+}

@@ -1,0 +1,89 @@
+//! The symbol at a place.
+ghost use Rattle.std.specs.Prelude.{◌≡◌, ◌<◌, ◌≤◌, ◌↔◌, length, slice_get, slice_index, Some, IsSome, IfSome, IfOk};
+ghost use Rattle.vers_bits.specs.Bits.{number};
+ghost use Rattle.vers_tally.specs.Reads.{AddsAtMost};
+ghost use Rattle.vers_wavelet.specs.Reads.{query_reads};
+
+use crate::wavelet::WaveletMatrix;
+use std::alloc::{AllocError, Allocator};
+use vers_bits::bit_vec::BitVec;
+use vers_tally::tally::Tally;
+
+#[tactic(auto, using(crate::proofs::Lists::lists, crate::proofs::Digits::symbols))]
+impl<A: Allocator + Copy> WaveletMatrix<A> {
+    /// The symbol at a place. None for a place that the list doesn't have.
+    pub fn get_value(&self, place: usize) -> Result<Option<BitVec<A>>, AllocError>
+        ensures value { IfOk result (λ o. IfSome o (λ v. (slice_get self.now.items place ≡ Some (number v)) × (length v ≡ self.now.width))) }
+        ensures answered { IfOk result (λ o. IsSome o ↔ (place < length self.now.items)) }
+    {
+        let mut tally = Tally::new();
+        self.get_value_counted(place, &mut tally)
+    }
+
+    /// The symbol at a place. None for a place that the list doesn't have. By at most four selects of a
+    /// level for each bit of a symbol.
+    pub fn get_value_counted(
+        &self,
+        place: usize,
+        tally: &mut Tally,
+    ) -> Result<Option<BitVec<A>>, AllocError>
+        ensures value { IfOk result (λ o. IfSome o (λ v. (slice_get self.now.items place ≡ Some (number v)) × (length v ≡ self.now.width))) }
+        ensures answered { IfOk result (λ o. IsSome o ↔ (place < length self.now.items)) }
+        ensures adds { AddsAtMost tally.old tally.new (query_reads self.now) }
+    {
+        if place >= self.len() {
+            return Ok(None);
+        }
+        let mut answer = self.zero_symbol()?;
+        self.read_at(place, &mut answer, tally);
+        Ok(Some(answer))
+    }
+
+    /// The symbol at a place of the list.
+    pub fn get_value_unchecked(&self, place: usize) -> Result<BitVec<A>, AllocError>
+        requires within { place < length self.now.items }
+        ensures { IfOk result (λ v. (number v ≡ slice_index self.now.items place) × (length v ≡ self.now.width)) }
+    {
+        let mut tally = Tally::new();
+        let mut answer = self.zero_symbol()?;
+        self.read_at(place, &mut answer, &mut tally);
+        Ok(answer)
+    }
+
+    /// The symbol at a place. None where the symbols have more than 64 bits, and for a place that the
+    /// list doesn't have.
+    pub fn get_u64(&self, place: usize) -> Option<u64>
+        ensures value { IfSome result (λ x. slice_get self.now.items place ≡ Some x) }
+        ensures answered { IsSome result ↔ (self.now.width ≤ 64) × (place < length self.now.items) }
+    {
+        let mut tally = Tally::new();
+        self.get_u64_counted(place, &mut tally)
+    }
+
+    /// The symbol at a place. None where the symbols have more than 64 bits, and for a place that the
+    /// list doesn't have. By at most four selects of a level for each bit of a symbol.
+    pub fn get_u64_counted(&self, place: usize, tally: &mut Tally) -> Option<u64>
+        ensures value { IfSome result (λ x. slice_get self.now.items place ≡ Some x) }
+        ensures answered { IsSome result ↔ (self.now.width ≤ 64) × (place < length self.now.items) }
+        ensures adds { AddsAtMost tally.old tally.new (query_reads self.now) }
+    {
+        if self.bits_per_element() > 64 || place >= self.len() {
+            return None;
+        }
+        let mut answer: u64 = 0;
+        self.read_at(place, &mut answer, tally);
+        Some(answer)
+    }
+
+    /// The symbol at a place of the list. The symbols have at most 64 bits.
+    pub fn get_u64_unchecked(&self, place: usize) -> u64
+        requires within { place < length self.now.items }
+        requires wide { self.now.width ≤ 64 }
+        ensures { result ≡ slice_index self.now.items place }
+    {
+        let mut tally = Tally::new();
+        let mut answer: u64 = 0;
+        self.read_at(place, &mut answer, &mut tally);
+        answer
+    }
+}

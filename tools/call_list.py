@@ -1,0 +1,105 @@
+#!/usr/bin/env python3
+"""Writes docs/CALLS.md: every public call of the library on one page, out of the sources.
+
+A row has a call as it is declared, the first paragraph of its doc comment, the conditions that a caller keeps, and what the
+counted form of the call adds to the counters at most. A call and its counted form share a row. `--check` compares the page
+with the sources and writes nothing; the rules over the text do the same.
+"""
+import os
+import re
+import sys
+
+from rattle_types import base
+from text_rules import listed_files, public_functions, read, sources_of
+
+PAGE = "docs/CALLS.md"
+HEAD = """# Calls
+
+Every public call of the library, by the type or the module that it belongs to. `tools/call_list.py` writes this page out of the
+sources. A call without a condition answers every argument. *Reads* is the bound of the counted form, which is named like the
+call with `_counted` behind and takes a `Tally` last: each of nine counters rises by at most this. A type's last parameter `A` is
+the allocator. [DEFINITIONS.md](DEFINITIONS.md) has the words of conditions and bounds.
+"""
+CRATES = ("vers_bits", "vers_tally", "vers_rank", "vers_sorted", "vers_rmq", "vers_trees", "vers_wavelet", "postings", "vers_cli")
+
+
+def doc_above(lines, at):
+    """Returns the doc comment above line `at`, past attributes, as paragraphs."""
+    found = []
+    at -= 1
+    while at >= 0 and re.match(r"\s*(#\[|///)", lines[at]):
+        if lines[at].strip().startswith("///"):
+            found.insert(0, lines[at].strip()[3:].strip())
+        at -= 1
+    return [" ".join(it.split()) for it in "\n".join(found).split("\n\n")]
+
+
+def clauses_of(text, start, end):
+    """Returns the clauses between a head and a body, as (kind, name, fact)."""
+    return re.findall(r"(?m)^\s*(requires|ensures) (?:([a-z_]\w*) )?\{ (.*) \}\s*$", text[start:end])
+
+
+class Row:
+    """A call: its owner, its name, its declaration, its doc, its conditions and its bound on reads."""
+
+    def __init__(self, function):
+        text = function.file.contents
+        lines = text.split("\n")
+        self.holder = function.holder or function.file.module
+        self.name = function.name
+        body = function.file.words[function.body[0]].start if function.body else text.index(";", function.start)
+        first = re.search(r"\n\s*(?:requires|ensures|where)\b", text[function.start:body])
+        head = text[function.start:function.start + first.start()] if first else text[function.start:body]
+        self.head = re.sub(r",? \)", ")", re.sub(r"\( ", "(", " ".join(head.split()))).removeprefix("pub ").removeprefix("const ").removeprefix("fn ")
+        self.doc = doc_above(lines, text.count("\n", 0, function.start))[0]
+        clauses = clauses_of(text, function.start, body)
+        self.conditions = [fact for kind, _, fact in clauses if kind == "requires"]
+        self.reads = [re.sub(r"^AddsAtMost tally\.old tally\.new ", "", fact) for _, _, fact in clauses if fact.startswith("AddsAtMost tally.old")]
+
+
+def cell(text):
+    return text.replace("|", "\\|")
+
+
+def code(facts):
+    return ", ".join(f"`{cell(it)}`" for it in facts)
+
+
+def section(holder, rows):
+    """Returns the table of one owner."""
+    by_name = {row.name: row for row in rows}
+    lines = [f"## {holder}", "", "| Call | Answers | Condition | Reads |", "|---|---|---|---|"]
+    for row in rows:
+        if row.name.endswith("_counted") and row.name[:-len("_counted")] in by_name:
+            continue
+        counted = by_name.get(f"{row.name}_counted", row)
+        lines.append(f"| `{cell(row.head)}` | {cell(row.doc)} | {code(row.conditions)} | {code(counted.reads)} |")
+    return "\n".join(lines)
+
+
+def page(top):
+    """Returns the text of the page."""
+    files, parts = listed_files(top), [HEAD.rstrip("\n")]
+    for crate in CRATES:
+        groups = {}
+        functions = sorted(public_functions(crate, sources_of(top, crate, files)), key=lambda it: (it.file.path, it.start))
+        for function in functions:
+            is_marker = function.owner and function.owner.trait
+            if not is_marker and function.file.module != "laws":
+                row = Row(function)
+                groups.setdefault(row.holder, []).append(row)
+        parts += [section(f"`{holder}` of `{crate}`", rows) for holder, rows in sorted(groups.items())]
+    return "\n\n".join(parts) + "\n"
+
+
+def main():
+    top = os.path.dirname(os.path.dirname(os.path.abspath(__file__)))
+    path = os.path.join(top, PAGE)
+    if sys.argv[1:] == ["--check"]:
+        sys.exit(0 if os.path.exists(path) and read(path) == page(top) else f"{PAGE} isn't what tools/call_list.py writes")
+    with open(path, "w", encoding="utf-8") as file:
+        file.write(page(top))
+
+
+if __name__ == "__main__":
+    main()
