@@ -167,7 +167,8 @@ impl<A: Allocator + Copy> FastRmq<A> {
     #[tactic(auto, using(crate::proofs::Blocks::reading))]
     fn suffix_place(&self, i: usize) -> usize
         requires { i < length self.now }
-        ensures value { IsFirstLeast self.now i (min (128 * (i / 128) + 128) (length self.now) - 1) result }
+        ensures value { IsFirstLeast self.now i (min (128 * (i / 128) + 128) (length self.now) - 1)
+            result }
         ensures inside { result < length self.now }
     {
         let masks = self.masks.as_slice();
@@ -191,7 +192,8 @@ impl<A: Allocator + Copy> FastRmq<A> {
     #[tactic(auto, using(crate::proofs::Blocks::reading))]
     fn part_suffix_place(&self, i: usize) -> usize
         requires { i < length self.now }
-        ensures value { IsFirstLeast self.now i (min (16 * (i / 16) + 16) (length self.now) - 1) result }
+        ensures value { IsFirstLeast self.now i (min (16 * (i / 16) + 16) (length self.now) - 1)
+            result }
         ensures inside { result < length self.now }
     {
         let masks = self.masks.as_slice();
