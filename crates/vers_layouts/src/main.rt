@@ -14,7 +14,7 @@ use std::io;
 
 /// What is asked of a value that was made. The value may be of any type, so that a caller's proof
 /// doesn't go through its fields.
-pub fn asked<T: Drop, E, F: FnOnce(&T) -> io::Result<()>>(
+pub fn asked<T: Drop, E: Drop, F: FnOnce(&T) -> io::Result<()>>(
     made: Result<T, E>,
     ask: F,
 ) -> io::Result<()>
