@@ -7,11 +7,17 @@ time of each series counts. Exit status 1 where a checksum differs: the answers 
 
 `--checksums` builds the original's driver alone, runs its small workload, and compares its checksums with the stored run
 of `crates/vers_bench`, so it needs no Rattle toolchain. Series that only one of the two has are listed.
+
+`--instructions` counts, under valgrind's callgrind and with a sixteenth of the sizes, the instructions of one pass over the queries of
+each series, with its loop and its checksum. In both drivers such a pass is a function of its own, whose name ends in `_pass`.
 """
 import argparse
+import itertools
 import os
+import re
 import subprocess
 import sys
+import tempfile
 
 HERE = os.path.dirname(os.path.abspath(__file__))
 TOP = os.path.dirname(HERE)
@@ -87,10 +93,48 @@ def measured(drivers, structures, passes, options):
     return found
 
 
+def counts_of(path):
+    """Yields the instructions of each profile, in the order in which they were written: PATH.1, PATH.2 and so on."""
+    for number in itertools.count(1):
+        if not os.path.exists(f"{path}.{number}"):
+            return
+        with open(f"{path}.{number}", encoding="utf-8") as file:
+            yield int(re.search(r"(?m)^totals: (\d+)", file.read())[1])
+
+
+def instructions_of(program, driver, structure):
+    """Yields (series, instructions, checksum) for each pass of a structure, in the order of the lines."""
+    with tempfile.TemporaryDirectory() as folder:
+        path = os.path.join(folder, "profile")
+        command = [
+            "valgrind", "--tool=callgrind", "--collect-atstart=no", "--toggle-collect=*_pass*", "--dump-after=*pass*",
+            f"--callgrind-out-file={path}", program, driver, structure, "--small", "--reps", "1",
+        ]
+        lines = [line.split("\t")[1:] for line in output_of(command).splitlines()]
+        counts = list(counts_of(path))
+    passes = [line for line in lines if not line[1].startswith(("build", "heap_"))]
+    if len(counts) != len(passes):
+        sys.exit(f"{driver}, {structure}: {len(passes)} passes were printed, and {len(counts)} were counted")
+    for (*name, _, checksum), count in zip(passes, counts):
+        yield tuple(name), count, checksum
+
+
+def counted(drivers, structures):
+    """Returns the series by (structure, operation, data), with the instructions of a pass."""
+    found = {}
+    for structure in structures:
+        print(f"counting: {structure}", file=sys.stderr)
+        for driver, program in drivers.items():
+            for name, count, checksum in instructions_of(program, driver, structure):
+                found.setdefault(name, Series()).note(driver, count, checksum)
+    return found
+
+
 def main():
     parser = argparse.ArgumentParser(description=__doc__, formatter_class=argparse.RawDescriptionHelpFormatter)
     parser.add_argument("structures", nargs="*", metavar="STRUCTURE", help=f"of {', '.join(STRUCTURES)}; all where none is named")
     parser.add_argument("--checksums", action="store_true", help="compare checksums with the stored run, and no times")
+    parser.add_argument("--instructions", action="store_true", help="count instructions under valgrind in place of times")
     parser.add_argument("--passes", type=int, default=3, help="how often each structure is run by each (3)")
     parser.add_argument("--reps", type=int, default=5, help="how often a run repeats a series, for the median (5)")
     parser.add_argument("--small", action="store_true", help="a sixteenth of the sizes")
@@ -104,12 +148,14 @@ def main():
     original = built_original(asked.original)
     if asked.checksums:
         sys.exit(compare_checksums(original))
+    drivers, structures = {"here": OWN, "original": original}, asked.structures or STRUCTURES
     options = ["--reps", str(asked.reps), *(["--small"] if asked.small else [])]
-    found = measured({"here": OWN, "original": original}, asked.structures or STRUCTURES, max(asked.passes, 1), options)
+    found = counted(drivers, structures) if asked.instructions else measured(drivers, structures, max(asked.passes, 1), options)
     print("| structure | operation | data | here | original | ratio |\n|---|---|---|---:|---:|---:|")
     print("\n".join(series.row(name) for name, series in found.items()))
     differing = sum(series.differs() for series in found.values())
-    print(f"\nNanoseconds an operation, builds an item; rows `heap_` are sizes. {differing} checksums differ.")
+    what = "Instructions of a pass" if asked.instructions else "Nanoseconds an operation, builds an item; rows `heap_` are sizes"
+    print(f"\n{what}. {differing} checksums differ.")
     sys.exit(differing > 0)
 
 

@@ -96,7 +96,7 @@ impl Series<'_> {
         let mut checksum = 0;
         let times = (0..self.settings.repetitions()).map(|_| {
             let start = processor_time();
-            checksum = pass();
+            checksum = one_pass(&mut pass);
             processor_time() - start
         });
         let time = median(times.collect());
@@ -122,6 +122,12 @@ impl Series<'_> {
         let time = median(times.collect());
         self.print(operation, per_operation(time, count), checksum);
     }
+}
+
+// A function of its own in the machine code, so that a profiler counts the instructions of a pass.
+#[inline(never)]
+fn one_pass(pass: &mut impl FnMut() -> u64) -> u64 {
+    pass()
 }
 
 fn per_operation(time: Duration, count: usize) -> f64 {
