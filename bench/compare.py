@@ -24,7 +24,7 @@ TOP = os.path.dirname(HERE)
 OWN = os.path.join(TOP, "crates/vers_bench/out/vers_bench")
 STORED = os.path.join(TOP, "crates/vers_bench/stdout")
 PROJECT = os.path.join(HERE, "original")
-STRUCTURES = ("bits", "walks", "list", "sorted", "sparse", "wavelet", "rmq")
+STRUCTURES = ("bits", "walks", "list", "sorted", "sparse", "wavelet", "rmq", "tree")
 LEVEL = "x86-64-v2"
 
 

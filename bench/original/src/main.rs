@@ -9,10 +9,12 @@ mod minima;
 mod report;
 mod sorted;
 mod symbols;
+mod trees;
 mod workload;
 
 use report::Settings;
 use std::process::ExitCode;
+use trees::Shape;
 
 fn run(settings: &Settings) {
     let query_count = settings.scaled(1_000_000);
@@ -45,6 +47,12 @@ fn run(settings: &Settings) {
         if let Some(n) = settings.scaled_large(10_000_000) {
             minima::run(settings, n, query_count);
         }
+    }
+    if settings.wants("tree") {
+        let count = settings.scaled(2_000_000);
+        trees::run(settings, Shape::Random, count, query_count);
+        trees::run(settings, Shape::Path, count, query_count);
+        trees::run(settings, Shape::Star, count + 2, query_count);
     }
 }
 

@@ -123,3 +123,22 @@ pub fn members_clustered(count: usize, are_equal: bool) -> Clustered {
     list.members.truncate(count);
     Clustered { members: list.members, first }
 }
+
+/// The limbs of the parentheses of a random tree, each tree of as many bits as likely as any other: one root, whose
+/// nodes are half as many as the bits.
+pub fn parentheses(bit_count: usize) -> Vec<u64> {
+    let mut random = Random::new(6);
+    let mut limbs = vec![0; bit_count.div_ceil(64)];
+    let mut height = 0;
+    limbs[0] = 1;
+    for i in 1..bit_count - 1 {
+        let left = (bit_count - 1 - i) as u64;
+        if random.below(2 * left * (height + 1)) >= height * (left + height + 2) {
+            height += 1;
+            limbs[i / 64] |= 1 << (i % 64);
+        } else {
+            height -= 1;
+        }
+    }
+    limbs
+}
