@@ -4,7 +4,7 @@
 A row has a call as it is declared, the first paragraph of its doc comment, the conditions that a caller keeps, what the
 counted form of the call adds to the counters at most, and its time where docs/PERFORMANCE.md has one. A call and its counted form
 share a row. `--check` compares the page
-with the sources and writes nothing; the rules over the text do the same.
+with the sources and writes nothing, which the gate does.
 """
 import os
 import re
