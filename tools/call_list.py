@@ -21,7 +21,8 @@ Every public call of the library, by the type or the module that it belongs to. 
 sources. A call without a condition answers every argument. *Reads* is the bound of the counted form, which is named like the
 call with `_counted` behind and takes a `Tally` last: each of nine counters rises by at most this. *Time* is
 what [PERFORMANCE.md](PERFORMANCE.md) has of it, which says how it was measured. A type's last parameter `A` is
-the allocator. [DEFINITIONS.md](DEFINITIONS.md) has the words of conditions and bounds.
+the allocator. [DEFINITIONS.md](DEFINITIONS.md) has the words of conditions and bounds, and the laws, which are functions with empty
+bodies.
 """
 CRATES = ("vers_bits", "vers_tally", "vers_rank", "vers_sorted", "vers_rmq", "vers_trees", "vers_wavelet", "postings", "vers_cli")
 
