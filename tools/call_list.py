@@ -56,7 +56,7 @@ class Row:
         head = text[function.start:function.start + first.start()] if first else text[function.start:body]
         self.head = re.sub(r",? \)", ")", re.sub(r"\( ", "(", " ".join(head.split()))).removeprefix("pub ").removeprefix("const ").removeprefix("fn ")
         self.doc = doc_above(lines, text.count("\n", 0, function.start))[0]
-        clauses = clauses_of(text, function.start, body)
+        clauses = [(kind, name, " ".join(fact.split())) for kind, name, fact in clauses_of(text, function.start, body)]
         self.conditions = [fact for kind, _, fact in clauses if kind == "requires"]
         self.reads = [re.sub(r"^AddsAtMost tally\.old tally\.new ", "", fact) for _, _, fact in clauses if fact.startswith("AddsAtMost tally.old")]
 

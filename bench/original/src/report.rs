@@ -103,8 +103,8 @@ impl Series<'_> {
         self.print(operation, per_operation(time, count), checksum);
     }
 
-    /// Runs the making of a value of `count` items. The time is that of `make` and of letting the value go; what
-    /// it is made of comes from `input`, which isn't timed.
+    /// Runs the making of a value of `count` items. The time is that of `make` alone: what the value is made of comes
+    /// from `input`, and the value is let go after the time is taken.
     pub fn build<I, T>(
         &self,
         operation: &str,
@@ -116,8 +116,10 @@ impl Series<'_> {
         let times = (0..self.settings.repetitions()).map(|_| {
             let given = input();
             let start = processor_time();
-            drop(make(given));
-            processor_time() - start
+            let made = make(given);
+            let time = processor_time() - start;
+            drop(made);
+            time
         });
         let time = median(times.collect());
         self.print(operation, per_operation(time, count), checksum);
