@@ -22,6 +22,11 @@ two_numbers (first ∷ []) = None
 two_numbers (first ∷ second ∷ []) = option_and_then (λ m. option_map (λ n. (m, n)) (number_of second)) (number_of first)
 two_numbers (first ∷ second ∷ other ∷ more) = None
 
+-- three numbers
+abbrev pub three_numbers : List (List ℕ) → Option (ℕ × ℕ × ℕ)
+three_numbers [] = None
+three_numbers (first ∷ others) = option_and_then (λ l. option_map (λ more. (l, more.0, more.1)) (two_numbers others)) (number_of first)
+
 -- a number and a signed number
 abbrev pub number_and_signed : List (List ℕ) → Option (ℕ × ℤ)
 number_and_signed [] = None
