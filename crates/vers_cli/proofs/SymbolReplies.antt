@@ -1,20 +1,21 @@
 -- What queries of symbols find, as functions of the list.
 use Rattle.std.proofs.Common.{◌≡◌, ℕ, ◌+◌, ◌-◌, ◌/◌, ◌<◌, ◌≤◌, Bool, true, false, ltb, leb, eqb, cond, List, [], ◌∷◌, length, drop, get_or, slice_get, Option, Some, None, refl, sym, ap, ◌∙◌, arith, inl, inr}
-use Rattle.std.specs.Prelude.{◌↔◌, ◌||◌, slice_range, IsSome, IfSome, Contains, Any}
-use Rattle.std.specs.List.{count_by, list_any}
+use Rattle.std.specs.Prelude.{◌↔◌, ◌||◌, slice_range, slice_index, IsSome, IfSome, Contains, Any}
+use Rattle.std.specs.List.{count_by, list_any, range_with_len}
 use Rattle.std.specs.List.Sorted.{IsNonDecreasing}
-use Rattle.std.proofs.lemmas.Bool.{cases_lt, le-leb, lt-leb, lt-ltb, le-ltb, eq-eqb, eqb-true}
+use Rattle.std.proofs.lemmas.Bool.{cases_lt, le-leb, lt-leb, lt-ltb, eq-eqb, eqb-true}
 use Rattle.std.proofs.lemmas.List.{length-take, length-drop}
 use Rattle.std.proofs.lemmas.List.Folds.{Any-from_list_any, list_any-from_Any}
-use Rattle.std.proofs.lemmas.List.Sums.{sum_by-cons}
+use Rattle.std.proofs.lemmas.List.FromFn.{length-range_with_len}
+use Rattle.std.proofs.lemmas.List.Sums.{sum_by-cons, length-filter, count_by-le-length}
 use Rattle.std.proofs.lemmas.Option.{slice_get-get_or, slice_get_past}
 use Rattle.vers_bits.proofs.PublicLaws.{any_default}
 use Rattle.vers_sorted.specs.Sorted.{below, greatest_not_above, least_not_below}
 use Rattle.vers_sorted.proofs.PublicLaws.{below_le, below_before, below_after, least_not_below_is, greatest_not_above_some, greatest_not_above_none}
-use Rattle.vers_wavelet.specs.Symbols.{Symbols, by_size, IsKth, IsPredecessor, IsSuccessor}
+use Rattle.vers_wavelet.specs.Symbols.{Symbols, occurrences, by_size, IsKth, IsPredecessor, IsSuccessor}
 use Rattle.vers_wavelet.proofs.PublicLaws.{by_size_ascends, count_by_size, length-by_size, kth_at}
 use Rattle.vers_cli.specs.Reply.{PlainReply, Absent, Number, number_or_absent}
-use Rattle.vers_cli.specs.SymbolsLines.{if_numbers, low_bits_of, places_of, rank_before, rank_between, place_from, sorted_range}
+use Rattle.vers_cli.specs.SymbolsLines.{if_numbers, low_bits_of, places_of, place_from, sorted_range}
 
 -- ---- in ascending order a list has the same members
 
@@ -124,58 +125,29 @@ not_found symbols f none = elim (cases_lt 64 symbols.width) [
 no_some : {P : Type 0} → (P → IsSome {T = ℕ} None) → P → ⊥
 no_some some p = cc (some p)
 
--- the symbol at a place
-pub place_replies : (symbols : Symbols) (i : ℕ) (r : Option ℕ) → IfSome r (λ x. slice_get symbols.items i ≡ Some x) → IsSome r ↔ (symbols.width ≤ 64) × (i < length symbols.items)
-    → number_or_absent r ≡ if_numbers symbols (number_or_absent (slice_get symbols.items i))
-place_replies symbols i (Some x) value some = found symbols (slice_get symbols.items i) x (some.0 refl).0 value
-place_replies symbols i None value some = not_found symbols (slice_get symbols.items i) (λ narrow. elim (cases_lt i (length symbols.items)) [
-  | inl inside ↦ absurd (no_some some.1 (narrow, inside))
-  | inr past ↦ slice_get_past symbols.items i past
-])
+-- ---- places of a symbol
 
--- counts of a symbol
-pub rank_replies : (symbols : Symbols) (i s : ℕ) (r : Option ℕ) → IfSome r (λ n. n ≡ length (places_of symbols 0 i s)) → IsSome r ↔ (symbols.width ≤ 64) × (i ≤ length symbols.items)
-    → number_or_absent r ≡ if_numbers symbols (number_or_absent (rank_before symbols i s))
-rank_replies symbols i s (Some n) value some =
-    let inside = some.0 refl in
-    found symbols (rank_before symbols i s) n inside.0 (rw (le-leb i (length symbols.items) inside.1) (ap Some (sym value)))
-rank_replies symbols i s None value some = not_found symbols (rank_before symbols i s) (λ narrow. elim (cases_lt (length symbols.items) i) [
-  | inl past ↦ rw (lt-leb i (length symbols.items) past) refl
-  | inr inside ↦ absurd (no_some some.1 (narrow, inside))
-])
+-- from past the end on there are none
+no_places : (items : List ℕ) (o s : ℕ) → length items ≤ o → length (occurrences items o (length items) s) ≡ 0
+unfolding occurrences
+no_places items o s past =
+    let places : List ℕ = range_with_len o (length items - o) in
+    let holds : ℕ → Bool = λ p. eqb (slice_index items p) s in
+    omega (arith, length-filter holds places, count_by-le-length holds places, length-range_with_len o (length items - o))
 
--- what doesn't hold of the ends of a range
-no_range : (symbols : Symbols) (a b s : ℕ) → ((a < length symbols.items) × (b ≤ length symbols.items) × (a ≤ b) → ⊥) → rank_between symbols a b s ≡ None
-no_range symbols a b s none = elim (cases_lt a (length symbols.items)) [
-  | inr past ↦ rw (le-ltb a (length symbols.items) past) refl
-  | inl begins ↦ elim (cases_lt (length symbols.items) b) [
-    | inl past ↦ rw (lt-ltb a (length symbols.items) begins, lt-leb b (length symbols.items) past) refl
-    | inr ends ↦ elim (cases_lt b a) [
-      | inl reversed ↦ rw (lt-ltb a (length symbols.items) begins, le-leb b (length symbols.items) ends, lt-leb a b reversed) refl
-      | inr order ↦ absurd (none (begins, ends, order))
-    ]
-  ]
-]
-
-pub rank_range_replies : (symbols : Symbols) (a b s : ℕ) (r : Option ℕ) → IfSome r (λ n. n ≡ length (places_of symbols a b s))
-    → IsSome r ↔ (symbols.width ≤ 64) × (a < length symbols.items) × (b ≤ length symbols.items) × (a ≤ b)
-    → number_or_absent r ≡ if_numbers symbols (number_or_absent (rank_between symbols a b s))
-rank_range_replies symbols a b s (Some n) value some =
-    let inside = some.0 refl in
-    found symbols (rank_between symbols a b s) n inside.0
-    (rw (lt-ltb a (length symbols.items) inside.1, le-leb b (length symbols.items) inside.2, le-leb a b inside.3) (ap Some (sym value)))
-rank_range_replies symbols a b s None value some =
-    not_found symbols (rank_between symbols a b s) (λ narrow. no_range symbols a b s (λ inside. no_some some.1 (narrow, inside)))
-
--- places of a symbol: what has to hold of the place that they are looked for from is R
-pub select_replies : (symbols : Symbols) (o i s : ℕ) (r : Option ℕ) → IfSome r (λ p. slice_get (places_of symbols o (length symbols.items) s) i ≡ Some p)
-    → (IsSome r → symbols.width ≤ 64) → (symbols.width ≤ 64 → i < length (places_of symbols o (length symbols.items) s) → IsSome r)
+pub offset_replies : (symbols : Symbols) (o i s : ℕ) (r : Option ℕ) → IfSome r (λ p. slice_get (places_of symbols o (length symbols.items) s) i ≡ Some p)
+    → IsSome r ↔ (symbols.width ≤ 64) × (o < length symbols.items) × (i < length (places_of symbols o (length symbols.items) s))
     → number_or_absent r ≡ if_numbers symbols (number_or_absent (place_from symbols o i s))
-select_replies symbols o i s (Some p) value narrow some = found symbols (place_from symbols o i s) p (narrow refl) value
-select_replies symbols o i s None value narrow some = not_found symbols (place_from symbols o i s) (λ fits. elim (cases_lt i (length (places_of symbols o (length symbols.items) s))) [
-  | inl inside ↦ absurd (no_some (some fits) inside)
-  | inr past ↦ slice_get_past (places_of symbols o (length symbols.items) s) i past
-])
+offset_replies symbols o i s (Some p) value some = found symbols (place_from symbols o i s) p (some.0 refl).0 value
+offset_replies symbols o i s None value some =
+    let places : List ℕ = places_of symbols o (length symbols.items) s in
+    not_found symbols (place_from symbols o i s) (λ narrow. elim (cases_lt i (length places)) [
+      | inr few ↦ slice_get_past places i few
+      | inl so_many ↦ elim (cases_lt o (length symbols.items)) [
+        | inl inside ↦ absurd (no_some some.1 (narrow, inside, so_many))
+        | inr past ↦ absurd (omega (arith, so_many, no_places symbols.items o (low_bits_of symbols s) past))
+      ]
+    ])
 
 -- ---- members of a range by size
 
@@ -190,24 +162,29 @@ inside_range symbols a b within = rw (le-leb b (length symbols.items) within) re
 past_range : (symbols : Symbols) (a b : ℕ) → length symbols.items < b → sorted_range symbols a b ≡ []
 past_range symbols a b past = rw (lt-leb b (length symbols.items) past) refl
 
--- members by size: R is what has to hold of the range
-pub kth_replies : {R : Type 0} (symbols : Symbols) (a b i : ℕ) (r : Option ℕ) → IfSome r (λ x. IsKth (slice_range symbols.items a b) i x)
-    → IsSome r ↔ (symbols.width ≤ 64) × R → (R → (b ≤ length symbols.items) × (a + i < b)) → (b ≤ length symbols.items → a + i < b → R)
+pub kth_replies : (symbols : Symbols) (a b i : ℕ) (r : Option ℕ) → IfSome r (λ x. IsKth (slice_range symbols.items a b) i x)
+    → IsSome r ↔ (symbols.width ≤ 64) × (b ≤ length symbols.items) × (a + i < b)
     → number_or_absent r ≡ if_numbers symbols (number_or_absent (slice_get (sorted_range symbols a b) i))
-kth_replies {R} symbols a b i (Some x) kth some to from =
-    let narrow = (some.0 refl).0 in
-    let inside = to (some.0 refl).1 in
-    found symbols (slice_get (sorted_range symbols a b) i) x narrow
-    (ap (λ l. slice_get l i) (inside_range symbols a b inside.0) ∙ kth_found (slice_range symbols.items a b) i x (omega (arith, part_length symbols.items a b inside.0, inside.1)) kth)
-kth_replies {R} symbols a b i None kth some to from = not_found symbols (slice_get (sorted_range symbols a b) i) (λ narrow. elim (cases_lt (length symbols.items) b) [
+kth_replies symbols a b i (Some x) kth some =
+    let inside = some.0 refl in
+    found symbols (slice_get (sorted_range symbols a b) i) x inside.0
+    (ap (λ l. slice_get l i) (inside_range symbols a b inside.1) ∙ kth_found (slice_range symbols.items a b) i x (omega (arith, part_length symbols.items a b inside.1, inside.2)) kth)
+kth_replies symbols a b i None kth some = not_found symbols (slice_get (sorted_range symbols a b) i) (λ narrow. elim (cases_lt (length symbols.items) b) [
   | inl past ↦ ap (λ l. slice_get l i) (past_range symbols a b past) ∙ slice_get_past [] i (omega arith)
   | inr within ↦ elim (cases_lt (a + i) b) [
-    | inl order ↦ absurd (no_some some.1 (narrow, from within order))
+    | inl so_many ↦ absurd (no_some some.1 (narrow, within, so_many))
     | inr few ↦
         let xs : List ℕ = slice_range symbols.items a b in
         ap (λ l. slice_get l i) (inside_range symbols a b within) ∙ slice_get_past (by_size xs) i (omega (arith, length-by_size xs, part_length symbols.items a b within))
   ]
 ])
+
+-- the same of a member that each range has which is not empty
+pub member_replies : (symbols : Symbols) (a b i : ℕ) (r : Option ℕ) → IfSome r (λ x. IsKth (slice_range symbols.items a b) i x)
+    → IsSome r ↔ (symbols.width ≤ 64) × (a < b) × (b ≤ length symbols.items) → (a < b → a + i < b)
+    → number_or_absent r ≡ if_numbers symbols (number_or_absent (slice_get (sorted_range symbols a b) i))
+member_replies symbols a b i r kth some has =
+    kth_replies symbols a b i r kth (λ is. let inside = some.0 is in (inside.0, inside.2, has inside.1), λ inside. some.1 (inside.0, omega (arith, inside.2), inside.1))
 
 -- ---- neighbours of a symbol in a range
 

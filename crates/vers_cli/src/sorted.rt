@@ -74,7 +74,7 @@ pub fn members_left<A: Allocator + Copy, S: Source<Item = u64>>(
     alloc: A,
     members: BothEnds<S>,
 ) -> Result<Vec<u64, A>, AllocError>
-    ensures { IfOk result (λ numbers. numbers.items ≡ members.entry.left) }
+    ensures { IfOk result (λ numbers. numbers.items ≡ members.left) }
 {
     // `collect` alone would go on where room for all at once is refused.
     let mut numbers = Vec::with_capacity(alloc, members.len())?;
