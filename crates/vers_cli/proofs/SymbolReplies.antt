@@ -1,6 +1,6 @@
 -- What queries of symbols find, as functions of the list.
-use Rattle.std.proofs.Common.{◌≡◌, ℕ, ◌+◌, ◌-◌, ◌/◌, ◌<◌, ◌≤◌, Bool, true, false, ltb, leb, eqb, cond, List, [], ◌∷◌, length, drop, get_or, slice_get, Option, Some, None, refl, sym, ap, ◌∙◌, arith, inl, inr}
-use Rattle.std.specs.Prelude.{◌↔◌, ◌||◌, slice_range, slice_index, IsSome, IfSome, Contains, Any}
+use Rattle.std.proofs.Common.{◌≡◌, ℕ, ◌+◌, ◌-◌, ◌<◌, ◌≤◌, Bool, true, false, ltb, eqb, cond, List, [], ◌∷◌, length, drop, get_or, slice_get, Option, Some, None, refl, sym, ap, ◌∙◌, arith, inl, inr}
+use Rattle.std.specs.Prelude.{◌↔◌, ◌||◌, slice_range, slice_index, IsSome, IfSome, Any}
 use Rattle.std.specs.List.{count_by, list_any, range_with_len}
 use Rattle.std.specs.List.Sorted.{IsNonDecreasing}
 use Rattle.std.proofs.lemmas.Bool.{cases_lt, le-leb, lt-leb, lt-ltb, eq-eqb, eqb-true}
@@ -14,7 +14,7 @@ use Rattle.vers_sorted.specs.Sorted.{below, greatest_not_above, least_not_below}
 use Rattle.vers_sorted.proofs.PublicLaws.{below_le, below_before, below_after, least_not_below_is, greatest_not_above_some, greatest_not_above_none}
 use Rattle.vers_wavelet.specs.Symbols.{Symbols, occurrences, by_size, IsKth, IsPredecessor, IsSuccessor}
 use Rattle.vers_wavelet.proofs.PublicLaws.{by_size_ascends, count_by_size, length-by_size, kth_at}
-use Rattle.vers_cli.specs.Reply.{PlainReply, Absent, Number, number_or_absent}
+use Rattle.vers_cli.specs.Reply.{number_or_absent}
 use Rattle.vers_cli.specs.SymbolsLines.{if_numbers, low_bits_of, places_of, place_from, sorted_range}
 
 -- ---- in ascending order a list has the same members
@@ -187,7 +187,6 @@ member_replies symbols a b i r kth some has =
     kth_replies symbols a b i r kth (λ is. let inside = some.0 is in (inside.0, inside.2, has inside.1), λ inside. some.1 (inside.0, omega (arith, inside.2), inside.1))
 
 -- ---- neighbours of a symbol in a range
-
 
 pub predecessor_replies : (symbols : Symbols) (a b s : ℕ) (r : Option ℕ) → IfSome r (λ x. IsPredecessor (slice_range symbols.items a b) (low_bits_of symbols s) x)
     → IsSome r ↔ (symbols.width ≤ 64) × (a ≤ b) × (b ≤ length symbols.items) × Any (λ y. y ≤ low_bits_of symbols s) (slice_range symbols.items a b)
