@@ -2,18 +2,22 @@
 use Rattle.std.specs.Prelude.{◌≡◌, ℕ, ◌++◌, pos, negsuc, true, false, List, [], ◌∷◌, codes, Some, None, refl}
 use Rattle.std.specs.Fmt.{digits}
 use Rattle.vers_bits.specs.Bits.{count, places, select}
-use Rattle.vers_sorted.specs.Sorted.{below}
+use Rattle.vers_sorted.specs.Sorted.{below, greatest_not_above, least_not_below}
 use Rattle.vers_sorted.specs.Ones.{ones_at}
+use Rattle.vers_wavelet.specs.Symbols.{occurrences}
+use Rattle.vers_wavelet.specs.Makers.{low_symbols}
 use Rattle.vers_trees.specs.Excess.{excess, first_rise_after, last_rise_before, enclosing}
 use Rattle.vers_cli.specs.declared.name.Name.TheVariants.{Query}
-use Rattle.vers_cli.specs.declared.name.Query.TheVariants.{Rank1, Tree}
+use Rattle.vers_cli.specs.declared.name.Query.TheVariants.{Rank1, Tree, Symbols}
 use Rattle.vers_cli.specs.declared.name.TreeQuery.TheVariants.{Place, Search}
 use Rattle.vers_cli.specs.declared.name.PlaceQuery.TheVariants.{Open}
 use Rattle.vers_cli.specs.declared.name.SearchQuery.TheVariants.{BwdSearch}
+use Rattle.vers_cli.specs.declared.name.SymbolsQuery.TheVariants.{Range}
+use Rattle.vers_cli.specs.declared.name.RangeQuery.TheVariants.{RangeMedianU64}
 use Rattle.vers_cli.specs.Text.{number_of, signed_number_of, words_of, whole_lines, last_part, lines_of}
-use Rattle.vers_cli.specs.Arguments.{bits_of, two_numbers, number_and_signed, all_numbers}
+use Rattle.vers_cli.specs.Arguments.{bits_of, two_numbers, three_numbers, number_and_signed, all_numbers}
 use Rattle.vers_cli.specs.Name.{name_of}
-use Rattle.vers_cli.specs.Holding.{Holding, Nothing, BitsHeld, SortedHeld, SparseHeld, ValuesHeld, TreeHeld}
+use Rattle.vers_cli.specs.Holding.{Holding, Nothing, BitsHeld, SortedHeld, SparseHeld, ValuesHeld, TreeHeld, SymbolsHeld}
 use Rattle.vers_cli.specs.ValuesLines.{places_between, first_least}
 use Rattle.vers_cli.specs.TreeLines.{are_balanced}
 use Rattle.vers_cli.specs.Answers.{answer_to_words, answer_to, holding_after_words, holding_after, answers_to}
@@ -303,6 +307,77 @@ answer-excess_0 = refl
 pub answer-excess_2 : answer_to (TreeHeld (false ∷ true ∷ [])) (codes "excess 2") ≡ ended (codes "refused")
 unfolding answer_to_words number_of
 answer-excess_2 = refl
+
+-- a line with three arguments
+pub three_numbers-some : three_numbers (codes "0" ∷ codes "3" ∷ codes "4" ∷ []) ≡ Some (0, 3, 4)
+unfolding number_of
+three_numbers-some = refl
+
+pub three_numbers-two : three_numbers (codes "0" ∷ codes "3" ∷ []) ≡ None
+unfolding number_of
+three_numbers-two = refl
+
+pub name_of-range_median_u64 : name_of (codes "range_median_u64") ≡ Some (Query (Symbols (Range RangeMedianU64)))
+name_of-range_median_u64 = refl
+
+-- the symbols 1, 5 and 3 of three bits each, held
+abbrev held_153 : Holding
+held_153 = SymbolsHeld (record { width = 3; items = 1 ∷ 5 ∷ 3 ∷ [] })
+
+pub held-symbols_153 : holding_after held_0110 (codes "symbols 3 1 5 3") ≡ held_153
+unfolding holding_after_words number_of low_symbols
+held-symbols_153 = refl
+
+-- the low bits of each number count, and symbols of no bits are none
+pub held-symbols_9_2 : holding_after held_0110 (codes "symbols 1 9 2") ≡ SymbolsHeld (record { width = 1; items = 1 ∷ 0 ∷ [] })
+unfolding holding_after_words number_of low_symbols
+held-symbols_9_2 = refl
+
+pub answer-symbols_0 : answer_to held_153 (codes "symbols 0 7 7") ≡ ended (codes "0")
+unfolding answer_to_words number_of low_symbols digits
+answer-symbols_0 = refl
+
+-- a width of more than 64 bits, and a line without a width
+pub answer-symbols_65 : answer_to held_153 (codes "symbols 65 1") ≡ ended (codes "refused")
+unfolding answer_to_words number_of
+answer-symbols_65 = refl
+
+pub answer-no_width : answer_to held_153 (codes "symbols") ≡ ended (codes "bad line")
+unfolding answer_to_words
+answer-no_width = refl
+
+pub answer-iter_sorted_u64 : answer_to held_153 (codes "iter_sorted_u64") ≡ ended (codes "1 3 5")
+unfolding answer_to_words digits
+answer-iter_sorted_u64 = refl
+
+pub answer-rank_u64_3_11 : answer_to held_153 (codes "rank_u64 3 11") ≡ ended (codes "1")
+unfolding answer_to_words number_of occurrences digits
+answer-rank_u64_3_11 = refl
+
+pub answer-select_u64_0_3 : answer_to held_153 (codes "select_u64 0 3") ≡ ended (codes "2")
+unfolding answer_to_words number_of occurrences digits
+answer-select_u64_0_3 = refl
+
+pub answer-predecessor_u64_4 : answer_to held_153 (codes "predecessor_u64 0 3 4") ≡ ended (codes "3")
+unfolding answer_to_words number_of greatest_not_above digits
+answer-predecessor_u64_4 = refl
+
+pub answer-successor_u64_4 : answer_to held_153 (codes "successor_u64 0 3 4") ≡ ended (codes "5")
+unfolding answer_to_words number_of least_not_below digits
+answer-successor_u64_4 = refl
+
+pub answer-range_median_u64_0_2 : answer_to held_153 (codes "range_median_u64 0 2") ≡ ended (codes "1")
+unfolding answer_to_words number_of digits
+answer-range_median_u64_0_2 = refl
+
+-- a range that begins past the last place, and one that ends before it begins
+pub answer-rank_range_u64_3_3 : answer_to held_153 (codes "rank_range_u64 3 3 1") ≡ ended (codes "none")
+unfolding answer_to_words number_of
+answer-rank_range_u64_3_3 = refl
+
+pub answer-range_max_u64_3_2 : answer_to held_153 (codes "range_max_u64 3 2") ≡ ended (codes "none")
+unfolding answer_to_words number_of
+answer-range_max_u64_3_2 = refl
 
 -- a line without words has no answer
 pub answer-no_words : answer_to held_0110 (codes "  ") ≡ []

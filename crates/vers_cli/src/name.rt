@@ -9,6 +9,7 @@ pub enum Load {
     Sparse,
     Values,
     Tree,
+    Symbols,
 }
 
 /// The first word of a query line.
@@ -28,6 +29,7 @@ pub enum Query {
     Iter1,
     RangeMin,
     Tree(TreeQuery),
+    Symbols(SymbolsQuery),
 }
 
 /// The first word of a query line of parentheses, by the arguments that it takes.
@@ -67,6 +69,53 @@ pub enum SearchQuery {
     BwdSearch,
 }
 
+/// The first word of a query line of symbols, by the arguments that it takes. All are numbers.
+#[derive(Clone, Copy, Drop)]
+pub enum SymbolsQuery {
+    /// Of all symbols: no argument.
+    All(AllQuery),
+    /// Of the symbol at a place: the place.
+    GetU64,
+    /// Of the places of a symbol: a number, and the symbol.
+    Symbol(SymbolQuery),
+    /// Of a range: its start and its end.
+    Range(RangeQuery),
+    /// Of a range, or of what stands from a place on: three numbers.
+    Within(WithinQuery),
+}
+
+/// A query of all symbols.
+#[derive(Clone, Copy, Drop)]
+pub enum AllQuery {
+    IterU64,
+    IterSortedU64,
+}
+
+/// A query of the places of a symbol.
+#[derive(Clone, Copy, Drop)]
+pub enum SymbolQuery {
+    RankU64,
+    SelectU64,
+}
+
+/// A query of a range of symbols.
+#[derive(Clone, Copy, Drop)]
+pub enum RangeQuery {
+    RangeMinU64,
+    RangeMaxU64,
+    RangeMedianU64,
+}
+
+/// A query of a range of symbols, or of those from a place on, with one number more.
+#[derive(Clone, Copy, Drop)]
+pub enum WithinQuery {
+    RankRangeU64,
+    SelectOffsetU64,
+    QuantileU64,
+    PredecessorU64,
+    SuccessorU64,
+}
+
 /// The first word of a line.
 #[derive(Clone, Copy, Drop)]
 pub enum Name {
@@ -76,7 +125,7 @@ pub enum Name {
 
 /// All names, and how they are written. It is the one table of names: the contract of `Name::of`
 /// reads it too.
-pub const NAMES: [(&[u8], Name); 29] = [
+pub const NAMES: [(&[u8], Name); 43] = [
     (b"bits", Name::Load(Load::Bits)),
     (b"sorted", Name::Load(Load::Sorted)),
     (b"sparse", Name::Load(Load::Sparse)),
@@ -138,6 +187,59 @@ pub const NAMES: [(&[u8], Name); 29] = [
     (
         b"bwd_search",
         Name::Query(Query::Tree(TreeQuery::Search(SearchQuery::BwdSearch))),
+    ),
+    (b"symbols", Name::Load(Load::Symbols)),
+    (
+        b"iter_u64",
+        Name::Query(Query::Symbols(SymbolsQuery::All(AllQuery::IterU64))),
+    ),
+    (
+        b"iter_sorted_u64",
+        Name::Query(Query::Symbols(SymbolsQuery::All(AllQuery::IterSortedU64))),
+    ),
+    (
+        b"get_u64",
+        Name::Query(Query::Symbols(SymbolsQuery::GetU64)),
+    ),
+    (
+        b"rank_u64",
+        Name::Query(Query::Symbols(SymbolsQuery::Symbol(SymbolQuery::RankU64))),
+    ),
+    (
+        b"select_u64",
+        Name::Query(Query::Symbols(SymbolsQuery::Symbol(SymbolQuery::SelectU64))),
+    ),
+    (
+        b"range_min_u64",
+        Name::Query(Query::Symbols(SymbolsQuery::Range(RangeQuery::RangeMinU64))),
+    ),
+    (
+        b"range_max_u64",
+        Name::Query(Query::Symbols(SymbolsQuery::Range(RangeQuery::RangeMaxU64))),
+    ),
+    (
+        b"range_median_u64",
+        Name::Query(Query::Symbols(SymbolsQuery::Range(RangeQuery::RangeMedianU64))),
+    ),
+    (
+        b"rank_range_u64",
+        Name::Query(Query::Symbols(SymbolsQuery::Within(WithinQuery::RankRangeU64))),
+    ),
+    (
+        b"select_offset_u64",
+        Name::Query(Query::Symbols(SymbolsQuery::Within(WithinQuery::SelectOffsetU64))),
+    ),
+    (
+        b"quantile_u64",
+        Name::Query(Query::Symbols(SymbolsQuery::Within(WithinQuery::QuantileU64))),
+    ),
+    (
+        b"predecessor_u64",
+        Name::Query(Query::Symbols(SymbolsQuery::Within(WithinQuery::PredecessorU64))),
+    ),
+    (
+        b"successor_u64",
+        Name::Query(Query::Symbols(SymbolsQuery::Within(WithinQuery::SuccessorU64))),
     ),
 ];
 

@@ -8,10 +8,10 @@ use vers_cli::RunError;
 
 // Every load line and every query with a list as its answer, and load lines that are refused.
 const INPUT: &[u8] =
-    b"bits 0110\nrank1 3\nsorted 3 1\nsorted 4 4 9\niter\nfoo\nvalues 9 6 10\nrange_min 0 2\nsparse 3 3\nsparse 5 1 3\niter1\nget 9\ntree 1x\ntree 110100\ndfs_iter\nbwd_search 4 -2\nexcess 6\nsize";
+    b"bits 0110\nrank1 3\nsorted 3 1\nsorted 4 4 9\niter\nfoo\nvalues 9 6 10\nrange_min 0 2\nsparse 3 3\nsparse 5 1 3\niter1\nget 9\ntree 1x\ntree 110100\ndfs_iter\nbwd_search 4 -2\nexcess 6\nsize\nsymbols 65 1\nsymbols 3 1 5 3\niter_u64\niter_sorted_u64\nrank_u64 3 11";
 
 const OUTPUT: &[u8] =
-    b"4\n2\nrefused\n3\n4 4 9\nbad line\n3\n1\nrefused\n5\n1 3\nnone\nbad line\n6\n0 1 3\n0\nrefused\n3\n";
+    b"4\n2\nrefused\n3\n4 4 9\nbad line\n3\n1\nrefused\n5\n1 3\nnone\nbad line\n6\n0 1 3\n0\nrefused\n3\nrefused\n3\n1 5 3\n1 3 5\n1\n";
 
 // A run whose request of this number is refused, if it comes so far: how many bytes of whole
 // answer lines it wrote, or None where it ended with no request refused.
@@ -73,6 +73,8 @@ fn refused_load_lines(rt: HostRuntime) -> Result<(), Fail> {
         b"sparse 5 3 3",
         b"sparse 5 3 1",
         b"sparse 18446744073709551615 18446744073709551615",
+        b"symbols 65 1",
+        b"symbols 18446744073709551615",
     ] {
         let mut input = Vec::new(rt.alloc());
         input.extend_from_slice(b"bits 0110\n")?;
