@@ -35,3 +35,5 @@ pub mod Roots
 pub mod Queries
 pub mod Building
 pub mod AsTree
+pub mod NodeLaws
+pub mod PublicLaws

@@ -2,6 +2,7 @@
 //! checked with the crate.
 ghost use Rattle.vers_trees.specs.Laws.{ForwardFindsFirst, BackwardFindsLast, OneForest, CloseFindsPair, OpenFindsPair, OpenUndoesClose, CloseUndoesOpen};
 ghost use Rattle.vers_trees.specs.WalkLaws.{PreorderOpensInOrder, PostorderClosesInOrder, OnesAreNodes};
+ghost use Rattle.vers_trees.specs.NodeLaws.{NodeIffOne};
 
 /// A search forwards finds the first place after the one asked for at which the excess has risen so.
 #[tactic(auto, using(crate::proofs::Matching::searches))]
@@ -61,4 +62,10 @@ pub fn postorder_closes_in_order()
 #[tactic(auto, using(crate::proofs::WalksOfNodes::handles))]
 pub fn ones_are_nodes()
     ensures { OnesAreNodes }
+{}
+
+/// In balanced parentheses a node opens at each place that holds a one, and nowhere else.
+#[tactic(auto, using(crate::proofs::NodeLaws::node_laws))]
+pub fn node_iff_one()
+    ensures { NodeIffOne }
 {}

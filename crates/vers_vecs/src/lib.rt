@@ -118,7 +118,7 @@ pub mod laws {
     pub mod trees {
         pub use vers_trees::laws::{
             backward_finds_last, close_finds_pair, close_undoes_open, forward_finds_first,
-            one_forest, ones_are_nodes, open_finds_pair, open_undoes_close,
+            node_iff_one, one_forest, ones_are_nodes, open_finds_pair, open_undoes_close,
             postorder_closes_in_order, preorder_opens_in_order,
         };
     }
