@@ -36,4 +36,5 @@ pub mod Queries
 pub mod Building
 pub mod AsTree
 pub mod NodeLaws
+pub mod ReadLaws
 pub mod PublicLaws

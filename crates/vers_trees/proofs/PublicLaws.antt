@@ -1,9 +1,9 @@
 -- The laws that proofs of other crates may cite. A crate above imports this file and no other of this folder.
-use Rattle.std.proofs.Common.{◌≡◌, ℕ, ◌↔◌, Bool, true, false, List, get_or, Some}
-use Rattle.std.specs.Prelude.{slice_get, option_map}
+use Rattle.std.proofs.Common.{◌≡◌, ℕ, ◌+◌, ◌-◌, ◌≤◌, ◌↔◌, Bool, true, false, List, length, get_or, Some, None}
+use Rattle.std.specs.Prelude.{slice_get, option_map, Contains}
 use Rattle.vers_bits.specs.Bits.{bit_value}
-use Rattle.vers_trees.specs.Forest.{IsBalanced, forest_of}
-use Rattle.vers_trees.specs.Nodes.{IsNode}
+use Rattle.vers_trees.specs.Forest.{Forest, IsBalanced, forest_of}
+use Rattle.vers_trees.specs.Nodes.{nodes, IsNode, depth, level, last_of, next_of, previous_of}
 use Rattle.vers_trees.proofs.NodeLaws as NodeLaws
 
 -- ---- nodes
@@ -19,3 +19,24 @@ node_iff_bit = NodeLaws.node_iff_bit
 -- the same, by what `get` answers
 pub node_iff_got : (bits : List Bool) (v : ℕ) → IsBalanced bits → IsNode (forest_of bits) v ↔ (option_map bit_value (slice_get bits v) ≡ Some 1)
 node_iff_got = NodeLaws.node_iff_got
+
+-- ---- levels
+
+-- a level holds the nodes of its depth, and nothing else
+pub level_iff_depth : (F : Forest) (d v : ℕ) → Contains (level F d) v ↔ (IsNode F v × (depth F v ≡ d))
+level_iff_depth = NodeLaws.level_iff_depth
+
+-- the member of number i of a level is a node of its depth, and the next one on the level is the member after it
+pub levels_go_on : (F : Forest) (d i v : ℕ) → slice_get (level F d) i ≡ Some v
+    → IsNode F v × (depth F v ≡ d) × (next_of (level F d) v ≡ slice_get (level F d) (i + 1))
+levels_go_on = NodeLaws.levels_go_on
+
+-- the one before on the level is the member before it, and before the first there is none; the last has the greatest number
+pub levels_go_back : (F : Forest) (d : ℕ) → (last_of (level F d) ≡ slice_get (level F d) (length (level F d) - 1))
+    × ((v : ℕ) → slice_get (level F d) 0 ≡ Some v → previous_of (level F d) v ≡ None)
+    × ((i v : ℕ) → slice_get (level F d) (i + 1) ≡ Some v → previous_of (level F d) v ≡ slice_get (level F d) i)
+levels_go_back = NodeLaws.levels_go_back
+
+-- no level has more members than the forest has nodes
+pub levels_are_parts : (F : Forest) (d : ℕ) → length (level F d) ≤ length (nodes F)
+levels_are_parts = NodeLaws.levels_are_parts
