@@ -36,5 +36,6 @@ pub mod Queries
 pub mod Building
 pub mod AsTree
 pub mod NodeLaws
+pub mod LevelWalks
 pub mod ReadLaws
 pub mod PublicLaws

@@ -8,6 +8,7 @@ pub mod WalkReads
 pub mod Laws
 pub mod WalkLaws
 pub mod NodeLaws
+pub mod LevelWalks
 pub mod ReadLaws
 pub mod Rows
 pub mod NodeRows
