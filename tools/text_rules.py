@@ -8,7 +8,8 @@
 - Each word of a crate's `specs/` that the contract of a public function cites stands in `docs/DEFINITIONS.md`, in backticks.
 - `let _ =` is a mention for the prover, of a field (`&self.len`) or of a length (`high.len()`), and nothing else.
 - Documents and comments are in plain English: `UNPLAIN` has the phrases that aren't, with those to write instead.
-- Of the proofs of a crate below, a crate imports the page of laws (`PublicLaws`) alone, and of its `specs/inside` nothing.
+- Of the proofs of a crate below, a crate imports the page of laws (`PublicLaws`) alone, or one that its `proofs/Lib.antt`
+  passes on under another name, and of its `specs/inside` nothing.
 - What only proofs need stands in `specs/inside`: no contract of a public function and no other page of `specs/` cites a word of it.
 - What is said to stand on the contracts of another part of its crate imports nothing of that part's inside: `ON_CONTRACTS`.
 
@@ -43,6 +44,7 @@ DROPPED = re.compile(r"\blet _ = ([^;]*);")
 MENTION = re.compile(r"&\w+(?:\.\w+)+|\w+(?:\.\w+)*\.len\(\)")
 # the page of a crate's `proofs/` that crates above may import
 PAGE_OF_LAWS = "PublicLaws"
+PASSED_ON = re.compile(rf"(?m)^pub use Rattle\.\w+\.proofs\.{PAGE_OF_LAWS} as (\w+)$")
 FOREIGN = re.compile(r"\b(\w+)(?:\.|::)(proofs|specs)(?:\.|::)(\w+)(?:(?:\.|::)(\w+))?")
 # proofs that stand on the contracts of a part of their own crate, and the files of that part's inside
 ON_CONTRACTS = {
@@ -109,16 +111,23 @@ def unplain(path, text):
             yield f"{path}:{text.count(chr(10), 0, found.start()) + 1}: says `{phrase}`; write `{instead}`"
 
 
-def imported_insides(path, text, crates):
-    """Yields a line for each import of what a crate, or a part of it, keeps to itself."""
+def pages_of_laws(top, crate, files):
+    """Returns the names of the pages of laws that proofs of other crates may import from a crate."""
+    library = f"crates/{crate}/proofs/Lib.antt"
+    passed_on = PASSED_ON.findall(read(os.path.join(top, library))) if library in files else []
+    return {PAGE_OF_LAWS, *passed_on}
+
+
+def imported_insides(path, text, pages):
+    """Yields a line for each import of what a crate, or a part of it, keeps to itself; `pages` are each crate's pages of laws."""
     own = path.split("/")[1]
     for found in FOREIGN.finditer(text):
         crate, folder, name, part = found.groups()
         line = f"{path}:{text.count(chr(10), 0, found.start()) + 1}"
         if crate == own and name == "inside" and re.fullmatch(rf"crates/{own}/specs/\w+\.antt", path):
             yield f"{line}: a word of public contracts stands on `{folder}.{name}.{part}`, which only proofs need"
-        elif crate in crates and crate != own:
-            if name == "inside" or folder == "proofs" and name != PAGE_OF_LAWS:
+        elif crate in pages and crate != own:
+            if name == "inside" or folder == "proofs" and name not in pages[crate]:
                 allowed = f"`{PAGE_OF_LAWS}`" if folder == "proofs" else "its other words"
                 yield f"{line}: imports `{folder}.{name}` of {crate}; allowed: {allowed}"
         elif crate in (own, "crate") and {name, part} & ON_CONTRACTS.get(path, set()):
@@ -251,6 +260,7 @@ def faults(top):
             yield from undefined(crate, sources_of(top, crate, files), defined)
         except Unread as form:
             yield f"crates/{crate}: {form.what}, which `rattle_items.py` can't read"
+    pages = {crate: pages_of_laws(top, crate, files) for crate in there}
     for path in files:
         if not path.endswith(TEXTS) and os.path.basename(path) not in ("test", "vers", "run"):
             continue
@@ -262,7 +272,7 @@ def faults(top):
         if path.endswith((".md", ".rt")):
             yield from unplain(path, text)
         if path.startswith("crates/") and path.endswith((".antt", ".rt")):
-            yield from imported_insides(path, text, there)
+            yield from imported_insides(path, text, pages)
         if path.endswith(".md"):
             for link in LINK.finditer(text):
                 if not os.path.exists(os.path.join(top, os.path.dirname(path), link[1])):
@@ -279,8 +289,10 @@ GOOD = {
     "crates/low/specs/More.antt": "use Rattle.low.specs.Less.{less}\n",
     "crates/low/proofs/PublicLaws.antt": "use Rattle.low.proofs.Own.{law}\n",
     "crates/high/src/lib.rt": "//! A crate above.\nghost use Rattle.low.specs.More.{more};\n",
+    "crates/high/proofs/Lib.antt": "pub mod More\npub use Rattle.low.proofs.PublicLaws as LowLaws\n",
     "crates/high/proofs/More.antt": "use Rattle.low.proofs.PublicLaws.{law}\nuse Rattle.high.proofs.Own.{law}\n",
     "crates/vers_rmq/proofs/Blocks.antt": "use Rattle.vers_rmq.proofs.Minima.{law}\n",
+    "crates/vers_rmq/proofs/More.antt": "use Rattle.high.proofs.LowLaws.{law}\n",
 }
 # what is wanted to be said, and the change to the good repository that asks for it
 BREAKS = {
@@ -295,6 +307,7 @@ BREAKS = {
     "cites `more`": ("docs/DEFINITIONS.md", "`more x`", "More"),
     "cites `less`": ("crates/low/src/lib.rt", "{more}", "{less as more}"),
     "imports `proofs.Own` of low": ("crates/high/proofs/More.antt", "low.proofs.PublicLaws", "low.proofs.Own"),
+    "imports `proofs.LowLaws` of high": ("crates/high/proofs/Lib.antt", "low.proofs.PublicLaws", "low.proofs.Own"),
     "imports `specs.inside` of low": ("crates/high/src/lib.rt", "low.specs.More", "low.specs.inside.More"),
     "stands on `specs.inside.Part`": ("crates/low/specs/More.antt", "specs.Less", "specs.inside.Part"),
     "cites `more` of `specs/inside`": ("crates/low/src/lib.rt", "specs.More", "specs.inside.More"),

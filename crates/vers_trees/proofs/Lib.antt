@@ -35,3 +35,7 @@ pub mod Roots
 pub mod Queries
 pub mod Building
 pub mod AsTree
+pub mod NodeLaws
+pub mod LevelWalks
+pub mod ReadLaws
+pub mod PublicLaws

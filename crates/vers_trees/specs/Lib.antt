@@ -7,6 +7,9 @@ pub mod Layout
 pub mod WalkReads
 pub mod Laws
 pub mod WalkLaws
+pub mod NodeLaws
+pub mod LevelWalks
+pub mod ReadLaws
 pub mod Rows
 pub mod NodeRows
 pub mod inside
