@@ -15,10 +15,17 @@ const OUTPUT: &[u8] =
 
 // A run whose request of this number is refused, if it comes so far: how many bytes of whole
 // answer lines it wrote, or None where it ended with no request refused.
-fn refused_at(rt: &impl Abort, alloc: Global, piece: usize, request: u64) -> Option<usize> {
+fn refused_at(
+    rt: &impl Abort,
+    alloc: Global,
+    case: (&[u8], &[u8]),
+    piece: usize,
+    request: u64,
+) -> Option<usize> {
+    let (input, output) = case;
     let heap = Refusing::nth(alloc, request);
     let reader = FailingReader {
-        rest: INPUT,
+        rest: input,
         piece,
         fails_at: 0,
         reads: 0,
@@ -29,34 +36,44 @@ fn refused_at(rt: &impl Abort, alloc: Global, piece: usize, request: u64) -> Opt
     let text = end.writer.as_slice();
     if heap.refused() == 0 {
         assert_eq!(rt; end.result, Ok(()));
-        assert_eq!(rt; text, OUTPUT);
+        assert_eq!(rt; text, output);
         assert_eq!(rt; heap.asked(), heap.freed());
         return None;
     }
     assert_eq!(rt; end.result, Err(RunError::Memory));
-    assert!(rt; OUTPUT.starts_with(text));
+    assert!(rt; output.starts_with(text));
     assert!(rt; text.is_empty() || text.ends_with(b"\n"));
     assert_eq!(rt; heap.asked().saturating_sub(heap.freed()), 1);
     assert_eq!(rt; request == 1, end.reader.reads == 0);
     Some(text.len())
 }
 
-// The first request of a run is refused, then the second, and so on, until a run ends with none
-// refused. The later the request, the more answers are written.
+/// The first request of a run over an input is refused, then the second, and so on, until a run ends
+/// with none refused. The later the request, the more answers are written: how many bytes at most.
+pub fn each_request_refused(
+    rt: &impl Abort,
+    alloc: Global,
+    case: (&[u8], &[u8]),
+    piece: usize,
+) -> usize {
+    let mut undisturbed = 0u64;
+    let mut most = 0usize;
+    for request in 1..200u64 {
+        let Some(written) = refused_at(rt, alloc, case, piece, request) else {
+            undisturbed = request;
+            break;
+        };
+        assert!(rt; written >= most);
+        most = written;
+    }
+    assert!(rt; undisturbed > 10);
+    most
+}
+
 #[test]
 fn each_request_is_refused_in_turn(rt: HostRuntime) {
     for piece in [5usize, 100] {
-        let mut undisturbed = 0u64;
-        let mut most = 0usize;
-        for request in 1..200u64 {
-            let Some(written) = refused_at(&rt, rt.alloc(), piece, request) else {
-                undisturbed = request;
-                break;
-            };
-            assert!(rt; written >= most);
-            most = written;
-        }
-        assert!(rt; undisturbed > 10);
+        let most = each_request_refused(&rt, rt.alloc(), (INPUT, OUTPUT), piece);
         assert!(rt; most >= b"4\n2\nrefused\n3\n4 4 9\nbad line\n3\n1\nrefused\n".len());
     }
 }
