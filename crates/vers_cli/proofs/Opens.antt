@@ -2,7 +2,7 @@
 use Rattle.std.proofs.Common.{◌≡◌, ℕ, ◌+◌, ◌<◌, ℤ, ◌<ℤ◌, ◌≤ℤ◌, Bool, true, false, List, length, get_or, pos, refl, ap, arith}
 use Rattle.std.specs.Int.Signed.{lt_z}
 use Rattle.std.proofs.lemmas.Int.{ints}
-use Rattle.vers_bits.specs.Bits.{count, is_bit}
+use Rattle.vers_bits.specs.Bits.{is_bit}
 use Rattle.vers_bits.proofs.PublicLaws.{count_none, count_more_yes, count_more_no}
 use Rattle.vers_trees.specs.Excess.{excess}
 use Rattle.vers_cli.specs.ForestLines.{has_one}

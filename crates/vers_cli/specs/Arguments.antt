@@ -1,5 +1,5 @@
 -- The arguments of a line: its words after the first. None where they are malformed.
-use Rattle.std.specs.Prelude.{ℕ, ℤ, Bool, true, ◌||◌, ◌&&◌, ◌==◌, List, [], ◌∷◌, map, Option, Some, None, option_map, option_and_then, if◌then◌else◌}
+use Rattle.std.specs.Prelude.{ℕ, ℤ, Bool, ◌||◌, ◌==◌, List, [], ◌∷◌, map, Option, Some, None, option_map, option_and_then, if◌then◌else◌}
 use Rattle.std.specs.List.{list_all}
 pub use Rattle.vers_sorted.specs.Sorted.{each_next}
 use Rattle.vers_cli.specs.Text.{number_of, signed_number_of}

@@ -1,6 +1,6 @@
 //! What lines of balanced parentheses are answered by.
 use crate::devices::answers;
-use crate::memory::{each_request_refused, repeated};
+use crate::memory::repeated;
 use std::alloc::{AllocError, Global};
 use std::test::Fail;
 
@@ -130,18 +130,4 @@ fn a_star_over_blocks(rt: HostRuntime) -> Result<(), Fail> {
         b"1202\n1199\n3\n1197\n513\n511\n601\n600\n1\n1199\n0\n1\n1\n".as_slice()
     );
     Ok(())
-}
-
-// Each query with a list as its answer, and some of one number.
-const WALKS: &[u8] =
-    b"tree 110100\nchildren 0\nparent 3\nrev_children 0\nsubtree_iter 0\nparent 2\nsubtree_post_iter 0\ndfs_post_iter\nchildren 1\ndepth 1\n";
-
-const NODES: &[u8] = b"6\n1 3\n0\n3 1\n0 1 3\nrefused\n1 3 0\n1 3 0\n\n1\n";
-
-#[test]
-fn walks_without_memory(rt: HostRuntime) {
-    for piece in [5usize, 100] {
-        let most = each_request_refused(&rt, rt.alloc(), (WALKS, NODES), piece);
-        assert!(rt; most >= b"6\n1 3\n0\n3 1\n0 1 3\nrefused\n1 3 0\n".len());
-    }
 }
