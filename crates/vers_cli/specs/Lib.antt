@@ -9,6 +9,7 @@ pub mod BitsLines
 pub mod SortedLines
 pub mod SparseLines
 pub mod ValuesLines
+pub mod ForestLines
 pub mod TreeLines
 pub mod SymbolsLines
 pub mod Rules

@@ -7,19 +7,24 @@ use Rattle.vers_sorted.specs.Ones.{ones_at}
 use Rattle.vers_wavelet.specs.Symbols.{occurrences}
 use Rattle.vers_wavelet.specs.Makers.{low_symbols}
 use Rattle.vers_trees.specs.Excess.{excess, first_rise_after, last_rise_before, enclosing}
+use Rattle.vers_trees.specs.Forest.{forest_of}
+use Rattle.vers_trees.specs.Nodes.{closing, is_ancestor, is_proper_ancestor, depth, parent, nodes_under, level, level_ancestor, subtree, node_index}
+use Rattle.vers_trees.specs.Traversals.{subtree_post}
 use Rattle.vers_cli.specs.declared.name.Name.TheVariants.{Query}
-use Rattle.vers_cli.specs.declared.name.Query.TheVariants.{Rank1, Tree, Symbols}
+use Rattle.vers_cli.specs.declared.name.Query.TheVariants.{Rank1, Tree, Symbols, Forest}
 use Rattle.vers_cli.specs.declared.name.TreeQuery.TheVariants.{Place, Search}
 use Rattle.vers_cli.specs.declared.name.PlaceQuery.TheVariants.{Open}
 use Rattle.vers_cli.specs.declared.name.SearchQuery.TheVariants.{BwdSearch}
 use Rattle.vers_cli.specs.declared.name.SymbolsQuery.TheVariants.{Range}
 use Rattle.vers_cli.specs.declared.name.RangeQuery.TheVariants.{RangeMedianU64}
+use Rattle.vers_cli.specs.declared.name.ForestQuery.TheVariants.{Level, LevelAncestor}
+use Rattle.vers_cli.specs.declared.name.LevelQuery.TheVariants.{LevelRightmost}
 use Rattle.vers_cli.specs.Text.{number_of, signed_number_of, words_of, whole_lines, last_part, lines_of}
 use Rattle.vers_cli.specs.Arguments.{bits_of, two_numbers, three_numbers, number_and_signed, all_numbers}
 use Rattle.vers_cli.specs.Name.{name_of}
 use Rattle.vers_cli.specs.Holding.{Holding, Nothing, BitsHeld, SortedHeld, SparseHeld, ValuesHeld, TreeHeld, SymbolsHeld}
 use Rattle.vers_cli.specs.ValuesLines.{places_between, first_least}
-use Rattle.vers_cli.specs.TreeLines.{are_balanced}
+use Rattle.vers_cli.specs.ForestLines.{are_balanced}
 use Rattle.vers_cli.specs.Answers.{answer_to_words, answer_to, holding_after_words, holding_after, answers_to}
 
 -- a text with the end of a line
@@ -122,6 +127,12 @@ name_of-open = refl
 
 pub name_of-bwd_search : name_of (codes "bwd_search") ≡ Some (Query (Tree (Search BwdSearch)))
 name_of-bwd_search = refl
+
+pub name_of-level_ancestor : name_of (codes "level_ancestor") ≡ Some (Query (Forest LevelAncestor))
+name_of-level_ancestor = refl
+
+pub name_of-level_rightmost : name_of (codes "level_rightmost") ≡ Some (Query (Forest (Level LevelRightmost)))
+name_of-level_rightmost = refl
 
 pub bits_of-none : bits_of [] ≡ Some []
 bits_of-none = refl
@@ -378,6 +389,60 @@ answer-rank_range_u64_3_3 = refl
 pub answer-range_max_u64_3_2 : answer_to held_153 (codes "range_max_u64 3 2") ≡ ended (codes "none")
 unfolding answer_to_words number_of
 answer-range_max_u64_3_2 = refl
+
+-- the nodes of a forest
+pub answer-children_0 : answer_to held_tree (codes "children 0") ≡ ended (codes "1 3")
+unfolding answer_to_words number_of digits forest_of closing is_ancestor is_proper_ancestor depth parent nodes_under level level_ancestor subtree node_index
+answer-children_0 = refl
+
+pub answer-children_1 : answer_to held_tree (codes "children 1") ≡ ended ([])
+unfolding answer_to_words number_of digits forest_of closing is_ancestor is_proper_ancestor depth parent nodes_under level level_ancestor subtree node_index
+answer-children_1 = refl
+
+pub answer-rev_children_0 : answer_to held_tree (codes "rev_children 0") ≡ ended (codes "3 1")
+unfolding answer_to_words number_of digits forest_of closing is_ancestor is_proper_ancestor depth parent nodes_under level level_ancestor subtree node_index
+answer-rev_children_0 = refl
+
+pub answer-dfs_post_iter : answer_to held_tree (codes "dfs_post_iter") ≡ ended (codes "1 3 0")
+unfolding answer_to_words digits forest_of
+answer-dfs_post_iter = refl
+
+pub answer-subtree_post_iter_0 : answer_to held_tree (codes "subtree_post_iter 0") ≡ ended (codes "1 3 0")
+unfolding answer_to_words number_of digits forest_of closing is_ancestor is_proper_ancestor depth parent nodes_under level level_ancestor subtree node_index subtree_post
+answer-subtree_post_iter_0 = refl
+
+pub answer-depth_3 : answer_to held_tree (codes "depth 3") ≡ ended (codes "1")
+unfolding answer_to_words number_of digits forest_of closing is_ancestor is_proper_ancestor depth parent nodes_under level level_ancestor subtree node_index
+answer-depth_3 = refl
+
+pub answer-is_leaf_3 : answer_to held_tree (codes "is_leaf 3") ≡ ended (codes "1")
+unfolding answer_to_words number_of digits forest_of closing is_ancestor is_proper_ancestor depth parent nodes_under level level_ancestor subtree node_index
+answer-is_leaf_3 = refl
+
+pub answer-is_ancestor_1_3 : answer_to held_tree (codes "is_ancestor 1 3") ≡ ended (codes "0")
+unfolding answer_to_words number_of digits forest_of closing is_ancestor is_proper_ancestor depth parent nodes_under level level_ancestor subtree node_index
+answer-is_ancestor_1_3 = refl
+
+pub answer-level_ancestor_3_2 : answer_to held_tree (codes "level_ancestor 3 2") ≡ ended (codes "none")
+unfolding answer_to_words number_of digits forest_of closing is_ancestor is_proper_ancestor depth parent nodes_under level level_ancestor subtree node_index
+answer-level_ancestor_3_2 = refl
+
+-- a place without a one, parentheses that are not balanced, and malformed arguments, which come first
+pub answer-parent_2 : answer_to held_tree (codes "parent 2") ≡ ended (codes "refused")
+unfolding answer_to_words number_of
+answer-parent_2 = refl
+
+pub answer-parent_of_unbalanced : answer_to (TreeHeld (false ∷ true ∷ [])) (codes "parent 1") ≡ ended (codes "refused")
+unfolding answer_to_words number_of
+answer-parent_of_unbalanced = refl
+
+pub answer-level_leftmost_of_unbalanced : answer_to (TreeHeld (false ∷ true ∷ [])) (codes "level_leftmost 0") ≡ ended (codes "refused")
+unfolding answer_to_words number_of
+answer-level_leftmost_of_unbalanced = refl
+
+pub answer-parent_x_of_unbalanced : answer_to (TreeHeld (false ∷ true ∷ [])) (codes "parent x") ≡ ended (codes "bad line")
+unfolding answer_to_words number_of
+answer-parent_x_of_unbalanced = refl
 
 -- a line without words has no answer
 pub answer-no_words : answer_to held_0110 (codes "  ") ≡ []

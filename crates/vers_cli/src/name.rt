@@ -30,6 +30,7 @@ pub enum Query {
     RangeMin,
     Tree(TreeQuery),
     Symbols(SymbolsQuery),
+    Forest(ForestQuery),
 }
 
 /// The first word of a query line of parentheses, by the arguments that it takes.
@@ -116,6 +117,63 @@ pub enum WithinQuery {
     SuccessorU64,
 }
 
+/// The first word of a query line that balanced parentheses alone have, by the arguments that it
+/// takes. A node is the place where it opens.
+#[derive(Clone, Copy, Drop)]
+pub enum ForestQuery {
+    /// What is told of all nodes: no argument.
+    DfsPostIter,
+    /// A node beside another: a node.
+    Relative(RelativeQuery),
+    /// A number of a node: a node.
+    Measure(MeasureQuery),
+    /// Nodes from a node on: a node.
+    Walk(WalkQuery),
+    /// An end of a level: a depth.
+    Level(LevelQuery),
+    /// Whether the first node is an ancestor of the second: two nodes.
+    IsAncestor,
+    /// The ancestor so many levels up: a node and a number.
+    LevelAncestor,
+}
+
+/// A query for the node that stands so to a node.
+#[derive(Clone, Copy, Drop)]
+pub enum RelativeQuery {
+    Parent,
+    FirstChild,
+    LastChild,
+    NextSibling,
+    PreviousSibling,
+    LevelNext,
+    LevelPrev,
+}
+
+/// A query for a number of a node, where truth is 1 and else 0.
+#[derive(Clone, Copy, Drop)]
+pub enum MeasureQuery {
+    NodeIndex,
+    IsLeaf,
+    Depth,
+    SubtreeSize,
+}
+
+/// A query for the nodes that a walk from a node passes.
+#[derive(Clone, Copy, Drop)]
+pub enum WalkQuery {
+    Children,
+    RevChildren,
+    SubtreeIter,
+    SubtreePostIter,
+}
+
+/// A query for the first or the last node of a depth.
+#[derive(Clone, Copy, Drop)]
+pub enum LevelQuery {
+    LevelLeftmost,
+    LevelRightmost,
+}
+
 /// The first word of a line.
 #[derive(Clone, Copy, Drop)]
 pub enum Name {
@@ -125,7 +183,7 @@ pub enum Name {
 
 /// All names, and how they are written. It is the one table of names: the contract of `Name::of`
 /// reads it too.
-pub const NAMES: [(&[u8], Name); 43] = [
+pub const NAMES: [(&[u8], Name); 63] = [
     (b"bits", Name::Load(Load::Bits)),
     (b"sorted", Name::Load(Load::Sorted)),
     (b"sparse", Name::Load(Load::Sparse)),
@@ -240,6 +298,86 @@ pub const NAMES: [(&[u8], Name); 43] = [
     (
         b"successor_u64",
         Name::Query(Query::Symbols(SymbolsQuery::Within(WithinQuery::SuccessorU64))),
+    ),
+    (
+        b"parent",
+        Name::Query(Query::Forest(ForestQuery::Relative(RelativeQuery::Parent))),
+    ),
+    (
+        b"first_child",
+        Name::Query(Query::Forest(ForestQuery::Relative(RelativeQuery::FirstChild))),
+    ),
+    (
+        b"last_child",
+        Name::Query(Query::Forest(ForestQuery::Relative(RelativeQuery::LastChild))),
+    ),
+    (
+        b"next_sibling",
+        Name::Query(Query::Forest(ForestQuery::Relative(RelativeQuery::NextSibling))),
+    ),
+    (
+        b"previous_sibling",
+        Name::Query(Query::Forest(ForestQuery::Relative(RelativeQuery::PreviousSibling))),
+    ),
+    (
+        b"level_next",
+        Name::Query(Query::Forest(ForestQuery::Relative(RelativeQuery::LevelNext))),
+    ),
+    (
+        b"level_prev",
+        Name::Query(Query::Forest(ForestQuery::Relative(RelativeQuery::LevelPrev))),
+    ),
+    (
+        b"node_index",
+        Name::Query(Query::Forest(ForestQuery::Measure(MeasureQuery::NodeIndex))),
+    ),
+    (
+        b"is_leaf",
+        Name::Query(Query::Forest(ForestQuery::Measure(MeasureQuery::IsLeaf))),
+    ),
+    (
+        b"depth",
+        Name::Query(Query::Forest(ForestQuery::Measure(MeasureQuery::Depth))),
+    ),
+    (
+        b"subtree_size",
+        Name::Query(Query::Forest(ForestQuery::Measure(MeasureQuery::SubtreeSize))),
+    ),
+    (
+        b"is_ancestor",
+        Name::Query(Query::Forest(ForestQuery::IsAncestor)),
+    ),
+    (
+        b"level_ancestor",
+        Name::Query(Query::Forest(ForestQuery::LevelAncestor)),
+    ),
+    (
+        b"level_leftmost",
+        Name::Query(Query::Forest(ForestQuery::Level(LevelQuery::LevelLeftmost))),
+    ),
+    (
+        b"level_rightmost",
+        Name::Query(Query::Forest(ForestQuery::Level(LevelQuery::LevelRightmost))),
+    ),
+    (
+        b"children",
+        Name::Query(Query::Forest(ForestQuery::Walk(WalkQuery::Children))),
+    ),
+    (
+        b"rev_children",
+        Name::Query(Query::Forest(ForestQuery::Walk(WalkQuery::RevChildren))),
+    ),
+    (
+        b"subtree_iter",
+        Name::Query(Query::Forest(ForestQuery::Walk(WalkQuery::SubtreeIter))),
+    ),
+    (
+        b"subtree_post_iter",
+        Name::Query(Query::Forest(ForestQuery::Walk(WalkQuery::SubtreePostIter))),
+    ),
+    (
+        b"dfs_post_iter",
+        Name::Query(Query::Forest(ForestQuery::DfsPostIter)),
     ),
 ];
 
