@@ -40,7 +40,10 @@ def doc_above(lines, at):
 
 def clauses_of(text, start, end):
     """Returns the clauses between a head and a body, as (kind, name, fact)."""
-    return re.findall(r"(?m)^\s*(requires|ensures) (?:([a-z_]\w*) )?\{ (.*) \}\s*$", text[start:end])
+    found = re.findall(
+        r"(?ms)^\s*(requires|ensures) (?:([a-z_]\w*) )?\{ (.*?)\s\}\s*(?=^\s*(?:requires|ensures)\b|\Z)", text[start:end]
+    )
+    return [(kind, name, " ".join(fact.split())) for kind, name, fact in found]
 
 
 class Row:
@@ -56,7 +59,7 @@ class Row:
         head = text[function.start:function.start + first.start()] if first else text[function.start:body]
         self.head = re.sub(r",? \)", ")", re.sub(r"\( ", "(", " ".join(head.split()))).removeprefix("pub ").removeprefix("const ").removeprefix("fn ")
         self.doc = doc_above(lines, text.count("\n", 0, function.start))[0]
-        clauses = [(kind, name, " ".join(fact.split())) for kind, name, fact in clauses_of(text, function.start, body)]
+        clauses = clauses_of(text, function.start, body)
         self.conditions = [fact for kind, _, fact in clauses if kind == "requires"]
         self.reads = [re.sub(r"^AddsAtMost tally\.old tally\.new ", "", fact) for _, _, fact in clauses if fact.startswith("AddsAtMost tally.old")]
 
