@@ -4,7 +4,6 @@ ghost use Rattle.vers_vecs.specs.Nodes.{level};
 
 use std::alloc::{AllocError, Allocator};
 use vers_vecs::bit_vec::GrowError;
-use vers_vecs::laws::trees::levels_go_on;
 use vers_vecs::trees::{LevelTree, TreeBuilder};
 
 /// Tells a builder to enter a node for each true and to leave one for each false. Where it is
@@ -34,7 +33,6 @@ where
     ensures { IfOk result
         (λ nodes. map (T.place tree.now) nodes.items ≡ level (T.forest tree.now) depth) }
 {
-    levels_go_on();
     let mut nodes = Vec::new(alloc);
     let mut next = tree.level_leftmost(depth);
     while let Some(node) = next {
