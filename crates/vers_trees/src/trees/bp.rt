@@ -10,6 +10,7 @@ ghost use Rattle.vers_trees.specs.Layout.{tree_heap_size, search_reads, enclose_
 
 mod as_tree;
 mod builder;
+mod bytes;
 mod children;
 mod dfs_iter;
 mod into;
