@@ -1,15 +1,20 @@
 -- Whole bytes of a scan, by the entries of their tables.
-use Rattle.std.proofs.Common.{◌≡◌, ◌≢◌, ℕ, zero, suc, ◌+◌, ◌-◌, ◌*◌, ◌/◌, ◌%◌, ◌^◌, ◌<◌, ◌≤◌, Bool, true, false, List, [], ◌∷◌, ◌++◌, length, take, drop, ℤ, pos, negsuc, ◌+ℤ◌, ◌-ℤ◌, ◌≤ℤ◌, arith, ⊎_elim, sym, ap, subst, refl, inl, inr, ◌⊎◌, ◌∙◌}
+use Rattle.std.proofs.Common.{◌≡◌, ◌≢◌, ℕ, zero, suc, ◌+◌, ◌-◌, ◌*◌, ◌/◌, ◌%◌, ◌^◌, ◌<◌, ◌≤◌, Bool, true, false, List, [], ◌∷◌, ◌++◌, length, take, drop, ℤ, pos, negsuc, ◌+ℤ◌, ◌-ℤ◌, ◌≤ℤ◌, arith, ⊎_elim, sym, ap, subst, refl, Option, Some, None, FitsSigned, inl, inr, ◌⊎◌, ◌∙◌}
+use mir.Syntax.{w64}
 use Rattle.std.specs.Prelude.{count_ones}
+use Rattle.std.specs.Option.{is_some}
 use Rattle.std.proofs.lemmas.Int.{ints}
+use Rattle.std.proofs.lemmas.Bool.Decides.{nat_tests}
 use Rattle.std.proofs.lemmas.Bool.{cases_lt}
 use Rattle.std.proofs.lemmas.Nat.{mod-pow-add, shr-shr}
 use Rattle.std.proofs.lemmas.List.{take-append-drop, length-take-le, length-drop, drop-take, take_all, drop_all}
 use Rattle.vers_bits.specs.Bits.{number, part, count, limb, bit_value}
 use Rattle.vers_bits.proofs.PublicLaws.{number-lt, number-drop, count_limb, count_both, count_none}
+use Rattle.vers_rank.specs.Queries.{part_number_or_zero}
 use Rattle.vers_trees.specs.Excess.{excess}
 use Rattle.vers_trees.specs.Bytes.{IsByte, IsEntry, sum_along, place_in, least_in, greatest_in}
 use Rattle.vers_trees.specs.inside.Scans.{IsFirstRise, HasNoRise, IsLastRise, HasNoRiseBefore}
+use Rattle.vers_trees.proofs.Scans.{rise_fits}
 use Rattle.vers_trees.proofs.Excess.{excess-append_left, excess-append_right}
 
 -- ---- the eight bits at a place
@@ -190,3 +195,30 @@ backward_byte_more l p end r rise total entry h a b t none e =
         let g8 = excess-byte l p 8 (omega arith) (omega arith) in
         let here : excess l (p + (8 - (7 - (k - p) + 1))) ≡ excess l k = ap (excess l) (let g : p + (8 - (7 - (k - p) + 1)) ≡ k = omega arith in g) in
         missed true (part l p 8) entry (r -ℤ rise) (7 - (k - p)) t (λ x u v w. none x u v (omega (arith, ints))) (omega arith) (omega (arith, ints))
+
+-- ---- as the code has them
+pub word_is : (l : List Bool) (p n : ℕ) → n ≤ 64 → p + n ≤ length l → part_number_or_zero l p n ≡ Some (number (part l p n))
+unfolding part_number_or_zero
+word_is l p n few within = grind (arith, nat_tests)
+
+pub entry_ordered : (from_end : Bool) (bits : List Bool) (entry : ℕ) → IsEntry from_end bits entry → least_in entry ≤ greatest_in entry
+entry_ordered from_end bits entry e = let a = e.low 0 (omega arith) in let b = e.high 0 (omega arith) in omega (arith, ints)
+
+abbrev held : Option ℕ → ℕ
+held (Some n) = n
+held None = 0
+
+pub word_read : (l : List Bool) (p n : ℕ) (o : Option ℕ) (word : ℕ) → o ≡ part_number_or_zero l p n → o ≡ Some word → n ≤ 64 → p + n ≤ length l → word ≡ number (part l p n)
+word_read l p n o word e f few within = ap held (sym f ∙ e ∙ word_is l p n few within)
+
+pub read_some : (l : List Bool) (p n : ℕ) (o : Option ℕ) → o ≡ part_number_or_zero l p n → n ≤ 64 → p + n ≤ length l → is_some o ≡ true
+read_some l p n o e few within = ap is_some (e ∙ word_is l p n few within)
+
+pub byte_in : (l : List Bool) (s n m word : ℕ) → word ≡ number (part l s n) → m + 8 ≤ n → s + n ≤ length l → IsByte (part l (s + m) 8) (word / 2 ^ m % 256)
+byte_in l s n m word e h i = record { eight = length-byte l (s + m) (omega arith); valued = sym (byte_of_word l s n m h i) ∙ ap (λ (w : ℕ). w / 2 ^ m % 256) (sym e) }
+
+pub byte_total : (bits : List Bool) (byte : ℕ) (d : ℤ) → IsByte bits byte → d ≡ pos (2 * count_ones byte) -ℤ pos 8 → d ≡ excess bits 8
+byte_total bits byte d is e = e ∙ ap (λ (n : ℕ). pos (2 * count_ones n) -ℤ pos 8) (sym is.valued) ∙ sym (excess-ones bits is.eight)
+
+pub byte_fits : (l : List Bool) (q : ℕ) (d : ℤ) → q + 8 ≤ length l → length l < 2 ^ 63 → d ≡ excess (part l q 8) 8 → FitsSigned w64 d
+byte_fits l q d h short e = rise_fits l q (q + 8) d short (omega arith) h (let f = excess-byte l q 8 h (omega arith) in omega (arith, ints))

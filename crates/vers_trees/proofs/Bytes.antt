@@ -236,6 +236,6 @@ pub entries_more : (from_end : Bool) (n : ℕ) (entries : List ℕ) (entry : ℕ
 entries_more from_end n entries entry inside old new byte h bits is = ⊎_elim
     (λ (w : byte < n). subst (IsEntry from_end bits) (sym (get_or-set_other entries n byte entry 0 (λ e. omega arith))) (old byte w bits is))
     (λ (w : n ≤ byte).
-        let e : n ≡ byte = omega arith in
-        subst (λ (b : ℕ). IsEntry from_end bits (get_or (set entries n entry) b 0)) e (subst (IsEntry from_end bits) (sym (get_or-set_same entries n entry 0 inside)) (new bits (subst (IsByte bits) (sym e) is))))
+    let e : n ≡ byte = omega arith in
+    subst (λ (b : ℕ). IsEntry from_end bits (get_or (set entries n entry) b 0)) e (subst (IsEntry from_end bits) (sym (get_or-set_same entries n entry 0 inside)) (new bits (subst (IsByte bits) (sym e) is))))
     (cases_lt byte n)

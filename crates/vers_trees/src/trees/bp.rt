@@ -23,6 +23,7 @@ mod search;
 mod subtree;
 
 pub use crate::trees::bp::builder::{BpBuilder, BuildError};
+pub use crate::trees::bp::bytes::ByteTables;
 pub use crate::trees::bp::children::ChildrenIter;
 pub use crate::trees::bp::dfs_iter::DfsIter;
 use crate::trees::bp::min_max::MinMaxTree;

@@ -1,5 +1,5 @@
 //! Tables that answer a whole byte of parentheses at once.
-ghost use Rattle.std.specs.Prelude.{◌≡◌, ℕ, ◌+◌, ◌*◌, ◌-◌, ◌^◌, ◌<◌, ◌≤◌, ◌⊎◌, ℤ, ◌+ℤ◌, ◌-ℤ◌, ◌≤ℤ◌, ◌≢◌, Bool, List, length, pos, negsuc, min, max, slice_index_or, slice_set, MatchOption};
+ghost use Rattle.std.specs.Prelude.{◌≡◌, ℕ, ◌+◌, ◌*◌, ◌-◌, ◌^◌, ◌<◌, ◌≤◌, ◌⊎◌, ℤ, ◌+ℤ◌, ◌-ℤ◌, ◌≤ℤ◌, ◌≢◌, Bool, true, false, List, length, pos, negsuc, min, max, slice_index_or, slice_set, MatchOption};
 ghost use Rattle.vers_trees.specs.Bytes.{IsByte, IsEntry, place_along, place_in, least_in, greatest_in};
 ghost use Rattle.vers_trees.specs.inside.Bytes.{step_along, octal};
 
@@ -156,10 +156,34 @@ fn entry_of(byte: usize, from_end: bool) -> u64
     met.entry()
 }
 
+// The sum that is `x`, less 8, above the one at which a byte begins.
+#[inline(always)]
+fn sum_at(rise: i64, x: u64) -> i64
+    requires few { x ≤ 16 }
+    requires low { negsuc 9223372036854775799 ≤ℤ rise }
+    requires high { rise ≤ℤ pos 9223372036854775799 }
+    ensures { result ≡ rise +ℤ (pos x -ℤ pos 8) }
+{
+    rise - 8 + x as i64
+}
+
+// How far a sum is above the one at which a byte begins, plus 8.
+#[inline(always)]
+fn above(rise: i64, target: i64) -> u64
+    requires low { negsuc 9223372036854775799 ≤ℤ rise }
+    requires high { rise ≤ℤ pos 9223372036854775799 }
+    requires from { (rise -ℤ pos 8) ≤ℤ target }
+    requires to { target ≤ℤ (rise +ℤ pos 8) }
+    ensures { rise +ℤ (pos result -ℤ pos 8) ≡ target }
+{
+    (target - (rise - 8)) as u64
+}
+
 // The place in a byte of the given entry at which a sum that begins at `rise` first is `target`.
 #[inline(always)]
 pub(super) fn place_met(entry: u64, rise: i64, target: i64) -> Option<usize>
     requires bounded { greatest_in entry ≤ 16 }
+    requires ordered { least_in entry ≤ greatest_in entry }
     requires low { negsuc 9223372036854775799 ≤ℤ rise }
     requires high { rise ≤ℤ pos 9223372036854775799 }
     ensures { MatchOption
@@ -171,13 +195,12 @@ pub(super) fn place_met(entry: u64, rise: i64, target: i64) -> Option<usize>
         × (rise +ℤ (pos x -ℤ pos 8) ≡ target)
         × (place ≡ place_in entry x)) }
 {
-    let lowest = rise - 8;
-    if target < lowest + (entry >> 5) as i64 % 32 {
+    if target < sum_at(rise, entry / 32 % 32) {
         return None;
     }
-    if target > lowest + (entry % 32) as i64 {
+    if sum_at(rise, entry % 32) < target {
         return None;
     }
-    let sum = (target - lowest) as u64;
-    Some((entry >> (10 + 3 * sum)) as usize % 8)
+    let x = above(rise, target);
+    Some((entry >> (10 + 3 * x)) as usize % 8)
 }

@@ -1,0 +1,37 @@
+use Rattle.std.proofs.Common.{ℤ, ℕ, ◌≤◌, ◌*◌, ◌/◌, ◌+◌, ◌-◌, MatchResult, arith, w64, to_z, of_z, subst}
+use Rattle.std.proofs.lemmas.Int.{to_z-of_z}
+use Rattle.vers_trees.specs.inside.Scans.{IsLastRise, HasNoRiseBefore}
+use Rattle.vers_trees.proofs.Scans.{not_begun_back, fall_is, found_later}
+use Rattle.vers_trees.proofs.trees.bp.scan.scan_backward.Goals as goal
+
+pub bytes_backward-requires-clause-passed : goal.bytes_backward-requires-clause-passed
+bytes_backward-requires-clause-passed g c =
+    let m = c.max-tail.ensures in let o = c.requires.order in let i = c.requires.inside in
+    let h = c.in-Err.ensures.value c.args.end (omega arith) i (not_begun_back _ _ _) in
+    (c.args.end, omega arith, i, rw (fall_is _ _ c.args.end _ c.in-Err.rise h (omega arith) i c.requires.short) h)
+
+pub returns-in-Ok-bytes_backward-clause-value : goal.returns-in-Ok-bytes_backward-clause-value
+returns-in-Ok-bytes_backward-clause-value g c =
+    let m = c.max-tail.ensures in let o = c.requires.order in let i = c.requires.inside in
+    let t = to_z-of_z w64 c.args.target c.ranges.target in
+    let h = c.in-Err.ensures.value c.args.end (omega arith) i (not_begun_back _ _ _) in
+    let k : HasNoRiseBefore c.args.bits.now c.max-tail.result c.args.end (to_z w64 (of_z w64 c.args.target)) (to_z w64 (of_z w64 c.in-Err.rise)) = rw (fall_is _ _ c.args.end _ c.in-Err.rise h (omega arith) i c.requires.short) h in
+    subst (λ (z : ℤ). IsLastRise c.args.bits.now c.args.from c.args.end z c.in-Ok-bytes_backward.place) t (found_later _ c.args.from (c.max-tail.result - (c.max-tail.result - c.args.from) / 8 * 8) c.args.end _ _ (omega arith) (c.in-Ok-bytes_backward.ensures.value c.args.end (omega arith) i k))
+
+pub bits_backward-requires-2-clause-passed : goal.bits_backward-requires-2-clause-passed
+bits_backward-requires-2-clause-passed g c =
+    let m = c.max-tail.ensures in let o = c.requires.order in let i = c.requires.inside in
+    let h = c.in-Err.ensures.value c.args.end (omega arith) i (not_begun_back _ _ _) in
+    let k : HasNoRiseBefore c.args.bits.now c.max-tail.result c.args.end (to_z w64 (of_z w64 c.args.target)) (to_z w64 (of_z w64 c.in-Err.rise)) = rw (fall_is _ _ c.args.end _ c.in-Err.rise h (omega arith) i c.requires.short) h in
+    let n = c.in-Err-bytes_backward.ensures.value c.args.end (omega arith) i k in
+    (c.args.end, omega arith, i, rw (fall_is _ _ c.args.end _ c.in-Err-bytes_backward.rise n (omega arith) i c.requires.short) n)
+
+pub returns-clause-value : goal.returns-clause-value
+returns-clause-value g c =
+    let m = c.max-tail.ensures in let o = c.requires.order in let i = c.requires.inside in
+    let t = to_z-of_z w64 c.args.target c.ranges.target in
+    let h = c.in-Err.ensures.value c.args.end (omega arith) i (not_begun_back _ _ _) in
+    let k : HasNoRiseBefore c.args.bits.now c.max-tail.result c.args.end (to_z w64 (of_z w64 c.args.target)) (to_z w64 (of_z w64 c.in-Err.rise)) = rw (fall_is _ _ c.args.end _ c.in-Err.rise h (omega arith) i c.requires.short) h in
+    let n = c.in-Err-bytes_backward.ensures.value c.args.end (omega arith) i k in
+    let q : HasNoRiseBefore c.args.bits.now (c.max-tail.result - (c.max-tail.result - c.args.from) / 8 * 8) c.args.end (to_z w64 (of_z w64 c.args.target)) (to_z w64 (of_z w64 c.in-Err-bytes_backward.rise)) = rw (fall_is _ _ c.args.end _ c.in-Err-bytes_backward.rise n (omega arith) i c.requires.short) n in
+    subst (λ (z : ℤ). MatchResult c.bits_backward-2.result (λ place. IsLastRise c.args.bits.now c.args.from c.args.end z place) (λ rise. HasNoRiseBefore c.args.bits.now c.args.from c.args.end z rise)) t (c.bits_backward-2.ensures.value c.args.end (omega arith) i q)
