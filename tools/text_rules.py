@@ -58,8 +58,8 @@ WHOLE_BYTES = {
     (SEARCHES, "backward"): "scan_backward(bits,&tree.tables,",
     (SCANS, "scan_forward"): "bytes_forward(bits,tables,head,tail,",
     (SCANS, "scan_backward"): "bytes_backward(bits,tables,head,tail,",
-    (SCANS, "bytes_forward"): "place_met(tables.forward(byte),",
-    (SCANS, "bytes_backward"): "place_met(tables.backward(byte),",
+    (SCANS, "bytes_forward"): "place_met(tables.forward_entry(byte),",
+    (SCANS, "bytes_backward"): "place_met(tables.backward_entry(byte),",
 }
 READS_A_BIT = "is_one_counted("
 # phrases that are not plain English, and what to write instead
@@ -326,7 +326,7 @@ BREAKS = {
     "imports `Tables`": ("crates/vers_rmq/proofs/Blocks.antt", "proofs.Minima", "specs.inside.Tables"),
     "backward doesn't take whole bytes": (SEARCHES, "scan_backward(bits, &tree.tables,", "bits_backward(bits,"),
     "scan_forward doesn't take whole bytes": (SCANS, "bytes_forward(bits,tables,head,tail,", "bits_forward(bits,head,tail,"),
-    "bytes_forward doesn't take whole bytes": (SCANS, "place_met(tables.forward(byte), 1)", "place_met(tables.forward(byte), bits.is_one_counted(1))"),
+    "bytes_forward doesn't take whole bytes": (SCANS, "place_met(tables.forward_entry(byte), 1)", "place_met(tables.forward_entry(byte), bits.is_one_counted(1))"),
     "leads nowhere": ("README.md", "docs/PAGE.md", "docs/NONE.md"),
     "says `at the most`": ("docs/PAGE.md", "A page.", "A page has at\nthe most one link."),
     "says `want of memory`": ("crates/low/src/lib.rt", "/// One more.\n", "/// One more. Err for want\n/// of memory.\n"),

@@ -229,9 +229,6 @@ entry_is from_end bits value least greatest places entry m b g l p = record {
 }
 
 -- ---- tables
-pub no_entries : (from_end : Bool) (entries : List ℕ) → AreEntries from_end 0 entries
-no_entries from_end entries byte h = absurd (omega arith)
-
 pub entries_more : (from_end : Bool) (n : ℕ) (entries : List ℕ) (entry : ℕ) → n < length entries → AreEntries from_end n entries → ((bits : List Bool) → IsByte bits n → IsEntry from_end bits entry) → AreEntries from_end (n + 1) (set entries n entry)
 entries_more from_end n entries entry inside old new byte h bits is = ⊎_elim
     (λ (w : byte < n). subst (IsEntry from_end bits) (sym (get_or-set_other entries n byte entry 0 (λ e. omega arith))) (old byte w bits is))

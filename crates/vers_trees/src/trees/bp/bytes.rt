@@ -32,8 +32,10 @@ impl ByteTables {
         let mut forward = [0; 256];
         let mut backward = [0; 256];
         for byte in 0..256 {
-            forward[byte] = entry_of(byte, false);
-            backward[byte] = entry_of(byte, true);
+            let from_start = entry_of(byte, false);
+            let from_end = entry_of(byte, true);
+            forward[byte] = from_start;
+            backward[byte] = from_end;
         }
         ByteTables { forward, backward }
     }
@@ -48,7 +50,7 @@ impl ByteTables {
 
     /// The entry of a byte from its start, where a one adds 1 and a zero takes 1.
     #[inline(always)]
-    pub fn forward(&self, byte: u8) -> u64
+    pub fn forward_entry(&self, byte: u8) -> u64
         ensures { (bits : List Bool) → IsByte bits byte → IsEntry false bits result }
     {
         self.forward[byte as usize]
@@ -56,7 +58,7 @@ impl ByteTables {
 
     /// The entry of a byte from its end, where a one takes 1 and a zero adds 1.
     #[inline(always)]
-    pub fn backward(&self, byte: u8) -> u64
+    pub fn backward_entry(&self, byte: u8) -> u64
         ensures { (bits : List Bool) → IsByte bits byte → IsEntry true bits result }
     {
         self.backward[byte as usize]

@@ -86,7 +86,7 @@ fn bytes_forward<A: Allocator + Copy>(
         let mut within = 0;
         while within < size {
             let byte = ((word >> within) % 256) as u8;
-            if let Some(place) = place_met(tables.forward(byte), rise, target) {
+            if let Some(place) = place_met(tables.forward_entry(byte), rise, target) {
                 return Ok(start + within + place);
             }
             rise += byte_step(byte);
@@ -191,7 +191,7 @@ fn bytes_backward<A: Allocator + Copy>(
         while within > 0 {
             within -= 8;
             let byte = ((word >> within) % 256) as u8;
-            if let Some(place) = place_met(tables.backward(byte), rise, target) {
+            if let Some(place) = place_met(tables.backward_entry(byte), rise, target) {
                 return Ok(start + within + place);
             }
             rise -= byte_step(byte);
