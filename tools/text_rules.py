@@ -6,6 +6,7 @@
 - `crates.txt` lists the folders of `crates/`, each once.
 - Nothing cites a label of a paper or a path of one machine, and the links of the documents lead somewhere.
 - Each word of a crate's `specs/` that the contract of a public function cites stands in `docs/DEFINITIONS.md`, in backticks.
+- Searches of parentheses take whole bytes from the tables: `WHOLE_BYTES` has the call that each function on the way makes.
 - `let _ =` is a mention for the prover, of a field (`&self.len`) or of a length (`high.len()`), and nothing else.
 - Documents and comments are in plain English: `UNPLAIN` has the phrases that aren't, with those to write instead.
 - Of the proofs of a crate below, a crate imports the page of laws (`PublicLaws`) alone, or one that its `proofs/Lib.antt`
@@ -51,6 +52,18 @@ ON_CONTRACTS = {
     "crates/vers_sorted/proofs/SparseBits.antt": {"Holds", "Packed", "Buckets", "Makes", "Split", "Scans", "Aheads", "inside"},
     "crates/vers_rmq/proofs/Blocks.antt": {"Tables"},
 }
+# functions on the way from a search to the tables of bytes, and the start of the call that each of them makes, in which no
+# bit is read alone
+SCANS, SEARCHES = "crates/vers_trees/src/trees/bp/scan.rt", "crates/vers_trees/src/trees/bp/search.rt"
+WHOLE_BYTES = {
+    (SEARCHES, "forward"): "scan_forward(bits,&tree.tables,",
+    (SEARCHES, "backward"): "scan_backward(bits,&tree.tables,",
+    (SCANS, "scan_forward"): "bytes_forward(bits,tables,head,tail,",
+    (SCANS, "scan_backward"): "bytes_backward(bits,tables,head,tail,",
+    (SCANS, "bytes_forward"): "place_met(tables.forward_entry(byte),",
+    (SCANS, "bytes_backward"): "place_met(tables.backward_entry(byte),",
+}
+READS_A_BIT = "is_one_counted("
 # phrases that are not plain English, and what to write instead
 UNPLAIN = {"want of memory": "out of memory", "at the most": "at most"}
 
@@ -100,6 +113,14 @@ def no_mentions(path, text):
     for found in DROPPED.finditer(text):
         if not MENTION.fullmatch(found[1]):
             yield f"{path}:{text.count(chr(10), 0, found.start()) + 1}: drops `{found[1]}`; allowed: a mention of a field or a length"
+
+
+def bit_by_bit(path, text):
+    """Yields a line for each function on the way to the tables of bytes that doesn't take whole bytes from them."""
+    bodies = {it.name: it.text for it in file_of("", path, text).functions if it.body}
+    for (where, name), call in WHOLE_BYTES.items():
+        if where == path and (call not in bodies.get(name, "") or READS_A_BIT in bodies[name]):
+            yield f"{path}: {name} doesn't take whole bytes from the tables; allowed: `{call} ..)` and no bit read alone"
 
 
 def unplain(path, text):
@@ -187,6 +208,7 @@ def crate_faults(top, crate, files):
     """Yields what is broken in the sources of one crate."""
     for path, text in sources_of(top, crate, files).items():
         yield from too_long(path, text, crate.endswith("_tests"))
+        yield from bit_by_bit(path, text)
         if not os.path.basename(path) == "main.rt":
             yield from undocumented(path, text)
             yield from no_mentions(path, text)
@@ -280,7 +302,7 @@ def faults(top):
 
 
 GOOD = {
-    "crates.txt": "low: # a comment\nhigh: low\nvers_rmq:\n",
+    "crates.txt": "low: # a comment\nhigh: low\nvers_rmq:\nvers_trees:\n",
     "README.md": "See [the page](docs/PAGE.md).\n",
     "docs/PAGE.md": "A page.\n",
     "docs/DEFINITIONS.md": "`more x` is the number after `x`.\n",
@@ -293,6 +315,8 @@ GOOD = {
     "crates/high/proofs/More.antt": "use Rattle.low.proofs.PublicLaws.{law}\nuse Rattle.high.proofs.Own.{law}\n",
     "crates/vers_rmq/proofs/Blocks.antt": "use Rattle.vers_rmq.proofs.Minima.{law}\n",
     "crates/vers_rmq/proofs/More.antt": "use Rattle.high.proofs.LowLaws.{law}\n",
+    SEARCHES: "//! Searches.\nfn forward() {\n    scan_forward(bits, &tree.tables, 1)\n}\n\nfn backward() {\n    scan_backward(bits, &tree.tables, 1)\n}\n",
+    SCANS: "//! Scans.\n" + "".join(f"fn {name}() {{\n    {call} 1)\n}}\n" for (path, name), call in WHOLE_BYTES.items() if path == SCANS),
 }
 # what is wanted to be said, and the change to the good repository that asks for it
 BREAKS = {
@@ -313,6 +337,9 @@ BREAKS = {
     "cites `more` of `specs/inside`": ("crates/low/src/lib.rt", "specs.More", "specs.inside.More"),
     "drops `helper(x)`": ("crates/low/src/lib.rt", "let _ = x.len();", "let _ = helper(x);"),
     "imports `Tables`": ("crates/vers_rmq/proofs/Blocks.antt", "proofs.Minima", "specs.inside.Tables"),
+    "backward doesn't take whole bytes": (SEARCHES, "scan_backward(bits, &tree.tables,", "bits_backward(bits,"),
+    "scan_forward doesn't take whole bytes": (SCANS, "bytes_forward(bits,tables,head,tail,", "bits_forward(bits,head,tail,"),
+    "bytes_forward doesn't take whole bytes": (SCANS, "place_met(tables.forward_entry(byte), 1)", "place_met(tables.forward_entry(byte), bits.is_one_counted(1))"),
     "leads nowhere": ("README.md", "docs/PAGE.md", "docs/NONE.md"),
     "says `at the most`": ("docs/PAGE.md", "A page.", "A page has at\nthe most one link."),
     "says `want of memory`": ("crates/low/src/lib.rt", "/// One more.\n", "/// One more. Err for want\n/// of memory.\n"),

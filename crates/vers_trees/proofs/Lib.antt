@@ -22,6 +22,9 @@ pub mod ListsOfNodes
 pub mod WalksOfNodes
 pub mod Matching
 pub mod Scans
+pub mod Octal
+pub mod Bytes
+pub mod ByteScans
 pub mod MinMax
 pub mod Climbs
 pub mod Back

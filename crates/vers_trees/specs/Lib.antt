@@ -1,4 +1,5 @@
 pub mod Excess
+pub mod Bytes
 pub mod Forest
 pub mod Nodes
 pub mod Traversals

@@ -8,6 +8,8 @@
 #[cfg(test)]
 mod builders;
 #[cfg(test)]
+mod bytes;
+#[cfg(test)]
 mod lists;
 #[cfg(test)]
 mod refusals;
