@@ -75,6 +75,7 @@ impl<M: Matrix> Source for Numbers<M> {
         self.matrix.matrix().len()
     }
 
+    #[inline(always)]
     fn item_at(&mut self, i: usize, tally: &mut Tally) -> u64 {
         let mut answer: u64 = 0;
         self.matrix.matrix().read_at(i, &mut answer, tally);
@@ -128,6 +129,7 @@ impl<M: Matrix> Source for SortedNumbers<M> {
         self.matrix.matrix().len()
     }
 
+    #[inline(always)]
     fn item_at(&mut self, i: usize, tally: &mut Tally) -> u64 {
         let matrix = self.matrix.matrix();
         let mut answer: u64 = 0;

@@ -30,6 +30,7 @@ impl<A: Allocator + Copy> WaveletMatrix<A> {
     /// The greatest symbol of a range that is not above a symbol. None for a symbol of another length,
     /// for a range that is reversed or ends past the end, and where there is no such symbol. By at most
     /// four selects of a level for each bit of a symbol.
+    #[inline(always)]
     pub fn predecessor_counted(
         &self,
         range: Range<usize>,
@@ -70,6 +71,7 @@ impl<A: Allocator + Copy> WaveletMatrix<A> {
     /// The least symbol of a range that is not below a symbol. None for a symbol of another length, for
     /// a range that is reversed or ends past the end, and where there is no such symbol. By at most
     /// four selects of a level for each bit of a symbol.
+    #[inline(always)]
     pub fn successor_counted(
         &self,
         range: Range<usize>,
@@ -107,6 +109,7 @@ impl<A: Allocator + Copy> WaveletMatrix<A> {
     /// The greatest symbol of a range that is not above a symbol, of which the low digits count. None
     /// where the symbols have more than 64 bits, for a range that is reversed or ends past the end, and
     /// where there is no such symbol. By at most four selects of a level for each bit of a symbol.
+    #[inline(always)]
     pub fn predecessor_u64_counted(
         &self,
         range: Range<usize>,
@@ -141,6 +144,7 @@ impl<A: Allocator + Copy> WaveletMatrix<A> {
     /// The least symbol of a range that is not below a symbol, of which the low digits count. None
     /// where the symbols have more than 64 bits, for a range that is reversed or ends past the end, and
     /// where there is no such symbol. By at most four selects of a level for each bit of a symbol.
+    #[inline(always)]
     pub fn successor_u64_counted(
         &self,
         range: Range<usize>,
