@@ -1,6 +1,6 @@
 -- What places and counts of the levels say of the list of symbols.
 use Rattle.std.proofs.Common.{◌≡◌, ℕ, zero, suc, ◌+◌, ◌-◌, ◌%◌, ◌^◌, ◌<◌, ◌≤◌, Bool, true, cond, ltb, leb, eqb, List, [], ◌∷◌, ◌++◌, length, get_or, take, drop, refl, sym, ap, ◌∙◌, subst, arith, add-one, add-zero, inl, inr}
-use Rattle.std.specs.Prelude.{map, filter, slice_range, slice_get, Option, Some, None, IsSome, IfSome}
+use Rattle.std.specs.Prelude.{map, filter, slice_range, slice_get, Option, Some, None, IsSome, IfSome, All}
 use Rattle.std.specs.List.{count_by, range_with_len}
 use Rattle.std.proofs.Math.Seq.{take-add}
 use Rattle.std.proofs.lemmas.Bool.{cases_lt}
@@ -11,7 +11,7 @@ use Rattle.std.proofs.lemmas.List.FromFn.{sum_by-map-range_with_len_more, filter
 use Rattle.std.proofs.lemmas.Option.{slice_get-get_or, slice_get_past}
 use Rattle.vers_wavelet.specs.Levels.{value, values, hits, under, equal, way, AreLevels, KthOf}
 use Rattle.vers_wavelet.specs.Symbols.{occurrences, IsKth}
-use Rattle.vers_wavelet.proofs.Values.{way-up, equal_under}
+use Rattle.vers_wavelet.proofs.Values.{way-up, equal_under, value-lt}
 use Rattle.vers_wavelet.proofs.Members.{never}
 use Rattle.vers_wavelet.proofs.Steps.{way_equal, way_more, way_parts}
 
@@ -22,6 +22,10 @@ length-values ls n = length-map-range_with_len (value ls) 0 n
 pub get_or-values : (ls : List (List Bool)) (n p d : ℕ) → p < n → get_or (values ls n) p d ≡ value ls p
 unfolding values
 get_or-values ls n p d h = get_or-map-range_with_len (value ls) 0 n p p d h (omega arith)
+
+-- symbols are below two to the number of levels
+pub values_fit : (ls : List (List Bool)) (n : ℕ) → All (λ y. y < 2 ^ length ls) (values ls n)
+values_fit ls n = λ k d h. omega (arith, get_or-values ls n k d (omega (arith, h, length-values ls n)), value-lt ls k)
 
 -- ---- counts over a range of places
 

@@ -160,11 +160,7 @@ impl<A: Allocator + Copy> WaveletMatrix<A> {
         ensures adds { AddsAtMost tally.old tally.new (query_reads self.now) }
     {
         let len = self.len();
-        if self.bits_per_element() > 64
-            || range.start >= len
-            || range.end > len
-            || range.start > range.end
-        {
+        if !self.fits_word() || range.start >= len || range.end > len || range.start > range.end {
             return None;
         }
         Some(self.count_in(range.start, range.end, &symbol, tally))
@@ -242,7 +238,7 @@ impl<A: Allocator + Copy> WaveletMatrix<A> {
         ensures answered { IsSome result ↔ (self.now.width ≤ 64) × (end ≤ length self.now.items) }
         ensures adds { AddsAtMost tally.old tally.new (query_reads self.now) }
     {
-        if self.bits_per_element() > 64 || end > self.len() {
+        if !self.fits_word() || end > self.len() {
             return None;
         }
         Some(self.count_in(0, end, &symbol, tally))

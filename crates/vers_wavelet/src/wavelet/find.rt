@@ -120,7 +120,7 @@ impl<A: Allocator + Copy> WaveletMatrix<A> {
         ensures answered { IsSome result ↔ (self.now.width ≤ 64) × (offset < length self.now.items) × (rank < length (occurrences self.now.items offset (length self.now.items) (symbol % 2 ^ self.now.width))) }
         ensures adds { AddsAtMost tally.old tally.new (query_reads self.now) }
     {
-        if self.bits_per_element() > 64 || offset >= self.len() {
+        if !self.fits_word() || offset >= self.len() {
             return None;
         }
         self.find_from(offset, rank, &symbol, tally)
@@ -156,7 +156,7 @@ impl<A: Allocator + Copy> WaveletMatrix<A> {
         ensures answered { IsSome result ↔ (self.now.width ≤ 64) × (rank < length (occurrences self.now.items 0 (length self.now.items) (symbol % 2 ^ self.now.width))) }
         ensures adds { AddsAtMost tally.old tally.new (query_reads self.now) }
     {
-        if self.bits_per_element() > 64 {
+        if !self.fits_word() {
             return None;
         }
         self.find_from(0, rank, &symbol, tally)

@@ -294,7 +294,7 @@ impl<A: Allocator + Copy> WaveletMatrix<A> {
         ensures value { IfSome result (λ walk. walk ≡ record { left = self.now.items; step = query_reads self.now }) }
         ensures answered { IsSome result ↔ (self.now.width ≤ 64) }
     {
-        if self.bits_per_element() > 64 {
+        if !self.fits_word() {
             return None;
         }
         Some(BothEnds::new(Numbers { matrix: self }))
@@ -306,7 +306,7 @@ impl<A: Allocator + Copy> WaveletMatrix<A> {
         ensures value { IfSome result (λ walk. walk ≡ record { left = self.items; step = query_reads self }) }
         ensures answered { IsSome result ↔ (self.width ≤ 64) }
     {
-        if self.bits_per_element() > 64 {
+        if !self.fits_word() {
             return None;
         }
         Some(BothEnds::new(Numbers { matrix: self }))
@@ -317,7 +317,7 @@ impl<A: Allocator + Copy> WaveletMatrix<A> {
         ensures value { IfSome result (λ walk. walk ≡ record { left = by_size self.now.items; step = query_reads self.now }) }
         ensures answered { IsSome result ↔ (self.now.width ≤ 64) }
     {
-        if self.bits_per_element() > 64 {
+        if !self.fits_word() {
             return None;
         }
         Some(BothEnds::new(SortedNumbers { matrix: self }))
@@ -329,7 +329,7 @@ impl<A: Allocator + Copy> WaveletMatrix<A> {
         ensures value { IfSome result (λ walk. walk ≡ record { left = by_size self.items; step = query_reads self }) }
         ensures answered { IsSome result ↔ (self.width ≤ 64) }
     {
-        if self.bits_per_element() > 64 {
+        if !self.fits_word() {
             return None;
         }
         Some(BothEnds::new(SortedNumbers { matrix: self }))

@@ -120,7 +120,7 @@ impl<A: Allocator + Copy> WaveletMatrix<A> {
         ensures answered { IsSome result ↔ (self.now.width ≤ 64) × (range.start ≤ range.end) × (range.end ≤ length self.now.items) × Any (λ y. y ≤ (symbol % 2 ^ self.now.width)) (slice_range self.now.items range.start range.end) }
         ensures adds { AddsAtMost tally.old tally.new (query_reads self.now) }
     {
-        if self.bits_per_element() > 64 || range.start > range.end || range.end > self.len() {
+        if !self.fits_word() || range.start > range.end || range.end > self.len() {
             return None;
         }
         let mut answer: u64 = 0;
@@ -155,7 +155,7 @@ impl<A: Allocator + Copy> WaveletMatrix<A> {
         ensures answered { IsSome result ↔ (self.now.width ≤ 64) × (range.start ≤ range.end) × (range.end ≤ length self.now.items) × Any (λ y. (symbol % 2 ^ self.now.width) ≤ y) (slice_range self.now.items range.start range.end) }
         ensures adds { AddsAtMost tally.old tally.new (query_reads self.now) }
     {
-        if self.bits_per_element() > 64 || range.start > range.end || range.end > self.len() {
+        if !self.fits_word() || range.start > range.end || range.end > self.len() {
             return None;
         }
         let mut answer: u64 = 0;

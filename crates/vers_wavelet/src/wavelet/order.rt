@@ -226,7 +226,7 @@ impl<A: Allocator + Copy> WaveletMatrix<A> {
         ensures answered { IsSome result ↔ (self.now.width ≤ 64) × (range.end ≤ length self.now.items) × (range.start + i < range.end) }
         ensures adds { AddsAtMost tally.old tally.new (query_reads self.now) }
     {
-        if self.bits_per_element() > 64
+        if !self.fits_word()
             || range.end > self.len()
             || range.start >= range.end
             || i >= range.end - range.start

@@ -69,7 +69,7 @@ impl<A: Allocator + Copy> WaveletMatrix<A> {
         ensures answered { IsSome result ↔ (self.now.width ≤ 64) × (place < length self.now.items) }
         ensures adds { AddsAtMost tally.old tally.new (query_reads self.now) }
     {
-        if self.bits_per_element() > 64 || place >= self.len() {
+        if !self.fits_word() || place >= self.len() {
             return None;
         }
         let mut answer: u64 = 0;
