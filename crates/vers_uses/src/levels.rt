@@ -6,8 +6,7 @@ use std::alloc::{AllocError, Allocator};
 use vers_vecs::bit_vec::GrowError;
 use vers_vecs::trees::{LevelTree, TreeBuilder};
 
-/// Tells a builder to enter a node for each true and to leave one for each false. Where it is
-/// refused, the steps before were taken.
+/// Tells a builder to enter a node for each true and to leave one for each false.
 pub fn take_steps<B: TreeBuilder>(builder: &mut B, steps: &[bool]) -> Result<(), GrowError>
     ensures { OnOk result (B.steps builder.new ≡ B.steps builder.old ++ steps.now) }
 {
