@@ -10,6 +10,7 @@ pub mod SortedLines
 pub mod SparseLines
 pub mod ValuesLines
 pub mod TreeLines
+pub mod PostingsLines
 pub mod Rules
 pub mod Answers
 pub mod Session

@@ -9,6 +9,7 @@ pub enum Load {
     Sparse,
     Values,
     Tree,
+    Postings,
 }
 
 /// The first word of a query line.
@@ -28,6 +29,10 @@ pub enum Query {
     Iter1,
     RangeMin,
     Tree(TreeQuery),
+    Contains,
+    Next,
+    Cheapest,
+    Intersect,
 }
 
 /// The first word of a query line of parentheses, by the arguments that it takes.
@@ -76,7 +81,7 @@ pub enum Name {
 
 /// All names, and how they are written. It is the one table of names: the contract of `Name::of`
 /// reads it too.
-pub const NAMES: [(&[u8], Name); 29] = [
+pub const NAMES: [(&[u8], Name); 34] = [
     (b"bits", Name::Load(Load::Bits)),
     (b"sorted", Name::Load(Load::Sorted)),
     (b"sparse", Name::Load(Load::Sparse)),
@@ -139,6 +144,11 @@ pub const NAMES: [(&[u8], Name); 29] = [
         b"bwd_search",
         Name::Query(Query::Tree(TreeQuery::Search(SearchQuery::BwdSearch))),
     ),
+    (b"postings", Name::Load(Load::Postings)),
+    (b"contains", Name::Query(Query::Contains)),
+    (b"next", Name::Query(Query::Next)),
+    (b"cheapest", Name::Query(Query::Cheapest)),
+    (b"intersect", Name::Query(Query::Intersect)),
 ];
 
 impl Name {
