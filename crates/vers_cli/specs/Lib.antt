@@ -12,6 +12,7 @@ pub mod ValuesLines
 pub mod ForestLines
 pub mod TreeLines
 pub mod SymbolsLines
+pub mod PostingsLines
 pub mod Rules
 pub mod Answers
 pub mod Session

@@ -22,9 +22,12 @@ use Rattle.vers_cli.specs.declared.name.LevelQuery.TheVariants.{LevelRightmost}
 use Rattle.vers_cli.specs.Text.{number_of, signed_number_of, words_of, whole_lines, last_part, lines_of}
 use Rattle.vers_cli.specs.Arguments.{bits_of, two_numbers, three_numbers, number_and_signed, all_numbers}
 use Rattle.vers_cli.specs.Name.{name_of}
-use Rattle.vers_cli.specs.Holding.{Holding, Nothing, BitsHeld, SortedHeld, SparseHeld, ValuesHeld, TreeHeld, SymbolsHeld}
+use Rattle.vers_cli.specs.Holding.{Holding, Nothing, BitsHeld, SortedHeld, SparseHeld, ValuesHeld, TreeHeld, SymbolsHeld, PostingsHeld}
 use Rattle.vers_cli.specs.ValuesLines.{places_between, first_least}
 use Rattle.vers_cli.specs.ForestLines.{are_balanced}
+use Rattle.vers_rmq.specs.Minima.{is_least as costs_least, first_least_of}
+use Rattle.postings.specs.Posted.{is_among, places_between as places_of_range, cheapest, common}
+use Rattle.vers_cli.specs.PostingsLines.{posted_of}
 use Rattle.vers_cli.specs.Answers.{answer_to_words, answer_to, holding_after_words, holding_after, answers_to}
 
 -- a text with the end of a line
@@ -443,6 +446,50 @@ answer-level_leftmost_of_unbalanced = refl
 pub answer-parent_x_of_unbalanced : answer_to (TreeHeld (false ∷ true ∷ [])) (codes "parent x") ≡ ended (codes "bad line")
 unfolding answer_to_words number_of
 answer-parent_x_of_unbalanced = refl
+
+-- documents and costs in turn, and a document without a cost
+pub posted_of-2735 : posted_of (2 ∷ 7 ∷ 3 ∷ 5 ∷ []) ≡ Some (record { documents = 2 ∷ 3 ∷ []; costs = 7 ∷ 5 ∷ [] })
+posted_of-2735 = refl
+
+pub posted_of-273 : posted_of (2 ∷ 7 ∷ 3 ∷ []) ≡ None
+posted_of-273 = refl
+
+-- four documents with their costs, held
+abbrev held_postings : Holding
+held_postings = PostingsHeld (record { documents = 2 ∷ 5 ∷ 9 ∷ 12 ∷ []; costs = 7 ∷ 3 ∷ 3 ∷ 8 ∷ [] })
+
+pub held-postings : holding_after held_0110 (codes "postings 2 7 5 3 9 3 12 8") ≡ held_postings
+unfolding holding_after_words number_of
+held-postings = refl
+
+pub answer-contains_6 : answer_to held_postings (codes "contains 6") ≡ ended (codes "0")
+unfolding answer_to_words number_of is_among digits
+answer-contains_6 = refl
+
+pub answer-next_6 : answer_to held_postings (codes "next 6") ≡ ended (codes "9")
+unfolding answer_to_words number_of least_not_below digits
+answer-next_6 = refl
+
+pub answer-cheapest_6_12 : answer_to held_postings (codes "cheapest 6 12") ≡ ended (codes "9")
+unfolding answer_to_words number_of cheapest places_of_range first_least_of costs_least digits
+answer-cheapest_6_12 = refl
+
+pub answer-intersect : answer_to held_postings (codes "intersect 5 6 12 40") ≡ ended (codes "5 12")
+unfolding answer_to_words number_of common is_among digits
+answer-intersect = refl
+
+-- documents that don't ascend strictly are refused, and a document without a cost is malformed
+pub answer-intersect_5_5 : answer_to held_postings (codes "intersect 5 5") ≡ ended (codes "refused")
+unfolding answer_to_words number_of
+answer-intersect_5_5 = refl
+
+pub answer-postings_3_1_2_1 : answer_to held_postings (codes "postings 3 1 2 1") ≡ ended (codes "refused")
+unfolding answer_to_words number_of
+answer-postings_3_1_2_1 = refl
+
+pub answer-postings_1 : answer_to held_postings (codes "postings 1") ≡ ended (codes "bad line")
+unfolding answer_to_words number_of
+answer-postings_1 = refl
 
 -- a line without words has no answer
 pub answer-no_words : answer_to held_0110 (codes "  ") ≡ []

@@ -8,7 +8,8 @@ ghost use Rattle.vers_cli.specs.Rules.{loaded, query_reply};
 use crate::loading::Loading;
 use crate::name::{Load, Query};
 use crate::reply::Reply;
-use crate::{bits, sorted, sparse, symbols, tree, values};
+use crate::{bits, documents, sorted, sparse, symbols, tree, values};
+use postings::Postings;
 use std::alloc::{AllocError, Allocator};
 use vers_rank::fast_rs_vec::RsVec;
 use vers_rmq::rmq::fast_rmq::FastRmq;
@@ -27,6 +28,7 @@ pub enum Held<'a, A: Allocator + Copy> {
     Values(FastRmq<A>),
     Tree(BpTree<512, &'a A>),
     Symbols(WaveletMatrix<A>),
+    Postings(Postings<A>),
 }
 
 /// What a load line gives.
@@ -68,6 +70,11 @@ pub fn load<'a, A: Allocator + Copy>(
             Loading::Inadmissible => Ok(Loading::Inadmissible),
             Loading::Accepted(symbols) => Ok(Loading::Accepted(Held::Symbols(symbols))),
         },
+        Load::Postings => match documents::load(*alloc, arguments)? {
+            Loading::Malformed => Ok(Loading::Malformed),
+            Loading::Inadmissible => Ok(Loading::Inadmissible),
+            Loading::Accepted(postings) => Ok(Loading::Accepted(Held::Postings(postings))),
+        },
     }
 }
 
@@ -86,6 +93,7 @@ impl<A: Allocator + Copy> Held<'_, A> {
             Held::Values(values) => values.len() as u64,
             Held::Tree(tree) => tree.len() as u64,
             Held::Symbols(symbols) => symbols.len() as u64,
+            Held::Postings(postings) => postings.len() as u64,
         }
     }
 
@@ -101,6 +109,7 @@ impl<A: Allocator + Copy> Held<'_, A> {
             Held::Values(values) => Ok(values::reply(values, query, arguments)),
             Held::Tree(tree) => tree::reply(alloc, tree, query, arguments),
             Held::Symbols(symbols) => symbols::reply(alloc, symbols, query, arguments),
+            Held::Postings(postings) => documents::reply(alloc, postings, query, arguments),
         }
     }
 }

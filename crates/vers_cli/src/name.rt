@@ -10,6 +10,7 @@ pub enum Load {
     Values,
     Tree,
     Symbols,
+    Postings,
 }
 
 /// The first word of a query line.
@@ -31,6 +32,10 @@ pub enum Query {
     Tree(TreeQuery),
     Symbols(SymbolsQuery),
     Forest(ForestQuery),
+    Contains,
+    Next,
+    Cheapest,
+    Intersect,
 }
 
 /// The first word of a query line of parentheses, by the arguments that it takes.
@@ -183,7 +188,7 @@ pub enum Name {
 
 /// All names, and how they are written. It is the one table of names: the contract of `Name::of`
 /// reads it too.
-pub const NAMES: [(&[u8], Name); 63] = [
+pub const NAMES: [(&[u8], Name); 68] = [
     (b"bits", Name::Load(Load::Bits)),
     (b"sorted", Name::Load(Load::Sorted)),
     (b"sparse", Name::Load(Load::Sparse)),
@@ -379,6 +384,11 @@ pub const NAMES: [(&[u8], Name); 63] = [
         b"dfs_post_iter",
         Name::Query(Query::Forest(ForestQuery::DfsPostIter)),
     ),
+    (b"postings", Name::Load(Load::Postings)),
+    (b"contains", Name::Query(Query::Contains)),
+    (b"next", Name::Query(Query::Next)),
+    (b"cheapest", Name::Query(Query::Cheapest)),
+    (b"intersect", Name::Query(Query::Intersect)),
 ];
 
 impl Name {
