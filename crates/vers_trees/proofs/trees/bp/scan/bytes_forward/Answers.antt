@@ -1,10 +1,10 @@
-use Rattle.std.proofs.Common.{◌≡◌, ◌≤◌, ◌≤ℤ◌, ◌+◌, ◌*◌, ◌-◌, ◌/◌, ◌%◌, ◌^◌, ◌+ℤ◌, ◌-ℤ◌, ℕ, ℤ, pos, count_ones, FitsSigned, Some, arith, w64, to_z, of_z, false, refl, sym, ap, subst, ◌∙◌}
+use Rattle.std.proofs.Common.{◌≡◌, ◌≤◌, ◌+◌, ◌-◌, ◌/◌, ◌%◌, ◌^◌, ◌+ℤ◌, ℕ, ℤ, FitsSigned, arith, w64, to_z, of_z, false, sym, subst}
 use Rattle.std.proofs.lemmas.Int.{to_z-of_z}
-use Rattle.vers_bits.specs.Bits.{part, number}
+use Rattle.vers_bits.specs.Bits.{part}
 use Rattle.vers_trees.specs.Excess.{excess}
 use Rattle.vers_trees.specs.Bytes.{IsEntry, IsByte, place_in}
 use Rattle.vers_trees.specs.inside.Scans.{IsFirstRise, HasNoRise}
-use Rattle.vers_trees.proofs.Scans.{plus_is, minus_is, rise_fits, rise_small}
+use Rattle.vers_trees.proofs.Scans.{plus_is, rise_fits, rise_small}
 use Rattle.vers_trees.proofs.ByteScans.{read_some, word_read, byte_in, byte_total, byte_fits, entry_ordered, forward_byte_found, forward_byte_more}
 use Rattle.vers_trees.proofs.trees.bp.scan.bytes_forward.Goals as goal
 

@@ -1,4 +1,4 @@
-use Rattle.std.proofs.Common.{ℤ, ℕ, ◌≤◌, ◌*◌, ◌/◌, ◌+◌, ◌-◌, MatchResult, arith, w64, to_z, of_z, subst}
+use Rattle.std.proofs.Common.{ℤ, ◌*◌, ◌/◌, ◌-◌, MatchResult, arith, w64, to_z, of_z, subst}
 use Rattle.std.proofs.lemmas.Int.{to_z-of_z}
 use Rattle.vers_trees.specs.inside.Scans.{IsLastRise, HasNoRiseBefore}
 use Rattle.vers_trees.proofs.Scans.{not_begun_back, fall_is, found_later}
