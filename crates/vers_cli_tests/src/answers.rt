@@ -268,6 +268,58 @@ fn lines_of_symbols(rt: HostRuntime) -> Result<(), Fail> {
     Ok(())
 }
 
+// The same of documents with costs.
+const POSTINGS_CASES: [(&str, &[u8], &[u8]); 8] = [
+    (
+        "documents with costs, and lines of them that are malformed or refused",
+        b"postings 2 7 5 3 9 3 12 8\ncheapest 6 12\nnext 13\nintersect 5 6 12 40\nintersect\nintersect 5 5\npostings 1\npostings 3 1 2 1\ncontains 5\n",
+        b"4\n9\nnone\n5 12\n\nrefused\nbad line\nrefused\n1\n",
+    ),
+    (
+        "every query of documents with costs",
+        b"postings 2 7 5 3 9 3 12 8\nlen\ncontains 6\ncontains 12\nrank 9\nrank 0\nrank 13\nnext 6\nnext 9\nnext 13\ncheapest 0 18446744073709551615\ncheapest 6 12\ncheapest 12 12\ncheapest 6 8\ncheapest 9 2\nintersect 5 6 12 40\nintersect 1 3\n",
+        b"4\n4\n0\n1\n2\n0\n4\n9\n9\nnone\n5\n9\n12\nnone\nnone\n5 12\n\n",
+    ),
+    (
+        "no documents",
+        b"postings\nlen\ncontains 0\nrank 7\nnext 0\ncheapest 0 9\nintersect 1 2\nintersect\n",
+        b"0\n0\n0\n0\nnone\nnone\n\n\n",
+    ),
+    (
+        "documents and costs at the ends of their type",
+        b"postings 0 18446744073709551615 18446744073709551615 18446744073709551615\ncontains 18446744073709551615\nrank 18446744073709551615\nnext 1\ncheapest 0 18446744073709551615\ncheapest 1 18446744073709551615\nintersect 18446744073709551615\nintersect 0 18446744073709551615\n",
+        b"2\n1\n1\n18446744073709551615\n0\n18446744073709551615\n18446744073709551615\n0 18446744073709551615\n",
+    ),
+    (
+        "the line of `intersect` may have more documents than are held, and costs need not differ",
+        b"postings 5 0 007 0\nintersect 1 2 3 4 5 6\nintersect 1 2 3 4 6 8\nintersect 5 7\nintersect 7\ncheapest 6 9\ncheapest 0 9\n",
+        b"2\n5\n\n5 7\n7\n7\n5\n",
+    ),
+    (
+        "a document without a cost is malformed, which comes before what is refused; what was held is kept",
+        b"postings 4 1\npostings 2\npostings 2 1 1\npostings 2 1 1 x\npostings x 1\npostings 2 -1\npostings 2 18446744073709551616\npostings 2 1 1 1\npostings 2 1 2 5\npostings 1 1 3 1 2 1\nlen\ncheapest 4 4\n",
+        b"1\nbad line\nbad line\nbad line\nbad line\nbad line\nbad line\nrefused\nrefused\nrefused\n1\n4\n",
+    ),
+    (
+        "another number of arguments is malformed, and comes before what is refused",
+        b"postings 4 1\nlen 4\ncontains\ncontains 4 4\ncontains x\nrank\nrank 1 2\nrank -1\nnext\nnext 1 1\nnext 18446744073709551616\ncheapest\ncheapest 1\ncheapest 1 2 3\ncheapest x 2\ncheapest 1 x\nintersect 5 5 x\nintersect x\nintersect 5 5\nintersect 5 4\nintersect 4\n",
+        b"1\nbad line\nbad line\nbad line\nbad line\nbad line\nbad line\nbad line\nbad line\nbad line\nbad line\nbad line\nbad line\nbad line\nbad line\nbad line\nbad line\nbad line\nrefused\nrefused\n4\n",
+    ),
+    (
+        "documents with costs have queries of their own",
+        b"contains x\nintersect 5 5\npostings 4 1\nget 0\niter\niter1\nsuccessor 4\npredecessor 4\ndelta 0\nrank1 0\nselect1 0\nrange_min 0 0\nsize\nroot\ncheapest 4 4\nsorted 4\ncontains 4\nnext 4\nrank 5\nintersect 4\ncheapest x\nvalues 4\ncontains 4\nlen\nbits 1\nnext 0\ntree 10\nintersect 0\nsparse 2 1\ncheapest 0 1\n",
+        b"wrong structure\nwrong structure\n1\nwrong structure\nwrong structure\nwrong structure\nwrong structure\nwrong structure\nwrong structure\nwrong structure\nwrong structure\nwrong structure\nwrong structure\nwrong structure\n4\n1\nwrong structure\nwrong structure\n1\nwrong structure\nwrong structure\n1\nwrong structure\n1\n1\nwrong structure\n2\nwrong structure\n2\nwrong structure\n",
+    ),
+];
+
+#[test]
+fn lines_of_documents(rt: HostRuntime) -> Result<(), Fail> {
+    for (case, input, output) in POSTINGS_CASES {
+        assert_eq!(rt; answers(rt.alloc(), input)?.as_slice(), output, "{case}");
+    }
+    Ok(())
+}
+
 // Symbols over more than two blocks of 512: 0, 1, 2 and 3, and so 300 times.
 #[test]
 fn symbols_over_blocks(rt: HostRuntime) -> Result<(), Fail> {

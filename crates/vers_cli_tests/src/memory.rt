@@ -8,7 +8,7 @@ use vers_cli::RunError;
 
 // An input and its output: load lines, queries with a list as their answer, and load lines that are
 // refused.
-const RUNS: [(&[u8], &[u8]); 3] = [
+const RUNS: [(&[u8], &[u8]); 4] = [
     (
         b"bits 0110\nrank1 3\nsorted 3 1\nsorted 4 4 9\niter\nfoo\nvalues 9 6 10\nrange_min 0 2\nsparse 3 3\nsparse 5 1 3\niter1\nget 9\ntree 1x\ntree 110100\ndfs_iter\nbwd_search 4 -2\nexcess 6\nsize",
         b"4\n2\nrefused\n3\n4 4 9\nbad line\n3\n1\nrefused\n5\n1 3\nnone\nbad line\n6\n0 1 3\n0\nrefused\n3\n",
@@ -20,6 +20,10 @@ const RUNS: [(&[u8], &[u8]); 3] = [
     (
         b"symbols 65 1\nsymbols 3 1 5 3\niter_u64\niter_sorted_u64\nrank_u64 3 11",
         b"refused\n3\n1 5 3\n1 3 5\n1\n",
+    ),
+    (
+        b"postings 2 7 5 3 9 3 12 8\nintersect 5 6 12 40\npostings 1\ncheapest 6 12\npostings 3 1 2 1\nintersect 5 5\nintersect\npostings 4 1\nintersect 1 4 5",
+        b"4\n5 12\nbad line\n9\nrefused\nrefused\n\n1\n4\n",
     ),
 ];
 
@@ -96,6 +100,8 @@ fn refused_load_lines(rt: HostRuntime) -> Result<(), Fail> {
         b"sparse 18446744073709551615 18446744073709551615",
         b"symbols 65 1",
         b"symbols 18446744073709551615",
+        b"postings 2 1 2 5",
+        b"postings 1 1 3 1 2 1",
     ] {
         let mut input = Vec::new(rt.alloc());
         input.extend_from_slice(b"bits 0110\n")?;
