@@ -16,3 +16,5 @@ mod makers;
 mod numbers;
 #[cfg(test)]
 mod queries;
+#[cfg(test)]
+mod wide;

@@ -5,8 +5,9 @@ use test_alloc::{Ending, Refusing, asked, takes_memory, try_make};
 use vers_bits::bit_vec::{BitVec, GrowError};
 use vers_wavelet::wavelet::WaveletMatrix;
 
+/// By which method symbols are made.
 #[derive(Clone, Copy, Drop)]
-enum Method {
+pub enum Method {
     Sorting,
     Counting,
 }
@@ -32,8 +33,8 @@ fn of_numbers<A: Allocator + Copy>(
     }
 }
 
-// The symbols of a list of bits. Out of memory where the maker isn't asked for them.
-fn of_bits<A: Allocator + Copy>(
+/// The symbols of a list of bits. Out of memory where the maker isn't asked for them.
+pub fn of_bits<A: Allocator + Copy>(
     method: Method,
     bits: &BitVec<A>,
     width: u16,
