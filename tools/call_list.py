@@ -1,14 +1,16 @@
 #!/usr/bin/env python3
 """Writes docs/CALLS.md: every public call of the library on one page, out of the sources.
 
-A row has a call as it is declared, the first paragraph of its doc comment, the conditions that a caller keeps, and what the
-counted form of the call adds to the counters at most. A call and its counted form share a row. `--check` compares the page
-with the sources and writes nothing; the rules over the text do the same.
+A row has a call as it is declared, the first paragraph of its doc comment, the conditions that a caller keeps, what the
+counted form of the call adds to the counters at most, and its time where docs/PERFORMANCE.md has one. A call and its counted form
+share a row. `--check` compares the page
+with the sources and writes nothing, which the gate does.
 """
 import os
 import re
 import sys
 
+from performance import times_of_calls
 from rattle_types import base
 from text_rules import listed_files, public_functions, read, sources_of
 
@@ -17,8 +19,10 @@ HEAD = """# Calls
 
 Every public call of the library, by the type or the module that it belongs to. `tools/call_list.py` writes this page out of the
 sources. A call without a condition answers every argument. *Reads* is the bound of the counted form, which is named like the
-call with `_counted` behind and takes a `Tally` last: each of nine counters rises by at most this. A type's last parameter `A` is
-the allocator. [DEFINITIONS.md](DEFINITIONS.md) has the words of conditions and bounds.
+call with `_counted` behind and takes a `Tally` last: each of nine counters rises by at most this. *Time* is
+what [PERFORMANCE.md](PERFORMANCE.md) has of it, which says how it was measured. A type's last parameter `A` is
+the allocator. [DEFINITIONS.md](DEFINITIONS.md) has the words of conditions and bounds, and the laws, which are functions with empty
+bodies.
 """
 CRATES = ("vers_bits", "vers_tally", "vers_rank", "vers_sorted", "vers_rmq", "vers_trees", "vers_wavelet", "postings", "vers_cli")
 
@@ -36,7 +40,10 @@ def doc_above(lines, at):
 
 def clauses_of(text, start, end):
     """Returns the clauses between a head and a body, as (kind, name, fact)."""
-    return re.findall(r"(?m)^\s*(requires|ensures) (?:([a-z_]\w*) )?\{ (.*) \}\s*$", text[start:end])
+    found = re.findall(
+        r"(?ms)^\s*(requires|ensures) (?:([a-z_]\w*) )?\{ (.*?)\s\}\s*(?=^\s*(?:requires|ensures)\b|\Z)", text[start:end]
+    )
+    return [(kind, name, " ".join(fact.split())) for kind, name, fact in found]
 
 
 class Row:
@@ -65,21 +72,23 @@ def code(facts):
     return ", ".join(f"`{cell(it)}`" for it in facts)
 
 
-def section(holder, rows):
-    """Returns the table of one owner."""
+def section(title, rows, times):
+    """Returns the table of one owner, with times where one of its calls has one."""
     by_name = {row.name: row for row in rows}
-    lines = [f"## {holder}", "", "| Call | Answers | Condition | Reads |", "|---|---|---|---|"]
+    timed = any((row.holder, row.name) in times for row in rows)
+    lines = [f"## {title}", "", "| Call | Answers | Condition | Reads |" + " Time |" * timed, "|---|---|---|---|" + "---|" * timed]
     for row in rows:
         if row.name.endswith("_counted") and row.name[:-len("_counted")] in by_name:
             continue
         counted = by_name.get(f"{row.name}_counted", row)
-        lines.append(f"| `{cell(row.head)}` | {cell(row.doc)} | {code(row.conditions)} | {code(counted.reads)} |")
+        time = f" {times.get((row.holder, row.name), '')} |" * timed
+        lines.append(f"| `{cell(row.head)}` | {cell(row.doc)} | {code(row.conditions)} | {code(counted.reads)} |{time}")
     return "\n".join(lines)
 
 
 def page(top):
     """Returns the text of the page."""
-    files, parts = listed_files(top), [HEAD.rstrip("\n")]
+    files, parts, times = listed_files(top), [HEAD.rstrip("\n")], times_of_calls(top)
     for crate in CRATES:
         groups = {}
         functions = sorted(public_functions(crate, sources_of(top, crate, files)), key=lambda it: (it.file.path, it.start))
@@ -88,7 +97,7 @@ def page(top):
             if not is_marker and function.file.module != "laws":
                 row = Row(function)
                 groups.setdefault(row.holder, []).append(row)
-        parts += [section(f"`{holder}` of `{crate}`", rows) for holder, rows in sorted(groups.items())]
+        parts += [section(f"`{holder}` of `{crate}`", rows, times) for holder, rows in sorted(groups.items())]
     return "\n\n".join(parts) + "\n"
 
 

@@ -6,9 +6,11 @@
 - `crates.txt` lists the folders of `crates/`, each once.
 - Nothing cites a label of a paper or a path of one machine, and the links of the documents lead somewhere.
 - Each word of a crate's `specs/` that the contract of a public function cites stands in `docs/DEFINITIONS.md`, in backticks.
+- Searches of parentheses take whole bytes from the tables: `WHOLE_BYTES` has the call that each function on the way makes.
 - `let _ =` is a mention for the prover, of a field (`&self.len`) or of a length (`high.len()`), and nothing else.
 - Documents and comments are in plain English: `UNPLAIN` has the phrases that aren't, with those to write instead.
-- Of the proofs of a crate below, a crate imports the page of laws (`PublicLaws`) alone, and of its `specs/inside` nothing.
+- Of the proofs of a crate below, a crate imports the page of laws (`PublicLaws`) alone, or one that its `proofs/Lib.antt`
+  passes on under another name, and of its `specs/inside` nothing.
 - What only proofs need stands in `specs/inside`: no contract of a public function and no other page of `specs/` cites a word of it.
 - What is said to stand on the contracts of another part of its crate imports nothing of that part's inside: `ON_CONTRACTS`.
 
@@ -43,12 +45,25 @@ DROPPED = re.compile(r"\blet _ = ([^;]*);")
 MENTION = re.compile(r"&\w+(?:\.\w+)+|\w+(?:\.\w+)*\.len\(\)")
 # the page of a crate's `proofs/` that crates above may import
 PAGE_OF_LAWS = "PublicLaws"
+PASSED_ON = re.compile(rf"(?m)^pub use Rattle\.\w+\.proofs\.{PAGE_OF_LAWS} as (\w+)$")
 FOREIGN = re.compile(r"\b(\w+)(?:\.|::)(proofs|specs)(?:\.|::)(\w+)(?:(?:\.|::)(\w+))?")
 # proofs that stand on the contracts of a part of their own crate, and the files of that part's inside
 ON_CONTRACTS = {
     "crates/vers_sorted/proofs/SparseBits.antt": {"Holds", "Packed", "Buckets", "Makes", "Split", "Scans", "Aheads", "inside"},
     "crates/vers_rmq/proofs/Blocks.antt": {"Tables"},
 }
+# functions on the way from a search to the tables of bytes, and the start of the call that each of them makes, in which no
+# bit is read alone
+SCANS, SEARCHES = "crates/vers_trees/src/trees/bp/scan.rt", "crates/vers_trees/src/trees/bp/search.rt"
+WHOLE_BYTES = {
+    (SEARCHES, "forward"): "scan_forward(bits,&tree.tables,",
+    (SEARCHES, "backward"): "scan_backward(bits,&tree.tables,",
+    (SCANS, "scan_forward"): "bytes_forward(bits,tables,head,tail,",
+    (SCANS, "scan_backward"): "bytes_backward(bits,tables,head,tail,",
+    (SCANS, "bytes_forward"): "place_met(tables.forward_entry(byte),",
+    (SCANS, "bytes_backward"): "place_met(tables.backward_entry(byte),",
+}
+READS_A_BIT = "is_one_counted("
 # phrases that are not plain English, and what to write instead
 UNPLAIN = {"want of memory": "out of memory", "at the most": "at most"}
 
@@ -100,6 +115,14 @@ def no_mentions(path, text):
             yield f"{path}:{text.count(chr(10), 0, found.start()) + 1}: drops `{found[1]}`; allowed: a mention of a field or a length"
 
 
+def bit_by_bit(path, text):
+    """Yields a line for each function on the way to the tables of bytes that doesn't take whole bytes from them."""
+    bodies = {it.name: it.text for it in file_of("", path, text).functions if it.body}
+    for (where, name), call in WHOLE_BYTES.items():
+        if where == path and (call not in bodies.get(name, "") or READS_A_BIT in bodies[name]):
+            yield f"{path}: {name} doesn't take whole bytes from the tables; allowed: `{call} ..)` and no bit read alone"
+
+
 def unplain(path, text):
     """Yields a line for each phrase of a document or a comment that isn't plain English; it may go over the end of a line."""
     for phrase, instead in UNPLAIN.items():
@@ -109,16 +132,23 @@ def unplain(path, text):
             yield f"{path}:{text.count(chr(10), 0, found.start()) + 1}: says `{phrase}`; write `{instead}`"
 
 
-def imported_insides(path, text, crates):
-    """Yields a line for each import of what a crate, or a part of it, keeps to itself."""
+def pages_of_laws(top, crate, files):
+    """Returns the names of the pages of laws that proofs of other crates may import from a crate."""
+    library = f"crates/{crate}/proofs/Lib.antt"
+    passed_on = PASSED_ON.findall(read(os.path.join(top, library))) if library in files else []
+    return {PAGE_OF_LAWS, *passed_on}
+
+
+def imported_insides(path, text, pages):
+    """Yields a line for each import of what a crate, or a part of it, keeps to itself; `pages` are each crate's pages of laws."""
     own = path.split("/")[1]
     for found in FOREIGN.finditer(text):
         crate, folder, name, part = found.groups()
         line = f"{path}:{text.count(chr(10), 0, found.start()) + 1}"
         if crate == own and name == "inside" and re.fullmatch(rf"crates/{own}/specs/\w+\.antt", path):
             yield f"{line}: a word of public contracts stands on `{folder}.{name}.{part}`, which only proofs need"
-        elif crate in crates and crate != own:
-            if name == "inside" or folder == "proofs" and name != PAGE_OF_LAWS:
+        elif crate in pages and crate != own:
+            if name == "inside" or folder == "proofs" and name not in pages[crate]:
                 allowed = f"`{PAGE_OF_LAWS}`" if folder == "proofs" else "its other words"
                 yield f"{line}: imports `{folder}.{name}` of {crate}; allowed: {allowed}"
         elif crate in (own, "crate") and {name, part} & ON_CONTRACTS.get(path, set()):
@@ -178,6 +208,7 @@ def crate_faults(top, crate, files):
     """Yields what is broken in the sources of one crate."""
     for path, text in sources_of(top, crate, files).items():
         yield from too_long(path, text, crate.endswith("_tests"))
+        yield from bit_by_bit(path, text)
         if not os.path.basename(path) == "main.rt":
             yield from undocumented(path, text)
             yield from no_mentions(path, text)
@@ -251,6 +282,7 @@ def faults(top):
             yield from undefined(crate, sources_of(top, crate, files), defined)
         except Unread as form:
             yield f"crates/{crate}: {form.what}, which `rattle_items.py` can't read"
+    pages = {crate: pages_of_laws(top, crate, files) for crate in there}
     for path in files:
         if not path.endswith(TEXTS) and os.path.basename(path) not in ("test", "vers", "run"):
             continue
@@ -262,7 +294,7 @@ def faults(top):
         if path.endswith((".md", ".rt")):
             yield from unplain(path, text)
         if path.startswith("crates/") and path.endswith((".antt", ".rt")):
-            yield from imported_insides(path, text, there)
+            yield from imported_insides(path, text, pages)
         if path.endswith(".md"):
             for link in LINK.finditer(text):
                 if not os.path.exists(os.path.join(top, os.path.dirname(path), link[1])):
@@ -270,7 +302,7 @@ def faults(top):
 
 
 GOOD = {
-    "crates.txt": "low: # a comment\nhigh: low\nvers_rmq:\n",
+    "crates.txt": "low: # a comment\nhigh: low\nvers_rmq:\nvers_trees:\n",
     "README.md": "See [the page](docs/PAGE.md).\n",
     "docs/PAGE.md": "A page.\n",
     "docs/DEFINITIONS.md": "`more x` is the number after `x`.\n",
@@ -279,8 +311,12 @@ GOOD = {
     "crates/low/specs/More.antt": "use Rattle.low.specs.Less.{less}\n",
     "crates/low/proofs/PublicLaws.antt": "use Rattle.low.proofs.Own.{law}\n",
     "crates/high/src/lib.rt": "//! A crate above.\nghost use Rattle.low.specs.More.{more};\n",
+    "crates/high/proofs/Lib.antt": "pub mod More\npub use Rattle.low.proofs.PublicLaws as LowLaws\n",
     "crates/high/proofs/More.antt": "use Rattle.low.proofs.PublicLaws.{law}\nuse Rattle.high.proofs.Own.{law}\n",
     "crates/vers_rmq/proofs/Blocks.antt": "use Rattle.vers_rmq.proofs.Minima.{law}\n",
+    "crates/vers_rmq/proofs/More.antt": "use Rattle.high.proofs.LowLaws.{law}\n",
+    SEARCHES: "//! Searches.\nfn forward() {\n    scan_forward(bits, &tree.tables, 1)\n}\n\nfn backward() {\n    scan_backward(bits, &tree.tables, 1)\n}\n",
+    SCANS: "//! Scans.\n" + "".join(f"fn {name}() {{\n    {call} 1)\n}}\n" for (path, name), call in WHOLE_BYTES.items() if path == SCANS),
 }
 # what is wanted to be said, and the change to the good repository that asks for it
 BREAKS = {
@@ -295,11 +331,15 @@ BREAKS = {
     "cites `more`": ("docs/DEFINITIONS.md", "`more x`", "More"),
     "cites `less`": ("crates/low/src/lib.rt", "{more}", "{less as more}"),
     "imports `proofs.Own` of low": ("crates/high/proofs/More.antt", "low.proofs.PublicLaws", "low.proofs.Own"),
+    "imports `proofs.LowLaws` of high": ("crates/high/proofs/Lib.antt", "low.proofs.PublicLaws", "low.proofs.Own"),
     "imports `specs.inside` of low": ("crates/high/src/lib.rt", "low.specs.More", "low.specs.inside.More"),
     "stands on `specs.inside.Part`": ("crates/low/specs/More.antt", "specs.Less", "specs.inside.Part"),
     "cites `more` of `specs/inside`": ("crates/low/src/lib.rt", "specs.More", "specs.inside.More"),
     "drops `helper(x)`": ("crates/low/src/lib.rt", "let _ = x.len();", "let _ = helper(x);"),
     "imports `Tables`": ("crates/vers_rmq/proofs/Blocks.antt", "proofs.Minima", "specs.inside.Tables"),
+    "backward doesn't take whole bytes": (SEARCHES, "scan_backward(bits, &tree.tables,", "bits_backward(bits,"),
+    "scan_forward doesn't take whole bytes": (SCANS, "bytes_forward(bits,tables,head,tail,", "bits_forward(bits,head,tail,"),
+    "bytes_forward doesn't take whole bytes": (SCANS, "place_met(tables.forward_entry(byte), 1)", "place_met(tables.forward_entry(byte), bits.is_one_counted(1))"),
     "leads nowhere": ("README.md", "docs/PAGE.md", "docs/NONE.md"),
     "says `at the most`": ("docs/PAGE.md", "A page.", "A page has at\nthe most one link."),
     "says `want of memory`": ("crates/low/src/lib.rt", "/// One more.\n", "/// One more. Err for want\n/// of memory.\n"),

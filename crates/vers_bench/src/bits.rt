@@ -1,9 +1,7 @@
 //! The series of lists of bits with ranks and selects.
 //!
 //! Each pass is a function of its own in the machine code, so that a profiler counts its instructions.
-use crate::report::{
-    Series, Settings, asked, let_go, nanoseconds_since, print_size, run_builds, run_series,
-};
+use crate::report::{Series, Settings, asked, built_since, print_size, run_builds, run_series};
 use crate::workload::{Random, fold, limbs};
 use std::alloc::{AllocError, Global};
 use std::io;
@@ -99,8 +97,7 @@ fn indexed(rt: &HostRuntime, limbs: &[u64]) -> Result<Bits, AllocError> {
 fn build_time(rt: &HostRuntime, limbs: &[u64]) -> io::Result<u64> {
     let source = copied(rt, limbs)?;
     let start = rt.thread_cpu_time()?;
-    let_go(RsVec::from_bit_vec(source))?;
-    nanoseconds_since(rt, start)
+    built_since(rt, start, RsVec::from_bit_vec(source))
 }
 
 // How much more memory the list takes than its bits alone, in thousandths of a percent.

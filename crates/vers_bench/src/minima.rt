@@ -1,9 +1,7 @@
 //! The series of range minima.
 ghost use Rattle.std.specs.Prelude.{◌≡◌, ◌≤◌, length, IfOk};
 
-use crate::report::{
-    Series, Settings, asked, let_go, nanoseconds_since, print_size, run_builds, run_series,
-};
+use crate::report::{Series, Settings, asked, built_since, print_size, run_builds, run_series};
 use crate::workload::{Random, fold, values};
 use std::alloc::{AllocError, Global};
 use std::io;
@@ -161,8 +159,7 @@ fn build_time<M: RangeMinima>(rt: &HostRuntime, items: &[u64]) -> io::Result<u64
     }
     let copy = copied(rt, items)?;
     let start = rt.thread_cpu_time()?;
-    let_go(M::made(copy))?;
-    nanoseconds_since(rt, start)
+    built_since(rt, start, M::made(copy))
 }
 
 fn made<M: RangeMinima>(rt: &HostRuntime, items: &[u64]) -> io::Result<M> {

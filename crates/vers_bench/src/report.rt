@@ -1,4 +1,5 @@
 //! What is printed: a line for each series, with its checksum, and with its time where one is asked for.
+use std::alloc::AllocError;
 use std::io;
 use std::time::{CpuClock, Duration};
 
@@ -134,16 +135,27 @@ pub fn asked<T: Drop, R, E, F: FnOnce(&T) -> Result<R, E>>(
     }
 }
 
-/// Whether a value was made, which is let go.
-pub fn let_go<T: Drop, E>(made: Result<T, E>) -> Result<(), E> {
+/// The time that a build took, in nanoseconds, where `start` is when it began. What it made is let go
+/// after that time is taken.
+pub fn built_since<T: Drop>(
+    rt: &HostRuntime,
+    start: Duration,
+    made: Result<T, AllocError>,
+) -> io::Result<u64> {
     match made {
-        Ok(_) => Ok(()),
-        Err(error) => Err(error),
+        Ok(value) => {
+            let taken = nanoseconds_since(rt, start);
+            let_go(value);
+            taken
+        }
+        Err(error) => Err(io::Error::from(error)),
     }
 }
 
-/// Runs a series of builds of `count` items and prints its line. `build` makes the value, lets it go
-/// and returns the time that both took.
+fn let_go<T: Drop>(_value: T) {}
+
+/// Runs a series of builds of `count` items and prints its line. `build` makes the value and
+/// returns the time that it took.
 pub fn run_builds<F: FnMut() -> io::Result<u64>>(
     rt: &HostRuntime,
     settings: &Settings,

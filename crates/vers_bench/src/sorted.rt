@@ -4,8 +4,7 @@
 ghost use Rattle.std.specs.List.Sorted.{IsNonDecreasing};
 
 use crate::report::{
-    Series, Settings, asked, let_go, nanoseconds_since, per_operation, print_line, print_size,
-    run_series,
+    Series, Settings, asked, built_since, per_operation, print_line, print_size, run_series,
 };
 use crate::workload::{Clustered, NONE, Random, fold, members_clustered, members_uniform};
 use std::alloc::{AllocError, Global};
@@ -70,8 +69,7 @@ fn build_time(rt: &HostRuntime, numbers: &[u64]) -> io::Result<u64>
     requires { IsNonDecreasing numbers.now }
 {
     let start = rt.thread_cpu_time()?;
-    let_go(made_of(rt.alloc(), numbers))?;
-    nanoseconds_since(rt, start)
+    built_since(rt, start, made_of(rt.alloc(), numbers))
 }
 
 // The times of the builds.

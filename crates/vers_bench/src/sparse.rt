@@ -1,9 +1,7 @@
 //! The series of lists of bits with few ones.
 //!
 //! Each pass is a function of its own in the machine code, so that a profiler counts its instructions.
-use crate::report::{
-    Series, Settings, asked, let_go, nanoseconds_since, print_size, run_builds, run_series,
-};
+use crate::report::{Series, Settings, asked, built_since, print_size, run_builds, run_series};
 use crate::workload::{NONE, Random, fold, limbs};
 use std::alloc::{AllocError, Global};
 use std::io;
@@ -61,14 +59,12 @@ fn sparse_of_inverted(bits: &Bits) -> Result<Sparse, AllocError> {
 // The time of a build.
 fn build_time(rt: &HostRuntime, bits: &Bits) -> io::Result<u64> {
     let start = rt.thread_cpu_time()?;
-    let_go(sparse_of(bits))?;
-    nanoseconds_since(rt, start)
+    built_since(rt, start, sparse_of(bits))
 }
 
 fn inverted_build_time(rt: &HostRuntime, bits: &Bits) -> io::Result<u64> {
     let start = rt.thread_cpu_time()?;
-    let_go(sparse_of_inverted(bits))?;
-    nanoseconds_since(rt, start)
+    built_since(rt, start, sparse_of_inverted(bits))
 }
 
 // How many bits a one takes, in thousandths.

@@ -1,7 +1,5 @@
 //! The series of wavelet matrices.
-use crate::report::{
-    Series, Settings, asked, let_go, nanoseconds_since, print_size, run_builds, run_series,
-};
+use crate::report::{Series, Settings, asked, built_since, print_size, run_builds, run_series};
 use crate::workload::{Random, fold, symbols};
 use std::alloc::{AllocError, Global};
 use std::io;
@@ -308,14 +306,12 @@ fn counted_build(
 
 fn sorted_time(rt: &HostRuntime, list: &[u64], width: u16) -> io::Result<u64> {
     let start = rt.thread_cpu_time()?;
-    let_go(sorted_build(rt.alloc(), list, width))?;
-    nanoseconds_since(rt, start)
+    built_since(rt, start, sorted_build(rt.alloc(), list, width))
 }
 
 fn counted_time(rt: &HostRuntime, list: &[u64], width: u16) -> io::Result<u64> {
     let start = rt.thread_cpu_time()?;
-    let_go(counted_build(rt.alloc(), list, width))?;
-    nanoseconds_since(rt, start)
+    built_since(rt, start, counted_build(rt.alloc(), list, width))
 }
 
 fn run_builds_of<'a>(

@@ -5,9 +5,7 @@ ghost use Rattle.std.specs.Prelude.{All, IfOk, IfSome};
 ghost use Rattle.vers_trees.specs.Forest.{IsBalanced, forest_of};
 ghost use Rattle.vers_trees.specs.Nodes.{IsNode};
 
-use crate::report::{
-    Series, Settings, asked, let_go, nanoseconds_since, print_size, run_builds, run_series,
-};
+use crate::report::{Series, Settings, asked, built_since, print_size, run_builds, run_series};
 use crate::workload::{NONE, Random, fold, parentheses};
 use std::alloc::{AllocError, Global};
 use std::io;
@@ -286,8 +284,8 @@ fn ends_of(alloc: Global, tree: &Tree, nodes: &[usize]) -> Result<Vec<usize>, Al
     Ok(ends)
 }
 
-fn tree_of(bits: Bits) -> io::Result<Tree> {
-    BpTree::from_bit_vector(bits).map_err(|_| io::Error::from(AllocError))
+fn tree_of(bits: Bits) -> Result<Tree, AllocError> {
+    BpTree::from_bit_vector(bits).map_err(|_| AllocError)
 }
 
 // The time of a build from a copy of the bits, which isn't timed.
@@ -295,8 +293,7 @@ fn build_time(rt: &HostRuntime, bits: &Bits) -> io::Result<u64> {
     let copy: Result<_, _> = bits.clone();
     let copy = copy?;
     let start = rt.thread_cpu_time()?;
-    let_go(tree_of(copy))?;
-    nanoseconds_since(rt, start)
+    built_since(rt, start, tree_of(copy))
 }
 
 // How many bits are kept for a bit, in thousandths.
@@ -344,7 +341,7 @@ fn run_bits<'a>(
     let copy: Result<_, _> = bits.clone();
     let copy = copy?;
     asked(
-        tree_of(copy),
+        tree_of(copy).map_err(io::Error::from),
         |tree| run_tree(rt, settings, series, tree, query_count),
     )
 }

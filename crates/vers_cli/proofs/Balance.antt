@@ -2,7 +2,8 @@
 use Rattle.std.proofs.Common.{◌≡◌, ◌≢◌, ℕ, zero, suc, Bool, true, false, List, [], ◌∷◌, ◌++◌, Decides, Option, Some, None, refl, ap, ◌∙◌, append_assoc}
 use Rattle.std.proofs.lemmas.List.{append-nil}
 use Rattle.vers_trees.specs.Forest.{Forest, none, tree, text, IsBalanced}
-use Rattle.vers_cli.specs.TreeLines.{first_place, are_balanced, closes}
+use Rattle.vers_cli.specs.ForestLines.{are_balanced, closes}
+use Rattle.vers_cli.specs.TreeLines.{first_place}
 
 -- a forest written down closes what it opens
 closes-text : (F : Forest) (n : ℕ) (rest : List Bool) → closes n (text F ++ rest) ≡ closes n rest

@@ -1,5 +1,5 @@
 -- The arguments of a line: its words after the first. None where they are malformed.
-use Rattle.std.specs.Prelude.{ℕ, ℤ, Bool, true, ◌||◌, ◌&&◌, ◌==◌, List, [], ◌∷◌, map, Option, Some, None, option_map, option_and_then, if◌then◌else◌}
+use Rattle.std.specs.Prelude.{ℕ, ℤ, Bool, ◌||◌, ◌==◌, List, [], ◌∷◌, map, Option, Some, None, option_map, option_and_then, if◌then◌else◌}
 use Rattle.std.specs.List.{list_all}
 pub use Rattle.vers_sorted.specs.Sorted.{each_next}
 use Rattle.vers_cli.specs.Text.{number_of, signed_number_of}
@@ -21,6 +21,11 @@ two_numbers [] = None
 two_numbers (first ∷ []) = None
 two_numbers (first ∷ second ∷ []) = option_and_then (λ m. option_map (λ n. (m, n)) (number_of second)) (number_of first)
 two_numbers (first ∷ second ∷ other ∷ more) = None
+
+-- three numbers
+abbrev pub three_numbers : List (List ℕ) → Option (ℕ × ℕ × ℕ)
+three_numbers [] = None
+three_numbers (first ∷ others) = option_and_then (λ l. option_map (λ more. (l, more.0, more.1)) (two_numbers others)) (number_of first)
 
 -- a number and a signed number
 abbrev pub number_and_signed : List (List ℕ) → Option (ℕ × ℤ)

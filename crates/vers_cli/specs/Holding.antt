@@ -1,5 +1,7 @@
 -- What is held between lines, as the plain list.
 use Rattle.std.specs.Prelude.{ℕ, Bool, List, length}
+use Rattle.vers_wavelet.specs.Symbols.{Symbols}
+use Rattle.postings.specs.Posted.{Posted}
 use Rattle.vers_cli.specs.declared.held.Held.{Held}
 use Rattle.vers_cli.specs.declared.held.Held.TheVariants as held
 
@@ -11,6 +13,8 @@ pub data Holding : Type 0 where
   SparseHeld : List Bool → Holding
   ValuesHeld : List ℕ → Holding
   TreeHeld : List Bool → Holding
+  SymbolsHeld : Symbols → Holding
+  PostingsHeld : Posted → Holding
 
 -- the plain list of what the program holds
 abbrev pub holding_of : {A : Type 0} → Held A → Holding
@@ -20,6 +24,8 @@ holding_of (held.Sorted members) = SortedHeld members
 holding_of (held.Sparse bits) = SparseHeld bits
 holding_of (held.Values values) = ValuesHeld values
 holding_of (held.Tree bits) = TreeHeld bits
+holding_of (held.Symbols symbols) = SymbolsHeld symbols
+holding_of (held.Postings posted) = PostingsHeld posted
 
 -- the length of what is held
 abbrev pub length_of : Holding → ℕ
@@ -29,3 +35,5 @@ length_of (SortedHeld members) = length members
 length_of (SparseHeld bits) = length bits
 length_of (ValuesHeld values) = length values
 length_of (TreeHeld bits) = length bits
+length_of (SymbolsHeld symbols) = length symbols.items
+length_of (PostingsHeld posted) = length posted.documents

@@ -9,7 +9,10 @@ pub mod BitsLines
 pub mod SortedLines
 pub mod SparseLines
 pub mod ValuesLines
+pub mod ForestLines
 pub mod TreeLines
+pub mod SymbolsLines
+pub mod PostingsLines
 pub mod Rules
 pub mod Answers
 pub mod Session

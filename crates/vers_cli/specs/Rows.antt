@@ -2,20 +2,32 @@
 use Rattle.std.specs.Prelude.{◌≡◌, ℕ, ◌++◌, pos, negsuc, true, false, List, [], ◌∷◌, codes, Some, None, refl}
 use Rattle.std.specs.Fmt.{digits}
 use Rattle.vers_bits.specs.Bits.{count, places, select}
-use Rattle.vers_sorted.specs.Sorted.{below}
+use Rattle.vers_sorted.specs.Sorted.{below, greatest_not_above, least_not_below}
 use Rattle.vers_sorted.specs.Ones.{ones_at}
+use Rattle.vers_wavelet.specs.Symbols.{occurrences}
+use Rattle.vers_wavelet.specs.Makers.{low_symbols}
 use Rattle.vers_trees.specs.Excess.{excess, first_rise_after, last_rise_before, enclosing}
+use Rattle.vers_trees.specs.Forest.{forest_of}
+use Rattle.vers_trees.specs.Nodes.{closing, is_ancestor, is_proper_ancestor, depth, parent, nodes_under, level, level_ancestor, subtree, node_index}
+use Rattle.vers_trees.specs.Traversals.{subtree_post}
 use Rattle.vers_cli.specs.declared.name.Name.TheVariants.{Query}
-use Rattle.vers_cli.specs.declared.name.Query.TheVariants.{Rank1, Tree}
+use Rattle.vers_cli.specs.declared.name.Query.TheVariants.{Rank1, Tree, Symbols, Forest}
 use Rattle.vers_cli.specs.declared.name.TreeQuery.TheVariants.{Place, Search}
 use Rattle.vers_cli.specs.declared.name.PlaceQuery.TheVariants.{Open}
 use Rattle.vers_cli.specs.declared.name.SearchQuery.TheVariants.{BwdSearch}
+use Rattle.vers_cli.specs.declared.name.SymbolsQuery.TheVariants.{Range}
+use Rattle.vers_cli.specs.declared.name.RangeQuery.TheVariants.{RangeMedianU64}
+use Rattle.vers_cli.specs.declared.name.ForestQuery.TheVariants.{Level, LevelAncestor}
+use Rattle.vers_cli.specs.declared.name.LevelQuery.TheVariants.{LevelRightmost}
 use Rattle.vers_cli.specs.Text.{number_of, signed_number_of, words_of, whole_lines, last_part, lines_of}
-use Rattle.vers_cli.specs.Arguments.{bits_of, two_numbers, number_and_signed, all_numbers}
+use Rattle.vers_cli.specs.Arguments.{bits_of, two_numbers, three_numbers, number_and_signed, all_numbers}
 use Rattle.vers_cli.specs.Name.{name_of}
-use Rattle.vers_cli.specs.Holding.{Holding, Nothing, BitsHeld, SortedHeld, SparseHeld, ValuesHeld, TreeHeld}
+use Rattle.vers_cli.specs.Holding.{Holding, Nothing, BitsHeld, SortedHeld, SparseHeld, ValuesHeld, TreeHeld, SymbolsHeld, PostingsHeld}
 use Rattle.vers_cli.specs.ValuesLines.{places_between, first_least}
-use Rattle.vers_cli.specs.TreeLines.{are_balanced}
+use Rattle.vers_cli.specs.ForestLines.{are_balanced}
+use Rattle.vers_rmq.specs.Minima.{is_least as costs_least, first_least_of}
+use Rattle.postings.specs.Posted.{is_among, places_between as places_of_range, cheapest, common}
+use Rattle.vers_cli.specs.PostingsLines.{posted_of}
 use Rattle.vers_cli.specs.Answers.{answer_to_words, answer_to, holding_after_words, holding_after, answers_to}
 
 -- a text with the end of a line
@@ -118,6 +130,12 @@ name_of-open = refl
 
 pub name_of-bwd_search : name_of (codes "bwd_search") ≡ Some (Query (Tree (Search BwdSearch)))
 name_of-bwd_search = refl
+
+pub name_of-level_ancestor : name_of (codes "level_ancestor") ≡ Some (Query (Forest LevelAncestor))
+name_of-level_ancestor = refl
+
+pub name_of-level_rightmost : name_of (codes "level_rightmost") ≡ Some (Query (Forest (Level LevelRightmost)))
+name_of-level_rightmost = refl
 
 pub bits_of-none : bits_of [] ≡ Some []
 bits_of-none = refl
@@ -303,6 +321,175 @@ answer-excess_0 = refl
 pub answer-excess_2 : answer_to (TreeHeld (false ∷ true ∷ [])) (codes "excess 2") ≡ ended (codes "refused")
 unfolding answer_to_words number_of
 answer-excess_2 = refl
+
+-- a line with three arguments
+pub three_numbers-some : three_numbers (codes "0" ∷ codes "3" ∷ codes "4" ∷ []) ≡ Some (0, 3, 4)
+unfolding number_of
+three_numbers-some = refl
+
+pub three_numbers-two : three_numbers (codes "0" ∷ codes "3" ∷ []) ≡ None
+unfolding number_of
+three_numbers-two = refl
+
+pub name_of-range_median_u64 : name_of (codes "range_median_u64") ≡ Some (Query (Symbols (Range RangeMedianU64)))
+name_of-range_median_u64 = refl
+
+-- the symbols 1, 5 and 3 of three bits each, held
+abbrev held_153 : Holding
+held_153 = SymbolsHeld (record { width = 3; items = 1 ∷ 5 ∷ 3 ∷ [] })
+
+pub held-symbols_153 : holding_after held_0110 (codes "symbols 3 1 5 3") ≡ held_153
+unfolding holding_after_words number_of low_symbols
+held-symbols_153 = refl
+
+-- the low bits of each number count, and symbols of no bits are none
+pub held-symbols_9_2 : holding_after held_0110 (codes "symbols 1 9 2") ≡ SymbolsHeld (record { width = 1; items = 1 ∷ 0 ∷ [] })
+unfolding holding_after_words number_of low_symbols
+held-symbols_9_2 = refl
+
+pub answer-symbols_0 : answer_to held_153 (codes "symbols 0 7 7") ≡ ended (codes "0")
+unfolding answer_to_words number_of low_symbols digits
+answer-symbols_0 = refl
+
+-- a width of more than 64 bits, and a line without a width
+pub answer-symbols_65 : answer_to held_153 (codes "symbols 65 1") ≡ ended (codes "refused")
+unfolding answer_to_words number_of
+answer-symbols_65 = refl
+
+pub answer-no_width : answer_to held_153 (codes "symbols") ≡ ended (codes "bad line")
+unfolding answer_to_words
+answer-no_width = refl
+
+pub answer-iter_sorted_u64 : answer_to held_153 (codes "iter_sorted_u64") ≡ ended (codes "1 3 5")
+unfolding answer_to_words digits
+answer-iter_sorted_u64 = refl
+
+pub answer-rank_u64_3_11 : answer_to held_153 (codes "rank_u64 3 11") ≡ ended (codes "1")
+unfolding answer_to_words number_of occurrences digits
+answer-rank_u64_3_11 = refl
+
+pub answer-select_u64_0_3 : answer_to held_153 (codes "select_u64 0 3") ≡ ended (codes "2")
+unfolding answer_to_words number_of occurrences digits
+answer-select_u64_0_3 = refl
+
+pub answer-predecessor_u64_4 : answer_to held_153 (codes "predecessor_u64 0 3 4") ≡ ended (codes "3")
+unfolding answer_to_words number_of greatest_not_above digits
+answer-predecessor_u64_4 = refl
+
+pub answer-successor_u64_4 : answer_to held_153 (codes "successor_u64 0 3 4") ≡ ended (codes "5")
+unfolding answer_to_words number_of least_not_below digits
+answer-successor_u64_4 = refl
+
+pub answer-range_median_u64_0_2 : answer_to held_153 (codes "range_median_u64 0 2") ≡ ended (codes "1")
+unfolding answer_to_words number_of digits
+answer-range_median_u64_0_2 = refl
+
+-- a range that begins past the last place, and one that ends before it begins
+pub answer-rank_range_u64_3_3 : answer_to held_153 (codes "rank_range_u64 3 3 1") ≡ ended (codes "none")
+unfolding answer_to_words number_of
+answer-rank_range_u64_3_3 = refl
+
+pub answer-range_max_u64_3_2 : answer_to held_153 (codes "range_max_u64 3 2") ≡ ended (codes "none")
+unfolding answer_to_words number_of
+answer-range_max_u64_3_2 = refl
+
+-- the nodes of a forest
+pub answer-children_0 : answer_to held_tree (codes "children 0") ≡ ended (codes "1 3")
+unfolding answer_to_words number_of digits forest_of closing is_ancestor is_proper_ancestor depth parent nodes_under level level_ancestor subtree node_index
+answer-children_0 = refl
+
+pub answer-children_1 : answer_to held_tree (codes "children 1") ≡ ended ([])
+unfolding answer_to_words number_of digits forest_of closing is_ancestor is_proper_ancestor depth parent nodes_under level level_ancestor subtree node_index
+answer-children_1 = refl
+
+pub answer-rev_children_0 : answer_to held_tree (codes "rev_children 0") ≡ ended (codes "3 1")
+unfolding answer_to_words number_of digits forest_of closing is_ancestor is_proper_ancestor depth parent nodes_under level level_ancestor subtree node_index
+answer-rev_children_0 = refl
+
+pub answer-dfs_post_iter : answer_to held_tree (codes "dfs_post_iter") ≡ ended (codes "1 3 0")
+unfolding answer_to_words digits forest_of
+answer-dfs_post_iter = refl
+
+pub answer-subtree_post_iter_0 : answer_to held_tree (codes "subtree_post_iter 0") ≡ ended (codes "1 3 0")
+unfolding answer_to_words number_of digits forest_of closing is_ancestor is_proper_ancestor depth parent nodes_under level level_ancestor subtree node_index subtree_post
+answer-subtree_post_iter_0 = refl
+
+pub answer-depth_3 : answer_to held_tree (codes "depth 3") ≡ ended (codes "1")
+unfolding answer_to_words number_of digits forest_of closing is_ancestor is_proper_ancestor depth parent nodes_under level level_ancestor subtree node_index
+answer-depth_3 = refl
+
+pub answer-is_leaf_3 : answer_to held_tree (codes "is_leaf 3") ≡ ended (codes "1")
+unfolding answer_to_words number_of digits forest_of closing is_ancestor is_proper_ancestor depth parent nodes_under level level_ancestor subtree node_index
+answer-is_leaf_3 = refl
+
+pub answer-is_ancestor_1_3 : answer_to held_tree (codes "is_ancestor 1 3") ≡ ended (codes "0")
+unfolding answer_to_words number_of digits forest_of closing is_ancestor is_proper_ancestor depth parent nodes_under level level_ancestor subtree node_index
+answer-is_ancestor_1_3 = refl
+
+pub answer-level_ancestor_3_2 : answer_to held_tree (codes "level_ancestor 3 2") ≡ ended (codes "none")
+unfolding answer_to_words number_of digits forest_of closing is_ancestor is_proper_ancestor depth parent nodes_under level level_ancestor subtree node_index
+answer-level_ancestor_3_2 = refl
+
+-- a place without a one, parentheses that are not balanced, and malformed arguments, which come first
+pub answer-parent_2 : answer_to held_tree (codes "parent 2") ≡ ended (codes "refused")
+unfolding answer_to_words number_of
+answer-parent_2 = refl
+
+pub answer-parent_of_unbalanced : answer_to (TreeHeld (false ∷ true ∷ [])) (codes "parent 1") ≡ ended (codes "refused")
+unfolding answer_to_words number_of
+answer-parent_of_unbalanced = refl
+
+pub answer-level_leftmost_of_unbalanced : answer_to (TreeHeld (false ∷ true ∷ [])) (codes "level_leftmost 0") ≡ ended (codes "refused")
+unfolding answer_to_words number_of
+answer-level_leftmost_of_unbalanced = refl
+
+pub answer-parent_x_of_unbalanced : answer_to (TreeHeld (false ∷ true ∷ [])) (codes "parent x") ≡ ended (codes "bad line")
+unfolding answer_to_words number_of
+answer-parent_x_of_unbalanced = refl
+
+-- documents and costs in turn, and a document without a cost
+pub posted_of-2735 : posted_of (2 ∷ 7 ∷ 3 ∷ 5 ∷ []) ≡ Some (record { documents = 2 ∷ 3 ∷ []; costs = 7 ∷ 5 ∷ [] })
+posted_of-2735 = refl
+
+pub posted_of-273 : posted_of (2 ∷ 7 ∷ 3 ∷ []) ≡ None
+posted_of-273 = refl
+
+-- four documents with their costs, held
+abbrev held_postings : Holding
+held_postings = PostingsHeld (record { documents = 2 ∷ 5 ∷ 9 ∷ 12 ∷ []; costs = 7 ∷ 3 ∷ 3 ∷ 8 ∷ [] })
+
+pub held-postings : holding_after held_0110 (codes "postings 2 7 5 3 9 3 12 8") ≡ held_postings
+unfolding holding_after_words number_of
+held-postings = refl
+
+pub answer-contains_6 : answer_to held_postings (codes "contains 6") ≡ ended (codes "0")
+unfolding answer_to_words number_of is_among digits
+answer-contains_6 = refl
+
+pub answer-next_6 : answer_to held_postings (codes "next 6") ≡ ended (codes "9")
+unfolding answer_to_words number_of least_not_below digits
+answer-next_6 = refl
+
+pub answer-cheapest_6_12 : answer_to held_postings (codes "cheapest 6 12") ≡ ended (codes "9")
+unfolding answer_to_words number_of cheapest places_of_range first_least_of costs_least digits
+answer-cheapest_6_12 = refl
+
+pub answer-intersect : answer_to held_postings (codes "intersect 5 6 12 40") ≡ ended (codes "5 12")
+unfolding answer_to_words number_of common is_among digits
+answer-intersect = refl
+
+-- documents that don't ascend strictly are refused, and a document without a cost is malformed
+pub answer-intersect_5_5 : answer_to held_postings (codes "intersect 5 5") ≡ ended (codes "refused")
+unfolding answer_to_words number_of
+answer-intersect_5_5 = refl
+
+pub answer-postings_3_1_2_1 : answer_to held_postings (codes "postings 3 1 2 1") ≡ ended (codes "refused")
+unfolding answer_to_words number_of
+answer-postings_3_1_2_1 = refl
+
+pub answer-postings_1 : answer_to held_postings (codes "postings 1") ≡ ended (codes "bad line")
+unfolding answer_to_words number_of
+answer-postings_1 = refl
 
 -- a line without words has no answer
 pub answer-no_words : answer_to held_0110 (codes "  ") ≡ []

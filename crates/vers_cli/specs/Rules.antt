@@ -12,7 +12,7 @@ use Rattle.vers_cli.specs.declared.name.Query.{Query}
 use Rattle.vers_cli.specs.declared.name.Name.TheVariants as name
 use Rattle.vers_cli.specs.declared.name.Load.TheVariants as load
 use Rattle.vers_cli.specs.Arguments.{bits_of, all_numbers}
-use Rattle.vers_cli.specs.Holding.{Holding, Nothing, BitsHeld, SortedHeld, SparseHeld, ValuesHeld, TreeHeld, length_of}
+use Rattle.vers_cli.specs.Holding.{Holding, Nothing, BitsHeld, SortedHeld, SparseHeld, ValuesHeld, TreeHeld, SymbolsHeld, PostingsHeld, length_of}
 use Rattle.vers_cli.specs.Loading.{map_loading}
 use Rattle.vers_cli.specs.declared.loading.Loading.{Loading}
 use Rattle.vers_cli.specs.declared.loading.Loading.TheVariants.{Malformed, Inadmissible, Accepted}
@@ -22,6 +22,8 @@ use Rattle.vers_cli.specs.SortedLines.{sorted_loaded, sorted_reply}
 use Rattle.vers_cli.specs.SparseLines.{sparse_loaded, sparse_reply}
 use Rattle.vers_cli.specs.ValuesLines.{values_loaded, values_reply}
 use Rattle.vers_cli.specs.TreeLines.{tree_loaded, tree_reply}
+use Rattle.vers_cli.specs.SymbolsLines.{symbols_loaded, symbols_reply}
+use Rattle.vers_cli.specs.PostingsLines.{postings_loaded, postings_reply}
 
 -- what a load line gives
 abbrev pub loaded : Load → List (List ℕ) → Loading Holding
@@ -30,6 +32,8 @@ loaded load.Sorted arguments = map_loading SortedHeld (sorted_loaded (all_number
 loaded load.Sparse arguments = map_loading SparseHeld (sparse_loaded (all_numbers arguments))
 loaded load.Values arguments = map_loading ValuesHeld (values_loaded (all_numbers arguments))
 loaded load.Tree arguments = map_loading TreeHeld (tree_loaded (bits_of arguments))
+loaded load.Symbols arguments = map_loading SymbolsHeld (symbols_loaded (all_numbers arguments))
+loaded load.Postings arguments = map_loading PostingsHeld (postings_loaded (all_numbers arguments))
 
 -- the reply of a load line: the length where it is accepted
 abbrev pub load_reply : Loading Holding → PlainReply
@@ -51,6 +55,8 @@ query_reply (SortedHeld members) query arguments = sorted_reply members query ar
 query_reply (SparseHeld bits) query arguments = sparse_reply bits query arguments
 query_reply (ValuesHeld values) query arguments = values_reply values query arguments
 query_reply (TreeHeld bits) query arguments = tree_reply bits query arguments
+query_reply (SymbolsHeld symbols) query arguments = symbols_reply symbols query arguments
+query_reply (PostingsHeld posted) query arguments = postings_reply posted query arguments
 
 -- the reply of a line whose first word is this name, or none
 abbrev pub reply_to : Holding → Option Name → List (List ℕ) → PlainReply

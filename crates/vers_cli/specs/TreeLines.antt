@@ -1,10 +1,10 @@
 -- The lines of a list of parentheses.
-use Rattle.std.specs.Prelude.{ℕ, zero, suc, ◌+◌, ℤ, negsuc, Bool, false, true, nat_le, nat_lt, List, [], ◌∷◌, length, Option, Some, None, if◌then◌else◌}
+use Rattle.std.specs.Prelude.{ℕ, ◌+◌, ℤ, negsuc, Bool, true, nat_le, nat_lt, List, [], ◌∷◌, length, Option, Some, None, if◌then◌else◌}
 use Rattle.vers_bits.specs.Bits.{bit_value, count, places, select}
 use Rattle.vers_trees.specs.Excess.{excess, first_rise_after, last_rise_before, enclosing}
 use Rattle.vers_trees.specs.declared.trees.bp.TheConstants.{MAX_LEN}
 use Rattle.vers_cli.specs.declared.name.Query.{Query}
-use Rattle.vers_cli.specs.declared.name.Query.TheVariants.{Tree}
+use Rattle.vers_cli.specs.declared.name.Query.TheVariants.{Tree, Forest}
 use Rattle.vers_cli.specs.declared.name.TreeQuery.TheVariants.{Whole, Place, Search}
 use Rattle.vers_cli.specs.declared.name.WholeQuery.{WholeQuery}
 use Rattle.vers_cli.specs.declared.name.WholeQuery.TheVariants.{Size, Root, IsBalanced, DfsIter}
@@ -15,6 +15,7 @@ use Rattle.vers_cli.specs.declared.name.SearchQuery.TheVariants.{FwdSearch, BwdS
 use Rattle.vers_cli.specs.declared.loading.Loading.{Loading}
 use Rattle.vers_cli.specs.declared.loading.Loading.TheVariants.{Malformed, Inadmissible, Accepted}
 use Rattle.vers_cli.specs.Arguments.{no_arguments, one_number, number_and_signed}
+use Rattle.vers_cli.specs.ForestLines.{are_balanced, forest_reply}
 use Rattle.vers_cli.specs.Reply.{PlainReply, WrongStructure, Refused, Number, Signed, Numbers, if_well_formed, number_or_absent}
 
 -- the load line `tree S`, for the bits that S writes
@@ -26,18 +27,6 @@ tree_loaded (Some bits) = if nat_le (length bits) MAX_LEN then Accepted bits els
 abbrev pub first_place : List Bool → Option ℕ
 first_place [] = None
 first_place (bit ∷ bits) = Some 0
-
--- whether parentheses close what they open and n that were open before them, and no more
-abbrev pub closes : ℕ → List Bool → Bool
-closes zero [] = true
-closes (suc n) [] = false
-closes n (true ∷ bits) = closes (suc n) bits
-closes zero (false ∷ bits) = false
-closes (suc n) (false ∷ bits) = closes n bits
-
--- whether parentheses are balanced
-abbrev pub are_balanced : List Bool → Bool
-are_balanced bits = closes 0 bits
 
 -- a query of the whole list
 abbrev pub whole_reply : List Bool → WholeQuery → PlainReply
@@ -69,4 +58,5 @@ tree_reply bits (Tree (Whole query)) arguments = if_well_formed (no_arguments ar
 tree_reply bits (Tree (Place query)) arguments = if_well_formed (one_number arguments) (λ i. place_reply bits query i)
 tree_reply bits (Tree (Search query)) arguments =
     if_well_formed (number_and_signed arguments) (λ from. search_reply bits query from.0 from.1)
+tree_reply bits (Forest query) arguments = forest_reply bits query arguments
 tree_reply bits _ arguments = WrongStructure

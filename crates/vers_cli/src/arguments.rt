@@ -3,7 +3,7 @@
 ghost use Rattle.std.specs.Prelude.{◌≡◌, true, option_map, IfOk, IfSome};
 ghost use Rattle.std.specs.List.{list_all};
 ghost use Rattle.vers_cli.specs.Text.{words_in};
-ghost use Rattle.vers_cli.specs.Arguments.{no_arguments as none_of, one_number as number_alone, two_numbers as numbers_two, number_and_signed as number_and_signed_number, all_numbers as numbers_all, is_bit_digit, bits_of_digits, bits_of};
+ghost use Rattle.vers_cli.specs.Arguments.{no_arguments as none_of, one_number as number_alone, two_numbers as numbers_two, three_numbers as numbers_three, number_and_signed as number_and_signed_number, all_numbers as numbers_all, is_bit_digit, bits_of_digits, bits_of};
 
 use crate::text::{number, signed_number, split_first_word};
 use std::alloc::{AllocError, Allocator};
@@ -35,6 +35,15 @@ pub fn two_numbers(arguments: &[u8]) -> Option<(u64, u64)>
     let (second, more) = split_first_word(others)?;
     no_arguments(more)?;
     Some((number(first)?, number(second)?))
+}
+
+/// Three numbers.
+pub fn three_numbers(arguments: &[u8]) -> Option<(u64, u64, u64)>
+    ensures { result ≡ numbers_three (words_in arguments.now) }
+{
+    let (first, others) = split_first_word(arguments)?;
+    let (second, third) = two_numbers(others)?;
+    Some((number(first)?, second, third))
 }
 
 /// A number and a signed number.

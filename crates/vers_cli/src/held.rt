@@ -8,13 +8,15 @@ ghost use Rattle.vers_cli.specs.Rules.{loaded, query_reply};
 use crate::loading::Loading;
 use crate::name::{Load, Query};
 use crate::reply::Reply;
-use crate::{bits, sorted, sparse, tree, values};
+use crate::{bits, documents, sorted, sparse, symbols, tree, values};
+use postings::Postings;
 use std::alloc::{AllocError, Allocator};
 use vers_rank::fast_rs_vec::RsVec;
 use vers_rmq::rmq::fast_rmq::FastRmq;
 use vers_sorted::elias_fano::EliasFanoVec;
 use vers_sorted::sparse::SparseRSVec;
 use vers_trees::trees::bp::BpTree;
+use vers_wavelet::wavelet::WaveletMatrix;
 
 /// What is held: nothing, or the structure of the last load line that was accepted.
 #[derive(Drop)]
@@ -25,6 +27,8 @@ pub enum Held<'a, A: Allocator + Copy> {
     Sparse(SparseRSVec<A>),
     Values(FastRmq<A>),
     Tree(BpTree<512, &'a A>),
+    Symbols(WaveletMatrix<A>),
+    Postings(Postings<A>),
 }
 
 /// What a load line gives.
@@ -61,6 +65,16 @@ pub fn load<'a, A: Allocator + Copy>(
             Loading::Inadmissible => Ok(Loading::Inadmissible),
             Loading::Accepted(tree) => Ok(Loading::Accepted(Held::Tree(tree))),
         },
+        Load::Symbols => match symbols::load(*alloc, arguments)? {
+            Loading::Malformed => Ok(Loading::Malformed),
+            Loading::Inadmissible => Ok(Loading::Inadmissible),
+            Loading::Accepted(symbols) => Ok(Loading::Accepted(Held::Symbols(symbols))),
+        },
+        Load::Postings => match documents::load(*alloc, arguments)? {
+            Loading::Malformed => Ok(Loading::Malformed),
+            Loading::Inadmissible => Ok(Loading::Inadmissible),
+            Loading::Accepted(postings) => Ok(Loading::Accepted(Held::Postings(postings))),
+        },
     }
 }
 
@@ -78,6 +92,8 @@ impl<A: Allocator + Copy> Held<'_, A> {
             Held::Sparse(bits) => bits.len(),
             Held::Values(values) => values.len() as u64,
             Held::Tree(tree) => tree.len() as u64,
+            Held::Symbols(symbols) => symbols.len() as u64,
+            Held::Postings(postings) => postings.len() as u64,
         }
     }
 
@@ -92,6 +108,8 @@ impl<A: Allocator + Copy> Held<'_, A> {
             Held::Sparse(bits) => sparse::reply(alloc, bits, query, arguments),
             Held::Values(values) => Ok(values::reply(values, query, arguments)),
             Held::Tree(tree) => tree::reply(alloc, tree, query, arguments),
+            Held::Symbols(symbols) => symbols::reply(alloc, symbols, query, arguments),
+            Held::Postings(postings) => documents::reply(alloc, postings, query, arguments),
         }
     }
 }

@@ -9,6 +9,8 @@ pub enum Load {
     Sparse,
     Values,
     Tree,
+    Symbols,
+    Postings,
 }
 
 /// The first word of a query line.
@@ -28,6 +30,12 @@ pub enum Query {
     Iter1,
     RangeMin,
     Tree(TreeQuery),
+    Symbols(SymbolsQuery),
+    Forest(ForestQuery),
+    Contains,
+    Next,
+    Cheapest,
+    Intersect,
 }
 
 /// The first word of a query line of parentheses, by the arguments that it takes.
@@ -67,6 +75,110 @@ pub enum SearchQuery {
     BwdSearch,
 }
 
+/// The first word of a query line of symbols, by the arguments that it takes. All are numbers.
+#[derive(Clone, Copy, Drop)]
+pub enum SymbolsQuery {
+    /// Of all symbols: no argument.
+    All(AllQuery),
+    /// Of the symbol at a place: the place.
+    GetU64,
+    /// Of the places of a symbol: a number, and the symbol.
+    Symbol(SymbolQuery),
+    /// Of a range: its start and its end.
+    Range(RangeQuery),
+    /// Of a range, or of what stands from a place on: three numbers.
+    Within(WithinQuery),
+}
+
+/// A query of all symbols.
+#[derive(Clone, Copy, Drop)]
+pub enum AllQuery {
+    IterU64,
+    IterSortedU64,
+}
+
+/// A query of the places of a symbol.
+#[derive(Clone, Copy, Drop)]
+pub enum SymbolQuery {
+    RankU64,
+    SelectU64,
+}
+
+/// A query of a range of symbols.
+#[derive(Clone, Copy, Drop)]
+pub enum RangeQuery {
+    RangeMinU64,
+    RangeMaxU64,
+    RangeMedianU64,
+}
+
+/// A query of a range of symbols, or of those from a place on, with one number more.
+#[derive(Clone, Copy, Drop)]
+pub enum WithinQuery {
+    RankRangeU64,
+    SelectOffsetU64,
+    QuantileU64,
+    PredecessorU64,
+    SuccessorU64,
+}
+
+/// The first word of a query line that balanced parentheses alone have, by the arguments that it
+/// takes. A node is the place where it opens.
+#[derive(Clone, Copy, Drop)]
+pub enum ForestQuery {
+    /// What is told of all nodes: no argument.
+    DfsPostIter,
+    /// A node beside another: a node.
+    Relative(RelativeQuery),
+    /// A number of a node: a node.
+    Measure(MeasureQuery),
+    /// Nodes from a node on: a node.
+    Walk(WalkQuery),
+    /// An end of a level: a depth.
+    Level(LevelQuery),
+    /// Whether the first node is an ancestor of the second: two nodes.
+    IsAncestor,
+    /// The ancestor so many levels up: a node and a number.
+    LevelAncestor,
+}
+
+/// A query for the node that stands so to a node.
+#[derive(Clone, Copy, Drop)]
+pub enum RelativeQuery {
+    Parent,
+    FirstChild,
+    LastChild,
+    NextSibling,
+    PreviousSibling,
+    LevelNext,
+    LevelPrev,
+}
+
+/// A query for a number of a node, where truth is 1 and else 0.
+#[derive(Clone, Copy, Drop)]
+pub enum MeasureQuery {
+    NodeIndex,
+    IsLeaf,
+    Depth,
+    SubtreeSize,
+}
+
+/// A query for the nodes that a walk from a node passes.
+#[derive(Clone, Copy, Drop)]
+pub enum WalkQuery {
+    Children,
+    RevChildren,
+    SubtreeIter,
+    SubtreePostIter,
+}
+
+/// A query for the first or the last node of a depth.
+#[derive(Clone, Copy, Drop)]
+pub enum LevelQuery {
+    LevelLeftmost,
+    LevelRightmost,
+}
+
 /// The first word of a line.
 #[derive(Clone, Copy, Drop)]
 pub enum Name {
@@ -76,7 +188,7 @@ pub enum Name {
 
 /// All names, and how they are written. It is the one table of names: the contract of `Name::of`
 /// reads it too.
-pub const NAMES: [(&[u8], Name); 29] = [
+pub const NAMES: [(&[u8], Name); 68] = [
     (b"bits", Name::Load(Load::Bits)),
     (b"sorted", Name::Load(Load::Sorted)),
     (b"sparse", Name::Load(Load::Sparse)),
@@ -139,6 +251,144 @@ pub const NAMES: [(&[u8], Name); 29] = [
         b"bwd_search",
         Name::Query(Query::Tree(TreeQuery::Search(SearchQuery::BwdSearch))),
     ),
+    (b"symbols", Name::Load(Load::Symbols)),
+    (
+        b"iter_u64",
+        Name::Query(Query::Symbols(SymbolsQuery::All(AllQuery::IterU64))),
+    ),
+    (
+        b"iter_sorted_u64",
+        Name::Query(Query::Symbols(SymbolsQuery::All(AllQuery::IterSortedU64))),
+    ),
+    (
+        b"get_u64",
+        Name::Query(Query::Symbols(SymbolsQuery::GetU64)),
+    ),
+    (
+        b"rank_u64",
+        Name::Query(Query::Symbols(SymbolsQuery::Symbol(SymbolQuery::RankU64))),
+    ),
+    (
+        b"select_u64",
+        Name::Query(Query::Symbols(SymbolsQuery::Symbol(SymbolQuery::SelectU64))),
+    ),
+    (
+        b"range_min_u64",
+        Name::Query(Query::Symbols(SymbolsQuery::Range(RangeQuery::RangeMinU64))),
+    ),
+    (
+        b"range_max_u64",
+        Name::Query(Query::Symbols(SymbolsQuery::Range(RangeQuery::RangeMaxU64))),
+    ),
+    (
+        b"range_median_u64",
+        Name::Query(Query::Symbols(SymbolsQuery::Range(RangeQuery::RangeMedianU64))),
+    ),
+    (
+        b"rank_range_u64",
+        Name::Query(Query::Symbols(SymbolsQuery::Within(WithinQuery::RankRangeU64))),
+    ),
+    (
+        b"select_offset_u64",
+        Name::Query(Query::Symbols(SymbolsQuery::Within(WithinQuery::SelectOffsetU64))),
+    ),
+    (
+        b"quantile_u64",
+        Name::Query(Query::Symbols(SymbolsQuery::Within(WithinQuery::QuantileU64))),
+    ),
+    (
+        b"predecessor_u64",
+        Name::Query(Query::Symbols(SymbolsQuery::Within(WithinQuery::PredecessorU64))),
+    ),
+    (
+        b"successor_u64",
+        Name::Query(Query::Symbols(SymbolsQuery::Within(WithinQuery::SuccessorU64))),
+    ),
+    (
+        b"parent",
+        Name::Query(Query::Forest(ForestQuery::Relative(RelativeQuery::Parent))),
+    ),
+    (
+        b"first_child",
+        Name::Query(Query::Forest(ForestQuery::Relative(RelativeQuery::FirstChild))),
+    ),
+    (
+        b"last_child",
+        Name::Query(Query::Forest(ForestQuery::Relative(RelativeQuery::LastChild))),
+    ),
+    (
+        b"next_sibling",
+        Name::Query(Query::Forest(ForestQuery::Relative(RelativeQuery::NextSibling))),
+    ),
+    (
+        b"previous_sibling",
+        Name::Query(Query::Forest(ForestQuery::Relative(RelativeQuery::PreviousSibling))),
+    ),
+    (
+        b"level_next",
+        Name::Query(Query::Forest(ForestQuery::Relative(RelativeQuery::LevelNext))),
+    ),
+    (
+        b"level_prev",
+        Name::Query(Query::Forest(ForestQuery::Relative(RelativeQuery::LevelPrev))),
+    ),
+    (
+        b"node_index",
+        Name::Query(Query::Forest(ForestQuery::Measure(MeasureQuery::NodeIndex))),
+    ),
+    (
+        b"is_leaf",
+        Name::Query(Query::Forest(ForestQuery::Measure(MeasureQuery::IsLeaf))),
+    ),
+    (
+        b"depth",
+        Name::Query(Query::Forest(ForestQuery::Measure(MeasureQuery::Depth))),
+    ),
+    (
+        b"subtree_size",
+        Name::Query(Query::Forest(ForestQuery::Measure(MeasureQuery::SubtreeSize))),
+    ),
+    (
+        b"is_ancestor",
+        Name::Query(Query::Forest(ForestQuery::IsAncestor)),
+    ),
+    (
+        b"level_ancestor",
+        Name::Query(Query::Forest(ForestQuery::LevelAncestor)),
+    ),
+    (
+        b"level_leftmost",
+        Name::Query(Query::Forest(ForestQuery::Level(LevelQuery::LevelLeftmost))),
+    ),
+    (
+        b"level_rightmost",
+        Name::Query(Query::Forest(ForestQuery::Level(LevelQuery::LevelRightmost))),
+    ),
+    (
+        b"children",
+        Name::Query(Query::Forest(ForestQuery::Walk(WalkQuery::Children))),
+    ),
+    (
+        b"rev_children",
+        Name::Query(Query::Forest(ForestQuery::Walk(WalkQuery::RevChildren))),
+    ),
+    (
+        b"subtree_iter",
+        Name::Query(Query::Forest(ForestQuery::Walk(WalkQuery::SubtreeIter))),
+    ),
+    (
+        b"subtree_post_iter",
+        Name::Query(Query::Forest(ForestQuery::Walk(WalkQuery::SubtreePostIter))),
+    ),
+    (
+        b"dfs_post_iter",
+        Name::Query(Query::Forest(ForestQuery::DfsPostIter)),
+    ),
+    (b"postings", Name::Load(Load::Postings)),
+    (b"contains", Name::Query(Query::Contains)),
+    (b"next", Name::Query(Query::Next)),
+    (b"cheapest", Name::Query(Query::Cheapest)),
+    (b"intersect", Name::Query(Query::Intersect)),
 ];
 
 impl Name {

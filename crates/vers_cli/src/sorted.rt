@@ -10,8 +10,9 @@ use crate::loading::Loading;
 use crate::name::Query;
 use crate::reply::Reply;
 use std::alloc::{AllocError, Allocator};
-use vers_sorted::elias_fano::{EliasFanoRefIter, EliasFanoVec};
+use vers_sorted::elias_fano::EliasFanoVec;
 use vers_sorted::order::is_ascending;
+use vers_tally::ends::{BothEnds, Source};
 
 /// What the load line `sorted n ..` gives.
 pub fn load<A: Allocator + Copy>(
@@ -68,12 +69,12 @@ pub fn reply<A: Allocator + Copy>(
     }
 }
 
-/// The members that an iterator has left.
-pub fn members_left<A: Allocator + Copy>(
+/// The numbers that an iterator has left.
+pub fn members_left<A: Allocator + Copy, S: Source<Item = u64>>(
     alloc: A,
-    members: EliasFanoRefIter<'_, A>,
+    members: BothEnds<S>,
 ) -> Result<Vec<u64, A>, AllocError>
-    ensures { IfOk result (λ numbers. numbers.items ≡ members.entry.left) }
+    ensures { IfOk result (λ numbers. numbers.items ≡ members.left) }
 {
     // `collect` alone would go on where room for all at once is refused.
     let mut numbers = Vec::with_capacity(alloc, members.len())?;

@@ -1,14 +1,15 @@
 //! The lines of a list of parentheses.
-ghost use Rattle.std.specs.Prelude.{◌≡◌, true, IfOk, Decides};
+ghost use Rattle.std.specs.Prelude.{◌≡◌, true, IfOk};
 ghost use Rattle.vers_bits.specs.Bits.{places};
-ghost use Rattle.vers_trees.specs.Forest.{IsBalanced};
 ghost use Rattle.vers_cli.specs.Text.{words_in};
 ghost use Rattle.vers_cli.specs.Arguments.{bits_of};
-ghost use Rattle.vers_cli.specs.TreeLines.{first_place, are_balanced, tree_loaded, tree_reply, whole_reply as reply_of_whole, excess_reply, place_reply as reply_at_place, search_reply as reply_of_search};
+ghost use Rattle.vers_cli.specs.TreeLines.{first_place, tree_loaded, tree_reply, whole_reply as reply_of_whole, excess_reply, place_reply as reply_at_place, search_reply as reply_of_search};
 ghost use Rattle.vers_cli.specs.Reply.{plain_reply};
 
 use crate::arguments::{bit_digits, no_arguments, number_and_signed, one_number};
 use crate::bits::bit_vec;
+use crate::forest;
+use crate::forest::{is_balanced, places_left};
 use crate::loading::Loading;
 use crate::name::{PlaceQuery, Query, SearchQuery, TreeQuery, WholeQuery};
 use crate::reply::Reply;
@@ -55,6 +56,7 @@ pub fn reply<A: Allocator + Copy>(
             None => Ok(Reply::BadLine),
             Some((i, r)) => Ok(search_reply(tree, query, i as usize, r)),
         },
+        Query::Forest(query) => forest::reply(alloc, tree, query, arguments),
         _ => Ok(Reply::WrongStructure),
     }
 }
@@ -82,23 +84,11 @@ fn root<A: Allocator + Copy>(tree: &BpTree<512, &A>) -> Option<usize>
     tree.root()
 }
 
-// Whether the parentheses are balanced.
-fn is_balanced<A: Allocator + Copy>(tree: &BpTree<512, &A>) -> bool
-    ensures value { result ≡ are_balanced tree.now }
-    ensures grammar { Decides result (IsBalanced tree.now) }
-{
-    tree.is_balanced()
-}
-
 // The places of the ones.
 fn nodes<A: Allocator + Copy>(alloc: A, tree: &BpTree<512, &A>) -> Result<Vec<u64, A>, AllocError>
     ensures { IfOk result (λ numbers. numbers.items ≡ places true tree.now) }
 {
-    let mut numbers = Vec::with_capacity(alloc, tree.size())?;
-    for place in tree.dfs_iter() {
-        numbers.push(place as u64)?;
-    }
-    Ok(numbers)
+    places_left(alloc, tree.dfs_iter())
 }
 
 // The reply of a query of a place.

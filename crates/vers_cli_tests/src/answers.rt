@@ -215,3 +215,71 @@ fn parentheses_over_blocks(rt: HostRuntime) -> Result<(), Fail> {
     );
     Ok(())
 }
+
+// The same of symbols.
+const SYMBOLS_CASES: [(&str, &[u8], &[u8]); 8] = [
+    (
+        "every query of symbols",
+        b"symbols 3 1 5 3\nlen\nget_u64 1\nget_u64 3\nrank_u64 3 11\nrank_u64 0 1\nrank_u64 4 1\nrank_range_u64 1 3 3\nrank_range_u64 1 2 3\nselect_u64 0 3\nselect_u64 1 3\nselect_u64 1 1\nselect_offset_u64 1 0 1\nselect_offset_u64 1 0 3\nquantile_u64 0 3 1\nquantile_u64 0 3 2\nquantile_u64 1 3 0\nrange_min_u64 1 3\nrange_max_u64 1 3\nrange_median_u64 0 2\npredecessor_u64 0 3 4\nsuccessor_u64 0 3 4\npredecessor_u64 1 2 4\nsuccessor_u64 0 1 2\niter_u64\niter_sorted_u64\n",
+        b"3\n3\n5\nnone\n1\n0\nnone\n1\n0\n2\nnone\nnone\nnone\n2\n3\n5\n3\n3\n5\n1\n3\n5\nnone\nnone\n1 5 3\n1 3 5\n",
+    ),
+    (
+        "equal symbols",
+        b"symbols 4 1 4 4 1 3 1 4 3 2 0\nrank_range_u64 0 6 1\nrank_u64 10 4\nselect_offset_u64 2 1 4\nselect_offset_u64 2 18446744073709551615 4\nselect_u64 2 4\nrange_median_u64 0 10\nquantile_u64 0 10 3\nquantile_u64 0 10 9\nrange_max_u64 3 6\niter_sorted_u64\n",
+        b"10\n3\n3\n6\nnone\n6\n2\n1\n4\n3\n0 1 1 1 2 3 3 4 4 4\n",
+    ),
+    (
+        "the nearest symbols of a range",
+        b"symbols 4 1 10 1 3 9 5\npredecessor_u64 0 6 0\npredecessor_u64 0 6 4\npredecessor_u64 0 6 9\nsuccessor_u64 0 6 6\nsuccessor_u64 0 6 9\nsuccessor_u64 0 6 11\npredecessor_u64 0 3 4\nsuccessor_u64 2 4 4\npredecessor_u64 3 3 4\n",
+        b"6\nnone\n3\n9\n9\n9\nnone\n1\nnone\nnone\n",
+    ),
+    (
+        "no symbols have no bits, and more than 64 bits are refused",
+        b"symbols 3 1 5 3\niter_sorted_u64\nsymbols 65 1\nsymbols 18446744073709551615\nrank_range_u64 3 3 1\nsymbols 0 7 7\nrank_u64 0 0\niter_u64\niter_sorted_u64\nselect_u64 0 0\nrange_min_u64 0 0\nsymbols 5\nlen\nget_u64 0\nrank_range_u64 0 0 0\niter_u64\n",
+        b"3\n1 3 5\nrefused\nrefused\nnone\n0\n0\n\n\nnone\nnone\n0\n0\nnone\nnone\n\n",
+    ),
+    (
+        "the low bits of a number count",
+        b"symbols 1 7 2 4\niter_u64\nrank_u64 3 6\nselect_u64 0 5\nsymbols 64 18446744073709551615 0 9223372036854775808\niter_u64\niter_sorted_u64\npredecessor_u64 0 3 18446744073709551614\nselect_u64 0 18446744073709551615\n",
+        b"3\n1 0 0\n2\n0\n3\n18446744073709551615 0 9223372036854775808\n0 9223372036854775808 18446744073709551615\n9223372036854775808\n0\n",
+    ),
+    (
+        "ranges that are empty, reversed or end past the last symbol",
+        b"symbols 3 1 5 3\nrank_range_u64 2 1 1\nrank_range_u64 1 1 1\nrank_range_u64 0 4 1\nrange_max_u64 3 2\nrange_min_u64 1 1\nrange_median_u64 0 4\nsuccessor_u64 0 4 0\npredecessor_u64 2 1 7\nquantile_u64 2 1 0\nquantile_u64 0 3 3\nquantile_u64 0 3 18446744073709551615\nselect_offset_u64 3 0 1\nselect_offset_u64 0 18446744073709551615 1\nselect_offset_u64 18446744073709551615 0 1\nrange_min_u64 18446744073709551615 18446744073709551615\nquantile_u64 18446744073709551615 18446744073709551615 1\nget_u64 18446744073709551615\n",
+        b"3\nnone\n0\nnone\nnone\nnone\nnone\nnone\nnone\nnone\nnone\nnone\nnone\nnone\nnone\nnone\nnone\nnone\n",
+    ),
+    (
+        "another number of arguments is malformed, and comes before what is refused",
+        b"symbols 2 3 1\nlen 0\niter_u64 0\niter_sorted_u64 x\nget_u64\nget_u64 0 0\nrank_u64 0\nrank_u64 0 0 0\nselect_u64\nselect_u64 0 -1\nrange_min_u64 0\nrange_max_u64 0 2 0\nrange_median_u64 x 2\nrank_range_u64 0 2\nselect_offset_u64 0 0 0 0\nquantile_u64 0 2\npredecessor_u64\nsuccessor_u64 0 2 18446744073709551616\nsymbols\nsymbols x\nsymbols 65 x\nsymbols 2 -1\niter_u64\n",
+        b"2\nbad line\nbad line\nbad line\nbad line\nbad line\nbad line\nbad line\nbad line\nbad line\nbad line\nbad line\nbad line\nbad line\nbad line\nbad line\nbad line\nbad line\nbad line\nbad line\nbad line\nbad line\n3 1\n",
+    ),
+    (
+        "symbols have queries of their own, and a malformed or refused load line keeps them",
+        b"get_u64 0\nsymbols 2 3 1\nget 0\niter\nrank 0\nrank1 x\nrange_min 0 1\npredecessor 1\nsize\nsymbols 2 x\nsymbols 65\nsorted 3 1\niter_u64\nvalues 9 6\nrange_min_u64 0 2\niter_sorted_u64 x\nsorted 4\niter_u64\nrank_u64 0 0\n",
+        b"wrong structure\n2\nwrong structure\nwrong structure\nwrong structure\nwrong structure\nwrong structure\nwrong structure\nwrong structure\nbad line\nrefused\nrefused\n3 1\n2\nwrong structure\nwrong structure\n1\nwrong structure\nwrong structure\n",
+    ),
+];
+
+#[test]
+fn lines_of_symbols(rt: HostRuntime) -> Result<(), Fail> {
+    for (case, input, output) in SYMBOLS_CASES {
+        assert_eq!(rt; answers(rt.alloc(), input)?.as_slice(), output, "{case}");
+    }
+    Ok(())
+}
+
+// Symbols over more than two blocks of 512: 0, 1, 2 and 3, and so 300 times.
+#[test]
+fn symbols_over_blocks(rt: HostRuntime) -> Result<(), Fail> {
+    let mut input = repeated(rt.alloc(), b"symbols 2", 1)?;
+    input.extend_from_slice(repeated(rt.alloc(), b" 0 1 2 3", 300)?.as_slice())?;
+    input.extend_from_slice(
+        b"\nrank_u64 1200 2\nselect_u64 299 3\nquantile_u64 0 1200 599\nquantile_u64 0 1200 600\nrange_median_u64 0 1200\nrange_max_u64 1 4\nrank_range_u64 5 1195 0\nselect_offset_u64 601 149 1\nget_u64 1199\n",
+    )?;
+    let text = answers(rt.alloc(), input.as_slice())?;
+    assert_eq!(rt;
+        text.as_slice(),
+        b"1200\n300\n1199\n1\n2\n1\n3\n297\n1197\n3\n".as_slice()
+    );
+    Ok(())
+}

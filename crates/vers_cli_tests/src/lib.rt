@@ -8,4 +8,6 @@ mod devices;
 #[cfg(test)]
 mod faults;
 #[cfg(test)]
+mod forest;
+#[cfg(test)]
 mod memory;

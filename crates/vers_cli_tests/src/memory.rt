@@ -6,19 +6,35 @@ use std::test::Fail;
 use test_alloc::Refusing;
 use vers_cli::RunError;
 
-// Every load line and every query with a list as its answer, and load lines that are refused.
-const INPUT: &[u8] =
-    b"bits 0110\nrank1 3\nsorted 3 1\nsorted 4 4 9\niter\nfoo\nvalues 9 6 10\nrange_min 0 2\nsparse 3 3\nsparse 5 1 3\niter1\nget 9\ntree 1x\ntree 110100\ndfs_iter\nbwd_search 4 -2\nexcess 6\nsize";
+// An input and its output: load lines, queries with a list as their answer, and load lines that are
+// refused.
+const RUNS: [(&[u8], &[u8]); 3] = [
+    (
+        b"bits 0110\nrank1 3\nsorted 3 1\nsorted 4 4 9\niter\nfoo\nvalues 9 6 10\nrange_min 0 2\nsparse 3 3\nsparse 5 1 3\niter1\nget 9\ntree 1x\ntree 110100\ndfs_iter\nbwd_search 4 -2\nexcess 6\nsize",
+        b"4\n2\nrefused\n3\n4 4 9\nbad line\n3\n1\nrefused\n5\n1 3\nnone\nbad line\n6\n0 1 3\n0\nrefused\n3\n",
+    ),
+    (
+        b"tree 110100\nchildren 0\nparent 3\nrev_children 0\nsubtree_iter 0\nparent 2\nsubtree_post_iter 0\ndfs_post_iter\nchildren 1\ndepth 1",
+        b"6\n1 3\n0\n3 1\n0 1 3\nrefused\n1 3 0\n1 3 0\n\n1\n",
+    ),
+    (
+        b"symbols 65 1\nsymbols 3 1 5 3\niter_u64\niter_sorted_u64\nrank_u64 3 11",
+        b"refused\n3\n1 5 3\n1 3 5\n1\n",
+    ),
+];
 
-const OUTPUT: &[u8] =
-    b"4\n2\nrefused\n3\n4 4 9\nbad line\n3\n1\nrefused\n5\n1 3\nnone\nbad line\n6\n0 1 3\n0\nrefused\n3\n";
-
-// A run whose request of this number is refused, if it comes so far: how many bytes of whole
-// answer lines it wrote, or None where it ended with no request refused.
-fn refused_at(rt: &impl Abort, alloc: Global, piece: usize, request: u64) -> Option<usize> {
+// A run over one of these inputs whose request of this number is refused, if it comes so far: how
+// many bytes of whole answer lines it wrote, or None where it ended with no request refused.
+fn refused_at(
+    rt: &impl Abort,
+    alloc: Global,
+    (input, output): (&[u8], &[u8]),
+    piece: usize,
+    request: u64,
+) -> Option<usize> {
     let heap = Refusing::nth(alloc, request);
     let reader = FailingReader {
-        rest: INPUT,
+        rest: input,
         piece,
         fails_at: 0,
         reads: 0,
@@ -29,12 +45,12 @@ fn refused_at(rt: &impl Abort, alloc: Global, piece: usize, request: u64) -> Opt
     let text = end.writer.as_slice();
     if heap.refused() == 0 {
         assert_eq!(rt; end.result, Ok(()));
-        assert_eq!(rt; text, OUTPUT);
+        assert_eq!(rt; text, output);
         assert_eq!(rt; heap.asked(), heap.freed());
         return None;
     }
     assert_eq!(rt; end.result, Err(RunError::Memory));
-    assert!(rt; OUTPUT.starts_with(text));
+    assert!(rt; output.starts_with(text));
     assert!(rt; text.is_empty() || text.ends_with(b"\n"));
     assert_eq!(rt; heap.asked().saturating_sub(heap.freed()), 1);
     assert_eq!(rt; request == 1, end.reader.reads == 0);
@@ -42,22 +58,27 @@ fn refused_at(rt: &impl Abort, alloc: Global, piece: usize, request: u64) -> Opt
 }
 
 // The first request of a run is refused, then the second, and so on, until a run ends with none
-// refused. The later the request, the more answers are written.
+// refused. The later the request, the more answers are written, at last nearly half of them.
+fn each_request_is_refused(rt: &impl Abort, alloc: Global, run: (&[u8], &[u8]), piece: usize) {
+    let mut undisturbed = 0u64;
+    let mut most = 0usize;
+    for request in 1..400u64 {
+        let Some(written) = refused_at(rt, alloc, run, piece, request) else {
+            undisturbed = request;
+            break;
+        };
+        assert!(rt; written >= most);
+        most = written;
+    }
+    assert!(rt; undisturbed > 10);
+    assert!(rt; most >= run.1.len() / 2);
+}
+
 #[test]
 fn each_request_is_refused_in_turn(rt: HostRuntime) {
-    for piece in [5usize, 100] {
-        let mut undisturbed = 0u64;
-        let mut most = 0usize;
-        for request in 1..200u64 {
-            let Some(written) = refused_at(&rt, rt.alloc(), piece, request) else {
-                undisturbed = request;
-                break;
-            };
-            assert!(rt; written >= most);
-            most = written;
-        }
-        assert!(rt; undisturbed > 10);
-        assert!(rt; most >= b"4\n2\nrefused\n3\n4 4 9\nbad line\n3\n1\nrefused\n".len());
+    for run in RUNS {
+        each_request_is_refused(&rt, rt.alloc(), run, 5);
+        each_request_is_refused(&rt, rt.alloc(), run, 100);
     }
 }
 
@@ -73,6 +94,8 @@ fn refused_load_lines(rt: HostRuntime) -> Result<(), Fail> {
         b"sparse 5 3 3",
         b"sparse 5 3 1",
         b"sparse 18446744073709551615 18446744073709551615",
+        b"symbols 65 1",
+        b"symbols 18446744073709551615",
     ] {
         let mut input = Vec::new(rt.alloc());
         input.extend_from_slice(b"bits 0110\n")?;

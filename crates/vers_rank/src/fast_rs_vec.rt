@@ -22,11 +22,17 @@ use std::marker::Model;
 use vers_bits::bit_vec::{BitVec, MAX_LEN};
 use vers_tally::tally::{BlockEntries, CountedBits, SuperblockEntries, Tally};
 
+/// How many bits a limb has.
+const LIMB: usize = 64;
+
 /// How many bits a block has.
 const BLOCK: usize = 512;
 
 /// How many bits a superblock has, and how many ones or zeros lie between two select samples.
 const SUPERBLOCK: usize = 8192;
+
+/// How many blocks a superblock has.
+const BLOCKS: usize = SUPERBLOCK / BLOCK;
 
 /// A list of bits that counts its ones and zeros and finds their places. Contracts see it as the
 /// list of its bits.

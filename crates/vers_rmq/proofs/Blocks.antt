@@ -150,15 +150,37 @@ two_parts xs ys i j m n a b r e next inside left right pa va pb vb v =
     (item_at ys i (min (128 * (i / 128) + 128) (length ys) - 1) m a left pa (va ∙ ap (λ zs. get_or zs m 0) e)) (item_at ys (128 * (j / 128)) j n b right pb (vb ∙ ap (λ zs. get_or zs n 0) e))
     (omega arith) (omega arith) (omega arith) v
 
--- with whole blocks between
-pub three_parts : (xs ys : List ℕ) (i j m n : ℕ) (a b c q r : Candidate) → xs ≡ ys → i / 128 + 1 < j / 128 → j < length ys
-    → IsFirstLeast ys i (min (128 * (i / 128) + 128) (length ys) - 1) m → IsLeastItem ys (128 * (i / 128 + 1)) (128 * (j / 128 - 1) + 127) b → IsFirstLeast ys (128 * (j / 128)) j n
-    → a.place ≡ m → a.value ≡ get_or xs m 0 → c.place ≡ n → c.value ≡ get_or xs n 0 → q ≡ lesser_candidate a b → r ≡ lesser_candidate q c → IsLeastItem ys i j r
-three_parts xs ys i j m n a b c q r e next inside left middle right pa va pc vc eq er =
-    item_join ys i (128 * (j / 128 - 1) + 127) (128 * (j / 128)) j q c r
-    (item_join ys i (min (128 * (i / 128) + 128) (length ys) - 1) (128 * (i / 128 + 1)) (128 * (j / 128 - 1) + 127) a b q
-    (item_at ys i (min (128 * (i / 128) + 128) (length ys) - 1) m a left pa (va ∙ ap (λ zs. get_or zs m 0) e)) middle (omega arith) (omega arith) (omega arith) eq)
-    (item_at ys (128 * (j / 128)) j n c right pc (vc ∙ ap (λ zs. get_or zs n 0) e)) (omega arith) (omega arith) (omega arith) er
+-- the bounds of the blocks between may be spelled otherwise
+pub block_bounds : (xs : List ℕ) (i j : ℕ) (c : Candidate) → i / 128 + 1 < j / 128 → IsLeastItem xs (128 * (i / 128 + 1)) (128 * (j / 128 - 1) + 127) c → IsLeastItem xs (128 * (i / 128) + 128) (128 * (j / 128) - 1) c
+block_bounds xs i j c next h =
+    let start : 128 * (i / 128 + 1) ≡ 128 * (i / 128) + 128 = omega arith in
+    let stop : 128 * (j / 128 - 1) + 127 ≡ 128 * (j / 128) - 1 = omega arith in
+    rw (← start) (item_ends xs (128 * (i / 128 + 1)) (128 * (j / 128 - 1) + 127) (128 * (j / 128) - 1) c stop h)
+
+-- the least item of a block is below none of its items
+pub block_least : (xs ys mi pl : List ℕ) (ms : List BlockMasks) (b v p : ℕ) → AreAllBlocks xs mi pl ms → xs ≡ ys → v ≡ get_or mi b 0 → 128 * b ≤ p → p < 128 * b + 128 → p < length ys → v ≤ get_or ys p 0
+block_least xs ys mi pl ms b v p h e ev from to inside =
+    let Q : List ℕ → Type 0 = λ zs. v ≤ get_or zs p 0 in
+    let here = block_of xs mi pl ms b h (omega (arith, ap length e)) in
+    subst Q e (omega (arith, ev, here.value, here.best.least p from (omega (arith, ap length e))))
+
+-- the end of a block before what comes after it
+pub end_before : (xs ys : List ℕ) (i m e : ℕ) (a b r : Candidate) → xs ≡ ys → 128 * (i / 128) + 128 ≤ length ys
+    → IsFirstLeast ys i (min (128 * (i / 128) + 128) (length ys) - 1) m → a.place ≡ m → a.value ≡ get_or xs m 0 → r ≡ lesser_candidate a b
+    → IsLeastItem ys (128 * (i / 128) + 128) e b → IsLeastItem ys i e r
+end_before xs ys i m e a b r same inside left pa va v after =
+    item_join ys i (min (128 * (i / 128) + 128) (length ys) - 1) (128 * (i / 128) + 128) e a b r
+    (item_at ys i (min (128 * (i / 128) + 128) (length ys) - 1) m a left pa (va ∙ ap (λ zs. get_or zs m 0) same)) after
+    (omega arith) (omega arith) (omega (arith, after.place.from, after.place.to)) v
+
+-- the start of a block after what comes before it
+pub start_after : (xs ys : List ℕ) (f j m : ℕ) (a b r : Candidate) → xs ≡ ys → 128 ≤ j
+    → IsFirstLeast ys (128 * (j / 128)) j m → b.place ≡ m → b.value ≡ get_or xs m 0 → r ≡ lesser_candidate a b
+    → IsLeastItem ys f (128 * (j / 128) - 1) a → IsLeastItem ys f j r
+start_after xs ys f j m a b r same later right pb vb v before =
+    item_join ys f (128 * (j / 128) - 1) (128 * (j / 128)) j a b r before
+    (item_at ys (128 * (j / 128)) j m b right pb (vb ∙ ap (λ zs. get_or zs m 0) same))
+    (omega (arith, before.place.from, before.place.to)) (omega arith) (omega arith) v
 
 -- ---- ranges over parts of a block
 -- the end of the part of the first place

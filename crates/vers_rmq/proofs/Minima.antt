@@ -96,6 +96,30 @@ item_join xs i k h j a b r left right ih hk kj e = elim (cases_lt b.value a.valu
       (ap (λ c. c.place) (e ∙ candidate_first a b le)) (ap (λ c. c.value) (e ∙ candidate_first a b le) ∙ left.item)
 ]
 
+-- a range begins earlier, at items that are above its least one
+pub item_earlier : (xs : List ℕ) (i h j v : ℕ) (c : Candidate) → i ≤ h → c.value < v → ((p : ℕ) → i ≤ p → p < h → v ≤ get_or xs p 0) → IsLeastItem xs h j c → IsLeastItem xs i j c
+item_earlier xs i h j v c ih lt above found = record {
+  place = record {
+    from = omega (arith, found.place.from);
+    to = found.place.to;
+    least = λ p f t. elim (cases_lt p h) [ inl new ↦ omega (arith, found.item, above p f new) | inr old ↦ found.place.least p old t ];
+    leftmost = λ p f t. elim (cases_lt p h) [ inl new ↦ omega (arith, found.item, above p f new) | inr old ↦ found.place.leftmost p old t ];
+  };
+  item = found.item;
+}
+
+-- a range goes on over items that are not below its least one
+pub item_longer : (xs : List ℕ) (i k j v : ℕ) (c : Candidate) → k ≤ j + 1 → c.value ≤ v → ((p : ℕ) → k ≤ p → p ≤ j → v ≤ get_or xs p 0) → 0 < k → IsLeastItem xs i (k - 1) c → IsLeastItem xs i j c
+item_longer xs i k j v c kj le above some found = record {
+  place = record {
+    from = found.place.from;
+    to = omega (arith, found.place.to);
+    least = λ p f t. elim (cases_lt p k) [ inl old ↦ found.place.least p f (omega arith) | inr new ↦ omega (arith, found.item, above p new t) ];
+    leftmost = found.place.leftmost;
+  };
+  item = found.item;
+}
+
 -- the ends of a range may be spelled otherwise
 pub item_ends : (xs : List ℕ) (i j k : ℕ) (c : Candidate) → j ≡ k → IsLeastItem xs i j c → IsLeastItem xs i k c
 item_ends xs i j k c e a = let P : ℕ → Type 0 = λ n. IsLeastItem xs i n c in subst P e a

@@ -4,7 +4,7 @@ use Rattle.std.proofs.Math.Nat.{mul-le-mul_left}
 use Rattle.std.proofs.lemmas.Nat.{pow_pos}
 use Rattle.std.proofs.lemmas.Bool.{cases_lt}
 use Rattle.std.proofs.lemmas.List.{length_push, get_or_push, get_or_append_left}
-use Rattle.vers_rmq.specs.Layout.{clog, binary_heap_size}
+use Rattle.vers_rmq.specs.Layout.{clog}
 use Rattle.vers_rmq.specs.declared.rmq.least.Candidate.{Candidate}
 use Rattle.vers_rmq.specs.Minima.{IsFirstLeast, lesser}
 use Rattle.vers_rmq.specs.inside.Candidates.{IsLeastItem, lesser_candidate}

@@ -1,13 +1,20 @@
 -- The laws that proofs of other crates may cite. A crate above imports this file and no other of this folder.
-use Rattle.std.proofs.Common.{◌≡◌, ℕ, ◌+◌, ◌-◌, ◌<◌, ◌≤◌, Bool, List, length, slice_get, None}
-use Rattle.std.specs.Prelude.{slice_index, map}
-use Rattle.std.specs.List.Sorted.{IsNonDecreasing}
+use Rattle.std.proofs.Common.{◌≡◌, ℕ, ◌+◌, ◌-◌, ◌<◌, ◌≤◌, Bool, List, length, slice_get, None, refl}
+use Rattle.std.specs.Prelude.{◌↔◌, IsTrue, slice_index, map, nat_lt}
+use Rattle.std.specs.List.Sorted.{IsNonDecreasing, IsStrictlyIncreasing}
 use Rattle.vers_bits.specs.Bits.{is_bit, places}
 use Rattle.vers_sorted.specs.Ones.{ones_at}
-use Rattle.vers_sorted.specs.Sorted.{below, greatest_not_above, least_not_below}
+use Rattle.vers_sorted.specs.Sorted.{each_next, below, greatest_not_above, least_not_below}
 use Rattle.vers_sorted.proofs.Below as Below
 use Rattle.vers_sorted.proofs.Neighbours as Neighbours
 use Rattle.vers_sorted.proofs.Ones as Ones
+use Rattle.vers_sorted.proofs.Orders as Orders
+
+-- ---- numbers in order
+
+-- each number is below the next just where the list rises strictly
+pub each_next-rising : (numbers : List ℕ) → IsTrue (each_next nat_lt numbers) ↔ IsStrictlyIncreasing numbers
+each_next-rising numbers = Orders.rising_is numbers (each_next nat_lt numbers) refl
 
 -- ---- members below a number
 

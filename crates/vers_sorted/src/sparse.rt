@@ -238,7 +238,10 @@ impl<A: Allocator + Copy> SparseRSVec<A> {
 
     /// An iterator over the places of the ones.
     pub fn iter1(&self) -> EliasFanoRefIter<'_, A>
-        ensures { result ≡ record { left = places true self.now; step = member_reads (places true self.now) } }
+        ensures { result ≡ record {
+          left = places true self.now;
+          step = member_reads (places true self.now);
+        } }
     {
         let _ = &self.len;
         self.ones.iter()
@@ -268,7 +271,8 @@ fn push_places<A: Allocator + Copy>(
 ) -> Result<(), AllocError>
     requires within { 64 * k < length bits.now }
     requires before { found.old.items ≡ take (count bit bits.now (64 * k)) (places bit bits.now) }
-    ensures { OnOk result (found.new.items ≡ take (count bit bits.now (64 * k + 64)) (places bit bits.now)) }
+    ensures { OnOk result (found.new.items
+        ≡ take (count bit bits.now (64 * k + 64)) (places bit bits.now)) }
 {
     let len = bits.len();
     let mut word = marks_of(bits, bit, k);

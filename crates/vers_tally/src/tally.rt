@@ -214,7 +214,10 @@ impl<A: Allocator + Copy> CountedBits<A> {
     pub fn limb(&self, k: usize, tally: &mut Tally) -> u64
         requires { 64 * k < length self.now }
         ensures value { result ≡ limb self.now k }
-        ensures exact { tally.new ≡ record tally.old { data_words = one_more tally.old.data_words } }
+        ensures exact { tally.new ≡ record tally.old {
+          data_words = one_more
+              tally.old.data_words;
+        } }
         ensures adds { AddsAtMost tally.old tally.new (only_data_words 1) }
     {
         tally.data_words = tally.data_words.saturating_add(1);
@@ -242,7 +245,10 @@ impl<A: Allocator + Copy> CountedBits<A> {
     pub fn is_one(&self, place: usize, tally: &mut Tally) -> bool
         requires { place < length self.now }
         ensures value { result ≡ slice_index_or self.now place false }
-        ensures exact { tally.new ≡ record tally.old { data_words = one_more tally.old.data_words } }
+        ensures exact { tally.new ≡ record tally.old {
+          data_words = one_more
+              tally.old.data_words;
+        } }
         ensures adds { AddsAtMost tally.old tally.new (only_data_words 1) }
     {
         tally.data_words = tally.data_words.saturating_add(1);
@@ -328,7 +334,10 @@ impl<A: Allocator + Copy> BlockEntries<A> {
     pub fn read(&self, k: usize, tally: &mut Tally) -> u16
         requires { k < length self.now }
         ensures value { result ≡ slice_index self.now k }
-        ensures exact { tally.new ≡ record tally.old { block_entries = one_more tally.old.block_entries } }
+        ensures exact { tally.new ≡ record tally.old {
+          block_entries = one_more
+              tally.old.block_entries;
+        } }
         ensures adds { AddsAtMost tally.old tally.new (only_block_entries 1) }
     {
         tally.block_entries = tally.block_entries.saturating_add(1);

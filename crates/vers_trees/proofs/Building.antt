@@ -1,11 +1,13 @@
 -- The excess of a list of parentheses that is built.
-use Rattle.std.proofs.Common.{◌≡◌, ℕ, ◌+◌, ◌<◌, ◌≤◌, Bool, List, [], ◌∷◌, ◌++◌, length, get_or, ℤ, pos, ◌+ℤ◌, FitsSigned, to_z, of_z, false, arith, length-append, refl, ap, ◌∙◌}
+use Rattle.std.proofs.Common.{◌≡◌, ℕ, ◌+◌, ◌<◌, ◌≤◌, Bool, List, [], ◌∷◌, ◌++◌, length, get_or, ℤ, pos, ◌+ℤ◌, FitsSigned, to_z, of_z, false, arith, length-append, sym, refl, ap, ◌∙◌}
 use mir.Syntax.{w64}
 use Rattle.std.proofs.lemmas.Int.{ints, to_z-of_z}
 use Rattle.std.proofs.lemmas.List.{get_or_at}
 use Rattle.vers_trees.specs.Excess.{excess, bit_step}
+use Rattle.vers_trees.specs.Forest.{Forest, text, forest_of}
 use Rattle.vers_trees.specs.inside.Index.{IsBuilding}
 use Rattle.vers_trees.proofs.Excess.{excess-zero, excess-append_left, excess_after_bit}
+use Rattle.vers_trees.proofs.Grammar.{forest_of-text}
 use Rattle.vers_trees.proofs.Scans.{rise_fits, step_fits}
 
 excess_more : (l : List Bool) (b : Bool) → excess (l ++ b ∷ []) (length l + 1) ≡ excess l (length l) +ℤ bit_step b
@@ -41,3 +43,9 @@ stored_sum size l b total d h room e =
     rw (to_z-of_z w64 total (built_fits size l total h), to_z-of_z w64 d (step_fits b d e), e) (f, to_z-of_z w64 (total +ℤ bit_step b) f)
 
 pub ruleset building = (nothing_built, built_fits)
+
+-- a tree of the steps stands for the forest that they write down
+pub forest_built : (t l : List Bool) (F : Forest) → t ≡ l → text F ≡ l → forest_of t ≡ F
+forest_built t l F e h = ap forest_of (e ∙ sym h) ∙ forest_of-text F
+
+pub ruleset forests_built = (forest_built)

@@ -27,7 +27,7 @@ parse-text (tree X Y) l =
     ap (λ (p : Forest × List Forest). closed p.0 p.1) e
 
 -- a forest is read back from its text, so no list is the text of two
-forest_of-text : (F : Forest) → forest_of (text F) ≡ F
+pub forest_of-text : (F : Forest) → forest_of (text F) ≡ F
 unfolding forest_of
 forest_of-text F = ap (λ (m : List Bool). (parse m).0) (sym (append-nil (text F))) ∙ ap (λ (p : Forest × List Forest). p.0) (parse-text F []) ∙ joined-none F
 

@@ -22,6 +22,9 @@ pub mod ListsOfNodes
 pub mod WalksOfNodes
 pub mod Matching
 pub mod Scans
+pub mod Octal
+pub mod Bytes
+pub mod ByteScans
 pub mod MinMax
 pub mod Climbs
 pub mod Back
@@ -35,3 +38,7 @@ pub mod Roots
 pub mod Queries
 pub mod Building
 pub mod AsTree
+pub mod NodeLaws
+pub mod LevelWalks
+pub mod ReadLaws
+pub mod PublicLaws

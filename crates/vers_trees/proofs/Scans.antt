@@ -53,6 +53,38 @@ plus_is a x f h = rw (to_z-of_z w64 x f) (to_z-of_z w64 (a +ℤ x) h)
 pub minus_is : (a x : ℤ) → FitsSigned w64 x → FitsSigned w64 (a -ℤ x) → to_z w64 (of_z w64 (a -ℤ to_z w64 (of_z w64 x))) ≡ a -ℤ x
 minus_is a x f h = rw (to_z-of_z w64 x f) (to_z-of_z w64 (a -ℤ x) h)
 
+-- a rise as the machine has it
+pub rise_is : (l : List Bool) (from place : ℕ) (r rise : ℤ) → HasNoRise l from place r rise → from ≤ place → place ≤ length l → length l < 2 ^ 63 → to_z w64 (of_z w64 rise) ≡ rise
+rise_is l from place r rise p o h short = to_z-of_z w64 rise (rise_fits l from place rise short (omega arith) h p.risen)
+
+pub fall_is : (l : List Bool) (place to : ℕ) (r rise : ℤ) → HasNoRiseBefore l place to r rise → place ≤ to → to ≤ length l → length l < 2 ^ 63 → to_z w64 (of_z w64 rise) ≡ rise
+fall_is l place to r rise p o h short = to_z-of_z w64 rise (rise_fits l to place rise short h (omega arith) p.risen)
+
+-- eight bits before the end of the list it is not the least or the greatest number yet
+pub rise_small : (l : List Bool) (from place : ℕ) (r rise : ℤ) → HasNoRise l from place r rise → from ≤ place → place + 8 ≤ length l → length l < 2 ^ 63 → (negsuc 9223372036854775799 ≤ℤ rise) × (rise ≤ℤ pos 9223372036854775799)
+rise_small l from place r rise p o h short =
+    let n = excess_near l from place o in let a = n.0 in let b = n.1 in let e = p.risen in
+    (omega (arith, ints), omega (arith, ints))
+
+pub fall_small : (l : List Bool) (place to : ℕ) (r rise : ℤ) → HasNoRiseBefore l place to r rise → 8 ≤ place → place ≤ to → to ≤ length l → length l < 2 ^ 63 → (negsuc 9223372036854775799 ≤ℤ rise) × (rise ≤ℤ pos 9223372036854775799)
+fall_small l place to r rise p some o h short =
+    let n = excess_near l place to o in let a = n.0 in let b = n.1 in let e = p.risen in
+    (omega (arith, ints), omega (arith, ints))
+
+-- before the first bit
+pub not_begun : (l : List Bool) (from : ℕ) (r : ℤ) → HasNoRise l from from r (pos 0)
+not_begun l from r = record { risen = omega (arith, ints); none = λ k a b. absurd (omega arith) }
+
+pub not_begun_back : (l : List Bool) (end : ℕ) (r : ℤ) → HasNoRiseBefore l end end r (pos 0)
+not_begun_back l end r = record { risen = omega (arith, ints); none = λ k a b. absurd (omega arith) }
+
+-- what is found in the first part of a stretch is found in the whole
+pub found_sooner : (l : List Bool) (from mid end : ℕ) (r : ℤ) (place : ℕ) → mid ≤ end → IsFirstRise l from mid r place → IsFirstRise l from end r place
+found_sooner l from mid end r place h p = let i = p.inside in record { low = p.low; inside = omega arith; sum = p.sum; first = p.first }
+
+pub found_later : (l : List Bool) (from mid end : ℕ) (r : ℤ) (place : ℕ) → from ≤ mid → IsLastRise l mid end r place → IsLastRise l from end r place
+found_later l from mid end r place h p = let i = p.low in record { low = omega arith; inside = p.inside; sum = p.sum; last = p.last }
+
 -- ---- forwards
 rise_more : (l : List Bool) (from place : ℕ) (r rise d : ℤ) (b : Bool) → HasNoRise l from place r rise → place < length l → b ≡ get_or l place false → d ≡ bit_step b → excess l (place + 1) ≡ excess l from +ℤ (rise +ℤ d)
 rise_more l from place r rise d b p h e q =

@@ -1,4 +1,5 @@
 pub mod Excess
+pub mod Bytes
 pub mod Forest
 pub mod Nodes
 pub mod Traversals
@@ -7,6 +8,9 @@ pub mod Layout
 pub mod WalkReads
 pub mod Laws
 pub mod WalkLaws
+pub mod NodeLaws
+pub mod LevelWalks
+pub mod ReadLaws
 pub mod Rows
 pub mod NodeRows
 pub mod inside

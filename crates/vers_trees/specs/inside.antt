@@ -2,3 +2,4 @@
 pub mod MinMax
 pub mod Index
 pub mod Scans
+pub mod Bytes

@@ -2,6 +2,8 @@
 //! checked with the crate.
 ghost use Rattle.vers_trees.specs.Laws.{ForwardFindsFirst, BackwardFindsLast, OneForest, CloseFindsPair, OpenFindsPair, OpenUndoesClose, CloseUndoesOpen};
 ghost use Rattle.vers_trees.specs.WalkLaws.{PreorderOpensInOrder, PostorderClosesInOrder, OnesAreNodes};
+ghost use Rattle.vers_trees.specs.ReadLaws.{CallsAreWithinOneBound, CallsReadFew, SearchesReadFew};
+ghost use Rattle.vers_trees.specs.NodeLaws.{NodeIffOne, LevelIffDepth, LevelsGoOn, LevelsGoBack, LevelsAreParts};
 
 /// A search forwards finds the first place after the one asked for at which the excess has risen so.
 #[tactic(auto, using(crate::proofs::Matching::searches))]
@@ -61,4 +63,57 @@ pub fn postorder_closes_in_order()
 #[tactic(auto, using(crate::proofs::WalksOfNodes::handles))]
 pub fn ones_are_nodes()
     ensures { OnesAreNodes }
+{}
+
+/// In balanced parentheses a node opens at each place that holds a one, and nowhere else.
+#[tactic(auto, using(crate::proofs::NodeLaws::node_laws))]
+pub fn node_iff_one()
+    ensures { NodeIffOne }
+{}
+
+/// A level of a forest holds the nodes of its depth, and nothing else.
+#[tactic(auto, using(crate::proofs::NodeLaws::node_laws))]
+pub fn level_iff_depth()
+    ensures { LevelIffDepth }
+{}
+
+/// The member of number `i` of a level is a node of its depth, and the next one on the level is the
+/// member after it: what `level_leftmost` and `level_next` answer goes along the level.
+#[tactic(auto, using(crate::proofs::NodeLaws::node_laws))]
+pub fn levels_go_on()
+    ensures { LevelsGoOn }
+{}
+
+/// The one before on a level is the member before it: what `level_rightmost` and `level_prev` answer
+/// goes back along the level.
+#[tactic(auto, using(crate::proofs::NodeLaws::node_laws))]
+pub fn levels_go_back()
+    ensures { LevelsGoBack }
+{}
+
+/// No level has more members than the forest has nodes.
+#[tactic(auto, using(crate::proofs::NodeLaws::node_laws))]
+pub fn levels_are_parts()
+    ensures { LevelsAreParts }
+{}
+
+/// Each bound that the contract of a counted call names, or of a step of a walk, is within one bound,
+/// `tree_reads`.
+#[tactic(auto, using(crate::proofs::ReadLaws::read_laws))]
+pub fn calls_are_within_one_bound()
+    ensures { CallsAreWithinOneBound }
+{}
+
+/// What adds at most `tree_reads` begins at most four blocks, and reads at most eight nodes a level,
+/// and as data words four times the bits of a block and 32.
+#[tactic(auto, using(crate::proofs::ReadLaws::read_laws))]
+pub fn calls_read_few()
+    ensures { CallsReadFew }
+{}
+
+/// A search begins at most two blocks, and reads at most four nodes a level, and as data words twice
+/// the bits of a block and four.
+#[tactic(auto, using(crate::proofs::ReadLaws::read_laws))]
+pub fn searches_read_few()
+    ensures { SearchesReadFew }
 {}

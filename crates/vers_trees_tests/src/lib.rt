@@ -8,12 +8,24 @@
 #[cfg(test)]
 mod builders;
 #[cfg(test)]
+mod bytes;
+#[cfg(test)]
+mod forests;
+#[cfg(test)]
 mod lists;
+#[cfg(test)]
+mod nodes;
+#[cfg(test)]
+mod plain;
+#[cfg(test)]
+mod queries;
 #[cfg(test)]
 mod refusals;
 #[cfg(test)]
 mod rows;
 #[cfg(test)]
 mod scans;
+#[cfg(test)]
+mod tours;
 #[cfg(test)]
 mod walks;

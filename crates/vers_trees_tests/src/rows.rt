@@ -2,6 +2,9 @@
 ghost use Rattle.std.specs.Prelude.{◌<◌, ◌≤◌};
 
 use crate::lists::{Query, SIZES, answers, asked, tree_of};
+use crate::queries::Question;
+use crate::tours::{First, Tour, tour_gives};
+use crate::walks::NODE_WITH_TWO;
 use std::alloc::Global;
 use std::test::Fail;
 use vers_bits::bit_vec::GrowError;
@@ -13,7 +16,7 @@ const THREE_BYTES: [u8; 24] = [
 ];
 
 // The bits, what is asked, and the answers.
-const CASES: [(&[u8], &[Query], &[Option<i64>]); 8] = [
+const CASES: [(&[u8], &[Query], &[Option<i64>]); 9] = [
     (
         &THREE_BYTES,
         &[
@@ -26,6 +29,9 @@ const CASES: [(&[u8], &[Query], &[Option<i64>]); 8] = [
             Query::Open(18),
             Query::Excess(12),
             Query::Excess(23),
+            Query::Node(13, Question::Depth),
+            Query::Node(13, Question::LevelAncestor(2)),
+            Query::LevelRightmost(3),
         ],
         &[
             Some(24),
@@ -37,6 +43,9 @@ const CASES: [(&[u8], &[Query], &[Option<i64>]); 8] = [
             Some(11),
             Some(5),
             Some(0),
+            Some(5),
+            Some(11),
+            Some(19),
         ],
     ),
     (
@@ -50,6 +59,9 @@ const CASES: [(&[u8], &[Query], &[Option<i64>]); 8] = [
             Query::Enclose(3),
             Query::Handle(1),
             Query::Handle(2),
+            Query::LevelRightmost(0),
+            Query::Node(0, Question::NextSibling),
+            Query::Node(2, Question::Parent),
         ],
         &[
             Some(1),
@@ -60,6 +72,9 @@ const CASES: [(&[u8], &[Query], &[Option<i64>]); 8] = [
             None,
             Some(2),
             Some(4),
+            Some(2),
+            Some(2),
+            None,
         ],
     ),
     (
@@ -87,6 +102,8 @@ const CASES: [(&[u8], &[Query], &[Option<i64>]); 8] = [
             Query::Backward(0, 0),
             Query::Enclose(0),
             Query::Handle(0),
+            Query::LevelLeftmost(0),
+            Query::LevelRightmost(0),
         ],
         &[
             Some(0),
@@ -99,6 +116,8 @@ const CASES: [(&[u8], &[Query], &[Option<i64>]); 8] = [
             None,
             None,
             Some(0),
+            None,
+            None,
         ],
     ),
     (
@@ -149,8 +168,53 @@ const CASES: [(&[u8], &[Query], &[Option<i64>]); 8] = [
     ),
     (
         &[1, 0],
-        &[Query::IsBalanced, Query::Close(0), Query::Open(1)],
-        &[Some(1), Some(1), Some(0)],
+        &[
+            Query::IsBalanced,
+            Query::Close(0),
+            Query::Open(1),
+            Query::Node(0, Question::Depth),
+            Query::Node(0, Question::IsLeaf),
+            Query::Node(0, Question::Parent),
+            Query::Node(0, Question::SubtreeSize),
+            Query::LevelRightmost(0),
+        ],
+        &[
+            Some(1),
+            Some(1),
+            Some(0),
+            Some(0),
+            Some(1),
+            None,
+            Some(1),
+            Some(0),
+        ],
+    ),
+    (
+        &[1, 1, 0, 1, 0, 0],
+        &[
+            Query::Node(3, Question::Index),
+            Query::Node(1, Question::LevelNext),
+            Query::IsAncestor(1, 3),
+            Query::IsAncestor(0, 3),
+            Query::LevelLeftmost(2),
+            Query::LevelLeftmost(u64::MAX),
+            Query::Node(3, Question::LevelAncestor(9223372036854775808)),
+            Query::Node(0, Question::FirstChild),
+            Query::Node(0, Question::LastChild),
+            Query::Node(3, Question::PreviousSibling),
+        ],
+        &[
+            Some(2),
+            Some(3),
+            Some(0),
+            Some(1),
+            None,
+            None,
+            None,
+            Some(1),
+            Some(3),
+            Some(1),
+        ],
     ),
 ];
 
@@ -168,6 +232,48 @@ fn queries_and_their_answers(rt: HostRuntime) -> Result<(), Fail> {
     Ok(())
 }
 
+// The bits, and a walk from a node: which one, from where, and what it gives.
+const TOURS: [(&[u8], Tour, usize, &[usize]); 9] = [
+    (&THREE_BYTES, Tour::Children, 6, &[7, 9, 11, 19]),
+    (&THREE_BYTES, Tour::RevChildren, 6, &[19, 11, 9, 7]),
+    (&NODE_WITH_TWO, Tour::Children, 0, &[1, 3]),
+    (&NODE_WITH_TWO, Tour::RevChildren, 0, &[3, 1]),
+    (&NODE_WITH_TWO, Tour::Children, 1, &[]),
+    (&NODE_WITH_TWO, Tour::Subtree, 0, &[0, 1, 3]),
+    (&NODE_WITH_TWO, Tour::SubtreePost, 0, &[1, 3, 0]),
+    (&NODE_WITH_TWO, Tour::All, 0, &[0, 1, 3]),
+    (&NODE_WITH_TWO, Tour::AllPost, 0, &[1, 3, 0]),
+];
+
+// The number of the first walk, counted from 0, that gives something else, with blocks of `N` bits.
+fn wrong_tour<const N: usize>(alloc: Global) -> Result<Option<usize>, GrowError>
+    requires some { 0 < N }
+    requires bounded { N ≤ MAX_BLOCK_SIZE }
+{
+    for (row, (bits, tour, node, wanted)) in TOURS.iter().enumerate() {
+        let given = asked(
+            tree_of::<N>(alloc, bits),
+            |tree: &BpTree<N, Global>| Ok(tour_gives(tree, *tour, *node, First::Plain, wanted)),
+        )?;
+        if given != Some(true) {
+            return Ok(Some(row));
+        }
+    }
+    Ok(None)
+}
+
+#[test]
+fn walks_and_what_they_give(rt: HostRuntime) -> Result<(), Fail> {
+    assert_eq!(rt; wrong_tour::<1>(rt.alloc())?, None);
+    assert_eq!(rt; wrong_tour::<3>(rt.alloc())?, None);
+    assert_eq!(rt; wrong_tour::<8>(rt.alloc())?, None);
+    assert_eq!(rt; wrong_tour::<12>(rt.alloc())?, None);
+    assert_eq!(rt; wrong_tour::<64>(rt.alloc())?, None);
+    assert_eq!(rt; wrong_tour::<512>(rt.alloc())?, None);
+    assert_eq!(rt; wrong_tour::<4294967296>(rt.alloc())?, None);
+    Ok(())
+}
+
 // The bytes of a tree with blocks of `N` bits.
 fn bytes<const N: usize>(alloc: Global, bits: &[u8]) -> Result<usize, GrowError>
     requires some { 0 < N }
@@ -181,11 +287,10 @@ fn bytes<const N: usize>(alloc: Global, bits: &[u8]) -> Result<usize, GrowError>
 
 #[test]
 fn sizes_of_trees(rt: HostRuntime) {
-    let node_with_two = [1, 1, 0, 1, 0, 0];
     assert_eq!(rt; bytes::<8>(rt.alloc(), &THREE_BYTES), Ok(194));
     assert_eq!(rt; bytes::<12>(rt.alloc(), &THREE_BYTES), Ok(122));
     assert_eq!(rt; bytes::<512>(rt.alloc(), &THREE_BYTES), Ok(98));
-    assert_eq!(rt; bytes::<1>(rt.alloc(), &node_with_two), Ok(362));
-    assert_eq!(rt; bytes::<512>(rt.alloc(), &node_with_two), Ok(98));
+    assert_eq!(rt; bytes::<1>(rt.alloc(), &NODE_WITH_TWO), Ok(362));
+    assert_eq!(rt; bytes::<512>(rt.alloc(), &NODE_WITH_TWO), Ok(98));
     assert_eq!(rt; bytes::<1>(rt.alloc(), &[]), Ok(32));
 }

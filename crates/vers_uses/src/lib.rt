@@ -5,6 +5,7 @@
 pub mod budget;
 pub mod documents;
 pub mod genome;
+pub mod levels;
 pub mod prices;
 #[cfg(test)]
 mod tests;

@@ -2,10 +2,14 @@
 use crate::budget::{Window, has_more};
 use crate::documents::Documents;
 use crate::genome::Genome;
+use crate::levels::{nodes_on_level, take_steps};
 use crate::prices::Prices;
+use std::alloc::{AllocError, Global};
 use std::test::Fail;
+use vers_vecs::bit_vec::GrowError;
 use vers_vecs::elias_fano::is_ascending;
 use vers_vecs::tally::Tally;
+use vers_vecs::trees::bp::{BpBuilder, BpTree, BuildError};
 
 #[test]
 fn documents_of_bytes(rt: HostRuntime) -> Result<(), Fail> {
@@ -52,6 +56,53 @@ fn cheapest_days(rt: HostRuntime) -> Result<(), Fail> {
     let prices = Prices::new(Vec::from_slice(rt.alloc(), &[9, 6, 10, 6])?)?;
     for (from, to, day) in [(0, 4, Some(1)), (2, 4, Some(3)), (2, 5, None), (2, 2, None)] {
         assert_eq!(rt; prices.cheapest(from, to), day, "from {from} up to {to}");
+    }
+    Ok(())
+}
+
+// Two trees: a node with two children, each of which has a leaf, and a leaf.
+const STEPS: [bool; 12] = [
+    true, true, true, false, false, true, true, false, false, false, true, false,
+];
+
+// The places of the nodes of each depth.
+const LEVELS: [(u64, &[usize]); 4] = [(0, &[0, 10]), (1, &[1, 5]), (2, &[2, 6]), (3, &[])];
+
+// A builder that has taken the steps.
+fn builder_of(alloc: Global, steps: &[bool]) -> Result<BpBuilder<8, Global>, GrowError> {
+    let mut builder = BpBuilder::new(alloc);
+    take_steps(&mut builder, steps)?;
+    Ok(builder)
+}
+
+// The nodes of a depth, and none where the parentheses are not balanced.
+fn level_in(
+    alloc: Global,
+    tree: &BpTree<8, Global>,
+    depth: u64,
+) -> Result<Vec<usize, Global>, AllocError> {
+    if !tree.is_balanced() {
+        return Ok(Vec::new(alloc));
+    }
+    nodes_on_level(alloc, tree, depth)
+}
+
+// The nodes of a depth in the trees that the steps build.
+fn level_of(alloc: Global, steps: &[bool], depth: u64) -> Result<Vec<usize, Global>, BuildError> {
+    let Ok(builder) = builder_of(alloc, steps) else {
+        return Err(BuildError::Memory);
+    };
+    match builder.build() {
+        Ok(tree) => Ok(level_in(alloc, &tree, depth)?),
+        Err(refused) => Err(refused),
+    }
+}
+
+#[test]
+fn nodes_of_each_level(rt: HostRuntime) -> Result<(), Fail> {
+    for (depth, wanted) in LEVELS {
+        let nodes = level_of(rt.alloc(), &STEPS, depth)?;
+        assert_eq!(rt; nodes.as_slice(), wanted, "at depth {depth}");
     }
     Ok(())
 }

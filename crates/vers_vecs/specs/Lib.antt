@@ -35,6 +35,9 @@ pub use Rattle.vers_trees.specs.Nodes
 pub use Rattle.vers_trees.specs.Traversals
 pub use Rattle.vers_trees.specs.WalkReads as TreesWalkReads
 pub use Rattle.vers_trees.specs.WalkLaws as TreesWalkLaws
+pub use Rattle.vers_trees.specs.LevelWalks
+pub use Rattle.vers_trees.specs.NodeLaws as TreesNodeLaws
+pub use Rattle.vers_trees.specs.ReadLaws as TreesReadLaws
 pub use Rattle.vers_trees.specs.Layout as TreesLayout
 pub use Rattle.vers_trees.specs.Laws as TreesLaws
 -- lists of symbols

@@ -117,9 +117,11 @@ pub mod laws {
     /// Laws of trees of parentheses.
     pub mod trees {
         pub use vers_trees::laws::{
-            backward_finds_last, close_finds_pair, close_undoes_open, forward_finds_first,
-            one_forest, ones_are_nodes, open_finds_pair, open_undoes_close,
-            postorder_closes_in_order, preorder_opens_in_order,
+            backward_finds_last, calls_are_within_one_bound, calls_read_few, close_finds_pair,
+            close_undoes_open, forward_finds_first, level_iff_depth, levels_are_parts,
+            levels_go_back, levels_go_on, node_iff_one, one_forest, ones_are_nodes,
+            open_finds_pair, open_undoes_close, postorder_closes_in_order, preorder_opens_in_order,
+            searches_read_few,
         };
     }
 

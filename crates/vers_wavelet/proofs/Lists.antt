@@ -1,6 +1,6 @@
 -- What places and counts of the levels say of the list of symbols.
 use Rattle.std.proofs.Common.{◌≡◌, ℕ, zero, suc, ◌+◌, ◌-◌, ◌%◌, ◌^◌, ◌<◌, ◌≤◌, Bool, true, cond, ltb, leb, eqb, List, [], ◌∷◌, ◌++◌, length, get_or, take, drop, refl, sym, ap, ◌∙◌, subst, arith, add-one, add-zero, inl, inr}
-use Rattle.std.specs.Prelude.{map, filter, slice_range, slice_get, Option, Some, None, IsSome}
+use Rattle.std.specs.Prelude.{map, filter, slice_range, slice_get, Option, Some, None, IsSome, IfSome, All}
 use Rattle.std.specs.List.{count_by, range_with_len}
 use Rattle.std.proofs.Math.Seq.{take-add}
 use Rattle.std.proofs.lemmas.Bool.{cases_lt}
@@ -11,7 +11,7 @@ use Rattle.std.proofs.lemmas.List.FromFn.{sum_by-map-range_with_len_more, filter
 use Rattle.std.proofs.lemmas.Option.{slice_get-get_or, slice_get_past}
 use Rattle.vers_wavelet.specs.Levels.{value, values, hits, under, equal, way, AreLevels, KthOf}
 use Rattle.vers_wavelet.specs.Symbols.{occurrences, IsKth}
-use Rattle.vers_wavelet.proofs.Values.{way-up, equal_under}
+use Rattle.vers_wavelet.proofs.Values.{way-up, equal_under, value-lt}
 use Rattle.vers_wavelet.proofs.Members.{never}
 use Rattle.vers_wavelet.proofs.Steps.{way_equal, way_more, way_parts}
 
@@ -22,6 +22,10 @@ length-values ls n = length-map-range_with_len (value ls) 0 n
 pub get_or-values : (ls : List (List Bool)) (n p d : ℕ) → p < n → get_or (values ls n) p d ≡ value ls p
 unfolding values
 get_or-values ls n p d h = get_or-map-range_with_len (value ls) 0 n p p d h (omega arith)
+
+-- symbols are below two to the number of levels
+pub values_fit : (ls : List (List Bool)) (n : ℕ) → All (λ y. y < 2 ^ length ls) (values ls n)
+values_fit ls n = λ k d h. omega (arith, get_or-values ls n k d (omega (arith, h, length-values ls n)), value-lt ls k)
 
 -- ---- counts over a range of places
 
@@ -85,10 +89,10 @@ unfolding occurrences equal
 occurrences_are ls n a b s order within =
     omega (arith, length-filter (λ p. eqb (get_or (values ls n) p 0) s) (range_with_len a (b - a)), over_places ls n a b (λ v. eqb v s) order within)
 
-pub count_is : {ls : List (List Bool)} {n : ℕ} → AreLevels ls n → (s a b from to : ℕ) → a ≤ b → b ≤ n → from ≡ way ls s a → to ≡ way ls s b
+pub count_is : {ls : List (List Bool)} {n : ℕ} → AreLevels ls n → (s a b from to : ℕ) → a ≤ b → b ≤ n → from + way ls s b ≡ to + way ls s a
     → to - from ≡ length (occurrences (values ls n) a b (s % 2 ^ length ls))
-count_is {ls} {n} levels s a b from to order within e f =
-    omega (arith, occurrences_are ls n a b (s % 2 ^ length ls) order within, way_parts levels s a b order within, way-up ls s a b order)
+count_is {ls} {n} levels s a b from to order within e =
+    omega (arith, e, occurrences_are ls n a b (s % 2 ^ length ls) order within, way_parts levels s a b order within, way-up ls s a b order)
 
 -- the places of a range that pass a test: number r of them is the one before which r of them stand
 nth_passing : (q : ℕ → Bool) (a m p d r : ℕ) → a ≤ p → p < a + m → q p ≡ true → count_by q (range_with_len a (p - a)) ≡ r → get_or (filter q (range_with_len a m)) r d ≡ p
@@ -130,7 +134,7 @@ found_is {ls} {n} levels s a r from to p start e f few within holds leads =
       | inl before ↦ absurd (omega (arith, way_more ls n levels.even s p within holds, way-up ls s (p + 1) a (omega arith)))
       | inr fine ↦ fine
     ] in
-    let many : length (occurrences (values ls n) a n v) ≡ to - from = sym (count_is levels s a n from to start (omega arith) e f) in
+    let many : length (occurrences (values ls n) a n v) ≡ to - from = sym (count_is levels s a n from to start (omega arith) (omega (arith, e, f))) in
     let before : count_by q (range_with_len a (p - a)) ≡ r =
     omega (arith, over_places ls n a p (λ x. eqb x v) order (omega arith), way_equal ls n levels.even s a start, way_equal ls n levels.even s p (omega arith)) in
     let at : get_or (filter q (range_with_len a (n - a))) r p ≡ p =
@@ -140,7 +144,19 @@ found_is {ls} {n} levels s a r from to p start e f few within holds leads =
 pub found_none : {ls : List (List Bool)} {n : ℕ} → AreLevels ls n → (s a r from to : ℕ) → a ≤ n → from ≡ way ls s a → to ≡ way ls s n → to - from ≤ r
     → None ≡ slice_get (occurrences (values ls n) a n (s % 2 ^ length ls)) r
 found_none {ls} {n} levels s a r from to start e f past =
-    sym (slice_get_past (occurrences (values ls n) a n (s % 2 ^ length ls)) r (omega (arith, count_is levels s a n from to start (omega arith) e f)))
+    sym (slice_get_past (occurrences (values ls n) a n (s % 2 ^ length ls)) r (omega (arith, count_is levels s a n from to start (omega arith) (omega (arith, e, f)))))
+
+-- what the way back up gives of a place that may be one of another symbol
+pub found_or_none : {ls : List (List Bool)} {n : ℕ} → AreLevels ls n → (s a r from : ℕ) (o : Option ℕ) → a ≤ n → from ≡ way ls s a → IfSome o (λ p. p < n)
+    → IfSome o (λ p. value ls p ≡ s % 2 ^ length ls) → IfSome o (λ p. way ls s p ≡ from + r) → (IsSome o → from + r < way ls s n) × (from + r < way ls s n → IsSome o)
+    → o ≡ slice_get (occurrences (values ls n) a n (s % 2 ^ length ls)) r
+found_or_none {ls} {n} levels s a r from None start e within holds leads some =
+    found_none levels s a r from (way ls s n) start e refl (elim (cases_lt (from + r) (way ls s n)) [
+      | inl inside ↦ never (some.1 inside)
+      | inr past ↦ omega arith
+    ])
+found_or_none {ls} {n} levels s a r from (Some p) start e within holds leads some =
+    found_is levels s a r from (way ls s n) p start e refl (omega (arith, some.0 refl)) within holds leads
 
 -- ---- members by size
 
@@ -162,10 +178,10 @@ kth_is ls n a b i x order within kth = record {
   more = omega (arith, over_members (λ v. leb v x) ls n a b order within, kth.more, leb_hits ls x a, leb_hits ls x b);
 }
 
-pub not_above_is : {ls : List (List Bool)} {n : ℕ} → AreLevels ls n → (s a b less from to : ℕ) → a ≤ b → b ≤ n → from ≡ way ls s a → to ≡ way ls s b
+pub not_above_is : {ls : List (List Bool)} {n : ℕ} → AreLevels ls n → (s a b less from to : ℕ) → a ≤ b → b ≤ n → from + way ls s b ≡ to + way ls s a
     → less + under ls (s % 2 ^ length ls) a ≡ under ls (s % 2 ^ length ls) b
     → less + (to - from) ≡ count_by (λ y. leb y (s % 2 ^ length ls)) (slice_range (values ls n) a b)
-not_above_is {ls} {n} levels s a b less from to order within e f g =
+not_above_is {ls} {n} levels s a b less from to order within e g =
     let v : ℕ = s % 2 ^ length ls in
     omega (
       arith,

@@ -1,5 +1,5 @@
 -- Neighbours of a number in a list, as members by size.
-use Rattle.std.proofs.Common.{◌≡◌, ℕ, zero, suc, ◌+◌, ◌-◌, ◌<◌, ◌≤◌, Bool, true, false, cond, ltb, leb, List, [], ◌∷◌, length, drop, get_or, refl, ◌∙◌, arith, inl, inr}
+use Rattle.std.proofs.Common.{◌≡◌, ℕ, zero, suc, ◌+◌, ◌-◌, ◌<◌, ◌≤◌, Bool, true, false, true≢false, cond, ltb, leb, List, [], ◌∷◌, length, drop, get_or, refl, sym, ◌∙◌, arith, inl, inr}
 use Rattle.std.specs.Prelude.{Contains, Any, slice_range}
 use Rattle.std.specs.List.{count_by}
 use Rattle.std.proofs.lemmas.Bool.{cases_lt}
@@ -108,6 +108,17 @@ successor_is xs n s x e kth = record {
   ];
 }
 
+-- where some members are s, of `below` below it and `equal` that are it, it is the neighbour on both sides
+kth_same : (xs : List ℕ) (below equal s : ℕ) → below ≡ count_by (λ y. ltb y s) xs → below + equal ≡ count_by (λ y. leb y s) xs → 0 < equal → (i : ℕ) → below ≤ i → i < below + equal → IsKth xs i s
+kth_same xs below equal s low high some i from to = record { less = omega (arith, low); more = omega (arith, high) }
+
+pub predecessor_same : (xs : List ℕ) (below equal s x : ℕ) → below ≡ count_by (λ y. ltb y s) xs → below + equal ≡ count_by (λ y. leb y s) xs → 0 < equal → x ≡ s → IsPredecessor xs s x
+predecessor_same xs below equal s x low high some is =
+    rw is (predecessor_is xs (below + equal) s s high (omega arith) (kth_same xs below equal s low high some (below + equal - 1) (omega arith) (omega arith)))
+
+pub successor_same : (xs : List ℕ) (below equal s x : ℕ) → below ≡ count_by (λ y. ltb y s) xs → below + equal ≡ count_by (λ y. leb y s) xs → 0 < equal → x ≡ s → IsSuccessor xs s x
+successor_same xs below equal s x low high some is = rw is (successor_is xs below s s low (kth_same xs below equal s low high some below (omega arith) (omega arith)))
+
 none_count : (xs : List ℕ) → count_by (λ y. false) xs ≡ 0
 none_count [] = refl
 none_count (x ∷ xs) = omega (arith, count_cons (λ y. false) x xs, none_count xs)
@@ -151,3 +162,8 @@ part_length xs a b order within = omega (arith, length-take (b - a) (drop a xs),
 
 pub never : {X : Type 0} → false ≡ true → X
 never {X} e = cc
+
+-- a test has one answer
+pub both_ways : {X : Type 0} (b : Bool) → b ≡ false → b ≡ true → X
+both_ways true e f = absurd (true≢false e)
+both_ways false e f = absurd (true≢false (sym f))

@@ -2,12 +2,13 @@
 use Rattle.std.proofs.Common.{◌≡◌, ℕ, zero, suc, ◌+◌, ◌-◌, ◌*◌, ◌%◌, ◌^◌, ◌<◌, ◌≤◌, Bool, true, false, cond, List, [], ◌∷◌, length, drop, get_or, refl, sym, ap, ◌∙◌, subst, arith, add-one, inl, inr}
 use Rattle.std.specs.Prelude.{All}
 use Rattle.std.proofs.Math.Seq.{drop-cons}
-use Rattle.std.proofs.Math.Nat.{pow-suc, mod-lt}
+use Rattle.std.proofs.Math.Nat.{pow-suc, mod-lt, mul-le-mul_right}
 use Rattle.std.proofs.lemmas.Bool.{cases_lt}
 use Rattle.std.proofs.lemmas.Nat.{pow_pos}
 use Rattle.std.proofs.lemmas.List.{length-drop, drop_all}
 use Rattle.vers_bits.specs.Bits.{bit_value, is_bit, count, select}
 use Rattle.vers_bits.proofs.PublicLaws.{select_holds}
+use Rattle.vers_tally.specs.Reads.{Reads, IsWithin, times}
 use Rattle.vers_wavelet.specs.Levels.{start, next, value, under, equal, way, digit, AreLevels, Narrowed, KthOf, Searched, Rises}
 use Rattle.vers_wavelet.proofs.Digits.{digit_value, top_digit, room_none}
 use Rattle.vers_wavelet.proofs.Values.{under_low, under_high, equal_under, under_none, next_none, next-up, next-le, none_under, all_equal, one_under, value_is, value_none, next-lt, way_none, way_is, way-up, equal_more}
@@ -174,44 +175,43 @@ module _ (ls : List (List Bool)) (s k : ℕ) (h : k < length ls) (v : List Bool)
   }
 
   -- one level up
-  module _ (n : ℕ) (even : Even ls n) (target q : ℕ) (low : way ls s 0 ≤ target) (high : target < way ls s n) (up : Rises ls n s target (k + 1) q) where
+  module _ (n : ℕ) (even : Even ls n) (target q : ℕ) (up : Rises ls n s target (k + 1) q) where
     long : length v ≡ n
     long = ap length at ∙ even k v h
 
     holds_here : value lower q ≡ s % 2 ^ length lower
     holds_here = up.holds ∙ ap (λ m. s % 2 ^ m) (sym (levels_left ls k h))
 
-    pub rise_from : start bit v ≤ q
-    rise_from = elim (cases_lt q (start bit v)) [
-      | inl less ↦ absurd (omega (
-        arith,
-        up.leads,
-        way_more lower n (even_drop ls n even (k + 1)) s q up.within holds_here,
-        way-up lower s (q + 1) (start bit v) (omega arith),
-        way_down 0,
-        ap (way lower s) (next_none bit v),
-        way_low ls s k,
-      ))
-      | inr fine ↦ fine
-    ]
+    -- what leads to a symbol that is s is among those of its digit
+    pub rise_inside : way ls s 0 ≤ target → target < way ls s n → (start bit v ≤ q) × (q < next bit v n)
+    rise_inside low high = (
+      elim (cases_lt q (start bit v)) [
+        | inl less ↦ absurd (omega (
+          arith,
+          up.leads,
+          way_more lower n (even_drop ls n even (k + 1)) s q up.within holds_here,
+          way-up lower s (q + 1) (start bit v) (omega arith),
+          way_down 0,
+          ap (way lower s) (next_none bit v),
+          way_low ls s k,
+        ))
+        | inr fine ↦ fine
+      ],
+      elim (cases_lt q (next bit v n)) [
+        | inl fine ↦ fine
+        | inr past ↦ absurd (omega (arith, up.leads, way-up lower s (next bit v n) q past, way_down n, way_high ls n even s k))
+      ],
+    )
 
-    rise_before : q < next bit v n
-    rise_before = elim (cases_lt q (next bit v n)) [
-      | inl fine ↦ fine
-      | inr past ↦ absurd (omega (arith, up.leads, way-up lower s (next bit v n) q past, way_down n, way_high ls n even s k))
-    ]
-
-    pub rise_few : q - start bit v < count bit v (length v)
+    pub rise_to : start bit v ≤ q → q < next bit v n → Rises ls n s target k (select bit v (q - start bit v))
     unfolding next
-    rise_few = let e : count bit v (length v) ≡ count bit v n = ap (count bit v) long in omega (arith, rise_before, rise_from, e)
-
-    pub rise_to : Rises ls n s target k (select bit v (q - start bit v))
-    unfolding next
-    rise_to =
+    rise_to from before =
         let r : ℕ = q - start bit v in
-        let at' = select_holds bit v r (length v) (omega arith) rise_few in
+        let e : count bit v (length v) ≡ count bit v n = ap (count bit v) long in
+        let few : r < count bit v (length v) = omega (arith, before, from, e) in
+        let at' = select_holds bit v r (length v) (omega arith) few in
         let p : ℕ = select bit v r in
-        let back : next bit v p ≡ q = omega (arith, at'.2, rise_from) in
+        let back : next bit v p ≡ q = omega (arith, at'.2, from) in
         record {
           within = omega (arith, at'.0, long);
           holds = ap (λ m. value m p) (level_at ls k h v at) ∙ value_is v lower p bit (bit_of bit _ at'.1) ∙ ap (λ i. bit_value bit * 2 ^ length lower + value lower i) back
@@ -314,6 +314,19 @@ narrowed_all {ls} {s} {from} {to} {k} {a} {b} {less} e n =
       sym (way_none s b) ∙ ap (λ m. way m s b) (sym none) ∙ n.to_is,
     )
 
+-- below the last level, or where no place is left, the ends are as far apart as those of the way down
+pub narrowed_kept : {ls : List (List Bool)} {s from to k a b less : ℕ} → k ≡ length ls → Narrowed ls s from to k a b less → a + way ls s to ≡ b + way ls s from
+narrowed_kept {ls} {s} {from} {to} e n = let all = narrowed_all e n in omega (arith, all.1, all.2)
+
+pub narrowed_empty : {ls : List (List Bool)} {s from to k a b less : ℕ} → a ≡ b → Narrowed ls s from to k a b less
+    → (less + under ls (s % 2 ^ length ls) from ≡ under ls (s % 2 ^ length ls) to) × (a + way ls s to ≡ b + way ls s from)
+narrowed_empty {ls} {s} {from} {to} {k} {a} {b} {less} e n =
+    (omega (arith, n.less_is, ap (under (drop k ls) (s % 2 ^ (length ls - k))) e), omega (arith, n.from_is, n.to_is, e, ap (way (drop k ls) s) e))
+
+-- the way down of a place, below the last level
+pub way_all : (ls : List (List Bool)) (s k p from : ℕ) → k ≡ length ls → way (drop k ls) s p ≡ way ls s from → p ≡ way ls s from
+way_all ls s k p from e w = sym (way_none s p) ∙ ap (λ m. way m s p) (sym (drop_all k ls (omega arith))) ∙ w
+
 -- those that hold s in a range, by the way down of its ends
 pub way_parts : {ls : List (List Bool)} {n : ℕ} → AreLevels ls n → (s a b : ℕ) → a ≤ b → b ≤ n → way ls s b - way ls s a + equal ls (s % 2 ^ length ls) a ≡ equal ls (s % 2 ^ length ls) b
 way_parts {ls} {n} levels s a b order within = omega (arith, way_equal ls n levels.even s a (omega arith), way_equal ls n levels.even s b within, way-up ls s a b order)
@@ -322,11 +335,13 @@ pub ruleset narrowing = (next-le, next-up, narrowed_none)
 
 pub ruleset searching = (searched_none, room_none, next-le, next-up)
 
-pub rise_first : {ls : List (List Bool)} {n : ℕ} → AreLevels ls n → (s target : ℕ) → target < way ls s n → Rises ls n s target (length ls - 0) target
-rise_first {ls} {n} levels s target high =
-    let below : way ls s n ≤ n = omega (arith, way_high ls n levels.even s (length ls), ap (λ m. way m s n) (drop_all (length ls) ls (omega arith)) ∙ way_none s n) in
+pub way_within : {ls : List (List Bool)} {n : ℕ} → AreLevels ls n → (s : ℕ) → way ls s n ≤ n
+way_within {ls} {n} levels s = omega (arith, way_high ls n levels.even s (length ls), ap (λ m. way m s n) (drop_all (length ls) ls (omega arith)) ∙ way_none s n)
+
+pub rise_first : {ls : List (List Bool)} {n : ℕ} (s target : ℕ) → target < n → Rises ls n s target (length ls - 0) target
+rise_first {ls} {n} s target within =
     let e : length ls ≡ length ls - 0 = omega arith in
-    subst (λ (m : ℕ). Rises ls n s target m target) e (rise_none ls n s target (omega arith))
+    subst (λ (m : ℕ). Rises ls n s target m target) e (rise_none ls n s target within)
 
 pub rise_at : {ls : List (List Bool)} {n s target m q : ℕ} (k : ℕ) → m ≡ k + 1 → Rises ls n s target m q → Rises ls n s target (k + 1) q
 rise_at {ls} {n} {s} {target} {m} {q} k e up = subst (λ (j : ℕ). Rises ls n s target j q) e up
@@ -335,3 +350,23 @@ pub rise_all : {ls : List (List Bool)} {n s target k q : ℕ} → k ≡ 0 → Ri
 rise_all {ls} {n} {s} {target} {k} {q} e up =
     let top : Rises ls n s target 0 q = subst (λ (j : ℕ). Rises ls n s target j q) e up in
     (top.holds ∙ (let z : length ls - 0 ≡ length ls = omega arith in ap (λ m. s % 2 ^ m) z), top.leads)
+
+-- the place it leads to is one of those that hold s
+pub rise_below : {ls : List (List Bool)} {n s target k q : ℕ} → AreLevels ls n → k ≡ 0 → Rises ls n s target k q → target < way ls s n
+rise_below {ls} {n} {s} {target} {k} {q} levels e up =
+    let top = rise_all e up in
+    omega (arith, top.1, way_more ls n levels.even s q up.within top.0, way-up ls s (q + 1) n (omega (arith, up.within)))
+
+-- a bound fewer times
+pub times_less : (i m : ℕ) (r : Reads) → i ≤ m → IsWithin (times i r) (times m r)
+times_less i m r h = record {
+  data_words = mul-le-mul_right r.data_words h;
+  block_entries = mul-le-mul_right r.block_entries h;
+  superblock_entries = mul-le-mul_right r.superblock_entries h;
+  low_parts = mul-le-mul_right r.low_parts h;
+  rank_calls = mul-le-mul_right r.rank_calls h;
+  items = mul-le-mul_right r.items h;
+  blocks = mul-le-mul_right r.blocks h;
+  nodes = mul-le-mul_right r.nodes h;
+  chunks = mul-le-mul_right r.chunks h;
+}

@@ -1,5 +1,5 @@
 -- How places and counts of symbols go from one level to the next.
-use Rattle.std.proofs.Common.{◌≡◌, ℕ, zero, suc, ◌+◌, ◌-◌, ◌*◌, ◌^◌, ◌<◌, ◌≤◌, Bool, true, false, cond, ltb, eqb, List, [], ◌∷◌, length, get_or, refl, sym, ap, ◌∙◌, arith, add-one, inl, inr, add-zero}
+use Rattle.std.proofs.Common.{◌≡◌, ℕ, zero, suc, ◌+◌, ◌-◌, ◌*◌, ◌^◌, ◌<◌, ◌≤◌, Bool, true, false, true≢false, cond, ltb, leb, eqb, List, [], ◌∷◌, length, get_or, refl, sym, ap, ◌∙◌, arith, add-one, inl, inr, add-zero}
 use Rattle.std.proofs.Math.Nat.{pow-suc}
 use Rattle.std.proofs.lemmas.Bool.{cases_Bool, cases_lt}
 use Rattle.std.proofs.lemmas.Bool.Decides.{nat_tests}
@@ -172,6 +172,34 @@ unfolding next
 next_other l i h = omega (arith, count_both l i)
 
 pub ruleset others = (next_other, next-le)
+
+-- the places of the next level from the first of the ones on are those of the ones, and those before it those of the zeros
+next_true_all : (l : List Bool) → next true l (length l) ≡ length l
+unfolding next
+next_true_all l = omega (arith, count_both l (length l))
+
+next_false_all : (l : List Bool) → next false l (length l) ≡ count false l (length l)
+unfolding next
+next_false_all l = omega arith
+
+pub leb_yes : (a b : ℕ) → a ≤ b → leb a b ≡ true
+leb_yes a b h = grind (arith, nat_tests)
+
+leb_from : (a b : ℕ) → leb a b ≡ true → a ≤ b
+leb_from a b e = grind (arith, nat_tests)
+
+ltb_from : (a b : ℕ) → ltb a b ≡ true → a < b
+ltb_from a b e = grind (arith, nat_tests)
+
+pub of_ones : (bit : Bool) (l : List Bool) (z p : ℕ) → bit ≡ true → z ≡ count false l (length l) → p < length l
+    → (leb z p ≡ true → (start bit l ≤ p) × (p < next bit l (length l))) × ((start bit l ≤ p) × (p < next bit l (length l)) → leb z p ≡ true)
+of_ones true l z p e zeros h = (λ t. (omega (arith, zeros, leb_from z p t), omega (arith, h, next_true_all l)), λ t. leb_yes z p (omega (arith, zeros, t.0)))
+of_ones false l z p e zeros h = absurd (true≢false (sym e))
+
+pub of_zeros : (bit : Bool) (l : List Bool) (z p : ℕ) → bit ≡ false → z ≡ count false l (length l) → p < length l
+    → (ltb p z ≡ true → (start bit l ≤ p) × (p < next bit l (length l))) × ((start bit l ≤ p) × (p < next bit l (length l)) → ltb p z ≡ true)
+of_zeros true l z p e zeros h = absurd (true≢false e)
+of_zeros false l z p e zeros h = (λ t. (omega arith, omega (arith, zeros, next_false_all l, ltb_from p z t)), λ t. ltb_yes p z (omega (arith, zeros, next_false_all l, t.1)))
 
 -- a place that holds the bit has its own place in the next level
 pub next-lt : (b : Bool) (l : List Bool) (i : ℕ) → i < length l → get_or l i false ≡ b → next b l i < length l

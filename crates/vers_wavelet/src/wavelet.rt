@@ -1,5 +1,5 @@
 //! The wavelet matrix.
-ghost use Rattle.std.specs.Prelude.{◌≡◌, ℕ, ◌+◌, ◌-◌, ◌*◌, ◌%◌, ◌^◌, ◌<◌, ◌≤◌, ◌↔◌, [], length, slice_get, slice_index, slice_range, count_by, nat_lt, nat_le, Some, None, IsTrue, IsSome, IfSome};
+ghost use Rattle.std.specs.Prelude.{◌≡◌, ℕ, ◌+◌, ◌-◌, ◌*◌, ◌%◌, ◌^◌, ◌<◌, ◌≤◌, ◌↔◌, [], length, slice_get, slice_index, slice_range, count_by, nat_lt, nat_le, Some, None, All, IsTrue, IsSome, IfSome};
 ghost use Rattle.vers_wavelet.specs.Symbols.{Symbols};
 
 mod count;
@@ -73,13 +73,22 @@ impl<A: Allocator + Copy> WaveletMatrix<A> {
         self.len() == 0
     }
 
-    /// How many bits a symbol has.
+    /// How many bits a symbol has: each is below two to that power.
     #[inline]
     pub fn bits_per_element(&self) -> usize
         ensures value { result ≡ self.now.width }
         ensures bounded { self.now.width ≤ 65535 }
+        ensures fit { All (λ y. y < 2 ^ self.now.width) self.now.items }
     {
         self.levels.len()
+    }
+
+    // Whether a symbol is a number of the machine.
+    #[inline(always)]
+    pub(crate) fn fits_word(&self) -> bool
+        ensures { IsTrue result ↔ (self.now.width ≤ 64) }
+    {
+        self.bits_per_element() <= 64
     }
 
     /// The same as `bits_per_element`.

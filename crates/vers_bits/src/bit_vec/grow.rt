@@ -206,7 +206,8 @@ impl<A: Allocator + Copy> BitVec<A> {
     pub fn extend_bitvec(&mut self, other: &BitVec<A>) -> Result<(), GrowError>
         ensures grown { OnOk result (self.new ≡ self.old ++ other.now) }
         ensures kept { OnErr result (self.new ≡ self.old) }
-        ensures too_long { (result ≡ Err GrowError.TooLong) ↔ (MAX_LEN < length self.old + length other.now) }
+        ensures too_long { (result ≡ Err GrowError.TooLong)
+            ↔ (MAX_LEN < length self.old + length other.now) }
     {
         self.extend_from(other, 0)
     }

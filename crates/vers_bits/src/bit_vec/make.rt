@@ -180,7 +180,8 @@ impl<A: Allocator + Copy> BitVec<A> {
     ) -> Result<Self, GrowError>
         requires can { I.can_next items }
         requires ends { IsFinite (I.remaining items) }
-        ensures made { IfOk result (λ v. (xs : List T) × Drains I.next_gives items xs × (v ≡ map T.is_odd xs)) }
+        ensures made { IfOk result (λ v. (xs : List T) × Drains I.next_gives items xs
+            × (v ≡ map T.is_odd xs)) }
         ensures refused { IfErr result (λ e. StopsAt I.next_gives items
             (λ xs x. (e ≡ GrowError.TooLong) ↔ (MAX_LEN < length xs + 1))) }
     {
@@ -320,7 +321,8 @@ impl<A: Allocator + Copy> BitVec<A> {
     ) -> Result<Self, GrowError>
         requires can { I.can_next limbs }
         requires ends { IsFinite (I.remaining limbs) }
-        ensures made { IfOk result (λ v. (xs : List ℕ) × Drains I.next_gives limbs xs × (v ≡ pack xs 64)) }
+        ensures made { IfOk result (λ v. (xs : List ℕ) × Drains I.next_gives limbs xs
+            × (v ≡ pack xs 64)) }
         ensures refused { IfErr result (λ e. StopsAt I.next_gives limbs
             (λ xs x. (e ≡ GrowError.TooLong) ↔ (MAX_LEN < (length xs + 1) * 64))) }
     {
@@ -372,7 +374,8 @@ impl<A: Allocator + Copy> BitVec<A> {
     ) -> Result<Self, GrowError>
         requires can { I.can_next sequence }
         requires ends { IsFinite (I.remaining sequence) }
-        ensures made { IfOk result (λ v. (xs : List ℕ) × Drains I.next_gives sequence xs × (v ≡ pack xs k)) }
+        ensures made { IfOk result (λ v. (xs : List ℕ) × Drains I.next_gives sequence xs
+            × (v ≡ pack xs k)) }
         ensures refused { IfErr result (λ e. StopsAt I.next_gives sequence
             (λ xs x. (e ≡ GrowError.TooLong) ↔ (MAX_LEN < (length xs + 1) * k))) }
     {
@@ -388,7 +391,8 @@ impl<A: Allocator + Copy> BitVec<A> {
     ) -> Result<Self, GrowError>
         requires can { I.can_next sequence }
         requires ends { IsFinite (I.remaining sequence) }
-        ensures made { IfOk result (λ v. (xs : List ℕ) × Drains I.next_gives sequence xs × (v ≡ pack xs k)) }
+        ensures made { IfOk result (λ v. (xs : List ℕ) × Drains I.next_gives sequence xs
+            × (v ≡ pack xs k)) }
         ensures refused { IfErr result (λ e. StopsAt I.next_gives sequence
             (λ xs x. (e ≡ GrowError.TooLong) ↔ (MAX_LEN < (length xs + 1) * k))) }
     {
@@ -404,7 +408,8 @@ impl<A: Allocator + Copy> BitVec<A> {
     ) -> Result<Self, GrowError>
         requires can { I.can_next sequence }
         requires ends { IsFinite (I.remaining sequence) }
-        ensures made { IfOk result (λ v. (xs : List ℕ) × Drains I.next_gives sequence xs × (v ≡ pack xs k)) }
+        ensures made { IfOk result (λ v. (xs : List ℕ) × Drains I.next_gives sequence xs
+            × (v ≡ pack xs k)) }
         ensures refused { IfErr result (λ e. StopsAt I.next_gives sequence
             (λ xs x. (e ≡ GrowError.TooLong) ↔ (MAX_LEN < (length xs + 1) * k))) }
     {
@@ -420,7 +425,8 @@ impl<A: Allocator + Copy> BitVec<A> {
     ) -> Result<Self, GrowError>
         requires can { I.can_next sequence }
         requires ends { IsFinite (I.remaining sequence) }
-        ensures made { IfOk result (λ v. (xs : List ℕ) × Drains I.next_gives sequence xs × (v ≡ pack xs k)) }
+        ensures made { IfOk result (λ v. (xs : List ℕ) × Drains I.next_gives sequence xs
+            × (v ≡ pack xs k)) }
         ensures refused { IfErr result (λ e. StopsAt I.next_gives sequence
             (λ xs x. (e ≡ GrowError.TooLong) ↔ (MAX_LEN < (length xs + 1) * k))) }
     {

@@ -75,7 +75,8 @@ impl<'a, 'b, F: Fn(u64, u64) -> u64, A: Allocator + Copy> MaskedBitVec<'a, 'b, F
         requires some { 0 < n }
         requires one_limb { place % 64 + n ≤ 64 }
         requires within { place + n ≤ length self.now.left }
-        ensures { OfMasked (F.post self.now.mask) self.now (λ bits. result ≡ number (part bits place n)) }
+        ensures { OfMasked (F.post self.now.mask) self.now (λ bits.
+            result ≡ number (part bits place n)) }
     {
         (self.limb(place / 64) >> (place % 64)) & (u64::MAX >> (64 - n))
     }
@@ -132,7 +133,8 @@ impl<'a, 'b, F: Fn(u64, u64) -> u64, A: Allocator + Copy> MaskedBitVec<'a, 'b, F
     #[tactic(auto, using(crate::proofs::Masks::parts))]
     pub fn get_bits(&self, place: usize, n: usize) -> Option<u64>
         requires { OnEveryPair (F.pre self.now.mask) }
-        ensures { OfMasked (F.post self.now.mask) self.now (λ bits. result ≡ part_number bits place n) }
+        ensures { OfMasked (F.post self.now.mask) self.now (λ bits.
+            result ≡ part_number bits place n) }
     {
         let len = self.left.len();
         if n == 0 || n > 64 || place > len || n > len - place {
@@ -147,7 +149,8 @@ impl<'a, 'b, F: Fn(u64, u64) -> u64, A: Allocator + Copy> MaskedBitVec<'a, 'b, F
         requires may_call { OnEveryPair (F.pre self.now.mask) }
         requires few { n ≤ 64 }
         requires within { place + n ≤ length self.now.left }
-        ensures { OfMasked (F.post self.now.mask) self.now (λ bits. result ≡ number (part bits place n)) }
+        ensures { OfMasked (F.post self.now.mask) self.now (λ bits.
+            result ≡ number (part bits place n)) }
     {
         let len = self.left.len();
         if n == 0 || place >= len {
@@ -469,7 +472,8 @@ impl<A: Allocator + Copy> BitVec<A> {
         &'s self,
         other: &'b BitVec<A>,
     ) -> Result<BitMask<'s, 'b, A>, LengthMismatch>
-        ensures masked { OfOneLength result self.now other.now (λ m. m ≡ zip_bits xor self.now other.now) }
+        ensures masked { OfOneLength result self.now other.now (λ m.
+            m ≡ zip_bits xor self.now other.now) }
         ensures long { IfOk result (λ m. length m ≡ length self.now) }
     {
         self.mask_by(other, MaskKind::Xor)
@@ -517,7 +521,8 @@ impl<A: Allocator + Copy> BitVec<A> {
     /// differ, and the list is as it was.
     #[tactic(auto, using(crate::proofs::Zips::zips))]
     pub fn apply_mask_xor(&mut self, other: &BitVec<A>) -> Result<(), LengthMismatch>
-        ensures { Applied result self.old self.new other.now (self.new ≡ zip_bits xor self.old other.now) }
+        ensures { Applied result self.old self.new other.now (self.new
+            ≡ zip_bits xor self.old other.now) }
     {
         self.apply(other, &|x: u64, y: u64| x ^ y)
     }

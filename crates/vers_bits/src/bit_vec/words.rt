@@ -31,7 +31,8 @@ fn push_word<A: Allocator + Copy>(words: &mut Vec<u64, A>, word: u64) -> Result<
 // Sets the bits of word `k` that `bits` has.
 fn or_into<A: Allocator + Copy>(words: &mut Vec<u64, A>, k: usize, bits: u64)
     requires { k < length words.old.items }
-    ensures { words.new.items ≡ slice_set words.old.items k (bit_or (slice_index words.old.items k) bits) }
+    ensures { words.new.items ≡ slice_set words.old.items k
+        (bit_or (slice_index words.old.items k) bits) }
 {
     words[k] |= bits;
 }

@@ -36,9 +36,11 @@ impl ChunkWalk {
     ) -> Option<usize>
         requires { IsChunkWalkOf bits.now self.old }
         ensures walk { IsChunkWalkOf bits.now self.new }
-        ensures steps { TakesFirst (chunk_places_left bits.now self.old) result (chunk_places_left bits.now self.new) }
+        ensures steps { TakesFirst (chunk_places_left bits.now self.old) result
+            (chunk_places_left bits.now self.new) }
         ensures loads { chunks_unread bits.now self.new ≤ chunks_unread bits.now self.old }
-        ensures adds { AddsAtMost tally.old tally.new (chunk_reads (chunks_unread bits.now self.old - chunks_unread bits.now self.new)) }
+        ensures adds { AddsAtMost tally.old tally.new
+            (chunk_reads (chunks_unread bits.now self.old - chunks_unread bits.now self.new)) }
     {
         let len = bits.len();
         while self.place < len {
@@ -64,7 +66,8 @@ impl ChunkWalk {
         ensures same_bit { self.new.bit ≡ self.old.bit }
         ensures more { self.new.place < self.new.end }
         ensures loads { chunks_unread bits.now self.new ≤ chunks_unread bits.now self.old }
-        ensures adds { AddsAtMost tally.old tally.new (chunk_reads (chunks_unread bits.now self.old - chunks_unread bits.now self.new)) }
+        ensures adds { AddsAtMost tally.old tally.new
+            (chunk_reads (chunks_unread bits.now self.old - chunks_unread bits.now self.new)) }
     {
         if self.place < self.end {
             return;
@@ -111,7 +114,11 @@ impl<'a, A: Allocator + Copy> Model for Chunks<'a, A> {
 impl<'a, A: Allocator + Copy> Chunks<'a, A> {
     #[tactic(auto, using(crate::proofs::Chunks::makers))]
     fn new(bits: &'a RsVec<A>, bit: bool) -> Self
-        ensures { result ≡ record { bits = bits.now; left = places bit bits.now; unread = chunk_count (length bits.now) } }
+        ensures { result ≡ record {
+          bits = bits.now;
+          left = places bit bits.now;
+          unread = chunk_count (length bits.now);
+        } }
     {
         Chunks {
             bits,
@@ -128,7 +135,8 @@ impl<'a, A: Allocator + Copy> Chunks<'a, A> {
         ensures steps { TakesFirst self.old.left result self.new.left }
         ensures same_list { self.new.bits ≡ self.old.bits }
         ensures loads { self.new.unread ≤ self.old.unread }
-        ensures adds { AddsAtMost tally.old tally.new (chunk_reads (self.old.unread - self.new.unread)) }
+        ensures adds { AddsAtMost tally.old tally.new
+            (chunk_reads (self.old.unread - self.new.unread)) }
     {
         self.walk.next_counted(self.bits, tally)
     }
@@ -146,7 +154,11 @@ pub struct BitSetIter<'a, const ZERO: bool, A: Allocator + Copy> {
 impl<A: Allocator + Copy> RsVec<A> {
     /// An iterator over the places of the zeros, which scans chunks of bits.
     pub fn bit_set_iter0(&self) -> BitSetIter<'_, true, A>
-        ensures { result.rest ≡ record { bits = self.now; left = places false self.now; unread = chunk_count (length self.now) } }
+        ensures { result.rest ≡ record {
+          bits = self.now;
+          left = places false self.now;
+          unread = chunk_count (length self.now);
+        } }
     {
         BitSetIter {
             rest: Chunks::new(self, false),
@@ -155,7 +167,11 @@ impl<A: Allocator + Copy> RsVec<A> {
 
     /// An iterator over the places of the ones, which scans chunks of bits.
     pub fn bit_set_iter1(&self) -> BitSetIter<'_, false, A>
-        ensures { result.rest ≡ record { bits = self.now; left = places true self.now; unread = chunk_count (length self.now) } }
+        ensures { result.rest ≡ record {
+          bits = self.now;
+          left = places true self.now;
+          unread = chunk_count (length self.now);
+        } }
     {
         BitSetIter {
             rest: Chunks::new(self, true),
@@ -180,7 +196,8 @@ impl<'a, const ZERO: bool, A: Allocator + Copy> BitSetIter<'a, ZERO, A> {
         ensures steps { TakesFirst self.old.rest.left result self.new.rest.left }
         ensures same_list { self.new.rest.bits ≡ self.old.rest.bits }
         ensures loads { self.new.rest.unread ≤ self.old.rest.unread }
-        ensures adds { AddsAtMost tally.old tally.new (chunk_reads (self.old.rest.unread - self.new.rest.unread)) }
+        ensures adds { AddsAtMost tally.old tally.new
+            (chunk_reads (self.old.rest.unread - self.new.rest.unread)) }
     {
         self.rest.next_counted(tally)
     }

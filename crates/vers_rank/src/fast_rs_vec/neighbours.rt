@@ -54,7 +54,8 @@ impl<A: Allocator + Copy> RsVec<A> {
     #[inline(always)]
     pub fn successor0_counted(&self, place: usize, tally: &mut Tally) -> Option<u64>
         ensures value { result ≡ place_after false self.now place }
-        ensures adds { AddsAtMost tally.old tally.new (neighbour_reads (superblock_count (length self.now))) }
+        ensures adds { AddsAtMost tally.old tally.new
+            (neighbour_reads (superblock_count (length self.now))) }
     {
         self.successor_counted(false, place, tally)
     }
@@ -64,7 +65,8 @@ impl<A: Allocator + Copy> RsVec<A> {
     #[inline(always)]
     pub fn successor1_counted(&self, place: usize, tally: &mut Tally) -> Option<u64>
         ensures value { result ≡ place_after true self.now place }
-        ensures adds { AddsAtMost tally.old tally.new (neighbour_reads (superblock_count (length self.now))) }
+        ensures adds { AddsAtMost tally.old tally.new
+            (neighbour_reads (superblock_count (length self.now))) }
     {
         self.successor_counted(true, place, tally)
     }
@@ -74,7 +76,8 @@ impl<A: Allocator + Copy> RsVec<A> {
     #[inline(always)]
     pub fn predecessor0_counted(&self, place: usize, tally: &mut Tally) -> Option<u64>
         ensures value { result ≡ place_before false self.now place }
-        ensures adds { AddsAtMost tally.old tally.new (neighbour_reads (superblock_count (length self.now))) }
+        ensures adds { AddsAtMost tally.old tally.new
+            (neighbour_reads (superblock_count (length self.now))) }
     {
         self.predecessor_counted(false, place, tally)
     }
@@ -84,7 +87,8 @@ impl<A: Allocator + Copy> RsVec<A> {
     #[inline(always)]
     pub fn predecessor1_counted(&self, place: usize, tally: &mut Tally) -> Option<u64>
         ensures value { result ≡ place_before true self.now place }
-        ensures adds { AddsAtMost tally.old tally.new (neighbour_reads (superblock_count (length self.now))) }
+        ensures adds { AddsAtMost tally.old tally.new
+            (neighbour_reads (superblock_count (length self.now))) }
     {
         self.predecessor_counted(true, place, tally)
     }
@@ -94,7 +98,8 @@ impl<A: Allocator + Copy> RsVec<A> {
     #[tactic(auto, using(crate::proofs::Neighbours::neighbours))]
     fn successor_counted(&self, bit: bool, place: usize, tally: &mut Tally) -> Option<u64>
         ensures value { result ≡ place_after bit self.now place }
-        ensures adds { AddsAtMost tally.old tally.new (neighbour_reads (superblock_count (length self.now))) }
+        ensures adds { AddsAtMost tally.old tally.new
+            (neighbour_reads (superblock_count (length self.now))) }
     {
         if place >= self.len() {
             return None;
@@ -111,7 +116,8 @@ impl<A: Allocator + Copy> RsVec<A> {
     #[tactic(auto, using(crate::proofs::Neighbours::neighbours))]
     fn predecessor_counted(&self, bit: bool, place: usize, tally: &mut Tally) -> Option<u64>
         ensures value { result ≡ place_before bit self.now place }
-        ensures adds { AddsAtMost tally.old tally.new (neighbour_reads (superblock_count (length self.now))) }
+        ensures adds { AddsAtMost tally.old tally.new
+            (neighbour_reads (superblock_count (length self.now))) }
     {
         let before = self.rank_counted(bit, place, tally);
         if before == 0 {

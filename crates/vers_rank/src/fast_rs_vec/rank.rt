@@ -73,7 +73,8 @@ impl<A: Allocator + Copy> RsVec<A> {
     pub(super) fn zeros_before(&self, block: usize, tally: &mut Tally) -> usize
         requires { 512 * block < length self.now }
         ensures value { result ≡ count false self.now (512 * block) }
-        ensures adds { AddsAtMost tally.old tally.new (record no_reads { block_entries = 1; superblock_entries = 1 }) }
+        ensures adds { AddsAtMost tally.old tally.new
+            (record no_reads { block_entries = 1; superblock_entries = 1 }) }
     {
         self.blocks.read(block, tally) as usize + self.superblocks.read(block / 16, tally) as usize
     }
@@ -84,7 +85,8 @@ impl<A: Allocator + Copy> RsVec<A> {
     // place does not lie past them.
     #[inline(always)]
     fn ones_in_block(&self, block: usize, place: usize, tally: &mut Tally) -> usize
-        requires within { (512 * block ≤ place) × (place < 512 * block + 512) × (place < length self.now) }
+        requires within { (512 * block ≤ place) × (place < 512 * block + 512)
+            × (place < length self.now) }
         ensures value { count true self.now (512 * block) + result ≡ count true self.now place }
         ensures adds { AddsAtMost tally.old tally.new (only_data_words 8) }
     {
@@ -100,7 +102,8 @@ impl<A: Allocator + Copy> RsVec<A> {
     // The same in the last block, which may have fewer limbs: none past the place is read.
     #[inline(always)]
     fn ones_limb_by_limb(&self, block: usize, place: usize, tally: &mut Tally) -> usize
-        requires within { (512 * block ≤ place) × (place < 512 * block + 512) × (place < length self.now) }
+        requires within { (512 * block ≤ place) × (place < 512 * block + 512)
+            × (place < length self.now) }
         ensures value { count true self.now (512 * block) + result ≡ count true self.now place }
         ensures adds { AddsAtMost tally.old tally.new (only_data_words 8) }
     {
@@ -117,8 +120,10 @@ impl<A: Allocator + Copy> RsVec<A> {
     #[inline(always)]
     #[tactic(auto, using(crate::proofs::Ranks::parts))]
     fn ones_before_half(&self, block: usize, place: usize, tally: &mut Tally) -> usize
-        requires within { (512 * block ≤ place) × (place < 512 * block + 512) × (512 * block + 512 ≤ length self.now) }
-        ensures value { count true self.now (512 * block) + result ≡ count true self.now (256 * (place / 256)) }
+        requires within { (512 * block ≤ place) × (place < 512 * block + 512)
+            × (512 * block + 512 ≤ length self.now) }
+        ensures value { count true self.now (512 * block) + result
+            ≡ count true self.now (256 * (place / 256)) }
         ensures few { result ≤ 256 }
         ensures adds { AddsAtMost tally.old tally.new (only_data_words 4) }
     {
@@ -133,7 +138,8 @@ impl<A: Allocator + Copy> RsVec<A> {
     #[tactic(auto, using(crate::proofs::Ranks::parts))]
     fn ones_before_quarter(&self, place: usize, tally: &mut Tally) -> usize
         requires within { 256 * (place / 256) + 256 ≤ length self.now }
-        ensures value { count true self.now (256 * (place / 256)) + result ≡ count true self.now (128 * (place / 128)) }
+        ensures value { count true self.now (256 * (place / 256)) + result
+            ≡ count true self.now (128 * (place / 128)) }
         ensures few { result ≤ 128 }
         ensures adds { AddsAtMost tally.old tally.new (only_data_words 2) }
     {
@@ -146,7 +152,8 @@ impl<A: Allocator + Copy> RsVec<A> {
     #[tactic(auto, using(crate::proofs::Ranks::parts))]
     fn ones_before_limb(&self, place: usize, tally: &mut Tally) -> usize
         requires within { 128 * (place / 128) + 128 ≤ length self.now }
-        ensures value { count true self.now (128 * (place / 128)) + result ≡ count true self.now (64 * (place / 64)) }
+        ensures value { count true self.now (128 * (place / 128)) + result
+            ≡ count true self.now (64 * (place / 64)) }
         ensures few { result ≤ 64 }
         ensures adds { AddsAtMost tally.old tally.new (only_data_words 1) }
     {
@@ -185,7 +192,8 @@ impl<A: Allocator + Copy> RsVec<A> {
     #[tactic(auto, using(crate::proofs::Ranks::limbs))]
     fn ones_of_whole_limb(&self, from: usize, k: usize, whole: usize, tally: &mut Tally) -> usize
         requires { 64 * (from + k) < length self.now }
-        ensures value { count true self.now (64 * (from + min k whole)) + result ≡ count true self.now (64 * (from + min (k + 1) whole)) }
+        ensures value { count true self.now (64 * (from + min k whole)) + result
+            ≡ count true self.now (64 * (from + min (k + 1) whole)) }
         ensures few { result ≤ 64 }
         ensures adds { AddsAtMost tally.old tally.new (only_data_words 1) }
     {
@@ -198,7 +206,8 @@ impl<A: Allocator + Copy> RsVec<A> {
     #[tactic(auto, using(crate::proofs::Ranks::limbs))]
     fn ones_of_part(&self, place: usize, tally: &mut Tally) -> usize
         requires { place < length self.now }
-        ensures value { count true self.now (64 * (place / 64)) + result ≡ count true self.now place }
+        ensures value { count true self.now (64 * (place / 64)) + result
+            ≡ count true self.now place }
         ensures few { result ≤ 64 }
         ensures adds { AddsAtMost tally.old tally.new (only_data_words 1) }
     {

@@ -5,13 +5,10 @@ ghost use Rattle.vers_tally.specs.Reads.{only_data_words, AddsAtMost};
 ghost use Rattle.vers_rank.specs.Queries.{superblock_count, select_reads};
 ghost use Rattle.vers_rank.specs.inside.Walks.{IsReading, IsReadingBack, marked};
 
-use super::RsVec;
+use super::{LIMB, RsVec};
 use crate::word::place_in_word;
 use std::alloc::Allocator;
 use vers_tally::tally::Tally;
-
-/// How many bits a limb has.
-const LIMB: usize = 64;
 
 // The word of a limb in which the places from number `next` on are ones, where the walk goes from
 // the front, and those below number `next`, where it goes from the back. The places from `next` up to
@@ -53,7 +50,8 @@ impl Reader {
         requires some { r < count bit bits.now (length bits.now) }
         ensures reading { IsReading bit bits.now self.new }
         ensures value { result ≡ select bit bits.now r }
-        ensures adds { AddsAtMost tally.old tally.new (select_reads (superblock_count (length bits.now))) }
+        ensures adds { AddsAtMost tally.old tally.new
+            (select_reads (superblock_count (length bits.now))) }
     {
         let _ = &bits.bits;
         self.seek(bit, r, bits, tally);
@@ -71,7 +69,8 @@ impl Reader {
         ensures reading { IsReading bit bits.now self.new }
         ensures next { self.new.next ≡ r }
         ensures some { 0 < self.new.word }
-        ensures adds { AddsAtMost tally.old tally.new (select_reads (superblock_count (length bits.now))) }
+        ensures adds { AddsAtMost tally.old tally.new
+            (select_reads (superblock_count (length bits.now))) }
     {
         if self.word != 0 && self.next == r {
             return;
@@ -131,7 +130,8 @@ impl Reader {
         ensures reading { IsReading bit bits.now self.new }
         ensures next { self.new.next ≡ r }
         ensures some { 0 < self.new.word }
-        ensures adds { AddsAtMost tally.old tally.new (select_reads (superblock_count (length bits.now))) }
+        ensures adds { AddsAtMost tally.old tally.new
+            (select_reads (superblock_count (length bits.now))) }
     {
         tally.add_rank_call();
         let at = bits.locate(bit, r, tally);
@@ -155,7 +155,8 @@ impl Reader {
         requires some { r < count bit bits.now (length bits.now) }
         ensures reading { IsReadingBack bit bits.now self.new }
         ensures value { result ≡ select bit bits.now r }
-        ensures adds { AddsAtMost tally.old tally.new (select_reads (superblock_count (length bits.now))) }
+        ensures adds { AddsAtMost tally.old tally.new
+            (select_reads (superblock_count (length bits.now))) }
     {
         let _ = &bits.bits;
         self.seek_back(bit, r + 1, bits, tally);
@@ -180,7 +181,8 @@ impl Reader {
         ensures reading { IsReadingBack bit bits.now self.new }
         ensures next { self.new.next ≡ end }
         ensures some { 0 < self.new.word }
-        ensures adds { AddsAtMost tally.old tally.new (select_reads (superblock_count (length bits.now))) }
+        ensures adds { AddsAtMost tally.old tally.new
+            (select_reads (superblock_count (length bits.now))) }
     {
         if self.word != 0 && self.next == end {
             return;
@@ -240,7 +242,8 @@ impl Reader {
         ensures reading { IsReadingBack bit bits.now self.new }
         ensures next { self.new.next ≡ end }
         ensures some { 0 < self.new.word }
-        ensures adds { AddsAtMost tally.old tally.new (select_reads (superblock_count (length bits.now))) }
+        ensures adds { AddsAtMost tally.old tally.new
+            (select_reads (superblock_count (length bits.now))) }
     {
         tally.add_rank_call();
         let at = bits.locate(bit, end - 1, tally);

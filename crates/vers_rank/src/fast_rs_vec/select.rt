@@ -5,16 +5,10 @@ ghost use Rattle.vers_tally.specs.Reads.{no_reads, one_more, only_block_entries,
 ghost use Rattle.vers_rank.specs.Queries.{superblock_count, select_reads};
 ghost use Rattle.vers_rank.specs.inside.Index.{held, IsSample, IsLimbWith, IsAmongLimbs};
 
-use super::{BLOCK, RsVec, SUPERBLOCK};
+use super::{BLOCK, BLOCKS, LIMB, RsVec, SUPERBLOCK};
 use crate::word::{held_in_word, place_in_word};
 use std::alloc::Allocator;
 use vers_tally::tally::Tally;
-
-/// How many bits a limb has.
-const LIMB: usize = 64;
-
-/// How many blocks a superblock has.
-const BLOCKS: usize = SUPERBLOCK / BLOCK;
 
 /// Up to how many superblocks a search looks at one after the other.
 const FEW: usize = 4;
@@ -44,7 +38,8 @@ impl Passed {
     fn and(self, entry: u16, r: u16) -> Passed
         requires few { self.blocks < 16 }
         requires rest { self.rest ≤ r }
-        ensures passed { entry ≤ r → (result.blocks ≡ self.blocks + 1) × (result.rest ≡ min self.rest (r - entry)) }
+        ensures passed { entry ≤ r → (result.blocks ≡ self.blocks + 1)
+            × (result.rest ≡ min self.rest (r - entry)) }
         ensures kept { r < entry → (result.blocks ≡ self.blocks) × (result.rest ≡ self.rest) }
     {
         let more = if entry <= r { 1 } else { 0 };
@@ -69,8 +64,10 @@ impl FoundLimb {
     fn passing(self, r: usize, n: usize, held: usize) -> FoundLimb
         requires limbs { self.limb + n < 2 ^ 64 }
         requires places { self.before + held < 2 ^ 64 }
-        ensures passed { self.before + held ≤ r → (result.limb ≡ self.limb + n) × (result.before ≡ self.before + held) }
-        ensures kept { r < self.before + held → (result.limb ≡ self.limb) × (result.before ≡ self.before) }
+        ensures passed { self.before + held ≤ r
+            → (result.limb ≡ self.limb + n) × (result.before ≡ self.before + held) }
+        ensures kept { r < self.before + held
+            → (result.limb ≡ self.limb) × (result.before ≡ self.before) }
     {
         let limb = self.limb + n;
         let before = self.before + held;
@@ -129,7 +126,8 @@ impl<A: Allocator + Copy> RsVec<A> {
         ensures value { result ≡ select false self.now r }
         ensures within { result ≤ length self.now }
         ensures counted { tally.new.rank_calls ≡ one_more tally.old.rank_calls }
-        ensures adds { AddsAtMost tally.old tally.new (select_reads (superblock_count (length self.now))) }
+        ensures adds { AddsAtMost tally.old tally.new
+            (select_reads (superblock_count (length self.now))) }
     {
         self.select_counted(false, r, tally)
     }
@@ -142,7 +140,8 @@ impl<A: Allocator + Copy> RsVec<A> {
         ensures value { result ≡ select true self.now r }
         ensures within { result ≤ length self.now }
         ensures counted { tally.new.rank_calls ≡ one_more tally.old.rank_calls }
-        ensures adds { AddsAtMost tally.old tally.new (select_reads (superblock_count (length self.now))) }
+        ensures adds { AddsAtMost tally.old tally.new
+            (select_reads (superblock_count (length self.now))) }
     {
         self.select_counted(true, r, tally)
     }
@@ -154,7 +153,8 @@ impl<A: Allocator + Copy> RsVec<A> {
         ensures value { result ≡ select bit self.now r }
         ensures within { result ≤ length self.now }
         ensures counted { tally.new.rank_calls ≡ one_more tally.old.rank_calls }
-        ensures adds { AddsAtMost tally.old tally.new (select_reads (superblock_count (length self.now))) }
+        ensures adds { AddsAtMost tally.old tally.new
+            (select_reads (superblock_count (length self.now))) }
     {
         tally.add_rank_call();
         let len = self.len();
@@ -173,7 +173,12 @@ impl<A: Allocator + Copy> RsVec<A> {
         ensures value { 64 * result.limb + result.place ≡ select bit self.now r }
         ensures within { (64 * result.limb < length self.now) × (result.place < 64) }
         ensures word { result.word ≡ limb self.now result.limb }
-        ensures adds { AddsAtMost tally.old tally.new (record no_reads { data_words = 8; block_entries = 16; superblock_entries = digits (superblock_count (length self.now)) + 11 }) }
+        ensures adds { AddsAtMost tally.old tally.new
+            (record no_reads {
+              data_words = 8;
+              block_entries = 16;
+              superblock_entries = digits (superblock_count (length self.now)) + 11;
+            }) }
     {
         let _ = &self.bits;
         let s = self.superblock_with(bit, r, tally);
@@ -208,7 +213,8 @@ impl<A: Allocator + Copy> RsVec<A> {
     fn count_in_superblock(&self, bit: bool, s: usize, j: u16, tally: &mut Tally) -> u16
         requires few { j < 16 }
         requires within { 512 * (16 * s + j) < length self.now }
-        ensures value { count bit self.now (8192 * s) + result ≡ count bit self.now (512 * (16 * s + j)) }
+        ensures value { count bit self.now (8192 * s) + result
+            ≡ count bit self.now (512 * (16 * s + j)) }
         ensures adds { AddsAtMost tally.old tally.new (only_block_entries 1) }
     {
         let _ = &self.bits;
@@ -221,7 +227,8 @@ impl<A: Allocator + Copy> RsVec<A> {
     #[tactic(auto, using(crate::proofs::Ranks::sums))]
     pub(super) fn count_at_block(&self, bit: bool, block: usize, tally: &mut Tally) -> usize
         ensures value { result ≡ count bit self.now (512 * block) }
-        ensures adds { AddsAtMost tally.old tally.new (record no_reads { block_entries = 1; superblock_entries = 1 }) }
+        ensures adds { AddsAtMost tally.old tally.new
+            (record no_reads { block_entries = 1; superblock_entries = 1 }) }
     {
         if block >= self.blocks.len() {
             return self.total(bit);
@@ -251,7 +258,8 @@ impl<A: Allocator + Copy> RsVec<A> {
         ensures within { 8192 * result < length self.now }
         ensures from { count bit self.now (8192 * result) ≤ r }
         ensures to { r < count bit self.now (8192 * (result + 1)) }
-        ensures adds { AddsAtMost tally.old tally.new (only_superblock_entries (digits (superblock_count (length self.now)) + 10)) }
+        ensures adds { AddsAtMost tally.old tally.new
+            (only_superblock_entries (digits (superblock_count (length self.now)) + 10)) }
     {
         let _ = &self.bits;
         let first = self.sample(bit, r / SUPERBLOCK, tally);
@@ -278,7 +286,8 @@ impl<A: Allocator + Copy> RsVec<A> {
         ensures within { 8192 * result < length self.now }
         ensures from { count bit self.now (8192 * result) ≤ r }
         ensures to { r < count bit self.now (8192 * (result + 1)) }
-        ensures adds { AddsAtMost tally.old tally.new (only_superblock_entries (digits (n - 1) + 8)) }
+        ensures adds { AddsAtMost tally.old tally.new
+            (only_superblock_entries (digits (n - 1) + 8)) }
     {
         let _ = &self.bits;
         if n <= FEW {
@@ -309,7 +318,8 @@ impl<A: Allocator + Copy> RsVec<A> {
         ensures within { 8192 * result < length self.now }
         ensures from { count bit self.now (8192 * result) ≤ r }
         ensures to { r < count bit self.now (8192 * (result + 1)) }
-        ensures adds { AddsAtMost tally.old tally.new (only_superblock_entries (digits (n - 1) + 7)) }
+        ensures adds { AddsAtMost tally.old tally.new
+            (only_superblock_entries (digits (n - 1) + 7)) }
     {
         let _ = &self.bits;
         for step in 1..STEPS + 1 {
@@ -338,7 +348,8 @@ impl<A: Allocator + Copy> RsVec<A> {
         ensures within { 8192 * result < length self.now }
         ensures from { count bit self.now (8192 * result) ≤ r }
         ensures to { r < count bit self.now (8192 * (result + 1)) }
-        ensures adds { AddsAtMost tally.old tally.new (only_superblock_entries (digits (n - 1) + 7)) }
+        ensures adds { AddsAtMost tally.old tally.new
+            (only_superblock_entries (digits (n - 1) + 7)) }
     {
         let _ = &self.bits;
         for step in 1..STEPS + 1 {
@@ -368,7 +379,8 @@ impl<A: Allocator + Copy> RsVec<A> {
         ensures within { 8192 * result < length self.now }
         ensures from { count bit self.now (8192 * result) ≤ r }
         ensures to { r < count bit self.now (8192 * (result + 1)) }
-        ensures adds { AddsAtMost tally.old tally.new (only_superblock_entries (digits (n - 1) + 3)) }
+        ensures adds { AddsAtMost tally.old tally.new
+            (only_superblock_entries (digits (n - 1) + 3)) }
     {
         let _ = &self.bits;
         let mut start = first;
@@ -398,8 +410,10 @@ impl<A: Allocator + Copy> RsVec<A> {
         ensures few { result.block < 16 }
         ensures within { 512 * (16 * s + result.block) < length self.now }
         ensures from { result.rest ≤ r }
-        ensures counted { count bit self.now (512 * (16 * s + result.block)) + result.rest ≡ count bit self.now (8192 * s) + r }
-        ensures to { count bit self.now (8192 * s) + r < count bit self.now (512 * (16 * s + result.block + 1)) }
+        ensures counted { count bit self.now (512 * (16 * s + result.block)) + result.rest
+            ≡ count bit self.now (8192 * s) + r }
+        ensures to { count bit self.now (8192 * s) + r
+            < count bit self.now (512 * (16 * s + result.block + 1)) }
         ensures adds { AddsAtMost tally.old tally.new (only_block_entries 16) }
     {
         let blocks = self.blocks.len() - BLOCKS * s;
@@ -419,8 +433,11 @@ impl<A: Allocator + Copy> RsVec<A> {
         requires within { 512 * (16 * s + n) < length self.now + 512 }
         ensures few { result.block < n }
         ensures from { result.rest ≤ r }
-        ensures counted { count bit self.now (512 * (16 * s + result.block)) + result.rest ≡ count bit self.now (8192 * s) + r }
-        ensures to { result.block + 1 < n → count bit self.now (8192 * s) + r < count bit self.now (512 * (16 * s + result.block + 1)) }
+        ensures counted { count bit self.now (512 * (16 * s + result.block)) + result.rest
+            ≡ count bit self.now (8192 * s) + r }
+        ensures to { result.block + 1 < n
+            → count bit self.now (8192 * s) + r
+            < count bit self.now (512 * (16 * s + result.block + 1)) }
         ensures adds { AddsAtMost tally.old tally.new (only_block_entries n) }
     {
         let mut passed = Passed { blocks: 0, rest: r };
@@ -440,8 +457,10 @@ impl<A: Allocator + Copy> RsVec<A> {
     #[tactic(auto, using(crate::proofs::Selects::in_block))]
     fn place_in_block(&self, bit: bool, r: usize, block: usize, tally: &mut Tally) -> InWord
         requires within { 512 * block < length self.now }
-        requires to { count bit self.now (512 * block) + r < count bit self.now (512 * (block + 1)) }
-        ensures value { 64 * result.limb + result.place ≡ select bit self.now (count bit self.now (512 * block) + r) }
+        requires to { count bit self.now (512 * block) + r
+            < count bit self.now (512 * (block + 1)) }
+        ensures value { 64 * result.limb + result.place
+            ≡ select bit self.now (count bit self.now (512 * block) + r) }
         ensures within { (64 * result.limb < length self.now) × (result.place < 64) }
         ensures word { result.word ≡ limb self.now result.limb }
         ensures adds { AddsAtMost tally.old tally.new (only_data_words 8) }
@@ -460,7 +479,8 @@ impl<A: Allocator + Copy> RsVec<A> {
     #[inline(always)]
     fn limb_with(&self, bit: bool, r: usize, block: usize, tally: &mut Tally) -> FoundLimb
         requires within { 512 * block < length self.now }
-        ensures found { IsLimbWith bit self.now block r (min (8 * block + 7) ((length self.now - 1) / 64)) result.limb result.before }
+        ensures found { IsLimbWith bit self.now block r
+            (min (8 * block + 7) ((length self.now - 1) / 64)) result.limb result.before }
         ensures adds { AddsAtMost tally.old tally.new (only_data_words 7) }
     {
         let last = (self.len() - 1) / LIMB;

@@ -101,21 +101,30 @@ pub type SelectIntoIter<const ZERO: bool, A> = BothEnds<Places<Kind<ZERO>, RsVec
 impl<A: Allocator + Copy> RsVec<A> {
     /// An iterator over the places of the zeros where `ZERO` is true, and else of the ones.
     pub fn select_iter<const ZERO: bool>(&self) -> SelectIter<'_, ZERO, A>
-        ensures { result ≡ record { left = places (not ZERO) self.now; step = select_reads (superblock_count (length self.now)) } }
+        ensures { result ≡ record {
+          left = places (not ZERO) self.now;
+          step = select_reads (superblock_count (length self.now));
+        } }
     {
         BothEnds::new(Places::new(self, !ZERO))
     }
 
     /// An iterator over the places of the zeros.
     pub fn iter0(&self) -> SelectIter<'_, true, A>
-        ensures { result ≡ record { left = places false self.now; step = select_reads (superblock_count (length self.now)) } }
+        ensures { result ≡ record {
+          left = places false self.now;
+          step = select_reads (superblock_count (length self.now));
+        } }
     {
         self.select_iter::<true>()
     }
 
     /// An iterator over the places of the ones.
     pub fn iter1(&self) -> SelectIter<'_, false, A>
-        ensures { result ≡ record { left = places true self.now; step = select_reads (superblock_count (length self.now)) } }
+        ensures { result ≡ record {
+          left = places true self.now;
+          step = select_reads (superblock_count (length self.now));
+        } }
     {
         self.select_iter::<false>()
     }
@@ -123,7 +132,10 @@ impl<A: Allocator + Copy> RsVec<A> {
     /// An iterator over the places of the zeros where `ZERO` is true, and else of the ones, which
     /// owns the list.
     pub fn into_select_iter<const ZERO: bool>(self) -> SelectIntoIter<ZERO, A>
-        ensures { result ≡ record { left = places (not ZERO) self; step = select_reads (superblock_count (length self)) } }
+        ensures { result ≡ record {
+          left = places (not ZERO) self;
+          step = select_reads (superblock_count (length self));
+        } }
     {
         let places = Places::new(self, !ZERO);
         BothEnds::new(places)
@@ -131,14 +143,20 @@ impl<A: Allocator + Copy> RsVec<A> {
 
     /// An iterator over the places of the zeros, which owns the list.
     pub fn into_iter0(self) -> SelectIntoIter<true, A>
-        ensures { result ≡ record { left = places false self; step = select_reads (superblock_count (length self)) } }
+        ensures { result ≡ record {
+          left = places false self;
+          step = select_reads (superblock_count (length self));
+        } }
     {
         BothEnds::new(Places::new(self, false))
     }
 
     /// An iterator over the places of the ones, which owns the list.
     pub fn into_iter1(self) -> SelectIntoIter<false, A>
-        ensures { result ≡ record { left = places true self; step = select_reads (superblock_count (length self)) } }
+        ensures { result ≡ record {
+          left = places true self;
+          step = select_reads (superblock_count (length self));
+        } }
     {
         BothEnds::new(Places::new(self, true))
     }

@@ -1,5 +1,5 @@
 //! Range minima by two items read.
-ghost use Rattle.std.specs.Prelude.{◌≡◌, ◌+◌, ◌-◌, ◌^◌, ◌<◌, ◌≤◌, ◌↔◌, [], length, IsTrue, IfOk, IfErr};
+ghost use Rattle.std.specs.Prelude.{◌≡◌, ◌+◌, ◌-◌, ◌^◌, ◌<◌, ◌≤◌, ◌↔◌, [], length, slice_index, IsTrue, IfOk, IfErr};
 ghost use Rattle.std.specs.Iterator.{Drains, IsFinite};
 ghost use Rattle.vers_tally.specs.Reads.{only_items, AddsAtMost};
 ghost use Rattle.vers_rmq.specs.Minima.{IsFirstLeast};
@@ -130,6 +130,16 @@ impl<A: Allocator + Copy> BinaryRmq<A> {
     {
         let table = self.table.as_slice();
         table[self.items.len() * k + i] as usize
+    }
+
+    // Item number `k`, by one item read.
+    #[inline(always)]
+    pub(super) fn item_counted(&self, k: usize, tally: &mut Tally) -> u64
+        requires { k < length self.now }
+        ensures value { result ≡ slice_index self.now k }
+        ensures adds { AddsAtMost tally.old tally.new (only_items 1) }
+    {
+        self.items.read(k, tally)
     }
 
     // The first least item from place `i` to place `j`, both included, by at most 2 items read.

@@ -1,5 +1,5 @@
 //! Range minima in few more bits than the items take.
-ghost use Rattle.std.specs.Prelude.{◌≡◌, ◌+◌, ◌-◌, ◌*◌, ◌/◌, ◌^◌, ◌<◌, ◌≤◌, ◌↔◌, [], length, min, IsTrue, IfOk, IfErr};
+ghost use Rattle.std.specs.Prelude.{◌≡◌, ◌+◌, ◌-◌, ◌*◌, ◌/◌, ◌^◌, ◌<◌, ◌≤◌, ◌↔◌, [], ℕ, length, min, slice_index, IsTrue, IfOk, IfErr};
 ghost use Rattle.std.specs.Iterator.{Drains, IsFinite};
 ghost use Rattle.vers_tally.specs.Reads.{only_items, AddsAtMost};
 ghost use Rattle.vers_rmq.specs.Minima.{IsFirstLeast};
@@ -167,7 +167,8 @@ impl<A: Allocator + Copy> FastRmq<A> {
     #[tactic(auto, using(crate::proofs::Blocks::reading))]
     fn suffix_place(&self, i: usize) -> usize
         requires { i < length self.now }
-        ensures value { IsFirstLeast self.now i (min (128 * (i / 128) + 128) (length self.now) - 1) result }
+        ensures value { IsFirstLeast self.now i (min (128 * (i / 128) + 128) (length self.now) - 1)
+            result }
         ensures inside { result < length self.now }
     {
         let masks = self.masks.as_slice();
@@ -191,7 +192,8 @@ impl<A: Allocator + Copy> FastRmq<A> {
     #[tactic(auto, using(crate::proofs::Blocks::reading))]
     fn part_suffix_place(&self, i: usize) -> usize
         requires { i < length self.now }
-        ensures value { IsFirstLeast self.now i (min (16 * (i / 16) + 16) (length self.now) - 1) result }
+        ensures value { IsFirstLeast self.now i (min (16 * (i / 16) + 16) (length self.now) - 1)
+            result }
         ensures inside { result < length self.now }
     {
         let masks = self.masks.as_slice();
@@ -264,26 +266,72 @@ impl<A: Allocator + Copy> FastRmq<A> {
         lesser_of(least, here).place
     }
 
-    // The first place of a least item of a range over blocks, by reading the least items of the end of
-    // a block, of whole blocks and of the start of a block.
+    // The least item of block `b`, by one item read.
+    #[inline(always)]
+    fn least_of_block(&self, b: usize, tally: &mut Tally) -> u64
+        requires { 128 * b < length self.now }
+        ensures least { (p : ℕ) → 128 * b ≤ p → p < 128 * b + 128 → p < length self.now
+            → result ≤ slice_index self.now p }
+        ensures adds { AddsAtMost tally.old tally.new (only_items 1) }
+    {
+        let _ = self.items.len();
+        self.minima.item_counted(b, tally)
+    }
+
+    // The first least item from `i` on, where `after` is that from the start of the next block on. No
+    // item of the block of `i` is read where its least one is above `after`.
+    #[inline(always)]
+    fn least_from(&self, i: usize, after: Candidate, tally: &mut Tally) -> Candidate
+        requires { 128 * (i / 128) + 128 ≤ length self.now }
+        ensures value { (to : ℕ) → IsLeastItem self.now (128 * (i / 128) + 128) to after
+            → IsLeastItem self.now i to result }
+        ensures adds { AddsAtMost tally.old tally.new (only_items 2) }
+    {
+        let least = self.least_of_block(i / 128, tally);
+        if after.value < least {
+            return after;
+        }
+        lesser_of(read_at(&self.items, self.suffix_place(i), tally), after)
+    }
+
+    // The first least item up to `j`, where `before` is that up to the end of the block before. No item
+    // of the block of `j` is read where its least one isn't below `before`.
+    #[inline(always)]
+    fn least_up_to(&self, before: Candidate, j: usize, tally: &mut Tally) -> Candidate
+        requires inside { j < length self.now }
+        requires later { 128 ≤ j }
+        ensures value { (from : ℕ) → IsLeastItem self.now from (128 * (j / 128) - 1) before
+            → IsLeastItem self.now from j result }
+        ensures adds { AddsAtMost tally.old tally.new (only_items 2) }
+    {
+        let least = self.least_of_block(j / 128, tally);
+        if before.value <= least {
+            return before;
+        }
+        lesser_of(before, read_at(&self.items, self.prefix_place(j), tally))
+    }
+
+    // The first place of a least item of a range over blocks, by the least items of whole blocks, and by
+    // reading the least items of the end of a block and of the start of a block where they can be less.
     #[inline(always)]
     fn least_over_blocks(&self, i: usize, j: usize, tally: &mut Tally) -> usize
         requires inside { j < length self.now }
         requires blocks { i / 128 < j / 128 }
         ensures value { IsFirstLeast self.now i j result }
-        ensures adds { AddsAtMost tally.old tally.new (only_items 4) }
+        ensures adds { AddsAtMost tally.old tally.new (only_items 6) }
     {
-        let first = read_at(&self.items, self.suffix_place(i), tally);
-        let last = read_at(&self.items, self.prefix_place(j), tally);
         if i / 128 + 1 == j / 128 {
+            let first = read_at(&self.items, self.suffix_place(i), tally);
+            let last = read_at(&self.items, self.prefix_place(j), tally);
             return lesser_of(first, last).place;
         }
         let middle = self.between(i / 128 + 1, j / 128 - 1, tally);
-        lesser_of(lesser_of(first, middle), last).place
+        let from = self.least_from(i, middle, tally);
+        self.least_up_to(from, j, tally).place
     }
 
     /// The first place of a least item from place `i` to place `j`, both included, by at most 18 items
-    /// read. Over more than one block they are at most 4, over parts of one block at most 8, and in one
+    /// read. Over more than one block they are at most 6, over parts of one block at most 8, and in one
     /// part at most 16.
     #[inline(always)]
     pub fn range_min_counted(&self, i: usize, j: usize, tally: &mut Tally) -> usize

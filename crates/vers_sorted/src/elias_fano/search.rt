@@ -101,7 +101,8 @@ impl<A: Allocator + Copy> EliasFanoVec<A> {
         requires above { first_of self.now ≤ v }
         requires bucket { IsBucket self.now v bucket }
         ensures value { result ≡ below self.now v }
-        ensures adds { AddsAtMost tally.old tally.new (only_low_parts (digits (length self.now) + 4)) }
+        ensures adds { AddsAtMost tally.old tally.new
+            (only_low_parts (digits (length self.now) + 4)) }
     {
         let _ = &self.len;
         let low = (v - self.first) & ((1 << self.width) - 1);

@@ -10,6 +10,7 @@ ghost use Rattle.vers_trees.specs.Layout.{tree_heap_size, search_reads, enclose_
 
 mod as_tree;
 mod builder;
+mod bytes;
 mod children;
 mod dfs_iter;
 mod into;
@@ -22,6 +23,7 @@ mod search;
 mod subtree;
 
 pub use crate::trees::bp::builder::{BpBuilder, BuildError};
+pub use crate::trees::bp::bytes::ByteTables;
 pub use crate::trees::bp::children::ChildrenIter;
 pub use crate::trees::bp::dfs_iter::DfsIter;
 use crate::trees::bp::min_max::MinMaxTree;

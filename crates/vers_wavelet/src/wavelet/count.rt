@@ -26,6 +26,7 @@ impl<A: Allocator + Copy> WaveletMatrix<A> {
     /// How many places of a range hold a symbol. None for a symbol of another length, and for a range
     /// that starts at or past the end, ends past it or is reversed. By at most four selects of a level
     /// for each bit of a symbol.
+    #[inline(always)]
     pub fn rank_range_counted(
         &self,
         range: Range<usize>,
@@ -73,6 +74,7 @@ impl<A: Allocator + Copy> WaveletMatrix<A> {
     /// How many places from `offset` on, before `end`, hold a symbol. None for a symbol of another
     /// length, for an `offset` at or past the end of the list, and for an `end` past it or before
     /// `offset`. By at most four selects of a level for each bit of a symbol.
+    #[inline(always)]
     pub fn rank_offset_counted(
         &self,
         offset: usize,
@@ -110,6 +112,7 @@ impl<A: Allocator + Copy> WaveletMatrix<A> {
 
     /// How many of the first `end` places hold a symbol. None for a symbol of another length, and where
     /// there are not so many places. By at most four selects of a level for each bit of a symbol.
+    #[inline(always)]
     pub fn rank_counted(&self, end: usize, symbol: &BitVec<A>, tally: &mut Tally) -> Option<usize>
         ensures value { IfSome result (λ n. n ≡ length (occurrences self.now.items 0 end (number symbol.now))) }
         ensures answered { IsSome result ↔ (length symbol.now ≡ self.now.width) × (end ≤ length self.now.items) }
@@ -145,6 +148,7 @@ impl<A: Allocator + Copy> WaveletMatrix<A> {
     /// How many places of a range hold a symbol, of which the low digits count. None where the symbols
     /// have more than 64 bits, and for a range that starts at or past the end, ends past it or is
     /// reversed. By at most four selects of a level for each bit of a symbol.
+    #[inline(always)]
     pub fn rank_range_u64_counted(
         &self,
         range: Range<usize>,
@@ -156,11 +160,7 @@ impl<A: Allocator + Copy> WaveletMatrix<A> {
         ensures adds { AddsAtMost tally.old tally.new (query_reads self.now) }
     {
         let len = self.len();
-        if self.bits_per_element() > 64
-            || range.start >= len
-            || range.end > len
-            || range.start > range.end
-        {
+        if !self.fits_word() || range.start >= len || range.end > len || range.start > range.end {
             return None;
         }
         Some(self.count_in(range.start, range.end, &symbol, tally))
@@ -193,6 +193,7 @@ impl<A: Allocator + Copy> WaveletMatrix<A> {
     /// None where the symbols have more than 64 bits, for an `offset` at or past the end of the list,
     /// and for an `end` past it or before `offset`. By at most four selects of a level for each bit of
     /// a symbol.
+    #[inline(always)]
     pub fn rank_offset_u64_counted(
         &self,
         offset: usize,
@@ -231,12 +232,13 @@ impl<A: Allocator + Copy> WaveletMatrix<A> {
     /// How many of the first `end` places hold a symbol, of which the low digits count. None where the
     /// symbols have more than 64 bits, and where there are not so many places. By at most four selects
     /// of a level for each bit of a symbol.
+    #[inline(always)]
     pub fn rank_u64_counted(&self, end: usize, symbol: u64, tally: &mut Tally) -> Option<usize>
         ensures value { IfSome result (λ n. n ≡ length (occurrences self.now.items 0 end (symbol % 2 ^ self.now.width))) }
         ensures answered { IsSome result ↔ (self.now.width ≤ 64) × (end ≤ length self.now.items) }
         ensures adds { AddsAtMost tally.old tally.new (query_reads self.now) }
     {
-        if self.bits_per_element() > 64 || end > self.len() {
+        if !self.fits_word() || end > self.len() {
             return None;
         }
         Some(self.count_in(0, end, &symbol, tally))

@@ -26,6 +26,7 @@ impl<A: Allocator + Copy> WaveletMatrix<A> {
     /// The place of occurrence `rank`, counted from 0, of a symbol, among those from `offset` on. None
     /// for a symbol of another length, for an `offset` at or past the end, and where there are not so
     /// many. By at most four selects of a level for each bit of a symbol.
+    #[inline(always)]
     pub fn select_offset_counted(
         &self,
         offset: usize,
@@ -66,6 +67,7 @@ impl<A: Allocator + Copy> WaveletMatrix<A> {
     /// The place of occurrence `rank`, counted from 0, of a symbol. None for a symbol of another
     /// length, and where there are not so many. By at most four selects of a level for each bit of a
     /// symbol.
+    #[inline(always)]
     pub fn select_counted(
         &self,
         rank: usize,
@@ -106,6 +108,7 @@ impl<A: Allocator + Copy> WaveletMatrix<A> {
     /// among those from `offset` on. None where the symbols have more than 64 bits, for an `offset` at
     /// or past the end, and where there are not so many. By at most four selects of a level for each
     /// bit of a symbol.
+    #[inline(always)]
     pub fn select_offset_u64_counted(
         &self,
         offset: usize,
@@ -117,7 +120,7 @@ impl<A: Allocator + Copy> WaveletMatrix<A> {
         ensures answered { IsSome result ↔ (self.now.width ≤ 64) × (offset < length self.now.items) × (rank < length (occurrences self.now.items offset (length self.now.items) (symbol % 2 ^ self.now.width))) }
         ensures adds { AddsAtMost tally.old tally.new (query_reads self.now) }
     {
-        if self.bits_per_element() > 64 || offset >= self.len() {
+        if !self.fits_word() || offset >= self.len() {
             return None;
         }
         self.find_from(offset, rank, &symbol, tally)
@@ -147,12 +150,13 @@ impl<A: Allocator + Copy> WaveletMatrix<A> {
     /// The place of occurrence `rank`, counted from 0, of a symbol, of which the low digits count. None
     /// where the symbols have more than 64 bits, and where there are not so many. By at most four
     /// selects of a level for each bit of a symbol.
+    #[inline(always)]
     pub fn select_u64_counted(&self, rank: usize, symbol: u64, tally: &mut Tally) -> Option<usize>
         ensures value { IfSome result (λ p. slice_get (occurrences self.now.items 0 (length self.now.items) (symbol % 2 ^ self.now.width)) rank ≡ Some p) }
         ensures answered { IsSome result ↔ (self.now.width ≤ 64) × (rank < length (occurrences self.now.items 0 (length self.now.items) (symbol % 2 ^ self.now.width))) }
         ensures adds { AddsAtMost tally.old tally.new (query_reads self.now) }
     {
-        if self.bits_per_element() > 64 {
+        if !self.fits_word() {
             return None;
         }
         self.find_from(0, rank, &symbol, tally)

@@ -75,6 +75,7 @@ impl<M: Matrix> Source for Numbers<M> {
         self.matrix.matrix().len()
     }
 
+    #[inline(always)]
     fn item_at(&mut self, i: usize, tally: &mut Tally) -> u64 {
         let mut answer: u64 = 0;
         self.matrix.matrix().read_at(i, &mut answer, tally);
@@ -128,6 +129,7 @@ impl<M: Matrix> Source for SortedNumbers<M> {
         self.matrix.matrix().len()
     }
 
+    #[inline(always)]
     fn item_at(&mut self, i: usize, tally: &mut Tally) -> u64 {
         let matrix = self.matrix.matrix();
         let mut answer: u64 = 0;
@@ -292,7 +294,7 @@ impl<A: Allocator + Copy> WaveletMatrix<A> {
         ensures value { IfSome result (λ walk. walk ≡ record { left = self.now.items; step = query_reads self.now }) }
         ensures answered { IsSome result ↔ (self.now.width ≤ 64) }
     {
-        if self.bits_per_element() > 64 {
+        if !self.fits_word() {
             return None;
         }
         Some(BothEnds::new(Numbers { matrix: self }))
@@ -304,7 +306,7 @@ impl<A: Allocator + Copy> WaveletMatrix<A> {
         ensures value { IfSome result (λ walk. walk ≡ record { left = self.items; step = query_reads self }) }
         ensures answered { IsSome result ↔ (self.width ≤ 64) }
     {
-        if self.bits_per_element() > 64 {
+        if !self.fits_word() {
             return None;
         }
         Some(BothEnds::new(Numbers { matrix: self }))
@@ -315,7 +317,7 @@ impl<A: Allocator + Copy> WaveletMatrix<A> {
         ensures value { IfSome result (λ walk. walk ≡ record { left = by_size self.now.items; step = query_reads self.now }) }
         ensures answered { IsSome result ↔ (self.now.width ≤ 64) }
     {
-        if self.bits_per_element() > 64 {
+        if !self.fits_word() {
             return None;
         }
         Some(BothEnds::new(SortedNumbers { matrix: self }))
@@ -327,7 +329,7 @@ impl<A: Allocator + Copy> WaveletMatrix<A> {
         ensures value { IfSome result (λ walk. walk ≡ record { left = by_size self.items; step = query_reads self }) }
         ensures answered { IsSome result ↔ (self.width ≤ 64) }
     {
-        if self.bits_per_element() > 64 {
+        if !self.fits_word() {
             return None;
         }
         Some(BothEnds::new(SortedNumbers { matrix: self }))

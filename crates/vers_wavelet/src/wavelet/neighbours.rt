@@ -30,6 +30,7 @@ impl<A: Allocator + Copy> WaveletMatrix<A> {
     /// The greatest symbol of a range that is not above a symbol. None for a symbol of another length,
     /// for a range that is reversed or ends past the end, and where there is no such symbol. By at most
     /// four selects of a level for each bit of a symbol.
+    #[inline(always)]
     pub fn predecessor_counted(
         &self,
         range: Range<usize>,
@@ -70,6 +71,7 @@ impl<A: Allocator + Copy> WaveletMatrix<A> {
     /// The least symbol of a range that is not below a symbol. None for a symbol of another length, for
     /// a range that is reversed or ends past the end, and where there is no such symbol. By at most
     /// four selects of a level for each bit of a symbol.
+    #[inline(always)]
     pub fn successor_counted(
         &self,
         range: Range<usize>,
@@ -107,6 +109,7 @@ impl<A: Allocator + Copy> WaveletMatrix<A> {
     /// The greatest symbol of a range that is not above a symbol, of which the low digits count. None
     /// where the symbols have more than 64 bits, for a range that is reversed or ends past the end, and
     /// where there is no such symbol. By at most four selects of a level for each bit of a symbol.
+    #[inline(always)]
     pub fn predecessor_u64_counted(
         &self,
         range: Range<usize>,
@@ -117,7 +120,7 @@ impl<A: Allocator + Copy> WaveletMatrix<A> {
         ensures answered { IsSome result ↔ (self.now.width ≤ 64) × (range.start ≤ range.end) × (range.end ≤ length self.now.items) × Any (λ y. y ≤ (symbol % 2 ^ self.now.width)) (slice_range self.now.items range.start range.end) }
         ensures adds { AddsAtMost tally.old tally.new (query_reads self.now) }
     {
-        if self.bits_per_element() > 64 || range.start > range.end || range.end > self.len() {
+        if !self.fits_word() || range.start > range.end || range.end > self.len() {
             return None;
         }
         let mut answer: u64 = 0;
@@ -141,6 +144,7 @@ impl<A: Allocator + Copy> WaveletMatrix<A> {
     /// The least symbol of a range that is not below a symbol, of which the low digits count. None
     /// where the symbols have more than 64 bits, for a range that is reversed or ends past the end, and
     /// where there is no such symbol. By at most four selects of a level for each bit of a symbol.
+    #[inline(always)]
     pub fn successor_u64_counted(
         &self,
         range: Range<usize>,
@@ -151,7 +155,7 @@ impl<A: Allocator + Copy> WaveletMatrix<A> {
         ensures answered { IsSome result ↔ (self.now.width ≤ 64) × (range.start ≤ range.end) × (range.end ≤ length self.now.items) × Any (λ y. (symbol % 2 ^ self.now.width) ≤ y) (slice_range self.now.items range.start range.end) }
         ensures adds { AddsAtMost tally.old tally.new (query_reads self.now) }
     {
-        if self.bits_per_element() > 64 || range.start > range.end || range.end > self.len() {
+        if !self.fits_word() || range.start > range.end || range.end > self.len() {
             return None;
         }
         let mut answer: u64 = 0;

@@ -26,6 +26,7 @@ impl<A: Allocator + Copy> WaveletMatrix<A> {
     /// Member `i` of a range by size, counted from 0, equal ones too. None for a range that ends past
     /// the end, and where the range has not so many places. By at most four selects of a level for each
     /// bit of a symbol.
+    #[inline(always)]
     pub fn quantile_counted(
         &self,
         range: Range<usize>,
@@ -68,6 +69,7 @@ impl<A: Allocator + Copy> WaveletMatrix<A> {
 
     /// Member `i` of all symbols by size, counted from 0, equal ones too. None where there are not so
     /// many. By at most four selects of a level for each bit of a symbol.
+    #[inline(always)]
     pub fn get_sorted_counted(
         &self,
         i: usize,
@@ -99,6 +101,7 @@ impl<A: Allocator + Copy> WaveletMatrix<A> {
 
     /// The least symbol of a range. None for a range that is empty, reversed or ends past the end. By
     /// at most four selects of a level for each bit of a symbol.
+    #[inline(always)]
     pub fn range_min_counted(
         &self,
         range: Range<usize>,
@@ -131,6 +134,7 @@ impl<A: Allocator + Copy> WaveletMatrix<A> {
 
     /// The greatest symbol of a range. None for a range that is empty, reversed or ends past the end.
     /// By at most four selects of a level for each bit of a symbol.
+    #[inline(always)]
     pub fn range_max_counted(
         &self,
         range: Range<usize>,
@@ -170,6 +174,7 @@ impl<A: Allocator + Copy> WaveletMatrix<A> {
     /// The symbol in the middle of a range by size, the lower one of two. None for a range that is
     /// empty, reversed or ends past the end. By at most four selects of a level for each bit of a
     /// symbol.
+    #[inline(always)]
     pub fn range_median_counted(
         &self,
         range: Range<usize>,
@@ -210,6 +215,7 @@ impl<A: Allocator + Copy> WaveletMatrix<A> {
     /// Member `i` of a range by size, counted from 0, equal ones too. None where the symbols have more
     /// than 64 bits, for a range that ends past the end, and where the range has not so many places. By
     /// at most four selects of a level for each bit of a symbol.
+    #[inline(always)]
     pub fn quantile_u64_counted(
         &self,
         range: Range<usize>,
@@ -220,7 +226,7 @@ impl<A: Allocator + Copy> WaveletMatrix<A> {
         ensures answered { IsSome result ↔ (self.now.width ≤ 64) × (range.end ≤ length self.now.items) × (range.start + i < range.end) }
         ensures adds { AddsAtMost tally.old tally.new (query_reads self.now) }
     {
-        if self.bits_per_element() > 64
+        if !self.fits_word()
             || range.end > self.len()
             || range.start >= range.end
             || i >= range.end - range.start
@@ -259,6 +265,7 @@ impl<A: Allocator + Copy> WaveletMatrix<A> {
     /// Member `i` of all symbols by size, counted from 0, equal ones too. None where the symbols have
     /// more than 64 bits, and where there are not so many. By at most four selects of a level for each
     /// bit of a symbol.
+    #[inline(always)]
     pub fn get_sorted_u64_counted(&self, i: usize, tally: &mut Tally) -> Option<u64>
         ensures value { IfSome result (λ x. IsKth self.now.items i x) }
         ensures answered { IsSome result ↔ (self.now.width ≤ 64) × (i < length self.now.items) }
@@ -290,6 +297,7 @@ impl<A: Allocator + Copy> WaveletMatrix<A> {
     /// The least symbol of a range. None where the symbols have more than 64 bits, and for a range that
     /// is empty, reversed or ends past the end. By at most four selects of a level for each bit of a
     /// symbol.
+    #[inline(always)]
     pub fn range_min_u64_counted(&self, range: Range<usize>, tally: &mut Tally) -> Option<u64>
         ensures value { IfSome result (λ x. IsKth (slice_range self.now.items range.start range.end) 0 x) }
         ensures answered { IsSome result ↔ (self.now.width ≤ 64) × (range.start < range.end) × (range.end ≤ length self.now.items) }
@@ -321,6 +329,7 @@ impl<A: Allocator + Copy> WaveletMatrix<A> {
     /// The greatest symbol of a range. None where the symbols have more than 64 bits, and for a range
     /// that is empty, reversed or ends past the end. By at most four selects of a level for each bit of
     /// a symbol.
+    #[inline(always)]
     pub fn range_max_u64_counted(&self, range: Range<usize>, tally: &mut Tally) -> Option<u64>
         ensures value { IfSome result (λ x. IsKth (slice_range self.now.items range.start range.end) (range.end - range.start - 1) x) }
         ensures answered { IsSome result ↔ (self.now.width ≤ 64) × (range.start < range.end) × (range.end ≤ length self.now.items) }
@@ -357,6 +366,7 @@ impl<A: Allocator + Copy> WaveletMatrix<A> {
     /// The symbol in the middle of a range by size, the lower one of two. None where the symbols have
     /// more than 64 bits, and for a range that is empty, reversed or ends past the end. By at most four
     /// selects of a level for each bit of a symbol.
+    #[inline(always)]
     pub fn range_median_u64_counted(&self, range: Range<usize>, tally: &mut Tally) -> Option<u64>
         ensures value { IfSome result (λ x. IsKth (slice_range self.now.items range.start range.end) ((range.end - 1 - range.start) / 2) x) }
         ensures answered { IsSome result ↔ (self.now.width ≤ 64) × (range.start < range.end) × (range.end ≤ length self.now.items) }

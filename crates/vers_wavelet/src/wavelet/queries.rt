@@ -7,11 +7,18 @@ ghost use Rattle.vers_wavelet.specs.Symbols.{occurrences, IsKth, IsPredecessor, 
 ghost use Rattle.vers_wavelet.specs.Reads.{query_reads};
 
 use crate::wavelet::WaveletMatrix;
-use crate::wavelet::digits::Digits;
-use crate::wavelet::walk::{climb, find_kth, narrow, read_symbol};
+use crate::wavelet::digits::{Digits, copy_digits};
+use crate::wavelet::walk::{climb, descend, find_kth, narrow, read_symbol};
 use std::alloc::{AllocError, Allocator};
 use vers_bits::bit_vec::BitVec;
 use vers_tally::tally::Tally;
+
+// How many symbols of a range are below a symbol, and how many are it.
+#[derive(Clone, Copy, Drop)]
+struct Around {
+    below: usize,
+    equal: usize,
+}
 
 #[tactic(auto, using(crate::proofs::Lists::lists))]
 impl<A: Allocator + Copy> WaveletMatrix<A> {
@@ -26,6 +33,7 @@ impl<A: Allocator + Copy> WaveletMatrix<A> {
     }
 
     // How many places of a range hold a symbol.
+    #[inline(always)]
     pub(super) fn count_in<D: Digits>(
         &self,
         start: usize,
@@ -44,6 +52,7 @@ impl<A: Allocator + Copy> WaveletMatrix<A> {
     }
 
     // The place of occurrence `rank` of a symbol from a place on.
+    #[inline(always)]
     pub(super) fn find_from<D: Digits>(
         &self,
         offset: usize,
@@ -57,14 +66,15 @@ impl<A: Allocator + Copy> WaveletMatrix<A> {
         ensures adds { AddsAtMost tally.old tally.new (query_reads self.now) }
     {
         let levels = self.levels.as_slice();
-        let part = narrow(levels, self.len, offset, self.len, symbol, tally);
-        if rank >= part.end - part.start {
+        let first = descend(levels, self.len, offset, symbol, tally);
+        if rank >= self.len - first {
             return None;
         }
-        Some(climb(levels, self.len, symbol, part.start + rank, tally))
+        climb(levels, self.len, symbol, first + rank, tally)
     }
 
     // The same, or the length where there are not so many.
+    #[inline(always)]
     #[tactic(auto, using(crate::proofs::Items::found))]
     pub(super) fn place_from<D: Digits>(&self, offset: usize, rank: usize, symbol: &D) -> usize
         requires within { offset ≤ length self.now.items }
@@ -77,6 +87,7 @@ impl<A: Allocator + Copy> WaveletMatrix<A> {
     }
 
     // Writes the symbol at a place into a number that is 0.
+    #[inline(always)]
     pub(super) fn read_at<D: Digits>(&self, place: usize, answer: &mut D, tally: &mut Tally)
         requires within { place < length self.now.items }
         requires zero { D.number answer.old ≡ 0 }
@@ -89,6 +100,7 @@ impl<A: Allocator + Copy> WaveletMatrix<A> {
     }
 
     // Writes member `i` of a range by size into a number that is 0.
+    #[inline(always)]
     pub(super) fn kth_in<D: Digits>(
         &self,
         start: usize,
@@ -108,45 +120,33 @@ impl<A: Allocator + Copy> WaveletMatrix<A> {
         find_kth(&self.levels, self.len, start, end, i, answer, tally);
     }
 
-    // How many symbols of a range are below a symbol.
-    fn count_below<D: Digits>(
+    // How many symbols of a range are below a symbol, and how many are it.
+    #[inline(always)]
+    fn count_around<D: Digits>(
         &self,
         start: usize,
         end: usize,
         symbol: &D,
         tally: &mut Tally,
-    ) -> usize
+    ) -> Around
         requires order { start ≤ end }
         requires within { end ≤ length self.now.items }
         requires wide { self.now.width ≤ D.width symbol.now }
-        ensures value { result ≡ count_by (λ y. nat_lt y (D.number symbol.now % 2 ^ self.now.width)) (slice_range self.now.items start end) }
-        ensures few { result ≤ end - start }
-        ensures adds { AddsAtMost tally.old tally.new (times (2 * self.now.width) rank_reads) }
-    {
-        narrow(&self.levels, self.len, start, end, symbol, tally).less
-    }
-
-    // How many symbols of a range are not above a symbol.
-    fn count_not_above<D: Digits>(
-        &self,
-        start: usize,
-        end: usize,
-        symbol: &D,
-        tally: &mut Tally,
-    ) -> usize
-        requires order { start ≤ end }
-        requires within { end ≤ length self.now.items }
-        requires wide { self.now.width ≤ D.width symbol.now }
-        ensures value { result ≡ count_by (λ y. nat_le y (D.number symbol.now % 2 ^ self.now.width)) (slice_range self.now.items start end) }
-        ensures few { result ≤ end - start }
+        ensures below { result.below ≡ count_by (λ y. nat_lt y (D.number symbol.now % 2 ^ self.now.width)) (slice_range self.now.items start end) }
+        ensures not_above { result.below + result.equal ≡ count_by (λ y. nat_le y (D.number symbol.now % 2 ^ self.now.width)) (slice_range self.now.items start end) }
+        ensures few { result.below + result.equal ≤ end - start }
         ensures adds { AddsAtMost tally.old tally.new (times (2 * self.now.width) rank_reads) }
     {
         let part = narrow(&self.levels, self.len, start, end, symbol, tally);
-        part.less + (part.end - part.start)
+        Around {
+            below: part.less,
+            equal: part.end - part.start,
+        }
     }
 
     // Whether a range has a symbol that is not above a symbol; and writes the greatest of these into a
-    // number that is 0.
+    // number that is 0. It is the symbol itself, where the range has it.
+    #[inline(always)]
     pub(super) fn predecessor_in<D: Digits>(
         &self,
         start: usize,
@@ -165,16 +165,21 @@ impl<A: Allocator + Copy> WaveletMatrix<A> {
         ensures same { D.width answer.new ≡ D.width answer.old }
         ensures adds { AddsAtMost tally.old tally.new (query_reads self.now) }
     {
-        let n = self.count_not_above(start, end, symbol, tally);
-        if n == 0 {
+        let around = self.count_around(start, end, symbol, tally);
+        if around.equal > 0 {
+            copy_digits(symbol, self.bits_per_element(), answer);
+            return true;
+        }
+        if around.below == 0 {
             return false;
         }
-        self.kth_in(start, end, n - 1, answer, tally);
+        self.kth_in(start, end, around.below - 1, answer, tally);
         true
     }
 
     // Whether a range has a symbol that is not below a symbol; and writes the least of these into a
-    // number that is 0.
+    // number that is 0. It is the symbol itself, where the range has it.
+    #[inline(always)]
     pub(super) fn successor_in<D: Digits>(
         &self,
         start: usize,
@@ -193,11 +198,15 @@ impl<A: Allocator + Copy> WaveletMatrix<A> {
         ensures same { D.width answer.new ≡ D.width answer.old }
         ensures adds { AddsAtMost tally.old tally.new (query_reads self.now) }
     {
-        let n = self.count_below(start, end, symbol, tally);
-        if n == end - start {
+        let around = self.count_around(start, end, symbol, tally);
+        if 0 < around.equal {
+            copy_digits(symbol, self.bits_per_element(), answer);
+            return true;
+        }
+        if around.below == end - start {
             return false;
         }
-        self.kth_in(start, end, n, answer, tally);
+        self.kth_in(start, end, around.below, answer, tally);
         true
     }
 }

@@ -22,6 +22,7 @@ impl<A: Allocator + Copy> WaveletMatrix<A> {
 
     /// The symbol at a place. None for a place that the list doesn't have. By at most four selects of a
     /// level for each bit of a symbol.
+    #[inline(always)]
     pub fn get_value_counted(
         &self,
         place: usize,
@@ -62,12 +63,13 @@ impl<A: Allocator + Copy> WaveletMatrix<A> {
 
     /// The symbol at a place. None where the symbols have more than 64 bits, and for a place that the
     /// list doesn't have. By at most four selects of a level for each bit of a symbol.
+    #[inline(always)]
     pub fn get_u64_counted(&self, place: usize, tally: &mut Tally) -> Option<u64>
         ensures value { IfSome result (λ x. slice_get self.now.items place ≡ Some x) }
         ensures answered { IsSome result ↔ (self.now.width ≤ 64) × (place < length self.now.items) }
         ensures adds { AddsAtMost tally.old tally.new (query_reads self.now) }
     {
-        if self.bits_per_element() > 64 || place >= self.len() {
+        if !self.fits_word() || place >= self.len() {
             return None;
         }
         let mut answer: u64 = 0;

@@ -52,7 +52,8 @@ fn add_block<A: Allocator + Copy>(
 ) -> Result<(), AllocError>
     requires few { length items.now ≤ MAX_LEN }
     requires inside { 128 * b < length items.now }
-    requires before { AreBlocks items.now b blocks.old.minima.items blocks.old.places.items blocks.old.masks.items }
+    requires before { AreBlocks items.now b blocks.old.minima.items blocks.old.places.items
+        blocks.old.masks.items }
     ensures { IfOk result (λ _. AreBlocks items.now (b + 1)
         blocks.new.minima.items blocks.new.places.items blocks.new.masks.items) }
 {
@@ -72,7 +73,8 @@ pub(super) fn all_blocks<A: Allocator + Copy>(
     alloc: A,
 ) -> Result<Blocks<A>, AllocError>
     requires { length items.now ≤ MAX_LEN }
-    ensures { IfOk result (λ v. AreAllBlocks items.now v.minima.items v.places.items v.masks.items) }
+    ensures { IfOk result (λ v. AreAllBlocks items.now v.minima.items v.places.items
+        v.masks.items) }
 {
     let count = items.len().div_ceil(128);
     let mut blocks = Blocks {

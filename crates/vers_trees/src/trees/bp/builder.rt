@@ -5,6 +5,7 @@ ghost use Rattle.vers_trees.specs.declared.trees.bp.builder.BuildError.TheVarian
 
 use super::scan::step;
 use super::{BpTree, MAX_BLOCK_SIZE, MAX_LEN};
+use crate::trees::TreeBuilder;
 use std::alloc::{AllocError, Allocator};
 use std::marker::Model;
 use vers_bits::bit_vec::{BitVec, GrowError};
@@ -127,5 +128,28 @@ impl<const BLOCK_SIZE: usize, A: Allocator + Copy> BpBuilder<BLOCK_SIZE, A> {
         }
         let BpBuilder { bits, excess: _ } = self;
         Ok(BpTree::indexed(bits)?)
+    }
+}
+
+#[tactic(auto, using(crate::proofs::Building::forests_built))]
+impl<const BLOCK_SIZE: usize, A: Allocator + Copy> TreeBuilder for BpBuilder<BLOCK_SIZE, A> {
+    type Tree = BpTree<BLOCK_SIZE, A>;
+
+    ghost use Rattle.vers_trees.specs.Forest.{forest_of};
+
+    ghost steps = { λ b. b };
+
+    ghost forest_built = { λ t. forest_of t };
+
+    fn enter_node(&mut self) -> Result<(), GrowError> {
+        self.enter_node()
+    }
+
+    fn leave_node(&mut self) -> Result<(), GrowError> {
+        self.leave_node()
+    }
+
+    fn build(self) -> Result<BpTree<BLOCK_SIZE, A>, BuildError> {
+        self.build()
     }
 }

@@ -6,6 +6,7 @@ ghost use Rattle.vers_trees.specs.inside.MinMax.{IsInRange, IsInRangeOrStart, Is
 
 mod build;
 
+use crate::trees::bp::bytes::ByteTables;
 use crate::trees::bp::min_max::build::{nodes_over, width};
 use std::alloc::{AllocError, Allocator};
 use vers_bits::bit_vec::BitVec;
@@ -60,12 +61,13 @@ impl Node {
 // The tree of excesses over the blocks of a list, as a heap: the root is node 0, and the children of
 // node `i` are the nodes `2 * i + 1` and `2 * i + 2`. The nodes before `first` stand over two
 // children each, and from `first` on stand those of the blocks, in order. No node stands for a
-// block that the list doesn't have.
+// block that the list doesn't have. With it stand the tables for the bytes of a block.
 #[derive(Drop)]
 pub(super) struct MinMaxTree<A: Allocator + Copy> {
     alloc: A,
     nodes: CountedNodes<Node, A>,
     first: usize,
+    pub(super) tables: ByteTables,
 }
 
 impl<A: Allocator + Copy> MinMaxTree<A> {
@@ -83,6 +85,7 @@ impl<A: Allocator + Copy> MinMaxTree<A> {
                 alloc,
                 nodes: CountedNodes::new(Vec::new(alloc)),
                 first: 0,
+                tables: ByteTables::new(),
             });
         }
         let first = width(len.div_ceil(size)) - 1;
@@ -91,6 +94,7 @@ impl<A: Allocator + Copy> MinMaxTree<A> {
             alloc,
             nodes: CountedNodes::new(nodes),
             first,
+            tables: ByteTables::new(),
         })
     }
 
@@ -104,6 +108,7 @@ impl<A: Allocator + Copy> MinMaxTree<A> {
             alloc: self.alloc,
             nodes: CountedNodes::new(nodes),
             first: self.first,
+            tables: self.tables.copied(),
         })
     }
 

@@ -1,10 +1,11 @@
 //! Scans of the bits of one block.
-ghost use Rattle.std.specs.Prelude.{◌≡◌, ◌-◌, ◌^◌, ◌<◌, ◌≤◌, length, MatchResult};
+ghost use Rattle.std.specs.Prelude.{◌≡◌, ℕ, ◌*◌, ◌-◌, ◌%◌, ◌^◌, ◌<◌, ◌≤◌, ◌-ℤ◌, pos, count_ones, length, MatchResult};
 ghost use Rattle.vers_tally.specs.Reads.{AddsAtMost};
 ghost use Rattle.vers_trees.specs.Excess.{bit_step};
 ghost use Rattle.vers_trees.specs.inside.Scans.{IsFirstRise, IsLastRise, HasNoRise, HasNoRiseBefore, scan_reads};
 ghost use Rattle.vers_trees.specs.inside.MinMax.{IsPart};
 
+use crate::trees::bp::bytes::{ByteTables, place_met};
 use crate::trees::bp::min_max::Node;
 use std::alloc::Allocator;
 use vers_bits::bit_vec::BitVec;
@@ -19,11 +20,90 @@ pub(super) fn step(bit: bool) -> i64
     if bit { 1 } else { -1 }
 }
 
+// What a byte of parentheses adds to the excess.
+#[inline(always)]
+fn byte_step(byte: u8) -> i64
+    ensures { result ≡ pos (2 * count_ones byte) -ℤ pos 8 }
+{
+    2 * byte.count_ones() as i64 - 8
+}
+
+// Goes on with a scan forwards that has come to `begin` and has risen by `rise` there, bit by bit.
+#[inline(always)]
+fn bits_forward<A: Allocator + Copy>(
+    bits: &RsVec<A>,
+    begin: usize,
+    end: usize,
+    mut rise: i64,
+    target: i64,
+    tally: &mut Tally,
+) -> Result<usize, i64>
+    requires order { begin ≤ end }
+    requires inside { end ≤ length bits.now }
+    requires short { length bits.now < 2 ^ 63 }
+    requires passed { (from : ℕ) × (from ≤ begin) × HasNoRise bits.now from begin target rise }
+    ensures value { (from : ℕ) → from ≤ begin → HasNoRise bits.now from begin target rise → MatchResult
+        result
+        (λ place. IsFirstRise bits.now from end target place)
+        (λ rise. HasNoRise bits.now from end target rise) }
+    ensures adds { AddsAtMost tally.old tally.new (scan_reads (end - begin)) }
+{
+    for place in begin..end {
+        rise += step(bits.is_one_counted(place, tally));
+        if rise == target {
+            return Ok(place);
+        }
+    }
+    Err(rise)
+}
+
+// Goes on with such a scan, by whole bytes: a word is read once, and each of its bytes is looked up.
+#[inline(always)]
+fn bytes_forward<A: Allocator + Copy>(
+    bits: &RsVec<A>,
+    tables: &ByteTables,
+    begin: usize,
+    end: usize,
+    mut rise: i64,
+    target: i64,
+    tally: &mut Tally,
+) -> Result<usize, i64>
+    requires order { begin ≤ end }
+    requires whole { (end - begin) % 8 ≡ 0 }
+    requires inside { end ≤ length bits.now }
+    requires short { length bits.now < 2 ^ 63 }
+    requires passed { (from : ℕ) × (from ≤ begin) × HasNoRise bits.now from begin target rise }
+    ensures value { (from : ℕ) → from ≤ begin → HasNoRise bits.now from begin target rise → MatchResult
+        result
+        (λ place. IsFirstRise bits.now from end target place)
+        (λ rise. HasNoRise bits.now from end target rise) }
+    ensures adds { AddsAtMost tally.old tally.new (scan_reads (end - begin)) }
+{
+    let mut start = begin;
+    while start < end {
+        let size = (end - start).min(64);
+        let word = bits.get_bits_counted(start, size, tally).unwrap();
+        let mut within = 0;
+        while within < size {
+            let byte = ((word >> within) % 256) as u8;
+            if let Some(place) = place_met(tables.forward_entry(byte), rise, target) {
+                return Ok(start + within + place);
+            }
+            rise += byte_step(byte);
+            within += 8;
+        }
+        start += size;
+    }
+    Err(rise)
+}
+
 // The first place from `from` on and before `end` after which the excess is `target` above that
-// before `from`. If there is none, how much the excess rises from `from` to `end`.
+// before `from`. If there is none, how much the excess rises from `from` to `end`. Bits before the
+// first whole byte and after the last are scanned, and whole bytes are looked up.
 #[inline(always)]
 pub(super) fn scan_forward<A: Allocator + Copy>(
     bits: &RsVec<A>,
+    tables: &ByteTables,
     from: usize,
     end: usize,
     target: i64,
@@ -38,9 +118,42 @@ pub(super) fn scan_forward<A: Allocator + Copy>(
         (λ rise. HasNoRise bits.now from end target rise) }
     ensures adds { AddsAtMost tally.old tally.new (scan_reads (end - from)) }
 {
-    let mut rise: i64 = 0;
-    for place in from..end {
-        rise += step(bits.is_one_counted(place, tally));
+    let head = ((from + 7) / 8 * 8).min(end);
+    let tail = head + (end - head) / 8 * 8;
+    let rise = match bits_forward(bits, from, head, 0, target, tally) {
+        Ok(place) => return Ok(place),
+        Err(rise) => rise,
+    };
+    let rise = match bytes_forward(bits, tables, head, tail, rise, target, tally) {
+        Ok(place) => return Ok(place),
+        Err(rise) => rise,
+    };
+    bits_forward(bits, tail, end, rise, target, tally)
+}
+
+// Goes on with a scan backwards that has come to `end` and has risen by `rise` there, bit by bit.
+#[inline(always)]
+fn bits_backward<A: Allocator + Copy>(
+    bits: &RsVec<A>,
+    begin: usize,
+    end: usize,
+    mut rise: i64,
+    target: i64,
+    tally: &mut Tally,
+) -> Result<usize, i64>
+    requires order { begin ≤ end }
+    requires short { length bits.now < 2 ^ 63 }
+    requires passed { (to : ℕ) × (end ≤ to) × (to ≤ length bits.now) × HasNoRiseBefore bits.now end to target rise }
+    ensures value { (to : ℕ) → end ≤ to → to ≤ length bits.now → HasNoRiseBefore bits.now end to target rise → MatchResult
+        result
+        (λ place. IsLastRise bits.now begin to target place)
+        (λ rise. HasNoRiseBefore bits.now begin to target rise) }
+    ensures adds { AddsAtMost tally.old tally.new (scan_reads (end - begin)) }
+{
+    let mut place = end;
+    while place > begin {
+        place -= 1;
+        rise -= step(bits.is_one_counted(place, tally));
         if rise == target {
             return Ok(place);
         }
@@ -48,11 +161,53 @@ pub(super) fn scan_forward<A: Allocator + Copy>(
     Err(rise)
 }
 
+// Goes on with such a scan, by whole bytes: a word is read once, and each of its bytes is looked up.
+#[inline(always)]
+fn bytes_backward<A: Allocator + Copy>(
+    bits: &RsVec<A>,
+    tables: &ByteTables,
+    begin: usize,
+    end: usize,
+    mut rise: i64,
+    target: i64,
+    tally: &mut Tally,
+) -> Result<usize, i64>
+    requires order { begin ≤ end }
+    requires whole { (end - begin) % 8 ≡ 0 }
+    requires short { length bits.now < 2 ^ 63 }
+    requires passed { (to : ℕ) × (end ≤ to) × (to ≤ length bits.now) × HasNoRiseBefore bits.now end to target rise }
+    ensures value { (to : ℕ) → end ≤ to → to ≤ length bits.now → HasNoRiseBefore bits.now end to target rise → MatchResult
+        result
+        (λ place. IsLastRise bits.now begin to target place)
+        (λ rise. HasNoRiseBefore bits.now begin to target rise) }
+    ensures adds { AddsAtMost tally.old tally.new (scan_reads (end - begin)) }
+{
+    let mut stop = end;
+    while stop > begin {
+        let size = (stop - begin).min(64);
+        let start = stop - size;
+        let word = bits.get_bits_counted(start, size, tally).unwrap();
+        let mut within = size;
+        while within > 0 {
+            within -= 8;
+            let byte = ((word >> within) % 256) as u8;
+            if let Some(place) = place_met(tables.backward_entry(byte), rise, target) {
+                return Ok(start + within + place);
+            }
+            rise -= byte_step(byte);
+        }
+        stop = start;
+    }
+    Err(rise)
+}
+
 // The last place from `from` on and before `end` before which the excess is `target` above that
-// before `end`. If there is none, how much the excess before `from` is above that before `end`.
+// before `end`. If there is none, how much the excess before `from` is above that before `end`. Bits
+// after the last whole byte and before the first are scanned, and whole bytes are looked up.
 #[inline(always)]
 pub(super) fn scan_backward<A: Allocator + Copy>(
     bits: &RsVec<A>,
+    tables: &ByteTables,
     from: usize,
     end: usize,
     target: i64,
@@ -67,16 +222,17 @@ pub(super) fn scan_backward<A: Allocator + Copy>(
         (λ rise. HasNoRiseBefore bits.now from end target rise) }
     ensures adds { AddsAtMost tally.old tally.new (scan_reads (end - from)) }
 {
-    let mut rise: i64 = 0;
-    let mut place = end;
-    while place > from {
-        place -= 1;
-        rise -= step(bits.is_one_counted(place, tally));
-        if rise == target {
-            return Ok(place);
-        }
-    }
-    Err(rise)
+    let tail = (end / 8 * 8).max(from);
+    let head = tail - (tail - from) / 8 * 8;
+    let rise = match bits_backward(bits, tail, end, 0, target, tally) {
+        Ok(place) => return Ok(place),
+        Err(rise) => rise,
+    };
+    let rise = match bytes_backward(bits, tables, head, tail, rise, target, tally) {
+        Ok(place) => return Ok(place),
+        Err(rise) => rise,
+    };
+    bits_backward(bits, from, head, rise, target, tally)
 }
 
 // The total, least and greatest excess of the places from `from` up to `end`.

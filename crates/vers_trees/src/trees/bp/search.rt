@@ -32,7 +32,7 @@ pub(super) fn forward<A: Allocator + Copy>(
     let block = i / size;
     let end = (block * size + size).min(len);
     tally.add_block();
-    let rise = match scan_forward(bits, i + 1, end, r, tally) {
+    let rise = match scan_forward(bits, &tree.tables, i + 1, end, r, tally) {
         Ok(place) => return Some(place),
         Err(rise) => rise,
     };
@@ -40,7 +40,7 @@ pub(super) fn forward<A: Allocator + Copy>(
     let (next, rest) = tree.next_block_counted(block, left, tally)?;
     tally.add_block();
     let next_end = (next * size + size).min(len);
-    scan_forward(bits, next * size, next_end, rest, tally).ok()
+    scan_forward(bits, &tree.tables, next * size, next_end, rest, tally).ok()
 }
 
 // The last place before `i` before which the excess is `r` more than before `i`.
@@ -62,7 +62,7 @@ pub(super) fn backward<A: Allocator + Copy>(
     }
     let block = (i - 1) / size;
     tally.add_block();
-    let rise = match scan_backward(bits, block * size, i, r, tally) {
+    let rise = match scan_backward(bits, &tree.tables, block * size, i, r, tally) {
         Ok(place) => return Some(place),
         Err(rise) => rise,
     };
@@ -70,5 +70,5 @@ pub(super) fn backward<A: Allocator + Copy>(
     let (previous, rest) = tree.previous_block_counted(block, left, tally)?;
     tally.add_block();
     let start = previous * size;
-    scan_backward(bits, start, start + size, rest, tally).ok()
+    scan_backward(bits, &tree.tables, start, start + size, rest, tally).ok()
 }

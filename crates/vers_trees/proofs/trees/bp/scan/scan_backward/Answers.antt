@@ -1,37 +1,37 @@
-use Rattle.std.proofs.Common.{ℤ, ◌-◌, ◌-ℤ◌, arith, w64, to_z, of_z, subst, sym, ap, ◌∙◌}
+use Rattle.std.proofs.Common.{ℤ, ◌*◌, ◌/◌, ◌-◌, MatchResult, arith, w64, to_z, of_z, subst}
 use Rattle.std.proofs.lemmas.Int.{to_z-of_z}
-use Rattle.vers_trees.specs.inside.Scans.{HasNoRiseBefore}
-use Rattle.vers_trees.proofs.Scans.{step_fits, minus_is, fall_more_fits, backward_found, backward_more, one_more_read}
+use Rattle.vers_trees.specs.inside.Scans.{IsLastRise, HasNoRiseBefore}
+use Rattle.vers_trees.proofs.Scans.{not_begun_back, fall_is, found_later}
 use Rattle.vers_trees.proofs.trees.bp.scan.scan_backward.Goals as goal
 
-pub overflow_sub-rise : goal.overflow_sub-rise
-overflow_sub-rise g c =
-    let f = step_fits _ c.step-rise.result c.step-rise.ensures in
-    let i = c.requires.inside in let lt = c.loop-place-test.true in
-    rw (to_z-of_z w64 c.step-rise.result f) (fall_more_fits _ c.loop-place.place _ _ (to_z w64 c.loop-place.rise-bits) c.step-rise.result _ c.loop-place.invariant.passed (omega arith) c.loop-place.invariant.high c.requires.inside c.requires.short c.is_one_counted.ensures.value c.step-rise.ensures)
+pub bytes_backward-requires-clause-passed : goal.bytes_backward-requires-clause-passed
+bytes_backward-requires-clause-passed g c =
+    let m = c.max-tail.ensures in let o = c.requires.order in let i = c.requires.inside in
+    let h = c.in-Err.ensures.value c.args.end (omega arith) i (not_begun_back _ _ _) in
+    (c.args.end, omega arith, i, rw (fall_is _ _ c.args.end _ c.in-Err.rise h (omega arith) i c.requires.short) h)
 
-pub returns-then-rise-target-clause-value : goal.returns-then-rise-target-clause-value
-returns-then-rise-target-clause-value g c =
-    let f = step_fits _ c.step-rise.result c.step-rise.ensures in
-    let i = c.requires.inside in let lt = c.loop-place-test.true in
-    let h = fall_more_fits _ c.loop-place.place _ _ (to_z w64 c.loop-place.rise-bits) c.step-rise.result _ c.loop-place.invariant.passed (omega arith) c.loop-place.invariant.high c.requires.inside c.requires.short c.is_one_counted.ensures.value c.step-rise.ensures in
-    let e = minus_is (to_z w64 c.loop-place.rise-bits) c.step-rise.result f h in
+pub returns-in-Ok-bytes_backward-clause-value : goal.returns-in-Ok-bytes_backward-clause-value
+returns-in-Ok-bytes_backward-clause-value g c =
+    let m = c.max-tail.ensures in let o = c.requires.order in let i = c.requires.inside in
     let t = to_z-of_z w64 c.args.target c.ranges.target in
-    let p = subst (λ (z : ℤ). HasNoRiseBefore c.args.bits.now c.loop-place.place c.args.end z (to_z w64 c.loop-place.rise-bits)) t c.loop-place.invariant.passed in
-    backward_found _ _ _ c.loop-place.place _ _ c.step-rise.result _ p c.loop-place-test.true c.loop-place.invariant.high c.requires.inside c.is_one_counted.ensures.value c.step-rise.ensures (sym e ∙ ap (to_z w64) c.if-rise-target.true ∙ t)
+    let h = c.in-Err.ensures.value c.args.end (omega arith) i (not_begun_back _ _ _) in
+    let k : HasNoRiseBefore c.args.bits.now c.max-tail.result c.args.end (to_z w64 (of_z w64 c.args.target)) (to_z w64 (of_z w64 c.in-Err.rise)) = rw (fall_is _ _ c.args.end _ c.in-Err.rise h (omega arith) i c.requires.short) h in
+    subst (λ (z : ℤ). IsLastRise c.args.bits.now c.args.from c.args.end z c.in-Ok-bytes_backward.place) t (found_later _ c.args.from (c.max-tail.result - (c.max-tail.result - c.args.from) / 8 * 8) c.args.end _ _ (omega arith) (c.in-Ok-bytes_backward.ensures.value c.args.end (omega arith) i k))
 
-pub loop-place-preserved : goal.loop-place-preserved
-loop-place-preserved g c =
-    let f = step_fits _ c.step-rise.result c.step-rise.ensures in
-    let i = c.requires.inside in let lt = c.loop-place-test.true in
-    let h = fall_more_fits _ c.loop-place.place _ _ (to_z w64 c.loop-place.rise-bits) c.step-rise.result _ c.loop-place.invariant.passed (omega arith) c.loop-place.invariant.high c.requires.inside c.requires.short c.is_one_counted.ensures.value c.step-rise.ensures in
-    let e = minus_is (to_z w64 c.loop-place.rise-bits) c.step-rise.result f h in
+pub bits_backward-requires-2-clause-passed : goal.bits_backward-requires-2-clause-passed
+bits_backward-requires-2-clause-passed g c =
+    let m = c.max-tail.ensures in let o = c.requires.order in let i = c.requires.inside in
+    let h = c.in-Err.ensures.value c.args.end (omega arith) i (not_begun_back _ _ _) in
+    let k : HasNoRiseBefore c.args.bits.now c.max-tail.result c.args.end (to_z w64 (of_z w64 c.args.target)) (to_z w64 (of_z w64 c.in-Err.rise)) = rw (fall_is _ _ c.args.end _ c.in-Err.rise h (omega arith) i c.requires.short) h in
+    let n = c.in-Err-bytes_backward.ensures.value c.args.end (omega arith) i k in
+    (c.args.end, omega arith, i, rw (fall_is _ _ c.args.end _ c.in-Err-bytes_backward.rise n (omega arith) i c.requires.short) n)
+
+pub returns-clause-value : goal.returns-clause-value
+returns-clause-value g c =
+    let m = c.max-tail.ensures in let o = c.requires.order in let i = c.requires.inside in
     let t = to_z-of_z w64 c.args.target c.ranges.target in
-    let lo = c.loop-place.invariant.high in
-    let te = c.loop-place-test.true in
-    record {
-      low = omega arith;
-      high = omega arith;
-      passed = rw e (backward_more _ _ c.loop-place.place _ _ c.step-rise.result _ c.loop-place.invariant.passed (omega arith) c.loop-place.invariant.high c.requires.inside c.is_one_counted.ensures.value c.step-rise.ensures (λ z. c.if-rise-target.false (ap (of_z w64) (ap (λ (y : ℤ). to_z w64 c.loop-place.rise-bits -ℤ y) (to_z-of_z w64 c.step-rise.result f) ∙ z ∙ t))));
-      reads = one_more_read _ _ _ (c.args.end - c.loop-place.place) _ (omega arith) c.loop-place.invariant.reads c.is_one_counted.ensures.adds;
-    }
+    let h = c.in-Err.ensures.value c.args.end (omega arith) i (not_begun_back _ _ _) in
+    let k : HasNoRiseBefore c.args.bits.now c.max-tail.result c.args.end (to_z w64 (of_z w64 c.args.target)) (to_z w64 (of_z w64 c.in-Err.rise)) = rw (fall_is _ _ c.args.end _ c.in-Err.rise h (omega arith) i c.requires.short) h in
+    let n = c.in-Err-bytes_backward.ensures.value c.args.end (omega arith) i k in
+    let q : HasNoRiseBefore c.args.bits.now (c.max-tail.result - (c.max-tail.result - c.args.from) / 8 * 8) c.args.end (to_z w64 (of_z w64 c.args.target)) (to_z w64 (of_z w64 c.in-Err-bytes_backward.rise)) = rw (fall_is _ _ c.args.end _ c.in-Err-bytes_backward.rise n (omega arith) i c.requires.short) n in
+    subst (λ (z : ℤ). MatchResult c.bits_backward-2.result (λ place. IsLastRise c.args.bits.now c.args.from c.args.end z place) (λ rise. HasNoRiseBefore c.args.bits.now c.args.from c.args.end z rise)) t (c.bits_backward-2.ensures.value c.args.end (omega arith) i q)

@@ -1,34 +1,37 @@
-use Rattle.std.proofs.Common.{ℤ, ◌-◌, ◌+ℤ◌, arith, w64, to_z, of_z, subst, sym, ap, ◌∙◌}
+use Rattle.std.proofs.Common.{ℤ, ◌*◌, ◌/◌, ◌+◌, ◌-◌, MatchResult, arith, w64, to_z, of_z, subst}
 use Rattle.std.proofs.lemmas.Int.{to_z-of_z}
-use Rattle.vers_trees.specs.inside.Scans.{HasNoRise}
-use Rattle.vers_trees.proofs.Scans.{step_fits, plus_is, rise_more_fits, forward_found, forward_more, one_more_read}
+use Rattle.vers_trees.specs.inside.Scans.{IsFirstRise, HasNoRise}
+use Rattle.vers_trees.proofs.Scans.{not_begun, rise_is, found_sooner}
 use Rattle.vers_trees.proofs.trees.bp.scan.scan_forward.Goals as goal
 
-pub overflow_add-rise : goal.overflow_add-rise
-overflow_add-rise g c =
-    let f = step_fits _ c.step-rise.result c.step-rise.ensures in
-    let i = c.requires.inside in
-    rw (to_z-of_z w64 c.step-rise.result f) (rise_more_fits _ _ c.loop-place.place _ (to_z w64 c.loop-place.rise-bits) c.step-rise.result _ c.loop-place.invariant.passed c.loop-place.auto.place (omega arith) c.requires.short c.is_one_counted.ensures.value c.step-rise.ensures)
+pub bytes_forward-requires-clause-passed : goal.bytes_forward-requires-clause-passed
+bytes_forward-requires-clause-passed g c =
+    let m = c.min-head.ensures in let o = c.requires.order in let i = c.requires.inside in
+    let h = c.in-Err.ensures.value c.args.from (omega arith) (not_begun _ _ _) in
+    (c.args.from, omega arith, rw (rise_is _ c.args.from _ _ c.in-Err.rise h (omega arith) (omega arith) c.requires.short) h)
 
-pub returns-then-rise-target-clause-value : goal.returns-then-rise-target-clause-value
-returns-then-rise-target-clause-value g c =
-    let f = step_fits _ c.step-rise.result c.step-rise.ensures in
-    let i = c.requires.inside in
-    let h = rise_more_fits _ _ c.loop-place.place _ (to_z w64 c.loop-place.rise-bits) c.step-rise.result _ c.loop-place.invariant.passed c.loop-place.auto.place (omega arith) c.requires.short c.is_one_counted.ensures.value c.step-rise.ensures in
-    let e = plus_is (to_z w64 c.loop-place.rise-bits) c.step-rise.result f h in
+pub returns-in-Ok-bytes_forward-clause-value : goal.returns-in-Ok-bytes_forward-clause-value
+returns-in-Ok-bytes_forward-clause-value g c =
+    let m = c.min-head.ensures in let o = c.requires.order in let i = c.requires.inside in
     let t = to_z-of_z w64 c.args.target c.ranges.target in
-    let p = subst (λ (z : ℤ). HasNoRise c.args.bits.now c.args.from c.loop-place.place z (to_z w64 c.loop-place.rise-bits)) t c.loop-place.invariant.passed in
-    forward_found _ _ _ c.loop-place.place _ _ c.step-rise.result _ p c.loop-place.auto.place c.loop-place-test.true (omega arith) c.is_one_counted.ensures.value c.step-rise.ensures (sym e ∙ ap (to_z w64) c.if-rise-target.true ∙ t)
+    let h = c.in-Err.ensures.value c.args.from (omega arith) (not_begun _ _ _) in
+    let k : HasNoRise c.args.bits.now c.args.from c.min-head.result (to_z w64 (of_z w64 c.args.target)) (to_z w64 (of_z w64 c.in-Err.rise)) = rw (rise_is _ c.args.from _ _ c.in-Err.rise h (omega arith) (omega arith) c.requires.short) h in
+    subst (λ (z : ℤ). IsFirstRise c.args.bits.now c.args.from c.args.end z c.in-Ok-bytes_forward.place) t (found_sooner _ c.args.from (c.min-head.result + (c.args.end - c.min-head.result) / 8 * 8) c.args.end _ _ (omega arith) (c.in-Ok-bytes_forward.ensures.value c.args.from (omega arith) k))
 
-pub loop-place-preserved : goal.loop-place-preserved
-loop-place-preserved g c =
-    let f = step_fits _ c.step-rise.result c.step-rise.ensures in
-    let i = c.requires.inside in
-    let h = rise_more_fits _ _ c.loop-place.place _ (to_z w64 c.loop-place.rise-bits) c.step-rise.result _ c.loop-place.invariant.passed c.loop-place.auto.place (omega arith) c.requires.short c.is_one_counted.ensures.value c.step-rise.ensures in
-    let e = plus_is (to_z w64 c.loop-place.rise-bits) c.step-rise.result f h in
+pub bits_forward-requires-2-clause-passed : goal.bits_forward-requires-2-clause-passed
+bits_forward-requires-2-clause-passed g c =
+    let m = c.min-head.ensures in let o = c.requires.order in let i = c.requires.inside in
+    let h = c.in-Err.ensures.value c.args.from (omega arith) (not_begun _ _ _) in
+    let k : HasNoRise c.args.bits.now c.args.from c.min-head.result (to_z w64 (of_z w64 c.args.target)) (to_z w64 (of_z w64 c.in-Err.rise)) = rw (rise_is _ c.args.from _ _ c.in-Err.rise h (omega arith) (omega arith) c.requires.short) h in
+    let n = c.in-Err-bytes_forward.ensures.value c.args.from (omega arith) k in
+    (c.args.from, omega arith, rw (rise_is _ c.args.from _ _ c.in-Err-bytes_forward.rise n (omega arith) (omega arith) c.requires.short) n)
+
+pub returns-clause-value : goal.returns-clause-value
+returns-clause-value g c =
+    let m = c.min-head.ensures in let o = c.requires.order in let i = c.requires.inside in
     let t = to_z-of_z w64 c.args.target c.ranges.target in
-    let lo = c.loop-place.auto.place in
-    record {
-      passed = rw e (forward_more _ _ c.loop-place.place _ _ c.step-rise.result _ c.loop-place.invariant.passed c.loop-place.auto.place (omega arith) c.is_one_counted.ensures.value c.step-rise.ensures (λ z. c.if-rise-target.false (ap (of_z w64) (ap (λ (y : ℤ). to_z w64 c.loop-place.rise-bits +ℤ y) (to_z-of_z w64 c.step-rise.result f) ∙ z ∙ t))));
-      reads = one_more_read _ _ _ (c.loop-place.place - c.args.from) _ (omega arith) c.loop-place.invariant.reads c.is_one_counted.ensures.adds;
-    }
+    let h = c.in-Err.ensures.value c.args.from (omega arith) (not_begun _ _ _) in
+    let k : HasNoRise c.args.bits.now c.args.from c.min-head.result (to_z w64 (of_z w64 c.args.target)) (to_z w64 (of_z w64 c.in-Err.rise)) = rw (rise_is _ c.args.from _ _ c.in-Err.rise h (omega arith) (omega arith) c.requires.short) h in
+    let n = c.in-Err-bytes_forward.ensures.value c.args.from (omega arith) k in
+    let q : HasNoRise c.args.bits.now c.args.from (c.min-head.result + (c.args.end - c.min-head.result) / 8 * 8) (to_z w64 (of_z w64 c.args.target)) (to_z w64 (of_z w64 c.in-Err-bytes_forward.rise)) = rw (rise_is _ c.args.from _ _ c.in-Err-bytes_forward.rise n (omega arith) (omega arith) c.requires.short) n in
+    subst (λ (z : ℤ). MatchResult c.bits_forward-2.result (λ place. IsFirstRise c.args.bits.now c.args.from c.args.end z place) (λ rise. HasNoRise c.args.bits.now c.args.from c.args.end z rise)) t (c.bits_forward-2.ensures.value c.args.from (omega arith) q)

@@ -9,3 +9,9 @@ returns-clause-uneven g c = λ uneven.
     let f = built_fits g.row.BLOCK_SIZE c.self.inside.bits c.self.inside.excess c.self.invariant in
     let zero : c.self.inside.excess ≡ pos 0 = sym (to_z-of_z w64 c.self.inside.excess f) ∙ ap (to_z w64) c.if-self-ne0.false in
     absurd (uneven (ap (λ (l : List Bool). excess l (length l)) (sym c.self.view_is) ∙ c.self.invariant.sum ∙ zero))
+
+pub returns-in_err-indexed-clause-uneven : goal.returns-in_err-indexed-clause-uneven
+returns-in_err-indexed-clause-uneven g c = λ uneven.
+    let f = built_fits g.row.BLOCK_SIZE c.self.inside.bits c.self.inside.excess c.self.invariant in
+    let zero : c.self.inside.excess ≡ pos 0 = sym (to_z-of_z w64 c.self.inside.excess f) ∙ ap (to_z w64) c.if-self-ne0.false in
+    absurd (uneven (ap (λ (l : List Bool). excess l (length l)) (sym c.self.view_is) ∙ c.self.invariant.sum ∙ zero))

@@ -1,0 +1,163 @@
+#!/usr/bin/env python3
+"""Runs the benchmark of this library and that of the crate vers-vecs, and prints their times and ratios as a table.
+
+The original's driver is built by cargo. This library's is `crates/vers_bench`, which `rt run` in its folder proves and
+builds. The runs are interleaved: in each pass each structure is run by the one and by the other, and the least
+time of each series counts. Exit status 1 where a checksum differs: the answers differ then.
+
+`--checksums` builds the original's driver alone, runs its small workload, and compares its checksums with the stored run
+of `crates/vers_bench`, so it needs no Rattle toolchain. Series that only one of the two has are listed.
+
+`--instructions` counts, under valgrind's callgrind and with a sixteenth of the sizes, the instructions of one pass over the queries of
+each series, with its loop and its checksum. In both drivers such a pass is a function of its own, whose name ends in `_pass`.
+"""
+import argparse
+import itertools
+import os
+import re
+import subprocess
+import sys
+import tempfile
+
+HERE = os.path.dirname(os.path.abspath(__file__))
+TOP = os.path.dirname(HERE)
+OWN = os.path.join(TOP, "crates/vers_bench/out/vers_bench")
+STORED = os.path.join(TOP, "crates/vers_bench/stdout")
+PROJECT = os.path.join(HERE, "original")
+STRUCTURES = ("bits", "walks", "list", "sorted", "sparse", "wavelet", "rmq", "tree")
+LEVEL = "x86-64-v2"
+
+
+def built_original(folder):
+    """Builds the original's driver, with the crate's sources in `folder` if one is given, and returns its path."""
+    command = ["cargo", "build", "--release", "--quiet"]
+    if folder:
+        command += ["--offline", "--config", f'patch.crates-io.vers-vecs.path="{os.path.abspath(folder)}"']
+    flags = {"RUSTFLAGS": f"-C target-cpu={LEVEL} --cap-lints allow"}
+    subprocess.run(command, cwd=PROJECT, check=True, env={**os.environ, **flags})
+    return os.path.join(PROJECT, "target/release/bench_original")
+
+
+def output_of(command):
+    return subprocess.run(command, check=True, capture_output=True, text=True, stdin=subprocess.DEVNULL).stdout
+
+
+def compare_checksums(original):
+    """Prints where the checksums of the original differ from the stored run, and returns whether any does."""
+    with open(STORED, encoding="utf-8") as file:
+        stored = file.read()
+    lines = [dict(line.rsplit("\t", 1) for line in text.splitlines()) for text in (stored, output_of([original]))]
+    here, there = lines
+    for series in [it for it in here if it not in there]:
+        print("only here:", series.replace("\t", " "))
+    for series in [it for it in there if it not in here]:
+        print("only in the original:", series.replace("\t", " "))
+    common = [it for it in here if it in there]
+    differing = [it for it in common if here[it] != there[it]]
+    for series in differing:
+        print("differs:", series.replace("\t", " "), here[series], there[series])
+    print(f"{len(common) - len(differing)} checksums are equal, {len(differing)} differ")
+    return bool(differing)
+
+
+class Series:
+    """The least value of each driver for one series, and the checksums."""
+
+    def __init__(self):
+        self.values, self.checksums = {}, {}
+
+    def note(self, driver, value, checksum):
+        self.values[driver] = min(value, self.values.get(driver, value))
+        self.checksums[driver] = checksum
+
+    def differs(self):
+        return len(set(self.checksums.values())) > 1
+
+    def row(self, name):
+        here, there = self.values.get("here"), self.values.get("original")
+        ratio = f"{here / there:.2f}" if here is not None and there else ""
+        cells = ["" if it is None else f"{it:.3g}" if it < 100 else f"{it:.0f}" for it in (here, there)]
+        return "| " + " | ".join([*name, *cells, ratio + (" differs" if self.differs() else "")]) + " |"
+
+
+def measured(drivers, structures, passes, options):
+    """Runs all passes and returns the series by (structure, operation, data)."""
+    found = {}
+    for number in range(1, passes + 1):
+        for structure in structures:
+            print(f"pass {number} of {passes}: {structure}", file=sys.stderr)
+            for driver, program in drivers.items():
+                for line in output_of([program, driver, structure, *options]).splitlines():
+                    _, *name, value, checksum = line.split("\t")
+                    found.setdefault(tuple(name), Series()).note(driver, float(value), checksum)
+    return found
+
+
+def counts_of(path):
+    """Yields the instructions of each profile, in the order in which they were written: PATH.1, PATH.2 and so on."""
+    for number in itertools.count(1):
+        if not os.path.exists(f"{path}.{number}"):
+            return
+        with open(f"{path}.{number}", encoding="utf-8") as file:
+            yield int(re.search(r"(?m)^totals: (\d+)", file.read())[1])
+
+
+def instructions_of(program, driver, structure):
+    """Yields (series, instructions, checksum) for each pass of a structure, in the order of the lines."""
+    with tempfile.TemporaryDirectory() as folder:
+        path = os.path.join(folder, "profile")
+        command = [
+            "valgrind", "--tool=callgrind", "--collect-atstart=no", "--toggle-collect=*_pass*", "--dump-after=*pass*",
+            f"--callgrind-out-file={path}", program, driver, structure, "--small", "--reps", "1",
+        ]
+        lines = [line.split("\t")[1:] for line in output_of(command).splitlines()]
+        counts = list(counts_of(path))
+    passes = [line for line in lines if not line[1].startswith(("build", "heap_"))]
+    if len(counts) != len(passes):
+        sys.exit(f"{driver}, {structure}: {len(passes)} passes were printed, and {len(counts)} were counted")
+    for (*name, _, checksum), count in zip(passes, counts):
+        yield tuple(name), count, checksum
+
+
+def counted(drivers, structures):
+    """Returns the series by (structure, operation, data), with the instructions of a pass."""
+    found = {}
+    for structure in structures:
+        print(f"counting: {structure}", file=sys.stderr)
+        for driver, program in drivers.items():
+            for name, count, checksum in instructions_of(program, driver, structure):
+                found.setdefault(name, Series()).note(driver, count, checksum)
+    return found
+
+
+def main():
+    parser = argparse.ArgumentParser(description=__doc__, formatter_class=argparse.RawDescriptionHelpFormatter)
+    parser.add_argument("structures", nargs="*", metavar="STRUCTURE", help=f"of {', '.join(STRUCTURES)}; all where none is named")
+    parser.add_argument("--checksums", action="store_true", help="compare checksums with the stored run, and no times")
+    parser.add_argument("--instructions", action="store_true", help="count instructions under valgrind in place of times")
+    parser.add_argument("--passes", type=int, default=3, help="how often each structure is run by each (3)")
+    parser.add_argument("--reps", type=int, default=5, help="how often a run repeats a series, for the median (5)")
+    parser.add_argument("--small", action="store_true", help="a sixteenth of the sizes")
+    parser.add_argument("--original", metavar="FOLDER", help="the sources of vers-vecs 1.10.2, instead of those of crates.io")
+    asked = parser.parse_args()
+    unknown = set(asked.structures) - set(STRUCTURES)
+    if unknown:
+        parser.error(f"no structure {', '.join(sorted(unknown))}")
+    if not asked.checksums and not os.path.exists(OWN):
+        sys.exit(f"{os.path.relpath(OWN)} is missing: run `rt run` in crates/vers_bench first")
+    original = built_original(asked.original)
+    if asked.checksums:
+        sys.exit(compare_checksums(original))
+    drivers, structures = {"here": OWN, "original": original}, asked.structures or STRUCTURES
+    options = ["--reps", str(asked.reps), *(["--small"] if asked.small else [])]
+    found = counted(drivers, structures) if asked.instructions else measured(drivers, structures, max(asked.passes, 1), options)
+    print("| structure | operation | data | here | original | ratio |\n|---|---|---|---:|---:|---:|")
+    print("\n".join(series.row(name) for name, series in found.items()))
+    differing = sum(series.differs() for series in found.values())
+    what = "Instructions of a pass" if asked.instructions else "Nanoseconds an operation, builds an item; rows `heap_` are sizes"
+    print(f"\n{what}. {differing} checksums differ.")
+    sys.exit(differing > 0)
+
+
+if __name__ == "__main__":
+    main()

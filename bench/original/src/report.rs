@@ -1,0 +1,164 @@
+//! What is printed: a line for each series, with its checksum, and with its time where one is asked for.
+
+use std::time::Duration;
+
+/// How the series are run.
+pub enum Mode {
+    /// Once, for the checksums alone.
+    Checksums,
+    /// Several times, for the median of the times, over sizes divided by a number.
+    Times { repetitions: usize, divisor: usize },
+}
+
+/// What the arguments ask for.
+pub struct Settings {
+    /// What the lines name the driver.
+    pub name: String,
+    /// The structures to run; all where there are none.
+    pub structures: Vec<String>,
+    pub mode: Mode,
+}
+
+impl Settings {
+    pub fn from_words(mut words: impl Iterator<Item = String>) -> Result<Self, String> {
+        let (mut name, mut structures) = (None, Vec::new());
+        let (mut repetitions, mut divisor) = (5, 1);
+        while let Some(word) = words.next() {
+            match word.as_str() {
+                "--small" => divisor = 16,
+                "--reps" => {
+                    let count = words.next().ok_or("--reps wants a number")?;
+                    repetitions = count.parse().map_err(|_| format!("{count} is no number"))?;
+                }
+                _ if name.is_none() => name = Some(word),
+                _ => structures.push(word),
+            }
+        }
+        Ok(match name {
+            None => Settings { name: String::new(), structures, mode: Mode::Checksums },
+            Some(name) => Settings { name, structures, mode: Mode::Times { repetitions: repetitions.max(1), divisor } },
+        })
+    }
+
+    /// A size, divided by what all sizes are divided by.
+    pub fn scaled(&self, size: usize) -> usize {
+        match self.mode {
+            Mode::Checksums => size / 16,
+            Mode::Times { divisor, .. } => size / divisor,
+        }
+    }
+
+    /// A size that only a run with times has.
+    pub fn scaled_large(&self, size: usize) -> Option<usize> {
+        matches!(self.mode, Mode::Times { .. }).then(|| self.scaled(size))
+    }
+
+    pub fn wants(&self, structure: &str) -> bool {
+        self.structures.is_empty() || self.structures.iter().any(|it| it == structure)
+    }
+
+    fn repetitions(&self) -> usize {
+        match self.mode {
+            Mode::Checksums => 1,
+            Mode::Times { repetitions, .. } => repetitions,
+        }
+    }
+}
+
+/// A structure over some data, of which each operation is a series.
+pub struct Series<'a> {
+    pub settings: &'a Settings,
+    pub structure: &'static str,
+    /// The data: how much, and what kind.
+    pub parameters: String,
+}
+
+impl Series<'_> {
+    fn print(&self, operation: &str, value: f64, checksum: u64) {
+        let Series { settings, structure, parameters } = self;
+        match settings.mode {
+            Mode::Checksums => println!("{structure}\t{operation}\t{parameters}\t{checksum:016x}"),
+            Mode::Times { .. } => {
+                println!("{}\t{structure}\t{operation}\t{parameters}\t{value:.3}\t{checksum:016x}", settings.name)
+            }
+        }
+    }
+
+    /// Prints a size, where times are asked for: it is no series, and has no checksum.
+    pub fn size(&self, operation: &str, value: f64) {
+        if matches!(self.settings.mode, Mode::Times { .. }) {
+            self.print(operation, value, 0);
+        }
+    }
+
+    /// Runs `count` operations: `pass` does them all and returns the checksum.
+    pub fn run(&self, operation: &str, count: usize, mut pass: impl FnMut() -> u64) {
+        let mut checksum = 0;
+        let times = (0..self.settings.repetitions()).map(|_| {
+            let start = processor_time();
+            checksum = one_pass(&mut pass);
+            processor_time() - start
+        });
+        let time = median(times.collect());
+        self.print(operation, per_operation(time, count), checksum);
+    }
+
+    /// Runs the making of a value of `count` items. The time is that of `make` alone: what the value is made of comes
+    /// from `input`, and the value is let go after the time is taken.
+    pub fn build<I, T>(
+        &self,
+        operation: &str,
+        count: usize,
+        checksum: u64,
+        input: impl Fn() -> I,
+        make: impl Fn(I) -> T,
+    ) {
+        let times = (0..self.settings.repetitions()).map(|_| {
+            let given = input();
+            let start = processor_time();
+            let made = make(given);
+            let time = processor_time() - start;
+            drop(made);
+            time
+        });
+        let time = median(times.collect());
+        self.print(operation, per_operation(time, count), checksum);
+    }
+}
+
+// A function of its own in the machine code, so that a profiler counts the instructions of a pass.
+#[inline(never)]
+fn one_pass(pass: &mut impl FnMut() -> u64) -> u64 {
+    pass()
+}
+
+fn per_operation(time: Duration, count: usize) -> f64 {
+    time.as_nanos() as f64 / count.max(1) as f64
+}
+
+fn median(mut times: Vec<Duration>) -> Duration {
+    times.sort_unstable();
+    times[times.len() / 2]
+}
+
+#[repr(C)]
+struct TimeOfClock {
+    seconds: i64,
+    nanoseconds: i64,
+}
+
+unsafe extern "C" {
+    fn clock_gettime(clock: i32, time: *mut TimeOfClock) -> i32;
+}
+
+/// The number of the clock of a thread's processor time on Linux.
+const THREAD_CLOCK: i32 = 3;
+
+/// The processor time of this thread, which other work on the machine lengthens less than the time that passes.
+pub fn processor_time() -> Duration {
+    let mut time = TimeOfClock { seconds: 0, nanoseconds: 0 };
+    // Sound: the call writes into the value that it is given, whose layout is that of 64-bit Linux.
+    let status = unsafe { clock_gettime(THREAD_CLOCK, &mut time) };
+    assert_eq!(status, 0, "the clock of processor time is missing");
+    Duration::new(time.seconds as u64, time.nanoseconds as u32)
+}

@@ -1,0 +1,68 @@
+//! The series of wavelet matrices.
+
+use crate::report::{Series, Settings};
+use crate::workload::{NONE, Random, folded, summed, symbols};
+use std::ops::Range;
+use vers_vecs::WaveletMatrix;
+
+/// A range of places, and a number of one of its members by size.
+struct Quantile {
+    range: Range<usize>,
+    number: usize,
+}
+
+fn quantiles(random: &mut Random, count: usize, n: u64) -> Vec<Quantile> {
+    let mut quantile = || {
+        let from = random.below(n);
+        let long = random.below(n - from) + 1;
+        Quantile { range: from as usize..(from + long) as usize, number: random.below(long) as usize }
+    };
+    (0..count).map(|_| quantile()).collect()
+}
+
+fn number_or_none(answer: Option<usize>) -> u64 {
+    answer.map_or(NONE, |it| it as u64)
+}
+
+/// The series `wavelet`: `n` symbols of a width, and `query_count` queries of each kind.
+pub fn run(settings: &Settings, n: usize, width: u16, query_count: usize) {
+    let series = Series { settings, structure: "wavelet", parameters: format!("n={n} width={width}") };
+    let list = symbols(n, width);
+    series.build("build", n, n as u64, || list.as_slice(), |it| WaveletMatrix::from_slice(it, width));
+    if width == 8 {
+        series.build("build_pc", n, n as u64, || list.as_slice(), |it| WaveletMatrix::from_slice_pc(it, width));
+    }
+    let matrix = WaveletMatrix::from_slice(&list, width);
+    let mut random = Random::new(9);
+    let places = random.many_below(query_count, n as u64);
+    let symbols = random.many_below(query_count, n as u64);
+    let symbols: Vec<u64> = symbols.iter().map(|&it| list[it as usize]).collect();
+    // Of 8 bits, each symbol occurs some n / 256 times.
+    let most = if width == 8 { n as u64 / 256 * 3 / 4 } else { 1 };
+    let ranks = random.many_below(query_count, most);
+    let quantiles = quantiles(&mut random, query_count, n as u64);
+    series.size("heap_bits_per_item", matrix.heap_size() as f64 * 8.0 / n as f64);
+    series.run("get_u64", query_count, || {
+        folded(places.iter().map(|&place| matrix.get_u64(place as usize).unwrap_or(NONE)))
+    });
+    series.run("rank_u64", query_count, || {
+        let asked = places.iter().zip(&symbols);
+        folded(asked.map(|(&place, &symbol)| number_or_none(matrix.rank_u64(place as usize, symbol))))
+    });
+    series.run("select_u64", query_count, || {
+        let asked = ranks.iter().zip(&symbols);
+        folded(asked.map(|(&rank, &symbol)| number_or_none(matrix.select_u64(rank as usize, symbol))))
+    });
+    series.run("quantile_u64", query_count, || {
+        folded(quantiles.iter().map(|it| matrix.quantile_u64(it.range.clone(), it.number).unwrap_or(NONE)))
+    });
+    let in_ranges = || quantiles.iter().map(|it| it.range.clone()).zip(&symbols);
+    series.run("predecessor_u64", query_count, || {
+        folded(in_ranges().map(|(range, &symbol)| matrix.predecessor_u64(range, symbol).unwrap_or(NONE)))
+    });
+    series.run("successor_u64", query_count, || {
+        folded(in_ranges().map(|(range, &symbol)| matrix.successor_u64(range, symbol).unwrap_or(NONE)))
+    });
+    series.run("iter_u64", n, || summed(matrix.iter_u64().into_iter().flatten()));
+    series.run("iter_sorted_u64", n, || summed(matrix.iter_sorted_u64().into_iter().flatten()));
+}

@@ -1,0 +1,112 @@
+-- The lines of a list of symbols.
+use Rattle.std.specs.Prelude.{ℕ, ◌-◌, ◌/◌, ◌%◌, ◌^◌, ◌&&◌, nat_le, nat_lt, List, [], ◌∷◌, length, slice_get, slice_range, Option, Some, None, if◌then◌else◌}
+use Rattle.vers_sorted.specs.Sorted.{greatest_not_above, least_not_below}
+use Rattle.vers_wavelet.specs.Symbols.{Symbols, occurrences, by_size}
+use Rattle.vers_wavelet.specs.Makers.{low_symbols}
+use Rattle.vers_cli.specs.declared.name.Query.{Query}
+use Rattle.vers_cli.specs.declared.name.Query.TheVariants as asked
+use Rattle.vers_cli.specs.declared.name.SymbolsQuery.TheVariants.{All, GetU64, Symbol, Range, Within}
+use Rattle.vers_cli.specs.declared.name.AllQuery.{AllQuery}
+use Rattle.vers_cli.specs.declared.name.AllQuery.TheVariants.{IterU64, IterSortedU64}
+use Rattle.vers_cli.specs.declared.name.SymbolQuery.{SymbolQuery}
+use Rattle.vers_cli.specs.declared.name.SymbolQuery.TheVariants.{RankU64, SelectU64}
+use Rattle.vers_cli.specs.declared.name.RangeQuery.{RangeQuery}
+use Rattle.vers_cli.specs.declared.name.RangeQuery.TheVariants.{RangeMinU64, RangeMaxU64, RangeMedianU64}
+use Rattle.vers_cli.specs.declared.name.WithinQuery.{WithinQuery}
+use Rattle.vers_cli.specs.declared.name.WithinQuery.TheVariants.{RankRangeU64, SelectOffsetU64, QuantileU64, PredecessorU64, SuccessorU64}
+use Rattle.vers_cli.specs.declared.loading.Loading.{Loading}
+use Rattle.vers_cli.specs.declared.loading.Loading.TheVariants.{Malformed, Inadmissible, Accepted}
+use Rattle.vers_cli.specs.Arguments.{no_arguments, one_number, two_numbers, three_numbers}
+use Rattle.vers_cli.specs.Reply.{PlainReply, WrongStructure, Absent, Number, Numbers, if_well_formed, number_or_absent}
+
+-- the load line `symbols K n ..`, for its numbers: a width of at most 64 bits, and numbers of which as many low bits count
+abbrev pub symbols_loaded : Option (List ℕ) → Loading Symbols
+symbols_loaded None = Malformed
+symbols_loaded (Some []) = Malformed
+symbols_loaded (Some (width ∷ numbers)) =
+    if nat_le width 64 then Accepted (record { width = width; items = low_symbols numbers width }) else Inadmissible
+
+-- the reply of a query of symbols as numbers, which have at most 64 bits
+abbrev pub if_numbers : Symbols → PlainReply → PlainReply
+if_numbers symbols reply = if nat_le symbols.width 64 then reply else Absent
+
+-- the symbol that a number stands for, by its low bits
+abbrev pub low_bits_of : Symbols → ℕ → ℕ
+low_bits_of symbols s = s % 2 ^ symbols.width
+
+-- the places from place a on, before place b, that hold the symbol of a number
+abbrev pub places_of : Symbols → ℕ → ℕ → ℕ → List ℕ
+places_of symbols a b s = occurrences symbols.items a b (low_bits_of symbols s)
+
+-- how many of the first `end` places hold a symbol, where there are so many
+abbrev pub rank_before : Symbols → ℕ → ℕ → Option ℕ
+rank_before symbols end s = if nat_le end (length symbols.items) then Some (length (places_of symbols 0 end s)) else None
+
+-- how many places of a range hold a symbol; the range begins at a place, and ends neither before that nor past the last one
+abbrev pub rank_between : Symbols → ℕ → ℕ → ℕ → Option ℕ
+rank_between symbols a b s =
+    if nat_lt a (length symbols.items) && (nat_le b (length symbols.items) && nat_le a b)
+    then Some (length (places_of symbols a b s))
+    else None
+
+-- the place of occurrence r of a symbol, among those from place o on
+abbrev pub place_from : Symbols → ℕ → ℕ → ℕ → Option ℕ
+place_from symbols o r s = slice_get (places_of symbols o (length symbols.items) s) r
+
+-- the members of a range in ascending order; none where it ends past the last place, or before it begins
+abbrev pub sorted_range : Symbols → ℕ → ℕ → List ℕ
+sorted_range symbols a b = if nat_le b (length symbols.items) then by_size (slice_range symbols.items a b) else []
+
+-- the symbols that a query of all of them lists
+abbrev pub all_listed : Symbols → AllQuery → List ℕ
+all_listed symbols IterU64 = symbols.items
+all_listed symbols IterSortedU64 = by_size symbols.items
+
+-- a query of a symbol: how many of the first i places hold it, and the place of its occurrence i
+abbrev pub symbol_found : Symbols → SymbolQuery → ℕ → ℕ → Option ℕ
+symbol_found symbols RankU64 i s = rank_before symbols i s
+symbol_found symbols SelectU64 i s = place_from symbols 0 i s
+
+-- a query of a range: its first, last and middle member by size, of two in the middle the lower one
+abbrev pub range_found : Symbols → RangeQuery → ℕ → ℕ → Option ℕ
+range_found symbols RangeMinU64 a b = slice_get (sorted_range symbols a b) 0
+range_found symbols RangeMaxU64 a b = slice_get (sorted_range symbols a b) (b - a - 1)
+range_found symbols RangeMedianU64 a b = slice_get (sorted_range symbols a b) ((b - 1 - a) / 2)
+
+-- a query with three numbers
+abbrev pub within_found : Symbols → WithinQuery → ℕ → ℕ → ℕ → Option ℕ
+within_found symbols RankRangeU64 a b s = rank_between symbols a b s
+within_found symbols SelectOffsetU64 o r s = place_from symbols o r s
+within_found symbols QuantileU64 a b i = slice_get (sorted_range symbols a b) i
+within_found symbols PredecessorU64 a b s = greatest_not_above (sorted_range symbols a b) (low_bits_of symbols s)
+within_found symbols SuccessorU64 a b s = least_not_below (sorted_range symbols a b) (low_bits_of symbols s)
+
+-- the replies of the queries, by their arguments
+abbrev pub all_reply : Symbols → AllQuery → PlainReply
+all_reply symbols query = if_numbers symbols (Numbers (all_listed symbols query))
+
+abbrev pub place_reply : Symbols → ℕ → PlainReply
+place_reply symbols i = if_numbers symbols (number_or_absent (slice_get symbols.items i))
+
+abbrev pub symbol_reply : Symbols → SymbolQuery → ℕ → ℕ → PlainReply
+symbol_reply symbols query i s = if_numbers symbols (number_or_absent (symbol_found symbols query i s))
+
+abbrev pub range_reply : Symbols → RangeQuery → ℕ → ℕ → PlainReply
+range_reply symbols query a b = if_numbers symbols (number_or_absent (range_found symbols query a b))
+
+abbrev pub within_reply : Symbols → WithinQuery → ℕ → ℕ → ℕ → PlainReply
+within_reply symbols query a b n = if_numbers symbols (number_or_absent (within_found symbols query a b n))
+
+-- the query lines, where these symbols are held
+abbrev pub symbols_reply : Symbols → Query → List (List ℕ) → PlainReply
+symbols_reply symbols asked.Len arguments = if_well_formed (no_arguments arguments) (λ _. Number (length symbols.items))
+symbols_reply symbols (asked.Symbols (All query)) arguments = if_well_formed (no_arguments arguments) (λ _. all_reply symbols query)
+symbols_reply symbols (asked.Symbols GetU64) arguments =
+    if_well_formed (one_number arguments) (λ i. place_reply symbols i)
+symbols_reply symbols (asked.Symbols (Symbol query)) arguments =
+    if_well_formed (two_numbers arguments) (λ n. symbol_reply symbols query n.0 n.1)
+symbols_reply symbols (asked.Symbols (Range query)) arguments =
+    if_well_formed (two_numbers arguments) (λ n. range_reply symbols query n.0 n.1)
+symbols_reply symbols (asked.Symbols (Within query)) arguments =
+    if_well_formed (three_numbers arguments) (λ n. within_reply symbols query n.0 n.1 n.2)
+symbols_reply symbols _ arguments = WrongStructure

@@ -1,0 +1,290 @@
+//! The lines of balanced parentheses: what is asked of the nodes of the forest that they write down.
+ghost use Rattle.std.specs.Prelude.{◌≡◌, ◌<◌, ◌==◌, true, length, Decides, IfOk, IsTrue};
+ghost use Rattle.std.specs.Iterator.{Drains, IsFinite};
+ghost use Rattle.vers_trees.specs.Excess.{excess};
+ghost use Rattle.vers_trees.specs.Forest.{IsBalanced, forest_of};
+ghost use Rattle.vers_trees.specs.Nodes.{IsNode, children};
+ghost use Rattle.vers_cli.specs.Text.{words_in};
+ghost use Rattle.vers_cli.specs.Reply.{plain_reply};
+ghost use Rattle.vers_cli.specs.ForestLines.{are_balanced, has_one, has_node, relative_of, measure_of, walk_of, level_end_of, all_nodes_reply as reply_of_all_nodes, relative_reply as reply_of_relative, measure_reply as reply_of_measure, walk_reply as reply_of_walk, level_reply as reply_of_level, is_ancestor_reply as reply_of_is_ancestor, level_ancestor_reply as reply_of_level_ancestor, forest_reply};
+
+use crate::arguments::{no_arguments, one_number, two_numbers};
+use crate::name::{ForestQuery, LevelQuery, MeasureQuery, RelativeQuery, WalkQuery};
+use crate::reply::Reply;
+use std::alloc::{AllocError, Allocator};
+use vers_trees::trees::bp::BpTree;
+
+/// The reply of a query line that balanced parentheses alone have, where these are held.
+pub fn reply<A: Allocator + Copy>(
+    alloc: A,
+    tree: &BpTree<512, &A>,
+    query: ForestQuery,
+    arguments: &[u8],
+) -> Result<Reply<A>, AllocError>
+    ensures { IfOk result (λ reply. plain_reply reply ≡ forest_reply tree.now query (words_in arguments.now)) }
+{
+    match query {
+        ForestQuery::DfsPostIter => match no_arguments(arguments) {
+            None => Ok(Reply::BadLine),
+            Some(()) => all_nodes_reply(alloc, tree),
+        },
+        ForestQuery::Relative(query) => match one_number(arguments) {
+            None => Ok(Reply::BadLine),
+            Some(node) => Ok(relative_reply(tree, query, node as usize)),
+        },
+        ForestQuery::Measure(query) => match one_number(arguments) {
+            None => Ok(Reply::BadLine),
+            Some(node) => Ok(measure_reply(tree, query, node as usize)),
+        },
+        ForestQuery::Walk(query) => match one_number(arguments) {
+            None => Ok(Reply::BadLine),
+            Some(node) => walk_reply(alloc, tree, query, node as usize),
+        },
+        ForestQuery::Level(query) => match one_number(arguments) {
+            None => Ok(Reply::BadLine),
+            Some(depth) => Ok(level_reply(tree, query, depth)),
+        },
+        ForestQuery::IsAncestor => match two_numbers(arguments) {
+            None => Ok(Reply::BadLine),
+            Some((a, d)) => Ok(is_ancestor_reply(tree, a as usize, d as usize)),
+        },
+        ForestQuery::LevelAncestor => match two_numbers(arguments) {
+            None => Ok(Reply::BadLine),
+            Some((node, levels)) => Ok(level_ancestor_reply(tree, node as usize, levels)),
+        },
+    }
+}
+
+/// Whether the parentheses are balanced.
+pub fn is_balanced<A: Allocator + Copy>(tree: &BpTree<512, &A>) -> bool
+    ensures value { result ≡ are_balanced tree.now }
+    ensures grammar { Decides result (IsBalanced tree.now) }
+{
+    tree.is_balanced()
+}
+
+// The excess before a place.
+fn excess_before<A: Allocator + Copy>(tree: &BpTree<512, &A>, place: usize) -> i64
+    requires { place < length tree.now }
+    ensures { result ≡ excess tree.now place }
+{
+    if place == 0 {
+        0
+    } else {
+        tree.excess(place - 1)
+    }
+}
+
+// Whether a one stands at a place.
+fn has_one<A: Allocator + Copy>(tree: &BpTree<512, &A>, place: usize) -> bool
+    ensures { result ≡ has_one tree.now place }
+{
+    place < tree.len() && tree.excess(place) > excess_before(tree, place)
+}
+
+// Whether the parentheses are balanced and a node opens at a place.
+fn has_node<A: Allocator + Copy>(tree: &BpTree<512, &A>, place: usize) -> bool
+    ensures value { result ≡ has_node tree.now place }
+    ensures balanced { IsTrue result → IsBalanced tree.now }
+    ensures node { IsTrue result → IsNode (forest_of tree.now) place }
+{
+    is_balanced(tree) && has_one(tree, place)
+}
+
+/// The places that an iterator has left.
+pub fn places_left<A: Allocator + Copy, I: Iterator<Item = usize> + Drop>(
+    alloc: A,
+    places: I,
+) -> Result<Vec<u64, A>, AllocError>
+    requires can { I.can_next places }
+    requires ends { IsFinite (I.remaining places) }
+    ensures { IfOk result (λ numbers. Drains I.next_gives places numbers.items) }
+{
+    let mut numbers = Vec::new(alloc);
+    for place in places {
+        numbers.push(place as u64)?;
+    }
+    Ok(numbers)
+}
+
+// The reply of all nodes, each after those below it.
+fn all_nodes_reply<A: Allocator + Copy>(
+    alloc: A,
+    tree: &BpTree<512, &A>,
+) -> Result<Reply<A>, AllocError>
+    ensures { IfOk result (λ reply. plain_reply reply ≡ reply_of_all_nodes tree.now) }
+{
+    if !is_balanced(tree) {
+        return Ok(Reply::Refused);
+    }
+    Ok(Reply::Numbers(places_left(alloc, tree.dfs_post_iter())?))
+}
+
+// The reply of a query for the node that stands so to a node.
+fn relative_reply<A: Allocator + Copy>(
+    tree: &BpTree<512, &A>,
+    query: RelativeQuery,
+    node: usize,
+) -> Reply<A>
+    ensures { plain_reply result ≡ reply_of_relative tree.now query node }
+{
+    if has_node(tree, node) {
+        Reply::place_or_absent(relative(tree, query, node))
+    } else {
+        Reply::Refused
+    }
+}
+
+// The node that stands so to a node.
+fn relative<A: Allocator + Copy>(
+    tree: &BpTree<512, &A>,
+    query: RelativeQuery,
+    node: usize,
+) -> Option<usize>
+    requires balanced { IsBalanced tree.now }
+    requires node { IsNode (forest_of tree.now) node }
+    ensures { result ≡ relative_of (forest_of tree.now) query node }
+{
+    match query {
+        RelativeQuery::Parent => tree.parent(node),
+        RelativeQuery::FirstChild => tree.first_child(node),
+        RelativeQuery::LastChild => tree.last_child(node),
+        RelativeQuery::NextSibling => tree.next_sibling(node),
+        RelativeQuery::PreviousSibling => tree.previous_sibling(node),
+        RelativeQuery::LevelNext => tree.level_next(node),
+        RelativeQuery::LevelPrev => tree.level_prev(node),
+    }
+}
+
+// The reply of a query for a number of a node.
+fn measure_reply<A: Allocator + Copy>(
+    tree: &BpTree<512, &A>,
+    query: MeasureQuery,
+    node: usize,
+) -> Reply<A>
+    ensures { plain_reply result ≡ reply_of_measure tree.now query node }
+{
+    if has_node(tree, node) {
+        Reply::Number(measure(tree, query, node))
+    } else {
+        Reply::Refused
+    }
+}
+
+// A number of a node.
+fn measure<A: Allocator + Copy>(tree: &BpTree<512, &A>, query: MeasureQuery, node: usize) -> u64
+    requires balanced { IsBalanced tree.now }
+    requires node { IsNode (forest_of tree.now) node }
+    ensures { result ≡ measure_of (forest_of tree.now) query node }
+{
+    match query {
+        MeasureQuery::NodeIndex => tree.node_index(node) as u64,
+        MeasureQuery::IsLeaf => u64::from(is_leaf(tree, node)),
+        MeasureQuery::Depth => tree.depth(node),
+        // It is never None.
+        MeasureQuery::SubtreeSize => tree.subtree_size(node).unwrap_or(0) as u64,
+    }
+}
+
+// Whether a node has no children.
+fn is_leaf<A: Allocator + Copy>(tree: &BpTree<512, &A>, node: usize) -> bool
+    requires balanced { IsBalanced tree.now }
+    requires node { IsNode (forest_of tree.now) node }
+    ensures { result ≡ (length (children (forest_of tree.now) node) == 0) }
+{
+    tree.is_leaf(node)
+}
+
+// The reply of a query for the nodes that a walk from a node passes.
+fn walk_reply<A: Allocator + Copy>(
+    alloc: A,
+    tree: &BpTree<512, &A>,
+    query: WalkQuery,
+    node: usize,
+) -> Result<Reply<A>, AllocError>
+    ensures { IfOk result (λ reply. plain_reply reply ≡ reply_of_walk tree.now query node) }
+{
+    if !has_node(tree, node) {
+        return Ok(Reply::Refused);
+    }
+    Ok(Reply::Numbers(walk(alloc, tree, query, node)?))
+}
+
+// The nodes that a walk from a node passes.
+fn walk<A: Allocator + Copy>(
+    alloc: A,
+    tree: &BpTree<512, &A>,
+    query: WalkQuery,
+    node: usize,
+) -> Result<Vec<u64, A>, AllocError>
+    requires balanced { IsBalanced tree.now }
+    requires node { IsNode (forest_of tree.now) node }
+    ensures { IfOk result (λ numbers. numbers.items ≡ walk_of (forest_of tree.now) query node) }
+{
+    match query {
+        WalkQuery::Children => places_left(alloc, tree.children(node)),
+        WalkQuery::RevChildren => places_left(alloc, tree.rev_children(node)),
+        WalkQuery::SubtreeIter => places_left(alloc, tree.subtree_iter(node)),
+        WalkQuery::SubtreePostIter => places_left(alloc, tree.subtree_post_iter(node)),
+    }
+}
+
+// The reply of a query for the first or the last node of a depth.
+fn level_reply<A: Allocator + Copy>(
+    tree: &BpTree<512, &A>,
+    query: LevelQuery,
+    depth: u64,
+) -> Reply<A>
+    ensures { plain_reply result ≡ reply_of_level tree.now query depth }
+{
+    if is_balanced(tree) {
+        Reply::place_or_absent(end_of_level(tree, query, depth))
+    } else {
+        Reply::Refused
+    }
+}
+
+// The first or the last node of a depth.
+fn end_of_level<A: Allocator + Copy>(
+    tree: &BpTree<512, &A>,
+    query: LevelQuery,
+    depth: u64,
+) -> Option<usize>
+    requires { IsBalanced tree.now }
+    ensures { result ≡ level_end_of (forest_of tree.now) query depth }
+{
+    match query {
+        LevelQuery::LevelLeftmost => tree.level_leftmost(depth),
+        LevelQuery::LevelRightmost => tree.level_rightmost(depth),
+    }
+}
+
+// Whether a node is an ancestor of another.
+fn is_ancestor_reply<A: Allocator + Copy>(
+    tree: &BpTree<512, &A>,
+    ancestor: usize,
+    descendant: usize,
+) -> Reply<A>
+    ensures { plain_reply result ≡ reply_of_is_ancestor tree.now ancestor descendant }
+{
+    if has_node(tree, ancestor) && has_node(tree, descendant) {
+        Reply::number_or_absent(tree.is_ancestor(ancestor, descendant).map(u64::from))
+    } else {
+        Reply::Refused
+    }
+}
+
+// The ancestor of a node so many levels up.
+fn level_ancestor_reply<A: Allocator + Copy>(
+    tree: &BpTree<512, &A>,
+    node: usize,
+    levels: u64,
+) -> Reply<A>
+    ensures { plain_reply result ≡ reply_of_level_ancestor tree.now node levels }
+{
+    if has_node(tree, node) {
+        Reply::place_or_absent(tree.level_ancestor(node, levels))
+    } else {
+        Reply::Refused
+    }
+}

@@ -1,0 +1,69 @@
+//! A list of numbers with range minima, of one block.
+use crate::asked;
+use std::alloc::{AllocError, Global};
+use std::io;
+use vers_vecs::FastRmq;
+
+const ITEMS: [u64; 24] = [
+    52, 31, 47, 31, 60, 25, 38, 90, 44, 71, 25, 83, 29, 95, 66, 57, 40, 12, 78, 33, 18, 61, 18, 50,
+];
+
+fn made(alloc: Global) -> Result<FastRmq<Global>, AllocError> {
+    FastRmq::from_vec(Vec::from_slice(alloc, &ITEMS)?)
+}
+
+// The first place of a least item, or nothing where there is no such range.
+fn print_least(
+    rt: &HostRuntime,
+    minima: &FastRmq<Global>,
+    first: usize,
+    last: usize,
+) -> io::Result<()> {
+    if first <= last && last < minima.len() {
+        print!(rt; " {}", minima.range_min(first, last))?;
+    }
+    Ok(())
+}
+
+// For each place, the least item from the start of a part of `size` places up to it.
+fn print_from_starts(rt: &HostRuntime, minima: &FastRmq<Global>, size: usize) -> io::Result<()> {
+    print!(rt; "minima from_start_of_{size}")?;
+    for place in 0..minima.len() {
+        let within = place.checked_rem(size).unwrap_or(0);
+        print_least(rt, minima, place.saturating_sub(within), place)?;
+    }
+    println!(rt; "")
+}
+
+// For each place, the least item from it up to the end of a part of `size` places.
+fn print_to_ends(rt: &HostRuntime, minima: &FastRmq<Global>, size: usize) -> io::Result<()> {
+    let final_place = minima.len().saturating_sub(1);
+    print!(rt; "minima to_end_of_{size}")?;
+    for place in 0..minima.len() {
+        let within = place.checked_rem(size).unwrap_or(0);
+        let end = place
+            .saturating_sub(within)
+            .saturating_add(size)
+            .saturating_sub(1);
+        print_least(rt, minima, place, end.min(final_place))?;
+    }
+    println!(rt; "")
+}
+
+fn print_minima(rt: &HostRuntime, minima: &FastRmq<Global>) -> io::Result<()> {
+    print!(rt; "minima as_slice")?;
+    for item in minima.as_slice() {
+        print!(rt; " {item}")?;
+    }
+    println!(rt; "")?;
+    print_from_starts(rt, minima, 128)?;
+    print_to_ends(rt, minima, 128)?;
+    print_from_starts(rt, minima, 16)?;
+    print_to_ends(rt, minima, 16)?;
+    println!(rt; "minima heap_size {}", minima.heap_size())
+}
+
+/// The items, the ranges that the masks of a block answer, and the size.
+pub fn print(rt: &HostRuntime) -> io::Result<()> {
+    asked(made(rt.alloc()), |minima| print_minima(rt, minima))
+}

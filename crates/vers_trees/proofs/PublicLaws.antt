@@ -1,0 +1,68 @@
+-- The laws that proofs of other crates may cite. A crate above imports this file and no other of this folder.
+use Rattle.std.proofs.Common.{◌≡◌, ℕ, ◌+◌, ◌-◌, ◌<◌, ◌≤◌, ◌↔◌, Bool, true, false, List, [], ◌∷◌, ◌++◌, map, length, get_or, Option, Some, None}
+use Rattle.std.specs.Prelude.{slice_get, option_map, Contains}
+use Rattle.vers_bits.specs.Bits.{bit_value}
+use Rattle.vers_trees.specs.Forest.{Forest, IsBalanced, forest_of}
+use Rattle.vers_trees.specs.Nodes.{nodes, IsNode, depth, level, first_of, last_of, next_of, previous_of}
+use Rattle.vers_trees.specs.LevelWalks.{IsAlongLevel}
+use Rattle.vers_trees.proofs.NodeLaws as NodeLaws
+use Rattle.vers_trees.proofs.LevelWalks as LevelWalks
+
+-- ---- nodes
+
+-- in a balanced list a node opens at each place that holds a one, and nowhere else
+pub node_iff_one : (bits : List Bool) (v : ℕ) → IsBalanced bits → IsNode (forest_of bits) v ↔ (slice_get bits v ≡ Some true)
+node_iff_one = NodeLaws.node_iff_one
+
+-- the same, where a place past the end counts as a zero
+pub node_iff_bit : (bits : List Bool) (v : ℕ) → IsBalanced bits → IsNode (forest_of bits) v ↔ (get_or bits v false ≡ true)
+node_iff_bit = NodeLaws.node_iff_bit
+
+-- the same, by what `get` answers
+pub node_iff_got : (bits : List Bool) (v : ℕ) → IsBalanced bits → IsNode (forest_of bits) v ↔ (option_map bit_value (slice_get bits v) ≡ Some 1)
+node_iff_got = NodeLaws.node_iff_got
+
+-- ---- levels
+
+-- a level holds the nodes of its depth, and nothing else
+pub level_iff_depth : (F : Forest) (d v : ℕ) → Contains (level F d) v ↔ (IsNode F v × (depth F v ≡ d))
+level_iff_depth = NodeLaws.level_iff_depth
+
+-- the member of number i of a level is a node of its depth, and the next one on the level is the member after it
+pub levels_go_on : (F : Forest) (d i v : ℕ) → slice_get (level F d) i ≡ Some v
+    → IsNode F v × (depth F v ≡ d) × (next_of (level F d) v ≡ slice_get (level F d) (i + 1))
+levels_go_on = NodeLaws.levels_go_on
+
+-- the one before on the level is the member before it, and before the first there is none; the last has the greatest number
+pub levels_go_back : (F : Forest) (d : ℕ) → (last_of (level F d) ≡ slice_get (level F d) (length (level F d) - 1))
+    × ((v : ℕ) → slice_get (level F d) 0 ≡ Some v → previous_of (level F d) v ≡ None)
+    × ((i v : ℕ) → slice_get (level F d) (i + 1) ≡ Some v → previous_of (level F d) v ≡ slice_get (level F d) i)
+levels_go_back = NodeLaws.levels_go_back
+
+-- no level has more members than the forest has nodes
+pub levels_are_parts : (F : Forest) (d : ℕ) → length (level F d) ≤ length (nodes F)
+levels_are_parts = NodeLaws.levels_are_parts
+
+-- ---- walks along a level by handles: what a loop by `level_leftmost` and `level_next` keeps
+
+-- from the first node of the level
+pub walk_begins : {H : Type 0} {place : H → ℕ} {F : Forest} {d : ℕ} {next : Option H} → option_map place next ≡ first_of (level F d) → IsAlongLevel place F d [] next
+walk_begins e = LevelWalks.walk_begins e
+
+-- the handle that comes next names a node
+pub walk_meets_nodes : {H : Type 0} {place : H → ℕ} {F : Forest} {d : ℕ} {met : List H} {next : Option H} {v : H} → IsAlongLevel place F d met next → next ≡ Some v → IsNode F (place v)
+walk_meets_nodes h e = LevelWalks.walk_meets_nodes h e
+
+-- it is met, and the next node of its depth comes next
+pub walk_goes_on : {H : Type 0} {place : H → ℕ} {F : Forest} {d : ℕ} {met all : List H} {next after : Option H} {v : H} → IsAlongLevel place F d met next → next ≡ Some v
+    → all ≡ met ++ v ∷ [] → option_map place after ≡ next_of (level F (depth F (place v))) (place v) → IsAlongLevel place F d all after
+walk_goes_on h e a n = LevelWalks.walk_goes_on h e a n
+
+-- fewer are still to be met
+pub walk_comes_nearer : {H : Type 0} {place : H → ℕ} {F : Forest} {d : ℕ} {met all : List H} {next : Option H} {v : H} → IsAlongLevel place F d met next → next ≡ Some v
+    → all ≡ met ++ v ∷ [] → length (level F d) - length all < length (level F d) - length met
+walk_comes_nearer h e a = LevelWalks.walk_comes_nearer h e a
+
+-- where none comes next, all of the level were met
+pub walk_ends : {H : Type 0} {place : H → ℕ} {F : Forest} {d : ℕ} {met : List H} {next : Option H} → IsAlongLevel place F d met next → next ≡ None → map place met ≡ level F d
+walk_ends h e = LevelWalks.walk_ends h e

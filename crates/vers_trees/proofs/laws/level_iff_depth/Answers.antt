@@ -1,0 +1,5 @@
+use Rattle.vers_trees.proofs.NodeLaws.{level_iff_depth}
+use Rattle.vers_trees.proofs.laws.level_iff_depth.Goals as goal
+
+pub returns : goal.returns
+returns c = level_iff_depth

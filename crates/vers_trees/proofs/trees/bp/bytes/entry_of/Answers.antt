@@ -1,0 +1,35 @@
+use Rattle.std.proofs.Common.{rules, ◌≡◌, ◌<◌, length, arith, refl, ◌∙◌, subst, sym, ⊎_elim}
+use Rattle.std.proofs.lemmas.Int.{ints}
+use Rattle.vers_trees.proofs.Bytes.{IsNoted, as_many, met_nothing, sevens, met_more, few_more, place_small, up_or_down, entry_is}
+use Rattle.vers_trees.proofs.ByteScans.{byte_of_word}
+use Rattle.vers_trees.proofs.trees.bp.bytes.entry_of.Goals as goal
+
+pub loop-step-init : goal.loop-step-init
+loop-step-init c = record {
+  met = λ bits is. met_nothing c.args.from_end bits _ (sevens 17);
+  low = omega arith;
+  high = omega arith;
+  least = omega arith;
+  greatest = omega arith;
+  many = refl;
+  few = λ x. let e = sevens 17 x in omega arith;
+}
+
+pub loop-step-preserved : goal.loop-step-preserved
+loop-step-preserved c =
+    let i = c.loop-step.invariant in
+    let t = c.loop-step-test.true in
+    let m = c.meet.ensures in
+    let lo = i.low in let hi = i.high in let il = i.least in let ig = i.greatest in let ml = m.least in let mg = m.greatest in
+    let u = up_or_down c.args.from_end _ c.loop-step.value c.stepped-value.result c.stepped-value.ensures in
+    let n = i.many in
+    let w : IsNoted c.loop-step.met.least c.loop-step.met.greatest c.stepped-value.result c.place_of-place.result c.loop-step.met.places c.meet.new.self.least c.meet.new.self.greatest c.meet.new.self.places = record { lower = m.least; upper = m.greatest; again = m.again; first = m.first } in
+    record {
+      met = λ bits is. met_more c.args.from_end bits c.args.byte c.loop-step.step c.loop-step.value c.loop-step.met.least c.loop-step.met.greatest c.stepped-value.result c.place_of-place.result c.loop-step.met.places _ _ _ is (omega arith) (i.met bits is) c.place_of-place.ensures c.stepped-value.ensures (omega arith) w;
+      low = omega arith;
+      high = omega arith;
+      least = omega arith;
+      greatest = omega arith;
+      many = as_many _ _ _ _ _ _ _ _ w ∙ n;
+      few = few_more _ _ _ _ c.loop-step.met.places _ _ _ w (omega arith) (subst (λ q. q < 8) (sym c.place_of-place.ensures) (place_small c.args.from_end c.loop-step.step (omega arith))) i.few;
+    }

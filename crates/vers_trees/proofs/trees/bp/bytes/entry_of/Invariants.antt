@@ -1,0 +1,16 @@
+use Rattle.std.proofs.Common.{◌+◌, ◌<◌, ◌≤◌, ◌≡◌, ℕ, Bool, List, length}
+use Rattle.std.specs.Prelude.{slice_index_or}
+use Rattle.vers_trees.specs.Bytes.{IsByte}
+use Rattle.vers_trees.specs.inside.Bytes.{HasMet}
+use Rattle.vers_trees.proofs.trees.bp.bytes.entry_of.Given as goal
+
+abbrev pub invariant-loop-step : goal.invariant-loop-step
+invariant-loop-step l = record {
+  met : (bits : List Bool) → IsByte bits l.byte → HasMet l.from_end bits l.step l.value l.met.least l.met.greatest l.met.places;
+  low : 8 ≤ l.value + l.step;
+  high : l.value ≤ 8 + l.step;
+  least : l.met.least ≤ 9;
+  greatest : l.met.greatest ≤ 16;
+  many : length l.met.places ≡ 17;
+  few : (x : ℕ) → slice_index_or l.met.places x 7 < 8;
+}

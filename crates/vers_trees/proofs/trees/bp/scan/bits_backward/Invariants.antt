@@ -1,0 +1,15 @@
+use Rattle.std.proofs.Common.{ℕ, ◌-◌, ◌≤◌, length}
+use Rattle.vers_tally.specs.Reads.{AddsAtMost}
+use Rattle.vers_trees.specs.inside.Scans.{HasNoRiseBefore, scan_reads}
+use Rattle.vers_trees.proofs.trees.bp.scan.bits_backward.Given as goal
+
+abbrev pub invariant-loop-place : goal.invariant-loop-place
+invariant-loop-place g l = record {
+  low : l.begin ≤ l.place;
+  high : l.place ≤ l.end;
+  passed : (to : ℕ) → l.end ≤ to → to ≤ length l.bits → HasNoRiseBefore l.bits l.end to l.target l.fn.rise → HasNoRiseBefore l.bits l.place to l.target l.rise;
+  reads : AddsAtMost l.fn.tally l.tally (scan_reads (l.end - l.place));
+}
+
+abbrev pub decreases-loop-place : goal.decreases-loop-place
+decreases-loop-place g l = l.place - l.begin

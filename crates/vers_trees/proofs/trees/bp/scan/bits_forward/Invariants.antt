@@ -1,0 +1,10 @@
+use Rattle.std.proofs.Common.{ℕ, ◌-◌, ◌≤◌}
+use Rattle.vers_tally.specs.Reads.{AddsAtMost}
+use Rattle.vers_trees.specs.inside.Scans.{HasNoRise, scan_reads}
+use Rattle.vers_trees.proofs.trees.bp.scan.bits_forward.Given as goal
+
+abbrev pub invariant-loop-place : goal.invariant-loop-place
+invariant-loop-place g l = record {
+  passed : (from : ℕ) → from ≤ l.begin → HasNoRise l.bits from l.begin l.target l.fn.rise → HasNoRise l.bits from l.place l.target l.rise;
+  reads : AddsAtMost l.fn.tally l.tally (scan_reads (l.place - l.begin));
+}

@@ -1,0 +1,208 @@
+//! Tables that answer a whole byte of parentheses at once.
+ghost use Rattle.std.specs.Prelude.{◌≡◌, ℕ, ◌+◌, ◌*◌, ◌-◌, ◌^◌, ◌<◌, ◌≤◌, ◌⊎◌, ℤ, ◌+ℤ◌, ◌-ℤ◌, ◌≤ℤ◌, ◌≢◌, Bool, true, false, List, length, pos, negsuc, min, max, slice_index_or, slice_set, MatchOption};
+ghost use Rattle.vers_trees.specs.Bytes.{IsByte, IsEntry, place_along, place_in, least_in, greatest_in};
+ghost use Rattle.vers_trees.specs.inside.Bytes.{step_along, octal};
+
+use std::marker::Model;
+
+/// For each byte of parentheses what a search meets in it, from its start and from its end. An entry
+/// holds the greatest of the sums along the byte in bits 0 to 4 and the least in bits 5 to 9, each
+/// plus 8, and from bit 10 on three bits for each sum from -8 to 8: the first place met whose bit
+/// makes it, or 7 where there is none.
+#[derive(Drop)]
+pub struct ByteTables {
+    forward: [u64; 256],
+    backward: [u64; 256],
+}
+
+impl Model for ByteTables {
+    ghost use Rattle.std.specs.Prelude.{true, false};
+    ghost use Rattle.vers_trees.specs.inside.Bytes.{AreEntries};
+
+    ghost Value = { Unit {0} };
+
+    ghost view = { λ _. tt };
+
+    ghost invariant = { λ t. AreEntries false 256 t.forward × AreEntries true 256 t.backward };
+}
+
+impl ByteTables {
+    /// The tables of all bytes. Takes no memory.
+    pub fn new() -> ByteTables {
+        let mut forward = [0; 256];
+        let mut backward = [0; 256];
+        for byte in 0..256 {
+            let from_start = entry_of(byte, false);
+            let from_end = entry_of(byte, true);
+            forward[byte] = from_start;
+            backward[byte] = from_end;
+        }
+        ByteTables { forward, backward }
+    }
+
+    // The same tables once more.
+    pub(super) fn copied(&self) -> ByteTables {
+        ByteTables {
+            forward: self.forward,
+            backward: self.backward,
+        }
+    }
+
+    /// The entry of a byte from its start, where a one adds 1 and a zero takes 1.
+    #[inline(always)]
+    pub fn forward_entry(&self, byte: u8) -> u64
+        ensures { (bits : List Bool) → IsByte bits byte → IsEntry false bits result }
+    {
+        self.forward[byte as usize]
+    }
+
+    /// The entry of a byte from its end, where a one takes 1 and a zero adds 1.
+    #[inline(always)]
+    pub fn backward_entry(&self, byte: u8) -> u64
+        ensures { (bits : List Bool) → IsByte bits byte → IsEntry true bits result }
+    {
+        self.backward[byte as usize]
+    }
+}
+
+// What was met along a byte so far: the least and the greatest sum, each plus 8, and the first place
+// met for each sum, 7 where there is none.
+#[derive(Drop)]
+struct Met {
+    places: [u64; 17],
+    least: usize,
+    greatest: usize,
+}
+
+impl Met {
+    // Takes note of a sum, plus 8, at a place.
+    fn meet(&mut self, value: usize, place: u64)
+        requires { value < 17 }
+        ensures least { self.new.least ≡ min self.old.least value }
+        ensures greatest { self.new.greatest ≡ max self.old.greatest value }
+        ensures again { self.old.least ≤ value → value ≤ self.old.greatest → self.new.places ≡ self.old.places }
+        ensures first { (value < self.old.least) ⊎ (self.old.greatest < value) → self.new.places ≡ slice_set self.old.places value place }
+    {
+        if value < self.least || value > self.greatest {
+            self.places[value] = place;
+        }
+        self.least = self.least.min(value);
+        self.greatest = self.greatest.max(value);
+    }
+
+    // The entry of what was met.
+    fn entry(&self) -> u64
+        requires places { (x : ℕ) → slice_index_or self.now.places x 7 < 8 }
+        requires least { self.now.least < 32 }
+        requires greatest { self.now.greatest < 32 }
+        ensures greatest { greatest_in result ≡ self.now.greatest }
+        ensures least { least_in result ≡ self.now.least }
+        ensures places { (x : ℕ) → x < 17 → place_in result x ≡ slice_index_or self.now.places x 7 }
+    {
+        1024 * number_of(&self.places) + 32 * self.least as u64 + self.greatest as u64
+    }
+}
+
+// The number with these octal digits, the lowest first.
+fn number_of(digits: &[u64; 17]) -> u64
+    requires { (x : ℕ) → slice_index_or digits.now x 7 < 8 }
+    ensures value { result ≡ octal digits.now }
+    ensures bounded { result < 2 ^ 51 }
+{
+    let mut number = 0;
+    let mut x = 17;
+    while x > 0 {
+        x -= 1;
+        number = 8 * number + digits[x];
+    }
+    number
+}
+
+// The place of the bit at which a step along a byte is made.
+fn place_of(step: u64, from_end: bool) -> u64
+    requires { step < 8 }
+    ensures { result ≡ place_along from_end step }
+{
+    if from_end { 7 - step } else { step }
+}
+
+// The sum, plus 8, after a step at a bit.
+fn stepped(value: usize, opens: bool, from_end: bool) -> usize
+    requires low { 0 < value }
+    requires high { value < 16 }
+    ensures { pos result ≡ pos value +ℤ step_along from_end opens }
+{
+    if opens == from_end {
+        value - 1
+    } else {
+        value + 1
+    }
+}
+
+// The entry of a byte, from its end or from its start.
+fn entry_of(byte: usize, from_end: bool) -> u64
+    requires { byte < 256 }
+    ensures { (bits : List Bool) → IsByte bits byte → IsEntry from_end bits result }
+{
+    let mut met = Met {
+        places: [7; 17],
+        least: 9,
+        greatest: 7,
+    };
+    let mut value = 8;
+    for step in 0..8 {
+        let place = place_of(step, from_end);
+        value = stepped(value, (byte >> place) % 2 == 1, from_end);
+        met.meet(value, place);
+    }
+    met.entry()
+}
+
+// The sum that is `x`, less 8, above the one at which a byte begins.
+#[inline(always)]
+fn sum_at(rise: i64, x: u64) -> i64
+    requires few { x ≤ 16 }
+    requires low { negsuc 9223372036854775799 ≤ℤ rise }
+    requires high { rise ≤ℤ pos 9223372036854775799 }
+    ensures { result ≡ rise +ℤ (pos x -ℤ pos 8) }
+{
+    rise - 8 + x as i64
+}
+
+// How far a sum is above the one at which a byte begins, plus 8.
+#[inline(always)]
+fn above(rise: i64, target: i64) -> u64
+    requires low { negsuc 9223372036854775799 ≤ℤ rise }
+    requires high { rise ≤ℤ pos 9223372036854775799 }
+    requires from { (rise -ℤ pos 8) ≤ℤ target }
+    requires to { target ≤ℤ (rise +ℤ pos 8) }
+    ensures { rise +ℤ (pos result -ℤ pos 8) ≡ target }
+{
+    (target - (rise - 8)) as u64
+}
+
+// The place in a byte of the given entry at which a sum that begins at `rise` first is `target`.
+#[inline(always)]
+pub(super) fn place_met(entry: u64, rise: i64, target: i64) -> Option<usize>
+    requires bounded { greatest_in entry ≤ 16 }
+    requires ordered { least_in entry ≤ greatest_in entry }
+    requires low { negsuc 9223372036854775799 ≤ℤ rise }
+    requires high { rise ≤ℤ pos 9223372036854775799 }
+    ensures { MatchOption
+        result
+        ((x : ℕ) → least_in entry ≤ x → x ≤ greatest_in entry → rise +ℤ (pos x -ℤ pos 8) ≢ target)
+        (λ place. (x : ℕ)
+        × (least_in entry ≤ x)
+        × (x ≤ greatest_in entry)
+        × (rise +ℤ (pos x -ℤ pos 8) ≡ target)
+        × (place ≡ place_in entry x)) }
+{
+    if target < sum_at(rise, entry / 32 % 32) {
+        return None;
+    }
+    if sum_at(rise, entry % 32) < target {
+        return None;
+    }
+    let x = above(rise, target);
+    Some((entry >> (10 + 3 * x)) as usize % 8)
+}
