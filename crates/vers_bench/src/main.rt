@@ -12,11 +12,13 @@ mod report;
 mod sorted;
 mod sparse;
 mod symbols;
+mod trees;
 mod walks;
 mod workload;
 
 use report::{Mode, Settings};
 use std::io;
+use trees::Shape;
 
 /// What the arguments said so far.
 #[derive(Drop)]
@@ -140,6 +142,19 @@ fn run_symbols(rt: &HostRuntime, settings: &Settings) -> io::Result<()> {
     symbols::run(rt, settings, n, 32, query_count)
 }
 
+fn run_trees(rt: &HostRuntime, settings: &Settings, query_count: usize) -> io::Result<()> {
+    let count = settings.scaled(2_000_000);
+    trees::run(rt, settings, Shape::Random, count, query_count)?;
+    trees::run(rt, settings, Shape::Path, count, query_count)?;
+    trees::run(
+        rt,
+        settings,
+        Shape::Star,
+        count.saturating_add(2),
+        query_count,
+    )
+}
+
 fn run(rt: &HostRuntime, settings: &Settings) -> io::Result<()> {
     let query_count = settings.scaled(1_000_000);
     if settings.wants("bits") {
@@ -162,6 +177,9 @@ fn run(rt: &HostRuntime, settings: &Settings) -> io::Result<()> {
     }
     if settings.wants("rmq") {
         run_minima(rt, settings, query_count)?;
+    }
+    if settings.wants("tree") {
+        run_trees(rt, settings, query_count)?;
     }
     Ok(())
 }

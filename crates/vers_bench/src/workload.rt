@@ -154,3 +154,36 @@ pub fn members_clustered(
     members.truncate(count);
     Ok(Clustered { members, first })
 }
+
+/// The limbs of the parentheses of a random tree, each tree of as many bits as likely as any other: one
+/// root, whose nodes are half as many as the bits.
+pub fn parentheses(alloc: Global, bit_count: usize) -> Result<Vec<u64>, AllocError> {
+    let mut random = Random::new(6);
+    let mut limbs = Vec::with_capacity(alloc, bit_count.div_ceil(64))?;
+    let mut limb = 1u64;
+    let mut height = 0u64;
+    for i in 1..bit_count {
+        if i % 64 == 0 {
+            limbs.push(limb)?;
+            limb = 0;
+        }
+        let left = (bit_count - 1 - i) as u64;
+        if left > 0 && opens(&mut random, height, left) {
+            height = height.wrapping_add(1);
+            limb |= 1u64 << (i % 64);
+        } else {
+            height = height.wrapping_sub(1);
+        }
+    }
+    limbs.push(limb)?;
+    Ok(limbs)
+}
+
+// Whether a random tree opens another node, `height` below its root, with so many bits left before the
+// last.
+fn opens(random: &mut Random, height: u64, left: u64) -> bool {
+    let above = height.wrapping_add(1);
+    let drawn = random.below(left.wrapping_mul(2).wrapping_mul(above));
+    let closing = height.wrapping_mul(left.wrapping_add(above).wrapping_add(1));
+    drawn >= closing
+}

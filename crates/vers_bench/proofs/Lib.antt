@@ -1,0 +1,2 @@
+-- What the proofs of this program rest on.
+pub mod NodesMet
