@@ -17,9 +17,10 @@ PLOT = "docs/speed.svg"
 README = "README.md"
 MARKS = ("<!-- speed: written by tools/performance.py -->", "<!-- speed ends -->")
 
-BITS, SORTED, MINIMA, SYMBOLS = (
+BITS, SORTED, MINIMA, SYMBOLS, TREES = (
     "Beside the original, in time", "Ascending lists beside the original",
     "Range minima beside the original, in instructions", "Symbols beside the original, in time",
+    "Trees of parentheses beside the original, in time",
 )
 SMALL, LARGE = "2^20 bits, 50%", "2^26 bits, 50%"
 
@@ -55,6 +56,11 @@ def symbols(call, shown, row, **more):
     return Figure("WaveletMatrix", call, shown, SYMBOLS, row, "8 bits", "10^6 symbols of 8 bits", **more)
 
 
+def trees(call, row, **more):
+    shown = more.pop("shown", f"`{call}`")
+    return Figure("BpTree", call, shown, TREES, row, "here", "a random tree of 10^6 nodes", **more)
+
+
 # in the order of the plot
 FIGURES = (
     bits("from_bit_vec", "build", of="a bit"),
@@ -81,6 +87,13 @@ FIGURES = (
     symbols("rank_u64", "`rank_u64`", "`rank_u64`", in_readme=True),
     symbols("select_u64", "`select_u64`", "`select_u64`"),
     symbols("quantile_u64", "`quantile_u64`", "`quantile_u64`", in_readme=True),
+    trees("from_bit_vector", "build, a bit", shown="build", of="a bit"),
+    trees("close", "`close`"),
+    trees("parent", "`parent`", in_readme=True),
+    trees("subtree_size", "`subtree_size`", in_readme=True),
+    trees("level_ancestor", "`level_ancestor`"),
+    trees("children", "`children`, a node asked or answered", of="a node"),
+    trees("dfs_iter", "`dfs_iter`, a node", of="a node", in_readme=True),
 )
 
 
