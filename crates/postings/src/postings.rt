@@ -35,7 +35,10 @@ impl<A: Allocator + Copy> Postings<A> {
     /// The documents with their costs. Faults are tested in the order of `PostingsError`, and before
     /// memory is asked for. The costs are dropped on a fault.
     pub fn from_sorted(documents: &[u64], costs: Vec<u64, A>) -> Result<Self, PostingsError>
-        ensures made { IfOk result (λ p. p ≡ record { documents = documents.now; costs = costs.items }) }
+        ensures made { IfOk result (λ p. p ≡ record {
+          documents = documents.now;
+          costs = costs.items;
+        }) }
         ensures paired { IfOk result ArePaired }
         ensures within { IfOk result (λ p. length p.documents ≤ MAX_LEN) }
         ensures refused { IfErr result (IsRefusedFor documents.now costs.items MAX_LEN) }

@@ -98,7 +98,8 @@ impl<A: Allocator + Copy> Postings<A> {
 
     /// The documents that another list has too, ascending. Memory is that of this list.
     pub fn intersect(&self, other: &Postings<A>) -> Result<Vec<u64, A>, AllocError>
-        ensures { IfOk result (λ found. found.items ≡ common self.now.documents other.now.documents) }
+        ensures { IfOk result (λ found.
+            found.items ≡ common self.now.documents other.now.documents) }
     {
         let mut tally = Tally::new();
         self.intersect_counted(other, &mut tally)
@@ -111,8 +112,10 @@ impl<A: Allocator + Copy> Postings<A> {
         other: &Postings<A>,
         tally: &mut Tally,
     ) -> Result<Vec<u64, A>, AllocError>
-        ensures value { IfOk result (λ found. found.items ≡ common self.now.documents other.now.documents) }
-        ensures adds { AddsAtMost tally.old tally.new (intersect_reads self.now.documents other.now.documents) }
+        ensures value { IfOk result (λ found.
+            found.items ≡ common self.now.documents other.now.documents) }
+        ensures adds { AddsAtMost tally.old tally.new
+            (intersect_reads self.now.documents other.now.documents) }
     {
         let alloc = self.costs.allocator();
         if self.len() <= other.len() {

@@ -61,7 +61,8 @@ pub fn all_numbers<A: Allocator + Copy>(
     alloc: A,
     arguments: &[u8],
 ) -> Result<Option<Vec<u64, A>>, AllocError>
-    ensures { IfOk result (λ found. option_map (λ numbers. numbers.items) found ≡ numbers_all (words_in arguments.now)) }
+    ensures { IfOk result (λ found.
+        option_map (λ numbers. numbers.items) found ≡ numbers_all (words_in arguments.now)) }
 {
     let mut numbers = Vec::new(alloc);
     let mut rest = arguments;
@@ -77,7 +78,8 @@ pub fn all_numbers<A: Allocator + Copy>(
 
 /// One word of the digits 0 and 1, or no word for the empty list.
 pub fn bit_digits(arguments: &[u8]) -> Option<&[u8]>
-    ensures bits { option_map (λ digits. bits_of_digits digits.now) result ≡ bits_of (words_in arguments.now) }
+    ensures bits { option_map (λ digits. bits_of_digits digits.now) result
+        ≡ bits_of (words_in arguments.now) }
     ensures digits { IfSome result (λ digits. list_all is_bit_digit digits.now ≡ true) }
 {
     let Some((word, others)) = split_first_word(arguments) else {

@@ -17,7 +17,8 @@ pub fn load<A: Allocator + Copy>(
     alloc: A,
     arguments: &[u8],
 ) -> Result<Loading<Postings<A>>, AllocError>
-    ensures { IfOk result (λ loading. loading ≡ postings_loaded (numbers_all (words_in arguments.now))) }
+    ensures { IfOk result (λ loading.
+        loading ≡ postings_loaded (numbers_all (words_in arguments.now))) }
 {
     let Some(numbers) = all_numbers(alloc, arguments)? else {
         return Ok(Loading::Malformed);
@@ -38,7 +39,8 @@ pub fn reply<A: Allocator + Copy>(
     query: Query,
     arguments: &[u8],
 ) -> Result<Reply<A>, AllocError>
-    ensures { IfOk result (λ reply. plain_reply reply ≡ postings_reply postings.now query (words_in arguments.now)) }
+    ensures { IfOk result (λ reply.
+        plain_reply reply ≡ postings_reply postings.now query (words_in arguments.now)) }
 {
     match query {
         Query::Len => Ok(no_arguments(arguments).map_or(
@@ -99,7 +101,8 @@ fn admitted<A: Allocator + Copy>(
     costs: Vec<u64, A>,
 ) -> Result<Option<Postings<A>>, AllocError>
     requires { length documents.now ≡ length costs.items }
-    ensures { IfOk result (λ made. made ≡ if_admitted (record { documents = documents.now; costs = costs.items })) }
+    ensures { IfOk result (λ made.
+        made ≡ if_admitted (record { documents = documents.now; costs = costs.items })) }
 {
     match Postings::from_sorted(documents, costs) {
         Ok(postings) => Ok(Some(postings)),
@@ -117,7 +120,8 @@ fn shared<A: Allocator + Copy>(
     postings: &Postings<A>,
     documents: &[u64],
 ) -> Result<Reply<A>, AllocError>
-    ensures { IfOk result (λ reply. plain_reply reply ≡ shared_reply postings.now.documents documents.now) }
+    ensures { IfOk result (λ reply.
+        plain_reply reply ≡ shared_reply postings.now.documents documents.now) }
 {
     // The costs play no part.
     let costs = vec![in alloc; 0u64; documents.len()]?;

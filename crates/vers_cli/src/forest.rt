@@ -21,7 +21,8 @@ pub fn reply<A: Allocator + Copy>(
     query: ForestQuery,
     arguments: &[u8],
 ) -> Result<Reply<A>, AllocError>
-    ensures { IfOk result (λ reply. plain_reply reply ≡ forest_reply tree.now query (words_in arguments.now)) }
+    ensures { IfOk result (λ reply.
+        plain_reply reply ≡ forest_reply tree.now query (words_in arguments.now)) }
 {
     match query {
         ForestQuery::DfsPostIter => match no_arguments(arguments) {

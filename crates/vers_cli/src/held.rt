@@ -37,7 +37,8 @@ pub fn load<'a, A: Allocator + Copy>(
     load: Load,
     arguments: &[u8],
 ) -> Result<Loading<Held<'a, A>>, AllocError>
-    ensures { IfOk result (λ loading. map_loading holding_of loading ≡ loaded load (words_in arguments.now)) }
+    ensures { IfOk result (λ loading.
+        map_loading holding_of loading ≡ loaded load (words_in arguments.now)) }
 {
     match load {
         Load::Bits => match bits::load(*alloc, arguments)? {
@@ -99,7 +100,8 @@ impl<A: Allocator + Copy> Held<'_, A> {
 
     /// The reply of a query line.
     pub fn reply(&self, alloc: A, query: Query, arguments: &[u8]) -> Result<Reply<A>, AllocError>
-        ensures { IfOk result (λ reply. plain_reply reply ≡ query_reply (holding_of self.now) query (words_in arguments.now)) }
+        ensures { IfOk result (λ reply.
+            plain_reply reply ≡ query_reply (holding_of self.now) query (words_in arguments.now)) }
     {
         match self {
             Held::Nothing => Ok(Reply::WrongStructure),

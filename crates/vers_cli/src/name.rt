@@ -399,7 +399,8 @@ impl Name {
         table: &'a [(&'static [u8], Name)],
         word: &[u8],
     ) -> Option<&'a (&'static [u8], Name)>
-        ensures { option_map (λ entry. entry.now) result ≡ find (λ entry. bytes_eq entry.0.now word.now) table.now }
+        ensures { option_map (λ entry. entry.now) result
+            ≡ find (λ entry. bytes_eq entry.0.now word.now) table.now }
     {
         table.iter().find(|entry| entry.0 == word)
     }

@@ -59,7 +59,8 @@ impl<A: Allocator + Copy> Reply<A> {
 
     /// Appends the text of the reply. Where memory is refused a part of it may stand appended.
     pub fn append_to(self, line: &mut Vec<u8, A>) -> Result<(), AllocError>
-        ensures text { OnOk result (line.new.items ≡ line.old.items ++ reply_text (plain_reply self)) }
+        ensures text { OnOk result (line.new.items
+            ≡ line.old.items ++ reply_text (plain_reply self)) }
         ensures kept { take (length line.old.items) line.new.items ≡ line.old.items }
     {
         match self {

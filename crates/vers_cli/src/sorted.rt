@@ -19,7 +19,8 @@ pub fn load<A: Allocator + Copy>(
     alloc: A,
     arguments: &[u8],
 ) -> Result<Loading<EliasFanoVec<A>>, AllocError>
-    ensures { IfOk result (λ loading. loading ≡ sorted_loaded (numbers_all (words_in arguments.now))) }
+    ensures { IfOk result (λ loading.
+        loading ≡ sorted_loaded (numbers_all (words_in arguments.now))) }
 {
     let Some(numbers) = all_numbers(alloc, arguments)? else {
         return Ok(Loading::Malformed);
@@ -38,7 +39,8 @@ pub fn reply<A: Allocator + Copy>(
     query: Query,
     arguments: &[u8],
 ) -> Result<Reply<A>, AllocError>
-    ensures { IfOk result (λ reply. plain_reply reply ≡ sorted_reply members.now query (words_in arguments.now)) }
+    ensures { IfOk result (λ reply.
+        plain_reply reply ≡ sorted_reply members.now query (words_in arguments.now)) }
 {
     match query {
         Query::Len => Ok(no_arguments(arguments).map_or(

@@ -45,8 +45,10 @@ impl<'a, A: Allocator + Copy> Store<'a, A> {
 
     // The reply of a load line. What was held is kept, unless the line is accepted.
     fn load(&mut self, load: Load, arguments: &[u8]) -> Result<Reply<A>, AllocError>
-        ensures reply { IfOk result (λ reply. plain_reply reply ≡ load_reply (loaded load (words_in arguments.now))) }
-        ensures holds { OnOk result (self.new ≡ holding_after_load self.old (loaded load (words_in arguments.now))) }
+        ensures reply { IfOk result (λ reply.
+            plain_reply reply ≡ load_reply (loaded load (words_in arguments.now))) }
+        ensures holds { OnOk result (self.new
+            ≡ holding_after_load self.old (loaded load (words_in arguments.now))) }
     {
         match held::load(self.alloc, load, arguments)? {
             Loading::Malformed => Ok(Reply::BadLine),
@@ -61,8 +63,10 @@ impl<'a, A: Allocator + Copy> Store<'a, A> {
 
     // The reply of a line, by its first word and what stands after it.
     fn reply(&mut self, word: &[u8], arguments: &[u8]) -> Result<Reply<A>, AllocError>
-        ensures reply { IfOk result (λ reply. plain_reply reply ≡ reply_to self.old (name_of word.now) (words_in arguments.now)) }
-        ensures holds { OnOk result (self.new ≡ holding_after_name self.old (name_of word.now) (words_in arguments.now)) }
+        ensures reply { IfOk result (λ reply.
+            plain_reply reply ≡ reply_to self.old (name_of word.now) (words_in arguments.now)) }
+        ensures holds { OnOk result (self.new
+            ≡ holding_after_name self.old (name_of word.now) (words_in arguments.now)) }
     {
         match Name::of(word) {
             None => Ok(Reply::BadLine),
@@ -73,7 +77,8 @@ impl<'a, A: Allocator + Copy> Store<'a, A> {
 
     // Appends the answer of a line. Where memory is refused a part of it may stand appended.
     fn append_answer(&mut self, line: &[u8], answers: &mut Vec<u8, A>) -> Result<(), AllocError>
-        ensures answer { OnOk result (answers.new.items ≡ answers.old.items ++ answer_to self.old line.now) }
+        ensures answer { OnOk result (answers.new.items
+            ≡ answers.old.items ++ answer_to self.old line.now) }
         ensures holds { OnOk result (self.new ≡ holding_after self.old line.now) }
         ensures kept { take (length answers.old.items) answers.new.items ≡ answers.old.items }
     {
@@ -88,7 +93,8 @@ impl<'a, A: Allocator + Copy> Store<'a, A> {
     /// Appends the answer of a line, with its end. A line without words has none. Where memory is
     /// refused the answers stay as they were.
     pub fn answer(&mut self, line: &[u8], answers: &mut Vec<u8, A>) -> Result<(), AllocError>
-        ensures answer { OnOk result (answers.new.items ≡ answers.old.items ++ answer_to self.old line.now) }
+        ensures answer { OnOk result (answers.new.items
+            ≡ answers.old.items ++ answer_to self.old line.now) }
         ensures holds { OnOk result (self.new ≡ holding_after self.old line.now) }
         ensures kept { OnErr result (answers.new.items ≡ answers.old.items) }
     {

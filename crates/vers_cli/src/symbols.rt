@@ -21,7 +21,8 @@ pub fn load<A: Allocator + Copy>(
     alloc: A,
     arguments: &[u8],
 ) -> Result<Loading<WaveletMatrix<A>>, AllocError>
-    ensures { IfOk result (λ loading. loading ≡ symbols_loaded (numbers_all (words_in arguments.now))) }
+    ensures { IfOk result (λ loading.
+        loading ≡ symbols_loaded (numbers_all (words_in arguments.now))) }
 {
     let Some(numbers) = all_numbers(alloc, arguments)? else {
         return Ok(Loading::Malformed);
@@ -43,7 +44,8 @@ pub fn reply<A: Allocator + Copy>(
     query: Query,
     arguments: &[u8],
 ) -> Result<Reply<A>, AllocError>
-    ensures { IfOk result (λ reply. plain_reply reply ≡ symbols_reply symbols.now query (words_in arguments.now)) }
+    ensures { IfOk result (λ reply.
+        plain_reply reply ≡ symbols_reply symbols.now query (words_in arguments.now)) }
 {
     match query {
         Query::Len => match no_arguments(arguments) {

@@ -41,7 +41,8 @@ pub fn reply<A: Allocator + Copy>(
     query: Query,
     arguments: &[u8],
 ) -> Result<Reply<A>, AllocError>
-    ensures { IfOk result (λ reply. plain_reply reply ≡ tree_reply tree.now query (words_in arguments.now)) }
+    ensures { IfOk result (λ reply.
+        plain_reply reply ≡ tree_reply tree.now query (words_in arguments.now)) }
 {
     match query {
         Query::Tree(TreeQuery::Whole(query)) => match no_arguments(arguments) {

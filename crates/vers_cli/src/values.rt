@@ -17,7 +17,8 @@ pub fn load<A: Allocator + Copy>(
     alloc: A,
     arguments: &[u8],
 ) -> Result<Loading<FastRmq<A>>, AllocError>
-    ensures { IfOk result (λ loading. loading ≡ values_loaded (numbers_all (words_in arguments.now))) }
+    ensures { IfOk result (λ loading.
+        loading ≡ values_loaded (numbers_all (words_in arguments.now))) }
 {
     let Some(numbers) = all_numbers(alloc, arguments)? else {
         return Ok(Loading::Malformed);

@@ -171,6 +171,7 @@ pub trait TreeBuilder {
     /// is refused with how many more were entered.
     fn build(self) -> Result<Self::Tree, BuildError>
         ensures made { IfOk result (λ t. (F : Forest) → text F ≡ steps self → forest_built t ≡ F) }
-        ensures uneven { excess (steps self) (length (steps self)) ≢ pos 0 → result ≡ Err (BuildError.Excess (excess (steps self) (length (steps self)))) }
+        ensures uneven { excess (steps self) (length (steps self)) ≢ pos 0
+            → result ≡ Err (BuildError.Excess (excess (steps self) (length (steps self)))) }
         ensures even { excess (steps self) (length (steps self)) ≡ pos 0 → IfErr result (λ e. e ≡ BuildError.Memory) };
 }

@@ -323,7 +323,8 @@ impl<const BLOCK_SIZE: usize, A: Allocator + Copy> BpTree<BLOCK_SIZE, A> {
     #[inline(always)]
     pub fn node_handle_counted(&self, i: usize, tally: &mut Tally) -> usize
         ensures value { result ≡ select true self.now i }
-        ensures adds { AddsAtMost tally.old tally.new (select_reads (superblock_count (length self.now))) }
+        ensures adds { AddsAtMost tally.old tally.new
+            (select_reads (superblock_count (length self.now))) }
     {
         self.bits.select1_counted(i, tally)
     }
@@ -331,14 +332,20 @@ impl<const BLOCK_SIZE: usize, A: Allocator + Copy> BpTree<BLOCK_SIZE, A> {
     /// An iterator over the places of the ones, ascending: in balanced parentheses, the nodes in
     /// preorder.
     pub fn iter(&self) -> DfsIter<'_, A>
-        ensures { result ≡ record { left = places true self.now; step = select_reads (superblock_count (length self.now)) } }
+        ensures { result ≡ record {
+          left = places true self.now;
+          step = select_reads (superblock_count (length self.now));
+        } }
     {
         DfsIter::new(&self.bits)
     }
 
     /// The same as `iter`.
     pub fn dfs_iter(&self) -> DfsIter<'_, A>
-        ensures { result ≡ record { left = places true self.now; step = select_reads (superblock_count (length self.now)) } }
+        ensures { result ≡ record {
+          left = places true self.now;
+          step = select_reads (superblock_count (length self.now));
+        } }
     {
         self.iter()
     }

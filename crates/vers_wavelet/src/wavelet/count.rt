@@ -16,8 +16,11 @@ impl<A: Allocator + Copy> WaveletMatrix<A> {
     /// How many places of a range hold a symbol. None for a symbol of another length, and for a range
     /// that starts at or past the end, ends past it or is reversed.
     pub fn rank_range(&self, range: Range<usize>, symbol: &BitVec<A>) -> Option<usize>
-        ensures value { IfSome result (λ n. n ≡ length (occurrences self.now.items range.start range.end (number symbol.now))) }
-        ensures answered { IsSome result ↔ (length symbol.now ≡ self.now.width) × (range.start < length self.now.items) × (range.end ≤ length self.now.items) × (range.start ≤ range.end) }
+        ensures value { IfSome result (λ n. n
+            ≡ length (occurrences self.now.items range.start range.end (number symbol.now))) }
+        ensures answered { IsSome result ↔ (length symbol.now ≡ self.now.width)
+            × (range.start < length self.now.items) × (range.end ≤ length self.now.items)
+            × (range.start ≤ range.end) }
     {
         let mut tally = Tally::new();
         self.rank_range_counted(range, symbol, &mut tally)
@@ -33,8 +36,11 @@ impl<A: Allocator + Copy> WaveletMatrix<A> {
         symbol: &BitVec<A>,
         tally: &mut Tally,
     ) -> Option<usize>
-        ensures value { IfSome result (λ n. n ≡ length (occurrences self.now.items range.start range.end (number symbol.now))) }
-        ensures answered { IsSome result ↔ (length symbol.now ≡ self.now.width) × (range.start < length self.now.items) × (range.end ≤ length self.now.items) × (range.start ≤ range.end) }
+        ensures value { IfSome result (λ n. n
+            ≡ length (occurrences self.now.items range.start range.end (number symbol.now))) }
+        ensures answered { IsSome result ↔ (length symbol.now ≡ self.now.width)
+            × (range.start < length self.now.items) × (range.end ≤ length self.now.items)
+            × (range.start ≤ range.end) }
         ensures adds { AddsAtMost tally.old tally.new (query_reads self.now) }
     {
         let len = self.len();
@@ -54,7 +60,8 @@ impl<A: Allocator + Copy> WaveletMatrix<A> {
         requires order { range.start ≤ range.end }
         requires within { range.end ≤ length self.now.items }
         requires wide { length symbol.now ≡ self.now.width }
-        ensures { result ≡ length (occurrences self.now.items range.start range.end (number symbol.now)) }
+        ensures { result ≡ length (occurrences self.now.items range.start range.end
+            (number symbol.now)) }
     {
         let mut tally = Tally::new();
         self.count_in(range.start, range.end, symbol, &mut tally)
@@ -64,8 +71,10 @@ impl<A: Allocator + Copy> WaveletMatrix<A> {
     /// length, for an `offset` at or past the end of the list, and for an `end` past it or before
     /// `offset`.
     pub fn rank_offset(&self, offset: usize, end: usize, symbol: &BitVec<A>) -> Option<usize>
-        ensures value { IfSome result (λ n. n ≡ length (occurrences self.now.items offset end (number symbol.now))) }
-        ensures answered { IsSome result ↔ (length symbol.now ≡ self.now.width) × (offset < length self.now.items) × (end ≤ length self.now.items) × (offset ≤ end) }
+        ensures value { IfSome result (λ n. n
+            ≡ length (occurrences self.now.items offset end (number symbol.now))) }
+        ensures answered { IsSome result ↔ (length symbol.now ≡ self.now.width)
+            × (offset < length self.now.items) × (end ≤ length self.now.items) × (offset ≤ end) }
     {
         let mut tally = Tally::new();
         self.rank_offset_counted(offset, end, symbol, &mut tally)
@@ -82,8 +91,10 @@ impl<A: Allocator + Copy> WaveletMatrix<A> {
         symbol: &BitVec<A>,
         tally: &mut Tally,
     ) -> Option<usize>
-        ensures value { IfSome result (λ n. n ≡ length (occurrences self.now.items offset end (number symbol.now))) }
-        ensures answered { IsSome result ↔ (length symbol.now ≡ self.now.width) × (offset < length self.now.items) × (end ≤ length self.now.items) × (offset ≤ end) }
+        ensures value { IfSome result (λ n. n
+            ≡ length (occurrences self.now.items offset end (number symbol.now))) }
+        ensures answered { IsSome result ↔ (length symbol.now ≡ self.now.width)
+            × (offset < length self.now.items) × (end ≤ length self.now.items) × (offset ≤ end) }
         ensures adds { AddsAtMost tally.old tally.new (query_reads self.now) }
     {
         self.rank_range_counted(offset..end, symbol, tally)
@@ -103,8 +114,10 @@ impl<A: Allocator + Copy> WaveletMatrix<A> {
     /// How many of the first `end` places hold a symbol. None for a symbol of another length, and where
     /// there are not so many places.
     pub fn rank(&self, end: usize, symbol: &BitVec<A>) -> Option<usize>
-        ensures value { IfSome result (λ n. n ≡ length (occurrences self.now.items 0 end (number symbol.now))) }
-        ensures answered { IsSome result ↔ (length symbol.now ≡ self.now.width) × (end ≤ length self.now.items) }
+        ensures value { IfSome result (λ n. n
+            ≡ length (occurrences self.now.items 0 end (number symbol.now))) }
+        ensures answered { IsSome result ↔ (length symbol.now ≡ self.now.width)
+            × (end ≤ length self.now.items) }
     {
         let mut tally = Tally::new();
         self.rank_counted(end, symbol, &mut tally)
@@ -114,8 +127,10 @@ impl<A: Allocator + Copy> WaveletMatrix<A> {
     /// there are not so many places. By at most four selects of a level for each bit of a symbol.
     #[inline(always)]
     pub fn rank_counted(&self, end: usize, symbol: &BitVec<A>, tally: &mut Tally) -> Option<usize>
-        ensures value { IfSome result (λ n. n ≡ length (occurrences self.now.items 0 end (number symbol.now))) }
-        ensures answered { IsSome result ↔ (length symbol.now ≡ self.now.width) × (end ≤ length self.now.items) }
+        ensures value { IfSome result (λ n. n
+            ≡ length (occurrences self.now.items 0 end (number symbol.now))) }
+        ensures answered { IsSome result ↔ (length symbol.now ≡ self.now.width)
+            × (end ≤ length self.now.items) }
         ensures adds { AddsAtMost tally.old tally.new (query_reads self.now) }
     {
         if symbol.len() != self.bits_per_element() || end > self.len() {
@@ -138,8 +153,12 @@ impl<A: Allocator + Copy> WaveletMatrix<A> {
     /// have more than 64 bits, and for a range that starts at or past the end, ends past it or is
     /// reversed.
     pub fn rank_range_u64(&self, range: Range<usize>, symbol: u64) -> Option<usize>
-        ensures value { IfSome result (λ n. n ≡ length (occurrences self.now.items range.start range.end (symbol % 2 ^ self.now.width))) }
-        ensures answered { IsSome result ↔ (self.now.width ≤ 64) × (range.start < length self.now.items) × (range.end ≤ length self.now.items) × (range.start ≤ range.end) }
+        ensures value { IfSome result (λ n. n
+            ≡ length (occurrences self.now.items range.start range.end
+            (symbol % 2 ^ self.now.width))) }
+        ensures answered { IsSome result ↔ (self.now.width ≤ 64)
+            × (range.start < length self.now.items) × (range.end ≤ length self.now.items)
+            × (range.start ≤ range.end) }
     {
         let mut tally = Tally::new();
         self.rank_range_u64_counted(range, symbol, &mut tally)
@@ -155,8 +174,12 @@ impl<A: Allocator + Copy> WaveletMatrix<A> {
         symbol: u64,
         tally: &mut Tally,
     ) -> Option<usize>
-        ensures value { IfSome result (λ n. n ≡ length (occurrences self.now.items range.start range.end (symbol % 2 ^ self.now.width))) }
-        ensures answered { IsSome result ↔ (self.now.width ≤ 64) × (range.start < length self.now.items) × (range.end ≤ length self.now.items) × (range.start ≤ range.end) }
+        ensures value { IfSome result (λ n. n
+            ≡ length (occurrences self.now.items range.start range.end
+            (symbol % 2 ^ self.now.width))) }
+        ensures answered { IsSome result ↔ (self.now.width ≤ 64)
+            × (range.start < length self.now.items) × (range.end ≤ length self.now.items)
+            × (range.start ≤ range.end) }
         ensures adds { AddsAtMost tally.old tally.new (query_reads self.now) }
     {
         let len = self.len();
@@ -172,7 +195,8 @@ impl<A: Allocator + Copy> WaveletMatrix<A> {
         requires order { range.start ≤ range.end }
         requires within { range.end ≤ length self.now.items }
         requires wide { self.now.width ≤ 64 }
-        ensures { result ≡ length (occurrences self.now.items range.start range.end (symbol % 2 ^ self.now.width)) }
+        ensures { result ≡ length (occurrences self.now.items range.start range.end
+            (symbol % 2 ^ self.now.width)) }
     {
         let mut tally = Tally::new();
         self.count_in(range.start, range.end, &symbol, &mut tally)
@@ -182,8 +206,10 @@ impl<A: Allocator + Copy> WaveletMatrix<A> {
     /// None where the symbols have more than 64 bits, for an `offset` at or past the end of the list,
     /// and for an `end` past it or before `offset`.
     pub fn rank_offset_u64(&self, offset: usize, end: usize, symbol: u64) -> Option<usize>
-        ensures value { IfSome result (λ n. n ≡ length (occurrences self.now.items offset end (symbol % 2 ^ self.now.width))) }
-        ensures answered { IsSome result ↔ (self.now.width ≤ 64) × (offset < length self.now.items) × (end ≤ length self.now.items) × (offset ≤ end) }
+        ensures value { IfSome result (λ n. n
+            ≡ length (occurrences self.now.items offset end (symbol % 2 ^ self.now.width))) }
+        ensures answered { IsSome result ↔ (self.now.width ≤ 64) × (offset < length self.now.items)
+            × (end ≤ length self.now.items) × (offset ≤ end) }
     {
         let mut tally = Tally::new();
         self.rank_offset_u64_counted(offset, end, symbol, &mut tally)
@@ -201,8 +227,10 @@ impl<A: Allocator + Copy> WaveletMatrix<A> {
         symbol: u64,
         tally: &mut Tally,
     ) -> Option<usize>
-        ensures value { IfSome result (λ n. n ≡ length (occurrences self.now.items offset end (symbol % 2 ^ self.now.width))) }
-        ensures answered { IsSome result ↔ (self.now.width ≤ 64) × (offset < length self.now.items) × (end ≤ length self.now.items) × (offset ≤ end) }
+        ensures value { IfSome result (λ n. n
+            ≡ length (occurrences self.now.items offset end (symbol % 2 ^ self.now.width))) }
+        ensures answered { IsSome result ↔ (self.now.width ≤ 64) × (offset < length self.now.items)
+            × (end ≤ length self.now.items) × (offset ≤ end) }
         ensures adds { AddsAtMost tally.old tally.new (query_reads self.now) }
     {
         self.rank_range_u64_counted(offset..end, symbol, tally)
@@ -214,7 +242,8 @@ impl<A: Allocator + Copy> WaveletMatrix<A> {
         requires order { offset ≤ end }
         requires within { end ≤ length self.now.items }
         requires wide { self.now.width ≤ 64 }
-        ensures { result ≡ length (occurrences self.now.items offset end (symbol % 2 ^ self.now.width)) }
+        ensures { result ≡ length (occurrences self.now.items offset end
+            (symbol % 2 ^ self.now.width)) }
     {
         self.rank_range_u64_unchecked(offset..end, symbol)
     }
@@ -222,7 +251,8 @@ impl<A: Allocator + Copy> WaveletMatrix<A> {
     /// How many of the first `end` places hold a symbol, of which the low digits count. None where the
     /// symbols have more than 64 bits, and where there are not so many places.
     pub fn rank_u64(&self, end: usize, symbol: u64) -> Option<usize>
-        ensures value { IfSome result (λ n. n ≡ length (occurrences self.now.items 0 end (symbol % 2 ^ self.now.width))) }
+        ensures value { IfSome result (λ n. n
+            ≡ length (occurrences self.now.items 0 end (symbol % 2 ^ self.now.width))) }
         ensures answered { IsSome result ↔ (self.now.width ≤ 64) × (end ≤ length self.now.items) }
     {
         let mut tally = Tally::new();
@@ -234,7 +264,8 @@ impl<A: Allocator + Copy> WaveletMatrix<A> {
     /// of a level for each bit of a symbol.
     #[inline(always)]
     pub fn rank_u64_counted(&self, end: usize, symbol: u64, tally: &mut Tally) -> Option<usize>
-        ensures value { IfSome result (λ n. n ≡ length (occurrences self.now.items 0 end (symbol % 2 ^ self.now.width))) }
+        ensures value { IfSome result (λ n. n
+            ≡ length (occurrences self.now.items 0 end (symbol % 2 ^ self.now.width))) }
         ensures answered { IsSome result ↔ (self.now.width ≤ 64) × (end ≤ length self.now.items) }
         ensures adds { AddsAtMost tally.old tally.new (query_reads self.now) }
     {

@@ -16,8 +16,13 @@ impl<A: Allocator + Copy> WaveletMatrix<A> {
     /// for a symbol of another length, for an `offset` at or past the end, and where there are not so
     /// many.
     pub fn select_offset(&self, offset: usize, rank: usize, symbol: &BitVec<A>) -> Option<usize>
-        ensures value { IfSome result (λ p. slice_get (occurrences self.now.items offset (length self.now.items) (number symbol.now)) rank ≡ Some p) }
-        ensures answered { IsSome result ↔ (length symbol.now ≡ self.now.width) × (offset < length self.now.items) × (rank < length (occurrences self.now.items offset (length self.now.items) (number symbol.now))) }
+        ensures value { IfSome result (λ p. slice_get
+            (occurrences self.now.items offset (length self.now.items) (number symbol.now)) rank
+            ≡ Some p) }
+        ensures answered { IsSome result ↔ (length symbol.now ≡ self.now.width)
+            × (offset < length self.now.items)
+            × (rank < length (occurrences self.now.items offset (length self.now.items)
+            (number symbol.now))) }
     {
         let mut tally = Tally::new();
         self.select_offset_counted(offset, rank, symbol, &mut tally)
@@ -34,8 +39,13 @@ impl<A: Allocator + Copy> WaveletMatrix<A> {
         symbol: &BitVec<A>,
         tally: &mut Tally,
     ) -> Option<usize>
-        ensures value { IfSome result (λ p. slice_get (occurrences self.now.items offset (length self.now.items) (number symbol.now)) rank ≡ Some p) }
-        ensures answered { IsSome result ↔ (length symbol.now ≡ self.now.width) × (offset < length self.now.items) × (rank < length (occurrences self.now.items offset (length self.now.items) (number symbol.now))) }
+        ensures value { IfSome result (λ p. slice_get
+            (occurrences self.now.items offset (length self.now.items) (number symbol.now)) rank
+            ≡ Some p) }
+        ensures answered { IsSome result ↔ (length symbol.now ≡ self.now.width)
+            × (offset < length self.now.items)
+            × (rank < length (occurrences self.now.items offset (length self.now.items)
+            (number symbol.now))) }
         ensures adds { AddsAtMost tally.old tally.new (query_reads self.now) }
     {
         if symbol.len() != self.bits_per_element() || offset >= self.len() {
@@ -49,7 +59,9 @@ impl<A: Allocator + Copy> WaveletMatrix<A> {
     pub fn select_offset_unchecked(&self, offset: usize, rank: usize, symbol: &BitVec<A>) -> usize
         requires within { offset ≤ length self.now.items }
         requires wide { length symbol.now ≡ self.now.width }
-        ensures { result ≡ slice_index_or (occurrences self.now.items offset (length self.now.items) (number symbol.now)) rank (length self.now.items) }
+        ensures { result ≡ slice_index_or
+            (occurrences self.now.items offset (length self.now.items) (number symbol.now)) rank
+            (length self.now.items) }
     {
         self.place_from(offset, rank, symbol)
     }
@@ -57,8 +69,12 @@ impl<A: Allocator + Copy> WaveletMatrix<A> {
     /// The place of occurrence `rank`, counted from 0, of a symbol. None for a symbol of another
     /// length, and where there are not so many.
     pub fn select(&self, rank: usize, symbol: &BitVec<A>) -> Option<usize>
-        ensures value { IfSome result (λ p. slice_get (occurrences self.now.items 0 (length self.now.items) (number symbol.now)) rank ≡ Some p) }
-        ensures answered { IsSome result ↔ (length symbol.now ≡ self.now.width) × (rank < length (occurrences self.now.items 0 (length self.now.items) (number symbol.now))) }
+        ensures value { IfSome result (λ p. slice_get
+            (occurrences self.now.items 0 (length self.now.items) (number symbol.now)) rank
+            ≡ Some p) }
+        ensures answered { IsSome result ↔ (length symbol.now ≡ self.now.width)
+            × (rank < length (occurrences self.now.items 0 (length self.now.items)
+            (number symbol.now))) }
     {
         let mut tally = Tally::new();
         self.select_counted(rank, symbol, &mut tally)
@@ -74,8 +90,12 @@ impl<A: Allocator + Copy> WaveletMatrix<A> {
         symbol: &BitVec<A>,
         tally: &mut Tally,
     ) -> Option<usize>
-        ensures value { IfSome result (λ p. slice_get (occurrences self.now.items 0 (length self.now.items) (number symbol.now)) rank ≡ Some p) }
-        ensures answered { IsSome result ↔ (length symbol.now ≡ self.now.width) × (rank < length (occurrences self.now.items 0 (length self.now.items) (number symbol.now))) }
+        ensures value { IfSome result (λ p. slice_get
+            (occurrences self.now.items 0 (length self.now.items) (number symbol.now)) rank
+            ≡ Some p) }
+        ensures answered { IsSome result ↔ (length symbol.now ≡ self.now.width)
+            × (rank < length (occurrences self.now.items 0 (length self.now.items)
+            (number symbol.now))) }
         ensures adds { AddsAtMost tally.old tally.new (query_reads self.now) }
     {
         if symbol.len() != self.bits_per_element() {
@@ -88,7 +108,9 @@ impl<A: Allocator + Copy> WaveletMatrix<A> {
     /// so many. The symbol has the length of those of the list.
     pub fn select_unchecked(&self, rank: usize, symbol: &BitVec<A>) -> usize
         requires wide { length symbol.now ≡ self.now.width }
-        ensures { result ≡ slice_index_or (occurrences self.now.items 0 (length self.now.items) (number symbol.now)) rank (length self.now.items) }
+        ensures { result ≡ slice_index_or
+            (occurrences self.now.items 0 (length self.now.items) (number symbol.now)) rank
+            (length self.now.items) }
     {
         self.select_offset_unchecked(0, rank, symbol)
     }
@@ -97,8 +119,12 @@ impl<A: Allocator + Copy> WaveletMatrix<A> {
     /// among those from `offset` on. None where the symbols have more than 64 bits, for an `offset` at
     /// or past the end, and where there are not so many.
     pub fn select_offset_u64(&self, offset: usize, rank: usize, symbol: u64) -> Option<usize>
-        ensures value { IfSome result (λ p. slice_get (occurrences self.now.items offset (length self.now.items) (symbol % 2 ^ self.now.width)) rank ≡ Some p) }
-        ensures answered { IsSome result ↔ (self.now.width ≤ 64) × (offset < length self.now.items) × (rank < length (occurrences self.now.items offset (length self.now.items) (symbol % 2 ^ self.now.width))) }
+        ensures value { IfSome result (λ p. slice_get
+            (occurrences self.now.items offset (length self.now.items)
+            (symbol % 2 ^ self.now.width)) rank ≡ Some p) }
+        ensures answered { IsSome result ↔ (self.now.width ≤ 64) × (offset < length self.now.items)
+            × (rank < length (occurrences self.now.items offset (length self.now.items)
+            (symbol % 2 ^ self.now.width))) }
     {
         let mut tally = Tally::new();
         self.select_offset_u64_counted(offset, rank, symbol, &mut tally)
@@ -116,8 +142,12 @@ impl<A: Allocator + Copy> WaveletMatrix<A> {
         symbol: u64,
         tally: &mut Tally,
     ) -> Option<usize>
-        ensures value { IfSome result (λ p. slice_get (occurrences self.now.items offset (length self.now.items) (symbol % 2 ^ self.now.width)) rank ≡ Some p) }
-        ensures answered { IsSome result ↔ (self.now.width ≤ 64) × (offset < length self.now.items) × (rank < length (occurrences self.now.items offset (length self.now.items) (symbol % 2 ^ self.now.width))) }
+        ensures value { IfSome result (λ p. slice_get
+            (occurrences self.now.items offset (length self.now.items)
+            (symbol % 2 ^ self.now.width)) rank ≡ Some p) }
+        ensures answered { IsSome result ↔ (self.now.width ≤ 64) × (offset < length self.now.items)
+            × (rank < length (occurrences self.now.items offset (length self.now.items)
+            (symbol % 2 ^ self.now.width))) }
         ensures adds { AddsAtMost tally.old tally.new (query_reads self.now) }
     {
         if !self.fits_word() || offset >= self.len() {
@@ -132,7 +162,9 @@ impl<A: Allocator + Copy> WaveletMatrix<A> {
     pub fn select_offset_u64_unchecked(&self, offset: usize, rank: usize, symbol: u64) -> usize
         requires within { offset ≤ length self.now.items }
         requires wide { self.now.width ≤ 64 }
-        ensures { result ≡ slice_index_or (occurrences self.now.items offset (length self.now.items) (symbol % 2 ^ self.now.width)) rank (length self.now.items) }
+        ensures { result ≡ slice_index_or
+            (occurrences self.now.items offset (length self.now.items)
+            (symbol % 2 ^ self.now.width)) rank (length self.now.items) }
     {
         self.place_from(offset, rank, &symbol)
     }
@@ -140,8 +172,12 @@ impl<A: Allocator + Copy> WaveletMatrix<A> {
     /// The place of occurrence `rank`, counted from 0, of a symbol, of which the low digits count. None
     /// where the symbols have more than 64 bits, and where there are not so many.
     pub fn select_u64(&self, rank: usize, symbol: u64) -> Option<usize>
-        ensures value { IfSome result (λ p. slice_get (occurrences self.now.items 0 (length self.now.items) (symbol % 2 ^ self.now.width)) rank ≡ Some p) }
-        ensures answered { IsSome result ↔ (self.now.width ≤ 64) × (rank < length (occurrences self.now.items 0 (length self.now.items) (symbol % 2 ^ self.now.width))) }
+        ensures value { IfSome result (λ p. slice_get
+            (occurrences self.now.items 0 (length self.now.items) (symbol % 2 ^ self.now.width))
+            rank ≡ Some p) }
+        ensures answered { IsSome result ↔ (self.now.width ≤ 64)
+            × (rank < length (occurrences self.now.items 0 (length self.now.items)
+            (symbol % 2 ^ self.now.width))) }
     {
         let mut tally = Tally::new();
         self.select_u64_counted(rank, symbol, &mut tally)
@@ -152,8 +188,12 @@ impl<A: Allocator + Copy> WaveletMatrix<A> {
     /// selects of a level for each bit of a symbol.
     #[inline(always)]
     pub fn select_u64_counted(&self, rank: usize, symbol: u64, tally: &mut Tally) -> Option<usize>
-        ensures value { IfSome result (λ p. slice_get (occurrences self.now.items 0 (length self.now.items) (symbol % 2 ^ self.now.width)) rank ≡ Some p) }
-        ensures answered { IsSome result ↔ (self.now.width ≤ 64) × (rank < length (occurrences self.now.items 0 (length self.now.items) (symbol % 2 ^ self.now.width))) }
+        ensures value { IfSome result (λ p. slice_get
+            (occurrences self.now.items 0 (length self.now.items) (symbol % 2 ^ self.now.width))
+            rank ≡ Some p) }
+        ensures answered { IsSome result ↔ (self.now.width ≤ 64)
+            × (rank < length (occurrences self.now.items 0 (length self.now.items)
+            (symbol % 2 ^ self.now.width))) }
         ensures adds { AddsAtMost tally.old tally.new (query_reads self.now) }
     {
         if !self.fits_word() {
@@ -166,7 +206,9 @@ impl<A: Allocator + Copy> WaveletMatrix<A> {
     /// the length where there are not so many. The symbols have at most 64 bits.
     pub fn select_u64_unchecked(&self, rank: usize, symbol: u64) -> usize
         requires wide { self.now.width ≤ 64 }
-        ensures { result ≡ slice_index_or (occurrences self.now.items 0 (length self.now.items) (symbol % 2 ^ self.now.width)) rank (length self.now.items) }
+        ensures { result ≡ slice_index_or
+            (occurrences self.now.items 0 (length self.now.items) (symbol % 2 ^ self.now.width))
+            rank (length self.now.items) }
     {
         self.select_offset_u64_unchecked(0, rank, symbol)
     }

@@ -270,28 +270,38 @@ pub type WaveletSortedNumIter<A> = BothEnds<SortedNumbers<WaveletMatrix<A>>>;
 impl<A: Allocator + Copy> WaveletMatrix<A> {
     /// An iterator over the symbols, as lists of their bits.
     pub fn iter(&self) -> WaveletRefIter<'_, A>
-        ensures { result ≡ record { left = in_bits self.now.width self.now.items; step = query_reads self.now } }
+        ensures { result ≡ record {
+          left = in_bits self.now.width self.now.items;
+          step = query_reads self.now;
+        } }
     {
         MadeEnds::new(Lists { matrix: self })
     }
 
     /// An iterator over the symbols by size, as lists of their bits.
     pub fn iter_sorted(&self) -> WaveletSortedRefIter<'_, A>
-        ensures { result ≡ record { left = in_bits self.now.width (by_size self.now.items); step = query_reads self.now } }
+        ensures { result ≡ record {
+          left = in_bits self.now.width (by_size self.now.items);
+          step = query_reads self.now;
+        } }
     {
         MadeEnds::new(SortedLists { matrix: self })
     }
 
     /// An iterator over the symbols by size, as lists of their bits, which owns the matrix.
     pub fn into_iter_sorted(self) -> WaveletSortedIter<A>
-        ensures { result ≡ record { left = in_bits self.width (by_size self.items); step = query_reads self } }
+        ensures { result ≡ record {
+          left = in_bits self.width (by_size self.items);
+          step = query_reads self;
+        } }
     {
         MadeEnds::new(SortedLists { matrix: self })
     }
 
     /// An iterator over the symbols, as numbers. None where they have more than 64 bits.
     pub fn iter_u64(&self) -> Option<WaveletNumRefIter<'_, A>>
-        ensures value { IfSome result (λ walk. walk ≡ record { left = self.now.items; step = query_reads self.now }) }
+        ensures value { IfSome result (λ walk.
+            walk ≡ record { left = self.now.items; step = query_reads self.now }) }
         ensures answered { IsSome result ↔ (self.now.width ≤ 64) }
     {
         if !self.fits_word() {
@@ -303,7 +313,8 @@ impl<A: Allocator + Copy> WaveletMatrix<A> {
     /// An iterator over the symbols, as numbers, which owns the matrix. None where they have more than
     /// 64 bits.
     pub fn into_iter_u64(self) -> Option<WaveletNumIter<A>>
-        ensures value { IfSome result (λ walk. walk ≡ record { left = self.items; step = query_reads self }) }
+        ensures value { IfSome result (λ walk.
+            walk ≡ record { left = self.items; step = query_reads self }) }
         ensures answered { IsSome result ↔ (self.width ≤ 64) }
     {
         if !self.fits_word() {
@@ -314,7 +325,8 @@ impl<A: Allocator + Copy> WaveletMatrix<A> {
 
     /// An iterator over the symbols by size, as numbers. None where they have more than 64 bits.
     pub fn iter_sorted_u64(&self) -> Option<WaveletSortedNumRefIter<'_, A>>
-        ensures value { IfSome result (λ walk. walk ≡ record { left = by_size self.now.items; step = query_reads self.now }) }
+        ensures value { IfSome result (λ walk.
+            walk ≡ record { left = by_size self.now.items; step = query_reads self.now }) }
         ensures answered { IsSome result ↔ (self.now.width ≤ 64) }
     {
         if !self.fits_word() {
@@ -326,7 +338,8 @@ impl<A: Allocator + Copy> WaveletMatrix<A> {
     /// An iterator over the symbols by size, as numbers, which owns the matrix. None where they have
     /// more than 64 bits.
     pub fn into_iter_sorted_u64(self) -> Option<WaveletSortedNumIter<A>>
-        ensures value { IfSome result (λ walk. walk ≡ record { left = by_size self.items; step = query_reads self }) }
+        ensures value { IfSome result (λ walk.
+            walk ≡ record { left = by_size self.items; step = query_reads self }) }
         ensures answered { IsSome result ↔ (self.width ≤ 64) }
     {
         if !self.fits_word() {

@@ -76,7 +76,8 @@ impl<A: Allocator + Copy> WaveletMatrix<A> {
         requires none { S.width source.now ≡ 0 → length (S.items source.now) ≡ 0 }
         requires narrow { S.width source.now ≤ 65535 }
         ensures width { IfOk result (λ w. w.width ≡ S.width source.now) }
-        ensures items { IfOk result (λ w. w.items ≡ map (λ x. S.number source.now x % 2 ^ S.width source.now) (S.items source.now)) }
+        ensures items { IfOk result (λ w. w.items
+            ≡ map (λ x. S.number source.now x % 2 ^ S.width source.now) (S.items source.now)) }
     {
         let levels = sorted_levels(alloc, source)?;
         let len = source.len();
@@ -87,7 +88,8 @@ impl<A: Allocator + Copy> WaveletMatrix<A> {
         requires some { 0 < S.width source.now }
         requires narrow { S.width source.now < 64 }
         ensures width { IfOk result (λ w. w.width ≡ S.width source.now) }
-        ensures items { IfOk result (λ w. w.items ≡ map (λ x. S.number source.now x % 2 ^ S.width source.now) (S.items source.now)) }
+        ensures items { IfOk result (λ w. w.items
+            ≡ map (λ x. S.number source.now x % 2 ^ S.width source.now) (S.items source.now)) }
         ensures narrow { IfOk result (λ _. S.width source.now < 60) }
     {
         let levels = counted_levels(alloc, source)?;

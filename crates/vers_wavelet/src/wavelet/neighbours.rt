@@ -20,8 +20,14 @@ impl<A: Allocator + Copy> WaveletMatrix<A> {
         range: Range<usize>,
         symbol: &BitVec<A>,
     ) -> Result<Option<BitVec<A>>, AllocError>
-        ensures value { IfOk result (λ o. IfSome o (λ v. IsPredecessor (slice_range self.now.items range.start range.end) (number symbol.now) (number v) × (length v ≡ self.now.width))) }
-        ensures answered { IfOk result (λ o. IsSome o ↔ (length symbol.now ≡ self.now.width) × (range.start ≤ range.end) × (range.end ≤ length self.now.items) × Any (λ y. y ≤ (number symbol.now)) (slice_range self.now.items range.start range.end)) }
+        ensures value { IfOk result (λ o. IfSome o (λ v.
+            IsPredecessor (slice_range self.now.items range.start range.end) (number symbol.now)
+            (number v) × (length v ≡ self.now.width))) }
+        ensures answered { IfOk result (λ o. IsSome o
+            ↔ (length symbol.now ≡ self.now.width) × (range.start ≤ range.end)
+            × (range.end ≤ length self.now.items)
+            × Any (λ y. y ≤ (number symbol.now))
+            (slice_range self.now.items range.start range.end)) }
     {
         let mut tally = Tally::new();
         self.predecessor_counted(range, symbol, &mut tally)
@@ -37,8 +43,14 @@ impl<A: Allocator + Copy> WaveletMatrix<A> {
         symbol: &BitVec<A>,
         tally: &mut Tally,
     ) -> Result<Option<BitVec<A>>, AllocError>
-        ensures value { IfOk result (λ o. IfSome o (λ v. IsPredecessor (slice_range self.now.items range.start range.end) (number symbol.now) (number v) × (length v ≡ self.now.width))) }
-        ensures answered { IfOk result (λ o. IsSome o ↔ (length symbol.now ≡ self.now.width) × (range.start ≤ range.end) × (range.end ≤ length self.now.items) × Any (λ y. y ≤ (number symbol.now)) (slice_range self.now.items range.start range.end)) }
+        ensures value { IfOk result (λ o. IfSome o (λ v.
+            IsPredecessor (slice_range self.now.items range.start range.end) (number symbol.now)
+            (number v) × (length v ≡ self.now.width))) }
+        ensures answered { IfOk result (λ o. IsSome o
+            ↔ (length symbol.now ≡ self.now.width) × (range.start ≤ range.end)
+            × (range.end ≤ length self.now.items)
+            × Any (λ y. y ≤ (number symbol.now))
+            (slice_range self.now.items range.start range.end)) }
         ensures adds { AddsAtMost tally.old tally.new (query_reads self.now) }
     {
         if symbol.len() != self.bits_per_element()
@@ -61,8 +73,14 @@ impl<A: Allocator + Copy> WaveletMatrix<A> {
         range: Range<usize>,
         symbol: &BitVec<A>,
     ) -> Result<Option<BitVec<A>>, AllocError>
-        ensures value { IfOk result (λ o. IfSome o (λ v. IsSuccessor (slice_range self.now.items range.start range.end) (number symbol.now) (number v) × (length v ≡ self.now.width))) }
-        ensures answered { IfOk result (λ o. IsSome o ↔ (length symbol.now ≡ self.now.width) × (range.start ≤ range.end) × (range.end ≤ length self.now.items) × Any (λ y. (number symbol.now) ≤ y) (slice_range self.now.items range.start range.end)) }
+        ensures value { IfOk result (λ o. IfSome o (λ v.
+            IsSuccessor (slice_range self.now.items range.start range.end) (number symbol.now)
+            (number v) × (length v ≡ self.now.width))) }
+        ensures answered { IfOk result (λ o. IsSome o
+            ↔ (length symbol.now ≡ self.now.width) × (range.start ≤ range.end)
+            × (range.end ≤ length self.now.items)
+            × Any (λ y. (number symbol.now)
+            ≤ y) (slice_range self.now.items range.start range.end)) }
     {
         let mut tally = Tally::new();
         self.successor_counted(range, symbol, &mut tally)
@@ -78,8 +96,14 @@ impl<A: Allocator + Copy> WaveletMatrix<A> {
         symbol: &BitVec<A>,
         tally: &mut Tally,
     ) -> Result<Option<BitVec<A>>, AllocError>
-        ensures value { IfOk result (λ o. IfSome o (λ v. IsSuccessor (slice_range self.now.items range.start range.end) (number symbol.now) (number v) × (length v ≡ self.now.width))) }
-        ensures answered { IfOk result (λ o. IsSome o ↔ (length symbol.now ≡ self.now.width) × (range.start ≤ range.end) × (range.end ≤ length self.now.items) × Any (λ y. (number symbol.now) ≤ y) (slice_range self.now.items range.start range.end)) }
+        ensures value { IfOk result (λ o. IfSome o (λ v.
+            IsSuccessor (slice_range self.now.items range.start range.end) (number symbol.now)
+            (number v) × (length v ≡ self.now.width))) }
+        ensures answered { IfOk result (λ o. IsSome o
+            ↔ (length symbol.now ≡ self.now.width) × (range.start ≤ range.end)
+            × (range.end ≤ length self.now.items)
+            × Any (λ y. (number symbol.now)
+            ≤ y) (slice_range self.now.items range.start range.end)) }
         ensures adds { AddsAtMost tally.old tally.new (query_reads self.now) }
     {
         if symbol.len() != self.bits_per_element()
@@ -99,8 +123,12 @@ impl<A: Allocator + Copy> WaveletMatrix<A> {
     /// where the symbols have more than 64 bits, for a range that is reversed or ends past the end, and
     /// where there is no such symbol.
     pub fn predecessor_u64(&self, range: Range<usize>, symbol: u64) -> Option<u64>
-        ensures value { IfSome result (λ x. IsPredecessor (slice_range self.now.items range.start range.end) (symbol % 2 ^ self.now.width) x) }
-        ensures answered { IsSome result ↔ (self.now.width ≤ 64) × (range.start ≤ range.end) × (range.end ≤ length self.now.items) × Any (λ y. y ≤ (symbol % 2 ^ self.now.width)) (slice_range self.now.items range.start range.end) }
+        ensures value { IfSome result (λ x. IsPredecessor
+            (slice_range self.now.items range.start range.end) (symbol % 2 ^ self.now.width) x) }
+        ensures answered { IsSome result ↔ (self.now.width ≤ 64) × (range.start ≤ range.end)
+            × (range.end ≤ length self.now.items)
+            × Any (λ y. y ≤ (symbol % 2 ^ self.now.width))
+            (slice_range self.now.items range.start range.end) }
     {
         let mut tally = Tally::new();
         self.predecessor_u64_counted(range, symbol, &mut tally)
@@ -116,8 +144,12 @@ impl<A: Allocator + Copy> WaveletMatrix<A> {
         symbol: u64,
         tally: &mut Tally,
     ) -> Option<u64>
-        ensures value { IfSome result (λ x. IsPredecessor (slice_range self.now.items range.start range.end) (symbol % 2 ^ self.now.width) x) }
-        ensures answered { IsSome result ↔ (self.now.width ≤ 64) × (range.start ≤ range.end) × (range.end ≤ length self.now.items) × Any (λ y. y ≤ (symbol % 2 ^ self.now.width)) (slice_range self.now.items range.start range.end) }
+        ensures value { IfSome result (λ x. IsPredecessor
+            (slice_range self.now.items range.start range.end) (symbol % 2 ^ self.now.width) x) }
+        ensures answered { IsSome result ↔ (self.now.width ≤ 64) × (range.start ≤ range.end)
+            × (range.end ≤ length self.now.items)
+            × Any (λ y. y ≤ (symbol % 2 ^ self.now.width))
+            (slice_range self.now.items range.start range.end) }
         ensures adds { AddsAtMost tally.old tally.new (query_reads self.now) }
     {
         if !self.fits_word() || range.start > range.end || range.end > self.len() {
@@ -134,8 +166,12 @@ impl<A: Allocator + Copy> WaveletMatrix<A> {
     /// where the symbols have more than 64 bits, for a range that is reversed or ends past the end, and
     /// where there is no such symbol.
     pub fn successor_u64(&self, range: Range<usize>, symbol: u64) -> Option<u64>
-        ensures value { IfSome result (λ x. IsSuccessor (slice_range self.now.items range.start range.end) (symbol % 2 ^ self.now.width) x) }
-        ensures answered { IsSome result ↔ (self.now.width ≤ 64) × (range.start ≤ range.end) × (range.end ≤ length self.now.items) × Any (λ y. (symbol % 2 ^ self.now.width) ≤ y) (slice_range self.now.items range.start range.end) }
+        ensures value { IfSome result (λ x. IsSuccessor
+            (slice_range self.now.items range.start range.end) (symbol % 2 ^ self.now.width) x) }
+        ensures answered { IsSome result ↔ (self.now.width ≤ 64) × (range.start ≤ range.end)
+            × (range.end ≤ length self.now.items)
+            × Any (λ y. (symbol % 2 ^ self.now.width)
+            ≤ y) (slice_range self.now.items range.start range.end) }
     {
         let mut tally = Tally::new();
         self.successor_u64_counted(range, symbol, &mut tally)
@@ -151,8 +187,12 @@ impl<A: Allocator + Copy> WaveletMatrix<A> {
         symbol: u64,
         tally: &mut Tally,
     ) -> Option<u64>
-        ensures value { IfSome result (λ x. IsSuccessor (slice_range self.now.items range.start range.end) (symbol % 2 ^ self.now.width) x) }
-        ensures answered { IsSome result ↔ (self.now.width ≤ 64) × (range.start ≤ range.end) × (range.end ≤ length self.now.items) × Any (λ y. (symbol % 2 ^ self.now.width) ≤ y) (slice_range self.now.items range.start range.end) }
+        ensures value { IfSome result (λ x. IsSuccessor
+            (slice_range self.now.items range.start range.end) (symbol % 2 ^ self.now.width) x) }
+        ensures answered { IsSome result ↔ (self.now.width ≤ 64) × (range.start ≤ range.end)
+            × (range.end ≤ length self.now.items)
+            × Any (λ y. (symbol % 2 ^ self.now.width)
+            ≤ y) (slice_range self.now.items range.start range.end) }
         ensures adds { AddsAtMost tally.old tally.new (query_reads self.now) }
     {
         if !self.fits_word() || range.start > range.end || range.end > self.len() {

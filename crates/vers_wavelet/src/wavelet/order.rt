@@ -16,8 +16,11 @@ impl<A: Allocator + Copy> WaveletMatrix<A> {
     /// Member `i` of a range by size, counted from 0, equal ones too. None for a range that ends past
     /// the end, and where the range has not so many places.
     pub fn quantile(&self, range: Range<usize>, i: usize) -> Result<Option<BitVec<A>>, AllocError>
-        ensures value { IfOk result (λ o. IfSome o (λ v. IsKth (slice_range self.now.items range.start range.end) i (number v) × (length v ≡ self.now.width))) }
-        ensures answered { IfOk result (λ o. IsSome o ↔ (range.end ≤ length self.now.items) × (range.start + i < range.end)) }
+        ensures value { IfOk result (λ o. IfSome o (λ v.
+            IsKth (slice_range self.now.items range.start range.end) i (number v)
+            × (length v ≡ self.now.width))) }
+        ensures answered { IfOk result (λ o. IsSome o
+            ↔ (range.end ≤ length self.now.items) × (range.start + i < range.end)) }
     {
         let mut tally = Tally::new();
         self.quantile_counted(range, i, &mut tally)
@@ -33,8 +36,11 @@ impl<A: Allocator + Copy> WaveletMatrix<A> {
         i: usize,
         tally: &mut Tally,
     ) -> Result<Option<BitVec<A>>, AllocError>
-        ensures value { IfOk result (λ o. IfSome o (λ v. IsKth (slice_range self.now.items range.start range.end) i (number v) × (length v ≡ self.now.width))) }
-        ensures answered { IfOk result (λ o. IsSome o ↔ (range.end ≤ length self.now.items) × (range.start + i < range.end)) }
+        ensures value { IfOk result (λ o. IfSome o (λ v.
+            IsKth (slice_range self.now.items range.start range.end) i (number v)
+            × (length v ≡ self.now.width))) }
+        ensures answered { IfOk result (λ o. IsSome o
+            ↔ (range.end ≤ length self.now.items) × (range.start + i < range.end)) }
         ensures adds { AddsAtMost tally.old tally.new (query_reads self.now) }
     {
         if range.end > self.len() || range.start >= range.end || i >= range.end - range.start {
@@ -49,7 +55,8 @@ impl<A: Allocator + Copy> WaveletMatrix<A> {
     pub fn quantile_unchecked(&self, range: Range<usize>, i: usize) -> Result<BitVec<A>, AllocError>
         requires order { range.start + i < range.end }
         requires within { range.end ≤ length self.now.items }
-        ensures { IfOk result (λ v. IsKth (slice_range self.now.items range.start range.end) i (number v) × (length v ≡ self.now.width)) }
+        ensures { IfOk result (λ v. IsKth (slice_range self.now.items range.start range.end) i
+            (number v) × (length v ≡ self.now.width)) }
     {
         let mut tally = Tally::new();
         let mut answer = self.zero_symbol()?;
@@ -60,7 +67,8 @@ impl<A: Allocator + Copy> WaveletMatrix<A> {
     /// Member `i` of all symbols by size, counted from 0, equal ones too. None where there are not so
     /// many.
     pub fn get_sorted(&self, i: usize) -> Result<Option<BitVec<A>>, AllocError>
-        ensures value { IfOk result (λ o. IfSome o (λ v. IsKth self.now.items i (number v) × (length v ≡ self.now.width))) }
+        ensures value { IfOk result (λ o. IfSome o (λ v.
+            IsKth self.now.items i (number v) × (length v ≡ self.now.width))) }
         ensures answered { IfOk result (λ o. IsSome o ↔ (i < length self.now.items)) }
     {
         let mut tally = Tally::new();
@@ -75,7 +83,8 @@ impl<A: Allocator + Copy> WaveletMatrix<A> {
         i: usize,
         tally: &mut Tally,
     ) -> Result<Option<BitVec<A>>, AllocError>
-        ensures value { IfOk result (λ o. IfSome o (λ v. IsKth self.now.items i (number v) × (length v ≡ self.now.width))) }
+        ensures value { IfOk result (λ o. IfSome o (λ v.
+            IsKth self.now.items i (number v) × (length v ≡ self.now.width))) }
         ensures answered { IfOk result (λ o. IsSome o ↔ (i < length self.now.items)) }
         ensures adds { AddsAtMost tally.old tally.new (query_reads self.now) }
     {
@@ -85,15 +94,19 @@ impl<A: Allocator + Copy> WaveletMatrix<A> {
     /// Member `i` of all symbols by size, counted from 0, equal ones too.
     pub fn get_sorted_unchecked(&self, i: usize) -> Result<BitVec<A>, AllocError>
         requires within { i < length self.now.items }
-        ensures { IfOk result (λ v. IsKth self.now.items i (number v) × (length v ≡ self.now.width)) }
+        ensures { IfOk result (λ v. IsKth self.now.items i (number v)
+            × (length v ≡ self.now.width)) }
     {
         self.quantile_unchecked(0..self.len(), i)
     }
 
     /// The least symbol of a range. None for a range that is empty, reversed or ends past the end.
     pub fn range_min(&self, range: Range<usize>) -> Result<Option<BitVec<A>>, AllocError>
-        ensures value { IfOk result (λ o. IfSome o (λ v. IsKth (slice_range self.now.items range.start range.end) 0 (number v) × (length v ≡ self.now.width))) }
-        ensures answered { IfOk result (λ o. IsSome o ↔ (range.start < range.end) × (range.end ≤ length self.now.items)) }
+        ensures value { IfOk result (λ o. IfSome o (λ v.
+            IsKth (slice_range self.now.items range.start range.end) 0 (number v)
+            × (length v ≡ self.now.width))) }
+        ensures answered { IfOk result (λ o. IsSome o
+            ↔ (range.start < range.end) × (range.end ≤ length self.now.items)) }
     {
         let mut tally = Tally::new();
         self.range_min_counted(range, &mut tally)
@@ -107,8 +120,11 @@ impl<A: Allocator + Copy> WaveletMatrix<A> {
         range: Range<usize>,
         tally: &mut Tally,
     ) -> Result<Option<BitVec<A>>, AllocError>
-        ensures value { IfOk result (λ o. IfSome o (λ v. IsKth (slice_range self.now.items range.start range.end) 0 (number v) × (length v ≡ self.now.width))) }
-        ensures answered { IfOk result (λ o. IsSome o ↔ (range.start < range.end) × (range.end ≤ length self.now.items)) }
+        ensures value { IfOk result (λ o. IfSome o (λ v.
+            IsKth (slice_range self.now.items range.start range.end) 0 (number v)
+            × (length v ≡ self.now.width))) }
+        ensures answered { IfOk result (λ o. IsSome o
+            ↔ (range.start < range.end) × (range.end ≤ length self.now.items)) }
         ensures adds { AddsAtMost tally.old tally.new (query_reads self.now) }
     {
         self.quantile_counted(range, 0, tally)
@@ -118,15 +134,19 @@ impl<A: Allocator + Copy> WaveletMatrix<A> {
     pub fn range_min_unchecked(&self, range: Range<usize>) -> Result<BitVec<A>, AllocError>
         requires order { range.start < range.end }
         requires within { range.end ≤ length self.now.items }
-        ensures { IfOk result (λ v. IsKth (slice_range self.now.items range.start range.end) 0 (number v) × (length v ≡ self.now.width)) }
+        ensures { IfOk result (λ v. IsKth (slice_range self.now.items range.start range.end) 0
+            (number v) × (length v ≡ self.now.width)) }
     {
         self.quantile_unchecked(range, 0)
     }
 
     /// The greatest symbol of a range. None for a range that is empty, reversed or ends past the end.
     pub fn range_max(&self, range: Range<usize>) -> Result<Option<BitVec<A>>, AllocError>
-        ensures value { IfOk result (λ o. IfSome o (λ v. IsKth (slice_range self.now.items range.start range.end) (range.end - range.start - 1) (number v) × (length v ≡ self.now.width))) }
-        ensures answered { IfOk result (λ o. IsSome o ↔ (range.start < range.end) × (range.end ≤ length self.now.items)) }
+        ensures value { IfOk result (λ o. IfSome o (λ v.
+            IsKth (slice_range self.now.items range.start range.end) (range.end - range.start - 1)
+            (number v) × (length v ≡ self.now.width))) }
+        ensures answered { IfOk result (λ o. IsSome o
+            ↔ (range.start < range.end) × (range.end ≤ length self.now.items)) }
     {
         let mut tally = Tally::new();
         self.range_max_counted(range, &mut tally)
@@ -140,8 +160,11 @@ impl<A: Allocator + Copy> WaveletMatrix<A> {
         range: Range<usize>,
         tally: &mut Tally,
     ) -> Result<Option<BitVec<A>>, AllocError>
-        ensures value { IfOk result (λ o. IfSome o (λ v. IsKth (slice_range self.now.items range.start range.end) (range.end - range.start - 1) (number v) × (length v ≡ self.now.width))) }
-        ensures answered { IfOk result (λ o. IsSome o ↔ (range.start < range.end) × (range.end ≤ length self.now.items)) }
+        ensures value { IfOk result (λ o. IfSome o (λ v.
+            IsKth (slice_range self.now.items range.start range.end) (range.end - range.start - 1)
+            (number v) × (length v ≡ self.now.width))) }
+        ensures answered { IfOk result (λ o. IsSome o
+            ↔ (range.start < range.end) × (range.end ≤ length self.now.items)) }
         ensures adds { AddsAtMost tally.old tally.new (query_reads self.now) }
     {
         if range.start >= range.end {
@@ -155,7 +178,8 @@ impl<A: Allocator + Copy> WaveletMatrix<A> {
     pub fn range_max_unchecked(&self, range: Range<usize>) -> Result<BitVec<A>, AllocError>
         requires order { range.start < range.end }
         requires within { range.end ≤ length self.now.items }
-        ensures { IfOk result (λ v. IsKth (slice_range self.now.items range.start range.end) (range.end - range.start - 1) (number v) × (length v ≡ self.now.width)) }
+        ensures { IfOk result (λ v. IsKth (slice_range self.now.items range.start range.end)
+            (range.end - range.start - 1) (number v) × (length v ≡ self.now.width)) }
     {
         let last = range.end - range.start - 1;
         self.quantile_unchecked(range, last)
@@ -164,8 +188,11 @@ impl<A: Allocator + Copy> WaveletMatrix<A> {
     /// The symbol in the middle of a range by size, the lower one of two. None for a range that is
     /// empty, reversed or ends past the end.
     pub fn range_median(&self, range: Range<usize>) -> Result<Option<BitVec<A>>, AllocError>
-        ensures value { IfOk result (λ o. IfSome o (λ v. IsKth (slice_range self.now.items range.start range.end) ((range.end - 1 - range.start) / 2) (number v) × (length v ≡ self.now.width))) }
-        ensures answered { IfOk result (λ o. IsSome o ↔ (range.start < range.end) × (range.end ≤ length self.now.items)) }
+        ensures value { IfOk result (λ o. IfSome o (λ v.
+            IsKth (slice_range self.now.items range.start range.end)
+            ((range.end - 1 - range.start) / 2) (number v) × (length v ≡ self.now.width))) }
+        ensures answered { IfOk result (λ o. IsSome o
+            ↔ (range.start < range.end) × (range.end ≤ length self.now.items)) }
     {
         let mut tally = Tally::new();
         self.range_median_counted(range, &mut tally)
@@ -180,8 +207,11 @@ impl<A: Allocator + Copy> WaveletMatrix<A> {
         range: Range<usize>,
         tally: &mut Tally,
     ) -> Result<Option<BitVec<A>>, AllocError>
-        ensures value { IfOk result (λ o. IfSome o (λ v. IsKth (slice_range self.now.items range.start range.end) ((range.end - 1 - range.start) / 2) (number v) × (length v ≡ self.now.width))) }
-        ensures answered { IfOk result (λ o. IsSome o ↔ (range.start < range.end) × (range.end ≤ length self.now.items)) }
+        ensures value { IfOk result (λ o. IfSome o (λ v.
+            IsKth (slice_range self.now.items range.start range.end)
+            ((range.end - 1 - range.start) / 2) (number v) × (length v ≡ self.now.width))) }
+        ensures answered { IfOk result (λ o. IsSome o
+            ↔ (range.start < range.end) × (range.end ≤ length self.now.items)) }
         ensures adds { AddsAtMost tally.old tally.new (query_reads self.now) }
     {
         if range.start >= range.end {
@@ -196,7 +226,8 @@ impl<A: Allocator + Copy> WaveletMatrix<A> {
     pub fn range_median_unchecked(&self, range: Range<usize>) -> Result<BitVec<A>, AllocError>
         requires order { range.start < range.end }
         requires within { range.end ≤ length self.now.items }
-        ensures { IfOk result (λ v. IsKth (slice_range self.now.items range.start range.end) ((range.end - 1 - range.start) / 2) (number v) × (length v ≡ self.now.width)) }
+        ensures { IfOk result (λ v. IsKth (slice_range self.now.items range.start range.end)
+            ((range.end - 1 - range.start) / 2) (number v) × (length v ≡ self.now.width)) }
     {
         let middle = (range.end - 1 - range.start) / 2;
         self.quantile_unchecked(range, middle)
@@ -205,8 +236,10 @@ impl<A: Allocator + Copy> WaveletMatrix<A> {
     /// Member `i` of a range by size, counted from 0, equal ones too. None where the symbols have more
     /// than 64 bits, for a range that ends past the end, and where the range has not so many places.
     pub fn quantile_u64(&self, range: Range<usize>, i: usize) -> Option<u64>
-        ensures value { IfSome result (λ x. IsKth (slice_range self.now.items range.start range.end) i x) }
-        ensures answered { IsSome result ↔ (self.now.width ≤ 64) × (range.end ≤ length self.now.items) × (range.start + i < range.end) }
+        ensures value { IfSome result (λ x. IsKth (slice_range self.now.items range.start range.end)
+            i x) }
+        ensures answered { IsSome result ↔ (self.now.width ≤ 64)
+            × (range.end ≤ length self.now.items) × (range.start + i < range.end) }
     {
         let mut tally = Tally::new();
         self.quantile_u64_counted(range, i, &mut tally)
@@ -222,8 +255,10 @@ impl<A: Allocator + Copy> WaveletMatrix<A> {
         i: usize,
         tally: &mut Tally,
     ) -> Option<u64>
-        ensures value { IfSome result (λ x. IsKth (slice_range self.now.items range.start range.end) i x) }
-        ensures answered { IsSome result ↔ (self.now.width ≤ 64) × (range.end ≤ length self.now.items) × (range.start + i < range.end) }
+        ensures value { IfSome result (λ x. IsKth (slice_range self.now.items range.start range.end)
+            i x) }
+        ensures answered { IsSome result ↔ (self.now.width ≤ 64)
+            × (range.end ≤ length self.now.items) × (range.start + i < range.end) }
         ensures adds { AddsAtMost tally.old tally.new (query_reads self.now) }
     {
         if !self.fits_word()
@@ -287,8 +322,10 @@ impl<A: Allocator + Copy> WaveletMatrix<A> {
     /// The least symbol of a range. None where the symbols have more than 64 bits, and for a range that
     /// is empty, reversed or ends past the end.
     pub fn range_min_u64(&self, range: Range<usize>) -> Option<u64>
-        ensures value { IfSome result (λ x. IsKth (slice_range self.now.items range.start range.end) 0 x) }
-        ensures answered { IsSome result ↔ (self.now.width ≤ 64) × (range.start < range.end) × (range.end ≤ length self.now.items) }
+        ensures value { IfSome result (λ x. IsKth (slice_range self.now.items range.start range.end)
+            0 x) }
+        ensures answered { IsSome result ↔ (self.now.width ≤ 64) × (range.start < range.end)
+            × (range.end ≤ length self.now.items) }
     {
         let mut tally = Tally::new();
         self.range_min_u64_counted(range, &mut tally)
@@ -299,8 +336,10 @@ impl<A: Allocator + Copy> WaveletMatrix<A> {
     /// symbol.
     #[inline(always)]
     pub fn range_min_u64_counted(&self, range: Range<usize>, tally: &mut Tally) -> Option<u64>
-        ensures value { IfSome result (λ x. IsKth (slice_range self.now.items range.start range.end) 0 x) }
-        ensures answered { IsSome result ↔ (self.now.width ≤ 64) × (range.start < range.end) × (range.end ≤ length self.now.items) }
+        ensures value { IfSome result (λ x. IsKth (slice_range self.now.items range.start range.end)
+            0 x) }
+        ensures answered { IsSome result ↔ (self.now.width ≤ 64) × (range.start < range.end)
+            × (range.end ≤ length self.now.items) }
         ensures adds { AddsAtMost tally.old tally.new (query_reads self.now) }
     {
         self.quantile_u64_counted(range, 0, tally)
@@ -319,8 +358,10 @@ impl<A: Allocator + Copy> WaveletMatrix<A> {
     /// The greatest symbol of a range. None where the symbols have more than 64 bits, and for a range
     /// that is empty, reversed or ends past the end.
     pub fn range_max_u64(&self, range: Range<usize>) -> Option<u64>
-        ensures value { IfSome result (λ x. IsKth (slice_range self.now.items range.start range.end) (range.end - range.start - 1) x) }
-        ensures answered { IsSome result ↔ (self.now.width ≤ 64) × (range.start < range.end) × (range.end ≤ length self.now.items) }
+        ensures value { IfSome result (λ x. IsKth (slice_range self.now.items range.start range.end)
+            (range.end - range.start - 1) x) }
+        ensures answered { IsSome result ↔ (self.now.width ≤ 64) × (range.start < range.end)
+            × (range.end ≤ length self.now.items) }
     {
         let mut tally = Tally::new();
         self.range_max_u64_counted(range, &mut tally)
@@ -331,8 +372,10 @@ impl<A: Allocator + Copy> WaveletMatrix<A> {
     /// a symbol.
     #[inline(always)]
     pub fn range_max_u64_counted(&self, range: Range<usize>, tally: &mut Tally) -> Option<u64>
-        ensures value { IfSome result (λ x. IsKth (slice_range self.now.items range.start range.end) (range.end - range.start - 1) x) }
-        ensures answered { IsSome result ↔ (self.now.width ≤ 64) × (range.start < range.end) × (range.end ≤ length self.now.items) }
+        ensures value { IfSome result (λ x. IsKth (slice_range self.now.items range.start range.end)
+            (range.end - range.start - 1) x) }
+        ensures answered { IsSome result ↔ (self.now.width ≤ 64) × (range.start < range.end)
+            × (range.end ≤ length self.now.items) }
         ensures adds { AddsAtMost tally.old tally.new (query_reads self.now) }
     {
         if range.start >= range.end {
@@ -347,7 +390,8 @@ impl<A: Allocator + Copy> WaveletMatrix<A> {
         requires order { range.start < range.end }
         requires within { range.end ≤ length self.now.items }
         requires wide { self.now.width ≤ 64 }
-        ensures { IsKth (slice_range self.now.items range.start range.end) (range.end - range.start - 1) result }
+        ensures { IsKth (slice_range self.now.items range.start range.end)
+            (range.end - range.start - 1) result }
     {
         let last = range.end - range.start - 1;
         self.quantile_u64_unchecked(range, last)
@@ -356,8 +400,10 @@ impl<A: Allocator + Copy> WaveletMatrix<A> {
     /// The symbol in the middle of a range by size, the lower one of two. None where the symbols have
     /// more than 64 bits, and for a range that is empty, reversed or ends past the end.
     pub fn range_median_u64(&self, range: Range<usize>) -> Option<u64>
-        ensures value { IfSome result (λ x. IsKth (slice_range self.now.items range.start range.end) ((range.end - 1 - range.start) / 2) x) }
-        ensures answered { IsSome result ↔ (self.now.width ≤ 64) × (range.start < range.end) × (range.end ≤ length self.now.items) }
+        ensures value { IfSome result (λ x. IsKth (slice_range self.now.items range.start range.end)
+            ((range.end - 1 - range.start) / 2) x) }
+        ensures answered { IsSome result ↔ (self.now.width ≤ 64) × (range.start < range.end)
+            × (range.end ≤ length self.now.items) }
     {
         let mut tally = Tally::new();
         self.range_median_u64_counted(range, &mut tally)
@@ -368,8 +414,10 @@ impl<A: Allocator + Copy> WaveletMatrix<A> {
     /// selects of a level for each bit of a symbol.
     #[inline(always)]
     pub fn range_median_u64_counted(&self, range: Range<usize>, tally: &mut Tally) -> Option<u64>
-        ensures value { IfSome result (λ x. IsKth (slice_range self.now.items range.start range.end) ((range.end - 1 - range.start) / 2) x) }
-        ensures answered { IsSome result ↔ (self.now.width ≤ 64) × (range.start < range.end) × (range.end ≤ length self.now.items) }
+        ensures value { IfSome result (λ x. IsKth (slice_range self.now.items range.start range.end)
+            ((range.end - 1 - range.start) / 2) x) }
+        ensures answered { IsSome result ↔ (self.now.width ≤ 64) × (range.start < range.end)
+            × (range.end ≤ length self.now.items) }
         ensures adds { AddsAtMost tally.old tally.new (query_reads self.now) }
     {
         if range.start >= range.end {
@@ -385,7 +433,8 @@ impl<A: Allocator + Copy> WaveletMatrix<A> {
         requires order { range.start < range.end }
         requires within { range.end ≤ length self.now.items }
         requires wide { self.now.width ≤ 64 }
-        ensures { IsKth (slice_range self.now.items range.start range.end) ((range.end - 1 - range.start) / 2) result }
+        ensures { IsKth (slice_range self.now.items range.start range.end)
+            ((range.end - 1 - range.start) / 2) result }
     {
         let middle = (range.end - 1 - range.start) / 2;
         self.quantile_u64_unchecked(range, middle)

@@ -44,7 +44,8 @@ impl<A: Allocator + Copy> WaveletMatrix<A> {
         requires order { start ≤ end }
         requires within { end ≤ length self.now.items }
         requires wide { self.now.width ≤ D.width symbol.now }
-        ensures value { result ≡ length (occurrences self.now.items start end (D.number symbol.now % 2 ^ self.now.width)) }
+        ensures value { result ≡ length (occurrences self.now.items start end
+            (D.number symbol.now % 2 ^ self.now.width)) }
         ensures adds { AddsAtMost tally.old tally.new (query_reads self.now) }
     {
         let part = narrow(&self.levels, self.len, start, end, symbol, tally);
@@ -62,7 +63,8 @@ impl<A: Allocator + Copy> WaveletMatrix<A> {
     ) -> Option<usize>
         requires within { offset ≤ length self.now.items }
         requires wide { self.now.width ≤ D.width symbol.now }
-        ensures value { result ≡ slice_get (occurrences self.now.items offset (length self.now.items) (D.number symbol.now % 2 ^ self.now.width)) rank }
+        ensures value { result ≡ slice_get (occurrences self.now.items offset
+            (length self.now.items) (D.number symbol.now % 2 ^ self.now.width)) rank }
         ensures adds { AddsAtMost tally.old tally.new (query_reads self.now) }
     {
         let levels = self.levels.as_slice();
@@ -79,7 +81,9 @@ impl<A: Allocator + Copy> WaveletMatrix<A> {
     pub(super) fn place_from<D: Digits>(&self, offset: usize, rank: usize, symbol: &D) -> usize
         requires within { offset ≤ length self.now.items }
         requires wide { self.now.width ≤ D.width symbol.now }
-        ensures { result ≡ slice_index_or (occurrences self.now.items offset (length self.now.items) (D.number symbol.now % 2 ^ self.now.width)) rank (length self.now.items) }
+        ensures { result ≡ slice_index_or
+            (occurrences self.now.items offset (length self.now.items)
+            (D.number symbol.now % 2 ^ self.now.width)) rank (length self.now.items) }
     {
         let mut tally = Tally::new();
         self.find_from(offset, rank, symbol, &mut tally)
@@ -132,8 +136,12 @@ impl<A: Allocator + Copy> WaveletMatrix<A> {
         requires order { start ≤ end }
         requires within { end ≤ length self.now.items }
         requires wide { self.now.width ≤ D.width symbol.now }
-        ensures below { result.below ≡ count_by (λ y. nat_lt y (D.number symbol.now % 2 ^ self.now.width)) (slice_range self.now.items start end) }
-        ensures not_above { result.below + result.equal ≡ count_by (λ y. nat_le y (D.number symbol.now % 2 ^ self.now.width)) (slice_range self.now.items start end) }
+        ensures below { result.below ≡ count_by (λ y.
+            nat_lt y (D.number symbol.now % 2 ^ self.now.width))
+            (slice_range self.now.items start end) }
+        ensures not_above { result.below + result.equal
+            ≡ count_by (λ y. nat_le y (D.number symbol.now % 2 ^ self.now.width))
+            (slice_range self.now.items start end) }
         ensures few { result.below + result.equal ≤ end - start }
         ensures adds { AddsAtMost tally.old tally.new (times (2 * self.now.width) rank_reads) }
     {
@@ -160,8 +168,10 @@ impl<A: Allocator + Copy> WaveletMatrix<A> {
         requires symbol { self.now.width ≤ D.width symbol.now }
         requires zero { D.number answer.old ≡ 0 }
         requires wide { self.now.width ≤ D.width answer.old }
-        ensures value { IsTrue result → IsPredecessor (slice_range self.now.items start end) (D.number symbol.now % 2 ^ self.now.width) (D.number answer.new) }
-        ensures some { IsTrue result ↔ Any (λ y. y ≤ D.number symbol.now % 2 ^ self.now.width) (slice_range self.now.items start end) }
+        ensures value { IsTrue result → IsPredecessor (slice_range self.now.items start end)
+            (D.number symbol.now % 2 ^ self.now.width) (D.number answer.new) }
+        ensures some { IsTrue result ↔ Any (λ y.
+            y ≤ D.number symbol.now % 2 ^ self.now.width) (slice_range self.now.items start end) }
         ensures same { D.width answer.new ≡ D.width answer.old }
         ensures adds { AddsAtMost tally.old tally.new (query_reads self.now) }
     {
@@ -193,8 +203,10 @@ impl<A: Allocator + Copy> WaveletMatrix<A> {
         requires symbol { self.now.width ≤ D.width symbol.now }
         requires zero { D.number answer.old ≡ 0 }
         requires wide { self.now.width ≤ D.width answer.old }
-        ensures value { IsTrue result → IsSuccessor (slice_range self.now.items start end) (D.number symbol.now % 2 ^ self.now.width) (D.number answer.new) }
-        ensures some { IsTrue result ↔ Any (λ y. D.number symbol.now % 2 ^ self.now.width ≤ y) (slice_range self.now.items start end) }
+        ensures value { IsTrue result → IsSuccessor (slice_range self.now.items start end)
+            (D.number symbol.now % 2 ^ self.now.width) (D.number answer.new) }
+        ensures some { IsTrue result ↔ Any (λ y.
+            D.number symbol.now % 2 ^ self.now.width ≤ y) (slice_range self.now.items start end) }
         ensures same { D.width answer.new ≡ D.width answer.old }
         ensures adds { AddsAtMost tally.old tally.new (query_reads self.now) }
     {

@@ -13,7 +13,8 @@ use vers_tally::tally::Tally;
 impl<A: Allocator + Copy> WaveletMatrix<A> {
     /// The symbol at a place. None for a place that the list doesn't have.
     pub fn get_value(&self, place: usize) -> Result<Option<BitVec<A>>, AllocError>
-        ensures value { IfOk result (λ o. IfSome o (λ v. (slice_get self.now.items place ≡ Some (number v)) × (length v ≡ self.now.width))) }
+        ensures value { IfOk result (λ o. IfSome o (λ v.
+            (slice_get self.now.items place ≡ Some (number v)) × (length v ≡ self.now.width))) }
         ensures answered { IfOk result (λ o. IsSome o ↔ (place < length self.now.items)) }
     {
         let mut tally = Tally::new();
@@ -28,7 +29,8 @@ impl<A: Allocator + Copy> WaveletMatrix<A> {
         place: usize,
         tally: &mut Tally,
     ) -> Result<Option<BitVec<A>>, AllocError>
-        ensures value { IfOk result (λ o. IfSome o (λ v. (slice_get self.now.items place ≡ Some (number v)) × (length v ≡ self.now.width))) }
+        ensures value { IfOk result (λ o. IfSome o (λ v.
+            (slice_get self.now.items place ≡ Some (number v)) × (length v ≡ self.now.width))) }
         ensures answered { IfOk result (λ o. IsSome o ↔ (place < length self.now.items)) }
         ensures adds { AddsAtMost tally.old tally.new (query_reads self.now) }
     {
@@ -43,7 +45,8 @@ impl<A: Allocator + Copy> WaveletMatrix<A> {
     /// The symbol at a place of the list.
     pub fn get_value_unchecked(&self, place: usize) -> Result<BitVec<A>, AllocError>
         requires within { place < length self.now.items }
-        ensures { IfOk result (λ v. (number v ≡ slice_index self.now.items place) × (length v ≡ self.now.width)) }
+        ensures { IfOk result (λ v. (number v ≡ slice_index self.now.items place)
+            × (length v ≡ self.now.width)) }
     {
         let mut tally = Tally::new();
         let mut answer = self.zero_symbol()?;

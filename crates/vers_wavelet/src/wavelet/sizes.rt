@@ -37,7 +37,9 @@ impl<A: Allocator + Copy> WaveletMatrix<A> {
 // The bytes of the levels together: the level of the lowest digits comes last.
 fn size_of_levels<A: Allocator + Copy>(levels: &[RsVec<A>], len: usize) -> usize
     requires { AreLevels levels.now len }
-    ensures { result ≡ min (sum_by (λ j. index_size (digit_list j (values levels.now len))) (range_with_len 0 (length levels.now))) 18446744073709551615 }
+    ensures { result ≡ min (sum_by (λ j.
+        index_size (digit_list j (values levels.now len))) (range_with_len 0 (length levels.now)))
+        18446744073709551615 }
 {
     let mut bytes: usize = 0;
     for i in 0..levels.len() {

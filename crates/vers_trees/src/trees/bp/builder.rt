@@ -120,8 +120,10 @@ impl<const BLOCK_SIZE: usize, A: Allocator + Copy> BpBuilder<BLOCK_SIZE, A> {
     /// for. The list is dropped where the tree is refused.
     pub fn build(self) -> Result<BpTree<BLOCK_SIZE, A>, BuildError>
         ensures made { IfOk result (λ t. t ≡ self) }
-        ensures uneven { excess self (length self) ≢ pos 0 → result ≡ Err (BuildError.Excess (excess self (length self))) }
-        ensures even { excess self (length self) ≡ pos 0 → IfErr result (λ e. e ≡ BuildError.Memory) }
+        ensures uneven { excess self (length self) ≢ pos 0
+            → result ≡ Err (BuildError.Excess (excess self (length self))) }
+        ensures even { excess self (length self) ≡ pos 0
+            → IfErr result (λ e. e ≡ BuildError.Memory) }
     {
         if self.excess != 0 {
             return Err(BuildError::Excess(self.excess));

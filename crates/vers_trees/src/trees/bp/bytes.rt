@@ -80,8 +80,10 @@ impl Met {
         requires { value < 17 }
         ensures least { self.new.least ≡ min self.old.least value }
         ensures greatest { self.new.greatest ≡ max self.old.greatest value }
-        ensures again { self.old.least ≤ value → value ≤ self.old.greatest → self.new.places ≡ self.old.places }
-        ensures first { (value < self.old.least) ⊎ (self.old.greatest < value) → self.new.places ≡ slice_set self.old.places value place }
+        ensures again { self.old.least ≤ value → value ≤ self.old.greatest
+            → self.new.places ≡ self.old.places }
+        ensures first { (value < self.old.least) ⊎ (self.old.greatest < value)
+            → self.new.places ≡ slice_set self.old.places value place }
     {
         if value < self.least || value > self.greatest {
             self.places[value] = place;

@@ -60,7 +60,10 @@ impl<'a, const BLOCK_SIZE: usize, D, A: Allocator + Copy> Siblings<'a, BLOCK_SIZ
     fn new(bits: &'a RsVec<A>, tree: &'a MinMaxTree<A>, forward: bool, place: usize) -> Self
         requires indexed { IsIndexed bits.now BLOCK_SIZE tree.now.first tree.now.nodes }
         requires walk { IsWalkOfSiblings bits.now forward place }
-        ensures { result ≡ record { left = siblings_left bits.now forward place; step = enclose_reads BLOCK_SIZE (length bits.now) } }
+        ensures { result ≡ record {
+          left = siblings_left bits.now forward place;
+          step = enclose_reads BLOCK_SIZE (length bits.now);
+        } }
     {
         Siblings {
             bits,
@@ -187,7 +190,10 @@ impl<const BLOCK_SIZE: usize, A: Allocator + Copy> BpTree<BLOCK_SIZE, A> {
     pub fn children(&self, node: usize) -> ChildrenIter<'_, BLOCK_SIZE, true, A>
         requires balanced { IsBalanced self.now }
         requires is_node { IsNode (forest_of self.now) node }
-        ensures { result ≡ record { left = children (forest_of self.now) node; step = enclose_reads BLOCK_SIZE (length self.now) } }
+        ensures { result ≡ record {
+          left = children (forest_of self.now) node;
+          step = enclose_reads BLOCK_SIZE (length self.now);
+        } }
     {
         Siblings::new(&self.bits, &self.tree, true, node + 1)
     }
@@ -196,7 +202,10 @@ impl<const BLOCK_SIZE: usize, A: Allocator + Copy> BpTree<BLOCK_SIZE, A> {
     pub fn rev_children(&self, node: usize) -> ChildrenIter<'_, BLOCK_SIZE, false, A>
         requires balanced { IsBalanced self.now }
         requires is_node { IsNode (forest_of self.now) node }
-        ensures { result ≡ record { left = reverse (children (forest_of self.now) node); step = enclose_reads BLOCK_SIZE (length self.now) } }
+        ensures { result ≡ record {
+          left = reverse (children (forest_of self.now) node);
+          step = enclose_reads BLOCK_SIZE (length self.now);
+        } }
     {
         let end = self.close(node).unwrap_or(node);
         Siblings::new(&self.bits, &self.tree, false, end)

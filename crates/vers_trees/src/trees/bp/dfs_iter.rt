@@ -30,7 +30,10 @@ impl<'a, A: Allocator + Copy> Model for DfsIter<'a, A> {
 
 impl<'a, A: Allocator + Copy> DfsIter<'a, A> {
     pub(super) fn new(bits: &'a RsVec<A>) -> Self
-        ensures { result ≡ record { left = places true bits.now; step = select_reads (superblock_count (length bits.now)) } }
+        ensures { result ≡ record {
+          left = places true bits.now;
+          step = select_reads (superblock_count (length bits.now));
+        } }
     {
         DfsIter {
             places: bits.iter1(),

@@ -55,7 +55,8 @@ impl<const BLOCK_SIZE: usize, A: Allocator + Copy> BpTree<BLOCK_SIZE, A> {
     pub fn level_next(&self, node: usize) -> Option<usize>
         requires balanced { IsBalanced self.now }
         requires node { IsNode (forest_of self.now) node }
-        ensures { result ≡ next_of (level (forest_of self.now) (depth (forest_of self.now) node)) node }
+        ensures { result ≡ next_of (level (forest_of self.now) (depth (forest_of self.now) node))
+            node }
     {
         let mut tally = Tally::new();
         self.level_next_counted(node, &mut tally)
@@ -68,8 +69,10 @@ impl<const BLOCK_SIZE: usize, A: Allocator + Copy> BpTree<BLOCK_SIZE, A> {
     pub fn level_next_counted(&self, node: usize, tally: &mut Tally) -> Option<usize>
         requires balanced { IsBalanced self.now }
         requires node { IsNode (forest_of self.now) node }
-        ensures value { result ≡ next_of (level (forest_of self.now) (depth (forest_of self.now) node)) node }
-        ensures adds { AddsAtMost tally.old tally.new (two_searches_reads BLOCK_SIZE (length self.now)) }
+        ensures value { result ≡ next_of (level (forest_of self.now)
+            (depth (forest_of self.now) node)) node }
+        ensures adds { AddsAtMost tally.old tally.new
+            (two_searches_reads BLOCK_SIZE (length self.now)) }
     {
         let close = self.close_counted(node, tally)?;
         self.fwd_search_counted(close, 1, tally)
@@ -82,7 +85,8 @@ impl<const BLOCK_SIZE: usize, A: Allocator + Copy> BpTree<BLOCK_SIZE, A> {
     pub fn level_prev(&self, node: usize) -> Option<usize>
         requires balanced { IsBalanced self.now }
         requires node { IsNode (forest_of self.now) node }
-        ensures { result ≡ previous_of (level (forest_of self.now) (depth (forest_of self.now) node)) node }
+        ensures { result ≡ previous_of
+            (level (forest_of self.now) (depth (forest_of self.now) node)) node }
     {
         let mut tally = Tally::new();
         self.level_prev_counted(node, &mut tally)
@@ -95,8 +99,10 @@ impl<const BLOCK_SIZE: usize, A: Allocator + Copy> BpTree<BLOCK_SIZE, A> {
     pub fn level_prev_counted(&self, node: usize, tally: &mut Tally) -> Option<usize>
         requires balanced { IsBalanced self.now }
         requires node { IsNode (forest_of self.now) node }
-        ensures value { result ≡ previous_of (level (forest_of self.now) (depth (forest_of self.now) node)) node }
-        ensures adds { AddsAtMost tally.old tally.new (two_searches_reads BLOCK_SIZE (length self.now)) }
+        ensures value { result ≡ previous_of
+            (level (forest_of self.now) (depth (forest_of self.now) node)) node }
+        ensures adds { AddsAtMost tally.old tally.new
+            (two_searches_reads BLOCK_SIZE (length self.now)) }
     {
         let close = self.bwd_search_counted(node, 1, tally)?;
         self.open_counted(close, tally)
@@ -153,7 +159,8 @@ impl<const BLOCK_SIZE: usize, A: Allocator + Copy> BpTree<BLOCK_SIZE, A> {
     pub fn level_rightmost_counted(&self, depth: u64, tally: &mut Tally) -> Option<usize>
         requires balanced { IsBalanced self.now }
         ensures value { result ≡ last_of (level (forest_of self.now) depth) }
-        ensures adds { AddsAtMost tally.old tally.new (two_searches_reads BLOCK_SIZE (length self.now)) }
+        ensures adds { AddsAtMost tally.old tally.new
+            (two_searches_reads BLOCK_SIZE (length self.now)) }
     {
         let len = self.len();
         if depth >= len as u64 {

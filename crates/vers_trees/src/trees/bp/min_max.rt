@@ -146,7 +146,8 @@ impl<A: Allocator + Copy> MinMaxTree<A> {
     fn descend_counted(&self, place: usize, mut left: i64, tally: &mut Tally) -> (usize, i64)
         requires tree { IsMinMax self.now.first self.now.nodes }
         requires within { place ≤ 2 * self.now.first }
-        requires leads { (from : ℕ) × (t : ℤ) × LeadsTo self.now.first self.now.nodes from t place left }
+        requires leads { (from : ℕ) × (t : ℤ)
+            × LeadsTo self.now.first self.now.nodes from t place left }
         ensures found { (from : ℕ) (t : ℤ) →
             LeadsTo self.now.first self.now.nodes from t place left →
             IsNextFrom (drop self.now.first self.now.nodes) from t result.0 result.1 }
@@ -206,7 +207,8 @@ impl<A: Allocator + Copy> MinMaxTree<A> {
     fn descend_back_counted(&self, place: usize, mut left: i64, tally: &mut Tally) -> (usize, i64)
         requires tree { IsMinMax self.now.first self.now.nodes }
         requires within { place ≤ 2 * self.now.first }
-        requires leads { (to : ℕ) × (t : ℤ) × LeadsBack self.now.first self.now.nodes to t place left }
+        requires leads { (to : ℕ) × (t : ℤ) × LeadsBack self.now.first self.now.nodes to t place
+            left }
         ensures found { (to : ℕ) (t : ℤ) →
             LeadsBack self.now.first self.now.nodes to t place left →
             IsPreviousBefore (drop self.now.first self.now.nodes) to t result.0 result.1 }

@@ -87,7 +87,8 @@ impl<const BLOCK_SIZE: usize, A: Allocator + Copy> BpTree<BLOCK_SIZE, A> {
         requires balanced { IsBalanced self.now }
         requires node { IsNode (forest_of self.now) node }
         ensures value { result ≡ last_of (children (forest_of self.now) node) }
-        ensures adds { AddsAtMost tally.old tally.new (two_searches_reads BLOCK_SIZE (length self.now)) }
+        ensures adds { AddsAtMost tally.old tally.new
+            (two_searches_reads BLOCK_SIZE (length self.now)) }
     {
         let close = self.close_counted(node, tally)?;
         let last = close - 1;
@@ -296,7 +297,8 @@ impl<const BLOCK_SIZE: usize, A: Allocator + Copy> BpTree<BLOCK_SIZE, A> {
         requires ancestor { IsNode (forest_of self.now) ancestor }
         requires descendant { IsNode (forest_of self.now) descendant }
         ensures value { result ≡ Some (is_ancestor (forest_of self.now) ancestor descendant) }
-        ensures adds { AddsAtMost tally.old tally.new (two_searches_reads BLOCK_SIZE (length self.now)) }
+        ensures adds { AddsAtMost tally.old tally.new
+            (two_searches_reads BLOCK_SIZE (length self.now)) }
     {
         let outer = self.close_counted(ancestor, tally)?;
         let inner = self.close_counted(descendant, tally)?;

@@ -48,7 +48,10 @@ impl<'a, const BLOCK_SIZE: usize, A: Allocator + Copy> ClosedNodes<'a, BLOCK_SIZ
     fn new(bits: &'a RsVec<A>, tree: &'a MinMaxTree<A>, zeros: SelectIter<'a, true, A>) -> Self
         requires indexed { IsIndexed bits.now BLOCK_SIZE tree.now.first tree.now.nodes }
         requires opened { AllOpened bits.now zeros.left }
-        ensures { result ≡ record { left = map (opening_of bits.now) zeros.entry.left; step = plus zeros.entry.step (search_reads BLOCK_SIZE (length bits.now)) } }
+        ensures { result ≡ record {
+          left = map (opening_of bits.now) zeros.entry.left;
+          step = plus zeros.entry.step (search_reads BLOCK_SIZE (length bits.now));
+        } }
     {
         ClosedNodes { bits, tree, zeros }
     }
@@ -173,7 +176,10 @@ impl<const BLOCK_SIZE: usize, A: Allocator + Copy> BpTree<BLOCK_SIZE, A> {
     /// An iterator over all nodes, each after those below it. The parentheses are balanced.
     pub fn dfs_post_iter(&self) -> PostIter<'_, BLOCK_SIZE, A>
         requires balanced { IsBalanced self.now }
-        ensures { result ≡ record { left = postorder (forest_of self.now); step = post_reads BLOCK_SIZE (length self.now) } }
+        ensures { result ≡ record {
+          left = postorder (forest_of self.now);
+          step = post_reads BLOCK_SIZE (length self.now);
+        } }
     {
         PostIter {
             nodes: ClosedNodes::new(&self.bits, &self.tree, self.bits.iter0()),
@@ -185,7 +191,10 @@ impl<const BLOCK_SIZE: usize, A: Allocator + Copy> BpTree<BLOCK_SIZE, A> {
     pub fn subtree_post_iter(&self, node: usize) -> SubtreePostIter<'_, BLOCK_SIZE, A>
         requires balanced { IsBalanced self.now }
         requires is_node { IsNode (forest_of self.now) node }
-        ensures { result ≡ record { left = subtree_post (forest_of self.now) node; step = post_reads BLOCK_SIZE (length self.now) } }
+        ensures { result ≡ record {
+          left = subtree_post (forest_of self.now) node;
+          step = post_reads BLOCK_SIZE (length self.now);
+        } }
     {
         let first = self.bits.rank0(node);
         let count = self.nodes_within(node);

@@ -143,7 +143,8 @@ fn bits_backward<A: Allocator + Copy>(
 ) -> Result<usize, i64>
     requires order { begin ≤ end }
     requires short { length bits.now < 2 ^ 63 }
-    requires passed { (to : ℕ) × (end ≤ to) × (to ≤ length bits.now) × HasNoRiseBefore bits.now end to target rise }
+    requires passed { (to : ℕ) × (end ≤ to) × (to ≤ length bits.now)
+        × HasNoRiseBefore bits.now end to target rise }
     ensures value { (to : ℕ) → end ≤ to → to ≤ length bits.now → HasNoRiseBefore bits.now end to target rise → MatchResult
         result
         (λ place. IsLastRise bits.now begin to target place)
@@ -175,7 +176,8 @@ fn bytes_backward<A: Allocator + Copy>(
     requires order { begin ≤ end }
     requires whole { (end - begin) % 8 ≡ 0 }
     requires short { length bits.now < 2 ^ 63 }
-    requires passed { (to : ℕ) × (end ≤ to) × (to ≤ length bits.now) × HasNoRiseBefore bits.now end to target rise }
+    requires passed { (to : ℕ) × (end ≤ to) × (to ≤ length bits.now)
+        × HasNoRiseBefore bits.now end to target rise }
     ensures value { (to : ℕ) → end ≤ to → to ≤ length bits.now → HasNoRiseBefore bits.now end to target rise → MatchResult
         result
         (λ place. IsLastRise bits.now begin to target place)

@@ -91,7 +91,10 @@ impl<const BLOCK_SIZE: usize, A: Allocator + Copy> BpTree<BLOCK_SIZE, A> {
     pub fn subtree_iter(&self, node: usize) -> SubtreeIter<'_, A>
         requires balanced { IsBalanced self.now }
         requires is_node { IsNode (forest_of self.now) node }
-        ensures { result ≡ record { left = subtree (forest_of self.now) node; step = select_reads (superblock_count (length self.now)) } }
+        ensures { result ≡ record {
+          left = subtree (forest_of self.now) node;
+          step = select_reads (superblock_count (length self.now));
+        } }
     {
         let first = self.bits.rank1(node);
         let count = self.nodes_within(node);

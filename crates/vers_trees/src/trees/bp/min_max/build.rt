@@ -32,7 +32,8 @@ fn leaves_of<A: Allocator + Copy>(
     requires short { length bits.now < 2 ^ 63 }
     requires some { 0 < size }
     requires bounded { size ≤ 4294967296 }
-    ensures { IfOk result (λ v. AreFirstBlocks bits.now size first (block_count size (length bits.now)) v.items) }
+    ensures { IfOk result (λ v. AreFirstBlocks bits.now size first
+        (block_count size (length bits.now)) v.items) }
 {
     let len = bits.len();
     let mut nodes = Vec::new(bits.allocator());
