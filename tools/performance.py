@@ -172,18 +172,19 @@ def plot(tables):
         parts += [
             f'<text x="{LEFT - 10}" y="{y + 14}" class="name">{name}</text>',
             f'<rect x="{LEFT}" y="{y + 3}" width="{length}" height="14" class="{kind}"/>',
-            f'<text x="{LEFT + length + 6}" y="{y + 14}">{cell.ratio}</text>',
+            f'<text x="{LEFT + length + 6}" y="{y + 14}" class="ratio">{cell.ratio}</text>',
         ]
         y += STEP
     height = y + 12
     return "\n".join([
         f'<svg xmlns="http://www.w3.org/2000/svg" width="{WIDTH}" height="{height}" viewBox="0 0 {WIDTH} {height}">',
         "<style>text { font: 12px sans-serif; fill: #222 } .group { font-weight: bold } .name { text-anchor: end } "
+        ".ratio { paint-order: stroke; stroke: #fff; stroke-width: 5px } "
         ".less { fill: #3b7dd8 } .more { fill: #d87a3b } .title { font-size: 14px }</style>",
         f'<rect width="{WIDTH}" height="{height}" fill="#fff"/>',
         '<text x="12" y="24" class="title">Time of an operation, as a ratio to that of vers-vecs 1.10.2 (shorter is faster)</text>',
-        *parts,
         f'<line x1="{LEFT + UNIT}" y1="40" x2="{LEFT + UNIT}" y2="{height - 8}" stroke="#222" stroke-dasharray="4 3"/>',
+        *parts,
         f'<text x="{LEFT + UNIT + 4}" y="46">1</text>',
         "</svg>",
     ]) + "\n"
