@@ -91,7 +91,7 @@ impl<A: Allocator + Copy> RsVec<A> {
     {
         let block = place / BLOCK;
         let zeros = self.zeros_before(block, tally);
-        BLOCK * block - zeros + self.ones_in_block(place, is_whole, tally)
+        BLOCK * block - zeros + self.ones_in_block(block, place, is_whole, tally)
     }
 
     // The zeros before a block.
@@ -106,32 +106,39 @@ impl<A: Allocator + Copy> RsVec<A> {
         self.blocks.read(block, tally) as usize + self.superblocks.read(block / 16, tally) as usize
     }
 
-    // The ones from the start of a place's block up to the place, by halves: its first 4 limbs, the
-    // first 2 of the place's half and the first of its quarter are left out of the sum where the place
-    // does not lie past them. In a whole block all of them are read, with no branch on the place,
-    // which would be guessed wrong. In the last block, which may have fewer limbs, those that are left
-    // out are not read.
+    // The ones from the start of a block up to a place in it, by halves: its first 4 limbs, the first 2
+    // of the place's half and the first of its quarter are left out of the sum where the place does not
+    // lie past them. In a whole block all of them are read, with no branch on the place, which would be
+    // guessed wrong. In the last block, which may have fewer limbs, those that are left out are not
+    // read.
     #[inline(always)]
-    fn ones_in_block(&self, place: usize, is_whole: bool, tally: &mut Tally) -> usize
-        requires within { place < length self.now }
-        requires whole { IsTrue is_whole → 512 * (place / 512) + 512 ≤ length self.now }
-        ensures value { count true self.now (512 * (place / 512)) + result
-            ≡ count true self.now place }
+    fn ones_in_block(&self, block: usize, place: usize, is_whole: bool, tally: &mut Tally) -> usize
+        requires within { (512 * block ≤ place) × (place < 512 * block + 512)
+            × (place < length self.now) }
+        requires whole { IsTrue is_whole → 512 * block + 512 ≤ length self.now }
+        ensures value { count true self.now (512 * block) + result ≡ count true self.now place }
         ensures adds { AddsAtMost tally.old tally.new (only_data_words 8) }
     {
-        let halves = self.ones_before_half(place, is_whole, tally);
+        let halves = self.ones_before_half(block, place, is_whole, tally);
         let quarters = self.ones_before_quarter(place, is_whole, tally);
         let limbs = self.ones_before_limb(place, is_whole, tally);
         halves + quarters + limbs + self.ones_of_part(place, tally)
     }
 
-    // The ones from the start of a place's block up to its half of it.
+    // The ones from the start of a block up to a place's half of it.
     #[inline(always)]
     #[tactic(auto, using(crate::proofs::Ranks::parts))]
-    fn ones_before_half(&self, place: usize, is_whole: bool, tally: &mut Tally) -> usize
-        requires within { place < length self.now }
-        requires whole { IsTrue is_whole → 512 * (place / 512) + 512 ≤ length self.now }
-        ensures value { count true self.now (512 * (place / 512)) + result
+    fn ones_before_half(
+        &self,
+        block: usize,
+        place: usize,
+        is_whole: bool,
+        tally: &mut Tally,
+    ) -> usize
+        requires within { (512 * block ≤ place) × (place < 512 * block + 512)
+            × (place < length self.now) }
+        requires whole { IsTrue is_whole → 512 * block + 512 ≤ length self.now }
+        ensures value { count true self.now (512 * block) + result
             ≡ count true self.now (256 * (place / 256)) }
         ensures few { result ≤ 256 }
         ensures adds { AddsAtMost tally.old tally.new (only_data_words 4) }
@@ -140,7 +147,7 @@ impl<A: Allocator + Copy> RsVec<A> {
         if !is_whole && !is_second_half {
             return 0;
         }
-        let from = place / BLOCK * 8;
+        let from = 8 * block;
         let middle = from + 2;
         let first = self.ones_of_pair(from, tally) + self.ones_of_pair(middle, tally);
         if is_second_half { first } else { 0 }
