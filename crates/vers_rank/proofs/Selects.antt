@@ -191,35 +191,36 @@ next_two b l k x y one other = let e : 64 * (k + 1 + 1) ≡ 64 * (k + 2) = omega
 pub record ArePassed (b : Bool) (l : List Bool) (s r j blocks rest : ℕ) : Type 0 where
   pub within : blocks ≤ j
   pub some : 0 < j → 0 < blocks
-  pub none : j ≡ 0 → rest ≡ r
-  pub from : rest ≤ r
+  pub none : j ≡ 0 → rest ≡ 65535
+  pub from : 0 < j → rest ≤ r
   pub counted : 0 < blocks → count b l (512 * (16 * s + (blocks - 1))) + rest ≡ count b l (8192 * s) + r
   pub to : blocks < j → count b l (8192 * s) + r < count b l (512 * (16 * s + blocks))
 
-pub none_passed : (b : Bool) (l : List Bool) (s r : ℕ) → ArePassed b l s r 0 0 r
+pub none_passed : (b : Bool) (l : List Bool) (s r : ℕ) → ArePassed b l s r 0 0 65535
 none_passed b l s r = record {
   within = omega arith;
   some = λ h. h;
   none = λ _. refl;
-  from = omega arith;
+  from = λ h. absurd (omega arith);
   counted = λ h. absurd (omega arith);
   to = λ h. absurd (omega arith);
 }
 
-pub one_passed : (b : Bool) (l : List Bool) (s r j blocks rest entry more_blocks more_rest : ℕ) → ArePassed b l s r j blocks rest → count b l (8192 * s) + entry ≡ count b l (512 * (16 * s + j))
-    → (entry ≤ r → (more_blocks ≡ blocks + 1) × (more_rest ≡ min rest (r - entry))) → (r < entry → (more_blocks ≡ blocks) × (more_rest ≡ rest)) → ArePassed b l s r (j + 1) more_blocks more_rest
-one_passed b l s r j blocks rest entry more_blocks more_rest is counts on off = elim (cases_lt r entry) [
+pub one_passed : (b : Bool) (l : List Bool) (s r j blocks rest entry more_blocks more_rest : ℕ) → ArePassed b l s r j blocks rest → count b l (8192 * s) + entry ≡ count b l (512 * (16 * s + j)) → entry ≤ 8192 → r < 8192
+    → (entry ≤ r → (more_blocks ≡ blocks + 1) × (more_rest ≡ min rest (r - entry))) → (r < entry → (more_blocks ≡ blocks) × (more_rest ≡ min rest (65536 + r - entry))) → ArePassed b l s r (j + 1) more_blocks more_rest
+one_passed b l s r j blocks rest entry more_blocks more_rest is counts small few on off = elim (cases_lt r entry) [
   | inl high ↦
       let first : 0 < j = elim (cases_lt 0 j) [
         | inl h ↦ h
         | inr none ↦ (let e : 512 * (16 * s + j) ≡ 8192 * s = omega arith in absurd (omega (arith, counts, ap (count b l) e)))
       ] in
       let same : (blocks ≡ j → count b l (8192 * s) + r < count b l (512 * (16 * s + blocks))) = λ e. omega (arith, counts, ap (λ k. count b l (512 * (16 * s + k))) e) in
-      rw ((off high).0, (off high).1) (record {
+      let kept : min rest (65536 + r - entry) ≡ rest = omega (arith, is.from first) in
+      rw ((off high).0, (off high).1, kept) (record {
         within = omega (arith, is.within);
         some = λ _. is.some first;
         none = λ e. absurd (omega arith);
-        from = is.from;
+        from = λ _. is.from first;
         counted = is.counted;
         to = λ h. elim (cases_lt blocks j) [ inl less ↦ is.to less | inr all ↦ same (omega (arith, is.within)) ];
       })
@@ -238,7 +239,7 @@ one_passed b l s r j blocks rest entry more_blocks more_rest is counts on off = 
         within = omega (arith, is.within);
         some = λ _. omega arith;
         none = λ e. absurd (omega arith);
-        from = omega arith;
+        from = λ _. omega arith;
         counted = λ _. omega (arith, counts, ap (count b l) last);
         to = λ h. absurd (omega (arith, all));
       })
@@ -249,6 +250,43 @@ pub ruleset halves_of_block = (held_up, next_two)
 -- the greater half of n has a digit less
 pub half_left : (n : ℕ) → 1 < n → digits (n - n / 2 - 1) + 1 ≤ digits (n - 1)
 half_left n h = digits_halved (n - n / 2 - 1) (n - 1) (omega arith) (omega arith)
+
+-- the superblock that two choices among at most four leave
+pub one_of_few : (b : Bool) (l : List Bool) (r first last half start next found : ℕ) → first ≤ last → last < first + 4 → count b l (8192 * first) ≤ r → r < count b l (8192 * (last + 1))
+    → half ≡ min (first + 2) last → (count b l (8192 * half) ≤ r → start ≡ half) → (r < count b l (8192 * half) → start ≡ first)
+    → next ≡ min (start + 1) last → (count b l (8192 * next) ≤ r → found ≡ next) → (r < count b l (8192 * next) → found ≡ start)
+    → (found ≤ last) × (count b l (8192 * found) ≤ r) × (r < count b l (8192 * (found + 1)))
+one_of_few b l r first last half start next found some few from to halfway on off onward next_on next_off =
+    let at : ℕ → ℕ = λ s. count b l (8192 * s) in
+    let among : (start ≤ last) × (at start ≤ r) × (r < at (next + 1)) = elim (cases_lt r (at half)) [
+      | inl high ↦
+          let same : start ≡ first = off high in (
+            omega (arith, same, some),
+            omega (arith, from, ap at same),
+            elim (cases_lt (first + 1) last) [
+              | inl more ↦ let e : next + 1 ≡ half = omega (arith, same, halfway, onward) in omega (arith, high, ap at e)
+              | inr less ↦ let e : next + 1 ≡ last + 1 = omega (arith, same, some, onward) in omega (arith, to, ap at e)
+            ],
+          )
+      | inr low ↦
+          let same : start ≡ half = on low in
+          let e : next + 1 ≡ last + 1 = omega (arith, same, halfway, onward, few) in
+          (omega (arith, same, halfway), omega (arith, low, ap at same), omega (arith, to, ap at e))
+    ] in
+    elim (cases_lt r (at next)) [
+      | inl high ↦
+          let same : found ≡ start = next_off high in
+          let below : start < last = elim (cases_lt start last) [
+            | inl h ↦ h
+            | inr h ↦ (let e : next ≡ start = omega (arith, onward, among.0) in absurd (omega (arith, high, among.1, ap at e)))
+          ] in
+          let e : next ≡ found + 1 = omega (arith, below, same, onward) in
+          (omega (arith, same, among.0), omega (arith, among.1, ap at same), omega (arith, high, ap at e))
+      | inr low ↦
+          let same : found ≡ next = next_on low in
+          let e : found + 1 ≡ next + 1 = omega (arith, same) in
+          (omega (arith, same, onward), omega (arith, low, ap at same), omega (arith, among.2, ap at e))
+    ]
 
 -- a few steps, and then halves
 pub ruleset steps = (digits_up)

@@ -1,5 +1,5 @@
 //! How many zeros or ones stand below a place.
-ghost use Rattle.std.specs.Prelude.{◌≡◌, ℕ, ◌+◌, ◌*◌, ◌/◌, ◌<◌, ◌≤◌, length, min, true, false};
+ghost use Rattle.std.specs.Prelude.{◌≡◌, ℕ, ◌+◌, ◌*◌, ◌/◌, ◌<◌, ◌≤◌, ◌↔◌, IsTrue, length, true, false};
 ghost use Rattle.vers_bits.specs.Bits.{count};
 ghost use Rattle.vers_tally.specs.Reads.{no_reads, one_more, only_data_words, AddsAtMost};
 ghost use Rattle.vers_rank.specs.Queries.{rank_reads};
@@ -40,12 +40,13 @@ impl<A: Allocator + Copy> RsVec<A> {
         ensures adds { AddsAtMost tally.old tally.new rank_reads }
     {
         tally.add_rank_call();
+        if self.is_in_whole_block(place) {
+            return place - self.ones_below(place, true, tally);
+        }
         if place >= self.len() {
             return self.zeros();
         }
-        let block = place / BLOCK;
-        let zeros = self.zeros_before(block, tally);
-        zeros + (place - BLOCK * block) - self.ones_in_block(block, place, tally)
+        place - self.ones_below(place, false, tally)
     }
 
     /// How many ones stand below a place, by at most 8 data words, one block entry and one
@@ -59,12 +60,38 @@ impl<A: Allocator + Copy> RsVec<A> {
         ensures adds { AddsAtMost tally.old tally.new rank_reads }
     {
         tally.add_rank_call();
+        if self.is_in_whole_block(place) {
+            return self.ones_below(place, true, tally);
+        }
         if place >= self.len() {
             return self.ones();
         }
+        self.ones_below(place, false, tally)
+    }
+
+    // Whether a place lies in a block that has all its bits: one test for most places of a list, which
+    // says that the place is within the list too.
+    #[inline(always)]
+    fn is_in_whole_block(&self, place: usize) -> bool
+        ensures { IsTrue result ↔ (512 * (place / 512) + 512 ≤ length self.now) }
+    {
+        place < self.len() / BLOCK * BLOCK
+    }
+
+    // The ones below a place of the list, where `is_whole` says that its block has all its bits.
+    #[inline(always)]
+    #[tactic(auto, using(crate::proofs::Ranks::sums))]
+    fn ones_below(&self, place: usize, is_whole: bool, tally: &mut Tally) -> usize
+        requires within { place < length self.now }
+        requires whole { IsTrue is_whole → 512 * (place / 512) + 512 ≤ length self.now }
+        ensures value { result ≡ count true self.now place }
+        ensures few { result ≤ place }
+        ensures adds { AddsAtMost tally.old tally.new
+            (record no_reads { data_words = 8; block_entries = 1; superblock_entries = 1 }) }
+    {
         let block = place / BLOCK;
         let zeros = self.zeros_before(block, tally);
-        BLOCK * block - zeros + self.ones_in_block(block, place, tally)
+        BLOCK * block - zeros + self.ones_in_block(block, place, is_whole, tally)
     }
 
     // The zeros before a block.
@@ -79,86 +106,89 @@ impl<A: Allocator + Copy> RsVec<A> {
         self.blocks.read(block, tally) as usize + self.superblocks.read(block / 16, tally) as usize
     }
 
-    // The ones from the start of a block up to a place in it. A block of 8 limbs is counted by halves,
-    // with no branch on the place, which would be guessed wrong: its first 4 limbs, the first 2 of the
-    // place's half and the first of the place's quarter are read, and left out of the sum where the
-    // place does not lie past them.
+    // The ones from the start of a block up to a place in it, by halves: its first 4 limbs, the first 2
+    // of the place's half and the first of its quarter are left out of the sum where the place does not
+    // lie past them. In a whole block all of them are read, with no branch on the place, which would be
+    // guessed wrong. In the last block, which may have fewer limbs, those that are left out are not
+    // read.
     #[inline(always)]
-    fn ones_in_block(&self, block: usize, place: usize, tally: &mut Tally) -> usize
+    fn ones_in_block(&self, block: usize, place: usize, is_whole: bool, tally: &mut Tally) -> usize
         requires within { (512 * block ≤ place) × (place < 512 * block + 512)
             × (place < length self.now) }
+        requires whole { IsTrue is_whole → 512 * block + 512 ≤ length self.now }
         ensures value { count true self.now (512 * block) + result ≡ count true self.now place }
         ensures adds { AddsAtMost tally.old tally.new (only_data_words 8) }
     {
-        if self.len() - BLOCK * block < BLOCK {
-            return self.ones_limb_by_limb(block, place, tally);
-        }
-        let halves = self.ones_before_half(block, place, tally);
-        let quarters = self.ones_before_quarter(place, tally);
-        let limbs = self.ones_before_limb(place, tally);
+        let halves = self.ones_before_half(block, place, is_whole, tally);
+        let quarters = self.ones_before_quarter(place, is_whole, tally);
+        let limbs = self.ones_before_limb(place, is_whole, tally);
         halves + quarters + limbs + self.ones_of_part(place, tally)
     }
 
-    // The same in the last block, which may have fewer limbs: none past the place is read.
-    #[inline(always)]
-    fn ones_limb_by_limb(&self, block: usize, place: usize, tally: &mut Tally) -> usize
-        requires within { (512 * block ≤ place) × (place < 512 * block + 512)
-            × (place < length self.now) }
-        ensures value { count true self.now (512 * block) + result ≡ count true self.now place }
-        ensures adds { AddsAtMost tally.old tally.new (only_data_words 8) }
-    {
-        let from = 8 * block;
-        let whole = place / 64 - from;
-        let mut ones = 0;
-        for k in 0..whole {
-            ones += self.ones_of_whole_limb(from, k, whole, tally);
-        }
-        ones + self.ones_of_part(place, tally)
-    }
-
-    // The ones from the start of a whole block up to a place's half of it.
+    // The ones from the start of a block up to a place's half of it.
     #[inline(always)]
     #[tactic(auto, using(crate::proofs::Ranks::parts))]
-    fn ones_before_half(&self, block: usize, place: usize, tally: &mut Tally) -> usize
+    fn ones_before_half(
+        &self,
+        block: usize,
+        place: usize,
+        is_whole: bool,
+        tally: &mut Tally,
+    ) -> usize
         requires within { (512 * block ≤ place) × (place < 512 * block + 512)
-            × (512 * block + 512 ≤ length self.now) }
+            × (place < length self.now) }
+        requires whole { IsTrue is_whole → 512 * block + 512 ≤ length self.now }
         ensures value { count true self.now (512 * block) + result
             ≡ count true self.now (256 * (place / 256)) }
         ensures few { result ≤ 256 }
         ensures adds { AddsAtMost tally.old tally.new (only_data_words 4) }
     {
+        let is_second_half = place / 256 % 2 == 1;
+        if !is_whole && !is_second_half {
+            return 0;
+        }
         let from = 8 * block;
         let middle = from + 2;
         let first = self.ones_of_pair(from, tally) + self.ones_of_pair(middle, tally);
-        if place / 256 % 2 == 1 { first } else { 0 }
+        if is_second_half { first } else { 0 }
     }
 
     // The ones from the start of a place's half of a block up to its quarter.
     #[inline(always)]
     #[tactic(auto, using(crate::proofs::Ranks::parts))]
-    fn ones_before_quarter(&self, place: usize, tally: &mut Tally) -> usize
-        requires within { 256 * (place / 256) + 256 ≤ length self.now }
+    fn ones_before_quarter(&self, place: usize, is_whole: bool, tally: &mut Tally) -> usize
+        requires within { place < length self.now }
+        requires whole { IsTrue is_whole → 512 * (place / 512) + 512 ≤ length self.now }
         ensures value { count true self.now (256 * (place / 256)) + result
             ≡ count true self.now (128 * (place / 128)) }
         ensures few { result ≤ 128 }
         ensures adds { AddsAtMost tally.old tally.new (only_data_words 2) }
     {
+        let is_second_quarter = place / 128 % 2 == 1;
+        if !is_whole && !is_second_quarter {
+            return 0;
+        }
         let first = self.ones_of_pair(place / 256 * 4, tally);
-        if place / 128 % 2 == 1 { first } else { 0 }
+        if is_second_quarter { first } else { 0 }
     }
 
     // The ones from the start of a place's quarter of a block up to its limb.
     #[inline(always)]
     #[tactic(auto, using(crate::proofs::Ranks::parts))]
-    fn ones_before_limb(&self, place: usize, tally: &mut Tally) -> usize
-        requires within { 128 * (place / 128) + 128 ≤ length self.now }
+    fn ones_before_limb(&self, place: usize, is_whole: bool, tally: &mut Tally) -> usize
+        requires within { place < length self.now }
+        requires whole { IsTrue is_whole → 512 * (place / 512) + 512 ≤ length self.now }
         ensures value { count true self.now (128 * (place / 128)) + result
             ≡ count true self.now (64 * (place / 64)) }
         ensures few { result ≤ 64 }
         ensures adds { AddsAtMost tally.old tally.new (only_data_words 1) }
     {
+        let is_second_limb = place / 64 % 2 == 1;
+        if !is_whole && !is_second_limb {
+            return 0;
+        }
         let first = self.ones_of_limb(place / 128 * 2, tally);
-        if place / 64 % 2 == 1 { first } else { 0 }
+        if is_second_limb { first } else { 0 }
     }
 
     // The ones of two limbs.
@@ -184,21 +214,6 @@ impl<A: Allocator + Copy> RsVec<A> {
         ensures adds { AddsAtMost tally.old tally.new (only_data_words 1) }
     {
         self.bits.limb(k, tally).count_ones() as usize
-    }
-
-    // The ones of limb `k` from limb number `from` on, where it is one of the `whole` first, and 0
-    // of another one.
-    #[inline(always)]
-    #[tactic(auto, using(crate::proofs::Ranks::limbs))]
-    fn ones_of_whole_limb(&self, from: usize, k: usize, whole: usize, tally: &mut Tally) -> usize
-        requires { 64 * (from + k) < length self.now }
-        ensures value { count true self.now (64 * (from + min k whole)) + result
-            ≡ count true self.now (64 * (from + min (k + 1) whole)) }
-        ensures few { result ≤ 64 }
-        ensures adds { AddsAtMost tally.old tally.new (only_data_words 1) }
-    {
-        let ones = self.bits.limb(from + k, tally).count_ones() as usize;
-        if k < whole { ones } else { 0 }
     }
 
     // The ones of a place's limb that stand below it.

@@ -1,5 +1,5 @@
 //! The places of zeros and ones.
-ghost use Rattle.std.specs.Prelude.{◌≡◌, ℕ, ◌+◌, ◌-◌, ◌*◌, ◌/◌, ◌^◌, ◌<◌, ◌≤◌, length, min, true, false};
+ghost use Rattle.std.specs.Prelude.{◌≡◌, ℕ, ◌+◌, ◌-◌, ◌*◌, ◌/◌, ◌^◌, ◌<◌, ◌≤◌, IsFalse, IsTrue, length, min, true, false};
 ghost use Rattle.vers_bits.specs.Bits.{count, limb, select};
 ghost use Rattle.vers_tally.specs.Reads.{no_reads, one_more, only_block_entries, only_superblock_entries, only_data_words, digits, AddsAtMost};
 ghost use Rattle.vers_rank.specs.Queries.{superblock_count, select_reads};
@@ -23,6 +23,9 @@ struct FoundBlock {
     rest: u16,
 }
 
+/// From where on a difference of numbers of a superblock went round the end of the numbers.
+const FAR_BELOW: u16 = 0x8000;
+
 // How many blocks of a superblock were passed, and how far the entry of the last of them lies below a
 // number.
 #[derive(Clone, Copy)]
@@ -37,15 +40,17 @@ impl Passed {
     #[inline(always)]
     fn and(self, entry: u16, r: u16) -> Passed
         requires few { self.blocks < 16 }
-        requires rest { self.rest ≤ r }
+        requires small { (entry ≤ 8192) × (r < 8192) }
         ensures passed { entry ≤ r → (result.blocks ≡ self.blocks + 1)
             × (result.rest ≡ min self.rest (r - entry)) }
-        ensures kept { r < entry → (result.blocks ≡ self.blocks) × (result.rest ≡ self.rest) }
+        ensures kept { r < entry → (result.blocks ≡ self.blocks)
+            × (result.rest ≡ min self.rest (65536 + r - entry)) }
     {
-        let more = if entry <= r { 1 } else { 0 };
+        let below = r.wrapping_sub(entry);
+        let more = if below < FAR_BELOW { 1 } else { 0 };
         Passed {
             blocks: self.blocks + more,
-            rest: self.rest.min(r.wrapping_sub(entry)),
+            rest: self.rest.min(below),
         }
     }
 }
@@ -183,9 +188,32 @@ impl<A: Allocator + Copy> RsVec<A> {
         let _ = &self.bits;
         let s = self.superblock_with(bit, r, tally);
         let r_in_superblock = (r - self.count_at_superblock(bit, s, tally)) as u16;
-        let found = self.block_with(bit, r_in_superblock, s, tally);
+        if self.len() - SUPERBLOCK * s >= SUPERBLOCK {
+            return self.locate_in(bit, r_in_superblock, s, true, tally);
+        }
+        self.locate_in(bit, r_in_superblock, s, false, tally)
+    }
+
+    // Where number `r` of a superblock stands, where `is_whole` says that the superblock has all its
+    // bits.
+    #[inline(always)]
+    fn locate_in(&self, bit: bool, r: u16, s: usize, is_whole: bool, tally: &mut Tally) -> InWord
+        requires within { 8192 * s < length self.now }
+        requires whole { IsTrue is_whole → 8192 * s + 8192 ≤ length self.now }
+        requires last { IsFalse is_whole → length self.now < 8192 * s + 8192 }
+        requires small { r < 8192 }
+        requires to { count bit self.now (8192 * s) + r < count bit self.now (8192 * (s + 1)) }
+        ensures value { 64 * result.limb + result.place
+            ≡ select bit self.now (count bit self.now (8192 * s) + r) }
+        ensures within { (64 * result.limb < length self.now) × (result.place < 64) }
+        ensures word { result.word ≡ limb self.now result.limb }
+        ensures adds { AddsAtMost tally.old tally.new
+            (record no_reads { data_words = 8; block_entries = 16 }) }
+    {
+        let _ = &self.bits;
+        let found = self.block_with(bit, r, s, is_whole, tally);
         let block = BLOCKS * s + found.block as usize;
-        self.place_in_block(bit, found.rest as usize, block, tally)
+        self.place_in_block(bit, found.rest as usize, block, is_whole, tally)
     }
 
     // How many places hold the bit.
@@ -215,6 +243,7 @@ impl<A: Allocator + Copy> RsVec<A> {
         requires within { 512 * (16 * s + j) < length self.now }
         ensures value { count bit self.now (8192 * s) + result
             ≡ count bit self.now (512 * (16 * s + j)) }
+        ensures few { result ≤ 8192 }
         ensures adds { AddsAtMost tally.old tally.new (only_block_entries 1) }
     {
         let _ = &self.bits;
@@ -360,8 +389,8 @@ impl<A: Allocator + Copy> RsVec<A> {
         self.superblock_among(bit, r, first, n - STEPS, tally)
     }
 
-    // The superblock of number `r` among the `n` from `first` on: by halves while there are many, and then one after
-    // the other. Which superblocks are looked at next is no branch, so that nothing depends on a guess of it.
+    // The superblock of number `r` among the `n` from `first` on, by halves. Which superblocks are looked
+    // at next is no branch, so that nothing depends on a guess of it.
     #[inline(always)]
     #[tactic(auto, using(crate::proofs::Selects::halves))]
     fn superblock_among(
@@ -392,23 +421,78 @@ impl<A: Allocator + Copy> RsVec<A> {
             }
             left -= half;
         }
-        let mut found = start;
-        for s in start + 1..start + left {
-            if self.count_at_superblock(bit, s, tally) <= r {
-                found = s;
-            }
+        self.superblock_of_few(bit, r, start, start + left - 1, tally)
+    }
+
+    // The superblock of number `r` among the few from `first` up to `last`: by halves too, where one
+    // that is not there stands for the last.
+    #[inline(always)]
+    fn superblock_of_few(
+        &self,
+        bit: bool,
+        r: usize,
+        first: usize,
+        last: usize,
+        tally: &mut Tally,
+    ) -> usize
+        requires few { (first ≤ last) × (last < first + 4) }
+        requires within { 8192 * last < length self.now }
+        requires from { count bit self.now (8192 * first) ≤ r }
+        requires to { r < count bit self.now (8192 * (last + 1)) }
+        ensures within { 8192 * result < length self.now }
+        ensures from { count bit self.now (8192 * result) ≤ r }
+        ensures to { r < count bit self.now (8192 * (result + 1)) }
+        ensures adds { AddsAtMost tally.old tally.new (only_superblock_entries 2) }
+    {
+        let _ = &self.bits;
+        let start = self.superblock_passing(bit, r, first, (first + 2).min(last), tally);
+        self.superblock_passing(bit, r, start, (start + 1).min(last), tally)
+    }
+
+    // The superblock `further` where number `r` does not stand before it, and else `found`: a choice
+    // of values, and no branch.
+    #[inline(always)]
+    fn superblock_passing(
+        &self,
+        bit: bool,
+        r: usize,
+        found: usize,
+        further: usize,
+        tally: &mut Tally,
+    ) -> usize
+        requires within { 8192 * further < length self.now }
+        ensures passed { count bit self.now (8192 * further) ≤ r → result ≡ further }
+        ensures kept { r < count bit self.now (8192 * further) → result ≡ found }
+        ensures adds { AddsAtMost tally.old tally.new (only_superblock_entries 1) }
+    {
+        let _ = &self.bits;
+        if self.count_at_superblock(bit, further, tally) <= r {
+            further
+        } else {
+            found
         }
-        found
     }
 
     // The block of number `r` of a superblock.
     #[inline(always)]
     #[tactic(auto, using(crate::proofs::Selects::within_superblock))]
-    fn block_with(&self, bit: bool, r: u16, s: usize, tally: &mut Tally) -> FoundBlock
+    fn block_with(
+        &self,
+        bit: bool,
+        r: u16,
+        s: usize,
+        is_whole: bool,
+        tally: &mut Tally,
+    ) -> FoundBlock
         requires within { 8192 * s < length self.now }
+        requires whole { IsTrue is_whole → 8192 * s + 8192 ≤ length self.now }
+        requires last { IsFalse is_whole → length self.now < 8192 * s + 8192 }
+        requires small { r < 8192 }
         requires to { count bit self.now (8192 * s) + r < count bit self.now (8192 * (s + 1)) }
         ensures few { result.block < 16 }
         ensures within { 512 * (16 * s + result.block) < length self.now }
+        ensures whole { IsTrue is_whole
+            → 512 * (16 * s + result.block) + 512 ≤ length self.now }
         ensures from { result.rest ≤ r }
         ensures counted { count bit self.now (512 * (16 * s + result.block)) + result.rest
             ≡ count bit self.now (8192 * s) + r }
@@ -416,32 +500,35 @@ impl<A: Allocator + Copy> RsVec<A> {
             < count bit self.now (512 * (16 * s + result.block + 1)) }
         ensures adds { AddsAtMost tally.old tally.new (only_block_entries 16) }
     {
-        let blocks = self.blocks.len() - BLOCKS * s;
-        if blocks >= BLOCKS {
-            return self.block_among(bit, r, s, BLOCKS as u16, tally);
+        if is_whole {
+            return self.block_among(bit, r, s, tally);
         }
-        self.block_among(bit, r, s, blocks as u16, tally)
+        let blocks = self.blocks.len() - BLOCKS * s;
+        self.block_up_to(bit, r, s, blocks as u16, tally)
     }
 
-    // The block of number `r` among the first `n` blocks of a superblock, or the last of them: by
-    // as many comparisons whatever the entries hold. Of the entries that don't pass `r` that of the
-    // block lies least below it.
+    // The block of number `r` among the 16 of a superblock, or the last of them: by as many
+    // comparisons whatever the entries hold, which the compiler makes of all entries at once. Of the
+    // entries that don't pass `r` that of the block lies least below it.
     #[inline(always)]
     #[tactic(auto, using(crate::proofs::Selects::block_search))]
-    fn block_among(&self, bit: bool, r: u16, s: usize, n: u16, tally: &mut Tally) -> FoundBlock
-        requires some { (0 < n) × (n ≤ 16) }
-        requires within { 512 * (16 * s + n) < length self.now + 512 }
-        ensures few { result.block < n }
+    fn block_among(&self, bit: bool, r: u16, s: usize, tally: &mut Tally) -> FoundBlock
+        requires within { 8192 * s + 8192 ≤ length self.now }
+        requires small { r < 8192 }
+        ensures few { result.block < 16 }
         ensures from { result.rest ≤ r }
         ensures counted { count bit self.now (512 * (16 * s + result.block)) + result.rest
             ≡ count bit self.now (8192 * s) + r }
-        ensures to { result.block + 1 < n
+        ensures to { result.block + 1 < 16
             → count bit self.now (8192 * s) + r
             < count bit self.now (512 * (16 * s + result.block + 1)) }
-        ensures adds { AddsAtMost tally.old tally.new (only_block_entries n) }
+        ensures adds { AddsAtMost tally.old tally.new (only_block_entries 16) }
     {
-        let mut passed = Passed { blocks: 0, rest: r };
-        for j in 0..n {
+        let mut passed = Passed {
+            blocks: 0,
+            rest: u16::MAX,
+        };
+        for j in 0..BLOCKS as u16 {
             let entry = self.count_in_superblock(bit, s, j, tally);
             let next = passed.and(entry, r);
             passed = next;
@@ -452,11 +539,47 @@ impl<A: Allocator + Copy> RsVec<A> {
         }
     }
 
+    // The block of number `r` among the first `n` of a superblock, or the last of them: one after the
+    // other, up to the first whose entry passes `r`.
+    #[inline(always)]
+    #[tactic(auto, using(crate::proofs::Selects::block_search))]
+    fn block_up_to(&self, bit: bool, r: u16, s: usize, n: u16, tally: &mut Tally) -> FoundBlock
+        requires some { (0 < n) × (n ≤ 16) }
+        requires within { 512 * (16 * s + n) < length self.now + 512 }
+        requires small { r < 8192 }
+        ensures few { result.block < n }
+        ensures from { result.rest ≤ r }
+        ensures counted { count bit self.now (512 * (16 * s + result.block)) + result.rest
+            ≡ count bit self.now (8192 * s) + r }
+        ensures to { result.block + 1 < n
+            → count bit self.now (8192 * s) + r
+            < count bit self.now (512 * (16 * s + result.block + 1)) }
+        ensures adds { AddsAtMost tally.old tally.new (only_block_entries n) }
+    {
+        let mut rest = r;
+        for j in 1..n {
+            let below = r.wrapping_sub(self.count_in_superblock(bit, s, j, tally));
+            if below >= FAR_BELOW {
+                return FoundBlock { block: j - 1, rest };
+            }
+            rest = below;
+        }
+        FoundBlock { block: n - 1, rest }
+    }
+
     // Where number `r` of a block stands.
     #[inline(always)]
     #[tactic(auto, using(crate::proofs::Selects::in_block))]
-    fn place_in_block(&self, bit: bool, r: usize, block: usize, tally: &mut Tally) -> InWord
+    fn place_in_block(
+        &self,
+        bit: bool,
+        r: usize,
+        block: usize,
+        is_whole: bool,
+        tally: &mut Tally,
+    ) -> InWord
         requires within { 512 * block < length self.now }
+        requires whole { IsTrue is_whole → 512 * block + 512 ≤ length self.now }
         requires to { count bit self.now (512 * block) + r
             < count bit self.now (512 * (block + 1)) }
         ensures value { 64 * result.limb + result.place
@@ -465,7 +588,7 @@ impl<A: Allocator + Copy> RsVec<A> {
         ensures word { result.word ≡ limb self.now result.limb }
         ensures adds { AddsAtMost tally.old tally.new (only_data_words 8) }
     {
-        let found = self.limb_with(bit, r, block, tally);
+        let found = self.limb_with(bit, r, block, is_whole, tally);
         let word = self.bits.limb(found.limb, tally);
         let place = place_in_word(word, bit, r - found.before);
         InWord {
@@ -477,17 +600,25 @@ impl<A: Allocator + Copy> RsVec<A> {
 
     // The limb of number `r` of a block.
     #[inline(always)]
-    fn limb_with(&self, bit: bool, r: usize, block: usize, tally: &mut Tally) -> FoundLimb
+    fn limb_with(
+        &self,
+        bit: bool,
+        r: usize,
+        block: usize,
+        is_whole: bool,
+        tally: &mut Tally,
+    ) -> FoundLimb
         requires within { 512 * block < length self.now }
+        requires whole { IsTrue is_whole → 512 * block + 512 ≤ length self.now }
         ensures found { IsLimbWith bit self.now block r
             (min (8 * block + 7) ((length self.now - 1) / 64)) result.limb result.before }
         ensures adds { AddsAtMost tally.old tally.new (only_data_words 7) }
     {
-        let last = (self.len() - 1) / LIMB;
-        if last - 8 * block >= 7 {
+        if is_whole {
             return self.limb_by_halves(bit, r, block, tally);
         }
-        self.limb_up_to(bit, r, block, last, tally)
+        let last = (self.len() - 1) / LIMB;
+        self.limb_up_to(bit, r, block, (8 * block + 7).min(last), tally)
     }
 
     // The limb of number `r` among the 8 of a block, or the last of them: by halves, with no branch
@@ -585,7 +716,8 @@ impl<A: Allocator + Copy> RsVec<A> {
         held_in_word(self.bits.limb(k, tally), bit)
     }
 
-    // The limb of number `r` among those of a block up to the one before `last`, or `last` itself.
+    // The limb of number `r` among those of a block up to the one before `last`, or `last` itself: one
+    // after the other.
     #[inline(always)]
     #[tactic(auto, using(crate::proofs::Selects::limb_search))]
     fn limb_up_to(
@@ -601,16 +733,14 @@ impl<A: Allocator + Copy> RsVec<A> {
         ensures found { IsLimbWith bit self.now block r last result.limb result.before }
         ensures adds { AddsAtMost tally.old tally.new (only_data_words 7) }
     {
-        let mut limb = 8 * block;
         let mut before = 0;
-        let mut seen = 0;
         for k in 8 * block..last {
-            seen += held_in_word(self.bits.limb(k, tally), bit);
-            if seen <= r {
-                limb += 1;
-                before = seen;
+            let seen = before + held_in_word(self.bits.limb(k, tally), bit);
+            if r < seen {
+                return FoundLimb { limb: k, before };
             }
+            before = seen;
         }
-        FoundLimb { limb, before }
+        FoundLimb { limb: last, before }
     }
 }

@@ -1,4 +1,5 @@
-use Rattle.std.proofs.Common.{◌+◌, ◌*◌, arith}
+use Rattle.std.proofs.Common.{◌+◌, ◌*◌, arith, false}
+use Rattle.vers_bits.proofs.PublicLaws.{count_near}
 use Rattle.vers_rank.proofs.Ranks.{block_entry}
 use Rattle.vers_rank.proofs.fast_rs_vec.RsVec.count_in_superblock.Goals as goal
 
@@ -13,3 +14,9 @@ returns-then-bit-clause-value g c =
     let index = rw c.self.view_is at c.self.invariant in
     let entry = block_entry (16 * c.args.s + c.args.j) c.args.s index c.requires.within (omega arith) in
     rw c.if-bit.true (omega (arith, entry.0, entry.1, entry.2, c.read-zeros.ensures.value))
+
+pub returns-else-bit-clause-few : goal.returns-else-bit-clause-few
+returns-else-bit-clause-few g c =
+    let index = rw c.self.view_is at c.self.invariant in
+    let entry = block_entry (16 * c.args.s + c.args.j) c.args.s index c.requires.within (omega arith) in
+    omega (arith, entry.0, count_near false c.args.self.now (8192 * c.args.s) (512 * (16 * c.args.s + c.args.j)) (omega arith), c.read-zeros.ensures.value)
