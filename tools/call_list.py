@@ -24,7 +24,7 @@ what [PERFORMANCE.md](PERFORMANCE.md) has of it, which says how it was measured.
 the allocator. [DEFINITIONS.md](DEFINITIONS.md) has the words of conditions and bounds, and the laws, which are functions with empty
 bodies.
 """
-CRATES = ("vers_bits", "vers_tally", "vers_rank", "vers_sorted", "vers_rmq", "vers_trees", "vers_wavelet", "postings", "vers_cli")
+CRATES = ("vers_bits", "vers_tally", "vers_rank", "vers_sorted", "vers_rmq", "vers_trees", "vers_wavelet", "postings", "vers_words", "vers_engine", "vers_cli")
 
 
 def doc_above(lines, at):

@@ -5,8 +5,8 @@ use Rattle.std.proofs.lemmas.List.{map-id}
 use Rattle.vers_bits.specs.Bits.{places}
 use Rattle.vers_sorted.specs.Ones.{ones_at}
 use Rattle.vers_sorted.proofs.PublicLaws.{ones_at-places}
-use Rattle.vers_cli.specs.Arguments.{each_next}
-use Rattle.vers_cli.specs.declared.loading.Loading.TheVariants.{Accepted}
+use Rattle.vers_sorted.specs.Sorted.{each_next}
+use Rattle.vers_words.specs.declared.loading.Loading.TheVariants.{Accepted}
 use Rattle.vers_cli.specs.SparseLines.{sparse_loaded}
 
 -- the places of the ones and the length tell the list

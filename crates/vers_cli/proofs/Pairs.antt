@@ -9,9 +9,9 @@ use Rattle.postings.specs.Posted.{Posted, common}
 use Rattle.postings.specs.Makers.{IsRefusedFor}
 use Rattle.postings.specs.declared.fault.PostingsError.{PostingsError}
 use Rattle.postings.specs.declared.fault.PostingsError.TheVariants.{NotAscending}
-use Rattle.vers_cli.specs.Arguments.{each_next}
+use Rattle.vers_sorted.specs.Sorted.{each_next}
+use Rattle.vers_words.specs.Reply.{Numbers, Refused}
 use Rattle.vers_cli.specs.PostingsLines.{posted_first, are_admitted, if_admitted, shared_reply}
-use Rattle.vers_cli.specs.Reply.{Numbers, Refused}
 
 -- documents with their costs, and then others
 abbrev pub posted_then : List ℕ → List ℕ → Option Posted → Option Posted

@@ -14,7 +14,7 @@ use Rattle.vers_sorted.specs.Sorted.{below, greatest_not_above, least_not_below}
 use Rattle.vers_sorted.proofs.PublicLaws.{below_le, below_before, below_after, least_not_below_is, greatest_not_above_some, greatest_not_above_none}
 use Rattle.vers_wavelet.specs.Symbols.{Symbols, occurrences, by_size, IsKth, IsPredecessor, IsSuccessor}
 use Rattle.vers_wavelet.proofs.PublicLaws.{by_size_ascends, count_by_size, length-by_size, kth_at}
-use Rattle.vers_cli.specs.Reply.{number_or_absent}
+use Rattle.vers_words.specs.Reply.{number_or_absent}
 use Rattle.vers_cli.specs.SymbolsLines.{if_numbers, low_bits_of, places_of, place_from, sorted_range}
 
 -- ---- in ascending order a list has the same members

@@ -2,12 +2,12 @@
 use Rattle.std.specs.Prelude.{ℕ, Bool, false, true, nat_le, List, length, slice_get, Option, option_map, Some, None, if◌then◌else◌}
 use Rattle.vers_bits.specs.Bits.{bit_value, count, select}
 use Rattle.vers_bits.specs.declared.bit_vec.TheConstants.{MAX_LEN}
+use Rattle.vers_words.specs.Arguments.{no_arguments, one_number}
+use Rattle.vers_words.specs.declared.loading.Loading.{Loading}
+use Rattle.vers_words.specs.declared.loading.Loading.TheVariants.{Malformed, Inadmissible, Accepted}
+use Rattle.vers_words.specs.Reply.{PlainReply, WrongStructure, Number, if_well_formed, number_or_absent}
 use Rattle.vers_cli.specs.declared.name.Query.{Query}
 use Rattle.vers_cli.specs.declared.name.Query.TheVariants.{Len, Get, Rank0, Rank1, Select0, Select1}
-use Rattle.vers_cli.specs.Arguments.{no_arguments, one_number}
-use Rattle.vers_cli.specs.declared.loading.Loading.{Loading}
-use Rattle.vers_cli.specs.declared.loading.Loading.TheVariants.{Malformed, Inadmissible, Accepted}
-use Rattle.vers_cli.specs.Reply.{PlainReply, WrongStructure, Number, if_well_formed, number_or_absent}
 
 -- the load line `bits S`, for the bits that S writes
 abbrev pub bits_loaded : Option (List Bool) → Loading (List Bool)

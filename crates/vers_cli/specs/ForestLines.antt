@@ -4,6 +4,8 @@ use Rattle.vers_bits.specs.Bits.{bit_value}
 use Rattle.vers_trees.specs.Forest.{Forest, forest_of}
 use Rattle.vers_trees.specs.Nodes.{is_ancestor, depth, parent, level_ancestor, children, siblings, first_of, last_of, next_of, previous_of, level, subtree, node_index}
 use Rattle.vers_trees.specs.Traversals.{postorder, subtree_post}
+use Rattle.vers_words.specs.Arguments.{no_arguments, one_number, two_numbers}
+use Rattle.vers_words.specs.Reply.{PlainReply, Refused, Number, Numbers, if_well_formed, number_or_absent}
 use Rattle.vers_cli.specs.declared.name.ForestQuery.{ForestQuery}
 use Rattle.vers_cli.specs.declared.name.ForestQuery.TheVariants.{DfsPostIter, Relative, Measure, Walk, Level, IsAncestor, LevelAncestor}
 use Rattle.vers_cli.specs.declared.name.RelativeQuery.{RelativeQuery}
@@ -14,8 +16,6 @@ use Rattle.vers_cli.specs.declared.name.WalkQuery.{WalkQuery}
 use Rattle.vers_cli.specs.declared.name.WalkQuery.TheVariants.{Children, RevChildren, SubtreeIter, SubtreePostIter}
 use Rattle.vers_cli.specs.declared.name.LevelQuery.{LevelQuery}
 use Rattle.vers_cli.specs.declared.name.LevelQuery.TheVariants.{LevelLeftmost, LevelRightmost}
-use Rattle.vers_cli.specs.Arguments.{no_arguments, one_number, two_numbers}
-use Rattle.vers_cli.specs.Reply.{PlainReply, Refused, Number, Numbers, if_well_formed, number_or_absent}
 
 -- whether parentheses close what they open and n that were open before them, and no more
 abbrev pub closes : ℕ → List Bool → Bool

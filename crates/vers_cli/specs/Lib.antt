@@ -1,10 +1,5 @@
-pub mod Device
-pub mod Text
-pub mod Arguments
 pub mod Name
-pub mod Loading
 pub mod Holding
-pub mod Reply
 pub mod BitsLines
 pub mod SortedLines
 pub mod SparseLines
@@ -15,5 +10,4 @@ pub mod SymbolsLines
 pub mod PostingsLines
 pub mod Rules
 pub mod Answers
-pub mod Session
 pub mod Rows

@@ -1,15 +1,15 @@
 -- The lines of documents with costs.
 use Rattle.std.specs.Prelude.{ℕ, Bool, ◌&&◌, nat_le, nat_lt, List, [], ◌∷◌, length, Option, option_map, Some, None, if◌then◌else◌}
 use Rattle.vers_bits.specs.Bits.{bit_value}
-use Rattle.vers_sorted.specs.Sorted.{below, least_not_below}
+use Rattle.vers_sorted.specs.Sorted.{below, least_not_below, each_next}
 use Rattle.vers_rmq.specs.declared.rmq.fast_rmq.TheConstants.{MAX_LEN}
 use Rattle.postings.specs.Posted.{Posted, is_among, cheapest, common}
+use Rattle.vers_words.specs.Arguments.{no_arguments, one_number, two_numbers, all_numbers}
+use Rattle.vers_words.specs.declared.loading.Loading.{Loading}
+use Rattle.vers_words.specs.declared.loading.Loading.TheVariants.{Malformed, Inadmissible, Accepted}
+use Rattle.vers_words.specs.Reply.{PlainReply, WrongStructure, Refused, Number, Numbers, if_well_formed, number_or_absent}
 use Rattle.vers_cli.specs.declared.name.Query.{Query}
 use Rattle.vers_cli.specs.declared.name.Query.TheVariants.{Len, Rank, Contains, Next, Cheapest, Intersect}
-use Rattle.vers_cli.specs.Arguments.{no_arguments, one_number, two_numbers, all_numbers, each_next}
-use Rattle.vers_cli.specs.declared.loading.Loading.{Loading}
-use Rattle.vers_cli.specs.declared.loading.Loading.TheVariants.{Malformed, Inadmissible, Accepted}
-use Rattle.vers_cli.specs.Reply.{PlainReply, WrongStructure, Refused, Number, Numbers, if_well_formed, number_or_absent}
 
 -- a document with its cost, before others
 abbrev pub posted_first : ℕ → ℕ → Posted → Posted

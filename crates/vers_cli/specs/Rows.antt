@@ -1,5 +1,5 @@
 -- Worked rows of the definitions, which compute.
-use Rattle.std.specs.Prelude.{◌≡◌, ℕ, ◌++◌, pos, negsuc, true, false, List, [], ◌∷◌, codes, Some, None, refl}
+use Rattle.std.specs.Prelude.{◌≡◌, ℕ, ◌++◌, true, false, List, [], ◌∷◌, codes, Some, None, refl}
 use Rattle.std.specs.Fmt.{digits}
 use Rattle.vers_bits.specs.Bits.{count, places, select}
 use Rattle.vers_sorted.specs.Sorted.{below, greatest_not_above, least_not_below}
@@ -10,6 +10,10 @@ use Rattle.vers_trees.specs.Excess.{excess, first_rise_after, last_rise_before, 
 use Rattle.vers_trees.specs.Forest.{forest_of}
 use Rattle.vers_trees.specs.Nodes.{closing, is_ancestor, is_proper_ancestor, depth, parent, nodes_under, level, level_ancestor, subtree, node_index}
 use Rattle.vers_trees.specs.Traversals.{subtree_post}
+use Rattle.vers_rmq.specs.Minima.{is_least as costs_least, first_least_of}
+use Rattle.postings.specs.Posted.{is_among, places_between as places_of_range, cheapest, common}
+use Rattle.vers_words.specs.Text.{number_of, signed_number_of}
+use Rattle.vers_engine.specs.Lines.{lines_of}
 use Rattle.vers_cli.specs.declared.name.Name.TheVariants.{Query}
 use Rattle.vers_cli.specs.declared.name.Query.TheVariants.{Rank1, Tree, Symbols, Forest}
 use Rattle.vers_cli.specs.declared.name.TreeQuery.TheVariants.{Place, Search}
@@ -19,14 +23,10 @@ use Rattle.vers_cli.specs.declared.name.SymbolsQuery.TheVariants.{Range}
 use Rattle.vers_cli.specs.declared.name.RangeQuery.TheVariants.{RangeMedianU64}
 use Rattle.vers_cli.specs.declared.name.ForestQuery.TheVariants.{Level, LevelAncestor}
 use Rattle.vers_cli.specs.declared.name.LevelQuery.TheVariants.{LevelRightmost}
-use Rattle.vers_cli.specs.Text.{number_of, signed_number_of, words_of, whole_lines, last_part, lines_of}
-use Rattle.vers_cli.specs.Arguments.{bits_of, two_numbers, three_numbers, number_and_signed, all_numbers}
 use Rattle.vers_cli.specs.Name.{name_of}
 use Rattle.vers_cli.specs.Holding.{Holding, Nothing, BitsHeld, SortedHeld, SparseHeld, ValuesHeld, TreeHeld, SymbolsHeld, PostingsHeld}
 use Rattle.vers_cli.specs.ValuesLines.{places_between, first_least}
 use Rattle.vers_cli.specs.ForestLines.{are_balanced}
-use Rattle.vers_rmq.specs.Minima.{is_least as costs_least, first_least_of}
-use Rattle.postings.specs.Posted.{is_among, places_between as places_of_range, cheapest, common}
 use Rattle.vers_cli.specs.PostingsLines.{posted_of}
 use Rattle.vers_cli.specs.Answers.{answer_to_words, answer_to, holding_after_words, holding_after, answers_to}
 
@@ -46,79 +46,6 @@ values_31211 = 3 ∷ 1 ∷ 2 ∷ 1 ∷ 1 ∷ []
 abbrev held_0110 : Holding
 held_0110 = BitsHeld (false ∷ true ∷ true ∷ false ∷ [])
 
-pub number_of-007 : number_of (codes "007") ≡ Some 7
-unfolding number_of
-number_of-007 = refl
-
-pub number_of-largest : number_of (codes "18446744073709551615") ≡ Some 18446744073709551615
-unfolding number_of
-number_of-largest = refl
-
-pub number_of-too_large : number_of (codes "18446744073709551616") ≡ None
-unfolding number_of
-number_of-too_large = refl
-
-pub number_of-minus : number_of (codes "-1") ≡ None
-unfolding number_of
-number_of-minus = refl
-
-pub number_of-no_digit : number_of [] ≡ None
-unfolding number_of
-number_of-no_digit = refl
-
--- a sign, and the ends of the range
-pub signed_number_of-minus : signed_number_of (codes "-12") ≡ Some (negsuc 11)
-unfolding signed_number_of number_of
-signed_number_of-minus = refl
-
-pub signed_number_of-minus_zero : signed_number_of (codes "-00") ≡ Some (pos 0)
-unfolding signed_number_of number_of
-signed_number_of-minus_zero = refl
-
-pub signed_number_of-least : signed_number_of (codes "-9223372036854775808") ≡ Some (negsuc 9223372036854775807)
-unfolding signed_number_of number_of
-signed_number_of-least = refl
-
-pub signed_number_of-below_least : signed_number_of (codes "-9223372036854775809") ≡ None
-unfolding signed_number_of number_of
-signed_number_of-below_least = refl
-
-pub signed_number_of-greatest : signed_number_of (codes "9223372036854775807") ≡ Some (pos 9223372036854775807)
-unfolding signed_number_of number_of
-signed_number_of-greatest = refl
-
-pub signed_number_of-above_greatest : signed_number_of (codes "9223372036854775808") ≡ None
-unfolding signed_number_of number_of
-signed_number_of-above_greatest = refl
-
-pub signed_number_of-sign_alone : signed_number_of (codes "-") ≡ None
-unfolding signed_number_of number_of
-signed_number_of-sign_alone = refl
-
--- runs of spaces make no words, and one byte 13 at the end is dropped
-pub words_of-spaces : words_of (codes " rank1  3 " ++ 13 ∷ []) ≡ codes "rank1" ∷ codes "3" ∷ []
-words_of-spaces = refl
-
-pub words_of-return_alone : words_of (13 ∷ []) ≡ []
-words_of-return_alone = refl
-
--- a byte 13 elsewhere, as a tab, is a part of its word
-pub words_of-inner_return : words_of (97 ∷ 13 ∷ 9 ∷ 98 ∷ 13 ∷ 13 ∷ []) ≡ (97 ∷ 13 ∷ 9 ∷ 98 ∷ 13 ∷ []) ∷ []
-words_of-inner_return = refl
-
--- an empty line is a line, and the last one needs no end
-pub lines_of-last : lines_of (ended (codes "a") ++ ended [] ++ codes "b") ≡ codes "a" ∷ [] ∷ codes "b" ∷ []
-lines_of-last = refl
-
-pub lines_of-ended : lines_of (ended (codes "a") ++ ended (codes "b")) ≡ codes "a" ∷ codes "b" ∷ []
-lines_of-ended = refl
-
-pub whole_lines-last : whole_lines (ended (codes "a") ++ codes "b") ≡ codes "a" ∷ []
-whole_lines-last = refl
-
-pub last_part-last : last_part (ended (codes "a") ++ codes "b") ≡ codes "b"
-last_part-last = refl
-
 pub name_of-rank1 : name_of (codes "rank1") ≡ Some (Query Rank1)
 name_of-rank1 = refl
 
@@ -136,15 +63,6 @@ name_of-level_ancestor = refl
 
 pub name_of-level_rightmost : name_of (codes "level_rightmost") ≡ Some (Query (Forest (Level LevelRightmost)))
 name_of-level_rightmost = refl
-
-pub bits_of-none : bits_of [] ≡ Some []
-bits_of-none = refl
-
-pub bits_of-digit_2 : bits_of (codes "012" ∷ []) ≡ None
-bits_of-digit_2 = refl
-
-pub bits_of-two_words : bits_of (codes "0" ∷ codes "1" ∷ []) ≡ None
-bits_of-two_words = refl
 
 -- a load line answers the length, and its list is held
 pub answer-bits_0110 : answer_to Nothing (codes "bits 0110") ≡ ended (codes "4")
@@ -189,15 +107,6 @@ pub answer-malformed : answer_to held_0110 (codes "rank1 x") ≡ ended (codes "b
 unfolding answer_to_words number_of
 answer-malformed = refl
 
--- numbers of a load line
-pub all_numbers-some : all_numbers (codes "12" ∷ codes "7" ∷ []) ≡ Some (12 ∷ 7 ∷ [])
-unfolding number_of
-all_numbers-some = refl
-
-pub all_numbers-malformed : all_numbers (codes "12" ∷ codes "x" ∷ []) ≡ None
-unfolding number_of
-all_numbers-malformed = refl
-
 -- an ascending list may have equal members, and a sparse list takes each place once
 pub answer-sorted_449 : answer_to Nothing (codes "sorted 4 4 9") ≡ ended (codes "3")
 unfolding answer_to_words number_of digits
@@ -238,14 +147,6 @@ pub answer-no_length : answer_to held_449 (codes "sparse") ≡ ended (codes "bad
 unfolding answer_to_words
 answer-no_length = refl
 
--- a line with two arguments
-pub two_numbers-some : two_numbers (codes "2" ∷ codes "4" ∷ []) ≡ Some (2, 4)
-unfolding number_of
-two_numbers-some = refl
-
-pub two_numbers-three : two_numbers (codes "2" ∷ codes "4" ∷ codes "4" ∷ []) ≡ None
-two_numbers-three = refl
-
 -- a range has both its ends, and of equal least values the first place counts
 pub places_between-2-4 : places_between 2 4 ≡ 2 ∷ 3 ∷ 4 ∷ []
 places_between-2-4 = refl
@@ -273,11 +174,6 @@ answer-range_min_2_4 = refl
 pub answer-range_min_0_5 : answer_to (ValuesHeld values_31211) (codes "range_min 0 5") ≡ ended (codes "refused")
 unfolding answer_to_words number_of
 answer-range_min_0_5 = refl
-
--- a line with a signed argument
-pub number_and_signed-some : number_and_signed (codes "2" ∷ codes "-1" ∷ []) ≡ Some (2, negsuc 0)
-unfolding number_of signed_number_of
-number_and_signed-some = refl
 
 -- parentheses read from the left: all that open close, one stays open, and one closes what didn't open
 pub are_balanced-110100 : are_balanced (true ∷ true ∷ false ∷ true ∷ false ∷ false ∷ []) ≡ true
@@ -321,15 +217,6 @@ answer-excess_0 = refl
 pub answer-excess_2 : answer_to (TreeHeld (false ∷ true ∷ [])) (codes "excess 2") ≡ ended (codes "refused")
 unfolding answer_to_words number_of
 answer-excess_2 = refl
-
--- a line with three arguments
-pub three_numbers-some : three_numbers (codes "0" ∷ codes "3" ∷ codes "4" ∷ []) ≡ Some (0, 3, 4)
-unfolding number_of
-three_numbers-some = refl
-
-pub three_numbers-two : three_numbers (codes "0" ∷ codes "3" ∷ []) ≡ None
-unfolding number_of
-three_numbers-two = refl
 
 pub name_of-range_median_u64 : name_of (codes "range_median_u64") ≡ Some (Query (Symbols (Range RangeMedianU64)))
 name_of-range_median_u64 = refl

@@ -6,17 +6,17 @@
 -- 5. a load line whose arguments are not admitted, or a query whose condition is not met: refused;
 -- 6. the answer.
 use Rattle.std.specs.Prelude.{ℕ, List, Option, Some, None}
+use Rattle.vers_words.specs.Arguments.{bits_of, all_numbers}
+use Rattle.vers_words.specs.Loading.{map_loading}
+use Rattle.vers_words.specs.declared.loading.Loading.{Loading}
+use Rattle.vers_words.specs.declared.loading.Loading.TheVariants.{Malformed, Inadmissible, Accepted}
+use Rattle.vers_words.specs.Reply.{PlainReply, BadLine, WrongStructure, Refused, Number}
 use Rattle.vers_cli.specs.declared.name.Name.{Name}
 use Rattle.vers_cli.specs.declared.name.Load.{Load}
 use Rattle.vers_cli.specs.declared.name.Query.{Query}
 use Rattle.vers_cli.specs.declared.name.Name.TheVariants as name
 use Rattle.vers_cli.specs.declared.name.Load.TheVariants as load
-use Rattle.vers_cli.specs.Arguments.{bits_of, all_numbers}
 use Rattle.vers_cli.specs.Holding.{Holding, Nothing, BitsHeld, SortedHeld, SparseHeld, ValuesHeld, TreeHeld, SymbolsHeld, PostingsHeld, length_of}
-use Rattle.vers_cli.specs.Loading.{map_loading}
-use Rattle.vers_cli.specs.declared.loading.Loading.{Loading}
-use Rattle.vers_cli.specs.declared.loading.Loading.TheVariants.{Malformed, Inadmissible, Accepted}
-use Rattle.vers_cli.specs.Reply.{PlainReply, BadLine, WrongStructure, Refused, Number}
 use Rattle.vers_cli.specs.BitsLines.{bits_loaded, bits_reply}
 use Rattle.vers_cli.specs.SortedLines.{sorted_loaded, sorted_reply}
 use Rattle.vers_cli.specs.SparseLines.{sparse_loaded, sparse_reply}

@@ -1,12 +1,12 @@
 -- The lines of an ascending list.
 use Rattle.std.specs.Prelude.{ℕ, nat_le, List, length, slice_get, Option, Some, None, if◌then◌else◌}
-use Rattle.vers_sorted.specs.Sorted.{below, greatest_not_above, least_not_below, delta}
+use Rattle.vers_sorted.specs.Sorted.{below, greatest_not_above, least_not_below, delta, each_next}
+use Rattle.vers_words.specs.Arguments.{no_arguments, one_number}
+use Rattle.vers_words.specs.declared.loading.Loading.{Loading}
+use Rattle.vers_words.specs.declared.loading.Loading.TheVariants.{Malformed, Inadmissible, Accepted}
+use Rattle.vers_words.specs.Reply.{PlainReply, WrongStructure, Number, Numbers, if_well_formed, number_or_absent}
 use Rattle.vers_cli.specs.declared.name.Query.{Query}
 use Rattle.vers_cli.specs.declared.name.Query.TheVariants.{Len, Get, Rank, Predecessor, Successor, Delta, Iter}
-use Rattle.vers_cli.specs.Arguments.{no_arguments, one_number, each_next}
-use Rattle.vers_cli.specs.declared.loading.Loading.{Loading}
-use Rattle.vers_cli.specs.declared.loading.Loading.TheVariants.{Malformed, Inadmissible, Accepted}
-use Rattle.vers_cli.specs.Reply.{PlainReply, WrongStructure, Number, Numbers, if_well_formed, number_or_absent}
 
 -- the load line `sorted n ..`, for its numbers, which have to ascend
 abbrev pub sorted_loaded : Option (List ℕ) → Loading (List ℕ)

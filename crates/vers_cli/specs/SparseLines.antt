@@ -3,12 +3,13 @@ use Rattle.std.specs.Prelude.{ℕ, Bool, false, true, ◌&&◌, nat_lt, List, []
 use Rattle.std.specs.List.{list_all}
 use Rattle.vers_bits.specs.Bits.{bit_value, count, places, select}
 use Rattle.vers_sorted.specs.Ones.{ones_at}
+use Rattle.vers_sorted.specs.Sorted.{each_next}
+use Rattle.vers_words.specs.Arguments.{no_arguments, one_number}
+use Rattle.vers_words.specs.declared.loading.Loading.{Loading}
+use Rattle.vers_words.specs.declared.loading.Loading.TheVariants.{Malformed, Inadmissible, Accepted}
+use Rattle.vers_words.specs.Reply.{PlainReply, WrongStructure, Number, Numbers, if_well_formed, number_or_absent}
 use Rattle.vers_cli.specs.declared.name.Query.{Query}
 use Rattle.vers_cli.specs.declared.name.Query.TheVariants.{Len, Get, Rank0, Rank1, Select1, Iter1}
-use Rattle.vers_cli.specs.Arguments.{no_arguments, one_number, each_next}
-use Rattle.vers_cli.specs.declared.loading.Loading.{Loading}
-use Rattle.vers_cli.specs.declared.loading.Loading.TheVariants.{Malformed, Inadmissible, Accepted}
-use Rattle.vers_cli.specs.Reply.{PlainReply, WrongStructure, Number, Numbers, if_well_formed, number_or_absent}
 
 -- the load line `sparse LEN p ..`, for its numbers: the places have to ascend strictly, below LEN
 abbrev pub sparse_loaded : Option (List ℕ) → Loading (List Bool)

@@ -3,6 +3,10 @@ use Rattle.std.specs.Prelude.{ℕ, ◌-◌, ◌/◌, ◌%◌, ◌^◌, ◌&&◌,
 use Rattle.vers_sorted.specs.Sorted.{greatest_not_above, least_not_below}
 use Rattle.vers_wavelet.specs.Symbols.{Symbols, occurrences, by_size}
 use Rattle.vers_wavelet.specs.Makers.{low_symbols}
+use Rattle.vers_words.specs.declared.loading.Loading.{Loading}
+use Rattle.vers_words.specs.declared.loading.Loading.TheVariants.{Malformed, Inadmissible, Accepted}
+use Rattle.vers_words.specs.Arguments.{no_arguments, one_number, two_numbers, three_numbers}
+use Rattle.vers_words.specs.Reply.{PlainReply, WrongStructure, Absent, Number, Numbers, if_well_formed, number_or_absent}
 use Rattle.vers_cli.specs.declared.name.Query.{Query}
 use Rattle.vers_cli.specs.declared.name.Query.TheVariants as asked
 use Rattle.vers_cli.specs.declared.name.SymbolsQuery.TheVariants.{All, GetU64, Symbol, Range, Within}
@@ -14,10 +18,6 @@ use Rattle.vers_cli.specs.declared.name.RangeQuery.{RangeQuery}
 use Rattle.vers_cli.specs.declared.name.RangeQuery.TheVariants.{RangeMinU64, RangeMaxU64, RangeMedianU64}
 use Rattle.vers_cli.specs.declared.name.WithinQuery.{WithinQuery}
 use Rattle.vers_cli.specs.declared.name.WithinQuery.TheVariants.{RankRangeU64, SelectOffsetU64, QuantileU64, PredecessorU64, SuccessorU64}
-use Rattle.vers_cli.specs.declared.loading.Loading.{Loading}
-use Rattle.vers_cli.specs.declared.loading.Loading.TheVariants.{Malformed, Inadmissible, Accepted}
-use Rattle.vers_cli.specs.Arguments.{no_arguments, one_number, two_numbers, three_numbers}
-use Rattle.vers_cli.specs.Reply.{PlainReply, WrongStructure, Absent, Number, Numbers, if_well_formed, number_or_absent}
 
 -- the load line `symbols K n ..`, for its numbers: a width of at most 64 bits, and numbers of which as many low bits count
 abbrev pub symbols_loaded : Option (List ℕ) → Loading Symbols

@@ -3,6 +3,10 @@ use Rattle.std.specs.Prelude.{ℕ, ◌+◌, ℤ, negsuc, Bool, true, nat_le, nat
 use Rattle.vers_bits.specs.Bits.{bit_value, count, places, select}
 use Rattle.vers_trees.specs.Excess.{excess, first_rise_after, last_rise_before, enclosing}
 use Rattle.vers_trees.specs.declared.trees.bp.TheConstants.{MAX_LEN}
+use Rattle.vers_words.specs.declared.loading.Loading.{Loading}
+use Rattle.vers_words.specs.declared.loading.Loading.TheVariants.{Malformed, Inadmissible, Accepted}
+use Rattle.vers_words.specs.Arguments.{no_arguments, one_number, number_and_signed}
+use Rattle.vers_words.specs.Reply.{PlainReply, WrongStructure, Refused, Number, Signed, Numbers, if_well_formed, number_or_absent}
 use Rattle.vers_cli.specs.declared.name.Query.{Query}
 use Rattle.vers_cli.specs.declared.name.Query.TheVariants.{Tree, Forest}
 use Rattle.vers_cli.specs.declared.name.TreeQuery.TheVariants.{Whole, Place, Search}
@@ -12,11 +16,7 @@ use Rattle.vers_cli.specs.declared.name.PlaceQuery.{PlaceQuery}
 use Rattle.vers_cli.specs.declared.name.PlaceQuery.TheVariants.{Excess, Close, Open, Enclose, NodeHandle}
 use Rattle.vers_cli.specs.declared.name.SearchQuery.{SearchQuery}
 use Rattle.vers_cli.specs.declared.name.SearchQuery.TheVariants.{FwdSearch, BwdSearch}
-use Rattle.vers_cli.specs.declared.loading.Loading.{Loading}
-use Rattle.vers_cli.specs.declared.loading.Loading.TheVariants.{Malformed, Inadmissible, Accepted}
-use Rattle.vers_cli.specs.Arguments.{no_arguments, one_number, number_and_signed}
 use Rattle.vers_cli.specs.ForestLines.{are_balanced, forest_reply}
-use Rattle.vers_cli.specs.Reply.{PlainReply, WrongStructure, Refused, Number, Signed, Numbers, if_well_formed, number_or_absent}
 
 -- the load line `tree S`, for the bits that S writes
 abbrev pub tree_loaded : Option (List Bool) → Loading (List Bool)

@@ -2,12 +2,12 @@
 use Rattle.std.specs.Prelude.{ℕ, ◌+◌, ◌-◌, Bool, ◌&&◌, nat_le, nat_lt, List, length, slice_index, find, Option, Some, None, if◌then◌else◌}
 use Rattle.std.specs.List.{list_all, range_with_len}
 use Rattle.vers_rmq.specs.declared.rmq.fast_rmq.TheConstants.{MAX_LEN}
+use Rattle.vers_words.specs.Arguments.{no_arguments, two_numbers}
+use Rattle.vers_words.specs.declared.loading.Loading.{Loading}
+use Rattle.vers_words.specs.declared.loading.Loading.TheVariants.{Malformed, Inadmissible, Accepted}
+use Rattle.vers_words.specs.Reply.{PlainReply, WrongStructure, Number, if_well_formed, number_or_refused}
 use Rattle.vers_cli.specs.declared.name.Query.{Query}
 use Rattle.vers_cli.specs.declared.name.Query.TheVariants.{Len, RangeMin}
-use Rattle.vers_cli.specs.Arguments.{no_arguments, two_numbers}
-use Rattle.vers_cli.specs.declared.loading.Loading.{Loading}
-use Rattle.vers_cli.specs.declared.loading.Loading.TheVariants.{Malformed, Inadmissible, Accepted}
-use Rattle.vers_cli.specs.Reply.{PlainReply, WrongStructure, Number, if_well_formed, number_or_refused}
 
 -- the places from i to j, both included
 abbrev pub places_between : ℕ → ℕ → List ℕ

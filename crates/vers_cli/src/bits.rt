@@ -1,18 +1,18 @@
 //! The lines of a list of bits.
 ghost use Rattle.std.specs.Prelude.{◌≡◌, ◌≤◌, true, length, IfOk};
 ghost use Rattle.std.specs.List.{list_all};
-ghost use Rattle.vers_cli.specs.Text.{words_in};
-ghost use Rattle.vers_cli.specs.Arguments.{is_bit_digit, bits_of, bits_of_digits};
+ghost use Rattle.vers_words.specs.Text.{words_in};
+ghost use Rattle.vers_words.specs.Arguments.{is_bit_digit, bits_of, bits_of_digits};
+ghost use Rattle.vers_words.specs.Reply.{plain_reply};
 ghost use Rattle.vers_cli.specs.BitsLines.{bits_loaded, bits_reply};
-ghost use Rattle.vers_cli.specs.Reply.{plain_reply};
 
-use crate::arguments::{bit_digits, no_arguments, one_number};
-use crate::loading::Loading;
 use crate::name::Query;
-use crate::reply::Reply;
 use std::alloc::{AllocError, Allocator};
 use vers_bits::bit_vec::{BitVec, MAX_LEN};
 use vers_rank::fast_rs_vec::RsVec;
+use vers_words::arguments::{bit_digits, no_arguments, one_number};
+use vers_words::loading::Loading;
+use vers_words::reply::Reply;
 
 /// What the load line `bits S` gives.
 pub fn load<A: Allocator + Copy>(

@@ -1,16 +1,16 @@
 //! The lines of documents with costs.
 ghost use Rattle.std.specs.Prelude.{◌≡◌, length, option_map, IfOk, IfSome};
-ghost use Rattle.vers_cli.specs.Text.{words_in};
-ghost use Rattle.vers_cli.specs.Arguments.{all_numbers as numbers_all};
+ghost use Rattle.vers_words.specs.Text.{words_in};
+ghost use Rattle.vers_words.specs.Arguments.{all_numbers as numbers_all};
+ghost use Rattle.vers_words.specs.Reply.{plain_reply};
 ghost use Rattle.vers_cli.specs.PostingsLines.{posted_of, if_admitted, postings_loaded, postings_reply, shared_reply};
-ghost use Rattle.vers_cli.specs.Reply.{plain_reply};
 
-use crate::arguments::{all_numbers, no_arguments, one_number, two_numbers};
-use crate::loading::Loading;
 use crate::name::Query;
-use crate::reply::Reply;
 use postings::{Postings, PostingsError};
 use std::alloc::{AllocError, Allocator};
+use vers_words::arguments::{all_numbers, no_arguments, one_number, two_numbers};
+use vers_words::loading::Loading;
+use vers_words::reply::Reply;
 
 /// What the load line `postings d c ..` gives.
 pub fn load<A: Allocator + Copy>(

@@ -4,15 +4,15 @@ ghost use Rattle.std.specs.Iterator.{Drains, IsFinite};
 ghost use Rattle.vers_trees.specs.Excess.{excess};
 ghost use Rattle.vers_trees.specs.Forest.{IsBalanced, forest_of};
 ghost use Rattle.vers_trees.specs.Nodes.{IsNode, children};
-ghost use Rattle.vers_cli.specs.Text.{words_in};
-ghost use Rattle.vers_cli.specs.Reply.{plain_reply};
+ghost use Rattle.vers_words.specs.Text.{words_in};
+ghost use Rattle.vers_words.specs.Reply.{plain_reply};
 ghost use Rattle.vers_cli.specs.ForestLines.{are_balanced, has_one, has_node, relative_of, measure_of, walk_of, level_end_of, all_nodes_reply as reply_of_all_nodes, relative_reply as reply_of_relative, measure_reply as reply_of_measure, walk_reply as reply_of_walk, level_reply as reply_of_level, is_ancestor_reply as reply_of_is_ancestor, level_ancestor_reply as reply_of_level_ancestor, forest_reply};
 
-use crate::arguments::{no_arguments, one_number, two_numbers};
 use crate::name::{ForestQuery, LevelQuery, MeasureQuery, RelativeQuery, WalkQuery};
-use crate::reply::Reply;
 use std::alloc::{AllocError, Allocator};
 use vers_trees::trees::bp::BpTree;
+use vers_words::arguments::{no_arguments, one_number, two_numbers};
+use vers_words::reply::Reply;
 
 /// The reply of a query line that balanced parentheses alone have, where these are held.
 pub fn reply<A: Allocator + Copy>(

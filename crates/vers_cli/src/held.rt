@@ -1,13 +1,11 @@
 //! What is held between lines.
 ghost use Rattle.std.specs.Prelude.{◌≡◌, IfOk};
-ghost use Rattle.vers_cli.specs.Text.{words_in};
+ghost use Rattle.vers_words.specs.Text.{words_in};
+ghost use Rattle.vers_words.specs.Loading.{map_loading};
 ghost use Rattle.vers_cli.specs.Holding.{holding_of, length_of};
-ghost use Rattle.vers_cli.specs.Loading.{map_loading};
 ghost use Rattle.vers_cli.specs.Rules.{loaded, query_reply};
 
-use crate::loading::Loading;
 use crate::name::{Load, Query};
-use crate::reply::Reply;
 use crate::{bits, documents, sorted, sparse, symbols, tree, values};
 use postings::Postings;
 use std::alloc::{AllocError, Allocator};
@@ -17,6 +15,8 @@ use vers_sorted::elias_fano::EliasFanoVec;
 use vers_sorted::sparse::SparseRSVec;
 use vers_trees::trees::bp::BpTree;
 use vers_wavelet::wavelet::WaveletMatrix;
+use vers_words::loading::Loading;
+use vers_words::reply::Reply;
 
 /// What is held: nothing, or the structure of the last load line that was accepted.
 #[derive(Drop)]
@@ -80,7 +80,7 @@ pub fn load<'a, A: Allocator + Copy>(
 }
 
 impl<A: Allocator + Copy> Held<'_, A> {
-    ghost use Rattle.vers_cli.specs.Reply.{plain_reply};
+    ghost use Rattle.vers_words.specs.Reply.{plain_reply};
 
     /// The length of what is held.
     pub fn len(&self) -> u64

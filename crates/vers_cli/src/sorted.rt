@@ -1,18 +1,18 @@
 //! The lines of an ascending list.
 ghost use Rattle.std.specs.Prelude.{◌≡◌, IfOk};
-ghost use Rattle.vers_cli.specs.Text.{words_in};
-ghost use Rattle.vers_cli.specs.Arguments.{all_numbers as numbers_all};
+ghost use Rattle.vers_words.specs.Text.{words_in};
+ghost use Rattle.vers_words.specs.Arguments.{all_numbers as numbers_all};
+ghost use Rattle.vers_words.specs.Reply.{plain_reply};
 ghost use Rattle.vers_cli.specs.SortedLines.{sorted_loaded, sorted_reply};
-ghost use Rattle.vers_cli.specs.Reply.{plain_reply};
 
-use crate::arguments::{all_numbers, no_arguments, one_number};
-use crate::loading::Loading;
 use crate::name::Query;
-use crate::reply::Reply;
 use std::alloc::{AllocError, Allocator};
 use vers_sorted::elias_fano::EliasFanoVec;
 use vers_sorted::order::is_ascending;
 use vers_tally::ends::{BothEnds, Source};
+use vers_words::arguments::{all_numbers, no_arguments, one_number};
+use vers_words::loading::Loading;
+use vers_words::reply::Reply;
 
 /// What the load line `sorted n ..` gives.
 pub fn load<A: Allocator + Copy>(

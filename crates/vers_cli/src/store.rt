@@ -1,20 +1,21 @@
 //! How a line is answered, and what is held after it.
-ghost use Rattle.std.specs.Prelude.{◌≡◌, ◌++◌, length, take, IfOk, OnOk, OnErr};
-ghost use Rattle.vers_cli.specs.Text.{words_in};
+ghost use Rattle.std.specs.Prelude.{◌≡◌, ◌++◌, length, take, IfOk, OnOk};
+ghost use Rattle.vers_words.specs.Text.{words_in};
+ghost use Rattle.vers_words.specs.Reply.{plain_reply};
 ghost use Rattle.vers_cli.specs.Name.{name_of};
 ghost use Rattle.vers_cli.specs.Holding.{Nothing};
-ghost use Rattle.vers_cli.specs.Reply.{plain_reply};
 ghost use Rattle.vers_cli.specs.Rules.{loaded, load_reply, holding_after_load, reply_to, holding_after_name};
-ghost use Rattle.vers_cli.specs.Answers.{answer_to, holding_after};
+ghost use Rattle.vers_cli.specs.Answers.{answer_to, holding_after, by_the_rules};
 
 use crate::held;
 use crate::held::Held;
-use crate::loading::Loading;
 use crate::name::{Load, Name};
-use crate::reply::Reply;
-use crate::text::{split_first_word, without_return};
 use std::alloc::{AllocError, Allocator};
 use std::marker::Model;
+use vers_engine::Answerer;
+use vers_words::loading::Loading;
+use vers_words::reply::Reply;
+use vers_words::text::{split_first_word, without_return};
 
 /// What is held, with the allocator for answers and for what is held next.
 #[derive(Drop)]
@@ -75,7 +76,8 @@ impl<'a, A: Allocator + Copy> Store<'a, A> {
         }
     }
 
-    // Appends the answer of a line. Where memory is refused a part of it may stand appended.
+    // Appends the answer of a line, with its end. A line without words has none. Where memory is
+    // refused a part of it may stand appended.
     fn append_answer(&mut self, line: &[u8], answers: &mut Vec<u8, A>) -> Result<(), AllocError>
         ensures answer { OnOk result (answers.new.items
             ≡ answers.old.items ++ answer_to self.old line.now) }
@@ -89,15 +91,12 @@ impl<'a, A: Allocator + Copy> Store<'a, A> {
         answers.push(b'\n')?;
         Ok(())
     }
+}
 
-    /// Appends the answer of a line, with its end. A line without words has none. Where memory is
-    /// refused the answers stay as they were.
-    pub fn answer(&mut self, line: &[u8], answers: &mut Vec<u8, A>) -> Result<(), AllocError>
-        ensures answer { OnOk result (answers.new.items
-            ≡ answers.old.items ++ answer_to self.old line.now) }
-        ensures holds { OnOk result (self.new ≡ holding_after self.old line.now) }
-        ensures kept { OnErr result (answers.new.items ≡ answers.old.items) }
-    {
+impl<A: Allocator + Copy> Answerer<A> for Store<'_, A> {
+    ghost answering = { by_the_rules };
+
+    fn answer(&mut self, line: &[u8], answers: &mut Vec<u8, A>) -> Result<(), AllocError> {
         let len = answers.len();
         let result = self.append_answer(line, answers);
         if result.is_err() {

@@ -1,17 +1,17 @@
 //! The lines of a list of symbols.
 ghost use Rattle.std.specs.Prelude.{◌≡◌, IfOk};
-ghost use Rattle.vers_cli.specs.Text.{words_in};
-ghost use Rattle.vers_cli.specs.Arguments.{all_numbers as numbers_all};
+ghost use Rattle.vers_words.specs.Text.{words_in};
+ghost use Rattle.vers_words.specs.Arguments.{all_numbers as numbers_all};
+ghost use Rattle.vers_words.specs.Reply.{plain_reply};
 ghost use Rattle.vers_cli.specs.SymbolsLines.{symbols_loaded, symbols_reply, all_reply as reply_of_all, place_reply as reply_at_place, symbol_reply as reply_of_symbol, range_reply as reply_of_range, within_reply as reply_within};
-ghost use Rattle.vers_cli.specs.Reply.{plain_reply};
 
-use crate::arguments::{all_numbers, no_arguments, one_number, three_numbers, two_numbers};
-use crate::loading::Loading;
 use crate::name::{AllQuery, Query, RangeQuery, SymbolQuery, SymbolsQuery, WithinQuery};
-use crate::reply::Reply;
 use crate::sorted::members_left;
 use std::alloc::{AllocError, Allocator};
 use vers_wavelet::wavelet::WaveletMatrix;
+use vers_words::arguments::{all_numbers, no_arguments, one_number, three_numbers, two_numbers};
+use vers_words::loading::Loading;
+use vers_words::reply::Reply;
 
 // How many bits a symbol has at most.
 const WIDEST: u64 = 64;

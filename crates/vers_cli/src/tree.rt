@@ -1,20 +1,20 @@
 //! The lines of a list of parentheses.
 ghost use Rattle.std.specs.Prelude.{◌≡◌, true, IfOk};
 ghost use Rattle.vers_bits.specs.Bits.{places};
-ghost use Rattle.vers_cli.specs.Text.{words_in};
-ghost use Rattle.vers_cli.specs.Arguments.{bits_of};
+ghost use Rattle.vers_words.specs.Text.{words_in};
+ghost use Rattle.vers_words.specs.Arguments.{bits_of};
+ghost use Rattle.vers_words.specs.Reply.{plain_reply};
 ghost use Rattle.vers_cli.specs.TreeLines.{first_place, tree_loaded, tree_reply, whole_reply as reply_of_whole, excess_reply, place_reply as reply_at_place, search_reply as reply_of_search};
-ghost use Rattle.vers_cli.specs.Reply.{plain_reply};
 
-use crate::arguments::{bit_digits, no_arguments, number_and_signed, one_number};
 use crate::bits::bit_vec;
 use crate::forest;
 use crate::forest::{is_balanced, places_left};
-use crate::loading::Loading;
 use crate::name::{PlaceQuery, Query, SearchQuery, TreeQuery, WholeQuery};
-use crate::reply::Reply;
 use std::alloc::{AllocError, Allocator};
 use vers_trees::trees::bp::{BpTree, MAX_LEN};
+use vers_words::arguments::{bit_digits, no_arguments, number_and_signed, one_number};
+use vers_words::loading::Loading;
+use vers_words::reply::Reply;
 
 /// What the load line `tree S` gives.
 pub fn load<'a, A: Allocator + Copy>(

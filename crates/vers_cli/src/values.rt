@@ -1,16 +1,16 @@
 //! The lines of a list of values.
 ghost use Rattle.std.specs.Prelude.{◌≡◌, IfOk};
-ghost use Rattle.vers_cli.specs.Text.{words_in};
-ghost use Rattle.vers_cli.specs.Arguments.{all_numbers as numbers_all};
+ghost use Rattle.vers_words.specs.Text.{words_in};
+ghost use Rattle.vers_words.specs.Arguments.{all_numbers as numbers_all};
+ghost use Rattle.vers_words.specs.Reply.{plain_reply};
 ghost use Rattle.vers_cli.specs.ValuesLines.{first_least, values_loaded, values_reply};
-ghost use Rattle.vers_cli.specs.Reply.{plain_reply};
 
-use crate::arguments::{all_numbers, no_arguments, two_numbers};
-use crate::loading::Loading;
 use crate::name::Query;
-use crate::reply::Reply;
 use std::alloc::{AllocError, Allocator};
 use vers_rmq::rmq::fast_rmq::{FastRmq, MAX_LEN};
+use vers_words::arguments::{all_numbers, no_arguments, two_numbers};
+use vers_words::loading::Loading;
+use vers_words::reply::Reply;
 
 /// What the load line `values n ..` gives.
 pub fn load<A: Allocator + Copy>(

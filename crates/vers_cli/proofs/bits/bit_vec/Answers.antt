@@ -1,5 +1,5 @@
 use Rattle.std.proofs.Common.{◌≡◌, Ok, Err, Result, IfOk, MatchResult, is_ok}
-use Rattle.vers_cli.proofs.Numbers.{odd_digits}
+use Rattle.vers_cli.proofs.Digits.{odd_digits}
 use Rattle.vers_cli.proofs.bits.bit_vec.Goals as goal
 
 -- the value that another error goes with

@@ -1,5 +1,5 @@
 use Rattle.std.proofs.Common.{sym, ap, ◌∙◌}
-use Rattle.vers_cli.specs.Reply.{Numbers}
+use Rattle.vers_words.specs.Reply.{Numbers}
 use Rattle.vers_cli.proofs.Pairs.{shared}
 use Rattle.vers_cli.proofs.documents.shared.Goals as goal
 

@@ -1,7 +1,7 @@
 use Rattle.std.proofs.Common.{◌≡◌, ◌∷◌, Some, refl, sym, ◌∙◌, ap}
+use Rattle.vers_words.specs.Text.{words_in}
+use Rattle.vers_words.specs.Arguments.{all_numbers}
 use Rattle.vers_cli.specs.SparseLines.{sparse_loaded}
-use Rattle.vers_cli.specs.Text.{words_in}
-use Rattle.vers_cli.specs.Arguments.{all_numbers}
 use Rattle.vers_cli.proofs.Orders.{sparse_accepted}
 use Rattle.vers_cli.proofs.sparse.load.Goals as goal
 

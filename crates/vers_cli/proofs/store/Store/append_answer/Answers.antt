@@ -1,8 +1,8 @@
 use Rattle.std.proofs.Common.{◌≡◌, ◌++◌, ◌∷◌, [], sym, ap, ◌∙◌, refl, append_assoc}
 use Rattle.std.proofs.lemmas.List.{append-nil}
-use Rattle.vers_cli.specs.Text.{words_in, words_of}
+use Rattle.vers_words.specs.Text.{words_in, words_of}
+use Rattle.vers_words.specs.Reply.{plain_reply, reply_text}
 use Rattle.vers_cli.specs.Answers.{answer_to_words, holding_after_words}
-use Rattle.vers_cli.specs.Reply.{plain_reply, reply_text}
 use Rattle.vers_cli.proofs.store.Store.append_answer.Goals as goal
 
 pub returns-in_default-clause-answer : goal.returns-in_default-clause-answer

@@ -1,0 +1,37 @@
+-- How a run ends.
+use Rattle.std.proofs.Common.{◌≡◌, ℕ, List, [], ◌++◌, Option, Ok, Err, Result, refl, sym, inl, inr}
+use Rattle.std.specs.Io.KnownBytes.{IsAtEnd}
+use Rattle.vers_engine.specs.declared.engine.RunError.{RunError}
+use Rattle.vers_engine.specs.declared.engine.RunError.TheVariants.{Read, Write, Memory}
+use Rattle.vers_engine.specs.Lines.{whole_lines, lines_of}
+use Rattle.vers_engine.specs.Answers.{Answering, answers_of, AreLinesRead, WrittenOf}
+use Rattle.vers_engine.specs.inside.Session.{StandsAt, TakesOrFails, FinishesOrFails}
+use Rattle.vers_engine.proofs.Splits.{IsSplit-none}
+use Rattle.vers_engine.proofs.Steps.{whole_lines-IsSplit}
+
+-- nothing was read yet
+pub StandsAt-start : {H : Type 0} (by : Answering H) (start : H) → StandsAt by start [] [] start []
+StandsAt-start by start = record { lines = []; split = IsSplit-none 10; answered = refl; holds = refl }
+
+-- at the end of the input
+pub ends : {H : Type 0} (by : Answering H) (start : H) (r : Result (Unit {0}) RunError) (left : Option (List ℕ)) (h : H) (p text read written : List ℕ)
+    → IsAtEnd left → StandsAt by start read written h p → FinishesOrFails by r h p text
+    → AreLinesRead r left read (lines_of read) × WrittenOf (answers_of by start) r (lines_of read) (written ++ text)
+ends by start (Ok u) left h p text read written e s f = ((e, refl), f start read written s)
+ends by start (Err Read) left h p text read written e s f = absurd (f start read written s)
+ends by start (Err Memory) left h p text read written e s f = (inr (e, refl), f start read written s)
+ends by start (Err Write) left h p text read written e s f = (inr (e, refl), f start read written s)
+
+-- at a fault between two reads
+pub breaks : {H : Type 0} (by : Answering H) (start : H) (e : RunError) (left : Option (List ℕ)) (h : H) (p bytes text : List ℕ) (new : H) (rest read written : List ℕ)
+    → StandsAt by start read written h p → TakesOrFails by (Err e) h p bytes text new rest
+    → (lines : List (List ℕ)) × AreLinesRead (Err e) left (read ++ bytes) lines × WrittenOf (answers_of by start) (Err e) lines (written ++ text)
+breaks by start Read left h p bytes text new rest read written s f = absurd ((f start read written s).3)
+breaks by start Memory left h p bytes text new rest read written s f =
+    let w = f start read written s in (w.0, inl (sym (whole_lines-IsSplit _ w.0 w.1 w.2)), w.3)
+breaks by start Write left h p bytes text new rest read written s f =
+    let w = f start read written s in (w.0, inl (sym (whole_lines-IsSplit _ w.0 w.1 w.2)), w.3)
+
+-- at a fault of the reader
+pub stops : {H : Type 0} (by : Answering H) (start : H) (h : H) (p read written : List ℕ) → StandsAt by start read written h p → written ≡ answers_of by start (whole_lines read)
+stops by start h p read written s = rw (whole_lines-IsSplit read s.lines p s.split) s.answered

@@ -1,0 +1,5 @@
+pub mod Known
+pub mod Splits
+pub mod Lines
+pub mod Steps
+pub mod Ends

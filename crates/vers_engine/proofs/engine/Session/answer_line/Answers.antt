@@ -1,0 +1,13 @@
+use Rattle.std.proofs.Common.{◌≡◌, length, sym, arith}
+use Rattle.std.proofs.lemmas.Bool.{eqb-true}
+use Rattle.std.proofs.lemmas.List.{nil_from_length}
+use Rattle.vers_engine.proofs.Steps.{AnswersOrStays-from}
+use Rattle.vers_engine.proofs.engine.Session.answer_line.Goals as goal
+
+pub returns-then-is_empty-clause-answered : goal.returns-then-is_empty-clause-answered
+returns-then-is_empty-clause-answered g c =
+    let s = c.args.self.now in
+    let long : length s.pending.items ≡ 0 = omega (arith, s.pending.ok.0, eqb-true _ 0 (sym c.if-is_empty.ensures)) in
+    rw (nil_from_length s.pending.items long)
+    (AnswersOrStays-from g.S.Answerer.answering c.answer.result s.store c.args.end.now s.answers.items c.answer.new.answers.items c.answer.new.self
+    c.answer.ensures.answer c.answer.ensures.holds c.answer.ensures.kept)

@@ -1,0 +1,18 @@
+use Rattle.std.proofs.Common.{◌++◌, take, arith, append_assoc}
+use Rattle.std.proofs.lemmas.List.{take_rest, take-append-drop}
+use Rattle.std.proofs.lemmas.Bool.Decides.{nat_tests}
+use Rattle.std.proofs.lemmas.Grind.{common_steps}
+use Rattle.vers_engine.proofs.Known.{Appends-then}
+use Rattle.vers_engine.proofs.engine.write_piece.Goals as goal
+
+pub loop-rest-preserved : goal.loop-rest-preserved
+loop-rest-preserved g c =
+    let n = c.in-Ok.taken in
+    let rest = c.loop-rest.rest.now in (
+      (
+        c.loop-rest.invariant.0.0 ++ take n rest,
+        Appends-then _ _ _ _ _ c.loop-rest.invariant.0.1 c.in-Ok.ensures.bytes,
+        rw (take_rest, append_assoc, take-append-drop) c.loop-rest.invariant.0.2,
+      ),
+      grind (arith, nat_tests, common_steps),
+    )

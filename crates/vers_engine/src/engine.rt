@@ -1,0 +1,280 @@
+//! The engine: reads lines, and writes the answers of the lines of a read before it reads on.
+ghost use Rattle.std.specs.Prelude.{◌≡◌, ◌<◌, ◌≤◌, ◌↔◌, ◌++◌, IsTrue, List, ℕ, [], length, false, OnOk, IfOk, IfErr};
+ghost use Rattle.std.specs.Io.KnownBytes.{Appends, Consumes};
+ghost use Rattle.vers_engine.specs.Device.{FollowsReadFault, FollowsWriteFault};
+ghost use Rattle.vers_engine.specs.Answers.{answers_of, AreLinesRead, WrittenOf, fault_text};
+ghost use Rattle.vers_engine.specs.inside.Session.{AnswersOrStays, TakesSome, TakesOrFails, FinishesOrFails, FailsAlong, StandsAt};
+
+use crate::answerer::Answerer;
+use crate::device::Device;
+use crate::once::{Sink, Source};
+use std::alloc::{AllocError, Allocator};
+use std::io::{Read, Write};
+use vers_words::text::place_of;
+
+/// Why a run ended before the end of its input.
+#[derive(Clone, Copy, PartialEq, Eq, Debug, Drop)]
+pub enum RunError {
+    /// The reader answered an error, or an interruption.
+    Read,
+    /// The writer answered an error, or took no byte of a piece that has some.
+    Write,
+    /// The allocator has no memory.
+    Memory,
+}
+
+/// What is to be printed of a fault: `read failed`, `write failed` or `out of memory`.
+pub fn fault_line(error: &RunError) -> &'static str
+    ensures { result.now ≡ fault_text error.now }
+{
+    match error {
+        RunError::Read => "read failed",
+        RunError::Write => "write failed",
+        RunError::Memory => "out of memory",
+    }
+}
+
+impl From<AllocError> for RunError {
+    ghost use Rattle.vers_engine.specs.declared.engine.RunError.TheVariants.{Memory};
+
+    ghost from_gives = { λ _ e. e ≡ Memory };
+
+    fn from(_error: AllocError) -> RunError {
+        RunError::Memory
+    }
+}
+
+// Writes a whole piece, or as much of it as the writer takes before a fault.
+fn write_piece<W: Sink>(writer: &mut Device<W>, piece: &[u8]) -> Result<(), RunError>
+    ensures written { (text : List ℕ) × (rest : List ℕ)
+        × Appends (W.contents writer.old.inner) (W.contents writer.new.inner) text
+        × (piece.now ≡ text ++ rest) × OnOk result (rest ≡ []) }
+    ensures kind { IfErr result (λ e. e ≡ RunError.Write) }
+    ensures cause { result ≡ Err RunError.Write → FollowsWriteFault W.write_gives writer.new.inner }
+    ensures fault { FailsAlong result writer.old.has_failed writer.new.has_failed }
+{
+    let mut rest = piece;
+    while !rest.is_empty() {
+        match writer.write(rest) {
+            Ok(0) => return Err(RunError::Write),
+            Ok(taken) => rest = &rest[taken..],
+            Err(_) => return Err(RunError::Write),
+        }
+    }
+    Ok(())
+}
+
+// What answers lines, the bytes that were read since the last end of a line, and the answers that
+// are not written yet.
+#[derive(Drop)]
+struct Session<S, A: Allocator> {
+    store: S,
+    pending: Vec<u8, A>,
+    answers: Vec<u8, A>,
+}
+
+impl<S: Answerer<A>, A: Allocator> Session<S, A> {
+    // Answers the line of the pending bytes and those of `end`.
+    fn answer_line(&mut self, end: &[u8]) -> Result<(), AllocError>
+        ensures answered { (text : List ℕ) × (self.new.answers.items ≡ self.old.answers.items ++ text)
+            × AnswersOrStays S.answering result self.old.store (self.old.pending.items ++ end.now) text self.new.store }
+        ensures pending { OnOk result (self.new.pending.items ≡ []) }
+    {
+        if self.pending.is_empty() {
+            return self.store.answer(end, &mut self.answers);
+        }
+        self.pending.extend_from_slice(end)?;
+        self.store
+            .answer(self.pending.as_slice(), &mut self.answers)?;
+        self.pending.clear();
+        Ok(())
+    }
+
+    // Takes bytes up to the first end of a line and answers that line, or takes them all as
+    // pending. Returns how many were taken.
+    fn take_line(&mut self, bytes: &[u8]) -> Result<usize, AllocError>
+        ensures within { IfOk result (λ taken. taken ≤ length bytes.now) }
+        ensures progress { 0 < length bytes.now → IfOk result (λ taken. 0 < taken) }
+        ensures taken { (text : List ℕ) × (self.new.answers.items ≡ self.old.answers.items ++ text)
+            × TakesSome S.answering result self.old.store self.old.pending.items bytes.now text self.new.store self.new.pending.items }
+    {
+        match place_of(b'\n', bytes) {
+            Some(end) => {
+                self.answer_line(&bytes[..end])?;
+                Ok(end + 1)
+            }
+            None => {
+                self.pending.extend_from_slice(bytes)?;
+                Ok(bytes.len())
+            }
+        }
+    }
+
+    // Takes lines while there are bytes and room for answers. Returns how many bytes were taken.
+    fn take_lines(&mut self, bytes: &[u8]) -> Result<usize, AllocError>
+        ensures within { IfOk result (λ taken. taken ≤ length bytes.now) }
+        ensures progress { 0 < length bytes.now → self.old.answers.items ≡ []
+            → IfOk result (λ taken. 0 < taken) }
+        ensures taken { (text : List ℕ) × (self.new.answers.items ≡ self.old.answers.items ++ text)
+            × TakesSome S.answering result self.old.store self.old.pending.items bytes.now text self.new.store self.new.pending.items }
+    {
+        let mut taken = 0;
+        while taken < bytes.len() && self.answers.len() < ANSWERS_LEN {
+            taken += self.take_line(&bytes[taken..])?;
+        }
+        Ok(taken)
+    }
+
+    // Writes the gathered answers.
+    fn write_answers<W: Sink>(&mut self, writer: &mut Device<W>) -> Result<(), RunError>
+        ensures written { (text : List ℕ) × (rest : List ℕ)
+            × Appends (W.contents writer.old.inner) (W.contents writer.new.inner) text
+            × (self.old.answers.items ≡ text ++ rest) × OnOk result (rest ≡ []) }
+        ensures store { self.new.store ≡ self.old.store }
+        ensures pending { self.new.pending.items ≡ self.old.pending.items }
+        ensures answers { OnOk result (self.new.answers.items ≡ []) }
+        ensures kind { IfErr result (λ e. e ≡ RunError.Write) }
+        ensures cause { result ≡ Err RunError.Write
+            → FollowsWriteFault W.write_gives writer.new.inner }
+        ensures fault { FailsAlong result writer.old.has_failed writer.new.has_failed }
+    {
+        write_piece(writer, self.answers.as_slice())?;
+        self.answers.clear();
+        Ok(())
+    }
+
+    // Takes bytes that were read, and writes the answers of all lines that end in them. Where
+    // memory is refused the answers that are whole are written first.
+    fn take_bytes<W: Sink>(&mut self, bytes: &[u8], writer: &mut Device<W>) -> Result<(), RunError>
+        requires { self.old.answers.items ≡ [] }
+        ensures written { (text : List ℕ)
+            × Appends (W.contents writer.old.inner) (W.contents writer.new.inner) text
+            × TakesOrFails S.answering result self.old.store self.old.pending.items bytes.now text self.new.store self.new.pending.items }
+        ensures answers { OnOk result (self.new.answers.items ≡ []) }
+        ensures cause { result ≡ Err RunError.Write
+            → FollowsWriteFault W.write_gives writer.new.inner }
+        ensures fault { FailsAlong result writer.old.has_failed writer.new.has_failed }
+    {
+        let mut rest = bytes;
+        while !rest.is_empty() {
+            let answered = self.take_lines(rest);
+            self.write_answers(writer)?;
+            let taken = answered?;
+            rest = &rest[taken..];
+        }
+        Ok(())
+    }
+
+    // At the end of the input: answers the last line, unless it has no bytes.
+    fn finish<W: Sink>(&mut self, writer: &mut Device<W>) -> Result<(), RunError>
+        requires { self.old.answers.items ≡ [] }
+        ensures written { (text : List ℕ)
+            × Appends (W.contents writer.old.inner) (W.contents writer.new.inner) text
+            × FinishesOrFails S.answering result self.old.store self.old.pending.items text }
+        ensures cause { result ≡ Err RunError.Write
+            → FollowsWriteFault W.write_gives writer.new.inner }
+        ensures fault { FailsAlong result writer.old.has_failed writer.new.has_failed }
+    {
+        if self.pending.is_empty() {
+            return Ok(());
+        }
+        self.answer_line(b"")?;
+        self.write_answers(writer)
+    }
+}
+
+// How many bytes are asked of the reader at once.
+const READ_LEN: usize = 65536;
+
+// The bytes that are read into.
+fn read_buffer<A: Allocator>(alloc: A) -> Result<Vec<u8, A>, AllocError>
+    ensures { IfOk result (λ buffer. 0 < length buffer.items) }
+{
+    vec![in alloc; 0u8; READ_LEN]
+}
+
+// Gathered answers of so many bytes are written before the next line is taken.
+const ANSWERS_LEN: usize = 65536;
+
+/// Reads lines to the end of the input and writes the answer of each, every whole line before the
+/// next read.
+///
+/// A line ends with byte 10 or with the end of the input. `store` answers the lines, one after the
+/// other. An answer is built whole before its first byte is written. The answers of the lines of one
+/// read are gathered, and written together once they have 64 KiB or the lines end. Memory is needed
+/// for 64 KiB of input, for the longest line, for gathered answers and for what `store` asks for.
+///
+/// # Errors
+///
+/// - `Read`: the reader answered an error. Every whole line that was read has been answered, and
+///   the line that the fault cut off has no answer.
+/// - `Write`: the writer answered an error or took no byte. What was written is a beginning of the
+///   answers.
+/// - `Memory`: the allocator refused. What was written is the answers of a first part of the lines,
+///   each answer whole.
+///
+/// `Read` and `Write` come exactly where the device has failed when the call returns. `Read` comes
+/// right after a read of the reader inside that answered an error, and `Write` right after a write
+/// to the writer inside that met a fault. A reader that has not come to its end after 2^64 - 1
+/// reads that gave bytes counts as failed too.
+pub fn answer_lines<A: Allocator + Copy, S: Answerer<A> + Drop, R: Source, W: Sink>(
+    alloc: A,
+    store: S,
+    reader: &mut Device<R>,
+    writer: &mut Device<W>,
+) -> Result<(), RunError>
+    requires reader { reader.old.has_failed ≡ false }
+    requires writer { writer.old.has_failed ≡ false }
+    ensures answers { (read : List ℕ) × (written : List ℕ) × (lines : List (List ℕ))
+        × Consumes (R.remaining reader.old.inner) (R.remaining reader.new.inner) read
+        × Appends (W.contents writer.old.inner) (W.contents writer.new.inner) written
+        × AreLinesRead result (R.remaining reader.new.inner) read lines
+        × WrittenOf (answers_of S.answering store) result lines written }
+    ensures read { (result ≡ Err RunError.Read) ↔ IsTrue reader.new.has_failed }
+    ensures write { (result ≡ Err RunError.Write) ↔ IsTrue writer.new.has_failed }
+    ensures read_cause { result ≡ Err RunError.Read → 0 < reader.new.reads_left
+        → FollowsReadFault R.read_gives reader.new.inner }
+    ensures write_cause { result ≡ Err RunError.Write
+        → FollowsWriteFault W.write_gives writer.new.inner }
+{
+    let mut buffer = read_buffer(alloc)?;
+    let mut session = Session {
+        store,
+        pending: Vec::new(alloc),
+        answers: Vec::new(alloc),
+    };
+    serve(&mut session, buffer.as_mut_slice(), reader, writer)
+}
+
+// Reads and answers to the end of the input, with no line read yet.
+fn serve<A: Allocator, S: Answerer<A>, R: Source, W: Sink>(
+    session: &mut Session<S, A>,
+    buffer: &mut [u8],
+    reader: &mut Device<R>,
+    writer: &mut Device<W>,
+) -> Result<(), RunError>
+    requires pending { session.old.pending.items ≡ [] }
+    requires answers { session.old.answers.items ≡ [] }
+    requires room { 0 < length buffer.old }
+    requires reader { reader.old.has_failed ≡ false }
+    requires writer { writer.old.has_failed ≡ false }
+    ensures answers { (read : List ℕ) × (written : List ℕ) × (lines : List (List ℕ))
+        × Consumes (R.remaining reader.old.inner) (R.remaining reader.new.inner) read
+        × Appends (W.contents writer.old.inner) (W.contents writer.new.inner) written
+        × AreLinesRead result (R.remaining reader.new.inner) read lines
+        × WrittenOf (answers_of S.answering session.old.store) result lines written }
+    ensures read { (result ≡ Err RunError.Read) ↔ IsTrue reader.new.has_failed }
+    ensures write { (result ≡ Err RunError.Write) ↔ IsTrue writer.new.has_failed }
+    ensures read_cause { result ≡ Err RunError.Read → 0 < reader.new.reads_left
+        → FollowsReadFault R.read_gives reader.new.inner }
+    ensures write_cause { result ≡ Err RunError.Write
+        → FollowsWriteFault W.write_gives writer.new.inner }
+{
+    'reads: loop {
+        match reader.read(buffer) {
+            Ok(0) => return session.finish(writer),
+            Ok(n) => session.take_bytes(&buffer[..n], writer)?,
+            Err(_) => return Err(RunError::Read),
+        }
+    }
+}

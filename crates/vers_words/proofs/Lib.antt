@@ -1,0 +1,5 @@
+pub mod Places
+pub mod Words
+pub mod Numbers
+pub mod Signed
+pub mod PublicLaws

@@ -1,0 +1,67 @@
+-- The words of a text, found from its front.
+use Rattle.std.proofs.Common.{◌≡◌, ◌==◌, ◌+◌, ◌<◌, ◌≤◌, ℕ, zero, suc, Bool, true, not, List, [], ◌∷◌, ◌++◌, length, take, drop, get_or, Option, Some, None, unwrap_or, inl, inr, refl, sym, ap, ◌∙◌, arith}
+use Rattle.std.specs.List.{position, position_or_len, slice_split, filter}
+use Rattle.std.proofs.lemmas.Bool.{ne_eqb}
+use Rattle.std.proofs.lemmas.Bool.Decides.{eqb_tells}
+use Rattle.std.proofs.lemmas.Option.{cond_some}
+use Rattle.std.proofs.lemmas.List.{drop_all, take_all, take-append-drop, length-take}
+use Rattle.std.proofs.lemmas.List.Quantifiers.{position-Some}
+use Rattle.std.proofs.lemmas.List.Splits.{slice_split_at, slice_split_none}
+use Rattle.vers_words.specs.Text.{has_bytes, words_in}
+use Rattle.vers_words.proofs.Places.{position-None, lacks, lacks_before, byte_at, from_byte}
+
+abbrev pub is_other : ℕ → Bool
+is_other b = not (b == 32)
+
+-- spaces before a text add no word
+words_in-after_spaces : (t : List ℕ) → words_in t ≡ words_in (drop (position_or_len is_other t) t)
+words_in-after_spaces [] = refl
+words_in-after_spaces (b ∷ t) =
+    let next : 1 + position_or_len is_other t ≡ suc (position_or_len is_other t) = omega arith in
+    elim (eqb_tells b 32) [
+      | inl e ↦ rw (e.0, e.1, next) (words_in-after_spaces t)
+      | inr e ↦ let none : position_or_len is_other (b ∷ t) ≡ 0 = rw e.0 refl in ap (λ n. words_in (drop n (b ∷ t))) (sym none)
+    ]
+
+-- a text of spaces has no word
+pub words_in-spaces : (t : List ℕ) → position is_other t ≡ None → words_in t ≡ []
+words_in-spaces t h =
+    let gone = drop_all (position_or_len is_other t) t (position-None is_other t h) in
+    words_in-after_spaces t ∙ ap words_in gone
+
+-- the words stand from the first byte that is no space
+pub words_in-from : (t : List ℕ) (i : ℕ) → position is_other t ≡ Some i → words_in t ≡ words_in (drop i t)
+words_in-from t i h = words_in-after_spaces t ∙ ap (λ n. words_in (drop n t)) (cond_some _ _ _ h).1
+
+-- a part with bytes is kept
+first_kept : (w : List ℕ) (ws : List (List ℕ)) → 0 < length w → filter has_bytes (w ∷ ws) ≡ w ∷ filter has_bytes ws
+first_kept w ws some = rw (ne_eqb (length w) 0 (λ e. omega arith)) refl
+
+-- a text without spaces is one word
+words_in-one : (t : List ℕ) → 0 < length t → position (λ b. b == 32) t ≡ None → words_in t ≡ t ∷ []
+words_in-one t some h = ap (filter has_bytes) (slice_split_none (λ b. b == 32) t (lacks 32 t h)) ∙ first_kept t [] some
+
+-- else a word ends at the first space
+words_in-word : (t : List ℕ) (n : ℕ) → 0 < n → position (λ b. b == 32) t ≡ Some n → words_in t ≡ take n t ∷ words_in (drop n t)
+words_in-word t n some h =
+    let within = (position-Some (λ b. b == 32) t n 0 h).0 in
+    let long : 0 < length (take n t) = omega (arith, length-take n t) in
+    let rest = from_byte 32 t n h in
+    let whole : t ≡ take n t ++ 32 ∷ drop (n + 1) t = sym (take-append-drop n t) ∙ ap (λ l. take n t ++ l) rest in
+    let split = slice_split_at (λ b. b == 32) (take n t) 32 (drop (n + 1) t) (lacks_before 32 t n h) refl in
+    ap words_in whole ∙ ap (filter has_bytes) split ∙ first_kept (take n t) (slice_split (λ b. b == 32) (drop (n + 1) t)) long
+    ∙ ap (λ l. take n t ∷ words_in l) (sym rest)
+
+-- no space stands first
+above_zero : (t : List ℕ) (n : ℕ) → position (λ b. b == 32) t ≡ Some n → is_other (get_or t 0 0) ≡ true → 0 < n
+above_zero t zero h other = let space = byte_at 32 t 0 h in cc (rw space at other)
+above_zero t (suc n) h other = omega arith
+
+-- a text that begins with no space begins with a word, up to the first space or the end
+pub words_in-first : (t : List ℕ) (place : Option ℕ) (n : ℕ) → position (λ b. b == 32) t ≡ place → n ≡ unwrap_or place (length t)
+    → 0 < length t → is_other (get_or t 0 0) ≡ true → (0 < n) × (words_in t ≡ take n t ∷ words_in (drop n t))
+words_in-first t None n h e some other =
+    let all : length t ≤ length t = omega arith in
+    rw e (some, rw (take_all (length t) t all, drop_all (length t) t all) (words_in-one t some h))
+words_in-first t (Some m) n h e some other =
+    let first = above_zero t m h other in rw e (first, words_in-word t m first h)

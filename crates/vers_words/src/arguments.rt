@@ -1,0 +1,106 @@
+//! The arguments of a line, which are the words of what stands after its first one. Each function
+//! answers None where they are malformed.
+ghost use Rattle.std.specs.Prelude.{◌≡◌, true, option_map, IfOk, IfSome};
+ghost use Rattle.std.specs.List.{list_all};
+ghost use Rattle.vers_words.specs.Text.{words_in};
+ghost use Rattle.vers_words.specs.Arguments.{no_arguments as none_of, one_number as number_alone, two_numbers as numbers_two, three_numbers as numbers_three, number_and_signed as number_and_signed_number, all_numbers as numbers_all, is_bit_digit, bits_of_digits, bits_of};
+
+use crate::text::{number, signed_number, split_first_word};
+use std::alloc::{AllocError, Allocator};
+
+/// The arguments of a line that takes none. None where there is one.
+pub fn no_arguments(arguments: &[u8]) -> Option<()>
+    ensures { result ≡ none_of (words_in arguments.now) }
+{
+    match split_first_word(arguments) {
+        None => Some(()),
+        Some(_) => None,
+    }
+}
+
+/// The argument of a line that takes one number. None where the words are not one number below
+/// 2^64.
+pub fn one_number(arguments: &[u8]) -> Option<u64>
+    ensures { result ≡ number_alone (words_in arguments.now) }
+{
+    let (word, others) = split_first_word(arguments)?;
+    no_arguments(others)?;
+    number(word)
+}
+
+/// The arguments of a line that takes two numbers. None where the words are not two numbers below
+/// 2^64.
+pub fn two_numbers(arguments: &[u8]) -> Option<(u64, u64)>
+    ensures { result ≡ numbers_two (words_in arguments.now) }
+{
+    let (first, others) = split_first_word(arguments)?;
+    let (second, more) = split_first_word(others)?;
+    no_arguments(more)?;
+    Some((number(first)?, number(second)?))
+}
+
+/// The arguments of a line that takes three numbers. None where the words are not three numbers
+/// below 2^64.
+pub fn three_numbers(arguments: &[u8]) -> Option<(u64, u64, u64)>
+    ensures { result ≡ numbers_three (words_in arguments.now) }
+{
+    let (first, others) = split_first_word(arguments)?;
+    let (second, third) = two_numbers(others)?;
+    Some((number(first)?, second, third))
+}
+
+/// The arguments of a line that takes a number and a signed number. None where the words are not a
+/// number below 2^64 and one from -2^63 on, below 2^63.
+pub fn number_and_signed(arguments: &[u8]) -> Option<(u64, i64)>
+    ensures { result ≡ number_and_signed_number (words_in arguments.now) }
+{
+    let (first, others) = split_first_word(arguments)?;
+    let (second, more) = split_first_word(others)?;
+    no_arguments(more)?;
+    Some((number(first)?, signed_number(second)?))
+}
+
+/// The arguments of a line that takes any number of numbers. None where a word is no number below
+/// 2^64.
+pub fn all_numbers<A: Allocator + Copy>(
+    alloc: A,
+    arguments: &[u8],
+) -> Result<Option<Vec<u64, A>>, AllocError>
+    ensures { IfOk result (λ found.
+        option_map (λ numbers. numbers.items) found ≡ numbers_all (words_in arguments.now)) }
+{
+    let mut numbers = Vec::new(alloc);
+    let mut rest = arguments;
+    while let Some((word, others)) = split_first_word(rest) {
+        let Some(value) = number(word) else {
+            return Ok(None);
+        };
+        numbers.push(value)?;
+        rest = others;
+    }
+    Ok(Some(numbers))
+}
+
+/// The arguments of a line that takes bits: one word of the digits 0 and 1, or no word for the empty
+/// list. None where the words are others.
+pub fn bit_digits(arguments: &[u8]) -> Option<&[u8]>
+    ensures bits { option_map (λ digits. bits_of_digits digits.now) result
+        ≡ bits_of (words_in arguments.now) }
+    ensures digits { IfSome result (λ digits. list_all is_bit_digit digits.now ≡ true) }
+{
+    let Some((word, others)) = split_first_word(arguments) else {
+        return Some(b"");
+    };
+    no_arguments(others)?;
+    if are_bit_digits(word) {
+        Some(word)
+    } else {
+        None
+    }
+}
+
+fn are_bit_digits(word: &[u8]) -> bool
+    ensures { result ≡ list_all is_bit_digit word.now }
+{
+    word.iter().all(|byte| *byte == b'0' || *byte == b'1')
+}

@@ -1,0 +1,125 @@
+//! What a line is answered by.
+ghost use Rattle.std.specs.Prelude.{◌≡◌, ◌++◌, ◌∷◌, length, take, decimal, OnOk, OnErr};
+ghost use Rattle.std.specs.Fmt.{signed_decimal};
+ghost use Rattle.vers_words.specs.Reply.{numbers_text};
+
+use std::alloc::{AllocError, Allocator};
+
+/// The reply of a line.
+#[derive(Drop)]
+pub enum Reply<A: Allocator + Copy> {
+    /// The line is not understood.
+    BadLine,
+    /// What is held doesn't have this query.
+    WrongStructure,
+    /// The arguments are well formed, but outside what the line takes.
+    Refused,
+    /// A number.
+    Number(u64),
+    /// A number with a sign.
+    Signed(i64),
+    /// There is no such number.
+    Absent,
+    /// Any number of numbers.
+    Numbers(Vec<u64, A>),
+}
+
+impl<A: Allocator + Copy> Reply<A> {
+    ghost use Rattle.vers_words.specs.Reply.{plain_reply, reply_text, number_or_absent as reply_of, number_or_refused as admitted_reply_of};
+
+    /// A number, or that there is none.
+    pub fn number_or_absent(number: Option<u64>) -> Reply<A>
+        ensures { plain_reply result ≡ reply_of number }
+    {
+        match number {
+            Some(n) => Reply::Number(n),
+            None => Reply::Absent,
+        }
+    }
+
+    /// A place, or that there is none.
+    pub fn place_or_absent(place: Option<usize>) -> Reply<A>
+        ensures { plain_reply result ≡ reply_of place }
+    {
+        let Some(p) = place else {
+            return Reply::Absent;
+        };
+        Reply::Number(p as u64)
+    }
+
+    /// A number, or that the query is refused.
+    pub fn number_or_refused(number: Option<u64>) -> Reply<A>
+        ensures { plain_reply result ≡ admitted_reply_of number }
+    {
+        match number {
+            Some(n) => Reply::Number(n),
+            None => Reply::Refused,
+        }
+    }
+
+    /// Appends the text of the reply. Where memory is refused a part of it may stand appended.
+    pub fn append_to(self, line: &mut Vec<u8, A>) -> Result<(), AllocError>
+        ensures text { OnOk result (line.new.items
+            ≡ line.old.items ++ reply_text (plain_reply self)) }
+        ensures kept { take (length line.old.items) line.new.items ≡ line.old.items }
+    {
+        match self {
+            Reply::BadLine => line.extend_from_slice(b"bad line"),
+            Reply::WrongStructure => line.extend_from_slice(b"wrong structure"),
+            Reply::Refused => line.extend_from_slice(b"refused"),
+            Reply::Number(n) => append_number(n, line),
+            Reply::Signed(n) => append_signed_number(n, line),
+            Reply::Absent => line.extend_from_slice(b"none"),
+            Reply::Numbers(numbers) => append_numbers(numbers.as_slice(), line),
+        }
+    }
+}
+
+// How many digits a number has at most.
+const MAX_DIGITS: usize = 20;
+
+// Appends a number as a decimal, or nothing.
+fn append_number<A: Allocator>(number: u64, line: &mut Vec<u8, A>) -> Result<(), AllocError>
+    ensures text { OnOk result (line.new.items ≡ line.old.items ++ decimal number) }
+    ensures kept { OnErr result (line.new.items ≡ line.old.items) }
+{
+    let mut digits = [0u8; MAX_DIGITS];
+    let mut start = MAX_DIGITS;
+    let mut rest = number;
+    while rest >= 10 {
+        start -= 1;
+        digits[start] = b'0' + (rest % 10) as u8;
+        rest /= 10;
+    }
+    start -= 1;
+    digits[start] = b'0' + rest as u8;
+    line.extend_from_slice(&digits[start..])
+}
+
+// Appends a number as a decimal, with `-` before it where it is below 0. Where memory is refused a
+// part may stand appended.
+fn append_signed_number<A: Allocator>(number: i64, line: &mut Vec<u8, A>) -> Result<(), AllocError>
+    ensures text { OnOk result (line.new.items ≡ line.old.items ++ signed_decimal number) }
+    ensures kept { take (length line.old.items) line.new.items ≡ line.old.items }
+{
+    if number < 0 {
+        line.push(b'-')?;
+    }
+    append_number(number.unsigned_abs(), line)
+}
+
+// Appends numbers with one space between them. Where memory is refused a part may stand appended.
+fn append_numbers<A: Allocator>(numbers: &[u64], line: &mut Vec<u8, A>) -> Result<(), AllocError>
+    ensures text { OnOk result (line.new.items ≡ line.old.items ++ numbers_text numbers.now) }
+    ensures kept { take (length line.old.items) line.new.items ≡ line.old.items }
+{
+    let Some((first, others)) = numbers.split_first() else {
+        return Ok(());
+    };
+    append_number(*first, line)?;
+    for number in others {
+        line.push(b' ')?;
+        append_number(*number, line)?;
+    }
+    Ok(())
+}

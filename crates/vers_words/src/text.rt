@@ -1,0 +1,71 @@
+//! The words and numbers of a line.
+ghost use Rattle.std.specs.Prelude.{◌≡◌, ◌<◌, ◌==◌, ◌∷◌, [], not, length, position, IfSome, MatchOption};
+ghost use Rattle.std.specs.Io.BufRead.{strip_last};
+ghost use Rattle.vers_words.specs.Text.{words_in, number_of, signed_number_of};
+
+/// Where a byte stands first in a text. None where it stands nowhere.
+pub fn place_of(byte: u8, text: &[u8]) -> Option<usize>
+    ensures { result ≡ position (λ b. b == byte) text.now }
+{
+    text.iter().position(|other| *other == byte)
+}
+
+// Where the first byte stands that is no space.
+fn first_of_word(text: &[u8]) -> Option<usize>
+    ensures { result ≡ position (λ b. not (b == 32)) text.now }
+{
+    text.iter().position(|byte| *byte != b' ')
+}
+
+/// The first word of a text and what stands after it. None where the text has no word.
+pub fn split_first_word(text: &[u8]) -> Option<(&[u8], &[u8])>
+    ensures words { MatchOption result (words_in text.now ≡ [])
+        (λ parts. words_in text.now ≡ parts.0.now ∷ words_in parts.1.now) }
+    ensures shorter { IfSome result (λ parts. length parts.1.now < length text.now) }
+{
+    let from_word = &text[first_of_word(text)?..];
+    let len = place_of(b' ', from_word).unwrap_or(from_word.len());
+    Some((&from_word[..len], &from_word[len..]))
+}
+
+/// A line without one byte 13 at its end.
+pub fn without_return(line: &[u8]) -> &[u8]
+    ensures { result.now ≡ strip_last 13 line.now }
+{
+    let n = line.len();
+    if n != 0 && line[n - 1] == b'\r' {
+        &line[..n - 1]
+    } else {
+        line
+    }
+}
+
+/// The number below 2^64 that a word writes in decimal digits, unless it writes none.
+pub fn number(word: &[u8]) -> Option<u64>
+    ensures { result ≡ number_of word.now }
+{
+    if word.is_empty() {
+        return None;
+    }
+    let mut value = 0u64;
+    for byte in word {
+        if !byte.is_ascii_digit() {
+            return None;
+        }
+        value = value.checked_mul(10)?.checked_add(u64::from(*byte - b'0'))?;
+    }
+    Some(value)
+}
+
+/// The number from -2^63 on, below 2^63, that a word writes in decimal digits, with `-` before them
+/// where it is below 0. None where it writes none.
+pub fn signed_number(word: &[u8]) -> Option<i64>
+    ensures { result ≡ signed_number_of word.now }
+{
+    let (first, digits) = word.split_first()?;
+    if *first == b'-' {
+        0i64.checked_sub_unsigned(number(digits)?)
+    } else {
+        0i64.checked_add_unsigned(number(word)?)
+    }
+}
