@@ -1,4 +1,4 @@
-//! What is asked of all words of a list: by chunks of four words, and word by word at the end.
+//! What is asked of all words of a list: by chunks or lanes, and word by word at the end.
 ghost use Rattle.std.specs.Prelude.{◌≡◌, ◌↔◌, ◌*◌, ◌^◌, ◌<◌, length, eqb, sum_by, count_ones, IsTrue};
 ghost use Rattle.std.specs.Cmp.Lexicographic.{pointwise};
 
