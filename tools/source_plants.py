@@ -420,7 +420,14 @@ SMALL = (
         Instead("Single::rank_counted", "self.level().rank1_counted(place, tally)", "self.level().len()"),
     ),
 )
-PLANTS = LOOPS + COMPARISONS + COUNTER + PLAIN_FORMS + OTHER_NAMES + FUNCTIONS + KEPT + VECTORS + QUERIES + SOURCES + SMALL
+# kernels that go word by word, or that nobody asks
+KERNELS = (
+    plant("the kernel ones_of has no call of `as_chunks`", Instead("ones_of", "words.as_chunks::<CHUNK>()", "chunked(words)")),
+    plant("the kernel agree has no call of `simd_ne`", Instead("agree", "lanes.simd_ne(", "lanes.differs_from(")),
+    plant("BitVec::count_ones doesn't ask the kernel ones_of", Instead("BitVec::count_ones", "ones_of(self.limbs())", "ones_one_by_one(self.limbs())")),
+    plant("BitVec::eq doesn't ask the kernel are_same", Instead("BitVec::eq", "are_same(self.limbs(), other.limbs())", "self.limbs() == other.limbs()")),
+)
+PLANTS = LOOPS + COMPARISONS + COUNTER + PLAIN_FORMS + OTHER_NAMES + FUNCTIONS + KEPT + VECTORS + QUERIES + SOURCES + SMALL + KERNELS
 
 
 def self_test(crates, faults):

@@ -27,6 +27,8 @@ counters that keeps a list. An *index type* is one with a `heap_size`.
    another plain query. A trait's `q` may be one call of the type's own public `q`.
 5. The counter's type has one name, and stands only in a parameter `tally: &mut Tally` and where a fresh counter is made. No
    macro writes code in crates with counted bodies.
+6. Kernels go by lanes or by chunks of words (`lane_rules.py`): each body that `KERNELS` names makes the calls that it has to,
+   and is asked by the functions that lead to it.
 
 The forms are read by `rattle_items.py` and `rattle_bodies.py`, and `source_model.py` knows what names stand for. Exit
 status 1 where a rule is broken, with a line for each place: where it is, what stands there, and what is allowed instead.
@@ -40,6 +42,7 @@ from functools import lru_cache
 from counted_bodies import asked_fields, body_faults, counted_checks, takes_counter
 from counted_vectors import vector_faults
 from kept_types import TABLES, kept_faults
+from lane_rules import lane_faults
 from rattle_bodies import body_of
 from rattle_items import file_of
 from rattle_types import Unread
@@ -159,6 +162,7 @@ def faults(crates, tables=TABLES):
     yield from kept_faults(library, checks, asked_fields(library, checks), tables)
     yield from vector_faults(library)
     yield from plain_faults(library)
+    yield from lane_faults(library)
     counted = {COUNTERS} | {function.file.crate for function in checks}
     for file in files:
         yield from name_faults(file)

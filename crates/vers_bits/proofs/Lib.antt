@@ -8,6 +8,8 @@ pub mod LowBits
 pub mod Limbs
 pub mod Holds
 pub mod Equal
+pub mod Chunks
+pub mod Lanes
 pub mod Growing
 pub mod Gather
 pub mod Edits

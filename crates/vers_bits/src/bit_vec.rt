@@ -4,6 +4,7 @@ ghost use Rattle.vers_bits.specs.Bits.{bit_value, number, count, limb, limbs, li
 ghost use Rattle.vers_bits.specs.inside.Words.{HoldsBits, AddsBit};
 ghost use Rattle.vers_bits.specs.Equality.{same_bits, hash_input, same_bits_per, same_bits_equiv, hash_input-Alike};
 
+use crate::bit_vec::chunks::{are_same, ones_of};
 pub use crate::bit_vec::fault::{GrowError, LengthMismatch, OutOfRange, SplitCause, SplitError};
 pub use crate::bit_vec::iter::{BitVecIter, BitVecRefIter, LimbIter};
 pub use crate::bit_vec::mask::BitMask;
@@ -11,6 +12,7 @@ use std::alloc::{AllocError, Allocator};
 use std::hash::{Hash, Hasher};
 use std::marker::Model;
 
+mod chunks;
 mod edit;
 mod fault;
 mod grow;
@@ -52,7 +54,7 @@ impl<A: Allocator + Copy> PartialEq for BitVec<A> {
         ensures by_bits { result ≡ same_bits self.now other.now }
         ensures exact { IsTrue result ↔ (self.now ≡ other.now) }
     {
-        self.len() == other.len() && self.limbs() == other.limbs()
+        self.len() == other.len() && are_same(self.limbs(), other.limbs())
     }
 }
 
@@ -168,26 +170,14 @@ impl<A: Allocator + Copy> BitVec<A> {
         known_words(self.data.as_slice())
     }
 
-    // The ones of limb number `k`.
-    #[tactic(auto, using(crate::proofs::Counting::limbs))]
-    fn ones_of_limb(&self, k: usize) -> u64
-        requires { 64 * k < length self.now }
-        ensures value { count true self.now (64 * k) + result ≡ count true self.now (64 * k + 64) }
-        ensures few { result ≤ 64 }
-    {
-        self.limb(k).count_ones() as u64
-    }
-
     /// How many ones the list has.
-    #[tactic(auto, using(crate::proofs::Counting::limbs))]
+    #[tactic(auto, using(crate::proofs::Chunks::all_limbs))]
     pub fn count_ones(&self) -> u64
         ensures { result ≡ count true self.now (length self.now) }
     {
-        let mut ones: u64 = 0;
-        for k in 0..self.len().div_ceil(64) {
-            ones += self.ones_of_limb(k);
-        }
-        ones
+        // The limbs are few enough for their ones to be counted.
+        let _ = &self.len;
+        ones_of(self.limbs())
     }
 
     /// How many zeros the list has.

@@ -1,12 +1,18 @@
 //! Every query at every place compared with a plain list, around the ends of limbs, blocks and superblocks.
-use crate::lists::{Look, bits_of, list_of};
+use crate::lists::{Look, bits_of, list_of, turned_at};
 use crate::plain::PlainList;
 use crate::queries::{Query, is_right, queries_at};
 use std::alloc::{Allocator, Global};
 use std::test::Fail;
 use test_alloc::asked_both;
 use vers_bits::bit_vec::GrowError;
-use vers_rank::fast_rs_vec::RsVec;
+use vers_rank::fast_rs_vec::{BitSetIter, RsVec};
+
+const LENGTHS: [usize; 15] = [
+    0, 1, 15, 16, 17, 63, 64, 65, 511, 512, 513, 8191, 8192, 8193, 16385,
+];
+
+const LOOKS: [Look; 4] = [Look::Zeros, Look::Ones, Look::Mixed, Look::Sparse];
 
 fn plain_of<A: Allocator + Copy>(
     alloc: A,
@@ -61,13 +67,31 @@ fn first_wrong_place<A: Allocator + Copy>(list: &RsVec<A>, plain: &PlainList<A>)
     Some(usize::MAX)
 }
 
+// Whether a walk by chunks gives the places that hold the bit, one after another, and no more.
+fn gives_places<const ZERO: bool, A: Allocator + Copy>(
+    mut walk: BitSetIter<'_, ZERO, A>,
+    plain: &PlainList<A>,
+) -> bool {
+    for place in 0..plain.len() {
+        if plain.get(place) == Some(u64::from(!ZERO)) && walk.next() != Some(place) {
+            return false;
+        }
+    }
+    walk.next().is_none()
+}
+
+// Whether both walks by chunks over a list give the places of the plain one.
+fn have_places<A: Allocator + Copy>(plain: &PlainList<A>, list: &RsVec<A>) -> bool {
+    gives_places(list.bit_set_iter0(), plain) && gives_places(list.bit_set_iter1(), plain)
+}
+
 // The first length, and the place there, at which both disagree on a list of some look.
 fn first_disagreement(
     alloc: Global,
     lengths: &[usize],
 ) -> Result<Option<(usize, usize)>, GrowError> {
     for len in lengths {
-        for look in [Look::Zeros, Look::Ones, Look::Mixed, Look::Sparse] {
+        for look in LOOKS {
             let wrong = asked_both(
                 plain_of(alloc, look, *len),
                 list_of(alloc, look, *len),
@@ -83,7 +107,7 @@ fn first_disagreement(
 
 #[test]
 fn around_a_limb(rt: HostRuntime) -> Result<(), Fail> {
-    assert_eq!(rt; first_disagreement(rt.alloc(), &[0, 1, 63, 64, 65])?, None);
+    assert_eq!(rt; first_disagreement(rt.alloc(), &[0, 1, 15, 16, 17, 63, 64, 65])?, None);
     Ok(())
 }
 
@@ -102,5 +126,35 @@ fn around_a_superblock(rt: HostRuntime) -> Result<(), Fail> {
 #[test]
 fn past_two_superblocks(rt: HostRuntime) -> Result<(), Fail> {
     assert_eq!(rt; first_disagreement(rt.alloc(), &[16385])?, None);
+    Ok(())
+}
+
+#[test]
+fn chunks_give_every_place(rt: HostRuntime) -> Result<(), Fail> {
+    for len in LENGTHS {
+        for look in LOOKS {
+            let are_right = asked_both(
+                plain_of(rt.alloc(), look, len),
+                list_of(rt.alloc(), look, len),
+                |plain, list| have_places(plain, list),
+            )?;
+            assert!(rt; are_right, "length {len}");
+        }
+    }
+    Ok(())
+}
+
+#[test]
+fn full_equality_sees_every_limb(rt: HostRuntime) -> Result<(), Fail> {
+    for len in LENGTHS {
+        for place in (0..len).step_by(61).chain(len.checked_sub(1)) {
+            let are_equal = asked_both(
+                list_of(rt.alloc(), Look::Mixed, len),
+                turned_at(rt.alloc(), Look::Mixed, len, place),
+                |list, turned| list.full_equals(turned) || !list.full_equals(list),
+            )?;
+            assert!(rt; !are_equal, "length {len}, place {place}");
+        }
+    }
     Ok(())
 }

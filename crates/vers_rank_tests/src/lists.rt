@@ -86,3 +86,17 @@ pub fn list_of<A: Allocator + Copy>(
         Err(fault) => Err(fault),
     }
 }
+
+/// The same, with another bit at one place.
+pub fn turned_at<A: Allocator + Copy>(
+    alloc: A,
+    look: Look,
+    len: usize,
+    turned: usize,
+) -> Result<RsVec<A>, GrowError> {
+    let mut bits = BitVec::new(alloc);
+    for place in 0..len {
+        bits.append(bit_of(look, place) != (place == turned))?;
+    }
+    indexed(bits)
+}

@@ -1,0 +1,80 @@
+-- Sums over the chunks of a list, and lists whose chunks are the same.
+use Rattle.std.proofs.Common.{◌≡◌, ℕ, zero, suc, map, ◌+◌, ◌*◌, ◌<◌, ◌≤◌, Bool, true, false, List, [], ◌++◌, take, drop, length, get_or, eqb, refl, sym, ap, ◌∙◌, arith, Fits, w64}
+use Rattle.std.specs.Prelude.{sum_by, count_ones}
+use Rattle.std.specs.List.{range_with_len}
+use Rattle.std.specs.Simd.{first_chunks}
+use Rattle.std.specs.Bool.{Decides}
+use Rattle.std.specs.Cmp.Lexicographic.{pointwise}
+use Rattle.std.proofs.lemmas.List.{drop-drop, take-append-drop, same_lists, places}
+use Rattle.std.proofs.lemmas.List.FromFn.{sum_by-map-range_with_len_more}
+use Rattle.std.proofs.lemmas.List.Elements.{All-from_get_or}
+use Rattle.std.proofs.lemmas.List.Sums.{sum_by-cons, sum_by-take-drop, sum_by-le}
+use Rattle.std.proofs.lemmas.Nat.{ones-le}
+use Rattle.std.proofs.lemmas.Slice.Eq.{bytes_eq-Decides}
+use Rattle.vers_bits.specs.Bits.{count, limb, limbs, limb_count}
+use Rattle.vers_bits.proofs.Count.{count_limb_whole, count_none, count_past}
+use Rattle.vers_bits.proofs.Equal.{length-limbs}
+
+-- what the chunks hold, and what stands behind them, is the whole
+pub chunks-sum : (f : ℕ → ℕ) (n k : ℕ) (xs : List ℕ) → sum_by (sum_by f) (first_chunks n k xs) + sum_by f (drop (k * n) xs) ≡ sum_by f xs
+chunks-sum f n zero xs = let z : 0 * n ≡ 0 = omega arith in let e : drop (0 * n) xs ≡ xs = ap (λ m. drop m xs) z in omega (arith, ap (sum_by f) e)
+chunks-sum f n (suc k) xs =
+    let rest = ap (sum_by f) (drop-drop (k * n) n xs) in
+    let ih = chunks-sum f n k (drop n xs) in
+    let whole = sum_by-take-drop f xs n in
+    let first = sum_by-cons (sum_by f) (take n xs) (first_chunks n k (drop n xs)) in
+    let more : n + k * n ≡ suc k * n = omega arith in
+    let same = ap (λ m. sum_by f (drop m xs)) more in
+    omega (arith, rest, ih, whole, first, same)
+
+-- words of 64 bits have no more than 64 ones each
+pub ones-bound : (xs : List ℕ) → ((k : ℕ) → Fits w64 (get_or xs k 0)) → sum_by count_ones xs ≤ length xs * 64
+ones-bound xs fits = sum_by-le count_ones 64 xs (All-from_get_or (λ x. count_ones x ≤ 64) xs 0 (λ i _. ones-le 64 _ (fits i).fits))
+
+-- lists of one length whose places hold the same
+pub same_by_places : {X : Type 0} (d : X) (xs ys : List X) → length xs ≡ length ys → ((i : ℕ) → i < length xs → get_or xs i d ≡ get_or ys i d) → xs ≡ ys
+same_by_places d xs ys e each =
+    same_lists xs ys e (λ i o h. let here : get_or xs i d ≡ get_or ys i d = each i h in grind (arith, places))
+
+-- lists with the same chunks and the same rest are the same
+pub same_chunks : (n k : ℕ) (xs ys : List ℕ) → first_chunks n k xs ≡ first_chunks n k ys → drop (k * n) xs ≡ drop (k * n) ys → xs ≡ ys
+same_chunks n zero xs ys h rest =
+    let z : 0 * n ≡ 0 = omega arith in
+    sym (ap (λ m. drop m xs) z) ∙ rest ∙ ap (λ m. drop m ys) z
+same_chunks n (suc k) xs ys h rest =
+    let more : n + k * n ≡ suc k * n = omega arith in
+    let behind : drop (k * n) (drop n xs) ≡ drop (k * n) (drop n ys) =
+    drop-drop (k * n) n xs ∙ ap (λ m. drop m xs) more ∙ rest ∙ sym (drop-drop (k * n) n ys ∙ ap (λ m. drop m ys) more) in
+    let first : take n xs ≡ take n ys = ap (λ cs. get_or cs 0 []) h in
+    let others : drop n xs ≡ drop n ys = same_chunks n k (drop n xs) (drop n ys) (ap (drop 1) h) behind in
+    sym (take-append-drop n xs) ∙ ap (λ a. a ++ drop n xs) first ∙ ap (λ b. take n ys ++ b) others ∙ take-append-drop n ys
+
+ones_before : (l : List Bool) (n : ℕ) → sum_by count_ones (map (limb l) (range_with_len 0 n)) ≡ count true l (64 * n)
+ones_before l zero = sym (count_none true l)
+ones_before l (suc n) =
+    let more : suc n ≡ n + 1 = omega arith in
+    let next : 64 * suc n ≡ 64 * n + 64 = omega arith in
+    ap (λ m. sum_by count_ones (map (limb l) (range_with_len 0 m))) more ∙ sum_by-map-range_with_len_more count_ones (limb l) 0 n n (omega arith)
+    ∙ ap (λ s. s + count_ones (limb l n)) (ones_before l n) ∙ sym (count_limb_whole l n) ∙ ap (count true l) (sym next)
+
+-- the ones of all limbs
+pub ones_of_limbs : (l : List Bool) → sum_by count_ones (limbs l) ≡ count true l (length l)
+unfolding limbs
+ones_of_limbs l = ones_before l (limb_count (length l)) ∙ count_past true l (64 * limb_count (length l)) (omega arith)
+
+refuted : (r : Bool) (P : Type 0) → Decides r P → (P → ⊥) → r ≡ false
+refuted true P d h = absurd (h (d.0 refl))
+refuted false P d h = refl
+
+-- the test of two lists
+pub tests_same : (xs ys : List ℕ) → xs ≡ ys → true ≡ pointwise eqb xs ys
+tests_same xs ys e = sym ((bytes_eq-Decides xs ys).1 e)
+
+pub tests_other : (xs ys : List ℕ) → (xs ≡ ys → ⊥) → false ≡ pointwise eqb xs ys
+tests_other xs ys h = sym (refuted (pointwise eqb xs ys) (xs ≡ ys) (bytes_eq-Decides xs ys) h)
+
+pub ruleset sums = (ones-bound)
+
+pub ruleset all_limbs = (ones_of_limbs, length-limbs)
+
+pub ruleset equality = (tests_same, tests_other)

@@ -1,6 +1,0 @@
-use Rattle.std.proofs.Common.{◌≡◌, ◌*◌, ◌≤◌, true}
-use Rattle.vers_bits.specs.Bits.{count}
-use Rattle.vers_bits.proofs.bit_vec.BitVec.count_ones.Given as goal
-
-abbrev pub invariant-loop-k : goal.invariant-loop-k
-invariant-loop-k g l = record { counted : l.ones ≡ count true l.self (64 * l.k); few : l.ones ≤ 64 * l.k }

@@ -1,0 +1,45 @@
+"""Which bodies take words by lanes or by chunks: the kernels, with what has to stand in each, and who asks them.
+
+A proof says what a kernel answers and not how, so only the text shows that it goes by lanes. `KERNELS` names each with the
+calls that its body has to make and the functions that ask it, which are the public calls or lead to them.
+"""
+from typing import NamedTuple
+
+
+class Kernel(NamedTuple):
+    """A body that goes by lanes or chunks."""
+
+    name: str
+    calls: tuple
+    asked_by: tuple
+
+
+KERNELS = (
+    Kernel("ones_of", ("as_chunks", "ones_of_chunk"), ("BitVec::count_ones",)),
+    Kernel("are_same", ("as_chunks", "agree"), ("BitVec::eq",)),
+    Kernel("agree", ("from_array", "simd_ne", "any"), ("are_same",)),
+)
+
+
+def called(function):
+    """Returns the names that a body has before a bracket: those of the functions and methods that it calls."""
+    texts = [it.text for it in function.file.words[slice(*function.body)]]
+    return {name for at, name in enumerate(texts[:-1]) if texts[at + 1] == "(" or texts[at + 1:at + 3] == ["::", "<"]}
+
+
+def lane_faults(library, kernels=KERNELS):
+    """Yields a line for each kernel that is gone, that doesn't go by lanes or chunks, or that isn't asked."""
+    bodies = {}
+    for function in library.functions:
+        if function.body:
+            bodies.setdefault(function.full_name, []).append(function)
+    for kernel in kernels:
+        found = bodies.get(kernel.name, [])
+        if len(found) != 1:
+            yield f"crates: {len(found)} kernels {kernel.name}; allowed: one"
+            continue
+        for call in sorted(set(kernel.calls) - called(found[0])):
+            yield f"{found[0].where}: the kernel {kernel.name} has no call of `{call}`; allowed: a body by lanes or chunks"
+        for asker in kernel.asked_by:
+            if not any(kernel.name in called(it) for it in bodies.get(asker, [])):
+                yield f"{found[0].where}: {asker} doesn't ask the kernel {kernel.name}; allowed: a body that asks it"
