@@ -5,6 +5,7 @@ pub mod Ranks
 pub mod Selects
 pub mod Builds
 pub mod Parts
+pub mod Pairs
 pub mod BothEnds
 pub mod Chunks
 pub mod Neighbours
