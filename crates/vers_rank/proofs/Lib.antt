@@ -4,7 +4,9 @@ pub mod BytePlaces
 pub mod Ranks
 pub mod Selects
 pub mod Builds
+pub mod Nears
 pub mod Parts
+pub mod Pairs
 pub mod BothEnds
 pub mod Chunks
 pub mod Neighbours

@@ -7,7 +7,9 @@ ghost use Rattle.vers_rank.specs.Queries.{part_number_or_zero, superblock_count,
 mod bit_set_iter;
 mod equality;
 mod iter;
+mod near;
 mod neighbours;
+mod pair;
 mod rank;
 mod reader;
 mod select;
@@ -16,6 +18,8 @@ mod select_iter;
 use crate::build::{add_entries, samples};
 pub use bit_set_iter::BitSetIter;
 pub use iter::{RsVecIter, RsVecRefIter};
+pub use near::ZerosBelow;
+pub use pair::PlacePair;
 pub use select_iter::{SelectIntoIter, SelectIter};
 use std::alloc::{AllocError, Allocator};
 use std::marker::Model;

@@ -17,6 +17,8 @@ pub enum Query {
     Rank1(usize),
     Select0(usize),
     Select1(usize),
+    PairFirst(usize),
+    PairSecond(usize),
     Successor0(usize),
     Successor1(usize),
     Predecessor0(usize),
@@ -37,6 +39,8 @@ pub fn answer<A: Allocator + Copy>(list: &RsVec<A>, query: Query) -> Option<u64>
         Query::Rank1(place) => Some(list.rank1(place) as u64),
         Query::Select0(r) => Some(list.select0(r) as u64),
         Query::Select1(r) => Some(list.select1(r) as u64),
+        Query::PairFirst(r) => Some(list.select1_pair(r).first as u64),
+        Query::PairSecond(r) => Some(list.select1_pair(r).second as u64),
         Query::Successor0(place) => list.successor0(place),
         Query::Successor1(place) => list.successor1(place),
         Query::Predecessor0(place) => list.predecessor0(place),
@@ -57,6 +61,8 @@ pub fn counted<A: Allocator + Copy>(
         Query::Rank1(place) => Some(list.rank1_counted(place, tally) as u64),
         Query::Select0(r) => Some(list.select0_counted(r, tally) as u64),
         Query::Select1(r) => Some(list.select1_counted(r, tally) as u64),
+        Query::PairFirst(r) => Some(list.select1_pair_counted(r, tally).first as u64),
+        Query::PairSecond(r) => Some(list.select1_pair_counted(r, tally).second as u64),
         Query::Successor0(place) => list.successor0_counted(place, tally),
         Query::Successor1(place) => list.successor1_counted(place, tally),
         Query::Predecessor0(place) => list.predecessor0_counted(place, tally),
@@ -93,6 +99,9 @@ pub fn bounds<A: Allocator + Copy>(list: &RsVec<A>, query: Query) -> [u64; 9] {
         Query::GetBits(..) => [2, 0, 0, 0, 1, 0, 0, 0, 0],
         Query::Rank0(_) | Query::Rank1(_) => [8, 1, 1, 0, 1, 0, 0, 0, 0],
         Query::Select0(_) | Query::Select1(_) => [8, 17, superblocks, 0, 1, 0, 0, 0, 0],
+        Query::PairFirst(_) | Query::PairSecond(_) => {
+            [16, 34, superblocks.wrapping_mul(2), 0, 2, 0, 0, 0, 0]
+        }
         Query::Successor0(_)
         | Query::Successor1(_)
         | Query::Predecessor0(_)
@@ -131,7 +140,7 @@ pub fn first_wrong_answer<A: Allocator + Copy>(
 }
 
 /// The queries about a place, or about the bits of that number.
-pub fn queries_at(place: usize) -> [Query; 11] {
+pub fn queries_at(place: usize) -> [Query; 13] {
     [
         Query::Get(place),
         Query::GetBits(place, 1),
@@ -140,6 +149,8 @@ pub fn queries_at(place: usize) -> [Query; 11] {
         Query::Rank1(place),
         Query::Select0(place),
         Query::Select1(place),
+        Query::PairFirst(place),
+        Query::PairSecond(place),
         Query::Successor0(place),
         Query::Successor1(place),
         Query::Predecessor0(place),

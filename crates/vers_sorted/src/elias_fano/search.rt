@@ -219,8 +219,10 @@ impl<A: Allocator + Copy> EliasFanoVec<A> {
         if i == 0 {
             return Some(self.first);
         }
-        let before = self.member(i - 1, tally);
-        Some(self.member(i, tally) - before)
+        let ones = self.high.select1_pair_counted(i - 1, tally);
+        let before = self.with_low_part((ones.first - i) as u64, i - 1, tally);
+        let member = self.with_low_part((ones.second - i - 1) as u64, i, tally);
+        Some(member - before)
     }
 
     /// How many members are below `v`.

@@ -26,9 +26,9 @@ impl<A: Allocator + Copy> WaveletMatrix<A> {
         self.rank_range_counted(range, symbol, &mut tally)
     }
 
-    /// How many places of a range hold a symbol. None for a symbol of another length, and for a range
-    /// that starts at or past the end, ends past it or is reversed. By at most four selects of a level
-    /// for each bit of a symbol.
+    /// How many places of a range hold a symbol. None for a symbol of another length, and for a
+    /// range that starts at or past the end, ends past it or is reversed. By at most `4k` rank
+    /// calls for symbols of `k` bits, each within the reads of one select of a level.
     #[inline(always)]
     pub fn rank_range_counted(
         &self,
@@ -82,7 +82,8 @@ impl<A: Allocator + Copy> WaveletMatrix<A> {
 
     /// How many places from `offset` on, before `end`, hold a symbol. None for a symbol of another
     /// length, for an `offset` at or past the end of the list, and for an `end` past it or before
-    /// `offset`. By at most four selects of a level for each bit of a symbol.
+    /// `offset`. By at most `4k` rank calls for symbols of `k` bits, each within the reads of one
+    /// select of a level.
     #[inline(always)]
     pub fn rank_offset_counted(
         &self,
@@ -123,8 +124,9 @@ impl<A: Allocator + Copy> WaveletMatrix<A> {
         self.rank_counted(end, symbol, &mut tally)
     }
 
-    /// How many of the first `end` places hold a symbol. None for a symbol of another length, and where
-    /// there are not so many places. By at most four selects of a level for each bit of a symbol.
+    /// How many of the first `end` places hold a symbol. None for a symbol of another length, and
+    /// where there are not so many places. By at most `4k` rank calls for symbols of `k` bits, each
+    /// within the reads of one select of a level.
     #[inline(always)]
     pub fn rank_counted(&self, end: usize, symbol: &BitVec<A>, tally: &mut Tally) -> Option<usize>
         ensures value { IfSome result (λ n. n
@@ -164,9 +166,10 @@ impl<A: Allocator + Copy> WaveletMatrix<A> {
         self.rank_range_u64_counted(range, symbol, &mut tally)
     }
 
-    /// How many places of a range hold a symbol, of which the low digits count. None where the symbols
-    /// have more than 64 bits, and for a range that starts at or past the end, ends past it or is
-    /// reversed. By at most four selects of a level for each bit of a symbol.
+    /// How many places of a range hold a symbol, of which the low digits count. None where the
+    /// symbols have more than 64 bits, and for a range that starts at or past the end, ends past it
+    /// or is reversed. By at most `4k` rank calls for symbols of `k` bits, each within the reads of
+    /// one select of a level.
     #[inline(always)]
     pub fn rank_range_u64_counted(
         &self,
@@ -215,10 +218,10 @@ impl<A: Allocator + Copy> WaveletMatrix<A> {
         self.rank_offset_u64_counted(offset, end, symbol, &mut tally)
     }
 
-    /// How many places from `offset` on, before `end`, hold a symbol, of which the low digits count.
-    /// None where the symbols have more than 64 bits, for an `offset` at or past the end of the list,
-    /// and for an `end` past it or before `offset`. By at most four selects of a level for each bit of
-    /// a symbol.
+    /// How many places from `offset` on, before `end`, hold a symbol, of which the low digits
+    /// count. None where the symbols have more than 64 bits, for an `offset` at or past the end of
+    /// the list, and for an `end` past it or before `offset`. By at most `4k` rank calls for
+    /// symbols of `k` bits, each within the reads of one select of a level.
     #[inline(always)]
     pub fn rank_offset_u64_counted(
         &self,
@@ -259,9 +262,9 @@ impl<A: Allocator + Copy> WaveletMatrix<A> {
         self.rank_u64_counted(end, symbol, &mut tally)
     }
 
-    /// How many of the first `end` places hold a symbol, of which the low digits count. None where the
-    /// symbols have more than 64 bits, and where there are not so many places. By at most four selects
-    /// of a level for each bit of a symbol.
+    /// How many of the first `end` places hold a symbol, of which the low digits count. None where
+    /// the symbols have more than 64 bits, and where there are not so many places. By at most `4k`
+    /// rank calls for symbols of `k` bits, each within the reads of one select of a level.
     #[inline(always)]
     pub fn rank_u64_counted(&self, end: usize, symbol: u64, tally: &mut Tally) -> Option<usize>
         ensures value { IfSome result (λ n. n

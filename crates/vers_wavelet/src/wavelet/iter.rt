@@ -237,34 +237,37 @@ impl<A: Allocator + Copy> OwningMaker for SortedLists<WaveletMatrix<A>> {
     }
 }
 
-/// An iterator over the symbols as lists of their bits. Each item takes memory, and reads at most what
-/// one query does.
+/// An iterator over the symbols as lists of their bits. Each item takes memory, and reads at most
+/// what one query does: `4k` rank calls for symbols of `k` bits.
 pub type WaveletRefIter<'a, A> = MadeEnds<Lists<&'a WaveletMatrix<A>>>;
 
 /// An iterator over the symbols of a matrix that it owns, as lists of their bits. Each item takes
-/// memory, and reads at most what one query does.
+/// memory, and reads at most what one query does: `4k` rank calls for symbols of `k` bits.
 pub type WaveletIter<A> = MadeEnds<Lists<WaveletMatrix<A>>>;
 
-/// An iterator over the symbols by size, as lists of their bits. Each item takes memory, and reads at
-/// most what one query does.
+/// An iterator over the symbols by size, as lists of their bits. Each item takes memory, and reads
+/// at most what one query does: `4k` rank calls for symbols of `k` bits.
 pub type WaveletSortedRefIter<'a, A> = MadeEnds<SortedLists<&'a WaveletMatrix<A>>>;
 
-/// An iterator over the symbols of a matrix that it owns, by size, as lists of their bits. Each item
-/// takes memory, and reads at most what one query does.
+/// An iterator over the symbols of a matrix that it owns, by size, as lists of their bits. Each
+/// item takes memory, and reads at most what one query does: `4k` rank calls for symbols of `k`
+/// bits.
 pub type WaveletSortedIter<A> = MadeEnds<SortedLists<WaveletMatrix<A>>>;
 
-/// An iterator over the symbols as numbers. Each step reads at most what one query does.
+/// An iterator over the symbols as numbers. Each step reads at most what one query does: `4k` rank
+/// calls for symbols of `k` bits.
 pub type WaveletNumRefIter<'a, A> = BothEnds<Numbers<&'a WaveletMatrix<A>>>;
 
-/// An iterator over the symbols of a matrix that it owns, as numbers. Each step reads at most what one
-/// query does.
+/// An iterator over the symbols of a matrix that it owns, as numbers. Each step reads at most what
+/// one query does: `4k` rank calls for symbols of `k` bits.
 pub type WaveletNumIter<A> = BothEnds<Numbers<WaveletMatrix<A>>>;
 
-/// An iterator over the symbols by size, as numbers. Each step reads at most what one query does.
+/// An iterator over the symbols by size, as numbers. Each step reads at most what one query does:
+/// `4k` rank calls for symbols of `k` bits.
 pub type WaveletSortedNumRefIter<'a, A> = BothEnds<SortedNumbers<&'a WaveletMatrix<A>>>;
 
-/// An iterator over the symbols of a matrix that it owns, by size, as numbers. Each step reads at most
-/// what one query does.
+/// An iterator over the symbols of a matrix that it owns, by size, as numbers. Each step reads at
+/// most what one query does: `4k` rank calls for symbols of `k` bits.
 pub type WaveletSortedNumIter<A> = BothEnds<SortedNumbers<WaveletMatrix<A>>>;
 
 impl<A: Allocator + Copy> WaveletMatrix<A> {

@@ -33,9 +33,10 @@ impl<A: Allocator + Copy> WaveletMatrix<A> {
         self.predecessor_counted(range, symbol, &mut tally)
     }
 
-    /// The greatest symbol of a range that is not above a symbol. None for a symbol of another length,
-    /// for a range that is reversed or ends past the end, and where there is no such symbol. By at most
-    /// four selects of a level for each bit of a symbol.
+    /// The greatest symbol of a range that is not above a symbol. None for a symbol of another
+    /// length, for a range that is reversed or ends past the end, and where there is no such
+    /// symbol. By at most `4k` rank calls for symbols of `k` bits, each within the reads of one
+    /// select of a level.
     #[inline(always)]
     pub fn predecessor_counted(
         &self,
@@ -86,9 +87,10 @@ impl<A: Allocator + Copy> WaveletMatrix<A> {
         self.successor_counted(range, symbol, &mut tally)
     }
 
-    /// The least symbol of a range that is not below a symbol. None for a symbol of another length, for
-    /// a range that is reversed or ends past the end, and where there is no such symbol. By at most
-    /// four selects of a level for each bit of a symbol.
+    /// The least symbol of a range that is not below a symbol. None for a symbol of another length,
+    /// for a range that is reversed or ends past the end, and where there is no such symbol. By at
+    /// most `4k` rank calls for symbols of `k` bits, each within the reads of one select of a
+    /// level.
     #[inline(always)]
     pub fn successor_counted(
         &self,
@@ -134,9 +136,10 @@ impl<A: Allocator + Copy> WaveletMatrix<A> {
         self.predecessor_u64_counted(range, symbol, &mut tally)
     }
 
-    /// The greatest symbol of a range that is not above a symbol, of which the low digits count. None
-    /// where the symbols have more than 64 bits, for a range that is reversed or ends past the end, and
-    /// where there is no such symbol. By at most four selects of a level for each bit of a symbol.
+    /// The greatest symbol of a range that is not above a symbol, of which the low digits count.
+    /// None where the symbols have more than 64 bits, for a range that is reversed or ends past the
+    /// end, and where there is no such symbol. By at most `4k` rank calls for symbols of `k` bits,
+    /// each within the reads of one select of a level.
     #[inline(always)]
     pub fn predecessor_u64_counted(
         &self,
@@ -178,8 +181,9 @@ impl<A: Allocator + Copy> WaveletMatrix<A> {
     }
 
     /// The least symbol of a range that is not below a symbol, of which the low digits count. None
-    /// where the symbols have more than 64 bits, for a range that is reversed or ends past the end, and
-    /// where there is no such symbol. By at most four selects of a level for each bit of a symbol.
+    /// where the symbols have more than 64 bits, for a range that is reversed or ends past the end,
+    /// and where there is no such symbol. By at most `4k` rank calls for symbols of `k` bits, each
+    /// within the reads of one select of a level.
     #[inline(always)]
     pub fn successor_u64_counted(
         &self,

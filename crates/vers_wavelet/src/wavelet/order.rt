@@ -26,9 +26,9 @@ impl<A: Allocator + Copy> WaveletMatrix<A> {
         self.quantile_counted(range, i, &mut tally)
     }
 
-    /// Member `i` of a range by size, counted from 0, equal ones too. None for a range that ends past
-    /// the end, and where the range has not so many places. By at most four selects of a level for each
-    /// bit of a symbol.
+    /// Member `i` of a range by size, counted from 0, equal ones too. None for a range that ends
+    /// past the end, and where the range has not so many places. By at most `4k` rank calls for
+    /// symbols of `k` bits, each within the reads of one select of a level.
     #[inline(always)]
     pub fn quantile_counted(
         &self,
@@ -75,8 +75,9 @@ impl<A: Allocator + Copy> WaveletMatrix<A> {
         self.get_sorted_counted(i, &mut tally)
     }
 
-    /// Member `i` of all symbols by size, counted from 0, equal ones too. None where there are not so
-    /// many. By at most four selects of a level for each bit of a symbol.
+    /// Member `i` of all symbols by size, counted from 0, equal ones too. None where there are not
+    /// so many. By at most `4k` rank calls for symbols of `k` bits, each within the reads of one
+    /// select of a level.
     #[inline(always)]
     pub fn get_sorted_counted(
         &self,
@@ -112,8 +113,9 @@ impl<A: Allocator + Copy> WaveletMatrix<A> {
         self.range_min_counted(range, &mut tally)
     }
 
-    /// The least symbol of a range. None for a range that is empty, reversed or ends past the end. By
-    /// at most four selects of a level for each bit of a symbol.
+    /// The least symbol of a range. None for a range that is empty, reversed or ends past the end.
+    /// By at most `4k` rank calls for symbols of `k` bits, each within the reads of one select of a
+    /// level.
     #[inline(always)]
     pub fn range_min_counted(
         &self,
@@ -152,8 +154,9 @@ impl<A: Allocator + Copy> WaveletMatrix<A> {
         self.range_max_counted(range, &mut tally)
     }
 
-    /// The greatest symbol of a range. None for a range that is empty, reversed or ends past the end.
-    /// By at most four selects of a level for each bit of a symbol.
+    /// The greatest symbol of a range. None for a range that is empty, reversed or ends past the
+    /// end. By at most `4k` rank calls for symbols of `k` bits, each within the reads of one select
+    /// of a level.
     #[inline(always)]
     pub fn range_max_counted(
         &self,
@@ -199,8 +202,8 @@ impl<A: Allocator + Copy> WaveletMatrix<A> {
     }
 
     /// The symbol in the middle of a range by size, the lower one of two. None for a range that is
-    /// empty, reversed or ends past the end. By at most four selects of a level for each bit of a
-    /// symbol.
+    /// empty, reversed or ends past the end. By at most `4k` rank calls for symbols of `k` bits,
+    /// each within the reads of one select of a level.
     #[inline(always)]
     pub fn range_median_counted(
         &self,
@@ -245,9 +248,10 @@ impl<A: Allocator + Copy> WaveletMatrix<A> {
         self.quantile_u64_counted(range, i, &mut tally)
     }
 
-    /// Member `i` of a range by size, counted from 0, equal ones too. None where the symbols have more
-    /// than 64 bits, for a range that ends past the end, and where the range has not so many places. By
-    /// at most four selects of a level for each bit of a symbol.
+    /// Member `i` of a range by size, counted from 0, equal ones too. None where the symbols have
+    /// more than 64 bits, for a range that ends past the end, and where the range has not so many
+    /// places. By at most `4k` rank calls for symbols of `k` bits, each within the reads of one
+    /// select of a level.
     #[inline(always)]
     pub fn quantile_u64_counted(
         &self,
@@ -297,9 +301,9 @@ impl<A: Allocator + Copy> WaveletMatrix<A> {
         self.get_sorted_u64_counted(i, &mut tally)
     }
 
-    /// Member `i` of all symbols by size, counted from 0, equal ones too. None where the symbols have
-    /// more than 64 bits, and where there are not so many. By at most four selects of a level for each
-    /// bit of a symbol.
+    /// Member `i` of all symbols by size, counted from 0, equal ones too. None where the symbols
+    /// have more than 64 bits, and where there are not so many. By at most `4k` rank calls for
+    /// symbols of `k` bits, each within the reads of one select of a level.
     #[inline(always)]
     pub fn get_sorted_u64_counted(&self, i: usize, tally: &mut Tally) -> Option<u64>
         ensures value { IfSome result (λ x. IsKth self.now.items i x) }
@@ -331,9 +335,9 @@ impl<A: Allocator + Copy> WaveletMatrix<A> {
         self.range_min_u64_counted(range, &mut tally)
     }
 
-    /// The least symbol of a range. None where the symbols have more than 64 bits, and for a range that
-    /// is empty, reversed or ends past the end. By at most four selects of a level for each bit of a
-    /// symbol.
+    /// The least symbol of a range. None where the symbols have more than 64 bits, and for a range
+    /// that is empty, reversed or ends past the end. By at most `4k` rank calls for symbols of `k`
+    /// bits, each within the reads of one select of a level.
     #[inline(always)]
     pub fn range_min_u64_counted(&self, range: Range<usize>, tally: &mut Tally) -> Option<u64>
         ensures value { IfSome result (λ x. IsKth (slice_range self.now.items range.start range.end)
@@ -367,9 +371,9 @@ impl<A: Allocator + Copy> WaveletMatrix<A> {
         self.range_max_u64_counted(range, &mut tally)
     }
 
-    /// The greatest symbol of a range. None where the symbols have more than 64 bits, and for a range
-    /// that is empty, reversed or ends past the end. By at most four selects of a level for each bit of
-    /// a symbol.
+    /// The greatest symbol of a range. None where the symbols have more than 64 bits, and for a
+    /// range that is empty, reversed or ends past the end. By at most `4k` rank calls for symbols
+    /// of `k` bits, each within the reads of one select of a level.
     #[inline(always)]
     pub fn range_max_u64_counted(&self, range: Range<usize>, tally: &mut Tally) -> Option<u64>
         ensures value { IfSome result (λ x. IsKth (slice_range self.now.items range.start range.end)
@@ -409,9 +413,10 @@ impl<A: Allocator + Copy> WaveletMatrix<A> {
         self.range_median_u64_counted(range, &mut tally)
     }
 
-    /// The symbol in the middle of a range by size, the lower one of two. None where the symbols have
-    /// more than 64 bits, and for a range that is empty, reversed or ends past the end. By at most four
-    /// selects of a level for each bit of a symbol.
+    /// The symbol in the middle of a range by size, the lower one of two. None where the symbols
+    /// have more than 64 bits, and for a range that is empty, reversed or ends past the end. By at
+    /// most `4k` rank calls for symbols of `k` bits, each within the reads of one select of a
+    /// level.
     #[inline(always)]
     pub fn range_median_u64_counted(&self, range: Range<usize>, tally: &mut Tally) -> Option<u64>
         ensures value { IfSome result (λ x. IsKth (slice_range self.now.items range.start range.end)

@@ -21,8 +21,8 @@ impl<A: Allocator + Copy> WaveletMatrix<A> {
         self.get_value_counted(place, &mut tally)
     }
 
-    /// The symbol at a place. None for a place that the list doesn't have. By at most four selects of a
-    /// level for each bit of a symbol.
+    /// The symbol at a place. None for a place that the list doesn't have. By at most `4k` rank
+    /// calls for symbols of `k` bits, each within the reads of one select of a level.
     #[inline(always)]
     pub fn get_value_counted(
         &self,
@@ -64,8 +64,9 @@ impl<A: Allocator + Copy> WaveletMatrix<A> {
         self.get_u64_counted(place, &mut tally)
     }
 
-    /// The symbol at a place. None where the symbols have more than 64 bits, and for a place that the
-    /// list doesn't have. By at most four selects of a level for each bit of a symbol.
+    /// The symbol at a place. None where the symbols have more than 64 bits, and for a place that
+    /// the list doesn't have. By at most `4k` rank calls for symbols of `k` bits, each within the
+    /// reads of one select of a level.
     #[inline(always)]
     pub fn get_u64_counted(&self, place: usize, tally: &mut Tally) -> Option<u64>
         ensures value { IfSome result (λ x. slice_get self.now.items place ≡ Some x) }

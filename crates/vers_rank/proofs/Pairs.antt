@@ -1,0 +1,82 @@
+-- The one after a one, in the same limb.
+use Rattle.std.proofs.Common.{◌≡◌, ℕ, zero, suc, ◌+◌, ◌-◌, ◌*◌, ◌/◌, ◌%◌, ◌^◌, ◌<◌, ◌≤◌, Bool, true, false, List, length, get_or, refl, sym, ap, ◌∙◌, arith, inl, inr, w64}
+use Rattle.std.specs.Int.{bit_at, trailing_zeros}
+use Rattle.std.proofs.lemmas.Bool.{cases_lt}
+use Rattle.std.proofs.lemmas.List.{get_or_past}
+use Rattle.std.proofs.lemmas.Nat.Bits.{bit_at-suc, bit_at_cat_high, bit_at_above, bit_at-trailing_zeros}
+use Rattle.std.proofs.lemmas.Nat.{mod_below, pow_pos}
+use Rattle.vers_bits.specs.Bits.{bit_value, count, limb, select}
+use Rattle.vers_bits.proofs.PublicLaws.{count_more_no, select_at, count_at_select, select_past}
+use Rattle.vers_rank.proofs.Reading.{marked_bit, value_one}
+
+-- a digit of a number without its lowest q digits
+digit_after : (n q i : ℕ) → bit_at (n / 2 ^ q) i ≡ bit_at n (q + i)
+digit_after n q i =
+    let parts : n ≡ n / 2 ^ q * 2 ^ q + n % 2 ^ q = omega arith in
+    let high : bit_at (n / 2 ^ q * 2 ^ q + n % 2 ^ q) (q + i) ≡ bit_at (n / 2 ^ q) (q + i - q) = bit_at_cat_high (n / 2 ^ q) q (n % 2 ^ q) (q + i) (mod_below n (2 ^ q) (pow_pos q)) (omega arith) in
+    let place : q + i - q ≡ i = omega arith in
+    sym (ap (λ m. bit_at m (q + i)) parts ∙ high ∙ ap (bit_at (n / 2 ^ q)) place)
+
+-- the same of the digits past number q
+digit_past : (n q i : ℕ) → bit_at (n / 2 ^ q / 2) i ≡ bit_at n (q + 1 + i)
+digit_past n q i = let e : q + suc i ≡ q + 1 + i = omega arith in sym (bit_at-suc (n / 2 ^ q) i) ∙ digit_after n q (suc i) ∙ ap (bit_at n) e
+
+value_none : (x : Bool) → bit_value x ≡ 0 → x ≡ false
+value_none false e = refl
+value_none true e = absurd (omega arith)
+
+-- where no place of a stretch holds a one, the count stays
+ones_stay : (l : List Bool) (p d : ℕ) → p + d ≤ length l → ((i : ℕ) → i < d → get_or l (p + i) false ≡ false) → count true l (p + d) ≡ count true l p
+ones_stay l p zero h off = ap (count true l) (let e : p + 0 ≡ p = omega arith in e)
+ones_stay l p (suc d) h off =
+    let e : p + suc d ≡ p + d + 1 = omega arith in
+    ap (count true l) e ∙ count_more_no true l (p + d) (omega arith) (off d (omega arith)) ∙ ones_stay l p d (omega arith) (λ i small. off i (omega arith))
+
+module _ (l : List Bool) (k q : ℕ) (fits : limb l k < 18446744073709551616) (after : 0 < limb l k / 2 ^ q / 2) where
+  abbrev rest : ℕ
+  rest = limb l k / 2 ^ q / 2
+
+  abbrev far : ℕ
+  far = trailing_zeros w64 rest
+
+  far_is : (far < 64) × (bit_at rest far ≡ 1) × ((i : ℕ) → i < far → bit_at rest i ≡ 0)
+  far_is = bit_at-trailing_zeros w64 rest after (omega (arith, fits))
+
+  in_word : q + 1 + far < 64
+  in_word = elim (cases_lt (q + 1 + far) 64) [
+    | inl h ↦ h
+    | inr h ↦ absurd (omega (arith, far_is.1, digit_past (limb l k) q far, bit_at_above (limb l k) 64 (q + 1 + far) fits h))
+  ]
+
+  bit_after : (i : ℕ) → i < 64 - (q + 1) → bit_at rest i ≡ bit_value (get_or l (64 * k + q + 1 + i) false)
+  bit_after i h =
+      let e : 64 * k + (q + 1 + i) ≡ 64 * k + q + 1 + i = omega arith in
+      digit_past (limb l k) q i ∙ marked_bit true l k (q + 1 + i) fits (omega arith) ∙ ap (λ p. bit_value (get_or l p false)) e
+
+  on : get_or l (64 * k + q + 1 + far) false ≡ true
+  on = value_one (get_or l (64 * k + q + 1 + far) false) (sym (bit_after far (omega (arith, in_word))) ∙ far_is.1)
+
+  off : (i : ℕ) → i < far → get_or l (64 * k + q + 1 + i) false ≡ false
+  off i h = value_none (get_or l (64 * k + q + 1 + i) false) (sym (bit_after i (omega (arith, in_word))) ∙ far_is.2 i h)
+
+  inside : 64 * k + q + 1 + far < length l
+  inside = elim (cases_lt (64 * k + q + 1 + far) (length l)) [
+    | inl h ↦ h
+    | inr h ↦ absurd (omega (arith, ap bit_value on, ap bit_value (get_or_past l (64 * k + q + 1 + far) false h)))
+  ]
+
+  next_is : (r : ℕ) → r < count true l (length l) → 64 * k + q ≡ select true l r → 64 * k + q + 1 + far ≡ select true l (r + 1)
+  next_is r some place =
+      let at = count_at_select true l r some in
+      let before : count true l (64 * k + q + 1) ≡ r + 1 = ap (λ p. count true l (p + 1)) place ∙ at.2 in
+      sym (select_at true l (r + 1) (64 * k + q + 1 + far) inside on (ones_stay l (64 * k + q + 1) far (omega (arith, inside)) off ∙ before))
+
+-- the one after number r, where the word of number r holds another past it
+pub one_after : (l : List Bool) (r k q : ℕ) → limb l k < 18446744073709551616 → r < count true l (length l) → 64 * k + q ≡ select true l r → 0 < limb l k / 2 ^ q / 2
+    → (64 * k + q + 1 + trailing_zeros w64 (limb l k / 2 ^ q / 2) ≡ select true l (r + 1)) × (64 * k + q + 1 + trailing_zeros w64 (limb l k / 2 ^ q / 2) < length l)
+one_after l r k q fits some place after = (next_is l k q fits after r some place, inside l k q fits after)
+
+pub no_ones : (l : List Bool) (r : ℕ) → count true l (length l) ≤ r → (select true l r ≡ length l) × (select true l (r + 1) ≡ length l)
+no_ones l r h = (select_past true l r h, select_past true l (r + 1) (omega arith))
+
+pub ruleset pairs = (one_after, no_ones)

@@ -1,0 +1,33 @@
+use Rattle.std.proofs.Common.{◌<◌, ◌/◌, ◌^◌, true, arith, w64, ap}
+use Rattle.std.specs.Int.{trailing_zeros}
+use Rattle.vers_bits.specs.Bits.{limb}
+use Rattle.vers_bits.proofs.PublicLaws.{count_at_select}
+use Rattle.vers_rank.proofs.Pairs.{one_after, no_ones}
+use Rattle.vers_rank.proofs.fast_rs_vec.RsVec.select1_pair_counted.Goals as goal
+
+pub returns-then-r-ones-clause-first : goal.returns-then-r-ones-clause-first
+returns-then-r-ones-clause-first g c = omega (arith, c.len-len.ensures.value, (no_ones c.args.self.now c.args.r (omega (arith, c.ones.ensures.value, c.if-r-ones.true))).0)
+
+pub returns-then-r-ones-clause-second : goal.returns-then-r-ones-clause-second
+returns-then-r-ones-clause-second g c = omega (arith, c.len-len.ensures.value, (no_ones c.args.self.now c.args.r (omega (arith, c.ones.ensures.value, c.if-r-ones.true))).1)
+
+pub returns-then-after-ne0-clause-second : goal.returns-then-after-ne0-clause-second
+returns-then-after-ne0-clause-second g c =
+    let at = c.locate-at.result in
+    let fits : limb c.args.self.now at.limb < 18446744073709551616 = omega (arith, c.locate-at.ensures.word) in
+    rw (c.locate-at.ensures.word)
+    (one_after c.args.self.now c.args.r at.limb at.place fits (omega (arith, c.ones.ensures.value, c.if-r-ones.false)) c.locate-at.ensures.value
+    (omega (arith, c.if-after-ne0.true, ap (λ w. w / 2 ^ at.place / 2) c.locate-at.ensures.word))).0
+
+pub returns-then-after-ne0-clause-within : goal.returns-then-after-ne0-clause-within
+returns-then-after-ne0-clause-within g c =
+    let at = c.locate-at.result in
+    let fits : limb c.args.self.now at.limb < 18446744073709551616 = omega (arith, c.locate-at.ensures.word) in
+    let far = (one_after c.args.self.now c.args.r at.limb at.place fits (omega (arith, c.ones.ensures.value, c.if-r-ones.false)) c.locate-at.ensures.value
+    (omega (arith, c.if-after-ne0.true, ap (λ w. w / 2 ^ at.place / 2) c.locate-at.ensures.word))).1 in
+    let same = ap (λ w. trailing_zeros w64 (w / 2 ^ at.place / 2)) c.locate-at.ensures.word in
+    (omega (arith, far), omega (arith, far, same))
+
+pub returns-else-after-ne0-clause-within : goal.returns-else-after-ne0-clause-within
+returns-else-after-ne0-clause-within g c =
+    (omega (arith, c.locate-at.ensures.value, (count_at_select true c.args.self.now c.args.r (omega (arith, c.ones.ensures.value, c.if-r-ones.false))).0), c.select1_counted-second.ensures.within)
