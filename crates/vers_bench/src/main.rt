@@ -6,6 +6,7 @@
 #![tactic(auto)]
 
 mod bits;
+mod documents;
 mod lists;
 mod minima;
 mod report;
@@ -180,6 +181,9 @@ fn run(rt: &HostRuntime, settings: &Settings) -> io::Result<()> {
     }
     if settings.wants("tree") {
         run_trees(rt, settings, query_count)?;
+    }
+    if settings.wants("postings") {
+        documents::run(rt, settings, query_count, query_count)?;
     }
     Ok(())
 }

@@ -135,6 +135,21 @@ pub fn asked<T: Drop, R, E, F: FnOnce(&T) -> Result<R, E>>(
     }
 }
 
+/// As many values as told, each made from its number. They may be of any type, as in `asked`.
+pub fn many<T: Drop, F: FnMut(usize) -> io::Result<T>>(
+    rt: &HostRuntime,
+    count: usize,
+    mut make: F,
+) -> io::Result<Vec<T>>
+    requires { F.IsAlwaysCallable make }
+{
+    let mut all = Vec::new(rt.alloc());
+    for number in 0..count {
+        all.push(make(number)?)?;
+    }
+    Ok(all)
+}
+
 /// The time that a build took, in nanoseconds, where `start` is when it began. What it made is let go
 /// after that time is taken.
 pub fn built_since<T: Drop>(

@@ -155,6 +155,37 @@ pub fn members_clustered(
     Ok(Clustered { members, first })
 }
 
+/// Ascending documents with gaps from 2 to 2^10 + 1.
+pub fn documents(alloc: Global, count: usize) -> Result<Vec<u64>, AllocError> {
+    let mut random = Random::new(12);
+    let mut documents = Vec::with_capacity(alloc, count)?;
+    let mut document = 0u64;
+    for _ in 0..count {
+        document = document.wrapping_add(2).wrapping_add(random.below(1 << 10));
+        documents.push(document)?;
+    }
+    Ok(documents)
+}
+
+/// List `number` of `count` documents, each drawn at random from a stretch of equal length of
+/// `documents`. Half of them are one more than the drawn one, which is not among those.
+pub fn drawn(
+    alloc: Global,
+    number: usize,
+    documents: &[u64],
+    count: usize,
+) -> Result<Vec<u64>, AllocError> {
+    let mut random = Random::new((number as u64).wrapping_add(14));
+    let stretch = documents.len().checked_div(count).unwrap_or(0);
+    let mut drawn = Vec::with_capacity(alloc, count)?;
+    for part in documents.chunks(stretch.max(1)).take(count) {
+        let place = random.below(part.len() as u64) as usize;
+        let document = part.get(place).copied().unwrap_or(NONE);
+        drawn.push(document.wrapping_add(random.below(2)))?;
+    }
+    Ok(drawn)
+}
+
 /// The limbs of the parentheses of a random tree, each tree of as many bits as likely as any other: one
 /// root, whose nodes are half as many as the bits.
 pub fn parentheses(alloc: Global, bit_count: usize) -> Result<Vec<u64>, AllocError> {
