@@ -90,8 +90,8 @@ impl<A: Allocator + Copy> RsVec<A> {
             (record no_reads { data_words = 8; block_entries = 1; superblock_entries = 1 }) }
     {
         let block = place / BLOCK;
-        let zeros = self.zeros_before(block, tally);
-        BLOCK * block - zeros + self.ones_in_block(block, place, is_whole, tally)
+        let ones = self.ones_in_block(block, place, is_whole, tally);
+        BLOCK * block - self.zeros_before(block, tally) + ones
     }
 
     // The zeros before a block.

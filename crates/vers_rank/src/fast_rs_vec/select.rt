@@ -3,7 +3,7 @@ ghost use Rattle.std.specs.Prelude.{◌≡◌, ℕ, ◌+◌, ◌-◌, ◌*◌, �
 ghost use Rattle.vers_bits.specs.Bits.{count, limb, select};
 ghost use Rattle.vers_tally.specs.Reads.{no_reads, one_more, only_block_entries, only_superblock_entries, only_data_words, digits, AddsAtMost};
 ghost use Rattle.vers_rank.specs.Queries.{superblock_count, select_reads};
-ghost use Rattle.vers_rank.specs.inside.Index.{held, IsSample, IsLimbWith, IsAmongLimbs};
+ghost use Rattle.vers_rank.specs.inside.Index.{held, held_in, IsSample, IsLimbWith, IsAmongLimbs};
 
 use super::{BLOCK, BLOCKS, LIMB, RsVec, SUPERBLOCK};
 use crate::word::{held_in_word, place_in_word};
@@ -82,6 +82,13 @@ impl FoundLimb {
             self
         }
     }
+}
+
+// A limb, and the number in it that a number of a block is.
+#[derive(Clone, Copy)]
+struct InLimb {
+    limb: usize,
+    rest: usize,
 }
 
 // Where a place stands: its limb with the word that the limb holds, and its place in the word.
@@ -187,33 +194,49 @@ impl<A: Allocator + Copy> RsVec<A> {
     {
         let _ = &self.bits;
         let s = self.superblock_with(bit, r, tally);
-        let r_in_superblock = (r - self.count_at_superblock(bit, s, tally)) as u16;
-        if self.len() - SUPERBLOCK * s >= SUPERBLOCK {
-            return self.locate_in(bit, r_in_superblock, s, true, tally);
-        }
-        self.locate_in(bit, r_in_superblock, s, false, tally)
+        let r_in_superblock = self.number_in(bit, r, s, tally);
+        let at = if self.len() - SUPERBLOCK * s >= SUPERBLOCK {
+            self.limb_of(bit, r_in_superblock, s, true, tally)
+        } else {
+            self.limb_of(bit, r_in_superblock, s, false, tally)
+        };
+        self.place_in_limb(bit, at, tally)
     }
 
-    // Where number `r` of a superblock stands, where `is_whole` says that the superblock has all its
+    // The number in a superblock that number `r`, which stands there, is.
+    #[inline(always)]
+    fn number_in(&self, bit: bool, r: usize, s: usize, tally: &mut Tally) -> u16
+        requires within { 8192 * s < length self.now }
+        requires from { count bit self.now (8192 * s) ≤ r }
+        requires to { r < count bit self.now (8192 * (s + 1)) }
+        ensures value { count bit self.now (8192 * s) + result ≡ r }
+        ensures small { result < 8192 }
+        ensures adds { AddsAtMost tally.old tally.new (only_superblock_entries 1) }
+    {
+        let _ = &self.bits;
+        (r - self.count_at_superblock(bit, s, tally)) as u16
+    }
+
+    // The limb of number `r` of a superblock, where `is_whole` says that the superblock has all its
     // bits.
     #[inline(always)]
-    fn locate_in(&self, bit: bool, r: u16, s: usize, is_whole: bool, tally: &mut Tally) -> InWord
+    fn limb_of(&self, bit: bool, r: u16, s: usize, is_whole: bool, tally: &mut Tally) -> InLimb
         requires within { 8192 * s < length self.now }
         requires whole { IsTrue is_whole → 8192 * s + 8192 ≤ length self.now }
         requires last { IsFalse is_whole → length self.now < 8192 * s + 8192 }
         requires small { r < 8192 }
         requires to { count bit self.now (8192 * s) + r < count bit self.now (8192 * (s + 1)) }
-        ensures value { 64 * result.limb + result.place
-            ≡ select bit self.now (count bit self.now (8192 * s) + r) }
-        ensures within { (64 * result.limb < length self.now) × (result.place < 64) }
-        ensures word { result.word ≡ limb self.now result.limb }
+        ensures within { 64 * result.limb < length self.now }
+        ensures counted { held bit self.now (64 * result.limb) + result.rest
+            ≡ count bit self.now (8192 * s) + r }
+        ensures few { result.rest < held_in bit (limb self.now result.limb) 64 }
         ensures adds { AddsAtMost tally.old tally.new
-            (record no_reads { data_words = 8; block_entries = 16 }) }
+            (record no_reads { data_words = 7; block_entries = 16 }) }
     {
         let _ = &self.bits;
         let found = self.block_with(bit, r, s, is_whole, tally);
         let block = BLOCKS * s + found.block as usize;
-        self.place_in_block(bit, found.rest as usize, block, is_whole, tally)
+        self.limb_in_block(bit, found.rest as usize, block, is_whole, tally)
     }
 
     // How many places hold the bit.
@@ -567,32 +590,51 @@ impl<A: Allocator + Copy> RsVec<A> {
         FoundBlock { block: n - 1, rest }
     }
 
-    // Where number `r` of a block stands.
+    // The limb of number `r` of a block, and the number in it.
     #[inline(always)]
-    #[tactic(auto, using(crate::proofs::Selects::in_block))]
-    fn place_in_block(
+    fn limb_in_block(
         &self,
         bit: bool,
         r: usize,
         block: usize,
         is_whole: bool,
         tally: &mut Tally,
-    ) -> InWord
+    ) -> InLimb
         requires within { 512 * block < length self.now }
         requires whole { IsTrue is_whole → 512 * block + 512 ≤ length self.now }
         requires to { count bit self.now (512 * block) + r
             < count bit self.now (512 * (block + 1)) }
+        ensures within { 64 * result.limb < length self.now }
+        ensures counted { held bit self.now (64 * result.limb) + result.rest
+            ≡ count bit self.now (512 * block) + r }
+        ensures few { result.rest < held_in bit (limb self.now result.limb) 64 }
+        ensures adds { AddsAtMost tally.old tally.new (only_data_words 7) }
+    {
+        let _ = self.len();
+        let found = self.limb_with(bit, r, block, is_whole, tally);
+        InLimb {
+            limb: found.limb,
+            rest: r - found.before,
+        }
+    }
+
+    // Where a number of a limb stands.
+    #[inline(always)]
+    fn place_in_limb(&self, bit: bool, at: InLimb, tally: &mut Tally) -> InWord
+        requires within { 64 * at.limb < length self.now }
+        requires few { at.rest < held_in bit (limb self.now at.limb) 64 }
+        requires some { held bit self.now (64 * at.limb) + at.rest
+            < count bit self.now (length self.now) }
         ensures value { 64 * result.limb + result.place
-            ≡ select bit self.now (count bit self.now (512 * block) + r) }
+            ≡ select bit self.now (held bit self.now (64 * at.limb) + at.rest) }
         ensures within { (64 * result.limb < length self.now) × (result.place < 64) }
         ensures word { result.word ≡ limb self.now result.limb }
-        ensures adds { AddsAtMost tally.old tally.new (only_data_words 8) }
+        ensures adds { AddsAtMost tally.old tally.new (only_data_words 1) }
     {
-        let found = self.limb_with(bit, r, block, is_whole, tally);
-        let word = self.bits.limb(found.limb, tally);
-        let place = place_in_word(word, bit, r - found.before);
+        let word = self.bits.limb(at.limb, tally);
+        let place = place_in_word(word, bit, at.rest);
         InWord {
-            limb: found.limb,
+            limb: at.limb,
             word,
             place,
         }

@@ -1,0 +1,15 @@
+use Rattle.std.proofs.Common.{◌≡◌, ◌+◌, ◌*◌, arith}
+use Rattle.vers_bits.specs.Bits.{count}
+use Rattle.vers_rank.specs.inside.Index.{held}
+use Rattle.vers_rank.proofs.Selects.{rest_in_limb, held_is}
+use Rattle.vers_rank.proofs.fast_rs_vec.RsVec.limb_in_block.Goals as goal
+
+pub returns-clause-counted : goal.returns-clause-counted
+returns-clause-counted g c =
+    let found = c.limb_with-found.ensures.found in
+    let start : held c.args.bit c.args.self.now (512 * c.args.block) ≡ count c.args.bit c.args.self.now (512 * c.args.block) = held_is c.args.bit c.args.self.now (512 * c.args.block) (omega arith) in
+    omega (arith, found.counted, found.from, start)
+
+pub returns-clause-few : goal.returns-clause-few
+returns-clause-few g c =
+    rest_in_limb c.args.bit c.args.self.now c.args.block c.args.r c.limb_with-found.result.limb c.limb_with-found.result.before c.requires.within c.requires.to c.limb_with-found.ensures.found
