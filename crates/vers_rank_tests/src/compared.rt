@@ -109,7 +109,10 @@ fn first_disagreement(
 
 #[test]
 fn around_a_limb(rt: HostRuntime) -> Result<(), Fail> {
-    assert_eq!(rt; first_disagreement(rt.alloc(), &[0, 1, 15, 16, 17, 63, 64, 65])?, None);
+    assert_eq!(rt;
+        first_disagreement(rt.alloc(), &[0, 1, 15, 16, 17, 63, 64, 65])?,
+        None
+    );
     Ok(())
 }
 
