@@ -4,7 +4,6 @@ pub mod BytePlaces
 pub mod Ranks
 pub mod Selects
 pub mod Builds
-pub mod Nears
 pub mod Parts
 pub mod Pairs
 pub mod BothEnds

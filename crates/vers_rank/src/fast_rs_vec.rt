@@ -7,7 +7,6 @@ ghost use Rattle.vers_rank.specs.Queries.{part_number_or_zero, superblock_count,
 mod bit_set_iter;
 mod equality;
 mod iter;
-mod near;
 mod neighbours;
 mod pair;
 mod rank;
@@ -18,7 +17,6 @@ mod select_iter;
 use crate::build::{add_entries, samples};
 pub use bit_set_iter::BitSetIter;
 pub use iter::{RsVecIter, RsVecRefIter};
-pub use near::ZerosBelow;
 pub use pair::PlacePair;
 pub use select_iter::{SelectIntoIter, SelectIter};
 use std::alloc::{AllocError, Allocator};

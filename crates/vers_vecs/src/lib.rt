@@ -12,7 +12,6 @@ pub mod bit_vec {
     pub mod fast_rs_vec {
         pub use vers_rank::fast_rs_vec::{
             BitSetIter, PlacePair, RsVec, RsVecIter, RsVecRefIter, SelectIntoIter, SelectIter,
-            ZerosBelow,
         };
     }
 

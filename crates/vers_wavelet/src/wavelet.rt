@@ -2,7 +2,6 @@
 ghost use Rattle.std.specs.Prelude.{◌≡◌, ℕ, ◌+◌, ◌-◌, ◌*◌, ◌%◌, ◌^◌, ◌<◌, ◌≤◌, ◌↔◌, [], length, slice_get, slice_index, slice_range, count_by, nat_lt, nat_le, Some, None, All, IsTrue, IsSome, IfSome};
 ghost use Rattle.vers_wavelet.specs.Symbols.{Symbols};
 
-mod ahead;
 mod count;
 pub(crate) mod digits;
 mod find;
