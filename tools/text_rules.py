@@ -58,8 +58,8 @@ SCANS, SEARCHES = "crates/vers_trees/src/trees/bp/scan.rt", "crates/vers_trees/s
 WHOLE_BYTES = {
     (SEARCHES, "forward"): "scan_forward(bits,&tree.tables,",
     (SEARCHES, "backward"): "scan_backward(bits,&tree.tables,",
-    (SCANS, "scan_forward"): "bytes_forward(bits,tables,head,tail,",
-    (SCANS, "scan_backward"): "bytes_backward(bits,tables,head,tail,",
+    (SCANS, "scan_forward"): "bytes_forward(bits,tables,from,tail,",
+    (SCANS, "scan_backward"): "bytes_backward(bits,tables,head,end,",
     (SCANS, "bytes_forward"): "place_met(tables.forward_entry(byte),",
     (SCANS, "bytes_backward"): "place_met(tables.backward_entry(byte),",
 }
@@ -338,7 +338,7 @@ BREAKS = {
     "drops `helper(x)`": ("crates/low/src/lib.rt", "let _ = x.len();", "let _ = helper(x);"),
     "imports `Tables`": ("crates/vers_rmq/proofs/Blocks.antt", "proofs.Minima", "specs.inside.Tables"),
     "backward doesn't take whole bytes": (SEARCHES, "scan_backward(bits, &tree.tables,", "bits_backward(bits,"),
-    "scan_forward doesn't take whole bytes": (SCANS, "bytes_forward(bits,tables,head,tail,", "bits_forward(bits,head,tail,"),
+    "scan_forward doesn't take whole bytes": (SCANS, "bytes_forward(bits,tables,from,tail,", "bits_forward(bits,from,tail,"),
     "bytes_forward doesn't take whole bytes": (SCANS, "place_met(tables.forward_entry(byte), 1)", "place_met(tables.forward_entry(byte), bits.is_one_counted(1))"),
     "leads nowhere": ("README.md", "docs/PAGE.md", "docs/NONE.md"),
     "says `at the most`": ("docs/PAGE.md", "A page.", "A page has at\nthe most one link."),

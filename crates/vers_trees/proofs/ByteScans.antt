@@ -18,8 +18,11 @@ use Rattle.vers_trees.proofs.Scans.{rise_fits}
 use Rattle.vers_trees.proofs.Excess.{excess-append_left, excess-append_right}
 
 -- ---- the eight bits at a place
+pub length-part : (l : List Bool) (p n : ℕ) → p + n ≤ length l → length (part l p n) ≡ n
+length-part l p n h = length-take-le n (drop p l) (let e = length-drop p l in omega arith)
+
 pub length-byte : (l : List Bool) (p : ℕ) → p + 8 ≤ length l → length (part l p 8) ≡ 8
-length-byte l p h = length-take-le 8 (drop p l) (let e = length-drop p l in omega arith)
+length-byte l p h = length-part l p 8 h
 
 excess-drop : (l : List Bool) (p j : ℕ) → p ≤ length l → excess l (p + j) ≡ excess l p +ℤ excess (drop p l) j
 excess-drop l p j h =
@@ -37,12 +40,15 @@ excess-take l n j h i =
     let e = length-take-le n l h in
     sym (excess-append_left (take n l) (drop n l) j (omega arith)) ∙ ap (λ (m : List Bool). excess m j) (take-append-drop n l)
 
-pub excess-byte : (l : List Bool) (p j : ℕ) → p + 8 ≤ length l → j ≤ 8 → excess l (p + j) ≡ excess l p +ℤ excess (part l p 8) j
-excess-byte l p j h i =
+pub excess-part : (l : List Bool) (p n j : ℕ) → p + n ≤ length l → j ≤ n → excess l (p + j) ≡ excess l p +ℤ excess (part l p n) j
+excess-part l p n j h i =
     let e = length-drop p l in
-    let t = excess-take (drop p l) 8 j (omega arith) i in
+    let t = excess-take (drop p l) n j (omega arith) i in
     let d = excess-drop l p j (omega arith) in
     omega (arith, ints)
+
+pub excess-byte : (l : List Bool) (p j : ℕ) → p + 8 ≤ length l → j ≤ 8 → excess l (p + j) ≡ excess l p +ℤ excess (part l p 8) j
+excess-byte l p j h i = excess-part l p 8 j h i
 
 -- the whole excess of eight bits, by their ones
 whole : (a b c n : ℕ) → a ≡ 0 + n → b + a ≡ 8 → pos a -ℤ pos b ≡ pos (2 * n) -ℤ pos 8
@@ -74,7 +80,7 @@ number_odd : (b : Bool) (l : List Bool) → number (b ∷ l) % 2 ≡ bit_value b
 number_odd true l = omega arith
 number_odd false l = omega arith
 
-number-take : (k : ℕ) (l : List Bool) → number (take k l) ≡ number l % 2 ^ k
+pub number-take : (k : ℕ) (l : List Bool) → number (take k l) ≡ number l % 2 ^ k
 number-take zero l = omega arith
 number-take (suc k) [] = grind arith
 number-take (suc k) (b ∷ l) = grind (arith, number-take k l, number_half b l, number_odd b l, mod-pow-add (number (b ∷ l)) k 1)

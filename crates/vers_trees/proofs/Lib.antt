@@ -25,6 +25,7 @@ pub mod Scans
 pub mod Octal
 pub mod Bytes
 pub mod ByteScans
+pub mod WordScans
 pub mod MinMax
 pub mod Climbs
 pub mod Back

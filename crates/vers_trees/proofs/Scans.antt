@@ -25,7 +25,7 @@ near_by l i (suc d) =
     let v = (excess-is_walk l).down (i + d) in
     (omega (arith, ints), omega (arith, ints))
 
-excess_near : (l : List Bool) (i j : ℕ) → i ≤ j → (excess l j ≤ℤ (excess l i +ℤ pos (j - i))) × (excess l i ≤ℤ (excess l j +ℤ pos (j - i)))
+pub excess_near : (l : List Bool) (i j : ℕ) → i ≤ j → (excess l j ≤ℤ (excess l i +ℤ pos (j - i))) × (excess l i ≤ℤ (excess l j +ℤ pos (j - i)))
 excess_near l i j h =
     let n = near_by l i (j - i) in let a = n.0 in let b = n.1 in
     let e : excess l (i + (j - i)) ≡ excess l j = ap (excess l) (let g : i + (j - i) ≡ j = omega arith in g) in

@@ -1,5 +1,6 @@
 -- What a scan over the bits of a part answers, and what it reads.
-use Rattle.std.specs.Prelude.{if◌then◌else◌, false, slice_index_or, Option, Some, None, ◌≡◌, ℕ, ◌+◌, ◌<◌, ◌≤◌, ◌≢◌, Bool, List, ℤ, ◌+ℤ◌}
+use Rattle.std.specs.Prelude.{if◌then◌else◌, true, false, ◌&&◌, suc, [], ◌∷◌, slice_index_or, Option, Some, None, ◌≡◌, ℕ, ◌+◌, ◌<◌, ◌≤◌, ◌≢◌, Bool, List, ℤ, ◌+ℤ◌}
+use Rattle.vers_bits.specs.Bits.{bit_value}
 use Rattle.vers_tally.specs.Reads.{Reads, no_reads}
 use Rattle.vers_trees.specs.Excess.{excess}
 
@@ -26,6 +27,23 @@ pub record IsLastRise (l : List Bool) (from end : ℕ) (r : ℤ) (place : ℕ) :
 pub record HasNoRiseBefore (l : List Bool) (from end : ℕ) (r rise : ℤ) : Type 0 where
   pub risen : excess l from ≡ excess l end +ℤ rise
   pub none : (k : ℕ) → from ≤ k → k < end → excess l k ≢ excess l end +ℤ r
+
+-- how many zeros no one stands right before, where p says whether a one stands before the list
+abbrev pub falls : Bool → List Bool → ℕ
+falls p [] = 0
+falls p (true ∷ l) = falls true l
+falls true (false ∷ l) = falls false l
+falls false (false ∷ l) = suc (falls false l)
+
+-- whether a list is empty or begins with a one
+abbrev pub is_not_closed : List Bool → Bool
+is_not_closed [] = true
+is_not_closed (b ∷ l) = b
+
+-- how many ones no zero stands right after
+abbrev pub rises : List Bool → ℕ
+rises [] = 0
+rises (b ∷ l) = bit_value (b && is_not_closed l) + rises l
 
 -- what a scan of n bits adds at most
 abbrev pub scan_reads : ℕ → Reads

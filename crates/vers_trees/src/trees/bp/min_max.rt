@@ -155,13 +155,11 @@ impl<A: Allocator + Copy> MinMaxTree<A> {
     {
         let mut node = place;
         while node < self.first {
+            // With no branch on where the sum lies, which would often be guessed wrong.
             let below = self.node_counted(2 * node + 1, tally);
-            if below.reaches(left) {
-                node = 2 * node + 1;
-            } else {
-                left -= below.total;
-                node = 2 * node + 2;
-            }
+            let is_past = !below.reaches(left);
+            left -= if is_past { below.total } else { 0 };
+            node = 2 * node + 1 + usize::from(is_past);
         }
         (node - self.first, left)
     }
@@ -186,16 +184,14 @@ impl<A: Allocator + Copy> MinMaxTree<A> {
     {
         let mut node = self.first + begin;
         while node > 0 {
-            if node % 2 == 1 {
-                let beside = self.node_counted(node + 1, tally);
-                if beside.reaches(left) {
-                    return Some(self.descend_counted(node + 1, left, tally));
-                }
-                match left.checked_sub(beside.total) {
-                    Some(rest) => left = rest,
-                    None => return None,
-                }
+            // What stands beside a right child is read too, and left out by a choice of values.
+            let beside = self.node_counted(node + 1, tally);
+            let reaches = beside.reaches(left);
+            let is_left = node % 2 == 1;
+            if is_left && reaches {
+                return Some(self.descend_counted(node + 1, left, tally));
             }
+            left = left.checked_sub(if is_left { beside.total } else { 0 })?;
             node = (node - 1) / 2;
         }
         None
@@ -218,12 +214,9 @@ impl<A: Allocator + Copy> MinMaxTree<A> {
         while node < self.first {
             let below = self.node_counted(2 * node + 2, tally);
             let before = left + below.total;
-            if below.meets(before) {
-                node = 2 * node + 2;
-            } else {
-                left = before;
-                node = 2 * node + 1;
-            }
+            let is_past = !below.meets(before);
+            left = if is_past { before } else { left };
+            node = 2 * node + 2 - usize::from(is_past);
         }
         (node - self.first, left)
     }
@@ -248,18 +241,14 @@ impl<A: Allocator + Copy> MinMaxTree<A> {
     {
         let mut node = self.first + begin;
         while node > 0 {
-            if node % 2 == 0 {
-                let beside = self.node_counted(node - 1, tally);
-                match left.checked_add(beside.total) {
-                    Some(before) => {
-                        if beside.meets(before) {
-                            return Some(self.descend_back_counted(node - 1, left, tally));
-                        }
-                        left = before;
-                    }
-                    None => return None,
-                }
+            let beside = self.node_counted(node - 1, tally);
+            let is_right = node % 2 == 0;
+            let before = left.checked_add(if is_right { beside.total } else { 0 })?;
+            let meets = beside.meets(before);
+            if is_right && meets {
+                return Some(self.descend_back_counted(node - 1, left, tally));
             }
+            left = before;
             node = (node - 1) / 2;
         }
         None

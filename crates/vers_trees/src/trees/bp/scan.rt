@@ -1,8 +1,9 @@
 //! Scans of the bits of one block.
-ghost use Rattle.std.specs.Prelude.{◌≡◌, ℕ, ◌*◌, ◌-◌, ◌%◌, ◌^◌, ◌<◌, ◌≤◌, ◌-ℤ◌, pos, count_ones, length, MatchResult};
+ghost use Rattle.std.specs.Prelude.{◌≡◌, ℕ, ◌*◌, ◌-◌, ◌%◌, ◌^◌, ◌<◌, ◌≤◌, ◌-ℤ◌, ◌≤ℤ◌, ◌<ℤ◌, Bool, false, List, pos, negsuc, count_ones, length, IsTrue, MatchResult};
+ghost use Rattle.vers_bits.specs.Bits.{number};
 ghost use Rattle.vers_tally.specs.Reads.{AddsAtMost};
 ghost use Rattle.vers_trees.specs.Excess.{bit_step};
-ghost use Rattle.vers_trees.specs.inside.Scans.{IsFirstRise, IsLastRise, HasNoRise, HasNoRiseBefore, scan_reads};
+ghost use Rattle.vers_trees.specs.inside.Scans.{IsFirstRise, IsLastRise, HasNoRise, HasNoRiseBefore, falls, rises, scan_reads};
 ghost use Rattle.vers_trees.specs.inside.MinMax.{IsPart};
 
 use crate::trees::bp::bytes::{ByteTables, place_met};
@@ -26,6 +27,37 @@ fn byte_step(byte: u8) -> i64
     ensures { result ≡ pos (2 * count_ones byte) -ℤ pos 8 }
 {
     2 * byte.count_ones() as i64 - 8
+}
+
+// What a word of parentheses adds to the excess.
+#[inline(always)]
+fn word_step(word: u64) -> i64
+    ensures { result ≡ pos (2 * count_ones word) -ℤ pos 64 }
+{
+    2 * word.count_ones() as i64 - 64
+}
+
+// Whether each sum along a word is above `target`, as far as is told by its zeros that no one stands
+// right before: each other zero only takes back what the one before it gave.
+#[inline(always)]
+fn stays_above(word: u64, rise: i64, target: i64) -> bool
+    requires { negsuc 9223372036854775743 ≤ℤ rise }
+    ensures { IsTrue result → (bits : List Bool) → length bits ≡ 64 → word ≡ number bits →
+        target <ℤ (rise -ℤ pos (falls false bits)) }
+{
+    let falls = 64 - (word | word << 1).count_ones() as i64;
+    target < rise - falls
+}
+
+// The same along a word from its end, by its ones that no zero stands right after.
+#[inline(always)]
+fn stays_above_back(word: u64, rise: i64, target: i64) -> bool
+    requires { negsuc 9223372036854775743 ≤ℤ rise }
+    ensures { IsTrue result → (bits : List Bool) → length bits ≡ 64 → word ≡ number bits →
+        target <ℤ (rise -ℤ pos (rises bits)) }
+{
+    let rises = (word & ((word >> 1) + (1 << 63))).count_ones() as i64;
+    target < rise - rises
 }
 
 // Goes on with a scan forwards that has come to `begin` and has risen by `rise` there, bit by bit.
@@ -57,7 +89,8 @@ fn bits_forward<A: Allocator + Copy>(
     Err(rise)
 }
 
-// Goes on with such a scan, by whole bytes: a word is read once, and each of its bytes is looked up.
+// Goes on with such a scan, by whole bytes: a word is read once, and passed over where all its sums
+// are above the target, or else each of its bytes is looked up.
 #[inline(always)]
 fn bytes_forward<A: Allocator + Copy>(
     bits: &RsVec<A>,
@@ -83,6 +116,11 @@ fn bytes_forward<A: Allocator + Copy>(
     while start < end {
         let size = (end - start).min(64);
         let word = bits.get_bits_counted(start, size, tally).unwrap();
+        if size == 64 && stays_above(word, rise, target) {
+            rise += word_step(word);
+            start += size;
+            continue;
+        }
         let mut within = 0;
         while within < size {
             let byte = ((word >> within) % 256) as u8;
@@ -98,8 +136,8 @@ fn bytes_forward<A: Allocator + Copy>(
 }
 
 // The first place from `from` on and before `end` after which the excess is `target` above that
-// before `from`. If there is none, how much the excess rises from `from` to `end`. Bits before the
-// first whole byte and after the last are scanned, and whole bytes are looked up.
+// before `from`. If there is none, how much the excess rises from `from` to `end`. Whole bytes are
+// looked up, and the bits after the last are scanned.
 #[inline(always)]
 pub(super) fn scan_forward<A: Allocator + Copy>(
     bits: &RsVec<A>,
@@ -118,13 +156,8 @@ pub(super) fn scan_forward<A: Allocator + Copy>(
         (λ rise. HasNoRise bits.now from end target rise) }
     ensures adds { AddsAtMost tally.old tally.new (scan_reads (end - from)) }
 {
-    let head = ((from + 7) / 8 * 8).min(end);
-    let tail = head + (end - head) / 8 * 8;
-    let rise = match bits_forward(bits, from, head, 0, target, tally) {
-        Ok(place) => return Ok(place),
-        Err(rise) => rise,
-    };
-    let rise = match bytes_forward(bits, tables, head, tail, rise, target, tally) {
+    let tail = from + (end - from) / 8 * 8;
+    let rise = match bytes_forward(bits, tables, from, tail, 0, target, tally) {
         Ok(place) => return Ok(place),
         Err(rise) => rise,
     };
@@ -162,7 +195,8 @@ fn bits_backward<A: Allocator + Copy>(
     Err(rise)
 }
 
-// Goes on with such a scan, by whole bytes: a word is read once, and each of its bytes is looked up.
+// Goes on with such a scan, by whole bytes: a word is read once, and passed over where all its sums
+// are above the target, or else each of its bytes is looked up.
 #[inline(always)]
 fn bytes_backward<A: Allocator + Copy>(
     bits: &RsVec<A>,
@@ -189,6 +223,11 @@ fn bytes_backward<A: Allocator + Copy>(
         let size = (stop - begin).min(64);
         let start = stop - size;
         let word = bits.get_bits_counted(start, size, tally).unwrap();
+        if size == 64 && stays_above_back(word, rise, target) {
+            rise -= word_step(word);
+            stop = start;
+            continue;
+        }
         let mut within = size;
         while within > 0 {
             within -= 8;
@@ -204,8 +243,8 @@ fn bytes_backward<A: Allocator + Copy>(
 }
 
 // The last place from `from` on and before `end` before which the excess is `target` above that
-// before `end`. If there is none, how much the excess before `from` is above that before `end`. Bits
-// after the last whole byte and before the first are scanned, and whole bytes are looked up.
+// before `end`. If there is none, how much the excess before `from` is above that before `end`.
+// Whole bytes are looked up, and the bits before the first are scanned.
 #[inline(always)]
 pub(super) fn scan_backward<A: Allocator + Copy>(
     bits: &RsVec<A>,
@@ -224,13 +263,8 @@ pub(super) fn scan_backward<A: Allocator + Copy>(
         (λ rise. HasNoRiseBefore bits.now from end target rise) }
     ensures adds { AddsAtMost tally.old tally.new (scan_reads (end - from)) }
 {
-    let tail = (end / 8 * 8).max(from);
-    let head = tail - (tail - from) / 8 * 8;
-    let rise = match bits_backward(bits, tail, end, 0, target, tally) {
-        Ok(place) => return Ok(place),
-        Err(rise) => rise,
-    };
-    let rise = match bytes_backward(bits, tables, head, tail, rise, target, tally) {
+    let head = end - (end - from) / 8 * 8;
+    let rise = match bytes_backward(bits, tables, head, end, 0, target, tally) {
         Ok(place) => return Ok(place),
         Err(rise) => rise,
     };
