@@ -412,8 +412,9 @@ impl<A: Allocator + Copy> RsVec<A> {
         self.superblock_among(bit, r, first, n - STEPS, tally)
     }
 
-    // The superblock of number `r` among the `n` from `first` on, by halves. Which superblocks are looked
-    // at next is no branch, so that nothing depends on a guess of it.
+    // The superblock of number `r` among the `n` from `first` on: by halves while there are many, and
+    // then one after the other. Which superblocks are looked at next is no branch, so that nothing
+    // depends on a guess of it.
     #[inline(always)]
     #[tactic(auto, using(crate::proofs::Selects::halves))]
     fn superblock_among(
@@ -444,56 +445,13 @@ impl<A: Allocator + Copy> RsVec<A> {
             }
             left -= half;
         }
-        self.superblock_of_few(bit, r, start, start + left - 1, tally)
-    }
-
-    // The superblock of number `r` among the few from `first` up to `last`: by halves too, where one
-    // that is not there stands for the last.
-    #[inline(always)]
-    fn superblock_of_few(
-        &self,
-        bit: bool,
-        r: usize,
-        first: usize,
-        last: usize,
-        tally: &mut Tally,
-    ) -> usize
-        requires few { (first ≤ last) × (last < first + 4) }
-        requires within { 8192 * last < length self.now }
-        requires from { count bit self.now (8192 * first) ≤ r }
-        requires to { r < count bit self.now (8192 * (last + 1)) }
-        ensures within { 8192 * result < length self.now }
-        ensures from { count bit self.now (8192 * result) ≤ r }
-        ensures to { r < count bit self.now (8192 * (result + 1)) }
-        ensures adds { AddsAtMost tally.old tally.new (only_superblock_entries 2) }
-    {
-        let _ = &self.bits;
-        let start = self.superblock_passing(bit, r, first, (first + 2).min(last), tally);
-        self.superblock_passing(bit, r, start, (start + 1).min(last), tally)
-    }
-
-    // The superblock `further` where number `r` does not stand before it, and else `found`: a choice
-    // of values, and no branch.
-    #[inline(always)]
-    fn superblock_passing(
-        &self,
-        bit: bool,
-        r: usize,
-        found: usize,
-        further: usize,
-        tally: &mut Tally,
-    ) -> usize
-        requires within { 8192 * further < length self.now }
-        ensures passed { count bit self.now (8192 * further) ≤ r → result ≡ further }
-        ensures kept { r < count bit self.now (8192 * further) → result ≡ found }
-        ensures adds { AddsAtMost tally.old tally.new (only_superblock_entries 1) }
-    {
-        let _ = &self.bits;
-        if self.count_at_superblock(bit, further, tally) <= r {
-            further
-        } else {
-            found
+        let mut found = start;
+        for s in start + 1..start + left {
+            if self.count_at_superblock(bit, s, tally) <= r {
+                found = s;
+            }
         }
+        found
     }
 
     // The block of number `r` of a superblock.
