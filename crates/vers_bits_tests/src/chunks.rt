@@ -40,12 +40,19 @@ fn the_same_bits_are_equal(rt: HostRuntime) -> Result<(), Fail> {
     Ok(())
 }
 
+// Turns the bit at a place, if there is one.
+fn turn<A: Allocator + Copy>(list: &mut BitVec<A>, place: usize) {
+    if place < list.len() {
+        list.flip_bit(place);
+    }
+}
+
 // The first place whose bit can be turned with the list still equal to what it was.
 fn first_unseen<A: Allocator + Copy>(list: &mut BitVec<A>, before: &BitVec<A>) -> Option<usize> {
-    for place in 0..before.len().min(list.len()) {
-        list.flip_bit(place);
+    for place in 0..before.len() {
+        turn(list, place);
         let is_unseen = *list == *before;
-        list.flip_bit(place);
+        turn(list, place);
         if is_unseen {
             return Some(place);
         }
