@@ -22,6 +22,7 @@ fn run_list(settings: &Settings, name: &str, numbers: &[u64], asked: Asked) {
     let values = random.many_below(asked.count, asked.span);
     let values: Vec<u64> = values.iter().map(|it| asked.first + it).collect();
     series.run("get", asked.count, || folded(places.iter().map(|&it| list.get(it as usize).unwrap_or(NONE))));
+    series.run("delta", asked.count, || folded(places.iter().map(|&it| list.delta(it as usize).unwrap_or(NONE))));
     series.run("rank", asked.count, || folded(values.iter().map(|&it| list.rank(it))));
     series.run("predecessor", asked.count, || folded(values.iter().map(|&it| list.predecessor(it).unwrap_or(NONE))));
     series.run("successor", asked.count, || folded(values.iter().map(|&it| list.successor(it).unwrap_or(NONE))));

@@ -25,6 +25,15 @@ fn get_pass(list: &Members, places: &[u64]) -> u64 {
 }
 
 #[inline(never)]
+fn delta_pass(list: &Members, places: &[u64]) -> u64 {
+    let mut sum = 0;
+    for place in places {
+        sum = fold(sum, list.delta(*place as usize).unwrap_or(NONE));
+    }
+    sum
+}
+
+#[inline(never)]
 fn rank_pass(list: &Members, values: &[u64]) -> u64 {
     let mut sum = 0;
     for value in values {
@@ -100,6 +109,8 @@ fn run_queries<'a>(
     let count = places.len() as u64;
     let get = series.of("get");
     run_series(rt, settings, &get, count, || get_pass(list, places))?;
+    let delta = series.of("delta");
+    run_series(rt, settings, &delta, count, || delta_pass(list, places))?;
     let rank = series.of("rank");
     run_series(rt, settings, &rank, count, || rank_pass(list, values))?;
     let predecessor = series.of("predecessor");

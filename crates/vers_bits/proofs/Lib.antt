@@ -5,6 +5,7 @@ pub mod Places
 pub mod Neighbours
 pub mod Counting
 pub mod LowBits
+pub mod Highest
 pub mod Limbs
 pub mod Holds
 pub mod Equal

@@ -3,6 +3,7 @@ use Rattle.std.proofs.Common.{◌≡◌, ℕ, ◌+◌, ◌-◌, ◌*◌, ◌%◌
 use Rattle.std.specs.Prelude.{count_ones, filter, find}
 use Rattle.std.specs.Iterator.{YieldsFirst, YieldsLast, MakesProgress, item_count}
 use Rattle.std.specs.Int.{bit_at}
+use Rattle.std.specs.Int.Count.{count_leading_zeros}
 use Rattle.std.specs.List.{last_or}
 use Rattle.vers_bits.specs.Bits.{bit_value, number, low_bits, is_bit, count, places, select, place_after, place_before, limb}
 use Rattle.vers_bits.specs.declared.walk.Span.{Span}
@@ -11,6 +12,7 @@ use Rattle.vers_bits.specs.Walk.{TakesNth, TakesNthBack, TakesFirst, TakesLast, 
 pub use Rattle.vers_bits.proofs.Places.{IsPlace}
 use Rattle.vers_bits.proofs.Num as Num
 use Rattle.vers_bits.proofs.LowBits as LowBits
+use Rattle.vers_bits.proofs.Highest as Highest
 use Rattle.vers_bits.proofs.Count as Count
 use Rattle.vers_bits.proofs.Places as Places
 use Rattle.vers_bits.proofs.Neighbours as Neighbours
@@ -132,6 +134,11 @@ number-lt = Num.number-lt
 -- digit i of the number is bit i
 pub bit_at-number : (bits : List Bool) (i : ℕ) → bit_at (number bits) i ≡ bit_value (get_or bits i false)
 bit_at-number = Num.bit_at-number
+
+-- of a number that is not 0 the highest one stands as far below digit 63 as it has leading zeros
+pub highest_bit : (w : ℕ) → 0 < w → w < 18446744073709551616
+    → (count_leading_zeros 64 w < 64) × (bit_at w (63 - count_leading_zeros 64 w) ≡ 1) × ((i : ℕ) → 63 - count_leading_zeros 64 w < i → bit_at w i ≡ 0)
+highest_bit = Highest.highest_bit
 
 -- without the low k bits the number is divided by 2 ^ k
 pub number-drop : (k : ℕ) (bits : List Bool) → number (drop k bits) ≡ number bits / 2 ^ k

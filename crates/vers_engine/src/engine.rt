@@ -3,7 +3,7 @@ ghost use Rattle.std.specs.Prelude.{◌≡◌, ◌<◌, ◌≤◌, ◌↔◌, �
 ghost use Rattle.std.specs.Io.KnownBytes.{Appends, Consumes};
 ghost use Rattle.vers_engine.specs.Device.{FollowsReadFault, FollowsWriteFault};
 ghost use Rattle.vers_engine.specs.Answers.{answers_of, AreLinesRead, WrittenOf, fault_text};
-ghost use Rattle.vers_engine.specs.inside.Session.{AnswersOrStays, TakesSome, TakesOrFails, FinishesOrFails, FailsAlong, StandsAt};
+ghost use Rattle.vers_engine.specs.inside.Session.{AnswersOrStays, TakesSome, TakesOrFails, FinishesOrFails, FailsAlong};
 
 use crate::answerer::Answerer;
 use crate::device::Device;

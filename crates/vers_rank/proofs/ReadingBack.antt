@@ -1,14 +1,13 @@
 -- The word that a walk over places from the back is reading.
-use Rattle.std.proofs.Common.{◌≡◌, ℕ, suc, ◌+◌, ◌-◌, ◌*◌, ◌/◌, ◌%◌, ◌^◌, ◌<◌, ◌≤◌, min, Bool, false, List, length, get_or, sym, ap, ◌∙◌, arith, inl, inr, w64}
+use Rattle.std.proofs.Common.{◌≡◌, ℕ, ◌+◌, ◌-◌, ◌*◌, ◌/◌, ◌%◌, ◌^◌, ◌<◌, ◌≤◌, min, Bool, false, List, length, get_or, sym, ap, ◌∙◌, arith, inl, inr, w64}
 use Rattle.std.specs.Prelude.{bit_and}
 use Rattle.std.specs.Int.{bit_at, bit_not}
 use Rattle.std.specs.Int.Count.{count_leading_zeros}
-use Rattle.std.proofs.Math.Nat.{pow-suc}
 use Rattle.std.proofs.lemmas.Bool.{cases_lt, cases_eq}
-use Rattle.std.proofs.lemmas.Nat.{pow_pos, leading_top, le-div, div_below, and_le_l}
-use Rattle.std.proofs.lemmas.Nat.Bits.{bit_at-zero, bit_at-lt, bit_at_above, bit_at_and, bit_at_clear_same, bit_at_clear_other, bit_at_ones, bit_at_ones_above, ones_shr}
+use Rattle.std.proofs.lemmas.Nat.{and_le_l}
+use Rattle.std.proofs.lemmas.Nat.Bits.{bit_at-zero, bit_at-lt, bit_at_and, bit_at_clear_same, bit_at_clear_other, bit_at_ones, bit_at_ones_above, ones_shr}
 use Rattle.vers_bits.specs.Bits.{bit_value, is_bit, count, limb, select}
-use Rattle.vers_bits.proofs.PublicLaws.{count_up, count_none, select_at, count_at_select, select_below, select_holds}
+use Rattle.vers_bits.proofs.PublicLaws.{highest_bit, count_up, count_none, select_at, count_at_select, select_below, select_holds}
 use Rattle.vers_rank.specs.declared.fast_rs_vec.reader.Reader.{Reader}
 use Rattle.vers_rank.specs.inside.Walks.{IsBelow, IsReadingBack, marked}
 use Rattle.vers_rank.proofs.Reading.{marked_bit, marked_fits, value_one}
@@ -19,21 +18,12 @@ select_is_below b l r some =
     let at = count_at_select b l r some in
     record { inside = at.0; holds = (select_holds b l r (length l) (omega arith) some).1; number = omega (arith, at.1) }
 
-top_bit : (n m : ℕ) → 2 ^ m ≤ n → n < 2 ^ suc m → bit_at n m ≡ 1
-top_bit n m low high =
-    let one : 1 ≤ n / 2 ^ m = le-div 1 n (2 ^ m) (pow_pos m) (omega (arith, low)) in
-    let two : n / 2 ^ m < 2 = div_below n (2 ^ m) 2 (pow_pos m) (omega (arith, high, pow-suc 2 m)) in
-    let e : n / 2 ^ m ≡ 1 = omega arith in omega (arith, e)
-
 module _ (b : Bool) (l : List Bool) (reader : Reader) (r : ℕ) (here : reader.next ≡ r + 1) (some : r < count b l (length l)) (is : IsReadingBack b l reader) (left : 0 < reader.word) where
   abbrev highest : ℕ
   highest = 63 - count_leading_zeros 64 reader.word
 
   highest_is : (highest < 64) × (bit_at reader.word highest ≡ 1) × ((i : ℕ) → highest < i → bit_at reader.word i ≡ 0)
-  highest_is =
-      let t = leading_top 64 reader.word left is.fits in
-      let e : highest ≡ t.0 = omega (arith, t.1) in
-      (omega (arith, e, t.1), ap (bit_at reader.word) e ∙ top_bit reader.word t.0 t.2 t.3, λ i h. bit_at_above reader.word (suc t.0) i t.3 (omega (arith, e)))
+  highest_is = let found = highest_bit reader.word left is.fits in (omega (arith, found.0), found.1, found.2)
 
   -- the highest one of the word stands at the place of number r, or before it
   highest_le : 64 * reader.limb + highest ≤ select b l r

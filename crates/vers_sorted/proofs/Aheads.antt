@@ -38,7 +38,7 @@ high_same {s} {high} packed =
     ∙ ones_at-places true (high_parts s) ∙ map-id (high_parts s)
 
 module _ (l : List Bool) (p n : ℕ) (within : p + n ≤ length l) (few : n ≤ 64) (some : 0 < number (take n (drop p l))) where
-  small : number (take n (drop p l)) < 18446744073709551616
+  pub small : number (take n (drop p l)) < 18446744073709551616
   small =
       let long : length (take n (drop p l)) ≤ 64 = omega (arith, length-take n (drop p l)) in
       omega (arith, number-lt (take n (drop p l)), pow-le-pow_right {n = 2} (omega arith) {i = length (take n (drop p l))} {j = 64} long)

@@ -14,6 +14,7 @@ pub mod SparseBits
 pub mod BothEnds
 pub mod Scans
 pub mod Aheads
+pub mod Besides
 pub mod Members
 pub mod Marks
 pub mod PublicLaws

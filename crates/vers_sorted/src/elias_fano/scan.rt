@@ -1,33 +1,96 @@
-//! Steps along the high parts that read the next bits before they ask for a select.
+//! Steps along the high parts that read the bits beside a place before they ask for a select.
 ghost use Rattle.std.specs.Prelude.{◌≡◌, ◌+◌, ◌<◌, true, false, length};
 ghost use Rattle.vers_bits.specs.Bits.{count, select};
 ghost use Rattle.vers_tally.specs.Reads.{AddsAtMost};
 ghost use Rattle.vers_sorted.specs.inside.Parts.{reads};
 
 use std::alloc::Allocator;
-use vers_rank::fast_rs_vec::RsVec;
+use vers_rank::fast_rs_vec::{PlacePair, RsVec};
 use vers_tally::tally::Tally;
 
-// The place of zero number `h + 1`, where zero number `h` stands at `zero`: most often it is among
-// the next 64 bits.
+// The places of zero number `h` and of the zero after it: most often that one is among the next 64
+// bits. Both selects of the rare case are one call in the text, so that a compiler writes the
+// search of a select only once.
 #[inline(always)]
 #[tactic(auto, using(crate::proofs::Scans::scans))]
-pub(super) fn zero_after<A: Allocator + Copy>(
+pub(super) fn zero_pair<A: Allocator + Copy>(
     high: &RsVec<A>,
     h: usize,
-    zero: usize,
+    tally: &mut Tally,
+) -> PlacePair
+    requires { h < count false high.now (length high.now) }
+    ensures first { result.first ≡ select false high.now h }
+    ensures second { result.second ≡ select false high.now (h + 1) }
+    ensures adds { AddsAtMost tally.old tally.new (reads 0 3 (length high.now)) }
+{
+    let _ = high.len();
+    let mut number = h;
+    let mut first = 0;
+    loop {
+        let place = high.select0_counted(number, tally);
+        if number > h {
+            return PlacePair {
+                first,
+                second: place,
+            };
+        }
+        if let Some(word) = high.get_bits_counted(place + 1, 64, tally) {
+            if word != u64::MAX {
+                return PlacePair {
+                    first: place,
+                    second: place + 1 + word.trailing_ones() as usize,
+                };
+            }
+        }
+        number = h + 1;
+        first = place;
+    }
+}
+
+// The place of one number `k`, the next one from place `from` on.
+#[inline(always)]
+#[tactic(auto, using(crate::proofs::Besides::ones_beside))]
+pub(super) fn one_from<A: Allocator + Copy>(
+    high: &RsVec<A>,
+    k: usize,
+    from: usize,
     tally: &mut Tally,
 ) -> usize
-    requires within { h < count false high.now (length high.now) }
-    requires here { zero ≡ select false high.now h }
-    ensures value { result ≡ select false high.now (h + 1) }
+    requires within { k < count true high.now (length high.now) }
+    requires before { count true high.now from ≡ k }
+    ensures value { result ≡ select true high.now k }
     ensures adds { AddsAtMost tally.old tally.new (reads 0 2 (length high.now)) }
 {
     let _ = high.len();
-    if let Some(word) = high.get_bits_counted(zero + 1, 64, tally) {
-        if word != u64::MAX {
-            return zero + 1 + word.trailing_ones() as usize;
+    if let Some(word) = high.get_bits_counted(from, 64, tally) {
+        if word != 0 {
+            return from + word.trailing_zeros() as usize;
         }
     }
-    high.select0_counted(h + 1, tally)
+    high.select1_counted(k, tally)
+}
+
+// The place of one number `k`, the last one before place `to`.
+#[inline(always)]
+#[tactic(auto, using(crate::proofs::Besides::ones_beside))]
+pub(super) fn one_before<A: Allocator + Copy>(
+    high: &RsVec<A>,
+    k: usize,
+    to: usize,
+    tally: &mut Tally,
+) -> usize
+    requires within { k < count true high.now (length high.now) }
+    requires before { count true high.now to ≡ k + 1 }
+    ensures value { result ≡ select true high.now k }
+    ensures adds { AddsAtMost tally.old tally.new (reads 0 2 (length high.now)) }
+{
+    let _ = high.len();
+    if to >= 64 {
+        if let Some(word) = high.get_bits_counted(to - 64, 64, tally) {
+            if word != 0 {
+                return to - 1 - word.leading_zeros() as usize;
+            }
+        }
+    }
+    high.select1_counted(k, tally)
 }

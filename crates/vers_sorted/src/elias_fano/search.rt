@@ -10,7 +10,7 @@ ghost use Rattle.vers_sorted.specs.inside.Buckets.{IsBucket};
 
 use crate::elias_fano::EliasFanoVec;
 use crate::elias_fano::narrow::MANY;
-use crate::elias_fano::scan::zero_after;
+use crate::elias_fano::scan::{one_before, one_from, zero_pair};
 use std::alloc::Allocator;
 use vers_tally::tally::Tally;
 
@@ -85,12 +85,11 @@ impl<A: Allocator + Copy> EliasFanoVec<A> {
     {
         let _ = &self.len;
         let high = ((v - self.first) >> self.width) as usize;
-        let zero = self.high.select0_counted(high, tally);
-        let next = zero_after(&self.high, high, zero, tally);
+        let zeros = zero_pair(&self.high, high, tally);
         Bucket {
             high: high as u64,
-            start: zero - high,
-            end: next - high - 1,
+            start: zeros.first - high,
+            end: zeros.second - high - 1,
         }
     }
 
@@ -137,19 +136,38 @@ impl<A: Allocator + Copy> EliasFanoVec<A> {
         self.with_low_part(bucket.high, bucket.start + count / 2, tally) == v
     }
 
-    // A member, by no select where its high part is that of the bucket.
+    // The first member past a bucket. Most often its one is among the next 64 high parts.
     #[inline(always)]
-    #[tactic(auto, using(crate::proofs::Buckets::members))]
-    fn member_near(&self, bucket: Bucket, v: u64, i: usize, tally: &mut Tally) -> u64
-        requires within { i < length self.now }
+    #[tactic(auto, using(crate::proofs::Besides::beside, crate::proofs::Packed::high_parts_read))]
+    fn member_past(&self, bucket: Bucket, v: u64, tally: &mut Tally) -> u64
+        requires from { first_of self.now ≤ v }
+        requires to { v ≤ last_of self.now }
         requires bucket { IsBucket self.now v bucket }
-        ensures value { result ≡ slice_index self.now i }
-        ensures adds { AddsAtMost tally.old tally.new (reads 1 1 (high_length self.now)) }
+        requires more { bucket.end < length self.now }
+        ensures value { result ≡ slice_index self.now bucket.end }
+        ensures adds { AddsAtMost tally.old tally.new (reads 1 2 (high_length self.now)) }
     {
-        if bucket.start <= i && i < bucket.end {
-            return self.with_low_part(bucket.high, i, tally);
-        }
-        self.member(i, tally)
+        let _ = &self.len;
+        let i = bucket.end;
+        let place = one_from(&self.high, i, bucket.high as usize + i + 2, tally);
+        self.with_low_part((place - i - 1) as u64, i, tally)
+    }
+
+    // The last member before a bucket. Most often its one is among the 64 high parts before.
+    #[inline(always)]
+    #[tactic(auto, using(crate::proofs::Besides::beside, crate::proofs::Packed::high_parts_read))]
+    fn member_before(&self, bucket: Bucket, v: u64, tally: &mut Tally) -> u64
+        requires from { first_of self.now ≤ v }
+        requires to { v ≤ last_of self.now }
+        requires bucket { IsBucket self.now v bucket }
+        requires some { 0 < bucket.start }
+        ensures value { result ≡ slice_index self.now (bucket.start - 1) }
+        ensures adds { AddsAtMost tally.old tally.new (reads 1 2 (high_length self.now)) }
+    {
+        let _ = &self.len;
+        let i = bucket.start - 1;
+        let place = one_before(&self.high, i, bucket.high as usize + i + 1, tally);
+        self.with_low_part((place - i - 1) as u64, i, tally)
     }
 
     /// Whether a number is a member. Reads as `rank_counted`, and no select beyond those for the
@@ -274,7 +292,10 @@ impl<A: Allocator + Copy> EliasFanoVec<A> {
             return Some(v);
         }
         let k = self.below_in(bucket, v + 1, tally);
-        Some(self.member_near(bucket, v + 1, k - 1, tally))
+        if k <= bucket.start {
+            return Some(self.member_before(bucket, v + 1, tally));
+        }
+        Some(self.with_low_part(bucket.high, k - 1, tally))
     }
 
     /// The least member that is not below `v`. None where there is none. Reads as `rank_counted`.
@@ -300,6 +321,9 @@ impl<A: Allocator + Copy> EliasFanoVec<A> {
             return Some(v);
         }
         let k = self.below_in(bucket, v, tally);
-        Some(self.member_near(bucket, v, k, tally))
+        if bucket.end <= k {
+            return Some(self.member_past(bucket, v, tally));
+        }
+        Some(self.with_low_part(bucket.high, k, tally))
     }
 }

@@ -1,0 +1,107 @@
+-- The ones beside a place, by the number of the bits there, and the members beside a bucket.
+use Rattle.std.proofs.Common.{◌≡◌, ℕ, ◌+◌, ◌-◌, ◌<◌, ◌≤◌, Bool, true, false, List, length, take, drop, get_or, sym, ap, ◌∙◌, arith, Some, inl, inr}
+use mir.Syntax.{w64}
+use Rattle.std.specs.Int.{bit_at, trailing_zeros}
+use Rattle.std.specs.Int.Count.{count_leading_zeros}
+use Rattle.std.specs.Prelude.{slice_index}
+use Rattle.std.proofs.lemmas.Bool.{cases_lt}
+use Rattle.vers_bits.specs.Bits.{number, count, select}
+use Rattle.vers_bits.proofs.PublicLaws.{highest_bit, select_at, count_at_select, count_both, count_more_yes}
+use Rattle.vers_rank.specs.Queries.{part_number_or_zero}
+use Rattle.vers_sorted.specs.Layout.{first_of, last_of, high_of}
+use Rattle.vers_sorted.specs.inside.Parts.{IsPacked, IsStart}
+use Rattle.vers_sorted.specs.inside.Buckets.{IsBucket}
+use Rattle.vers_sorted.specs.declared.elias_fano.search.Bucket.{Bucket}
+use Rattle.vers_sorted.proofs.Scans.{part_bit, part_read, zero_bit, one_bit, count_stays}
+use Rattle.vers_sorted.proofs.Aheads.{small, lowest}
+use Rattle.vers_sorted.proofs.Split.{high_up}
+use Rattle.vers_sorted.proofs.Buckets.{start_at, zeros_counted}
+
+-- ---- the next one from a place on
+
+module _ (l : List Bool) (from w : ℕ) (read : part_number_or_zero l from 64 ≡ Some w) (some : 0 < w) where
+  here : (from + 64 ≤ length l) × (w ≡ number (take 64 (drop from l)))
+  here = part_read l from w read
+
+  found : (trailing_zeros w64 w < 64) × (get_or l (from + trailing_zeros w64 w) false ≡ true) × (count true l (from + trailing_zeros w64 w) ≡ count true l from)
+  found = rw (here.1) (lowest l from 64 here.0 (omega arith) (omega (arith, here.1)))
+
+  pub one_fits : from + trailing_zeros w64 w < length l
+  one_fits = omega (arith, here.0, found.0)
+
+  pub one_read : (k : ℕ) → count true l from ≡ k → from + trailing_zeros w64 w ≡ select true l k
+  one_read k before = sym (select_at true l k (from + trailing_zeros w64 w) one_fits found.1 (found.2 ∙ before))
+
+-- ---- the last one before a place
+
+module _ (l : List Bool) (to w : ℕ) (far : 64 ≤ to) (read : part_number_or_zero l (to - 64) 64 ≡ Some w) (some : 0 < w) where
+  part : (to - 64 + 64 ≤ length l) × (w ≡ number (take 64 (drop (to - 64) l)))
+  part = part_read l (to - 64) w read
+
+  highest : (count_leading_zeros 64 w < 64) × (bit_at w (63 - count_leading_zeros 64 w) ≡ 1) × ((i : ℕ) → 63 - count_leading_zeros 64 w < i → bit_at w i ≡ 0)
+  highest = highest_bit w some (omega (arith, part.1, small l (to - 64) 64 part.0 (omega arith) (omega (arith, part.1))))
+
+  bit_is : (i : ℕ) → i < 64 → (x : ℕ) → bit_at w i ≡ x → bit_at (number (take 64 (drop (to - 64) l))) i ≡ x
+  bit_is i h x e = ap (λ n. bit_at n i) (sym part.1) ∙ e
+
+  pub back_fits : count_leading_zeros 64 w < 64
+  back_fits = highest.0
+
+  pub one_back : (k : ℕ) → count true l to ≡ k + 1 → to - 1 - count_leading_zeros 64 w ≡ select true l k
+  one_back k before =
+      let z : ℕ = count_leading_zeros 64 w in
+      let p : ℕ = to - 64 + (63 - z) in
+      let at : to - 1 - z ≡ to - 64 + (63 - z) = omega (arith, highest.0) in
+      let rest : to - 64 + (63 - z) + 1 + z ≡ to = omega (arith, highest.0) in
+      let on : get_or l (to - 64 + (63 - z)) false ≡ true =
+      one_bit (get_or l p false) (sym (part_bit l (to - 64) 64 (63 - z) (omega arith)) ∙ bit_is (63 - z) (omega arith) 1 highest.1) in
+      let stays : count true l (to - 64 + (63 - z) + 1 + z) ≡ count true l (to - 64 + (63 - z) + 1) =
+      count_stays true l (p + 1) z (omega (arith, part.0, highest.0)) (λ i less.
+      let place : to - 64 + (63 - z) + 1 + i ≡ to - 64 + (64 - z + i) = omega (arith, highest.0) in
+      ap (λ q. get_or l q false) place
+      ∙ zero_bit (get_or l (to - 64 + (64 - z + i)) false) (sym (part_bit l (to - 64) 64 (64 - z + i) (omega (arith, highest.0))) ∙ bit_is (64 - z + i) (omega (arith, highest.0)) 0 (highest.2 (64 - z + i) (omega (arith, highest.0))))) in
+      let past = count_more_yes true l p (omega (arith, part.0, highest.0)) on in
+      at ∙ sym (select_at true l k p (omega (arith, part.0, highest.0)) on (omega (arith, past, stays, ap (count true l) rest, before)))
+
+-- ---- the ones beside a bucket
+
+start_unique : (s : List ℕ) (h a b : ℕ) → IsStart s h a → IsStart s h b → a ≡ b
+start_unique s h a b first second =
+    elim (cases_lt a b) [
+      | inl less ↦ absurd (omega (arith, second.before a less, first.after a (omega arith) (omega (arith, second.within))))
+      | inr not ↦ elim (cases_lt b a) [
+        | inl more ↦ absurd (omega (arith, first.before b more, second.after b (omega arith) (omega (arith, first.within))))
+        | inr neither ↦ omega arith
+      ]
+    ]
+
+module _ {s : List ℕ} {high low : List Bool} {first last width : ℕ} (packed : IsPacked s high low first last width) where
+  -- up to the zero with number h, and past it, as many ones stand as members have a high part below h
+  ones_around : (h start : ℕ) → 0 < length s → h ≤ high_of s (last_of s) + 1 → IsStart s h start
+      → (count true high (h + start) ≡ start) × (count true high (h + start + 1) ≡ start) × (h + start < length high)
+  ones_around h start some within is =
+      let zero = start_at packed h some within in
+      let same : start ≡ select false high h - h = start_unique s h start (select false high h - h) is zero.1 in
+      let place : select false high h ≡ h + start = omega (arith, zero.0) in
+      let at = count_at_select false high h (omega (arith, zeros_counted packed some)) in
+      let before : count false high (h + start) ≡ h = ap (count false high) (sym place) ∙ at.1 in
+      let past : count false high (h + start + 1) ≡ h + 1 = ap (λ q. count false high (q + 1)) (sym place) ∙ at.2 in
+      (omega (arith, place, at.0, before, count_both high (h + start)), omega (arith, place, at.0, past, count_both high (h + start + 1)), omega (arith, place, at.0))
+
+  pub ones_past : (v : ℕ) (bucket : Bucket) → first_of s ≤ v → v ≤ last_of s → IsBucket s v bucket → bucket.end < length s
+      → (bucket.high + bucket.end + 2 ≤ length high) × (count true high (bucket.high + bucket.end + 2) ≡ bucket.end)
+  ones_past v bucket from to is more =
+      let around = ones_around (high_of s v + 1) bucket.end (omega arith) (omega (arith, high_up s v (last_of s) to from)) is.end in
+      let place : high_of s v + 1 + bucket.end + 1 ≡ bucket.high + bucket.end + 2 = omega (arith, is.high) in
+      (omega (arith, around.2, is.high), ap (count true high) (sym place) ∙ around.1)
+
+  pub ones_before : (v : ℕ) (bucket : Bucket) → first_of s ≤ v → v ≤ last_of s → IsBucket s v bucket → 0 < bucket.start
+      → (bucket.high + (bucket.start - 1) + 1 ≤ length high) × (count true high (bucket.high + (bucket.start - 1) + 1) ≡ bucket.start - 1 + 1)
+  ones_before v bucket from to is some =
+      let around = ones_around (high_of s v) bucket.start (omega (arith, is.start.within)) (omega (arith, high_up s v (last_of s) to from)) is.start in
+      let place : high_of s v + bucket.start ≡ bucket.high + (bucket.start - 1) + 1 = omega (arith, is.high) in
+      (omega (arith, around.2, is.high), ap (count true high) (sym place) ∙ around.0 ∙ omega arith)
+
+pub ruleset ones_beside = (one_fits, one_read, back_fits, one_back)
+
+pub ruleset beside = (ones_past, ones_before)
