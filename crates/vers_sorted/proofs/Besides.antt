@@ -3,7 +3,6 @@ use Rattle.std.proofs.Common.{◌≡◌, ℕ, ◌+◌, ◌-◌, ◌<◌, ◌≤�
 use mir.Syntax.{w64}
 use Rattle.std.specs.Int.{bit_at, trailing_zeros}
 use Rattle.std.specs.Int.Count.{count_leading_zeros}
-use Rattle.std.specs.Prelude.{slice_index}
 use Rattle.std.proofs.lemmas.Bool.{cases_lt}
 use Rattle.vers_bits.specs.Bits.{number, count, select}
 use Rattle.vers_bits.proofs.PublicLaws.{highest_bit, select_at, count_at_select, count_both, count_more_yes}

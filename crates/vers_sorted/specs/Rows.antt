@@ -1,5 +1,5 @@
 -- Worked rows of the definitions, which compute.
-use Rattle.std.specs.Prelude.{◌≡◌, ℕ, Bool, false, true, List, [], ◌∷◌, Some, None, nat_le, nat_lt, refl}
+use Rattle.std.specs.Prelude.{◌≡◌, ℕ, false, true, List, [], ◌∷◌, Some, None, nat_le, nat_lt, refl}
 use Rattle.vers_bits.specs.Bits.{count, low_bits}
 use Rattle.vers_tally.specs.Reads.{digits}
 use Rattle.vers_sorted.specs.Sorted.{each_next, below, greatest_not_above, least_not_below, delta}

@@ -148,6 +148,7 @@ impl<A: Allocator + Copy> EliasFanoVec<A> {
         ensures adds { AddsAtMost tally.old tally.new (reads 1 2 (high_length self.now)) }
     {
         let _ = &self.len;
+        let _ = self.high.len();
         let i = bucket.end;
         let place = one_from(&self.high, i, bucket.high as usize + i + 2, tally);
         self.with_low_part((place - i - 1) as u64, i, tally)
@@ -165,6 +166,7 @@ impl<A: Allocator + Copy> EliasFanoVec<A> {
         ensures adds { AddsAtMost tally.old tally.new (reads 1 2 (high_length self.now)) }
     {
         let _ = &self.len;
+        let _ = self.high.len();
         let i = bucket.start - 1;
         let place = one_before(&self.high, i, bucket.high as usize + i + 1, tally);
         self.with_low_part((place - i - 1) as u64, i, tally)

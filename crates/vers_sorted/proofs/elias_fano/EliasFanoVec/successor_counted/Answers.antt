@@ -1,4 +1,4 @@
-use Rattle.std.proofs.Common.{◌≡◌, ℕ, ◌-◌, sym, ap, ◌∙◌, arith, Some}
+use Rattle.std.proofs.Common.{◌≡◌, ℕ, sym, ap, ◌∙◌, arith, Some}
 use Rattle.std.specs.Prelude.{slice_index}
 use Rattle.vers_sorted.proofs.Below.{below_le}
 use Rattle.vers_sorted.proofs.Neighbours.{succ_past, succ_at, some_left}

@@ -1,0 +1,13 @@
+use Rattle.std.proofs.Common.{arith}
+use Rattle.vers_sorted.proofs.Besides.{ones_before}
+use Rattle.vers_sorted.proofs.elias_fano.EliasFanoVec.member_before.Goals as goal
+
+pub overflow_add-bucket : goal.overflow_add-bucket
+overflow_add-bucket g c =
+    let packed = rw c.self.view_is at c.self.invariant in
+    record { fits = omega (arith, (ones_before packed c.args.v c.args.bucket c.requires.from c.requires.to c.requires.bucket c.requires.some).0) }
+
+pub overflow_add-bucket-2 : goal.overflow_add-bucket-2
+overflow_add-bucket-2 g c =
+    let packed = rw c.self.view_is at c.self.invariant in
+    record { fits = omega (arith, (ones_before packed c.args.v c.args.bucket c.requires.from c.requires.to c.requires.bucket c.requires.some).0) }
