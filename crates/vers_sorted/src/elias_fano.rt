@@ -1,5 +1,6 @@
 //! Ascending lists of numbers.
-ghost use Rattle.std.specs.Prelude.{◌≡◌, ◌<◌, ◌≤◌, ◌↔◌, [], length, slice_index, slice_get, IsTrue, IsSome, Some};
+ghost use Rattle.std.specs.Prelude.{◌≡◌, ◌<◌, ◌≤◌, ◌==◌, ◌↔◌, [], length, slice_index, slice_get, IsTrue, IsSome, Some};
+ghost use Rattle.std.specs.List.{list_any};
 ghost use Rattle.std.specs.List.Sorted.{IsNonDecreasing};
 ghost use Rattle.vers_sorted.specs.Sorted.{below, greatest_not_above, least_not_below, delta};
 ghost use Rattle.vers_sorted.specs.Layout.{heap_size_of};
@@ -143,6 +144,16 @@ impl<A: Allocator + Copy> EliasFanoVec<A> {
     {
         let mut tally = Tally::new();
         self.rank_counted(v, &mut tally)
+    }
+
+    /// Whether a number is a member.
+    #[inline]
+    pub fn has(&self, v: u64) -> bool
+        ensures value { result ≡ list_any (λ m. m == v) self.now }
+        ensures ascending { IsNonDecreasing self.now }
+    {
+        let mut tally = Tally::new();
+        self.has_counted(v, &mut tally)
     }
 
     /// The greatest member that is not above `v`. None where there is none.

@@ -13,6 +13,7 @@ const CASES: [(&[u64], &[(Query, Option<u64>)]); 7] = [
             (Query::Len, Some(0)),
             (Query::IsEmpty, Some(1)),
             (Query::Rank(3), Some(0)),
+            (Query::Has(0), Some(0)),
             (Query::Get(0), None),
             (Query::Delta(0), None),
             (Query::Predecessor(u64::MAX), None),
@@ -26,6 +27,9 @@ const CASES: [(&[u64], &[(Query, Option<u64>)]); 7] = [
             (Query::Rank(1000), Some(0)),
             (Query::Rank(1001), Some(1)),
             (Query::Get(0), Some(1000)),
+            (Query::Has(999), Some(0)),
+            (Query::Has(1000), Some(1)),
+            (Query::Has(1001), Some(0)),
             (Query::Get(1), None),
             (Query::IsEmpty, Some(0)),
             (Query::HeapSize, Some(58)),
@@ -39,6 +43,8 @@ const CASES: [(&[u64], &[(Query, Option<u64>)]); 7] = [
             (Query::Delta(1), Some(18446744073709551615)),
             (Query::Predecessor(u64::MAX), Some(18446744073709551615)),
             (Query::Rank(u64::MAX), Some(1)),
+            (Query::Has(1), Some(0)),
+            (Query::Has(u64::MAX), Some(1)),
             (Query::HeapSize, Some(66)),
         ],
     ),
@@ -55,6 +61,12 @@ const CASES: [(&[u64], &[(Query, Option<u64>)]); 7] = [
         &[
             (Query::Rank(1004), Some(8)),
             (Query::Rank(3001), Some(10)),
+            (Query::Has(0), Some(1)),
+            (Query::Has(700), Some(0)),
+            (Query::Has(1003), Some(1)),
+            (Query::Has(1005), Some(0)),
+            (Query::Has(3000), Some(1)),
+            (Query::Has(3001), Some(0)),
             (Query::Get(4), Some(900)),
             (Query::GetUnchecked(4), Some(900)),
             (Query::Select(9), Some(3000)),
@@ -81,6 +93,8 @@ const CASES: [(&[u64], &[(Query, Option<u64>)]); 7] = [
         &[2, 4, 4, 9],
         &[
             (Query::Rank(5), Some(3)),
+            (Query::Has(4), Some(1)),
+            (Query::Has(5), Some(0)),
             (Query::Predecessor(8), Some(4)),
             (Query::Successor(5), Some(9)),
         ],
@@ -133,6 +147,8 @@ fn is_cheap<A: Allocator + Copy>(list: &EliasFanoVec<A>, query: Query, wanted: u
 fn are_cheap<A: Allocator + Copy>(list: &EliasFanoVec<A>) -> bool {
     is_cheap(list, Query::Rank(5), 4)
         && is_cheap(list, Query::Rank(6), 1048580)
+        && is_cheap(list, Query::Has(5), 1)
+        && is_cheap(list, Query::Has(6), 0)
         && is_cheap(list, Query::Len, 1048581)
 }
 

@@ -41,6 +41,7 @@ pub enum Query {
     Select(usize),
     Delta(usize),
     Rank(u64),
+    Has(u64),
     Predecessor(u64),
     PredecessorUnchecked(u64),
     Successor(u64),
@@ -58,6 +59,7 @@ pub fn answer<A: Allocator + Copy>(list: &EliasFanoVec<A>, query: Query) -> Opti
         Query::Select(i) => list.select(i),
         Query::Delta(i) => list.delta(i),
         Query::Rank(v) => Some(list.rank(v)),
+        Query::Has(v) => Some(u64::from(list.has(v))),
         Query::Predecessor(v) => list.predecessor(v),
         Query::PredecessorUnchecked(v) => {
             if list.predecessor(v).is_none() {
@@ -91,6 +93,7 @@ pub fn counted_answer<A: Allocator + Copy>(list: &EliasFanoVec<A>, query: Query)
         Query::Select(i) => list.select_counted(i, &mut tally),
         Query::Delta(i) => list.delta_counted(i, &mut tally),
         Query::Rank(v) => Some(list.rank_counted(v, &mut tally)),
+        Query::Has(v) => Some(u64::from(list.has_counted(v, &mut tally))),
         Query::Predecessor(v) => list.predecessor_counted(v, &mut tally),
         Query::Successor(v) => list.successor_counted(v, &mut tally),
         _ => answer(list, query),

@@ -226,6 +226,7 @@ fn queries_work<A: Allocator + Copy>(list: &EliasFanoVec<A>, i: usize, len: usiz
         (Query::GetUnchecked(i), Some(v)),
         (Query::Select(i), Some(v)),
         (Query::Rank(v), Some((i - i % 2) as u64)),
+        (Query::Has(v), Some(1)),
         (Query::Predecessor(v), Some(v)),
         (Query::PredecessorUnchecked(v), Some(v)),
         (Query::Successor(v), Some(v)),

@@ -176,8 +176,9 @@ impl<A: Allocator + Copy> EliasFanoVec<A> {
     /// members with its high part.
     #[inline(always)]
     #[tactic(auto, using(crate::proofs::Members::members, crate::proofs::Bounds::bounds))]
-    pub(crate) fn has_counted(&self, v: u64, tally: &mut Tally) -> bool
+    pub fn has_counted(&self, v: u64, tally: &mut Tally) -> bool
         ensures value { result ≡ list_any (λ m. m == v) self.now }
+        ensures ascending { IsNonDecreasing self.now }
         ensures adds { AddsAtMost tally.old tally.new (search_reads self.now) }
     {
         let _ = &self.first;
