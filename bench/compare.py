@@ -11,6 +11,8 @@ of `crates/vers_bench`, so it needs no Rattle toolchain. Series that only one of
 
 `--instructions` counts, under valgrind's callgrind and with a sixteenth of the sizes, the instructions of one pass over the queries of
 each series, with its loop and its checksum. In both drivers such a pass is a function of its own, whose name ends in `_pass`.
+
+`--level` builds the original for newer processors. This library's driver is built for the same by `rt run --cpu=LEVEL`.
 """
 import argparse
 import itertools
@@ -26,15 +28,15 @@ OWN = os.path.join(TOP, "crates/vers_bench/out/vers_bench")
 STORED = os.path.join(TOP, "crates/vers_bench/stdout")
 PROJECT = os.path.join(HERE, "original")
 STRUCTURES = ("bits", "walks", "list", "sorted", "sparse", "wavelet", "rmq", "tree", "postings")
-LEVEL = "x86-64-v2"
+LEVELS = ("x86-64-v2", "x86-64-v3", "x86-64-v4", "native")
 
 
-def built_original(folder):
-    """Builds the original's driver, with the crate's sources in `folder` if one is given, and returns its path."""
+def built_original(folder, level):
+    """Builds the original's driver for a level of processors, with the crate's sources in `folder` if one is given, and returns its path."""
     command = ["cargo", "build", "--release", "--quiet"]
     if folder:
         command += ["--offline", "--config", f'patch.crates-io.vers-vecs.path="{os.path.abspath(folder)}"']
-    flags = {"RUSTFLAGS": f"-C target-cpu={LEVEL} --cap-lints allow"}
+    flags = {"RUSTFLAGS": f"-C target-cpu={level} --cap-lints allow"}
     subprocess.run(command, cwd=PROJECT, check=True, env={**os.environ, **flags})
     return os.path.join(PROJECT, "target/release/bench_original")
 
@@ -140,13 +142,14 @@ def main():
     parser.add_argument("--reps", type=int, default=5, help="how often a run repeats a series, for the median (5)")
     parser.add_argument("--small", action="store_true", help="a sixteenth of the sizes")
     parser.add_argument("--original", metavar="FOLDER", help="the sources of vers-vecs 1.10.2, instead of those of crates.io")
+    parser.add_argument("--level", choices=LEVELS, default=LEVELS[0], help="what processors the original is built for (%(default)s)")
     asked = parser.parse_args()
     unknown = set(asked.structures) - set(STRUCTURES)
     if unknown:
         parser.error(f"no structure {', '.join(sorted(unknown))}")
     if not asked.checksums and not os.path.exists(OWN):
         sys.exit(f"{os.path.relpath(OWN)} is missing: run `rt run` in crates/vers_bench first")
-    original = built_original(asked.original)
+    original = built_original(asked.original, asked.level)
     if asked.checksums:
         sys.exit(compare_checksums(original))
     drivers, structures = {"here": OWN, "original": original}, asked.structures or STRUCTURES
