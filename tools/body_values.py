@@ -4,7 +4,7 @@ The kinds are those of `source_model`. Numbers may be computed with and compared
 stands before `.`, or as a whole argument of a call; `counted_bodies` says of which calls.
 """
 from rattle_types import Type
-from source_model import COUNTER, COUNTER_TYPE, ITEM, KEEPER, KIND_NAMES, LIST, LISTS, NUMBER, NUMBERS, SHELF, UNKNOWN, Value
+from source_model import COUNTER, COUNTER_TYPE, ITEM, KEEPER, KIND_NAMES, LIST, LISTS, NUMBER, NUMBERS, SHELF, UNKNOWN, Value, is_handed_counter
 
 COMPARISONS = ("==", "!=", "<", ">", "<=", ">=")
 ANYTHING, NOTHING, NEVER = Value(NUMBER), Value(NUMBER, Type("()")), Value(NUMBER, Type("!"))
@@ -17,6 +17,7 @@ class Values:
         self.library, self.function = library, function
         self.signature, self.scope = library.signature(function), library.scope(function)
         self.faults, self.names, self.counter, self.origins = [], [{}], "", {}
+        self.makes_walk = library.is_walk(self.signature.returns, self.scope) and not is_handed_counter(function)
 
     def fault(self, node, what, allowed):
         """Notes a fault, and returns a value that causes no other."""
@@ -39,11 +40,12 @@ class Values:
                 return names[name]
         return None
 
-    def declare(self, node, name, value):
-        """Notes a local name with its value."""
+    def declare(self, node, name, value, is_made=False):
+        """Notes a local name with its value, which may be a walk where it is made right here."""
+        is_walk = is_made and value.kind == KEEPER and bool(value.type) and self.library.is_walk(value.type, self.scope)
         if name == self.counter:
             value = self.fault(node, f"gives the counter's name `{name}` to another value", "another name")
-        elif value.kind in (KEEPER, COUNTER, UNKNOWN) and not self.is_lent(value):
+        elif value.kind in (KEEPER, COUNTER, UNKNOWN) and not is_walk and not self.is_lent(value):
             what = f"gives {KIND_NAMES[value.kind]} the name `{name}`"
             value = self.fault(node, what, "the field or the parameter itself, before `.` or as a whole argument")
         self.names[-1][name] = value
@@ -101,10 +103,10 @@ class Values:
             return self.fault(node, f"{what} {KIND_NAMES[value.kind]}", "numbers and truth values")
         return value
 
-    def kept(self, node, what):
-        """Looks at an expression whose value is kept, and which may hold no index."""
+    def kept(self, node, what, may_hold=(NUMBER, ITEM, LIST)):
+        """Looks at an expression whose value is kept, and which may hold no index but in a walk."""
         value = self.value(node)
-        if value.kind not in (NUMBER, ITEM, LIST):
+        if value.kind not in may_hold:
             return self.fault(node, f"{what} {KIND_NAMES[value.kind]}", "numbers, and lists that are no index")
         return value
 
@@ -208,11 +210,12 @@ class Values:
     def of_build(self, node):
         if node.path[-1] == COUNTER_TYPE:
             self.fault(node, "makes a counter", "the counter that it is handed")
+        type_ = self.scope.self_type if node.path == ["Self"] else self.named(node.path[-1])
+        is_walk = self.makes_walk and self.library.own(type_, self.scope).name == self.library.own(self.signature.returns, self.scope).name
         for _, field in node.fields:
-            self.kept(field, "keeps in a struct")
+            self.kept(field, "keeps in a struct", (NUMBER, ITEM, LIST, KEEPER) if is_walk else (NUMBER, ITEM, LIST))
         if node.rest:
             self.kept(node.rest, "keeps in a struct")
-        type_ = self.scope.self_type if node.path == ["Self"] else self.named(node.path[-1])
         return Value(min(self.library.kind(type_, self.scope), LIST), type_)
 
     def of_try(self, node):
@@ -241,9 +244,11 @@ class Values:
             value = Value(max(value.kind, self.library.kind(type_, self.scope)), type_)
         if node.otherwise:
             self.value(node.otherwise)
-        self.bind(node.pattern, value)
         if node.pattern.kind == "bind":
+            self.declare(node.pattern, node.pattern.name, value, bool(node.value) and node.value.kind in ("method", "call"))
             self.origins[node.pattern.name] = self.source(node.value) if node.value else ""
+        else:
+            self.bind(node.pattern, value)
         return NOTHING
 
     def source(self, node):

@@ -13,8 +13,8 @@ from body_values import ANYTHING, Values
 from rattle_bodies import body_of
 from rattle_types import Type, Unread, base
 from source_model import (
-    BITS, COUNTER, COUNTER_REFERENCE, COUNTER_TYPE, COUNTERS, KEEPER, KIND_NAMES, LANES, LIST, LISTS, NUMBER, NUMBERS, SHELF,
-    UNKNOWN, Value,
+    BITS, COUNTER, COUNTER_TYPE, COUNTERS, KEEPER, KIND_NAMES, LANES, LIST, LISTS, NUMBER, NUMBERS, SHELF, UNKNOWN, Value,
+    is_handed_counter,
 )
 
 # calls of a counted vector that read no entry
@@ -51,9 +51,11 @@ class Checker(Values):
             self.fault(form, f"has {form.what}", "`if`, `match`, loops over ranges, calls and arithmetic, written out")
 
     def argument(self, node):
-        """Looks at an argument; the counter may stand here, alone."""
+        """Looks at an argument; the counter may stand here, alone, and `self` where a walk over it is made."""
         if node.kind == "path" and node.path == [self.counter]:
             return self.known(self.counter)
+        if node.kind == "path" and node.path == ["self"] and self.makes_walk:
+            return self.known("self")
         return self.value(node)
 
     def of_method(self, node):
@@ -191,7 +193,7 @@ class Checker(Values):
 
 def takes_counter(library, function):
     """Whether a function takes the counter, and is none of the counted vectors' own."""
-    if all(type_ != COUNTER_REFERENCE for _, type_ in function.parameters):
+    if not is_handed_counter(function):
         return False
     owner = library.signature(function).owner
     return not (function.file.crate == COUNTERS and owner and library.is_vector(owner))

@@ -56,6 +56,11 @@ class Signature(NamedTuple):
     returns: Type
 
 
+def is_handed_counter(function):
+    """Whether a parameter of a function is the counter."""
+    return any(type_ == COUNTER_REFERENCE for _, type_ in function.parameters)
+
+
 def replaced(type_, mapping):
     """Returns a type with parameters replaced by types."""
     if type_.name in mapping:
@@ -117,6 +122,8 @@ class Library:
                 self.free.setdefault(function.name, []).append(function)
         indexes = {holder for holder, name in self.methods if name == "heap_size"}
         self.indexes = {it for it in indexes if it in self.structs and self.structs[it].file.crate != BITS}
+        counted = {holder for (holder, _), found in self.methods.items() if any(map(is_handed_counter, found))}
+        self.walks = {it for it in counted - self.vectors - self.indexes if it in self.structs}
         for file in files:
             for owner in file.owners:
                 self.impls.setdefault(self.resolved(owner.type, file, {}).name, set()).add(owner.trait)
@@ -195,6 +202,10 @@ class Library:
         if (file, name) not in self.named_traits:
             self.named_traits[file, name] = nearest(self.traits, file, name)
         return self.named_traits[file, name]
+
+    def is_walk(self, type_, scope):
+        """Whether a type has counted calls and is no index itself, as an iterator over one."""
+        return self.own(type_, scope).name in self.walks
 
     def owners_of(self, names, file):
         """Returns the impls of the traits that some names mean in a file, with their own files."""

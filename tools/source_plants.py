@@ -331,9 +331,42 @@ VECTORS = (
     plant("BlockEntries.entries can be read from outside", Instead("BlockEntries", "entries: Vec<u16, A>", "pub entries: Vec<u16, A>")),
     plant("BlockEntries.entries keeps `Vec<[u16; 16], A>`", Instead("BlockEntries", "entries: Vec<u16, A>", "entries: Vec<[u16; 16], A>")),
 )
+# walks, which are made, kept and asked in a counted body
+SHARED, STEP = "common_documents", "let mut walk = longer.iter();"
+MAKER = f"EliasFanoVec::iter, which the counted body {SHARED} calls,"
+WALKS = (
+    plant(f"BothEnds::next, which the counted body {SHARED} calls, makes a counter", Body(SHARED, f"{STEP}\nlet _next = walk.next();")),
+    plant(f"BothEnds::nth, which the counted body {SHARED} calls, makes a counter", Body(SHARED, "let _first = longer.iter().nth(0);")),
+    plant(f"{SHARED} hands `BothEnds::next_counted` another counter", Body(SHARED, f"{STEP}\nlet _next = walk.next_counted(&mut spare);")),
+    plant(f"{SHARED} {NO_RANGE}", Body(SHARED, "for _document in longer.iter() {}")),
+    plant(f"{SHARED} {NO_RANGE}", Body(SHARED, f"{STEP}\nfor _document in walk {{}}")),
+    plant(f"{SHARED} asks {KEEPER} by `sum`, which its type doesn't have", Body(SHARED, f"{STEP}\nlet _sum = walk.sum();")),
+    plant(f"{SHARED} gives {KEEPER} the name `other`", Body(SHARED, f"{STEP}\nlet other = walk;")),
+    plant(f"{SHARED} gives {KEEPER} the name `other`", Body(SHARED, f"{STEP}\nlet other = &walk;")),
+    plant(f"{SHARED} lends {KEEPER} by `&mut`", Body(SHARED, f"{STEP}\nlet _documents = taken(&mut walk);")),
+    plant(f"{SHARED} hands {KEEPER} to `taken`", Body(SHARED, f"{STEP}\nlet _documents = taken(walk);")),
+    plant(f"{SHARED} compares {KEEPER}", Body(SHARED, f"{STEP}\nlet _same = walk == walk;")),
+    plant(f"{MAKER} reads by `CountedBits::as_bit_vec` without the counter", Body("EliasFanoVec::iter", "let _word = self.low.as_bit_vec().limb(0);")),
+    plant(f"{MAKER} {ALONE}", Body("EliasFanoVec::iter", "let _same = *self == *self;")),
+    plant(f"{MAKER} {ALONE}", Body("EliasFanoVec::iter", "let _held = Held { list: self };"), Beside("EliasFanoVec", f"struct Held{ANY} {{ list: EliasFanoVec<A> }}")),
+    plant(f"{MAKER} hands {KEEPER} to `hashed`", Body("EliasFanoVec::iter", "let _hash = hashed(self);")),
+    plant(f"{MAKER} puts {KEEPER} into `Some`", Body("EliasFanoVec::iter", "let _held = Some(self);")),
+    plant(
+        "EliasFanoVec::rank, which the counted body Members::new calls, makes a counter",
+        Body("Members::new", "let _rank = list.list().rank(0);"),
+    ),
+    plant("BothEnds.source.low keeps `Vec<u64, ", Field("Members", "low: Vec<u64, L::Alloc>,")),
+)
 # plain queries
 NOT_PLAIN, ASKED = "RsVec::rank1 is not rank1_counted with a fresh counter", "self.rank1_counted(place, &mut tally)"
+NOT_SAME, OF_FIELD = "Postings::rank is not rank_counted with a fresh counter", "self.documents.rank(document)"
 QUERIES = (
+    plant(NOT_SAME, Instead("Postings::rank", OF_FIELD, "self.costs.rank(document)")),
+    plant(NOT_SAME, Instead("Postings::rank", OF_FIELD, "self.documents.below(document)")),
+    plant(NOT_SAME, Instead("Postings::rank", OF_FIELD, "self.documents.rank(0)")),
+    plant(NOT_SAME, Instead("Postings::rank", OF_FIELD, "self.documents.rank(document) + 1")),
+    plant(NOT_SAME, Body("Postings::rank", "let _first = self.documents.get(0);")),
+    plant(NOT_SAME, Body("Postings::rank_counted", "let _first = self.documents.get_counted(0, tally);")),
     plant(NOT_PLAIN, Instead("RsVec::rank1", ASKED, "self.scan(place, &mut tally)")),
     plant(NOT_PLAIN, Instead("RsVec::rank1", ASKED, "self.rank1_counted(place, &mut tally) + self.len()")),
     plant(NOT_PLAIN, Instead("RsVec::rank1", ASKED, "self.rank1_counted(self.bits.as_bit_vec().len(), &mut tally)")),
@@ -427,7 +460,7 @@ KERNELS = (
     plant("BitVec::count_ones doesn't ask the kernel ones_of", Instead("BitVec::count_ones", "ones_of(self.limbs())", "ones_one_by_one(self.limbs())")),
     plant("BitVec::eq doesn't ask the kernel are_same", Instead("BitVec::eq", "are_same(self.limbs(), other.limbs())", "self.limbs() == other.limbs()")),
 )
-PLANTS = LOOPS + COMPARISONS + COUNTER + PLAIN_FORMS + OTHER_NAMES + FUNCTIONS + KEPT + VECTORS + QUERIES + SOURCES + SMALL + KERNELS
+PLANTS = LOOPS + COMPARISONS + COUNTER + PLAIN_FORMS + OTHER_NAMES + FUNCTIONS + KEPT + WALKS + VECTORS + QUERIES + SOURCES + SMALL + KERNELS
 
 
 def self_test(crates, faults):

@@ -14,6 +14,9 @@ counters that keeps a list. An *index type* is one with a `heap_size`.
      crates is followed; any other call is handed numbers alone;
    - a plain list (an argument, a local, a constant, a table that rule 2 allows) is read entry by entry;
    - `for` goes over ranges of numbers; only numbers and truth values are compared;
+   - a walk, which is a value with counted calls that keeps or borrows an index, may get a name where it is made, and stands
+     only before `.` then. What makes it, without the counter, reads nothing: it is a counted body, which may hand on `self`
+     whole as an argument, and keep an index in the walk that it answers;
    - no path stands as a value, but for constants and variants; there are no closures (but one that answers a constant), no
      macros, no `unsafe`, no items, no paths in angle brackets, no patterns of lists.
 2. What an index type keeps, and every type that counted bodies are asked of, with the structs and enums inside it, is
@@ -24,7 +27,8 @@ counters that keeps a list. An *index type* is one with a `heap_size`.
 3. In the crate of the counters (`counted_vectors.py`) a counted vector is taken apart in its own `impl`s alone. Its calls
    that are handed the counter raise it once a read; the others read no entry, or are those that hand on the whole.
 4. A plain query `q` of a type that has `q_counted` is `q_counted` of its own parameters with a fresh counter, or one call of
-   another plain query. A trait's `q` may be one call of the type's own public `q`.
+   another plain query. Where `q_counted` is one call of `r_counted` of a field, `q` may be the same call of `r`. A trait's `q`
+   may be one call of the type's own public `q`.
 5. The counter's type has one name, and stands only in a parameter `tally: &mut Tally` and where a fresh counter is made. No
    macro writes code in crates with counted bodies.
 6. Kernels go by lanes or by chunks of words (`lane_rules.py`): each body that `KERNELS` names makes the calls that it has to,
@@ -62,7 +66,7 @@ def plain_faults(library):
         if not is_plain_form(library, function, holder, counted):
             form = f"`let mut tally = Tally::new(); self.{function.name}_counted(.., &mut tally)` with its own parameters"
             what = f"{function.full_name} is not {function.name}_counted with a fresh counter"
-            yield f"{function.where}: {what}; allowed: {form}, or another plain query"
+            yield f"{function.where}: {what}; allowed: {form}, another plain query, or the call of a field whose counted form that is"
 
 
 def is_plain_form(library, function, holder, counted):
@@ -75,6 +79,8 @@ def is_plain_form(library, function, holder, counted):
     if body.statements:
         return is_fresh_form(body, function.name, names)
     call = body.value
+    if call is not None and field_asked(call):
+        return any(is_counted_step(call, it, names) for it in library.methods.get((holder, f"{function.name}_counted"), []))
     if call is None or call.kind != "method" or not is_path(call.of, "self"):
         return False
     if call.name == function.name:
@@ -96,6 +102,24 @@ def is_fresh_form(body, name, names):
     last = call.arguments[-1] if call.arguments else made
     is_handed = last.kind == "borrow" and last.is_mut and is_path(last.of, made.pattern.name)
     return is_new and (is_own or is_free) and is_handed and arguments_of(call)[:-1] == names
+
+
+def field_asked(call):
+    """Returns the field of `self` of which an expression is one call; "" for other expressions."""
+    is_field = call.kind == "method" and call.of.kind == "field" and is_path(call.of.of, "self")
+    return call.of.name if is_field else ""
+
+
+def is_counted_step(call, function, names):
+    """Whether a counted form is one call of the same field as a plain call: of its counted form, by the same parameters."""
+    try:
+        body = body_of(function)
+    except Unread:
+        return False
+    step = body.value
+    if body.statements or step is None or field_asked(step) != field_asked(call) or step.name != f"{call.name}_counted":
+        return False
+    return arguments_of(call) == names == arguments_of(step)[:-1]
 
 
 def is_path(node, *names):

@@ -1,11 +1,10 @@
 -- Whether a document is in a list, and what two lists share.
-use Rattle.std.proofs.Common.{◌≡◌, ℕ, zero, suc, ◌+◌, ◌<◌, ◌≤◌, Bool, true, false, List, [], ◌∷◌, length, get_or, Option, Some, None, refl, sym, ap, subst, ◌∙◌, inl, inr, arith}
+use Rattle.std.proofs.Common.{◌≡◌, ℕ, zero, suc, ◌+◌, ◌<◌, ◌≤◌, Bool, true, false, List, [], ◌∷◌, length, get_or, refl, sym, ap, subst, ◌∙◌, inl, inr, arith}
 use Rattle.std.specs.Prelude.{◌==◌, filter}
-use Rattle.std.specs.List.{AllPairs}
+use Rattle.std.specs.List.{AllPairs, list_any}
 use Rattle.std.specs.List.Sorted.{IsStrictlyIncreasing}
-use Rattle.std.proofs.lemmas.Bool.{cases_lt, le-leb, lt-leb, eq-eqb, ne_eqb}
+use Rattle.std.proofs.lemmas.Bool.{cases_lt, eq-eqb, ne_eqb}
 use Rattle.std.proofs.lemmas.List.Kept.{AllPairs-from_increasing}
-use Rattle.vers_sorted.specs.Sorted.{least_not_below}
 use Rattle.postings.specs.Posted.{is_among, common}
 
 -- each number is below all later ones
@@ -42,36 +41,10 @@ none_among : (x : ℕ) → is_among [] x ≡ false
 unfolding is_among
 none_among x = refl
 
--- ---- by the next document
-
--- whether what was found is the document
-abbrev pub is_found : ℕ → Option ℕ → Bool
-is_found v None = false
-is_found v (Some m) = m == v
-
-none_next : (v : ℕ) → least_not_below [] v ≡ None
-unfolding least_not_below
-none_next v = refl
-
-next_here : (x : ℕ) (xs : List ℕ) (v : ℕ) → v ≤ x → least_not_below (x ∷ xs) v ≡ Some x
-unfolding least_not_below
-next_here x xs v high = rw (le-leb v x high) refl
-
-next_later : (x : ℕ) (xs : List ℕ) (v : ℕ) → x < v → least_not_below (x ∷ xs) v ≡ least_not_below xs v
-unfolding least_not_below
-next_later x xs v low = rw (lt-leb v x low) refl
-
--- a document is in the list where the next one that is not below it is this one
-pub among_next : (xs : List ℕ) (v : ℕ) → Rising xs → is_among xs v ≡ is_found v (least_not_below xs v)
-among_next [] v up = none_among v ∙ sym (ap (is_found v) (none_next v))
-among_next (x ∷ xs) v up = elim (cases_lt x v) [
-  | inl less ↦ among_tail x xs v (λ same. omega (arith, same, less)) ∙ among_next xs v (rising_tail x xs up) ∙ sym (ap (is_found v) (next_later x xs v less))
-  | inr more ↦ elim (cases_lt v x) [
-    | inl above ↦ among_tail x xs v (λ same. omega (arith, same, above)) ∙ not_among v xs (λ j inside. omega (arith, above, rising_head x xs up j inside))
-        ∙ sym (ap (is_found v) (next_here x xs v more) ∙ ne_eqb x v (λ same. omega (arith, same, above)))
-    | inr equal ↦ let same : x ≡ v = omega (arith, more, equal) in among_head x xs v same ∙ sym (ap (is_found v) (next_here x xs v more) ∙ eq-eqb x v same)
-  ]
-]
+-- by a search for a member
+pub among_any : (xs : List ℕ) (d : ℕ) → list_any (λ m. m == d) xs ≡ is_among xs d
+unfolding is_among
+among_any xs d = refl
 
 -- ---- what two lists share
 

@@ -1,18 +1,23 @@
 -- The shorter list looked through from its start.
-use Rattle.std.proofs.Common.{◌≡◌, ℕ, ◌+◌, ◌*◌, ◌<◌, ◌≤◌, Bool, cond, List, [], ◌∷◌, ◌++◌, length, take, get_or, Some, None, refl, sym, ap, ◌∙◌, arith, rules}
+use Rattle.std.proofs.Common.{◌≡◌, ℕ, zero, suc, ◌+◌, ◌*◌, ◌<◌, ◌≤◌, Bool, cond, List, [], ◌∷◌, ◌++◌, length, take, drop, get_or, Some, None, refl, sym, ap, subst, ◌∙◌, arith, rules}
 use Rattle.std.specs.Prelude.{filter, slice_get}
+use Rattle.std.proofs.lemmas.List.{get_or-drop, length-drop}
+use Rattle.vers_bits.specs.Walk.{TakesFirst}
 use Rattle.std.proofs.lemmas.Option.{slice_get-get_or, get_or_from_slice_get, none-some}
 use Rattle.std.proofs.Math.Nat.{mul-le-mul_right}
 use Rattle.std.proofs.lemmas.Bool.{le-leb, lt-leb}
 use Rattle.std.proofs.lemmas.List.Elements.{filter_more}
 use Rattle.vers_sorted.specs.Layout.{member_reads, search_reads}
+use Rattle.vers_tally.specs.Ends.{Walking}
 use Rattle.vers_tally.specs.Reads.{Reads, AddsAtMost, IsWithin, plus, times}
 use Rattle.vers_tally.proofs.PublicLaws.{adds_then, adds_weaker}
 use Rattle.postings.specs.Posted.{is_among, common, lookups, intersect_reads}
 
--- k documents were looked for, and those that the longer list has were found
-pub record SharedUpTo (shorter longer found : List ℕ) (old new : Reads) (k : ℕ) : Type 0 where
+-- a walk along the shorter list took k documents and has the others left, and of those taken the ones that the longer list has were found
+pub record SharedUpTo (shorter longer found : List ℕ) (walk : Walking ℕ) (old new : Reads) (k : ℕ) : Type 0 where
   pub found_so_far : found ≡ common (take k shorter) longer
+  pub to_come : walk.left ≡ drop k shorter
+  pub step : walk.step ≡ member_reads shorter
   pub adds : AddsAtMost old new (times k (plus (member_reads shorter) (search_reads longer)))
 
 -- one more document was looked for
@@ -78,37 +83,64 @@ lookups_up k n p few =
       chunks = up p.chunks;
     }
 
--- before the first
-pub shared_start : (shorter longer found : List ℕ) (reads : Reads) → found ≡ [] → SharedUpTo shorter longer found reads reads 0
-shared_start shorter longer found reads none = record { found_so_far = none ∙ sym (common_start shorter longer); adds = search rules }
+-- what is left of a list after k of its members and one more
+drop_next : (k : ℕ) (xs : List ℕ) → drop 1 (drop k xs) ≡ drop (suc k) xs
+drop_next zero xs = refl
+drop_next (suc k) [] = refl
+drop_next (suc k) (x ∷ xs) = drop_next k xs
 
--- after one more
-pub shared_more : (shorter longer found more : List ℕ) (old between next new : Reads) (k d : ℕ) (shares : Bool)
-    → SharedUpTo shorter longer found old between k → k < length shorter → slice_get shorter k ≡ Some d → AddsAtMost between next (member_reads shorter)
-    → shares ≡ is_among longer d → AddsAtMost next new (search_reads longer) → more ≡ found ++ cond shares (d ∷ []) []
-    → SharedUpTo shorter longer more old new (k + 1)
-shared_more shorter longer found more a b c e k d shares before inside at read answer look grown = record {
-  found_so_far = grown ∙ ap (λ (l : List ℕ). l ++ cond shares (d ∷ []) []) before.found_so_far ∙ sym (common_more shorter longer k d shares at inside answer);
-  adds = lookups_more k (member_reads shorter) (search_reads longer) a b c e before.adds read look;
+-- the first that is left is the next document
+next_left : (xs left : List ℕ) (k d : ℕ) → left ≡ drop k xs → k < length xs → Some d ≡ slice_get left 0 → slice_get xs k ≡ Some d
+next_left xs left k d rest inside first =
+    let at : k + 0 ≡ k = omega arith in
+    let there : get_or (drop k xs) 0 0 ≡ d = get_or_from_slice_get (drop k xs) 0 d 0 (sym (subst (λ (l : List ℕ). Some d ≡ slice_get l 0) rest first)) in
+    let here : get_or xs k 0 ≡ d = ap (λ j. get_or xs j 0) (sym at) ∙ sym (get_or-drop k xs 0 0) ∙ there in
+    slice_get-get_or xs k 0 inside ∙ ap (λ z. Some z) here
+
+-- before the first
+pub shared_start : (shorter longer found : List ℕ) (walk : Walking ℕ) (reads : Reads) → found ≡ [] → walk ≡ record { left = shorter; step = member_reads shorter }
+    → SharedUpTo shorter longer found walk reads reads 0
+shared_start shorter longer found walk reads none start = record {
+  found_so_far = none ∙ sym (common_start shorter longer);
+  to_come = ap (λ (w : Walking ℕ). w.left) start;
+  step = ap (λ (w : Walking ℕ). w.step) start;
+  adds = search rules;
 }
 
+-- after one more
+pub shared_more : (shorter longer found more : List ℕ) (walk walked : Walking ℕ) (old between next new : Reads) (k d : ℕ) (shares : Bool)
+    → SharedUpTo shorter longer found walk old between k → k < length shorter → TakesFirst walk.left (Some d) walked.left → walked.step ≡ walk.step
+    → AddsAtMost between next walk.step → shares ≡ is_among longer d → AddsAtMost next new (search_reads longer) → more ≡ found ++ cond shares (d ∷ []) []
+    → SharedUpTo shorter longer more walked old new (k + 1)
+shared_more shorter longer found more walk walked a b c e k d shares before inside taken same read answer look grown =
+    let next : suc k ≡ k + 1 = omega arith in record {
+      found_so_far = grown ∙ ap (λ (l : List ℕ). l ++ cond shares (d ∷ []) []) before.found_so_far
+          ∙ sym (common_more shorter longer k d shares (next_left shorter walk.left k d before.to_come inside taken.given) inside answer);
+      to_come = taken.left ∙ ap (λ (l : List ℕ). drop 1 l) before.to_come ∙ drop_next k shorter ∙ ap (λ (j : ℕ). drop j shorter) next;
+      step = same ∙ before.step;
+      adds = lookups_more k (member_reads shorter) (search_reads longer) a b c e before.adds (rw (← before.step) read) look;
+    }
+
 -- none is taken past the last alone
-pub never_ends : (shorter : List ℕ) (k : ℕ) → k < length shorter → slice_get shorter k ≡ None → ⊥
-never_ends shorter k inside none = absurd_some (get_or shorter k 0) (sym (slice_get-get_or shorter k 0 inside) ∙ none)
+pub never_ends : (shorter left : List ℕ) (k : ℕ) → left ≡ drop k shorter → k < length shorter → slice_get left 0 ≡ None → ⊥
+never_ends shorter left k rest inside none =
+    let some : 0 < length (drop k shorter) = omega (arith, length-drop k shorter, inside) in
+    absurd_some (get_or (drop k shorter) 0 0) (sym (slice_get-get_or (drop k shorter) 0 0 some) ∙ subst (λ (l : List ℕ). slice_get l 0 ≡ None) rest none)
   where
     absurd_some : (d : ℕ) → Some d ≡ None → ⊥
     absurd_some d e = none-some d (sym e)
 
 -- a stop after a look-up
-pub stopped_within : (shorter longer found : List ℕ) (old between next new : Reads) (k : ℕ) → SharedUpTo shorter longer found old between k → k < length shorter
-    → AddsAtMost between next (member_reads shorter) → AddsAtMost next new (search_reads longer) → AddsAtMost old new (lookups shorter longer)
-stopped_within shorter longer found a b c e k before inside read look =
-    adds_weaker (lookups_more k (member_reads shorter) (search_reads longer) a b c e before.adds read look)
+pub stopped_within : (shorter longer found : List ℕ) (walk : Walking ℕ) (old between next new : Reads) (k : ℕ) → SharedUpTo shorter longer found walk old between k → k < length shorter
+    → AddsAtMost between next walk.step → AddsAtMost next new (search_reads longer) → AddsAtMost old new (lookups shorter longer)
+stopped_within shorter longer found walk a b c e k before inside read look =
+    adds_weaker (lookups_more k (member_reads shorter) (search_reads longer) a b c e before.adds (rw (← before.step) read) look)
     (lookups_up (k + 1) (length shorter) (plus (member_reads shorter) (search_reads longer)) (omega (arith, inside)))
 
 -- a stop after all of them
-pub ended_within : (shorter longer found : List ℕ) (old new : Reads) (k : ℕ) → SharedUpTo shorter longer found old new k → k ≤ length shorter → AddsAtMost old new (lookups shorter longer)
-ended_within shorter longer found a b k before inside =
+pub ended_within : (shorter longer found : List ℕ) (walk : Walking ℕ) (old new : Reads) (k : ℕ) → SharedUpTo shorter longer found walk old new k → k ≤ length shorter
+    → AddsAtMost old new (lookups shorter longer)
+ended_within shorter longer found walk a b k before inside =
     adds_weaker before.adds (lookups_up k (length shorter) (plus (member_reads shorter) (search_reads longer)) inside)
 
 -- the documents of the list that has fewer are looked for

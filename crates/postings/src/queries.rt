@@ -1,6 +1,5 @@
 //! What is asked of a list of documents.
 ghost use Rattle.std.specs.Prelude.{◌≡◌, ◌+◌, ◌≤◌, All, length, IfOk};
-ghost use Rattle.std.specs.List.Sorted.{IsStrictlyIncreasing};
 ghost use Rattle.vers_tally.specs.Reads.{AddsAtMost};
 ghost use Rattle.vers_sorted.specs.Sorted.{below, least_not_below};
 ghost use Rattle.vers_sorted.specs.Layout.{search_reads};
@@ -17,8 +16,7 @@ impl<A: Allocator + Copy> Postings<A> {
     pub fn contains(&self, document: u64) -> bool
         ensures { result ≡ is_among self.now.documents document }
     {
-        let mut tally = Tally::new();
-        self.contains_counted(document, &mut tally)
+        self.documents.has(document)
     }
 
     /// Whether a document is in the list, by one search among the documents.
@@ -27,7 +25,7 @@ impl<A: Allocator + Copy> Postings<A> {
         ensures value { result ≡ is_among self.now.documents document }
         ensures adds { AddsAtMost tally.old tally.new (search_reads self.now.documents) }
     {
-        holds(&self.documents, document, tally)
+        self.documents.has_counted(document, tally)
     }
 
     /// How many documents are below a number.
@@ -36,8 +34,7 @@ impl<A: Allocator + Copy> Postings<A> {
         ensures value { result ≡ below self.now.documents document }
         ensures within { result ≤ length self.now.documents }
     {
-        let mut tally = Tally::new();
-        self.rank_counted(document, &mut tally)
+        self.documents.rank(document)
     }
 
     /// How many documents are below a number, by one search among the documents.
@@ -55,8 +52,7 @@ impl<A: Allocator + Copy> Postings<A> {
     pub fn next_at_least(&self, document: u64) -> Option<u64>
         ensures { result ≡ least_not_below self.now.documents document }
     {
-        let mut tally = Tally::new();
-        self.next_at_least_counted(document, &mut tally)
+        self.documents.successor(document)
     }
 
     /// The first document that is not below a number, by one search among the documents. None where
@@ -125,19 +121,6 @@ impl<A: Allocator + Copy> Postings<A> {
     }
 }
 
-// Whether a document is in an ascending list, by one search.
-#[inline(always)]
-fn holds<A: Allocator + Copy>(documents: &EliasFanoVec<A>, document: u64, tally: &mut Tally) -> bool
-    requires { IsStrictlyIncreasing documents.now }
-    ensures value { result ≡ is_among documents.now document }
-    ensures adds { AddsAtMost tally.old tally.new (search_reads documents.now) }
-{
-    match documents.successor_counted(document, tally) {
-        Some(next) => next == document,
-        None => false,
-    }
-}
-
 // How many documents are not above a number, by one search.
 #[inline(always)]
 fn up_to<A: Allocator + Copy>(documents: &EliasFanoVec<A>, to: u64, tally: &mut Tally) -> usize
@@ -151,23 +134,23 @@ fn up_to<A: Allocator + Copy>(documents: &EliasFanoVec<A>, to: u64, tally: &mut 
     }
 }
 
-// The documents of the shorter list that the longer has too.
+// The documents of the shorter list that the longer has too, in one walk along the shorter.
 fn common_documents<A: Allocator + Copy>(
     alloc: A,
     shorter: &EliasFanoVec<A>,
     longer: &EliasFanoVec<A>,
     tally: &mut Tally,
 ) -> Result<Vec<u64, A>, AllocError>
-    requires { IsStrictlyIncreasing longer.now }
     ensures value { IfOk result (λ found. found.items ≡ common shorter.now longer.now) }
     ensures adds { AddsAtMost tally.old tally.new (lookups shorter.now longer.now) }
 {
     let mut found = Vec::new(alloc);
-    for place in 0..shorter.len() {
-        let Some(document) = shorter.get_counted(place, tally) else {
+    let mut documents = shorter.iter();
+    for _ in 0..shorter.len() {
+        let Some(document) = documents.next_counted(tally) else {
             break;
         };
-        if holds(longer, document, tally) {
+        if longer.has_counted(document, tally) {
             found.push(document)?;
         }
     }
