@@ -4,7 +4,7 @@ use mir.Syntax.{w64}
 use Rattle.std.proofs.lemmas.Int.{ints, to_z-of_z}
 use Rattle.std.proofs.lemmas.List.{get_or_at}
 use Rattle.vers_trees.specs.Excess.{excess, bit_step}
-use Rattle.vers_trees.specs.Forest.{Forest, text, forest_of}
+use Rattle.vers_trees.specs.Forest.{Forest, text, IsBalanced, forest_of}
 use Rattle.vers_trees.specs.inside.Index.{IsBuilding}
 use Rattle.vers_trees.proofs.Excess.{excess-zero, excess-append_left, excess_after_bit}
 use Rattle.vers_trees.proofs.Grammar.{forest_of-text}
@@ -45,7 +45,7 @@ stored_sum size l b total d h room e =
 pub ruleset building = (nothing_built, built_fits)
 
 -- a tree of the steps stands for the forest that they write down
-pub forest_built : (t l : List Bool) (F : Forest) → t ≡ l → text F ≡ l → forest_of t ≡ F
-forest_built t l F e h = ap forest_of (e ∙ sym h) ∙ forest_of-text F
+pub forest_built : (t l : List Bool) (F : Forest) → t ≡ l → text F ≡ l → IsBalanced t × (forest_of t ≡ F)
+forest_built t l F e h = (record { forest = F; written = h ∙ sym e }, ap forest_of (e ∙ sym h) ∙ forest_of-text F)
 
 pub ruleset forests_built = (forest_built)

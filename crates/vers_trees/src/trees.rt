@@ -148,14 +148,11 @@ pub trait LevelTree: Tree {
 /// What builds a tree while the nodes of a forest are entered and left, in the order in which it is
 /// written down.
 ///
-/// Contracts speak of the steps so far, true where a node was entered and false where one was left, and
-/// of the forest of a tree that was built.
+/// Contracts speak of the steps so far, true where a node was entered and false where one was left.
 pub trait TreeBuilder {
-    type Tree;
+    type Tree: Tree;
 
     ghost steps: { Self → List Bool };
-
-    ghost forest_built: { Self.Tree → Forest };
 
     /// Enters a node.
     fn enter_node(&mut self) -> Result<(), GrowError>
@@ -170,7 +167,8 @@ pub trait TreeBuilder {
     /// The tree of the forest that the steps write down. Where not as many nodes were left as entered it
     /// is refused with how many more were entered.
     fn build(self) -> Result<Self::Tree, BuildError>
-        ensures made { IfOk result (λ t. (F : Forest) → text F ≡ steps self → forest_built t ≡ F) }
+        ensures made { IfOk result (λ t. (F : Forest) → text F ≡ steps self
+            → Self.Tree.is_forest t × (Self.Tree.forest t ≡ F)) }
         ensures uneven { excess (steps self) (length (steps self)) ≢ pos 0
             → result ≡ Err (BuildError.Excess (excess (steps self) (length (steps self)))) }
         ensures even { excess (steps self) (length (steps self)) ≡ pos 0 → IfErr result (λ e. e ≡ BuildError.Memory) };

@@ -137,11 +137,7 @@ impl<const BLOCK_SIZE: usize, A: Allocator + Copy> BpBuilder<BLOCK_SIZE, A> {
 impl<const BLOCK_SIZE: usize, A: Allocator + Copy> TreeBuilder for BpBuilder<BLOCK_SIZE, A> {
     type Tree = BpTree<BLOCK_SIZE, A>;
 
-    ghost use Rattle.vers_trees.specs.Forest.{forest_of};
-
     ghost steps = { λ b. b };
-
-    ghost forest_built = { λ t. forest_of t };
 
     fn enter_node(&mut self) -> Result<(), GrowError> {
         self.enter_node()
