@@ -18,6 +18,10 @@ KERNELS = (
     Kernel("ones_of", ("as_chunks", "ones_of_chunk"), ("BitVec::count_ones",)),
     Kernel("are_same", ("as_chunks", "agree"), ("BitVec::eq",)),
     Kernel("agree", ("from_array", "simd_ne", "any"), ("are_same",)),
+    Kernel("RsVec::block_among", ("read_16", "last_up_to"), ("RsVec::block_with",)),
+    Kernel("last_up_to", ("differences", "far_below"), ("RsVec::block_among",)),
+    Kernel("differences", ("splat", "from_slice"), ("last_up_to",)),
+    Kernel("far_below", ("simd_ge", "to_bitmask", "count_ones"), ("last_up_to",)),
 )
 
 
@@ -41,5 +45,5 @@ def lane_faults(library, kernels=KERNELS):
         for call in sorted(set(kernel.calls) - called(found[0])):
             yield f"{found[0].where}: the kernel {kernel.name} has no call of `{call}`; allowed: a body by lanes or chunks"
         for asker in kernel.asked_by:
-            if not any(kernel.name in called(it) for it in bodies.get(asker, [])):
+            if not any(kernel.name.rsplit("::", 1)[-1] in called(it) for it in bodies.get(asker, [])):
                 yield f"{found[0].where}: {asker} doesn't ask the kernel {kernel.name}; allowed: a body that asks it"

@@ -457,6 +457,16 @@ SMALL = (
 KERNELS = (
     plant("the kernel ones_of has no call of `as_chunks`", Instead("ones_of", "words.as_chunks::<CHUNK>()", "chunked(words)")),
     plant("the kernel agree has no call of `simd_ne`", Instead("agree", "lanes.simd_ne(", "lanes.differs_from(")),
+    plant("the kernel far_below has no call of `simd_ge`", Instead("far_below", "below.simd_ge(", "below.at_least(")),
+    plant("the kernel RsVec::block_among has no call of `read_16`", Instead("RsVec::block_among", "self.blocks.read_16(", "self.blocks.read(")),
+    plant(
+        "RsVec::block_among doesn't ask the kernel last_up_to",
+        Instead("RsVec::block_among", "last_up_to(zeros, bit, r)", "found_one_by_one(zeros, bit, r)"),
+    ),
+    plant(
+        "RsVec::block_with doesn't ask the kernel RsVec::block_among",
+        Instead("RsVec::block_with", "self.block_among(bit, r, s, tally)", "self.block_up_to(bit, r, s, 16, tally)"),
+    ),
     plant("BitVec::count_ones doesn't ask the kernel ones_of", Instead("BitVec::count_ones", "ones_of(self.limbs())", "ones_one_by_one(self.limbs())")),
     plant("BitVec::eq doesn't ask the kernel are_same", Instead("BitVec::eq", "are_same(self.limbs(), other.limbs())", "self.limbs() == other.limbs()")),
 )

@@ -3,6 +3,7 @@ pub mod ByteOnes
 pub mod BytePlaces
 pub mod Ranks
 pub mod Selects
+pub mod BlockLanes
 pub mod Builds
 pub mod Parts
 pub mod Pairs

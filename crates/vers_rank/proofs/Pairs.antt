@@ -1,12 +1,12 @@
 -- The one after a one, in the same limb.
-use Rattle.std.proofs.Common.{◌≡◌, ℕ, zero, suc, ◌+◌, ◌-◌, ◌*◌, ◌/◌, ◌%◌, ◌^◌, ◌<◌, ◌≤◌, Bool, true, false, List, length, get_or, refl, sym, ap, ◌∙◌, arith, inl, inr, w64}
+use Rattle.std.proofs.Common.{◌≡◌, ◌≢◌, ℕ, zero, suc, ◌+◌, ◌-◌, ◌*◌, ◌/◌, ◌%◌, ◌^◌, ◌<◌, ◌≤◌, Bool, true, false, List, length, get_or, refl, sym, ap, ◌∙◌, arith, inl, inr, w64}
 use Rattle.std.specs.Int.{bit_at, trailing_zeros}
 use Rattle.std.proofs.lemmas.Bool.{cases_lt}
 use Rattle.std.proofs.lemmas.List.{get_or_past}
-use Rattle.std.proofs.lemmas.Nat.Bits.{bit_at-suc, bit_at_cat_high, bit_at_above, bit_at-trailing_zeros}
+use Rattle.std.proofs.lemmas.Nat.Bits.{bit_at-suc, bit_at-zero, bit_at_cat_high, bit_at_above, bit_at-trailing_zeros}
 use Rattle.std.proofs.lemmas.Nat.{mod_below, pow_pos}
 use Rattle.vers_bits.specs.Bits.{bit_value, count, limb, select}
-use Rattle.vers_bits.proofs.PublicLaws.{count_more_no, select_at, count_at_select, select_past}
+use Rattle.vers_bits.proofs.PublicLaws.{count_more_no, select_at, count_at_select, select_past, select_up, select_holds}
 use Rattle.vers_rank.proofs.Reading.{marked_bit, value_one}
 
 -- a digit of a number without its lowest q digits
@@ -75,6 +75,23 @@ module _ (l : List Bool) (k q : ℕ) (fits : limb l k < 18446744073709551616) (a
 pub one_after : (l : List Bool) (r k q : ℕ) → limb l k < 18446744073709551616 → r < count true l (length l) → 64 * k + q ≡ select true l r → 0 < limb l k / 2 ^ q / 2
     → (64 * k + q + 1 + trailing_zeros w64 (limb l k / 2 ^ q / 2) ≡ select true l (r + 1)) × (64 * k + q + 1 + trailing_zeros w64 (limb l k / 2 ^ q / 2) < length l)
 one_after l r k q fits some place after = (next_is l k q fits after r some place, inside l k q fits after)
+
+-- where the word of number r holds no other past it, the one after number r stands in another word
+pub none_after : (l : List Bool) (r k q : ℕ) → limb l k < 18446744073709551616 → q < 64 → r < count true l (length l) → 64 * k + q ≡ select true l r → limb l k / 2 ^ q / 2 ≡ 0
+    → select true l (r + 1) < length l → (64 * k + q) / 64 ≢ select true l (r + 1) / 64
+none_after l r k q fits small some place none within same =
+    let p = select true l (r + 1) in
+    let more : r + 1 < count true l (length l) = elim (cases_lt (r + 1) (count true l (length l))) [
+      | inl h ↦ h
+      | inr past ↦ absurd (omega (arith, within, select_past true l (r + 1) past))
+    ] in
+    let holds : get_or l p false ≡ true = (select_holds true l (r + 1) (length l) (omega arith) more).1 in
+    let past : 64 * k + q < p = omega (arith, place, select_up true l r (r + 1) (omega arith) more) in
+    let i = p - (64 * k + q + 1) in
+    let there : 64 * k + (q + 1 + i) ≡ p = omega (arith, past) in
+    let inside : q + 1 + i < 64 = omega (arith, there, same, small) in
+    let one : bit_at (limb l k) (q + 1 + i) ≡ 1 = marked_bit true l k (q + 1 + i) fits inside ∙ ap (λ n. bit_value (get_or l n false)) there ∙ ap bit_value holds in
+    absurd (omega (arith, one, digit_past (limb l k) q i, ap (λ n. bit_at n i) none, bit_at-zero i))
 
 pub no_ones : (l : List Bool) (r : ℕ) → count true l (length l) ≤ r → (select true l r ≡ length l) × (select true l (r + 1) ≡ length l)
 no_ones l r h = (select_past true l r h, select_past true l (r + 1) (omega arith))

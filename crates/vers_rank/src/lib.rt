@@ -3,5 +3,6 @@
 
 mod build;
 pub mod fast_rs_vec;
+mod lanes;
 pub mod laws;
 mod word;

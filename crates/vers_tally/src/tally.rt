@@ -1,10 +1,11 @@
 //! Counters of reads, and the vectors whose entries are read only with one.
-ghost use Rattle.std.specs.Prelude.{◌≡◌, ℕ, ◌+◌, ◌*◌, ◌<◌, ◌≤◌, ◌^◌, List, length, slice_index, slice_index_or, slice_get, option_map, false, OnSome, IfNone};
+ghost use Rattle.std.specs.Prelude.{◌≡◌, ℕ, ◌+◌, ◌*◌, ◌<◌, ◌≤◌, ◌^◌, List, length, take, drop, min, slice_index, slice_index_or, slice_get, option_map, false, OnSome, IfNone};
 ghost use Rattle.vers_bits.specs.Bits.{bit_value, number, part, part_number, limb};
 ghost use Rattle.vers_tally.specs.Reads.{Reads, no_reads, one_more, only_data_words, only_block_entries, only_superblock_entries, only_low_parts, only_rank_calls, only_items, only_blocks, only_nodes, only_chunks, AddsAtMost};
 
 use std::alloc::Allocator;
 use std::marker::Model;
+use std::simd::prelude::*;
 use vers_bits::bit_vec::{BitVec, MAX_LEN};
 
 /// How many entries of each kind were read. Contracts see a `Tally` as a record of nine numbers.
@@ -342,6 +343,20 @@ impl<A: Allocator + Copy> BlockEntries<A> {
     {
         tally.block_entries = tally.block_entries.saturating_add(1);
         self.entries[k]
+    }
+
+    /// The 16 entries from number `k` on, as the lanes of a vector: 16 block entries.
+    #[inline(always)]
+    pub fn read_16(&self, k: usize, tally: &mut Tally) -> u16x16
+        requires { k + 16 ≤ length self.now }
+        ensures value { result ≡ take 16 (drop k self.now) }
+        ensures exact { tally.new ≡ record tally.old {
+          block_entries = min (tally.old.block_entries + 16) 18446744073709551615;
+        } }
+        ensures adds { AddsAtMost tally.old tally.new (only_block_entries 16) }
+    {
+        tally.block_entries = tally.block_entries.saturating_add(16);
+        u16x16::from_slice(&self.entries.as_slice()[k..])
     }
 }
 

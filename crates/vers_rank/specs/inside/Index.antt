@@ -33,6 +33,10 @@ held b l i = cond b (count true l i) (i - count true l i)
 unfoldable pub held_in : Bool → ℕ → ℕ → ℕ
 held_in b w j = cond b (count_ones (w % 2 ^ j)) (j - count_ones (w % 2 ^ j))
 
+-- how many of the 512 * j places of a superblock before its block number j hold the bit, where z of them are zeros
+abbrev pub held_before : Bool → ℕ → ℕ → ℕ
+held_before b j z = cond b (512 * j - z) z
+
 -- the entries of the first n blocks and their superblocks
 pub record AreEntries (l : List Bool) (n : ℕ) (blocks superblocks : List ℕ) : Type 0 where
   pub blocks_counted : length blocks ≡ n

@@ -17,18 +17,19 @@ use vers_tally::tally::Tally;
 /// How many bits are loaded at a time.
 const CHUNK: usize = 16;
 
-// The chunk that was loaded last: its places from `place` up to `end` that hold the bit are the ones
-// of `chunk`, of which the lowest bit stands for `place`.
+// The chunk that was loaded last, from place `start` up to `end`: the ones of `chunk` are its places
+// still to come that hold the bit, and the lowest bit of it stands for `start`.
 #[derive(Clone, Copy, Drop)]
 struct ChunkWalk {
     bit: bool,
-    place: usize,
+    start: usize,
     end: usize,
     chunk: u64,
 }
 
 impl ChunkWalk {
-    // The next place of the bit, by the lowest one of the chunk. Loads chunks on the way.
+    // The next place of the bit, by the lowest one of the chunk, which is cleared. Loads chunks on the
+    // way.
     fn next_counted<A: Allocator + Copy>(
         &mut self,
         bits: &RsVec<A>,
@@ -42,41 +43,37 @@ impl ChunkWalk {
         ensures adds { AddsAtMost tally.old tally.new
             (chunk_reads (chunks_unread bits.now self.old - chunks_unread bits.now self.new)) }
     {
-        let len = bits.len();
-        while self.place < len {
-            self.load(bits, tally);
-            if self.chunk != 0 {
-                let lowest = self.chunk.trailing_zeros() as usize;
-                let place = self.place + lowest;
-                self.chunk = self.chunk >> lowest >> 1;
-                self.place = place + 1;
-                return Some(place);
+        let _ = &bits.bits;
+        while self.chunk == 0 {
+            if self.end >= bits.len() {
+                return None;
             }
-            self.place = self.end;
+            self.load(bits, tally);
         }
-        None
+        let lowest = self.chunk.trailing_zeros() as usize;
+        self.chunk &= !(1 << lowest);
+        Some(self.start + lowest)
     }
 
-    // Loads the next chunk where all places of the last one were passed.
+    // Loads the next chunk, where all places of the last one were passed.
     fn load<A: Allocator + Copy>(&mut self, bits: &RsVec<A>, tally: &mut Tally)
         requires walk { IsChunkWalkOf bits.now self.old }
-        requires more { self.old.place < length bits.now }
+        requires passed { self.old.chunk ≡ 0 }
+        requires more { self.old.end < length bits.now }
         ensures walk { IsChunkWalkOf bits.now self.new }
-        ensures same_place { self.new.place ≡ self.old.place }
-        ensures same_bit { self.new.bit ≡ self.old.bit }
-        ensures more { self.new.place < self.new.end }
+        ensures same_left { chunk_places_left bits.now self.new
+            ≡ chunk_places_left bits.now self.old }
+        ensures on { self.old.end < self.new.end }
         ensures loads { chunks_unread bits.now self.new ≤ chunks_unread bits.now self.old }
         ensures adds { AddsAtMost tally.old tally.new
             (chunk_reads (chunks_unread bits.now self.old - chunks_unread bits.now self.new)) }
     {
-        if self.place < self.end {
-            return;
-        }
         tally.add_chunk();
         let n = CHUNK.min(bits.len() - self.end);
         let chunk = bits_at(bits, self.end, n, tally);
         let held = marks(self.bit, chunk) & ((1 << n) - 1);
         self.chunk = held;
+        self.start = self.end;
         self.end += n;
     }
 }
@@ -124,7 +121,7 @@ impl<'a, A: Allocator + Copy> Chunks<'a, A> {
             bits,
             walk: ChunkWalk {
                 bit,
-                place: 0,
+                start: 0,
                 end: 0,
                 chunk: 0,
             },

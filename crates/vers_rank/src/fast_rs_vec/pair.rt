@@ -1,5 +1,5 @@
 //! The places of two ones that follow each other.
-ghost use Rattle.std.specs.Prelude.{◌≡◌, ◌+◌, ◌≤◌, length, true};
+ghost use Rattle.std.specs.Prelude.{◌≡◌, ◌+◌, ◌/◌, ◌<◌, ◌≤◌, length, true};
 ghost use Rattle.vers_bits.specs.Bits.{select};
 ghost use Rattle.vers_tally.specs.Reads.{AddsAtMost, times};
 ghost use Rattle.vers_rank.specs.Queries.{superblock_count, select_reads};
@@ -31,7 +31,8 @@ impl<A: Allocator + Copy> RsVec<A> {
     }
 
     /// The places of one number `r`, counted from 0, and of the one after it, each the length where
-    /// there are no more. By one select where both stand in one word of 64 bits, and else by two.
+    /// there are no more. By the reads of one select where both stand in one word of 64 bits, and
+    /// else by those of two.
     #[inline(always)]
     #[tactic(auto, using(crate::proofs::Pairs::pairs))]
     pub fn select1_pair_counted(&self, r: usize, tally: &mut Tally) -> PlacePair
@@ -40,6 +41,10 @@ impl<A: Allocator + Copy> RsVec<A> {
         ensures within { (result.first ≤ length self.now) × (result.second ≤ length self.now) }
         ensures adds { AddsAtMost tally.old tally.new
             (times 2 (select_reads (superblock_count (length self.now)))) }
+        ensures near { result.second < length self.now
+            → result.first / 64 ≡ result.second / 64
+            → AddsAtMost tally.old tally.new
+            (select_reads (superblock_count (length self.now))) }
     {
         tally.add_rank_call();
         let len = self.len();

@@ -6,6 +6,7 @@ ghost use Rattle.vers_rank.specs.Queries.{superblock_count, select_reads};
 ghost use Rattle.vers_rank.specs.inside.Index.{held, held_in, IsSample, IsLimbWith, IsAmongLimbs};
 
 use super::{BLOCK, BLOCKS, LIMB, RsVec, SUPERBLOCK};
+use crate::lanes::{FAR_BELOW, FoundBlock, last_up_to};
 use crate::word::{held_in_word, place_in_word};
 use std::alloc::Allocator;
 use vers_tally::tally::Tally;
@@ -15,45 +16,6 @@ const FEW: usize = 4;
 
 /// How many superblocks from the one that is guessed a search looks at before it goes by halves.
 const STEPS: usize = 4;
-
-// A block of a superblock, and the number in it that a number of the superblock is.
-#[derive(Clone, Copy)]
-struct FoundBlock {
-    block: u16,
-    rest: u16,
-}
-
-/// From where on a difference of numbers of a superblock went round the end of the numbers.
-const FAR_BELOW: u16 = 0x8000;
-
-// How many blocks of a superblock were passed, and how far the entry of the last of them lies below a
-// number.
-#[derive(Clone, Copy)]
-struct Passed {
-    blocks: u16,
-    rest: u16,
-}
-
-impl Passed {
-    // One block more where its entry does not pass number `r`: a choice of values, and no branch. An
-    // entry that passes `r` lies below it by more than any other, round the end of the numbers.
-    #[inline(always)]
-    fn and(self, entry: u16, r: u16) -> Passed
-        requires few { self.blocks < 16 }
-        requires small { (entry ≤ 8192) × (r < 8192) }
-        ensures passed { entry ≤ r → (result.blocks ≡ self.blocks + 1)
-            × (result.rest ≡ min self.rest (r - entry)) }
-        ensures kept { r < entry → (result.blocks ≡ self.blocks)
-            × (result.rest ≡ min self.rest (65536 + r - entry)) }
-    {
-        let below = r.wrapping_sub(entry);
-        let more = if below < FAR_BELOW { 1 } else { 0 };
-        Passed {
-            blocks: self.blocks + more,
-            rest: self.rest.min(below),
-        }
-    }
-}
 
 // A limb, and how many places of its block before it hold a bit.
 #[derive(Clone, Copy)]
@@ -488,11 +450,9 @@ impl<A: Allocator + Copy> RsVec<A> {
         self.block_up_to(bit, r, s, blocks as u16, tally)
     }
 
-    // The block of number `r` among the 16 of a superblock, or the last of them: by as many
-    // comparisons whatever the entries hold, which the compiler makes of all entries at once. Of the
-    // entries that don't pass `r` that of the block lies least below it.
+    // The block of number `r` among the 16 of a superblock, or the last of them: all their entries are
+    // read and compared at once, by lanes.
     #[inline(always)]
-    #[tactic(auto, using(crate::proofs::Selects::block_search))]
     fn block_among(&self, bit: bool, r: u16, s: usize, tally: &mut Tally) -> FoundBlock
         requires within { 8192 * s + 8192 ≤ length self.now }
         requires small { r < 8192 }
@@ -505,19 +465,9 @@ impl<A: Allocator + Copy> RsVec<A> {
             < count bit self.now (512 * (16 * s + result.block + 1)) }
         ensures adds { AddsAtMost tally.old tally.new (only_block_entries 16) }
     {
-        let mut passed = Passed {
-            blocks: 0,
-            rest: u16::MAX,
-        };
-        for j in 0..BLOCKS as u16 {
-            let entry = self.count_in_superblock(bit, s, j, tally);
-            let next = passed.and(entry, r);
-            passed = next;
-        }
-        FoundBlock {
-            block: passed.blocks - 1,
-            rest: passed.rest,
-        }
+        let _ = &self.bits;
+        let zeros = self.blocks.read_16(BLOCKS * s, tally);
+        last_up_to(zeros, bit, r)
     }
 
     // The block of number `r` among the first `n` of a superblock, or the last of them: one after the

@@ -1,11 +1,26 @@
-use Rattle.std.proofs.Common.{arith}
-use Rattle.vers_tally.proofs.PublicLaws.{adds_then}
-use Rattle.vers_rank.proofs.Selects.{one_passed}
+use Rattle.std.proofs.Common.{◌≡◌, ◌+◌, ◌*◌, ap, arith}
+use Rattle.vers_bits.specs.Bits.{count}
+use Rattle.vers_rank.proofs.BlockLanes.{entry_within, held_counts, held_rising}
 use Rattle.vers_rank.proofs.fast_rs_vec.RsVec.block_among.Goals as goal
 
-pub loop-j-preserved : goal.loop-j-preserved
-loop-j-preserved g c = record {
-  passed = one_passed c.args.bit c.args.self.now c.args.s c.args.r c.loop-j.j c.loop-j.passed.blocks c.loop-j.passed.rest c.count_in_superblock-entry.result c.and-next.result.blocks c.and-next.result.rest
-      c.loop-j.invariant.passed c.count_in_superblock-entry.ensures.value c.count_in_superblock-entry.ensures.few c.requires.small c.and-next.ensures.passed c.and-next.ensures.kept;
-  adds = adds_then c.loop-j.invariant.adds c.count_in_superblock-entry.ensures.adds (record { data_words = omega arith; block_entries = omega arith; superblock_entries = omega arith; low_parts = omega arith; rank_calls = omega arith; items = omega arith; blocks = omega arith; nodes = omega arith; chunks = omega arith });
-}
+pub last_up_to-requires-clause-within : goal.last_up_to-requires-clause-within
+last_up_to-requires-clause-within g c =
+    let index = rw c.self.view_is at c.self.invariant in
+    entry_within index c.args.s c.requires.within c.read_16-zeros.result c.read_16-zeros.ensures.value
+
+pub last_up_to-requires-clause-rising : goal.last_up_to-requires-clause-rising
+last_up_to-requires-clause-rising g c =
+    let index = rw c.self.view_is at c.self.invariant in
+    held_rising index c.args.s c.requires.within c.read_16-zeros.result c.read_16-zeros.ensures.value c.args.bit
+
+pub returns-clause-counted : goal.returns-clause-counted
+returns-clause-counted g c =
+    let index = rw c.self.view_is at c.self.invariant in
+    omega (arith, c.last_up_to.ensures.rest, held_counts index c.args.s c.requires.within c.read_16-zeros.result c.read_16-zeros.ensures.value c.args.bit c.last_up_to.result.block c.last_up_to.ensures.few)
+
+pub returns-clause-to : goal.returns-clause-to
+returns-clause-to g c h =
+    let index = rw c.self.view_is at c.self.invariant in
+    let next = c.last_up_to.result.block + 1 in
+    let e : 512 * (16 * c.args.s + c.last_up_to.result.block + 1) ≡ 512 * (16 * c.args.s + next) = omega arith in
+    omega (arith, c.last_up_to.ensures.last h, ap (count c.args.bit c.args.self.now) e, held_counts index c.args.s c.requires.within c.read_16-zeros.result c.read_16-zeros.ensures.value c.args.bit next h)

@@ -1,4 +1,4 @@
-use Rattle.std.proofs.Common.{◌≡◌, ◌+◌, ◌*◌, arith}
+use Rattle.std.proofs.Common.{◌≡◌, ◌*◌, arith}
 use Rattle.vers_bits.specs.Bits.{count}
 use Rattle.vers_rank.specs.inside.Index.{held}
 use Rattle.vers_rank.proofs.Selects.{rest_in_limb, held_is}

@@ -1,8 +1,8 @@
-use Rattle.std.proofs.Common.{◌<◌, ◌/◌, ◌^◌, true, arith, w64, ap}
+use Rattle.std.proofs.Common.{◌≡◌, ◌<◌, ◌/◌, ◌^◌, true, arith, w64, ap}
 use Rattle.std.specs.Int.{trailing_zeros}
 use Rattle.vers_bits.specs.Bits.{limb}
 use Rattle.vers_bits.proofs.PublicLaws.{count_at_select}
-use Rattle.vers_rank.proofs.Pairs.{one_after, no_ones}
+use Rattle.vers_rank.proofs.Pairs.{one_after, none_after, no_ones}
 use Rattle.vers_rank.proofs.fast_rs_vec.RsVec.select1_pair_counted.Goals as goal
 
 pub returns-then-r-ones-clause-first : goal.returns-then-r-ones-clause-first
@@ -31,3 +31,12 @@ returns-then-after-ne0-clause-within g c =
 pub returns-else-after-ne0-clause-within : goal.returns-else-after-ne0-clause-within
 returns-else-after-ne0-clause-within g c =
     (omega (arith, c.locate-at.ensures.value, (count_at_select true c.args.self.now c.args.r (omega (arith, c.ones.ensures.value, c.if-r-ones.false))).0), c.select1_counted-second.ensures.within)
+
+pub returns-else-after-ne0-clause-near : goal.returns-else-after-ne0-clause-near
+returns-else-after-ne0-clause-near g c within same =
+    let at = c.locate-at.result in
+    let there = c.select1_counted-second.ensures.value in
+    let fits : limb c.args.self.now at.limb < 18446744073709551616 = omega (arith, c.locate-at.ensures.word) in
+    let none : limb c.args.self.now at.limb / 2 ^ at.place / 2 ≡ 0 = omega (arith, c.if-after-ne0.false, ap (λ w. w / 2 ^ at.place / 2) c.locate-at.ensures.word) in
+    absurd (none_after c.args.self.now c.args.r at.limb at.place fits c.locate-at.ensures.within.1 (omega (arith, c.ones.ensures.value, c.if-r-ones.false)) c.locate-at.ensures.value none
+    (omega (arith, within, there)) (omega (arith, same, there)))

@@ -1,4 +1,4 @@
-use Rattle.std.proofs.Common.{◌-◌, ◌≡◌, ◌≤◌}
+use Rattle.std.proofs.Common.{◌-◌, ◌≡◌, ◌≤◌, length}
 use Rattle.vers_tally.specs.Reads.{AddsAtMost}
 use Rattle.vers_rank.specs.Walks.{chunk_reads}
 use Rattle.vers_rank.specs.inside.Walks.{chunk_places_left, chunks_unread, IsChunkWalkOf}
@@ -12,4 +12,4 @@ invariant-loop-self g l =
     × (AddsAtMost l.fn.tally l.tally (chunk_reads (chunks_unread l.bits l.fn.self - chunks_unread l.bits l.self)))
 
 abbrev pub decreases-loop-self : goal.decreases-loop-self
-decreases-loop-self g l = l.len - l.self.place
+decreases-loop-self g l = length l.bits - l.self.end

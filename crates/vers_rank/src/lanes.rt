@@ -1,0 +1,72 @@
+//! The entries of the 16 blocks of a superblock, looked at at once by lanes.
+ghost use Rattle.std.specs.Prelude.{◌≡◌, ℕ, ◌+◌, ◌-◌, ◌*◌, ◌<◌, ◌≤◌, length, slice_index, count_by, nat_le};
+ghost use Rattle.vers_rank.specs.inside.Index.{held_before};
+
+use std::simd::prelude::*;
+
+/// From where on a difference of numbers of a superblock went round the end of the numbers.
+pub(crate) const FAR_BELOW: u16 = 0x8000;
+
+/// How many places of a superblock stand before each of its blocks.
+const STARTS: [u16; 16] = [
+    0, 512, 1024, 1536, 2048, 2560, 3072, 3584, 4096, 4608, 5120, 5632, 6144, 6656, 7168, 7680,
+];
+
+// A block of a superblock, and the number in it that a number of the superblock is.
+#[derive(Clone, Copy)]
+pub(crate) struct FoundBlock {
+    pub(crate) block: u16,
+    pub(crate) rest: u16,
+}
+
+// The last of the 16 blocks of a superblock before which at most `r` places hold the bit, by the
+// zeros before each.
+#[inline(always)]
+pub(crate) fn last_up_to(zeros: u16x16, bit: bool, r: u16) -> FoundBlock
+    requires long { length zeros ≡ 16 }
+    requires within { (j : ℕ) → j < 16 → slice_index zeros j ≤ 512 * j }
+    requires rising { (i j : ℕ) → i ≤ j → j < 16
+        → held_before bit i (slice_index zeros i) ≤ held_before bit j (slice_index zeros j) }
+    requires small { r < 8192 }
+    ensures few { result.block < 16 }
+    ensures rest { held_before bit result.block (slice_index zeros result.block) + result.rest
+        ≡ r }
+    ensures last { result.block + 1 < 16 → r
+        < held_before bit (result.block + 1) (slice_index zeros (result.block + 1)) }
+{
+    let below = differences(zeros, bit, r);
+    let block = 15 - far_below(below);
+    FoundBlock {
+        block,
+        rest: below.to_array()[block as usize],
+    }
+}
+
+// How far the number of places before each block that hold the bit lies below `r`: round the end of
+// the numbers where it passes `r`.
+#[inline(always)]
+fn differences(zeros: u16x16, bit: bool, r: u16) -> u16x16
+    requires long { length zeros ≡ 16 }
+    requires within { (j : ℕ) → j < 16 → slice_index zeros j ≤ 512 * j }
+    requires small { r < 8192 }
+    ensures long { length result ≡ 16 }
+    ensures up_to { (j : ℕ) → j < 16 → held_before bit j (slice_index zeros j) ≤ r
+        → slice_index result j ≡ r - held_before bit j (slice_index zeros j) }
+    ensures past { (j : ℕ) → j < 16 → r < held_before bit j (slice_index zeros j)
+        → FAR_BELOW ≤ slice_index result j }
+{
+    if bit {
+        return u16x16::splat(r) + zeros - u16x16::from_slice(&STARTS);
+    }
+    u16x16::splat(r) - zeros
+}
+
+// How many of 16 differences went round the end of the numbers.
+#[inline(always)]
+fn far_below(below: u16x16) -> u16
+    requires { length below ≡ 16 }
+    ensures { result ≡ count_by (nat_le FAR_BELOW) below }
+{
+    let far = below.simd_ge(u16x16::splat(FAR_BELOW)).to_bitmask();
+    far.count_ones() as u16
+}
