@@ -30,6 +30,7 @@ pub mod MinMax
 pub mod Climbs
 pub mod Back
 pub mod Steps
+pub mod Beside
 pub mod Blocks
 pub mod Build
 pub mod Makes

@@ -1,17 +1,50 @@
 //! Searches for a sum: first in the block of a place, then in the tree for another block, then there.
-ghost use Rattle.std.specs.Prelude.{◌≡◌, length};
+ghost use Rattle.std.specs.Prelude.{◌≡◌, ◌↔◌, ◌+◌, ◌-◌, ◌^◌, ◌<◌, length, IsTrue, Some};
+ghost use Rattle.vers_rank.specs.Queries.{get_reads};
 ghost use Rattle.vers_tally.specs.Reads.{AddsAtMost};
 ghost use Rattle.vers_trees.specs.Excess.{first_rise_after, last_rise_before};
 ghost use Rattle.vers_trees.specs.inside.Index.{IsIndexed};
 ghost use Rattle.vers_trees.specs.Layout.{search_reads};
 
 use crate::trees::bp::min_max::MinMaxTree;
-use crate::trees::bp::scan::{scan_backward, scan_forward};
+use crate::trees::bp::scan::{scan_backward, scan_forward, step};
 use std::alloc::Allocator;
 use vers_rank::fast_rs_vec::RsVec;
 use vers_tally::tally::Tally;
 
-// The first place after `i` past which the excess is `r` more than past `i`.
+// Whether the place right after `i` is what a search forwards looks for.
+#[inline(always)]
+fn is_right_after<A: Allocator + Copy>(bits: &RsVec<A>, i: usize, r: i64, tally: &mut Tally) -> bool
+    requires inside { i < length bits.now }
+    requires short { length bits.now < 2 ^ 63 }
+    ensures value { IsTrue result ↔ (first_rise_after bits.now i r ≡ Some (i + 1)) }
+    ensures adds { AddsAtMost tally.old tally.new get_reads }
+{
+    let next = i + 1;
+    if next >= bits.len() {
+        return false;
+    }
+    step(bits.is_one_counted(next, tally)) == r
+}
+
+// Whether the place right before `i` is what a search backwards looks for.
+#[inline(always)]
+fn is_right_before<A: Allocator + Copy>(
+    bits: &RsVec<A>,
+    i: usize,
+    r: i64,
+    tally: &mut Tally,
+) -> bool
+    requires some { 0 < i }
+    requires inside { i < length bits.now }
+    ensures value { IsTrue result ↔ (last_rise_before bits.now i r ≡ Some (i - 1)) }
+    ensures adds { AddsAtMost tally.old tally.new get_reads }
+{
+    step(!bits.is_one_counted(i - 1, tally)) == r
+}
+
+// The first place after `i` past which the excess is `r` more than past `i`. A place right beside is
+// found by its bit alone.
 #[inline(always)]
 pub(super) fn forward<A: Allocator + Copy>(
     bits: &RsVec<A>,
@@ -29,6 +62,9 @@ pub(super) fn forward<A: Allocator + Copy>(
     if i >= len {
         return None;
     }
+    if is_right_after(bits, i, r, tally) {
+        return Some(i + 1);
+    }
     let block = i / size;
     let end = (block * size + size).min(len);
     tally.add_block();
@@ -43,7 +79,8 @@ pub(super) fn forward<A: Allocator + Copy>(
     scan_forward(bits, &tree.tables, next * size, next_end, rest, tally).ok()
 }
 
-// The last place before `i` before which the excess is `r` more than before `i`.
+// The last place before `i` before which the excess is `r` more than before `i`. A place right beside
+// is found by its bit alone.
 #[inline(always)]
 pub(super) fn backward<A: Allocator + Copy>(
     bits: &RsVec<A>,
@@ -59,6 +96,9 @@ pub(super) fn backward<A: Allocator + Copy>(
 {
     if i == 0 || i >= bits.len() {
         return None;
+    }
+    if is_right_before(bits, i, r, tally) {
+        return Some(i - 1);
     }
     let block = (i - 1) / size;
     tally.add_block();
