@@ -13,6 +13,8 @@ mod lists;
 #[cfg(test)]
 mod makers;
 #[cfg(test)]
+mod memory;
+#[cfg(test)]
 mod numbers;
 #[cfg(test)]
 mod queries;

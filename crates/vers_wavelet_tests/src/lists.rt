@@ -5,8 +5,8 @@ use test_alloc::asked;
 use vers_bits::bit_vec::{BitVec, GrowError};
 use vers_wavelet::wavelet::WaveletMatrix;
 
-// The low bits of a number.
-fn symbol_of<A: Allocator + Copy>(
+/// The low bits of a number.
+pub fn symbol_of<A: Allocator + Copy>(
     alloc: A,
     number: u64,
     width: usize,

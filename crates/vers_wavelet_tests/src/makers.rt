@@ -12,8 +12,8 @@ pub enum Method {
     Counting,
 }
 
-// The symbols of numbers. Out of memory for a width that the maker isn't asked for.
-fn of_numbers<A: Allocator + Copy>(
+/// The symbols of numbers. Out of memory for a width that the maker isn't asked for.
+pub fn of_numbers<A: Allocator + Copy>(
     alloc: A,
     method: Method,
     numbers: &[u64],
@@ -53,8 +53,8 @@ pub fn of_bits<A: Allocator + Copy>(
     }
 }
 
-// Whether a matrix has the numbers as its symbols.
-fn has_numbers<A: Allocator + Copy>(
+/// Whether a matrix has the numbers as its symbols.
+pub fn has_numbers<A: Allocator + Copy>(
     symbols: &WaveletMatrix<A>,
     width: u16,
     numbers: &[u64],
