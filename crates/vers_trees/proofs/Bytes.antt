@@ -5,7 +5,7 @@ use Rattle.std.specs.Int.{bit_at}
 use Rattle.std.proofs.lemmas.Int.{ints}
 use Rattle.std.proofs.lemmas.Bool.{cases_lt}
 use Rattle.std.proofs.lemmas.List.{get_or-set_same, get_or-set_other, length-set}
-use Rattle.vers_bits.specs.Bits.{bit_value, number}
+use Rattle.vers_bits.specs.Bits.{bit_value}
 use Rattle.vers_bits.proofs.PublicLaws.{bit_at-number}
 use Rattle.vers_trees.specs.Excess.{excess, bit_step}
 use Rattle.vers_trees.specs.Bytes.{IsByte, IsEntry, IsFirstMet, sum_along, place_along, place_in, least_in, greatest_in}

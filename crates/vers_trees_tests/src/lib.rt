@@ -14,6 +14,8 @@ mod forests;
 #[cfg(test)]
 mod lists;
 #[cfg(test)]
+mod memory;
+#[cfg(test)]
 mod nodes;
 #[cfg(test)]
 mod plain;

@@ -1,7 +1,5 @@
-use Rattle.std.proofs.Common.{◌≡◌, ℕ, ◌+◌, ◌-◌, ◌<◌, ◌≤◌, Bool, true, false, List, length, get_or, Some, None, pos, negsuc, arith, refl, sym, ap, subst, ◌∙◌}
-use Rattle.vers_trees.specs.Forest.{IsBalanced, forest_of}
+use Rattle.std.proofs.Common.{Bool, List, length, arith, sym, ap, ◌∙◌}
 use Rattle.vers_trees.specs.inside.Scans.{opened_after}
-use Rattle.vers_trees.specs.Nodes.{children, siblings, first_of, next_of, closing}
 use Rattle.vers_trees.proofs.Handles.{always_closes, closing_found, subtree_by, next_sibling_by}
 use Rattle.vers_trees.proofs.trees.bp.BpTree.next_sibling_counted.Goals as goal
 

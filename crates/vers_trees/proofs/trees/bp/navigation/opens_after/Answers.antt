@@ -1,7 +1,4 @@
-use Rattle.std.proofs.Common.{◌≡◌, ℕ, ◌+◌, ◌-◌, ◌<◌, ◌≤◌, Bool, true, false, List, length, get_or, Some, None, pos, negsuc, arith, refl, sym, ap, subst, ◌∙◌}
-use Rattle.vers_trees.specs.Forest.{IsBalanced, forest_of}
-use Rattle.vers_trees.specs.inside.Scans.{opened_after}
-use Rattle.vers_trees.specs.Nodes.{children, siblings, first_of, next_of, closing}
+use Rattle.std.proofs.Common.{arith, sym, ◌∙◌}
 use Rattle.vers_trees.proofs.Queries.{opens_there, closes_there, ends_there}
 use Rattle.vers_trees.proofs.trees.bp.navigation.opens_after.Goals as goal
 

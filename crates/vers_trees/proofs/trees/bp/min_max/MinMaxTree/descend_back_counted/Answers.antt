@@ -1,4 +1,4 @@
-use Rattle.std.proofs.Common.{rules, ◌≡◌, ℕ, ℤ, Bool, true, false, not, List, ◌*◌, ◌+◌, ◌-◌, ◌+ℤ◌, arith, w64, FitsSigned, to_z, of_z, refl, ap, subst, sym, ◌∙◌}
+use Rattle.std.proofs.Common.{rules, ◌≡◌, ℕ, ℤ, Bool, true, false, not, List, ◌*◌, ◌+◌, ◌-◌, ◌+ℤ◌, arith, w64, FitsSigned, to_z, of_z, ap, subst, sym, ◌∙◌}
 use mir.Val.{bool_byte}
 use Rattle.std.proofs.lemmas.Int.{to_z-of_z}
 use Rattle.vers_trees.specs.declared.trees.bp.min_max.Node.{Node}
