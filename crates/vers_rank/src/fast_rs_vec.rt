@@ -18,7 +18,7 @@ use crate::build::{add_entries, samples};
 pub use bit_set_iter::BitSetIter;
 pub use iter::{RsVecIter, RsVecRefIter};
 pub use pair::PlacePair;
-pub use select_iter::{SelectIntoIter, SelectIter};
+pub use select_iter::{Places, SelectIntoIter, SelectIter};
 use std::alloc::{AllocError, Allocator};
 use std::marker::Model;
 use vers_bits::bit_vec::{BitVec, MAX_LEN};

@@ -20,6 +20,7 @@ pub mod ListsBelow
 pub mod SiblingWalks
 pub mod ListsOfNodes
 pub mod WalksOfNodes
+pub mod ClosedByZeros
 pub mod Matching
 pub mod Scans
 pub mod Octal

@@ -1,30 +1,30 @@
 -- The walks over nodes meet the lists of their definitions.
 use Rattle.std.proofs.Common.{◌≡◌, ℕ, suc, ◌+◌, ◌-◌, ◌/◌, ◌<◌, ◌≤◌, Bool, true, false, List, [], ◌∷◌, ◌++◌, map, length, take, drop, reverse, get_or, negsuc, Option, Some, None, arith, length-append, subst, sym, refl, ap, ◌∙◌}
-use Rattle.std.specs.Prelude.{IsSome, unwrap_or}
+use Rattle.std.specs.Prelude.{unwrap_or}
 use Rattle.std.specs.List.{Contains}
 use Rattle.vers_bits.proofs.PublicLaws.{length-places}
 use Rattle.std.proofs.lemmas.List.{append-nil, append_assoc, length-map, length-reverse, length-take, length-drop}
-use Rattle.std.proofs.lemmas.List.Elements.{Contains-get_or, All-head, All-drop, All-take, All-weaker}
+use Rattle.std.proofs.lemmas.List.Elements.{Contains-get_or}
 use Rattle.vers_bits.specs.Bits.{count, places, select}
 use Rattle.vers_bits.specs.Walk.{TakesFirst}
 use Rattle.vers_tally.specs.Reads.{Reads}
 use Rattle.vers_tally.specs.Ends.{Walking}
-use Rattle.vers_trees.specs.Excess.{first_rise_after, last_rise_before}
+use Rattle.vers_trees.specs.Excess.{first_rise_after}
 use Rattle.vers_trees.specs.Forest.{Forest, text, IsBalanced, forest_of}
 use Rattle.vers_trees.specs.Nodes.{nodes, IsNode, closing, children, subtree}
-use Rattle.vers_trees.specs.Siblings.{opening_of, AllOpened, tree_before, tree_beside, siblings_left, MeetsJust, IsWalkOfSiblings}
+use Rattle.vers_trees.specs.Siblings.{opening_of, tree_before, tree_beside, siblings_left, MeetsJust, IsWalkOfSiblings}
 use Rattle.vers_trees.specs.Traversals.{postorder, subtree_post}
 use Rattle.vers_trees.proofs.Grammar.{text-forest_of}
-use Rattle.vers_trees.proofs.Searches.{after_is, before_is}
-use Rattle.vers_trees.proofs.Partners.{after_from_closes, before_from_closes}
-use Rattle.vers_trees.proofs.Paired.{closes_rises, closes_falls, close_is_paired, paired_closes}
+use Rattle.vers_trees.proofs.Searches.{after_is}
+use Rattle.vers_trees.proofs.Partners.{after_from_closes}
+use Rattle.vers_trees.proofs.Paired.{closes_rises, closes_falls}
 use Rattle.vers_trees.proofs.NodeList.{HasPair, node_pair, nodes_are_ones}
 use Rattle.vers_trees.proofs.Around.{subtree_size_is}
-use Rattle.vers_trees.proofs.Lists.{shifted, HasBitAt, all_places}
+use Rattle.vers_trees.proofs.Lists.{shifted}
 use Rattle.vers_trees.proofs.PostorderPlaces.{postorder_opens}
 use Rattle.vers_trees.proofs.ListsBelow.{below, branch, StandsAt, part_standing, half_of_text}
 use Rattle.vers_trees.proofs.SiblingWalks.{top_nodes, walk_is, walk_short, meets_forwards, meets_backwards, top_few}
-use Rattle.vers_trees.proofs.ListsOfNodes.{HasTree, has_tree, children_places, subtree_places, subtree_post_places, zero_here}
+use Rattle.vers_trees.proofs.ListsOfNodes.{HasTree, has_tree, children_places, subtree_places, subtree_post_places}
 
 -- ---- steps among siblings
 pub walk_ends : (l : List Bool) (forward : Bool) (p : ℕ) → IsWalkOfSiblings l forward p → tree_beside l forward p ≡ None → TakesFirst (siblings_left l forward p) None (siblings_left l forward p)
@@ -179,45 +179,6 @@ subtree_post_part l v b n =
 
 pub post_all : (l : List Bool) → IsBalanced l → map (opening_of l) (places false l) ≡ postorder (forest_of l)
 post_all l b = subst (λ (m : List Bool). map (opening_of m) (places false m) ≡ postorder (forest_of l)) (text-forest_of l b) (postorder_opens (forest_of l))
-
--- ---- what zeros close
-all_opened_in : (F : Forest) → AllOpened (text F) (places false (text F))
-all_opened_in F =
-    All-weaker (HasBitAt false (text F)) (λ c. IsSome (last_rise_before (text F) c (negsuc 0))) (λ c b.
-    let p = close_is_paired F c false b.inside (zero_here (text F) c b.holds) in
-    some_is (before_is (text F) c (negsuc 0) p.0 (before_from_closes (text F) p.0 c (paired_closes F p.0 c p.1)))) (places false (text F)) (all_places false (text F))
-  where
-    some_is : {o : Option ℕ} {w : ℕ} → o ≡ Some w → IsSome o
-    some_is e = rw e refl
-
-pub zeros_opened : (l : List Bool) → IsBalanced l → AllOpened l (places false l)
-zeros_opened l b = subst (λ (m : List Bool). AllOpened m (places false m)) (text-forest_of l b) (all_opened_in (forest_of l))
-
-pub part_opened : (l : List Bool) (k n : ℕ) → IsBalanced l → AllOpened l (take n (drop k (places false l)))
-part_opened l k n b =
-    let P = λ (c : ℕ). IsSome (last_rise_before l c (negsuc 0)) in
-    All-take P n (drop k (places false l)) (All-drop P k (places false l) (zeros_opened l b))
-
-pub opened_ends : (l : List Bool) (zs ws : List ℕ) → TakesFirst zs None ws → TakesFirst (map (opening_of l) zs) None (map (opening_of l) ws)
-opened_ends l [] ws t = record { given = refl; left = ap (map (opening_of l)) t.left }
-opened_ends l (z ∷ zs) ws t = absurd (let g = t.given in cc)
-
-pub opened_goes_on : (l : List Bool) (zs ws : List ℕ) (c : ℕ) → AllOpened l zs → TakesFirst zs (Some c) ws → TakesFirst (map (opening_of l) zs) (last_rise_before l c (negsuc 0)) (map (opening_of l) ws) × AllOpened l ws
-opened_goes_on l [] ws c a t = absurd (let g = t.given in cc)
-opened_goes_on l (z ∷ zs) ws c a t =
-    let P = λ (c : ℕ). IsSome (last_rise_before l c (negsuc 0)) in
-    let e : z ≡ c = same z c t.given in
-    let s = subst P e (All-head P z zs a) in (
-      record { given = first (last_rise_before l c (negsuc 0)) s ∙ ap (λ (w : ℕ). Some (opening_of l w)) (sym e); left = ap (map (opening_of l)) t.left },
-      subst (AllOpened l) (sym t.left) (All-drop P 1 (z ∷ zs) a),
-    )
-  where
-    same : (x y : ℕ) → Some y ≡ Some x → x ≡ y
-    same x y h = cc
-
-    first : (o : Option ℕ) → IsSome o → o ≡ Some (unwrap_or o 0)
-    first None s = absurd (let t : false ≡ true = s in cc)
-    first (Some w) s = refl
 
 -- ---- handles
 pub ones_are_nodes : (bits : List Bool) (i : ℕ) → IsBalanced bits → i < count true bits (length bits) → IsNode (forest_of bits) (select true bits i)

@@ -1,14 +1,10 @@
 -- Walks from tree to tree among siblings, over the list of parentheses.
-use Rattle.std.specs.Prelude.{if◌then◌else◌, ◌≡◌, ℕ, zero, suc, ◌+◌, Bool, true, false, List, [], ◌∷◌, length, slice_index_or, negsuc, Option, Some, None, IsSome, All, unwrap_or}
+use Rattle.std.specs.Prelude.{if◌then◌else◌, ◌≡◌, ℕ, zero, suc, ◌+◌, Bool, true, false, List, [], ◌∷◌, length, slice_index_or, negsuc, Option, Some, None, unwrap_or}
 use Rattle.vers_trees.specs.Excess.{first_rise_after, last_rise_before}
 
 -- where what closes at c opens, in a balanced list
 abbrev pub opening_of : List Bool → ℕ → ℕ
 opening_of bits c = unwrap_or (last_rise_before bits c (negsuc 0)) 0
-
--- each of these places closes what opens somewhere
-abbrev pub AllOpened : List Bool → List ℕ → Type 0
-AllOpened bits places = All (λ c. IsSome (last_rise_before bits c (negsuc 0))) places
 
 -- from a place that opens and from where it closes: the place, and the one past its tree
 abbrev pub tree_to : ℕ → Option ℕ → Option (ℕ × ℕ)

@@ -3,3 +3,4 @@ pub mod MinMax
 pub mod Index
 pub mod Scans
 pub mod Bytes
+pub mod Closed

@@ -2,9 +2,7 @@
 use crate::nodes::{are_balanced, node_at};
 use std::alloc::Allocator;
 use vers_tally::tally::Tally;
-use vers_trees::trees::bp::{
-    BpTree, ChildrenIter, DfsIter, PostIter, SubtreeIter, SubtreePostIter,
-};
+use vers_trees::trees::bp::{BpTree, ChildrenIter, DfsIter, PostIter};
 
 /// A walk, whose steps have a counted form.
 trait Walk: Drop {
@@ -24,26 +22,6 @@ impl<'a, const N: usize, A: Allocator + Copy> Walk for ChildrenIter<'a, N, true,
 }
 
 impl<'a, const N: usize, A: Allocator + Copy> Walk for ChildrenIter<'a, N, false, A> {
-    fn step(&mut self) -> Option<usize> {
-        self.next()
-    }
-
-    fn step_counted(&mut self, tally: &mut Tally) -> Option<usize> {
-        self.next_counted(tally)
-    }
-}
-
-impl<'a, A: Allocator + Copy> Walk for SubtreeIter<'a, A> {
-    fn step(&mut self) -> Option<usize> {
-        self.next()
-    }
-
-    fn step_counted(&mut self, tally: &mut Tally) -> Option<usize> {
-        self.next_counted(tally)
-    }
-}
-
-impl<'a, const N: usize, A: Allocator + Copy> Walk for SubtreePostIter<'a, N, A> {
     fn step(&mut self) -> Option<usize> {
         self.next()
     }

@@ -38,7 +38,8 @@ impl<K, L: Indexed> Model for Places<K, L> {
 
 #[tactic(auto, using(crate::proofs::BothEnds::kinds))]
 impl<K, L: Indexed> Places<K, L> {
-    fn new(list: L, bit: bool) -> Self
+    /// The places of the zeros of a list, or of its ones. Reads nothing yet.
+    pub fn new(list: L, bit: bool) -> Self
         ensures { result ≡ record { bits = L.bits list; bit = bit } }
     {
         let nothing = Reader::new();

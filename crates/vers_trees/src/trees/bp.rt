@@ -1,7 +1,7 @@
 //! Ordered trees as lists of balanced parentheses.
 ghost use Rattle.std.specs.Prelude.{◌≡◌, ◌≢◌, ℕ, ◌+◌, ◌<◌, ◌≤◌, ◌↔◌, ◌^◌, [], length, true, IfOk, IsTrue, Decides, Some, None};
 ghost use Rattle.std.specs.Prelude.{negsuc};
-ghost use Rattle.vers_bits.specs.Bits.{count, places, select};
+ghost use Rattle.vers_bits.specs.Bits.{count, select};
 ghost use Rattle.vers_tally.specs.Reads.{AddsAtMost, only_nodes};
 ghost use Rattle.vers_rank.specs.Queries.{superblock_count, rank_reads, select_reads};
 ghost use Rattle.vers_trees.specs.Excess.{excess, first_rise_after, last_rise_before, enclosing};
@@ -327,26 +327,5 @@ impl<const BLOCK_SIZE: usize, A: Allocator + Copy> BpTree<BLOCK_SIZE, A> {
             (select_reads (superblock_count (length self.now))) }
     {
         self.bits.select1_counted(i, tally)
-    }
-
-    /// An iterator over the places of the ones, ascending: in balanced parentheses, the nodes in
-    /// preorder.
-    pub fn iter(&self) -> DfsIter<'_, A>
-        ensures { result ≡ record {
-          left = places true self.now;
-          step = select_reads (superblock_count (length self.now));
-        } }
-    {
-        DfsIter::new(&self.bits)
-    }
-
-    /// The same as `iter`.
-    pub fn dfs_iter(&self) -> DfsIter<'_, A>
-        ensures { result ≡ record {
-          left = places true self.now;
-          step = select_reads (superblock_count (length self.now));
-        } }
-    {
-        self.iter()
     }
 }

@@ -1,22 +1,20 @@
-use Rattle.std.proofs.Common.{false, Bool, ℕ, List, length, map, arith, sym, ap, subst, ◌∙◌}
-use Rattle.vers_bits.specs.Bits.{places}
-use Rattle.vers_tally.specs.Reads.{plus}
-use Rattle.vers_tally.specs.Ends.{Walking}
-use Rattle.vers_trees.specs.Forest.{IsBalanced}
-use Rattle.vers_trees.specs.Layout.{search_reads}
-use Rattle.vers_trees.specs.Siblings.{opening_of, AllOpened}
+use Rattle.std.proofs.Common.{◌≡◌, false, Bool, ℕ, List, length, arith, sym, ap, ◌∙◌}
+use Rattle.vers_bits.specs.Bits.{count, places}
+use Rattle.vers_bits.proofs.PublicLaws.{length-places}
 use Rattle.vers_trees.specs.WalkReads.{post_reads}
-use Rattle.vers_trees.proofs.WalksOfNodes.{zeros_opened, post_all, walking}
+use Rattle.vers_trees.proofs.ClosedByZeros.{closed_by_all}
+use Rattle.vers_trees.proofs.WalksOfNodes.{walking}
 use Rattle.vers_trees.proofs.trees.bp.BpTree.dfs_post_iter.Goals as goal
 
-pub new-requires : goal.new-requires
-new-requires g c =
-    (omega arith, (c.self.invariant, subst (λ (s : Walking ℕ). AllOpened c.self.inside.bits s.left) (sym c.iter0.ensures) (zeros_opened c.self.inside.bits (subst IsBalanced (sym c.self.view_is) c.requires.balanced))))
+pub closed_by-requires : goal.closed_by-requires
+closed_by-requires g c =
+    let now = c.args.self.now in
+    let all = c.zeros.ensures.value ∙ ap (λ (l : List Bool). count false l (length l)) c.self.view_is in
+    omega (arith, all, length-places false now)
 
 pub returns : goal.returns
 returns g c =
     let now = c.args.self.now in
-    c.new.ensures
-    ∙ ap (λ (s : Walking ℕ). walking (map (opening_of c.self.inside.bits) s.left) (plus s.step (search_reads g.row.BLOCK_SIZE (length c.self.inside.bits)))) c.iter0.ensures
-    ∙ ap (λ (l : List Bool). walking (map (opening_of l) (places false l)) (post_reads g.row.BLOCK_SIZE (length l))) c.self.view_is
-    ∙ ap (λ (vs : List ℕ). walking vs (post_reads g.row.BLOCK_SIZE (length now))) (post_all now c.requires.balanced)
+    let all = c.zeros.ensures.value ∙ ap (λ (l : List Bool). count false l (length l)) c.self.view_is ∙ sym (length-places false now) in
+    c.closed_by.ensures
+    ∙ ap (λ (vs : List ℕ). walking vs (post_reads g.row.BLOCK_SIZE (length now))) (closed_by_all now c.zeros.result c.requires.balanced all)
