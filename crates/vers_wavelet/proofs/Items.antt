@@ -1,12 +1,12 @@
 -- The items of the iterators over symbols.
-use Rattle.std.proofs.Common.{◌≡◌, ℕ, ◌-◌, ◌<◌, Bool, false, List, [], length, sym, ap, ◌∙◌, subst, arith, slice_get, Some}
+use Rattle.std.proofs.Common.{◌≡◌, ℕ, ◌-◌, ◌<◌, Bool, true, false, List, [], length, refl, sym, ap, ◌∙◌, subst, arith, slice_get, Some}
 use Rattle.std.specs.Prelude.{slice_range, slice_index}
 use Rattle.std.proofs.lemmas.List.{length-map, get_or-map, same_lists, take_all}
 use Rattle.std.proofs.lemmas.Option.{slice_get-get_or, unwrap_or-slice_get}
 use Rattle.vers_bits.specs.Bits.{number, low_bits}
 use Rattle.vers_bits.proofs.PublicLaws.{length-low_bits, number-low_bits, any_default}
 use Rattle.vers_wavelet.specs.Levels.{digit}
-use Rattle.vers_wavelet.specs.Symbols.{by_size, in_bits, IsKth}
+use Rattle.vers_wavelet.specs.Symbols.{by_size, ordered, in_bits, IsKth}
 use Rattle.vers_wavelet.proofs.Digits.{list_digit, whole_symbol}
 use Rattle.vers_wavelet.proofs.BySize.{length-by_size, kth_at}
 
@@ -21,10 +21,13 @@ kth_of_all xs i x kth = subst (λ (ys : List ℕ). IsKth ys i x) (whole_range xs
 pub number_item : (xs : List ℕ) (i x : ℕ) → i < length xs → x ≡ slice_index xs i → slice_get xs i ≡ Some x
 number_item xs i x h is = slice_get-get_or xs i 0 h ∙ ap Some (sym is)
 
-pub sorted_item : (xs : List ℕ) (i x n : ℕ) → i < length (by_size xs) → n ≡ length xs → IsKth (slice_range xs 0 n) i x → slice_get (by_size xs) i ≡ Some x
-sorted_item xs i x n h e kth =
-    let whole : IsKth xs i x = kth_of_all xs i x (subst (λ (m : ℕ). IsKth (slice_range xs 0 m) i x) e kth) in
-    number_item (by_size xs) i x h (sym (kth_at xs i x (omega (arith, h, length-by_size xs)) whole))
+pub length-ordered : (ascending : Bool) (xs : List ℕ) → length (ordered ascending xs) ≡ length xs
+length-ordered true xs = length-by_size xs
+length-ordered false xs = refl
+
+-- member i of all symbols by size
+pub sorted_member : (xs : List ℕ) (i x n : ℕ) → i < length xs → n ≡ length xs → IsKth (slice_range xs 0 n) i x → x ≡ slice_index (by_size xs) i
+sorted_member xs i x n h e kth = sym (kth_at xs i x h (kth_of_all xs i x (subst (λ (m : ℕ). IsKth (slice_range xs 0 m) i x) e kth)))
 
 -- ---- items that are lists of bits
 
@@ -46,20 +49,9 @@ list_item xs k i l h long is =
     let low : i < length xs = omega (arith, h, length-in_bits k xs) in
     slice_get-get_or (in_bits k xs) i [] h ∙ ap Some (get_or-map (λ y. low_bits y k) xs i 0 [] low ∙ ap (λ y. low_bits y k) (sym is) ∙ bits_of_number l k long)
 
-pub sorted_list_item : (xs : List ℕ) (k i n : ℕ) (l : List Bool) → i < length (in_bits k (by_size xs)) → n ≡ length xs → length l ≡ k → IsKth (slice_range xs 0 n) i (number l)
-    → slice_get (in_bits k (by_size xs)) i ≡ Some l
-sorted_list_item xs k i n l h e long kth =
-    let low : i < length xs = omega (arith, h, length-in_bits k (by_size xs), length-by_size xs) in
-    let whole : IsKth xs i (number l) = kth_of_all xs i (number l) (subst (λ (m : ℕ). IsKth (slice_range xs 0 m) i (number l)) e kth) in
-    list_item (by_size xs) k i l h long (sym (kth_at xs i (number l) low whole))
+pub ruleset numbers = (length-ordered, number_item)
 
-pub ruleset numbers = (number_item)
-
-pub ruleset sorted_numbers = (length-by_size, sorted_item)
-
-pub ruleset lists = (length-in_bits, list_item)
-
-pub ruleset sorted_lists = (length-in_bits, length-by_size, sorted_list_item)
+pub ruleset lists = (length-in_bits, length-ordered, list_item)
 
 pub ruleset all_places = (kth_of_all)
 

@@ -1,5 +1,5 @@
 -- Neighbours of a number in a list, as members by size.
-use Rattle.std.proofs.Common.{◌≡◌, ℕ, zero, suc, ◌+◌, ◌-◌, ◌<◌, ◌≤◌, Bool, true, false, true≢false, cond, ltb, leb, List, [], ◌∷◌, length, drop, get_or, refl, sym, ◌∙◌, arith, inl, inr}
+use Rattle.std.proofs.Common.{◌≡◌, ℕ, zero, suc, ◌+◌, ◌-◌, ◌<◌, ◌≤◌, Bool, true, false, true≢false, cond, not, subst, ltb, leb, List, [], ◌∷◌, length, drop, get_or, refl, sym, ◌∙◌, arith, inl, inr}
 use Rattle.std.specs.Prelude.{Contains, Any, slice_range}
 use Rattle.std.specs.List.{count_by}
 use Rattle.std.proofs.lemmas.Bool.{cases_lt}
@@ -7,7 +7,8 @@ use Rattle.std.proofs.lemmas.Bool.Decides.{nat_tests}
 use Rattle.std.proofs.lemmas.List.{length-take, length-drop}
 use Rattle.std.proofs.lemmas.List.Sums.{sum_by-cons, sum_by-le-sum_by}
 use Rattle.vers_bits.proofs.PublicLaws.{any_default}
-use Rattle.vers_wavelet.specs.Symbols.{IsKth, IsPredecessor, IsSuccessor}
+use mir.Val.{bool_byte}
+use Rattle.vers_wavelet.specs.Symbols.{IsKth, IsPredecessor, IsSuccessor, IsNearest, IsBeyond}
 
 -- a test as a number
 abbrev pub one : Bool → ℕ
@@ -159,6 +160,19 @@ some_not_below xs n s e any =
 -- a range of a list has as many members as places
 pub part_length : (xs : List ℕ) (a b : ℕ) → a ≤ b → b ≤ length xs → length (slice_range xs a b) ≡ b - a
 part_length xs a b order within = omega (arith, length-take (b - a) (drop a xs), length-drop a xs)
+
+-- ---- the neighbour on one side
+pub nearest_same : (up : Bool) (xs : List ℕ) (below equal s x : ℕ) → below ≡ count_by (λ y. ltb y s) xs → below + equal ≡ count_by (λ y. leb y s) xs → 0 < equal → x ≡ s → IsNearest up xs s x
+nearest_same true xs below equal s x low high some is = successor_same xs below equal s x low high some is
+nearest_same false xs below equal s x low high some is = predecessor_same xs below equal s x low high some is
+
+pub any_same : (up : Bool) (xs : List ℕ) (below equal s : ℕ) → below ≡ count_by (λ y. ltb y s) xs → below + equal ≡ count_by (λ y. leb y s) xs → 0 < equal → below + equal ≤ length xs → Any (IsBeyond up s) xs
+any_same true xs below equal s low high some few = any_not_below xs below s low (omega arith)
+any_same false xs below equal s low high some few = any_not_above xs (below + equal) s high (omega arith)
+
+pub nearest_is : (up : Bool) (xs : List ℕ) (below s x i : ℕ) → below ≡ count_by (λ y. ltb y s) xs → below ≡ count_by (λ y. leb y s) xs → (up ≡ false → 0 < below) → i ≡ below - bool_byte (not up) → IsKth xs i x → IsNearest up xs s x
+nearest_is true xs below s x i low high some at kth = successor_is xs below s x low (subst (λ (k : ℕ). IsKth xs k x) (omega (arith, at)) kth)
+nearest_is false xs below s x i low high some at kth = predecessor_is xs below s x high (some refl) (subst (λ (k : ℕ). IsKth xs k x) at kth)
 
 pub never : {X : Type 0} → false ≡ true → X
 never {X} e = cc

@@ -1,6 +1,6 @@
 -- Lists of symbols: where a symbol stands in a range of them, and the members of a range by size.
 -- A symbol is a number; a range from a to b has the members at the places from a on, before b.
-use Rattle.std.specs.Prelude.{ℕ, ◌-◌, ◌<◌, ◌≤◌, ◌==◌, Bool, List, [], ◌∷◌, slice_index, filter, map, count_by, min, nat_lt, nat_le, All, Contains, if◌then◌else◌}
+use Rattle.std.specs.Prelude.{ℕ, ◌-◌, ◌<◌, ◌≤◌, ◌==◌, Bool, true, false, List, [], ◌∷◌, length, slice_index, filter, map, count_by, min, nat_lt, nat_le, All, Contains, if◌then◌else◌}
 use Rattle.std.specs.Int.{bit_at}
 use Rattle.std.specs.List.{range_with_len, sum_by}
 use Rattle.vers_bits.specs.Bits.{low_bits}
@@ -14,6 +14,10 @@ pub record Symbols : Type 0 where
 -- the places of a range that hold the symbol s, ascending
 unfoldable pub occurrences : List ℕ → ℕ → ℕ → ℕ → List ℕ
 occurrences items a b s = filter (λ p. slice_index items p == s) (range_with_len a (b - a))
+
+-- a is a place of the list, and b lies from a up to the length of the list
+abbrev pub BeginsInside : ℕ → ℕ → List ℕ → Type 0
+BeginsInside a b items = (a < length items) × (b ≤ length items) × (a ≤ b)
 
 -- x is member i of the list by size, from 0, equal ones counted: at most i members are below x, and more than i are not above x
 pub record IsKth (items : List ℕ) (i x : ℕ) : Type 0 where
@@ -32,6 +36,16 @@ pub record IsSuccessor (items : List ℕ) (s x : ℕ) : Type 0 where
   pub within : s ≤ x
   pub least : All (λ y. s ≤ y → x ≤ y) items
 
+-- x is the nearest member to s of those that are not below it, or, where `up` is false, of those that are not above it
+abbrev pub IsNearest : (up : Bool) → List ℕ → ℕ → ℕ → Type 0
+IsNearest true items s x = IsSuccessor items s x
+IsNearest false items s x = IsPredecessor items s x
+
+-- y is not below s, or, where `up` is false, not above it
+abbrev pub IsBeyond : (up : Bool) → ℕ → ℕ → Type 0
+IsBeyond true s y = s ≤ y
+IsBeyond false s y = y ≤ s
+
 -- a number among the members of an ascending list, before the first that is not below it
 abbrev pub placed : ℕ → List ℕ → List ℕ
 placed x [] = x ∷ []
@@ -41,6 +55,10 @@ placed x (y ∷ ys) = if nat_le x y then x ∷ y ∷ ys else y ∷ placed x ys
 abbrev pub by_size : List ℕ → List ℕ
 by_size [] = []
 by_size (x ∷ xs) = placed x (by_size xs)
+
+-- the members of a list in ascending order where that is asked, and else as they stand
+abbrev pub ordered : Bool → List ℕ → List ℕ
+ordered ascending items = if ascending then by_size items else items
 
 -- each number as the list of its k lowest bits
 abbrev pub in_bits : ℕ → List ℕ → List (List Bool)

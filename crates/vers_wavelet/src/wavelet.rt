@@ -16,9 +16,9 @@ mod sizes;
 mod walk;
 
 pub use iter::{
-    Lists, Matrix, Numbers, SortedLists, SortedNumbers, WaveletIter, WaveletNumIter,
-    WaveletNumRefIter, WaveletRefIter, WaveletSortedIter, WaveletSortedNumIter,
-    WaveletSortedNumRefIter, WaveletSortedRefIter,
+    BySize, InOrder, Lists, Matrix, Numbers, Order, SortedLists, SortedNumbers, SymbolLists,
+    SymbolNumbers, WaveletIter, WaveletNumIter, WaveletNumRefIter, WaveletRefIter,
+    WaveletSortedIter, WaveletSortedNumIter, WaveletSortedNumRefIter, WaveletSortedRefIter,
 };
 use std::alloc::Allocator;
 use std::marker::Model;

@@ -2,7 +2,7 @@
 ghost use Rattle.std.specs.Prelude.{◌≡◌, ◌%◌, ◌^◌, ◌<◌, ◌≤◌, ◌↔◌, length, IsSome, IfSome};
 ghost use Rattle.vers_bits.specs.Bits.{number};
 ghost use Rattle.vers_tally.specs.Reads.{AddsAtMost};
-ghost use Rattle.vers_wavelet.specs.Symbols.{occurrences};
+ghost use Rattle.vers_wavelet.specs.Symbols.{occurrences, BeginsInside};
 ghost use Rattle.vers_wavelet.specs.Reads.{query_reads};
 
 use crate::wavelet::WaveletMatrix;
@@ -19,8 +19,7 @@ impl<A: Allocator + Copy> WaveletMatrix<A> {
         ensures value { IfSome result (λ n. n
             ≡ length (occurrences self.now.items range.start range.end (number symbol.now))) }
         ensures answered { IsSome result ↔ (length symbol.now ≡ self.now.width)
-            × (range.start < length self.now.items) × (range.end ≤ length self.now.items)
-            × (range.start ≤ range.end) }
+            × BeginsInside range.start range.end self.now.items }
     {
         let mut tally = Tally::new();
         self.rank_range_counted(range, symbol, &mut tally)
@@ -39,8 +38,7 @@ impl<A: Allocator + Copy> WaveletMatrix<A> {
         ensures value { IfSome result (λ n. n
             ≡ length (occurrences self.now.items range.start range.end (number symbol.now))) }
         ensures answered { IsSome result ↔ (length symbol.now ≡ self.now.width)
-            × (range.start < length self.now.items) × (range.end ≤ length self.now.items)
-            × (range.start ≤ range.end) }
+            × BeginsInside range.start range.end self.now.items }
         ensures adds { AddsAtMost tally.old tally.new (query_reads self.now) }
     {
         let len = self.len();
@@ -74,7 +72,7 @@ impl<A: Allocator + Copy> WaveletMatrix<A> {
         ensures value { IfSome result (λ n. n
             ≡ length (occurrences self.now.items offset end (number symbol.now))) }
         ensures answered { IsSome result ↔ (length symbol.now ≡ self.now.width)
-            × (offset < length self.now.items) × (end ≤ length self.now.items) × (offset ≤ end) }
+            × BeginsInside offset end self.now.items }
     {
         let mut tally = Tally::new();
         self.rank_offset_counted(offset, end, symbol, &mut tally)
@@ -95,7 +93,7 @@ impl<A: Allocator + Copy> WaveletMatrix<A> {
         ensures value { IfSome result (λ n. n
             ≡ length (occurrences self.now.items offset end (number symbol.now))) }
         ensures answered { IsSome result ↔ (length symbol.now ≡ self.now.width)
-            × (offset < length self.now.items) × (end ≤ length self.now.items) × (offset ≤ end) }
+            × BeginsInside offset end self.now.items }
         ensures adds { AddsAtMost tally.old tally.new (query_reads self.now) }
     {
         self.rank_range_counted(offset..end, symbol, tally)
@@ -159,8 +157,7 @@ impl<A: Allocator + Copy> WaveletMatrix<A> {
             ≡ length (occurrences self.now.items range.start range.end
             (symbol % 2 ^ self.now.width))) }
         ensures answered { IsSome result ↔ (self.now.width ≤ 64)
-            × (range.start < length self.now.items) × (range.end ≤ length self.now.items)
-            × (range.start ≤ range.end) }
+            × BeginsInside range.start range.end self.now.items }
     {
         let mut tally = Tally::new();
         self.rank_range_u64_counted(range, symbol, &mut tally)
@@ -181,8 +178,7 @@ impl<A: Allocator + Copy> WaveletMatrix<A> {
             ≡ length (occurrences self.now.items range.start range.end
             (symbol % 2 ^ self.now.width))) }
         ensures answered { IsSome result ↔ (self.now.width ≤ 64)
-            × (range.start < length self.now.items) × (range.end ≤ length self.now.items)
-            × (range.start ≤ range.end) }
+            × BeginsInside range.start range.end self.now.items }
         ensures adds { AddsAtMost tally.old tally.new (query_reads self.now) }
     {
         let len = self.len();
@@ -211,8 +207,7 @@ impl<A: Allocator + Copy> WaveletMatrix<A> {
     pub fn rank_offset_u64(&self, offset: usize, end: usize, symbol: u64) -> Option<usize>
         ensures value { IfSome result (λ n. n
             ≡ length (occurrences self.now.items offset end (symbol % 2 ^ self.now.width))) }
-        ensures answered { IsSome result ↔ (self.now.width ≤ 64) × (offset < length self.now.items)
-            × (end ≤ length self.now.items) × (offset ≤ end) }
+        ensures answered { IsSome result ↔ (self.now.width ≤ 64) × BeginsInside offset end self.now.items }
     {
         let mut tally = Tally::new();
         self.rank_offset_u64_counted(offset, end, symbol, &mut tally)
@@ -232,8 +227,7 @@ impl<A: Allocator + Copy> WaveletMatrix<A> {
     ) -> Option<usize>
         ensures value { IfSome result (λ n. n
             ≡ length (occurrences self.now.items offset end (symbol % 2 ^ self.now.width))) }
-        ensures answered { IsSome result ↔ (self.now.width ≤ 64) × (offset < length self.now.items)
-            × (end ≤ length self.now.items) × (offset ≤ end) }
+        ensures answered { IsSome result ↔ (self.now.width ≤ 64) × BeginsInside offset end self.now.items }
         ensures adds { AddsAtMost tally.old tally.new (query_reads self.now) }
     {
         self.rank_range_u64_counted(offset..end, symbol, tally)

@@ -1,11 +1,11 @@
 //! The iterators over the symbols: in their order or by size, as numbers or as lists of their bits.
-ghost use Rattle.std.specs.Prelude.{◌≡◌, ◌≤◌, ◌↔◌, List, length, IsSome, IfSome};
-ghost use Rattle.vers_wavelet.specs.Symbols.{Symbols, by_size, in_bits};
+ghost use Rattle.std.specs.Prelude.{◌≡◌, ◌≤◌, ◌↔◌, Bool, true, false, List, length, IsSome, IfSome};
+ghost use Rattle.vers_wavelet.specs.Symbols.{Symbols, by_size, in_bits, ordered};
 ghost use Rattle.vers_wavelet.specs.Reads.{query_reads};
 
 use crate::wavelet::WaveletMatrix;
 use std::alloc::{AllocError, Allocator};
-use std::marker::Model;
+use std::marker::{Model, PhantomData};
 use vers_bits::bit_vec::BitVec;
 use vers_tally::ends::{Borrowing, BothEnds, Owning, Source};
 use vers_tally::made_ends::{BorrowingMaker, MadeEnds, Maker, OwningMaker};
@@ -44,14 +44,56 @@ impl<A: Allocator + Copy> Matrix for WaveletMatrix<A> {
     }
 }
 
-/// The symbols of a matrix as numbers, in their order, which iterators read one by one. A symbol has
-/// at most 64 bits.
-#[derive(Drop)]
-pub struct Numbers<M: Matrix> {
-    matrix: M,
+/// An order in which iterators give the symbols of a matrix.
+pub trait Order {
+    ghost by_size: { Bool };
+
+    /// Whether symbols come by size, and else as they stand.
+    fn is_by_size() -> bool
+        ensures { result ≡ by_size };
 }
 
-impl<M: Matrix> Model for Numbers<M> {
+/// The order in which the symbols stand.
+#[derive(Drop)]
+pub struct InOrder;
+
+impl Order for InOrder {
+    ghost by_size = { false };
+
+    #[inline(always)]
+    fn is_by_size() -> bool {
+        false
+    }
+}
+
+/// The order by size.
+#[derive(Drop)]
+pub struct BySize;
+
+impl Order for BySize {
+    ghost by_size = { true };
+
+    #[inline(always)]
+    fn is_by_size() -> bool {
+        true
+    }
+}
+
+/// The symbols of a matrix as numbers, in the order `O`, which iterators read one by one. A symbol
+/// has at most 64 bits.
+#[derive(Drop)]
+pub struct SymbolNumbers<O: Order, M: Matrix> {
+    matrix: M,
+    order: PhantomData<O>,
+}
+
+/// The symbols of a matrix as numbers, in their order.
+pub type Numbers<M> = SymbolNumbers<InOrder, M>;
+
+/// The symbols of a matrix as numbers, by size.
+pub type SortedNumbers<M> = SymbolNumbers<BySize, M>;
+
+impl<O: Order, M: Matrix> Model for SymbolNumbers<O, M> {
     ghost use Rattle.std.specs.Prelude.{◌≤◌};
     ghost use Rattle.vers_wavelet.specs.Symbols.{Symbols};
 
@@ -60,13 +102,25 @@ impl<M: Matrix> Model for Numbers<M> {
     ghost view = { λ s. M.symbols s.matrix };
 
     ghost invariant = { λ s. (M.symbols s.matrix).width ≤ 64 };
+}
+
+impl<O: Order, M: Matrix> SymbolNumbers<O, M> {
+    fn new(matrix: M) -> Self
+        requires { (M.symbols matrix).width ≤ 64 }
+        ensures { result ≡ M.symbols matrix }
+    {
+        SymbolNumbers {
+            matrix,
+            order: PhantomData,
+        }
+    }
 }
 
 #[tactic(auto, using(crate::proofs::Items::numbers))]
-impl<M: Matrix> Source for Numbers<M> {
+impl<O: Order, M: Matrix> Source for SymbolNumbers<O, M> {
     type Item = u64;
 
-    ghost items = { λ symbols. symbols.items };
+    ghost items = { λ symbols. ordered O.by_size symbols.items };
 
     ghost step = { λ symbols. query_reads symbols };
 
@@ -78,49 +132,64 @@ impl<M: Matrix> Source for Numbers<M> {
     #[inline(always)]
     fn item_at(&mut self, i: usize, tally: &mut Tally) -> u64 {
         let mut answer: u64 = 0;
-        self.matrix.matrix().read_at(i, &mut answer, tally);
+        self.matrix
+            .matrix()
+            .member(O::is_by_size(), i, &mut answer, tally);
         answer
     }
 }
 
-impl<'a, A: Allocator + Copy> Borrowing for Numbers<&'a WaveletMatrix<A>> {
+impl<'a, O: Order, A: Allocator + Copy> Borrowing for SymbolNumbers<O, &'a WaveletMatrix<A>> {
     fn second(&self) -> Self {
-        Numbers {
-            matrix: self.matrix,
-        }
+        SymbolNumbers::new(self.matrix)
     }
 }
 
-impl<A: Allocator + Copy> Owning for Numbers<WaveletMatrix<A>> {
+impl<O: Order, A: Allocator + Copy> Owning for SymbolNumbers<O, WaveletMatrix<A>> {
     fn second(&self) -> Result<Self, AllocError> {
         let matrix = self.matrix.clone()?;
-        Ok(Numbers { matrix })
+        Ok(SymbolNumbers::new(matrix))
     }
 }
 
-/// The symbols of a matrix as numbers, by size, which iterators read one by one. A symbol has at most
-/// 64 bits.
+/// The symbols of a matrix as lists of their bits, in the order `O`, which iterators make one by
+/// one.
 #[derive(Drop)]
-pub struct SortedNumbers<M: Matrix> {
+pub struct SymbolLists<O: Order, M: Matrix> {
     matrix: M,
+    order: PhantomData<O>,
 }
 
-impl<M: Matrix> Model for SortedNumbers<M> {
-    ghost use Rattle.std.specs.Prelude.{◌≤◌};
+/// The symbols of a matrix as lists of their bits, in their order.
+pub type Lists<M> = SymbolLists<InOrder, M>;
+
+/// The symbols of a matrix as lists of their bits, by size.
+pub type SortedLists<M> = SymbolLists<BySize, M>;
+
+impl<O: Order, M: Matrix> Model for SymbolLists<O, M> {
     ghost use Rattle.vers_wavelet.specs.Symbols.{Symbols};
 
     ghost Value = { Symbols };
 
     ghost view = { λ s. M.symbols s.matrix };
-
-    ghost invariant = { λ s. (M.symbols s.matrix).width ≤ 64 };
 }
 
-#[tactic(auto, using(crate::proofs::Items::sorted_numbers))]
-impl<M: Matrix> Source for SortedNumbers<M> {
-    type Item = u64;
+impl<O: Order, M: Matrix> SymbolLists<O, M> {
+    fn new(matrix: M) -> Self
+        ensures { result ≡ M.symbols matrix }
+    {
+        SymbolLists {
+            matrix,
+            order: PhantomData,
+        }
+    }
+}
 
-    ghost items = { λ symbols. by_size symbols.items };
+#[tactic(auto, using(crate::proofs::Items::lists))]
+impl<O: Order, M: Matrix> Maker for SymbolLists<O, M> {
+    type Item = BitVec<M::Alloc>;
+
+    ghost items = { λ symbols. in_bits symbols.width (ordered O.by_size symbols.items) };
 
     ghost step = { λ symbols. query_reads symbols };
 
@@ -129,111 +198,24 @@ impl<M: Matrix> Source for SortedNumbers<M> {
         self.matrix.matrix().len()
     }
 
-    #[inline(always)]
-    fn item_at(&mut self, i: usize, tally: &mut Tally) -> u64 {
-        let matrix = self.matrix.matrix();
-        let mut answer: u64 = 0;
-        matrix.kth_in(0, matrix.len(), i, &mut answer, tally);
-        answer
-    }
-}
-
-impl<'a, A: Allocator + Copy> Borrowing for SortedNumbers<&'a WaveletMatrix<A>> {
-    fn second(&self) -> Self {
-        SortedNumbers {
-            matrix: self.matrix,
-        }
-    }
-}
-
-impl<A: Allocator + Copy> Owning for SortedNumbers<WaveletMatrix<A>> {
-    fn second(&self) -> Result<Self, AllocError> {
-        let matrix = self.matrix.clone()?;
-        Ok(SortedNumbers { matrix })
-    }
-}
-
-/// The symbols of a matrix as lists of their bits, in their order, which iterators make one by one.
-#[derive(Drop)]
-pub struct Lists<M: Matrix> {
-    matrix: M,
-}
-
-#[tactic(auto, using(crate::proofs::Items::lists))]
-impl<M: Matrix> Maker for Lists<M> {
-    type Item = BitVec<M::Alloc>;
-
-    ghost items = { λ s. in_bits (M.symbols s.matrix).width (M.symbols s.matrix).items };
-
-    ghost step = { λ s. query_reads (M.symbols s.matrix) };
-
-    #[inline]
-    fn count_items(&self) -> usize {
-        self.matrix.matrix().len()
-    }
-
     fn make_at(&mut self, i: usize, tally: &mut Tally) -> Result<BitVec<M::Alloc>, AllocError> {
         let matrix = self.matrix.matrix();
         let mut answer = matrix.zero_symbol()?;
-        matrix.read_at(i, &mut answer, tally);
+        matrix.member(O::is_by_size(), i, &mut answer, tally);
         Ok(answer)
     }
 }
 
-impl<'a, A: Allocator + Copy> BorrowingMaker for Lists<&'a WaveletMatrix<A>> {
+impl<'a, O: Order, A: Allocator + Copy> BorrowingMaker for SymbolLists<O, &'a WaveletMatrix<A>> {
     fn second(&self) -> Self {
-        Lists {
-            matrix: self.matrix,
-        }
+        SymbolLists::new(self.matrix)
     }
 }
 
-impl<A: Allocator + Copy> OwningMaker for Lists<WaveletMatrix<A>> {
+impl<O: Order, A: Allocator + Copy> OwningMaker for SymbolLists<O, WaveletMatrix<A>> {
     fn second(&self) -> Result<Self, AllocError> {
         let matrix = self.matrix.clone()?;
-        Ok(Lists { matrix })
-    }
-}
-
-/// The symbols of a matrix as lists of their bits, by size, which iterators make one by one.
-#[derive(Drop)]
-pub struct SortedLists<M: Matrix> {
-    matrix: M,
-}
-
-#[tactic(auto, using(crate::proofs::Items::sorted_lists))]
-impl<M: Matrix> Maker for SortedLists<M> {
-    type Item = BitVec<M::Alloc>;
-
-    ghost items = { λ s. in_bits (M.symbols s.matrix).width (by_size (M.symbols s.matrix).items) };
-
-    ghost step = { λ s. query_reads (M.symbols s.matrix) };
-
-    #[inline]
-    fn count_items(&self) -> usize {
-        self.matrix.matrix().len()
-    }
-
-    fn make_at(&mut self, i: usize, tally: &mut Tally) -> Result<BitVec<M::Alloc>, AllocError> {
-        let matrix = self.matrix.matrix();
-        let mut answer = matrix.zero_symbol()?;
-        matrix.kth_in(0, matrix.len(), i, &mut answer, tally);
-        Ok(answer)
-    }
-}
-
-impl<'a, A: Allocator + Copy> BorrowingMaker for SortedLists<&'a WaveletMatrix<A>> {
-    fn second(&self) -> Self {
-        SortedLists {
-            matrix: self.matrix,
-        }
-    }
-}
-
-impl<A: Allocator + Copy> OwningMaker for SortedLists<WaveletMatrix<A>> {
-    fn second(&self) -> Result<Self, AllocError> {
-        let matrix = self.matrix.clone()?;
-        Ok(SortedLists { matrix })
+        Ok(SymbolLists::new(matrix))
     }
 }
 
@@ -278,7 +260,7 @@ impl<A: Allocator + Copy> WaveletMatrix<A> {
           step = query_reads self.now;
         } }
     {
-        MadeEnds::new(Lists { matrix: self })
+        MadeEnds::new(SymbolLists::new(self))
     }
 
     /// An iterator over the symbols by size, as lists of their bits.
@@ -288,7 +270,7 @@ impl<A: Allocator + Copy> WaveletMatrix<A> {
           step = query_reads self.now;
         } }
     {
-        MadeEnds::new(SortedLists { matrix: self })
+        MadeEnds::new(SymbolLists::new(self))
     }
 
     /// An iterator over the symbols by size, as lists of their bits, which owns the matrix.
@@ -298,7 +280,7 @@ impl<A: Allocator + Copy> WaveletMatrix<A> {
           step = query_reads self;
         } }
     {
-        MadeEnds::new(SortedLists { matrix: self })
+        MadeEnds::new(SymbolLists::new(self))
     }
 
     /// An iterator over the symbols, as numbers. None where they have more than 64 bits.
@@ -310,7 +292,7 @@ impl<A: Allocator + Copy> WaveletMatrix<A> {
         if !self.fits_word() {
             return None;
         }
-        Some(BothEnds::new(Numbers { matrix: self }))
+        Some(BothEnds::new(SymbolNumbers::new(self)))
     }
 
     /// An iterator over the symbols, as numbers, which owns the matrix. None where they have more than
@@ -323,7 +305,7 @@ impl<A: Allocator + Copy> WaveletMatrix<A> {
         if !self.fits_word() {
             return None;
         }
-        Some(BothEnds::new(Numbers { matrix: self }))
+        Some(BothEnds::new(SymbolNumbers::new(self)))
     }
 
     /// An iterator over the symbols by size, as numbers. None where they have more than 64 bits.
@@ -335,7 +317,7 @@ impl<A: Allocator + Copy> WaveletMatrix<A> {
         if !self.fits_word() {
             return None;
         }
-        Some(BothEnds::new(SortedNumbers { matrix: self }))
+        Some(BothEnds::new(SymbolNumbers::new(self)))
     }
 
     /// An iterator over the symbols by size, as numbers, which owns the matrix. None where they have
@@ -348,7 +330,7 @@ impl<A: Allocator + Copy> WaveletMatrix<A> {
         if !self.fits_word() {
             return None;
         }
-        Some(BothEnds::new(SortedNumbers { matrix: self }))
+        Some(BothEnds::new(SymbolNumbers::new(self)))
     }
 }
 
@@ -385,6 +367,6 @@ impl<A: Allocator + Copy> IntoIterator for WaveletMatrix<A> {
 
     /// An iterator over the symbols, as lists of their bits, which owns the matrix.
     fn into_iter(self) -> WaveletIter<A> {
-        MadeEnds::new(Lists { matrix: self })
+        MadeEnds::new(SymbolLists::new(self))
     }
 }

@@ -61,7 +61,7 @@ impl<A: Allocator + Copy> WaveletMatrix<A> {
             return Ok(None);
         }
         let mut answer = self.zero_symbol()?;
-        if !self.predecessor_in(range.start, range.end, symbol, &mut answer, tally) {
+        if !self.nearest_in(false, range.start, range.end, symbol, &mut answer, tally) {
             return Ok(None);
         }
         Ok(Some(answer))
@@ -115,7 +115,7 @@ impl<A: Allocator + Copy> WaveletMatrix<A> {
             return Ok(None);
         }
         let mut answer = self.zero_symbol()?;
-        if !self.successor_in(range.start, range.end, symbol, &mut answer, tally) {
+        if !self.nearest_in(true, range.start, range.end, symbol, &mut answer, tally) {
             return Ok(None);
         }
         Ok(Some(answer))
@@ -159,7 +159,7 @@ impl<A: Allocator + Copy> WaveletMatrix<A> {
             return None;
         }
         let mut answer: u64 = 0;
-        if !self.predecessor_in(range.start, range.end, &symbol, &mut answer, tally) {
+        if !self.nearest_in(false, range.start, range.end, &symbol, &mut answer, tally) {
             return None;
         }
         Some(answer)
@@ -203,7 +203,7 @@ impl<A: Allocator + Copy> WaveletMatrix<A> {
             return None;
         }
         let mut answer: u64 = 0;
-        if !self.successor_in(range.start, range.end, &symbol, &mut answer, tally) {
+        if !self.nearest_in(true, range.start, range.end, &symbol, &mut answer, tally) {
             return None;
         }
         Some(answer)

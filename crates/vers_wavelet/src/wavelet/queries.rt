@@ -3,7 +3,7 @@ ghost use Rattle.std.specs.Prelude.{◌≡◌, ℕ, ◌+◌, ◌-◌, ◌*◌, �
 ghost use Rattle.vers_bits.specs.Bits.{number};
 ghost use Rattle.vers_tally.specs.Reads.{AddsAtMost, no_reads, times};
 ghost use Rattle.vers_rank.specs.Queries.{rank_reads};
-ghost use Rattle.vers_wavelet.specs.Symbols.{occurrences, IsKth, IsPredecessor, IsSuccessor};
+ghost use Rattle.vers_wavelet.specs.Symbols.{occurrences, ordered, IsKth, IsNearest, IsBeyond};
 ghost use Rattle.vers_wavelet.specs.Reads.{query_reads};
 
 use crate::wavelet::WaveletMatrix;
@@ -124,13 +124,37 @@ impl<A: Allocator + Copy> WaveletMatrix<A> {
         find_kth(&self.levels, self.len, start, end, i, answer, tally);
     }
 
+    // Writes into a number that is 0 member `i` of all symbols by size where that is asked, and else
+    // the symbol at place `i`.
+    #[inline(always)]
+    pub(super) fn member<D: Digits>(
+        &self,
+        by_size: bool,
+        i: usize,
+        answer: &mut D,
+        tally: &mut Tally,
+    )
+        requires within { i < length self.now.items }
+        requires zero { D.number answer.old ≡ 0 }
+        requires wide { self.now.width ≤ D.width answer.old }
+        ensures value { D.number answer.new ≡ slice_index (ordered by_size self.now.items) i }
+        ensures same { D.width answer.new ≡ D.width answer.old }
+        ensures adds { AddsAtMost tally.old tally.new (query_reads self.now) }
+    {
+        if by_size {
+            self.kth_in(0, self.len(), i, answer, tally);
+        } else {
+            self.read_at(i, answer, tally);
+        }
+    }
+
     // How many symbols of a range are below a symbol, and how many are it.
     #[inline(always)]
     fn count_around<D: Digits>(
         &self,
+        symbol: &D,
         start: usize,
         end: usize,
-        symbol: &D,
         tally: &mut Tally,
     ) -> Around
         requires order { start ≤ end }
@@ -152,11 +176,13 @@ impl<A: Allocator + Copy> WaveletMatrix<A> {
         }
     }
 
-    // Whether a range has a symbol that is not above a symbol; and writes the greatest of these into a
-    // number that is 0. It is the symbol itself, where the range has it.
+    // Whether a range has a symbol that is not below a symbol, or, where `is_up` is false, one that
+    // is not above it; and writes the nearest of these into a number that is 0. It is the symbol
+    // itself, where the range has it.
     #[inline(always)]
-    pub(super) fn predecessor_in<D: Digits>(
+    pub(super) fn nearest_in<D: Digits>(
         &self,
+        is_up: bool,
         start: usize,
         end: usize,
         symbol: &D,
@@ -168,57 +194,24 @@ impl<A: Allocator + Copy> WaveletMatrix<A> {
         requires symbol { self.now.width ≤ D.width symbol.now }
         requires zero { D.number answer.old ≡ 0 }
         requires wide { self.now.width ≤ D.width answer.old }
-        ensures value { IsTrue result → IsPredecessor (slice_range self.now.items start end)
+        ensures value { IsTrue result → IsNearest is_up (slice_range self.now.items start end)
             (D.number symbol.now % 2 ^ self.now.width) (D.number answer.new) }
-        ensures some { IsTrue result ↔ Any (λ y.
-            y ≤ D.number symbol.now % 2 ^ self.now.width) (slice_range self.now.items start end) }
+        ensures some { IsTrue result ↔ Any (IsBeyond is_up
+            (D.number symbol.now % 2 ^ self.now.width)) (slice_range self.now.items start end) }
         ensures same { D.width answer.new ≡ D.width answer.old }
         ensures adds { AddsAtMost tally.old tally.new (query_reads self.now) }
     {
-        let around = self.count_around(start, end, symbol, tally);
+        let around = self.count_around(symbol, start, end, tally);
         if around.equal > 0 {
             copy_digits(symbol, self.bits_per_element(), answer);
             return true;
         }
-        if around.below == 0 {
+        let last = if is_up { end - start } else { 0 };
+        if around.below == last {
             return false;
         }
-        self.kth_in(start, end, around.below - 1, answer, tally);
-        true
-    }
-
-    // Whether a range has a symbol that is not below a symbol; and writes the least of these into a
-    // number that is 0. It is the symbol itself, where the range has it.
-    #[inline(always)]
-    pub(super) fn successor_in<D: Digits>(
-        &self,
-        start: usize,
-        end: usize,
-        symbol: &D,
-        answer: &mut D,
-        tally: &mut Tally,
-    ) -> bool
-        requires order { start ≤ end }
-        requires within { end ≤ length self.now.items }
-        requires symbol { self.now.width ≤ D.width symbol.now }
-        requires zero { D.number answer.old ≡ 0 }
-        requires wide { self.now.width ≤ D.width answer.old }
-        ensures value { IsTrue result → IsSuccessor (slice_range self.now.items start end)
-            (D.number symbol.now % 2 ^ self.now.width) (D.number answer.new) }
-        ensures some { IsTrue result ↔ Any (λ y.
-            D.number symbol.now % 2 ^ self.now.width ≤ y) (slice_range self.now.items start end) }
-        ensures same { D.width answer.new ≡ D.width answer.old }
-        ensures adds { AddsAtMost tally.old tally.new (query_reads self.now) }
-    {
-        let around = self.count_around(start, end, symbol, tally);
-        if 0 < around.equal {
-            copy_digits(symbol, self.bits_per_element(), answer);
-            return true;
-        }
-        if around.below == end - start {
-            return false;
-        }
-        self.kth_in(start, end, around.below, answer, tally);
+        let i = around.below - usize::from(!is_up);
+        self.kth_in(start, end, i, answer, tally);
         true
     }
 }
