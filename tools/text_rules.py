@@ -56,8 +56,8 @@ ON_CONTRACTS = {
 # bit is read alone
 SCANS, SEARCHES = "crates/vers_trees/src/trees/bp/scan.rt", "crates/vers_trees/src/trees/bp/search.rt"
 WHOLE_BYTES = {
-    (SEARCHES, "forward"): "scan_forward(bits,&tree.tables,",
-    (SEARCHES, "backward"): "scan_backward(bits,&tree.tables,",
+    (SEARCHES, "forward"): "scan_forward(self.bits,&self.tree.tables,",
+    (SEARCHES, "backward"): "scan_backward(self.bits,&self.tree.tables,",
     (SCANS, "scan_forward"): "bytes_forward(bits,tables,from,tail,",
     (SCANS, "scan_backward"): "bytes_backward(bits,tables,head,end,",
     (SCANS, "bytes_forward"): "place_met(tables.forward_entry(byte),",
@@ -315,7 +315,7 @@ GOOD = {
     "crates/high/proofs/More.antt": "use Rattle.low.proofs.PublicLaws.{law}\nuse Rattle.high.proofs.Own.{law}\n",
     "crates/vers_rmq/proofs/Blocks.antt": "use Rattle.vers_rmq.proofs.Minima.{law}\n",
     "crates/vers_rmq/proofs/More.antt": "use Rattle.high.proofs.LowLaws.{law}\n",
-    SEARCHES: "//! Searches.\nfn forward() {\n    scan_forward(bits, &tree.tables, 1)\n}\n\nfn backward() {\n    scan_backward(bits, &tree.tables, 1)\n}\n",
+    SEARCHES: "//! Searches.\n" + "".join(f"fn {name}() {{\n    {call} 1)\n}}\n" for (path, name), call in WHOLE_BYTES.items() if path == SEARCHES),
     SCANS: "//! Scans.\n" + "".join(f"fn {name}() {{\n    {call} 1)\n}}\n" for (path, name), call in WHOLE_BYTES.items() if path == SCANS),
 }
 # what is wanted to be said, and the change to the good repository that asks for it
@@ -337,7 +337,7 @@ BREAKS = {
     "cites `more` of `specs/inside`": ("crates/low/src/lib.rt", "specs.More", "specs.inside.More"),
     "drops `helper(x)`": ("crates/low/src/lib.rt", "let _ = x.len();", "let _ = helper(x);"),
     "imports `Tables`": ("crates/vers_rmq/proofs/Blocks.antt", "proofs.Minima", "specs.inside.Tables"),
-    "backward doesn't take whole bytes": (SEARCHES, "scan_backward(bits, &tree.tables,", "bits_backward(bits,"),
+    "backward doesn't take whole bytes": (SEARCHES, "scan_backward(self.bits,&self.tree.tables,", "bits_backward(self.bits,"),
     "scan_forward doesn't take whole bytes": (SCANS, "bytes_forward(bits,tables,from,tail,", "bits_forward(bits,from,tail,"),
     "bytes_forward doesn't take whole bytes": (SCANS, "place_met(tables.forward_entry(byte), 1)", "place_met(tables.forward_entry(byte), bits.is_one_counted(1))"),
     "leads nowhere": ("README.md", "docs/PAGE.md", "docs/NONE.md"),

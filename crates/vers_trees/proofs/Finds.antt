@@ -3,6 +3,7 @@ use Rattle.std.proofs.Common.{◌≡◌, ℕ, ◌+◌, ◌-◌, ◌*◌, ◌/◌
 use mir.Syntax.{w64}
 use Rattle.std.specs.Result.{result_ok}
 use Rattle.std.proofs.lemmas.Int.{ints, to_z-of_z}
+use Rattle.std.proofs.Math.Nat.{div-mul-le_self, mul-le-mul_right}
 use Rattle.vers_trees.specs.declared.trees.bp.min_max.Node.{Node}
 use Rattle.vers_trees.specs.Excess.{excess, first_rise_after, last_rise_before}
 use Rattle.vers_trees.specs.inside.Scans.{IsFirstRise, HasNoRise, IsLastRise, HasNoRiseBefore}
@@ -149,6 +150,14 @@ none_missed_back l size first nodes i r rise left j rest past p d n f =
     before_not_missed l size (drop first nodes) i r rise j rest past t.blocks p.some p.inside (plainly_back p) n' f'
 
 -- the scan of that block ends the search
+-- the block before that of a place ends no later than the place
+pub previous_ends : (blocks : List Node) (size p : ℕ) (t : ℤ) (j : ℕ) (rest : ℤ) → IsPreviousBefore blocks (p / size) t j rest → j * size + size ≤ p
+previous_ends blocks size p t j rest n =
+    let b = n.before in
+    let m : (j + 1) * size ≤ p / size * size = mul-le-mul_right size (omega arith) in
+    let d = div-mul-le_self p size in
+    omega arith
+
 pub previous_answer : (l : List Bool) (size first : ℕ) (nodes : List Node) (i : ℕ) (r rise left : ℤ) (j : ℕ) (rest : ℤ) (o : Result ℕ ℤ) → PassedLast l size first nodes i r rise → Difference r rise left → IsPreviousBefore (drop first nodes) ((i - 1) / size) (total_before (drop first nodes) ((i - 1) / size) +ℤ stored left) j rest → MatchResult o (λ place. IsLastRise l (j * size) (j * size + size) (stored rest) place) (λ past. HasNoRiseBefore l (j * size) (j * size + size) (stored rest) past) → result_ok o ≡ last_rise_before l i r
 previous_answer l size first nodes i r rise left j rest (Ok place) p d n f = found_previous l size first nodes i r rise left j rest place p d n f
 previous_answer l size first nodes i r rise left j rest (Err past) p d n f = absurd (none_missed_back l size first nodes i r rise left j rest past p d n f)

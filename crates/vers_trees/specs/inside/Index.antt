@@ -12,6 +12,12 @@ pub record IsTreeOf (l : List Bool) (size first : ℕ) (nodes : List Node) : Typ
   pub blocks : AreBlocks l size (drop first nodes)
   pub few : digits first ≤ levels size (length l)
 
+-- a list that is not too long, to be divided into blocks of a size that is allowed
+pub record CanBeIndexed (l : List Bool) (size : ℕ) : Type 0 where
+  pub short : length l < 2 ^ 63
+  pub some : 0 < size
+  pub bounded : size ≤ 4294967296
+
 -- the tree of a list, which may be empty
 pub record IsIndexed (l : List Bool) (size first : ℕ) (nodes : List Node) : Type 0 where
   pub short : length l < 2 ^ 63

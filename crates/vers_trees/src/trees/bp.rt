@@ -6,6 +6,7 @@ ghost use Rattle.vers_tally.specs.Reads.{AddsAtMost, only_nodes};
 ghost use Rattle.vers_rank.specs.Queries.{superblock_count, rank_reads, select_reads};
 ghost use Rattle.vers_trees.specs.Excess.{excess, first_rise_after, last_rise_before, enclosing};
 ghost use Rattle.vers_trees.specs.Forest.{IsBalanced};
+ghost use Rattle.vers_trees.specs.inside.Index.{IsIndexed};
 ghost use Rattle.vers_trees.specs.Layout.{tree_heap_size, search_reads, enclose_reads};
 
 mod as_tree;
@@ -28,7 +29,7 @@ pub use crate::trees::bp::children::ChildrenIter;
 pub use crate::trees::bp::dfs_iter::DfsIter;
 use crate::trees::bp::min_max::MinMaxTree;
 pub use crate::trees::bp::post_iter::{PostIter, SubtreePostIter};
-use crate::trees::bp::search::{backward, forward};
+use crate::trees::bp::search::Searched;
 pub use crate::trees::bp::subtree::SubtreeIter;
 use std::alloc::{AllocError, Allocator};
 use std::marker::Model;
@@ -194,7 +195,7 @@ impl<const BLOCK_SIZE: usize, A: Allocator + Copy> BpTree<BLOCK_SIZE, A> {
         ensures value { result ≡ first_rise_after self.now i r }
         ensures adds { AddsAtMost tally.old tally.new (search_reads BLOCK_SIZE (length self.now)) }
     {
-        forward(&self.bits, &self.tree, BLOCK_SIZE, i, r, tally)
+        self.searched().forward(i, r, tally)
     }
 
     /// The last place before `i` before which the excess is `r` more than before `i`. None where there
@@ -215,7 +216,7 @@ impl<const BLOCK_SIZE: usize, A: Allocator + Copy> BpTree<BLOCK_SIZE, A> {
         ensures value { result ≡ last_rise_before self.now i r }
         ensures adds { AddsAtMost tally.old tally.new (search_reads BLOCK_SIZE (length self.now)) }
     {
-        backward(&self.bits, &self.tree, BLOCK_SIZE, i, r, tally)
+        self.searched().backward(i, r, tally)
     }
 
     /// The first place after `i` past which the excess is one less than past `i`: in balanced
@@ -327,5 +328,18 @@ impl<const BLOCK_SIZE: usize, A: Allocator + Copy> BpTree<BLOCK_SIZE, A> {
             (select_reads (superblock_count (length self.now))) }
     {
         self.bits.select1_counted(i, tally)
+    }
+
+    // The parentheses, as searches go through them.
+    #[inline(always)]
+    fn searched(&self) -> Searched<'_, BLOCK_SIZE, A>
+        ensures bits { result.bits.now ≡ self.now }
+        ensures indexed { IsIndexed result.bits.now BLOCK_SIZE result.tree.now.first
+            result.tree.now.nodes }
+    {
+        Searched {
+            bits: &self.bits,
+            tree: &self.tree,
+        }
     }
 }

@@ -10,11 +10,9 @@ ghost use Rattle.vers_trees.specs.Nodes.{IsNode, children};
 ghost use Rattle.vers_trees.specs.Siblings.{tree_from, tree_before, tree_beside, siblings_left, IsWalkOfSiblings};
 
 use super::BpTree;
-use super::min_max::MinMaxTree;
-use super::search::{backward, forward};
+use super::search::Searched;
 use std::alloc::Allocator;
 use std::marker::{Model, PhantomData};
-use vers_rank::fast_rs_vec::RsVec;
 use vers_tally::tally::Tally;
 
 /// Marks an iterator that goes forwards where `FORWARD` is true, and else backwards.
@@ -26,8 +24,7 @@ pub struct Direction<const FORWARD: bool>;
 /// a `step` reads at most. A walk that has ended stays ended.
 #[derive(Drop)]
 pub struct Siblings<'a, const BLOCK_SIZE: usize, D, A: Allocator + Copy> {
-    bits: &'a RsVec<A>,
-    tree: &'a MinMaxTree<A>,
+    searched: Searched<'a, BLOCK_SIZE, A>,
     forward: bool,
     place: usize,
     direction: PhantomData<D>,
@@ -42,9 +39,10 @@ impl<'a, const BLOCK_SIZE: usize, D, A: Allocator + Copy> Model for Siblings<'a,
 
     ghost Value = { Walking ℕ };
 
-    ghost view = { λ s. record { left = siblings_left s.bits.now s.forward s.place; step = enclose_reads BLOCK_SIZE (length s.bits.now) } };
+    ghost view = { λ s. record { left = siblings_left s.searched.bits.now s.forward s.place; step = enclose_reads BLOCK_SIZE (length s.searched.bits.now) } };
 
-    ghost invariant = { λ s. IsIndexed s.bits.now BLOCK_SIZE s.tree.now.first s.tree.now.nodes × IsWalkOfSiblings s.bits.now s.forward s.place };
+    ghost invariant = { λ s. IsIndexed s.searched.bits.now BLOCK_SIZE s.searched.tree.now.first s.searched.tree.now.nodes
+        × IsWalkOfSiblings s.searched.bits.now s.forward s.place };
 }
 
 /// An iterator over the children of a node: in order where `FORWARD` is true, and else the last one
@@ -57,17 +55,17 @@ pub type ChildrenIter<'a, const BLOCK_SIZE: usize, const FORWARD: bool, A> = Sib
 >;
 
 impl<'a, const BLOCK_SIZE: usize, D, A: Allocator + Copy> Siblings<'a, BLOCK_SIZE, D, A> {
-    fn new(bits: &'a RsVec<A>, tree: &'a MinMaxTree<A>, forward: bool, place: usize) -> Self
-        requires indexed { IsIndexed bits.now BLOCK_SIZE tree.now.first tree.now.nodes }
-        requires walk { IsWalkOfSiblings bits.now forward place }
+    fn new(searched: Searched<'a, BLOCK_SIZE, A>, forward: bool, place: usize) -> Self
+        requires indexed { IsIndexed searched.bits.now BLOCK_SIZE searched.tree.now.first
+            searched.tree.now.nodes }
+        requires walk { IsWalkOfSiblings searched.bits.now forward place }
         ensures { result ≡ record {
-          left = siblings_left bits.now forward place;
-          step = enclose_reads BLOCK_SIZE (length bits.now);
+          left = siblings_left searched.entry.bits.now forward place;
+          step = enclose_reads BLOCK_SIZE (length searched.entry.bits.now);
         } }
     {
         Siblings {
-            bits,
-            tree,
+            searched,
             forward,
             place,
             direction: PhantomData,
@@ -91,14 +89,7 @@ impl<'a, const BLOCK_SIZE: usize, D, A: Allocator + Copy> Siblings<'a, BLOCK_SIZ
         ensures same_step { self.new.step ≡ self.old.step }
         ensures adds { AddsAtMost tally.old tally.new self.old.step }
     {
-        let (node, place) = tree_beside(
-            self.bits,
-            self.tree,
-            BLOCK_SIZE,
-            self.forward,
-            self.place,
-            tally,
-        )?;
+        let (node, place) = self.searched.tree_beside(self.forward, self.place, tally)?;
         self.place = place;
         Some(node)
     }
@@ -118,71 +109,54 @@ impl<'a, const BLOCK_SIZE: usize, D, A: Allocator + Copy> Iterator
     }
 }
 
-// The next tree forwards or backwards from a place, and the place on its other side.
-#[inline(always)]
-fn tree_beside<A: Allocator + Copy>(
-    bits: &RsVec<A>,
-    tree: &MinMaxTree<A>,
-    size: usize,
-    forward: bool,
-    place: usize,
-    tally: &mut Tally,
-) -> Option<(usize, usize)>
-    requires { IsIndexed bits.now size tree.now.first tree.now.nodes }
-    ensures value { result ≡ tree_beside bits.now forward place }
-    ensures adds { AddsAtMost tally.old tally.new (enclose_reads size (length bits.now)) }
-{
-    if forward {
-        tree_from(bits, tree, size, place, tally)
-    } else {
-        tree_before(bits, tree, size, place, tally)
+impl<'a, const BLOCK_SIZE: usize, A: Allocator + Copy> Searched<'a, BLOCK_SIZE, A> {
+    // The next tree forwards or backwards from a place, and the place on its other side.
+    #[inline(always)]
+    fn tree_beside(self, forward: bool, place: usize, tally: &mut Tally) -> Option<(usize, usize)>
+        requires { IsIndexed self.bits.now BLOCK_SIZE self.tree.now.first self.tree.now.nodes }
+        ensures value { result ≡ tree_beside self.entry.bits.now forward place }
+        ensures adds { AddsAtMost tally.old tally.new (enclose_reads BLOCK_SIZE (length self.entry.bits.now)) }
+    {
+        if forward {
+            self.tree_from(place, tally)
+        } else {
+            self.tree_before(place, tally)
+        }
     }
-}
 
-// The tree that opens at a place, and the place past it.
-#[inline(always)]
-fn tree_from<A: Allocator + Copy>(
-    bits: &RsVec<A>,
-    tree: &MinMaxTree<A>,
-    size: usize,
-    place: usize,
-    tally: &mut Tally,
-) -> Option<(usize, usize)>
-    requires { IsIndexed bits.now size tree.now.first tree.now.nodes }
-    ensures value { result ≡ tree_from bits.now place }
-    ensures adds { AddsAtMost tally.old tally.new (enclose_reads size (length bits.now)) }
-{
-    if place >= bits.len() {
-        return None;
+    // The tree that opens at a place, and the place past it.
+    #[inline(always)]
+    fn tree_from(self, place: usize, tally: &mut Tally) -> Option<(usize, usize)>
+        requires { IsIndexed self.bits.now BLOCK_SIZE self.tree.now.first self.tree.now.nodes }
+        ensures value { result ≡ tree_from self.entry.bits.now place }
+        ensures adds { AddsAtMost tally.old tally.new (enclose_reads BLOCK_SIZE (length self.entry.bits.now)) }
+    {
+        if place >= self.bits.len() {
+            return None;
+        }
+        if !self.bits.is_one_counted(place, tally) {
+            return None;
+        }
+        let close = self.forward(place, -1, tally)?;
+        Some((place, close + 1))
     }
-    if !bits.is_one_counted(place, tally) {
-        return None;
-    }
-    let close = forward(bits, tree, size, place, -1, tally)?;
-    Some((place, close + 1))
-}
 
-// The tree that closes right before a place, and the place where it opens.
-#[inline(always)]
-fn tree_before<A: Allocator + Copy>(
-    bits: &RsVec<A>,
-    tree: &MinMaxTree<A>,
-    size: usize,
-    place: usize,
-    tally: &mut Tally,
-) -> Option<(usize, usize)>
-    requires { IsIndexed bits.now size tree.now.first tree.now.nodes }
-    ensures value { result ≡ tree_before bits.now place }
-    ensures adds { AddsAtMost tally.old tally.new (enclose_reads size (length bits.now)) }
-{
-    if place == 0 || place > bits.len() {
-        return None;
+    // The tree that closes right before a place, and the place where it opens.
+    #[inline(always)]
+    fn tree_before(self, place: usize, tally: &mut Tally) -> Option<(usize, usize)>
+        requires { IsIndexed self.bits.now BLOCK_SIZE self.tree.now.first self.tree.now.nodes }
+        ensures value { result ≡ tree_before self.entry.bits.now place }
+        ensures adds { AddsAtMost tally.old tally.new (enclose_reads BLOCK_SIZE (length self.entry.bits.now)) }
+    {
+        if place == 0 || place > self.bits.len() {
+            return None;
+        }
+        if self.bits.is_one_counted(place - 1, tally) {
+            return None;
+        }
+        let open = self.backward(place - 1, -1, tally)?;
+        Some((open, open))
     }
-    if bits.is_one_counted(place - 1, tally) {
-        return None;
-    }
-    let open = backward(bits, tree, size, place - 1, -1, tally)?;
-    Some((open, open))
 }
 
 impl<const BLOCK_SIZE: usize, A: Allocator + Copy> BpTree<BLOCK_SIZE, A> {
@@ -195,7 +169,7 @@ impl<const BLOCK_SIZE: usize, A: Allocator + Copy> BpTree<BLOCK_SIZE, A> {
           step = enclose_reads BLOCK_SIZE (length self.now);
         } }
     {
-        Siblings::new(&self.bits, &self.tree, true, node + 1)
+        Siblings::new(self.searched(), true, node + 1)
     }
 
     /// An iterator over the children of a node, the last one first. The parentheses are balanced.
@@ -208,6 +182,6 @@ impl<const BLOCK_SIZE: usize, A: Allocator + Copy> BpTree<BLOCK_SIZE, A> {
         } }
     {
         let end = self.close(node).unwrap_or(node);
-        Siblings::new(&self.bits, &self.tree, false, end)
+        Siblings::new(self.searched(), false, end)
     }
 }

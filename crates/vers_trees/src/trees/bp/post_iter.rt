@@ -8,8 +8,7 @@ ghost use Rattle.vers_trees.specs.Traversals.{postorder, subtree_post};
 ghost use Rattle.vers_trees.specs.WalkReads.{post_reads};
 
 use super::BpTree;
-use super::min_max::MinMaxTree;
-use super::search::backward;
+use super::search::Searched;
 use std::alloc::Allocator;
 use std::marker::Model;
 use vers_rank::fast_rs_vec::{Places, RsVec};
@@ -20,8 +19,7 @@ use vers_tally::tally::Tally;
 /// one by one: the place of a zero, and then by a search where it opens.
 #[derive(Drop)]
 pub struct ClosedNodes<'a, const BLOCK_SIZE: usize, A: Allocator + Copy> {
-    bits: &'a RsVec<A>,
-    tree: &'a MinMaxTree<A>,
+    searched: Searched<'a, BLOCK_SIZE, A>,
     zeros: Places<(), &'a RsVec<A>>,
     first: usize,
     count: usize,
@@ -36,10 +34,10 @@ impl<'a, const BLOCK_SIZE: usize, A: Allocator + Copy> Model for ClosedNodes<'a,
 
     ghost Value = { Walking ℕ };
 
-    ghost view = { λ s. record { left = closed_by s.bits.now s.first s.count; step = post_reads BLOCK_SIZE (length s.bits.now) } };
+    ghost view = { λ s. record { left = closed_by s.searched.bits.now s.first s.count; step = post_reads BLOCK_SIZE (length s.searched.bits.now) } };
 
-    ghost invariant = { λ s. IsIndexed s.bits.now BLOCK_SIZE s.tree.now.first s.tree.now.nodes
-        × ArePlacesOfZeros s.bits.now s.zeros.bit s.zeros.bits s.first s.count };
+    ghost invariant = { λ s. IsIndexed s.searched.bits.now BLOCK_SIZE s.searched.tree.now.first s.searched.tree.now.nodes
+        × ArePlacesOfZeros s.searched.bits.now s.zeros.bit s.zeros.bits s.first s.count };
 }
 
 #[tactic(auto, using(crate::proofs::ClosedByZeros::closed))]
@@ -58,7 +56,7 @@ impl<'a, const BLOCK_SIZE: usize, A: Allocator + Copy> Source for ClosedNodes<'a
     #[inline(always)]
     fn item_at(&mut self, i: usize, tally: &mut Tally) -> usize {
         let close = self.zeros.item_at(self.first + i, tally);
-        backward(self.bits, self.tree, BLOCK_SIZE, close, -1, tally).unwrap_or(0)
+        self.searched.backward(close, -1, tally).unwrap_or(0)
     }
 }
 
@@ -105,10 +103,10 @@ impl<const BLOCK_SIZE: usize, A: Allocator + Copy> BpTree<BLOCK_SIZE, A> {
           step = post_reads BLOCK_SIZE (length self.now);
         } }
     {
+        let searched = self.searched();
         BothEnds::new(ClosedNodes {
-            bits: &self.bits,
-            tree: &self.tree,
-            zeros: Places::new(&self.bits, false),
+            searched,
+            zeros: Places::new(searched.bits, false),
             first,
             count,
         })

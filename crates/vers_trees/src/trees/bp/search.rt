@@ -43,72 +43,84 @@ fn is_right_before<A: Allocator + Copy>(
     step(!bits.is_one_counted(i - 1, tally)) == r
 }
 
-// The first place after `i` past which the excess is `r` more than past `i`. A place right beside is
-// found by its bit alone.
-#[inline(always)]
-pub(super) fn forward<A: Allocator + Copy>(
-    bits: &RsVec<A>,
-    tree: &MinMaxTree<A>,
-    size: usize,
-    i: usize,
-    r: i64,
-    tally: &mut Tally,
-) -> Option<usize>
-    requires { IsIndexed bits.now size tree.now.first tree.now.nodes }
-    ensures value { result ≡ first_rise_after bits.now i r }
-    ensures adds { AddsAtMost tally.old tally.new (search_reads size (length bits.now)) }
-{
-    let len = bits.len();
-    if i >= len {
-        return None;
-    }
-    if is_right_after(bits, i, r, tally) {
-        return Some(i + 1);
-    }
-    let block = i / size;
-    let end = (block * size + size).min(len);
-    tally.add_block();
-    let rise = match scan_forward(bits, &tree.tables, i + 1, end, r, tally) {
-        Ok(place) => return Some(place),
-        Err(rise) => rise,
-    };
-    let left = r.checked_sub(rise)?;
-    let (next, rest) = tree.next_block_counted(block, left, tally)?;
-    tally.add_block();
-    let next_end = (next * size + size).min(len);
-    scan_forward(bits, &tree.tables, next * size, next_end, rest, tally).ok()
+// A list of parentheses, and the tree over its blocks of `BLOCK_SIZE` bits.
+#[derive(Clone, Copy, Drop)]
+pub(super) struct Searched<'a, const BLOCK_SIZE: usize, A: Allocator + Copy> {
+    pub(super) bits: &'a RsVec<A>,
+    pub(super) tree: &'a MinMaxTree<A>,
 }
 
-// The last place before `i` before which the excess is `r` more than before `i`. A place right beside
-// is found by its bit alone.
-#[inline(always)]
-pub(super) fn backward<A: Allocator + Copy>(
-    bits: &RsVec<A>,
-    tree: &MinMaxTree<A>,
-    size: usize,
-    i: usize,
-    r: i64,
-    tally: &mut Tally,
-) -> Option<usize>
-    requires { IsIndexed bits.now size tree.now.first tree.now.nodes }
-    ensures value { result ≡ last_rise_before bits.now i r }
-    ensures adds { AddsAtMost tally.old tally.new (search_reads size (length bits.now)) }
-{
-    if i == 0 || i >= bits.len() {
-        return None;
+impl<'a, const BLOCK_SIZE: usize, A: Allocator + Copy> Searched<'a, BLOCK_SIZE, A> {
+    // The first place after `i` past which the excess is `r` more than past `i`. A place right beside
+    // is found by its bit alone.
+    #[inline(always)]
+    pub(super) fn forward(self, i: usize, r: i64, tally: &mut Tally) -> Option<usize>
+        requires { IsIndexed self.bits.now BLOCK_SIZE self.tree.now.first self.tree.now.nodes }
+        ensures value { result ≡ first_rise_after self.entry.bits.now i r }
+        ensures adds { AddsAtMost tally.old tally.new (search_reads BLOCK_SIZE (length self.entry.bits.now)) }
+    {
+        let len = self.bits.len();
+        if i >= len {
+            return None;
+        }
+        if is_right_after(self.bits, i, r, tally) {
+            return Some(i + 1);
+        }
+        let block = i / BLOCK_SIZE;
+        let end = (block * BLOCK_SIZE + BLOCK_SIZE).min(len);
+        tally.add_block();
+        let rise = match scan_forward(self.bits, &self.tree.tables, i + 1, end, r, tally) {
+            Ok(place) => return Some(place),
+            Err(rise) => rise,
+        };
+        let left = r.checked_sub(rise)?;
+        let (next, rest) = self.tree.next_block_counted(block, left, tally)?;
+        tally.add_block();
+        let next_end = (next * BLOCK_SIZE + BLOCK_SIZE).min(len);
+        scan_forward(
+            self.bits,
+            &self.tree.tables,
+            next * BLOCK_SIZE,
+            next_end,
+            rest,
+            tally,
+        )
+        .ok()
     }
-    if is_right_before(bits, i, r, tally) {
-        return Some(i - 1);
+
+    // The last place before `i` before which the excess is `r` more than before `i`. A place right
+    // beside is found by its bit alone.
+    #[inline(always)]
+    pub(super) fn backward(self, i: usize, r: i64, tally: &mut Tally) -> Option<usize>
+        requires { IsIndexed self.bits.now BLOCK_SIZE self.tree.now.first self.tree.now.nodes }
+        ensures value { result ≡ last_rise_before self.entry.bits.now i r }
+        ensures adds { AddsAtMost tally.old tally.new (search_reads BLOCK_SIZE (length self.entry.bits.now)) }
+    {
+        if i == 0 || i >= self.bits.len() {
+            return None;
+        }
+        if is_right_before(self.bits, i, r, tally) {
+            return Some(i - 1);
+        }
+        let block = (i - 1) / BLOCK_SIZE;
+        tally.add_block();
+        let begin = block * BLOCK_SIZE;
+        let rise = match scan_backward(self.bits, &self.tree.tables, begin, i, r, tally) {
+            Ok(place) => return Some(place),
+            Err(rise) => rise,
+        };
+        let left = r.checked_sub(rise)?;
+        let (previous, rest) = self.tree.previous_block_counted(block, left, tally)?;
+        tally.add_block();
+        let start = previous * BLOCK_SIZE;
+        scan_backward(
+            self.bits,
+            &self.tree.tables,
+            start,
+            start + BLOCK_SIZE,
+            rest,
+            tally,
+        )
+        .ok()
     }
-    let block = (i - 1) / size;
-    tally.add_block();
-    let rise = match scan_backward(bits, &tree.tables, block * size, i, r, tally) {
-        Ok(place) => return Some(place),
-        Err(rise) => rise,
-    };
-    let left = r.checked_sub(rise)?;
-    let (previous, rest) = tree.previous_block_counted(block, left, tally)?;
-    tally.add_block();
-    let start = previous * size;
-    scan_backward(bits, &tree.tables, start, start + size, rest, tally).ok()
 }

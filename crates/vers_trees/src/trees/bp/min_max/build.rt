@@ -1,6 +1,6 @@
 //! Building the tree of excesses of a list, from its blocks up to the root.
 ghost use Rattle.std.specs.Prelude.{◌≡◌, ℕ, ◌+◌, ◌*◌, ◌<◌, ◌≤◌, ◌≤ℤ◌, ◌<ℤ◌, ◌^◌, length, drop, slice_index_or, IfOk};
-ghost use Rattle.vers_trees.specs.inside.Index.{IsTreeOf, IsWidth, AreFirstBlocks};
+ghost use Rattle.vers_trees.specs.inside.Index.{CanBeIndexed, IsTreeOf, IsWidth, AreFirstBlocks};
 ghost use Rattle.vers_trees.specs.Layout.{block_count, node_count};
 ghost use Rattle.vers_trees.specs.inside.MinMax.{JoinFits, AreLeaves, CoveredFrom, combined, empty_node};
 
@@ -29,9 +29,7 @@ fn leaves_of<A: Allocator + Copy>(
     size: usize,
     first: usize,
 ) -> Result<Vec<Node, A>, AllocError>
-    requires short { length bits.now < 2 ^ 63 }
-    requires some { 0 < size }
-    requires bounded { size ≤ 4294967296 }
+    requires { CanBeIndexed bits.now size }
     ensures { IfOk result (λ v. AreFirstBlocks bits.now size first
         (block_count size (length bits.now)) v.items) }
 {
@@ -51,9 +49,7 @@ pub(super) fn nodes_over<A: Allocator + Copy>(
     size: usize,
     first: usize,
 ) -> Result<Vec<Node, A>, AllocError>
-    requires short { length bits.now < 2 ^ 63 }
-    requires some { 0 < size }
-    requires bounded { size ≤ 4294967296 }
+    requires can { CanBeIndexed bits.now size }
     requires bits { 0 < length bits.now }
     requires wide { IsWidth (block_count size (length bits.now)) (first + 1) }
     ensures tree { IfOk result (λ v. IsTreeOf bits.now size first v.items) }

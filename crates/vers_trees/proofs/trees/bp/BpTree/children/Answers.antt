@@ -7,18 +7,18 @@ use Rattle.vers_trees.proofs.trees.bp.BpTree.children.Goals as goal
 pub overflow_add-node : goal.overflow_add-node
 overflow_add-node g c =
     let i = node_inside c.args.self.now c.args.node c.requires.balanced c.requires.is_node in
-    let s = c.self.invariant.short in
-    let e : length c.self.inside.bits ≡ length c.args.self.now = ap (λ (l : List Bool). length l) c.self.view_is in
+    let s = c.searched.ensures.indexed.short in
+    let e : length c.searched.result.bits.now ≡ length c.args.self.now = ap (λ (l : List Bool). length l) c.searched.ensures.bits in
     record { fits = omega arith }
 
 pub new-requires : goal.new-requires
 new-requires g c =
     let w = forwards c.args.self.now c.args.node c.requires.balanced c.requires.is_node in
-    (omega arith, (c.self.invariant, subst (λ (l : List Bool). IsWalkOfSiblings l true (c.args.node + 1)) (sym c.self.view_is) w.1))
+    (omega arith, (omega arith, (c.searched.ensures.indexed, subst (λ (l : List Bool). IsWalkOfSiblings l true (c.args.node + 1)) (sym c.searched.ensures.bits) w.1)))
 
 pub returns : goal.returns
 returns g c =
     let w = forwards c.args.self.now c.args.node c.requires.balanced c.requires.is_node in
     c.new.ensures
-    ∙ ap (λ (l : List Bool). walking (siblings_left l true (c.args.node + 1)) (enclose_reads g.row.BLOCK_SIZE (length l))) c.self.view_is
+    ∙ ap (λ (l : List Bool). walking (siblings_left l true (c.args.node + 1)) (enclose_reads g.row.BLOCK_SIZE (length l))) c.searched.ensures.bits
     ∙ ap (λ (vs : List ℕ). walking vs (enclose_reads g.row.BLOCK_SIZE (length c.args.self.now))) w.0

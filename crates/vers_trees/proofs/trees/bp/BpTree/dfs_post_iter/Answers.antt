@@ -1,5 +1,5 @@
-use Rattle.std.proofs.Common.{◌≡◌, false, Bool, ℕ, List, length, arith, sym, ap, ◌∙◌}
-use Rattle.vers_bits.specs.Bits.{count, places}
+use Rattle.std.proofs.Common.{false, Bool, ℕ, List, length, arith, sym, ap, ◌∙◌}
+use Rattle.vers_bits.specs.Bits.{count}
 use Rattle.vers_bits.proofs.PublicLaws.{length-places}
 use Rattle.vers_trees.specs.WalkReads.{post_reads}
 use Rattle.vers_trees.proofs.ClosedByZeros.{closed_by_all}

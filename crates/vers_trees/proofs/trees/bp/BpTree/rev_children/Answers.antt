@@ -8,12 +8,12 @@ pub new-requires : goal.new-requires
 new-requires g c =
     let e = end_in c.args.self.now c.args.node c.close.result c.unwrap_or-end.result c.requires.balanced c.requires.is_node c.close.ensures c.unwrap_or-end.ensures in
     let w = backwards c.args.self.now c.args.node c.unwrap_or-end.result c.requires.balanced c.requires.is_node e in
-    (omega arith, (c.self.invariant, subst (λ (l : List Bool). IsWalkOfSiblings l false c.unwrap_or-end.result) (sym c.self.view_is) w.1))
+    (omega arith, (omega arith, (c.searched.ensures.indexed, subst (λ (l : List Bool). IsWalkOfSiblings l false c.unwrap_or-end.result) (sym c.searched.ensures.bits) w.1)))
 
 pub returns : goal.returns
 returns g c =
     let e = end_in c.args.self.now c.args.node c.close.result c.unwrap_or-end.result c.requires.balanced c.requires.is_node c.close.ensures c.unwrap_or-end.ensures in
     let w = backwards c.args.self.now c.args.node c.unwrap_or-end.result c.requires.balanced c.requires.is_node e in
     c.new.ensures
-    ∙ ap (λ (l : List Bool). walking (siblings_left l false c.unwrap_or-end.result) (enclose_reads g.row.BLOCK_SIZE (length l))) c.self.view_is
+    ∙ ap (λ (l : List Bool). walking (siblings_left l false c.unwrap_or-end.result) (enclose_reads g.row.BLOCK_SIZE (length l))) c.searched.ensures.bits
     ∙ ap (λ (vs : List ℕ). walking vs (enclose_reads g.row.BLOCK_SIZE (length c.args.self.now))) w.0

@@ -1,5 +1,5 @@
-use Rattle.std.proofs.Common.{false, Bool, ℕ, List, length, map, take, drop, arith, ap, ◌∙◌}
-use Rattle.vers_bits.specs.Bits.{count, places}
+use Rattle.std.proofs.Common.{false, Bool, ℕ, List, length, arith, ap, ◌∙◌}
+use Rattle.vers_bits.specs.Bits.{count}
 use Rattle.vers_trees.specs.WalkReads.{post_reads}
 use Rattle.vers_trees.specs.inside.Closed.{closed_by}
 use Rattle.vers_trees.proofs.WalksOfNodes.{subtree_inside, subtree_post_part, walking}
