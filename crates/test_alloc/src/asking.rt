@@ -52,6 +52,24 @@ pub fn asked_both<T: Drop, U: Drop, R, E: Drop, F: FnOnce(&T, &U) -> R>(
     Ok(ask(&one, &other))
 }
 
+/// The first length, and the number of the row that is wrong, of values that are made of each length.
+pub fn first_wrong_length<
+    T: Drop,
+    E: Drop,
+    M: Fn(usize) -> Result<T, E>,
+    W: Fn(&T) -> Option<usize>,
+>(lengths: &[usize], make: M, wrong_row: W) -> Result<Option<(usize, usize)>, E>
+    requires make { M.IsAlwaysCallable make }
+    requires wrong_row { W.IsAlwaysCallable wrong_row }
+{
+    for len in lengths {
+        if let Some(row) = asked(make(*len), &wrong_row)? {
+            return Ok(Some((*len, row)));
+        }
+    }
+    Ok(None)
+}
+
 /// A call of a walk that takes an item, or asks how many are left.
 #[derive(Clone, Copy, Drop)]
 pub enum Step {

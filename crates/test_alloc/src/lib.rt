@@ -4,12 +4,14 @@
 mod asking;
 mod tries;
 
-pub use asking::{Step, asked, asked_both, asked_mut, first_wrong, first_wrong_step};
+pub use asking::{
+    Step, asked, asked_both, asked_mut, first_wrong, first_wrong_length, first_wrong_step,
+};
 use std::alloc::{AllocError, Allocator};
 use std::cell::Cell;
 pub use tries::{
-    Ending, LENGTHS, each_refused, takes_memory, try_change, try_clone, try_convert, try_make,
-    try_use,
+    Ending, LENGTHS, each_refused, first_wrong_call, takes_memory, try_change, try_clone,
+    try_convert, try_make, try_use,
 };
 
 /// Which requests are refused, and what has been asked so far. Requests count from 1.

@@ -87,6 +87,26 @@ pub fn takes_memory<B: Allocator + Copy, F: Fn(&Refusing<B>) -> Ending>(
     }
 }
 
+/// The number of the first call, counted from 0, whose tries don't all end as they have to, or that takes
+/// memory where it should take none, or none where it should take some.
+pub fn first_wrong_call<
+    B: Allocator + Copy,
+    C: Copy + Drop,
+    W: Fn(C) -> bool,
+    F: Fn(&Refusing<B>, C) -> Ending,
+>(inner: B, calls: &[C], should_take: W, tried: F) -> Option<usize>
+    requires should_take { W.IsAlwaysCallable should_take }
+    requires tried { F.IsAlwaysCallable tried }
+{
+    for (row, call) in calls.iter().enumerate() {
+        let is_tried = |heap: &Refusing<B>| tried(heap, *call);
+        if takes_memory(inner, is_tried) != Some(should_take(*call)) {
+            return Some(row);
+        }
+    }
+    None
+}
+
 /// Tries a maker. Once refused, it is called again with memory, and makes what an undisturbed call does.
 pub fn try_make<
     B: Allocator,

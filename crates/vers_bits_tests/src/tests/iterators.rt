@@ -2,35 +2,17 @@
 use std::alloc::{AllocError, Allocator, Global};
 use std::test::Fail;
 use test_alloc::{Step, asked, asked_mut, first_wrong_step};
-use vers_bits::bit_vec::{BitVec, BitVecIter, BitVecRefIter, GrowError, LimbIter};
+use vers_bits::bit_vec::{BitVec, BitVecIter, GrowError};
+use vers_bits::list_ends::{ListEnds, Listed};
 
-fn take<A: Allocator + Copy>(bits: &mut BitVecRefIter<'_, A>, step: Step) -> Option<u64> {
+// What a step of a walk gives, or how many items are left.
+fn take<L: Listed<Item = u64>>(walk: &mut ListEnds<L>, step: Step) -> Option<u64> {
     match step {
-        Step::Next => bits.next(),
-        Step::NextBack => bits.next_back(),
-        Step::Nth(n) => bits.nth(n),
-        Step::NthBack(n) => bits.nth_back(n),
-        Step::Len => Some(bits.len() as u64),
-    }
-}
-
-fn take_owned<A: Allocator + Copy>(bits: &mut BitVecIter<A>, step: Step) -> Option<u64> {
-    match step {
-        Step::Next => bits.next(),
-        Step::NextBack => bits.next_back(),
-        Step::Nth(n) => bits.nth(n),
-        Step::NthBack(n) => bits.nth_back(n),
-        Step::Len => Some(bits.len() as u64),
-    }
-}
-
-fn take_limb<A: Allocator + Copy>(limbs: &mut LimbIter<'_, A>, step: Step) -> Option<u64> {
-    match step {
-        Step::Next => limbs.next(),
-        Step::NextBack => limbs.next_back(),
-        Step::Nth(n) => limbs.nth(n),
-        Step::NthBack(n) => limbs.nth_back(n),
-        Step::Len => Some(limbs.len() as u64),
+        Step::Next => walk.next(),
+        Step::NextBack => walk.next_back(),
+        Step::Nth(n) => walk.nth(n),
+        Step::NthBack(n) => walk.nth_back(n),
+        Step::Len => Some(walk.len() as u64),
     }
 }
 
@@ -94,42 +76,23 @@ fn walk_10110<A: Allocator + Copy>(alloc: A) -> Result<BitVecIter<A>, GrowError>
     }
 }
 
-// The first wrong step of a walk over the bits of a list, or of one over its limbs.
-fn wrong_step<A: Allocator + Copy>(
-    list: &BitVec<A>,
+// The number of the first step of a walk that gives another item.
+fn wrong_step<L: Listed<Item = u64>>(
+    walk: &mut ListEnds<L>,
     rows: &[(Step, Option<u64>)],
 ) -> Option<usize> {
-    first_wrong_step(
-        &mut list.iter(),
-        rows,
-        |bits: &mut BitVecRefIter<'_, A>, step| take(bits, step),
-    )
-}
-
-fn wrong_limb_step<A: Allocator + Copy>(
-    list: &BitVec<A>,
-    rows: &[(Step, Option<u64>)],
-) -> Option<usize> {
-    first_wrong_step(
-        &mut list.iter_limbs(),
-        rows,
-        |limbs: &mut LimbIter<'_, A>, step| take_limb(limbs, step),
-    )
-}
-
-fn wrong_owned_step<A: Allocator + Copy>(
-    bits: &mut BitVecIter<A>,
-    rows: &[(Step, Option<u64>)],
-) -> Option<usize> {
-    first_wrong_step(bits, rows, |bits, step| take_owned(bits, step))
+    first_wrong_step(walk, rows, |walk: &mut ListEnds<L>, step| take(walk, step))
 }
 
 #[test]
 fn bits_from_both_ends(rt: HostRuntime) -> Result<(), Fail> {
     for (walk, rows) in BITS.iter().enumerate() {
-        let wrong = asked(list_10110(rt.alloc()), |list| wrong_step(list, rows))?;
+        let wrong = asked(
+            list_10110(rt.alloc()),
+            |list| wrong_step(&mut list.iter(), rows),
+        )?;
         assert_eq!(rt; wrong, None, "walk {walk}");
-        let wrong = asked_mut(walk_10110(rt.alloc()), |bits| wrong_owned_step(bits, rows))?;
+        let wrong = asked_mut(walk_10110(rt.alloc()), |bits| wrong_step(bits, rows))?;
         assert_eq!(rt; wrong, None, "walk {walk}, owned");
     }
     Ok(())
@@ -140,7 +103,7 @@ fn limbs_from_both_ends(rt: HostRuntime) -> Result<(), Fail> {
     for (walk, rows) in LIMBS.iter().enumerate() {
         let wrong = asked(
             BitVec::from_limbs(rt.alloc(), &[7, u64::MAX, 9, 1]),
-            |list| wrong_limb_step(list, rows),
+            |list| wrong_step(&mut list.iter_limbs(), rows),
         )?;
         assert_eq!(rt; wrong, None, "walk {walk}");
     }

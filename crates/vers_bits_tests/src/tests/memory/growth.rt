@@ -1,5 +1,5 @@
 //! The calls that make a list grow, at every length.
-use crate::pattern::{bit, has_pattern, pattern, word};
+use crate::tests::pattern::{bit, has_pattern, pattern, word};
 use std::alloc::{Allocator, Global};
 use test_alloc::{
     Ending, LENGTHS, Refusing, asked, asked_mut, each_refused, takes_memory, try_change,

@@ -1,5 +1,5 @@
 //! Every maker of a list of bits, by one table of items in each type that lists are made of.
-use crate::pattern::item;
+use crate::tests::pattern::item;
 use std::alloc::{AllocError, Allocator, Global};
 use vers_bits::bit_vec::{BitVec, GrowError};
 

@@ -1,6 +1,6 @@
 //! What the makers make.
-use crate::makers::{Items, Maker, make};
-use crate::queries::{Query, answer};
+use crate::tests::makers::{Items, Maker, make};
+use crate::tests::queries::{Query, answer};
 use std::alloc::{AllocError, Allocator, Global};
 use std::test::Fail;
 use test_alloc::{asked, first_wrong};

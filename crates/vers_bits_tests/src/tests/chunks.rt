@@ -1,5 +1,5 @@
 //! Calls that take limbs by chunks, against a plain computation, around the ends of limbs and chunks.
-use crate::pattern::{bit, pattern};
+use crate::tests::pattern::{bit, pattern};
 use std::alloc::Allocator;
 use std::test::Fail;
 use test_alloc::{asked, asked_both, asked_mut};

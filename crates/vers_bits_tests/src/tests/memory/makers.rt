@@ -1,6 +1,6 @@
 //! The makers, at every length.
-use crate::makers::{Items, Maker, make};
-use crate::pattern::{has_bits, item};
+use crate::tests::makers::{Items, Maker, make};
+use crate::tests::pattern::{has_bits, item};
 use std::alloc::{Allocator, Global};
 use std::test::Fail;
 use test_alloc::{Ending, LENGTHS, Refusing, asked, takes_memory, try_make};

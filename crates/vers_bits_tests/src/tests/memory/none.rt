@@ -1,5 +1,5 @@
 //! The calls that take no memory, of lists of every length, with each request refused.
-use crate::pattern::{bit, has_bits, has_pattern, pattern, word};
+use crate::tests::pattern::{bit, has_bits, has_pattern, pattern, word};
 use std::alloc::{AllocError, Allocator, Global};
 use std::hash::{BuildHasher, BuildHasherDefault, FoldHasher};
 use test_alloc::{Ending, LENGTHS, Refusing, asked, each_refused, try_convert, try_use};

@@ -1,5 +1,5 @@
 //! What masks make, how they are read, and lists of different lengths.
-use crate::masks::{Mask, apply, masked};
+use crate::tests::masks::{Mask, apply, masked};
 use std::alloc::{Allocator, Global};
 use std::test::Fail;
 use test_alloc::{asked, asked_both, asked_mut};

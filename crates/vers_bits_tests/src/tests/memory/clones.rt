@@ -1,6 +1,6 @@
 //! Clones of lists and of walks that own one, and lists made of masks, at every length.
-use crate::masks::{Mask, masked, masked_bit};
-use crate::pattern::{bit, has_bits, has_pattern, pattern};
+use crate::tests::masks::{Mask, masked, masked_bit};
+use crate::tests::pattern::{bit, has_bits, has_pattern, pattern};
 use std::alloc::{AllocError, Allocator, Global};
 use test_alloc::{Ending, LENGTHS, Refusing, asked, takes_memory, try_clone, try_make};
 use vers_bits::bit_vec::{BitVec, BitVecIter, GrowError};

@@ -1,6 +1,6 @@
 //! Lists that are changed by scripts, and splits.
-use crate::makers::{Items, Maker, make};
-use crate::queries::{Change, Line, Query, answer, first_wrong_line};
+use crate::tests::makers::{Items, Maker, make};
+use crate::tests::queries::{Change, Line, Query, answer, first_wrong_line};
 use std::alloc::{Allocator, Global};
 use std::test::Fail;
 use test_alloc::{asked, asked_mut, first_wrong};
