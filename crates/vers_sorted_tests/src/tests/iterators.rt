@@ -1,6 +1,6 @@
 //! Iterators over ascending lists.
-use crate::lists::list_of;
-use crate::walks::{
+use crate::tests::lists::list_of;
+use crate::tests::walks::{
     Step, sum_by_mut, sum_by_reference, sum_by_value, walk_over, wrong_owned_step, wrong_step,
 };
 use std::test::Fail;

@@ -1,12 +1,12 @@
 //! Every call that takes memory, each of its requests refused in turn, and the calls that take none, of
 //! lists of every length.
-use crate::bits::{Query as BitQuery, answer as bit_answer, bits_of};
-use crate::lists::{Query, answer, list_of};
-use crate::walks::{Step, walk_over, wrong_owned_step, wrong_step};
+use crate::tests::bits::{Query as BitQuery, answer as bit_answer, bits_of};
+use crate::tests::lists::{Query, answer, list_of};
+use crate::tests::walks::{Step, walk_over, wrong_owned_step, wrong_step};
 use std::alloc::{AllocError, Allocator, Global};
 use std::test::Fail;
 use test_alloc::{
-    Ending, LENGTHS, Refusing, asked, each_refused, first_wrong, takes_memory, try_clone,
+    Ending, LENGTHS, Refusing, asked, first_wrong, first_wrong_call, first_wrong_length, try_clone,
     try_convert, try_make, try_use,
 };
 use vers_bits::bit_vec::{BitVec, GrowError};
@@ -174,26 +174,44 @@ fn tried_of_bits<B: Allocator, A: Allocator + Copy>(
     }
 }
 
-// The number of the first call that goes wrong. Each takes memory, for the select samples at least.
-fn first_wrong_call(alloc: Global, numbers: &Numbers) -> Option<usize> {
-    for (row, call) in CALLS.iter().enumerate() {
-        let is_tried = |heap: &Refusing<Global>| tried(heap, heap, *call, numbers);
-        if takes_memory(alloc, is_tried) != Some(true) {
-            return Some(row);
-        }
-    }
-    None
+// The row of the first call of a table that goes wrong about some numbers.
+fn wrong_of_numbers<C: Copy + Drop, F: Fn(&Refusing<Global>, C, &Numbers) -> Ending>(
+    alloc: Global,
+    numbers: &Numbers,
+    calls: &[C],
+    should_take: bool,
+    tried: &F,
+) -> Option<usize>
+    requires { F.IsAlwaysCallable tried.now }
+{
+    let is_tried = |heap: &Refusing<Global>, call: C| tried(heap, call, numbers);
+    first_wrong_call(alloc, calls, |_: C| should_take, is_tried)
 }
 
+// The first length at which one goes wrong, and its row.
+fn wrong_of_lengths<C: Copy + Drop, F: Fn(&Refusing<Global>, C, &Numbers) -> Ending>(
+    alloc: Global,
+    calls: &[C],
+    should_take: bool,
+    tried: F,
+) -> Result<Option<(usize, usize)>, AllocError>
+    requires { F.IsAlwaysCallable tried }
+{
+    first_wrong_length(
+        &LENGTHS,
+        |len| numbers_of(alloc, len),
+        |numbers: &Numbers| wrong_of_numbers(alloc, numbers, calls, should_take, &tried),
+    )
+}
+
+// Each call takes memory, for the select samples at least.
 #[test]
 fn calls_are_refused_in_turn(rt: HostRuntime) -> Result<(), Fail> {
-    for len in LENGTHS {
-        let wrong = asked(
-            numbers_of(rt.alloc(), len),
-            |numbers| first_wrong_call(rt.alloc(), numbers),
-        )?;
-        assert_eq!(rt; wrong, None, "of {len}");
-    }
+    let is_tried = |heap: &Refusing<Global>, call: Call, numbers: &Numbers| {
+        tried(heap, heap, call, numbers)
+    };
+    let wrong = wrong_of_lengths(rt.alloc(), &CALLS, true, is_tried)?;
+    assert_eq!(rt; wrong, None, "a length and a row");
     Ok(())
 }
 
@@ -319,24 +337,12 @@ fn tried_free<B: Allocator, A: Allocator + Copy>(
     }
 }
 
-fn first_costly(alloc: Global, numbers: &Numbers) -> Option<usize> {
-    for (row, free) in FREE.iter().enumerate() {
-        let is_tried = |heap: &Refusing<Global>| tried_free(heap, heap, *free, numbers);
-        if each_refused(alloc, is_tried) != Ok(0) {
-            return Some(row);
-        }
-    }
-    None
-}
-
 #[test]
 fn these_calls_take_no_memory(rt: HostRuntime) -> Result<(), Fail> {
-    for len in LENGTHS {
-        let wrong = asked(
-            numbers_of(rt.alloc(), len),
-            |numbers| first_costly(rt.alloc(), numbers),
-        )?;
-        assert_eq!(rt; wrong, None, "of {len}");
-    }
+    let is_tried = |heap: &Refusing<Global>, free: Free, numbers: &Numbers| {
+        tried_free(heap, heap, free, numbers)
+    };
+    let wrong = wrong_of_lengths(rt.alloc(), &FREE, false, is_tried)?;
+    assert_eq!(rt; wrong, None, "a length and a row");
     Ok(())
 }

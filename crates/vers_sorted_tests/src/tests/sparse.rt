@@ -1,5 +1,5 @@
 //! The queries of sparse lists of bits.
-use crate::bits::{Query, answer, bits_of, counted};
+use crate::tests::bits::{Query, answer, bits_of, counted};
 use std::alloc::{AllocError, Allocator};
 use std::test::Fail;
 use test_alloc::{asked, first_wrong};

@@ -1,8 +1,9 @@
 //! Walks along the members of a list.
-use crate::lists::list_of;
+use crate::tests::lists::list_of;
 use std::alloc::{AllocError, Allocator};
 use test_alloc::{asked_mut, first_wrong_step};
 use vers_sorted::elias_fano::{EliasFanoIter, EliasFanoRefIter, EliasFanoVec};
+use vers_tally::ends::{Ascending, BothEnds};
 use vers_tally::tally::Tally;
 
 /// What is asked of an iterator. The last four are asked of a copy.
@@ -24,32 +25,8 @@ pub enum Step {
     Max,
 }
 
-// One step of an iterator over a borrowed list.
-fn answer_of_step<A: Allocator + Copy>(
-    members: &mut EliasFanoRefIter<'_, A>,
-    asked: Step,
-    tally: &mut Tally,
-) -> Option<u64> {
-    match asked {
-        Step::Len => Some(members.len() as u64),
-        Step::SizeHint => members.size_hint().1.map(|n| n as u64),
-        Step::Next => members.next(),
-        Step::NextBack => members.next_back(),
-        Step::Nth(n) => members.nth(n),
-        Step::NthBack(n) => members.nth_back(n),
-        Step::NextCounted => members.next_counted(tally),
-        Step::NextBackCounted => members.next_back_counted(tally),
-        Step::NthCounted(n) => members.nth_counted(n, tally),
-        Step::NthBackCounted(n) => members.nth_back_counted(n, tally),
-        Step::Last => members.clone().last(),
-        Step::Count => Some(members.clone().count() as u64),
-        Step::Min => members.clone().min(),
-        Step::Max => members.clone().max(),
-    }
-}
-
-// What a walk that owns its list ends with; a walk that is there.
-fn end<A: Allocator + Copy>(members: EliasFanoIter<A>, asked: Step) -> Option<u64> {
+// What a walk ends with.
+fn end<S: Ascending>(members: BothEnds<S>, asked: Step) -> Option<u64> {
     match asked {
         Step::Last => members.last(),
         Step::Count => Some(members.count() as u64),
@@ -58,7 +35,7 @@ fn end<A: Allocator + Copy>(members: EliasFanoIter<A>, asked: Step) -> Option<u6
     }
 }
 
-// The same of a copy of a walk. None where there is none.
+// The same of a copy of a walk that owns its list. None where there is none.
 fn end_of_copy<A: Allocator + Copy>(members: &EliasFanoIter<A>, asked: Step) -> Option<u64> {
     let copy: Result<_, _> = members.clone();
     match copy {
@@ -67,9 +44,9 @@ fn end_of_copy<A: Allocator + Copy>(members: &EliasFanoIter<A>, asked: Step) -> 
     }
 }
 
-// One step of an iterator that owns its list.
-fn owned_step<A: Allocator + Copy>(
-    members: &mut EliasFanoIter<A>,
+// One step of a walk, or None where it is asked of a copy.
+fn answer_of_step<S: Ascending>(
+    members: &mut BothEnds<S>,
     asked: Step,
     tally: &mut Tally,
 ) -> Option<u64> {
@@ -84,8 +61,12 @@ fn owned_step<A: Allocator + Copy>(
         Step::NextBackCounted => members.next_back_counted(tally),
         Step::NthCounted(n) => members.nth_counted(n, tally),
         Step::NthBackCounted(n) => members.nth_back_counted(n, tally),
-        _ => end_of_copy(members, asked),
+        _ => None,
     }
+}
+
+fn is_of_copy(asked: Step) -> bool {
+    matches!(asked, Step::Last | Step::Count | Step::Min | Step::Max)
 }
 
 /// The number of the first step of a walk over a list that answers wrong.
@@ -97,6 +78,9 @@ pub fn wrong_step<A: Allocator + Copy>(
         &mut list.iter(),
         rows,
         |members: &mut EliasFanoRefIter<'_, A>, step: Step| {
+            if is_of_copy(step) {
+                return end(members.clone(), step);
+            }
             answer_of_step(members, step, &mut Tally::new())
         },
     )
@@ -110,7 +94,12 @@ pub fn wrong_owned_step<A: Allocator + Copy>(
     first_wrong_step(
         members,
         rows,
-        |members: &mut EliasFanoIter<A>, step: Step| owned_step(members, step, &mut Tally::new()),
+        |members: &mut EliasFanoIter<A>, step: Step| {
+            if is_of_copy(step) {
+                return end_of_copy(members, step);
+            }
+            answer_of_step(members, step, &mut Tally::new())
+        },
     )
 }
 

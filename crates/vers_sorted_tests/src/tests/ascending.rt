@@ -1,5 +1,5 @@
 //! The queries of ascending lists.
-use crate::lists::{Query, answer, counted_answer, list_of, with_equal};
+use crate::tests::lists::{Query, answer, counted_answer, list_of, with_equal};
 use std::alloc::Allocator;
 use std::test::Fail;
 use test_alloc::{asked, first_wrong};

@@ -1,0 +1,9 @@
+//! What is asked stands in tables. A test holds no list itself, which would be slow to prove: it hands what
+//! a maker answers to an owner of any type, and helpers over any allocator ask it by a reference.
+mod ascending;
+mod bits;
+mod iterators;
+mod lists;
+mod memory;
+mod sparse;
+mod walks;
