@@ -1,8 +1,8 @@
 //! The series of lists of bits with ranks and selects.
 //!
 //! Each pass is a function of its own in the machine code, so that a profiler counts its instructions.
-use crate::report::{Series, Settings, asked, built_since, print_size, run_builds, run_series};
-use crate::workload::{Random, fold, limbs};
+use crate::report::{Report, asked, built_since};
+use crate::workload::{Random, RandomBits, chained_checksum, checksum};
 use std::alloc::{AllocError, Global};
 use std::io;
 use std::time::CpuClock;
@@ -13,52 +13,27 @@ type Bits = RsVec<Global>;
 
 #[inline(never)]
 fn rank1_pass(bits: &Bits, places: &[u64]) -> u64 {
-    let mut sum = 0;
-    for place in places {
-        sum = fold(sum, bits.rank1(*place as usize) as u64);
-    }
-    sum
+    checksum(places, |place| bits.rank1(*place as usize) as u64)
 }
 
-// Each query waits for the answer of the one before.
 #[inline(never)]
 fn rank1_chained_pass(bits: &Bits, places: &[u64]) -> u64 {
-    let mut sum = 0;
-    let mut answer = 0u64;
-    for place in places {
-        answer = bits.rank1(place.wrapping_add(answer >> 63) as usize) as u64;
-        sum = fold(sum, answer);
-    }
-    sum
+    chained_checksum(places, |place| bits.rank1(place) as u64)
 }
 
 #[inline(never)]
 fn select1_pass(bits: &Bits, numbers: &[u64]) -> u64 {
-    let mut sum = 0;
-    for number in numbers {
-        sum = fold(sum, bits.select1(*number as usize) as u64);
-    }
-    sum
+    checksum(numbers, |number| bits.select1(*number as usize) as u64)
 }
 
 #[inline(never)]
 fn select1_chained_pass(bits: &Bits, numbers: &[u64]) -> u64 {
-    let mut sum = 0;
-    let mut answer = 0u64;
-    for number in numbers {
-        answer = bits.select1(number.wrapping_add(answer >> 63) as usize) as u64;
-        sum = fold(sum, answer);
-    }
-    sum
+    chained_checksum(numbers, |number| bits.select1(number) as u64)
 }
 
 #[inline(never)]
 fn select0_pass(bits: &Bits, numbers: &[u64]) -> u64 {
-    let mut sum = 0;
-    for number in numbers {
-        sum = fold(sum, bits.select0(*number as usize) as u64);
-    }
-    sum
+    checksum(numbers, |number| bits.select0(*number as usize) as u64)
 }
 
 #[inline(never)]
@@ -107,111 +82,48 @@ fn overhead(bits: &Bits) -> u64 {
     (heap_bits.saturating_mul(100_000) / len).saturating_sub(100_000)
 }
 
-fn run_ranks<'a>(
-    rt: &HostRuntime,
-    settings: &Settings,
-    series: &Series<'a>,
-    bits: &Bits,
-    places: &[u64],
-) -> io::Result<()> {
+fn run_ranks(report: &Report, bits: &Bits, places: &[u64]) -> io::Result<()> {
     let count = places.len() as u64;
-    let rank1 = series.of("rank1");
-    run_series(rt, settings, &rank1, count, || rank1_pass(bits, places))?;
-    let chained = series.of("rank1_chained");
-    run_series(
-        rt,
-        settings,
-        &chained,
-        count,
-        || rank1_chained_pass(bits, places),
-    )
+    report.series("rank1", count, || rank1_pass(bits, places))?;
+    report.series("rank1_chained", count, || rank1_chained_pass(bits, places))
 }
 
-fn run_selects<'a>(
-    rt: &HostRuntime,
-    settings: &Settings,
-    series: &Series<'a>,
-    bits: &Bits,
-    queries: &Queries,
-) -> io::Result<()> {
+fn run_selects(report: &Report, bits: &Bits, queries: &Queries) -> io::Result<()> {
     let ones = queries.ones.as_slice();
     let zeros = queries.zeros.as_slice();
     let count = ones.len() as u64;
-    let select1 = series.of("select1");
-    run_series(rt, settings, &select1, count, || select1_pass(bits, ones))?;
-    let chained = series.of("select1_chained");
-    run_series(
-        rt,
-        settings,
-        &chained,
+    report.series("select1", count, || select1_pass(bits, ones))?;
+    report.series(
+        "select1_chained",
         count,
         || select1_chained_pass(bits, ones),
     )?;
-    let select0 = series.of("select0");
-    run_series(rt, settings, &select0, count, || select0_pass(bits, zeros))?;
+    report.series("select0", count, || select0_pass(bits, zeros))?;
     let all_ones = bits.rank1(bits.len()) as u64;
-    let iter1 = series.of("iter1");
-    run_series(rt, settings, &iter1, all_ones, || iter1_pass(bits))
+    report.series("iter1", all_ones, || iter1_pass(bits))
 }
 
-/// Runs all series over a list of `limb_count` limbs with a given share of ones, each of
-/// `query_count` queries.
-pub fn run(
-    rt: &HostRuntime,
-    settings: &Settings,
-    limb_count: usize,
-    percent: u64,
-    query_count: usize,
-) -> io::Result<()> {
-    let len = (limb_count as u64).wrapping_mul(64);
-    let parameters = format!(in rt.alloc(); "n={len} ones={percent}%")?;
-    let series = Series {
-        structure: "bits",
-        operation: "build",
-        parameters: parameters.as_str(),
-    };
-    let limbs = limbs(rt.alloc(), limb_count, percent)?;
+/// Runs all series over a list of bits, each of `query_count` queries.
+pub fn run(report: &Report, data: RandomBits, query_count: usize) -> io::Result<()> {
+    let limbs = data.limbs(report.rt.alloc())?;
     let limbs = limbs.as_slice();
-    let made = indexed(rt, limbs).map_err(io::Error::from);
-    asked(
-        made,
-        |bits| run_built(rt, settings, &series, limbs, bits, query_count),
-    )
+    let made = indexed(report.rt, limbs).map_err(io::Error::from);
+    asked(made, |bits| run_built(report, limbs, bits, query_count))
 }
 
-fn run_built<'a>(
-    rt: &HostRuntime,
-    settings: &Settings,
-    series: &Series<'a>,
-    limbs: &[u64],
-    bits: &Bits,
-    query_count: usize,
-) -> io::Result<()> {
+fn run_built(report: &Report, limbs: &[u64], bits: &Bits, query_count: usize) -> io::Result<()> {
+    let rt = report.rt;
     let len = bits.len();
     let ones = bits.rank1(len) as u64;
-    run_builds(
-        rt,
-        settings,
-        series,
-        len as u64,
-        ones,
-        || build_time(rt, limbs),
-    )?;
-    let size = series.of("heap_overhead_percent");
-    print_size(rt, settings, &size, overhead(bits))?;
+    report.builds("build", len as u64, ones, || build_time(rt, limbs))?;
+    report.size("heap_overhead_percent", overhead(bits))?;
     asked(
         queries_of(rt, bits, query_count),
-        |queries| run_queries(rt, settings, series, bits, queries),
+        |queries| run_queries(report, bits, queries),
     )
 }
 
-fn run_queries<'a>(
-    rt: &HostRuntime,
-    settings: &Settings,
-    series: &Series<'a>,
-    bits: &Bits,
-    queries: &Queries,
-) -> io::Result<()> {
-    run_ranks(rt, settings, series, bits, queries.places.as_slice())?;
-    run_selects(rt, settings, series, bits, queries)
+fn run_queries(report: &Report, bits: &Bits, queries: &Queries) -> io::Result<()> {
+    run_ranks(report, bits, queries.places.as_slice())?;
+    run_selects(report, bits, queries)
 }

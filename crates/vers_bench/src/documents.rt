@@ -1,8 +1,8 @@
 //! The series of documents with costs, and the same over a sorted vector.
 //!
 //! Each pass is a function of its own in the machine code, so that a profiler counts its instructions.
-use crate::report::{Series, Settings, asked, built_since, many, run_builds, run_series};
-use crate::workload::{NONE, Random, documents, drawn, fold, values};
+use crate::report::{Report, Settings, asked, built_since, many};
+use crate::workload::{NONE, Random, checksum, documents, drawn, fold, values};
 use postings::Postings;
 use std::alloc::{AllocError, Global};
 use std::io;
@@ -19,29 +19,23 @@ struct DocumentRange {
 
 #[inline(never)]
 fn contains_pass(list: &List, numbers: &[u64]) -> u64 {
-    let mut sum = 0;
-    for number in numbers {
-        sum = fold(sum, list.contains(*number) as u64);
-    }
-    sum
+    checksum(numbers, |number| list.contains(*number) as u64)
 }
 
 #[inline(never)]
 fn next_pass(list: &List, numbers: &[u64]) -> u64 {
-    let mut sum = 0;
-    for number in numbers {
-        sum = fold(sum, list.next_at_least(*number).unwrap_or(NONE));
-    }
-    sum
+    checksum(
+        numbers,
+        |number| list.next_at_least(*number).unwrap_or(NONE),
+    )
 }
 
 #[inline(never)]
 fn cheapest_pass(list: &List, ranges: &[DocumentRange]) -> u64 {
-    let mut sum = 0;
-    for range in ranges {
-        sum = fold(sum, list.cheapest(range.from, range.to).unwrap_or(NONE));
-    }
-    sum
+    checksum(
+        ranges,
+        |range: &DocumentRange| list.cheapest(range.from, range.to).unwrap_or(NONE),
+    )
 }
 
 // The documents that were found folded into a checksum, and what stands for none without memory.
@@ -63,21 +57,15 @@ fn intersect_pass(list: &List, others: &[List]) -> u64 {
 
 #[inline(never)]
 fn halving_contains_pass(list: &[u64], numbers: &[u64]) -> u64 {
-    let mut sum = 0;
-    for number in numbers {
-        sum = fold(sum, list.binary_search(number).is_ok() as u64);
-    }
-    sum
+    checksum(numbers, |number| list.binary_search(number).is_ok() as u64)
 }
 
 #[inline(never)]
 fn halving_next_pass(list: &[u64], numbers: &[u64]) -> u64 {
-    let mut sum = 0;
-    for number in numbers {
+    checksum(numbers, |number| {
         let place = list.binary_search(number).unwrap_or_else(|place| place);
-        sum = fold(sum, list.get(place).copied().unwrap_or(NONE));
-    }
-    sum
+        list.get(place).copied().unwrap_or(NONE)
+    })
 }
 
 // The documents of the shorter list that the longer has too, by halving.
@@ -208,137 +196,91 @@ fn made_of_each(rt: &HostRuntime, lists: &[Vec<u64>]) -> io::Result<Vec<List>> {
 
 /// Runs all series over `n` documents, each of `query_count` queries, and looks for what lists of a
 /// thousandth as many have in common with them.
-pub fn run(rt: &HostRuntime, settings: &Settings, n: usize, query_count: usize) -> io::Result<()> {
+pub fn run<'x>(
+    rt: &'x HostRuntime,
+    settings: &'x Settings,
+    n: usize,
+    query_count: usize,
+) -> io::Result<()> {
     let all = documents(rt.alloc(), n)?;
     let all = all.as_slice();
     let parameters = format!(in rt.alloc(); "n={n}")?;
-    let series = Series {
+    let report = Report {
+        rt,
+        settings,
         structure: "postings",
-        operation: "build",
         parameters: parameters.as_str(),
     };
     let count = n as u64;
-    run_builds(rt, settings, &series, count, count, || build_time(rt, all))?;
+    report.builds("build", count, count, || build_time(rt, all))?;
     asked(
         made(rt, all),
-        |list| run_queries(rt, settings, &series, list, all, query_count),
+        |list| run_queries(&report, list, all, query_count),
     )?;
     asked(
         few_of(rt, settings, all),
-        |others| run_intersections(rt, settings, &series, all, others.as_slice()),
+        |others| run_intersections(&report, all, others.as_slice()),
     )
 }
 
-fn run_queries<'a>(
-    rt: &HostRuntime,
-    settings: &Settings,
-    series: &Series<'a>,
-    list: &List,
-    all: &[u64],
-    query_count: usize,
-) -> io::Result<()> {
+fn run_queries(report: &Report, list: &List, all: &[u64], query_count: usize) -> io::Result<()> {
+    let alloc = report.rt.alloc();
     let mut random = Random::new(13);
     let end = all.last().copied().unwrap_or(0).wrapping_add(2);
-    let numbers = random.many_below(rt.alloc(), query_count, end)?;
-    let ranges = ranges_below(rt.alloc(), &mut random, end, query_count)?;
-    run_searches(rt, settings, series, list, all, numbers.as_slice())?;
+    let numbers = random.many_below(alloc, query_count, end)?;
+    let ranges = ranges_below(alloc, &mut random, end, query_count)?;
+    run_searches(report, list, all, numbers.as_slice())?;
     let ranges = ranges.as_slice();
-    let cheapest = series.of("cheapest");
-    run_series(
-        rt,
-        settings,
-        &cheapest,
+    report.series(
+        "cheapest",
         ranges.len() as u64,
         || cheapest_pass(list, ranges),
     )
 }
 
-fn run_searches<'a>(
-    rt: &HostRuntime,
-    settings: &Settings,
-    series: &Series<'a>,
-    list: &List,
-    all: &[u64],
-    numbers: &[u64],
-) -> io::Result<()> {
+fn run_searches(report: &Report, list: &List, all: &[u64], numbers: &[u64]) -> io::Result<()> {
     let count = numbers.len() as u64;
-    let contains = series.of("contains");
-    run_series(
-        rt,
-        settings,
-        &contains,
-        count,
-        || contains_pass(list, numbers),
-    )?;
-    let halving = series.of("contains_halving");
-    run_series(
-        rt,
-        settings,
-        &halving,
+    report.series("contains", count, || contains_pass(list, numbers))?;
+    report.series(
+        "contains_halving",
         count,
         || halving_contains_pass(all, numbers),
     )?;
-    let next = series.of("next_at_least");
-    run_series(rt, settings, &next, count, || next_pass(list, numbers))?;
-    let halving = series.of("next_at_least_halving");
-    run_series(
-        rt,
-        settings,
-        &halving,
+    report.series("next_at_least", count, || next_pass(list, numbers))?;
+    report.series(
+        "next_at_least_halving",
         count,
         || halving_next_pass(all, numbers),
     )
 }
 
-fn run_intersections<'a>(
-    rt: &HostRuntime,
-    settings: &Settings,
-    series: &Series<'a>,
-    all: &[u64],
-    others: &[Vec<u64>],
-) -> io::Result<()> {
+fn run_intersections(report: &Report, all: &[u64], others: &[Vec<u64>]) -> io::Result<()> {
+    let rt = report.rt;
+    let alloc = rt.alloc();
     let count = others
         .iter()
         .fold(0u64, |sum, other| sum.wrapping_add(other.len() as u64));
     asked(
         made(rt, all),
-        |list| run_intersect(rt, settings, series, list, others, count),
+        |list| run_intersect(report, list, others, count),
     )?;
-    let halving = series.of("intersect_halving");
-    run_series(
-        rt,
-        settings,
-        &halving,
+    let halving = "intersect_halving";
+    report.series(
+        halving,
         count,
-        || halving_intersect_pass(rt.alloc(), all, others),
+        || halving_intersect_pass(alloc, all, others),
     )?;
-    let galloping = series.of("intersect_galloping");
-    run_series(
-        rt,
-        settings,
-        &galloping,
+    let galloping = "intersect_galloping";
+    report.series(
+        galloping,
         count,
-        || galloping_intersect_pass(rt.alloc(), all, others),
+        || galloping_intersect_pass(alloc, all, others),
     )
 }
 
-fn run_intersect<'a>(
-    rt: &HostRuntime,
-    settings: &Settings,
-    series: &Series<'a>,
-    list: &List,
-    others: &[Vec<u64>],
-    count: u64,
-) -> io::Result<()> {
-    let intersect = series.of("intersect");
-    asked(made_of_each(rt, others), |others| {
+fn run_intersect(report: &Report, list: &List, others: &[Vec<u64>], count: u64) -> io::Result<()> {
+    asked(made_of_each(report.rt, others), |others| {
         let others = others.as_slice();
-        run_series(
-            rt,
-            settings,
-            &intersect,
-            count,
-            || intersect_pass(list, others),
-        )
+        report.series("intersect", count, || intersect_pass(list, others))
     })
 }

@@ -1,8 +1,8 @@
 //! The series of plain lists of bits: making, appending, reading and counting, by limbs.
 //!
 //! Each pass is a function of its own in the machine code, so that a profiler counts its instructions.
-use crate::report::{Series, Settings, asked, run_series};
-use crate::workload::{Random, fold, limbs};
+use crate::report::{Report, asked};
+use crate::workload::{Random, RandomBits, checksum};
 use std::alloc::{AllocError, Global};
 use std::io;
 use vers_bits::bit_vec::{BitVec, GrowError};
@@ -30,14 +30,10 @@ fn extend_bitvec_pass(alloc: Global, bits: &Bits) -> u64 {
 
 #[inline(never)]
 fn get_bits_pass(bits: &Bits, places: &[u64]) -> u64 {
-    let mut sum = 0;
-    for place in places {
-        sum = fold(
-            sum,
-            bits.get_bits(*place as usize, WIDTH).unwrap_or(u64::MAX),
-        );
-    }
-    sum
+    checksum(
+        places,
+        |place| bits.get_bits(*place as usize, WIDTH).unwrap_or(u64::MAX),
+    )
 }
 
 #[inline(never)]
@@ -45,52 +41,26 @@ fn count_ones_pass(bits: &Bits) -> u64 {
     bits.count_ones()
 }
 
-/// Runs all series over a list of `limb_count` limbs, half of its bits ones.
-pub fn run(
-    rt: &HostRuntime,
-    settings: &Settings,
-    limb_count: usize,
-    query_count: usize,
-) -> io::Result<()> {
-    let alloc = rt.alloc();
-    let len = (limb_count as u64).wrapping_mul(64);
-    let parameters = format!(in alloc; "n={len} ones=50%")?;
-    let series = Series {
-        structure: "list",
-        operation: "from_limbs",
-        parameters: parameters.as_str(),
-    };
-    let limbs = limbs(alloc, limb_count, 50)?;
+/// Runs all series over a list of bits, with `query_count` reads of some of its bits.
+pub fn run(report: &Report, data: RandomBits, query_count: usize) -> io::Result<()> {
+    let alloc = report.rt.alloc();
+    let limbs = data.limbs(alloc)?;
     let limbs = limbs.as_slice();
-    run_series(rt, settings, &series, len, || from_limbs_pass(alloc, limbs))?;
+    report.series("from_limbs", data.len(), || from_limbs_pass(alloc, limbs))?;
     let made = BitVec::from_limbs(alloc, limbs).map_err(|_| io::Error::from(AllocError));
-    asked(
-        made,
-        |bits| run_built(rt, settings, &series, bits, query_count),
-    )
+    asked(made, |bits| run_built(report, bits, query_count))
 }
 
-fn run_built<'a>(
-    rt: &HostRuntime,
-    settings: &Settings,
-    series: &Series<'a>,
-    bits: &Bits,
-    query_count: usize,
-) -> io::Result<()> {
+fn run_built(report: &Report, bits: &Bits, query_count: usize) -> io::Result<()> {
+    let alloc = report.rt.alloc();
     let len = bits.len() as u64;
-    let places = Random::new(7).many_below(rt.alloc(), query_count, len)?;
+    let places = Random::new(7).many_below(alloc, query_count, len)?;
     let places = places.as_slice();
-    let extend = series.of("extend_bitvec");
-    run_series(
-        rt,
-        settings,
-        &extend,
-        len,
-        || extend_bitvec_pass(rt.alloc(), bits),
+    report.series("extend_bitvec", len, || extend_bitvec_pass(alloc, bits))?;
+    report.series(
+        "get_bits",
+        places.len() as u64,
+        || get_bits_pass(bits, places),
     )?;
-    let get = series.of("get_bits");
-    let count = places.len() as u64;
-    run_series(rt, settings, &get, count, || get_bits_pass(bits, places))?;
-    let ones = series.of("count_ones");
-    run_series(rt, settings, &ones, len, || count_ones_pass(bits))
+    report.series("count_ones", len, || count_ones_pass(bits))
 }

@@ -17,9 +17,10 @@ mod trees;
 mod walks;
 mod workload;
 
-use report::{Mode, Settings};
+use report::{Mode, Report, Settings};
 use std::io;
 use trees::Shape;
+use workload::RandomBits;
 
 /// What the arguments said so far.
 #[derive(Drop)]
@@ -93,39 +94,79 @@ fn limb_counts(settings: &Settings) -> [usize; 2] {
     [settings.scaled(16_384), settings.scaled(large)]
 }
 
+// Runs the series of a structure over lists of so many limbs, of each share of ones.
+fn run_lists<F: Fn(&Report, RandomBits) -> io::Result<()>>(
+    report: &Report,
+    limb_counts: &[usize],
+    percents: &[u64],
+    run: F,
+) -> io::Result<()>
+    requires { F.IsAlwaysCallable run }
+{
+    for limb_count in limb_counts {
+        if *limb_count > 0 {
+            for percent in percents {
+                let data = RandomBits {
+                    limb_count: *limb_count,
+                    percent: *percent,
+                };
+                let parameters = data.parameters(report.rt.alloc())?;
+                run(&report.over(parameters.as_str()), data)?;
+            }
+        }
+    }
+    Ok(())
+}
+
+// The series of all structures that are lists of bits.
 fn run_bits(rt: &HostRuntime, settings: &Settings, query_count: usize) -> io::Result<()> {
-    for limb_count in limb_counts(settings) {
-        if limb_count > 0 {
-            bits::run(rt, settings, limb_count, 50, query_count)?;
-            bits::run(rt, settings, limb_count, 5, query_count)?;
-        }
+    let limb_counts = limb_counts(settings);
+    let report = Report {
+        rt,
+        settings,
+        structure: "bits",
+        parameters: "",
+    };
+    if settings.wants("bits") {
+        run_lists(
+            &report,
+            &limb_counts,
+            &[50, 5],
+            |report: &Report, data| bits::run(report, data, query_count),
+        )?;
     }
-    Ok(())
-}
-
-fn run_walks(rt: &HostRuntime, settings: &Settings) -> io::Result<()> {
-    for limb_count in limb_counts(settings) {
-        if limb_count > 0 {
-            walks::run(rt, settings, limb_count, 50)?;
-            walks::run(rt, settings, limb_count, 5)?;
-        }
+    if settings.wants("walks") {
+        run_lists(
+            &report.of("walks"),
+            &limb_counts,
+            &[50, 5],
+            |report: &Report, data| walks::run(report, data),
+        )?;
     }
-    Ok(())
-}
-
-fn run_lists(rt: &HostRuntime, settings: &Settings, query_count: usize) -> io::Result<()> {
-    for limb_count in limb_counts(settings) {
-        if limb_count > 0 {
-            lists::run(rt, settings, limb_count, query_count)?;
-        }
+    if settings.wants("list") {
+        run_lists(
+            &report.of("list"),
+            &limb_counts,
+            &[50],
+            |report: &Report, data| lists::run(report, data, query_count),
+        )?;
     }
     Ok(())
 }
 
 fn run_sparse(rt: &HostRuntime, settings: &Settings, query_count: usize) -> io::Result<()> {
-    let limb_count = settings.scaled(16_384);
-    sparse::run(rt, settings, limb_count, 5, query_count)?;
-    sparse::run(rt, settings, limb_count, 1, query_count)
+    let report = Report {
+        rt,
+        settings,
+        structure: "sparse",
+        parameters: "",
+    };
+    run_lists(
+        &report,
+        &[settings.scaled(16_384)],
+        &[5, 1],
+        |report: &Report, data| sparse::run(report, data, query_count),
+    )
 }
 
 fn run_minima(rt: &HostRuntime, settings: &Settings, query_count: usize) -> io::Result<()> {
@@ -158,15 +199,7 @@ fn run_trees(rt: &HostRuntime, settings: &Settings, query_count: usize) -> io::R
 
 fn run(rt: &HostRuntime, settings: &Settings) -> io::Result<()> {
     let query_count = settings.scaled(1_000_000);
-    if settings.wants("bits") {
-        run_bits(rt, settings, query_count)?;
-    }
-    if settings.wants("walks") {
-        run_walks(rt, settings)?;
-    }
-    if settings.wants("list") {
-        run_lists(rt, settings, query_count)?;
-    }
+    run_bits(rt, settings, query_count)?;
     if settings.wants("sorted") {
         sorted::run(rt, settings, query_count, settings.scaled(2_000))?;
     }

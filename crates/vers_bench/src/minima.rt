@@ -1,8 +1,8 @@
 //! The series of range minima.
 ghost use Rattle.std.specs.Prelude.{◌≡◌, ◌≤◌, length, IfOk};
 
-use crate::report::{Series, Settings, asked, built_since, print_size, run_builds, run_series};
-use crate::workload::{Random, fold, values};
+use crate::report::{Report, Settings, asked, bits_per_item, built_since};
+use crate::workload::{Random, checksum, values};
 use std::alloc::{AllocError, Global};
 use std::io;
 use std::time::CpuClock;
@@ -136,11 +136,10 @@ fn ranges_of(rt: &HostRuntime, n: usize, count: usize) -> io::Result<Ranges> {
 
 #[inline(never)]
 fn least_pass<M: RangeMinima>(minima: &M, ranges: &[PlaceRange]) -> u64 {
-    let mut sum = 0;
-    for range in ranges {
-        sum = fold(sum, minima.first_least(range.first, range.last) as u64);
-    }
-    sum
+    checksum(
+        ranges,
+        |range: &PlaceRange| minima.first_least(range.first, range.last) as u64,
+    )
 }
 
 // A copy of the items, which a build takes.
@@ -169,67 +168,39 @@ fn made<M: RangeMinima>(rt: &HostRuntime, items: &[u64]) -> io::Result<M> {
     Ok(M::made(copied(rt, items)?)?)
 }
 
-// How many bits an item takes, in thousandths.
-fn bits_per_item<M: RangeMinima>(minima: &M) -> u64 {
-    let heap_bits = (minima.bytes() as u64).saturating_mul(8);
-    heap_bits.saturating_mul(1000) / (minima.count() as u64).max(1)
-}
-
-fn run_built<'a, M: RangeMinima>(
-    rt: &HostRuntime,
-    settings: &Settings,
-    series: &Series<'a>,
-    minima: &M,
-    ranges: &Ranges,
-) -> io::Result<()> {
-    let size = series.of("heap_bits_per_item");
-    print_size(rt, settings, &size, bits_per_item(minima))?;
-    let wide = series.of("range_min");
-    let all = ranges.wide.as_slice();
-    run_series(
-        rt,
-        settings,
-        &wide,
-        all.len() as u64,
-        || least_pass(minima, all),
-    )?;
-    let short = series.of("range_min_short");
-    let few = ranges.short.as_slice();
-    run_series(
-        rt,
-        settings,
-        &short,
-        few.len() as u64,
-        || least_pass(minima, few),
+fn run_built<M: RangeMinima>(report: &Report, minima: &M, ranges: &Ranges) -> io::Result<()> {
+    let size = bits_per_item(minima.bytes(), minima.count() as u64);
+    report.size("heap_bits_per_item", size)?;
+    let wide = ranges.wide.as_slice();
+    report.series("range_min", wide.len() as u64, || least_pass(minima, wide))?;
+    let short = ranges.short.as_slice();
+    report.series(
+        "range_min_short",
+        short.len() as u64,
+        || least_pass(minima, short),
     )
 }
 
-fn run_type<M: RangeMinima>(
-    rt: &HostRuntime,
-    settings: &Settings,
-    structure: &str,
+fn run_type<'x, M: RangeMinima>(
+    rt: &'x HostRuntime,
+    settings: &'x Settings,
+    structure: &'x str,
     items: &[u64],
     ranges: &Ranges,
 ) -> io::Result<()> {
     let n = items.len();
     let parameters = format!(in rt.alloc(); "n={n}")?;
-    let series = Series {
+    let report = Report {
+        rt,
+        settings,
         structure,
-        operation: "build",
         parameters: parameters.as_str(),
     };
     let count = n as u64;
-    run_builds(
-        rt,
-        settings,
-        &series,
-        count,
-        count,
-        || build_time::<M>(rt, items),
-    )?;
+    report.builds("build", count, count, || build_time::<M>(rt, items))?;
     asked(
         made::<M>(rt, items),
-        |minima| run_built(rt, settings, &series, minima, ranges),
+        |minima| run_built(&report, minima, ranges),
     )
 }
 

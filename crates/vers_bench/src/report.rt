@@ -51,71 +51,125 @@ impl Settings {
     }
 }
 
-/// A series: what is measured, on which structure, over which data.
+/// What is measured: a structure over some data. Each of its series prints a line.
 #[derive(Clone, Copy)]
-pub struct Series<'a> {
+pub struct Report<'a> {
+    /// What the program has of its surroundings.
+    pub rt: &'a HostRuntime,
+    /// What the arguments ask for.
+    pub settings: &'a Settings,
     /// The structure's name.
     pub structure: &'a str,
-    /// The operation's name.
-    pub operation: &'a str,
     /// The data: how much, and what kind.
     pub parameters: &'a str,
 }
 
-impl<'a> Series<'a> {
-    /// Another operation on the same structure and data.
-    pub fn of(&self, operation: &'a str) -> Series<'a> {
-        Series { operation, ..*self }
+impl<'a> Report<'a> {
+    /// The report of another structure.
+    pub fn of(&self, structure: &'a str) -> Report<'a> {
+        Report { structure, ..*self }
     }
-}
 
-/// Prints a size in thousandths, where times are asked for: it is no series, and has no checksum.
-pub fn print_size(
-    rt: &HostRuntime,
-    settings: &Settings,
-    series: &Series,
-    thousandths: u64,
-) -> io::Result<()> {
-    match settings.mode {
-        Mode::Checksums => Ok(()),
-        Mode::Times { .. } => print_line(rt, settings, series, thousandths, 0),
-    }
-}
-
-/// Prints the line of a series: nanoseconds an operation in thousandths, and the checksum.
-pub fn print_line(
-    rt: &HostRuntime,
-    settings: &Settings,
-    series: &Series,
-    thousandths: u64,
-    checksum: u64,
-) -> io::Result<()> {
-    let Series {
-        structure,
-        operation,
-        parameters,
-    } = *series;
-    match settings.mode {
-        Mode::Checksums => println!(rt; "{structure}\t{operation}\t{parameters}\t{checksum:016x}"),
-        Mode::Times { .. } => {
-            let name = settings.name.as_str();
-            let whole = thousandths / 1000;
-            let part = thousandths % 1000;
-            println!(rt;
-                "{name}\t{structure}\t{operation}\t{parameters}\t{whole}.{part:03}\t{checksum:016x}"
-            )
+    /// The report of the same structure over some data.
+    pub fn over<'b>(&self, parameters: &'b str) -> Report<'b>
+    where
+        'a: 'b,
+    {
+        Report {
+            parameters,
+            ..*self
         }
     }
+
+    // Prints the line of an operation: nanoseconds in thousandths, and the checksum.
+    fn print(&self, operation: &str, thousandths: u64, checksum: u64) -> io::Result<()> {
+        let Report {
+            rt,
+            settings,
+            structure,
+            parameters,
+        } = *self;
+        match settings.mode {
+            Mode::Checksums => println!(rt;
+                "{structure}\t{operation}\t{parameters}\t{checksum:016x}"
+            ),
+            Mode::Times { .. } => {
+                let name = settings.name.as_str();
+                let whole = thousandths / 1000;
+                let part = thousandths % 1000;
+                println!(rt;
+                    "{name}\t{structure}\t{operation}\t{parameters}\t{whole}.{part:03}\t{checksum:016x}"
+                )
+            }
+        }
+    }
+
+    /// Prints a size in thousandths, where times are asked for: it is no series, and has no checksum.
+    pub fn size(&self, name: &str, thousandths: u64) -> io::Result<()> {
+        match self.settings.mode {
+            Mode::Checksums => Ok(()),
+            Mode::Times { .. } => self.print(name, thousandths, 0),
+        }
+    }
+
+    /// Prints the line of a series that took these times, in nanoseconds, for `count` operations each.
+    pub fn times(
+        &self,
+        operation: &str,
+        times: Vec<u64>,
+        count: u64,
+        checksum: u64,
+    ) -> io::Result<()> {
+        self.print(operation, per_operation(times, count), checksum)
+    }
+
+    /// Runs a series of builds of `count` items and prints its line. `build` makes the value and
+    /// returns the time that it took.
+    pub fn builds<F: FnMut() -> io::Result<u64>>(
+        &self,
+        operation: &str,
+        count: u64,
+        checksum: u64,
+        mut build: F,
+    ) -> io::Result<()>
+        requires { F.IsAlwaysCallable build }
+    {
+        let mut times = Vec::new(self.rt.alloc());
+        for _ in 0..self.settings.repetitions() {
+            times.push(build()?)?;
+        }
+        self.times(operation, times, count, checksum)
+    }
+
+    /// Runs a series of `count` operations and prints its line. `pass` does them all and returns the
+    /// checksum.
+    pub fn series<F: FnMut() -> u64>(
+        &self,
+        operation: &str,
+        count: u64,
+        mut pass: F,
+    ) -> io::Result<()>
+        requires { F.IsAlwaysCallable pass }
+    {
+        let mut times = Vec::new(self.rt.alloc());
+        let mut checksum = 0u64;
+        for _ in 0..self.settings.repetitions() {
+            let start = self.rt.thread_cpu_time()?;
+            checksum = pass();
+            times.push(nanoseconds_since(self.rt, start)?)?;
+        }
+        self.times(operation, times, count, checksum)
+    }
 }
 
-/// The processor time since, in nanoseconds.
-pub fn nanoseconds_since(rt: &HostRuntime, start: Duration) -> io::Result<u64> {
+// The processor time since, in nanoseconds.
+fn nanoseconds_since(rt: &HostRuntime, start: Duration) -> io::Result<u64> {
     let elapsed = rt.thread_cpu_time()?.saturating_sub(start);
     Ok(u64::try_from(elapsed.as_nanos()).unwrap_or(u64::MAX))
 }
 
-/// The median of the times of `count` operations, in thousandths of a nanosecond an operation.
-pub fn per_operation(mut times: Vec<u64>, count: u64) -> u64 {
+// The median of the times of `count` operations, in thousandths of a nanosecond an operation.
+fn per_operation(mut times: Vec<u64>, count: u64) -> u64 {
     times.sort_unstable();
     let median = times.get(times.len() / 2).copied().unwrap_or(0);
     median.saturating_mul(1000) / count.max(1)
@@ -169,42 +223,7 @@ pub fn built_since<T: Drop>(
 
 fn let_go<T: Drop>(_value: T) {}
 
-/// Runs a series of builds of `count` items and prints its line. `build` makes the value and
-/// returns the time that it took.
-pub fn run_builds<F: FnMut() -> io::Result<u64>>(
-    rt: &HostRuntime,
-    settings: &Settings,
-    series: &Series,
-    count: u64,
-    checksum: u64,
-    mut build: F,
-) -> io::Result<()>
-    requires { F.IsAlwaysCallable build }
-{
-    let mut times = Vec::new(rt.alloc());
-    for _ in 0..settings.repetitions() {
-        times.push(build()?)?;
-    }
-    print_line(rt, settings, series, per_operation(times, count), checksum)
-}
-
-/// Runs a series of `count` operations and prints its line. `pass` does them all and returns the
-/// checksum.
-pub fn run_series<F: FnMut() -> u64>(
-    rt: &HostRuntime,
-    settings: &Settings,
-    series: &Series,
-    count: u64,
-    mut pass: F,
-) -> io::Result<()>
-    requires { F.IsAlwaysCallable pass }
-{
-    let mut times = Vec::new(rt.alloc());
-    let mut checksum = 0u64;
-    for _ in 0..settings.repetitions() {
-        let start = rt.thread_cpu_time()?;
-        checksum = pass();
-        times.push(nanoseconds_since(rt, start)?)?;
-    }
-    print_line(rt, settings, series, per_operation(times, count), checksum)
+/// How many bits one of `count` items takes of a structure of so many bytes, in thousandths.
+pub fn bits_per_item(bytes: usize, count: u64) -> u64 {
+    (bytes as u64).saturating_mul(8).saturating_mul(1000) / count.max(1)
 }

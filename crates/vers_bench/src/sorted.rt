@@ -3,10 +3,8 @@
 //! Each pass is a function of its own in the machine code, so that a profiler counts its instructions.
 ghost use Rattle.std.specs.List.Sorted.{IsNonDecreasing};
 
-use crate::report::{
-    Series, Settings, asked, built_since, per_operation, print_line, print_size, run_series,
-};
-use crate::workload::{Clustered, NONE, Random, fold, members_clustered, members_uniform};
+use crate::report::{Report, Settings, asked, bits_per_item, built_since};
+use crate::workload::{Clustered, NONE, Random, checksum, members_clustered, members_uniform};
 use std::alloc::{AllocError, Global};
 use std::io;
 use std::time::CpuClock;
@@ -17,47 +15,27 @@ type Members = EliasFanoVec<Global>;
 
 #[inline(never)]
 fn get_pass(list: &Members, places: &[u64]) -> u64 {
-    let mut sum = 0;
-    for place in places {
-        sum = fold(sum, list.get(*place as usize).unwrap_or(NONE));
-    }
-    sum
+    checksum(places, |place| list.get(*place as usize).unwrap_or(NONE))
 }
 
 #[inline(never)]
 fn delta_pass(list: &Members, places: &[u64]) -> u64 {
-    let mut sum = 0;
-    for place in places {
-        sum = fold(sum, list.delta(*place as usize).unwrap_or(NONE));
-    }
-    sum
+    checksum(places, |place| list.delta(*place as usize).unwrap_or(NONE))
 }
 
 #[inline(never)]
 fn rank_pass(list: &Members, values: &[u64]) -> u64 {
-    let mut sum = 0;
-    for value in values {
-        sum = fold(sum, list.rank(*value));
-    }
-    sum
+    checksum(values, |value| list.rank(*value))
 }
 
 #[inline(never)]
 fn predecessor_pass(list: &Members, values: &[u64]) -> u64 {
-    let mut sum = 0;
-    for value in values {
-        sum = fold(sum, list.predecessor(*value).unwrap_or(NONE));
-    }
-    sum
+    checksum(values, |value| list.predecessor(*value).unwrap_or(NONE))
 }
 
 #[inline(never)]
 fn successor_pass(list: &Members, values: &[u64]) -> u64 {
-    let mut sum = 0;
-    for value in values {
-        sum = fold(sum, list.successor(*value).unwrap_or(NONE));
-    }
-    sum
+    checksum(values, |value| list.successor(*value).unwrap_or(NONE))
 }
 
 #[inline(never)]
@@ -92,45 +70,14 @@ fn build_times(rt: &HostRuntime, settings: &Settings, numbers: &[u64]) -> io::Re
     Ok(times)
 }
 
-// How many bits a member takes, in thousandths.
-fn bits_per_member(list: &Members) -> u64 {
-    let heap_bits = (list.heap_size() as u64).saturating_mul(8);
-    heap_bits.saturating_mul(1000) / (list.len() as u64).max(1)
-}
-
-fn run_queries<'a>(
-    rt: &HostRuntime,
-    settings: &Settings,
-    series: &Series<'a>,
-    list: &Members,
-    places: &[u64],
-    values: &[u64],
-) -> io::Result<()> {
+fn run_queries(report: &Report, list: &Members, places: &[u64], values: &[u64]) -> io::Result<()> {
     let count = places.len() as u64;
-    let get = series.of("get");
-    run_series(rt, settings, &get, count, || get_pass(list, places))?;
-    let delta = series.of("delta");
-    run_series(rt, settings, &delta, count, || delta_pass(list, places))?;
-    let rank = series.of("rank");
-    run_series(rt, settings, &rank, count, || rank_pass(list, values))?;
-    let predecessor = series.of("predecessor");
-    run_series(
-        rt,
-        settings,
-        &predecessor,
-        count,
-        || predecessor_pass(list, values),
-    )?;
-    let successor = series.of("successor");
-    run_series(
-        rt,
-        settings,
-        &successor,
-        count,
-        || successor_pass(list, values),
-    )?;
-    let iter = series.of("iter");
-    run_series(rt, settings, &iter, list.len() as u64, || iter_pass(list))
+    report.series("get", count, || get_pass(list, places))?;
+    report.series("delta", count, || delta_pass(list, places))?;
+    report.series("rank", count, || rank_pass(list, values))?;
+    report.series("predecessor", count, || predecessor_pass(list, values))?;
+    report.series("successor", count, || successor_pass(list, values))?;
+    report.series("iter", list.len() as u64, || iter_pass(list))
 }
 
 // Numbers from `first` on.
@@ -156,26 +103,14 @@ struct Asked {
     count: usize,
 }
 
-fn run_built<'a>(
-    rt: &HostRuntime,
-    settings: &Settings,
-    series: &Series<'a>,
-    list: &Members,
-    asked: Asked,
-) -> io::Result<()> {
-    let size = series.of("heap_bits_per_item");
-    print_size(rt, settings, &size, bits_per_member(list))?;
+fn run_built(report: &Report, list: &Members, asked: Asked) -> io::Result<()> {
+    let rt = report.rt;
+    let len = list.len() as u64;
+    report.size("heap_bits_per_item", bits_per_item(list.heap_size(), len))?;
     let mut random = Random::new(8);
-    let places = random.many_below(rt.alloc(), asked.count, list.len() as u64)?;
+    let places = random.many_below(rt.alloc(), asked.count, len)?;
     let values = values_from(rt, &mut random, asked.first, asked.span, asked.count)?;
-    run_queries(
-        rt,
-        settings,
-        series,
-        list,
-        places.as_slice(),
-        values.as_slice(),
-    )
+    run_queries(report, list, places.as_slice(), values.as_slice())
 }
 
 // Runs all series over a list of numbers. Numbers that don't ascend are left out.
@@ -191,16 +126,16 @@ fn run_list(
     }
     let len = numbers.len();
     let parameters = format!(in rt.alloc(); "{name} n={len}")?;
-    let series = Series {
+    let report = Report {
+        rt,
+        settings,
         structure: "sorted",
-        operation: "build",
         parameters: parameters.as_str(),
     };
     let times = build_times(rt, settings, numbers)?;
-    let time = per_operation(times, len as u64);
-    print_line(rt, settings, &series, time, len as u64)?;
+    report.times("build", times, len as u64, len as u64)?;
     let made = EliasFanoVec::from_slice(rt.alloc(), numbers).map_err(io::Error::from);
-    asked(made, |list| run_built(rt, settings, &series, list, values))
+    asked(made, |list| run_built(&report, list, values))
 }
 
 fn run_uniform(rt: &HostRuntime, settings: &Settings, len: usize) -> io::Result<()> {

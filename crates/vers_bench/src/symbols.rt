@@ -1,10 +1,14 @@
 //! The series of wavelet matrices.
-use crate::report::{Series, Settings, asked, built_since, print_size, run_builds, run_series};
-use crate::workload::{Random, fold, symbols};
+use crate::report::{Report, Settings, asked, bits_per_item, built_since};
+use crate::workload::{NONE, Random, checksum, paired_checksum, symbols};
 use std::alloc::{AllocError, Global};
 use std::io;
+use std::ops::Range;
 use std::time::CpuClock;
+use vers_tally::ends::{BothEnds, Source};
 use vers_wavelet::wavelet::WaveletMatrix;
+
+type Matrix = WaveletMatrix<Global>;
 
 /// A range of places, and a number of one of its members by size.
 #[derive(Clone, Copy, Drop)]
@@ -87,220 +91,127 @@ fn queries_of(
 }
 
 #[inline(never)]
-fn get_pass(matrix: &WaveletMatrix<Global>, queries: &Queries) -> u64 {
-    let mut sum = 0;
-    for place in queries.places.as_slice() {
-        sum = fold(sum, matrix.get_u64(*place as usize).unwrap_or(u64::MAX));
-    }
-    sum
-}
-
-#[inline(never)]
-fn rank_pass(matrix: &WaveletMatrix<Global>, queries: &Queries) -> u64 {
-    let mut sum = 0;
-    for (place, symbol) in queries
-        .places
-        .as_slice()
-        .iter()
-        .zip(queries.symbols.as_slice())
-    {
-        let rank = matrix.rank_u64(*place as usize, *symbol);
-        sum = fold(sum, rank.unwrap_or(usize::MAX) as u64);
-    }
-    sum
-}
-
-#[inline(never)]
-fn select_pass(matrix: &WaveletMatrix<Global>, queries: &Queries) -> u64 {
-    let mut sum = 0;
-    for (rank, symbol) in queries
-        .ranks
-        .as_slice()
-        .iter()
-        .zip(queries.symbols.as_slice())
-    {
-        let place = matrix.select_u64(*rank as usize, *symbol);
-        sum = fold(sum, place.unwrap_or(usize::MAX) as u64);
-    }
-    sum
-}
-
-#[inline(never)]
-fn quantile_pass(matrix: &WaveletMatrix<Global>, queries: &Queries) -> u64 {
-    let mut sum = 0;
-    for asked in queries.quantiles.as_slice() {
-        let member = matrix.quantile_u64(asked.from..asked.to, asked.number);
-        sum = fold(sum, member.unwrap_or(u64::MAX));
-    }
-    sum
-}
-
-#[inline(never)]
-fn predecessor_pass(matrix: &WaveletMatrix<Global>, queries: &Queries) -> u64 {
-    let mut sum = 0;
-    for (range, symbol) in queries
-        .quantiles
-        .as_slice()
-        .iter()
-        .zip(queries.symbols.as_slice())
-    {
-        let member = matrix.predecessor_u64(range.from..range.to, *symbol);
-        sum = fold(sum, member.unwrap_or(u64::MAX));
-    }
-    sum
-}
-
-#[inline(never)]
-fn successor_pass(matrix: &WaveletMatrix<Global>, queries: &Queries) -> u64 {
-    let mut sum = 0;
-    for (range, symbol) in queries
-        .quantiles
-        .as_slice()
-        .iter()
-        .zip(queries.symbols.as_slice())
-    {
-        let member = matrix.successor_u64(range.from..range.to, *symbol);
-        sum = fold(sum, member.unwrap_or(u64::MAX));
-    }
-    sum
-}
-
-#[inline(never)]
-fn walk_pass(matrix: &WaveletMatrix<Global>) -> u64 {
-    let mut sum = 0u64;
-    if let Some(walk) = matrix.iter_u64() {
-        for symbol in walk {
-            sum = sum.wrapping_add(symbol);
-        }
-    }
-    sum
-}
-
-#[inline(never)]
-fn sorted_walk_pass(matrix: &WaveletMatrix<Global>) -> u64 {
-    let mut sum = 0u64;
-    if let Some(walk) = matrix.iter_sorted_u64() {
-        for symbol in walk {
-            sum = sum.wrapping_add(symbol);
-        }
-    }
-    sum
-}
-
-// How many bits a symbol takes, in thousandths.
-fn bits_per_item(matrix: &WaveletMatrix<Global>) -> u64 {
-    let heap_bits = (matrix.heap_size() as u64).saturating_mul(8);
-    heap_bits.saturating_mul(1000) / (matrix.len() as u64).max(1)
-}
-
-fn run_queries<'a>(
-    rt: &HostRuntime,
-    settings: &Settings,
-    series: &Series<'a>,
-    matrix: &WaveletMatrix<Global>,
-    queries: &Queries,
-) -> io::Result<()> {
-    let count = queries.places.len() as u64;
-    run_series(
-        rt,
-        settings,
-        &series.of("get_u64"),
-        count,
-        || get_pass(matrix, queries),
-    )?;
-    run_series(
-        rt,
-        settings,
-        &series.of("rank_u64"),
-        count,
-        || rank_pass(matrix, queries),
-    )?;
-    run_series(
-        rt,
-        settings,
-        &series.of("select_u64"),
-        count,
-        || select_pass(matrix, queries),
-    )?;
-    run_series(
-        rt,
-        settings,
-        &series.of("quantile_u64"),
-        count,
-        || quantile_pass(matrix, queries),
+fn get_pass(matrix: &Matrix, queries: &Queries) -> u64 {
+    checksum(
+        queries.places.as_slice(),
+        |place| matrix.get_u64(*place as usize).unwrap_or(NONE),
     )
+}
+
+// A place or a count as a number; what stands for none where there is none.
+fn answer(found: Option<usize>) -> u64 {
+    found.map_or(NONE, |it| it as u64)
+}
+
+#[inline(never)]
+fn rank_pass(matrix: &Matrix, queries: &Queries) -> u64 {
+    paired_checksum(
+        queries.places.as_slice(),
+        queries.symbols.as_slice(),
+        |place, symbol| answer(matrix.rank_u64(*place as usize, *symbol)),
+    )
+}
+
+#[inline(never)]
+fn select_pass(matrix: &Matrix, queries: &Queries) -> u64 {
+    paired_checksum(
+        queries.ranks.as_slice(),
+        queries.symbols.as_slice(),
+        |rank, symbol| answer(matrix.select_u64(*rank as usize, *symbol)),
+    )
+}
+
+#[inline(never)]
+fn quantile_pass(matrix: &Matrix, queries: &Queries) -> u64 {
+    checksum(queries.quantiles.as_slice(), |asked: &Quantile| {
+        let member = matrix.quantile_u64(asked.from..asked.to, asked.number);
+        member.unwrap_or(NONE)
+    })
+}
+
+// The checksum of the answers about each range and a symbol.
+#[inline(always)]
+fn ranges_checksum<F: Fn(Range<usize>, u64) -> Option<u64>>(queries: &Queries, member: F) -> u64
+    requires { F.IsAlwaysCallable member }
+{
+    paired_checksum(
+        queries.quantiles.as_slice(),
+        queries.symbols.as_slice(),
+        |asked: &Quantile, symbol| member(asked.from..asked.to, *symbol).unwrap_or(NONE),
+    )
+}
+
+#[inline(never)]
+fn predecessor_pass(matrix: &Matrix, queries: &Queries) -> u64 {
+    ranges_checksum(
+        queries,
+        |range, symbol| matrix.predecessor_u64(range, symbol),
+    )
+}
+
+#[inline(never)]
+fn successor_pass(matrix: &Matrix, queries: &Queries) -> u64 {
+    ranges_checksum(queries, |range, symbol| matrix.successor_u64(range, symbol))
+}
+
+// The sum of the items of a walk, if there is one.
+#[inline(always)]
+fn sum_of<S: Source<Item = u64>>(walk: Option<BothEnds<S>>) -> u64 {
+    let mut sum = 0u64;
+    if let Some(walk) = walk {
+        for symbol in walk {
+            sum = sum.wrapping_add(symbol);
+        }
+    }
+    sum
+}
+
+#[inline(never)]
+fn walk_pass(matrix: &Matrix) -> u64 {
+    sum_of(matrix.iter_u64())
+}
+
+#[inline(never)]
+fn sorted_walk_pass(matrix: &Matrix) -> u64 {
+    sum_of(matrix.iter_sorted_u64())
+}
+
+fn run_queries(report: &Report, matrix: &Matrix, queries: &Queries) -> io::Result<()> {
+    let count = queries.places.len() as u64;
+    report.series("get_u64", count, || get_pass(matrix, queries))?;
+    report.series("rank_u64", count, || rank_pass(matrix, queries))?;
+    report.series("select_u64", count, || select_pass(matrix, queries))?;
+    report.series("quantile_u64", count, || quantile_pass(matrix, queries))
 }
 
 // The series that the original's driver does not have.
-fn run_own<'a>(
-    rt: &HostRuntime,
-    settings: &Settings,
-    series: &Series<'a>,
-    matrix: &WaveletMatrix<Global>,
-    queries: &Queries,
-) -> io::Result<()> {
+fn run_own(report: &Report, matrix: &Matrix, queries: &Queries) -> io::Result<()> {
     let count = queries.places.len() as u64;
     let n = matrix.len() as u64;
-    let before = series.of("predecessor_u64");
-    run_series(
-        rt,
-        settings,
-        &before,
+    report.series(
+        "predecessor_u64",
         count,
         || predecessor_pass(matrix, queries),
     )?;
-    let after = series.of("successor_u64");
-    run_series(
-        rt,
-        settings,
-        &after,
-        count,
-        || successor_pass(matrix, queries),
-    )?;
-    run_series(
-        rt,
-        settings,
-        &series.of("iter_u64"),
-        n,
-        || walk_pass(matrix),
-    )?;
-    run_series(
-        rt,
-        settings,
-        &series.of("iter_sorted_u64"),
-        n,
-        || sorted_walk_pass(matrix),
-    )
+    report.series("successor_u64", count, || successor_pass(matrix, queries))?;
+    report.series("iter_u64", n, || walk_pass(matrix))?;
+    report.series("iter_sorted_u64", n, || sorted_walk_pass(matrix))
 }
 
-fn run_built<'a>(
-    rt: &HostRuntime,
-    settings: &Settings,
-    series: &Series<'a>,
-    matrix: &WaveletMatrix<Global>,
-    queries: &Queries,
-) -> io::Result<()> {
-    let size = series.of("heap_bits_per_item");
-    print_size(rt, settings, &size, bits_per_item(matrix))?;
-    run_queries(rt, settings, series, matrix, queries)?;
-    run_own(rt, settings, series, matrix, queries)
+fn run_built(report: &Report, matrix: &Matrix, queries: &Queries) -> io::Result<()> {
+    let size = bits_per_item(matrix.heap_size(), matrix.len() as u64);
+    report.size("heap_bits_per_item", size)?;
+    run_queries(report, matrix, queries)?;
+    run_own(report, matrix, queries)
 }
 
 // A build by stable sorting, of symbols that have at most 64 bits.
-fn sorted_build(
-    alloc: Global,
-    list: &[u64],
-    width: u16,
-) -> Result<WaveletMatrix<Global>, AllocError> {
+fn sorted_build(alloc: Global, list: &[u64], width: u16) -> Result<Matrix, AllocError> {
     WaveletMatrix::from_slice(alloc, list, width.min(64))
 }
 
 // A build by counting prefixes.
-fn counted_build(
-    alloc: Global,
-    list: &[u64],
-    width: u16,
-) -> Result<WaveletMatrix<Global>, AllocError> {
+fn counted_build(alloc: Global, list: &[u64], width: u16) -> Result<Matrix, AllocError> {
     WaveletMatrix::from_slice_pc(alloc, list, width.clamp(1, 63))
 }
 
@@ -314,40 +225,20 @@ fn counted_time(rt: &HostRuntime, list: &[u64], width: u16) -> io::Result<u64> {
     built_since(rt, start, counted_build(rt.alloc(), list, width))
 }
 
-fn run_builds_of<'a>(
-    rt: &HostRuntime,
-    settings: &Settings,
-    series: &Series<'a>,
-    list: &[u64],
-    width: u16,
-) -> io::Result<()> {
+fn run_builds(report: &Report, list: &[u64], width: u16) -> io::Result<()> {
+    let rt = report.rt;
     let count = list.len() as u64;
-    run_builds(
-        rt,
-        settings,
-        series,
-        count,
-        count,
-        || sorted_time(rt, list, width),
-    )?;
+    report.builds("build", count, count, || sorted_time(rt, list, width))?;
     if width == 8 {
-        let counted = series.of("build_pc");
-        run_builds(
-            rt,
-            settings,
-            &counted,
-            count,
-            count,
-            || counted_time(rt, list, width),
-        )?;
+        report.builds("build_pc", count, count, || counted_time(rt, list, width))?;
     }
     Ok(())
 }
 
 /// Runs all series over `n` symbols of a width, each of `query_count` queries.
-pub fn run(
-    rt: &HostRuntime,
-    settings: &Settings,
+pub fn run<'x>(
+    rt: &'x HostRuntime,
+    settings: &'x Settings,
     n: usize,
     width: u16,
     query_count: usize,
@@ -355,15 +246,16 @@ pub fn run(
     let list = symbols(rt.alloc(), n, width)?;
     let list = list.as_slice();
     let parameters = format!(in rt.alloc(); "n={n} width={width}")?;
-    let series = Series {
+    let report = Report {
+        rt,
+        settings,
         structure: "wavelet",
-        operation: "build",
         parameters: parameters.as_str(),
     };
-    run_builds_of(rt, settings, &series, list, width)?;
+    run_builds(&report, list, width)?;
     let queries = queries_of(rt, list, width, query_count)?;
     asked(
         sorted_build(rt.alloc(), list, width).map_err(io::Error::from),
-        |matrix| run_built(rt, settings, &series, matrix, &queries),
+        |matrix| run_built(&report, matrix, &queries),
     )
 }

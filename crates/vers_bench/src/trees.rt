@@ -5,8 +5,8 @@ ghost use Rattle.std.specs.Prelude.{All, IfOk, IfSome};
 ghost use Rattle.vers_trees.specs.Forest.{IsBalanced, forest_of};
 ghost use Rattle.vers_trees.specs.Nodes.{IsNode};
 
-use crate::report::{Series, Settings, asked, built_since, print_size, run_builds, run_series};
-use crate::workload::{NONE, Random, fold, parentheses};
+use crate::report::{Report, Settings, asked, bits_per_item, built_since};
+use crate::workload::{NONE, Random, checksum, fold, parentheses};
 use std::alloc::{AllocError, Global};
 use std::io;
 use std::time::CpuClock;
@@ -43,20 +43,12 @@ fn answer(place: Option<usize>) -> u64 {
 
 #[inline(never)]
 fn close_pass(tree: &Tree, nodes: &[usize]) -> u64 {
-    let mut sum = 0;
-    for node in nodes {
-        sum = fold(sum, answer(tree.close(*node)));
-    }
-    sum
+    checksum(nodes, |node| answer(tree.close(*node)))
 }
 
 #[inline(never)]
 fn open_pass(tree: &Tree, ends: &[usize]) -> u64 {
-    let mut sum = 0;
-    for end in ends {
-        sum = fold(sum, answer(tree.open(*end)));
-    }
-    sum
+    checksum(ends, |end| answer(tree.open(*end)))
 }
 
 #[inline(never)]
@@ -296,16 +288,10 @@ fn build_time(rt: &HostRuntime, bits: &Bits) -> io::Result<u64> {
     built_since(rt, start, tree_of(copy))
 }
 
-// How many bits are kept for a bit, in thousandths.
-fn bits_per_bit(tree: &Tree) -> u64 {
-    let heap_bits = (tree.heap_size() as u64).saturating_mul(8);
-    heap_bits.saturating_mul(1000) / (tree.len() as u64).max(1)
-}
-
 /// Runs all series over a tree of `count` bits, each of `query_count` queries.
-pub fn run(
-    rt: &HostRuntime,
-    settings: &Settings,
+pub fn run<'x>(
+    rt: &'x HostRuntime,
+    settings: &'x Settings,
     shape: Shape,
     count: usize,
     query_count: usize,
@@ -316,139 +302,82 @@ pub fn run(
         Shape::Star => "star ",
     };
     let parameters = format!(in rt.alloc(); "{kind}bits={count}")?;
-    let series = Series {
+    let report = Report {
+        rt,
+        settings,
         structure: "tree",
-        operation: "build",
         parameters: parameters.as_str(),
     };
     let made = bits_of(rt.alloc(), shape, count).map_err(|_| io::Error::from(AllocError));
-    asked(
-        made,
-        |bits| run_bits(rt, settings, &series, bits, query_count),
-    )
+    asked(made, |bits| run_bits(&report, bits, query_count))
 }
 
-fn run_bits<'a>(
-    rt: &HostRuntime,
-    settings: &Settings,
-    series: &Series<'a>,
-    bits: &Bits,
-    query_count: usize,
-) -> io::Result<()> {
+fn run_bits(report: &Report, bits: &Bits, query_count: usize) -> io::Result<()> {
+    let rt = report.rt;
     let len = bits.len() as u64;
-    let ones = bits.count_ones();
-    run_builds(rt, settings, series, len, ones, || build_time(rt, bits))?;
+    report.builds("build", len, bits.count_ones(), || build_time(rt, bits))?;
     let copy: Result<_, _> = bits.clone();
     let copy = copy?;
     asked(
         tree_of(copy).map_err(io::Error::from),
-        |tree| run_tree(rt, settings, series, tree, query_count),
+        |tree| run_tree(report, tree, query_count),
     )
 }
 
-fn run_tree<'a>(
-    rt: &HostRuntime,
-    settings: &Settings,
-    series: &Series<'a>,
-    tree: &Tree,
-    query_count: usize,
-) -> io::Result<()> {
+fn run_tree(report: &Report, tree: &Tree, query_count: usize) -> io::Result<()> {
     if !tree.is_balanced() {
         return Err(io::Error::from(io::ErrorKind::InvalidInput));
     }
-    let size = series.of("heap_bits_per_item");
-    print_size(rt, settings, &size, bits_per_bit(tree))?;
+    let alloc = report.rt.alloc();
+    let size = bits_per_item(tree.heap_size(), tree.len() as u64);
+    report.size("heap_bits_per_item", size)?;
     let mut random = Random::new(11);
-    let nodes = nodes_asked(rt.alloc(), &mut random, tree, query_count)?;
-    let climbs = climbs_asked(rt.alloc(), &mut random, tree, nodes.as_slice())?;
-    run_searches(rt, settings, series, tree, nodes.as_slice())?;
-    run_climbs(rt, settings, series, tree, climbs.as_slice())?;
-    let few = nodes_asked(rt.alloc(), &mut Random::new(11), tree, query_count / 5)?;
-    run_children(rt, settings, series, tree, few.as_slice())?;
-    run_walks(rt, settings, series, tree)
+    let nodes = nodes_asked(alloc, &mut random, tree, query_count)?;
+    let climbs = climbs_asked(alloc, &mut random, tree, nodes.as_slice())?;
+    run_searches(report, tree, nodes.as_slice())?;
+    run_climbs(report, tree, climbs.as_slice())?;
+    let few = nodes_asked(alloc, &mut Random::new(11), tree, query_count / 5)?;
+    run_children(report, tree, few.as_slice())?;
+    run_walks(report, tree)
 }
 
-fn run_searches<'a>(
-    rt: &HostRuntime,
-    settings: &Settings,
-    series: &Series<'a>,
-    tree: &Tree,
-    nodes: &[usize],
-) -> io::Result<()>
+fn run_searches(report: &Report, tree: &Tree, nodes: &[usize]) -> io::Result<()>
     requires balanced { IsBalanced tree.now }
     requires nodes { All (λ v. IsNode (forest_of tree.now) v) nodes.now }
 {
     let count = nodes.len() as u64;
-    let close = series.of("close");
-    run_series(rt, settings, &close, count, || close_pass(tree, nodes))?;
-    let ends = ends_of(rt.alloc(), tree, nodes)?;
+    report.series("close", count, || close_pass(tree, nodes))?;
+    let ends = ends_of(report.rt.alloc(), tree, nodes)?;
     let ends = ends.as_slice();
-    let open = series.of("open");
-    run_series(rt, settings, &open, count, || open_pass(tree, ends))?;
-    let parent = series.of("parent");
-    run_series(rt, settings, &parent, count, || parent_pass(tree, nodes))?;
-    let size = series.of("subtree_size");
-    run_series(
-        rt,
-        settings,
-        &size,
-        count,
-        || subtree_size_pass(tree, nodes),
-    )
+    report.series("open", count, || open_pass(tree, ends))?;
+    report.series("parent", count, || parent_pass(tree, nodes))?;
+    report.series("subtree_size", count, || subtree_size_pass(tree, nodes))
 }
 
-fn run_climbs<'a>(
-    rt: &HostRuntime,
-    settings: &Settings,
-    series: &Series<'a>,
-    tree: &Tree,
-    climbs: &[Climb],
-) -> io::Result<()>
+fn run_climbs(report: &Report, tree: &Tree, climbs: &[Climb]) -> io::Result<()>
     requires balanced { IsBalanced tree.now }
     requires nodes { All (λ c. IsNode (forest_of tree.now) c.node) climbs.now }
 {
-    let ancestor = series.of("level_ancestor");
-    run_series(
-        rt,
-        settings,
-        &ancestor,
-        climbs.len() as u64,
+    let count = climbs.len() as u64;
+    report.series(
+        "level_ancestor",
+        count,
         || level_ancestor_pass(tree, climbs),
     )
 }
 
-fn run_children<'a>(
-    rt: &HostRuntime,
-    settings: &Settings,
-    series: &Series<'a>,
-    tree: &Tree,
-    nodes: &[usize],
-) -> io::Result<()>
+fn run_children(report: &Report, tree: &Tree, nodes: &[usize]) -> io::Result<()>
     requires balanced { IsBalanced tree.now }
     requires nodes { All (λ v. IsNode (forest_of tree.now) v) nodes.now }
 {
-    let children = series.of("children");
     let count = children_count(tree, nodes);
-    run_series(
-        rt,
-        settings,
-        &children,
-        count,
-        || children_pass(tree, nodes),
-    )
+    report.series("children", count, || children_pass(tree, nodes))
 }
 
-fn run_walks<'a>(
-    rt: &HostRuntime,
-    settings: &Settings,
-    series: &Series<'a>,
-    tree: &Tree,
-) -> io::Result<()>
+fn run_walks(report: &Report, tree: &Tree) -> io::Result<()>
     requires { IsBalanced tree.now }
 {
     let size = tree.size() as u64;
-    let all = series.of("dfs_iter");
-    run_series(rt, settings, &all, size, || dfs_iter_pass(tree))?;
-    let walk = series.of("dfs_walk");
-    run_series(rt, settings, &walk, size, || dfs_walk_pass(tree))
+    report.series("dfs_iter", size, || dfs_iter_pass(tree))?;
+    report.series("dfs_walk", size, || dfs_walk_pass(tree))
 }

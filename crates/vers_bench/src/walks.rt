@@ -2,8 +2,8 @@
 //! side by side.
 //!
 //! Each pass is a function of its own in the machine code, so that a profiler counts its instructions.
-use crate::report::{Series, Settings, asked, run_series};
-use crate::workload::limbs;
+use crate::report::{Report, asked};
+use crate::workload::RandomBits;
 use std::alloc::{AllocError, Global};
 use std::io;
 use vers_bits::bit_vec::BitVec;
@@ -54,39 +54,18 @@ fn indexed(rt: &HostRuntime, limbs: &[u64]) -> Result<Bits, AllocError> {
     RsVec::from_bit_vec(bits)
 }
 
-/// Runs all series over a list of `limb_count` limbs with a given share of ones.
-pub fn run(
-    rt: &HostRuntime,
-    settings: &Settings,
-    limb_count: usize,
-    percent: u64,
-) -> io::Result<()> {
-    let len = (limb_count as u64).wrapping_mul(64);
-    let parameters = format!(in rt.alloc(); "n={len} ones={percent}%")?;
-    let series = Series {
-        structure: "walks",
-        operation: "iter1",
-        parameters: parameters.as_str(),
-    };
-    let limbs = limbs(rt.alloc(), limb_count, percent)?;
-    let made = indexed(rt, limbs.as_slice()).map_err(io::Error::from);
-    asked(made, |bits| run_built(rt, settings, &series, bits))
+/// Runs all series over a list of bits.
+pub fn run(report: &Report, data: RandomBits) -> io::Result<()> {
+    let limbs = data.limbs(report.rt.alloc())?;
+    let made = indexed(report.rt, limbs.as_slice()).map_err(io::Error::from);
+    asked(made, |bits| run_built(report, bits))
 }
 
-fn run_built<'a>(
-    rt: &HostRuntime,
-    settings: &Settings,
-    series: &Series<'a>,
-    bits: &Bits,
-) -> io::Result<()> {
+fn run_built(report: &Report, bits: &Bits) -> io::Result<()> {
     let ones = bits.ones() as u64;
-    run_series(rt, settings, series, ones, || front_pass(bits))?;
-    let back = series.of("iter1_back");
-    run_series(rt, settings, &back, ones, || back_pass(bits))?;
-    let nth = series.of("iter1_nth");
-    run_series(rt, settings, &nth, ones / 10, || nth_pass(bits))?;
-    let chunks = series.of("bit_set_iter1");
-    run_series(rt, settings, &chunks, ones, || chunks_pass(bits))?;
-    let equality = series.of("sparse_equals1");
-    run_series(rt, settings, &equality, ones, || equality_pass(bits))
+    report.series("iter1", ones, || front_pass(bits))?;
+    report.series("iter1_back", ones, || back_pass(bits))?;
+    report.series("iter1_nth", ones / 10, || nth_pass(bits))?;
+    report.series("bit_set_iter1", ones, || chunks_pass(bits))?;
+    report.series("sparse_equals1", ones, || equality_pass(bits))
 }

@@ -50,6 +50,44 @@ pub fn fold(sum: u64, answer: u64) -> u64 {
     sum.wrapping_mul(31).wrapping_add(answer)
 }
 
+/// The checksum of the answers about each item.
+#[inline(always)]
+pub fn checksum<T, F: Fn(&T) -> u64>(items: &[T], answer: F) -> u64
+    requires { F.IsAlwaysCallable answer }
+{
+    let mut sum = 0;
+    for item in items {
+        sum = fold(sum, answer(item));
+    }
+    sum
+}
+
+/// The same of answers about an item of each of two lists.
+#[inline(always)]
+pub fn paired_checksum<T, U, F: Fn(&T, &U) -> u64>(items: &[T], others: &[U], answer: F) -> u64
+    requires { F.IsAlwaysCallable answer }
+{
+    let mut sum = 0;
+    for (item, other) in items.iter().zip(others) {
+        sum = fold(sum, answer(item, other));
+    }
+    sum
+}
+
+/// The same of answers about numbers, where each query waits for the answer of the one before.
+#[inline(always)]
+pub fn chained_checksum<F: Fn(usize) -> u64>(numbers: &[u64], answer: F) -> u64
+    requires { F.IsAlwaysCallable answer }
+{
+    let mut sum = 0;
+    let mut last = 0u64;
+    for number in numbers {
+        last = answer(number.wrapping_add(last >> 63) as usize);
+        sum = fold(sum, last);
+    }
+    sum
+}
+
 fn random_word(random: &mut Random, percent: u64) -> u64 {
     let mut word = 0u64;
     for i in 0..64u32 {
@@ -60,14 +98,37 @@ fn random_word(random: &mut Random, percent: u64) -> u64 {
     word
 }
 
-/// The limbs of a list of bits, of which each is a one with a chance of `percent` in 100.
-pub fn limbs(alloc: Global, count: usize, percent: u64) -> Result<Vec<u64>, AllocError> {
-    let mut random = Random::new(1);
-    let mut limbs = Vec::with_capacity(alloc, count)?;
-    for _ in 0..count {
-        limbs.push(random_word(&mut random, percent))?;
+/// A list of bits in limbs of 64, of which each is a one with a chance of `percent` in 100.
+#[derive(Clone, Copy)]
+pub struct RandomBits {
+    /// How many limbs there are.
+    pub limb_count: usize,
+    /// The chance of a one.
+    pub percent: u64,
+}
+
+impl RandomBits {
+    /// How many bits there are.
+    pub fn len(&self) -> u64 {
+        (self.limb_count as u64).wrapping_mul(64)
     }
-    Ok(limbs)
+
+    /// What a line says of them.
+    pub fn parameters(&self, alloc: Global) -> Result<String, AllocError> {
+        let len = self.len();
+        let percent = self.percent;
+        format!(in alloc; "n={len} ones={percent}%")
+    }
+
+    /// The limbs, the same at each call.
+    pub fn limbs(&self, alloc: Global) -> Result<Vec<u64>, AllocError> {
+        let mut random = Random::new(1);
+        let mut limbs = Vec::with_capacity(alloc, self.limb_count)?;
+        for _ in 0..self.limb_count {
+            limbs.push(random_word(&mut random, self.percent))?;
+        }
+        Ok(limbs)
+    }
 }
 
 /// Numbers of 64 bits.

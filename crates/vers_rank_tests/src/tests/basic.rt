@@ -1,0 +1,241 @@
+//! Small lists, and lists whose bits change at the ends of superblocks.
+use crate::tests::lists::{indexed, runs, spread};
+use crate::tests::queries::{Query, first_wrong_answer};
+use std::alloc::{AllocError, Allocator};
+use std::test::Fail;
+use test_alloc::{asked, asked_both};
+use vers_bits::bit_vec::BitVec;
+use vers_rank::fast_rs_vec::RsVec;
+use vers_rank::laws::bits_come_back;
+
+// Runs of equal bits, what is asked of the list, and the answers.
+const CASES: [(&[(bool, usize)], &[(Query, Option<u64>)]); 9] = [
+    (
+        &[(false, 1), (true, 2), (false, 1)],
+        &[
+            (Query::Len, Some(4)),
+            (Query::Zeros, Some(2)),
+            (Query::Ones, Some(2)),
+            (Query::Get(1), Some(1)),
+            (Query::Get(3), Some(0)),
+            (Query::Get(9), None),
+            (Query::GetBits(1, 2), Some(3)),
+            (Query::GetBits(0, 4), Some(6)),
+            (Query::Rank1(3), Some(2)),
+            (Query::Rank0(3), Some(1)),
+            (Query::Rank1(usize::MAX), Some(2)),
+            (Query::Rank0(usize::MAX), Some(2)),
+            (Query::Select1(1), Some(2)),
+            (Query::Select1(2), Some(4)),
+            (Query::Select0(1), Some(3)),
+            (Query::Select0(usize::MAX), Some(4)),
+            (Query::Successor1(1), Some(2)),
+            (Query::Successor1(2), None),
+            (Query::Successor1(usize::MAX), None),
+            (Query::Successor0(0), Some(3)),
+            (Query::Predecessor1(9), Some(2)),
+            (Query::Predecessor1(1), None),
+            (Query::Predecessor0(3), Some(0)),
+            (Query::Predecessor0(usize::MAX), Some(3)),
+        ],
+    ),
+    (
+        &[(false, 64)],
+        &[
+            (Query::GetBits(64, 0), Some(0)),
+            (Query::GetBits(65, 0), None),
+            (Query::GetBits(0, 64), Some(0)),
+            (Query::GetBits(1, 64), None),
+            (Query::GetBits(0, 65), None),
+            (Query::GetBits(usize::MAX, 2), None),
+            (Query::Rank1(usize::MAX), Some(0)),
+            (Query::Select1(0), Some(64)),
+            (Query::Select0(63), Some(63)),
+            (Query::Select0(64), Some(64)),
+        ],
+    ),
+    (
+        &[],
+        &[
+            (Query::HeapSize, Some(32)),
+            (Query::Get(0), None),
+            (Query::GetBits(0, 0), Some(0)),
+            (Query::Rank0(1), Some(0)),
+            (Query::Select1(0), Some(0)),
+            (Query::Successor0(0), None),
+            (Query::Predecessor0(1), None),
+            (Query::IsEmpty, Some(1)),
+        ],
+    ),
+    (&[(true, 8191)], &[(Query::HeapSize, Some(1096))]),
+    (
+        &[(true, 8192)],
+        &[
+            (Query::HeapSize, Some(1112)),
+            (Query::Select1(8191), Some(8191)),
+            (Query::Select1(8192), Some(8192)),
+        ],
+    ),
+    (
+        &[(false, 8192), (true, 1), (false, 7)],
+        &[
+            (Query::Select1(0), Some(8192)),
+            (Query::Rank0(8193), Some(8192)),
+            (Query::Successor1(0), Some(8192)),
+            (Query::Predecessor0(8193), Some(8191)),
+        ],
+    ),
+    (
+        &[(false, 8192), (true, 8192)],
+        &[
+            (Query::Select1(0), Some(8192)),
+            (Query::Select1(8191), Some(16383)),
+            (Query::Rank1(16384), Some(8192)),
+            (Query::Successor1(8191), Some(8192)),
+            (Query::Predecessor0(16384), Some(8191)),
+            (Query::HeapSize, Some(2176)),
+        ],
+    ),
+    (
+        &[(true, 4000), (false, 80_000), (true, 5000)],
+        &[
+            (Query::Select1(0), Some(0)),
+            (Query::Select1(2000), Some(2000)),
+            (Query::Select1(3999), Some(3999)),
+            (Query::Select1(4000), Some(84_000)),
+            (Query::Select1(8191), Some(88_191)),
+            (Query::Select1(8192), Some(88_192)),
+            (Query::Select1(9000), Some(89_000)),
+            (Query::Select0(79_999), Some(83_999)),
+            (Query::Rank1(84_001), Some(4001)),
+            (Query::Successor1(3999), Some(84_000)),
+            (Query::Predecessor1(84_000), Some(3999)),
+        ],
+    ),
+    (
+        &[(true, 1), (false, 1), (true, 2), (false, 1)],
+        &[
+            (Query::Rank1(3), Some(2)),
+            (Query::Select0(1), Some(4)),
+            (Query::Successor1(0), Some(2)),
+            (Query::Predecessor0(9), Some(4)),
+            (Query::GetBits(1, 3), Some(6)),
+        ],
+    ),
+];
+
+#[test]
+fn queries_and_their_answers(rt: HostRuntime) -> Result<(), Fail> {
+    for (case, (bits, rows)) in CASES.iter().enumerate() {
+        let wrong = asked(
+            runs(rt.alloc(), bits),
+            |list| first_wrong_answer(list, rows),
+        )?;
+        assert_eq!(rt; wrong, None, "case {case}");
+    }
+    Ok(())
+}
+
+// The number of the first one that does not stand after `gap` zeros of its own.
+fn first_misplaced<A: Allocator + Copy>(list: &RsVec<A>, gap: usize) -> Option<usize> {
+    for r in 0..list.ones() {
+        let want = r.wrapping_mul(gap.wrapping_add(1)).wrapping_add(gap);
+        if list.select1(r) != want {
+            return Some(r);
+        }
+    }
+    None
+}
+
+#[test]
+fn ones_spread_evenly(rt: HostRuntime) -> Result<(), Fail> {
+    let rows = [(Query::Ones, Some(20_000)), (Query::Len, Some(400_000))];
+    let wrong = asked(
+        spread(rt.alloc(), 19, 20_000),
+        |list| first_wrong_answer(list, &rows).or(first_misplaced(list, 19)),
+    )?;
+    assert_eq!(rt; wrong, None);
+    Ok(())
+}
+
+// Whether all ways to compare two lists answer the same.
+fn all_compare<A: Allocator + Copy>(one: &RsVec<A>, other: &RsVec<A>, are_equal: bool) -> bool {
+    (*one == *other) == are_equal
+        && one.full_equals(other) == are_equal
+        && one.sparse_equals::<true>(other) == are_equal
+        && one.sparse_equals::<false>(other) == are_equal
+}
+
+// Whether a list compares as equal to its clone.
+fn is_as_its_clone<A: Allocator + Copy>(list: &RsVec<A>) -> bool {
+    let clone: Result<_, _> = list.clone();
+    asked(clone, |clone: &RsVec<A>| all_compare(list, clone, true)).unwrap_or(false)
+}
+
+// Runs of bits that make other lists than a one and 63 zeros: another place, another length.
+const OTHERS: [&[(bool, usize)]; 2] = [
+    &[(false, 1), (true, 1), (false, 62)],
+    &[(true, 1), (false, 64)],
+];
+
+#[test]
+fn equal_and_different_lists(rt: HostRuntime) -> Result<(), Fail> {
+    let one = [(true, 1), (false, 63)];
+    assert!(rt;
+        asked(runs(rt.alloc(), &one), |list| is_as_its_clone(list))?,
+        "a clone"
+    );
+    for (number, other) in OTHERS.iter().enumerate() {
+        let are_different = asked_both(
+            runs(rt.alloc(), &one),
+            runs(rt.alloc(), other),
+            |one, other| all_compare(one, other, false),
+        )?;
+        assert!(rt; are_different, "list {number}");
+    }
+    Ok(())
+}
+
+// Whether the unchecked forms read the bits 0110.
+fn reads_0110<A: Allocator + Copy>(list: &RsVec<A>) -> bool {
+    list.len() == 4
+        && list.get_unchecked(0) == 0
+        && list.get_unchecked(2) == 1
+        && list.get_bits_unchecked(0, 4) == 6
+        && list.get_bits_unchecked(4, 0) == 0
+}
+
+#[test]
+fn the_unchecked_forms(rt: HostRuntime) -> Result<(), Fail> {
+    let list = runs(rt.alloc(), &[(false, 1), (true, 2), (false, 1)]);
+    assert!(rt; asked(list, |list| reads_0110(list))?);
+    Ok(())
+}
+
+// The bits that come back out of a list.
+fn converted<A: Allocator + Copy>(bits: BitVec<A>) -> Result<BitVec<A>, AllocError> {
+    match RsVec::from_bit_vec(bits) {
+        Ok(list) => Ok(BitVec::from(list)),
+        Err(fault) => Err(fault),
+    }
+}
+
+// Whether copies of bits come back out of a list.
+fn come_back<A: Allocator + Copy>(bits: &BitVec<A>) -> Result<(bool, bool), AllocError> {
+    let first = asked(
+        bits_come_back(bits.clone()?),
+        |back: &BitVec<A>| *back == *bits,
+    )?;
+    let second = asked(converted(bits.clone()?), |back: &BitVec<A>| *back == *bits)?;
+    Ok((first, second))
+}
+
+#[test]
+fn the_bits_come_back(rt: HostRuntime) -> Result<(), Fail> {
+    let back = asked(
+        BitVec::from_limbs(rt.alloc(), &[0, 5]),
+        |bits| come_back(bits),
+    )?;
+    assert_eq!(rt; back, Ok((true, true)));
+    Ok(())
+}

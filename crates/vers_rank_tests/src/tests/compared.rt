@@ -1,0 +1,165 @@
+//! Every query at every place compared with a plain list, around the ends of limbs, blocks and superblocks.
+use crate::tests::lists::{Look, bits_of, list_of, turned_at};
+use crate::tests::plain::PlainList;
+use crate::tests::queries::{Query, is_right, queries_at};
+use std::alloc::{Allocator, Global};
+use std::test::Fail;
+use test_alloc::asked_both;
+use vers_bits::bit_vec::GrowError;
+use vers_rank::fast_rs_vec::{BitSetIter, RsVec};
+
+const LENGTHS: [usize; 15] = [
+    0, 1, 15, 16, 17, 63, 64, 65, 511, 512, 513, 8191, 8192, 8193, 16385,
+];
+
+const LOOKS: [Look; 4] = [Look::Zeros, Look::Ones, Look::Mixed, Look::Sparse];
+
+fn plain_of<A: Allocator + Copy>(
+    alloc: A,
+    look: Look,
+    len: usize,
+) -> Result<PlainList<A>, GrowError> {
+    match bits_of(alloc, look, len) {
+        Ok(bits) => Ok(PlainList::new(bits)),
+        Err(fault) => Err(fault),
+    }
+}
+
+// What the plain list answers.
+fn plain_answer<A: Allocator + Copy>(plain: &PlainList<A>, query: Query) -> Option<u64> {
+    match query {
+        Query::Zeros => Some(plain.rank(false, plain.len()) as u64),
+        Query::Ones => Some(plain.rank(true, plain.len()) as u64),
+        Query::Get(place) => plain.get(place),
+        Query::GetBits(place, n) => plain.get_bits(place, n),
+        Query::Rank0(place) => Some(plain.rank(false, place) as u64),
+        Query::Rank1(place) => Some(plain.rank(true, place) as u64),
+        Query::Select0(r) => Some(plain.select(false, r) as u64),
+        Query::Select1(r) => Some(plain.select(true, r) as u64),
+        Query::PairFirst(r) => Some(plain.select(true, r) as u64),
+        Query::PairSecond(r) => Some(plain.select(true, r.saturating_add(1)) as u64),
+        Query::Successor0(place) => plain.successor(false, place),
+        Query::Successor1(place) => plain.successor(true, place),
+        Query::Predecessor0(place) => plain.predecessor(false, place),
+        Query::Predecessor1(place) => plain.predecessor(true, place),
+        _ => None,
+    }
+}
+
+// Whether all queries at a place are right.
+fn are_right_at<A: Allocator + Copy>(list: &RsVec<A>, plain: &PlainList<A>, place: usize) -> bool {
+    for query in queries_at(place) {
+        if !is_right(list, query, plain_answer(plain, query)) {
+            return false;
+        }
+    }
+    true
+}
+
+// The first place with a wrong query, up to two past the end and at the greatest place of all.
+fn first_wrong_place<A: Allocator + Copy>(list: &RsVec<A>, plain: &PlainList<A>) -> Option<usize> {
+    for place in 0..plain.len().saturating_add(3) {
+        if !are_right_at(list, plain, place) {
+            return Some(place);
+        }
+    }
+    if are_right_at(list, plain, usize::MAX) {
+        return None;
+    }
+    Some(usize::MAX)
+}
+
+// Whether a walk by chunks gives the places that hold the bit, one after another, and no more.
+fn gives_places<const ZERO: bool, A: Allocator + Copy>(
+    mut walk: BitSetIter<'_, ZERO, A>,
+    plain: &PlainList<A>,
+) -> bool {
+    for place in 0..plain.len() {
+        if plain.get(place) == Some(u64::from(!ZERO)) && walk.next() != Some(place) {
+            return false;
+        }
+    }
+    walk.next().is_none()
+}
+
+// Whether both walks by chunks over a list give the places of the plain one.
+fn have_places<A: Allocator + Copy>(plain: &PlainList<A>, list: &RsVec<A>) -> bool {
+    gives_places(list.bit_set_iter0(), plain) && gives_places(list.bit_set_iter1(), plain)
+}
+
+// The first length, and the place there, at which both disagree on a list of some look.
+fn first_disagreement(
+    alloc: Global,
+    lengths: &[usize],
+) -> Result<Option<(usize, usize)>, GrowError> {
+    for len in lengths {
+        for look in LOOKS {
+            let wrong = asked_both(
+                plain_of(alloc, look, *len),
+                list_of(alloc, look, *len),
+                |plain, list| first_wrong_place(list, plain),
+            )?;
+            if let Some(place) = wrong {
+                return Ok(Some((*len, place)));
+            }
+        }
+    }
+    Ok(None)
+}
+
+#[test]
+fn around_a_limb(rt: HostRuntime) -> Result<(), Fail> {
+    assert_eq!(rt;
+        first_disagreement(rt.alloc(), &[0, 1, 15, 16, 17, 63, 64, 65])?,
+        None
+    );
+    Ok(())
+}
+
+#[test]
+fn around_a_block(rt: HostRuntime) -> Result<(), Fail> {
+    assert_eq!(rt; first_disagreement(rt.alloc(), &[511, 512, 513])?, None);
+    Ok(())
+}
+
+#[test]
+fn around_a_superblock(rt: HostRuntime) -> Result<(), Fail> {
+    assert_eq!(rt; first_disagreement(rt.alloc(), &[8191, 8192, 8193])?, None);
+    Ok(())
+}
+
+#[test]
+fn past_two_superblocks(rt: HostRuntime) -> Result<(), Fail> {
+    assert_eq!(rt; first_disagreement(rt.alloc(), &[16385])?, None);
+    Ok(())
+}
+
+#[test]
+fn chunks_give_every_place(rt: HostRuntime) -> Result<(), Fail> {
+    for len in LENGTHS {
+        for look in LOOKS {
+            let are_right = asked_both(
+                plain_of(rt.alloc(), look, len),
+                list_of(rt.alloc(), look, len),
+                |plain, list| have_places(plain, list),
+            )?;
+            assert!(rt; are_right, "length {len}");
+        }
+    }
+    Ok(())
+}
+
+#[test]
+fn full_equality_sees_every_limb(rt: HostRuntime) -> Result<(), Fail> {
+    for len in LENGTHS {
+        for place in (0..len).step_by(61).chain(len.checked_sub(1)) {
+            let are_equal = asked_both(
+                list_of(rt.alloc(), Look::Mixed, len),
+                turned_at(rt.alloc(), Look::Mixed, len, place),
+                |list, turned| list.full_equals(turned) || !list.full_equals(list),
+            )?;
+            assert!(rt; !are_equal, "length {len}, place {place}");
+        }
+    }
+    Ok(())
+}

@@ -1,0 +1,596 @@
+//! Walks over the bits and over the places of a list, from both ends.
+ghost use Rattle.std.specs.Iterator.{IsFinite};
+
+use crate::tests::lists::{list_10110, runs};
+use std::alloc::{AllocError, Allocator, Global};
+use std::test::Fail;
+use test_alloc::{Step, asked, asked_mut, first_wrong_step};
+use vers_rank::fast_rs_vec::{BitSetIter, RsVec, RsVecIter, SelectIntoIter};
+use vers_tally::ends::{BothEnds, Source};
+use vers_tally::tally::Tally;
+
+/// An item of a walk, which is a number.
+pub trait Numbered: Drop {
+    fn number(self) -> u64;
+}
+
+impl Numbered for u64 {
+    fn number(self) -> u64 {
+        self
+    }
+}
+
+impl Numbered for usize {
+    fn number(self) -> u64 {
+        self as u64
+    }
+}
+
+fn number_of<I: Numbered>(item: Option<I>) -> Option<u64> {
+    match item {
+        Some(item) => Some(item.number()),
+        None => None,
+    }
+}
+
+/// An iterator that can take each step, in the plain form and in the counted one, and be taken to its end.
+pub trait Walk: Drop {
+    fn step(&mut self, step: Step) -> Option<u64>;
+
+    fn step_counted(&mut self, step: Step, tally: &mut Tally) -> Option<u64>;
+
+    fn last_item(self) -> Option<u64>;
+
+    fn item_count(self) -> usize;
+}
+
+impl<S: Source> Walk for BothEnds<S>
+where
+    S::Item: Numbered,
+{
+    fn step(&mut self, step: Step) -> Option<u64> {
+        match step {
+            Step::Next => number_of(self.next()),
+            Step::NextBack => number_of(self.next_back()),
+            Step::Nth(n) => number_of(self.nth(n)),
+            Step::NthBack(n) => number_of(self.nth_back(n)),
+            Step::Len => Some(self.len() as u64),
+        }
+    }
+
+    fn step_counted(&mut self, step: Step, tally: &mut Tally) -> Option<u64> {
+        match step {
+            Step::Next => number_of(self.next_counted(tally)),
+            Step::NextBack => number_of(self.next_back_counted(tally)),
+            Step::Nth(n) => number_of(self.nth_counted(n, tally)),
+            Step::NthBack(n) => number_of(self.nth_back_counted(n, tally)),
+            Step::Len => Some(self.len() as u64),
+        }
+    }
+
+    fn last_item(self) -> Option<u64> {
+        number_of(self.last())
+    }
+
+    fn item_count(self) -> usize {
+        self.count()
+    }
+}
+
+// What is made of a copy of a list.
+fn of_copy<L: Clone + Drop, W, F: FnOnce(L) -> W>(list: &L, walk: F) -> Result<W, AllocError>
+    requires { F.IsAlwaysCallable walk }
+{
+    let copy: Result<_, _> = list.clone();
+    match copy {
+        Ok(second) => Ok(walk(second)),
+        Err(fault) => Err(fault),
+    }
+}
+
+/// A walk over the bits of a copy of a list, that owns it.
+pub fn owned_bits<A: Allocator + Copy>(list: &RsVec<A>) -> Result<RsVecIter<A>, AllocError> {
+    of_copy(list, |second: RsVec<A>| second.into_iter())
+}
+
+/// The same over its zeros.
+pub fn owned_zeros<A: Allocator + Copy>(
+    list: &RsVec<A>,
+) -> Result<SelectIntoIter<true, A>, AllocError> {
+    of_copy(list, |second: RsVec<A>| second.into_iter0())
+}
+
+/// The same over its ones.
+pub fn owned_ones<A: Allocator + Copy>(
+    list: &RsVec<A>,
+) -> Result<SelectIntoIter<false, A>, AllocError> {
+    of_copy(list, |second: RsVec<A>| second.into_iter1())
+}
+
+// The same by the general maker. What stands at a given `ZERO` is proved at a given allocator alone.
+fn selected_zeros(list: &RsVec<Global>) -> Result<SelectIntoIter<true, Global>, AllocError> {
+    of_copy(
+        list,
+        |second: RsVec<Global>| second.into_select_iter::<true>(),
+    )
+}
+
+fn selected_ones(list: &RsVec<Global>) -> Result<SelectIntoIter<false, Global>, AllocError> {
+    of_copy(
+        list,
+        |second: RsVec<Global>| second.into_select_iter::<false>(),
+    )
+}
+
+// The number of the first step of a walk that gives another item, in one form or the other.
+fn wrong_step<W: Walk>(
+    walk: &mut W,
+    is_counted: bool,
+    rows: &[(Step, Option<u64>)],
+) -> Option<usize> {
+    first_wrong_step(walk, rows, |walk: &mut W, step: Step| {
+        if is_counted {
+            return walk.step_counted(step, &mut Tally::new());
+        }
+        walk.step(step)
+    })
+}
+
+// The same of a walk that owns a copy of its list; as many as there are rows where there is no copy.
+fn wrong_owned_step<W: Walk>(
+    walk: Result<W, AllocError>,
+    is_counted: bool,
+    rows: &[(Step, Option<u64>)],
+) -> Option<usize> {
+    asked_mut(walk, |walk: &mut W| wrong_step(walk, is_counted, rows)).unwrap_or(Some(rows.len()))
+}
+
+// The first wrong step of the walks over the bits of a list, of a borrowed one and of one that owns a copy.
+fn wrong_bits<A: Allocator + Copy>(
+    list: &RsVec<A>,
+    is_counted: bool,
+    rows: &[(Step, Option<u64>)],
+) -> Option<usize> {
+    wrong_step(&mut list.iter(), is_counted, rows).or(wrong_owned_step(
+        owned_bits(list),
+        is_counted,
+        rows,
+    ))
+}
+
+// The same of the walks over its zeros and over its ones, by both makers of each.
+fn wrong_zeros(
+    list: &RsVec<Global>,
+    is_counted: bool,
+    rows: &[(Step, Option<u64>)],
+) -> Option<usize> {
+    wrong_step(&mut list.iter0(), is_counted, rows)
+        .or(wrong_step(&mut list.select_iter::<true>(), is_counted, rows))
+        .or(wrong_owned_step(owned_zeros(list), is_counted, rows))
+        .or(wrong_owned_step(selected_zeros(list), is_counted, rows))
+}
+
+fn wrong_ones(
+    list: &RsVec<Global>,
+    is_counted: bool,
+    rows: &[(Step, Option<u64>)],
+) -> Option<usize> {
+    wrong_step(&mut list.iter1(), is_counted, rows)
+        .or(wrong_step(&mut list.select_iter::<false>(), is_counted, rows))
+        .or(wrong_owned_step(owned_ones(list), is_counted, rows))
+        .or(wrong_owned_step(selected_ones(list), is_counted, rows))
+}
+
+// Over which items a list is walked.
+#[derive(Clone, Copy, Drop)]
+enum Over {
+    Bits,
+    Zeros,
+    Ones,
+}
+
+// The first wrong step of all walks over a list.
+fn wrong_walk(
+    list: &RsVec<Global>,
+    over: Over,
+    is_counted: bool,
+    rows: &[(Step, Option<u64>)],
+) -> Option<usize> {
+    match over {
+        Over::Bits => wrong_bits(list, is_counted, rows),
+        Over::Zeros => wrong_zeros(list, is_counted, rows),
+        Over::Ones => wrong_ones(list, is_counted, rows),
+    }
+}
+
+// Walks over 10110: over what, and what each step gives.
+const WALKS: [(Over, &[(Step, Option<u64>)]); 6] = [
+    (
+        Over::Ones,
+        &[
+            (Step::Len, Some(3)),
+            (Step::NextBack, Some(3)),
+            (Step::NthBack(5), None),
+            (Step::Next, None),
+            (Step::Len, Some(0)),
+        ],
+    ),
+    (
+        Over::Ones,
+        &[
+            (Step::Next, Some(0)),
+            (Step::Nth(1), Some(3)),
+            (Step::NextBack, None),
+            (Step::Next, None),
+        ],
+    ),
+    (
+        Over::Zeros,
+        &[(Step::NthBack(1), Some(1)), (Step::Next, None)],
+    ),
+    (
+        Over::Zeros,
+        &[
+            (Step::Nth(2), None),
+            (Step::NextBack, None),
+            (Step::Len, Some(0)),
+        ],
+    ),
+    (
+        Over::Bits,
+        &[(Step::Nth(usize::MAX), None), (Step::Next, None)],
+    ),
+    (
+        Over::Bits,
+        &[
+            (Step::NextBack, Some(0)),
+            (Step::Next, Some(1)),
+            (Step::Len, Some(3)),
+            (Step::NthBack(1), Some(1)),
+            (Step::Nth(0), Some(0)),
+            (Step::NextBack, None),
+        ],
+    ),
+];
+
+#[test]
+fn walks_from_both_ends(rt: HostRuntime) -> Result<(), Fail> {
+    for (number, (over, rows)) in WALKS.iter().enumerate() {
+        for is_counted in [false, true] {
+            let wrong = asked(
+                list_10110(rt.alloc()),
+                |list| wrong_walk(list, *over, is_counted, rows),
+            )?;
+            assert_eq!(rt; wrong, None, "walk {number}");
+        }
+    }
+    Ok(())
+}
+
+// The last item of a walk that was made, and how many it has.
+fn last_of<W: Walk>(walk: Result<W, AllocError>) -> Option<u64> {
+    match walk {
+        Ok(walk) => walk.last_item(),
+        Err(_) => None,
+    }
+}
+
+fn count_of<W: Walk>(walk: Result<W, AllocError>) -> usize {
+    match walk {
+        Ok(walk) => walk.item_count(),
+        Err(_) => usize::MAX,
+    }
+}
+
+// Whether the walks over the bits, the zeros and the ones of a list have this last item, and so many items.
+fn bits_end<A: Allocator + Copy>(list: &RsVec<A>, last: Option<u64>, count: usize) -> bool {
+    list.iter().last_item() == last
+        && list.iter().item_count() == count
+        && last_of(owned_bits(list)) == last
+        && count_of(owned_bits(list)) == count
+}
+
+fn zeros_end(list: &RsVec<Global>, last: Option<u64>, count: usize) -> bool {
+    list.iter0().last_item() == last
+        && list.iter0().item_count() == count
+        && last_of(owned_zeros(list)) == last
+        && count_of(owned_zeros(list)) == count
+}
+
+fn ones_end(list: &RsVec<Global>, last: Option<u64>, count: usize) -> bool {
+    list.iter1().last_item() == last
+        && list.iter1().item_count() == count
+        && last_of(owned_ones(list)) == last
+        && count_of(owned_ones(list)) == count
+}
+
+#[test]
+fn walks_end_and_are_counted(rt: HostRuntime) -> Result<(), Fail> {
+    let alloc = rt.alloc();
+    let ends = asked(list_10110(alloc), |list| {
+        bits_end(list, Some(0), 5) && zeros_end(list, Some(4), 2) && ones_end(list, Some(3), 3)
+    })?;
+    assert!(rt; ends, "10110");
+    let ends = asked(
+        runs(alloc, &[]),
+        |list| bits_end(list, None, 0) && zeros_end(list, None, 0) && ones_end(list, None, 0),
+    )?;
+    assert!(rt; ends, "no bits");
+    let hint = asked(list_10110(alloc), |list| list.iter1().size_hint())?;
+    assert_eq!(rt; hint, (3, Some(3)), "size_hint");
+    Ok(())
+}
+
+// How many items are left in a clone of a walk of which one was taken, by kinds of walks.
+fn bits_left<A: Allocator + Copy>(list: &RsVec<A>) -> usize {
+    let mut bits = list.iter();
+    bits.next();
+    bits.clone().len()
+}
+
+fn ones_left<A: Allocator + Copy>(list: &RsVec<A>) -> usize {
+    let mut ones = list.iter1();
+    ones.next();
+    ones.clone().len()
+}
+
+fn owned_left<W: Walk + Clone>(walk: &mut W) -> Option<u64> {
+    walk.step(Step::Next);
+    let copy: Result<_, _> = walk.clone();
+    asked_mut(copy, |second: &mut W| second.step(Step::Len)).unwrap_or(None)
+}
+
+#[test]
+fn clones_go_on_from_where_the_walk_is(rt: HostRuntime) -> Result<(), Fail> {
+    let alloc = rt.alloc();
+    assert_eq!(rt;
+        asked(list_10110(alloc), |list| bits_left(list))?,
+        4,
+        "bits"
+    );
+    assert_eq!(rt;
+        asked(list_10110(alloc), |list| ones_left(list))?,
+        2,
+        "ones"
+    );
+    let bits = asked(
+        list_10110(alloc),
+        |list| asked_mut(owned_bits(list), |walk| owned_left(walk)),
+    )?;
+    assert_eq!(rt; bits, Ok(Some(4)), "owned bits");
+    let ones = asked(
+        list_10110(alloc),
+        |list| asked_mut(owned_ones(list), |walk| owned_left(walk)),
+    )?;
+    assert_eq!(rt; ones, Ok(Some(2)), "owned ones");
+    Ok(())
+}
+
+// The first place that a walk by chunks doesn't give in its turn, of the places from 0 up to `n`.
+fn first_lost<const ZERO: bool, A: Allocator + Copy>(
+    places: &mut BitSetIter<'_, ZERO, A>,
+    n: usize,
+    tally: &mut Tally,
+) -> Option<usize> {
+    for place in 0..n {
+        if places.next_counted(tally) != Some(place) {
+            return Some(place);
+        }
+    }
+    None
+}
+
+// Whether a walk by chunks gives the places from 0 up to `n` and then none, by at most so many chunks.
+fn gives_up_to<const ZERO: bool, A: Allocator + Copy>(
+    places: &mut BitSetIter<'_, ZERO, A>,
+    n: usize,
+    chunks: u64,
+) -> bool {
+    let mut tally = Tally::new();
+    first_lost(places, n, &mut tally).is_none()
+        && places.next_counted(&mut tally).is_none()
+        && tally.chunks() <= chunks
+        && places.next().is_none()
+}
+
+// Whether walks by chunks over `n` equal bits give all places of that bit, and none of the other.
+fn gives_zeros<A: Allocator + Copy>(list: &RsVec<A>, n: usize, chunks: u64) -> bool {
+    gives_up_to(&mut list.bit_set_iter0(), n, chunks)
+        && gives_up_to(&mut list.bit_set_iter1(), 0, chunks)
+}
+
+fn gives_ones<A: Allocator + Copy>(list: &RsVec<A>, n: usize, chunks: u64) -> bool {
+    gives_up_to(&mut list.bit_set_iter1(), n, chunks)
+        && gives_up_to(&mut list.bit_set_iter0(), 0, chunks)
+}
+
+#[test]
+fn chunks_of_equal_bits(rt: HostRuntime) -> Result<(), Fail> {
+    for (n, chunks) in [(0, 0), (17, 2), (20, 2), (32, 2), (33, 3)] {
+        let zeros = asked(
+            runs(rt.alloc(), &[(false, n)]),
+            |list| gives_zeros(list, n, chunks),
+        )?;
+        assert!(rt; zeros, "{n} zeros");
+        let ones = asked(
+            runs(rt.alloc(), &[(true, n)]),
+            |list| gives_ones(list, n, chunks),
+        )?;
+        assert!(rt; ones, "{n} ones");
+    }
+    Ok(())
+}
+
+// The bits that a loop gives, as a number of which the first is the highest: by a reference, by a `&mut`
+// and by the list.
+fn number_by_reference<A: Allocator + Copy>(list: &RsVec<A>) -> u64 {
+    let mut number: u64 = 0;
+    for bit in list {
+        number = number.wrapping_mul(2).wrapping_add(bit);
+    }
+    number
+}
+
+fn number_by_mut<A: Allocator + Copy>(list: &mut RsVec<A>) -> u64 {
+    let mut number: u64 = 0;
+    for bit in list {
+        number = number.wrapping_mul(2).wrapping_add(bit);
+    }
+    number
+}
+
+fn number_by_value<A: Allocator + Copy>(list: RsVec<A>) -> u64 {
+    let mut number: u64 = 0;
+    for bit in list {
+        number = number.wrapping_mul(2).wrapping_add(bit);
+    }
+    number
+}
+
+#[test]
+fn loops_over_a_list(rt: HostRuntime) -> Result<(), Fail> {
+    let alloc = rt.alloc();
+    assert_eq!(rt;
+        asked(list_10110(alloc), |list| number_by_reference(list))?,
+        0b10110
+    );
+    assert_eq!(rt;
+        asked_mut(list_10110(alloc), |list| number_by_mut(list))?,
+        0b10110
+    );
+    assert_eq!(rt;
+        list_10110(alloc).map(|list| number_by_value(list))?,
+        0b10110
+    );
+    Ok(())
+}
+
+// The sum of the places that a loop gives.
+fn sum_of<I: Iterator<Item = usize>>(places: I) -> usize
+    requires { I.can_next places × IsFinite (I.remaining places) }
+{
+    let mut sum: usize = 0;
+    for place in places {
+        sum = sum.wrapping_add(place);
+    }
+    sum
+}
+
+// Whether the loops over the zeros and the ones, each once by the iterator and once by a `&mut` to it, give
+// places of this sum.
+fn have_sum<A: Allocator + Copy>(list: &RsVec<A>, sum: usize) -> bool {
+    sum_of(list.iter0()) == sum
+        && sum_of(&mut list.iter1()) == sum
+        && sum_of(list.bit_set_iter0()) == sum
+        && sum_of(&mut list.bit_set_iter1()) == sum
+}
+
+// The sum of the places of a walk that owns its list.
+fn owned_sum<const ZERO: bool, A: Allocator + Copy>(
+    places: Result<SelectIntoIter<ZERO, A>, AllocError>,
+) -> usize {
+    match places {
+        Ok(places) => sum_of(places),
+        Err(_) => 0,
+    }
+}
+
+// The same by a `&mut` to the walk.
+fn owned_sum_by_mut<const ZERO: bool, A: Allocator + Copy>(
+    places: Result<SelectIntoIter<ZERO, A>, AllocError>,
+) -> usize {
+    asked_mut(
+        places,
+        |places: &mut SelectIntoIter<ZERO, A>| sum_by_mut(places),
+    )
+    .unwrap_or(0)
+}
+
+fn sum_by_mut<const ZERO: bool, A: Allocator + Copy>(
+    places: &mut SelectIntoIter<ZERO, A>,
+) -> usize {
+    sum_of(places)
+}
+
+fn sum_in_a_loop<A: Allocator + Copy>(list: &RsVec<A>) -> usize {
+    let mut sum: usize = 0;
+    for place in list.iter1() {
+        sum = sum.wrapping_add(place);
+    }
+    for place in list.bit_set_iter1() {
+        sum = sum.wrapping_add(place);
+    }
+    sum
+}
+
+// Whether the loops over walks that own a copy of a list give places of this sum.
+fn have_owned_sum(list: &RsVec<Global>, sum: usize) -> bool {
+    owned_sum(owned_zeros(list)) == sum
+        && owned_sum(owned_ones(list)) == sum
+        && owned_sum_by_mut(owned_ones(list)) == sum
+}
+
+#[test]
+fn loops_over_places(rt: HostRuntime) -> Result<(), Fail> {
+    let alloc = rt.alloc();
+    assert_eq!(rt;
+        asked(list_10110(alloc), |list| sum_in_a_loop(list))?,
+        10,
+        "in a loop"
+    );
+    assert!(rt;
+        asked(list_10110(alloc), |list| have_sum(list, 5))?,
+        "borrowed"
+    );
+    assert!(rt;
+        asked(list_10110(alloc), |list| have_owned_sum(list, 5))?,
+        "owned"
+    );
+    Ok(())
+}
+
+// The number of the first one that a walk does not give where `select1` finds it, from the front and by chunks.
+fn first_lost_one<A: Allocator + Copy>(list: &RsVec<A>) -> Option<usize> {
+    let mut ones = list.iter1();
+    let mut chunks = list.bit_set_iter1();
+    for r in 0..list.ones() {
+        let want = Some(list.select1(r));
+        if ones.next() != want || chunks.next() != want {
+            return Some(r);
+        }
+    }
+    chunks.next()
+}
+
+// The number of the first zero that a walk from the back does not give where `select0` finds it.
+fn first_lost_zero<A: Allocator + Copy>(list: &RsVec<A>) -> Option<usize> {
+    let mut zeros = list.iter0();
+    for r in (0..list.zeros()).rev() {
+        if zeros.next_back() != Some(list.select0(r)) {
+            return Some(r);
+        }
+    }
+    zeros.next_back()
+}
+
+// Runs that lie close together and far apart.
+const CLOSE_AND_FAR: &[(bool, usize)] = &[
+    (true, 700),
+    (false, 9000),
+    (true, 1),
+    (false, 5000),
+    (true, 130),
+    (false, 63),
+    (true, 9000),
+    (false, 1),
+];
+
+#[test]
+fn walks_give_what_the_selects_find(rt: HostRuntime) -> Result<(), Fail> {
+    let lost = asked(
+        runs(rt.alloc(), CLOSE_AND_FAR),
+        |list| (first_lost_one(list), first_lost_zero(list)),
+    )?;
+    assert_eq!(rt; lost, (None, None), "ones and zeros");
+    Ok(())
+}

@@ -1,4 +1,0 @@
-use Rattle.vers_trees_tests.proofs.nodes.are_balanced.Goals as goal
-
-pub returns : goal.returns
-returns g c = λ h. c.is_balanced.ensures.0 h

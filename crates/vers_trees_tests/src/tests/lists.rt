@@ -1,0 +1,131 @@
+//! Trees of parentheses, and what is asked of them.
+ghost use Rattle.std.specs.Prelude.{◌<◌, ◌≤◌};
+
+use crate::tests::nodes::ask_balanced;
+pub use crate::tests::queries::{Answer, Query, number};
+use std::alloc::{AllocError, Allocator, Global};
+use vers_bits::bit_vec::{BitVec, GrowError};
+use vers_tally::tally::Tally;
+use vers_trees::trees::bp::{BpTree, MAX_BLOCK_SIZE};
+
+/// The block sizes that are tried.
+pub const SIZES: [usize; 7] = [1, 3, 8, 12, 64, 512, 4294967296];
+
+// The excess past a place that the tree has; None for another one.
+fn excess<const N: usize, A: Allocator + Copy>(tree: &BpTree<N, A>, i: usize) -> Answer {
+    if i >= tree.len() {
+        return Answer::uncounted(None);
+    }
+    let mut tally = Tally::new();
+    Answer::of(
+        Some(tree.excess(i)),
+        Some(tree.excess_counted(i, &mut tally)),
+    )
+}
+
+/// The answers of a query, a truth value as 1 or 0. The excess is asked only of places that the tree
+/// has, and the other queries only where their conditions hold.
+pub fn ask<const N: usize, A: Allocator + Copy>(tree: &BpTree<N, A>, query: Query) -> Answer {
+    let mut tally = Tally::new();
+    match query {
+        Query::Len => Answer::uncounted(number(Some(tree.len()))),
+        Query::Size => Answer::uncounted(number(Some(tree.size()))),
+        Query::IsEmpty => Answer::of_truths(Some(tree.is_empty()), Some(tree.is_empty())),
+        Query::Root => Answer::of_places(tree.root(), tree.root()),
+        Query::IsBalanced => Answer::of_truths(
+            Some(tree.is_balanced()),
+            Some(tree.is_balanced_counted(&mut tally)),
+        ),
+        Query::Excess(i) => excess(tree, i),
+        Query::Forward(i, r) => {
+            Answer::of_places(
+                tree.fwd_search(i, r),
+                tree.fwd_search_counted(i, r, &mut tally),
+            )
+        }
+        Query::Backward(i, r) => {
+            Answer::of_places(
+                tree.bwd_search(i, r),
+                tree.bwd_search_counted(i, r, &mut tally),
+            )
+        }
+        Query::Close(i) => Answer::of_places(tree.close(i), tree.close_counted(i, &mut tally)),
+        Query::Open(i) => Answer::of_places(tree.open(i), tree.open_counted(i, &mut tally)),
+        Query::Enclose(i) => Answer::of_places(
+            tree.enclose(i),
+            tree.enclose_counted(i, &mut tally),
+        ),
+        Query::Handle(i) => Answer::of_places(
+            Some(tree.node_handle(i)),
+            Some(tree.node_handle_counted(i, &mut tally)),
+        ),
+        _ => ask_balanced(tree, query).unwrap_or(Answer::not_asked()),
+    }
+}
+
+/// Asks what was made, or hands on why it was not.
+pub fn asked<T: Drop, R, E, F: FnOnce(&T) -> Result<R, E>>(
+    made: Result<T, E>,
+    question: F,
+) -> Result<R, E>
+    requires { F.IsAlwaysCallable question }
+{
+    match made {
+        Ok(owned) => question(&owned),
+        Err(error) => Err(error),
+    }
+}
+
+/// The tree of bits, each a one where the number is odd.
+pub fn tree_of<const N: usize>(alloc: Global, bits: &[u8]) -> Result<BpTree<N, Global>, GrowError>
+    requires some { 0 < N }
+    requires bounded { N ≤ MAX_BLOCK_SIZE }
+{
+    BpTree::from_bit_vector(BitVec::from_bits(alloc, bits)?)
+}
+
+// Asks all queries of a tree.
+fn ask_all<const N: usize>(
+    alloc: Global,
+    tree: &BpTree<N, Global>,
+    queries: &[Query],
+) -> Result<Vec<Answer, Global>, AllocError> {
+    let mut found = Vec::new(alloc);
+    for query in queries {
+        found.push(ask(tree, *query))?;
+    }
+    Ok(found)
+}
+
+// The answers of a tree with blocks of `N` bits.
+fn answers_at<const N: usize>(
+    alloc: Global,
+    bits: &[u8],
+    queries: &[Query],
+) -> Result<Vec<Answer, Global>, GrowError>
+    requires some { 0 < N }
+    requires bounded { N ≤ MAX_BLOCK_SIZE }
+{
+    asked(
+        tree_of::<N>(alloc, bits),
+        |tree: &BpTree<N, Global>| Ok(ask_all(alloc, tree, queries)?),
+    )
+}
+
+/// The answers of a tree with blocks of one of the sizes.
+pub fn answers(
+    alloc: Global,
+    size: usize,
+    bits: &[u8],
+    queries: &[Query],
+) -> Result<Vec<Answer, Global>, GrowError> {
+    match size {
+        1 => answers_at::<1>(alloc, bits, queries),
+        3 => answers_at::<3>(alloc, bits, queries),
+        8 => answers_at::<8>(alloc, bits, queries),
+        12 => answers_at::<12>(alloc, bits, queries),
+        64 => answers_at::<64>(alloc, bits, queries),
+        512 => answers_at::<512>(alloc, bits, queries),
+        _ => answers_at::<4294967296>(alloc, bits, queries),
+    }
+}

@@ -1,0 +1,163 @@
+//! What is asked of balanced parentheses alone.
+ghost use Rattle.std.specs.Prelude.{IfSome, IsTrue};
+ghost use Rattle.vers_trees.specs.Forest.{IsBalanced, forest_of};
+ghost use Rattle.vers_trees.specs.Nodes.{IsNode};
+
+use crate::tests::queries::{Answer, Query, Question};
+use std::alloc::Allocator;
+use vers_tally::tally::Tally;
+use vers_trees::laws::ones_are_nodes;
+use vers_trees::trees::bp::BpTree;
+
+/// Whether the parentheses are balanced.
+pub fn are_balanced<const N: usize, A: Allocator + Copy>(tree: &BpTree<N, A>) -> bool
+    ensures { IsTrue result → IsBalanced tree.now }
+{
+    tree.is_balanced()
+}
+
+// The node of this number in preorder. None where there are no more.
+fn numbered<const N: usize, A: Allocator + Copy>(
+    tree: &BpTree<N, A>,
+    number: usize,
+) -> Option<usize>
+    requires { IsBalanced tree.now }
+    ensures { IfSome result (λ node. IsNode (forest_of tree.now) node) }
+{
+    ones_are_nodes();
+    if number >= tree.size() {
+        return None;
+    }
+    Some(tree.node_handle(number))
+}
+
+/// The place, where a node opens there. None for other places.
+pub fn node_at<const N: usize, A: Allocator + Copy>(
+    tree: &BpTree<N, A>,
+    place: usize,
+) -> Option<usize>
+    requires { IsBalanced tree.now }
+    ensures { IfSome result (λ node. IsNode (forest_of tree.now) node) }
+{
+    for number in 0..tree.size() {
+        let node = numbered(tree, number)?;
+        if node == place {
+            return Some(node);
+        }
+    }
+    None
+}
+
+// Another node, or none, by the plain and by the counted form.
+fn relatives<const N: usize, A: Allocator + Copy>(
+    tree: &BpTree<N, A>,
+    node: usize,
+    question: Question,
+) -> (Option<usize>, Option<usize>)
+    requires balanced { IsBalanced tree.now }
+    requires node { IsNode (forest_of tree.now) node }
+{
+    let mut counter = Tally::new();
+    let tally = &mut counter;
+    match question {
+        Question::FirstChild => (
+            tree.first_child(node),
+            tree.first_child_counted(node, tally),
+        ),
+        Question::LastChild => (tree.last_child(node), tree.last_child_counted(node, tally)),
+        Question::NextSibling => (
+            tree.next_sibling(node),
+            tree.next_sibling_counted(node, tally),
+        ),
+        Question::PreviousSibling => (
+            tree.previous_sibling(node),
+            tree.previous_sibling_counted(node, tally),
+        ),
+        Question::LevelNext => (tree.level_next(node), tree.level_next_counted(node, tally)),
+        Question::LevelPrev => (tree.level_prev(node), tree.level_prev_counted(node, tally)),
+        Question::LevelAncestor(levels) => (
+            tree.level_ancestor(node, levels),
+            tree.level_ancestor_counted(node, levels, tally),
+        ),
+        _ => (tree.parent(node), tree.parent_counted(node, tally)),
+    }
+}
+
+// The answers about a node.
+fn about_node<const N: usize, A: Allocator + Copy>(
+    tree: &BpTree<N, A>,
+    node: usize,
+    question: Question,
+) -> Answer
+    requires balanced { IsBalanced tree.now }
+    requires node { IsNode (forest_of tree.now) node }
+{
+    let mut tally = Tally::new();
+    match question {
+        Question::Index => Answer::of_places(
+            Some(tree.node_index(node)),
+            Some(tree.node_index_counted(node, &mut tally)),
+        ),
+        Question::IsLeaf => Answer::of_truths(
+            Some(tree.is_leaf(node)),
+            Some(tree.is_leaf_counted(node, &mut tally)),
+        ),
+        Question::Depth => Answer::of_places(
+            Some(tree.depth(node) as usize),
+            Some(tree.depth_counted(node, &mut tally) as usize),
+        ),
+        Question::SubtreeSize => Answer::of_places(
+            tree.subtree_size(node),
+            tree.subtree_size_counted(node, &mut tally),
+        ),
+        _ => {
+            let (plain, counted) = relatives(tree, node, question);
+            Answer::of_places(plain, counted)
+        }
+    }
+}
+
+// Whether a node is an ancestor of another one. None where a place has no node.
+fn about_pair<const N: usize, A: Allocator + Copy>(
+    tree: &BpTree<N, A>,
+    ancestor: usize,
+    descendant: usize,
+) -> Option<Answer>
+    requires { IsBalanced tree.now }
+{
+    let above = node_at(tree, ancestor)?;
+    let below = node_at(tree, descendant)?;
+    let mut tally = Tally::new();
+    Some(Answer::of_truths(
+        tree.is_ancestor(above, below),
+        tree.is_ancestor_counted(above, below, &mut tally),
+    ))
+}
+
+/// The answers of a query that asks for balanced parentheses. None where they are not balanced, and
+/// where a place has no node.
+pub fn ask_balanced<const N: usize, A: Allocator + Copy>(
+    tree: &BpTree<N, A>,
+    query: Query,
+) -> Option<Answer> {
+    if !are_balanced(tree) {
+        return None;
+    }
+    let mut tally = Tally::new();
+    match query {
+        Query::Node(place, question) => {
+            let node = node_at(tree, place)?;
+            Some(about_node(tree, node, question))
+        }
+        Query::IsAncestor(ancestor, descendant) => about_pair(tree, ancestor, descendant),
+        Query::LevelLeftmost(depth) => Some(Answer::of_places(
+            tree.level_leftmost(depth),
+            tree.level_leftmost_counted(depth, &mut tally),
+        )),
+        Query::LevelRightmost(depth) => Some(Answer::of_places(
+            tree.level_rightmost(depth),
+            tree.level_rightmost_counted(depth, &mut tally),
+        )),
+        _ => None,
+    }
+}

@@ -1,0 +1,128 @@
+//! Walks from a node of balanced parentheses, and over all nodes, by plain and by counted steps.
+use crate::tests::nodes::{are_balanced, node_at};
+use std::alloc::Allocator;
+use vers_tally::tally::Tally;
+use vers_trees::trees::bp::{BpTree, ChildrenIter, DfsIter, PostIter};
+
+/// A walk, whose steps have a counted form.
+trait Walk: Drop {
+    fn step(&mut self) -> Option<usize>;
+
+    fn step_counted(&mut self, tally: &mut Tally) -> Option<usize>;
+}
+
+impl<'a, const N: usize, A: Allocator + Copy> Walk for ChildrenIter<'a, N, true, A> {
+    fn step(&mut self) -> Option<usize> {
+        self.next()
+    }
+
+    fn step_counted(&mut self, tally: &mut Tally) -> Option<usize> {
+        self.next_counted(tally)
+    }
+}
+
+impl<'a, const N: usize, A: Allocator + Copy> Walk for ChildrenIter<'a, N, false, A> {
+    fn step(&mut self) -> Option<usize> {
+        self.next()
+    }
+
+    fn step_counted(&mut self, tally: &mut Tally) -> Option<usize> {
+        self.next_counted(tally)
+    }
+}
+
+impl<'a, A: Allocator + Copy> Walk for DfsIter<'a, A> {
+    fn step(&mut self) -> Option<usize> {
+        self.next()
+    }
+
+    fn step_counted(&mut self, tally: &mut Tally) -> Option<usize> {
+        self.next_counted(tally)
+    }
+}
+
+impl<'a, const N: usize, A: Allocator + Copy> Walk for PostIter<'a, N, A> {
+    fn step(&mut self) -> Option<usize> {
+        self.next()
+    }
+
+    fn step_counted(&mut self, tally: &mut Tally) -> Option<usize> {
+        self.next_counted(tally)
+    }
+}
+
+/// Which form the first step of a walk has. The forms take turns.
+#[derive(Clone, Copy, PartialEq, Drop)]
+pub enum First {
+    Plain,
+    Counted,
+}
+
+// Whether a walk gives just these nodes, and none ever after.
+fn gives<W: Walk>(mut walk: W, first: First, wanted: &[usize]) -> bool {
+    let mut tally = Tally::new();
+    let mut is_counted = first == First::Counted;
+    for node in wanted {
+        let given = if is_counted {
+            walk.step_counted(&mut tally)
+        } else {
+            walk.step()
+        };
+        if given != Some(*node) {
+            return false;
+        }
+        is_counted = !is_counted;
+    }
+    let past = [
+        walk.step_counted(&mut tally),
+        walk.step(),
+        walk.step(),
+        walk.step_counted(&mut tally),
+    ];
+    past == [None; 4]
+}
+
+/// A walk over nodes.
+#[derive(Clone, Copy, Drop)]
+pub enum Tour {
+    Children,
+    RevChildren,
+    Subtree,
+    SubtreePost,
+    All,
+    AllPost,
+}
+
+/// All of them.
+pub const TOURS: [Tour; 6] = [
+    Tour::Children,
+    Tour::RevChildren,
+    Tour::Subtree,
+    Tour::SubtreePost,
+    Tour::All,
+    Tour::AllPost,
+];
+
+/// Whether a walk gives just these nodes, from the node at a place or, where it is over all nodes, from the
+/// first. None where the parentheses are not balanced or the place has no node.
+pub fn tour_gives<const N: usize, A: Allocator + Copy>(
+    tree: &BpTree<N, A>,
+    tour: Tour,
+    place: usize,
+    first: First,
+    wanted: &[usize],
+) -> Option<bool> {
+    if !are_balanced(tree) {
+        return None;
+    }
+    match tour {
+        Tour::Children => Some(gives(tree.children(node_at(tree, place)?), first, wanted)),
+        Tour::RevChildren => Some(gives(tree.rev_children(node_at(tree, place)?), first, wanted)),
+        Tour::Subtree => Some(gives(tree.subtree_iter(node_at(tree, place)?), first, wanted)),
+        Tour::SubtreePost => {
+            Some(gives(tree.subtree_post_iter(node_at(tree, place)?), first, wanted))
+        }
+        Tour::All => Some(gives(tree.dfs_iter(), first, wanted)),
+        Tour::AllPost => Some(gives(tree.dfs_post_iter(), first, wanted)),
+    }
+}

@@ -1,0 +1,10 @@
+//! What is asked stands in tables. A test holds no matrix itself, which would be slow to prove: it hands what
+//! a maker answers to an owner of any type, and helpers over any allocator ask it by a reference.
+mod compared;
+mod iterators;
+mod lists;
+mod makers;
+mod memory;
+mod numbers;
+mod queries;
+mod wide;

@@ -1,0 +1,343 @@
+//! Makers of symbols: by stable sorting and by counting prefixes, of numbers and of lists of bits.
+use std::alloc::{AllocError, Allocator, Global};
+use std::test::Fail;
+use test_alloc::{Ending, Refusing, asked, takes_memory, try_make};
+use vers_bits::bit_vec::{BitVec, GrowError};
+use vers_wavelet::wavelet::WaveletMatrix;
+
+/// By which method symbols are made.
+#[derive(Clone, Copy, Drop)]
+pub enum Method {
+    Sorting,
+    Counting,
+}
+
+/// The symbols of numbers. Out of memory for a width that the maker isn't asked for.
+pub fn of_numbers<A: Allocator + Copy>(
+    alloc: A,
+    method: Method,
+    numbers: &[u64],
+    width: u16,
+) -> Result<WaveletMatrix<A>, AllocError> {
+    if width > 64 {
+        return Err(AllocError);
+    }
+    match method {
+        Method::Sorting => WaveletMatrix::from_slice(alloc, numbers, width),
+        Method::Counting => {
+            if width == 0 || width > 63 {
+                return Err(AllocError);
+            }
+            WaveletMatrix::from_slice_pc(alloc, numbers, width)
+        }
+    }
+}
+
+/// The symbols of a list of bits. Out of memory where the maker isn't asked for them.
+pub fn of_bits<A: Allocator + Copy>(
+    method: Method,
+    bits: &BitVec<A>,
+    width: u16,
+) -> Result<WaveletMatrix<A>, AllocError> {
+    if width == 0 || bits.len() % width as usize != 0 {
+        return Err(AllocError);
+    }
+    match method {
+        Method::Sorting => WaveletMatrix::from_bit_vec(bits, width),
+        Method::Counting => {
+            if width > 63 {
+                return Err(AllocError);
+            }
+            WaveletMatrix::from_bit_vec_pc(bits, width)
+        }
+    }
+}
+
+/// Whether a matrix has the numbers as its symbols.
+pub fn has_numbers<A: Allocator + Copy>(
+    symbols: &WaveletMatrix<A>,
+    width: u16,
+    numbers: &[u64],
+) -> bool {
+    for (place, number) in numbers.iter().enumerate() {
+        if symbols.get_u64(place) != Some(*number) {
+            return false;
+        }
+    }
+    symbols.len() == numbers.len() && symbols.bit_len() == width
+}
+
+// Numbers, a width, and the symbols that their low bits are.
+#[derive(Clone, Copy, Drop)]
+struct Row<'a> {
+    numbers: &'a [u64],
+    width: u16,
+    symbols: &'a [u64],
+}
+
+const HIGHEST: u64 = 1 << 63;
+
+// The number of the first row of which a maker makes other symbols.
+fn first_wrong_numbers(alloc: Global, method: Method, rows: &[Row]) -> Option<usize> {
+    for (at, row) in rows.iter().enumerate() {
+        let made = of_numbers(alloc, method, row.numbers, row.width);
+        let is_right = asked(made, |it| has_numbers(it, row.width, row.symbols));
+        if is_right != Ok(true) {
+            return Some(at);
+        }
+    }
+    None
+}
+
+#[test]
+fn numbers_count_by_their_low_bits(rt: HostRuntime) -> Result<(), Fail> {
+    let rows = [
+        Row {
+            numbers: &[9, 5, 3],
+            width: 3,
+            symbols: &[1, 5, 3],
+        },
+        Row {
+            numbers: &[2, 3, 4, 5],
+            width: 1,
+            symbols: &[0, 1, 0, 1],
+        },
+        Row {
+            numbers: &[7, 7, 6, 0, 7, 1],
+            width: 3,
+            symbols: &[7, 7, 6, 0, 7, 1],
+        },
+        Row {
+            numbers: &[],
+            width: 8,
+            symbols: &[],
+        },
+        Row {
+            numbers: &[u64::MAX, 0, 256],
+            width: 8,
+            symbols: &[255, 0, 0],
+        },
+    ];
+    assert_eq!(rt;
+        first_wrong_numbers(rt.alloc(), Method::Sorting, &rows),
+        None
+    );
+    assert_eq!(rt;
+        first_wrong_numbers(rt.alloc(), Method::Counting, &rows),
+        None
+    );
+    Ok(())
+}
+
+#[test]
+fn numbers_of_no_bits_and_of_64_bits(rt: HostRuntime) -> Result<(), Fail> {
+    let rows = [
+        Row {
+            numbers: &[7, 7],
+            width: 0,
+            symbols: &[],
+        },
+        Row {
+            numbers: &[],
+            width: 0,
+            symbols: &[],
+        },
+        Row {
+            numbers: &[],
+            width: 64,
+            symbols: &[],
+        },
+        Row {
+            numbers: &[u64::MAX, 0, HIGHEST, 5],
+            width: 64,
+            symbols: &[u64::MAX, 0, HIGHEST, 5],
+        },
+        Row {
+            numbers: &[HIGHEST, 5],
+            width: 63,
+            symbols: &[0, 5],
+        },
+    ];
+    assert_eq!(rt;
+        first_wrong_numbers(rt.alloc(), Method::Sorting, &rows),
+        None
+    );
+    Ok(())
+}
+
+#[test]
+fn no_table_is_given_from_60_bits_on(rt: HostRuntime) -> Result<(), Fail> {
+    for width in 60..64 {
+        let made = of_numbers(rt.alloc(), Method::Counting, &[], width);
+        let len = asked(made, |it| it.len());
+        assert_eq!(rt; len, Err(AllocError), "of {width}");
+    }
+    Ok(())
+}
+
+// Bit `i` of symbol `e`.
+fn is_one(e: usize, i: usize) -> bool {
+    e.wrapping_mul(e).wrapping_add(i.wrapping_mul(5)) % 7 < 3
+}
+
+// Symbols of so many bits, one after another.
+fn packed<A: Allocator + Copy>(alloc: A, count: usize, width: u16) -> Result<BitVec<A>, GrowError> {
+    let mut bits = BitVec::new(alloc);
+    for e in 0..count {
+        for i in 0..width as usize {
+            bits.append(is_one(e, i))?;
+        }
+    }
+    Ok(bits)
+}
+
+// Whether a list has the bits of symbol `e`.
+fn has_bits<A: Allocator + Copy>(symbol: &BitVec<A>, width: u16, e: usize) -> bool {
+    for i in 0..width as usize {
+        if symbol.is_bit_set(i) != Some(is_one(e, i)) {
+            return false;
+        }
+    }
+    symbol.len() == width as usize
+}
+
+// What is asked of a symbol that may not be there.
+fn is_symbol<A: Allocator + Copy>(symbol: &Option<BitVec<A>>, width: u16, e: usize) -> bool {
+    match symbol {
+        Some(symbol) => has_bits(symbol, width, e),
+        None => false,
+    }
+}
+
+// Whether a matrix has those symbols.
+fn has_symbols<A: Allocator + Copy>(symbols: &WaveletMatrix<A>, count: usize, width: u16) -> bool {
+    for e in 0..count {
+        if asked(symbols.get_value(e), |it| is_symbol(it, width, e)) != Ok(true) {
+            return false;
+        }
+    }
+    symbols.len() == count && symbols.bit_len() == width
+}
+
+// Whether a maker makes them.
+fn makes_symbols(alloc: Global, method: Method, count: usize, width: u16) -> bool {
+    let made = |bits: &BitVec<Global>| {
+        asked(
+            of_bits(method, bits, width),
+            |it| has_symbols(it, count, width),
+        )
+    };
+    matches!(asked(packed(alloc, count, width), made), Ok(Ok(true)))
+}
+
+#[test]
+fn symbols_are_parts_of_the_list(rt: HostRuntime) -> Result<(), Fail> {
+    for width in [1, 2, 63, 64, 65, 127] {
+        for count in [0, 1, 2, 63, 64, 65, 130] {
+            let is_right = makes_symbols(rt.alloc(), Method::Sorting, count, width);
+            assert!(rt; is_right, "{count} of {width}");
+        }
+    }
+    Ok(())
+}
+
+#[test]
+fn counting_makes_the_same_symbols(rt: HostRuntime) -> Result<(), Fail> {
+    for width in [1, 2, 9, 16] {
+        for count in [0, 1, 2, 63, 64, 65, 130] {
+            let is_right = makes_symbols(rt.alloc(), Method::Counting, count, width);
+            assert!(rt; is_right, "{count} of {width}");
+        }
+    }
+    Ok(())
+}
+
+#[test]
+fn the_widest_symbols(rt: HostRuntime) -> Result<(), Fail> {
+    assert!(rt; makes_symbols(rt.alloc(), Method::Sorting, 2, u16::MAX));
+    assert!(rt; makes_symbols(rt.alloc(), Method::Sorting, 0, u16::MAX));
+    Ok(())
+}
+
+// A maker of symbols of a list of bits, or of their numbers, with its requests refused.
+fn tried<B: Allocator, A: Allocator + Copy>(
+    method: Method,
+    heap: &Refusing<B>,
+    alloc: A,
+    numbers: &[u64],
+    width: u16,
+) -> Ending {
+    try_make(
+        heap,
+        AllocError,
+        || of_numbers(alloc, method, numbers, width),
+        |symbols: &WaveletMatrix<A>| has_numbers(symbols, width, numbers),
+    )
+}
+
+fn tried_of_bits<B: Allocator, A: Allocator + Copy>(
+    heap: &Refusing<B>,
+    method: Method,
+    bits: &BitVec<A>,
+    count: usize,
+    width: u16,
+) -> Ending {
+    try_make(
+        heap,
+        AllocError,
+        || of_bits(method, bits, width),
+        |symbols: &WaveletMatrix<A>| {
+            // The symbols that are read take memory too.
+            heap.allow_all();
+            has_symbols(symbols, count, width)
+        },
+    )
+}
+
+// Whether a maker of numbers takes memory, and is refused as it has to be.
+fn numbers_refused(alloc: Global, method: Method, numbers: &[u64], width: u16) -> Option<bool> {
+    takes_memory(
+        alloc,
+        |heap: &Refusing<Global>| tried(method, heap, heap, numbers, width),
+    )
+}
+
+// The same of a maker of bits.
+fn bits_refused(alloc: Global, method: Method, count: usize, width: u16) -> Option<bool> {
+    takes_memory(alloc, |heap: &Refusing<Global>| {
+        asked(
+            packed(heap, count, width),
+            |bits| tried_of_bits(heap, method, bits, count, width),
+        )
+        .unwrap_or(Ending::Wrong)
+    })
+}
+
+#[test]
+fn makers_are_refused_in_turn(rt: HostRuntime) -> Result<(), Fail> {
+    let numbers = [7, 2, 5, 5, 0];
+    for method in [Method::Sorting, Method::Counting] {
+        let of_numbers = numbers_refused(rt.alloc(), method, &numbers, 3);
+        assert_eq!(rt; of_numbers, Some(true));
+        assert_eq!(rt; numbers_refused(rt.alloc(), method, &[], 3), Some(true));
+        assert_eq!(rt; bits_refused(rt.alloc(), method, 5, 6), Some(true));
+        assert_eq!(rt; bits_refused(rt.alloc(), method, 0, 6), Some(true));
+    }
+    assert_eq!(rt;
+        bits_refused(rt.alloc(), Method::Sorting, 3, 65),
+        Some(true)
+    );
+    Ok(())
+}
+
+#[test]
+fn no_digits_take_no_memory(rt: HostRuntime) -> Result<(), Fail> {
+    let numbers = [7, 2];
+    assert_eq!(rt;
+        numbers_refused(rt.alloc(), Method::Sorting, &[], 0),
+        Some(false)
+    );
+    let made = of_numbers(rt.alloc(), Method::Sorting, &numbers, 0);
+    assert_eq!(rt; asked(made, |it| it.len()), Ok(0));
+    Ok(())
+}

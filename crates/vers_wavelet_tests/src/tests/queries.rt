@@ -1,0 +1,120 @@
+//! The queries for symbols that are numbers.
+use crate::tests::lists::list_answer;
+use crate::tests::numbers::{Query, answer, counted_answer, symbols_of};
+use std::alloc::Allocator;
+use std::test::Fail;
+use test_alloc::{asked, first_wrong};
+use vers_wavelet::wavelet::WaveletMatrix;
+
+// The symbols, their width, what is asked and the answers.
+const CASES: [(&[u64], u16, &[(Query, Option<u64>)]); 5] = [
+    (
+        &[1, 5, 3],
+        3,
+        &[
+            (Query::Len, Some(3)),
+            (Query::IsEmpty, Some(0)),
+            (Query::Width, Some(3)),
+            (Query::BitLen, Some(3)),
+            (Query::HeapSize, Some(150)),
+            (Query::Get(2), Some(3)),
+            (Query::Get(3), None),
+            (Query::Quantile(0, 3, 1), Some(3)),
+            (Query::Predecessor(0, 3, 4), Some(3)),
+            (Query::Successor(0, 3, 4), Some(5)),
+            (Query::Select(1, 1), None),
+            (Query::Select(1, 3), None),
+            (Query::Select(0, 3), Some(2)),
+            (Query::Rank(3, 11), Some(1)),
+            (Query::RankRange(3, 3, 1), None),
+            (Query::Quantile(2, 1, 0), None),
+            (Query::Median(0, 2), Some(1)),
+            (Query::RankRange(2, 1, 1), None),
+            (Query::RankOffset(2, 1, 1), None),
+            (Query::Max(3, 2), None),
+            (Query::Min(1, 1), None),
+            (Query::Successor(0, 4, 0), None),
+            (Query::SelectOffset(0, usize::MAX, 1), None),
+            (Query::Quantile(0, 3, usize::MAX), None),
+            (Query::Sorted(0), Some(1)),
+            (Query::Sorted(2), Some(5)),
+            (Query::Sorted(3), None),
+        ],
+    ),
+    (
+        &[1, 4, 4, 1, 3, 1, 4, 3, 2, 0],
+        4,
+        &[
+            (Query::RankRange(0, 6, 1), Some(3)),
+            (Query::SelectOffset(2, 1, 4), Some(6)),
+            (Query::SelectOffset(2, usize::MAX, 4), None),
+            (Query::Median(0, 10), Some(2)),
+            (Query::RankOffset(1, 7, 4), Some(3)),
+            (Query::Min(0, 10), Some(0)),
+            (Query::Max(3, 6), Some(3)),
+        ],
+    ),
+    (
+        &[1, 10, 1, 3, 9, 5],
+        4,
+        &[
+            (Query::Predecessor(0, 6, 0), None),
+            (Query::Predecessor(0, 6, 4), Some(3)),
+            (Query::Successor(0, 6, 6), Some(9)),
+            (Query::Successor(0, 6, 11), None),
+        ],
+    ),
+    (
+        &[7, 7],
+        0,
+        &[
+            (Query::Len, Some(0)),
+            (Query::IsEmpty, Some(1)),
+            (Query::Width, Some(0)),
+            (Query::Rank(0, 0), Some(0)),
+            (Query::Rank(1, 0), None),
+            (Query::RankRange(0, 0, 0), None),
+            (Query::Select(0, 0), None),
+            (Query::Sorted(0), None),
+            (Query::HeapSize, Some(0)),
+        ],
+    ),
+    (
+        &[u64::MAX, 0, 9223372036854775808],
+        64,
+        &[
+            (Query::Get(0), Some(18446744073709551615)),
+            (Query::Sorted(1), Some(9223372036854775808)),
+            (
+                Query::Predecessor(0, 3, 18446744073709551614),
+                Some(9223372036854775808),
+            ),
+            (Query::Successor(0, 3, 1), Some(9223372036854775808)),
+            (Query::Rank(3, 0), Some(1)),
+        ],
+    ),
+];
+
+// The number of the first query that is answered wrong, by the plain form, by the counted one, or for symbols
+// that are lists of bits.
+fn first_wrong_answer<A: Allocator + Copy>(
+    alloc: A,
+    list: &WaveletMatrix<A>,
+    rows: &[(Query, Option<u64>)],
+) -> Option<usize> {
+    first_wrong(list, rows, |list, query| answer(list, query))
+        .or(first_wrong(list, rows, |list, query| counted_answer(list, query).answer))
+        .or(first_wrong(list, rows, |list, query| list_answer(alloc, list, query)))
+}
+
+#[test]
+fn answers(rt: HostRuntime) -> Result<(), Fail> {
+    for (case, (numbers, width, rows)) in CASES.iter().enumerate() {
+        let wrong = asked(
+            symbols_of(rt.alloc(), numbers, *width),
+            |list| first_wrong_answer(rt.alloc(), list, rows),
+        )?;
+        assert_eq!(rt; wrong, None, "case {case}");
+    }
+    Ok(())
+}

@@ -1,0 +1,224 @@
+//! The queries for symbols of one bit, of a word and a bit, and of many more.
+//!
+//! A number of three digits stands for the symbol that has them at its first, its middle and its last place,
+//! and zeros elsewhere: so symbols stand in the order of their numbers.
+use crate::tests::lists::{Coding, answer_for_made, symbol_answer, symbol_asked};
+use crate::tests::makers::{Method, of_bits};
+use crate::tests::numbers::{Query, answer};
+use std::alloc::{Allocator, Global};
+use std::test::Fail;
+use test_alloc::{asked, first_wrong};
+use vers_bits::bit_vec::{BitVec, GrowError};
+use vers_wavelet::wavelet::WaveletMatrix;
+
+const NUMBERS: [u64; 6] = [1, 5, 3, 7, 0, 5];
+
+// What is asked of symbols for these numbers.
+const ROWS: [(Query, Option<u64>); 34] = [
+    (Query::Get(1), Some(5)),
+    (Query::Get(6), None),
+    (Query::RankRange(0, 6, 5), Some(2)),
+    (Query::RankRange(2, 6, 5), Some(1)),
+    (Query::RankRange(6, 6, 5), None),
+    (Query::RankRange(3, 2, 5), None),
+    (Query::RankOffset(1, 5, 3), Some(1)),
+    (Query::RankOffset(4, 3, 3), None),
+    (Query::Rank(6, 0), Some(1)),
+    (Query::Rank(0, 1), Some(0)),
+    (Query::Rank(7, 0), None),
+    (Query::Select(1, 5), Some(5)),
+    (Query::Select(2, 5), None),
+    (Query::Select(0, 4), None),
+    (Query::Select(usize::MAX, 5), None),
+    (Query::SelectOffset(2, 0, 5), Some(5)),
+    (Query::SelectOffset(6, 0, 5), None),
+    (Query::Quantile(0, 6, 0), Some(0)),
+    (Query::Quantile(0, 6, 3), Some(5)),
+    (Query::Quantile(0, 6, 6), None),
+    (Query::Quantile(4, 2, 0), None),
+    (Query::Sorted(5), Some(7)),
+    (Query::Sorted(6), None),
+    (Query::Min(1, 4), Some(3)),
+    (Query::Min(2, 2), None),
+    (Query::Max(1, 3), Some(5)),
+    (Query::Median(0, 6), Some(3)),
+    (Query::Predecessor(0, 6, 4), Some(3)),
+    (Query::Predecessor(0, 6, 5), Some(5)),
+    (Query::Predecessor(0, 4, 0), None),
+    (Query::Predecessor(3, 2, 5), None),
+    (Query::Successor(0, 6, 2), Some(3)),
+    (Query::Successor(0, 6, 3), Some(3)),
+    (Query::Successor(0, 3, 6), None),
+];
+
+// What is asked of no symbols.
+const ROWS_OF_NONE: [(Query, Option<u64>); 8] = [
+    (Query::Get(0), None),
+    (Query::RankRange(0, 0, 5), None),
+    (Query::Rank(0, 5), Some(0)),
+    (Query::Select(0, 5), None),
+    (Query::SelectOffset(0, 0, 5), None),
+    (Query::Quantile(0, 0, 0), None),
+    (Query::Predecessor(0, 0, 7), None),
+    (Query::Successor(0, 0, 0), None),
+];
+
+// Whether a place of the symbol for a number holds a one.
+fn is_one(number: u64, place: usize, width: usize) -> bool {
+    (place == 0 && number % 2 == 1)
+        || (place == width / 2 && number / 2 % 2 == 1)
+        || (place == width.saturating_sub(1) && number / 4 % 2 == 1)
+}
+
+// The symbols for some numbers, one after another.
+fn bits_of<A: Allocator + Copy>(
+    alloc: A,
+    numbers: &[u64],
+    width: usize,
+) -> Result<BitVec<A>, GrowError> {
+    let mut bits = BitVec::new(alloc);
+    for number in numbers.iter() {
+        for place in 0..width {
+            bits.append(is_one(*number, place, width))?;
+        }
+    }
+    Ok(bits)
+}
+
+// The answer of a query for a symbol of so many bits, which may be another width than the list's.
+fn answer_of<A: Allocator + Copy>(
+    alloc: A,
+    list: &WaveletMatrix<A>,
+    query: Query,
+    width: usize,
+) -> Option<u64> {
+    match symbol_asked(query) {
+        Some(number) => {
+            answer_for_made(
+                list,
+                query,
+                Coding::Digits,
+                bits_of(alloc, &[number], width),
+            )
+        }
+        None => symbol_answer(list, query, Coding::Digits),
+    }
+}
+
+// The number of the first query that is answered wrong.
+fn first_wrong_answer<A: Allocator + Copy>(
+    alloc: A,
+    list: &WaveletMatrix<A>,
+    rows: &[(Query, Option<u64>)],
+) -> Option<usize> {
+    let width = list.bits_per_element();
+    first_wrong(
+        list,
+        rows,
+        |list, query| answer_of(alloc, list, query, width),
+    )
+}
+
+// Whether queries of the symbols of so many bits for some numbers are answered as their rows say.
+fn answers_rows(alloc: Global, numbers: &[u64], width: u16, rows: &[(Query, Option<u64>)]) -> bool {
+    let wrong = |bits: &BitVec<Global>| {
+        asked(
+            of_bits(Method::Sorting, bits, width),
+            |list| first_wrong_answer(alloc, list, rows),
+        )
+    };
+    matches!(
+        asked(bits_of(alloc, numbers, width as usize), wrong),
+        Ok(Ok(None))
+    )
+}
+
+#[test]
+fn wide_symbols(rt: HostRuntime) -> Result<(), Fail> {
+    for width in [3, 64, 65, 127, u16::MAX] {
+        assert!(rt;
+            answers_rows(rt.alloc(), &NUMBERS, width, &ROWS),
+            "of {width}"
+        );
+        assert!(rt;
+            answers_rows(rt.alloc(), &[], width, &ROWS_OF_NONE),
+            "none of {width}"
+        );
+    }
+    Ok(())
+}
+
+// Whether a query that takes a number, or answers one, has no answer.
+fn has_none<A: Allocator + Copy>(list: &WaveletMatrix<A>) -> bool {
+    for (query, _) in ROWS.iter() {
+        if answer(list, *query).is_some() {
+            return false;
+        }
+    }
+    list.iter_u64().is_none() && list.iter_sorted_u64().is_none()
+}
+
+// The same of the symbols of so many bits.
+fn makes_no_numbers(alloc: Global, width: u16) -> bool {
+    let none = |bits: &BitVec<Global>| {
+        asked(of_bits(Method::Sorting, bits, width), |list| has_none(list))
+    };
+    matches!(
+        asked(bits_of(alloc, &NUMBERS, width as usize), none),
+        Ok(Ok(true))
+    )
+}
+
+#[test]
+fn no_numbers_of_more_than_64_bits(rt: HostRuntime) -> Result<(), Fail> {
+    for width in [65, 127] {
+        assert!(rt; makes_no_numbers(rt.alloc(), width), "of {width}");
+    }
+    Ok(())
+}
+
+// Whether a query for a symbol of another width has no answer.
+fn refuses_width<A: Allocator + Copy>(alloc: A, list: &WaveletMatrix<A>, width: usize) -> bool {
+    let asked_for = [
+        Query::RankRange(0, 6, 5),
+        Query::RankOffset(0, 6, 5),
+        Query::Rank(6, 5),
+        Query::SelectOffset(0, 0, 5),
+        Query::Select(0, 5),
+        Query::Predecessor(0, 6, 5),
+        Query::Successor(0, 6, 5),
+    ];
+    for query in asked_for.iter() {
+        if answer_of(alloc, list, *query, width).is_some() {
+            return false;
+        }
+    }
+    true
+}
+
+// The same of the symbols of so many bits, for symbols of another width.
+fn refuses_other(alloc: Global, width: u16, other: usize) -> bool {
+    let refused = |bits: &BitVec<Global>| {
+        asked(
+            of_bits(Method::Sorting, bits, width),
+            |list| refuses_width(alloc, list, other),
+        )
+    };
+    matches!(
+        asked(bits_of(alloc, &NUMBERS, width as usize), refused),
+        Ok(Ok(true))
+    )
+}
+
+#[test]
+fn symbols_of_another_length(rt: HostRuntime) -> Result<(), Fail> {
+    for width in [3, 64, 65, 127] {
+        for other in [0, 1, 2, 63, 66, 128] {
+            assert!(rt;
+                refuses_other(rt.alloc(), width, other),
+                "{other} of {width}"
+            );
+        }
+    }
+    Ok(())
+}
