@@ -1,36 +1,52 @@
 -- The steps of a search backwards in a tree of excesses.
-use Rattle.std.proofs.Common.{◌≡◌, ℕ, ◌+◌, ◌-◌, ◌*◌, ◌/◌, ◌%◌, ◌<◌, ◌≤◌, inl, inr, List, length, get_or, drop, ℤ, ◌+ℤ◌, ◌-ℤ◌, arith, ⊎_elim, subst, sym, refl, ap, ◌∙◌, FitsSigned}
+use Rattle.std.proofs.Common.{◌≡◌, ℕ, zero, suc, ◌+◌, ◌-◌, ◌*◌, ◌/◌, ◌%◌, ◌^◌, ◌<◌, ◌≤◌, ◌⊎◌, inl, inr, List, length, get_or, drop, ℤ, pos, ◌+ℤ◌, ◌-ℤ◌, ◌<ℤ◌, arith, ⊎_elim, subst, sym, refl, ap, ◌∙◌, FitsSigned}
 use mir.Syntax.{w64}
-use Rattle.std.proofs.lemmas.Int.{ints}
+use Rattle.std.proofs.lemmas.Int.{ints, clamps, by_lt_z}
 use Rattle.std.proofs.lemmas.Bool.{cases_lt}
-use Rattle.std.proofs.Math.Nat.{eq-or-lt_of_le}
+use Rattle.std.proofs.Math.Nat.{eq-or-lt_of_le, pow-succ'}
 use Rattle.vers_trees.specs.declared.trees.bp.min_max.Node.{Node}
-use Rattle.vers_trees.specs.inside.MinMax.{IsInRangeOrStart, total_before, empty_node, Reaches, Meets, IsRange, Covers, IsMinMax, LeadsBack, PassedBack, IsPreviousBefore}
+use Rattle.vers_trees.specs.inside.MinMax.{IsInRange, IsInRangeOrStart, total_before, empty_node, Reaches, Meets, IsRange, Covers, IsMinMax, IsOddPart, LeadsBack, PassedBack, ComesBack, IsPreviousBefore}
 use Rattle.vers_trees.proofs.MinMax.{stands_children, parent_of_left, parent_of_right, stands_leaf, leaf_stands, stands_some, root_starts}
 use Rattle.vers_trees.proofs.Blocks.{total_more}
 
+-- a sum in the range, with the start, is that of the start or in the range
+split_start : (x : Node) (r : ℤ) → IsRange x ⊎ (x ≡ empty_node) → IsInRangeOrStart x r → (r ≡ pos 0) ⊎ IsInRange x r
+split_start x r shape i = by_lt_z r (pos 0) (λ below. inr (inside (inl below))) (λ up. by_lt_z (pos 0) r (λ above. inr (inside (inr above))) (λ down. inl (omega (arith, ints))))
+  where
+    inside : (r <ℤ pos 0) ⊎ (pos 0 <ℤ r) → IsInRange x r
+    inside o = ⊎_elim
+        (λ (s : IsRange x).
+        let lo = i.low in let hi = i.high in let a = s.first_low in let b = s.first_high in
+        record { low = omega (arith, ints, clamps, o); high = omega (arith, ints, clamps, o) })
+        (λ (s : x ≡ empty_node).
+        let lo = rw s at i.low in let hi = rw s at i.high in
+        absurd (omega (arith, ints, clamps, o)))
+        shape
+
 -- what the range of a node says is met in its part
 range_found : (blocks : List Node) (s e : ℕ) (x : Node) (t r : ℤ) → s < e → Covers blocks s e x → total_before blocks s +ℤ r ≡ t → IsInRangeOrStart x r → (k : ℕ) × (s ≤ k) × (k < e) × Meets blocks k t
-range_found blocks s e x t r h c q (inl z) = (s, omega arith, h, inl (omega (arith, ints)))
-range_found blocks s e x t r h c q (inr i) =
+range_found blocks s e x t r h c q i = ⊎_elim
+    (λ (z : r ≡ pos 0). (s, omega arith, h, inl (omega (arith, ints))))
+    (λ (i : IsInRange x r).
     let lo = i.low in let hi = i.high in
     let f = c.found t (omega (arith, ints)) (omega (arith, ints)) in
-    (f.0, f.1, f.2, inr f.3)
+    (f.0, f.1, f.2, inr f.3))
+    (split_start x r c.shape i)
 
 -- and what is met in its part its range says
 range_meets : (blocks : List Node) (s e : ℕ) (x : Node) (t r : ℤ) → Covers blocks s e x → ((k : ℕ) → k < length blocks → IsRange (get_or blocks k empty_node)) → total_before blocks s +ℤ r ≡ t → (k : ℕ) → s ≤ k → k < e → k < length blocks → Meets blocks k t → IsInRangeOrStart x r
 range_meets blocks s e x t r c g q k a b n (inr w) =
     let lo = c.low k t a b w in let hi = c.high k t a b w in
-    inr (record { low = omega (arith, ints); high = omega (arith, ints) })
+    record { low = omega (arith, ints, clamps); high = omega (arith, ints, clamps) }
 range_meets blocks s e x t r c g q k a b n (inl z) = ⊎_elim
-    (λ (y : s ≡ k). let y' = ap (total_before blocks) y in inl (omega (arith, ints)))
+    (λ (y : s ≡ k). let y' = ap (total_before blocks) y in let here : r ≡ pos 0 = omega (arith, ints) in record { low = omega (arith, ints, clamps); high = omega (arith, ints, clamps) })
     (λ (y : s < k).
     let m = total_more blocks (k - 1) (omega arith) in
     let here : total_before blocks (k - 1 + 1) ≡ total_before blocks k = ap (total_before blocks) (let h : k - 1 + 1 ≡ k = omega arith in h) in
     let ra = g (k - 1) (omega arith) in let rl = ra.low in let rh = ra.high in
     let w : Reaches blocks (k - 1) t = record { inside = omega arith; low = omega (arith, ints); high = omega (arith, ints) } in
     let lo = c.low (k - 1) t (omega arith) (omega arith) w in let hi = c.high (k - 1) t (omega arith) (omega arith) w in
-    inr (record { low = omega (arith, ints); high = omega (arith, ints) }))
+    record { low = omega (arith, ints, clamps); high = omega (arith, ints, clamps) })
     (eq-or-lt_of_le a)
 
 -- ---- going down
@@ -138,7 +154,7 @@ passed_back_far first nodes to t j left x m p e long k a w =
     long (subst (FitsSigned w64) same (m.near u.0 k t (omega arith) w))
 
 -- the same in the words of the code
-pub rise_found : (first : ℕ) (nodes : List Node) (to : ℕ) (t : ℤ) (place : ℕ) (left : ℤ) (x : Node) → IsMinMax first nodes → PassedBack first nodes to t place left → 0 < place → place % 2 ≡ 0 → x ≡ get_or nodes (place - 1) empty_node → IsInRangeOrStart x (left +ℤ x.total) → LeadsBack first nodes to t (place - 1) left
+rise_found : (first : ℕ) (nodes : List Node) (to : ℕ) (t : ℤ) (place : ℕ) (left : ℤ) (x : Node) → IsMinMax first nodes → PassedBack first nodes to t place left → 0 < place → place % 2 ≡ 0 → x ≡ get_or nodes (place - 1) empty_node → IsInRangeOrStart x (left +ℤ x.total) → LeadsBack first nodes to t (place - 1) left
 rise_found first nodes to t place left x m p some even e i =
     let here : place ≡ 2 * ((place - 2) / 2) + 2 = omega arith in
     let next : place - 1 ≡ 2 * ((place - 2) / 2) + 1 = omega arith in
@@ -146,7 +162,7 @@ rise_found first nodes to t place left x m p some even e i =
     let e' : x ≡ get_or nodes (2 * ((place - 2) / 2) + 1) empty_node = e ∙ ap (λ (n : ℕ). get_or nodes n empty_node) next in
     subst (λ (n : ℕ). LeadsBack first nodes to t n left) (sym next) (passed_back_found first nodes to t ((place - 2) / 2) left x m p' e' i)
 
-pub rise_left : (first : ℕ) (nodes : List Node) (to : ℕ) (t : ℤ) (place : ℕ) (left : ℤ) (x : Node) → IsMinMax first nodes → PassedBack first nodes to t place left → 0 < place → place % 2 ≡ 0 → x ≡ get_or nodes (place - 1) empty_node → (IsInRangeOrStart x (left +ℤ x.total) → ⊥) → PassedBack first nodes to t ((place - 1) / 2) (left +ℤ x.total)
+rise_left : (first : ℕ) (nodes : List Node) (to : ℕ) (t : ℤ) (place : ℕ) (left : ℤ) (x : Node) → IsMinMax first nodes → PassedBack first nodes to t place left → 0 < place → place % 2 ≡ 0 → x ≡ get_or nodes (place - 1) empty_node → (IsInRangeOrStart x (left +ℤ x.total) → ⊥) → PassedBack first nodes to t ((place - 1) / 2) (left +ℤ x.total)
 rise_left first nodes to t place left x m p some even e o =
     let here : place ≡ 2 * ((place - 2) / 2) + 2 = omega arith in
     let next : place - 1 ≡ 2 * ((place - 2) / 2) + 1 = omega arith in
@@ -154,12 +170,12 @@ rise_left first nodes to t place left x m p some even e o =
     let e' : x ≡ get_or nodes (2 * ((place - 2) / 2) + 1) empty_node = e ∙ ap (λ (n : ℕ). get_or nodes n empty_node) next in
     subst (λ (n : ℕ). PassedBack first nodes to t n (left +ℤ x.total)) (let g : (place - 2) / 2 ≡ (place - 1) / 2 = omega arith in g) (passed_back_left first nodes to t ((place - 2) / 2) left x m p' e' o)
 
-pub rise_same : (first : ℕ) (nodes : List Node) (to : ℕ) (t : ℤ) (place : ℕ) (left : ℤ) → PassedBack first nodes to t place left → (place % 2 ≡ 0 → ⊥) → PassedBack first nodes to t ((place - 1) / 2) left
+rise_same : (first : ℕ) (nodes : List Node) (to : ℕ) (t : ℤ) (place : ℕ) (left : ℤ) → PassedBack first nodes to t place left → (place % 2 ≡ 0 → ⊥) → PassedBack first nodes to t ((place - 1) / 2) left
 rise_same first nodes to t place left p odd =
     let here : place ≡ 2 * ((place - 1) / 2) + 1 = omega arith in
     passed_back_same first nodes to t ((place - 1) / 2) left (subst (λ (n : ℕ). PassedBack first nodes to t n left) here p)
 
-pub rise_too_far : (first : ℕ) (nodes : List Node) (to : ℕ) (t : ℤ) (place : ℕ) (left : ℤ) (x : Node) → IsMinMax first nodes → PassedBack first nodes to t place left → 0 < place → place % 2 ≡ 0 → x ≡ get_or nodes (place - 1) empty_node → (FitsSigned w64 (left +ℤ x.total) → ⊥) → (k : ℕ) → k < to → Meets (drop first nodes) k t → ⊥
+rise_too_far : (first : ℕ) (nodes : List Node) (to : ℕ) (t : ℤ) (place : ℕ) (left : ℤ) (x : Node) → IsMinMax first nodes → PassedBack first nodes to t place left → 0 < place → place % 2 ≡ 0 → x ≡ get_or nodes (place - 1) empty_node → (FitsSigned w64 (left +ℤ x.total) → ⊥) → (k : ℕ) → k < to → Meets (drop first nodes) k t → ⊥
 rise_too_far first nodes to t place left x m p some even e long =
     let here : place ≡ 2 * ((place - 2) / 2) + 2 = omega arith in
     let next : place - 1 ≡ 2 * ((place - 2) / 2) + 1 = omega arith in
@@ -167,7 +183,46 @@ rise_too_far first nodes to t place left x m p some even e long =
     let e' : x ≡ get_or nodes (2 * ((place - 2) / 2) + 1) empty_node = e ∙ ap (λ (n : ℕ). get_or nodes n empty_node) next in
     passed_back_far first nodes to t ((place - 2) / 2) left x m p' e' long
 
-pub rise_root : (first : ℕ) (nodes : List Node) (to : ℕ) (t : ℤ) (left : ℤ) → PassedBack first nodes to t 0 left → (k : ℕ) → k < to → Meets (drop first nodes) k t → ⊥
+rise_root : (first : ℕ) (nodes : List Node) (to : ℕ) (t : ℤ) (left : ℤ) → PassedBack first nodes to t 0 left → (k : ℕ) → k < to → Meets (drop first nodes) k t → ⊥
 rise_root first nodes to t left p k a w =
     let s = root_starts first p.start p.stop p.stands in
     p.none k (omega arith) a w
+
+-- up past the left children that the passed part begins with
+pub comes_back : (first : ℕ) (nodes : List Node) (to : ℕ) (t : ℤ) (place : ℕ) (left : ℤ) (odd : ℕ) → PassedBack first nodes to t place left → IsOddPart (place + 1) odd → ComesBack first nodes to t (odd - 2) left
+comes_back first nodes to t place left odd p o = go o.zeros place p o.splits
+  where
+    go : (k place : ℕ) → PassedBack first nodes to t place left → place + 1 ≡ odd * 2 ^ k → ComesBack first nodes to t (odd - 2) left
+    go zero place p e =
+        let ends = o.ends in
+        record {
+          odd = λ some. omega arith;
+          passed = λ some. subst (λ (n : ℕ). PassedBack first nodes to t n left) (let g : place ≡ odd - 2 + 1 = omega arith in g) p;
+          none = λ z. rise_root first nodes to t left (subst (λ (n : ℕ). PassedBack first nodes to t n left) (let g : place ≡ 0 = omega arith in g) p);
+        }
+    go (suc k) place p e =
+        let twice : odd * 2 ^ suc k ≡ odd * (2 * 2 ^ k) = ap (λ (x : ℕ). odd * x) (pow-succ' 2 k) in
+        go k ((place - 1) / 2) (rise_same first nodes to t place left p (λ u. omega arith)) (omega arith)
+
+pub meets_before : (first : ℕ) (nodes : List Node) (to : ℕ) (t : ℤ) (place : ℕ) (left : ℤ) (x : Node) → IsMinMax first nodes → ComesBack first nodes to t place left → 0 < place → x ≡ get_or nodes place empty_node → IsInRangeOrStart x (left +ℤ x.total) → LeadsBack first nodes to t place left
+meets_before first nodes to t place left x m c some e i =
+    let v = c.odd some in
+    let here : place + 1 - 1 ≡ place = omega arith in
+    subst
+    (λ (n : ℕ). LeadsBack first nodes to t n left)
+    here
+    (rise_found first nodes to t (place + 1) left x m (c.passed some) (omega arith) (omega arith) (e ∙ ap (λ (n : ℕ). get_or nodes n empty_node) (sym here)) i)
+
+pub goes_on_before : (first : ℕ) (nodes : List Node) (to : ℕ) (t : ℤ) (place : ℕ) (left : ℤ) (x : Node) (odd : ℕ) → IsMinMax first nodes → ComesBack first nodes to t place left → 0 < place → x ≡ get_or nodes place empty_node → (IsInRangeOrStart x (left +ℤ x.total) → ⊥) → IsOddPart ((place - 1) / 2 + 1) odd → ComesBack first nodes to t (odd - 2) (left +ℤ x.total)
+goes_on_before first nodes to t place left x odd m c some e misses o =
+    let v = c.odd some in
+    let here : place ≡ place + 1 - 1 = omega arith in
+    let p = rise_left first nodes to t (place + 1) left x m (c.passed some) (omega arith) (omega arith) (e ∙ ap (λ (n : ℕ). get_or nodes n empty_node) here) misses in
+    let up : (place + 1 - 1) / 2 ≡ (place - 1) / 2 = omega arith in
+    comes_back first nodes to t ((place - 1) / 2) (left +ℤ x.total) odd (subst (λ (n : ℕ). PassedBack first nodes to t n (left +ℤ x.total)) up p) o
+
+pub too_far_before : (first : ℕ) (nodes : List Node) (to : ℕ) (t : ℤ) (place : ℕ) (left : ℤ) (x : Node) → IsMinMax first nodes → ComesBack first nodes to t place left → 0 < place → x ≡ get_or nodes place empty_node → (FitsSigned w64 (left +ℤ x.total) → ⊥) → (k : ℕ) → k < to → Meets (drop first nodes) k t → ⊥
+too_far_before first nodes to t place left x m c some e long =
+    let v = c.odd some in
+    let here : place ≡ place + 1 - 1 = omega arith in
+    rise_too_far first nodes to t (place + 1) left x m (c.passed some) (omega arith) (omega arith) (e ∙ ap (λ (n : ℕ). get_or nodes n empty_node) here) long

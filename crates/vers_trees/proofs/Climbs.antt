@@ -1,11 +1,13 @@
 -- The steps of a search in a tree of excesses.
-use Rattle.std.proofs.Common.{◌≡◌, ℕ, ◌+◌, ◌-◌, ◌*◌, ◌/◌, ◌%◌, ◌<◌, ◌≤◌, List, length, get_or, drop, ℤ, ◌+ℤ◌, ◌-ℤ◌, arith, ⊎_elim, subst, sym, refl, ap, ◌∙◌}
+use Rattle.std.proofs.Common.{◌≡◌, ℕ, zero, suc, ◌+◌, ◌-◌, ◌*◌, ◌/◌, ◌%◌, ◌^◌, ◌<◌, ◌≤◌, List, length, get_or, drop, ℤ, ◌+ℤ◌, ◌-ℤ◌, arith, ⊎_elim, subst, sym, refl, ap, ◌∙◌}
 use Rattle.std.proofs.Common.{FitsSigned, to_z, of_z}
 use mir.Syntax.{w64}
 use Rattle.std.proofs.lemmas.Int.{ints, to_z-of_z}
 use Rattle.std.proofs.lemmas.Bool.{cases_lt}
+use Rattle.std.proofs.Math.Nat.{pow-succ', le-mul_of_pos_right}
+use Rattle.std.proofs.lemmas.Nat.{pow_pos}
 use Rattle.vers_trees.specs.declared.trees.bp.min_max.Node.{Node}
-use Rattle.vers_trees.specs.inside.MinMax.{IsInRange, total_before, empty_node, Reaches, Covers, IsMinMax, IsNextFrom, LeadsTo, PassedTo}
+use Rattle.vers_trees.specs.inside.MinMax.{IsInRange, total_before, empty_node, Reaches, Covers, IsMinMax, IsNextFrom, IsOddPart, LeadsTo, PassedTo, ComesTo}
 use Rattle.vers_trees.proofs.MinMax.{stands_children, parent_of_left, parent_of_right, stands_leaf, leaf_stands, root_stands}
 
 -- the block that a node in range leads to, and the facts on it that keep sums small
@@ -113,7 +115,7 @@ passed_too_far first nodes from t j left m p o long k a w =
     (λ (c : u.0 ≤ k). long (subst (FitsSigned w64) e (m.small u.0 k t c w)))
     (cases_lt k u.0)
 
-pub passed_root : (first : ℕ) (nodes : List Node) (from : ℕ) (t : ℤ) (left : ℤ) → IsMinMax first nodes → PassedTo first nodes from t 0 left → (k : ℕ) → from ≤ k → Reaches (drop first nodes) k t → ⊥
+passed_root : (first : ℕ) (nodes : List Node) (from : ℕ) (t : ℤ) (left : ℤ) → IsMinMax first nodes → PassedTo first nodes from t 0 left → (k : ℕ) → from ≤ k → Reaches (drop first nodes) k t → ⊥
 passed_root first nodes from t left m p k a w =
     let e = root_stands first p.start p.stop p.stands in
     let f = m.fits in let i = w.inside in
@@ -130,7 +132,7 @@ step_right first nodes from t place left x m p h e i f =
     let b : LeadsTo first nodes from t (2 * place + 2) (left -ℤ x.total) = subst (λ (y : Node). LeadsTo first nodes from t (2 * place + 2) (left -ℤ y.total)) (sym e) r.1 in
     rw (to_z-of_z w64 x.total f) (a, rw (to_z-of_z w64 (left -ℤ x.total) a) b)
 
-pub climb_found : (first : ℕ) (nodes : List Node) (from : ℕ) (t : ℤ) (place : ℕ) (left : ℤ) (x : Node) → PassedTo first nodes from t place left → place % 2 ≡ 1 → x ≡ get_or nodes (place + 1) empty_node → IsInRange x left → LeadsTo first nodes from t (place + 1) left
+climb_found : (first : ℕ) (nodes : List Node) (from : ℕ) (t : ℤ) (place : ℕ) (left : ℤ) (x : Node) → PassedTo first nodes from t place left → place % 2 ≡ 1 → x ≡ get_or nodes (place + 1) empty_node → IsInRange x left → LeadsTo first nodes from t (place + 1) left
 climb_found first nodes from t place left x p odd e i =
     let here : place ≡ 2 * (place / 2) + 1 = omega arith in
     let next : place + 1 ≡ 2 * (place / 2) + 2 = omega arith in
@@ -138,7 +140,7 @@ climb_found first nodes from t place left x p odd e i =
     let i' : IsInRange (get_or nodes (2 * (place / 2) + 2) empty_node) left = subst (λ (n : ℕ). IsInRange (get_or nodes n empty_node) left) next (subst (λ (y : Node). IsInRange y left) e i) in
     subst (λ (n : ℕ). LeadsTo first nodes from t n left) (sym next) (passed_found first nodes from t (place / 2) left p' i')
 
-pub climb_left : (first : ℕ) (nodes : List Node) (from : ℕ) (t : ℤ) (place : ℕ) (left : ℤ) (x : Node) → IsMinMax first nodes → PassedTo first nodes from t place left → place % 2 ≡ 1 → x ≡ get_or nodes (place + 1) empty_node → (IsInRange x left → ⊥) → PassedTo first nodes from t ((place - 1) / 2) (left -ℤ x.total)
+climb_left : (first : ℕ) (nodes : List Node) (from : ℕ) (t : ℤ) (place : ℕ) (left : ℤ) (x : Node) → IsMinMax first nodes → PassedTo first nodes from t place left → place % 2 ≡ 1 → x ≡ get_or nodes (place + 1) empty_node → (IsInRange x left → ⊥) → PassedTo first nodes from t ((place - 1) / 2) (left -ℤ x.total)
 climb_left first nodes from t place left x m p odd e i =
     let here : place ≡ 2 * (place / 2) + 1 = omega arith in
     let next : place + 1 ≡ 2 * (place / 2) + 2 = omega arith in
@@ -148,15 +150,66 @@ climb_left first nodes from t place left x m p odd e i =
     let r' : PassedTo first nodes from t (place / 2) (left -ℤ x.total) = subst (λ (y : Node). PassedTo first nodes from t (place / 2) (left -ℤ y.total)) (sym e') r in
     subst (λ (n : ℕ). PassedTo first nodes from t n (left -ℤ x.total)) (let g : place / 2 ≡ (place - 1) / 2 = omega arith in g) r'
 
-pub climb_right : (first : ℕ) (nodes : List Node) (from : ℕ) (t : ℤ) (place : ℕ) (left : ℤ) → PassedTo first nodes from t place left → 0 < place → (place % 2 ≡ 1 → ⊥) → PassedTo first nodes from t ((place - 1) / 2) left
+climb_right : (first : ℕ) (nodes : List Node) (from : ℕ) (t : ℤ) (place : ℕ) (left : ℤ) → PassedTo first nodes from t place left → 0 < place → (place % 2 ≡ 1 → ⊥) → PassedTo first nodes from t ((place - 1) / 2) left
 climb_right first nodes from t place left p some even =
     let here : place ≡ 2 * ((place - 1) / 2) + 2 = omega arith in
     passed_right first nodes from t ((place - 1) / 2) left (subst (λ (n : ℕ). PassedTo first nodes from t n left) here p)
 
-pub climb_too_far : (first : ℕ) (nodes : List Node) (from : ℕ) (t : ℤ) (place : ℕ) (left : ℤ) (x : Node) → IsMinMax first nodes → PassedTo first nodes from t place left → place % 2 ≡ 1 → x ≡ get_or nodes (place + 1) empty_node → (IsInRange x left → ⊥) → (FitsSigned w64 (left -ℤ x.total) → ⊥) → (k : ℕ) → from ≤ k → Reaches (drop first nodes) k t → ⊥
+climb_too_far : (first : ℕ) (nodes : List Node) (from : ℕ) (t : ℤ) (place : ℕ) (left : ℤ) (x : Node) → IsMinMax first nodes → PassedTo first nodes from t place left → place % 2 ≡ 1 → x ≡ get_or nodes (place + 1) empty_node → (IsInRange x left → ⊥) → (FitsSigned w64 (left -ℤ x.total) → ⊥) → (k : ℕ) → from ≤ k → Reaches (drop first nodes) k t → ⊥
 climb_too_far first nodes from t place left x m p odd e i long =
     let here : place ≡ 2 * (place / 2) + 1 = omega arith in
     let next : place + 1 ≡ 2 * (place / 2) + 2 = omega arith in
     let p' = subst (λ (n : ℕ). PassedTo first nodes from t n left) here p in
     let e' : x ≡ get_or nodes (2 * (place / 2) + 2) empty_node = e ∙ ap (λ (n : ℕ). get_or nodes n empty_node) next in
     passed_too_far first nodes from t (place / 2) left m p' (subst (λ (y : Node). NotInRange y left) e' i) (subst (λ (y : Node). FitsSigned w64 (left -ℤ y.total) → ⊥) e' long)
+
+-- up past the right children that the passed part ends with
+pub comes_to : (first : ℕ) (nodes : List Node) (from : ℕ) (t : ℤ) (place : ℕ) (left : ℤ) (next : ℕ) → IsMinMax first nodes → PassedTo first nodes from t place left → IsOddPart (place + 2) (next + 1) → ComesTo first nodes from t next left
+comes_to first nodes from t place left next m p o = go o.zeros place p o.splits
+  where
+    go : (k place : ℕ) → PassedTo first nodes from t place left → place + 2 ≡ (next + 1) * 2 ^ k → ComesTo first nodes from t next left
+    go zero place p e =
+        let ends = o.ends in
+        let here : place ≡ next - 1 = omega arith in
+        record {
+          even = omega arith;
+          passed = λ some. subst (λ (n : ℕ). PassedTo first nodes from t n left) here p;
+          none = λ z. absurd (omega arith);
+        }
+    go (suc k) place p e =
+        let ends = o.ends in
+        let twice : (next + 1) * 2 ^ suc k ≡ (next + 1) * (2 * 2 ^ k) = ap (λ (x : ℕ). (next + 1) * x) (pow-succ' 2 k) in
+        ⊎_elim
+        (λ (root : place < 1).
+        let most = le-mul_of_pos_right (next + 1) (pow_pos k) in
+        let p' = subst (λ (n : ℕ). PassedTo first nodes from t n left) (let g : place ≡ 0 = omega arith in g) p in
+        record {
+          even = omega arith;
+          passed = λ some. absurd (omega arith);
+          none = λ z. passed_root first nodes from t left m p';
+        })
+        (λ (some : 1 ≤ place). go k ((place - 1) / 2) (climb_right first nodes from t place left p some (λ u. omega arith)) (omega arith))
+        (cases_lt place 1)
+
+pub reaches_after : (first : ℕ) (nodes : List Node) (from : ℕ) (t : ℤ) (place : ℕ) (left : ℤ) (x : Node) → ComesTo first nodes from t place left → 0 < place → x ≡ get_or nodes place empty_node → IsInRange x left → LeadsTo first nodes from t place left
+reaches_after first nodes from t place left x c some e i =
+    let v = c.even in
+    let here : place - 1 + 1 ≡ place = omega arith in
+    subst
+    (λ (n : ℕ). LeadsTo first nodes from t n left)
+    here
+    (climb_found first nodes from t (place - 1) left x (c.passed some) (omega arith) (e ∙ ap (λ (n : ℕ). get_or nodes n empty_node) (sym here)) i)
+
+pub goes_on_after : (first : ℕ) (nodes : List Node) (from : ℕ) (t : ℤ) (place : ℕ) (left : ℤ) (x : Node) (next : ℕ) → IsMinMax first nodes → ComesTo first nodes from t place left → 0 < place → x ≡ get_or nodes place empty_node → (IsInRange x left → ⊥) → IsOddPart ((place - 1) / 2 + 2) (next + 1) → ComesTo first nodes from t next (left -ℤ x.total)
+goes_on_after first nodes from t place left x next m c some e misses o =
+    let v = c.even in
+    let here : place ≡ place - 1 + 1 = omega arith in
+    let p = climb_left first nodes from t (place - 1) left x m (c.passed some) (omega arith) (e ∙ ap (λ (n : ℕ). get_or nodes n empty_node) here) misses in
+    let up : (place - 1 - 1) / 2 ≡ (place - 1) / 2 = omega arith in
+    comes_to first nodes from t ((place - 1) / 2) (left -ℤ x.total) next m (subst (λ (n : ℕ). PassedTo first nodes from t n (left -ℤ x.total)) up p) o
+
+pub too_far_after : (first : ℕ) (nodes : List Node) (from : ℕ) (t : ℤ) (place : ℕ) (left : ℤ) (x : Node) → IsMinMax first nodes → ComesTo first nodes from t place left → 0 < place → x ≡ get_or nodes place empty_node → (IsInRange x left → ⊥) → (FitsSigned w64 (left -ℤ x.total) → ⊥) → (k : ℕ) → from ≤ k → Reaches (drop first nodes) k t → ⊥
+too_far_after first nodes from t place left x m c some e misses long =
+    let v = c.even in
+    let here : place ≡ place - 1 + 1 = omega arith in
+    climb_too_far first nodes from t (place - 1) left x m (c.passed some) (omega arith) (e ∙ ap (λ (n : ℕ). get_or nodes n empty_node) here) misses long

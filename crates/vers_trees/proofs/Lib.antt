@@ -28,6 +28,7 @@ pub mod Bytes
 pub mod ByteScans
 pub mod WordScans
 pub mod MinMax
+pub mod OddParts
 pub mod Climbs
 pub mod Back
 pub mod Steps

@@ -33,17 +33,10 @@ down_ends a b node first h p =
     adds_weaker p (nodes_within _ _ (omega arith))
 
 -- climbing: at most a node read at each level
-climb_room : (first node up : ℕ) → node ≤ 2 * first → 0 < node → up ≡ (node - 1) / 2 → digits (2 * first + 1) - digits (node + 1) + 1 ≤ digits (2 * first + 1) - digits (up + 1)
-climb_room first node up h some e =
+pub read_up : (a b c : Reads) (first node up : ℕ) → node ≤ 2 * first → digits (up + 1) + 1 ≤ digits (node + 1) → AddsAtMost a b (only_nodes (digits (2 * first + 1) - digits (node + 1))) → AddsAtMost b c (only_nodes 1) → AddsAtMost a c (only_nodes (digits (2 * first + 1) - digits (up + 1)))
+read_up a b c first node up h d p q =
     let u = digits_up (node + 1) (2 * first + 1) (omega arith) in
-    let d = digits_child (up + 1) (node + 1) (omega arith) (omega arith) in
-    omega arith
-
-pub read_up : (a b c : Reads) (first node up : ℕ) → node ≤ 2 * first → 0 < node → up ≡ (node - 1) / 2 → AddsAtMost a b (only_nodes (digits (2 * first + 1) - digits (node + 1))) → AddsAtMost b c (only_nodes 1) → AddsAtMost a c (only_nodes (digits (2 * first + 1) - digits (up + 1)))
-read_up a b c first node up h some e p q = adds_then p q (nodes_both _ _ _ (climb_room first node up h some e))
-
-pub no_read_up : (a b : Reads) (first node up : ℕ) → node ≤ 2 * first → 0 < node → up ≡ (node - 1) / 2 → AddsAtMost a b (only_nodes (digits (2 * first + 1) - digits (node + 1))) → AddsAtMost a b (only_nodes (digits (2 * first + 1) - digits (up + 1)))
-no_read_up a b first node up h some e p = let r = climb_room first node up h some e in adds_weaker p (nodes_within _ _ (omega arith))
+    adds_then p q (nodes_both _ _ _ (omega arith))
 
 pub up_ends : (a b : Reads) (first node : ℕ) → node ≤ 2 * first → AddsAtMost a b (only_nodes (digits (2 * first + 1) - digits (node + 1))) → AddsAtMost a b (only_nodes (2 * digits first))
 up_ends a b first node h p =

@@ -1,5 +1,5 @@
 -- A tree of excesses: what its nodes say of the blocks below them.
-use Rattle.std.specs.Prelude.{Bool, min, ◌≡◌, ℕ, zero, suc, ◌+◌, ◌*◌, ◌^◌, ◌<◌, ◌≤◌, ◌⊎◌, List, [], ◌∷◌, length, drop, slice_index_or, ℤ, pos, negsuc, ◌+ℤ◌, ◌-ℤ◌, ◌≤ℤ◌, FitsSigned}
+use Rattle.std.specs.Prelude.{Bool, min, ◌≡◌, ℕ, zero, suc, ◌+◌, ◌*◌, ◌-◌, ◌%◌, ◌^◌, ◌<◌, ◌≤◌, ◌⊎◌, List, [], ◌∷◌, length, drop, slice_index_or, ℤ, pos, negsuc, ◌+ℤ◌, ◌-ℤ◌, ◌≤ℤ◌, FitsSigned}
 use mir.Syntax.{w64}
 use Rattle.std.specs.Int.{int_min, int_max}
 use Rattle.vers_trees.specs.Excess.{excess}
@@ -20,9 +20,10 @@ pub record IsInRange (x : Node) (r : ℤ) : Type 0 where
   pub low : x.least ≤ℤ r
   pub high : r ≤ℤ x.greatest
 
--- the same, or r is what the sum is before the part
-abbrev pub IsInRangeOrStart : Node → ℤ → Type 0
-IsInRangeOrStart x r = (r ≡ pos 0) ⊎ IsInRange x r
+-- the same, with the sum before the part, 0, as one of those in it
+pub record IsInRangeOrStart (x : Node) (r : ℤ) : Type 0 where
+  pub low : int_min x.least (pos 0) ≤ℤ r
+  pub high : r ≤ℤ int_max x.greatest (pos 0)
 
 -- the total is 0, and no place is below the start
 pub record IsLevel (x : Node) : Type 0 where
@@ -166,3 +167,21 @@ pub record PassedBack (first : ℕ) (nodes : List Node) (to : ℕ) (t : ℤ) (pl
   pub within : to ≤ length (drop first nodes)
   pub remains : total_before (drop first nodes) start +ℤ left ≡ t
   pub none : (k : ℕ) → start ≤ k → k < to → Meets (drop first nodes) k t → ⊥
+
+-- `odd` is `number` without the zeros at its end
+pub record IsOddPart (number odd : ℕ) : Type 0 where
+  pub zeros : ℕ
+  pub splits : number ≡ odd * 2 ^ zeros
+  pub ends : odd % 2 ≡ 1
+
+-- no block from `from` on reaches the sum t before the part of the node at `place`, a right child, and t is `left` above the sum there; at place 0 none does at all
+pub record ComesTo (first : ℕ) (nodes : List Node) (from : ℕ) (t : ℤ) (place : ℕ) (left : ℤ) : Type 0 where
+  pub even : place % 2 ≡ 0
+  pub passed : 0 < place → PassedTo first nodes from t (place - 1) left
+  pub none : place ≡ 0 → (k : ℕ) → from ≤ k → Reaches (drop first nodes) k t → ⊥
+
+-- no block before `to` meets the sum t past the part of the node at `place`, a left child, and t is `left` above the sum there; at place 0 none does at all
+pub record ComesBack (first : ℕ) (nodes : List Node) (to : ℕ) (t : ℤ) (place : ℕ) (left : ℤ) : Type 0 where
+  pub odd : 0 < place → place % 2 ≡ 1
+  pub passed : 0 < place → PassedBack first nodes to t (place + 1) left
+  pub none : place ≡ 0 → (k : ℕ) → k < to → Meets (drop first nodes) k t → ⊥

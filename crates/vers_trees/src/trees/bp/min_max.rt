@@ -2,7 +2,7 @@
 ghost use Rattle.std.specs.Prelude.{◌≡◌, ℕ, ℤ, ◌+◌, ◌-◌, ◌*◌, ◌<◌, ◌≤◌, ◌^◌, ◌+ℤ◌, length, drop, min, slice_index_or, IfOk, MatchOption, Decides};
 ghost use Rattle.vers_tally.specs.Reads.{AddsAtMost, only_nodes, digits};
 ghost use Rattle.vers_trees.specs.inside.Index.{IsIndexed};
-ghost use Rattle.vers_trees.specs.inside.MinMax.{IsInRange, IsInRangeOrStart, IsLevel, empty_node, total_before, Reaches, Meets, IsMinMax, LeadsTo, LeadsBack, IsNextFrom, IsPreviousBefore};
+ghost use Rattle.vers_trees.specs.inside.MinMax.{IsInRange, IsInRangeOrStart, IsLevel, empty_node, total_before, Reaches, Meets, IsMinMax, IsOddPart, LeadsTo, LeadsBack, IsNextFrom, IsPreviousBefore};
 
 mod build;
 
@@ -46,7 +46,7 @@ impl Node {
     fn meets(&self, left: i64) -> bool
         ensures { Decides result (IsInRangeOrStart self.now left) }
     {
-        left == 0 || self.reaches(left)
+        self.least.min(0) <= left && left <= self.greatest.max(0)
     }
 
     // Whether the part's total is 0 and no place of it is below its start.
@@ -182,17 +182,18 @@ impl<A: Allocator + Copy> MinMaxTree<A> {
             (λ p. IsNextFrom (drop self.now.first self.now.nodes) (begin + 1) t p.0 p.1) }
         ensures adds { AddsAtMost tally.old tally.new (only_nodes (2 * digits self.now.first)) }
     {
-        let mut node = self.first + begin;
+        if begin >= self.first {
+            return None;
+        }
+        let mut node = node_after(self.first + begin);
         while node > 0 {
-            // What stands beside a right child is read too, and left out by a choice of values.
-            let beside = self.node_counted(node + 1, tally);
-            let reaches = beside.reaches(left);
-            let is_left = node % 2 == 1;
-            if is_left && reaches {
-                return Some(self.descend_counted(node + 1, left, tally));
+            let after = self.node_counted(node, tally);
+            if after.reaches(left) {
+                return Some(self.descend_counted(node, left, tally));
             }
-            left = left.checked_sub(if is_left { beside.total } else { 0 })?;
-            node = (node - 1) / 2;
+            left = left.checked_sub(after.total)?;
+            // The parent's blocks end where its do.
+            node = node_after((node - 1) / 2);
         }
         None
     }
@@ -239,18 +240,47 @@ impl<A: Allocator + Copy> MinMaxTree<A> {
             (λ p. IsPreviousBefore (drop self.now.first self.now.nodes) begin t p.0 p.1) }
         ensures adds { AddsAtMost tally.old tally.new (only_nodes (2 * digits self.now.first)) }
     {
-        let mut node = self.first + begin;
+        let mut node = node_before(self.first + begin);
         while node > 0 {
-            let beside = self.node_counted(node - 1, tally);
-            let is_right = node % 2 == 0;
-            let before = left.checked_add(if is_right { beside.total } else { 0 })?;
-            let meets = beside.meets(before);
-            if is_right && meets {
-                return Some(self.descend_back_counted(node - 1, left, tally));
+            let before = self.node_counted(node, tally);
+            let rest = left.checked_add(before.total)?;
+            if before.meets(rest) {
+                return Some(self.descend_back_counted(node, left, tally));
             }
-            left = before;
-            node = (node - 1) / 2;
+            left = rest;
+            // The parent's blocks begin where its do.
+            node = node_before((node - 1) / 2);
         }
         None
     }
+}
+
+// The node over the blocks right after those of `node`: the right child beside it, or beside the nearest node above
+// it that is a left child. 0 where no block comes after.
+#[inline(always)]
+fn node_after(node: usize) -> usize
+    requires { node + 2 < 2 ^ 64 }
+    ensures { IsOddPart (node + 2) (result + 1) }
+{
+    odd_part(node + 2) - 1
+}
+
+// The node over the blocks right before those of `node`: the left child beside it, or beside the nearest node above
+// it that is a right child. 0 where no block comes before.
+#[inline(always)]
+fn node_before(node: usize) -> usize
+    requires { node + 1 < 2 ^ 64 }
+    ensures { (odd : ℕ) × IsOddPart (node + 1) odd × (result ≡ odd - 2) }
+{
+    odd_part(node + 1).saturating_sub(2)
+}
+
+// A number without the zeros at its end. With it a climb takes all levels at once that it passes on one side, and has
+// no branch on the side, which would be guessed wrong every other time.
+#[inline(always)]
+fn odd_part(number: usize) -> usize
+    requires { 0 < number }
+    ensures { IsOddPart number result }
+{
+    number >> number.trailing_zeros()
 }

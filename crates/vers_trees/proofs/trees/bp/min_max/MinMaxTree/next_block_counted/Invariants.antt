@@ -1,12 +1,11 @@
-use Rattle.std.proofs.Common.{◌-◌, ◌*◌, ◌≤◌, ◌+◌, ◌<◌, ◌+ℤ◌, drop, length}
+use Rattle.std.proofs.Common.{◌-◌, ◌*◌, ◌≤◌, ◌+◌, ◌+ℤ◌, drop}
 use Rattle.vers_tally.specs.Reads.{AddsAtMost, only_nodes, digits}
-use Rattle.vers_trees.specs.inside.MinMax.{PassedTo, total_before}
+use Rattle.vers_trees.specs.inside.MinMax.{ComesTo, total_before}
 use Rattle.vers_trees.proofs.trees.bp.min_max.MinMaxTree.next_block_counted.Given as goal
 
 abbrev pub invariant-loop-node : goal.invariant-loop-node
 invariant-loop-node g l = record {
-  passed : PassedTo l.self.first l.self.nodes (l.begin + 1) (total_before (drop l.self.first l.self.nodes) (l.begin + 1) +ℤ l.fn.left) l.node l.left;
-  stored : l.node < length l.self.nodes;
+  comes : ComesTo l.self.first l.self.nodes (l.begin + 1) (total_before (drop l.self.first l.self.nodes) (l.begin + 1) +ℤ l.fn.left) l.node l.left;
   within : l.node ≤ 2 * l.self.first;
   reads : AddsAtMost l.fn.tally l.tally (only_nodes (digits (2 * l.self.first + 1) - digits (l.node + 1)));
 }

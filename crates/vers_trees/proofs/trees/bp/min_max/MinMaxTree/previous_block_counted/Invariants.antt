@@ -1,12 +1,11 @@
-use Rattle.std.proofs.Common.{◌-◌, ◌*◌, ◌≤◌, ◌+◌, ◌<◌, ◌+ℤ◌, drop, length}
+use Rattle.std.proofs.Common.{◌-◌, ◌*◌, ◌≤◌, ◌+◌, ◌+ℤ◌, drop}
 use Rattle.vers_tally.specs.Reads.{AddsAtMost, only_nodes, digits}
-use Rattle.vers_trees.specs.inside.MinMax.{PassedBack, total_before}
+use Rattle.vers_trees.specs.inside.MinMax.{ComesBack, total_before}
 use Rattle.vers_trees.proofs.trees.bp.min_max.MinMaxTree.previous_block_counted.Given as goal
 
 abbrev pub invariant-loop-node : goal.invariant-loop-node
 invariant-loop-node g l = record {
-  passed : PassedBack l.self.first l.self.nodes l.begin (total_before (drop l.self.first l.self.nodes) l.begin +ℤ l.fn.left) l.node l.left;
-  stored : l.node < length l.self.nodes;
+  comes : ComesBack l.self.first l.self.nodes l.begin (total_before (drop l.self.first l.self.nodes) l.begin +ℤ l.fn.left) l.node l.left;
   within : l.node ≤ 2 * l.self.first;
   reads : AddsAtMost l.fn.tally l.tally (only_nodes (digits (2 * l.self.first + 1) - digits (l.node + 1)));
 }

@@ -1,0 +1,9 @@
+use Rattle.std.proofs.Common.{w64}
+use Rattle.std.proofs.lemmas.Nat.Bits.{bit_at-trailing_zeros}
+use Rattle.vers_trees.proofs.OddParts.{from_lowest_one}
+use Rattle.vers_trees.proofs.trees.bp.min_max.odd_part.Goals as goal
+
+pub returns : goal.returns
+returns c =
+    let lowest = bit_at-trailing_zeros w64 c.args.number c.requires c.ranges.number.fits in
+    from_lowest_one _ c.args.number lowest.1 lowest.2
