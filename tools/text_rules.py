@@ -18,7 +18,7 @@ Exit status 1 where a rule is broken, with a line for each place. `--self-test` 
 repository of its own and wants every break found.
 
 `--wrong-bodies` lists the public functions that compute something and that no wrong body reaches: no edit of the
-crate's `must-fail/` changes them, or a function of the crate that they call. A body computes something unless it is
+crate's `wrong/` or `must-fail/` changes them, or a function of the crate that they call. A body computes something unless it is
 empty, reads a field, wraps its argument, or hands its arguments on to one call. A call is taken for that of the type
 that stands before it, or of the field's type; where the text doesn't tell which function is called, it reaches none.
 """
@@ -158,9 +158,9 @@ def imported_insides(path, text, pages):
 def changed_functions(top, crate, sources, found):
     """Returns those of the crate's functions in which its edits change something."""
     changed = set()
-    folder = os.path.join(top, "crates", crate, "must-fail")
-    for name in sorted(os.listdir(folder)) if os.path.isdir(folder) else []:
-        lines = read(os.path.join(folder, name)).split("\n")
+    folders = [it for it in (os.path.join(top, "crates", crate, name) for name in ("must-fail", "wrong")) if os.path.isdir(it)]
+    for file in sorted(os.path.join(folder, name) for folder in folders for name in os.listdir(folder)):
+        lines = read(file).split("\n")
         path = f"crates/{crate}/" + next((line[len("file: "):] for line in lines if line.startswith("file: ")), "")
         text = sources.get(path, "")
         places = [text.find(line[len("old: "):]) for line in lines if line.startswith("old: ")]
@@ -307,7 +307,7 @@ GOOD = {
     "docs/PAGE.md": "A page.\n",
     "docs/DEFINITIONS.md": "`more x` is the number after `x`.\n",
     "crates/low/src/lib.rt": "//! A crate.\nghost use Rattle.low.specs.More.{more};\n\n/// One more.\n#[inline]\npub fn next(x: u8) -> u8\n    ensures { result ≡ more x }\n{\n    let _ = &x.first;\n    let _ = x.len();\n    helper(x) & 255\n}\n\nfn helper(x: u8) -> u8 {\n    x + 1\n}\n",
-    "crates/low/must-fail/off.edit": "file: src/lib.rt\nold:     x + 1\nnew:     x + 2\n",
+    "crates/low/wrong/off.edit": "file: src/lib.rt\nold:     x + 1\nnew:     x + 2\n",
     "crates/low/specs/More.antt": "use Rattle.low.specs.Less.{less}\n",
     "crates/low/proofs/PublicLaws.antt": "use Rattle.low.proofs.Own.{law}\n",
     "crates/high/src/lib.rt": "//! A crate above.\nghost use Rattle.low.specs.More.{more};\n",
@@ -322,7 +322,7 @@ GOOD = {
 BREAKS = {
     "has no doc comment": ("crates/low/src/lib.rt", "/// One more.\n", ""),
     "doesn't say what the module is": ("crates/low/src/lib.rt", "//! A crate.\n", ""),
-    "no wrong body reaches next": ("crates/low/must-fail/off.edit", "x + 1", "y + 1"),
+    "no wrong body reaches next": ("crates/low/wrong/off.edit", "x + 1", "y + 1"),
     "has 64 lines": ("crates/low/src/lib.rt", "    x + 1\n", "    x + 1\n" + "\n" * 61),
     " lines": ("crates/low/src/lib.rt", "//! A crate.\n", "//! A crate.\n" + "\n" * 800),
     "crates.txt lists": ("crates.txt", "high:", "higher:"),

@@ -1,0 +1,166 @@
+#!/usr/bin/env python3
+"""Proves crates with those below them, as many side by side as there are processors: proofs.py CRATE..
+
+Each crate begins once those below it are proved, those first on which most stand, with a job more for each processor that nothing
+waits for. Standard error tells of each. A program is built besides, and its file `out/NAME.built` is then as old as the
+beginning of the run. An interrupt ends what was begun.
+"""
+import os
+import re
+import signal
+import subprocess
+import sys
+import tempfile
+import threading
+import time
+from collections import Counter
+from concurrent.futures import ThreadPoolExecutor
+
+TOP = os.path.dirname(os.path.dirname(os.path.abspath(__file__)))
+
+
+class Failure(Exception):
+    """Says why something could not be proved or tried."""
+
+
+class Crates:
+    """The crates that a repository lists: the line of each in crates.txt, its folder and the libraries below it."""
+
+    def __init__(self, top):
+        with open(f"{top}/crates.txt", encoding="utf-8") as it:
+            lines = [line.split("#")[0].strip() for line in it]
+        self.top, self.lines = top, {line.split(":")[0].split()[0]: line for line in lines if ":" in line}
+
+    def folder(self, name):
+        """Returns the folder of a crate."""
+        return f"{self.top}/crates/{name}"
+
+    def is_program(self, name):
+        """Returns whether a crate is a program."""
+        return os.path.isfile(f"{self.folder(name)}/src/main.rt")
+
+    def uses(self, name):
+        """Returns the repository's libraries that a crate names."""
+        return [it for it in self.lines[name].partition(":")[2].split() if it in self.lines]
+
+    def below(self, name):
+        """Returns the libraries below a crate, each after those that it stands on."""
+        return list(dict.fromkeys(it for use in self.uses(name) for it in [*self.below(use), use]))
+
+
+class Processors:
+    """Has work done, as much side by side as there are processors, in the order of its ranks, and adds up what commands took."""
+
+    def __init__(self, count):
+        self.free, self.waiting, self.changed = count, [], threading.Condition()
+        self.running, self.seconds, self.ended = set(), Counter(), ""
+
+    def do(self, rank, work):
+        """Returns what a piece of work does when its turn comes, which is called with one job, and one more for each processor that nothing
+        waits for."""
+        turn = (rank, time.monotonic(), threading.get_ident())
+        with self.changed:
+            self.waiting.append(turn)
+            self.changed.wait_for(lambda: self.ended or self.free > 0 and turn == min(self.waiting))
+            self.waiting.remove(turn)
+            jobs = max(1, self.free - len(self.waiting))
+            self.free -= 1
+            self.changed.notify_all()
+        try:
+            return work(jobs)
+        finally:
+            with self.changed:
+                self.free += 1
+                self.changed.notify_all()
+
+    def run(self, part, command, folder):
+        """Runs a command of rt in a folder, adds what it took to a part, and returns what it printed and its status."""
+        with tempfile.TemporaryFile("w+", encoding="utf-8", errors="replace") as out:
+            with self.changed:
+                if self.ended:
+                    raise Failure(self.ended)
+                child = subprocess.Popen(command, cwd=folder, stdin=subprocess.DEVNULL, stdout=out, stderr=out, start_new_session=True)
+                self.running.add(child.pid)
+            _, status, used = os.wait4(child.pid, 0)
+            child.returncode = os.waitstatus_to_exitcode(status)
+            with self.changed:
+                self.running.discard(child.pid)
+                self.seconds[part] += used.ru_utime + used.ru_stime
+                if self.ended:
+                    raise Failure(self.ended)
+            out.seek(0)
+            return out.read(), child.returncode
+
+    def end_on_interrupt(self):
+        """Has an interrupt end all that runs."""
+        for it in (signal.SIGINT, signal.SIGTERM, signal.SIGHUP):
+            signal.signal(it, lambda number, frame: self.end("interrupted"))
+
+    def end(self, why):
+        """Ends all that runs, and lets nothing begin."""
+        with self.changed:
+            self.ended = self.ended or why
+            for it in self.running:
+                os.killpg(it, signal.SIGINT)
+            self.changed.notify_all()
+
+
+class Proofs:
+    """Proves crates and those below them, each once, and keeps what the check said of each."""
+
+    def __init__(self, crates, processors, tell=lambda text: None):
+        self.crates, self.processors, self.tell = crates, processors, tell
+        self.pool, self.begun, self.alone = ThreadPoolExecutor(len(crates.lines) + 1), {}, threading.Lock()
+
+    def begin(self, name):
+        """Begins a crate and those below it, and returns what gives what was said of it."""
+        with self.alone:
+            for it in [*self.crates.below(name), name]:
+                if it not in self.begun:
+                    self.begun[it] = self.pool.submit(self.prove, it)
+            return self.begun[name]
+
+    def prove(self, name):
+        """Proves a crate once those below it are proved: a library is built for the crates above it, a program is built and run."""
+        for below in self.crates.below(name):
+            self.begun[below].result()
+        above = sum(name in self.crates.below(it) for it in self.crates.lines)
+        command = ["rt", "run" if self.crates.is_program(name) else "lib", "--jobs"]
+        run = lambda jobs: self.processors.run((name, "proof"), [*command, str(jobs)], self.crates.folder(name))
+        said, status = self.processors.do(-above, run)
+        if status:
+            raise Failure(f"{name} is not proved:\n{said[-4000:]}")
+        self.tell(f"{name} is proved")
+        return said
+
+
+def processor_count():
+    """Returns how many processors a run may use: four at most, since each check wants some gigabytes."""
+    return min(4, len(os.sched_getaffinity(0)))
+
+
+def main():
+    """Proves the crates that are named."""
+    began = time.time()
+    tell = lambda text: print(f"{sys.argv[1]}: {text}", file=sys.stderr, flush=True)
+    timed = lambda text: tell(f"{text}, after {(time.time() - began) / 60:.1f} minutes")
+    processors = Processors(processor_count())
+    processors.end_on_interrupt()
+    proofs = Proofs(Crates(TOP), processors, timed)
+    try:
+        tell("proving the crates, those below first; this takes some minutes the first time")
+        for it in [proofs.begin(name) for name in sys.argv[1:]]:
+            it.result()
+        for name in filter(proofs.crates.is_program, sys.argv[1:]):
+            built = f"{proofs.crates.folder(name)}/out/{name}.built"
+            with open(built, "w", encoding="utf-8"):
+                os.utime(built, (began, began))
+    except Failure as failure:
+        processors.end(str(failure))
+        tell(processors.ended)
+        return 1
+    return 0
+
+
+if __name__ == "__main__":
+    sys.exit(main())

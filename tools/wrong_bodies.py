@@ -1,0 +1,324 @@
+#!/usr/bin/env python3
+"""Tries the wrong bodies of the crates, many at a time: wrong_bodies.py [--jobs N] [--most N] [--anew] [--self-test] [CRATE..]
+
+Functions are proved against the contracts of those that they call. So wrong bodies of different functions don't meddle:
+a wave puts many into one copy of a proved crate, at most one a function, and checks once. Those of `crates/NAME/wrong/` are
+tried, and those of `must-fail/`, which `rt ci` tries singly. One line tells of each, as `refused NAME in FUNCTION: GOAL`:
+
+    refused   a goal of its function, or of a closure in it, doesn't hold, or a written answer of the function is wrong
+    proved    the function is proved with it: the contract is too weak, or the body is right
+    gone      it takes away a name that a written answer cites, which says nothing of the contract
+    bad       it can't be applied or compiled, or lies in no body of one function
+    untold    the check said nothing of its function, even alone, or met a limit
+
+All but the first fail the run. What the check passes over, since it calls another changed function, goes into a later
+wave. What was refused is kept in the user's folder for such files, by the sums of all that a try reads, and not tried again
+while these are the same; --anew tries all. The last line is 'N passed, M failed'.
+"""
+import argparse
+import hashlib
+import json
+import os
+import re
+import shutil
+import subprocess
+import sys
+import tempfile
+from collections import Counter, defaultdict
+from concurrent.futures import ThreadPoolExecutor
+from typing import NamedTuple
+
+import edits
+import proofs
+import wrong_plants
+from edits import BadEdit
+from proofs import Crates, Failure, Processors, Proofs
+
+PARTS = ("src", "specs", "proofs")
+KEPT = os.path.join(os.environ.get("XDG_CACHE_HOME") or os.path.expanduser("~/.cache"), "woltsjem", "wrong_bodies")
+# The most that is kept of a crate.
+MOST_KEPT = 1000
+# A written answer that cites a name which isn't there, and one that was not looked at.
+GONE = re.compile(r"has no field|is not in scope|has no `|is no name")
+PASSED_OVER = re.compile(r"was not admitted|were not admitted|not checked")
+
+
+class Told(NamedTuple):
+    """What came of a wrong body: the word for it, the function, and what the check said."""
+
+    kind: str
+    name: str
+    text: str
+
+
+class Report(NamedTuple):
+    """What a check said: a line for each function, the errors in each one's written answers, and those of the compiler by file and line."""
+
+    functions: dict
+    answers: dict
+    errors: list
+    end: str
+
+
+def report_of(said):
+    """Reads what a check printed."""
+    functions, answers, errors = {}, defaultdict(list), []
+    for line in said.split("\n"):
+        told = re.match(r"fn (\S+): (.*)", line)
+        answer = re.match(r"(?:note: )?(?:\./)?proofs/(\S+)/(?:Answers|Invariants|Proof)\.antt:\d+:\d+: error: (.*)", line)
+        error = re.match(r"(?:\./)?(src/\S+?\.rt):(\d+):\d+: error.*", line)
+        if told and functions.get(told[1], "proved") == "proved":
+            functions[told[1]] = told[2]
+        elif answer:
+            answers[answer[1].replace("/", "::")].append(answer[2])
+        elif error:
+            errors.append((error[1], int(error[2]) - 1, error[0]))
+    return Report(functions, answers, errors, said[-2000:])
+
+
+def told_of(name, report):
+    """Returns what a check told of one function, or None where it told nothing."""
+    said = report.functions.get(name, "")
+    goals = re.search(r"`search` did not prove ((?:`[^`]+`(?:, | and )?)+)", said)
+    answers = [it for it in report.answers.get(name.partition("::")[2], []) if not PASSED_OVER.search(it)]
+    wrong = [it for it in answers if re.match(r"`[^`]+`: ", it) and not GONE.search(it)]
+    if said == "proved":
+        return Told("proved", name, "it is proved with this body")
+    if goals:
+        return Told("refused", name, goals[1].rstrip(", "))
+    if said.startswith("not proved") and answers:
+        return Told("refused" if wrong else "gone", name, f"written answer of {(wrong or answers)[0][:120]}")
+    return Told("untold", name, said) if said.startswith("could not tell") else None
+
+
+def verdict(edit, report):
+    """Returns what a check told of a wrong body: by its function, or by a closure in it."""
+    told = [told_of(name, report) for name in edit.names]
+    wrong = [it for it in told if it and it.kind != "proved"]
+    return min(wrong, key=lambda it: it.kind != "refused") if wrong else told[0]
+
+
+# --- a crate
+
+class Tried:
+    """A crate whose wrong bodies are tried: its sources, and once it is proved the names of its functions."""
+
+    def __init__(self, crates, name, processors):
+        self.crates, self.name, self.processors = crates, name, processors
+        self.folder, self.below = crates.folder(name), crates.below(name)
+        self.texts, self.known = edits.read_texts(self.folder), []
+
+    def files(self):
+        """Returns the files of its wrong bodies."""
+        folders = [it for it in (f"{self.folder}/must-fail", f"{self.folder}/wrong") if os.path.isdir(it)]
+        return [f"{at}/{it}" for at in folders for it in sorted(os.listdir(at)) if it.endswith(".edit")]
+
+    def keys(self):
+        """Returns its wrong bodies' files, by the sum of all that a try of each reads."""
+        total = hashlib.sha256(subprocess.run(["rt", "version"], stdout=subprocess.PIPE, check=True).stdout)
+        read = [__file__, edits.__file__]
+        for name in [*self.below, self.name]:
+            total.update(self.crates.lines[name].encode())
+            folders = [f"{self.crates.folder(name)}/{part}" for part in PARTS]
+            read += sorted(f"{at}/{it}" for folder in folders for at, _, names in os.walk(folder) for it in names)
+        for file in read:
+            total.update(f"{os.path.basename(file)} {sum_of(file)}\n".encode())
+        return {hashlib.sha256(f"{total.hexdigest()} {sum_of(it)}".encode()).hexdigest(): it for it in self.files()}
+
+    def check(self, folder):
+        """Checks this crate, or a copy of it, and returns what was said and the status."""
+        return self.processors.run((self.name, "waves"), ["rt", "check", "--jobs", "1"], folder)
+
+    def learn_names(self, said):
+        """Takes the names of its functions from what its proof said, or where that was kept and said nothing, from a check over it."""
+        if not report_of(said).functions:
+            said, status = self.processors.do(0, lambda _: self.check(self.folder))
+            if status:
+                raise Failure(f"{self.name} is not proved:\n{said[-4000:]}")
+        self.known = list(report_of(said).functions)
+
+    def try_wave(self, wave):
+        """Checks a copy of the crate that has each of these wrong bodies."""
+        with tempfile.TemporaryDirectory(prefix="wrong-bodies-") as room:
+            self.copy_to(room)
+            for file in {it.file for it in wave}:
+                lines = list(self.texts[file])
+                for edit in wave:
+                    if edit.file == file:
+                        lines[edit.function.first : edit.function.last + 1] = edit.lines
+                with open(f"{room}/crates/{self.name}/{file}", "w", encoding="utf-8") as it:
+                    it.write("\n".join(lines))
+            said, _ = self.check(f"{room}/crates/{self.name}")
+            return report_of(said)
+
+    def copy_to(self, room):
+        """Makes a repository of this crate with what was proved of it, over the libraries below it as they were built."""
+        shutil.copy2(f"{self.crates.top}/HANDLES", room)
+        with open(f"{room}/crates.txt", "w", encoding="utf-8") as it:
+            it.write("".join(f"{self.crates.lines[name]}\n" for name in [*self.below, self.name]))
+        for name in [*self.below, self.name]:
+            of, to = self.crates.folder(name), f"{room}/crates/{name}"
+            for part in PARTS:
+                if os.path.isdir(f"{of}/{part}"):
+                    shutil.copytree(f"{of}/{part}", f"{to}/{part}")
+            made = "out/incremental" if name == self.name else "out/rlib"
+            shutil.copytree(f"{of}/{made}", f"{to}/{made}", copy_function=linked)
+
+
+def linked(one, other):
+    """Gives a file that a check replaces, and never writes into, a second name; copies any other, or to another disk."""
+    is_replaced = "/out/rlib/" in one or one.endswith(".oantt")
+    try:
+        (os.link if is_replaced else shutil.copy2)(one, other)
+    except OSError:
+        shutil.copy2(one, other)
+
+
+def sum_of(file):
+    """Returns the sum of a file."""
+    with open(file, "rb") as it:
+        return hashlib.sha256(it.read()).hexdigest()
+
+
+# --- waves
+
+def dealt(left, most):
+    """Returns wrong bodies in waves: none larger than the bound, none with two of one function, and all of about one size."""
+    times = Counter(it.names[0] for it in left)
+    waves = [[] for _ in range(max(-(-len(left) // most), *times.values()))]
+    for edit in sorted(left, key=lambda it: (-times[it.names[0]], it.names[0])):
+        free = [it for it in waves if edit.names[0] not in {other.names[0] for other in it}]
+        min(free, key=len).append(edit)
+    return waves
+
+
+def settled(wave, report):
+    """Returns what a wave told of its wrong bodies, by their names; nothing of those that wait for a later wave."""
+    told = {}
+    for edit in wave:
+        error = next((it for it in report.errors if it[0] == edit.file and edit.function.first <= it[1] <= edit.function.last), None)
+        it = Told("bad", edit.names[0], error[2]) if error else verdict(edit, report)
+        if it or len(wave) == 1:
+            told[edit.name] = it or Told("untold", edit.names[0], report.functions.get(edit.names[0]) or report.end)
+    changed = {name for edit in wave for name in edit.names}
+    for it in filter(None, (told_of(name, report) for name in report.functions if name not in changed)):
+        if it.kind == "refused":
+            raise Failure(f"{it.name} is refused and no body of the wave is in it, so the wave shows nothing: {it.text}")
+    return told
+
+
+def try_in_waves(crate, left, most):
+    """Tries wrong bodies of a proved crate, and gives what came of each as it is told."""
+    with ThreadPoolExecutor(max(len(left), 1)) as pool:
+        while left:
+            waves, before = dealt(left, most), len(left)
+            turns = pool.map(lambda wave: crate.processors.do(1, lambda _: crate.try_wave(wave)), waves)
+            for wave, report in zip(waves, turns):
+                told = settled(wave, report)
+                left = [it for it in left if it.name not in told]
+                yield from told.items()
+            most = most if len(left) < before else max(1, max(map(len, waves)) // 2)
+
+
+# --- what was refused earlier
+
+def kept(crate):
+    """Returns what was kept of a crate's wrong bodies, by the sums of what their tries read."""
+    try:
+        with open(f"{KEPT}/{crate}.json", encoding="utf-8") as it:
+            return dict(json.load(it))
+    except (OSError, ValueError, TypeError):
+        return {}
+
+
+def keep(crate, refused):
+    """Keeps what was refused, with the latest of what earlier runs kept, in one step."""
+    entries = list({**kept(crate), **refused}.items())[-MOST_KEPT:]
+    os.makedirs(KEPT, 0o700, exist_ok=True)
+    with tempfile.NamedTemporaryFile("w", dir=KEPT, delete=False, encoding="utf-8") as it:
+        json.dump(entries, it, indent=0)
+    os.replace(it.name, f"{KEPT}/{crate}.json")
+
+
+# --- the whole
+
+class Run:
+    """A run over the crates of a repository."""
+
+    def __init__(self, top, flags):
+        self.flags, self.processors = flags, Processors(flags.jobs)
+        self.crates = Crates(top)
+        self.proofs = Proofs(self.crates, self.processors)
+
+    def try_crates(self, names):
+        """Tries the wrong bodies of crates, of all where none is named, and returns what came of each, by crate."""
+        tried = [Tried(self.crates, name, self.processors) for name in names or self.crates.lines]
+        tried = [it for it in tried if it.files()]
+        with ThreadPoolExecutor(len(tried) or 1) as pool:
+            return dict(zip([it.name for it in tried], pool.map(self.try_crate, tried)))
+
+    def try_crate(self, crate):
+        """Tries those wrong bodies of a crate that were not refused earlier, and returns what came of each."""
+        known = {} if self.flags.anew else kept(crate.name)
+        files = {os.path.basename(file)[: -len(".edit")]: (key, file) for key, file in crate.keys().items()}
+        told = {edit: Told("refused", "", known[key]) for edit, (key, _) in files.items() if key in known}
+        left = []
+        if len(told) < len(files):
+            crate.learn_names(self.proofs.begin(crate.name).result())
+        for edit, (_, file) in files.items():
+            try:
+                left += [] if edit in told else [edits.load_edit(file, crate.texts, crate.known)]
+            except BadEdit as error:
+                told[edit] = self.tell(edit, Told("bad", "no function", str(error)))
+        for edit, it in try_in_waves(crate, left, self.flags.most):
+            told[edit] = self.tell(edit, it)
+        if left and not self.flags.self_test:
+            keep(crate.name, {files[edit][0]: it.text for edit, it in told.items() if it.kind == "refused"})
+        return told
+
+    def tell(self, edit, told):
+        """Prints what came of a wrong body, and returns it."""
+        print(f"{told.kind} {edit} in {told.name}: {told.text}", flush=True)
+        return told
+
+
+def self_test(flags):
+    """Tries planted bodies of each kind, and returns whether each was told as what it is."""
+    with tempfile.TemporaryDirectory(prefix="wrong-bodies-") as top:
+        wrong_plants.plant(top)
+        told = Run(top, flags).try_crates([])["small"]
+    wanted = {name: kind for name, (kind, _, _) in wrong_plants.PLANTS.items()}
+    missed = [name for name, kind in wanted.items() if name not in told or told[name].kind != kind]
+    print("self-test: " + (f"not told as what they are: {', '.join(missed)}" if missed else "ok"))
+    return not missed
+
+
+def main():
+    """Tries the wrong bodies, and says what came of them."""
+    parser = argparse.ArgumentParser(description=__doc__.split("\n", maxsplit=1)[0])
+    parser.add_argument("crates", nargs="*", metavar="CRATE")
+    parser.add_argument("--jobs", type=int, default=proofs.processor_count())
+    parser.add_argument("--most", type=int, default=40)
+    parser.add_argument("--anew", action="store_true")
+    parser.add_argument("--self-test", action="store_true")
+    flags = parser.parse_args()
+    if flags.self_test:
+        return 0 if self_test(flags) else 1
+    run = Run(proofs.TOP, flags)
+    run.processors.end_on_interrupt()
+    try:
+        told = run.try_crates(flags.crates)
+    except Failure as failure:
+        run.processors.end(str(failure))
+        print(f"wrong_bodies: {run.processors.ended}")
+        return 1
+    for name, of in told.items():
+        proof, waves = (run.processors.seconds[name, part] / 60 for part in ("proof", "waves"))
+        print(f"{name}: {len(of)} wrong bodies; processor minutes: its proof {proof:.1f}, its waves {waves:.1f}")
+    kinds = Counter(it.kind == "refused" for of in told.values() for it in of.values())
+    print(f"{kinds[True]} passed, {kinds[False]} failed")
+    return 1 if kinds[False] or not kinds[True] else 0
+
+
+if __name__ == "__main__":
+    sys.exit(main())

@@ -1,0 +1,74 @@
+"""A small crate and wrong bodies of each kind, for the self-test of `wrong_bodies.py` to plant."""
+import os
+
+FILES = {
+    "HANDLES": "Handles allowed: none.\n",
+    "crates.txt": "small:\n",
+    "crates/small/src/lib.rt": """//! Sums with small numbers.
+#![tactic(auto)]
+ghost use Rattle.std.specs.Prelude.{◌≡◌, ◌+◌, ◌<◌};
+
+const STEP: u64 = 1;
+
+/// The next number.
+pub fn next(x: u64) -> u64
+    requires { x < 100 }
+    ensures { result ≡ x + 1 }
+{
+    x + STEP
+}
+
+/// The next number but one.
+pub fn second(x: u64) -> u64
+    requires { x < 99 }
+    ensures { result ≡ x + 2 }
+{
+    next(next(x))
+}
+
+/// The next number but two.
+pub fn third(x: u64) -> u64
+    requires { x < 98 }
+    ensures { result ≡ x + 3 }
+{
+    second(next(x))
+}
+
+/// The first of two numbers.
+pub fn first(x: u64, y: u64) -> u64
+    ensures { result ≡ x }
+{
+    if x == y { y } else { x }
+}
+""",
+    "crates/small/proofs/third/Answers.antt": """use Rattle.std.proofs.Common.{arith}
+use Rattle.small.proofs.third.Goals as goal
+
+pub returns : goal.returns
+returns c = omega (arith, c.next.ensures, c.second.ensures)
+""",
+}
+
+# What is to be told of each wrong body, with its old text and the new one.
+PLANTS = {
+    "adds-two": ("refused", "x + STEP", "x + STEP + STEP"),
+    "adds-none": ("refused", "x + STEP", "if x + STEP == 0 { STEP } else { x }"),
+    "second-is-next": ("refused", "next(next(x))", "next(x)"),
+    "third-is-fourth": ("refused", "second(next(x))", "second(next(x)) + STEP"),
+    "third-is-second": ("gone", "second(next(x))", "second(x)"),
+    "first-is-right": ("proved", "if x == y { y } else { x }", "if y == x { y } else { x }"),
+    "third-is-right": ("proved", "second(next(x))", "{ second(next(x)) }"),
+    "first-is-no-number": ("bad", "if x == y { y } else { x }", "x == y"),
+    "stands-nowhere": ("bad", "x - STEP", "x"),
+    "changes-a-constant": ("bad", "STEP: u64 = 1", "STEP: u64 = 2"),
+    "changes-two-functions": ("bad", "next(x)", "next(x + 0)"),
+}
+
+
+def plant(top):
+    """Writes the small crate and its wrong bodies."""
+    edits = {f"crates/small/wrong/{name}.edit": f"file: src/lib.rt\nold: {old}\nnew: {new}\n" for name, (_, old, new) in PLANTS.items()}
+    for path, text in {**FILES, **edits}.items():
+        os.makedirs(os.path.dirname(f"{top}/{path}"), exist_ok=True)
+        with open(f"{top}/{path}", "w", encoding="utf-8") as it:
+            it.write(text)
