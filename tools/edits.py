@@ -99,7 +99,7 @@ def owner_names(owner):
 
 
 def names_of(function, file, known):
-    """Returns the names among the known ones that are those of a function and of the closures in it."""
+    """Returns the names among the known ones that are those of a function, which comes first, and of the closures in it."""
     path = re.sub(r"^src/|\.rt$", "", file).replace("/", "::")
     module = [] if path in ("lib", "main") else path.split("::")
     split = {name: name.split("::")[1:] for name in known}
@@ -113,9 +113,11 @@ def names_of(function, file, known):
         fits = fits or [it for it in split.values() if it[:-2] == module and like.fullmatch(it[-2]) and it[-1] == function.name]
     if len(fits) > 1:
         fits = [it for it in fits if it[: len(module)] == module]
-    own = fits[0][-2 if function.owner else -1 :] if len(fits) == 1 else None
-    inside = lambda it: "fn" in it and it[it.index("fn") + 1 :][: len(own)] == own
-    return [name for name, it in split.items() if it in fits or inside(it)] if own else []
+    if len(fits) != 1:
+        return []
+    own = fits[0][-2 if function.owner else -1 :]
+    inside = [name for name, it in split.items() if "fn" in it and it[it.index("fn") + 1 :][: len(own)] == own]
+    return [*(name for name, it in split.items() if it == fits[0]), *inside]
 
 
 # --- edits

@@ -5,8 +5,8 @@ Each crate begins once those below it are proved, those first on which most stan
 waits for. Standard error tells of each. A program is built besides, and its file `out/NAME.built` is then as old as the
 beginning of the run. An interrupt ends what was begun.
 """
+import contextlib
 import os
-import re
 import signal
 import subprocess
 import sys
@@ -82,7 +82,7 @@ class Processors:
                 child = subprocess.Popen(command, cwd=folder, stdin=subprocess.DEVNULL, stdout=out, stderr=out, start_new_session=True)
                 self.running.add(child.pid)
             _, status, used = os.wait4(child.pid, 0)
-            child.returncode = os.waitstatus_to_exitcode(status)
+            child.returncode = os.WEXITSTATUS(status) if os.WIFEXITED(status) else -os.WTERMSIG(status)
             with self.changed:
                 self.running.discard(child.pid)
                 self.seconds[part] += used.ru_utime + used.ru_stime
@@ -101,7 +101,8 @@ class Processors:
         with self.changed:
             self.ended = self.ended or why
             for it in self.running:
-                os.killpg(it, signal.SIGINT)
+                with contextlib.suppress(ProcessLookupError):
+                    os.killpg(it, signal.SIGINT)
             self.changed.notify_all()
 
 

@@ -29,10 +29,9 @@ from concurrent.futures import ThreadPoolExecutor
 from typing import NamedTuple
 
 import edits
-import proofs
 import wrong_plants
 from edits import BadEdit
-from proofs import Crates, Failure, Processors, Proofs
+from proofs import TOP, Crates, Failure, Processors, Proofs, processor_count
 
 PARTS = ("src", "specs", "proofs")
 KEPT = os.path.join(os.environ.get("XDG_CACHE_HOME") or os.path.expanduser("~/.cache"), "woltsjem", "wrong_bodies")
@@ -109,12 +108,15 @@ class Tried:
         self.texts, self.known = edits.read_texts(self.folder), []
 
     def files(self):
-        """Returns the files of its wrong bodies."""
+        """Returns the files of its wrong bodies, by their names."""
         folders = [it for it in (f"{self.folder}/must-fail", f"{self.folder}/wrong") if os.path.isdir(it)]
-        return [f"{at}/{it}" for at in folders for it in sorted(os.listdir(at)) if it.endswith(".edit")]
+        files = [(it[: -len(".edit")], f"{at}/{it}") for at in folders for it in sorted(os.listdir(at)) if it.endswith(".edit")]
+        if len(dict(files)) < len(files):
+            raise Failure(f"two wrong bodies of {self.name} have one name")
+        return dict(files)
 
     def keys(self):
-        """Returns its wrong bodies' files, by the sum of all that a try of each reads."""
+        """Returns for each of its wrong bodies, by their names, the sum of all that a try of it reads."""
         total = hashlib.sha256(subprocess.run(["rt", "version"], stdout=subprocess.PIPE, check=True).stdout)
         read = [__file__, edits.__file__]
         for name in [*self.below, self.name]:
@@ -123,7 +125,8 @@ class Tried:
             read += sorted(f"{at}/{it}" for folder in folders for at, _, names in os.walk(folder) for it in names)
         for file in read:
             total.update(f"{os.path.basename(file)} {sum_of(file)}\n".encode())
-        return {hashlib.sha256(f"{total.hexdigest()} {sum_of(it)}".encode()).hexdigest(): it for it in self.files()}
+        of = lambda file: hashlib.sha256(f"{total.hexdigest()} {sum_of(file)}".encode()).hexdigest()
+        return {name: of(file) for name, file in self.files().items()}
 
     def check(self, folder):
         """Checks this crate, or a copy of it, and returns what was said and the status."""
@@ -232,12 +235,15 @@ def kept(crate):
 
 
 def keep(crate, refused):
-    """Keeps what was refused, with the latest of what earlier runs kept, in one step."""
+    """Keeps what was refused, with the latest of what earlier runs kept, in one step; where that can't be, the next run tries it again."""
     entries = list({**kept(crate), **refused}.items())[-MOST_KEPT:]
-    os.makedirs(KEPT, 0o700, exist_ok=True)
-    with tempfile.NamedTemporaryFile("w", dir=KEPT, delete=False, encoding="utf-8") as it:
-        json.dump(entries, it, indent=0)
-    os.replace(it.name, f"{KEPT}/{crate}.json")
+    try:
+        os.makedirs(KEPT, 0o700, exist_ok=True)
+        with tempfile.NamedTemporaryFile("w", dir=KEPT, delete=False, encoding="utf-8") as it:
+            json.dump(entries, it, indent=0)
+        os.replace(it.name, f"{KEPT}/{crate}.json")
+    except OSError as error:
+        print(f"wrong_bodies: what was refused of {crate} is not kept: {error}")
 
 
 # --- the whole
@@ -259,13 +265,11 @@ class Run:
 
     def try_crate(self, crate):
         """Tries those wrong bodies of a crate that were not refused earlier, and returns what came of each."""
-        known = {} if self.flags.anew else kept(crate.name)
-        files = {os.path.basename(file)[: -len(".edit")]: (key, file) for key, file in crate.keys().items()}
-        told = {edit: Told("refused", "", known[key]) for edit, (key, _) in files.items() if key in known}
-        left = []
-        if len(told) < len(files):
+        keys, known, left = crate.keys(), {} if self.flags.anew else kept(crate.name), []
+        told = {edit: Told("refused", "", known[key]) for edit, key in keys.items() if key in known}
+        if len(told) < len(keys):
             crate.learn_names(self.proofs.begin(crate.name).result())
-        for edit, (_, file) in files.items():
+        for edit, file in crate.files().items():
             try:
                 left += [] if edit in told else [edits.load_edit(file, crate.texts, crate.known)]
             except BadEdit as error:
@@ -273,7 +277,7 @@ class Run:
         for edit, it in try_in_waves(crate, left, self.flags.most):
             told[edit] = self.tell(edit, it)
         if left and not self.flags.self_test:
-            keep(crate.name, {files[edit][0]: it.text for edit, it in told.items() if it.kind == "refused"})
+            keep(crate.name, {keys[edit]: it.text for edit, it in told.items() if it.kind == "refused"})
         return told
 
     def tell(self, edit, told):
@@ -297,14 +301,14 @@ def main():
     """Tries the wrong bodies, and says what came of them."""
     parser = argparse.ArgumentParser(description=__doc__.split("\n", maxsplit=1)[0])
     parser.add_argument("crates", nargs="*", metavar="CRATE")
-    parser.add_argument("--jobs", type=int, default=proofs.processor_count())
+    parser.add_argument("--jobs", type=int, default=processor_count())
     parser.add_argument("--most", type=int, default=40)
     parser.add_argument("--anew", action="store_true")
     parser.add_argument("--self-test", action="store_true")
     flags = parser.parse_args()
     if flags.self_test:
         return 0 if self_test(flags) else 1
-    run = Run(proofs.TOP, flags)
+    run = Run(TOP, flags)
     run.processors.end_on_interrupt()
     try:
         told = run.try_crates(flags.crates)
