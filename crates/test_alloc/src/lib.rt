@@ -2,6 +2,7 @@
 #![tactic(auto)]
 
 mod asking;
+mod trials;
 mod tries;
 
 pub use asking::{
@@ -9,6 +10,10 @@ pub use asking::{
 };
 use std::alloc::{AllocError, Allocator};
 use std::cell::Cell;
+pub use trials::{
+    Check, Conversion, Edit, Making, Trial, first_wrong_trial, try_clone_checked, try_conversion,
+    try_edit, try_making, try_use_checked,
+};
 pub use tries::{
     Ending, LENGTHS, each_refused, first_wrong_call, takes_memory, try_change, try_clone,
     try_convert, try_make, try_use,

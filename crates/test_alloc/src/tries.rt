@@ -27,8 +27,8 @@ pub enum Ending {
     Wrong,
 }
 
-// The ending of a call that succeeded.
-fn done_if(is_right: bool) -> Ending {
+/// The ending of a call that succeeded.
+pub fn done_if(is_right: bool) -> Ending {
     if is_right {
         Ending::Done
     } else {
@@ -36,8 +36,8 @@ fn done_if(is_right: bool) -> Ending {
     }
 }
 
-// The ending of a call that was refused.
-fn out_of_memory_if(is_right: bool) -> Ending {
+/// The ending of a call that was refused.
+pub fn out_of_memory_if(is_right: bool) -> Ending {
     if is_right {
         Ending::OutOfMemory
     } else {
