@@ -3,5 +3,4 @@
 mod memory;
 mod minima;
 mod queries;
-mod ranges;
 mod scans;

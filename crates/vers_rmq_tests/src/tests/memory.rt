@@ -1,12 +1,12 @@
 //! Every call that takes memory, each of its requests refused in turn, and the queries, which take none, of
 //! lists of every length.
-use crate::tests::minima::{RangeMinima, binary_of, binary_of_iter, fast_of, fast_of_iter};
+use crate::tests::minima::{MadeOf, RangeMinima, least, least_in, made};
 use std::alloc::{AllocError, Allocator, Global};
+use std::marker::PhantomData;
 use std::ops::Bound;
-use std::test::Fail;
 use test_alloc::{
-    Ending, LENGTHS, Refusing, asked, each_refused, first_wrong_call, first_wrong_length,
-    try_clone, try_convert, try_make, try_use,
+    Check, Conversion, Ending, LENGTHS, Making, Refusing, Trial, first_wrong_trial,
+    try_clone_checked, try_conversion, try_making, try_use_checked,
 };
 use vers_bits::bit_vec::GrowError;
 use vers_rmq::rmq::binary_rmq::BinaryRmq;
@@ -23,201 +23,164 @@ fn items_of<A: Allocator + Copy>(alloc: A, n: usize) -> Result<Vec<u64, A>, Allo
 
 // Whether a list has these items, and answers the first least one of each range from the start.
 fn is_of<R: RangeMinima>(minima: &R, items: &[u64]) -> bool {
-    let mut least = u64::MAX;
+    let mut lowest = u64::MAX;
     let mut place = 0usize;
     for (k, item) in items.iter().enumerate() {
-        if *item < least {
-            least = *item;
+        if *item < lowest {
+            lowest = *item;
             place = k;
         }
-        if !minima.least(0, k).is_some_and(|found| found.place == place) {
+        if least(minima, 0, k) != Some(place) {
             return false;
         }
     }
     minima.numbers() == items
 }
 
-fn binary_of_vec<A: Allocator + Copy>(items: Vec<u64, A>) -> Result<BinaryRmq<A>, AllocError> {
-    if items.len() > vers_rmq::rmq::binary_rmq::MAX_LEN {
-        return Err(AllocError);
+// Makers of lists of some items, and what these have to answer.
+#[derive(Drop)]
+struct OfItems<'a, A, R> {
+    alloc: A,
+    items: &'a [u64],
+    lists: PhantomData<R>,
+}
+
+impl<A: Allocator + Copy, R: MadeOf<A>> Conversion<R::Items> for OfItems<'_, A, R> {
+    type Made = R;
+
+    type Refused = AllocError;
+
+    fn convert(&self, items: R::Items) -> Result<R, AllocError> {
+        R::of_vec(items)
     }
-    BinaryRmq::from_vec(items)
-}
 
-fn fast_of_vec<A: Allocator + Copy>(items: Vec<u64, A>) -> Result<FastRmq<A>, AllocError> {
-    if items.len() > vers_rmq::rmq::fast_rmq::MAX_LEN {
-        return Err(AllocError);
+    fn is_right(&self, minima: &R) -> bool {
+        is_of(minima, self.items)
     }
-    FastRmq::from_vec(items)
+
+    fn is_kept(&self, _: AllocError) -> bool {
+        true
+    }
 }
 
-// The two types.
-#[derive(Clone, Copy, Drop)]
-enum Kind {
-    Binary,
-    Fast,
+impl<A: Allocator + Copy, R: MadeOf<A>> Making for OfItems<'_, A, R> {
+    type Made = R;
+
+    type Fault = GrowError;
+
+    fn out_of_memory(&self) -> GrowError {
+        GrowError::Memory
+    }
+
+    fn make(&self) -> Result<R, GrowError> {
+        R::of_iter(self.alloc, self.items)
+    }
+
+    fn is_right(&self, minima: &R) -> bool {
+        is_of(minima, self.items)
+    }
 }
 
-// A call of a type that takes memory.
+impl<A, R: RangeMinima> Check<R> for OfItems<'_, A, R> {
+    fn is_right(&self, minima: &mut R) -> bool {
+        let whole = least_in(minima, Bound::Unbounded, Bound::Unbounded);
+        minima.count() == self.items.len()
+            && minima.has_none() == self.items.is_empty()
+            && (minima.bytes() > 0) == !self.items.is_empty()
+            && whole.is_some() == !self.items.is_empty()
+            && is_of(minima, self.items)
+    }
+}
+
+// A call. The queries take no memory.
 #[derive(Clone, Copy, Drop)]
 enum Call {
-    FromVec(Kind),
-    FromIter(Kind),
-    Clone(Kind),
+    OfVec,
+    OfIter,
+    Clone,
+    Queries,
 }
 
-const CALLS: [Call; 6] = [
-    Call::FromVec(Kind::Binary),
-    Call::FromVec(Kind::Fast),
-    Call::FromIter(Kind::Binary),
-    Call::FromIter(Kind::Fast),
-    Call::Clone(Kind::Binary),
-    Call::Clone(Kind::Fast),
-];
-
-fn tried_of_vec<B: Allocator, V: Drop, R: RangeMinima, M: Fn(V) -> Result<R, AllocError>>(
+fn tried_of<A: Allocator + Copy, R: MadeOf<A>, B: Allocator>(
     heap: &Refusing<B>,
-    vec: Result<V, AllocError>,
-    items: &[u64],
-    make: M,
-) -> Ending
-    requires { M.IsAlwaysCallable make }
-{
-    try_convert(
-        heap,
-        vec,
-        make,
-        |minima: &R| is_of(minima, items),
-        |_: AllocError| true,
-    )
-}
-
-fn tried_of_iter<B: Allocator, R: RangeMinima, M: Fn() -> Result<R, GrowError>>(
-    heap: &Refusing<B>,
-    items: &[u64],
-    make: M,
-) -> Ending
-    requires { M.IsAlwaysCallable make }
-{
-    try_make(
-        heap,
-        GrowError::Memory,
-        make,
-        |minima: &R| is_of(minima, items),
-    )
-}
-
-fn tried_clone<B: Allocator, R: RangeMinima + Clone>(
-    heap: &Refusing<B>,
-    items: &[u64],
-    made: Result<R, AllocError>,
+    call: Call,
+    of: &OfItems<'_, A, R>,
 ) -> Ending {
-    try_clone(heap, made, |minima: &mut R| is_of(minima, items))
+    match call {
+        Call::OfVec => try_conversion(heap, R::vec_of(of.alloc, of.items), of),
+        Call::OfIter => try_making(heap, of),
+        Call::Clone => try_clone_checked(heap, made::<A, R>(of.alloc, of.items), of),
+        Call::Queries => try_use_checked(heap, made::<A, R>(of.alloc, of.items), of),
+    }
 }
 
-fn tried<B: Allocator, A: Allocator + Copy>(
+fn tried<A: Allocator + Copy, R: MadeOf<A>, B: Allocator>(
     heap: &Refusing<B>,
     alloc: A,
     call: Call,
-    items: &[u64],
+    len: usize,
 ) -> Ending {
-    match call {
-        Call::FromVec(Kind::Binary) => {
-            tried_of_vec(
-                heap,
-                items_of(alloc, items.len()),
-                items,
-                |items: Vec<u64, A>| binary_of_vec(items),
-            )
+    match items_of(alloc, len) {
+        Ok(items) => {
+            let of = OfItems::<A, R> {
+                alloc,
+                items: items.as_slice(),
+                lists: PhantomData,
+            };
+            tried_of(heap, call, &of)
         }
-        Call::FromVec(Kind::Fast) => {
-            tried_of_vec(
-                heap,
-                items_of(alloc, items.len()),
-                items,
-                |items: Vec<u64, A>| fast_of_vec(items),
-            )
-        }
-        Call::FromIter(Kind::Binary) => {
-            tried_of_iter(heap, items, || binary_of_iter(alloc, items))
-        }
-        Call::FromIter(Kind::Fast) => tried_of_iter(heap, items, || fast_of_iter(alloc, items)),
-        Call::Clone(Kind::Binary) => tried_clone(heap, items, binary_of(alloc, items)),
-        Call::Clone(Kind::Fast) => tried_clone(heap, items, fast_of(alloc, items)),
+        Err(_) => Ending::Wrong,
     }
 }
 
-// The number of the first call that goes wrong, or takes memory for no items, or takes none for some.
-fn wrong_call_of(alloc: Global, items: &[u64]) -> Option<usize> {
-    first_wrong_call(
-        alloc,
-        &CALLS,
-        |_: Call| !items.is_empty(),
-        |heap: &Refusing<Global>, call: Call| tried(heap, heap, call, items),
-    )
+// A call of one type or the other.
+#[derive(Clone, Copy, Drop)]
+enum CallOf {
+    Binary(Call),
+    Fast(Call),
 }
+
+impl Trial<Global> for CallOf {
+    fn run(self, heap: &Refusing<Global>, len: usize) -> Ending {
+        match self {
+            CallOf::Binary(call) => {
+                tried::<_, BinaryRmq<&Refusing<Global>>, Global>(heap, heap, call, len)
+            }
+            CallOf::Fast(call) => tried::<_, FastRmq<&Refusing<Global>>, Global>(
+                heap, heap, call, len,
+            ),
+        }
+    }
+
+    fn takes_memory(self, len: usize) -> bool {
+        match self {
+            CallOf::Binary(Call::Queries) | CallOf::Fast(Call::Queries) => false,
+            _ => len > 0,
+        }
+    }
+}
+
+const CALLS: [CallOf; 8] = [
+    CallOf::Binary(Call::OfVec),
+    CallOf::Binary(Call::OfIter),
+    CallOf::Binary(Call::Clone),
+    CallOf::Binary(Call::Queries),
+    CallOf::Fast(Call::OfVec),
+    CallOf::Fast(Call::OfIter),
+    CallOf::Fast(Call::Clone),
+    CallOf::Fast(Call::Queries),
+];
 
 // More than two blocks of 128 items, and the last of them not whole.
 const MANY: usize = 300;
 
 #[test]
-fn calls_are_refused_in_turn(rt: HostRuntime) -> Result<(), Fail> {
-    for lengths in [LENGTHS.as_slice(), &[MANY]] {
-        let wrong = first_wrong_length(
-            lengths,
-            |len| items_of(rt.alloc(), len),
-            |items: &Vec<u64>| wrong_call_of(rt.alloc(), items.as_slice()),
-        )?;
-        assert_eq!(rt; wrong, None, "a length and a row");
-    }
-    Ok(())
-}
-
-// Whether all queries of a list of these items answer.
-fn queries_work<R: RangeMinima>(minima: &R, items: &[u64]) -> bool {
-    let whole = minima.least_in(Bound::Unbounded, Bound::Unbounded);
-    minima.count() == items.len()
-        && minima.has_none() == items.is_empty()
-        && (minima.bytes() > 0) == !items.is_empty()
-        && whole.is_some() == !items.is_empty()
-        && is_of(minima, items)
-}
-
-fn tried_queries<B: Allocator, A: Allocator + Copy>(
-    heap: &Refusing<B>,
-    alloc: A,
-    kind: Kind,
-    items: &[u64],
-) -> Ending {
-    match kind {
-        Kind::Binary => try_use(
-            heap,
-            binary_of(alloc, items),
-            |minima: &mut BinaryRmq<A>| queries_work(minima, items),
-        ),
-        Kind::Fast => try_use(
-            heap,
-            fast_of(alloc, items),
-            |minima: &mut FastRmq<A>| queries_work(minima, items),
-        ),
-    }
-}
-
-// Whether the queries of both types take no memory.
-fn take_none(alloc: Global, items: &[u64]) -> bool {
-    let is_binary = |heap: &Refusing<Global>| tried_queries(heap, heap, Kind::Binary, items);
-    let is_fast = |heap: &Refusing<Global>| tried_queries(heap, heap, Kind::Fast, items);
-    each_refused(alloc, is_binary) == Ok(0) && each_refused(alloc, is_fast) == Ok(0)
-}
-
-#[test]
-fn queries_take_no_memory(rt: HostRuntime) -> Result<(), Fail> {
-    for len in LENGTHS {
-        let take_none = asked(
-            items_of(rt.alloc(), len),
-            |items| take_none(rt.alloc(), items.as_slice()),
-        )?;
-        assert!(rt; take_none, "of {len}");
-    }
-    Ok(())
+fn calls_are_refused_in_turn(rt: HostRuntime) {
+    let of_all_lengths = first_wrong_trial(rt.alloc(), &LENGTHS, &CALLS);
+    let of_many = first_wrong_trial(rt.alloc(), &[MANY], &CALLS);
+    assert_eq!(rt;
+        (of_all_lengths, of_many),
+        (None, None),
+        "a length and a row"
+    );
 }

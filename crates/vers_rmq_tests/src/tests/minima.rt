@@ -10,17 +10,12 @@ use vers_rmq::rmq::binary_rmq::BinaryRmq;
 use vers_rmq::rmq::fast_rmq::FastRmq;
 use vers_tally::tally::Tally;
 
-/// A place that was answered, and how many items were read for it.
-#[derive(Clone, Copy, Drop)]
-pub struct Found {
-    pub place: usize,
-    pub items: u64,
-}
-
-/// What both types are asked. A query is asked only where its condition holds, and None is answered
-/// too where its counted form has another answer.
-pub trait RangeMinima: Drop {
+/// What both types are asked.
+pub trait RangeMinima: Clone + Drop {
     ghost item_count: { Self → ℕ };
+
+    /// The most items that one query reads.
+    const MOST_READS: u64;
 
     fn numbers(&self) -> &[u64];
 
@@ -51,25 +46,52 @@ pub trait RangeMinima: Drop {
         requires start { start_index start < 2 ^ 64 }
         requires end { 0 < end_index end (item_count self.now) }
         requires order { start_place start (item_count self.now) ≤ end_place end (item_count self.now) };
+}
 
-    fn least(&self, i: usize, j: usize) -> Option<Found> {
-        if i > j || j >= self.count() {
-            return None;
-        }
-        let mut tally = Tally::new();
-        let place = self.place_counted(i, j, &mut tally);
-        let items = tally.items();
-        (self.place(i, j) == place).then(|| Found { place, items })
+/// How both types are made, with memory of an allocator.
+pub trait MadeOf<A>: RangeMinima {
+    /// A vector of items.
+    type Items: Drop;
+
+    fn vec_of(alloc: A, items: &[u64]) -> Result<Self::Items, AllocError>;
+
+    /// Refused, as if there were no memory, where there are too many items.
+    fn of_vec(items: Self::Items) -> Result<Self, AllocError>;
+
+    /// The items of an iterator.
+    fn of_iter(alloc: A, items: &[u64]) -> Result<Self, GrowError>;
+}
+
+/// The place of the first least item from `i` to `j`. None of a range that the list does not have, and
+/// where the counted form answers another place, or reads more items than it may.
+pub fn least<R: RangeMinima>(minima: &R, i: usize, j: usize) -> Option<usize> {
+    if i > j || j >= minima.count() {
+        return None;
     }
+    let mut tally = Tally::new();
+    let place = minima.place_counted(i, j, &mut tally);
+    if tally.items() <= R::MOST_READS && minima.place(i, j) == place {
+        Some(place)
+    } else {
+        None
+    }
+}
 
-    fn least_in(&self, start: Bound<usize>, end: Bound<usize>) -> Option<Found> {
-        if !may_ask(start, end, self.count()) {
-            return None;
-        }
-        let mut tally = Tally::new();
-        let place = self.place_in_counted(start, end, &mut tally);
-        let items = tally.items();
-        (self.place_in(start, end) == place).then(|| Found { place, items })
+/// The same of a range with ends.
+pub fn least_in<R: RangeMinima>(
+    minima: &R,
+    start: Bound<usize>,
+    end: Bound<usize>,
+) -> Option<usize> {
+    if !may_ask(start, end, minima.count()) {
+        return None;
+    }
+    let mut tally = Tally::new();
+    let place = minima.place_in_counted(start, end, &mut tally);
+    if tally.items() <= R::MOST_READS && minima.place_in(start, end) == place {
+        Some(place)
+    } else {
+        None
     }
 }
 
@@ -106,8 +128,29 @@ fn may_ask(start: Bound<usize>, end: Bound<usize>, n: usize) -> bool
     first.min(n - 1) <= last.min(n - 1)
 }
 
+impl<A: Allocator + Copy> MadeOf<A> for BinaryRmq<A> {
+    type Items = Vec<u64, A>;
+
+    fn vec_of(alloc: A, items: &[u64]) -> Result<Vec<u64, A>, AllocError> {
+        Vec::from_slice(alloc, items)
+    }
+
+    fn of_vec(items: Vec<u64, A>) -> Result<Self, AllocError> {
+        if items.len() > vers_rmq::rmq::binary_rmq::MAX_LEN {
+            return Err(AllocError);
+        }
+        BinaryRmq::from_vec(items)
+    }
+
+    fn of_iter(alloc: A, items: &[u64]) -> Result<Self, GrowError> {
+        BinaryRmq::from_iter(alloc, items.iter().copied())
+    }
+}
+
 impl<A: Allocator + Copy> RangeMinima for BinaryRmq<A> {
     ghost item_count = { λ items. length items };
+
+    const MOST_READS: u64 = 2;
 
     fn numbers(&self) -> &[u64] {
         self.as_slice()
@@ -139,12 +182,33 @@ impl<A: Allocator + Copy> RangeMinima for BinaryRmq<A> {
 
     fn place_in_counted(&self, start: Bound<usize>, end: Bound<usize>, tally: &mut Tally) -> usize {
         self.range_min_with_range_counted(start, end, tally)
+    }
+}
+
+impl<A: Allocator + Copy> MadeOf<A> for FastRmq<A> {
+    type Items = Vec<u64, A>;
+
+    fn vec_of(alloc: A, items: &[u64]) -> Result<Vec<u64, A>, AllocError> {
+        Vec::from_slice(alloc, items)
+    }
+
+    fn of_vec(items: Vec<u64, A>) -> Result<Self, AllocError> {
+        if items.len() > vers_rmq::rmq::fast_rmq::MAX_LEN {
+            return Err(AllocError);
+        }
+        FastRmq::from_vec(items)
+    }
+
+    fn of_iter(alloc: A, items: &[u64]) -> Result<Self, GrowError> {
+        FastRmq::from_iter(alloc, items.iter().copied())
     }
 }
 
 impl<A: Allocator + Copy> RangeMinima for FastRmq<A> {
     ghost item_count = { λ items. length items };
 
+    const MOST_READS: u64 = 18;
+
     fn numbers(&self) -> &[u64] {
         self.as_slice()
     }
@@ -178,37 +242,10 @@ impl<A: Allocator + Copy> RangeMinima for FastRmq<A> {
     }
 }
 
-/// The `BinaryRmq` of numbers that are not too many.
-pub fn binary_of<A: Allocator + Copy>(
-    alloc: A,
-    numbers: &[u64],
-) -> Result<BinaryRmq<A>, AllocError> {
-    if numbers.len() > vers_rmq::rmq::binary_rmq::MAX_LEN {
-        return Err(AllocError);
+/// The range minima of numbers.
+pub fn made<A, R: MadeOf<A>>(alloc: A, numbers: &[u64]) -> Result<R, AllocError> {
+    match R::vec_of(alloc, numbers) {
+        Ok(items) => R::of_vec(items),
+        Err(fault) => Err(fault),
     }
-    BinaryRmq::from_vec(Vec::from_slice(alloc, numbers)?)
-}
-
-/// The `FastRmq` of numbers that are not too many.
-pub fn fast_of<A: Allocator + Copy>(alloc: A, numbers: &[u64]) -> Result<FastRmq<A>, AllocError> {
-    if numbers.len() > vers_rmq::rmq::fast_rmq::MAX_LEN {
-        return Err(AllocError);
-    }
-    FastRmq::from_vec(Vec::from_slice(alloc, numbers)?)
-}
-
-/// The `BinaryRmq` of numbers, by an iterator.
-pub fn binary_of_iter<A: Allocator + Copy>(
-    alloc: A,
-    numbers: &[u64],
-) -> Result<BinaryRmq<A>, GrowError> {
-    BinaryRmq::from_iter(alloc, numbers.iter().copied())
-}
-
-/// The `FastRmq` of numbers, by an iterator.
-pub fn fast_of_iter<A: Allocator + Copy>(
-    alloc: A,
-    numbers: &[u64],
-) -> Result<FastRmq<A>, GrowError> {
-    FastRmq::from_iter(alloc, numbers.iter().copied())
 }

@@ -1,9 +1,10 @@
-//! The queries of both types.
-use crate::tests::minima::{RangeMinima, binary_of, binary_of_iter, fast_of, fast_of_iter};
-use std::alloc::{AllocError, Allocator};
+//! The queries of both types, of lists that were made in both ways and of their copies, and their sizes.
+use crate::tests::minima::{MadeOf, RangeMinima, least, least_in, made};
+use std::alloc::{AllocError, Allocator, Global};
 use std::ops::Bound;
-use std::test::Fail;
-use test_alloc::{asked, first_wrong};
+use test_alloc::first_wrong;
+use vers_rmq::rmq::binary_rmq::BinaryRmq;
+use vers_rmq::rmq::fast_rmq::FastRmq;
 
 // What is asked of a list.
 #[derive(Clone, Copy, Drop)]
@@ -14,8 +15,13 @@ enum Query {
     LeastIn(Bound<usize>, Bound<usize>),
 }
 
+// What is asked, and the answer.
+type Row = (Query, Option<usize>);
+
+const GREATEST: usize = usize::MAX;
+
 // The items, what is asked and the answers.
-const CASES: [(&[u64], &[(Query, Option<usize>)]); 4] = [
+const CASES: [(&[u64], &[Row]); 5] = [
     (
         &[],
         &[
@@ -37,6 +43,20 @@ const CASES: [(&[u64], &[(Query, Option<usize>)]); 4] = [
         ],
     ),
     (
+        &[3, 1, 2, 1, 1],
+        &[
+            (Query::Least(0, 4), Some(1)),
+            (Query::Least(2, 4), Some(3)),
+            (Query::Least(4, 4), Some(4)),
+            (Query::LeastIn(Bound::Unbounded, Bound::Unbounded), Some(1)),
+            (
+                Query::LeastIn(Bound::Excluded(1), Bound::Unbounded),
+                Some(3),
+            ),
+        ],
+    ),
+    // Each range answers its last place.
+    (
         &[5, 4, 3, 2, 1],
         &[
             (
@@ -52,7 +72,27 @@ const CASES: [(&[u64], &[(Query, Option<usize>)]); 4] = [
                 Some(3),
             ),
             (
-                Query::LeastIn(Bound::Unbounded, Bound::Excluded(usize::MAX)),
+                Query::LeastIn(Bound::Included(0), Bound::Included(0)),
+                Some(0),
+            ),
+            (
+                Query::LeastIn(Bound::Included(0), Bound::Excluded(1)),
+                Some(0),
+            ),
+            (
+                Query::LeastIn(Bound::Unbounded, Bound::Included(0)),
+                Some(0),
+            ),
+            (
+                Query::LeastIn(Bound::Unbounded, Bound::Excluded(1)),
+                Some(0),
+            ),
+            (
+                Query::LeastIn(Bound::Unbounded, Bound::Included(GREATEST)),
+                Some(4),
+            ),
+            (
+                Query::LeastIn(Bound::Unbounded, Bound::Excluded(GREATEST)),
                 Some(4),
             ),
             (
@@ -61,22 +101,50 @@ const CASES: [(&[u64], &[(Query, Option<usize>)]); 4] = [
             ),
         ],
     ),
+    // Each range answers its first place. The last four start past the last place, and two of these past
+    // their end, but both ends are cut to the last place.
     (
-        &[3, 1, 2, 1, 1],
+        &[1, 2, 3, 4, 5],
         &[
-            (Query::Least(0, 4), Some(1)),
-            (Query::Least(2, 4), Some(3)),
-            (Query::Least(4, 4), Some(4)),
+            (Query::LeastIn(Bound::Unbounded, Bound::Unbounded), Some(0)),
+            (
+                Query::LeastIn(Bound::Included(0), Bound::Unbounded),
+                Some(0),
+            ),
+            (
+                Query::LeastIn(Bound::Excluded(0), Bound::Unbounded),
+                Some(1),
+            ),
+            (
+                Query::LeastIn(Bound::Excluded(0), Bound::Excluded(2)),
+                Some(1),
+            ),
+            (
+                Query::LeastIn(Bound::Included(2), Bound::Included(GREATEST)),
+                Some(2),
+            ),
+            (
+                Query::LeastIn(Bound::Excluded(1), Bound::Excluded(GREATEST)),
+                Some(2),
+            ),
+            (
+                Query::LeastIn(Bound::Included(GREATEST), Bound::Unbounded),
+                Some(4),
+            ),
+            (
+                Query::LeastIn(Bound::Excluded(GREATEST - 1), Bound::Included(GREATEST)),
+                Some(4),
+            ),
+            (
+                Query::LeastIn(Bound::Included(9), Bound::Included(7)),
+                Some(4),
+            ),
+            (
+                Query::LeastIn(Bound::Excluded(9), Bound::Excluded(6)),
+                Some(4),
+            ),
         ],
     ),
-];
-
-// How many items there are, and the sizes of both types.
-const SIZES: [(usize, usize, usize); 4] = [
-    (0, 0, 0),
-    (11, 308, 165),
-    (128, 5120, 1101),
-    (300, 14400, 2655),
 ];
 
 // The answer of one query, a truth value as 1 or 0.
@@ -84,56 +152,55 @@ fn answer<R: RangeMinima>(minima: &R, query: Query) -> Option<usize> {
     match query {
         Query::Len => Some(minima.count()),
         Query::IsEmpty => Some(usize::from(minima.has_none())),
-        Query::Least(i, j) => minima.least(i, j).map(|found| found.place),
-        Query::LeastIn(start, end) => minima.least_in(start, end).map(|found| found.place),
+        Query::Least(i, j) => least(minima, i, j),
+        Query::LeastIn(start, end) => least_in(minima, start, end),
     }
 }
 
-// The number of the first query of a list that is answered wrong.
-fn first_wrong_answer<R: RangeMinima>(
-    minima: &R,
-    rows: &[(Query, Option<usize>)],
-) -> Option<usize> {
-    first_wrong(
-        minima,
-        rows,
-        |minima: &R, query: Query| answer(minima, query),
-    )
+// The number of the first row of a list and of its copy that has another answer; as many as there are
+// rows where a list was not made.
+fn wrong_row_of<R: RangeMinima, E: Drop>(made: Result<R, E>, rows: &[Row]) -> Option<usize> {
+    match made {
+        Ok(minima) => first_wrong(&minima, rows, answer::<R>).or(wrong_row_of_copy(&minima, rows)),
+        Err(_) => Some(rows.len()),
+    }
 }
 
-// The same of a list that was made, and of its copy; as many as there are rows where there is no copy.
-fn first_wrong_of<R: RangeMinima + Clone, E>(
-    made: Result<R, E>,
-    rows: &[(Query, Option<usize>)],
-) -> Result<Option<usize>, E> {
-    asked(
-        made,
-        |minima: &R| first_wrong_answer(minima, rows).or(first_wrong_of_copy(minima, rows)),
-    )
-}
-
-fn first_wrong_of_copy<R: RangeMinima + Clone>(
-    minima: &R,
-    rows: &[(Query, Option<usize>)],
-) -> Option<usize> {
+fn wrong_row_of_copy<R: RangeMinima>(minima: &R, rows: &[Row]) -> Option<usize> {
     let copy: Result<_, _> = minima.clone();
-    asked(copy, |copy: &R| first_wrong_answer(copy, rows)).unwrap_or(Some(rows.len()))
+    match copy {
+        Ok(second) => first_wrong(&second, rows, answer::<R>),
+        Err(_) => Some(rows.len()),
+    }
+}
+
+// The same of lists of these numbers, made in both ways.
+fn wrong_row<A: Allocator + Copy, R: MadeOf<A>>(
+    alloc: A,
+    numbers: &[u64],
+    rows: &[Row],
+) -> Option<usize> {
+    wrong_row_of(made::<A, R>(alloc, numbers), rows).or(wrong_row_of(
+        R::of_iter(alloc, numbers),
+        rows,
+    ))
+}
+
+// The first case that is answered wrong, and its row.
+fn first_wrong_case<A: Allocator + Copy, R: MadeOf<A>>(alloc: A) -> Option<(usize, usize)> {
+    for (case, (numbers, rows)) in CASES.iter().enumerate() {
+        if let Some(row) = wrong_row::<A, R>(alloc, numbers, rows) {
+            return Some((case, row));
+        }
+    }
+    None
 }
 
 #[test]
-fn queries_and_their_answers(rt: HostRuntime) -> Result<(), Fail> {
-    let alloc = rt.alloc();
-    for (case, (numbers, rows)) in CASES.iter().enumerate() {
-        let wrong = first_wrong_of(binary_of(alloc, numbers), rows)?;
-        assert_eq!(rt; wrong, None, "case {case}, binary");
-        let wrong = first_wrong_of(binary_of_iter(alloc, numbers), rows)?;
-        assert_eq!(rt; wrong, None, "case {case}, binary of an iterator");
-        let wrong = first_wrong_of(fast_of(alloc, numbers), rows)?;
-        assert_eq!(rt; wrong, None, "case {case}, fast");
-        let wrong = first_wrong_of(fast_of_iter(alloc, numbers), rows)?;
-        assert_eq!(rt; wrong, None, "case {case}, fast of an iterator");
-    }
-    Ok(())
+fn queries_and_their_answers(rt: HostRuntime) {
+    let binary = first_wrong_case::<Global, BinaryRmq<Global>>(rt.alloc());
+    let fast = first_wrong_case::<Global, FastRmq<Global>>(rt.alloc());
+    assert_eq!(rt; (binary, fast), (None, None), "a case and a row");
 }
 
 // `n` items that are all 7.
@@ -143,36 +210,74 @@ fn sevens<A: Allocator + Copy>(alloc: A, n: usize) -> Result<Vec<u64, A>, AllocE
     Ok(numbers)
 }
 
-#[test]
-fn sizes(rt: HostRuntime) -> Result<(), Fail> {
-    for (n, binary, fast) in SIZES {
-        let numbers = sevens(rt.alloc(), n)?;
-        let bytes = asked(
-            binary_of(rt.alloc(), numbers.as_slice()),
-            |minima| minima.bytes(),
-        )?;
-        assert_eq!(rt; bytes, binary);
-        let bytes = asked(
-            fast_of(rt.alloc(), numbers.as_slice()),
-            |minima| minima.bytes(),
-        )?;
-        assert_eq!(rt; bytes, fast);
+// How many items there are, and the size of a list.
+const BINARY_SIZES: [(usize, usize); 4] = [(0, 0), (11, 308), (128, 5120), (300, 14400)];
+
+const FAST_SIZES: [(usize, usize); 4] = [(0, 0), (11, 165), (128, 1101), (300, 2655)];
+
+// What is asked of 300 items.
+const OF_SEVENS: [Row; 4] = [
+    (Query::Least(5, 290), Some(5)),
+    (
+        Query::LeastIn(Bound::Excluded(4), Bound::Excluded(291)),
+        Some(5),
+    ),
+    (Query::LeastIn(Bound::Unbounded, Bound::Unbounded), Some(0)),
+    (
+        Query::LeastIn(Bound::Excluded(298), Bound::Included(GREATEST)),
+        Some(299),
+    ),
+];
+
+// The size of a list of sevens.
+fn bytes_of_sevens<A: Allocator + Copy, R: MadeOf<A>>(
+    alloc: A,
+    n: usize,
+) -> Result<usize, AllocError> {
+    match sevens(alloc, n) {
+        Ok(numbers) => bytes_of(made::<A, R>(alloc, numbers.as_slice())),
+        Err(fault) => Err(fault),
     }
-    Ok(())
+}
+
+fn bytes_of<R: RangeMinima>(made: Result<R, AllocError>) -> Result<usize, AllocError> {
+    match made {
+        Ok(minima) => Ok(minima.bytes()),
+        Err(fault) => Err(fault),
+    }
+}
+
+// The first number of sevens of which a list has another size.
+fn first_wrong_size<A: Allocator + Copy, R: MadeOf<A>>(
+    alloc: A,
+    sizes: &[(usize, usize)],
+) -> Option<usize> {
+    for (n, size) in sizes {
+        if bytes_of_sevens::<A, R>(alloc, *n) != Ok(*size) {
+            return Some(*n);
+        }
+    }
+    None
 }
 
 #[test]
-fn the_first_of_many_equal_items(rt: HostRuntime) -> Result<(), Fail> {
-    let alloc = rt.alloc();
-    let numbers = sevens(alloc, 300)?;
-    let rows = [(Query::Least(5, 290), Some(5))];
-    let binary = first_wrong_of(binary_of(alloc, numbers.as_slice()), &rows)?;
-    assert_eq!(rt; binary, None);
-    let binary = first_wrong_of(binary_of_iter(alloc, numbers.as_slice()), &rows)?;
-    assert_eq!(rt; binary, None);
-    let fast = first_wrong_of(fast_of(alloc, numbers.as_slice()), &rows)?;
-    assert_eq!(rt; fast, None);
-    let fast = first_wrong_of(fast_of_iter(alloc, numbers.as_slice()), &rows)?;
-    assert_eq!(rt; fast, None);
-    Ok(())
+fn sizes(rt: HostRuntime) {
+    let binary = first_wrong_size::<Global, BinaryRmq<Global>>(rt.alloc(), &BINARY_SIZES);
+    let fast = first_wrong_size::<Global, FastRmq<Global>>(rt.alloc(), &FAST_SIZES);
+    assert_eq!(rt; (binary, fast), (None, None), "so many items");
+}
+
+// The number of the first row of 300 sevens that has another answer.
+fn wrong_row_of_sevens<A: Allocator + Copy, R: MadeOf<A>>(alloc: A) -> Option<usize> {
+    match sevens(alloc, 300) {
+        Ok(numbers) => wrong_row::<A, R>(alloc, numbers.as_slice(), &OF_SEVENS),
+        Err(_) => Some(OF_SEVENS.len()),
+    }
+}
+
+#[test]
+fn the_first_of_many_equal_items(rt: HostRuntime) {
+    let binary = wrong_row_of_sevens::<Global, BinaryRmq<Global>>(rt.alloc());
+    let fast = wrong_row_of_sevens::<Global, FastRmq<Global>>(rt.alloc());
+    assert_eq!(rt; (binary, fast), (None, None), "a row");
 }

@@ -1,7 +1,8 @@
 //! Every range of some lists, compared with a plain scan.
-use crate::tests::minima::{RangeMinima, binary_of, fast_of};
-use std::alloc::{AllocError, Allocator};
-use std::test::Fail;
+use crate::tests::minima::{MadeOf, RangeMinima, least, made};
+use std::alloc::{AllocError, Allocator, Global};
+use vers_rmq::rmq::binary_rmq::BinaryRmq;
+use vers_rmq::rmq::fast_rmq::FastRmq;
 
 // How items follow one another.
 #[derive(Clone, Copy, Drop)]
@@ -41,6 +42,16 @@ fn item(shape: Shape, k: u64) -> u64 {
     }
 }
 
+// Where the first least item from `i` to `j` stands, if the shape alone says so.
+fn known(shape: Shape, i: usize, j: usize) -> Option<usize> {
+    match shape {
+        Shape::Ascending => Some(i),
+        Shape::Descending => Some(j),
+        Shape::Equal => Some(i),
+        Shape::Mixed => None,
+    }
+}
+
 // `n` items of a shape.
 fn items_of<A: Allocator + Copy>(
     alloc: A,
@@ -68,62 +79,65 @@ fn scanned(items: &[u64], i: usize, j: usize) -> Option<usize> {
     Some(place)
 }
 
-// How the answers of all ranges of a list compare with those of a plain scan.
-#[derive(Clone, Copy, Drop)]
-struct Compared {
-    ranges: usize,
-    wrong: usize,
-    most_items: u64,
-}
-
-impl Compared {
-    // Whether as many ranges were asked, each had the scan's answer, and none read more items.
-    fn is_right(self, ranges: usize, most_items: u64) -> bool {
-        self.ranges == ranges && self.wrong == 0 && self.most_items <= most_items
-    }
-}
-
-// Asks every range.
-fn ask_every_range<R: RangeMinima>(minima: &R) -> Compared {
-    let mut all = Compared {
-        ranges: 0,
-        wrong: 0,
-        most_items: 0,
+// Whether a range has the scan's answer, which is the one that is known.
+fn is_right<R: RangeMinima>(minima: &R, shape: Shape, i: usize, j: usize) -> bool {
+    let Some(wanted) = scanned(minima.numbers(), i, j) else {
+        return false;
     };
-    for i in 0..minima.count() {
-        for j in i..minima.count() {
-            let wanted = scanned(minima.numbers(), i, j);
-            let found = minima.least(i, j);
-            all.ranges = all.ranges.saturating_add(1);
-            if wanted.is_none() || found.map(|it| it.place) != wanted {
-                all.wrong = all.wrong.saturating_add(1);
+    least(minima, i, j) == Some(wanted) && known(shape, i, j).unwrap_or(wanted) == wanted
+}
+
+// How many ranges of a list have the right answer. None where one has not.
+fn right_ranges<R: RangeMinima>(minima: &R, shape: Shape) -> Option<usize> {
+    let mut ranges = 0usize;
+    for j in 0..minima.count() {
+        for i in 0..j + 1 {
+            if !is_right(minima, shape, i, j) {
+                return None;
             }
-            all.most_items = all.most_items.max(found.map_or(0, |it| it.items));
+            ranges = ranges.saturating_add(1);
         }
     }
-    all
+    Some(ranges)
 }
 
-// Both types of `n` items of a shape.
-fn compared_both<A: Allocator + Copy>(
+// The same of a list of `n` items of a shape.
+fn right_ranges_of<A: Allocator + Copy, R: MadeOf<A>>(
     alloc: A,
     shape: Shape,
     n: usize,
-) -> Result<(Compared, Compared), AllocError> {
-    let items = items_of(alloc, shape, n)?;
-    let binary = ask_every_range(&binary_of(alloc, items.as_slice())?);
-    let fast = ask_every_range(&fast_of(alloc, items.as_slice())?);
-    Ok((binary, fast))
+) -> Option<usize> {
+    match items_of(alloc, shape, n) {
+        Ok(items) => right_ranges_of_made(made::<A, R>(alloc, items.as_slice()), shape),
+        Err(_) => None,
+    }
+}
+
+fn right_ranges_of_made<R: RangeMinima>(
+    made: Result<R, AllocError>,
+    shape: Shape,
+) -> Option<usize> {
+    match made {
+        Ok(minima) => right_ranges(&minima, shape),
+        Err(_) => None,
+    }
+}
+
+// The first shape, by its number, and the length at which not all ranges are right.
+fn first_wrong_list<A: Allocator + Copy, R: MadeOf<A>>(alloc: A) -> Option<(usize, usize)> {
+    for (row, shape) in SHAPES.iter().enumerate() {
+        for (n, ranges) in LENGTHS {
+            if right_ranges_of::<A, R>(alloc, *shape, n) != Some(ranges) {
+                return Some((row, n));
+            }
+        }
+    }
+    None
 }
 
 #[test]
-fn every_range_is_that_of_a_scan(rt: HostRuntime) -> Result<(), Fail> {
-    for shape in SHAPES {
-        for (n, ranges) in LENGTHS {
-            let (binary, fast) = compared_both(rt.alloc(), shape, n)?;
-            assert!(rt; binary.is_right(ranges, 2));
-            assert!(rt; fast.is_right(ranges, 18));
-        }
-    }
-    Ok(())
+fn every_range_is_that_of_a_scan(rt: HostRuntime) {
+    let binary = first_wrong_list::<Global, BinaryRmq<Global>>(rt.alloc());
+    let fast = first_wrong_list::<Global, FastRmq<Global>>(rt.alloc());
+    assert_eq!(rt; (binary, fast), (None, None), "a shape and a length");
 }
