@@ -11,7 +11,7 @@ pub use asking::{
 use std::alloc::{AllocError, Allocator};
 use std::cell::Cell;
 pub use trials::{
-    Check, Conversion, Edit, Making, Trial, first_wrong_trial, try_clone_checked, try_conversion,
+    Check, Conversion, Edit, Making, Trial, first_wrong_trial, requests, try_clone_checked, try_conversion,
     try_edit, try_making, try_use_checked,
 };
 pub use tries::{

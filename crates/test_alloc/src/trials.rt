@@ -16,9 +16,18 @@ pub trait Trial<B: Allocator>: Copy + Drop {
     fn takes_memory(self, len: usize) -> bool;
 }
 
+/// `each_refused` of a call at a length.
+pub fn requests<B: Allocator + Copy, C: Trial<B>>(
+    inner: B,
+    call: C,
+    len: usize,
+) -> Result<u64, u64> {
+    each_refused(inner, |heap: &Refusing<B>| call.run(heap, len))
+}
+
 // Whether all tries at a length end as they have to, and the call takes memory just where it should.
 fn is_right_at<B: Allocator + Copy, C: Trial<B>>(inner: B, call: C, len: usize) -> bool {
-    match each_refused(inner, |heap: &Refusing<B>| call.run(heap, len)) {
+    match requests(inner, call, len) {
         Ok(requests) => (requests > 0) == call.takes_memory(len),
         Err(_) => false,
     }
