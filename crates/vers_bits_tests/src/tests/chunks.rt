@@ -1,9 +1,7 @@
 //! Calls that take limbs by chunks, against a plain computation, around the ends of limbs and chunks.
 use crate::tests::pattern::{bit, pattern};
 use std::alloc::Allocator;
-use std::test::Fail;
-use test_alloc::{asked, asked_both, asked_mut};
-use vers_bits::bit_vec::BitVec;
+use vers_bits::bit_vec::{BitVec, GrowError};
 
 const LENGTHS: [usize; 15] = [
     0, 1, 15, 16, 17, 63, 64, 65, 511, 512, 513, 8191, 8192, 8193, 16385,
@@ -18,56 +16,76 @@ fn ones_of_pattern(len: usize) -> u64 {
     ones
 }
 
-#[test]
-fn ones_are_counted(rt: HostRuntime) -> Result<(), Fail> {
-    for len in LENGTHS {
-        let found = asked(pattern(rt.alloc(), 0, len), |list| list.count_ones())?;
-        assert_eq!(rt; found, ones_of_pattern(len), "length {len}");
-    }
-    Ok(())
+fn are_equal<A: Allocator + Copy>(one: &BitVec<A>, other: &BitVec<A>) -> bool {
+    *one == *other
 }
 
-#[test]
-fn the_same_bits_are_equal(rt: HostRuntime) -> Result<(), Fail> {
-    for len in LENGTHS {
-        let are_equal = asked_both(
-            pattern(rt.alloc(), 0, len),
-            pattern(rt.alloc(), 0, len),
-            |one, other| *one == *other,
-        )?;
-        assert!(rt; are_equal, "length {len}");
+// Whether a list with one bit turned is equal to what it was. The bit is turned back.
+fn is_equal_turned<A: Allocator + Copy>(
+    list: &mut BitVec<A>,
+    before: &BitVec<A>,
+    place: usize,
+) -> bool {
+    if place >= list.len() {
+        return true;
     }
-    Ok(())
+    list.flip_bit(place);
+    let is_equal = are_equal(list, before);
+    is_equal || !is_turned_back(list, place)
 }
 
-// Turns the bit at a place, if there is one.
-fn turn<A: Allocator + Copy>(list: &mut BitVec<A>, place: usize) {
-    if place < list.len() {
-        list.flip_bit(place);
+// Turns the bit at a place, if there is one, and answers whether there is.
+fn is_turned_back<A: Allocator + Copy>(list: &mut BitVec<A>, place: usize) -> bool {
+    if place >= list.len() {
+        return false;
     }
+    list.flip_bit(place);
+    true
 }
 
-// The first place whose bit can be turned with the list still equal to what it was.
-fn first_unseen<A: Allocator + Copy>(list: &mut BitVec<A>, before: &BitVec<A>) -> Option<usize> {
+// Whether each bit can be turned only with the list not equal any more to what it was.
+fn is_each_bit_seen<A: Allocator + Copy>(list: &mut BitVec<A>, before: &BitVec<A>) -> bool {
     for place in 0..before.len() {
-        turn(list, place);
-        let is_unseen = *list == *before;
-        turn(list, place);
-        if is_unseen {
-            return Some(place);
+        if is_equal_turned(list, before, place) {
+            return false;
+        }
+    }
+    are_equal(list, before)
+}
+
+// Whether two lists of one length that were made alike are equal, and unequal with one bit turned.
+fn compares<A: Allocator + Copy>(list: &BitVec<A>, another: Result<BitVec<A>, GrowError>) -> bool {
+    match another {
+        Ok(mut other) => are_equal(list, &other) && is_each_bit_seen(&mut other, list),
+        Err(_) => false,
+    }
+}
+
+// Whether a list of the pattern has its ones, and is equal to another one, and to none with one bit turned.
+fn counts_and_compares<A: Allocator + Copy>(
+    made: Result<BitVec<A>, GrowError>,
+    len: usize,
+) -> bool {
+    match made {
+        Ok(list) => {
+            list.count_ones() == ones_of_pattern(len)
+                && compares(&list, pattern(list.allocator(), 0, len))
+        }
+        Err(_) => false,
+    }
+}
+
+// The first length at which a list of the pattern is counted or compared wrong.
+fn first_wrong_length<A: Allocator + Copy>(alloc: A) -> Option<usize> {
+    for len in &LENGTHS {
+        if !counts_and_compares(pattern(alloc, 0, *len), *len) {
+            return Some(*len);
         }
     }
     None
 }
 
 #[test]
-fn every_bit_is_compared(rt: HostRuntime) -> Result<(), Fail> {
-    for len in LENGTHS {
-        let unseen = asked(
-            pattern(rt.alloc(), 0, len),
-            |before| asked_mut(before.clone(), |list| first_unseen(list, before)),
-        )?;
-        assert_eq!(rt; unseen?, None, "length {len}");
-    }
-    Ok(())
+fn lists_are_counted_and_compared(rt: HostRuntime) {
+    assert_eq!(rt; first_wrong_length(rt.alloc()), None, "a length");
 }

@@ -1,9 +1,8 @@
 //! Equality and hashes.
-use std::alloc::Allocator;
+use std::alloc::{Allocator, Global};
 use std::hash::{BuildHasher, BuildHasherDefault, FoldHasher};
-use std::test::Fail;
-use test_alloc::{asked, asked_both, asked_mut};
-use vers_bits::bit_vec::BitVec;
+use test_alloc::asked_both;
+use vers_bits::bit_vec::{BitVec, GrowError};
 
 // A list as numbers of so many bits each, another one, and whether they are equal.
 const PAIRS: [((&[u64], usize), (&[u64], usize), bool); 6] = [
@@ -24,17 +23,24 @@ fn compare<A: Allocator + Copy>(one: &BitVec<A>, other: &BitVec<A>) -> (bool, bo
     (*one == *other, hash_of(one) == hash_of(other))
 }
 
-#[test]
-fn lists_are_compared_and_hashed(rt: HostRuntime) -> Result<(), Fail> {
+// The first pair, by its number counted from 0, that compares otherwise.
+fn first_wrong_pair(alloc: Global) -> Option<usize> {
     for (row, (one, other, are_equal)) in PAIRS.iter().enumerate() {
         let found = asked_both(
-            BitVec::pack_sequence_u64(rt.alloc(), one.0, one.1),
-            BitVec::pack_sequence_u64(rt.alloc(), other.0, other.1),
+            BitVec::pack_sequence_u64(alloc, one.0, one.1),
+            BitVec::pack_sequence_u64(alloc, other.0, other.1),
             |one, other| compare(one, other),
-        )?;
-        assert_eq!(rt; found, (*are_equal, *are_equal), "row {row}");
+        );
+        if found != Ok((*are_equal, *are_equal)) {
+            return Some(row);
+        }
     }
-    Ok(())
+    None
+}
+
+#[test]
+fn lists_are_compared_and_hashed(rt: HostRuntime) {
+    assert_eq!(rt; first_wrong_pair(rt.alloc()), None, "a pair");
 }
 
 // Appends ten ones and drops them again.
@@ -45,13 +51,30 @@ fn appended_and_dropped<A: Allocator + Copy>(list: &mut BitVec<A>) -> u64 {
     hash_of(list)
 }
 
+// The hash of a list, or of what it is with ten ones appended and dropped. None where it was not made.
+fn hash_of_made<A: Allocator + Copy>(
+    made: Result<BitVec<A>, GrowError>,
+    is_changed: bool,
+) -> Option<u64> {
+    match made {
+        Ok(mut list) => {
+            if is_changed {
+                Some(appended_and_dropped(&mut list))
+            } else {
+                Some(hash_of(&list))
+            }
+        }
+        Err(_) => None,
+    }
+}
+
+// Whether the bits 10 have one hash, made in two ways.
+fn has_one_hash<A: Allocator + Copy>(alloc: A) -> bool {
+    let plain = hash_of_made(BitVec::from_bits(alloc, &[3, 0]), false);
+    plain.is_some() && plain == hash_of_made(BitVec::from_bits(alloc, &[1, 0]), true)
+}
+
 #[test]
-fn dropped_bits_leave_no_trace(rt: HostRuntime) -> Result<(), Fail> {
-    let want = asked(BitVec::from_bits(rt.alloc(), &[3, 0]), |list| hash_of(list))?;
-    let found = asked_mut(
-        BitVec::from_bits(rt.alloc(), &[1, 0]),
-        |list| appended_and_dropped(list),
-    )?;
-    assert_eq!(rt; found, want);
-    Ok(())
+fn dropped_bits_leave_no_trace(rt: HostRuntime) {
+    assert!(rt; has_one_hash(rt.alloc()));
 }

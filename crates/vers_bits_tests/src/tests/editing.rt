@@ -1,16 +1,29 @@
 //! Lists that are changed by scripts, and splits.
-use crate::tests::makers::{Items, Maker, make};
-use crate::tests::queries::{Change, Line, Query, answer, first_wrong_line};
-use std::alloc::{Allocator, Global};
+use crate::tests::queries::{Change, Line, Query, first_wrong_line};
+use std::alloc::Allocator;
 use std::test::Fail;
-use test_alloc::{asked, asked_mut, first_wrong};
-use vers_bits::bit_vec::{BitVec, GrowError, OutOfRange, SplitCause};
+use vers_bits::bit_vec::{BitVec, GrowError, LengthMismatch, OutOfRange, SplitCause, SplitError};
 
-// The maker of a list, its length, and what is done and asked then.
-const SCRIPTS: [(Maker, usize, &[Line]); 7] = [
+// What a list is before it is changed.
+#[derive(Clone, Copy, Drop)]
+enum Start {
+    WithCapacity(usize),
+    Zeros(usize),
+    Ones(usize),
+}
+
+fn start_of<A: Allocator + Copy>(alloc: A, start: Start) -> Result<BitVec<A>, GrowError> {
+    match start {
+        Start::WithCapacity(len) => BitVec::with_capacity(alloc, len),
+        Start::Zeros(len) => BitVec::from_zeros(alloc, len),
+        Start::Ones(len) => BitVec::from_ones(alloc, len),
+    }
+}
+
+// A list, and what is done and asked then.
+const SCRIPTS: [(Start, &[Line]); 7] = [
     (
-        Maker::WithCapacity,
-        0,
+        Start::WithCapacity(0),
         &[
             Line::Make(Change::Append(false)),
             Line::Make(Change::Append(true)),
@@ -28,8 +41,7 @@ const SCRIPTS: [(Maker, usize, &[Line]); 7] = [
         ],
     ),
     (
-        Maker::WithCapacity,
-        0,
+        Start::WithCapacity(0),
         &[
             Line::Make(Change::AppendBit(1)),
             Line::Make(Change::AppendBit(0)),
@@ -40,8 +52,7 @@ const SCRIPTS: [(Maker, usize, &[Line]); 7] = [
         ],
     ),
     (
-        Maker::WithCapacity,
-        0,
+        Start::WithCapacity(0),
         &[
             Line::Make(Change::AppendBitU8(255)),
             Line::Make(Change::AppendBitU8(254)),
@@ -54,8 +65,7 @@ const SCRIPTS: [(Maker, usize, &[Line]); 7] = [
         ],
     ),
     (
-        Maker::WithCapacity,
-        0,
+        Start::WithCapacity(0),
         &[
             Line::Make(Change::AppendBits(11, 3)),
             Line::Ask(Query::Len, Some(3)),
@@ -71,8 +81,7 @@ const SCRIPTS: [(Maker, usize, &[Line]); 7] = [
         ],
     ),
     (
-        Maker::WithCapacity,
-        0,
+        Start::WithCapacity(0),
         &[
             Line::Make(Change::AppendBit(1)),
             Line::Make(Change::AppendBit(0)),
@@ -85,8 +94,7 @@ const SCRIPTS: [(Maker, usize, &[Line]); 7] = [
         ],
     ),
     (
-        Maker::FromZeros,
-        70,
+        Start::Zeros(70),
         &[
             Line::Make(Change::Set(69, 3)),
             Line::Ask(Query::Len, Some(70)),
@@ -104,8 +112,7 @@ const SCRIPTS: [(Maker, usize, &[Line]); 7] = [
         ],
     ),
     (
-        Maker::FromOnes,
-        130,
+        Start::Ones(130),
         &[
             Line::Make(Change::DropLast(60)),
             Line::Ask(Query::Len, Some(70)),
@@ -119,31 +126,37 @@ const SCRIPTS: [(Maker, usize, &[Line]); 7] = [
     ),
 ];
 
-// The first wrong line of a script over a list that a maker makes.
-fn first_wrong_of(
-    alloc: Global,
-    maker: Maker,
-    len: usize,
+// The first wrong line of a script over a list; as many as there are lines where it was not made.
+fn wrong_line_of<A: Allocator + Copy>(
+    made: Result<BitVec<A>, GrowError>,
     script: &[Line],
-) -> Result<Option<usize>, GrowError> {
-    asked(
-        Items::of_pattern(alloc, len),
-        |items| asked_mut(
-            make(alloc, maker, items),
-            |list| first_wrong_line(list, script),
-        ),
-    )?
+) -> Option<usize> {
+    match made {
+        Ok(mut list) => first_wrong_line(&mut list, script),
+        Err(_) => Some(script.len()),
+    }
+}
+
+// The first script that goes wrong, and its line.
+fn first_wrong_script<A: Allocator + Copy>(alloc: A) -> Option<(usize, usize)> {
+    for (number, (start, script)) in SCRIPTS.iter().enumerate() {
+        if let Some(line) = wrong_line_of(start_of(alloc, *start), script) {
+            return Some((number, line));
+        }
+    }
+    None
 }
 
 #[test]
-fn scripts_go_as_they_say(rt: HostRuntime) -> Result<(), Fail> {
-    for (number, (maker, len, script)) in SCRIPTS.iter().enumerate() {
-        let wrong = first_wrong_of(rt.alloc(), *maker, *len, script)?;
-        assert_eq!(rt; wrong, None, "script {number}");
-    }
+fn scripts_go_as_they_say(rt: HostRuntime) {
+    assert_eq!(rt; first_wrong_script(rt.alloc()), None, "a script and a line");
+}
+
+#[test]
+fn faults_have_messages(rt: HostRuntime) -> Result<(), Fail> {
     assert_eq!(rt;
-        format!(in rt.alloc(); "{}", OutOfRange)?.as_str(),
-        "out of range"
+        format!(in rt.alloc(); "{}; {}", OutOfRange, LengthMismatch)?.as_str(),
+        "out of range; mask cannot have different length than vector"
     );
     Ok(())
 }
@@ -153,57 +166,69 @@ fn is_list<A: Allocator + Copy>(list: &BitVec<A>, len: usize, number: u64) -> bo
     list.len() == len && list.get_bits(0, len).unwrap_or(0) == number
 }
 
-// Whether 11010 is split into 110 and 10, and the halves make it again.
-fn is_split_in_two<A: Allocator + Copy>(list: BitVec<A>) -> bool {
-    let Ok((mut first, second)) = list.split_at(3) else {
-        return false;
-    };
-    is_list(&first, 3, 3)
-        && is_list(&second, 2, 1)
-        && first.extend_bitvec(&second).is_ok()
-        && is_list(&first, 5, 11)
+// Whether the halves of 11010 after three bits are right, and make it again.
+fn are_of_five<A: Allocator + Copy>(first: &mut BitVec<A>, second: &BitVec<A>) -> bool {
+    is_list(first, 3, 3)
+        && is_list(second, 2, 1)
+        && first.extend_bitvec(second).is_ok()
+        && is_list(first, 5, 11)
 }
 
-// Whether a list of 192 bits is split after 70.
-fn is_split_inside_a_limb<A: Allocator + Copy>(list: BitVec<A>) -> bool {
-    if list.len() != 192 {
-        return false;
+fn is_split_in_two<A: Allocator + Copy>(list: BitVec<A>) -> bool {
+    match list.split_at(3) {
+        Ok((mut first, second)) => are_of_five(&mut first, &second),
+        Err(_) => false,
     }
-    let Ok((first, second)) = list.split_at_unchecked(70) else {
-        return false;
-    };
+}
+
+// Whether the halves of 192 bits after 70 are right.
+fn are_of_limbs<A: Allocator + Copy>(first: &BitVec<A>, second: &BitVec<A>) -> bool {
     first.len() == 70
         && first.get_bits(60, 10) == Some(32)
         && second.len() == 122
         && second.get_bits(58, 64) == Some(3)
 }
 
-// Whether 1001 comes back from a split past its end, and is split at its end.
-fn is_kept_whole<A: Allocator + Copy>(list: BitVec<A>) -> bool {
-    match list.split_at(5) {
-        Ok(_) => false,
-        Err(refused) => {
-            refused.cause == SplitCause::OutOfRange
-                && is_list(&refused.vec, 4, 9)
-                && is_split_at_the_end(refused.vec)
-        }
+fn is_split_inside_a_limb<A: Allocator + Copy>(list: BitVec<A>) -> bool {
+    if list.len() != 192 {
+        return false;
+    }
+    match list.split_at_unchecked(70) {
+        Ok((first, second)) => are_of_limbs(&first, &second),
+        Err(_) => false,
     }
 }
 
+// Whether 1001 comes back from a split past its end.
+fn is_kept_whole<A: Allocator + Copy>(refused: &SplitError<A>) -> bool {
+    refused.cause == SplitCause::OutOfRange && is_list(&refused.vec, 4, 9)
+}
+
+// Whether it does, and is split at its end.
 fn is_split_at_the_end<A: Allocator + Copy>(list: BitVec<A>) -> bool {
+    match list.split_at(5) {
+        Ok(_) => false,
+        Err(refused) => is_kept_whole(&refused) && has_all_first(refused.vec),
+    }
+}
+
+fn has_all_first<A: Allocator + Copy>(list: BitVec<A>) -> bool {
     match list.split_at(4) {
         Ok((first, second)) => is_list(&first, 4, 9) && second.is_empty(),
         Err(_) => false,
     }
 }
 
+// Which of three lists are split right.
+fn are_split<A: Allocator + Copy>(alloc: A) -> Result<[bool; 3], GrowError> {
+    Ok([
+        is_split_in_two(BitVec::from_bits(alloc, &[1, 1, 0, 1, 0])?),
+        is_split_inside_a_limb(BitVec::from_limbs(alloc, &[1, 2, 3])?),
+        is_split_at_the_end(BitVec::from_bits(alloc, &[1, 0, 0, 1])?),
+    ])
+}
+
 #[test]
 fn lists_are_split(rt: HostRuntime) {
-    let alloc = rt.alloc();
-    let five = BitVec::from_bits(alloc, &[1, 1, 0, 1, 0]);
-    assert!(rt; five.is_ok_and(|list| is_split_in_two(list)));
-    let limbs = BitVec::from_limbs(alloc, &[1, 2, 3]);
-    assert!(rt; limbs.is_ok_and(|list| is_split_inside_a_limb(list)));
-    let four = BitVec::from_bits(alloc, &[1, 0, 0, 1]);
-    assert!(rt; four.is_ok_and(|list| is_kept_whole(list)));
+    assert_eq!(rt; are_split(rt.alloc()), Ok([true, true, true]));
 }

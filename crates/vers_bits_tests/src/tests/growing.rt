@@ -1,7 +1,5 @@
 //! Lists that are appended to others.
-use std::alloc::{Allocator, Global};
-use std::test::Fail;
-use test_alloc::{asked, asked_both, asked_mut};
+use std::alloc::Allocator;
 use vers_bits::bit_vec::{BitVec, GrowError};
 
 // Whether so many ones end in the limbs 1, all ones, 6 after those are appended.
@@ -14,33 +12,38 @@ fn appends_limbs<A: Allocator + Copy>(list: &mut BitVec<A>, limbs: &BitVec<A>, l
         && list.count_ones() == (len as u64).wrapping_add(67)
 }
 
+fn ones_append_limbs<A: Allocator + Copy>(limbs: &BitVec<A>, len: usize) -> bool {
+    match BitVec::from_ones(limbs.allocator(), len) {
+        Ok(mut list) => appends_limbs(&mut list, limbs, len),
+        Err(_) => false,
+    }
+}
+
 // The first length, of some, at which limbs are not appended right.
-fn first_wrong_length(alloc: Global, limbs: &BitVec<Global>) -> Option<usize> {
-    for len in [0, 1, 63, 64, 65, 130] {
-        let is_right = asked_mut(
-            BitVec::from_ones(alloc, len),
-            |list| appends_limbs(list, limbs, len),
-        );
-        if is_right != Ok(true) {
-            return Some(len);
+fn first_wrong_length<A: Allocator + Copy>(limbs: &BitVec<A>) -> Option<usize> {
+    for len in [0, 1, 63, 64, 65, 130].iter() {
+        if !ones_append_limbs(limbs, *len) {
+            return Some(*len);
         }
     }
     None
 }
 
+// Whether three ones stay as many when no bits are appended.
+fn append_nothing<A: Allocator + Copy>(ones: &mut BitVec<A>) -> bool {
+    let none = BitVec::new(ones.allocator());
+    ones.extend_bitvec(&none) == Ok(()) && ones.len() == 3
+}
+
+// The first length at which limbs are appended wrong, and whether no bits are appended right.
+fn appended<A: Allocator + Copy>(alloc: A) -> Result<(Option<usize>, bool), GrowError> {
+    let wrong = first_wrong_length(&BitVec::from_limbs(alloc, &[1, u64::MAX, 6])?);
+    Ok((wrong, append_nothing(&mut BitVec::from_ones(alloc, 3)?)))
+}
+
 #[test]
-fn lists_are_appended_at_any_length(rt: HostRuntime) -> Result<(), Fail> {
-    let wrong = asked(
-        BitVec::from_limbs(rt.alloc(), &[1, u64::MAX, 6]),
-        |limbs| first_wrong_length(rt.alloc(), limbs),
-    )?;
-    assert_eq!(rt; wrong, None);
-    let len = asked_mut(
-        BitVec::from_ones(rt.alloc(), 3),
-        |list| (list.extend_bitvec(&BitVec::new(rt.alloc())), list.len()),
-    )?;
-    assert_eq!(rt; len, (Ok(()), 3));
-    Ok(())
+fn lists_are_appended_at_any_length(rt: HostRuntime) {
+    assert_eq!(rt; appended(rt.alloc()), Ok((None, true)), "a length");
 }
 
 // Whether a one, extended by lists, is 1100.
@@ -49,7 +52,7 @@ fn is_1100<A: Allocator + Copy>(list: &BitVec<A>) -> bool {
 }
 
 // The bits 10 and 0 as lists.
-fn two_lists(alloc: Global) -> Result<Vec<BitVec<Global>>, GrowError> {
+fn two_lists<A: Allocator + Copy>(alloc: A) -> Result<Vec<BitVec<A>, A>, GrowError> {
     let mut lists = Vec::new(alloc);
     for bits in [[1u8, 0].as_slice(), [0].as_slice()] {
         if lists.push(BitVec::from_bits(alloc, bits)?).is_err() {
@@ -59,30 +62,26 @@ fn two_lists(alloc: Global) -> Result<Vec<BitVec<Global>>, GrowError> {
     Ok(lists)
 }
 
-// A list with the lists of a vector appended.
-fn extended(alloc: Global, lists: Vec<BitVec<Global>>) -> Result<BitVec<Global>, GrowError> {
-    let mut list = BitVec::from_ones(alloc, 1)?;
-    list.extend(lists.into_iter())?;
-    Ok(list)
+// Whether a one and lists are 1100, with the lists taken by reference and by value.
+fn extends_by_reference<A: Allocator + Copy>(one: &mut BitVec<A>, lists: &[BitVec<A>]) -> bool {
+    one.extend_ref(lists.iter()).is_ok() && is_1100(one)
 }
 
-fn extended_ref(alloc: Global, lists: &[BitVec<Global>]) -> Result<BitVec<Global>, GrowError> {
-    let mut list = BitVec::from_ones(alloc, 1)?;
-    list.extend_ref(lists.iter())?;
-    Ok(list)
+fn extends_by_value<A: Allocator + Copy>(one: &mut BitVec<A>, lists: Vec<BitVec<A>, A>) -> bool {
+    one.extend(lists.into_iter()).is_ok() && is_1100(one)
+}
+
+fn one<A: Allocator + Copy>(alloc: A) -> Result<BitVec<A>, GrowError> {
+    BitVec::from_ones(alloc, 1)
+}
+
+fn is_extended<A: Allocator + Copy>(alloc: A) -> Result<(bool, bool), GrowError> {
+    let lists = two_lists(alloc)?;
+    let by_reference = extends_by_reference(&mut one(alloc)?, lists.as_slice());
+    Ok((by_reference, extends_by_value(&mut one(alloc)?, lists)))
 }
 
 #[test]
-fn the_lists_of_an_iterator_are_appended(rt: HostRuntime) -> Result<(), Fail> {
-    let by_reference = asked(
-        two_lists(rt.alloc()),
-        |lists| asked(extended_ref(rt.alloc(), lists), |list| is_1100(list)),
-    )??;
-    assert!(rt; by_reference);
-    let list = match two_lists(rt.alloc()) {
-        Ok(lists) => extended(rt.alloc(), lists),
-        Err(fault) => Err(fault),
-    };
-    assert!(rt; asked(list, |list| is_1100(list))?);
-    Ok(())
+fn the_lists_of_an_iterator_are_appended(rt: HostRuntime) {
+    assert_eq!(rt; is_extended(rt.alloc()), Ok((true, true)));
 }

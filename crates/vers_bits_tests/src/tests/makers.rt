@@ -1,6 +1,6 @@
 //! Every maker of a list of bits, by one table of items in each type that lists are made of.
 use crate::tests::pattern::item;
-use std::alloc::{AllocError, Allocator, Global};
+use std::alloc::{AllocError, Allocator};
 use vers_bits::bit_vec::{BitVec, GrowError};
 
 /// A maker; where it packs, with the number of bits that each item gets.
@@ -30,23 +30,30 @@ pub enum Maker {
 
 /// Items in each type of which lists are made.
 #[derive(Drop)]
-pub struct Items {
-    bools: Vec<bool>,
-    bytes: Vec<u8>,
-    shorts: Vec<u16>,
-    words: Vec<u32>,
-    longs: Vec<u64>,
+pub struct Items<A: Allocator + Copy> {
+    alloc: A,
+    bools: Vec<bool, A>,
+    bytes: Vec<u8, A>,
+    shorts: Vec<u16, A>,
+    words: Vec<u32, A>,
+    longs: Vec<u64, A>,
 }
 
-impl Items {
-    fn new(alloc: Global) -> Items {
+impl<A: Allocator + Copy> Items<A> {
+    fn new(alloc: A) -> Self {
         Items {
+            alloc,
             bools: Vec::new(alloc),
             bytes: Vec::new(alloc),
             shorts: Vec::new(alloc),
             words: Vec::new(alloc),
             longs: Vec::new(alloc),
         }
+    }
+
+    /// The allocator of the items.
+    pub fn allocator(&self) -> A {
+        self.alloc
     }
 
     // Adds the lowest digits of a number, as many as each type has.
@@ -62,7 +69,7 @@ impl Items {
     }
 
     /// The items with the lowest digits of the numbers.
-    pub fn of_numbers(alloc: Global, numbers: &[u64]) -> Result<Items, AllocError> {
+    pub fn of_numbers(alloc: A, numbers: &[u64]) -> Result<Self, AllocError> {
         let mut items = Items::new(alloc);
         for number in numbers {
             items.add(*number)?;
@@ -71,7 +78,7 @@ impl Items {
     }
 
     /// The first items of the pattern.
-    pub fn of_pattern(alloc: Global, len: usize) -> Result<Items, AllocError> {
+    pub fn of_pattern(alloc: A, len: usize) -> Result<Self, AllocError> {
         let mut items = Items::new(alloc);
         for place in 0..len {
             items.add(u64::from(item(place)))?;
@@ -84,7 +91,7 @@ impl Items {
 pub fn make<A: Allocator + Copy>(
     alloc: A,
     maker: Maker,
-    items: &Items,
+    items: &Items<A>,
 ) -> Result<BitVec<A>, GrowError> {
     let longs = items.longs.as_slice();
     match maker {
@@ -92,21 +99,55 @@ pub fn make<A: Allocator + Copy>(
         Maker::FromZeros => BitVec::from_zeros(alloc, longs.len()),
         Maker::FromOnes => BitVec::from_ones(alloc, longs.len()),
         Maker::FromBools => BitVec::from_bools(alloc, &items.bools),
-        Maker::FromBoolIter => BitVec::from_bool_iter(alloc, items.bools.iter().copied()),
         Maker::FromBits => BitVec::from_bits(alloc, &items.bytes),
         Maker::FromBitsU16 => BitVec::from_bits_u16(alloc, &items.shorts),
         Maker::FromBitsU32 => BitVec::from_bits_u32(alloc, &items.words),
         Maker::FromBitsU64 => BitVec::from_bits_u64(alloc, longs),
-        Maker::FromBitsIter => BitVec::from_bits_iter(alloc, longs.iter().copied()),
         Maker::FromLimbs => BitVec::from_limbs(alloc, longs),
-        Maker::FromLimbsIter => BitVec::from_limbs_iter(alloc, longs.iter().copied()),
+        _ => pack(alloc, maker, items),
+    }
+}
+
+// The same of the makers that pack a slice.
+fn pack<A: Allocator + Copy>(
+    alloc: A,
+    maker: Maker,
+    items: &Items<A>,
+) -> Result<BitVec<A>, GrowError> {
+    match maker {
         Maker::PackU8(k) => BitVec::pack_sequence_u8(alloc, &items.bytes, k),
         Maker::PackU16(k) => BitVec::pack_sequence_u16(alloc, &items.shorts, k),
         Maker::PackU32(k) => BitVec::pack_sequence_u32(alloc, &items.words, k),
-        Maker::PackU64(k) => BitVec::pack_sequence_u64(alloc, longs, k),
+        Maker::PackU64(k) => BitVec::pack_sequence_u64(alloc, &items.longs, k),
+        _ => make_of_iter(alloc, maker, items),
+    }
+}
+
+// The same of the makers that take an iterator.
+fn make_of_iter<A: Allocator + Copy>(
+    alloc: A,
+    maker: Maker,
+    items: &Items<A>,
+) -> Result<BitVec<A>, GrowError> {
+    match maker {
+        Maker::FromBoolIter => BitVec::from_bool_iter(alloc, items.bools.iter().copied()),
+        Maker::FromBitsIter => BitVec::from_bits_iter(alloc, items.longs.iter().copied()),
+        Maker::FromLimbsIter => BitVec::from_limbs_iter(alloc, items.longs.iter().copied()),
+        _ => pack_iter(alloc, maker, items),
+    }
+}
+
+// The same of the makers that pack the items of one.
+fn pack_iter<A: Allocator + Copy>(
+    alloc: A,
+    maker: Maker,
+    items: &Items<A>,
+) -> Result<BitVec<A>, GrowError> {
+    match maker {
         Maker::PackIterU8(k) => BitVec::pack_from_iter_u8(alloc, items.bytes.iter().copied(), k),
         Maker::PackIterU16(k) => BitVec::pack_from_iter_u16(alloc, items.shorts.iter().copied(), k),
         Maker::PackIterU32(k) => BitVec::pack_from_iter_u32(alloc, items.words.iter().copied(), k),
-        Maker::PackIterU64(k) => BitVec::pack_from_iter_u64(alloc, longs.iter().copied(), k),
+        Maker::PackIterU64(k) => BitVec::pack_from_iter_u64(alloc, items.longs.iter().copied(), k),
+        _ => Err(GrowError::Memory),
     }
 }

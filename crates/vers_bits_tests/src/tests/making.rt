@@ -1,9 +1,7 @@
 //! What the makers make.
 use crate::tests::makers::{Items, Maker, make};
-use crate::tests::queries::{Query, answer};
-use std::alloc::{AllocError, Allocator, Global};
-use std::test::Fail;
-use test_alloc::{asked, first_wrong};
+use crate::tests::queries::{Query, first_wrong_answer};
+use std::alloc::{AllocError, Allocator};
 use vers_bits::bit_vec::{BitVec, GrowError};
 
 // Two items of ten bits each.
@@ -135,70 +133,85 @@ const OF_LENGTH: [(Maker, usize, &[(Query, Option<u64>)]); 4] = [
     ),
 ];
 
-// The number of the first wrong answer of a list that a maker makes.
-fn first_wrong_answer<A: Allocator + Copy>(
-    alloc: A,
-    maker: Maker,
-    items: Result<Items, AllocError>,
+// The row of the first wrong answer of a list; as many as there are rows where it was not made.
+fn wrong_answer<A: Allocator + Copy>(
+    made: Result<BitVec<A>, GrowError>,
     rows: &[(Query, Option<u64>)],
-) -> Result<Option<usize>, GrowError> {
-    asked(items, |items| {
-        asked(
-            make(alloc, maker, items),
-            |list: &BitVec<A>| first_wrong(list, rows, |list, query| answer(list, query)),
-        )
-    })?
+) -> Option<usize> {
+    match made {
+        Ok(list) => first_wrong_answer(&list, rows),
+        Err(_) => Some(rows.len()),
+    }
 }
 
-#[test]
-fn makers_make_the_bits_of_items(rt: HostRuntime) -> Result<(), Fail> {
+// The same of a list that a maker makes of items.
+fn wrong_answer_of<A: Allocator + Copy>(
+    maker: Maker,
+    made: Result<Items<A>, AllocError>,
+    rows: &[(Query, Option<u64>)],
+) -> Option<usize> {
+    match made {
+        Ok(items) => wrong_answer(make(items.allocator(), maker, &items), rows),
+        Err(_) => Some(rows.len()),
+    }
+}
+
+// The first case that is answered wrong, and its row.
+fn first_wrong_case<A: Allocator + Copy>(alloc: A) -> Option<(usize, usize)> {
     for (case, (maker, numbers, rows)) in CASES.iter().enumerate() {
-        let items = Items::of_numbers(rt.alloc(), numbers);
-        let wrong = first_wrong_answer(rt.alloc(), *maker, items, rows)?;
-        assert_eq!(rt; wrong, None, "case {case}");
+        if let Some(row) = wrong_answer_of(*maker, Items::of_numbers(alloc, numbers), rows) {
+            return Some((case, row));
+        }
     }
-    Ok(())
+    None
+}
+
+// The same of lists of a length.
+fn first_wrong_length<A: Allocator + Copy>(alloc: A) -> Option<(usize, usize)> {
+    for (case, (maker, len, rows)) in OF_LENGTH.iter().enumerate() {
+        if let Some(row) = wrong_answer_of(*maker, Items::of_pattern(alloc, *len), rows) {
+            return Some((case, row));
+        }
+    }
+    None
 }
 
 #[test]
-fn makers_make_lists_of_a_length(rt: HostRuntime) -> Result<(), Fail> {
-    for (case, (maker, len, rows)) in OF_LENGTH.iter().enumerate() {
-        let items = Items::of_pattern(rt.alloc(), *len);
-        let wrong = first_wrong_answer(rt.alloc(), *maker, items, rows)?;
-        assert_eq!(rt; wrong, None, "case {case}");
-    }
-    Ok(())
+fn makers_make_the_bits_of_items(rt: HostRuntime) {
+    let of_items = first_wrong_case(rt.alloc());
+    let of_length = first_wrong_length(rt.alloc());
+    assert_eq!(rt; (of_items, of_length), (None, None), "a case and a row");
 }
 
 // The first wrong answer of a list made of a vector of limbs.
-fn wrong_of_vector(alloc: Global) -> Result<Option<usize>, GrowError> {
-    let limbs = Vec::from_slice(alloc, &[5, u64::MAX])?;
-    asked(
-        BitVec::from_vec(limbs),
-        |list: &BitVec<Global>| first_wrong(list, LIMBS, |list, query| answer(list, query)),
-    )
+fn wrong_of_vector<A: Allocator + Copy>(made: Result<Vec<u64, A>, AllocError>) -> Option<usize> {
+    match made {
+        Ok(limbs) => wrong_answer(BitVec::from_vec(limbs), LIMBS),
+        Err(_) => Some(LIMBS.len()),
+    }
 }
 
 #[test]
-fn a_vector_of_limbs_makes_64_bits_each(rt: HostRuntime) -> Result<(), Fail> {
-    assert_eq!(rt; wrong_of_vector(rt.alloc())?, None);
-    Ok(())
+fn a_vector_of_limbs_makes_64_bits_each(rt: HostRuntime) {
+    let limbs = Vec::from_slice(rt.alloc(), &[5, u64::MAX]);
+    assert_eq!(rt; wrong_of_vector(limbs), None, "a row");
+}
+
+// What each maker answers for too many bits.
+fn faults_of_too_long<A: Allocator + Copy>(alloc: A) -> [Option<GrowError>; 5] {
+    [
+        BitVec::from_zeros(alloc, usize::MAX).err(),
+        BitVec::from_ones(alloc, usize::MAX).err(),
+        BitVec::with_capacity(alloc, usize::MAX).err(),
+        BitVec::pack_sequence_u8(alloc, &[1, 2], usize::MAX).err(),
+        BitVec::pack_from_iter_u8(alloc, [1, 2].iter().copied(), usize::MAX).err(),
+    ]
 }
 
 #[test]
 fn a_list_past_the_greatest_length_is_too_long(rt: HostRuntime) {
-    let alloc = rt.alloc();
-    let too_long = Some(GrowError::TooLong);
-    assert_eq!(rt; BitVec::from_zeros(alloc, usize::MAX).err(), too_long);
-    assert_eq!(rt; BitVec::from_ones(alloc, usize::MAX).err(), too_long);
-    assert_eq!(rt; BitVec::with_capacity(alloc, usize::MAX).err(), too_long);
     assert_eq!(rt;
-        BitVec::pack_sequence_u8(alloc, &[1, 2], usize::MAX).err(),
-        too_long
-    );
-    let items = [1, 2].iter().copied();
-    assert_eq!(rt;
-        BitVec::pack_from_iter_u8(alloc, items, usize::MAX).err(),
-        too_long
+        faults_of_too_long(rt.alloc()),
+        [Some(GrowError::TooLong); 5]
     );
 }

@@ -14,6 +14,11 @@ pub fn bit(place: usize) -> bool {
     item(place) % 2 == 1
 }
 
+/// Bit `place` of the pattern from a place on.
+pub fn bit_from(from: usize, place: usize) -> bool {
+    bit(from.wrapping_add(place))
+}
+
 /// The bits of the pattern from a place on, `len` of them.
 pub fn pattern<A: Allocator + Copy>(
     alloc: A,
@@ -22,7 +27,7 @@ pub fn pattern<A: Allocator + Copy>(
 ) -> Result<BitVec<A>, GrowError> {
     let mut list = BitVec::with_capacity(alloc, len)?;
     for place in 0..len {
-        list.append(bit(from.wrapping_add(place)))?;
+        list.append(bit_from(from, place))?;
     }
     Ok(list)
 }
@@ -33,21 +38,33 @@ pub fn word(from: usize) -> u64 {
     for place in (0..64).rev() {
         word = word
             .wrapping_mul(2)
-            .wrapping_add(u64::from(bit(from.wrapping_add(place))));
+            .wrapping_add(u64::from(bit_from(from, place)));
     }
     word
 }
 
+/// The bit that stands at each place.
+pub trait Bits {
+    /// The bit at a place.
+    fn bit_at(&self, place: usize) -> bool;
+}
+
+/// The bits of the pattern from a place on.
+#[derive(Clone, Copy, Drop)]
+pub struct PatternFrom {
+    pub place: usize,
+}
+
+impl Bits for PatternFrom {
+    fn bit_at(&self, place: usize) -> bool {
+        bit_from(self.place, place)
+    }
+}
+
 /// Whether a list has `len` bits, each of them as wanted.
-pub fn has_bits<A: Allocator + Copy, F: Fn(usize) -> bool>(
-    list: &BitVec<A>,
-    len: usize,
-    wanted: F,
-) -> bool
-    requires { F.IsAlwaysCallable wanted }
-{
+pub fn has_bits<A: Allocator + Copy, W: Bits>(list: &BitVec<A>, len: usize, wanted: &W) -> bool {
     for place in 0..len {
-        if list.is_bit_set(place) != Some(wanted(place)) {
+        if list.is_bit_set(place) != Some(wanted.bit_at(place)) {
             return false;
         }
     }
@@ -56,5 +73,5 @@ pub fn has_bits<A: Allocator + Copy, F: Fn(usize) -> bool>(
 
 /// Whether a list has the bits of the pattern from a place on, `len` of them.
 pub fn has_pattern<A: Allocator + Copy>(list: &BitVec<A>, from: usize, len: usize) -> bool {
-    has_bits(list, len, |place| bit(from.wrapping_add(place)))
+    has_bits(list, len, &PatternFrom { place: from })
 }

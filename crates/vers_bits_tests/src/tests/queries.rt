@@ -64,6 +64,19 @@ fn unchecked_answer<A: Allocator + Copy>(list: &BitVec<A>, query: Query) -> Opti
     }
 }
 
+/// The row of the first question, counted from 0, that has another answer.
+pub fn first_wrong_answer<A: Allocator + Copy>(
+    list: &BitVec<A>,
+    rows: &[(Query, Option<u64>)],
+) -> Option<usize> {
+    for (row, (query, wanted)) in rows.iter().enumerate() {
+        if answer(list, *query) != *wanted {
+            return Some(row);
+        }
+    }
+    None
+}
+
 /// A change. One with a condition is made only where that holds.
 #[derive(Clone, Copy, Drop)]
 pub enum Change {

@@ -1,8 +1,11 @@
 //! Clones of lists and of walks that own one, and lists made of masks, at every length.
 use crate::tests::masks::{Mask, masked, masked_bit};
-use crate::tests::pattern::{bit, has_bits, has_pattern, pattern};
+use crate::tests::pattern::{Bits, bit, bit_from, has_bits, has_pattern, pattern};
 use std::alloc::{AllocError, Allocator, Global};
-use test_alloc::{Ending, LENGTHS, Refusing, asked, takes_memory, try_clone, try_make};
+use test_alloc::{
+    Check, Ending, LENGTHS, Making, Refusing, Trial, first_wrong_trial, try_clone_checked,
+    try_making,
+};
 use vers_bits::bit_vec::{BitVec, BitVecIter, GrowError};
 
 // A call that copies bits.
@@ -22,86 +25,107 @@ const COPYINGS: [Copying; 6] = [
     Copying::Masked(Mask::AndNot),
 ];
 
-// Two lists of one length: the first has the bits of the pattern, the second those from place 5 on.
+// A mask of two lists of one length: the first has the bits of the pattern, the second those from place 5 on.
 #[derive(Drop)]
-struct Pair<A: Allocator + Copy> {
-    left: BitVec<A>,
-    right: BitVec<A>,
+struct Masking<'a, A: Allocator + Copy> {
+    mask: Mask,
+    left: &'a BitVec<A>,
+    right: &'a BitVec<A>,
 }
 
-fn pair_of<A: Allocator + Copy>(alloc: A, len: usize) -> Result<Pair<A>, GrowError> {
-    Ok(Pair {
-        left: pattern(alloc, 0, len)?,
-        right: pattern(alloc, 5, len)?,
-    })
+impl<A: Allocator + Copy> Bits for Masking<'_, A> {
+    fn bit_at(&self, place: usize) -> bool {
+        masked_bit(self.mask, bit(place), bit_from(5, place))
+    }
+}
+
+impl<A: Allocator + Copy> Making for Masking<'_, A> {
+    type Made = BitVec<A>;
+
+    type Fault = Option<AllocError>;
+
+    fn out_of_memory(&self) -> Option<AllocError> {
+        Some(AllocError)
+    }
+
+    fn make(&self) -> Result<BitVec<A>, Option<AllocError>> {
+        masked(self.mask, self.left, self.right)
+    }
+
+    fn is_right(&self, list: &BitVec<A>) -> bool {
+        has_bits(list, self.left.len(), self)
+    }
 }
 
 fn tried_mask<B: Allocator, A: Allocator + Copy>(
     heap: &Refusing<B>,
     mask: Mask,
-    pair: &Pair<A>,
+    left: &BitVec<A>,
+    right: Result<BitVec<A>, GrowError>,
 ) -> Ending {
-    let wanted = |place: usize| masked_bit(mask, bit(place), bit(place.wrapping_add(5)));
-    try_make(
-        heap,
-        Some(AllocError),
-        || masked(mask, &pair.left, &pair.right),
-        |list: &BitVec<A>| has_bits(list, pair.left.len(), wanted),
-    )
+    match right {
+        Ok(right) => {
+            let right = &right;
+            try_making(heap, &Masking { mask, left, right })
+        }
+        Err(_) => Ending::Wrong,
+    }
 }
 
-// A walk over a list of the pattern.
-fn walk<A: Allocator + Copy>(alloc: A, len: usize) -> Result<BitVecIter<A>, GrowError> {
-    match pattern(alloc, 0, len) {
-        Ok(list) => Ok(list.into_iter()),
-        Err(fault) => Err(fault),
+// The start of the pattern, of so many bits.
+#[derive(Drop)]
+struct Start {
+    len: usize,
+}
+
+impl<A: Allocator + Copy> Check<BitVec<A>> for Start {
+    fn is_right(&self, list: &mut BitVec<A>) -> bool {
+        has_pattern(list, 0, self.len)
     }
 }
 
 // Whether a walk gives the bits of the pattern and ends.
-fn walks_over<A: Allocator + Copy>(bits: &mut BitVecIter<A>, len: usize) -> bool {
-    for place in 0..len {
-        if bits.next() != Some(u64::from(bit(place))) {
-            return false;
+impl<A: Allocator + Copy> Check<BitVecIter<A>> for Start {
+    fn is_right(&self, bits: &mut BitVecIter<A>) -> bool {
+        for place in 0..self.len {
+            if bits.next() != Some(u64::from(bit(place))) {
+                return false;
+            }
         }
+        bits.next().is_none()
     }
-    bits.next().is_none()
 }
 
 fn tried<B: Allocator, A: Allocator + Copy>(
     heap: &Refusing<B>,
-    alloc: A,
+    list: BitVec<A>,
     copying: Copying,
     len: usize,
 ) -> Ending {
     match copying {
-        Copying::Clone => try_clone(
-            heap,
-            pattern(alloc, 0, len),
-            |list: &mut BitVec<A>| has_pattern(list, 0, len),
-        ),
-        Copying::CloneWalk => try_clone(
-            heap,
-            walk(alloc, len),
-            |bits: &mut BitVecIter<A>| walks_over(bits, len),
-        ),
-        Copying::Masked(mask) => {
-            let tried = |pair: &Pair<A>| tried_mask(heap, mask, pair);
-            asked(pair_of(alloc, len), tried).unwrap_or(Ending::Wrong)
+        Copying::Clone => try_clone_checked(heap, Ok::<_, GrowError>(list), &Start { len }),
+        Copying::CloneWalk => {
+            try_clone_checked(heap, Ok::<_, GrowError>(list.into_iter()), &Start { len })
         }
+        Copying::Masked(mask) => tried_mask(heap, mask, &list, pattern(list.allocator(), 5, len)),
+    }
+}
+
+impl Trial<Global> for Copying {
+    fn run(self, heap: &Refusing<Global>, len: usize) -> Ending {
+        match pattern(heap, 0, len) {
+            Ok(list) => tried(heap, list, self, len),
+            Err(_) => Ending::Wrong,
+        }
+    }
+
+    fn takes_memory(self, len: usize) -> bool {
+        len > 0
     }
 }
 
 #[test]
 fn copies_are_refused_in_turn(rt: HostRuntime) {
-    for len in LENGTHS {
-        for (row, copying) in COPYINGS.iter().enumerate() {
-            let is_tried = |heap: &Refusing<Global>| tried(heap, heap, *copying, len);
-            assert_eq!(rt;
-                takes_memory(rt.alloc(), is_tried),
-                Some(len > 0),
-                "row {row} of {len}"
-            );
-        }
-    }
+    let wrong = first_wrong_trial(rt.alloc(), &LENGTHS, &COPYINGS);
+    assert_eq!(rt; wrong, None, "a length and a row");
 }

@@ -2,10 +2,14 @@
 use crate::tests::pattern::{bit, has_pattern, pattern, word};
 use std::alloc::{Allocator, Global};
 use test_alloc::{
-    Ending, LENGTHS, Refusing, asked, asked_mut, each_refused, takes_memory, try_change,
-    try_convert,
+    Conversion, Edit, Ending, LENGTHS, Refusing, Trial, first_wrong_trial, try_conversion, try_edit,
 };
 use vers_bits::bit_vec::{BitVec, GrowError};
+
+// How many bits the last limb of a list has room for.
+fn room(len: usize) -> usize {
+    (64 - len % 64) % 64
+}
 
 // A call that appends the next bits of the pattern; where it may, with how many.
 #[derive(Clone, Copy, Drop)]
@@ -69,44 +73,64 @@ fn grow<A: Allocator + Copy>(
     }
 }
 
+// A call on a list of `len` bits of the pattern, with the bits that it may append.
+#[derive(Drop)]
+struct Growing<'a, A: Allocator + Copy> {
+    growth: Growth,
+    next: &'a BitVec<A>,
+    len: usize,
+}
+
+impl<A: Allocator + Copy> Edit<BitVec<A>> for Growing<'_, A> {
+    type Fault = GrowError;
+
+    fn out_of_memory(&self) -> GrowError {
+        GrowError::Memory
+    }
+
+    fn edit(&self, list: &mut BitVec<A>) -> Result<(), GrowError> {
+        grow(list, self.growth, self.next)
+    }
+
+    fn is_as_before(&self, list: &BitVec<A>) -> bool {
+        has_pattern(list, 0, self.len)
+    }
+
+    fn is_edited(&self, list: &BitVec<A>) -> bool {
+        has_pattern(list, 0, self.len.wrapping_add(added(self.growth)))
+    }
+}
+
 fn tried<B: Allocator, A: Allocator + Copy>(
     heap: &Refusing<B>,
     alloc: A,
     growth: Growth,
     len: usize,
 ) -> Ending {
-    let longer = len.wrapping_add(added(growth));
-    asked(pattern(alloc, len, added(growth)), |other| {
-        try_change(
-            heap,
-            pattern(alloc, 0, len),
-            GrowError::Memory,
-            |list: &mut BitVec<A>| grow(list, growth, other),
-            |list: &BitVec<A>| has_pattern(list, 0, len),
-            |list: &BitVec<A>| has_pattern(list, 0, longer),
-        )
-    })
-    .unwrap_or(Ending::Wrong)
+    match pattern(alloc, len, added(growth)) {
+        Ok(next) => {
+            let next = &next;
+            try_edit(heap, pattern(alloc, 0, len), &Growing { growth, next, len })
+        }
+        Err(_) => Ending::Wrong,
+    }
 }
 
-// The number of the first call that goes wrong at a length, or takes memory for bits that the last limb
-// has room for, or takes none for others.
-fn first_wrong_growth(alloc: Global, len: usize) -> Option<usize> {
-    for (row, growth) in GROWTHS.iter().enumerate() {
-        let room = (64 - len % 64) % 64;
-        let is_tried = |heap: &Refusing<Global>| tried(heap, heap, *growth, len);
-        if takes_memory(alloc, is_tried) != Some(added(*growth) > room) {
-            return Some(row);
-        }
+// Memory is taken for bits that the last limb has no room for, and for no others.
+impl Trial<Global> for Growth {
+    fn run(self, heap: &Refusing<Global>, len: usize) -> Ending {
+        tried(heap, heap, self, len)
     }
-    None
+
+    fn takes_memory(self, len: usize) -> bool {
+        added(self) > room(len)
+    }
 }
 
 #[test]
 fn growth_is_refused_in_turn(rt: HostRuntime) {
-    for len in LENGTHS {
-        assert_eq!(rt; first_wrong_growth(rt.alloc(), len), None, "at {len}");
-    }
+    let wrong = first_wrong_trial(rt.alloc(), &LENGTHS, &GROWTHS);
+    assert_eq!(rt; wrong, None, "a length and a row");
 }
 
 // Lists by which a list is extended, with the bits of the pattern from a place on.
@@ -180,46 +204,91 @@ fn has_whole_pieces<A: Allocator + Copy>(list: &BitVec<A>, len: usize, lengths: 
     false
 }
 
+// By what lists a list is extended, and how.
+#[derive(Clone, Copy, Drop)]
+enum Extension {
+    ByValue(&'static [usize]),
+    ByReference(&'static [usize]),
+}
+
+const EXTENSIONS: [Extension; 4] = [
+    Extension::ByValue(&[4, 1, 0]),
+    Extension::ByReference(&[4, 1, 0]),
+    Extension::ByValue(&[1, 130, 64]),
+    Extension::ByReference(&[1, 130, 64]),
+];
+
+fn lengths_of(extension: Extension) -> &'static [usize] {
+    match extension {
+        Extension::ByValue(lengths) | Extension::ByReference(lengths) => lengths,
+    }
+}
+
+fn sum(lengths: &[usize]) -> usize {
+    let mut sum = 0usize;
+    for length in lengths {
+        sum = sum.wrapping_add(*length);
+    }
+    sum
+}
+
+// An extension of a list of `len` bits.
+#[derive(Drop)]
+struct Extending {
+    extension: Extension,
+    len: usize,
+}
+
+impl<A: Allocator + Copy> Conversion<Parts<A>> for Extending {
+    type Made = BitVec<A>;
+
+    type Refused = Refused<A>;
+
+    fn convert(&self, parts: Parts<A>) -> Result<BitVec<A>, Refused<A>> {
+        match self.extension {
+            Extension::ByValue(_) => extended(parts, false),
+            Extension::ByReference(_) => extended(parts, true),
+        }
+    }
+
+    fn is_right(&self, list: &BitVec<A>) -> bool {
+        has_pattern(
+            list,
+            0,
+            self.len.wrapping_add(sum(lengths_of(self.extension))),
+        )
+    }
+
+    fn is_kept(&self, refused: Refused<A>) -> bool {
+        refused.fault == GrowError::Memory
+            && has_whole_pieces(&refused.list, self.len, lengths_of(self.extension))
+    }
+}
+
 fn tried_extension<B: Allocator, A: Allocator + Copy>(
     heap: &Refusing<B>,
     alloc: A,
+    extension: Extension,
     len: usize,
-    lengths: &[usize],
-    is_by_reference: bool,
 ) -> Ending {
-    let longer = lengths
-        .iter()
-        .fold(len, |sum, length| sum.wrapping_add(*length));
-    try_convert(
-        heap,
-        parts_of(alloc, len, lengths),
-        |parts: Parts<A>| extended(parts, is_by_reference),
-        |list: &BitVec<A>| has_pattern(list, 0, longer),
-        |refused: Refused<A>| {
-            refused.fault == GrowError::Memory && has_whole_pieces(&refused.list, len, lengths)
-        },
-    )
+    let parts = parts_of(alloc, len, lengths_of(extension));
+    try_conversion(heap, parts, &Extending { extension, len })
+}
+
+impl Trial<Global> for Extension {
+    fn run(self, heap: &Refusing<Global>, len: usize) -> Ending {
+        tried_extension(heap, heap, self, len)
+    }
+
+    fn takes_memory(self, len: usize) -> bool {
+        sum(lengths_of(self)) > room(len)
+    }
 }
 
 #[test]
 fn extensions_are_refused_in_turn(rt: HostRuntime) {
-    for lengths in [[4, 1, 0].as_slice(), [1, 130, 64].as_slice()] {
-        for len in LENGTHS {
-            for is_by_reference in [false, true] {
-                let asked = each_refused(
-                    rt.alloc(),
-                    |heap: &Refusing<Global>| tried_extension(
-                        heap,
-                        heap,
-                        len,
-                        lengths,
-                        is_by_reference,
-                    ),
-                );
-                assert!(rt; asked.is_ok(), "at {len}");
-            }
-        }
-    }
+    let wrong = first_wrong_trial(rt.alloc(), &LENGTHS, &EXTENSIONS);
+    assert_eq!(rt; wrong, None, "a length and a row");
 }
 
 // Whether a list of one limb in memory for just as many bits is kept by a refused `append`, grows by one
@@ -246,11 +315,10 @@ fn appends_as_told<A: Allocator + Copy, B: Allocator>(
 }
 
 fn limb_appends_as_told<A: Allocator + Copy, B: Allocator>(heap: &Refusing<B>, alloc: A) -> bool {
-    asked_mut(
-        BitVec::from_limbs(alloc, &[6]),
-        |list: &mut BitVec<A>| appends_as_told(heap, list),
-    )
-    .unwrap_or(false)
+    match BitVec::from_limbs(alloc, &[6]) {
+        Ok(mut list) => appends_as_told(heap, &mut list),
+        Err(_) => false,
+    }
 }
 
 #[test]

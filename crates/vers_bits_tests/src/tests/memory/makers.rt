@@ -1,12 +1,11 @@
 //! The makers, at every length.
 use crate::tests::makers::{Items, Maker, make};
-use crate::tests::pattern::{has_bits, item};
+use crate::tests::pattern::{Bits, has_bits, item};
 use std::alloc::{Allocator, Global};
-use std::test::Fail;
-use test_alloc::{Ending, LENGTHS, Refusing, asked, takes_memory, try_make};
+use test_alloc::{Ending, LENGTHS, Making, Refusing, Trial, first_wrong_trial, try_making};
 use vers_bits::bit_vec::{BitVec, GrowError};
 
-const MAKERS: [Maker; 28] = [
+const NARROW: [Maker; 18] = [
     Maker::WithCapacity,
     Maker::FromZeros,
     Maker::FromOnes,
@@ -17,23 +16,27 @@ const MAKERS: [Maker; 28] = [
     Maker::FromBitsU32,
     Maker::FromBitsU64,
     Maker::FromBitsIter,
+    Maker::PackU8(3),
+    Maker::PackU16(3),
+    Maker::PackU32(3),
+    Maker::PackU64(3),
+    Maker::PackIterU8(3),
+    Maker::PackIterU16(3),
+    Maker::PackIterU32(3),
+    Maker::PackIterU64(3),
+];
+
+// Wide items make a list of more than a superblock at a smaller length.
+const WIDE: [Maker; 10] = [
     Maker::FromLimbs,
     Maker::FromLimbsIter,
-    Maker::PackU8(3),
     Maker::PackU8(70),
-    Maker::PackU16(3),
     Maker::PackU16(70),
-    Maker::PackU32(3),
     Maker::PackU32(70),
-    Maker::PackU64(3),
     Maker::PackU64(70),
-    Maker::PackIterU8(3),
     Maker::PackIterU8(70),
-    Maker::PackIterU16(3),
     Maker::PackIterU16(70),
-    Maker::PackIterU32(3),
     Maker::PackIterU32(70),
-    Maker::PackIterU64(3),
     Maker::PackIterU64(70),
 ];
 
@@ -54,12 +57,14 @@ fn width(maker: Maker) -> usize {
     }
 }
 
-// The bit that a maker makes at a place.
-fn wanted_bit(maker: Maker, place: usize) -> bool {
-    match maker {
-        Maker::FromZeros => false,
-        Maker::FromOnes => true,
-        _ => digit(place, width(maker)),
+// The bits that a maker makes.
+impl Bits for Maker {
+    fn bit_at(&self, place: usize) -> bool {
+        match *self {
+            Maker::FromZeros => false,
+            Maker::FromOnes => true,
+            _ => digit(place, width(*self)),
+        }
     }
 }
 
@@ -71,50 +76,60 @@ fn digit(place: usize, width: usize) -> bool {
     (item(place / width) >> (place % width)) % 2 == 1
 }
 
+// A maker, and its items, of which there are `len`.
+#[derive(Drop)]
+struct OfItems<'a, A: Allocator + Copy> {
+    maker: Maker,
+    items: &'a Items<A>,
+    len: usize,
+}
+
+impl<A: Allocator + Copy> Making for OfItems<'_, A> {
+    type Made = BitVec<A>;
+
+    type Fault = GrowError;
+
+    fn out_of_memory(&self) -> GrowError {
+        GrowError::Memory
+    }
+
+    fn make(&self) -> Result<BitVec<A>, GrowError> {
+        make(self.items.allocator(), self.maker, self.items)
+    }
+
+    fn is_right(&self, list: &BitVec<A>) -> bool {
+        has_bits(list, self.len.wrapping_mul(width(self.maker)), &self.maker)
+    }
+}
+
 fn tried<B: Allocator, A: Allocator + Copy>(
     heap: &Refusing<B>,
     alloc: A,
     maker: Maker,
-    items: &Items,
     len: usize,
 ) -> Ending {
-    try_make(
-        heap,
-        GrowError::Memory,
-        || make(alloc, maker, items),
-        |list: &BitVec<A>| {
-            has_bits(
-                list,
-                len.wrapping_mul(width(maker)),
-                |place| wanted_bit(maker, place),
-            )
-        },
-    )
+    match Items::of_pattern(alloc, len) {
+        Ok(items) => {
+            let items = &items;
+            try_making(heap, &OfItems { maker, items, len })
+        }
+        Err(_) => Ending::Wrong,
+    }
 }
 
-// The number of the first maker that goes wrong, or takes memory for no items, or takes none for some.
-fn first_wrong_maker(alloc: Global, items: &Items, len: usize) -> Option<usize> {
-    for (row, maker) in MAKERS.iter().enumerate() {
-        // Wide items make a list of more than a superblock at a smaller length.
-        if width(*maker) > 8 && len > 1000 {
-            continue;
-        }
-        let is_tried = |heap: &Refusing<Global>| tried(heap, heap, *maker, items, len);
-        if takes_memory(alloc, is_tried) != Some(len > 0) {
-            return Some(row);
-        }
+impl Trial<Global> for Maker {
+    fn run(self, heap: &Refusing<Global>, len: usize) -> Ending {
+        tried(heap, heap, self, len)
     }
-    None
+
+    fn takes_memory(self, len: usize) -> bool {
+        len > 0
+    }
 }
 
 #[test]
-fn makers_are_refused_in_turn(rt: HostRuntime) -> Result<(), Fail> {
-    for len in LENGTHS {
-        let wrong = asked(
-            Items::of_pattern(rt.alloc(), len),
-            |items| first_wrong_maker(rt.alloc(), items, len),
-        )?;
-        assert_eq!(rt; wrong, None, "of {len} items");
-    }
-    Ok(())
+fn makers_are_refused_in_turn(rt: HostRuntime) {
+    let narrow = first_wrong_trial(rt.alloc(), &LENGTHS, &NARROW);
+    let wide = first_wrong_trial(rt.alloc(), &LENGTHS[..13], &WIDE);
+    assert_eq!(rt; (narrow, wide), (None, None), "a length and a row");
 }

@@ -1,9 +1,12 @@
 //! The calls that take no memory, of lists of every length, with each request refused.
-use crate::tests::pattern::{bit, has_bits, has_pattern, pattern, word};
+use crate::tests::pattern::{bit, has_pattern, pattern, word};
 use std::alloc::{AllocError, Allocator, Global};
 use std::hash::{BuildHasher, BuildHasherDefault, FoldHasher};
-use test_alloc::{Ending, LENGTHS, Refusing, asked, each_refused, try_convert, try_use};
-use vers_bits::bit_vec::{BitMask, BitVec, BitVecIter, LengthMismatch, OutOfRange};
+use test_alloc::{
+    Check, Conversion, Ending, LENGTHS, Refusing, Trial, first_wrong_trial, try_conversion,
+    try_use_checked,
+};
+use vers_bits::bit_vec::{BitMask, BitVec, BitVecIter, GrowError, LengthMismatch, OutOfRange};
 
 // Calls that are tried together.
 #[derive(Clone, Copy, Drop)]
@@ -152,50 +155,123 @@ fn changes_work<A: Allocator + Copy>(left: &mut BitVec<A>, right: &BitVec<A>) ->
         && left.count_ones() == right.count_zeros()
 }
 
+// Calls on a list of `len` bits, or on what is made of one or for one.
+#[derive(Drop)]
+struct Using {
+    calls: Calls,
+    len: usize,
+}
+
+impl<A: Allocator + Copy> Check<BitVec<A>> for Using {
+    fn is_right(&self, list: &mut BitVec<A>) -> bool {
+        match self.calls {
+            Calls::New => is_new(&BitVec::new(list.allocator())),
+            Calls::Queries => queries_work(list, self.len),
+            Calls::Walks => walks_work(list),
+            Calls::Edits => edits_work(list, self.len / 2) && edits_work(list, self.len),
+            Calls::Drops => drops_work(list, self.len),
+            _ => false,
+        }
+    }
+}
+
+impl<A: Allocator + Copy> Check<BitVecIter<A>> for Using {
+    fn is_right(&self, bits: &mut BitVecIter<A>) -> bool {
+        steps_work(bits, self.len)
+    }
+}
+
+impl<A: Allocator + Copy> Conversion<BitVec<A>> for Using {
+    type Made = BitVecIter<A>;
+
+    type Refused = AllocError;
+
+    fn convert(&self, list: BitVec<A>) -> Result<BitVecIter<A>, AllocError> {
+        Ok(list.into_iter())
+    }
+
+    fn is_right(&self, bits: &BitVecIter<A>) -> bool {
+        bits.len() == self.len
+    }
+
+    fn is_kept(&self, _: AllocError) -> bool {
+        false
+    }
+}
+
+impl<A: Allocator + Copy> Conversion<Vec<u64, A>> for Using {
+    type Made = BitVec<A>;
+
+    type Refused = GrowError;
+
+    fn convert(&self, limbs: Vec<u64, A>) -> Result<BitVec<A>, GrowError> {
+        BitVec::from_vec(limbs)
+    }
+
+    fn is_right(&self, list: &BitVec<A>) -> bool {
+        has_pattern(list, 0, self.len.wrapping_mul(64))
+    }
+
+    fn is_kept(&self, _: GrowError) -> bool {
+        false
+    }
+}
+
+// The masks of a list and another one.
+#[derive(Drop)]
+struct MaskedBy<'a, A: Allocator + Copy> {
+    right: &'a BitVec<A>,
+}
+
+impl<A: Allocator + Copy> Check<BitVec<A>> for MaskedBy<'_, A> {
+    fn is_right(&self, left: &mut BitVec<A>) -> bool {
+        masks_work(left, self.right) && changes_work(left, self.right)
+    }
+}
+
+fn tried_masks<B: Allocator, A: Allocator + Copy>(
+    heap: &Refusing<B>,
+    list: BitVec<A>,
+    right: Result<BitVec<A>, GrowError>,
+) -> Ending {
+    match right {
+        Ok(right) => {
+            let right = &right;
+            try_use_checked(heap, Ok::<_, GrowError>(list), &MaskedBy { right })
+        }
+        Err(_) => Ending::Wrong,
+    }
+}
+
 fn tried<B: Allocator, A: Allocator + Copy>(
     heap: &Refusing<B>,
-    alloc: A,
+    list: BitVec<A>,
     calls: Calls,
     len: usize,
 ) -> Ending {
-    let made = pattern(alloc, 0, len);
+    let using = Using { calls, len };
     match calls {
-        Calls::New => try_use(heap, made, |_: &mut BitVec<A>| is_new(&BitVec::new(alloc))),
-        Calls::FromVec => try_convert(
-            heap,
-            limbs_of(alloc, len),
-            |limbs: Vec<u64, A>| BitVec::from_vec(limbs),
-            |list: &BitVec<A>| has_pattern(list, 0, len.wrapping_mul(64)),
-            |_| false,
-        ),
-        Calls::IntoIter => try_convert(
-            heap,
-            made,
-            |list: BitVec<A>| Ok::<_, AllocError>(list.into_iter()),
-            |bits: &BitVecIter<A>| bits.len() == len,
-            |_| false,
-        ),
-        Calls::Steps => try_use(
-            heap,
-            made.map(|list| list.into_iter()),
-            |bits: &mut BitVecIter<A>| steps_work(bits, len),
-        ),
-        Calls::Queries => { try_use(heap, made, |list: &mut BitVec<A>| queries_work(list, len)) }
-        Calls::Walks => try_use(heap, made, |list: &mut BitVec<A>| walks_work(list)),
-        Calls::Edits => try_use(
-            heap,
-            made,
-            |list: &mut BitVec<A>| edits_work(list, len / 2) && edits_work(list, len),
-        ),
-        Calls::Drops => { try_use(heap, made, |list: &mut BitVec<A>| drops_work(list, len)) }
+        Calls::IntoIter => try_conversion(heap, Ok::<_, GrowError>(list), &using),
+        Calls::Steps => try_use_checked(heap, Ok::<_, GrowError>(list.into_iter()), &using),
+        Calls::FromVec => try_conversion(heap, limbs_of(list.allocator(), len), &using),
         Calls::Masks => {
-            let tried_with = |right: &BitVec<A>| {
-                try_use(heap, pattern(alloc, 0, len), |left: &mut BitVec<A>| {
-                    masks_work(left, right) && changes_work(left, right)
-                })
-            };
-            asked(pattern(alloc, 5, len), tried_with).unwrap_or(Ending::Wrong)
+            let right = pattern(list.allocator(), 5, len);
+            tried_masks(heap, list, right)
         }
+        _ => try_use_checked(heap, Ok::<_, GrowError>(list), &using),
+    }
+}
+
+impl Trial<Global> for Calls {
+    fn run(self, heap: &Refusing<Global>, len: usize) -> Ending {
+        match pattern(heap, 0, len) {
+            Ok(list) => tried(heap, list, self, len),
+            Err(_) => Ending::Wrong,
+        }
+    }
+
+    fn takes_memory(self, _: usize) -> bool {
+        false
     }
 }
 
@@ -203,14 +279,6 @@ fn tried<B: Allocator, A: Allocator + Copy>(
 // of splits.
 #[test]
 fn these_calls_take_no_memory(rt: HostRuntime) {
-    for len in LENGTHS {
-        for (row, calls) in ALL.iter().enumerate() {
-            let is_tried = |heap: &Refusing<Global>| tried(heap, heap, *calls, len);
-            assert_eq!(rt;
-                each_refused(rt.alloc(), is_tried),
-                Ok(0),
-                "row {row} of {len}"
-            );
-        }
-    }
+    let wrong = first_wrong_trial(rt.alloc(), &LENGTHS, &ALL);
+    assert_eq!(rt; wrong, None, "a length and a row");
 }

@@ -1,82 +1,153 @@
 //! Splits at the start, in the middle, before the end and at the end of lists of every length.
 use crate::tests::pattern::{has_pattern, pattern};
 use std::alloc::{Allocator, Global};
-use test_alloc::{Ending, LENGTHS, Refusing, takes_memory, try_convert};
+use test_alloc::{Conversion, Ending, LENGTHS, Refusing, Trial, first_wrong_trial, try_conversion};
 use vers_bits::bit_vec::{BitVec, SplitCause, SplitError};
 
 // Whether two lists are the halves of the pattern.
-fn are_halves<A: Allocator + Copy>(
-    first: &BitVec<A>,
-    second: &BitVec<A>,
-    len: usize,
-    at: usize,
-) -> bool {
-    has_pattern(first, 0, at) && has_pattern(second, at, len.wrapping_sub(at))
-}
-
-// `split_at_unchecked`, at the end where the place lies past it.
-fn split_unchecked<A: Allocator + Copy>(
-    list: BitVec<A>,
-    at: usize,
-) -> Result<(BitVec<A>, BitVec<A>), BitVec<A>> {
-    let at = at.min(list.len());
-    list.split_at_unchecked(at)
+fn are_halves<A: Allocator + Copy>(halves: &(BitVec<A>, BitVec<A>), len: usize, at: usize) -> bool {
+    has_pattern(&halves.0, 0, at) && has_pattern(&halves.1, at, len.wrapping_sub(at))
 }
 
 // Whether a list that was handed back is as it was, and is split where there is memory.
 fn is_kept<A: Allocator + Copy>(list: BitVec<A>, len: usize, at: usize) -> bool {
-    has_pattern(&list, 0, len)
-        && list
-            .split_at(at)
-            .is_ok_and(|halves| are_halves(&halves.0, &halves.1, len, at))
+    if !has_pattern(&list, 0, len) {
+        return false;
+    }
+    match list.split_at(at) {
+        Ok(halves) => are_halves(&halves, len, at),
+        Err(_) => false,
+    }
+}
+
+// `split_at` of a list of `len` bits.
+#[derive(Drop)]
+struct Checked {
+    len: usize,
+    at: usize,
+}
+
+impl<A: Allocator + Copy> Conversion<BitVec<A>> for Checked {
+    type Made = (BitVec<A>, BitVec<A>);
+
+    type Refused = SplitError<A>;
+
+    fn convert(&self, list: BitVec<A>) -> Result<Self::Made, SplitError<A>> {
+        list.split_at(self.at)
+    }
+
+    fn is_right(&self, halves: &Self::Made) -> bool {
+        are_halves(halves, self.len, self.at)
+    }
+
+    fn is_kept(&self, refused: SplitError<A>) -> bool {
+        refused.cause == SplitCause::Memory && is_kept(refused.vec, self.len, self.at)
+    }
+}
+
+// `split_at_unchecked`, at the end where the place lies past it.
+#[derive(Drop)]
+struct Unchecked {
+    len: usize,
+    at: usize,
+}
+
+impl<A: Allocator + Copy> Conversion<BitVec<A>> for Unchecked {
+    type Made = (BitVec<A>, BitVec<A>);
+
+    type Refused = BitVec<A>;
+
+    fn convert(&self, list: BitVec<A>) -> Result<Self::Made, BitVec<A>> {
+        let at = self.at.min(list.len());
+        list.split_at_unchecked(at)
+    }
+
+    fn is_right(&self, halves: &Self::Made) -> bool {
+        are_halves(halves, self.len, self.at)
+    }
+
+    fn is_kept(&self, list: BitVec<A>) -> bool {
+        is_kept(list, self.len, self.at)
+    }
+}
+
+// Where a list is split.
+#[derive(Clone, Copy, Drop)]
+enum At {
+    Start,
+    Second,
+    Middle,
+    Last,
+    End,
+}
+
+fn place_of(at: At, len: usize) -> usize {
+    match at {
+        At::Start => 0,
+        At::Second => len.min(1),
+        At::Middle => len / 2,
+        At::Last => len.saturating_sub(1),
+        At::End => len,
+    }
 }
 
 // A split by `split_at`, or by `split_at_unchecked`.
+#[derive(Clone, Copy, Drop)]
+enum Split {
+    Checked(At),
+    Unchecked(At),
+}
+
+const SPLITS: [Split; 10] = [
+    Split::Checked(At::Start),
+    Split::Checked(At::Second),
+    Split::Checked(At::Middle),
+    Split::Checked(At::Last),
+    Split::Checked(At::End),
+    Split::Unchecked(At::Start),
+    Split::Unchecked(At::Second),
+    Split::Unchecked(At::Middle),
+    Split::Unchecked(At::Last),
+    Split::Unchecked(At::End),
+];
+
 fn tried<B: Allocator, A: Allocator + Copy>(
     heap: &Refusing<B>,
     alloc: A,
-    is_checked: bool,
+    split: Split,
     len: usize,
-    at: usize,
 ) -> Ending {
     let made = pattern(alloc, 0, len);
-    let are_right = |halves: &(BitVec<A>, BitVec<A>)| are_halves(&halves.0, &halves.1, len, at);
-    if is_checked {
-        try_convert(
-            heap,
-            made,
-            |list: BitVec<A>| list.split_at(at),
-            are_right,
-            |refused: SplitError<A>| {
-                refused.cause == SplitCause::Memory && is_kept(refused.vec, len, at)
-            },
-        )
-    } else {
-        try_convert(
-            heap,
-            made,
-            |list: BitVec<A>| split_unchecked(list, at),
-            are_right,
-            |list: BitVec<A>| is_kept(list, len, at),
-        )
+    match split {
+        Split::Checked(at) => {
+            let at = place_of(at, len);
+            try_conversion(heap, made, &Checked { len, at })
+        }
+        Split::Unchecked(at) => {
+            let at = place_of(at, len);
+            try_conversion(heap, made, &Unchecked { len, at })
+        }
     }
 }
 
-// Memory is taken where both halves have bits, and nowhere else.
-#[test]
-fn splits_are_refused_in_turn(rt: HostRuntime) {
-    for len in LENGTHS {
-        for place in [0, 1, len / 2, len.saturating_sub(1), len] {
-            let at = place.min(len);
-            let takes = 0 < at && at < len;
-            for is_checked in [true, false] {
-                let is_tried = |heap: &Refusing<Global>| tried(heap, heap, is_checked, len, at);
-                assert_eq!(rt;
-                    takes_memory(rt.alloc(), is_tried),
-                    Some(takes),
-                    "{len} at {at}"
-                );
+impl Trial<Global> for Split {
+    fn run(self, heap: &Refusing<Global>, len: usize) -> Ending {
+        tried(heap, heap, self, len)
+    }
+
+    // Where both halves have bits, and nowhere else.
+    fn takes_memory(self, len: usize) -> bool {
+        match self {
+            Split::Checked(at) | Split::Unchecked(at) => {
+                let place = place_of(at, len);
+                0 < place && place < len
             }
         }
     }
+}
+
+#[test]
+fn splits_are_refused_in_turn(rt: HostRuntime) {
+    let wrong = first_wrong_trial(rt.alloc(), &LENGTHS, &SPLITS);
+    assert_eq!(rt; wrong, None, "a length and a row");
 }
