@@ -1,8 +1,7 @@
 //! Small lists, and lists whose bits change at the ends of superblocks.
-use crate::tests::lists::{indexed, runs, spread};
+use crate::tests::lists::{runs, spread};
 use crate::tests::queries::{Query, first_wrong_answer};
-use std::alloc::{AllocError, Allocator};
-use std::test::Fail;
+use std::alloc::{AllocError, Allocator, Global};
 use test_alloc::{asked, asked_both};
 use vers_bits::bit_vec::BitVec;
 use vers_rank::fast_rs_vec::RsVec;
@@ -124,16 +123,23 @@ const CASES: [(&[(bool, usize)], &[(Query, Option<u64>)]); 9] = [
     ),
 ];
 
-#[test]
-fn queries_and_their_answers(rt: HostRuntime) -> Result<(), Fail> {
+// The first case that is answered wrong, and its row; its number of rows where no list was made.
+fn first_wrong_case<A: Allocator + Copy>(alloc: A) -> Option<(usize, usize)> {
     for (case, (bits, rows)) in CASES.iter().enumerate() {
         let wrong = asked(
-            runs(rt.alloc(), bits),
-            |list| first_wrong_answer(list, rows),
-        )?;
-        assert_eq!(rt; wrong, None, "case {case}");
+            runs(alloc, bits),
+            |list: &RsVec<A>| first_wrong_answer(list, rows),
+        );
+        if let Some(row) = wrong.unwrap_or(Some(rows.len())) {
+            return Some((case, row));
+        }
     }
-    Ok(())
+    None
+}
+
+#[test]
+fn queries_and_their_answers(rt: HostRuntime) {
+    assert_eq!(rt; first_wrong_case(rt.alloc()), None, "a case and a row");
 }
 
 // The number of the first one that does not stand after `gap` zeros of its own.
@@ -147,15 +153,20 @@ fn first_misplaced<A: Allocator + Copy>(list: &RsVec<A>, gap: usize) -> Option<u
     None
 }
 
+// What is asked of 20,000 ones, each after 19 zeros.
+const SPREAD: [(Query, Option<u64>); 2] = [
+    (Query::Ones, Some(20_000)),
+    (Query::Len, Some(400_000)),
+];
+
+fn wrong_of_spread<A: Allocator + Copy>(list: &RsVec<A>) -> Option<usize> {
+    first_wrong_answer(list, &SPREAD).or(first_misplaced(list, 19))
+}
+
 #[test]
-fn ones_spread_evenly(rt: HostRuntime) -> Result<(), Fail> {
-    let rows = [(Query::Ones, Some(20_000)), (Query::Len, Some(400_000))];
-    let wrong = asked(
-        spread(rt.alloc(), 19, 20_000),
-        |list| first_wrong_answer(list, &rows).or(first_misplaced(list, 19)),
-    )?;
-    assert_eq!(rt; wrong, None);
-    Ok(())
+fn ones_spread_evenly(rt: HostRuntime) {
+    let list = spread(rt.alloc(), 19, 20_000);
+    assert_eq!(rt; asked(list, wrong_of_spread), Ok(None));
 }
 
 // Whether all ways to compare two lists answer the same.
@@ -172,28 +183,34 @@ fn is_as_its_clone<A: Allocator + Copy>(list: &RsVec<A>) -> bool {
     asked(clone, |clone: &RsVec<A>| all_compare(list, clone, true)).unwrap_or(false)
 }
 
-// Runs of bits that make other lists than a one and 63 zeros: another place, another length.
+const ONE_AND_ZEROS: [(bool, usize); 2] = [(true, 1), (false, 63)];
+
+// Runs of bits that make other lists: another place, another length.
 const OTHERS: [&[(bool, usize)]; 2] = [
     &[(false, 1), (true, 1), (false, 62)],
     &[(true, 1), (false, 64)],
 ];
 
-#[test]
-fn equal_and_different_lists(rt: HostRuntime) -> Result<(), Fail> {
-    let one = [(true, 1), (false, 63)];
-    assert!(rt;
-        asked(runs(rt.alloc(), &one), |list| is_as_its_clone(list))?,
-        "a clone"
-    );
+fn differ(alloc: Global, other: &[(bool, usize)]) -> bool {
+    let one = runs(alloc, &ONE_AND_ZEROS);
+    let other = runs(alloc, other);
+    asked_both(one, other, |one, other| all_compare(one, other, false)).unwrap_or(false)
+}
+
+// The first of the others that compares as equal.
+fn first_equal(alloc: Global) -> Option<usize> {
     for (number, other) in OTHERS.iter().enumerate() {
-        let are_different = asked_both(
-            runs(rt.alloc(), &one),
-            runs(rt.alloc(), other),
-            |one, other| all_compare(one, other, false),
-        )?;
-        assert!(rt; are_different, "list {number}");
+        if !differ(alloc, other) {
+            return Some(number);
+        }
     }
-    Ok(())
+    None
+}
+
+#[test]
+fn equal_and_different_lists(rt: HostRuntime) {
+    let is_equal = asked(runs(rt.alloc(), &ONE_AND_ZEROS), is_as_its_clone);
+    assert_eq!(rt; (is_equal, first_equal(rt.alloc())), (Ok(true), None));
 }
 
 // Whether the unchecked forms read the bits 0110.
@@ -206,13 +223,30 @@ fn reads_0110<A: Allocator + Copy>(list: &RsVec<A>) -> bool {
 }
 
 #[test]
-fn the_unchecked_forms(rt: HostRuntime) -> Result<(), Fail> {
+fn the_unchecked_forms(rt: HostRuntime) {
     let list = runs(rt.alloc(), &[(false, 1), (true, 2), (false, 1)]);
-    assert!(rt; asked(list, |list| reads_0110(list))?);
-    Ok(())
+    assert_eq!(rt; asked(list, reads_0110), Ok(true));
 }
 
-// The bits that come back out of a list.
+// The bits that come back out of a list of a copy of them.
+fn back_by_law<A: Allocator + Copy>(
+    copy: Result<BitVec<A>, AllocError>,
+) -> Result<BitVec<A>, AllocError> {
+    match copy {
+        Ok(bits) => bits_come_back(bits),
+        Err(fault) => Err(fault),
+    }
+}
+
+fn back_by_from<A: Allocator + Copy>(
+    copy: Result<BitVec<A>, AllocError>,
+) -> Result<BitVec<A>, AllocError> {
+    match copy {
+        Ok(bits) => converted(bits),
+        Err(fault) => Err(fault),
+    }
+}
+
 fn converted<A: Allocator + Copy>(bits: BitVec<A>) -> Result<BitVec<A>, AllocError> {
     match RsVec::from_bit_vec(bits) {
         Ok(list) => Ok(BitVec::from(list)),
@@ -220,22 +254,21 @@ fn converted<A: Allocator + Copy>(bits: BitVec<A>) -> Result<BitVec<A>, AllocErr
     }
 }
 
+fn is_back<A: Allocator + Copy>(back: Result<BitVec<A>, AllocError>, bits: &BitVec<A>) -> bool {
+    match back {
+        Ok(list) => list == *bits,
+        Err(_) => false,
+    }
+}
+
 // Whether copies of bits come back out of a list.
-fn come_back<A: Allocator + Copy>(bits: &BitVec<A>) -> Result<(bool, bool), AllocError> {
-    let first = asked(
-        bits_come_back(bits.clone()?),
-        |back: &BitVec<A>| *back == *bits,
-    )?;
-    let second = asked(converted(bits.clone()?), |back: &BitVec<A>| *back == *bits)?;
-    Ok((first, second))
+fn come_back<A: Allocator + Copy>(bits: &BitVec<A>) -> (bool, bool) {
+    let by_law = is_back(back_by_law(bits.clone()), bits);
+    (by_law, is_back(back_by_from(bits.clone()), bits))
 }
 
 #[test]
-fn the_bits_come_back(rt: HostRuntime) -> Result<(), Fail> {
-    let back = asked(
-        BitVec::from_limbs(rt.alloc(), &[0, 5]),
-        |bits| come_back(bits),
-    )?;
-    assert_eq!(rt; back, Ok((true, true)));
-    Ok(())
+fn the_bits_come_back(rt: HostRuntime) {
+    let bits = BitVec::from_limbs(rt.alloc(), &[0, 5]);
+    assert_eq!(rt; asked(bits, come_back), Ok((true, true)));
 }

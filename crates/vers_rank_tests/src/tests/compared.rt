@@ -3,7 +3,6 @@ use crate::tests::lists::{Look, bits_of, list_of, turned_at};
 use crate::tests::plain::PlainList;
 use crate::tests::queries::{Query, is_right, queries_at};
 use std::alloc::{Allocator, Global};
-use std::test::Fail;
 use test_alloc::asked_both;
 use vers_bits::bit_vec::GrowError;
 use vers_rank::fast_rs_vec::{BitSetIter, RsVec};
@@ -57,7 +56,7 @@ fn are_right_at<A: Allocator + Copy>(list: &RsVec<A>, plain: &PlainList<A>, plac
 }
 
 // The first place with a wrong query, up to two past the end and at the greatest place of all.
-fn first_wrong_place<A: Allocator + Copy>(list: &RsVec<A>, plain: &PlainList<A>) -> Option<usize> {
+fn first_wrong_place<A: Allocator + Copy>(plain: &PlainList<A>, list: &RsVec<A>) -> Option<usize> {
     for place in 0..plain.len().saturating_add(3) {
         if !are_right_at(list, plain, place) {
             return Some(place);
@@ -87,79 +86,104 @@ fn have_places<A: Allocator + Copy>(plain: &PlainList<A>, list: &RsVec<A>) -> bo
     gives_places(list.bit_set_iter0(), plain) && gives_places(list.bit_set_iter1(), plain)
 }
 
+// The first place at which both disagree on a list; its length where it was not made.
+fn disagreement(alloc: Global, look: Look, len: usize) -> Option<usize> {
+    let plain = plain_of(alloc, look, len);
+    let list = list_of(alloc, look, len);
+    asked_both(plain, list, |plain, list| first_wrong_place(plain, list)).unwrap_or(Some(len))
+}
+
 // The first length, and the place there, at which both disagree on a list of some look.
-fn first_disagreement(
-    alloc: Global,
-    lengths: &[usize],
-) -> Result<Option<(usize, usize)>, GrowError> {
+fn first_disagreement(alloc: Global, lengths: &[usize]) -> Option<(usize, usize)> {
     for len in lengths {
-        for look in LOOKS {
-            let wrong = asked_both(
-                plain_of(alloc, look, *len),
-                list_of(alloc, look, *len),
-                |plain, list| first_wrong_place(list, plain),
-            )?;
-            if let Some(place) = wrong {
-                return Ok(Some((*len, place)));
+        for look in LOOKS.iter() {
+            if let Some(place) = disagreement(alloc, *look, *len) {
+                return Some((*len, place));
             }
         }
     }
-    Ok(None)
+    None
 }
 
 #[test]
-fn around_a_limb(rt: HostRuntime) -> Result<(), Fail> {
+fn around_a_limb_and_a_block(rt: HostRuntime) {
+    let lengths = [0, 1, 15, 16, 17, 63, 64, 65, 511, 512, 513];
+    assert_eq!(rt; first_disagreement(rt.alloc(), &lengths), None);
+}
+
+#[test]
+fn around_a_superblock(rt: HostRuntime) {
+    assert_eq!(rt; first_disagreement(rt.alloc(), &[8191, 8192, 8193]), None);
+}
+
+#[test]
+fn past_two_superblocks(rt: HostRuntime) {
+    assert_eq!(rt; first_disagreement(rt.alloc(), &[16385]), None);
+}
+
+fn chunks_are_right(alloc: Global, look: Look, len: usize) -> bool {
+    let plain = plain_of(alloc, look, len);
+    let list = list_of(alloc, look, len);
+    asked_both(plain, list, |plain, list| have_places(plain, list)).unwrap_or(false)
+}
+
+// The first length, and the row of the look, of which the walks by chunks do not give every place.
+fn first_wrong_chunks(alloc: Global) -> Option<(usize, usize)> {
+    for len in LENGTHS.iter() {
+        for (row, look) in LOOKS.iter().enumerate() {
+            if !chunks_are_right(alloc, *look, *len) {
+                return Some((*len, row));
+            }
+        }
+    }
+    None
+}
+
+#[test]
+fn chunks_give_every_place(rt: HostRuntime) {
+    assert_eq!(rt; first_wrong_chunks(rt.alloc()), None, "a length and a look");
+}
+
+fn are_told_apart<A: Allocator + Copy>(list: &RsVec<A>, turned: &RsVec<A>) -> bool {
+    !list.full_equals(turned) && list.full_equals(list)
+}
+
+// Whether a list is told apart from one with another bit at a place.
+fn is_seen(alloc: Global, len: usize, place: usize) -> bool {
+    let list = list_of(alloc, Look::Mixed, len);
+    let turned = turned_at(alloc, Look::Mixed, len, place);
+    asked_both(list, turned, |list, turned| are_told_apart(list, turned)).unwrap_or(false)
+}
+
+// The first place of each 61, and the last one, at which another bit is not seen.
+fn first_unseen(alloc: Global, len: usize) -> Option<usize> {
+    for step in 0..len.div_ceil(61) {
+        let place = step.wrapping_mul(61);
+        if !is_seen(alloc, len, place) {
+            return Some(place);
+        }
+    }
+    let last = len.checked_sub(1)?;
+    if is_seen(alloc, len, last) {
+        return None;
+    }
+    Some(last)
+}
+
+fn first_unseen_of_all(alloc: Global) -> Option<(usize, usize)> {
+    for len in LENGTHS.iter() {
+        if let Some(place) = first_unseen(alloc, *len) {
+            return Some((*len, place));
+        }
+    }
+    None
+}
+
+#[test]
+fn full_equality_sees_every_limb(rt: HostRuntime) {
     assert_eq!(rt;
-        first_disagreement(rt.alloc(), &[0, 1, 15, 16, 17, 63, 64, 65])?,
-        None
+        first_unseen_of_all(rt.alloc()),
+        None,
+        "a length and a place"
     );
-    Ok(())
-}
-
-#[test]
-fn around_a_block(rt: HostRuntime) -> Result<(), Fail> {
-    assert_eq!(rt; first_disagreement(rt.alloc(), &[511, 512, 513])?, None);
-    Ok(())
-}
-
-#[test]
-fn around_a_superblock(rt: HostRuntime) -> Result<(), Fail> {
-    assert_eq!(rt; first_disagreement(rt.alloc(), &[8191, 8192, 8193])?, None);
-    Ok(())
-}
-
-#[test]
-fn past_two_superblocks(rt: HostRuntime) -> Result<(), Fail> {
-    assert_eq!(rt; first_disagreement(rt.alloc(), &[16385])?, None);
-    Ok(())
-}
-
-#[test]
-fn chunks_give_every_place(rt: HostRuntime) -> Result<(), Fail> {
-    for len in LENGTHS {
-        for look in LOOKS {
-            let are_right = asked_both(
-                plain_of(rt.alloc(), look, len),
-                list_of(rt.alloc(), look, len),
-                |plain, list| have_places(plain, list),
-            )?;
-            assert!(rt; are_right, "length {len}");
-        }
-    }
-    Ok(())
-}
-
-#[test]
-fn full_equality_sees_every_limb(rt: HostRuntime) -> Result<(), Fail> {
-    for len in LENGTHS {
-        for place in (0..len).step_by(61).chain(len.checked_sub(1)) {
-            let are_equal = asked_both(
-                list_of(rt.alloc(), Look::Mixed, len),
-                turned_at(rt.alloc(), Look::Mixed, len, place),
-                |list, turned| list.full_equals(turned) || !list.full_equals(list),
-            )?;
-            assert!(rt; !are_equal, "length {len}, place {place}");
-        }
-    }
-    Ok(())
 }

@@ -3,8 +3,8 @@ ghost use Rattle.std.specs.Iterator.{IsFinite};
 
 use crate::tests::lists::{list_10110, runs};
 use std::alloc::{AllocError, Allocator, Global};
-use std::test::Fail;
-use test_alloc::{Step, asked, asked_mut, first_wrong_step};
+use test_alloc::{Step, asked, asked_mut};
+use vers_bits::bit_vec::GrowError;
 use vers_rank::fast_rs_vec::{BitSetIter, RsVec, RsVecIter, SelectIntoIter};
 use vers_tally::ends::{BothEnds, Source};
 use vers_tally::tally::Tally;
@@ -122,18 +122,26 @@ fn selected_ones(list: &RsVec<Global>) -> Result<SelectIntoIter<false, Global>, 
     )
 }
 
+// What a step of a walk gives, in one form or the other.
+fn taken<W: Walk>(walk: &mut W, is_counted: bool, step: Step) -> Option<u64> {
+    if is_counted {
+        return walk.step_counted(step, &mut Tally::new());
+    }
+    walk.step(step)
+}
+
 // The number of the first step of a walk that gives another item, in one form or the other.
 fn wrong_step<W: Walk>(
     walk: &mut W,
     is_counted: bool,
     rows: &[(Step, Option<u64>)],
 ) -> Option<usize> {
-    first_wrong_step(walk, rows, |walk: &mut W, step: Step| {
-        if is_counted {
-            return walk.step_counted(step, &mut Tally::new());
+    for (row, (step, wanted)) in rows.iter().enumerate() {
+        if taken(walk, is_counted, *step) != *wanted {
+            return Some(row);
         }
-        walk.step(step)
-    })
+    }
+    None
 }
 
 // The same of a walk that owns a copy of its list; as many as there are rows where there is no copy.
@@ -142,7 +150,10 @@ fn wrong_owned_step<W: Walk>(
     is_counted: bool,
     rows: &[(Step, Option<u64>)],
 ) -> Option<usize> {
-    asked_mut(walk, |walk: &mut W| wrong_step(walk, is_counted, rows)).unwrap_or(Some(rows.len()))
+    match walk {
+        Ok(mut walk) => wrong_step(&mut walk, is_counted, rows),
+        Err(_) => Some(rows.len()),
+    }
 }
 
 // The first wrong step of the walks over the bits of a list, of a borrowed one and of one that owns a copy.
@@ -253,18 +264,21 @@ const WALKS: [(Over, &[(Step, Option<u64>)]); 6] = [
     ),
 ];
 
-#[test]
-fn walks_from_both_ends(rt: HostRuntime) -> Result<(), Fail> {
+// The first walk over 10110 that goes wrong, and its step.
+fn first_wrong_walk(list: &RsVec<Global>) -> Option<(usize, usize)> {
     for (number, (over, rows)) in WALKS.iter().enumerate() {
-        for is_counted in [false, true] {
-            let wrong = asked(
-                list_10110(rt.alloc()),
-                |list| wrong_walk(list, *over, is_counted, rows),
-            )?;
-            assert_eq!(rt; wrong, None, "walk {number}");
+        let plain = wrong_walk(list, *over, false, rows);
+        if let Some(step) = plain.or(wrong_walk(list, *over, true, rows)) {
+            return Some((number, step));
         }
     }
-    Ok(())
+    None
+}
+
+#[test]
+fn walks_from_both_ends(rt: HostRuntime) {
+    let wrong = asked(list_10110(rt.alloc()), first_wrong_walk);
+    assert_eq!(rt; wrong, Ok(None), "a walk and a step");
 }
 
 // The last item of a walk that was made, and how many it has.
@@ -304,21 +318,29 @@ fn ones_end(list: &RsVec<Global>, last: Option<u64>, count: usize) -> bool {
         && count_of(owned_ones(list)) == count
 }
 
+// Which walks over 10110 end as they should, and whether one says how many items are left.
+fn ends_of_10110(list: &RsVec<Global>) -> [bool; 4] {
+    [
+        bits_end(list, Some(0), 5),
+        zeros_end(list, Some(4), 2),
+        ones_end(list, Some(3), 3),
+        list.iter1().size_hint() == (3, Some(3)),
+    ]
+}
+
+fn ends_of_no_bits(list: &RsVec<Global>) -> [bool; 3] {
+    [
+        bits_end(list, None, 0),
+        zeros_end(list, None, 0),
+        ones_end(list, None, 0),
+    ]
+}
+
 #[test]
-fn walks_end_and_are_counted(rt: HostRuntime) -> Result<(), Fail> {
-    let alloc = rt.alloc();
-    let ends = asked(list_10110(alloc), |list| {
-        bits_end(list, Some(0), 5) && zeros_end(list, Some(4), 2) && ones_end(list, Some(3), 3)
-    })?;
-    assert!(rt; ends, "10110");
-    let ends = asked(
-        runs(alloc, &[]),
-        |list| bits_end(list, None, 0) && zeros_end(list, None, 0) && ones_end(list, None, 0),
-    )?;
-    assert!(rt; ends, "no bits");
-    let hint = asked(list_10110(alloc), |list| list.iter1().size_hint())?;
-    assert_eq!(rt; hint, (3, Some(3)), "size_hint");
-    Ok(())
+fn walks_end_and_are_counted(rt: HostRuntime) {
+    let ends = asked(list_10110(rt.alloc()), ends_of_10110);
+    let none = asked(runs(rt.alloc(), &[]), ends_of_no_bits);
+    assert_eq!(rt; (ends, none), (Ok([true; 4]), Ok([true; 3])));
 }
 
 // How many items are left in a clone of a walk of which one was taken, by kinds of walks.
@@ -334,36 +356,38 @@ fn ones_left<A: Allocator + Copy>(list: &RsVec<A>) -> usize {
     ones.clone().len()
 }
 
-fn owned_left<W: Walk + Clone>(walk: &mut W) -> Option<u64> {
-    walk.step(Step::Next);
-    let copy: Result<_, _> = walk.clone();
-    asked_mut(copy, |second: &mut W| second.step(Step::Len)).unwrap_or(None)
+fn owned_left<W: Walk + Clone>(walk: Result<W, AllocError>) -> Option<u64> {
+    match walk {
+        Ok(mut walk) => {
+            walk.step(Step::Next);
+            let copy: Result<_, _> = walk.clone();
+            items_left(copy)
+        }
+        Err(_) => None,
+    }
+}
+
+fn items_left<W: Walk>(walk: Result<W, AllocError>) -> Option<u64> {
+    match walk {
+        Ok(mut walk) => walk.step(Step::Len),
+        Err(_) => None,
+    }
+}
+
+// How many items are left in clones of walks over the bits and the ones, borrowed and owned.
+fn left_in_clones(list: &RsVec<Global>) -> [Option<u64>; 4] {
+    [
+        Some(bits_left(list) as u64),
+        Some(ones_left(list) as u64),
+        owned_left(owned_bits(list)),
+        owned_left(owned_ones(list)),
+    ]
 }
 
 #[test]
-fn clones_go_on_from_where_the_walk_is(rt: HostRuntime) -> Result<(), Fail> {
-    let alloc = rt.alloc();
-    assert_eq!(rt;
-        asked(list_10110(alloc), |list| bits_left(list))?,
-        4,
-        "bits"
-    );
-    assert_eq!(rt;
-        asked(list_10110(alloc), |list| ones_left(list))?,
-        2,
-        "ones"
-    );
-    let bits = asked(
-        list_10110(alloc),
-        |list| asked_mut(owned_bits(list), |walk| owned_left(walk)),
-    )?;
-    assert_eq!(rt; bits, Ok(Some(4)), "owned bits");
-    let ones = asked(
-        list_10110(alloc),
-        |list| asked_mut(owned_ones(list), |walk| owned_left(walk)),
-    )?;
-    assert_eq!(rt; ones, Ok(Some(2)), "owned ones");
-    Ok(())
+fn clones_go_on_from_where_the_walk_is(rt: HostRuntime) {
+    let left = asked(list_10110(rt.alloc()), left_in_clones);
+    assert_eq!(rt; left, Ok([Some(4), Some(2), Some(4), Some(2)]));
 }
 
 // The first place that a walk by chunks doesn't give in its turn, of the places from 0 up to `n`.
@@ -404,21 +428,35 @@ fn gives_ones<A: Allocator + Copy>(list: &RsVec<A>, n: usize, chunks: u64) -> bo
         && gives_up_to(&mut list.bit_set_iter0(), 0, chunks)
 }
 
-#[test]
-fn chunks_of_equal_bits(rt: HostRuntime) -> Result<(), Fail> {
-    for (n, chunks) in [(0, 0), (17, 2), (20, 2), (32, 2), (33, 3)] {
-        let zeros = asked(
-            runs(rt.alloc(), &[(false, n)]),
-            |list| gives_zeros(list, n, chunks),
-        )?;
-        assert!(rt; zeros, "{n} zeros");
-        let ones = asked(
-            runs(rt.alloc(), &[(true, n)]),
-            |list| gives_ones(list, n, chunks),
-        )?;
-        assert!(rt; ones, "{n} ones");
+// Whether a list of equal bits gives all its places.
+fn gives_equal<A: Allocator + Copy>(list: &RsVec<A>, bit: bool, n: usize, chunks: u64) -> bool {
+    if bit {
+        return gives_ones(list, n, chunks);
     }
-    Ok(())
+    gives_zeros(list, n, chunks)
+}
+
+fn are_given<A: Allocator + Copy>(alloc: A, bit: bool, n: usize, chunks: u64) -> bool {
+    let list = runs(alloc, &[(bit, n)]);
+    asked(list, |list: &RsVec<A>| gives_equal(list, bit, n, chunks)).unwrap_or(false)
+}
+
+// How many equal bits there are, and by how many chunks they are given at most.
+const EQUAL_BITS: [(usize, u64); 5] = [(0, 0), (17, 2), (20, 2), (32, 2), (33, 3)];
+
+// The first number of equal bits of which not all places are given.
+fn first_wrong_number<A: Allocator + Copy>(alloc: A) -> Option<usize> {
+    for (n, chunks) in EQUAL_BITS.iter() {
+        if !are_given(alloc, false, *n, *chunks) || !are_given(alloc, true, *n, *chunks) {
+            return Some(*n);
+        }
+    }
+    None
+}
+
+#[test]
+fn chunks_of_equal_bits(rt: HostRuntime) {
+    assert_eq!(rt; first_wrong_number(rt.alloc()), None, "so many bits");
 }
 
 // The bits that a loop gives, as a number of which the first is the highest: by a reference, by a `&mut`
@@ -447,22 +485,22 @@ fn number_by_value<A: Allocator + Copy>(list: RsVec<A>) -> u64 {
     number
 }
 
+fn borrowed_numbers<A: Allocator + Copy>(list: &mut RsVec<A>) -> (u64, u64) {
+    (number_by_reference(list), number_by_mut(list))
+}
+
+fn owned_number<A: Allocator + Copy>(made: Result<RsVec<A>, GrowError>) -> Result<u64, GrowError> {
+    match made {
+        Ok(list) => Ok(number_by_value(list)),
+        Err(fault) => Err(fault),
+    }
+}
+
 #[test]
-fn loops_over_a_list(rt: HostRuntime) -> Result<(), Fail> {
-    let alloc = rt.alloc();
-    assert_eq!(rt;
-        asked(list_10110(alloc), |list| number_by_reference(list))?,
-        0b10110
-    );
-    assert_eq!(rt;
-        asked_mut(list_10110(alloc), |list| number_by_mut(list))?,
-        0b10110
-    );
-    assert_eq!(rt;
-        list_10110(alloc).map(|list| number_by_value(list))?,
-        0b10110
-    );
-    Ok(())
+fn loops_over_a_list(rt: HostRuntime) {
+    let borrowed = asked_mut(list_10110(rt.alloc()), borrowed_numbers);
+    let owned = owned_number(list_10110(rt.alloc()));
+    assert_eq!(rt; (borrowed, owned), (Ok((0b10110, 0b10110)), Ok(0b10110)));
 }
 
 // The sum of the places that a loop gives.
@@ -499,11 +537,10 @@ fn owned_sum<const ZERO: bool, A: Allocator + Copy>(
 fn owned_sum_by_mut<const ZERO: bool, A: Allocator + Copy>(
     places: Result<SelectIntoIter<ZERO, A>, AllocError>,
 ) -> usize {
-    asked_mut(
-        places,
-        |places: &mut SelectIntoIter<ZERO, A>| sum_by_mut(places),
-    )
-    .unwrap_or(0)
+    match places {
+        Ok(mut places) => sum_by_mut(&mut places),
+        Err(_) => 0,
+    }
 }
 
 fn sum_by_mut<const ZERO: bool, A: Allocator + Copy>(
@@ -530,23 +567,20 @@ fn have_owned_sum(list: &RsVec<Global>, sum: usize) -> bool {
         && owned_sum_by_mut(owned_ones(list)) == sum
 }
 
+// The sum of the ones of 10110 twice in a loop, and whether borrowed and owned walks have the sum of its
+// ones, and of its zeros.
+fn sums_of_10110(list: &RsVec<Global>) -> (usize, bool, bool) {
+    (
+        sum_in_a_loop(list),
+        have_sum(list, 5),
+        have_owned_sum(list, 5),
+    )
+}
+
 #[test]
-fn loops_over_places(rt: HostRuntime) -> Result<(), Fail> {
-    let alloc = rt.alloc();
-    assert_eq!(rt;
-        asked(list_10110(alloc), |list| sum_in_a_loop(list))?,
-        10,
-        "in a loop"
-    );
-    assert!(rt;
-        asked(list_10110(alloc), |list| have_sum(list, 5))?,
-        "borrowed"
-    );
-    assert!(rt;
-        asked(list_10110(alloc), |list| have_owned_sum(list, 5))?,
-        "owned"
-    );
-    Ok(())
+fn loops_over_places(rt: HostRuntime) {
+    let sums = asked(list_10110(rt.alloc()), sums_of_10110);
+    assert_eq!(rt; sums, Ok((10, true, true)));
 }
 
 // The number of the first one that a walk does not give where `select1` finds it, from the front and by chunks.
@@ -585,12 +619,12 @@ const CLOSE_AND_FAR: &[(bool, usize)] = &[
     (false, 1),
 ];
 
+fn first_lost_of_both<A: Allocator + Copy>(list: &RsVec<A>) -> (Option<usize>, Option<usize>) {
+    (first_lost_one(list), first_lost_zero(list))
+}
+
 #[test]
-fn walks_give_what_the_selects_find(rt: HostRuntime) -> Result<(), Fail> {
-    let lost = asked(
-        runs(rt.alloc(), CLOSE_AND_FAR),
-        |list| (first_lost_one(list), first_lost_zero(list)),
-    )?;
-    assert_eq!(rt; lost, (None, None), "ones and zeros");
-    Ok(())
+fn walks_give_what_the_selects_find(rt: HostRuntime) {
+    let lost = asked(runs(rt.alloc(), CLOSE_AND_FAR), first_lost_of_both);
+    assert_eq!(rt; lost, Ok((None, None)), "ones and zeros");
 }

@@ -5,10 +5,10 @@ use crate::tests::lists::{Look, bit_of, bits_of, list_of};
 use crate::tests::queries::{answer, counted, queries_at};
 use std::alloc::{AllocError, Allocator, Global};
 use test_alloc::{
-    Ending, LENGTHS, Refusing, Step, each_refused, first_wrong_call, try_clone, try_convert,
-    try_use,
+    Check, Conversion, Ending, LENGTHS, Refusing, Step, Trial, first_wrong_trial, requests,
+    try_clone_checked, try_conversion, try_use_checked,
 };
-use vers_bits::bit_vec::BitVec;
+use vers_bits::bit_vec::{BitVec, GrowError};
 use vers_rank::fast_rs_vec::{RsVec, RsVecIter, SelectIntoIter};
 use vers_tally::tally::Tally;
 
@@ -33,127 +33,219 @@ fn has_bits<A: Allocator + Copy>(list: &RsVec<A>, look: Look, len: usize) -> boo
     list.len() == len && list.ones() == ones
 }
 
-// Whether a walk gives the bits of a look and ends.
-fn walks_over_bits<A: Allocator + Copy>(bits: &mut RsVecIter<A>, look: Look, len: usize) -> bool {
-    for place in 0..len {
-        if bits.next() != Some(u64::from(bit_of(look, place))) {
-            return false;
-        }
-    }
-    bits.next().is_none()
+// Over which items a list is walked.
+#[derive(Clone, Copy, Drop)]
+enum Over {
+    Bits,
+    Zeros,
+    Ones,
 }
 
-// Whether a walk gives the places of the zeros or the ones of a look and ends.
-fn walks_over_places<const ZERO: bool, A: Allocator + Copy>(
-    places: &mut SelectIntoIter<ZERO, A>,
+// The item that a walk over a list of a look gives for a place, if it gives one.
+fn item_at(over: Over, look: Look, place: usize) -> Option<u64> {
+    let bit = bit_of(look, place);
+    match over {
+        Over::Bits => Some(u64::from(bit)),
+        Over::Zeros => (!bit).then_some(place as u64),
+        Over::Ones => bit.then_some(place as u64),
+    }
+}
+
+// A walk over a list of a look, of so many bits.
+#[derive(Drop)]
+struct WalkOver {
+    over: Over,
     look: Look,
     len: usize,
-) -> bool {
-    for place in 0..len {
-        if bit_of(look, place) != ZERO && places.next() != Some(place) {
-            return false;
+}
+
+// Whether a walk gives the items and ends.
+impl<W: Walk> Check<W> for WalkOver {
+    fn is_right(&self, walk: &mut W) -> bool {
+        for place in 0..self.len {
+            let wanted = item_at(self.over, self.look, place);
+            if wanted.is_some() && walk.step(Step::Next) != wanted {
+                return false;
+            }
         }
+        walk.step(Step::Next).is_none()
     }
-    places.next().is_none()
+}
+
+// A list of a look, of so many bits.
+#[derive(Drop)]
+struct ListOf {
+    look: Look,
+    len: usize,
+}
+
+impl<A: Allocator + Copy> Conversion<BitVec<A>> for ListOf {
+    type Made = RsVec<A>;
+
+    type Refused = AllocError;
+
+    fn convert(&self, bits: BitVec<A>) -> Result<RsVec<A>, AllocError> {
+        RsVec::from_bit_vec(bits)
+    }
+
+    fn is_right(&self, list: &RsVec<A>) -> bool {
+        has_bits(list, self.look, self.len)
+    }
+
+    fn is_kept(&self, _: AllocError) -> bool {
+        true
+    }
+}
+
+impl<A: Allocator + Copy> Check<RsVec<A>> for ListOf {
+    fn is_right(&self, list: &mut RsVec<A>) -> bool {
+        has_bits(list, self.look, self.len)
+    }
+}
+
+// Walks that own a list.
+fn bits_walk<A: Allocator + Copy>(
+    list: Result<RsVec<A>, GrowError>,
+) -> Result<RsVecIter<A>, GrowError> {
+    match list {
+        Ok(list) => Ok(list.into_iter()),
+        Err(fault) => Err(fault),
+    }
+}
+
+fn zeros_walk<A: Allocator + Copy>(
+    list: Result<RsVec<A>, GrowError>,
+) -> Result<SelectIntoIter<true, A>, GrowError> {
+    match list {
+        Ok(list) => Ok(list.into_iter0()),
+        Err(fault) => Err(fault),
+    }
+}
+
+fn ones_walk<A: Allocator + Copy>(
+    list: Result<RsVec<A>, GrowError>,
+) -> Result<SelectIntoIter<false, A>, GrowError> {
+    match list {
+        Ok(list) => Ok(list.into_iter1()),
+        Err(fault) => Err(fault),
+    }
 }
 
 // A call that takes memory.
 #[derive(Clone, Copy, Drop)]
 enum Call {
-    FromBitVec,
-    Clone,
-    CloneBits,
-    CloneZeros,
-    CloneOnes,
+    FromBitVec(Look),
+    Clone(Look),
+    CloneBits(Look),
+    CloneZeros(Look),
+    CloneOnes(Look),
 }
 
-const CALLS: [Call; 5] = [
-    Call::FromBitVec,
-    Call::Clone,
-    Call::CloneBits,
-    Call::CloneZeros,
-    Call::CloneOnes,
+const CALLS: [Call; 10] = [
+    Call::FromBitVec(Look::Mixed),
+    Call::Clone(Look::Mixed),
+    Call::CloneBits(Look::Mixed),
+    Call::CloneZeros(Look::Mixed),
+    Call::CloneOnes(Look::Mixed),
+    Call::FromBitVec(Look::Ones),
+    Call::Clone(Look::Ones),
+    Call::CloneBits(Look::Ones),
+    Call::CloneZeros(Look::Ones),
+    Call::CloneOnes(Look::Ones),
 ];
 
-// A maker or a clone of a list, or of a walk over its bits.
-fn tried_of_bits<B: Allocator, A: Allocator + Copy>(
-    call: Call,
+fn tried_walk_clone<B: Allocator, W: Walk + Clone, X: Drop>(
+    heap: &Refusing<B>,
+    walk: Result<W, X>,
+    given: WalkOver,
+) -> Ending {
+    try_clone_checked(heap, walk, &given)
+}
+
+fn tried_bits_clone<B: Allocator, A: Allocator + Copy>(
     heap: &Refusing<B>,
     alloc: A,
     look: Look,
     len: usize,
 ) -> Ending {
-    match call {
-        Call::FromBitVec => try_convert(
-            heap,
-            bits_of(alloc, look, len),
-            |bits: BitVec<A>| RsVec::from_bit_vec(bits),
-            |list: &RsVec<A>| has_bits(list, look, len),
-            |_: AllocError| true,
-        ),
-        Call::Clone => try_clone(
-            heap,
-            list_of(alloc, look, len),
-            |list: &mut RsVec<A>| has_bits(list, look, len),
-        ),
-        _ => try_clone(
-            heap,
-            list_of(alloc, look, len).map(|list: RsVec<A>| list.into_iter()),
-            |bits: &mut RsVecIter<A>| walks_over_bits(bits, look, len),
-        ),
-    }
+    let over = Over::Bits;
+    let walk = bits_walk(list_of(alloc, look, len));
+    tried_walk_clone(heap, walk, WalkOver { over, look, len })
 }
 
 // What stands at a given `ZERO` is proved at a given allocator alone.
-type OnHeap<'a> = RsVec<&'a Refusing<Global>>;
-
 fn tried_zeros_clone(heap: &Refusing<Global>, look: Look, len: usize) -> Ending {
-    try_clone(
-        heap,
-        list_of(heap, look, len).map(|list: OnHeap<'_>| list.into_iter0()),
-        |zeros: &mut SelectIntoIter<true, &Refusing<Global>>| walks_over_places(zeros, look, len),
-    )
+    let over = Over::Zeros;
+    let walk = zeros_walk(list_of(heap, look, len));
+    tried_walk_clone(heap, walk, WalkOver { over, look, len })
 }
 
 fn tried_ones_clone(heap: &Refusing<Global>, look: Look, len: usize) -> Ending {
-    try_clone(
-        heap,
-        list_of(heap, look, len).map(|list: OnHeap<'_>| list.into_iter1()),
-        |ones: &mut SelectIntoIter<false, &Refusing<Global>>| walks_over_places(ones, look, len),
-    )
+    let over = Over::Ones;
+    let walk = ones_walk(list_of(heap, look, len));
+    tried_walk_clone(heap, walk, WalkOver { over, look, len })
 }
 
-fn tried(heap: &Refusing<Global>, call: Call, look: Look, len: usize) -> Ending {
-    match call {
-        Call::FromBitVec | Call::Clone | Call::CloneBits => {
-            tried_of_bits(call, heap, heap, look, len)
-        }
-        Call::CloneZeros => tried_zeros_clone(heap, look, len),
-        Call::CloneOnes => tried_ones_clone(heap, look, len),
-    }
+fn tried_list_clone<B: Allocator, A: Allocator + Copy>(
+    heap: &Refusing<B>,
+    alloc: A,
+    look: Look,
+    len: usize,
+) -> Ending {
+    try_clone_checked(heap, list_of(alloc, look, len), &ListOf { look, len })
+}
+
+fn tried_maker<B: Allocator, A: Allocator + Copy>(
+    heap: &Refusing<B>,
+    alloc: A,
+    look: Look,
+    len: usize,
+) -> Ending {
+    try_conversion(heap, bits_of(alloc, look, len), &ListOf { look, len })
 }
 
 // Each call takes memory, for the select samples at least.
-#[test]
-fn calls_are_refused_in_turn(rt: HostRuntime) {
-    for len in LENGTHS {
-        for look in [Look::Mixed, Look::Ones] {
-            let is_tried = |heap: &Refusing<Global>, call: Call| tried(heap, call, look, len);
-            let wrong = first_wrong_call(rt.alloc(), &CALLS, |_: Call| true, is_tried);
-            assert_eq!(rt; wrong, None, "of {len}");
+impl Trial<Global> for Call {
+    fn run(self, heap: &Refusing<Global>, len: usize) -> Ending {
+        match self {
+            Call::FromBitVec(look) => tried_maker(heap, heap, look, len),
+            Call::Clone(look) => tried_list_clone(heap, heap, look, len),
+            Call::CloneBits(look) => tried_bits_clone(heap, heap, look, len),
+            Call::CloneZeros(look) => tried_zeros_clone(heap, look, len),
+            Call::CloneOnes(look) => tried_ones_clone(heap, look, len),
         }
     }
+
+    fn takes_memory(self, _: usize) -> bool {
+        true
+    }
+}
+
+#[test]
+fn calls_are_refused_in_turn(rt: HostRuntime) {
+    let wrong = first_wrong_trial(rt.alloc(), &LENGTHS, &CALLS);
+    assert_eq!(rt; wrong, None, "a length and a row");
+}
+
+// The requests of the first calls at 128 bits.
+fn requests_at_128(alloc: Global) -> [Result<u64, u64>; 5] {
+    [
+        requests(alloc, Call::FromBitVec(Look::Mixed), 128),
+        requests(alloc, Call::Clone(Look::Mixed), 128),
+        requests(alloc, Call::CloneBits(Look::Mixed), 128),
+        requests(alloc, Call::CloneZeros(Look::Mixed), 128),
+        requests(alloc, Call::CloneOnes(Look::Mixed), 128),
+    ]
 }
 
 // The entries of blocks and of superblocks, and the samples of zeros and of ones; a clone copies the limbs
 // too.
 #[test]
 fn each_list_is_one_request(rt: HostRuntime) {
-    for (row, call) in CALLS.iter().enumerate() {
-        let is_tried = |heap: &Refusing<Global>| tried(heap, *call, Look::Mixed, 128);
-        let wanted = if row == 0 { 4 } else { 5 };
-        assert_eq!(rt; each_refused(rt.alloc(), is_tried), Ok(wanted), "row {row}");
-    }
+    assert_eq!(rt;
+        requests_at_128(rt.alloc()),
+        [Ok(4), Ok(5), Ok(5), Ok(5), Ok(5)]
+    );
 }
 
 // Calls that take no memory and are tried together.
@@ -196,13 +288,19 @@ fn queries_work<A: Allocator + Copy>(list: &RsVec<A>, len: usize) -> bool {
     forms_agree(list, 0) && forms_agree(list, len / 2) && forms_agree(list, len)
 }
 
-fn walks_work<A: Allocator + Copy>(list: &RsVec<A>, len: usize) -> bool {
+fn bits_walk_works<A: Allocator + Copy>(list: &RsVec<A>, len: usize) -> bool {
     list.iter().clone().item_count() == len
-        && list.iter0().clone().item_count() == list.zeros()
-        && list.iter1().clone().item_count() == list.ones()
+}
+
+fn zeros_walks_work<A: Allocator + Copy>(list: &RsVec<A>) -> bool {
+    list.iter0().clone().item_count() == list.zeros()
         && list.select_iter::<true>().last() == list.iter0().next_back()
-        && list.select_iter::<false>().last() == list.iter1().next_back()
         && list.bit_set_iter0().next() == list.iter0().next()
+}
+
+fn ones_walks_work<A: Allocator + Copy>(list: &RsVec<A>) -> bool {
+    list.iter1().clone().item_count() == list.ones()
+        && list.select_iter::<false>().last() == list.iter1().next_back()
         && list.bit_set_iter1().next() == list.iter1().next()
 }
 
@@ -231,12 +329,95 @@ fn ones_of(len: usize) -> usize {
     ones
 }
 
+// Calls on a list of `len` bits.
+#[derive(Drop)]
+struct Using {
+    free: Free,
+    len: usize,
+}
+
+impl<A: Allocator + Copy> Check<RsVec<A>> for Using {
+    fn is_right(&self, list: &mut RsVec<A>) -> bool {
+        match self.free {
+            Free::Queries => queries_work(list, self.len),
+            Free::Walks => {
+                bits_walk_works(list, self.len) && zeros_walks_work(list) && ones_walks_work(list)
+            }
+            Free::Equality => is_equal_to_itself(list),
+            _ => false,
+        }
+    }
+}
+
+// The bits of a list.
+impl<A: Allocator + Copy> Conversion<RsVec<A>> for Using {
+    type Made = BitVec<A>;
+
+    type Refused = AllocError;
+
+    fn convert(&self, list: RsVec<A>) -> Result<BitVec<A>, AllocError> {
+        match self.free {
+            Free::From => Ok(BitVec::from(list)),
+            _ => Ok(list.into_bit_vec()),
+        }
+    }
+
+    fn is_right(&self, bits: &BitVec<A>) -> bool {
+        bits.len() == self.len
+    }
+
+    fn is_kept(&self, _: AllocError) -> bool {
+        false
+    }
+}
+
+// A walk over the bits of a list.
+#[derive(Drop)]
+struct IntoIter {
+    len: usize,
+}
+
+impl<A: Allocator + Copy> Conversion<RsVec<A>> for IntoIter {
+    type Made = RsVecIter<A>;
+
+    type Refused = AllocError;
+
+    fn convert(&self, list: RsVec<A>) -> Result<RsVecIter<A>, AllocError> {
+        Ok(list.into_iter())
+    }
+
+    fn is_right(&self, bits: &RsVecIter<A>) -> bool {
+        bits.len() == self.len
+    }
+
+    fn is_kept(&self, _: AllocError) -> bool {
+        false
+    }
+}
+
+// Steps of a walk that has so many items.
+#[derive(Drop)]
+struct Steps {
+    items: usize,
+}
+
+impl<W: Walk> Check<W> for Steps {
+    fn is_right(&self, walk: &mut W) -> bool {
+        steps_work(walk, self.items)
+    }
+}
+
+fn tried_steps<B: Allocator, W: Walk, X: Drop>(
+    heap: &Refusing<B>,
+    walk: Result<W, X>,
+    items: usize,
+) -> Ending {
+    try_use_checked(heap, walk, &Steps { items })
+}
+
 fn tried_place_steps(heap: &Refusing<Global>, len: usize) -> Ending {
-    try_use(
-        heap,
-        list_of(heap, Look::Mixed, len).map(|list: OnHeap<'_>| list.into_iter1()),
-        |ones: &mut SelectIntoIter<false, &Refusing<Global>>| steps_work(ones, ones_of(len)),
-    )
+    let walk = ones_walk(list_of(heap, Look::Mixed, len));
+    tried_steps(heap, walk, ones_of(len))
 }
 
 fn tried_into_places(heap: &Refusing<Global>, len: usize) -> Ending {
@@ -253,70 +434,34 @@ fn tried_into_places(heap: &Refusing<Global>, len: usize) -> Ending {
 
 fn tried_list<B: Allocator, A: Allocator + Copy>(
     heap: &Refusing<B>,
-    alloc: A,
+    made: Result<RsVec<A>, GrowError>,
     free: Free,
     len: usize,
 ) -> Ending {
-    let made = list_of(alloc, Look::Mixed, len);
     match free {
-        Free::Queries => try_use(heap, made, |list: &mut RsVec<A>| queries_work(list, len)),
-        Free::Walks => try_use(heap, made, |list: &mut RsVec<A>| walks_work(list, len)),
-        Free::Equality => try_use(heap, made, |list: &mut RsVec<A>| is_equal_to_itself(list)),
-        Free::IntoBitVec => try_convert(
-            heap,
-            made,
-            |list: RsVec<A>| Ok::<_, AllocError>(list.into_bit_vec()),
-            |bits: &BitVec<A>| bits.len() == len,
-            |_| false,
-        ),
-        Free::From => try_convert(
-            heap,
-            made,
-            |list: RsVec<A>| Ok::<_, AllocError>(BitVec::from(list)),
-            |bits: &BitVec<A>| bits.len() == len,
-            |_| false,
-        ),
-        _ => try_convert(
-            heap,
-            made,
-            |list: RsVec<A>| Ok::<_, AllocError>(list.into_iter()),
-            |bits: &RsVecIter<A>| bits.len() == len,
-            |_| false,
-        ),
+        Free::IntoBitVec | Free::From => try_conversion(heap, made, &Using { free, len }),
+        Free::IntoIter => try_conversion(heap, made, &IntoIter { len }),
+        Free::Steps => tried_steps(heap, bits_walk(made), len),
+        _ => try_use_checked(heap, made, &Using { free, len }),
     }
 }
 
-fn tried_steps<B: Allocator, A: Allocator + Copy>(
-    heap: &Refusing<B>,
-    alloc: A,
-    len: usize,
-) -> Ending {
-    try_use(
-        heap,
-        list_of(alloc, Look::Mixed, len).map(|list: RsVec<A>| list.into_iter()),
-        |bits: &mut RsVecIter<A>| steps_work(bits, len),
-    )
-}
+impl Trial<Global> for Free {
+    fn run(self, heap: &Refusing<Global>, len: usize) -> Ending {
+        match self {
+            Free::IntoSelectIter => tried_into_places(heap, len),
+            Free::PlaceSteps => tried_place_steps(heap, len),
+            _ => tried_list(heap, list_of(heap, Look::Mixed, len), self, len),
+        }
+    }
 
-fn tried_free(heap: &Refusing<Global>, free: Free, len: usize) -> Ending {
-    match free {
-        Free::Steps => tried_steps(heap, heap, len),
-        Free::IntoSelectIter => tried_into_places(heap, len),
-        Free::PlaceSteps => tried_place_steps(heap, len),
-        _ => tried_list(heap, heap, free, len),
+    fn takes_memory(self, _: usize) -> bool {
+        false
     }
 }
 
 #[test]
 fn these_calls_take_no_memory(rt: HostRuntime) {
-    for len in LENGTHS {
-        for (row, free) in FREE.iter().enumerate() {
-            let is_tried = |heap: &Refusing<Global>| tried_free(heap, *free, len);
-            assert_eq!(rt;
-                each_refused(rt.alloc(), is_tried),
-                Ok(0),
-                "row {row} of {len}"
-            );
-        }
-    }
+    let wrong = first_wrong_trial(rt.alloc(), &LENGTHS, &FREE);
+    assert_eq!(rt; wrong, None, "a length and a row");
 }
