@@ -62,26 +62,45 @@ fn two_lists<A: Allocator + Copy>(alloc: A) -> Result<Vec<BitVec<A>, A>, GrowErr
     Ok(lists)
 }
 
-// Whether a one and lists are 1100, with the lists taken by reference and by value.
-fn extends_by_reference<A: Allocator + Copy>(one: &mut BitVec<A>, lists: &[BitVec<A>]) -> bool {
-    one.extend_ref(lists.iter()).is_ok() && is_1100(one)
+// Whether a one is 1100 once lists are appended, taken by reference and by value.
+fn extends_by_reference<A: Allocator + Copy>(
+    made: Result<BitVec<A>, GrowError>,
+    lists: &[BitVec<A>],
+) -> bool {
+    match made {
+        Ok(mut one) => one.extend_ref(lists.iter()).is_ok() && is_1100(&one),
+        Err(_) => false,
+    }
 }
 
-fn extends_by_value<A: Allocator + Copy>(one: &mut BitVec<A>, lists: Vec<BitVec<A>, A>) -> bool {
-    one.extend(lists.into_iter()).is_ok() && is_1100(one)
+fn extends_by_value<A: Allocator + Copy>(
+    made: Result<BitVec<A>, GrowError>,
+    lists: Vec<BitVec<A>, A>,
+) -> bool {
+    match made {
+        Ok(mut one) => one.extend(lists.into_iter()).is_ok() && is_1100(&one),
+        Err(_) => false,
+    }
 }
 
-fn one<A: Allocator + Copy>(alloc: A) -> Result<BitVec<A>, GrowError> {
-    BitVec::from_ones(alloc, 1)
-}
-
-fn is_extended<A: Allocator + Copy>(alloc: A) -> Result<(bool, bool), GrowError> {
-    let lists = two_lists(alloc)?;
-    let by_reference = extends_by_reference(&mut one(alloc)?, lists.as_slice());
-    Ok((by_reference, extends_by_value(&mut one(alloc)?, lists)))
+fn is_extended<A: Allocator + Copy>(
+    alloc: A,
+    made: Result<Vec<BitVec<A>, A>, GrowError>,
+) -> (bool, bool) {
+    match made {
+        Ok(lists) => {
+            let by_reference = extends_by_reference(BitVec::from_ones(alloc, 1), lists.as_slice());
+            (
+                by_reference,
+                extends_by_value(BitVec::from_ones(alloc, 1), lists),
+            )
+        }
+        Err(_) => (false, false),
+    }
 }
 
 #[test]
 fn the_lists_of_an_iterator_are_appended(rt: HostRuntime) {
-    assert_eq!(rt; is_extended(rt.alloc()), Ok((true, true)));
+    let lists = two_lists(rt.alloc());
+    assert_eq!(rt; is_extended(rt.alloc(), lists), (true, true));
 }

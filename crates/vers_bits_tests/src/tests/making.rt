@@ -34,33 +34,48 @@ const LIMBS: &[(Query, Option<u64>)] = &[
     (Query::GetBits(64, 64), Some(u64::MAX)),
 ];
 
-// A maker, its items, what is asked and the answers.
-const CASES: [(Maker, &[u64], &[(Query, Option<u64>)]); 22] = [
-    (Maker::FromLimbs, &[5, u64::MAX], LIMBS),
-    (Maker::FromLimbsIter, &[5, u64::MAX], LIMBS),
-    (Maker::FromBools, &[2, 3], ZERO_ONE),
-    (Maker::FromBoolIter, &[2, 3], ZERO_ONE),
-    (Maker::FromBits, &[2, 3], ZERO_ONE),
-    (Maker::FromBitsU16, &[2, 3], ZERO_ONE),
-    (Maker::FromBitsU32, &[2, 3], ZERO_ONE),
-    (Maker::FromBitsU64, &[2, u64::MAX], ZERO_ONE),
-    (Maker::FromBitsIter, &[2, 3], ZERO_ONE),
-    (Maker::PackU8(10), &[7, 255], TENS),
-    (Maker::PackU16(10), &[7, 255], TENS),
-    (Maker::PackU32(10), &[7, 255], TENS),
-    (Maker::PackU64(10), &[7, 255], TENS),
-    (Maker::PackIterU8(10), &[7, 255], TENS),
-    (Maker::PackIterU16(10), &[7, 255], TENS),
-    (Maker::PackIterU32(10), &[7, 255], TENS),
-    (Maker::PackIterU64(10), &[7, 255], TENS),
+// Makers, their items, what is asked and the answers.
+const CASES: [(&[Maker], &[u64], &[(Query, Option<u64>)]); 9] = [
     (
-        Maker::PackU64(3),
+        &[Maker::FromLimbs, Maker::FromLimbsIter],
+        &[5, u64::MAX],
+        LIMBS,
+    ),
+    (
+        &[
+            Maker::FromBools,
+            Maker::FromBoolIter,
+            Maker::FromBits,
+            Maker::FromBitsU16,
+            Maker::FromBitsU32,
+            Maker::FromBitsIter,
+        ],
+        &[2, 3],
+        ZERO_ONE,
+    ),
+    (&[Maker::FromBitsU64], &[2, u64::MAX], ZERO_ONE),
+    (
+        &[
+            Maker::PackU8(10),
+            Maker::PackU16(10),
+            Maker::PackU32(10),
+            Maker::PackU64(10),
+            Maker::PackIterU8(10),
+            Maker::PackIterU16(10),
+            Maker::PackIterU32(10),
+            Maker::PackIterU64(10),
+        ],
+        &[7, 255],
+        TENS,
+    ),
+    (
+        &[Maker::PackU64(3)],
         &[7, 9],
         &[(Query::Len, Some(6)), (Query::GetBits(0, 6), Some(15))],
     ),
-    (Maker::PackU64(0), &[7, 9], &[(Query::IsEmpty, Some(1))]),
+    (&[Maker::PackU64(0)], &[7, 9], &[(Query::IsEmpty, Some(1))]),
     (
-        Maker::PackU64(100),
+        &[Maker::PackU64(100)],
         &[u64::MAX, 1],
         &[
             (Query::Len, Some(200)),
@@ -71,7 +86,7 @@ const CASES: [(Maker, &[u64], &[(Query, Option<u64>)]); 22] = [
         ],
     ),
     (
-        Maker::FromLimbs,
+        &[Maker::FromLimbs],
         &[1, 3],
         &[
             (Query::Len, Some(128)),
@@ -83,7 +98,7 @@ const CASES: [(Maker, &[u64], &[(Query, Option<u64>)]); 22] = [
         ],
     ),
     (
-        Maker::FromBits,
+        &[Maker::FromBits],
         &[1, 1, 1, 1, 1, 1, 1, 1, 1, 1],
         &[
             (Query::UnpackElement(9223372036854775808, 2), None),
@@ -156,10 +171,26 @@ fn wrong_answer_of<A: Allocator + Copy>(
     }
 }
 
+// The same of the first of some makers that makes a wrong list.
+fn wrong_answer_of_any<A: Allocator + Copy>(
+    alloc: A,
+    makers: &[Maker],
+    numbers: &[u64],
+    rows: &[(Query, Option<u64>)],
+) -> Option<usize> {
+    for maker in makers {
+        let items = Items::of_numbers(alloc, numbers);
+        if let Some(row) = wrong_answer_of(*maker, items, rows) {
+            return Some(row);
+        }
+    }
+    None
+}
+
 // The first case that is answered wrong, and its row.
 fn first_wrong_case<A: Allocator + Copy>(alloc: A) -> Option<(usize, usize)> {
-    for (case, (maker, numbers, rows)) in CASES.iter().enumerate() {
-        if let Some(row) = wrong_answer_of(*maker, Items::of_numbers(alloc, numbers), rows) {
+    for (case, (makers, numbers, rows)) in CASES.iter().enumerate() {
+        if let Some(row) = wrong_answer_of_any(alloc, makers, numbers, rows) {
             return Some((case, row));
         }
     }
