@@ -1,12 +1,13 @@
 //! The queries of ascending lists.
 use crate::tests::lists::{Query, answer, counted_answer, list_of, with_equal};
-use std::alloc::Allocator;
-use std::test::Fail;
-use test_alloc::{asked, first_wrong};
+use std::alloc::{AllocError, Allocator};
+use test_alloc::asked;
 use vers_sorted::elias_fano::EliasFanoVec;
 
 // The members, what is asked and the answers.
-const CASES: [(&[u64], &[(Query, Option<u64>)]); 7] = [
+type Case<'a> = (&'a [u64], &'a [(Query, Option<u64>)]);
+
+const CASES: [Case; 7] = [
     (
         &[],
         &[
@@ -106,11 +107,12 @@ fn first_wrong_answer<A: Allocator + Copy>(
     list: &EliasFanoVec<A>,
     rows: &[(Query, Option<u64>)],
 ) -> Option<usize> {
-    first_wrong(list, rows, |list, query| answer(list, query)).or(first_wrong(
-        list,
-        rows,
-        |list, query| counted_answer(list, query).answer,
-    ))
+    for (row, (query, wanted)) in rows.iter().enumerate() {
+        if answer(list, *query) != *wanted || counted_answer(list, *query).answer != *wanted {
+            return Some(row);
+        }
+    }
+    None
 }
 
 // The same of a copy; as many as there are rows where there is none.
@@ -126,16 +128,31 @@ fn first_wrong_of_copy<A: Allocator + Copy>(
     .unwrap_or(Some(rows.len()))
 }
 
-#[test]
-fn queries_and_their_answers(rt: HostRuntime) -> Result<(), Fail> {
-    for (case, (numbers, rows)) in CASES.iter().enumerate() {
+// The first case that is answered wrong, by a list or by its copy, and its row.
+fn first_wrong_case<A: Allocator + Copy>(
+    alloc: A,
+    cases: &[Case],
+) -> Result<Option<(usize, usize)>, AllocError> {
+    for (case, (numbers, rows)) in cases.iter().enumerate() {
         let wrong = asked(
-            list_of(rt.alloc(), numbers),
+            list_of(alloc, numbers),
             |list| first_wrong_answer(list, rows).or(first_wrong_of_copy(list, rows)),
         )?;
-        assert_eq!(rt; wrong, None, "case {case}");
+        if let Some(row) = wrong {
+            return Ok(Some((case, row)));
+        }
     }
-    Ok(())
+    Ok(None)
+}
+
+// The table stands in a function of its own, which is faster to prove than in a test.
+fn first_wrong_of_all<A: Allocator + Copy>(alloc: A) -> Result<Option<(usize, usize)>, AllocError> {
+    first_wrong_case(alloc, &CASES)
+}
+
+#[test]
+fn queries_and_their_answers(rt: HostRuntime) {
+    assert!(rt; matches!(first_wrong_of_all(rt.alloc()), Ok(None)));
 }
 
 // Whether a query is answered so by its counted form, with few low parts and rank calls.
@@ -154,12 +171,11 @@ fn are_cheap<A: Allocator + Copy>(list: &EliasFanoVec<A>) -> bool {
 
 // A rank reads no more low parts than the length has digits, and 8, with any number of equal members.
 #[test]
-fn many_equal_members_take_few_reads(rt: HostRuntime) -> Result<(), Fail> {
+fn many_equal_members_take_few_reads(rt: HostRuntime) {
     let alloc = rt.alloc();
     let are_cheap = asked(
         with_equal(alloc, &[0, 1, 2, 3], 1048576, 5, 16777216),
-        |numbers| asked(list_of(alloc, numbers), |list| are_cheap(list)),
-    )??;
-    assert!(rt; are_cheap);
-    Ok(())
+        |numbers| asked(list_of(alloc, numbers), are_cheap),
+    );
+    assert!(rt; matches!(are_cheap, Ok(Ok(true))));
 }

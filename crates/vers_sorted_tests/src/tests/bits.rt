@@ -49,6 +49,14 @@ pub enum Query {
     Iter1(usize),
 }
 
+// A truth value as a number.
+fn as_number(bit: Option<bool>) -> Option<u64> {
+    match bit {
+        Some(bit) => Some(u64::from(bit)),
+        None => None,
+    }
+}
+
 /// The answer of one query, a truth value as 1 or 0. An unchecked one is asked only where its
 /// condition holds; `Iter1` asks the iterator over the ones for its item of that number.
 pub fn answer<A: Allocator + Copy>(bits: &SparseRSVec<A>, query: Query) -> Option<u64> {
@@ -56,12 +64,20 @@ pub fn answer<A: Allocator + Copy>(bits: &SparseRSVec<A>, query: Query) -> Optio
         Query::Len => Some(bits.len()),
         Query::IsEmpty => Some(u64::from(bits.is_empty())),
         Query::HeapSize => Some(bits.heap_size() as u64),
-        Query::IsSet(place) => bits.is_set(place).map(|bit| u64::from(bit)),
+        Query::IsSet(place) => as_number(bits.is_set(place)),
         Query::IsSetUnchecked(place) => {
-            (place < bits.len()).then(|| u64::from(bits.is_set_unchecked(place)))
+            if place >= bits.len() {
+                return None;
+            }
+            Some(u64::from(bits.is_set_unchecked(place)))
         }
         Query::Get(place) => bits.get(place),
-        Query::GetUnchecked(place) => (place < bits.len()).then(|| bits.get_unchecked(place)),
+        Query::GetUnchecked(place) => {
+            if place >= bits.len() {
+                return None;
+            }
+            Some(bits.get_unchecked(place))
+        }
         Query::Rank0(place) => Some(bits.rank0(place)),
         Query::Rank1(place) => Some(bits.rank1(place)),
         Query::Select1(r) => Some(bits.select1(r)),
@@ -73,9 +89,7 @@ pub fn answer<A: Allocator + Copy>(bits: &SparseRSVec<A>, query: Query) -> Optio
 pub fn counted<A: Allocator + Copy>(bits: &SparseRSVec<A>, query: Query) -> Option<u64> {
     let mut tally = Tally::new();
     match query {
-        Query::IsSet(place) => bits
-            .is_set_counted(place, &mut tally)
-            .map(|bit| u64::from(bit)),
+        Query::IsSet(place) => as_number(bits.is_set_counted(place, &mut tally)),
         Query::Get(place) => bits.get_counted(place, &mut tally),
         Query::Rank0(place) => Some(bits.rank0_counted(place, &mut tally)),
         Query::Rank1(place) => Some(bits.rank1_counted(place, &mut tally)),

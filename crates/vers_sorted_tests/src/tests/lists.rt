@@ -23,8 +23,7 @@ pub fn with_equal<A: Allocator + Copy>(
     equal: u64,
     last: u64,
 ) -> Result<Vec<u64, A>, AllocError> {
-    let mut numbers = Vec::new(alloc);
-    numbers.extend_from_slice(few)?;
+    let mut numbers = Vec::from_slice(alloc, few)?;
     numbers.resize(few.len().saturating_add(n), equal)?;
     numbers.push(last)?;
     Ok(numbers)
@@ -55,7 +54,12 @@ pub fn answer<A: Allocator + Copy>(list: &EliasFanoVec<A>, query: Query) -> Opti
         Query::IsEmpty => Some(u64::from(list.is_empty())),
         Query::HeapSize => Some(list.heap_size() as u64),
         Query::Get(i) => list.get(i),
-        Query::GetUnchecked(i) => (i < list.len()).then(|| list.get_unchecked(i)),
+        Query::GetUnchecked(i) => {
+            if i >= list.len() {
+                return None;
+            }
+            Some(list.get_unchecked(i))
+        }
         Query::Select(i) => list.select(i),
         Query::Delta(i) => list.delta(i),
         Query::Rank(v) => Some(list.rank(v)),

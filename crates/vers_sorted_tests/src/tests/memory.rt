@@ -2,12 +2,11 @@
 //! lists of every length.
 use crate::tests::bits::{Query as BitQuery, answer as bit_answer, bits_of};
 use crate::tests::lists::{Query, answer, list_of};
-use crate::tests::walks::{Step, walk_over, wrong_owned_step, wrong_step};
+use crate::tests::walks::{Step, first_wrong_step, walk_over, wrong_step};
 use std::alloc::{AllocError, Allocator, Global};
-use std::test::Fail;
 use test_alloc::{
-    Ending, LENGTHS, Refusing, asked, first_wrong, first_wrong_call, first_wrong_length, try_clone,
-    try_convert, try_make, try_use,
+    Ending, LENGTHS, Refusing, asked, first_wrong, takes_memory, try_clone, try_convert, try_make,
+    try_use,
 };
 use vers_bits::bit_vec::{BitVec, GrowError};
 use vers_sorted::elias_fano::{EliasFanoIter, EliasFanoVec};
@@ -82,7 +81,13 @@ fn has_ones<A: Allocator + Copy>(bits: &SparseRSVec<A>, len: u64, is_inverted: b
     bits.len() == len
 }
 
-// A call that takes memory.
+// How many bits the sparse list of so many ones has.
+fn bit_count(len: usize) -> u64 {
+    (len as u64).wrapping_mul(3)
+}
+
+// A call about numbers. The first ones take memory. The others take none, and those of one kind are tried
+// together.
 #[derive(Clone, Copy, Drop)]
 enum Call {
     FromSlice,
@@ -92,132 +97,6 @@ enum Call {
     CloneSparse,
     FromBitvec,
     FromBitvecInverted,
-}
-
-const CALLS: [Call; 7] = [
-    Call::FromSlice,
-    Call::Clone,
-    Call::CloneWalk,
-    Call::New,
-    Call::CloneSparse,
-    Call::FromBitvec,
-    Call::FromBitvecInverted,
-];
-
-// How many bits the sparse list of so many ones has.
-fn bit_count(len: usize) -> u64 {
-    (len as u64).wrapping_mul(3)
-}
-
-fn tried<B: Allocator, A: Allocator + Copy>(
-    heap: &Refusing<B>,
-    alloc: A,
-    call: Call,
-    numbers: &Numbers,
-) -> Ending {
-    let len = numbers.members.len();
-    match call {
-        Call::FromSlice => try_make(
-            heap,
-            AllocError,
-            || list_of(alloc, &numbers.members),
-            |list: &EliasFanoVec<A>| has_members(list, len),
-        ),
-        Call::Clone => try_clone(
-            heap,
-            list_of(alloc, &numbers.members),
-            |list: &mut EliasFanoVec<A>| has_members(list, len),
-        ),
-        Call::CloneWalk => try_clone(
-            heap,
-            walk_over(alloc, &numbers.members),
-            |members: &mut EliasFanoIter<A>| walks_over(members, len),
-        ),
-        Call::New => try_make(
-            heap,
-            AllocError,
-            || bits_of(alloc, &numbers.ones, bit_count(len)),
-            |bits: &SparseRSVec<A>| has_ones(bits, bit_count(len), false),
-        ),
-        Call::CloneSparse => try_clone(
-            heap,
-            bits_of(alloc, &numbers.ones, bit_count(len)),
-            |bits: &mut SparseRSVec<A>| has_ones(bits, bit_count(len), false),
-        ),
-        Call::FromBitvec | Call::FromBitvecInverted => asked(
-            all_bits(alloc, len),
-            |bits: &BitVec<A>| tried_of_bits(heap, call, bits),
-        )
-        .unwrap_or(Ending::Wrong),
-    }
-}
-
-fn tried_of_bits<B: Allocator, A: Allocator + Copy>(
-    heap: &Refusing<B>,
-    call: Call,
-    bits: &BitVec<A>,
-) -> Ending {
-    let len = bits.len() as u64;
-    match call {
-        Call::FromBitvec => try_make(
-            heap,
-            AllocError,
-            || SparseRSVec::from_bitvec(bits),
-            |list: &SparseRSVec<A>| has_ones(list, len, false),
-        ),
-        _ => try_make(
-            heap,
-            AllocError,
-            || SparseRSVec::from_bitvec_inverted(bits),
-            |list: &SparseRSVec<A>| has_ones(list, len, true),
-        ),
-    }
-}
-
-// The row of the first call of a table that goes wrong about some numbers.
-fn wrong_of_numbers<C: Copy + Drop, F: Fn(&Refusing<Global>, C, &Numbers) -> Ending>(
-    alloc: Global,
-    numbers: &Numbers,
-    calls: &[C],
-    should_take: bool,
-    tried: &F,
-) -> Option<usize>
-    requires { F.IsAlwaysCallable tried.now }
-{
-    let is_tried = |heap: &Refusing<Global>, call: C| tried(heap, call, numbers);
-    first_wrong_call(alloc, calls, |_: C| should_take, is_tried)
-}
-
-// The first length at which one goes wrong, and its row.
-fn wrong_of_lengths<C: Copy + Drop, F: Fn(&Refusing<Global>, C, &Numbers) -> Ending>(
-    alloc: Global,
-    calls: &[C],
-    should_take: bool,
-    tried: F,
-) -> Result<Option<(usize, usize)>, AllocError>
-    requires { F.IsAlwaysCallable tried }
-{
-    first_wrong_length(
-        &LENGTHS,
-        |len| numbers_of(alloc, len),
-        |numbers: &Numbers| wrong_of_numbers(alloc, numbers, calls, should_take, &tried),
-    )
-}
-
-// Each call takes memory, for the select samples at least.
-#[test]
-fn calls_are_refused_in_turn(rt: HostRuntime) -> Result<(), Fail> {
-    let is_tried = |heap: &Refusing<Global>, call: Call, numbers: &Numbers| {
-        tried(heap, heap, call, numbers)
-    };
-    let wrong = wrong_of_lengths(rt.alloc(), &CALLS, true, is_tried)?;
-    assert_eq!(rt; wrong, None, "a length and a row");
-    Ok(())
-}
-
-// Calls that take no memory and are tried together.
-#[derive(Clone, Copy, Drop)]
-enum Free {
     Queries,
     Walks,
     IntoIter,
@@ -225,12 +104,20 @@ enum Free {
     SparseQueries,
 }
 
-const FREE: [Free; 5] = [
-    Free::Queries,
-    Free::Walks,
-    Free::IntoIter,
-    Free::Steps,
-    Free::SparseQueries,
+// Each call, and whether it takes memory, for the select samples at least.
+const CALLS: [(Call, bool); 12] = [
+    (Call::FromSlice, true),
+    (Call::Clone, true),
+    (Call::CloneWalk, true),
+    (Call::New, true),
+    (Call::CloneSparse, true),
+    (Call::FromBitvec, true),
+    (Call::FromBitvecInverted, true),
+    (Call::Queries, false),
+    (Call::Walks, false),
+    (Call::IntoIter, false),
+    (Call::Steps, false),
+    (Call::SparseQueries, false),
 ];
 
 // Whether the queries of a list work about a member that it has; or only the length where it has none.
@@ -251,29 +138,39 @@ fn queries_work<A: Allocator + Copy>(list: &EliasFanoVec<A>, i: usize, len: usiz
         (Query::SuccessorUnchecked(v), Some(v)),
     ];
     let asked = if len == 0 { 3 } else { rows.len() };
-    first_wrong(list, &rows[..asked], |list, query| answer(list, query)).is_none()
+    first_wrong(list, &rows[..asked], answer).is_none()
         && list.delta(i).is_some() == (len > 0)
         && list.heap_size() > 0
 }
 
+// The last of so many members.
+fn last_of(len: usize) -> Option<u64> {
+    if len == 0 {
+        return None;
+    }
+    Some(member(len - 1))
+}
+
 // The steps of a walk over a list of so many members.
 fn steps_of(len: usize) -> [(Step, Option<u64>); 4] {
-    let has_two = len > 1;
+    let second_end = if len > 1 { last_of(len) } else { None };
     [
         (Step::Len, Some(len as u64)),
-        (Step::Next, (len > 0).then(|| 0)),
-        (Step::NextBack, has_two.then(|| member(len.wrapping_sub(1)))),
+        (Step::Next, (len > 0).then_some(0)),
+        (Step::NextBack, second_end),
         (Step::Nth(usize::MAX), None),
     ]
 }
 
-fn ends_work<A: Allocator + Copy>(list: &EliasFanoVec<A>, len: usize) -> bool {
-    let members = list.iter();
-    let last = (len > 0).then(|| member(len.wrapping_sub(1)));
-    members.clone().count() == len
-        && members.clone().last() == last
-        && members.clone().max() == last
-        && members.clone().min().is_some() == (len > 0)
+// What copies of a walk end with.
+fn ends_of(len: usize) -> [(Step, Option<u64>); 4] {
+    let last = last_of(len);
+    [
+        (Step::Count, Some(len as u64)),
+        (Step::Last, last),
+        (Step::Max, last),
+        (Step::Min, (len > 0).then_some(0)),
+    ]
 }
 
 // Whether the queries of a sparse list work about one number `i`, or only the length where there is none.
@@ -293,56 +190,219 @@ fn sparse_queries_work<A: Allocator + Copy>(bits: &SparseRSVec<A>, i: usize, len
         (BitQuery::Iter1(i), Some(place)),
     ];
     let asked = if len == 0 { 3 } else { rows.len() };
-    first_wrong(bits, &rows[..asked], |bits, query| bit_answer(bits, query)).is_none()
-        && bits.heap_size() > 0
+    first_wrong(bits, &rows[..asked], bit_answer).is_none() && bits.heap_size() > 0
 }
 
-fn tried_free<B: Allocator, A: Allocator + Copy>(
-    heap: &Refusing<B>,
-    alloc: A,
-    free: Free,
-    numbers: &Numbers,
-) -> Ending {
-    let len = numbers.members.len();
-    match free {
-        Free::Queries => try_use(
-            heap,
-            list_of(alloc, &numbers.members),
-            |list: &mut EliasFanoVec<A>| queries_work(list, len / 2, len),
-        ),
-        Free::Walks => try_use(
-            heap,
-            list_of(alloc, &numbers.members),
-            |list: &mut EliasFanoVec<A>| {
-                ends_work(list, len) && wrong_step(list, &steps_of(len)).is_none()
-            },
-        ),
-        Free::IntoIter => try_convert(
-            heap,
-            list_of(alloc, &numbers.members),
-            |list: EliasFanoVec<A>| Ok::<_, AllocError>(list.into_iter()),
-            |members: &EliasFanoIter<A>| members.len() == len,
-            |_| false,
-        ),
-        Free::Steps => try_use(
-            heap,
-            walk_over(alloc, &numbers.members),
-            |members: &mut EliasFanoIter<A>| wrong_owned_step(members, &steps_of(len)).is_none(),
-        ),
-        Free::SparseQueries => try_use(
-            heap,
-            bits_of(alloc, &numbers.ones, bit_count(len)),
-            |bits: &mut SparseRSVec<A>| sparse_queries_work(bits, len / 2, len),
-        ),
+// What is made of so many numbers.
+trait Made: Drop {
+    // Whether it has them. A walk is taken to its end.
+    fn is_of(&mut self, len: usize) -> bool;
+
+    // Whether the calls of one kind work, which take no memory.
+    fn works(&mut self, call: Call, len: usize) -> bool;
+}
+
+impl<A: Allocator + Copy> Made for EliasFanoVec<A> {
+    fn is_of(&mut self, len: usize) -> bool {
+        has_members(self, len)
+    }
+
+    fn works(&mut self, call: Call, len: usize) -> bool {
+        match call {
+            Call::Queries => queries_work(self, len / 2, len),
+            _ => {
+                wrong_step(self, &ends_of(len)).is_none()
+                    && wrong_step(self, &steps_of(len)).is_none()
+            }
+        }
     }
 }
 
+impl<A: Allocator + Copy> Made for EliasFanoIter<A> {
+    fn is_of(&mut self, len: usize) -> bool {
+        walks_over(self, len)
+    }
+
+    fn works(&mut self, _call: Call, len: usize) -> bool {
+        first_wrong_step(self, &steps_of(len)).is_none()
+    }
+}
+
+impl<A: Allocator + Copy> Made for SparseRSVec<A> {
+    fn is_of(&mut self, len: usize) -> bool {
+        has_ones(self, bit_count(len), false)
+    }
+
+    fn works(&mut self, _call: Call, len: usize) -> bool {
+        sparse_queries_work(self, len / 2, len)
+    }
+}
+
+fn tried_clone<B: Allocator, T: Made + Clone>(
+    heap: &Refusing<B>,
+    made: Result<T, AllocError>,
+    len: usize,
+) -> Ending {
+    try_clone(heap, made, |it: &mut T| it.is_of(len))
+}
+
+fn tried_use<B: Allocator, T: Made>(
+    heap: &Refusing<B>,
+    made: Result<T, AllocError>,
+    call: Call,
+    len: usize,
+) -> Ending {
+    try_use(heap, made, |it: &mut T| it.works(call, len))
+}
+
+// Calls about an ascending list.
+fn tried_list<B: Allocator, A: Allocator + Copy>(
+    heap: &Refusing<B>,
+    alloc: A,
+    call: Call,
+    members: &[u64],
+) -> Ending {
+    let len = members.len();
+    match call {
+        Call::FromSlice => try_make(
+            heap,
+            AllocError,
+            || list_of(alloc, members),
+            |list: &EliasFanoVec<A>| has_members(list, len),
+        ),
+        Call::Clone => tried_clone(heap, list_of(alloc, members), len),
+        _ => tried_use(heap, list_of(alloc, members), call, len),
+    }
+}
+
+// The walk that owns a list.
+fn into_walk<A: Allocator + Copy>(list: EliasFanoVec<A>) -> Result<EliasFanoIter<A>, AllocError> {
+    Ok(list.into_iter())
+}
+
+// Calls about a walk that owns its list.
+fn tried_walk<B: Allocator, A: Allocator + Copy>(
+    heap: &Refusing<B>,
+    alloc: A,
+    call: Call,
+    members: &[u64],
+) -> Ending {
+    let len = members.len();
+    match call {
+        Call::CloneWalk => tried_clone(heap, walk_over(alloc, members), len),
+        Call::IntoIter => try_convert(
+            heap,
+            list_of(alloc, members),
+            into_walk,
+            |walk: &EliasFanoIter<A>| walk.len() == len,
+            |_| false,
+        ),
+        _ => tried_use(heap, walk_over(alloc, members), call, len),
+    }
+}
+
+// The sparse list of the places of ones, or of all bits or the inverted ones.
+fn sparse_of<A: Allocator + Copy>(
+    alloc: A,
+    call: Call,
+    ones: &[u64],
+    bits: &BitVec<A>,
+) -> Result<SparseRSVec<A>, AllocError> {
+    match call {
+        Call::FromBitvec => SparseRSVec::from_bitvec(bits),
+        Call::FromBitvecInverted => SparseRSVec::from_bitvec_inverted(bits),
+        _ => bits_of(alloc, ones, bit_count(ones.len())),
+    }
+}
+
+fn is_sparse_of<A: Allocator + Copy>(list: &SparseRSVec<A>, call: Call, len: usize) -> bool {
+    match call {
+        Call::FromBitvec => has_ones(list, len as u64, false),
+        Call::FromBitvecInverted => has_ones(list, len as u64, true),
+        _ => has_ones(list, bit_count(len), false),
+    }
+}
+
+// Makers of a sparse list.
+fn tried_sparse_maker<B: Allocator, A: Allocator + Copy>(
+    heap: &Refusing<B>,
+    alloc: A,
+    call: Call,
+    ones: &[u64],
+    bits: &BitVec<A>,
+) -> Ending {
+    try_make(
+        heap,
+        AllocError,
+        || sparse_of(alloc, call, ones, bits),
+        |list: &SparseRSVec<A>| is_sparse_of(list, call, ones.len()),
+    )
+}
+
+// Calls about a sparse list.
+fn tried_sparse<B: Allocator, A: Allocator + Copy>(
+    heap: &Refusing<B>,
+    alloc: A,
+    call: Call,
+    ones: &[u64],
+) -> Ending {
+    let len = ones.len();
+    match call {
+        Call::CloneSparse => tried_clone(heap, bits_of(alloc, ones, bit_count(len)), len),
+        Call::SparseQueries => tried_use(heap, bits_of(alloc, ones, bit_count(len)), call, len),
+        _ => asked(
+            all_bits(alloc, len),
+            |bits: &BitVec<A>| tried_sparse_maker(heap, alloc, call, ones, bits),
+        )
+        .unwrap_or(Ending::Wrong),
+    }
+}
+
+fn tried<B: Allocator, A: Allocator + Copy>(
+    heap: &Refusing<B>,
+    alloc: A,
+    call: Call,
+    numbers: &Numbers,
+) -> Ending {
+    match call {
+        Call::FromSlice | Call::Clone | Call::Queries | Call::Walks => {
+            tried_list(heap, alloc, call, &numbers.members)
+        }
+        Call::CloneWalk | Call::IntoIter | Call::Steps => {
+            tried_walk(heap, alloc, call, &numbers.members)
+        }
+        _ => tried_sparse(heap, alloc, call, &numbers.ones),
+    }
+}
+
+// The row of the first call that goes wrong.
+fn first_wrong_row(alloc: Global, numbers: &Numbers) -> Option<usize> {
+    for (row, (call, should_take)) in CALLS.iter().enumerate() {
+        let is_tried = |heap: &Refusing<Global>| tried(heap, heap, *call, numbers);
+        if takes_memory(alloc, is_tried) != Some(*should_take) {
+            return Some(row);
+        }
+    }
+    None
+}
+
+// The first length at which one goes wrong, and its row.
+fn first_wrong_of_lengths(alloc: Global) -> Result<Option<(usize, usize)>, AllocError> {
+    for len in LENGTHS {
+        let wrong = asked(
+            numbers_of(alloc, len),
+            |numbers: &Numbers| first_wrong_row(alloc, numbers),
+        )?;
+        if let Some(row) = wrong {
+            return Ok(Some((len, row)));
+        }
+    }
+    Ok(None)
+}
+
+// Each request of a call that takes memory is refused in turn.
 #[test]
-fn these_calls_take_no_memory(rt: HostRuntime) -> Result<(), Fail> {
-    let is_tried = |heap: &Refusing<Global>, free: Free, numbers: &Numbers| {
-        tried_free(heap, heap, free, numbers)
-    };
-    let wrong = wrong_of_lengths(rt.alloc(), &FREE, false, is_tried)?;
-    assert_eq!(rt; wrong, None, "a length and a row");
-    Ok(())
+fn calls_take_memory_or_none(rt: HostRuntime) {
+    let wrong = first_wrong_of_lengths(rt.alloc());
+    assert!(rt; matches!(wrong, Ok(None)));
 }

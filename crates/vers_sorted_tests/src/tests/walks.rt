@@ -1,9 +1,8 @@
 //! Walks along the members of a list.
 use crate::tests::lists::list_of;
 use std::alloc::{AllocError, Allocator};
-use test_alloc::{asked_mut, first_wrong_step};
 use vers_sorted::elias_fano::{EliasFanoIter, EliasFanoRefIter, EliasFanoVec};
-use vers_tally::ends::{Ascending, BothEnds};
+use vers_tally::ends::{Ascending, Borrowing, BothEnds, Owning};
 use vers_tally::tally::Tally;
 
 /// What is asked of an iterator. The last four are asked of a copy.
@@ -36,7 +35,7 @@ fn end<S: Ascending>(members: BothEnds<S>, asked: Step) -> Option<u64> {
 }
 
 // The same of a copy of a walk that owns its list. None where there is none.
-fn end_of_copy<A: Allocator + Copy>(members: &EliasFanoIter<A>, asked: Step) -> Option<u64> {
+fn end_of_copy<S: Ascending + Owning>(members: &BothEnds<S>, asked: Step) -> Option<u64> {
     let copy: Result<_, _> = members.clone();
     match copy {
         Ok(second) => end(second, asked),
@@ -44,63 +43,96 @@ fn end_of_copy<A: Allocator + Copy>(members: &EliasFanoIter<A>, asked: Step) -> 
     }
 }
 
-// One step of a walk, or None where it is asked of a copy.
-fn answer_of_step<S: Ascending>(
-    members: &mut BothEnds<S>,
-    asked: Step,
-    tally: &mut Tally,
-) -> Option<u64> {
-    match asked {
-        Step::Len => Some(members.len() as u64),
-        Step::SizeHint => members.size_hint().1.map(|n| n as u64),
-        Step::Next => members.next(),
-        Step::NextBack => members.next_back(),
-        Step::Nth(n) => members.nth(n),
-        Step::NthBack(n) => members.nth_back(n),
-        Step::NextCounted => members.next_counted(tally),
-        Step::NextBackCounted => members.next_back_counted(tally),
-        Step::NthCounted(n) => members.nth_counted(n, tally),
-        Step::NthBackCounted(n) => members.nth_back_counted(n, tally),
-        _ => None,
-    }
-}
-
 fn is_of_copy(asked: Step) -> bool {
     matches!(asked, Step::Last | Step::Count | Step::Min | Step::Max)
 }
 
-/// The number of the first step of a walk over a list that answers wrong.
+// One counted step of a walk.
+fn counted_step<S: Ascending>(members: &mut BothEnds<S>, asked: Step) -> Option<u64> {
+    let mut tally = Tally::new();
+    match asked {
+        Step::NextCounted => members.next_counted(&mut tally),
+        Step::NextBackCounted => members.next_back_counted(&mut tally),
+        Step::NthCounted(n) => members.nth_counted(n, &mut tally),
+        Step::NthBackCounted(n) => members.nth_back_counted(n, &mut tally),
+        _ => None,
+    }
+}
+
+// One step of a walk, or None where it is asked of a copy.
+fn answer_of_step<S: Ascending>(members: &mut BothEnds<S>, asked: Step) -> Option<u64> {
+    match asked {
+        Step::Len => Some(members.len() as u64),
+        Step::SizeHint => as_number(members.size_hint().1),
+        Step::Next => members.next(),
+        Step::NextBack => members.next_back(),
+        Step::Nth(n) => members.nth(n),
+        Step::NthBack(n) => members.nth_back(n),
+        _ => counted_step(members, asked),
+    }
+}
+
+// A count as a number.
+fn as_number(count: Option<usize>) -> Option<u64> {
+    match count {
+        Some(count) => Some(count as u64),
+        None => None,
+    }
+}
+
+// The answer of one step of a walk over a list that stands elsewhere.
+fn answer_of_borrowing<S: Ascending + Borrowing>(
+    members: &mut BothEnds<S>,
+    asked: Step,
+) -> Option<u64> {
+    if is_of_copy(asked) {
+        return end(members.clone(), asked);
+    }
+    answer_of_step(members, asked)
+}
+
+// The same of a walk that owns its list.
+fn answer_of_owning<S: Ascending + Owning>(members: &mut BothEnds<S>, asked: Step) -> Option<u64> {
+    if is_of_copy(asked) {
+        return end_of_copy(members, asked);
+    }
+    answer_of_step(members, asked)
+}
+
+/// A walk that is asked step by step.
+pub trait Walk {
+    /// The answer of one step.
+    fn answer(&mut self, asked: Step) -> Option<u64>;
+}
+
+impl<'a, A: Allocator + Copy> Walk for EliasFanoRefIter<'a, A> {
+    fn answer(&mut self, asked: Step) -> Option<u64> {
+        answer_of_borrowing(self, asked)
+    }
+}
+
+impl<A: Allocator + Copy> Walk for EliasFanoIter<A> {
+    fn answer(&mut self, asked: Step) -> Option<u64> {
+        answer_of_owning(self, asked)
+    }
+}
+
+/// The number of the first step that answers wrong.
+pub fn first_wrong_step<W: Walk>(walk: &mut W, rows: &[(Step, Option<u64>)]) -> Option<usize> {
+    for (row, (step, wanted)) in rows.iter().enumerate() {
+        if walk.answer(*step) != *wanted {
+            return Some(row);
+        }
+    }
+    None
+}
+
+/// The same of a walk over a list.
 pub fn wrong_step<A: Allocator + Copy>(
     list: &EliasFanoVec<A>,
     rows: &[(Step, Option<u64>)],
 ) -> Option<usize> {
-    first_wrong_step(
-        &mut list.iter(),
-        rows,
-        |members: &mut EliasFanoRefIter<'_, A>, step: Step| {
-            if is_of_copy(step) {
-                return end(members.clone(), step);
-            }
-            answer_of_step(members, step, &mut Tally::new())
-        },
-    )
-}
-
-/// The same of a walk that owns its list.
-pub fn wrong_owned_step<A: Allocator + Copy>(
-    members: &mut EliasFanoIter<A>,
-    rows: &[(Step, Option<u64>)],
-) -> Option<usize> {
-    first_wrong_step(
-        members,
-        rows,
-        |members: &mut EliasFanoIter<A>, step: Step| {
-            if is_of_copy(step) {
-                return end_of_copy(members, step);
-            }
-            answer_of_step(members, step, &mut Tally::new())
-        },
-    )
+    first_wrong_step(&mut list.iter(), rows)
 }
 
 /// A walk that owns the list of the numbers.
@@ -114,37 +146,31 @@ pub fn walk_over<A: Allocator + Copy>(
     }
 }
 
-/// The sum of the members by a loop over a reference to the list.
-pub fn sum_by_reference<A: Allocator + Copy>(list: &EliasFanoVec<A>) -> u64 {
+// The sum of the members by a loop.
+fn sum_of<S: Ascending>(members: BothEnds<S>) -> u64 {
     let mut sum = 0u64;
-    for member in list {
+    for member in members {
         sum = sum.wrapping_add(member);
     }
     sum
+}
+
+/// The sum of the members by a loop over a reference to the list.
+pub fn sum_by_reference<A: Allocator + Copy>(list: &EliasFanoVec<A>) -> u64 {
+    sum_of(list.into_iter())
 }
 
 /// The same by a loop over a `&mut` to it.
 pub fn sum_by_mut<A: Allocator + Copy>(list: &mut EliasFanoVec<A>) -> u64 {
-    let mut sum = 0u64;
-    for member in list {
-        sum = sum.wrapping_add(member);
-    }
-    sum
+    sum_of(list.into_iter())
 }
 
-// The same by a loop over the list itself.
-fn sum_of<A: Allocator + Copy>(list: EliasFanoVec<A>) -> u64 {
-    let mut sum = 0u64;
-    for member in list {
-        sum = sum.wrapping_add(member);
-    }
-    sum
-}
-
-/// The same of a list that was made. 0 where none was.
-pub fn sum_by_value<A: Allocator + Copy>(list: Result<EliasFanoVec<A>, AllocError>) -> u64 {
+/// The same by a loop over the list itself, which was made.
+pub fn sum_by_value<A: Allocator + Copy>(
+    list: Result<EliasFanoVec<A>, AllocError>,
+) -> Result<u64, AllocError> {
     match list {
-        Ok(list) => sum_of(list),
-        Err(_) => 0,
+        Ok(list) => Ok(sum_of(list.into_iter())),
+        Err(fault) => Err(fault),
     }
 }
