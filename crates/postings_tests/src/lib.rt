@@ -1,4 +1,5 @@
-//! Tests of lists of documents.
+//! Tests of lists of documents. An `assert!` of an `==` is faster to prove than an `assert_eq!`, which prints
+//! both sides.
 #![tactic(auto)]
 
 #[cfg(test)]

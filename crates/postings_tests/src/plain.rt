@@ -1,8 +1,7 @@
 //! All lists over a few documents beside plain lists, and what the counted calls read.
-use crate::shared::{Question, answer, posted};
+use crate::shared::{Question, answer, posted, share};
 use postings::{Postings, PostingsError};
 use std::alloc::{AllocError, Allocator, Global};
-use std::test::Fail;
 use test_alloc::{asked, asked_both};
 use vers_tally::tally::Tally;
 
@@ -30,60 +29,86 @@ fn chosen_of<A: Allocator + Copy>(
     Ok(list)
 }
 
-// The plain answer: by looking at each document.
-fn plain_answer(documents: &[u64], costs: &[u64], question: Question) -> Option<u64> {
+// How many documents are below one.
+fn below(documents: &[u64], document: u64) -> u64 {
     let mut below = 0u64;
-    let mut next = None;
-    let mut best: Option<(u64, u64)> = None;
-    let (low, high) = match question {
-        Question::Cheapest(from, to) => (from, to),
-        Question::Contains(d) | Question::Rank(d) | Question::Next(d) => (d, d),
-        Question::Len | Question::IsEmpty => (0, 0),
-    };
-    for (document, cost) in documents.iter().zip(costs) {
-        if *document < low {
+    for it in documents {
+        if *it < document {
             below = below.wrapping_add(1);
-        } else if next.is_none() {
-            next = Some(*document);
-        }
-        let is_inside = low <= *document && *document <= high;
-        if is_inside && !best.is_some_and(|(_, least)| least <= *cost) {
-            best = Some((*document, *cost));
         }
     }
+    below
+}
+
+// The first document that is not below one.
+fn first_at_least(documents: &[u64], document: u64) -> Option<u64> {
+    for it in documents {
+        if *it >= document {
+            return Some(*it);
+        }
+    }
+    None
+}
+
+// The first of the cheapest documents between two, these included.
+fn cheapest(documents: &[u64], costs: &[u64], from: u64, to: u64) -> Option<u64> {
+    let mut best = None;
+    let mut least = 0;
+    for (document, cost) in documents.iter().zip(costs) {
+        let is_inside = from <= *document && *document <= to;
+        if is_inside && (best.is_none() || *cost < least) {
+            best = Some(*document);
+            least = *cost;
+        }
+    }
+    best
+}
+
+// The plain answer: by looking at each document.
+fn plain_answer(documents: &[u64], costs: &[u64], question: Question) -> Option<u64> {
     match question {
         Question::Len => Some(documents.len() as u64),
         Question::IsEmpty => Some(u64::from(documents.is_empty())),
-        Question::Contains(document) => Some(u64::from(next == Some(document))),
-        Question::Rank(_) => Some(below),
-        Question::Next(_) => next,
-        Question::Cheapest(_, _) => best.map(|(document, _)| document),
+        Question::Contains(document) => {
+            let is_met = first_at_least(documents, document) == Some(document);
+            Some(u64::from(is_met))
+        }
+        Question::Rank(document) => Some(below(documents, document)),
+        Question::Next(document) => first_at_least(documents, document),
+        Question::Cheapest(from, to) => cheapest(documents, costs, from, to),
     }
 }
 
-// Whether a list answers a question as a plain one does.
-fn answers_as_plain<A: Allocator + Copy>(
+// Whether a list answers questions as a plain one does.
+fn answer_as_plain<A: Allocator + Copy>(
     list: &Postings<A>,
     documents: &[u64],
     costs: &[u64],
-    question: Question,
+    questions: &[Question],
 ) -> bool {
-    answer(list, question) == plain_answer(documents, costs, question)
+    for question in questions {
+        if answer(list, *question) != plain_answer(documents, costs, *question) {
+            return false;
+        }
+    }
+    true
 }
 
 // Whether a list answers all questions as a plain one does.
 fn is_of<A: Allocator + Copy>(list: &Postings<A>, documents: &[u64], costs: &[u64]) -> bool {
-    let as_plain = |question: Question| answers_as_plain(list, documents, costs, question);
-    let mut is_right = as_plain(Question::Len) && as_plain(Question::IsEmpty);
+    let mut is_right = true;
     for from in ASKED {
         let alone = [
+            Question::Len,
+            Question::IsEmpty,
             Question::Contains(from),
             Question::Rank(from),
             Question::Next(from),
         ];
-        is_right = is_right && alone.iter().all(|question| as_plain(*question));
+        is_right = is_right && answer_as_plain(list, documents, costs, &alone);
         for to in ASKED {
-            is_right = is_right && as_plain(Question::Cheapest(from, to));
+            let between = [Question::Cheapest(from, to)];
+            is_right = is_right && answer_as_plain(list, documents, costs, &between);
         }
     }
     is_right
@@ -99,16 +124,19 @@ fn chosen_is_right(alloc: Global, chosen: u64) -> Result<bool, PostingsError> {
     )
 }
 
-#[test]
-fn all_lists_of_few_documents(rt: HostRuntime) -> Result<(), Fail> {
+// The first choice of documents whose list is answered otherwise.
+fn wrong_choice(alloc: Global) -> Option<u64> {
     for chosen in 0..64 {
-        assert_eq!(rt;
-            chosen_is_right(rt.alloc(), chosen),
-            Ok(true),
-            "of {chosen}"
-        );
+        if chosen_is_right(alloc, chosen) != Ok(true) {
+            return Some(chosen);
+        }
     }
-    Ok(())
+    None
+}
+
+#[test]
+fn all_lists_of_few_documents(rt: HostRuntime) {
+    assert!(rt; wrong_choice(rt.alloc()).is_none());
 }
 
 // The list of the chosen documents.
@@ -123,27 +151,25 @@ fn share_chosen(alloc: Global, one: u64, other: u64) -> Result<bool, PostingsErr
     asked_both(
         chosen_list(alloc, one),
         chosen_list(alloc, other),
-        |one: &Postings<Global>, other: &Postings<Global>| {
-            asked(
-                one.intersect(other),
-                |found: &Vec<u64, Global>| found.as_slice() == wanted.as_slice(),
-            ) == Ok(true)
-        },
+        |one: &Postings<Global>, other: &Postings<Global>| share(one, other, wanted.as_slice()),
     )
 }
 
-#[test]
-fn all_pairs_of_lists_share_what_both_have(rt: HostRuntime) -> Result<(), Fail> {
+// The first two choices whose lists share others.
+fn wrong_choices(alloc: Global) -> Option<(u64, u64)> {
     for one in 0..64 {
         for other in 0..64 {
-            assert_eq!(rt;
-                share_chosen(rt.alloc(), one, other),
-                Ok(true),
-                "of {one} and {other}"
-            );
+            if share_chosen(alloc, one, other) != Ok(true) {
+                return Some((one, other));
+            }
         }
     }
-    Ok(())
+    None
+}
+
+#[test]
+fn all_pairs_of_lists_share_what_both_have(rt: HostRuntime) {
+    assert!(rt; wrong_choices(rt.alloc()).is_none());
 }
 
 // The first `count` multiples of `step`, modulo `limit`.
@@ -191,10 +217,9 @@ fn reads_are_few(list: &Postings<Global>) -> bool {
 }
 
 #[test]
-fn queries_read_within_their_bounds(rt: HostRuntime) -> Result<(), Fail> {
+fn queries_read_within_their_bounds(rt: HostRuntime) {
     let is_within = asked(spread(rt.alloc(), 1000, 1), reads_are_few);
-    assert_eq!(rt; is_within, Ok(true));
-    Ok(())
+    assert!(rt; matches!(is_within, Ok(true)));
 }
 
 // How many low parts two lists read for what they share, which is ten documents.
@@ -214,20 +239,19 @@ fn is_at_most(reads: Result<Option<u64>, PostingsError>, most: u64) -> bool {
     }
 }
 
+// Whether two lists of so many documents, some steps apart, read no more than each document of the shorter one
+// asked of the longer.
+fn few_are_read(alloc: Global, one: (u64, u64), other: (u64, u64)) -> bool {
+    let reads = asked_both(
+        spread(alloc, one.0, one.1),
+        spread(alloc, other.0, other.1),
+        reads_of_shared,
+    );
+    is_at_most(reads, 10 * (SEARCH + 2))
+}
+
 #[test]
-fn the_longer_list_is_asked_for_each_document_of_the_shorter(rt: HostRuntime) -> Result<(), Fail> {
-    let most = 10 * (SEARCH + 2);
-    let forth = asked_both(
-        spread(rt.alloc(), 10, 99),
-        spread(rt.alloc(), 1000, 1),
-        reads_of_shared,
-    );
-    let back = asked_both(
-        spread(rt.alloc(), 1000, 1),
-        spread(rt.alloc(), 10, 99),
-        reads_of_shared,
-    );
-    assert!(rt; is_at_most(forth, most));
-    assert!(rt; is_at_most(back, most));
-    Ok(())
+fn the_longer_list_is_asked_for_each_document_of_the_shorter(rt: HostRuntime) {
+    assert!(rt; few_are_read(rt.alloc(), (10, 99), (1000, 1)));
+    assert!(rt; few_are_read(rt.alloc(), (1000, 1), (10, 99)));
 }

@@ -1,8 +1,7 @@
 //! Rows that were worked out by hand.
-use crate::shared::{Question, answer, posted};
+use crate::shared::{Question, answer, posted, share};
 use postings::{Postings, PostingsError};
 use std::alloc::Global;
-use std::test::Fail;
 use test_alloc::{asked, asked_both, first_wrong};
 
 const ANSWERS: [(Question, Option<u64>); 14] = [
@@ -22,16 +21,6 @@ const ANSWERS: [(Question, Option<u64>); 14] = [
     (Question::Cheapest(13, u64::MAX), None),
 ];
 
-#[test]
-fn four_documents(rt: HostRuntime) -> Result<(), Fail> {
-    let wrong = asked(
-        posted(rt.alloc(), &[2, 5, 9, 12], &[7, 3, 3, 8]),
-        |list: &Postings<Global>| first_wrong(list, &ANSWERS, answer),
-    );
-    assert_eq!(rt; wrong, Ok(None));
-    Ok(())
-}
-
 const NO_ANSWERS: [(Question, Option<u64>); 6] = [
     (Question::Len, Some(0)),
     (Question::IsEmpty, Some(1)),
@@ -41,70 +30,87 @@ const NO_ANSWERS: [(Question, Option<u64>); 6] = [
     (Question::Cheapest(0, 9), None),
 ];
 
-#[test]
-fn no_documents(rt: HostRuntime) -> Result<(), Fail> {
-    let wrong = asked(
-        posted(rt.alloc(), &[], &[]),
-        |list: &Postings<Global>| first_wrong(list, &NO_ANSWERS, answer),
-    );
-    assert_eq!(rt; wrong, Ok(None));
-    Ok(())
-}
-
-// The fault that a maker tells.
-fn fault_of(alloc: Global, documents: &[u64], costs: &[u64]) -> Option<PostingsError> {
-    asked(posted(alloc, documents, costs), |_: &Postings<Global>| ()).err()
+// The number of the first question that a list answers otherwise.
+fn wrong_answer(
+    alloc: Global,
+    documents: &[u64],
+    costs: &[u64],
+    rows: &[(Question, Option<u64>)],
+) -> Result<Option<usize>, PostingsError> {
+    asked(
+        posted(alloc, documents, costs),
+        |list: &Postings<Global>| first_wrong(list, rows, answer),
+    )
 }
 
 #[test]
-fn faults_in_their_order(rt: HostRuntime) -> Result<(), Fail> {
-    let mismatch = Some(PostingsError::LengthMismatch);
-    let order = Some(PostingsError::NotAscending);
-    let rows: [(&[u64], &[u64], Option<PostingsError>); 6] = [
-        (&[2, 1], &[3], mismatch),
-        (&[1], &[], mismatch),
-        (&[], &[1], mismatch),
-        (&[1, 1], &[3, 4], order),
-        (&[0, 2, 1], &[3, 4, 5], order),
-        (&[0, u64::MAX], &[u64::MAX, 0], None),
-    ];
-    for (documents, costs, fault) in rows {
-        assert_eq!(rt; fault_of(rt.alloc(), documents, costs), fault);
+fn four_documents(rt: HostRuntime) {
+    let wrong = wrong_answer(rt.alloc(), &[2, 5, 9, 12], &[7, 3, 3, 8], &ANSWERS);
+    assert!(rt; matches!(wrong, Ok(None)));
+}
+
+#[test]
+fn no_documents(rt: HostRuntime) {
+    assert!(rt; matches!(wrong_answer(rt.alloc(), &[], &[], &NO_ANSWERS), Ok(None)));
+}
+
+// Documents, costs, and the fault that a maker tells of them.
+type Fault<'a> = (&'a [u64], &'a [u64], Option<PostingsError>);
+
+const FAULTS: [Fault; 6] = [
+    (&[2, 1], &[3], Some(PostingsError::LengthMismatch)),
+    (&[1], &[], Some(PostingsError::LengthMismatch)),
+    (&[], &[1], Some(PostingsError::LengthMismatch)),
+    (&[1, 1], &[3, 4], Some(PostingsError::NotAscending)),
+    (&[0, 2, 1], &[3, 4, 5], Some(PostingsError::NotAscending)),
+    (&[0, u64::MAX], &[u64::MAX, 0], None),
+];
+
+// The number of the first row of which a maker tells another one.
+fn wrong_fault(alloc: Global, rows: &[Fault]) -> Option<usize> {
+    for (row, (documents, costs, wanted)) in rows.iter().enumerate() {
+        let fault = asked(posted(alloc, documents, costs), |_: &Postings<Global>| ()).err();
+        if fault != *wanted {
+            return Some(row);
+        }
     }
-    Ok(())
-}
-
-// Whether two lists share these documents, whichever is asked.
-fn share<'a>(alloc: Global, one: &'a [u64], other: &'a [u64], wanted: &'a [u64]) -> bool {
-    let shared = asked_both(
-        posted(alloc, one, one),
-        posted(alloc, other, other),
-        |one: &Postings<Global>, other: &Postings<Global>| {
-            let found = asked(
-                one.intersect(other),
-                |found: &Vec<u64, Global>| found.as_slice() == wanted,
-            );
-            let back = asked(
-                other.intersect(one),
-                |found: &Vec<u64, Global>| found.as_slice() == wanted,
-            );
-            found == Ok(true) && back == Ok(true)
-        },
-    );
-    shared == Ok(true)
+    None
 }
 
 #[test]
-fn shared_documents(rt: HostRuntime) -> Result<(), Fail> {
-    let rows: [(&[u64], &[u64], &[u64]); 5] = [
-        (&[2, 5, 9, 12], &[5, 6, 12, 40], &[5, 12]),
-        (&[2, 5, 9, 12], &[], &[]),
-        (&[0, u64::MAX], &[u64::MAX], &[u64::MAX]),
-        (&[1, 2, 3], &[1, 2, 3], &[1, 2, 3]),
-        (&[1, 3, 5], &[0, 2, 4, 6], &[]),
-    ];
-    for (one, other, wanted) in rows {
-        assert!(rt; share(rt.alloc(), one, other, wanted));
+fn faults_in_their_order(rt: HostRuntime) {
+    assert!(rt; wrong_fault(rt.alloc(), &FAULTS).is_none());
+}
+
+// The documents of two lists, and those that both have.
+type Pair<'a> = (&'a [u64], &'a [u64], &'a [u64]);
+
+const PAIRS: [Pair; 5] = [
+    (&[2, 5, 9, 12], &[5, 6, 12, 40], &[5, 12]),
+    (&[2, 5, 9, 12], &[], &[]),
+    (&[0, u64::MAX], &[u64::MAX], &[u64::MAX]),
+    (&[1, 2, 3], &[1, 2, 3], &[1, 2, 3]),
+    (&[1, 3, 5], &[0, 2, 4, 6], &[]),
+];
+
+// The number of the first pair that shares others, whichever is asked.
+fn wrong_pair(alloc: Global, pairs: &[Pair]) -> Option<usize> {
+    for (row, (one, other, wanted)) in pairs.iter().enumerate() {
+        let shared = asked_both(
+            posted(alloc, one, one),
+            posted(alloc, other, other),
+            |one: &Postings<Global>, other: &Postings<Global>| {
+                share(one, other, wanted) && share(other, one, wanted)
+            },
+        );
+        if shared != Ok(true) {
+            return Some(row);
+        }
     }
-    Ok(())
+    None
+}
+
+#[test]
+fn shared_documents(rt: HostRuntime) {
+    assert!(rt; wrong_pair(rt.alloc(), &PAIRS).is_none());
 }

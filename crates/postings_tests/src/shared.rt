@@ -1,6 +1,7 @@
 //! Lists of documents and what is asked of them, as tests need them.
 use postings::{Postings, PostingsError};
 use std::alloc::Allocator;
+use test_alloc::asked;
 
 /// A list of these documents with these costs.
 pub fn posted<A: Allocator + Copy>(
@@ -33,4 +34,13 @@ pub fn answer<A: Allocator + Copy>(list: &Postings<A>, question: Question) -> Op
         Question::Next(document) => list.next_at_least(document),
         Question::Cheapest(from, to) => list.cheapest(from, to),
     }
+}
+
+/// Whether two lists share these documents.
+pub fn share<A: Allocator + Copy>(one: &Postings<A>, other: &Postings<A>, wanted: &[u64]) -> bool {
+    let is_wanted = asked(
+        one.intersect(other),
+        |found: &Vec<u64, A>| found.as_slice() == wanted,
+    );
+    is_wanted == Ok(true)
 }
