@@ -1,8 +1,7 @@
 //! Iterators over symbols, and items that are refused.
 use crate::tests::lists::number_of;
 use crate::tests::numbers::symbols_of;
-use std::alloc::{AllocError, Allocator};
-use std::test::Fail;
+use std::alloc::{AllocError, Allocator, Global};
 use test_alloc::{Refusing, Step, asked, first_wrong_step};
 use vers_bits::bit_vec::BitVec;
 use vers_tally::ends::{BothEnds, Source};
@@ -42,12 +41,20 @@ fn number_step<S: Source<Item = u64>>(walk: &mut BothEnds<S>, step: Step) -> Opt
     }
 }
 
+// The number of an item, if there is one, or why it was refused.
+fn told<A: Allocator + Copy>(
+    item: Option<Result<BitVec<A>, AllocError>>,
+) -> Result<Option<u64>, AllocError> {
+    match item {
+        Some(Ok(symbol)) => Ok(Some(number_of(&symbol))),
+        Some(Err(fault)) => Err(fault),
+        None => Ok(None),
+    }
+}
+
 // The number of an item.
 fn item_number<A: Allocator + Copy>(item: Option<Result<BitVec<A>, AllocError>>) -> Option<u64> {
-    match item {
-        Some(Ok(symbol)) => Some(number_of(&symbol)),
-        _ => None,
-    }
+    told(item).unwrap_or(None)
 }
 
 // One step of an iterator over lists of bits.
@@ -64,68 +71,67 @@ fn list_step<A: Allocator + Copy, M: Maker<Item = BitVec<A>>>(
     }
 }
 
-// The number of the first step that is wrong, of the iterators over a list in its order and by size.
-fn wrong_number_step<A: Allocator + Copy>(list: &WaveletMatrix<A>) -> Option<usize> {
-    let mut walk = list.iter_u64()?;
-    let in_order = first_wrong_step(&mut walk, &IN_ORDER, |walk, step| number_step(walk, step));
-    let mut sorted = list.iter_sorted_u64()?;
-    in_order.or(first_wrong_step(&mut sorted, &BY_SIZE, |walk, step| number_step(walk, step)))
-}
-
-// The same of items that are lists of bits.
-fn wrong_list_step<A: Allocator + Copy>(list: &WaveletMatrix<A>) -> Option<usize> {
-    let in_order = first_wrong_step(
-        &mut list.iter(),
-        &IN_ORDER,
-        |walk, step| list_step(walk, step),
-    );
-    in_order.or(first_wrong_step(
-        &mut list.iter_sorted(),
-        &BY_SIZE,
-        |walk, step| list_step(walk, step),
-    ))
-}
-
-#[test]
-fn steps_and_their_answers(rt: HostRuntime) -> Result<(), Fail> {
-    let wrong = asked(
-        symbols_of(rt.alloc(), &SYMBOLS, 3),
-        |list| wrong_number_step(list),
-    )?;
-    assert_eq!(rt; wrong, None, "numbers");
-    let wrong = asked(
-        symbols_of(rt.alloc(), &SYMBOLS, 3),
-        |list| wrong_list_step(list),
-    )?;
-    assert_eq!(rt; wrong, None, "lists");
-    Ok(())
-}
-
-// Whether an item was refused for memory.
-fn is_refused<A: Allocator + Copy>(item: Option<Result<BitVec<A>, AllocError>>) -> bool {
-    match item {
-        Some(Err(AllocError)) => true,
-        _ => false,
+// The number of the first step of an iterator over numbers that is wrong. All are where there is none.
+fn wrong_number_step<S: Source<Item = u64>>(
+    walk: Option<BothEnds<S>>,
+    rows: &[(Step, Option<u64>)],
+) -> Option<usize> {
+    match walk {
+        Some(mut walk) => first_wrong_step(&mut walk, rows, number_step),
+        None => Some(0),
     }
 }
 
-// Whether the second of three items is refused and counts as passed, and the others are as they were.
-fn passes_the_second<A: Allocator + Copy>(list: &WaveletMatrix<A>) -> bool {
-    let mut walk = list.iter();
-    let first = item_number(walk.next());
-    let second = is_refused(walk.next());
-    let left = walk.len();
-    let third = item_number(walk.next());
-    first == Some(1) && second && left == 1 && third == Some(3) && walk.next().is_none()
+// The same of an iterator over lists of bits.
+fn wrong_list_step<A: Allocator + Copy, M: Maker<Item = BitVec<A>>>(
+    mut walk: MadeEnds<M>,
+    rows: &[(Step, Option<u64>)],
+) -> Option<usize> {
+    first_wrong_step(&mut walk, rows, list_step)
+}
+
+// The first wrong steps of the iterators over a list in its order and by size, as numbers and as lists.
+fn wrong_steps<A: Allocator + Copy>(list: &WaveletMatrix<A>) -> [Option<usize>; 4] {
+    [
+        wrong_number_step(list.iter_u64(), &IN_ORDER),
+        wrong_number_step(list.iter_sorted_u64(), &BY_SIZE),
+        wrong_list_step(list.iter(), &IN_ORDER),
+        wrong_list_step(list.iter_sorted(), &BY_SIZE),
+    ]
 }
 
 #[test]
-fn a_refused_item_is_passed(rt: HostRuntime) -> Result<(), Fail> {
-    let heap = Refusing::after_start(rt.alloc(), 2);
-    let passed = asked(symbols_of(&heap, &SYMBOLS, 3), |list| {
-        heap.start();
-        passes_the_second(list)
-    })?;
-    assert!(rt; passed);
-    Ok(())
+fn steps_and_their_answers(rt: HostRuntime) {
+    let wrong = asked(symbols_of(rt.alloc(), &SYMBOLS, 3), wrong_steps);
+    assert_eq!(rt; wrong, Ok([None; 4]));
+}
+
+// Whether the second of three items is refused and counts as passed, and the others are as they were.
+fn passes_the_second<A: Allocator + Copy, M: Maker<Item = BitVec<A>>>(
+    mut walk: MadeEnds<M>,
+) -> bool {
+    let first = [told(walk.next()), told(walk.next())];
+    let left = walk.len();
+    let last = [told(walk.next()), told(walk.next())];
+    first == [Ok(Some(1)), Err(AllocError)] && left == 1 && last == [Ok(Some(3)), Ok(None)]
+}
+
+// The same of symbols whose items are refused from here on.
+fn passes_refused<A: Allocator + Copy>(heap: &Refusing<Global>, list: &WaveletMatrix<A>) -> bool {
+    heap.start();
+    passes_the_second(list.iter())
+}
+
+// The same of symbols that are made first.
+fn passes_of_symbols(heap: &Refusing<Global>) -> bool {
+    asked(
+        symbols_of(heap, &SYMBOLS, 3),
+        |list| passes_refused(heap, list),
+    ) == Ok(true)
+}
+
+#[test]
+fn a_refused_item_is_passed(rt: HostRuntime) {
+    let heap = Ok::<_, AllocError>(Refusing::after_start(rt.alloc(), 2));
+    assert!(rt; matches!(asked(heap, passes_of_symbols), Ok(true)));
 }

@@ -1,6 +1,5 @@
 //! Makers of symbols: by stable sorting and by counting prefixes, of numbers and of lists of bits.
 use std::alloc::{AllocError, Allocator, Global};
-use std::test::Fail;
 use test_alloc::{Ending, Refusing, asked, takes_memory, try_make};
 use vers_bits::bit_vec::{BitVec, GrowError};
 use vers_wavelet::wavelet::WaveletMatrix;
@@ -89,90 +88,89 @@ fn first_wrong_numbers(alloc: Global, method: Method, rows: &[Row]) -> Option<us
     None
 }
 
+// Numbers that count by their low bits.
+const LOW_BITS: [Row; 5] = [
+    Row {
+        numbers: &[9, 5, 3],
+        width: 3,
+        symbols: &[1, 5, 3],
+    },
+    Row {
+        numbers: &[2, 3, 4, 5],
+        width: 1,
+        symbols: &[0, 1, 0, 1],
+    },
+    Row {
+        numbers: &[7, 7, 6, 0, 7, 1],
+        width: 3,
+        symbols: &[7, 7, 6, 0, 7, 1],
+    },
+    Row {
+        numbers: &[],
+        width: 8,
+        symbols: &[],
+    },
+    Row {
+        numbers: &[u64::MAX, 0, 256],
+        width: 8,
+        symbols: &[255, 0, 0],
+    },
+];
+
 #[test]
-fn numbers_count_by_their_low_bits(rt: HostRuntime) -> Result<(), Fail> {
-    let rows = [
-        Row {
-            numbers: &[9, 5, 3],
-            width: 3,
-            symbols: &[1, 5, 3],
-        },
-        Row {
-            numbers: &[2, 3, 4, 5],
-            width: 1,
-            symbols: &[0, 1, 0, 1],
-        },
-        Row {
-            numbers: &[7, 7, 6, 0, 7, 1],
-            width: 3,
-            symbols: &[7, 7, 6, 0, 7, 1],
-        },
-        Row {
-            numbers: &[],
-            width: 8,
-            symbols: &[],
-        },
-        Row {
-            numbers: &[u64::MAX, 0, 256],
-            width: 8,
-            symbols: &[255, 0, 0],
-        },
-    ];
-    assert_eq!(rt;
-        first_wrong_numbers(rt.alloc(), Method::Sorting, &rows),
-        None
-    );
-    assert_eq!(rt;
-        first_wrong_numbers(rt.alloc(), Method::Counting, &rows),
-        None
-    );
-    Ok(())
+fn numbers_count_by_their_low_bits(rt: HostRuntime) {
+    let wrong = first_wrong_numbers(rt.alloc(), Method::Sorting, &LOW_BITS);
+    assert!(rt; wrong.is_none());
+    let wrong = first_wrong_numbers(rt.alloc(), Method::Counting, &LOW_BITS);
+    assert!(rt; wrong.is_none());
+}
+
+// Numbers of no bits, and of as many as there are.
+const ENDS: [Row; 5] = [
+    Row {
+        numbers: &[7, 7],
+        width: 0,
+        symbols: &[],
+    },
+    Row {
+        numbers: &[],
+        width: 0,
+        symbols: &[],
+    },
+    Row {
+        numbers: &[],
+        width: 64,
+        symbols: &[],
+    },
+    Row {
+        numbers: &[u64::MAX, 0, HIGHEST, 5],
+        width: 64,
+        symbols: &[u64::MAX, 0, HIGHEST, 5],
+    },
+    Row {
+        numbers: &[HIGHEST, 5],
+        width: 63,
+        symbols: &[0, 5],
+    },
+];
+
+#[test]
+fn numbers_of_no_bits_and_of_64_bits(rt: HostRuntime) {
+    let wrong = first_wrong_numbers(rt.alloc(), Method::Sorting, &ENDS);
+    assert!(rt; wrong.is_none());
+}
+
+// How many symbols a maker makes of numbers.
+fn len_of(alloc: Global, method: Method, numbers: &[u64], width: u16) -> Result<usize, AllocError> {
+    asked(of_numbers(alloc, method, numbers, width), |it| it.len())
 }
 
 #[test]
-fn numbers_of_no_bits_and_of_64_bits(rt: HostRuntime) -> Result<(), Fail> {
-    let rows = [
-        Row {
-            numbers: &[7, 7],
-            width: 0,
-            symbols: &[],
-        },
-        Row {
-            numbers: &[],
-            width: 0,
-            symbols: &[],
-        },
-        Row {
-            numbers: &[],
-            width: 64,
-            symbols: &[],
-        },
-        Row {
-            numbers: &[u64::MAX, 0, HIGHEST, 5],
-            width: 64,
-            symbols: &[u64::MAX, 0, HIGHEST, 5],
-        },
-        Row {
-            numbers: &[HIGHEST, 5],
-            width: 63,
-            symbols: &[0, 5],
-        },
-    ];
-    assert_eq!(rt;
-        first_wrong_numbers(rt.alloc(), Method::Sorting, &rows),
-        None
-    );
-    Ok(())
-}
-
-#[test]
-fn no_table_is_given_from_60_bits_on(rt: HostRuntime) -> Result<(), Fail> {
+fn no_table_is_given_from_60_bits_on(rt: HostRuntime) {
     for width in 60..64 {
-        let made = of_numbers(rt.alloc(), Method::Counting, &[], width);
-        let len = asked(made, |it| it.len());
-        assert_eq!(rt; len, Err(AllocError), "of {width}");
+        let len = len_of(rt.alloc(), Method::Counting, &[], width);
+        assert!(rt; len.is_err());
     }
-    Ok(())
 }
 
 // Bit `i` of symbol `e`.
@@ -230,33 +228,35 @@ fn makes_symbols(alloc: Global, method: Method, count: usize, width: u16) -> boo
     matches!(asked(packed(alloc, count, width), made), Ok(Ok(true)))
 }
 
-#[test]
-fn symbols_are_parts_of_the_list(rt: HostRuntime) -> Result<(), Fail> {
-    for width in [1, 2, 63, 64, 65, 127] {
+// The first width at which a maker does not make them, and how many they are.
+fn first_wrong_symbols(alloc: Global, method: Method, widths: &[u16]) -> Option<(u16, usize)> {
+    for width in widths {
         for count in [0, 1, 2, 63, 64, 65, 130] {
-            let is_right = makes_symbols(rt.alloc(), Method::Sorting, count, width);
-            assert!(rt; is_right, "{count} of {width}");
+            if !makes_symbols(alloc, method, count, *width) {
+                return Some((*width, count));
+            }
         }
     }
-    Ok(())
+    None
 }
 
 #[test]
-fn counting_makes_the_same_symbols(rt: HostRuntime) -> Result<(), Fail> {
-    for width in [1, 2, 9, 16] {
-        for count in [0, 1, 2, 63, 64, 65, 130] {
-            let is_right = makes_symbols(rt.alloc(), Method::Counting, count, width);
-            assert!(rt; is_right, "{count} of {width}");
-        }
-    }
-    Ok(())
+fn symbols_are_parts_of_the_list(rt: HostRuntime) {
+    let widths = [1, 2, 63, 64, 65, 127];
+    let wrong = first_wrong_symbols(rt.alloc(), Method::Sorting, &widths);
+    assert!(rt; wrong.is_none());
 }
 
 #[test]
-fn the_widest_symbols(rt: HostRuntime) -> Result<(), Fail> {
+fn counting_makes_the_same_symbols(rt: HostRuntime) {
+    let wrong = first_wrong_symbols(rt.alloc(), Method::Counting, &[1, 2, 9, 16]);
+    assert!(rt; wrong.is_none());
+}
+
+#[test]
+fn the_widest_symbols(rt: HostRuntime) {
     assert!(rt; makes_symbols(rt.alloc(), Method::Sorting, 2, u16::MAX));
     assert!(rt; makes_symbols(rt.alloc(), Method::Sorting, 0, u16::MAX));
-    Ok(())
 }
 
 // A maker of symbols of a list of bits, or of their numbers, with its requests refused.
@@ -313,31 +313,25 @@ fn bits_refused(alloc: Global, method: Method, count: usize, width: u16) -> Opti
     })
 }
 
-#[test]
-fn makers_are_refused_in_turn(rt: HostRuntime) -> Result<(), Fail> {
-    let numbers = [7, 2, 5, 5, 0];
-    for method in [Method::Sorting, Method::Counting] {
-        let of_numbers = numbers_refused(rt.alloc(), method, &numbers, 3);
-        assert_eq!(rt; of_numbers, Some(true));
-        assert_eq!(rt; numbers_refused(rt.alloc(), method, &[], 3), Some(true));
-        assert_eq!(rt; bits_refused(rt.alloc(), method, 5, 6), Some(true));
-        assert_eq!(rt; bits_refused(rt.alloc(), method, 0, 6), Some(true));
-    }
-    assert_eq!(rt;
-        bits_refused(rt.alloc(), Method::Sorting, 3, 65),
-        Some(true)
-    );
-    Ok(())
+// Whether the makers of some symbols and of none take memory, and are refused as they have to be.
+fn take_memory(alloc: Global, method: Method) -> bool {
+    numbers_refused(alloc, method, &[7, 2, 5, 5, 0], 3) == Some(true)
+        && numbers_refused(alloc, method, &[], 3) == Some(true)
+        && bits_refused(alloc, method, 5, 6) == Some(true)
+        && bits_refused(alloc, method, 0, 6) == Some(true)
 }
 
 #[test]
-fn no_digits_take_no_memory(rt: HostRuntime) -> Result<(), Fail> {
-    let numbers = [7, 2];
-    assert_eq!(rt;
-        numbers_refused(rt.alloc(), Method::Sorting, &[], 0),
-        Some(false)
-    );
-    let made = of_numbers(rt.alloc(), Method::Sorting, &numbers, 0);
-    assert_eq!(rt; asked(made, |it| it.len()), Ok(0));
-    Ok(())
+fn makers_are_refused_in_turn(rt: HostRuntime) {
+    assert!(rt; take_memory(rt.alloc(), Method::Sorting));
+    assert!(rt; take_memory(rt.alloc(), Method::Counting));
+    assert!(rt; bits_refused(rt.alloc(), Method::Sorting, 3, 65) == Some(true));
+}
+
+#[test]
+fn no_digits_take_no_memory(rt: HostRuntime) {
+    let takes = numbers_refused(rt.alloc(), Method::Sorting, &[], 0);
+    assert!(rt; takes == Some(false));
+    let len = len_of(rt.alloc(), Method::Sorting, &[7, 2], 0);
+    assert!(rt; matches!(len, Ok(0)));
 }

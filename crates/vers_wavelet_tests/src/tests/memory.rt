@@ -3,9 +3,10 @@ use crate::tests::lists::{number_of, symbol_of};
 use crate::tests::makers::{Method, has_numbers, of_bits, of_numbers};
 use crate::tests::numbers::symbols_of;
 use std::alloc::{AllocError, Allocator, Global};
-use std::test::Fail;
 use test_alloc::{Ending, Refusing, asked, takes_memory, try_clone, try_make};
 use vers_bits::bit_vec::{BitVec, GrowError};
+use vers_tally::ends::{BothEnds, Source};
+use vers_tally::made_ends::{MadeEnds, Maker};
 use vers_wavelet::wavelet::{
     WaveletIter, WaveletMatrix, WaveletNumIter, WaveletSortedIter, WaveletSortedNumIter,
 };
@@ -111,69 +112,85 @@ fn sorted_number_walk_over<A: Allocator + Copy>(
     }
 }
 
-// Whether a walk has the first and the last of the numbers at its ends, and as many items.
-fn has_ends(len: usize, first: Option<u64>, last: Option<u64>, numbers: &[u64]) -> bool {
+// How many items a walk has left, the first, and the last of the others.
+type Ends = (usize, Option<u64>, Option<u64>);
+
+fn ends_of_numbers<S: Source<Item = u64>>(walk: &mut BothEnds<S>) -> Ends {
+    let len = walk.len();
+    let first = walk.next();
+    (len, first, walk.next_back())
+}
+
+fn ends_of_lists<A: Allocator + Copy, M: Maker<Item = BitVec<A>>>(walk: &mut MadeEnds<M>) -> Ends {
+    let len = walk.len();
+    let first = number_of_item(walk.next());
+    (len, first, number_of_item(walk.next_back()))
+}
+
+// Whether a walk has as many items as there are numbers, and these at its ends.
+fn has_ends(ends: Ends, numbers: &[u64], first: Option<&u64>, last: Option<&u64>) -> bool {
+    let (len, found_first, found_last) = ends;
     len == numbers.len()
-        && first == numbers.first().map(|it| *it)
-        && (len < 2 || last == numbers.last().map(|it| *it))
+        && found_first == first.map(|it| *it)
+        && (len < 2 || found_last == last.map(|it| *it))
+}
+
+fn in_order(ends: Ends, numbers: &[u64]) -> bool {
+    has_ends(ends, numbers, numbers.first(), numbers.last())
 }
 
 // The same by size: the numbers fall.
-fn has_sorted_ends(len: usize, first: Option<u64>, last: Option<u64>, numbers: &[u64]) -> bool {
-    len == numbers.len()
-        && first == numbers.last().map(|it| *it)
-        && (len < 2 || last == numbers.first().map(|it| *it))
+fn by_size(ends: Ends, numbers: &[u64]) -> bool {
+    has_ends(ends, numbers, numbers.last(), numbers.first())
 }
 
-fn tried_walk<B: Allocator, A: Allocator + Copy>(
-    heap: &Refusing<B>,
-    alloc: A,
-    making: Making,
-    numbers: &[u64],
-) -> Ending {
-    match making {
-        Making::CloneWalk => try_clone(
-            heap,
-            walk_over(alloc, numbers),
-            |walk: &mut WaveletIter<A>| {
-                // The items take memory too.
-                heap.allow_all();
-                let len = walk.len();
-                let first = number_of_item(walk.next());
-                has_ends(len, first, number_of_item(walk.next_back()), numbers)
-            },
-        ),
-        Making::CloneSortedWalk => try_clone(
-            heap,
-            sorted_walk_over(alloc, numbers),
-            |walk: &mut WaveletSortedIter<A>| {
-                heap.allow_all();
-                let len = walk.len();
-                let first = number_of_item(walk.next());
-                has_sorted_ends(len, first, number_of_item(walk.next_back()), numbers)
-            },
-        ),
-        Making::CloneNumberWalk => try_clone(
-            heap,
-            number_walk_over(alloc, numbers),
-            |walk: &mut WaveletNumIter<A>| {
-                let len = walk.len();
-                let first = walk.next();
-                has_ends(len, first, walk.next_back(), numbers)
-            },
-        ),
-        _ => try_clone(
-            heap,
-            sorted_number_walk_over(alloc, numbers),
-            |walk: &mut WaveletSortedNumIter<A>| {
-                let len = walk.len();
-                let first = walk.next();
-                has_sorted_ends(len, first, walk.next_back(), numbers)
-            },
-        ),
+// What is made of numbers, and compared with them.
+trait Made: Drop {
+    fn is_of<B: Allocator>(&mut self, heap: &Refusing<B>, numbers: &[u64]) -> bool;
+}
+
+impl<A: Allocator + Copy> Made for WaveletMatrix<A> {
+    fn is_of<B: Allocator>(&mut self, _heap: &Refusing<B>, numbers: &[u64]) -> bool {
+        has_numbers(self, WIDTH, numbers)
     }
 }
 
+impl<A: Allocator + Copy> Made for WaveletIter<A> {
+    fn is_of<B: Allocator>(&mut self, heap: &Refusing<B>, numbers: &[u64]) -> bool {
+        // The items take memory too.
+        heap.allow_all();
+        in_order(ends_of_lists(self), numbers)
+    }
+}
+
+impl<A: Allocator + Copy> Made for WaveletSortedIter<A> {
+    fn is_of<B: Allocator>(&mut self, heap: &Refusing<B>, numbers: &[u64]) -> bool {
+        heap.allow_all();
+        by_size(ends_of_lists(self), numbers)
+    }
+}
+
+impl<A: Allocator + Copy> Made for WaveletNumIter<A> {
+    fn is_of<B: Allocator>(&mut self, _heap: &Refusing<B>, numbers: &[u64]) -> bool {
+        in_order(ends_of_numbers(self), numbers)
+    }
+}
+
+impl<A: Allocator + Copy> Made for WaveletSortedNumIter<A> {
+    fn is_of<B: Allocator>(&mut self, _heap: &Refusing<B>, numbers: &[u64]) -> bool {
+        by_size(ends_of_numbers(self), numbers)
+    }
+}
+
+fn tried_clone<B: Allocator, T: Made + Clone>(
+    heap: &Refusing<B>,
+    made: Result<T, AllocError>,
+    numbers: &[u64],
+) -> Ending {
+    try_clone(heap, made, |it: &mut T| it.is_of(heap, numbers))
+}
+
+// Makers of the symbols of numbers, of their bits and of the numbers themselves.
 fn tried_of_bits<B: Allocator, A: Allocator + Copy>(
     heap: &Refusing<B>,
     method: Method,
@@ -188,6 +205,20 @@ fn tried_of_bits<B: Allocator, A: Allocator + Copy>(
     )
 }
 
+fn tried_of_numbers<B: Allocator, A: Allocator + Copy>(
+    heap: &Refusing<B>,
+    alloc: A,
+    method: Method,
+    numbers: &[u64],
+) -> Ending {
+    try_make(
+        heap,
+        AllocError,
+        || of_numbers(alloc, method, numbers, WIDTH),
+        |symbols: &WaveletMatrix<A>| has_numbers(symbols, WIDTH, numbers),
+    )
+}
+
 fn tried_making<B: Allocator, A: Allocator + Copy>(
     heap: &Refusing<B>,
     alloc: A,
@@ -195,23 +226,19 @@ fn tried_making<B: Allocator, A: Allocator + Copy>(
     numbers: &[u64],
 ) -> Ending {
     match making {
-        Making::OfNumbers(method) => try_make(
-            heap,
-            AllocError,
-            || of_numbers(alloc, method, numbers, WIDTH),
-            |symbols: &WaveletMatrix<A>| has_numbers(symbols, WIDTH, numbers),
-        ),
+        Making::OfNumbers(method) => tried_of_numbers(heap, alloc, method, numbers),
         Making::OfBits(method) => asked(
             bits_of(alloc, numbers),
             |bits: &BitVec<A>| tried_of_bits(heap, method, bits, numbers),
         )
         .unwrap_or(Ending::Wrong),
-        Making::Clone => try_clone(
-            heap,
-            symbols_of(alloc, numbers, WIDTH),
-            |symbols: &mut WaveletMatrix<A>| has_numbers(symbols, WIDTH, numbers),
-        ),
-        _ => tried_walk(heap, alloc, making, numbers),
+        Making::Clone => tried_clone(heap, symbols_of(alloc, numbers, WIDTH), numbers),
+        Making::CloneWalk => tried_clone(heap, walk_over(alloc, numbers), numbers),
+        Making::CloneSortedWalk => tried_clone(heap, sorted_walk_over(alloc, numbers), numbers),
+        Making::CloneNumberWalk => tried_clone(heap, number_walk_over(alloc, numbers), numbers),
+        Making::CloneSortedNumberWalk => {
+            tried_clone(heap, sorted_number_walk_over(alloc, numbers), numbers)
+        }
     }
 }
 
@@ -226,16 +253,26 @@ fn first_wrong_making(alloc: Global, numbers: &[u64]) -> Option<usize> {
     None
 }
 
-#[test]
-fn makers_and_clones_are_refused_in_turn(rt: HostRuntime) -> Result<(), Fail> {
+// The first length at which a call goes wrong, and its number.
+fn first_wrong_length<F: Fn(Global, &[u64]) -> Option<usize>>(
+    alloc: Global,
+    first_wrong: F,
+) -> Result<Option<(usize, usize)>, AllocError>
+    requires { F.IsAlwaysCallable first_wrong }
+{
     for len in LENGTHS {
-        let wrong = asked(
-            numbers_of(rt.alloc(), len),
-            |numbers| first_wrong_making(rt.alloc(), numbers),
-        )?;
-        assert_eq!(rt; wrong, None, "of {len}");
+        let numbers = numbers_of(alloc, len)?;
+        if let Some(row) = first_wrong(alloc, &numbers) {
+            return Ok(Some((len, row)));
+        }
     }
-    Ok(())
+    Ok(None)
+}
+
+#[test]
+fn makers_and_clones_are_refused_in_turn(rt: HostRuntime) {
+    let wrong = first_wrong_length(rt.alloc(), first_wrong_making);
+    assert!(rt; matches!(wrong, Ok(None)));
 }
 
 // A call that answers a symbol as a list of bits. An unchecked one is asked only where its condition holds.
@@ -369,7 +406,7 @@ fn tried_call<B: Allocator, A: Allocator + Copy>(
     )
 }
 
-fn tried_of_numbers<B: Allocator, A: Allocator + Copy>(
+fn tried_of_list<B: Allocator, A: Allocator + Copy>(
     heap: &Refusing<B>,
     alloc: A,
     call: Call,
@@ -394,7 +431,7 @@ fn takes_some(call: Call, len: usize) -> bool {
 // The number of the first call that goes wrong.
 fn first_wrong_call(alloc: Global, numbers: &[u64]) -> Option<usize> {
     for (row, call) in CALLS.iter().enumerate() {
-        let is_tried = |heap: &Refusing<Global>| tried_of_numbers(heap, heap, *call, numbers);
+        let is_tried = |heap: &Refusing<Global>| tried_of_list(heap, heap, *call, numbers);
         if takes_memory(alloc, is_tried) != Some(takes_some(*call, numbers.len())) {
             return Some(row);
         }
@@ -403,13 +440,7 @@ fn first_wrong_call(alloc: Global, numbers: &[u64]) -> Option<usize> {
 }
 
 #[test]
-fn symbols_as_answers_are_refused_in_turn(rt: HostRuntime) -> Result<(), Fail> {
-    for len in LENGTHS {
-        let wrong = asked(
-            numbers_of(rt.alloc(), len),
-            |numbers| first_wrong_call(rt.alloc(), numbers),
-        )?;
-        assert_eq!(rt; wrong, None, "of {len}");
-    }
-    Ok(())
+fn symbols_as_answers_are_refused_in_turn(rt: HostRuntime) {
+    let wrong = first_wrong_length(rt.alloc(), first_wrong_call);
+    assert!(rt; matches!(wrong, Ok(None)));
 }

@@ -43,6 +43,21 @@ pub fn as_number(n: Option<usize>) -> Option<u64> {
     }
 }
 
+// The answer of a query about a range of symbols, asked for numbers.
+fn range_answer<A: Allocator + Copy>(list: &WaveletMatrix<A>, query: Query) -> Option<u64> {
+    match query {
+        Query::RankRange(a, b, s) => as_number(list.rank_range_u64(a..b, s)),
+        Query::RankOffset(a, b, s) => as_number(list.rank_offset_u64(a, b, s)),
+        Query::Quantile(a, b, i) => list.quantile_u64(a..b, i),
+        Query::Min(a, b) => list.range_min_u64(a..b),
+        Query::Max(a, b) => list.range_max_u64(a..b),
+        Query::Median(a, b) => list.range_median_u64(a..b),
+        Query::Predecessor(a, b, s) => list.predecessor_u64(a..b, s),
+        Query::Successor(a, b, s) => list.successor_u64(a..b, s),
+        _ => None,
+    }
+}
+
 /// The answer of one query, asked for numbers.
 pub fn answer<A: Allocator + Copy>(list: &WaveletMatrix<A>, query: Query) -> Option<u64> {
     match query {
@@ -52,18 +67,11 @@ pub fn answer<A: Allocator + Copy>(list: &WaveletMatrix<A>, query: Query) -> Opt
         Query::BitLen => Some(u64::from(list.bit_len())),
         Query::HeapSize => Some(list.heap_size() as u64),
         Query::Get(i) => list.get_u64(i),
-        Query::RankRange(a, b, s) => as_number(list.rank_range_u64(a..b, s)),
-        Query::RankOffset(a, b, s) => as_number(list.rank_offset_u64(a, b, s)),
         Query::Rank(i, s) => as_number(list.rank_u64(i, s)),
         Query::SelectOffset(o, r, s) => as_number(list.select_offset_u64(o, r, s)),
         Query::Select(r, s) => as_number(list.select_u64(r, s)),
-        Query::Quantile(a, b, i) => list.quantile_u64(a..b, i),
         Query::Sorted(i) => list.get_sorted_u64(i),
-        Query::Min(a, b) => list.range_min_u64(a..b),
-        Query::Max(a, b) => list.range_max_u64(a..b),
-        Query::Median(a, b) => list.range_median_u64(a..b),
-        Query::Predecessor(a, b, s) => list.predecessor_u64(a..b, s),
-        Query::Successor(a, b, s) => list.successor_u64(a..b, s),
+        _ => range_answer(list, query),
     }
 }
 

@@ -6,7 +6,6 @@ use crate::tests::lists::{Coding, answer_for_made, symbol_answer, symbol_asked};
 use crate::tests::makers::{Method, of_bits};
 use crate::tests::numbers::{Query, answer};
 use std::alloc::{Allocator, Global};
-use std::test::Fail;
 use test_alloc::{asked, first_wrong};
 use vers_bits::bit_vec::{BitVec, GrowError};
 use vers_wavelet::wavelet::WaveletMatrix;
@@ -119,38 +118,9 @@ fn first_wrong_answer<A: Allocator + Copy>(
     )
 }
 
-// Whether queries of the symbols of so many bits for some numbers are answered as their rows say.
-fn answers_rows(alloc: Global, numbers: &[u64], width: u16, rows: &[(Query, Option<u64>)]) -> bool {
-    let wrong = |bits: &BitVec<Global>| {
-        asked(
-            of_bits(Method::Sorting, bits, width),
-            |list| first_wrong_answer(alloc, list, rows),
-        )
-    };
-    matches!(
-        asked(bits_of(alloc, numbers, width as usize), wrong),
-        Ok(Ok(None))
-    )
-}
-
-#[test]
-fn wide_symbols(rt: HostRuntime) -> Result<(), Fail> {
-    for width in [3, 64, 65, 127, u16::MAX] {
-        assert!(rt;
-            answers_rows(rt.alloc(), &NUMBERS, width, &ROWS),
-            "of {width}"
-        );
-        assert!(rt;
-            answers_rows(rt.alloc(), &[], width, &ROWS_OF_NONE),
-            "none of {width}"
-        );
-    }
-    Ok(())
-}
-
-// Whether a query that takes a number, or answers one, has no answer.
-fn has_none<A: Allocator + Copy>(list: &WaveletMatrix<A>) -> bool {
-    for (query, _) in ROWS.iter() {
+// Whether queries that take a number, or answer one, have no answer.
+fn has_none<A: Allocator + Copy>(list: &WaveletMatrix<A>, rows: &[(Query, Option<u64>)]) -> bool {
+    for (query, _) in rows.iter() {
         if answer(list, *query).is_some() {
             return false;
         }
@@ -158,37 +128,24 @@ fn has_none<A: Allocator + Copy>(list: &WaveletMatrix<A>) -> bool {
     list.iter_u64().is_none() && list.iter_sorted_u64().is_none()
 }
 
-// The same of the symbols of so many bits.
-fn makes_no_numbers(alloc: Global, width: u16) -> bool {
-    let none = |bits: &BitVec<Global>| {
-        asked(of_bits(Method::Sorting, bits, width), |list| has_none(list))
-    };
-    matches!(
-        asked(bits_of(alloc, &NUMBERS, width as usize), none),
-        Ok(Ok(true))
-    )
-}
+// What is asked for a symbol of another width, and has no answer.
+const OF_ANOTHER_WIDTH: [Query; 7] = [
+    Query::RankRange(0, 6, 5),
+    Query::RankOffset(0, 6, 5),
+    Query::Rank(6, 5),
+    Query::SelectOffset(0, 0, 5),
+    Query::Select(0, 5),
+    Query::Predecessor(0, 6, 5),
+    Query::Successor(0, 6, 5),
+];
 
-#[test]
-fn no_numbers_of_more_than_64_bits(rt: HostRuntime) -> Result<(), Fail> {
-    for width in [65, 127] {
-        assert!(rt; makes_no_numbers(rt.alloc(), width), "of {width}");
-    }
-    Ok(())
-}
-
-// Whether a query for a symbol of another width has no answer.
-fn refuses_width<A: Allocator + Copy>(alloc: A, list: &WaveletMatrix<A>, width: usize) -> bool {
-    let asked_for = [
-        Query::RankRange(0, 6, 5),
-        Query::RankOffset(0, 6, 5),
-        Query::Rank(6, 5),
-        Query::SelectOffset(0, 0, 5),
-        Query::Select(0, 5),
-        Query::Predecessor(0, 6, 5),
-        Query::Successor(0, 6, 5),
-    ];
-    for query in asked_for.iter() {
+fn refuses_width<A: Allocator + Copy>(
+    alloc: A,
+    list: &WaveletMatrix<A>,
+    queries: &[Query],
+    width: usize,
+) -> bool {
+    for query in queries {
         if answer_of(alloc, list, *query, width).is_some() {
             return false;
         }
@@ -196,29 +153,79 @@ fn refuses_width<A: Allocator + Copy>(alloc: A, list: &WaveletMatrix<A>, width: 
     true
 }
 
-// The same of the symbols of so many bits, for symbols of another width.
-fn refuses_other(alloc: Global, width: u16, other: usize) -> bool {
-    let refused = |bits: &BitVec<Global>| {
+// What has to hold of symbols.
+#[derive(Clone, Copy, Drop)]
+enum Check<'a> {
+    // Queries are answered as their rows say.
+    Rows(&'a [(Query, Option<u64>)]),
+    // Nothing is answered to numbers.
+    NoNumbers(&'a [(Query, Option<u64>)]),
+    // Nothing is answered to symbols of so many bits.
+    OtherWidth(usize),
+}
+
+fn holds<A: Allocator + Copy>(alloc: A, list: &WaveletMatrix<A>, check: Check) -> bool {
+    match check {
+        Check::Rows(rows) => first_wrong_answer(alloc, list, rows).is_none(),
+        Check::NoNumbers(rows) => has_none(list, rows),
+        Check::OtherWidth(width) => refuses_width(alloc, list, &OF_ANOTHER_WIDTH, width),
+    }
+}
+
+// Whether it holds of the symbols of so many bits for some numbers.
+fn holds_of(alloc: Global, numbers: &[u64], width: u16, check: Check) -> bool {
+    let of_symbols = |bits: &BitVec<Global>| {
         asked(
             of_bits(Method::Sorting, bits, width),
-            |list| refuses_width(alloc, list, other),
+            |list| holds(alloc, list, check),
         )
     };
     matches!(
-        asked(bits_of(alloc, &NUMBERS, width as usize), refused),
+        asked(bits_of(alloc, numbers, width as usize), of_symbols),
         Ok(Ok(true))
     )
 }
 
-#[test]
-fn symbols_of_another_length(rt: HostRuntime) -> Result<(), Fail> {
-    for width in [3, 64, 65, 127] {
-        for other in [0, 1, 2, 63, 66, 128] {
-            assert!(rt;
-                refuses_other(rt.alloc(), width, other),
-                "{other} of {width}"
-            );
+// The first of some widths at which it does not.
+fn first_wrong_width(alloc: Global, numbers: &[u64], widths: &[u16], check: Check) -> Option<u16> {
+    for width in widths {
+        if !holds_of(alloc, numbers, *width, check) {
+            return Some(*width);
         }
     }
-    Ok(())
+    None
+}
+
+const WIDTHS: [u16; 5] = [3, 64, 65, 127, u16::MAX];
+
+// The rows stand in a function of its own, which is faster to prove than in a test.
+fn rows() -> &'static [(Query, Option<u64>)] {
+    &ROWS
+}
+
+#[test]
+fn wide_symbols(rt: HostRuntime) {
+    let wrong = first_wrong_width(rt.alloc(), &NUMBERS, &WIDTHS, Check::Rows(rows()));
+    assert!(rt; wrong.is_none());
+}
+
+#[test]
+fn no_wide_symbols(rt: HostRuntime) {
+    let wrong = first_wrong_width(rt.alloc(), &[], &WIDTHS, Check::Rows(&ROWS_OF_NONE));
+    assert!(rt; wrong.is_none());
+}
+
+#[test]
+fn no_numbers_of_more_than_64_bits(rt: HostRuntime) {
+    let wrong = first_wrong_width(rt.alloc(), &NUMBERS, &[65, 127], Check::NoNumbers(rows()));
+    assert!(rt; wrong.is_none());
+}
+
+#[test]
+fn symbols_of_another_length(rt: HostRuntime) {
+    for other in [0, 1, 2, 63, 66, 128] {
+        let check = Check::OtherWidth(other);
+        let wrong = first_wrong_width(rt.alloc(), &NUMBERS, &[3, 64, 65, 127], check);
+        assert!(rt; wrong.is_none());
+    }
 }
