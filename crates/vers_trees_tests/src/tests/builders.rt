@@ -1,7 +1,7 @@
 //! Trees from builders.
 ghost use Rattle.std.specs.Prelude.{◌<◌, ◌≤◌};
 
-use crate::tests::lists::asked;
+use crate::tests::lists::{asked, changed};
 use std::alloc::{Allocator, Global};
 use vers_bits::bit_vec::GrowError;
 use vers_trees::trees::bp::{BpBuilder, BpTree, BuildError, MAX_BLOCK_SIZE};
@@ -14,7 +14,9 @@ enum Step {
 }
 
 // The steps, and what is built: how many bits, how many ones, and whether they are balanced.
-const CASES: [(&[Step], Result<(usize, usize, bool), BuildError>); 6] = [
+type Case<'a> = (&'a [Step], Result<(usize, usize, bool), BuildError>);
+
+const CASES: [Case; 6] = [
     (&[], Ok((0, 0, true))),
     (&[Step::Enter, Step::Leave], Ok((2, 1, true))),
     (&[Step::Leave, Step::Enter], Ok((2, 1, false))),
@@ -58,9 +60,10 @@ fn builder_of<const N: usize>(
     requires some { 0 < N }
     requires bounded { N ≤ MAX_BLOCK_SIZE }
 {
-    let mut builder = BpBuilder::with_capacity(alloc, steps.len() as u64)?;
-    walk(&mut builder, steps)?;
-    Ok(builder)
+    changed(
+        BpBuilder::with_capacity(alloc, steps.len() as u64),
+        |builder: &mut BpBuilder<N, Global>| walk(builder, steps),
+    )
 }
 
 // What is built of the steps.
@@ -77,13 +80,24 @@ fn built<const N: usize>(alloc: Global, steps: &[Step]) -> Result<(usize, usize,
     )
 }
 
+// The number of the first case, counted from 0, of which something else is built.
+fn wrong_case(alloc: Global, cases: &[Case]) -> Option<usize> {
+    for (row, (steps, wanted)) in cases.iter().enumerate() {
+        let trees = [
+            built::<1>(alloc, steps),
+            built::<12>(alloc, steps),
+            built::<4294967296>(alloc, steps),
+        ];
+        if trees != [*wanted; 3] {
+            return Some(row);
+        }
+    }
+    None
+}
+
 #[test]
 fn what_is_built(rt: HostRuntime) {
-    for (steps, wanted) in CASES {
-        assert_eq!(rt; built::<1>(rt.alloc(), steps), wanted);
-        assert_eq!(rt; built::<12>(rt.alloc(), steps), wanted);
-        assert_eq!(rt; built::<4294967296>(rt.alloc(), steps), wanted);
-    }
+    assert!(rt; wrong_case(rt.alloc(), &CASES).is_none());
 }
 
 // Why a builder with room for so many nodes is refused; None where it is made.
@@ -93,10 +107,8 @@ fn refusal(alloc: Global, nodes: u64) -> Option<GrowError> {
 
 #[test]
 fn ends_of_the_capacity(rt: HostRuntime) {
-    assert_eq!(rt;
-        refusal(rt.alloc(), 4611686018427387904),
-        Some(GrowError::TooLong)
-    );
-    assert_eq!(rt; refusal(rt.alloc(), u64::MAX), Some(GrowError::TooLong));
-    assert_eq!(rt; refusal(rt.alloc(), 100), None);
+    let longest = refusal(rt.alloc(), 4611686018427387904);
+    assert!(rt; longest == Some(GrowError::TooLong));
+    assert!(rt; refusal(rt.alloc(), u64::MAX) == Some(GrowError::TooLong));
+    assert!(rt; refusal(rt.alloc(), 100).is_none());
 }

@@ -8,7 +8,6 @@ use crate::tests::plain::{
 use crate::tests::queries::Question;
 use crate::tests::tours::{First, TOURS, Tour, tour_gives};
 use std::alloc::{AllocError, Allocator, Global};
-use std::test::Fail;
 use vers_bits::bit_vec::GrowError;
 use vers_trees::trees::bp::{BpTree, MAX_BLOCK_SIZE};
 
@@ -47,7 +46,7 @@ const FAR: [u64; 4] = [
 ];
 
 // How many lists, nodes and pairs of nodes were asked about, and how many answers were wrong.
-#[derive(Clone, Copy, PartialEq, Debug, Drop)]
+#[derive(Clone, Copy, PartialEq, Drop)]
 struct Compared {
     lists: u64,
     nodes: u64,
@@ -234,12 +233,14 @@ fn every<const N: usize>(alloc: Global) -> Result<Compared, GrowError>
 }
 
 #[test]
-fn every_answer_is_that_of_a_plain_forest(rt: HostRuntime) -> Result<(), Fail> {
-    assert_eq!(rt; every::<1>(rt.alloc())?, EVERY);
-    assert_eq!(rt; every::<3>(rt.alloc())?, EVERY);
-    assert_eq!(rt; every::<8>(rt.alloc())?, EVERY);
-    assert_eq!(rt; every::<12>(rt.alloc())?, EVERY);
-    Ok(())
+fn every_answer_is_that_of_a_plain_forest(rt: HostRuntime) {
+    let compared = [
+        every::<1>(rt.alloc()),
+        every::<3>(rt.alloc()),
+        every::<8>(rt.alloc()),
+        every::<12>(rt.alloc()),
+    ];
+    assert!(rt; compared == [Ok(EVERY); 4]);
 }
 
 // How often the second and the third part of a long list are repeated.
@@ -287,10 +288,12 @@ fn long<const N: usize>(alloc: Global) -> Result<Compared, GrowError>
 }
 
 #[test]
-fn answers_of_long_lists(rt: HostRuntime) -> Result<(), Fail> {
-    assert_eq!(rt; long::<1>(rt.alloc())?, ALL_LONG);
-    assert_eq!(rt; long::<8>(rt.alloc())?, ALL_LONG);
-    assert_eq!(rt; long::<64>(rt.alloc())?, ALL_LONG);
-    assert_eq!(rt; long::<4294967296>(rt.alloc())?, ALL_LONG);
-    Ok(())
+fn answers_of_long_lists(rt: HostRuntime) {
+    let compared = [
+        long::<1>(rt.alloc()),
+        long::<8>(rt.alloc()),
+        long::<64>(rt.alloc()),
+        long::<4294967296>(rt.alloc()),
+    ];
+    assert!(rt; compared == [Ok(ALL_LONG); 4]);
 }

@@ -3,13 +3,10 @@ ghost use Rattle.std.specs.Prelude.{◌<◌, ◌≤◌};
 
 use crate::tests::nodes::ask_balanced;
 pub use crate::tests::queries::{Answer, Query, number};
-use std::alloc::{AllocError, Allocator, Global};
+use std::alloc::{Allocator, Global};
 use vers_bits::bit_vec::{BitVec, GrowError};
 use vers_tally::tally::Tally;
 use vers_trees::trees::bp::{BpTree, MAX_BLOCK_SIZE};
-
-/// The block sizes that are tried.
-pub const SIZES: [usize; 7] = [1, 3, 8, 12, 64, 512, 4294967296];
 
 // The excess past a place that the tree has; None for another one.
 fn excess<const N: usize, A: Allocator + Copy>(tree: &BpTree<N, A>, i: usize) -> Answer {
@@ -76,56 +73,26 @@ pub fn asked<T: Drop, R, E, F: FnOnce(&T) -> Result<R, E>>(
     }
 }
 
+/// What was made, after a change to it that may fail.
+pub fn changed<T: Drop, E, F: FnOnce(&mut T) -> Result<(), E>>(
+    made: Result<T, E>,
+    change: F,
+) -> Result<T, E>
+    requires { F.IsAlwaysCallable change }
+{
+    match made {
+        Ok(mut it) => match change(&mut it) {
+            Ok(()) => Ok(it),
+            Err(fault) => Err(fault),
+        },
+        Err(fault) => Err(fault),
+    }
+}
+
 /// The tree of bits, each a one where the number is odd.
 pub fn tree_of<const N: usize>(alloc: Global, bits: &[u8]) -> Result<BpTree<N, Global>, GrowError>
     requires some { 0 < N }
     requires bounded { N ≤ MAX_BLOCK_SIZE }
 {
     BpTree::from_bit_vector(BitVec::from_bits(alloc, bits)?)
-}
-
-// Asks all queries of a tree.
-fn ask_all<const N: usize>(
-    alloc: Global,
-    tree: &BpTree<N, Global>,
-    queries: &[Query],
-) -> Result<Vec<Answer, Global>, AllocError> {
-    let mut found = Vec::new(alloc);
-    for query in queries {
-        found.push(ask(tree, *query))?;
-    }
-    Ok(found)
-}
-
-// The answers of a tree with blocks of `N` bits.
-fn answers_at<const N: usize>(
-    alloc: Global,
-    bits: &[u8],
-    queries: &[Query],
-) -> Result<Vec<Answer, Global>, GrowError>
-    requires some { 0 < N }
-    requires bounded { N ≤ MAX_BLOCK_SIZE }
-{
-    asked(
-        tree_of::<N>(alloc, bits),
-        |tree: &BpTree<N, Global>| Ok(ask_all(alloc, tree, queries)?),
-    )
-}
-
-/// The answers of a tree with blocks of one of the sizes.
-pub fn answers(
-    alloc: Global,
-    size: usize,
-    bits: &[u8],
-    queries: &[Query],
-) -> Result<Vec<Answer, Global>, GrowError> {
-    match size {
-        1 => answers_at::<1>(alloc, bits, queries),
-        3 => answers_at::<3>(alloc, bits, queries),
-        8 => answers_at::<8>(alloc, bits, queries),
-        12 => answers_at::<12>(alloc, bits, queries),
-        64 => answers_at::<64>(alloc, bits, queries),
-        512 => answers_at::<512>(alloc, bits, queries),
-        _ => answers_at::<4294967296>(alloc, bits, queries),
-    }
 }

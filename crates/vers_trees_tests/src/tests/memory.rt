@@ -2,10 +2,10 @@
 //! trees of every length.
 //!
 //! Makers and tries name their allocator: the size of a tree over any allocator is not known.
+use crate::tests::lists::changed;
 use std::alloc::{AllocError, Allocator, Global};
 use test_alloc::{
-    Ending, LENGTHS, Refusing, each_refused, takes_memory, try_clone, try_convert, try_make,
-    try_use,
+    Ending, LENGTHS, Refusing, takes_memory, try_clone, try_convert, try_make, try_use,
 };
 use vers_bits::bit_vec::{BitVec, GrowError};
 use vers_rank::fast_rs_vec::{RsVec, SelectIntoIter};
@@ -79,12 +79,13 @@ fn enter_and_leave<const N: usize, A: Allocator + Copy>(
 
 // A builder that has taken the steps of the path.
 fn builder_of(heap: &Heap, nodes: usize) -> Result<BpBuilder<8, &Heap>, GrowError> {
-    let mut builder = BpBuilder::new(heap);
-    enter_and_leave(&mut builder, nodes)?;
-    Ok(builder)
+    changed(
+        Ok(BpBuilder::new(heap)),
+        |builder: &mut BpBuilder<8, &Heap>| enter_and_leave(builder, nodes),
+    )
 }
 
-// A call that takes memory.
+// A call about so many nodes.
 #[derive(Clone, Copy, Drop)]
 enum Call {
     FromBitVector,
@@ -93,17 +94,50 @@ enum Call {
     WithCapacity,
     Steps,
     Build,
+    Queries,
+    IntoParentheses,
 }
 
-// Each call, and whether it takes memory for no nodes too.
-const CALLS: [(Call, bool); 6] = [
-    (Call::FromBitVector, true),
-    (Call::Clone, true),
-    (Call::CloneWalk, true),
-    (Call::WithCapacity, false),
-    (Call::Steps, false),
-    (Call::Build, true),
+const CALLS: [Call; 8] = [
+    Call::FromBitVector,
+    Call::Clone,
+    Call::CloneWalk,
+    Call::WithCapacity,
+    Call::Steps,
+    Call::Build,
+    Call::Queries,
+    Call::IntoParentheses,
 ];
+
+// Whether a call takes memory.
+fn takes_some(call: Call, nodes: usize) -> bool {
+    match call {
+        Call::FromBitVector | Call::Clone | Call::CloneWalk | Call::Build => true,
+        Call::WithCapacity | Call::Steps => nodes > 0,
+        Call::Queries | Call::IntoParentheses => false,
+    }
+}
+
+// What is made of the path, and compared with it. A walk is taken to its end.
+trait Made: Clone + Drop {
+    fn is_of(&mut self, nodes: usize) -> bool;
+}
+
+impl<const N: usize, A: Allocator + Copy> Made for BpTree<N, A> {
+    fn is_of(&mut self, nodes: usize) -> bool {
+        is_path(self, nodes)
+    }
+}
+
+impl<A: Allocator + Copy> Made for SelectIntoIter<false, A> {
+    fn is_of(&mut self, nodes: usize) -> bool {
+        walks_over(self, nodes)
+    }
+}
+
+fn tried_clone<T: Made>(heap: &Heap, made: Result<T, GrowError>, nodes: usize) -> Ending {
+    try_clone(heap, made, |it: &mut T| it.is_of(nodes))
+}
 
 fn tried_maker(heap: &Heap, nodes: usize) -> Ending {
     try_convert(
@@ -115,36 +149,27 @@ fn tried_maker(heap: &Heap, nodes: usize) -> Ending {
     )
 }
 
-fn tried_clone(heap: &Heap, nodes: usize) -> Ending {
-    try_clone(
-        heap,
-        path(heap, nodes),
-        |tree: &mut BpTree<8, &Heap>| is_path(tree, nodes),
-    )
+fn tried_tree_clone(heap: &Heap, nodes: usize) -> Ending {
+    tried_clone(heap, path(heap, nodes), nodes)
 }
 
 fn tried_walk_clone(heap: &Heap, nodes: usize) -> Ending {
-    try_clone(
-        heap,
-        walk(heap, nodes),
-        |places: &mut SelectIntoIter<false, &Heap>| walks_over(places, nodes),
-    )
+    tried_clone(heap, walk(heap, nodes), nodes)
 }
 
-fn tried_capacity(heap: &Heap, nodes: usize) -> Ending {
+// A builder with room for the nodes of the path, or one that has taken its steps.
+fn builder_by(heap: &Heap, call: Call, nodes: usize) -> Result<BpBuilder<8, &Heap>, GrowError> {
+    match call {
+        Call::WithCapacity => BpBuilder::with_capacity(heap, nodes as u64),
+        _ => builder_of(heap, nodes),
+    }
+}
+
+fn tried_builder(heap: &Heap, call: Call, nodes: usize) -> Ending {
     try_make(
         heap,
         GrowError::Memory,
-        || BpBuilder::<8, &Heap>::with_capacity(heap, nodes as u64),
-        |_: &BpBuilder<8, &Heap>| true,
-    )
-}
-
-fn tried_steps(heap: &Heap, nodes: usize) -> Ending {
-    try_make(
-        heap,
-        GrowError::Memory,
-        || builder_of(heap, nodes),
+        || builder_by(heap, call, nodes),
         |_: &BpBuilder<8, &Heap>| true,
     )
 }
@@ -159,31 +184,6 @@ fn tried_build(heap: &Heap, nodes: usize) -> Ending {
     )
 }
 
-fn tried(heap: &Heap, call: Call, nodes: usize) -> Ending {
-    match call {
-        Call::FromBitVector => tried_maker(heap, nodes),
-        Call::Clone => tried_clone(heap, nodes),
-        Call::CloneWalk => tried_walk_clone(heap, nodes),
-        Call::WithCapacity => tried_capacity(heap, nodes),
-        Call::Steps => tried_steps(heap, nodes),
-        Call::Build => tried_build(heap, nodes),
-    }
-}
-
-#[test]
-fn calls_are_refused_in_turn(rt: HostRuntime) {
-    for nodes in LENGTHS {
-        for (row, (call, always)) in CALLS.iter().enumerate() {
-            let is_tried = |heap: &Refusing<Global>| tried(heap, *call, nodes);
-            assert_eq!(rt;
-                takes_memory(rt.alloc(), is_tried),
-                Some(*always || nodes > 0),
-                "row {row} of {nodes}"
-            );
-        }
-    }
-}
-
 // Whether the queries and the walks over the nodes work.
 fn queries_work<const N: usize, A: Allocator + Copy>(tree: &BpTree<N, A>, nodes: usize) -> bool {
     is_path(tree, nodes)
@@ -192,7 +192,7 @@ fn queries_work<const N: usize, A: Allocator + Copy>(tree: &BpTree<N, A>, nodes:
         && tree.heap_size() > 0
 }
 
-fn queries_tried(heap: &Heap, nodes: usize) -> Ending {
+fn tried_queries(heap: &Heap, nodes: usize) -> Ending {
     try_use(
         heap,
         path(heap, nodes),
@@ -200,7 +200,7 @@ fn queries_tried(heap: &Heap, nodes: usize) -> Ending {
     )
 }
 
-fn conversion_tried(heap: &Heap, nodes: usize) -> Ending {
+fn tried_conversion(heap: &Heap, nodes: usize) -> Ending {
     try_convert(
         heap,
         path(heap, nodes),
@@ -210,12 +210,33 @@ fn conversion_tried(heap: &Heap, nodes: usize) -> Ending {
     )
 }
 
-#[test]
-fn these_calls_take_no_memory(rt: HostRuntime) {
-    for nodes in LENGTHS {
-        let queries = |heap: &Refusing<Global>| queries_tried(heap, nodes);
-        let conversion = |heap: &Refusing<Global>| conversion_tried(heap, nodes);
-        assert_eq!(rt; each_refused(rt.alloc(), queries), Ok(0), "of {nodes}");
-        assert_eq!(rt; each_refused(rt.alloc(), conversion), Ok(0), "of {nodes}");
+fn tried(heap: &Heap, call: Call, nodes: usize) -> Ending {
+    match call {
+        Call::FromBitVector => tried_maker(heap, nodes),
+        Call::Clone => tried_tree_clone(heap, nodes),
+        Call::CloneWalk => tried_walk_clone(heap, nodes),
+        Call::WithCapacity | Call::Steps => tried_builder(heap, call, nodes),
+        Call::Build => tried_build(heap, nodes),
+        Call::Queries => tried_queries(heap, nodes),
+        Call::IntoParentheses => tried_conversion(heap, nodes),
     }
+}
+
+// The first call that goes wrong, and its number of nodes.
+fn first_wrong(alloc: Global) -> Option<(usize, usize)> {
+    for nodes in LENGTHS {
+        for (row, call) in CALLS.iter().enumerate() {
+            let is_tried = |heap: &Refusing<Global>| tried(heap, *call, nodes);
+            if takes_memory(alloc, is_tried) != Some(takes_some(*call, nodes)) {
+                return Some((row, nodes));
+            }
+        }
+    }
+    None
+}
+
+// Each request of a call that takes memory is refused in turn.
+#[test]
+fn calls_take_memory_or_none(rt: HostRuntime) {
+    assert!(rt; first_wrong(rt.alloc()).is_none());
 }

@@ -1,11 +1,11 @@
 //! Each request for memory refused in turn, and calls that take none.
-use crate::tests::lists::{Query, ask, asked};
+use crate::tests::lists::{Query, ask, asked, changed};
 use crate::tests::walks::{NODE_WITH_TWO, STEPS, steps};
-use std::alloc::Global;
-use std::test::Fail;
+use std::alloc::{Allocator, Global};
 use test_alloc::{Refusing, refused_in_turn, takes_none};
 use vers_bits::bit_vec::{BitVec, GrowError};
 use vers_rank::fast_rs_vec::RsVec;
+use vers_tally::ends::{BothEnds, Source};
 use vers_trees::trees::bp::{BpBuilder, BpTree, BuildError};
 
 // The tree of a node with two leaves.
@@ -13,53 +13,74 @@ fn made(heap: &Refusing<Global>) -> Result<BpTree<3, &Refusing<Global>>, GrowErr
     BpTree::from_bit_vector(BitVec::from_bits(heap, &NODE_WITH_TWO)?)
 }
 
-// Whether the tree or its copy could not be made.
-fn fails_to_clone(heap: &Refusing<Global>) -> bool {
-    match made(heap) {
-        Ok(tree) => tree.clone().is_err(),
+// Whether a value could not be made.
+fn is_refused<T: Drop, E: Drop>(made: Result<T, E>) -> bool {
+    made.is_err()
+}
+
+// Whether a value or its copy could not be made.
+fn fails_to_clone<T: Clone + Drop, E: Drop>(made: Result<T, E>) -> bool {
+    match made {
+        Ok(it) => {
+            let copy: Result<_, _> = it.clone();
+            is_refused(copy)
+        }
         Err(_) => true,
     }
 }
 
-// A builder of 64 bits, which fill its room: 32 nodes entered and left.
-fn builder_of_64_bits(
-    heap: &Refusing<Global>,
-) -> Result<BpBuilder<8, &Refusing<Global>>, GrowError> {
-    let mut builder = BpBuilder::with_capacity(heap, 32)?;
+// Enters 32 nodes and leaves each, whose 64 bits fill the room of a builder for as many.
+fn fill(builder: &mut BpBuilder<8, &Refusing<Global>>) -> Result<(), GrowError> {
     for _ in 0..32 {
         builder.enter_node()?;
         builder.leave_node()?;
     }
-    Ok(builder)
+    Ok(())
 }
 
-// How many bits a tree has that was built, and whether they are balanced.
-fn outcome(
-    made: Result<BpTree<8, &Refusing<Global>>, BuildError>,
-) -> Result<(usize, bool), BuildError> {
-    match made {
-        Ok(tree) => Ok((tree.len(), tree.is_balanced())),
-        Err(error) => Err(error),
-    }
+// A builder of 64 bits.
+fn builder_of_64_bits(
+    heap: &Refusing<Global>,
+) -> Result<BpBuilder<8, &Refusing<Global>>, GrowError> {
+    changed(BpBuilder::with_capacity(heap, 32), fill)
+}
+
+// How many bits the tree of a builder has, and whether they are balanced.
+fn built(builder: BpBuilder<8, &Refusing<Global>>) -> Result<(usize, bool), BuildError> {
+    asked(
+        builder.build(),
+        |tree: &BpTree<8, &Refusing<Global>>| Ok((tree.len(), tree.is_balanced())),
+    )
 }
 
 // Whether a tree could not be built since it was out of memory.
 fn fails_to_build(heap: &Refusing<Global>) -> bool {
     match builder_of_64_bits(heap) {
-        Ok(builder) => outcome(builder.build()) == Err(BuildError::Memory),
+        Ok(builder) => built(builder) == Err(BuildError::Memory),
         Err(_) => true,
+    }
+}
+
+fn is_above_one(requests: Option<u64>) -> bool {
+    match requests {
+        Some(requests) => requests > 1,
+        None => false,
     }
 }
 
 #[test]
 fn each_refused_request_is_answered(rt: HostRuntime) {
     let heap = rt.alloc();
-    let making = refused_in_turn(heap, 40, |heap: &Refusing<Global>| made(heap).is_err());
-    let cloning = refused_in_turn(heap, 40, |heap: &Refusing<Global>| fails_to_clone(heap));
-    let building = refused_in_turn(heap, 40, |heap: &Refusing<Global>| fails_to_build(heap));
-    for requests in [making, cloning, building] {
-        assert!(rt; requests > Some(1));
-    }
+    let making = refused_in_turn(heap, 40, |heap: &Refusing<Global>| is_refused(made(heap)));
+    let cloning = refused_in_turn(
+        heap,
+        40,
+        |heap: &Refusing<Global>| fails_to_clone(made(heap)),
+    );
+    let building = refused_in_turn(heap, 40, fails_to_build);
+    assert!(rt; is_above_one(making));
+    assert!(rt; is_above_one(cloning));
+    assert!(rt; is_above_one(building));
 }
 
 // What a builder of 64 bits answers with every request refused.
@@ -73,51 +94,97 @@ fn refused_steps(
     answers
 }
 
+// Whether a value that was made answers a first question as wanted, and then turns into what is wanted.
+fn answers_and_turns<
+    T: Drop,
+    P: PartialEq + Drop,
+    R: PartialEq + Drop,
+    E: Drop,
+    F: FnOnce(&mut T) -> P,
+    G: FnOnce(T) -> R,
+>(made: Result<T, E>, question: F, turn: G, wanted: (P, R)) -> bool
+    requires question { F.IsAlwaysCallable question }
+    requires turn { G.IsAlwaysCallable turn }
+{
+    match made {
+        Ok(mut it) => question(&mut it) == wanted.0 && turn(it) == wanted.1,
+        Err(_) => false,
+    }
+}
+
 #[test]
-fn a_refused_node_is_not_entered(rt: HostRuntime) -> Result<(), Fail> {
+fn a_refused_node_is_not_entered(rt: HostRuntime) {
     let heap = Refusing::none(rt.alloc());
-    let mut builder = builder_of_64_bits(&heap)?;
-    assert_eq!(rt;
-        refused_steps(&heap, &mut builder),
-        [Err(GrowError::Memory); 2]
+    let is_right = answers_and_turns(
+        builder_of_64_bits(&heap),
+        |builder| refused_steps(&heap, builder),
+        built,
+        ([Err(GrowError::Memory); 2], Ok((64, true))),
     );
-    assert_eq!(rt; outcome(builder.build()), Ok((64, true)));
-    Ok(())
+    assert!(rt; is_right);
+}
+
+// What a builder of 64 bits answers with every request refused, and with memory again.
+fn refused_and_taken_steps(
+    heap: &Refusing<Global>,
+    builder: &mut BpBuilder<8, &Refusing<Global>>,
+) -> [Result<(), GrowError>; 4] {
+    let refused = refused_steps(heap, builder);
+    [
+        refused[0],
+        refused[1],
+        builder.enter_node(),
+        builder.leave_node(),
+    ]
 }
 
 #[test]
-fn after_a_refusal_nodes_are_entered(rt: HostRuntime) -> Result<(), Fail> {
+fn after_a_refusal_nodes_are_entered(rt: HostRuntime) {
     let heap = Refusing::none(rt.alloc());
-    let mut builder = builder_of_64_bits(&heap)?;
-    assert_eq!(rt;
-        refused_steps(&heap, &mut builder),
-        [Err(GrowError::Memory); 2]
+    let refused = Err(GrowError::Memory);
+    let is_right = answers_and_turns(
+        builder_of_64_bits(&heap),
+        |builder| refused_and_taken_steps(&heap, builder),
+        built,
+        ([refused, refused, Ok(()), Ok(())], Ok((66, true))),
     );
-    assert_eq!(rt; builder.enter_node(), Ok(()));
-    assert_eq!(rt; builder.leave_node(), Ok(()));
-    assert_eq!(rt; outcome(builder.build()), Ok((66, true)));
-    Ok(())
+    assert!(rt; is_right);
 }
 
 #[test]
-fn a_refused_build(rt: HostRuntime) -> Result<(), Fail> {
+fn a_refused_build(rt: HostRuntime) {
     let heap = Refusing::none(rt.alloc());
-    let builder = builder_of_64_bits(&heap)?;
-    heap.refuse_all();
-    assert_eq!(rt; outcome(builder.build()), Err(BuildError::Memory));
-    Ok(())
+    let is_right = answers_and_turns(
+        builder_of_64_bits(&heap),
+        |_| heap.refuse_all(),
+        built,
+        ((), Err(BuildError::Memory)),
+    );
+    assert!(rt; is_right);
 }
 
-#[test]
-fn the_excess_is_told_before_memory(rt: HostRuntime) -> Result<(), Fail> {
-    let heap = Refusing::none(rt.alloc());
-    let mut builder = builder_of_64_bits(&heap)?;
-    builder.leave_node()?;
+// What a builder answers that is asked for its tree with every request refused, and whether it asks for no
+// memory.
+fn built_of_none(
+    heap: &Refusing<Global>,
+    builder: BpBuilder<8, &Refusing<Global>>,
+) -> (Result<(usize, bool), BuildError>, bool) {
     heap.refuse_all();
     let requests = heap.asked();
-    assert_eq!(rt; outcome(builder.build()), Err(BuildError::Excess(-1)));
-    assert_eq!(rt; heap.asked(), requests);
-    Ok(())
+    let answer = built(builder);
+    (answer, heap.asked() == requests)
+}
+
+#[test]
+fn the_excess_is_told_before_memory(rt: HostRuntime) {
+    let heap = Refusing::none(rt.alloc());
+    let is_right = answers_and_turns(
+        builder_of_64_bits(&heap),
+        |builder| builder.leave_node(),
+        |builder| built_of_none(&heap, builder),
+        (Ok(()), (Err(BuildError::Excess(-1)), true)),
+    );
+    assert!(rt; is_right);
 }
 
 // Makes a builder, which must work.
@@ -128,7 +195,7 @@ fn starts(heap: &Refusing<Global>) -> bool {
 
 #[test]
 fn a_new_builder_takes_no_memory(rt: HostRuntime) {
-    assert!(rt; takes_none(rt.alloc(), |heap: &Refusing<Global>| starts(heap)));
+    assert!(rt; takes_none(rt.alloc(), starts));
 }
 
 const QUERIES: [(Query, Option<i64>); 11] = [
@@ -147,97 +214,116 @@ const QUERIES: [(Query, Option<i64>); 11] = [
 
 // Whether queries and walks work.
 fn works(tree: &BpTree<3, &Refusing<Global>>) -> bool {
-    for (query, wanted) in QUERIES {
-        if !ask(tree, query).is(wanted) {
+    for (query, wanted) in QUERIES.iter() {
+        if !ask(tree, *query).is(*wanted) {
             return false;
         }
     }
     steps(tree) == STEPS && tree.heap_size() > 0
 }
 
+// Whether a value that was made turns into another one that answers as wanted, and both take no memory.
+// Every request is refused from here on.
+fn turns_into<
+    T: Drop,
+    U: Drop,
+    R: PartialEq + Drop,
+    E: Drop,
+    F: FnOnce(T) -> U,
+    G: FnOnce(&U) -> R,
+>(heap: &Refusing<Global>, made: Result<T, E>, turn: F, question: G, wanted: R) -> bool
+    requires turn { F.IsAlwaysCallable turn }
+    requires question { G.IsAlwaysCallable question }
+{
+    heap.refuse_all();
+    let requests = heap.asked();
+    match made {
+        Ok(it) => question(&turn(it)) == wanted && heap.asked() == requests,
+        Err(_) => false,
+    }
+}
+
 #[test]
-fn queries_take_no_memory(rt: HostRuntime) -> Result<(), Fail> {
+fn queries_take_no_memory(rt: HostRuntime) {
     let heap = Refusing::none(rt.alloc());
-    let (right, requests) = asked(made(&heap), |tree: &BpTree<3, &Refusing<Global>>| {
-        heap.refuse_all();
-        let requests = heap.asked();
-        Ok((works(tree), requests))
-    })?;
-    assert!(rt; right);
-    assert_eq!(rt; heap.asked(), requests);
-    Ok(())
+    assert!(rt; turns_into(&heap, made(&heap), |tree| tree, works, true));
+}
+
+fn count_of<S: Source>(walk: BothEnds<S>) -> usize {
+    walk.count()
+}
+
+fn last_of<S: Source>(walk: BothEnds<S>) -> Option<S::Item> {
+    walk.last()
 }
 
 // How many nodes a walk that owns its tree passes.
 fn owned_count(tree: BpTree<3, &Refusing<Global>>) -> usize {
-    tree.into_iter().count()
+    count_of(tree.into_iter())
 }
 
 // The last node that it passes.
 fn owned_last(tree: BpTree<3, &Refusing<Global>>) -> Option<usize> {
-    tree.into_iter().last()
+    last_of(tree.into_iter())
 }
 
 // How many ones, and the place of the second zero.
-fn parentheses(tree: BpTree<3, &Refusing<Global>>) -> (usize, usize) {
-    let list = tree.into_parentheses_vec();
-    (list.ones(), list.select0(1))
-}
-
-// The same by the conversion.
-fn converted(tree: BpTree<3, &Refusing<Global>>) -> (usize, usize) {
-    let list: RsVec<&Refusing<Global>> = RsVec::from(tree);
+fn ones_and_second_zero<A: Allocator + Copy>(list: &RsVec<A>) -> (usize, usize) {
     (list.ones(), list.select0(1))
 }
 
 // How many bits and ones the list alone has.
-fn bits_alone(tree: BpTree<3, &Refusing<Global>>) -> (usize, u64) {
-    let list: BitVec<&Refusing<Global>> = BitVec::from(tree);
+fn bits_and_ones<A: Allocator + Copy>(list: &BitVec<A>) -> (usize, u64) {
     (list.len(), list.count_ones())
 }
 
 #[test]
-fn a_walk_that_owns_its_tree_takes_no_memory(rt: HostRuntime) -> Result<(), Fail> {
+fn a_walk_that_owns_its_tree_takes_no_memory(rt: HostRuntime) {
     let heap = Refusing::none(rt.alloc());
-    let tree = made(&heap)?;
-    heap.refuse_all();
-    let requests = heap.asked();
-    assert_eq!(rt; owned_count(tree), 3);
-    assert_eq!(rt; heap.asked(), requests);
-    Ok(())
+    assert!(rt; turns_into(&heap, made(&heap), owned_count, |count| *count, 3));
 }
 
 #[test]
-fn the_last_node_of_a_walk_takes_no_memory(rt: HostRuntime) -> Result<(), Fail> {
+fn the_last_node_of_a_walk_takes_no_memory(rt: HostRuntime) {
     let heap = Refusing::none(rt.alloc());
-    let tree = made(&heap)?;
-    heap.refuse_all();
-    let requests = heap.asked();
-    assert_eq!(rt; owned_last(tree), Some(3));
-    assert_eq!(rt; heap.asked(), requests);
-    Ok(())
+    assert!(rt; turns_into(&heap, made(&heap), owned_last, |last| *last, Some(3)));
 }
 
 #[test]
-fn the_parentheses_alone_take_no_memory(rt: HostRuntime) -> Result<(), Fail> {
+fn the_parentheses_alone_take_no_memory(rt: HostRuntime) {
     let heap = Refusing::none(rt.alloc());
-    let tree = made(&heap)?;
-    heap.refuse_all();
-    let requests = heap.asked();
-    assert_eq!(rt; parentheses(tree), (3, 4));
-    assert_eq!(rt; heap.asked(), requests);
-    Ok(())
+    let is_right = turns_into(
+        &heap,
+        made(&heap),
+        |tree| tree.into_parentheses_vec(),
+        ones_and_second_zero,
+        (3, 4),
+    );
+    assert!(rt; is_right);
 }
 
 #[test]
-fn conversions_take_no_memory(rt: HostRuntime) -> Result<(), Fail> {
+fn a_conversion_takes_no_memory(rt: HostRuntime) {
     let heap = Refusing::none(rt.alloc());
-    let first = made(&heap)?;
-    let second = made(&heap)?;
-    heap.refuse_all();
-    let requests = heap.asked();
-    assert_eq!(rt; converted(first), (3, 4));
-    assert_eq!(rt; bits_alone(second), (6, 3));
-    assert_eq!(rt; heap.asked(), requests);
-    Ok(())
+    let is_right = turns_into(
+        &heap,
+        made(&heap),
+        |tree| RsVec::from(tree),
+        ones_and_second_zero,
+        (3, 4),
+    );
+    assert!(rt; is_right);
+}
+
+#[test]
+fn the_list_alone_takes_no_memory(rt: HostRuntime) {
+    let heap = Refusing::none(rt.alloc());
+    let is_right = turns_into(
+        &heap,
+        made(&heap),
+        |tree| BitVec::from(tree),
+        bits_and_ones,
+        (6, 3),
+    );
+    assert!(rt; is_right);
 }

@@ -1,12 +1,11 @@
 //! Queries and their answers, at each of the block sizes.
 ghost use Rattle.std.specs.Prelude.{◌<◌, ◌≤◌};
 
-use crate::tests::lists::{Query, SIZES, answers, asked, tree_of};
+use crate::tests::lists::{Query, ask, asked, tree_of};
 use crate::tests::queries::Question;
 use crate::tests::tours::{First, Tour, tour_gives};
 use crate::tests::walks::NODE_WITH_TWO;
-use std::alloc::Global;
-use std::test::Fail;
+use std::alloc::{Allocator, Global};
 use vers_bits::bit_vec::GrowError;
 use vers_trees::trees::bp::{BpTree, MAX_BLOCK_SIZE};
 
@@ -16,7 +15,9 @@ const THREE_BYTES: [u8; 24] = [
 ];
 
 // The bits, what is asked, and the answers.
-const CASES: [(&[u8], &[Query], &[Option<i64>]); 9] = [
+type Case<'a> = (&'a [u8], &'a [Query], &'a [Option<i64>]);
+
+const CASES: [Case; 9] = [
     (
         &THREE_BYTES,
         &[
@@ -218,22 +219,64 @@ const CASES: [(&[u8], &[Query], &[Option<i64>]); 9] = [
     ),
 ];
 
-#[test]
-fn queries_and_their_answers(rt: HostRuntime) -> Result<(), Fail> {
-    for size in SIZES {
-        for (bits, queries, wanted) in CASES {
-            let found = answers(rt.alloc(), size, bits, queries)?;
-            assert_eq!(rt; found.len(), wanted.len());
-            for (answer, want) in found.as_slice().iter().zip(wanted.iter()) {
-                assert!(rt; answer.is(*want));
-            }
+// Whether a tree answers each query as wanted.
+fn gives_answers<const N: usize, A: Allocator + Copy>(
+    tree: &BpTree<N, A>,
+    queries: &[Query],
+    wanted: &[Option<i64>],
+) -> bool {
+    for (query, want) in queries.iter().zip(wanted.iter()) {
+        if !ask(tree, *query).is(*want) {
+            return false;
         }
     }
-    Ok(())
+    queries.len() == wanted.len()
+}
+
+// The number of the first case, counted from 0, that is answered otherwise, with blocks of `N` bits.
+fn wrong_case<const N: usize>(alloc: Global, cases: &[Case]) -> Result<Option<usize>, GrowError>
+    requires some { 0 < N }
+    requires bounded { N ≤ MAX_BLOCK_SIZE }
+{
+    for (case, (bits, queries, wanted)) in cases.iter().enumerate() {
+        let is_right = asked(
+            tree_of::<N>(alloc, bits),
+            |tree: &BpTree<N, Global>| Ok(gives_answers(tree, queries, wanted)),
+        )?;
+        if !is_right {
+            return Ok(Some(case));
+        }
+    }
+    Ok(None)
+}
+
+// The same with blocks of each size.
+fn wrong_cases(alloc: Global, cases: &[Case]) -> [Result<Option<usize>, GrowError>; 7] {
+    [
+        wrong_case::<1>(alloc, cases),
+        wrong_case::<3>(alloc, cases),
+        wrong_case::<8>(alloc, cases),
+        wrong_case::<12>(alloc, cases),
+        wrong_case::<64>(alloc, cases),
+        wrong_case::<512>(alloc, cases),
+        wrong_case::<4294967296>(alloc, cases),
+    ]
+}
+
+// The table stands in a function of its own, which is faster to prove than in a test.
+fn wrong_of_all_cases(alloc: Global) -> [Result<Option<usize>, GrowError>; 7] {
+    wrong_cases(alloc, &CASES)
+}
+
+#[test]
+fn queries_and_their_answers(rt: HostRuntime) {
+    assert!(rt; wrong_of_all_cases(rt.alloc()) == [Ok(None); 7]);
 }
 
 // The bits, and a walk from a node: which one, from where, and what it gives.
-const TOURS: [(&[u8], Tour, usize, &[usize]); 9] = [
+type Walked<'a> = (&'a [u8], Tour, usize, &'a [usize]);
+
+const TOURS: [Walked; 9] = [
     (&THREE_BYTES, Tour::Children, 6, &[7, 9, 11, 19]),
     (&THREE_BYTES, Tour::RevChildren, 6, &[19, 11, 9, 7]),
     (&NODE_WITH_TWO, Tour::Children, 0, &[1, 3]),
@@ -246,11 +289,11 @@ const TOURS: [(&[u8], Tour, usize, &[usize]); 9] = [
 ];
 
 // The number of the first walk, counted from 0, that gives something else, with blocks of `N` bits.
-fn wrong_tour<const N: usize>(alloc: Global) -> Result<Option<usize>, GrowError>
+fn wrong_tour<const N: usize>(alloc: Global, tours: &[Walked]) -> Result<Option<usize>, GrowError>
     requires some { 0 < N }
     requires bounded { N ≤ MAX_BLOCK_SIZE }
 {
-    for (row, (bits, tour, node, wanted)) in TOURS.iter().enumerate() {
+    for (row, (bits, tour, node, wanted)) in tours.iter().enumerate() {
         let given = asked(
             tree_of::<N>(alloc, bits),
             |tree: &BpTree<N, Global>| Ok(tour_gives(tree, *tour, *node, First::Plain, wanted)),
@@ -262,16 +305,26 @@ fn wrong_tour<const N: usize>(alloc: Global) -> Result<Option<usize>, GrowError>
     Ok(None)
 }
 
+// The same with blocks of each size.
+fn wrong_tours(alloc: Global, tours: &[Walked]) -> [Result<Option<usize>, GrowError>; 7] {
+    [
+        wrong_tour::<1>(alloc, tours),
+        wrong_tour::<3>(alloc, tours),
+        wrong_tour::<8>(alloc, tours),
+        wrong_tour::<12>(alloc, tours),
+        wrong_tour::<64>(alloc, tours),
+        wrong_tour::<512>(alloc, tours),
+        wrong_tour::<4294967296>(alloc, tours),
+    ]
+}
+
+fn wrong_of_all_tours(alloc: Global) -> [Result<Option<usize>, GrowError>; 7] {
+    wrong_tours(alloc, &TOURS)
+}
+
 #[test]
-fn walks_and_what_they_give(rt: HostRuntime) -> Result<(), Fail> {
-    assert_eq!(rt; wrong_tour::<1>(rt.alloc())?, None);
-    assert_eq!(rt; wrong_tour::<3>(rt.alloc())?, None);
-    assert_eq!(rt; wrong_tour::<8>(rt.alloc())?, None);
-    assert_eq!(rt; wrong_tour::<12>(rt.alloc())?, None);
-    assert_eq!(rt; wrong_tour::<64>(rt.alloc())?, None);
-    assert_eq!(rt; wrong_tour::<512>(rt.alloc())?, None);
-    assert_eq!(rt; wrong_tour::<4294967296>(rt.alloc())?, None);
-    Ok(())
+fn walks_and_what_they_give(rt: HostRuntime) {
+    assert!(rt; wrong_of_all_tours(rt.alloc()) == [Ok(None); 7]);
 }
 
 // The bytes of a tree with blocks of `N` bits.
@@ -287,10 +340,13 @@ fn bytes<const N: usize>(alloc: Global, bits: &[u8]) -> Result<usize, GrowError>
 
 #[test]
 fn sizes_of_trees(rt: HostRuntime) {
-    assert_eq!(rt; bytes::<8>(rt.alloc(), &THREE_BYTES), Ok(194));
-    assert_eq!(rt; bytes::<12>(rt.alloc(), &THREE_BYTES), Ok(122));
-    assert_eq!(rt; bytes::<512>(rt.alloc(), &THREE_BYTES), Ok(98));
-    assert_eq!(rt; bytes::<1>(rt.alloc(), &NODE_WITH_TWO), Ok(362));
-    assert_eq!(rt; bytes::<512>(rt.alloc(), &NODE_WITH_TWO), Ok(98));
-    assert_eq!(rt; bytes::<1>(rt.alloc(), &[]), Ok(32));
+    let sizes = [
+        bytes::<8>(rt.alloc(), &THREE_BYTES),
+        bytes::<12>(rt.alloc(), &THREE_BYTES),
+        bytes::<512>(rt.alloc(), &THREE_BYTES),
+        bytes::<1>(rt.alloc(), &NODE_WITH_TWO),
+        bytes::<512>(rt.alloc(), &NODE_WITH_TWO),
+        bytes::<1>(rt.alloc(), &[]),
+    ];
+    assert!(rt; sizes == [Ok(194), Ok(122), Ok(98), Ok(362), Ok(98), Ok(32)]);
 }

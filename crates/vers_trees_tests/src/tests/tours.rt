@@ -1,4 +1,7 @@
 //! Walks from a node of balanced parentheses, and over all nodes, by plain and by counted steps.
+ghost use Rattle.vers_trees.specs.Forest.{IsBalanced, forest_of};
+ghost use Rattle.vers_trees.specs.Nodes.{IsNode};
+
 use crate::tests::nodes::{are_balanced, node_at};
 use std::alloc::Allocator;
 use vers_tally::tally::Tally;
@@ -103,6 +106,25 @@ pub const TOURS: [Tour; 6] = [
     Tour::AllPost,
 ];
 
+// Whether a walk from a node gives just these nodes.
+fn tour_from<const N: usize, A: Allocator + Copy>(
+    tree: &BpTree<N, A>,
+    tour: Tour,
+    node: usize,
+    first: First,
+    wanted: &[usize],
+) -> bool
+    requires balanced { IsBalanced tree.now }
+    requires node { IsNode (forest_of tree.now) node }
+{
+    match tour {
+        Tour::Children => gives(tree.children(node), first, wanted),
+        Tour::RevChildren => gives(tree.rev_children(node), first, wanted),
+        Tour::Subtree => gives(tree.subtree_iter(node), first, wanted),
+        _ => gives(tree.subtree_post_iter(node), first, wanted),
+    }
+}
+
 /// Whether a walk gives just these nodes, from the node at a place or, where it is over all nodes, from the
 /// first. None where the parentheses are not balanced or the place has no node.
 pub fn tour_gives<const N: usize, A: Allocator + Copy>(
@@ -116,13 +138,11 @@ pub fn tour_gives<const N: usize, A: Allocator + Copy>(
         return None;
     }
     match tour {
-        Tour::Children => Some(gives(tree.children(node_at(tree, place)?), first, wanted)),
-        Tour::RevChildren => Some(gives(tree.rev_children(node_at(tree, place)?), first, wanted)),
-        Tour::Subtree => Some(gives(tree.subtree_iter(node_at(tree, place)?), first, wanted)),
-        Tour::SubtreePost => {
-            Some(gives(tree.subtree_post_iter(node_at(tree, place)?), first, wanted))
-        }
         Tour::All => Some(gives(tree.dfs_iter(), first, wanted)),
         Tour::AllPost => Some(gives(tree.dfs_post_iter(), first, wanted)),
+        _ => {
+            let node = node_at(tree, place)?;
+            Some(tour_from(tree, tour, node, first, wanted))
+        }
     }
 }
