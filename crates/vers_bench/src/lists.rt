@@ -1,8 +1,8 @@
 //! The series of plain lists of bits: making, appending, reading and counting, by limbs.
 //!
 //! Each pass is a function of its own in the machine code, so that a profiler counts its instructions.
-use crate::report::{Report, asked};
-use crate::workload::{Random, RandomBits, checksum};
+use crate::report::{Report, asked, or_refused};
+use crate::workload::{NONE, Random};
 use std::alloc::{AllocError, Global};
 use std::io;
 use vers_bits::bit_vec::{BitVec, GrowError};
@@ -11,29 +11,41 @@ type Bits = BitVec<Global>;
 
 const WIDTH: usize = 37;
 
-#[inline(never)]
-fn from_limbs_pass(alloc: Global, limbs: &[u64]) -> u64 {
-    BitVec::from_limbs(alloc, limbs).map_or(u64::MAX, |bits| bits.len() as u64)
+/// The bits of limbs.
+pub fn bits_of(alloc: Global, limbs: &[u64]) -> Result<Bits, AllocError> {
+    or_refused(BitVec::from_limbs(alloc, limbs))
 }
 
-fn extended(alloc: Global, bits: &Bits) -> Result<Bits, GrowError> {
-    let mut list = BitVec::from_ones(alloc, 3)?;
+// How many bits a list has that was made.
+fn len_or_none(made: Result<Bits, GrowError>) -> u64 {
+    match made {
+        Ok(list) => list.len() as u64,
+        Err(_) => NONE,
+    }
+}
+
+#[inline(never)]
+fn from_limbs_pass(alloc: &Global, limbs: &[u64]) -> u64 {
+    len_or_none(BitVec::from_limbs(*alloc, limbs))
+}
+
+fn extended(bits: &Bits) -> Result<Bits, GrowError> {
+    let mut list = BitVec::from_ones(bits.allocator(), 3)?;
     list.extend_bitvec(bits)?;
     Ok(list)
 }
 
 // A list of three bits is extended, so that no limb falls on a limb.
 #[inline(never)]
-fn extend_bitvec_pass(alloc: Global, bits: &Bits) -> u64 {
-    extended(alloc, bits).map_or(u64::MAX, |list| list.len() as u64)
+fn extend_bitvec_pass(bits: &Bits) -> u64 {
+    len_or_none(extended(bits))
 }
 
-#[inline(never)]
-fn get_bits_pass(bits: &Bits, places: &[u64]) -> u64 {
-    checksum(
-        places,
-        |place| bits.get_bits(*place as usize, WIDTH).unwrap_or(u64::MAX),
-    )
+fn get_bits(bits: &Bits, place: &u64) -> u64 {
+    match bits.get_bits(*place as usize, WIDTH) {
+        Some(word) => word,
+        None => NONE,
+    }
 }
 
 #[inline(never)]
@@ -41,26 +53,18 @@ fn count_ones_pass(bits: &Bits) -> u64 {
     bits.count_ones()
 }
 
-/// Runs all series over a list of bits, with `query_count` reads of some of its bits.
-pub fn run(report: &Report, data: RandomBits, query_count: usize) -> io::Result<()> {
-    let alloc = report.rt.alloc();
-    let limbs = data.limbs(alloc)?;
-    let limbs = limbs.as_slice();
-    report.series("from_limbs", data.len(), || from_limbs_pass(alloc, limbs))?;
-    let made = BitVec::from_limbs(alloc, limbs).map_err(|_| io::Error::from(AllocError));
-    asked(made, |bits| run_built(report, bits, query_count))
+/// Runs all series over a list of bits, with reads of some of its bits.
+pub fn run(report: &Report, limbs: &[u64]) -> io::Result<()> {
+    let alloc = report.alloc();
+    let len = (limbs.len() as u64).wrapping_mul(64);
+    report.passes("from_limbs", len, &alloc, limbs, from_limbs_pass)?;
+    asked(report, (), bits_of(alloc, limbs), run_built)
 }
 
-fn run_built(report: &Report, bits: &Bits, query_count: usize) -> io::Result<()> {
-    let alloc = report.rt.alloc();
+fn run_built(report: &Report, _source: (), bits: &Bits) -> io::Result<()> {
     let len = bits.len() as u64;
-    let places = Random::new(7).many_below(alloc, query_count, len)?;
-    let places = places.as_slice();
-    report.series("extend_bitvec", len, || extend_bitvec_pass(alloc, bits))?;
-    report.series(
-        "get_bits",
-        places.len() as u64,
-        || get_bits_pass(bits, places),
-    )?;
-    report.series("count_ones", len, || count_ones_pass(bits))
+    let places = Random::new(7).many_below(report.alloc(), report.query_count(), len)?;
+    report.walk("extend_bitvec", len, bits, extend_bitvec_pass)?;
+    report.queries("get_bits", bits, places.as_slice(), get_bits)?;
+    report.walk("count_ones", len, bits, count_ones_pass)
 }

@@ -17,211 +17,129 @@ mod trees;
 mod walks;
 mod workload;
 
-use report::{Mode, Report, Settings};
+use report::{Report, Settings};
 use std::io;
-use trees::Shape;
 use workload::RandomBits;
 
-/// What the arguments said so far.
-#[derive(Drop)]
-struct Arguments {
-    name: String,
-    structures: Vec<String>,
-    repetitions: usize,
-    divisor: usize,
-    is_count_next: bool,
+// Takes a word of the arguments, where the word before it was `--reps` or not. Answers whether it is
+// `--reps`.
+fn take(settings: &mut Settings, word: String, is_count: bool) -> io::Result<bool> {
+    if is_count {
+        settings.repetitions = word.as_str().parse::<usize>().unwrap_or(5);
+    } else if word.as_str() == "--reps" {
+        return Ok(true);
+    } else if word.as_str() == "--small" {
+        settings.divisor = 16;
+    } else if settings.name.is_empty() {
+        settings.name = word;
+    } else {
+        settings.structures.push(word)?;
+    }
+    Ok(false)
 }
 
-impl Arguments {
-    fn take(&mut self, word: String) -> io::Result<()> {
-        if self.is_count_next {
-            self.repetitions = word.as_str().parse::<usize>().unwrap_or(self.repetitions);
-            self.is_count_next = false;
-        } else if word.as_str() == "--small" {
-            self.divisor = 16;
-        } else if word.as_str() == "--reps" {
-            self.is_count_next = true;
-        } else if self.name.is_empty() {
-            self.name = word;
-        } else {
-            self.structures.push(word)?;
-        }
-        Ok(())
-    }
-
-    fn settings(self) -> Settings {
-        let mode = if self.name.is_empty() {
-            Mode::Checksums
-        } else {
-            Mode::Times {
-                repetitions: self.repetitions,
-                divisor: self.divisor,
-            }
-        };
-        Settings {
-            name: self.name,
-            structures: self.structures,
-            mode,
-        }
-    }
-}
-
-fn take_words(rt: &HostRuntime, arguments: &mut Arguments) -> io::Result<()> {
+fn take_words(rt: &HostRuntime, settings: &mut Settings) -> io::Result<()> {
+    let mut is_count = false;
     for word in std::env::args(rt)?.into_iter().skip(1) {
-        arguments.take(word)?;
+        is_count = take(settings, word, is_count)?;
     }
     Ok(())
 }
 
-fn read_arguments(rt: &HostRuntime) -> io::Result<Arguments> {
-    let mut arguments = Arguments {
-        name: String::new(rt.alloc()),
-        structures: Vec::new(rt.alloc()),
-        repetitions: 5,
-        divisor: 1,
-        is_count_next: false,
-    };
-    take_words(rt, &mut arguments)?;
-    Ok(arguments)
-}
-
-// How many limbs the lists of bits have. The checksums are those of one small list.
-fn limb_counts(settings: &Settings) -> [usize; 2] {
-    let large = match settings.mode {
-        Mode::Checksums => 0,
-        Mode::Times { .. } => 1_048_576,
-    };
-    [settings.scaled(16_384), settings.scaled(large)]
-}
-
-// Runs the series of a structure over lists of so many limbs, of each share of ones.
-fn run_lists<F: Fn(&Report, RandomBits) -> io::Result<()>>(
+// Runs the series of a structure over a list of bits.
+fn run_list<F: FnOnce(&Report, &[u64]) -> io::Result<()> + Copy>(
     report: &Report,
-    limb_counts: &[usize],
+    limb_count: usize,
+    percent: u64,
+    run: F,
+) -> io::Result<()>
+    requires { F.IsAlwaysCallable run }
+{
+    let data = RandomBits {
+        limb_count,
+        percent,
+    };
+    let parameters = data.parameters(report.alloc())?;
+    let limbs = data.limbs(report.alloc())?;
+    run(&report.over(parameters.as_str()), limbs.as_slice())
+}
+
+// The same over lists of each share of ones.
+fn run_shares<F: FnOnce(&Report, &[u64]) -> io::Result<()> + Copy>(
+    report: &Report,
+    limb_count: usize,
     percents: &[u64],
     run: F,
 ) -> io::Result<()>
     requires { F.IsAlwaysCallable run }
 {
-    for limb_count in limb_counts {
-        if *limb_count > 0 {
-            for percent in percents {
-                let data = RandomBits {
-                    limb_count: *limb_count,
-                    percent: *percent,
-                };
-                let parameters = data.parameters(report.rt.alloc())?;
-                run(&report.over(parameters.as_str()), data)?;
-            }
+    for percent in percents {
+        run_list(report, limb_count, *percent, run)?;
+    }
+    Ok(())
+}
+
+// The same over a list of 2^20 bits, and where times are asked for over one of 2^26 too.
+fn run_lengths<F: FnOnce(&Report, &[u64]) -> io::Result<()> + Copy>(
+    report: &Report,
+    percents: &[u64],
+    run: F,
+) -> io::Result<()>
+    requires { F.IsAlwaysCallable run }
+{
+    let settings = report.settings;
+    run_shares(report, settings.scaled(16_384), percents, run)?;
+    if settings.are_timed() {
+        run_shares(report, settings.scaled(1_048_576), percents, run)
+    } else {
+        Ok(())
+    }
+}
+
+// All structures.
+const STRUCTURES: [&str; 9] = [
+    "bits", "walks", "list", "sorted", "sparse", "wavelet", "rmq", "tree", "postings",
+];
+
+// Runs the series of a structure.
+fn run_structure(report: &Report) -> io::Result<()> {
+    match report.structure {
+        "bits" => run_lengths(report, &[50, 5], bits::run),
+        "walks" => run_lengths(report, &[50, 5], walks::run),
+        "list" => run_lengths(report, &[50], lists::run),
+        "sorted" => sorted::run(report),
+        "sparse" => run_shares(report, report.settings.scaled(16_384), &[5, 1], sparse::run),
+        "wavelet" => symbols::run(report),
+        "rmq" => minima::run(report),
+        "tree" => trees::run(report),
+        "postings" => documents::run(report),
+        _ => Ok(()),
+    }
+}
+
+// Runs the series of each structure that is asked for.
+fn run(report: &Report) -> io::Result<()> {
+    for structure in STRUCTURES {
+        if report.settings.wants(structure) {
+            run_structure(&report.of(structure))?;
         }
     }
     Ok(())
 }
 
-// The series of all structures that are lists of bits.
-fn run_bits(rt: &HostRuntime, settings: &Settings, query_count: usize) -> io::Result<()> {
-    let limb_counts = limb_counts(settings);
-    let report = Report {
-        rt,
-        settings,
-        structure: "bits",
-        parameters: "",
-    };
-    if settings.wants("bits") {
-        run_lists(
-            &report,
-            &limb_counts,
-            &[50, 5],
-            |report: &Report, data| bits::run(report, data, query_count),
-        )?;
-    }
-    if settings.wants("walks") {
-        run_lists(
-            &report.of("walks"),
-            &limb_counts,
-            &[50, 5],
-            |report: &Report, data| walks::run(report, data),
-        )?;
-    }
-    if settings.wants("list") {
-        run_lists(
-            &report.of("list"),
-            &limb_counts,
-            &[50],
-            |report: &Report, data| lists::run(report, data, query_count),
-        )?;
-    }
-    Ok(())
-}
-
-fn run_sparse(rt: &HostRuntime, settings: &Settings, query_count: usize) -> io::Result<()> {
-    let report = Report {
-        rt,
-        settings,
-        structure: "sparse",
-        parameters: "",
-    };
-    run_lists(
-        &report,
-        &[settings.scaled(16_384)],
-        &[5, 1],
-        |report: &Report, data| sparse::run(report, data, query_count),
-    )
-}
-
-fn run_minima(rt: &HostRuntime, settings: &Settings, query_count: usize) -> io::Result<()> {
-    minima::run(rt, settings, settings.scaled(1_000_000), query_count)?;
-    match settings.mode {
-        Mode::Checksums => Ok(()),
-        Mode::Times { .. } => minima::run(rt, settings, settings.scaled(10_000_000), query_count),
-    }
-}
-
-fn run_symbols(rt: &HostRuntime, settings: &Settings) -> io::Result<()> {
-    let n = settings.scaled(1_000_000);
-    let query_count = settings.scaled(200_000);
-    symbols::run(rt, settings, n, 8, query_count)?;
-    symbols::run(rt, settings, n, 32, query_count)
-}
-
-fn run_trees(rt: &HostRuntime, settings: &Settings, query_count: usize) -> io::Result<()> {
-    let count = settings.scaled(2_000_000);
-    trees::run(rt, settings, Shape::Random, count, query_count)?;
-    trees::run(rt, settings, Shape::Path, count, query_count)?;
-    trees::run(
-        rt,
-        settings,
-        Shape::Star,
-        count.saturating_add(2),
-        query_count,
-    )
-}
-
-fn run(rt: &HostRuntime, settings: &Settings) -> io::Result<()> {
-    let query_count = settings.scaled(1_000_000);
-    run_bits(rt, settings, query_count)?;
-    if settings.wants("sorted") {
-        sorted::run(rt, settings, query_count, settings.scaled(2_000))?;
-    }
-    if settings.wants("sparse") {
-        run_sparse(rt, settings, query_count)?;
-    }
-    if settings.wants("wavelet") {
-        run_symbols(rt, settings)?;
-    }
-    if settings.wants("rmq") {
-        run_minima(rt, settings, query_count)?;
-    }
-    if settings.wants("tree") {
-        run_trees(rt, settings, query_count)?;
-    }
-    if settings.wants("postings") {
-        documents::run(rt, settings, query_count, query_count)?;
-    }
-    Ok(())
-}
-
 fn main(rt: HostRuntime) -> io::Result<()> {
-    let settings = read_arguments(&rt)?.settings();
-    run(&rt, &settings)
+    let mut settings = Settings {
+        name: String::new(rt.alloc()),
+        structures: Vec::new(rt.alloc()),
+        repetitions: 5,
+        divisor: 1,
+    };
+    take_words(&rt, &mut settings)?;
+    let report = Report {
+        rt: &rt,
+        settings: &settings,
+        structure: "",
+        parameters: "",
+    };
+    run(&report)
 }

@@ -1,47 +1,44 @@
 //! What is printed: a line for each series, with its checksum, and with its time where one is asked for.
-use std::alloc::AllocError;
+use crate::workload::fold;
+use std::alloc::{AllocError, Global};
 use std::io;
 use std::time::{CpuClock, Duration};
-
-/// How the series are run.
-#[derive(Clone, Copy)]
-pub enum Mode {
-    /// Once, for the checksums alone, so that each run prints the same.
-    Checksums,
-    /// Several times, for the median of the times under the name of this driver.
-    Times {
-        /// How often each series is run.
-        repetitions: usize,
-        /// What the sizes are divided by.
-        divisor: usize,
-    },
-}
 
 /// What the arguments ask for.
 #[derive(Drop)]
 pub struct Settings {
-    /// What the lines name the driver.
+    /// What the lines name the driver. Where it is empty, each series is run once on a small workload for
+    /// its checksum alone, so that each run prints the same.
     pub name: String,
     /// The structures to run; all where there are none.
     pub structures: Vec<String>,
-    /// How the series are run.
-    pub mode: Mode,
+    /// How often each series is run, for the median of the times.
+    pub repetitions: usize,
+    /// What the sizes are divided by.
+    pub divisor: usize,
 }
 
 impl Settings {
+    /// Whether times are asked for.
+    pub fn are_timed(&self) -> bool {
+        !self.name.is_empty()
+    }
+
     /// A size, divided by what all sizes are divided by.
     pub fn scaled(&self, size: usize) -> usize {
-        match self.mode {
-            Mode::Checksums => size / 16,
-            Mode::Times { divisor, .. } => size / divisor.max(1),
+        size / if self.are_timed() {
+            self.divisor.max(1)
+        } else {
+            16
         }
     }
 
     /// How often a series is run.
     pub fn repetitions(&self) -> usize {
-        match self.mode {
-            Mode::Checksums => 1,
-            Mode::Times { repetitions, .. } => repetitions,
+        if self.are_timed() {
+            self.repetitions
+        } else {
+            1
         }
     }
 
@@ -49,6 +46,13 @@ impl Settings {
     pub fn wants(&self, structure: &str) -> bool {
         self.structures.is_empty() || self.structures.iter().any(|it| it.as_str() == structure)
     }
+}
+
+/// How long a run of a series took, in nanoseconds, and the checksum of its answers.
+#[derive(Clone, Copy, Drop)]
+struct Timed {
+    nanoseconds: u64,
+    checksum: u64,
 }
 
 /// What is measured: a structure over some data. Each of its series prints a line.
@@ -81,6 +85,16 @@ impl<'a> Report<'a> {
         }
     }
 
+    /// The allocator.
+    pub fn alloc(&self) -> Global {
+        self.rt.alloc()
+    }
+
+    /// How many queries a series has, unless it says otherwise.
+    pub fn query_count(&self) -> usize {
+        self.settings.scaled(1_000_000)
+    }
+
     // Prints the line of an operation: nanoseconds in thousandths, and the checksum.
     fn print(&self, operation: &str, thousandths: u64, checksum: u64) -> io::Result<()> {
         let Report {
@@ -89,66 +103,70 @@ impl<'a> Report<'a> {
             structure,
             parameters,
         } = *self;
-        match settings.mode {
-            Mode::Checksums => println!(rt;
-                "{structure}\t{operation}\t{parameters}\t{checksum:016x}"
-            ),
-            Mode::Times { .. } => {
-                let name = settings.name.as_str();
-                let whole = thousandths / 1000;
-                let part = thousandths % 1000;
-                println!(rt;
-                    "{name}\t{structure}\t{operation}\t{parameters}\t{whole}.{part:03}\t{checksum:016x}"
-                )
-            }
+        if !settings.are_timed() {
+            return println!(rt; "{structure}\t{operation}\t{parameters}\t{checksum:016x}");
         }
+        let name = settings.name.as_str();
+        let whole = thousandths / 1000;
+        let part = thousandths % 1000;
+        println!(rt;
+            "{name}\t{structure}\t{operation}\t{parameters}\t{whole}.{part:03}\t{checksum:016x}"
+        )
     }
 
     /// Prints a size in thousandths, where times are asked for: it is no series, and has no checksum.
     pub fn size(&self, name: &str, thousandths: u64) -> io::Result<()> {
-        match self.settings.mode {
-            Mode::Checksums => Ok(()),
-            Mode::Times { .. } => self.print(name, thousandths, 0),
+        if self.settings.are_timed() {
+            self.print(name, thousandths, 0)
+        } else {
+            Ok(())
         }
     }
 
-    /// Prints the line of a series that took these times, in nanoseconds, for `count` operations each.
-    pub fn times(
-        &self,
-        operation: &str,
-        times: Vec<u64>,
-        count: u64,
-        checksum: u64,
-    ) -> io::Result<()> {
+    // Prints the line of a series that took these times, in nanoseconds, for `count` operations each.
+    fn times(&self, operation: &str, times: Vec<u64>, count: u64, checksum: u64) -> io::Result<()> {
         self.print(operation, per_operation(times, count), checksum)
     }
 
-    /// Runs a series of builds of `count` items and prints its line. `build` makes the value and
-    /// returns the time that it took.
-    pub fn builds<F: FnMut() -> io::Result<u64>>(
+    /// Runs a series of builds of `count` items and prints its line. `build` makes a structure of `source`.
+    pub fn builds<S: Copy + Drop, T: Drop, F: FnOnce(Global, S) -> Result<T, AllocError> + Copy>(
         &self,
         operation: &str,
         count: u64,
         checksum: u64,
-        mut build: F,
+        source: S,
+        build: F,
     ) -> io::Result<()>
-        requires { F.IsAlwaysCallable build }
+        requires { (alloc : _) → F.pre build alloc source }
     {
         let mut times = Vec::new(self.rt.alloc());
         for _ in 0..self.settings.repetitions() {
-            times.push(build()?)?;
+            times.push(build_time(self.rt, source, build)?)?;
         }
         self.times(operation, times, count, checksum)
     }
 
-    /// Runs a series of `count` operations and prints its line. `pass` does them all and returns the
-    /// checksum.
-    pub fn series<F: FnMut() -> u64>(
-        &self,
-        operation: &str,
-        count: u64,
-        mut pass: F,
-    ) -> io::Result<()>
+    /// The same of builds that take what they are made of: it is copied before the time is taken.
+    pub fn builds_of_copies<
+        S: Copy + Drop,
+        C: Drop,
+        T: Drop,
+        G: FnOnce(Global, S) -> Result<C, AllocError> + Copy,
+        F: FnOnce(C) -> Result<T, AllocError> + Copy,
+    >(&self, count: u64, checksum: u64, source: S, copy: G, build: F) -> io::Result<()>
+        requires copy { G.IsAlwaysCallable copy }
+        requires build { F.IsAlwaysCallable build }
+    {
+        let mut times = Vec::new(self.rt.alloc());
+        for _ in 0..self.settings.repetitions() {
+            times.push(build_time_of_copy(self.rt, source, copy, build)?)?;
+        }
+        self.times("build", times, count, checksum)
+    }
+
+    // Runs a series of `count` operations and prints its line. `pass` does them all and returns the
+    // checksum.
+    fn series<F: FnMut() -> u64>(&self, operation: &str, count: u64, mut pass: F) -> io::Result<()>
         requires { F.IsAlwaysCallable pass }
     {
         let mut times = Vec::new(self.rt.alloc());
@@ -160,6 +178,156 @@ impl<'a> Report<'a> {
         }
         self.times(operation, times, count, checksum)
     }
+
+    /// Runs a series of `count` operations on a structure and prints its line. `pass` does them all and
+    /// returns the checksum.
+    pub fn passes<T, Q, F: FnOnce(&T, &[Q]) -> u64 + Copy>(
+        &self,
+        operation: &str,
+        count: u64,
+        structure: &T,
+        queries: &[Q],
+        pass: F,
+    ) -> io::Result<()>
+        requires { F.pre pass structure queries }
+    {
+        let mut times = Vec::new(self.rt.alloc());
+        let mut checksum = 0u64;
+        for _ in 0..self.settings.repetitions() {
+            let timed = timed_pass(self.rt, structure, queries, pass)?;
+            times.push(timed.nanoseconds)?;
+            checksum = timed.checksum;
+        }
+        self.times(operation, times, count, checksum)
+    }
+
+    /// Runs a series that walks over `count` items and prints its line.
+    pub fn walk<T, F: FnOnce(&T) -> u64 + Copy>(
+        &self,
+        operation: &str,
+        count: u64,
+        structure: &T,
+        pass: F,
+    ) -> io::Result<()>
+        requires { F.pre pass structure }
+    {
+        let mut times = Vec::new(self.rt.alloc());
+        let mut checksum = 0u64;
+        for _ in 0..self.settings.repetitions() {
+            let timed = timed_walk(self.rt, structure, pass)?;
+            times.push(timed.nanoseconds)?;
+            checksum = timed.checksum;
+        }
+        self.times(operation, times, count, checksum)
+    }
+
+    /// Runs a series of queries and prints its line. `answer` answers one.
+    pub fn queries<T, Q, F: FnOnce(&T, &Q) -> u64 + Copy>(
+        &self,
+        operation: &str,
+        structure: &T,
+        queries: &[Q],
+        answer: F,
+    ) -> io::Result<()>
+        requires { F.IsAlwaysCallable answer }
+    {
+        let count = queries.len() as u64;
+        self.series(
+            operation,
+            count,
+            || queries_pass(structure, queries, answer),
+        )
+    }
+
+    /// The same of queries that each wait for the answer of the one before.
+    pub fn chained_queries<T, F: FnOnce(&T, &u64) -> u64 + Copy>(
+        &self,
+        operation: &str,
+        structure: &T,
+        queries: &[u64],
+        answer: F,
+    ) -> io::Result<()>
+        requires { F.IsAlwaysCallable answer }
+    {
+        let count = queries.len() as u64;
+        self.series(
+            operation,
+            count,
+            || chained_pass(structure, queries, answer),
+        )
+    }
+
+    /// The same of queries that are each asked with an item of another list.
+    pub fn paired_queries<T, Q, U, F: FnOnce(&T, &Q, &U) -> u64 + Copy>(
+        &self,
+        operation: &str,
+        structure: &T,
+        queries: &[Q],
+        others: &[U],
+        answer: F,
+    ) -> io::Result<()>
+        requires { F.IsAlwaysCallable answer }
+    {
+        let count = queries.len() as u64;
+        let mut times = Vec::new(self.rt.alloc());
+        let mut checksum = 0u64;
+        for _ in 0..self.settings.repetitions() {
+            let timed = timed_pairs(self.rt, structure, queries, others, answer)?;
+            times.push(timed.nanoseconds)?;
+            checksum = timed.checksum;
+        }
+        self.times(operation, times, count, checksum)
+    }
+}
+
+// Each pass is a function of its own in the machine code, for each kind of queries, so that a profiler
+// counts its instructions.
+#[inline(never)]
+fn queries_pass<T, Q, F: FnOnce(&T, &Q) -> u64 + Copy>(
+    structure: &T,
+    queries: &[Q],
+    answer: F,
+) -> u64
+    requires { F.IsAlwaysCallable answer }
+{
+    let mut sum = 0;
+    for query in queries {
+        sum = fold(sum, answer(structure, query));
+    }
+    sum
+}
+
+#[inline(never)]
+fn chained_pass<T, F: FnOnce(&T, &u64) -> u64 + Copy>(
+    structure: &T,
+    queries: &[u64],
+    answer: F,
+) -> u64
+    requires { F.IsAlwaysCallable answer }
+{
+    let mut sum = 0;
+    let mut last = 0u64;
+    for query in queries {
+        last = answer(structure, &query.wrapping_add(last >> 63));
+        sum = fold(sum, last);
+    }
+    sum
+}
+
+#[inline(never)]
+fn paired_pass<T, Q, U, F: FnOnce(&T, &Q, &U) -> u64 + Copy>(
+    structure: &T,
+    queries: &[Q],
+    others: &[U],
+    answer: F,
+) -> u64
+    requires { F.IsAlwaysCallable answer }
+{
+    let mut sum = 0;
+    for (query, other) in queries.iter().zip(others) {
+        sum = fold(sum, answer(structure, query, other));
+    }
+    sum
 }
 
 // The processor time since, in nanoseconds.
@@ -168,45 +336,88 @@ fn nanoseconds_since(rt: &HostRuntime, start: Duration) -> io::Result<u64> {
     Ok(u64::try_from(elapsed.as_nanos()).unwrap_or(u64::MAX))
 }
 
-// The median of the times of `count` operations, in thousandths of a nanosecond an operation.
-fn per_operation(mut times: Vec<u64>, count: u64) -> u64 {
-    times.sort_unstable();
-    let median = times.get(times.len() / 2).copied().unwrap_or(0);
-    median.saturating_mul(1000) / count.max(1)
-}
-
-/// What is asked of a value that was made. The value may be of any type, so that a caller's proof
-/// doesn't go through its fields.
-pub fn asked<T: Drop, R, E, F: FnOnce(&T) -> Result<R, E>>(
-    made: Result<T, E>,
-    ask: F,
-) -> Result<R, E>
-    requires { F.IsAlwaysCallable ask }
-{
-    match made {
-        Ok(owned) => ask(&owned),
-        Err(error) => Err(error),
-    }
-}
-
-/// As many values as told, each made from its number. They may be of any type, as in `asked`.
-pub fn many<T: Drop, F: FnMut(usize) -> io::Result<T>>(
+// How long a pass took, and its checksum.
+fn timed_pass<T, Q, F: FnOnce(&T, &[Q]) -> u64>(
     rt: &HostRuntime,
-    count: usize,
-    mut make: F,
-) -> io::Result<Vec<T>>
-    requires { F.IsAlwaysCallable make }
+    structure: &T,
+    queries: &[Q],
+    pass: F,
+) -> io::Result<Timed>
+    requires { F.pre pass structure queries }
 {
-    let mut all = Vec::new(rt.alloc());
-    for number in 0..count {
-        all.push(make(number)?)?;
-    }
-    Ok(all)
+    let start = rt.thread_cpu_time()?;
+    let checksum = pass(structure, queries);
+    timed_since(rt, start, checksum)
 }
 
-/// The time that a build took, in nanoseconds, where `start` is when it began. What it made is let go
-/// after that time is taken.
-pub fn built_since<T: Drop>(
+// The same of a walk.
+fn timed_walk<T, F: FnOnce(&T) -> u64>(
+    rt: &HostRuntime,
+    structure: &T,
+    pass: F,
+) -> io::Result<Timed>
+    requires { F.pre pass structure }
+{
+    let start = rt.thread_cpu_time()?;
+    let checksum = pass(structure);
+    timed_since(rt, start, checksum)
+}
+
+// The same of queries that are each asked with an item of another list.
+fn timed_pairs<T, Q, U, F: FnOnce(&T, &Q, &U) -> u64 + Copy>(
+    rt: &HostRuntime,
+    structure: &T,
+    queries: &[Q],
+    others: &[U],
+    answer: F,
+) -> io::Result<Timed>
+    requires { F.IsAlwaysCallable answer }
+{
+    let start = rt.thread_cpu_time()?;
+    let checksum = paired_pass(structure, queries, others, answer);
+    timed_since(rt, start, checksum)
+}
+
+// What a run took that began at `start`, with its checksum.
+fn timed_since(rt: &HostRuntime, start: Duration, checksum: u64) -> io::Result<Timed> {
+    let nanoseconds = nanoseconds_since(rt, start)?;
+    Ok(Timed {
+        nanoseconds,
+        checksum,
+    })
+}
+
+// The time of a build.
+fn build_time<S: Drop, T: Drop, F: FnOnce(Global, S) -> Result<T, AllocError>>(
+    rt: &HostRuntime,
+    source: S,
+    build: F,
+) -> io::Result<u64>
+    requires { (alloc : _) → F.pre build alloc source }
+{
+    let start = rt.thread_cpu_time()?;
+    built_since(rt, start, build(rt.alloc(), source))
+}
+
+// The time of a build of a copy, which isn't timed.
+fn build_time_of_copy<
+    S: Drop,
+    C: Drop,
+    T: Drop,
+    G: FnOnce(Global, S) -> Result<C, AllocError>,
+    F: FnOnce(C) -> Result<T, AllocError>,
+>(rt: &HostRuntime, source: S, copy: G, build: F) -> io::Result<u64>
+    requires copy { G.IsAlwaysCallable copy }
+    requires build { F.IsAlwaysCallable build }
+{
+    let copied = copy(rt.alloc(), source)?;
+    let start = rt.thread_cpu_time()?;
+    built_since(rt, start, build(copied))
+}
+
+// The time of a build that began at `start`, in nanoseconds. What it made is let go after that time is
+// taken.
+fn built_since<T: Drop>(
     rt: &HostRuntime,
     start: Duration,
     made: Result<T, AllocError>,
@@ -222,6 +433,54 @@ pub fn built_since<T: Drop>(
 }
 
 fn let_go<T: Drop>(_value: T) {}
+
+// The median of the times of `count` operations, in thousandths of a nanosecond an operation.
+fn per_operation(mut times: Vec<u64>, count: u64) -> u64 {
+    times.sort_unstable();
+    let median = times.get(times.len() / 2).copied().unwrap_or(0);
+    median.saturating_mul(1000) / count.max(1)
+}
+
+/// Has `ask` report on a structure that was made of `source`. The structure may be of any type, so that a
+/// caller's proof doesn't go through its fields.
+pub fn asked<S: Copy, T: Drop, F: FnOnce(&Report, S, &T) -> io::Result<()>>(
+    report: &Report,
+    source: S,
+    made: Result<T, AllocError>,
+    ask: F,
+) -> io::Result<()>
+    requires { F.IsAlwaysCallable ask }
+{
+    match made {
+        Ok(owned) => ask(report, source, &owned),
+        Err(error) => Err(io::Error::from(error)),
+    }
+}
+
+/// What was made, or that memory is refused where a maker has an error of its own: none of the lists that
+/// are measured is too long.
+pub fn or_refused<T: Drop, E: Drop>(made: Result<T, E>) -> Result<T, AllocError> {
+    match made {
+        Ok(value) => Ok(value),
+        Err(_) => Err(AllocError),
+    }
+}
+
+/// As many values as told, each made of `source` by its number. They may be of any type, as in `asked`.
+pub fn many<S: Copy, T: Drop, F: FnOnce(Global, S, usize) -> Result<T, AllocError> + Copy>(
+    alloc: Global,
+    count: usize,
+    source: S,
+    make: F,
+) -> Result<Vec<T>, AllocError>
+    requires { F.IsAlwaysCallable make }
+{
+    let mut all = Vec::with_capacity(alloc, count)?;
+    for number in 0..count {
+        all.push(make(alloc, source, number)?)?;
+    }
+    Ok(all)
+}
 
 /// How many bits one of `count` items takes of a structure of so many bytes, in thousandths.
 pub fn bits_per_item(bytes: usize, count: u64) -> u64 {

@@ -1,98 +1,39 @@
 //! The series of ascending lists.
-//!
-//! Each pass is a function of its own in the machine code, so that a profiler counts its instructions.
 ghost use Rattle.std.specs.List.Sorted.{IsNonDecreasing};
 
-use crate::report::{Report, Settings, asked, bits_per_item, built_since};
-use crate::workload::{Clustered, NONE, Random, checksum, members_clustered, members_uniform};
-use std::alloc::{AllocError, Global};
+use crate::report::{Report, asked, bits_per_item};
+use crate::walks::sum_of;
+use crate::workload::{Clustered, NONE, Random, members_clustered, members_uniform};
+use std::alloc::Global;
 use std::io;
-use std::time::CpuClock;
 use vers_sorted::elias_fano::EliasFanoVec;
 use vers_sorted::order::is_ascending;
 
 type Members = EliasFanoVec<Global>;
 
-#[inline(never)]
-fn get_pass(list: &Members, places: &[u64]) -> u64 {
-    checksum(places, |place| list.get(*place as usize).unwrap_or(NONE))
+fn get(list: &Members, place: &u64) -> u64 {
+    list.get(*place as usize).unwrap_or(NONE)
 }
 
-#[inline(never)]
-fn delta_pass(list: &Members, places: &[u64]) -> u64 {
-    checksum(places, |place| list.delta(*place as usize).unwrap_or(NONE))
+fn delta(list: &Members, place: &u64) -> u64 {
+    list.delta(*place as usize).unwrap_or(NONE)
 }
 
-#[inline(never)]
-fn rank_pass(list: &Members, values: &[u64]) -> u64 {
-    checksum(values, |value| list.rank(*value))
+fn rank(list: &Members, value: &u64) -> u64 {
+    list.rank(*value)
 }
 
-#[inline(never)]
-fn predecessor_pass(list: &Members, values: &[u64]) -> u64 {
-    checksum(values, |value| list.predecessor(*value).unwrap_or(NONE))
+fn predecessor(list: &Members, value: &u64) -> u64 {
+    list.predecessor(*value).unwrap_or(NONE)
 }
 
-#[inline(never)]
-fn successor_pass(list: &Members, values: &[u64]) -> u64 {
-    checksum(values, |value| list.successor(*value).unwrap_or(NONE))
+fn successor(list: &Members, value: &u64) -> u64 {
+    list.successor(*value).unwrap_or(NONE)
 }
 
 #[inline(never)]
 fn iter_pass(list: &Members) -> u64 {
-    list.iter()
-        .fold(0u64, |sum, member| sum.wrapping_add(member))
-}
-
-#[inline(never)]
-fn made_of(alloc: Global, numbers: &[u64]) -> Result<Members, AllocError>
-    requires { IsNonDecreasing numbers.now }
-{
-    EliasFanoVec::from_slice(alloc, numbers)
-}
-
-// The time of a build.
-fn build_time(rt: &HostRuntime, numbers: &[u64]) -> io::Result<u64>
-    requires { IsNonDecreasing numbers.now }
-{
-    let start = rt.thread_cpu_time()?;
-    built_since(rt, start, made_of(rt.alloc(), numbers))
-}
-
-// The times of the builds.
-fn build_times(rt: &HostRuntime, settings: &Settings, numbers: &[u64]) -> io::Result<Vec<u64>>
-    requires { IsNonDecreasing numbers.now }
-{
-    let mut times = Vec::new(rt.alloc());
-    for _ in 0..settings.repetitions() {
-        times.push(build_time(rt, numbers)?)?;
-    }
-    Ok(times)
-}
-
-fn run_queries(report: &Report, list: &Members, places: &[u64], values: &[u64]) -> io::Result<()> {
-    let count = places.len() as u64;
-    report.series("get", count, || get_pass(list, places))?;
-    report.series("delta", count, || delta_pass(list, places))?;
-    report.series("rank", count, || rank_pass(list, values))?;
-    report.series("predecessor", count, || predecessor_pass(list, values))?;
-    report.series("successor", count, || successor_pass(list, values))?;
-    report.series("iter", list.len() as u64, || iter_pass(list))
-}
-
-// Numbers from `first` on.
-fn values_from(
-    rt: &HostRuntime,
-    random: &mut Random,
-    first: u64,
-    span: u64,
-    count: usize,
-) -> io::Result<Vec<u64>> {
-    let mut values = Vec::with_capacity(rt.alloc(), count)?;
-    for _ in 0..count {
-        values.push(first.wrapping_add(random.below(span)))?;
-    }
-    Ok(values)
+    sum_of(list.iter())
 }
 
 /// Which values are asked for: `count` of them, `span` values from `first` on.
@@ -103,75 +44,98 @@ struct Asked {
     count: usize,
 }
 
-fn run_built(report: &Report, list: &Members, asked: Asked) -> io::Result<()> {
-    let rt = report.rt;
+fn value_asked(random: &mut Random, values: Asked) -> u64 {
+    values.first.wrapping_add(random.below(values.span))
+}
+
+fn run_places(
+    report: &Report,
+    list: &Members,
+    random: &mut Random,
+    count: usize,
+) -> io::Result<()> {
+    let places = random.many_below(report.alloc(), count, list.len() as u64)?;
+    let places = places.as_slice();
+    report.queries("get", list, places, get)?;
+    report.queries("delta", list, places, delta)
+}
+
+fn run_values(
+    report: &Report,
+    list: &Members,
+    random: &mut Random,
+    values: Asked,
+) -> io::Result<()> {
+    let values = random.many(report.alloc(), values.count, values, value_asked)?;
+    let values = values.as_slice();
+    report.queries("rank", list, values, rank)?;
+    report.queries("predecessor", list, values, predecessor)?;
+    report.queries("successor", list, values, successor)
+}
+
+fn run_built(report: &Report, values: Asked, list: &Members) -> io::Result<()> {
     let len = list.len() as u64;
     report.size("heap_bits_per_item", bits_per_item(list.heap_size(), len))?;
     let mut random = Random::new(8);
-    let places = random.many_below(rt.alloc(), asked.count, len)?;
-    let values = values_from(rt, &mut random, asked.first, asked.span, asked.count)?;
-    run_queries(report, list, places.as_slice(), values.as_slice())
+    run_places(report, list, &mut random, values.count)?;
+    run_values(report, list, &mut random, values)?;
+    report.walk("iter", len, list, iter_pass)
 }
 
 // Runs all series over a list of numbers. Numbers that don't ascend are left out.
-fn run_list(
-    rt: &HostRuntime,
-    settings: &Settings,
-    name: &str,
-    numbers: &[u64],
-    values: Asked,
-) -> io::Result<()> {
+fn run_list(report: &Report, numbers: &[u64], values: Asked) -> io::Result<()> {
     if !is_ascending(numbers) {
         return Ok(());
     }
-    let len = numbers.len();
-    let parameters = format!(in rt.alloc(); "{name} n={len}")?;
-    let report = Report {
-        rt,
-        settings,
-        structure: "sorted",
-        parameters: parameters.as_str(),
-    };
-    let times = build_times(rt, settings, numbers)?;
-    report.times("build", times, len as u64, len as u64)?;
-    let made = EliasFanoVec::from_slice(rt.alloc(), numbers).map_err(io::Error::from);
-    asked(made, |list| run_built(&report, list, values))
+    let len = numbers.len() as u64;
+    report.builds("build", len, len, numbers, EliasFanoVec::from_slice)?;
+    let made = EliasFanoVec::from_slice(report.alloc(), numbers);
+    asked(report, values, made, run_built)
 }
 
-fn run_uniform(rt: &HostRuntime, settings: &Settings, len: usize) -> io::Result<()> {
-    let members = members_uniform(rt.alloc(), len)?;
+// The same under the name of a kind of numbers.
+fn run_kind(report: &Report, kind: &str, numbers: &[u64], values: Asked) -> io::Result<()> {
+    let len = numbers.len();
+    let parameters = format!(in report.alloc(); "{kind} n={len}")?;
+    run_list(&report.over(parameters.as_str()), numbers, values)
+}
+
+fn run_uniform(report: &Report, len: usize) -> io::Result<()> {
+    let members = members_uniform(report.alloc(), len)?;
     let values = Asked {
         first: 0,
         span: members.last().copied().unwrap_or(0).wrapping_add(1),
         count: len,
     };
-    run_list(rt, settings, "uniform", members.as_slice(), values)
+    run_kind(report, "uniform", members.as_slice(), values)
 }
 
-fn run_equal(rt: &HostRuntime, settings: &Settings, len: usize, count: usize) -> io::Result<()> {
-    let Clustered { members, first } = members_clustered(rt.alloc(), len, true)?;
+fn run_equal(report: &Report, len: usize, count: usize) -> io::Result<()> {
+    let Clustered { members, first } = members_clustered(report.alloc(), len, true)?;
     let values = Asked {
         first: first.wrapping_sub(1),
         span: 3,
         count,
     };
-    run_list(rt, settings, "equal", members.as_slice(), values)
+    run_kind(report, "equal", members.as_slice(), values)
 }
 
-fn run_cluster(rt: &HostRuntime, settings: &Settings, len: usize, count: usize) -> io::Result<()> {
-    let Clustered { members, first } = members_clustered(rt.alloc(), len, false)?;
+fn run_cluster(report: &Report, len: usize, count: usize) -> io::Result<()> {
+    let Clustered { members, first } = members_clustered(report.alloc(), len, false)?;
     let values = Asked {
         first,
         span: (len as u64).saturating_mul(2) / 10,
         count,
     };
-    run_list(rt, settings, "cluster", members.as_slice(), values)
+    run_kind(report, "cluster", members.as_slice(), values)
 }
 
-/// Runs all series over lists of `len` members: far apart, with many equal ones, and with a dense
-/// cluster. The first has `len` queries, the others `few`.
-pub fn run(rt: &HostRuntime, settings: &Settings, len: usize, few: usize) -> io::Result<()> {
-    run_uniform(rt, settings, len)?;
-    run_equal(rt, settings, len, few)?;
-    run_cluster(rt, settings, len, few)
+/// Runs all series over lists of members: far apart, with many equal ones, and with a dense cluster. The
+/// last two have few queries.
+pub fn run(report: &Report) -> io::Result<()> {
+    let len = report.query_count();
+    let few = report.settings.scaled(2_000);
+    run_uniform(report, len)?;
+    run_equal(report, len, few)?;
+    run_cluster(report, len, few)
 }

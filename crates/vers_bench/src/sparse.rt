@@ -1,11 +1,10 @@
 //! The series of lists of bits with few ones.
-//!
-//! Each pass is a function of its own in the machine code, so that a profiler counts its instructions.
-use crate::report::{Report, asked, bits_per_item, built_since};
-use crate::workload::{NONE, Random, RandomBits, checksum};
+use crate::lists::bits_of;
+use crate::report::{Report, asked, bits_per_item};
+use crate::walks::sum_of;
+use crate::workload::{NONE, Random};
 use std::alloc::{AllocError, Global};
 use std::io;
-use std::time::CpuClock;
 use vers_bits::bit_vec::BitVec;
 use vers_sorted::sparse::SparseRSVec;
 
@@ -13,90 +12,57 @@ type Bits = BitVec<Global>;
 
 type Sparse = SparseRSVec<Global>;
 
-#[inline(never)]
-fn get_pass(list: &Sparse, places: &[u64]) -> u64 {
-    checksum(places, |place| list.get(*place).unwrap_or(NONE))
+fn get(list: &Sparse, place: &u64) -> u64 {
+    list.get(*place).unwrap_or(NONE)
 }
 
-#[inline(never)]
-fn rank1_pass(list: &Sparse, places: &[u64]) -> u64 {
-    checksum(places, |place| list.rank1(*place))
+fn rank1(list: &Sparse, place: &u64) -> u64 {
+    list.rank1(*place)
 }
 
-#[inline(never)]
-fn select1_pass(list: &Sparse, numbers: &[u64]) -> u64 {
-    checksum(numbers, |number| list.select1(*number as usize))
+fn select1(list: &Sparse, number: &u64) -> u64 {
+    list.select1(*number as usize)
 }
 
 #[inline(never)]
 fn iter1_pass(list: &Sparse) -> u64 {
-    list.iter1()
-        .fold(0u64, |sum, place| sum.wrapping_add(place))
+    sum_of(list.iter1())
 }
 
-#[inline(never)]
-fn sparse_of(bits: &Bits) -> Result<Sparse, AllocError> {
+fn sparse_of(_alloc: Global, bits: &Bits) -> Result<Sparse, AllocError> {
     SparseRSVec::from_bitvec(bits)
 }
 
-#[inline(never)]
-fn sparse_of_inverted(bits: &Bits) -> Result<Sparse, AllocError> {
+fn sparse_of_inverted(_alloc: Global, bits: &Bits) -> Result<Sparse, AllocError> {
     SparseRSVec::from_bitvec_inverted(bits)
 }
 
-// The time of a build.
-fn build_time(rt: &HostRuntime, bits: &Bits) -> io::Result<u64> {
-    let start = rt.thread_cpu_time()?;
-    built_since(rt, start, sparse_of(bits))
+/// Runs all series over a list of bits.
+pub fn run(report: &Report, limbs: &[u64]) -> io::Result<()> {
+    asked(report, (), bits_of(report.alloc(), limbs), run_bits)
 }
 
-fn inverted_build_time(rt: &HostRuntime, bits: &Bits) -> io::Result<u64> {
-    let start = rt.thread_cpu_time()?;
-    built_since(rt, start, sparse_of_inverted(bits))
-}
-
-/// Runs all series over a list of bits, each of `query_count` queries.
-pub fn run(report: &Report, data: RandomBits, query_count: usize) -> io::Result<()> {
-    let alloc = report.rt.alloc();
-    let limbs = data.limbs(alloc)?;
-    let made = BitVec::from_limbs(alloc, limbs.as_slice());
-    asked(
-        made.map_err(|_| io::Error::from(AllocError)),
-        |bits| run_bits(report, bits, query_count),
-    )
-}
-
-fn run_bits(report: &Report, bits: &Bits, query_count: usize) -> io::Result<()> {
-    let rt = report.rt;
+fn run_bits(report: &Report, _source: (), bits: &Bits) -> io::Result<()> {
     let len = bits.len() as u64;
     let ones = bits.count_ones();
-    report.builds("build", len, ones, || build_time(rt, bits))?;
+    report.builds("build", len, ones, bits, sparse_of)?;
     let zeros = bits.count_zeros();
-    report.builds(
-        "build_inverted",
-        len,
-        zeros,
-        || inverted_build_time(rt, bits),
-    )?;
-    asked(
-        sparse_of(bits).map_err(io::Error::from),
-        |list| run_built(report, list, ones, query_count),
-    )
+    report.builds("build_inverted", len, zeros, bits, sparse_of_inverted)?;
+    asked(report, ones, SparseRSVec::from_bitvec(bits), run_built)
 }
 
-fn run_built(report: &Report, list: &Sparse, ones: u64, query_count: usize) -> io::Result<()> {
+fn run_built(report: &Report, ones: u64, list: &Sparse) -> io::Result<()> {
     report.size("heap_bits_per_item", bits_per_item(list.heap_size(), ones))?;
-    let alloc = report.rt.alloc();
     let mut random = Random::new(7);
-    let places = random.many_below(alloc, query_count, list.len())?;
-    let numbers = random.many_below(alloc, query_count, ones)?;
-    run_queries(report, list, places.as_slice(), numbers.as_slice())?;
-    report.series("iter1", ones, || iter1_pass(list))
+    run_places(report, list, &mut random)?;
+    let numbers = random.many_below(report.alloc(), report.query_count(), ones)?;
+    report.queries("select1", list, numbers.as_slice(), select1)?;
+    report.walk("iter1", ones, list, iter1_pass)
 }
 
-fn run_queries(report: &Report, list: &Sparse, places: &[u64], numbers: &[u64]) -> io::Result<()> {
-    let count = places.len() as u64;
-    report.series("get", count, || get_pass(list, places))?;
-    report.series("rank1", count, || rank1_pass(list, places))?;
-    report.series("select1", count, || select1_pass(list, numbers))
+fn run_places(report: &Report, list: &Sparse, random: &mut Random) -> io::Result<()> {
+    let places = random.many_below(report.alloc(), report.query_count(), list.len())?;
+    let places = places.as_slice();
+    report.queries("get", list, places, get)?;
+    report.queries("rank1", list, places, rank1)
 }

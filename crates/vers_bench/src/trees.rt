@@ -5,11 +5,11 @@ ghost use Rattle.std.specs.Prelude.{All, IfOk, IfSome};
 ghost use Rattle.vers_trees.specs.Forest.{IsBalanced, forest_of};
 ghost use Rattle.vers_trees.specs.Nodes.{IsNode};
 
-use crate::report::{Report, Settings, asked, bits_per_item, built_since};
-use crate::workload::{NONE, Random, checksum, fold, parentheses};
+use crate::report::{Report, asked, bits_per_item, or_refused};
+use crate::walks::sum_of_places;
+use crate::workload::{Random, fold, parentheses, place_or_none};
 use std::alloc::{AllocError, Global};
 use std::io;
-use std::time::CpuClock;
 use vers_bits::bit_vec::{BitVec, GrowError};
 use vers_trees::laws::ones_are_nodes;
 use vers_trees::trees::bp::BpTree;
@@ -18,9 +18,9 @@ type Bits = BitVec<Global>;
 
 type Tree = BpTree<512, Global>;
 
-/// The trees that are measured.
+// The trees that are measured.
 #[derive(Clone, Copy)]
-pub enum Shape {
+enum Shape {
     /// A random tree, each as likely as any other.
     Random,
     /// Each node but the last has one child.
@@ -36,19 +36,12 @@ struct Climb {
     levels: u64,
 }
 
-// A place as a number; what stands for none where there is none.
-fn answer(place: Option<usize>) -> u64 {
-    place.map_or(NONE, |it| it as u64)
+fn close(tree: &Tree, node: &usize) -> u64 {
+    place_or_none(tree.close(*node))
 }
 
-#[inline(never)]
-fn close_pass(tree: &Tree, nodes: &[usize]) -> u64 {
-    checksum(nodes, |node| answer(tree.close(*node)))
-}
-
-#[inline(never)]
-fn open_pass(tree: &Tree, ends: &[usize]) -> u64 {
-    checksum(ends, |end| answer(tree.open(*end)))
+fn open(tree: &Tree, end: &usize) -> u64 {
+    place_or_none(tree.open(*end))
 }
 
 #[inline(never)]
@@ -58,7 +51,7 @@ fn parent_pass(tree: &Tree, nodes: &[usize]) -> u64
 {
     let mut sum = 0;
     for node in nodes {
-        sum = fold(sum, answer(tree.parent(*node)));
+        sum = fold(sum, place_or_none(tree.parent(*node)));
     }
     sum
 }
@@ -70,7 +63,7 @@ fn subtree_size_pass(tree: &Tree, nodes: &[usize]) -> u64
 {
     let mut sum = 0;
     for node in nodes {
-        sum = fold(sum, answer(tree.subtree_size(*node)));
+        sum = fold(sum, place_or_none(tree.subtree_size(*node)));
     }
     sum
 }
@@ -82,7 +75,10 @@ fn level_ancestor_pass(tree: &Tree, climbs: &[Climb]) -> u64
 {
     let mut sum = 0;
     for climb in climbs {
-        sum = fold(sum, answer(tree.level_ancestor(climb.node, climb.levels)));
+        sum = fold(
+            sum,
+            place_or_none(tree.level_ancestor(climb.node, climb.levels)),
+        );
     }
     sum
 }
@@ -117,8 +113,7 @@ fn children_count(tree: &Tree, nodes: &[usize]) -> u64
 
 #[inline(never)]
 fn dfs_iter_pass(tree: &Tree) -> u64 {
-    tree.dfs_iter()
-        .fold(0u64, |sum, node| sum.wrapping_add(node as u64))
+    sum_of_places(tree.dfs_iter())
 }
 
 // The node of this number in preorder. None where there are no more.
@@ -277,81 +272,78 @@ fn ends_of(alloc: Global, tree: &Tree, nodes: &[usize]) -> Result<Vec<usize>, Al
 }
 
 fn tree_of(bits: Bits) -> Result<Tree, AllocError> {
-    BpTree::from_bit_vector(bits).map_err(|_| AllocError)
+    or_refused(BpTree::from_bit_vector(bits))
 }
 
-// The time of a build from a copy of the bits, which isn't timed.
-fn build_time(rt: &HostRuntime, bits: &Bits) -> io::Result<u64> {
-    let copy: Result<_, _> = bits.clone();
-    let copy = copy?;
-    let start = rt.thread_cpu_time()?;
-    built_since(rt, start, tree_of(copy))
+fn copied(_alloc: Global, bits: &Bits) -> Result<Bits, AllocError> {
+    bits.clone()
 }
 
-/// Runs all series over a tree of `count` bits, each of `query_count` queries.
-pub fn run<'x>(
-    rt: &'x HostRuntime,
-    settings: &'x Settings,
-    shape: Shape,
-    count: usize,
-    query_count: usize,
-) -> io::Result<()> {
+/// Runs all series over trees of each shape.
+pub fn run(report: &Report) -> io::Result<()> {
+    let count = report.settings.scaled(2_000_000);
+    run_shape(report, Shape::Random, count)?;
+    run_shape(report, Shape::Path, count)?;
+    run_shape(report, Shape::Star, count.saturating_add(2))
+}
+
+fn run_shape(report: &Report, shape: Shape, count: usize) -> io::Result<()> {
     let kind = match shape {
         Shape::Random => "",
         Shape::Path => "path ",
         Shape::Star => "star ",
     };
-    let parameters = format!(in rt.alloc(); "{kind}bits={count}")?;
-    let report = Report {
-        rt,
-        settings,
-        structure: "tree",
-        parameters: parameters.as_str(),
-    };
-    let made = bits_of(rt.alloc(), shape, count).map_err(|_| io::Error::from(AllocError));
-    asked(made, |bits| run_bits(&report, bits, query_count))
+    let parameters = format!(in report.alloc(); "{kind}bits={count}")?;
+    let report = report.over(parameters.as_str());
+    let bits = or_refused(bits_of(report.alloc(), shape, count));
+    asked(&report, (), bits, run_bits)
 }
 
-fn run_bits(report: &Report, bits: &Bits, query_count: usize) -> io::Result<()> {
-    let rt = report.rt;
+fn run_bits(report: &Report, _source: (), bits: &Bits) -> io::Result<()> {
     let len = bits.len() as u64;
-    report.builds("build", len, bits.count_ones(), || build_time(rt, bits))?;
-    let copy: Result<_, _> = bits.clone();
-    let copy = copy?;
-    asked(
-        tree_of(copy).map_err(io::Error::from),
-        |tree| run_tree(report, tree, query_count),
-    )
+    report.builds_of_copies(len, bits.count_ones(), bits, copied, tree_of)?;
+    asked(report, (), tree_of(copied(report.alloc(), bits)?), run_tree)
 }
 
-fn run_tree(report: &Report, tree: &Tree, query_count: usize) -> io::Result<()> {
+fn run_tree(report: &Report, _source: (), tree: &Tree) -> io::Result<()> {
     if !tree.is_balanced() {
         return Err(io::Error::from(io::ErrorKind::InvalidInput));
     }
-    let alloc = report.rt.alloc();
     let size = bits_per_item(tree.heap_size(), tree.len() as u64);
     report.size("heap_bits_per_item", size)?;
-    let mut random = Random::new(11);
-    let nodes = nodes_asked(alloc, &mut random, tree, query_count)?;
-    let climbs = climbs_asked(alloc, &mut random, tree, nodes.as_slice())?;
-    run_searches(report, tree, nodes.as_slice())?;
-    run_climbs(report, tree, climbs.as_slice())?;
-    let few = nodes_asked(alloc, &mut Random::new(11), tree, query_count / 5)?;
-    run_children(report, tree, few.as_slice())?;
+    run_nodes(report, tree)?;
+    run_few(report, tree)?;
     run_walks(report, tree)
+}
+
+fn run_nodes(report: &Report, tree: &Tree) -> io::Result<()>
+    requires { IsBalanced tree.now }
+{
+    let mut random = Random::new(11);
+    let nodes = nodes_asked(report.alloc(), &mut random, tree, report.query_count())?;
+    run_searches(report, tree, nodes.as_slice())?;
+    let climbs = climbs_asked(report.alloc(), &mut random, tree, nodes.as_slice())?;
+    run_climbs(report, tree, climbs.as_slice())
+}
+
+fn run_few(report: &Report, tree: &Tree) -> io::Result<()>
+    requires { IsBalanced tree.now }
+{
+    let count = report.query_count() / 5;
+    let nodes = nodes_asked(report.alloc(), &mut Random::new(11), tree, count)?;
+    run_children(report, tree, nodes.as_slice())
 }
 
 fn run_searches(report: &Report, tree: &Tree, nodes: &[usize]) -> io::Result<()>
     requires balanced { IsBalanced tree.now }
     requires nodes { All (λ v. IsNode (forest_of tree.now) v) nodes.now }
 {
+    report.queries("close", tree, nodes, close)?;
+    let ends = ends_of(report.alloc(), tree, nodes)?;
+    report.queries("open", tree, ends.as_slice(), open)?;
     let count = nodes.len() as u64;
-    report.series("close", count, || close_pass(tree, nodes))?;
-    let ends = ends_of(report.rt.alloc(), tree, nodes)?;
-    let ends = ends.as_slice();
-    report.series("open", count, || open_pass(tree, ends))?;
-    report.series("parent", count, || parent_pass(tree, nodes))?;
-    report.series("subtree_size", count, || subtree_size_pass(tree, nodes))
+    report.passes("parent", count, tree, nodes, parent_pass)?;
+    report.passes("subtree_size", count, tree, nodes, subtree_size_pass)
 }
 
 fn run_climbs(report: &Report, tree: &Tree, climbs: &[Climb]) -> io::Result<()>
@@ -359,11 +351,7 @@ fn run_climbs(report: &Report, tree: &Tree, climbs: &[Climb]) -> io::Result<()>
     requires nodes { All (λ c. IsNode (forest_of tree.now) c.node) climbs.now }
 {
     let count = climbs.len() as u64;
-    report.series(
-        "level_ancestor",
-        count,
-        || level_ancestor_pass(tree, climbs),
-    )
+    report.passes("level_ancestor", count, tree, climbs, level_ancestor_pass)
 }
 
 fn run_children(report: &Report, tree: &Tree, nodes: &[usize]) -> io::Result<()>
@@ -371,13 +359,13 @@ fn run_children(report: &Report, tree: &Tree, nodes: &[usize]) -> io::Result<()>
     requires nodes { All (λ v. IsNode (forest_of tree.now) v) nodes.now }
 {
     let count = children_count(tree, nodes);
-    report.series("children", count, || children_pass(tree, nodes))
+    report.passes("children", count, tree, nodes, children_pass)
 }
 
 fn run_walks(report: &Report, tree: &Tree) -> io::Result<()>
     requires { IsBalanced tree.now }
 {
     let size = tree.size() as u64;
-    report.series("dfs_iter", size, || dfs_iter_pass(tree))?;
-    report.series("dfs_walk", size, || dfs_walk_pass(tree))
+    report.walk("dfs_iter", size, tree, dfs_iter_pass)?;
+    report.walk("dfs_walk", size, tree, dfs_walk_pass)
 }

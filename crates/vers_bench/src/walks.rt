@@ -2,11 +2,12 @@
 //! side by side.
 //!
 //! Each pass is a function of its own in the machine code, so that a profiler counts its instructions.
+ghost use Rattle.std.specs.Iterator.{IsFinite};
+
+use crate::bits::indexed;
 use crate::report::{Report, asked};
-use crate::workload::RandomBits;
-use std::alloc::{AllocError, Global};
+use std::alloc::Global;
 use std::io;
-use vers_bits::bit_vec::BitVec;
 use vers_rank::fast_rs_vec::RsVec;
 
 type Bits = RsVec<Global>;
@@ -14,17 +15,40 @@ type Bits = RsVec<Global>;
 /// How many ones a step of `iter1_nth` passes, with the one that it gives.
 const STEP: usize = 10;
 
+/// The sum of the places that a walk passes.
+#[inline(always)]
+pub fn sum_of_places<I: Iterator<Item = usize> + Drop>(walk: I) -> u64
+    requires can { I.can_next walk }
+    requires ends { IsFinite (I.remaining walk) }
+{
+    let mut sum = 0u64;
+    for place in walk {
+        sum = sum.wrapping_add(place as u64);
+    }
+    sum
+}
+
+/// The sum of the numbers that a walk passes.
+#[inline(always)]
+pub fn sum_of<I: Iterator<Item = u64> + Drop>(walk: I) -> u64
+    requires can { I.can_next walk }
+    requires ends { IsFinite (I.remaining walk) }
+{
+    let mut sum = 0u64;
+    for number in walk {
+        sum = sum.wrapping_add(number);
+    }
+    sum
+}
+
 #[inline(never)]
 fn front_pass(bits: &Bits) -> u64 {
-    bits.iter1()
-        .fold(0u64, |sum, place| sum.wrapping_add(place as u64))
+    sum_of_places(bits.iter1())
 }
 
 #[inline(never)]
 fn back_pass(bits: &Bits) -> u64 {
-    bits.iter1()
-        .rev()
-        .fold(0u64, |sum, place| sum.wrapping_add(place as u64))
+    sum_of_places(bits.iter1().rev())
 }
 
 #[inline(never)]
@@ -40,8 +64,7 @@ fn nth_pass(bits: &Bits) -> u64 {
 
 #[inline(never)]
 fn chunks_pass(bits: &Bits) -> u64 {
-    bits.bit_set_iter1()
-        .fold(0u64, |sum, place| sum.wrapping_add(place as u64))
+    sum_of_places(bits.bit_set_iter1())
 }
 
 #[inline(never)]
@@ -49,23 +72,16 @@ fn equality_pass(bits: &Bits) -> u64 {
     u64::from(bits.sparse_equals::<false>(bits))
 }
 
-fn indexed(rt: &HostRuntime, limbs: &[u64]) -> Result<Bits, AllocError> {
-    let bits = BitVec::from_limbs(rt.alloc(), limbs).map_err(|_| AllocError)?;
-    RsVec::from_bit_vec(bits)
-}
-
 /// Runs all series over a list of bits.
-pub fn run(report: &Report, data: RandomBits) -> io::Result<()> {
-    let limbs = data.limbs(report.rt.alloc())?;
-    let made = indexed(report.rt, limbs.as_slice()).map_err(io::Error::from);
-    asked(made, |bits| run_built(report, bits))
+pub fn run(report: &Report, limbs: &[u64]) -> io::Result<()> {
+    asked(report, (), indexed(report.alloc(), limbs), run_built)
 }
 
-fn run_built(report: &Report, bits: &Bits) -> io::Result<()> {
+fn run_built(report: &Report, _source: (), bits: &Bits) -> io::Result<()> {
     let ones = bits.ones() as u64;
-    report.series("iter1", ones, || front_pass(bits))?;
-    report.series("iter1_back", ones, || back_pass(bits))?;
-    report.series("iter1_nth", ones / 10, || nth_pass(bits))?;
-    report.series("bit_set_iter1", ones, || chunks_pass(bits))?;
-    report.series("sparse_equals1", ones, || equality_pass(bits))
+    report.walk("iter1", ones, bits, front_pass)?;
+    report.walk("iter1_back", ones, bits, back_pass)?;
+    report.walk("iter1_nth", ones / 10, bits, nth_pass)?;
+    report.walk("bit_set_iter1", ones, bits, chunks_pass)?;
+    report.walk("sparse_equals1", ones, bits, equality_pass)
 }

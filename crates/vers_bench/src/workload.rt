@@ -27,6 +27,11 @@ impl Random {
         self.step().checked_rem(n).unwrap_or(0)
     }
 
+    // The highest bits of the next number.
+    fn shifted(&mut self, shift: u32) -> u64 {
+        self.step() >> shift.min(63)
+    }
+
     /// The next `count` numbers below `n`.
     pub fn many_below(
         &mut self,
@@ -34,9 +39,22 @@ impl Random {
         count: usize,
         n: u64,
     ) -> Result<Vec<u64>, AllocError> {
+        self.many(alloc, count, n, Random::below)
+    }
+
+    /// The next `count` items that `draw` takes from what is drawn of `source`.
+    pub fn many<S: Copy, T: Drop, F: FnOnce(&mut Random, S) -> T + Copy>(
+        &mut self,
+        alloc: Global,
+        count: usize,
+        source: S,
+        draw: F,
+    ) -> Result<Vec<T>, AllocError>
+        requires { F.IsAlwaysCallable draw }
+    {
         let mut all = Vec::with_capacity(alloc, count)?;
         for _ in 0..count {
-            all.push(self.below(n))?;
+            all.push(draw(self, source))?;
         }
         Ok(all)
     }
@@ -50,52 +68,33 @@ pub fn fold(sum: u64, answer: u64) -> u64 {
     sum.wrapping_mul(31).wrapping_add(answer)
 }
 
-/// The checksum of the answers about each item.
-#[inline(always)]
-pub fn checksum<T, F: Fn(&T) -> u64>(items: &[T], answer: F) -> u64
-    requires { F.IsAlwaysCallable answer }
-{
-    let mut sum = 0;
-    for item in items {
-        sum = fold(sum, answer(item));
+/// A place or a count as a number; what stands for none where there is none.
+pub fn place_or_none(place: Option<usize>) -> u64 {
+    match place {
+        Some(place) => place as u64,
+        None => NONE,
     }
-    sum
 }
 
-/// The same of answers about an item of each of two lists.
-#[inline(always)]
-pub fn paired_checksum<T, U, F: Fn(&T, &U) -> u64>(items: &[T], others: &[U], answer: F) -> u64
-    requires { F.IsAlwaysCallable answer }
-{
-    let mut sum = 0;
-    for (item, other) in items.iter().zip(others) {
-        sum = fold(sum, answer(item, other));
-    }
-    sum
+/// A range of numbers, both ends included.
+#[derive(Clone, Copy, Drop)]
+pub struct Ends {
+    /// Where it begins.
+    pub first: u64,
+    /// Where it ends.
+    pub last: u64,
 }
 
-/// The same of answers about numbers, where each query waits for the answer of the one before.
-#[inline(always)]
-pub fn chained_checksum<F: Fn(usize) -> u64>(numbers: &[u64], answer: F) -> u64
-    requires { F.IsAlwaysCallable answer }
-{
-    let mut sum = 0;
-    let mut last = 0u64;
-    for number in numbers {
-        last = answer(number.wrapping_add(last >> 63) as usize);
-        sum = fold(sum, last);
-    }
-    sum
-}
-
-fn random_word(random: &mut Random, percent: u64) -> u64 {
-    let mut word = 0u64;
-    for i in 0..64u32 {
-        if random.below(100) < percent {
-            word |= 1u64 << i;
+impl Ends {
+    /// A range between two numbers below `n` at random.
+    pub fn between(random: &mut Random, n: u64) -> Ends {
+        let one = random.below(n);
+        let other = random.below(n);
+        Ends {
+            first: one.min(other),
+            last: one.max(other),
         }
     }
-    word
 }
 
 /// A list of bits in limbs of 64, of which each is a one with a chance of `percent` in 100.
@@ -108,60 +107,101 @@ pub struct RandomBits {
 }
 
 impl RandomBits {
-    /// How many bits there are.
-    pub fn len(&self) -> u64 {
-        (self.limb_count as u64).wrapping_mul(64)
-    }
-
     /// What a line says of them.
     pub fn parameters(&self, alloc: Global) -> Result<String, AllocError> {
-        let len = self.len();
+        let len = (self.limb_count as u64).wrapping_mul(64);
         let percent = self.percent;
         format!(in alloc; "n={len} ones={percent}%")
     }
 
     /// The limbs, the same at each call.
     pub fn limbs(&self, alloc: Global) -> Result<Vec<u64>, AllocError> {
-        let mut random = Random::new(1);
-        let mut limbs = Vec::with_capacity(alloc, self.limb_count)?;
-        for _ in 0..self.limb_count {
-            limbs.push(random_word(&mut random, self.percent))?;
-        }
-        Ok(limbs)
+        Random::new(1).many(alloc, self.limb_count, self.percent, random_word)
     }
+}
+
+fn random_word(random: &mut Random, percent: u64) -> u64 {
+    let mut word = 0u64;
+    for i in 0..64u32 {
+        if random.below(100) < percent {
+            word |= 1u64 << i;
+        }
+    }
+    word
 }
 
 /// Numbers of 64 bits.
 pub fn values(alloc: Global, count: usize) -> Result<Vec<u64>, AllocError> {
-    let mut random = Random::new(5);
-    let mut values = Vec::with_capacity(alloc, count)?;
-    for _ in 0..count {
-        values.push(random.step())?;
-    }
-    Ok(values)
+    Random::new(5).many(alloc, count, 0, Random::shifted)
 }
 
 /// Symbols of at most 64 bits: the highest bits of numbers of 64.
 pub fn symbols(alloc: Global, count: usize, width: u16) -> Result<Vec<u64>, AllocError> {
-    let mut random = Random::new(4);
-    let shift = 64u32.saturating_sub(width as u32).min(63);
-    let mut symbols = Vec::with_capacity(alloc, count)?;
+    let shift = 64u32.saturating_sub(width as u32);
+    Random::new(4).many(alloc, count, shift, Random::shifted)
+}
+
+/// How far members that follow each other are apart: `least` and a number below `span`.
+#[derive(Clone, Copy)]
+struct Gaps {
+    least: u64,
+    span: u64,
+}
+
+// Adds `count` members after `value`, and answers the last.
+fn push_members(
+    members: &mut Vec<u64>,
+    mut value: u64,
+    count: usize,
+    random: &mut Random,
+    gaps: Gaps,
+) -> Result<u64, AllocError> {
     for _ in 0..count {
-        symbols.push(random.step() >> shift)?;
+        value = value
+            .wrapping_add(gaps.least)
+            .wrapping_add(random.below(gaps.span));
+        members.push(value)?;
     }
-    Ok(symbols)
+    Ok(value)
+}
+
+// Adds `count` members after `value` with one gap between them, and answers the last.
+fn push_evenly(
+    members: &mut Vec<u64>,
+    mut value: u64,
+    count: usize,
+    gap: u64,
+) -> Result<u64, AllocError> {
+    for _ in 0..count {
+        value = value.wrapping_add(gap);
+        members.push(value)?;
+    }
+    Ok(value)
+}
+
+// `count` ascending members with gaps at random.
+fn ascending(alloc: Global, count: usize, seed: u64, gaps: Gaps) -> Result<Vec<u64>, AllocError> {
+    let mut members = Vec::with_capacity(alloc, count)?;
+    push_members(&mut members, 0, count, &mut Random::new(seed), gaps)?;
+    Ok(members)
 }
 
 /// Ascending members with gaps below 2^20.
 pub fn members_uniform(alloc: Global, count: usize) -> Result<Vec<u64>, AllocError> {
-    let mut random = Random::new(2);
-    let mut members = Vec::with_capacity(alloc, count)?;
-    let mut value = 0u64;
-    for _ in 0..count {
-        value = value.wrapping_add(random.below(1 << 20));
-        members.push(value)?;
-    }
-    Ok(members)
+    let gaps = Gaps {
+        least: 0,
+        span: 1 << 20,
+    };
+    ascending(alloc, count, 2, gaps)
+}
+
+/// Ascending documents with gaps from 2 to 2^10 + 1.
+pub fn documents(alloc: Global, count: usize) -> Result<Vec<u64>, AllocError> {
+    let gaps = Gaps {
+        least: 2,
+        span: 1 << 10,
+    };
+    ascending(alloc, count, 12, gaps)
 }
 
 /// Members with gaps below 2^40, but for a tenth of them in the middle, which lie close together.
@@ -173,13 +213,54 @@ pub struct Clustered {
     pub first: u64,
 }
 
-// Adds eight members, 100 apart, and answers the last.
-fn push_eight(members: &mut Vec<u64>, mut value: u64) -> Result<u64, AllocError> {
-    for _ in 0..8 {
-        value = value.wrapping_add(100);
-        members.push(value)?;
+const FAR: Gaps = Gaps {
+    least: 0,
+    span: 1 << 40,
+};
+
+// Adds `count` members after `value` that are equal or 1 to 3 apart, and answers the last.
+fn push_close(
+    members: &mut Vec<u64>,
+    value: u64,
+    count: usize,
+    random: &mut Random,
+    are_equal: bool,
+) -> Result<u64, AllocError> {
+    if are_equal {
+        push_evenly(members, value, count, 0)
+    } else {
+        push_members(members, value, count, random, Gaps { least: 1, span: 3 })
     }
-    Ok(value)
+}
+
+// Adds eight members after `value`, 100 apart, then the close ones, then eight more. Answers what the
+// close ones begin at, and the last.
+fn push_cluster(
+    members: &mut Vec<u64>,
+    value: u64,
+    count: usize,
+    random: &mut Random,
+    are_equal: bool,
+) -> Result<Ends, AllocError> {
+    let first = push_evenly(members, value, 8, 100)?.wrapping_add(1000);
+    let close = push_close(members, first, count, random, are_equal)?;
+    let last = push_evenly(members, close, 8, 100)?;
+    Ok(Ends { first, last })
+}
+
+// The same amid `far` members with wide gaps.
+fn push_clustered(
+    members: &mut Vec<u64>,
+    far: usize,
+    close: usize,
+    are_equal: bool,
+) -> Result<u64, AllocError> {
+    let mut random = Random::new(3);
+    let before = push_members(members, 0, far / 2, &mut random, FAR)?;
+    let value = before.wrapping_add(random.below(FAR.span));
+    let Ends { first, last } = push_cluster(members, value, close, &mut random, are_equal)?;
+    push_members(members, last, far - far / 2, &mut random, FAR)?;
+    Ok(first)
 }
 
 /// `count` members: in their middle eight, then a tenth of all that are equal or 1 to 3 apart, then
@@ -189,93 +270,91 @@ pub fn members_clustered(
     count: usize,
     are_equal: bool,
 ) -> Result<Clustered, AllocError> {
-    let mut random = Random::new(3);
     let close = count / 10;
     let far = count.saturating_sub(close).saturating_sub(16);
-    let mut members = Vec::with_capacity(alloc, count.saturating_add(1))?;
-    let mut value = 0u64;
-    let mut first = 0u64;
-    for i in 0..far {
-        value = value.wrapping_add(random.below(1 << 40));
-        if i == far / 2 {
-            value = push_eight(&mut members, value)?.wrapping_add(1000);
-            first = value;
-            for _ in 0..close {
-                if !are_equal {
-                    value = value.wrapping_add(1).wrapping_add(random.below(3));
-                }
-                members.push(value)?;
-            }
-            value = push_eight(&mut members, value)?;
-        } else {
-            members.push(value)?;
-        }
-    }
-    members.push(value.wrapping_add(random.below(1 << 40)))?;
-    members.truncate(count);
+    let mut members = Vec::with_capacity(alloc, count)?;
+    let first = push_clustered(&mut members, far, close, are_equal)?;
     Ok(Clustered { members, first })
 }
 
-/// Ascending documents with gaps from 2 to 2^10 + 1.
-pub fn documents(alloc: Global, count: usize) -> Result<Vec<u64>, AllocError> {
-    let mut random = Random::new(12);
-    let mut documents = Vec::with_capacity(alloc, count)?;
-    let mut document = 0u64;
-    for _ in 0..count {
-        document = document.wrapping_add(2).wrapping_add(random.below(1 << 10));
-        documents.push(document)?;
-    }
-    Ok(documents)
-}
-
-/// List `number` of `count` documents, each drawn at random from a stretch of equal length of
-/// `documents`. Half of them are one more than the drawn one, which is not among those.
-pub fn drawn(
-    alloc: Global,
-    number: usize,
-    documents: &[u64],
-    count: usize,
-) -> Result<Vec<u64>, AllocError> {
+/// A list of a thousandth as many documents, each drawn at random from a stretch of equal length of
+/// `documents`. Half of them are one more than the drawn one, which is not among those. Lists of other
+/// numbers are others.
+pub fn drawn(alloc: Global, documents: &[u64], number: usize) -> Result<Vec<u64>, AllocError> {
     let mut random = Random::new((number as u64).wrapping_add(14));
+    let count = documents.len() / 1000;
     let stretch = documents.len().checked_div(count).unwrap_or(0);
     let mut drawn = Vec::with_capacity(alloc, count)?;
-    for part in documents.chunks(stretch.max(1)).take(count) {
-        let place = random.below(part.len() as u64) as usize;
-        let document = part.get(place).copied().unwrap_or(NONE);
-        drawn.push(document.wrapping_add(random.below(2)))?;
+    for part in 0..count {
+        let start = part.wrapping_mul(stretch);
+        drawn.push(drawn_from(&mut random, documents, start, stretch))?;
     }
     Ok(drawn)
 }
 
-/// The limbs of the parentheses of a random tree, each tree of as many bits as likely as any other: one
-/// root, whose nodes are half as many as the bits.
-pub fn parentheses(alloc: Global, bit_count: usize) -> Result<Vec<u64>, AllocError> {
-    let mut random = Random::new(6);
-    let mut limbs = Vec::with_capacity(alloc, bit_count.div_ceil(64))?;
-    let mut limb = 1u64;
-    let mut height = 0u64;
-    for i in 1..bit_count {
-        if i % 64 == 0 {
-            limbs.push(limb)?;
-            limb = 0;
-        }
-        let left = (bit_count - 1 - i) as u64;
-        if left > 0 && opens(&mut random, height, left) {
-            height = height.wrapping_add(1);
-            limb |= 1u64 << (i % 64);
-        } else {
-            height = height.wrapping_sub(1);
-        }
-    }
-    limbs.push(limb)?;
-    Ok(limbs)
+// A document of a stretch from `start` on, or one more.
+fn drawn_from(random: &mut Random, documents: &[u64], start: usize, stretch: usize) -> u64 {
+    let place = start.wrapping_add(random.below(stretch as u64) as usize);
+    let document = documents.get(place).copied().unwrap_or(NONE);
+    document.wrapping_add(random.below(2))
 }
 
-// Whether a random tree opens another node, `height` below its root, with so many bits left before the
-// last.
-fn opens(random: &mut Random, height: u64, left: u64) -> bool {
-    let above = height.wrapping_add(1);
-    let drawn = random.below(left.wrapping_mul(2).wrapping_mul(above));
-    let closing = height.wrapping_mul(left.wrapping_add(above).wrapping_add(1));
-    drawn >= closing
+/// A tree at random that grows by its parentheses, each tree of as many bits as likely as any other: one
+/// root, whose nodes are half as many as the bits.
+#[derive(Drop)]
+struct Growth {
+    random: Random,
+    /// How many nodes are open.
+    open: u64,
+    /// How many bits there are to come.
+    left: u64,
+}
+
+impl Growth {
+    // The next limb. Past the end its bits are zeros.
+    fn limb(&mut self) -> u64 {
+        let mut limb = 0u64;
+        for i in 0..64u32 {
+            if self.left > 0 && self.bit() {
+                limb |= 1u64 << i;
+            }
+        }
+        limb
+    }
+
+    // The next bit.
+    fn bit(&mut self) -> bool {
+        self.left = self.left.wrapping_sub(1);
+        let opens = self.open == 0 || self.left > 0 && self.opens();
+        self.open = if opens {
+            self.open.wrapping_add(1)
+        } else {
+            self.open.wrapping_sub(1)
+        };
+        opens
+    }
+
+    // Whether another node is opened below one that is open, before the last bit.
+    fn opens(&mut self) -> bool {
+        let drawn = self
+            .random
+            .below(self.left.wrapping_mul(2).wrapping_mul(self.open));
+        let below_root = self.open.wrapping_sub(1);
+        let closing = below_root.wrapping_mul(self.left.wrapping_add(self.open).wrapping_add(1));
+        drawn >= closing
+    }
+}
+
+/// The limbs of the parentheses of a random tree.
+pub fn parentheses(alloc: Global, bit_count: usize) -> Result<Vec<u64>, AllocError> {
+    let mut growth = Growth {
+        random: Random::new(6),
+        open: 0,
+        left: bit_count as u64,
+    };
+    let mut limbs = Vec::with_capacity(alloc, bit_count.div_ceil(64))?;
+    for _ in 0..bit_count.div_ceil(64) {
+        limbs.push(growth.limb())?;
+    }
+    Ok(limbs)
 }
