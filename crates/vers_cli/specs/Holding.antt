@@ -2,6 +2,9 @@
 use Rattle.std.specs.Prelude.{ℕ, Bool, List, length}
 use Rattle.vers_wavelet.specs.Symbols.{Symbols}
 use Rattle.postings.specs.Posted.{Posted}
+use Rattle.vers_words.specs.Loading.{map_loading}
+use Rattle.vers_words.specs.declared.loading.Loading.{Loading}
+use Rattle.vers_words.specs.declared.loading.Loading.TheVariants.{Malformed, Inadmissible, Accepted}
 use Rattle.vers_cli.specs.declared.held.Held.{Held}
 use Rattle.vers_cli.specs.declared.held.Held.TheVariants as held
 
@@ -37,3 +40,13 @@ length_of (ValuesHeld values) = length values
 length_of (TreeHeld bits) = length bits
 length_of (SymbolsHeld symbols) = length symbols.items
 length_of (PostingsHeld posted) = length posted.documents
+
+-- what a load line gives, without what it writes
+abbrev pub kind_of : {H : Type 0} → Loading H → Loading (Unit {0})
+kind_of loading = map_loading (λ _. tt) loading
+
+-- what is held after a load line gives this: as before, unless it is accepted
+abbrev pub held_after : {H : Type 0} → H → Loading H → H
+held_after held Malformed = held
+held_after held Inadmissible = held
+held_after held (Accepted new) = new

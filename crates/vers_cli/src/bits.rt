@@ -27,8 +27,10 @@ pub fn load<A: Allocator + Copy>(
     if digits.len() > MAX_LEN {
         return Ok(Loading::Inadmissible);
     }
-    let bits = RsVec::from_bit_vec(bit_vec(alloc, digits)?)?;
-    Ok(Loading::Accepted(bits))
+    match RsVec::from_bit_vec(bit_vec(alloc, digits)?) {
+        Ok(bits) => Ok(Loading::Accepted(bits)),
+        Err(error) => Err(error),
+    }
 }
 
 /// The list that digits 0 and 1 write.
@@ -46,25 +48,30 @@ pub fn reply<A: Allocator + Copy>(bits: &RsVec<A>, query: Query, arguments: &[u8
     ensures { plain_reply result ≡ bits_reply bits.now query (words_in arguments.now) }
 {
     match query {
-        Query::Len => no_arguments(arguments).map_or(
-            Reply::BadLine,
-            |()| Reply::Number(bits.len() as u64),
-        ),
-        Query::Get => one_number(arguments).map_or(Reply::BadLine, |place| {
-            Reply::number_or_absent(bits.get(place as usize))
-        }),
-        Query::Rank0 => one_number(arguments).map_or(Reply::BadLine, |place| {
-            Reply::Number(bits.rank0(place as usize) as u64)
-        }),
-        Query::Rank1 => one_number(arguments).map_or(Reply::BadLine, |place| {
-            Reply::Number(bits.rank1(place as usize) as u64)
-        }),
-        Query::Select0 => one_number(arguments).map_or(Reply::BadLine, |r| {
-            Reply::Number(bits.select0(r as usize) as u64)
-        }),
-        Query::Select1 => one_number(arguments).map_or(Reply::BadLine, |r| {
-            Reply::Number(bits.select1(r as usize) as u64)
-        }),
+        Query::Len => match no_arguments(arguments) {
+            None => Reply::BadLine,
+            Some(()) => Reply::Number(bits.len() as u64),
+        },
+        Query::Get => match one_number(arguments) {
+            None => Reply::BadLine,
+            Some(place) => Reply::number_or_absent(bits.get(place as usize)),
+        },
+        Query::Rank0 => match one_number(arguments) {
+            None => Reply::BadLine,
+            Some(place) => Reply::Number(bits.rank0(place as usize) as u64),
+        },
+        Query::Rank1 => match one_number(arguments) {
+            None => Reply::BadLine,
+            Some(place) => Reply::Number(bits.rank1(place as usize) as u64),
+        },
+        Query::Select0 => match one_number(arguments) {
+            None => Reply::BadLine,
+            Some(r) => Reply::Number(bits.select0(r as usize) as u64),
+        },
+        Query::Select1 => match one_number(arguments) {
+            None => Reply::BadLine,
+            Some(r) => Reply::Number(bits.select1(r as usize) as u64),
+        },
         _ => Reply::WrongStructure,
     }
 }

@@ -2,7 +2,8 @@
 ghost use Rattle.std.specs.Prelude.{◌≡◌, length, option_map, IfOk, IfSome};
 ghost use Rattle.vers_words.specs.Text.{words_in};
 ghost use Rattle.vers_words.specs.Arguments.{all_numbers as numbers_all};
-ghost use Rattle.vers_words.specs.Reply.{plain_reply};
+ghost use Rattle.vers_words.specs.Reply.{plain_reply, Numbers};
+ghost use Rattle.postings.specs.Posted.{common};
 ghost use Rattle.vers_cli.specs.PostingsLines.{posted_of, if_admitted, postings_loaded, postings_reply, shared_reply};
 
 use crate::name::Query;
@@ -26,9 +27,10 @@ pub fn load<A: Allocator + Copy>(
     let Some(Pairs { documents, costs }) = in_pairs(alloc, numbers.as_slice())? else {
         return Ok(Loading::Malformed);
     };
-    match admitted(documents.as_slice(), costs)? {
-        None => Ok(Loading::Inadmissible),
-        Some(postings) => Ok(Loading::Accepted(postings)),
+    match admitted(documents.as_slice(), costs) {
+        Ok(None) => Ok(Loading::Inadmissible),
+        Ok(Some(postings)) => Ok(Loading::Accepted(postings)),
+        Err(error) => Err(error),
     }
 }
 
@@ -43,22 +45,26 @@ pub fn reply<A: Allocator + Copy>(
         plain_reply reply ≡ postings_reply postings.now query (words_in arguments.now)) }
 {
     match query {
-        Query::Len => Ok(no_arguments(arguments).map_or(
-            Reply::BadLine,
-            |()| Reply::Number(postings.len() as u64),
-        )),
-        Query::Contains => Ok(one_number(arguments).map_or(Reply::BadLine, |document| {
-            Reply::Number(u64::from(postings.contains(document)))
-        })),
-        Query::Rank => Ok(one_number(arguments).map_or(Reply::BadLine, |document| {
-            Reply::Number(postings.rank(document))
-        })),
-        Query::Next => Ok(one_number(arguments).map_or(Reply::BadLine, |document| {
-            Reply::number_or_absent(postings.next_at_least(document))
-        })),
-        Query::Cheapest => Ok(two_numbers(arguments).map_or(Reply::BadLine, |(from, to)| {
-            Reply::number_or_absent(postings.cheapest(from, to))
-        })),
+        Query::Len => match no_arguments(arguments) {
+            None => Ok(Reply::BadLine),
+            Some(()) => Ok(Reply::Number(postings.len() as u64)),
+        },
+        Query::Contains => match one_number(arguments) {
+            None => Ok(Reply::BadLine),
+            Some(document) => Ok(Reply::Number(u64::from(postings.contains(document)))),
+        },
+        Query::Rank => match one_number(arguments) {
+            None => Ok(Reply::BadLine),
+            Some(document) => Ok(Reply::Number(postings.rank(document))),
+        },
+        Query::Next => match one_number(arguments) {
+            None => Ok(Reply::BadLine),
+            Some(document) => Ok(Reply::number_or_absent(postings.next_at_least(document))),
+        },
+        Query::Cheapest => match two_numbers(arguments) {
+            None => Ok(Reply::BadLine),
+            Some((from, to)) => Ok(Reply::number_or_absent(postings.cheapest(from, to))),
+        },
         Query::Intersect => match all_numbers(alloc, arguments)? {
             None => Ok(Reply::BadLine),
             Some(documents) => shared(alloc, postings, documents.as_slice()),
@@ -125,8 +131,20 @@ fn shared<A: Allocator + Copy>(
 {
     // The costs play no part.
     let costs = vec![in alloc; 0u64; documents.len()]?;
-    match admitted(documents, costs)? {
-        None => Ok(Reply::Refused),
-        Some(others) => Ok(Reply::Numbers(postings.intersect(&others)?)),
+    match admitted(documents, costs) {
+        Ok(None) => Ok(Reply::Refused),
+        Ok(Some(others)) => common_reply(postings, &others),
+        Err(error) => Err(error),
     }
+}
+
+// The documents that two have in common.
+fn common_reply<A: Allocator + Copy>(
+    postings: &Postings<A>,
+    others: &Postings<A>,
+) -> Result<Reply<A>, AllocError>
+    ensures { IfOk result (λ reply.
+        plain_reply reply ≡ Numbers (common postings.now.documents others.now.documents)) }
+{
+    Ok(Reply::Numbers(postings.intersect(others)?))
 }

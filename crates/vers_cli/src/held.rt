@@ -41,40 +41,47 @@ pub fn load<'a, A: Allocator + Copy>(
         map_loading holding_of loading ≡ loaded load (words_in arguments.now)) }
 {
     match load {
-        Load::Bits => match bits::load(*alloc, arguments)? {
-            Loading::Malformed => Ok(Loading::Malformed),
-            Loading::Inadmissible => Ok(Loading::Inadmissible),
-            Loading::Accepted(bits) => Ok(Loading::Accepted(Held::Bits(bits))),
+        Load::Bits => match bits::load(*alloc, arguments) {
+            Ok(Loading::Malformed) => Ok(Loading::Malformed),
+            Ok(Loading::Inadmissible) => Ok(Loading::Inadmissible),
+            Ok(Loading::Accepted(bits)) => Ok(Loading::Accepted(Held::Bits(bits))),
+            Err(error) => Err(error),
         },
-        Load::Sorted => match sorted::load(*alloc, arguments)? {
-            Loading::Malformed => Ok(Loading::Malformed),
-            Loading::Inadmissible => Ok(Loading::Inadmissible),
-            Loading::Accepted(members) => Ok(Loading::Accepted(Held::Sorted(members))),
+        Load::Sorted => match sorted::load(*alloc, arguments) {
+            Ok(Loading::Malformed) => Ok(Loading::Malformed),
+            Ok(Loading::Inadmissible) => Ok(Loading::Inadmissible),
+            Ok(Loading::Accepted(members)) => Ok(Loading::Accepted(Held::Sorted(members))),
+            Err(error) => Err(error),
         },
-        Load::Sparse => match sparse::load(*alloc, arguments)? {
-            Loading::Malformed => Ok(Loading::Malformed),
-            Loading::Inadmissible => Ok(Loading::Inadmissible),
-            Loading::Accepted(bits) => Ok(Loading::Accepted(Held::Sparse(bits))),
+        Load::Sparse => match sparse::load(*alloc, arguments) {
+            Ok(Loading::Malformed) => Ok(Loading::Malformed),
+            Ok(Loading::Inadmissible) => Ok(Loading::Inadmissible),
+            Ok(Loading::Accepted(bits)) => Ok(Loading::Accepted(Held::Sparse(bits))),
+            Err(error) => Err(error),
         },
-        Load::Values => match values::load(*alloc, arguments)? {
-            Loading::Malformed => Ok(Loading::Malformed),
-            Loading::Inadmissible => Ok(Loading::Inadmissible),
-            Loading::Accepted(values) => Ok(Loading::Accepted(Held::Values(values))),
+        Load::Values => match values::load(*alloc, arguments) {
+            Ok(Loading::Malformed) => Ok(Loading::Malformed),
+            Ok(Loading::Inadmissible) => Ok(Loading::Inadmissible),
+            Ok(Loading::Accepted(values)) => Ok(Loading::Accepted(Held::Values(values))),
+            Err(error) => Err(error),
         },
-        Load::Tree => match tree::load(alloc, arguments)? {
-            Loading::Malformed => Ok(Loading::Malformed),
-            Loading::Inadmissible => Ok(Loading::Inadmissible),
-            Loading::Accepted(tree) => Ok(Loading::Accepted(Held::Tree(tree))),
+        Load::Tree => match tree::load(alloc, arguments) {
+            Ok(Loading::Malformed) => Ok(Loading::Malformed),
+            Ok(Loading::Inadmissible) => Ok(Loading::Inadmissible),
+            Ok(Loading::Accepted(tree)) => Ok(Loading::Accepted(Held::Tree(tree))),
+            Err(error) => Err(error),
         },
-        Load::Symbols => match symbols::load(*alloc, arguments)? {
-            Loading::Malformed => Ok(Loading::Malformed),
-            Loading::Inadmissible => Ok(Loading::Inadmissible),
-            Loading::Accepted(symbols) => Ok(Loading::Accepted(Held::Symbols(symbols))),
+        Load::Symbols => match symbols::load(*alloc, arguments) {
+            Ok(Loading::Malformed) => Ok(Loading::Malformed),
+            Ok(Loading::Inadmissible) => Ok(Loading::Inadmissible),
+            Ok(Loading::Accepted(symbols)) => Ok(Loading::Accepted(Held::Symbols(symbols))),
+            Err(error) => Err(error),
         },
-        Load::Postings => match documents::load(*alloc, arguments)? {
-            Loading::Malformed => Ok(Loading::Malformed),
-            Loading::Inadmissible => Ok(Loading::Inadmissible),
-            Loading::Accepted(postings) => Ok(Loading::Accepted(Held::Postings(postings))),
+        Load::Postings => match documents::load(*alloc, arguments) {
+            Ok(Loading::Malformed) => Ok(Loading::Malformed),
+            Ok(Loading::Inadmissible) => Ok(Loading::Inadmissible),
+            Ok(Loading::Accepted(postings)) => Ok(Loading::Accepted(Held::Postings(postings))),
+            Err(error) => Err(error),
         },
     }
 }

@@ -28,8 +28,10 @@ pub fn load<A: Allocator + Copy>(
     if !is_ascending(numbers.as_slice()) {
         return Ok(Loading::Inadmissible);
     }
-    let members = EliasFanoVec::from_slice(alloc, numbers.as_slice())?;
-    Ok(Loading::Accepted(members))
+    match EliasFanoVec::from_slice(alloc, numbers.as_slice()) {
+        Ok(members) => Ok(Loading::Accepted(members)),
+        Err(error) => Err(error),
+    }
 }
 
 /// The reply of a query line, where these members are held.
@@ -43,26 +45,30 @@ pub fn reply<A: Allocator + Copy>(
         plain_reply reply ≡ sorted_reply members.now query (words_in arguments.now)) }
 {
     match query {
-        Query::Len => Ok(no_arguments(arguments).map_or(
-            Reply::BadLine,
-            |()| Reply::Number(members.len() as u64),
-        )),
-        Query::Get => Ok(one_number(arguments).map_or(Reply::BadLine, |place| {
-            Reply::number_or_absent(members.get(place as usize))
-        })),
-        Query::Rank => Ok(one_number(arguments).map_or(
-            Reply::BadLine,
-            |v| Reply::Number(members.rank(v)),
-        )),
-        Query::Predecessor => Ok(one_number(arguments).map_or(Reply::BadLine, |v| {
-            Reply::number_or_absent(members.predecessor(v))
-        })),
-        Query::Successor => Ok(one_number(arguments).map_or(Reply::BadLine, |v| {
-            Reply::number_or_absent(members.successor(v))
-        })),
-        Query::Delta => Ok(one_number(arguments).map_or(Reply::BadLine, |place| {
-            Reply::number_or_absent(members.delta(place as usize))
-        })),
+        Query::Len => match no_arguments(arguments) {
+            None => Ok(Reply::BadLine),
+            Some(()) => Ok(Reply::Number(members.len() as u64)),
+        },
+        Query::Get => match one_number(arguments) {
+            None => Ok(Reply::BadLine),
+            Some(place) => Ok(Reply::number_or_absent(members.get(place as usize))),
+        },
+        Query::Rank => match one_number(arguments) {
+            None => Ok(Reply::BadLine),
+            Some(v) => Ok(Reply::Number(members.rank(v))),
+        },
+        Query::Predecessor => match one_number(arguments) {
+            None => Ok(Reply::BadLine),
+            Some(v) => Ok(Reply::number_or_absent(members.predecessor(v))),
+        },
+        Query::Successor => match one_number(arguments) {
+            None => Ok(Reply::BadLine),
+            Some(v) => Ok(Reply::number_or_absent(members.successor(v))),
+        },
+        Query::Delta => match one_number(arguments) {
+            None => Ok(Reply::BadLine),
+            Some(place) => Ok(Reply::number_or_absent(members.delta(place as usize))),
+        },
         Query::Iter => match no_arguments(arguments) {
             None => Ok(Reply::BadLine),
             Some(()) => Ok(Reply::Numbers(members_left(alloc, members.iter())?)),

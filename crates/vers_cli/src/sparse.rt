@@ -31,8 +31,10 @@ pub fn load<A: Allocator + Copy>(
     if !is_strictly_ascending(ones) || !are_below(ones, *len) {
         return Ok(Loading::Inadmissible);
     }
-    let bits = SparseRSVec::new(alloc, ones, *len)?;
-    Ok(Loading::Accepted(bits))
+    match SparseRSVec::new(alloc, ones, *len) {
+        Ok(bits) => Ok(Loading::Accepted(bits)),
+        Err(error) => Err(error),
+    }
 }
 
 /// The reply of a query line, where these bits are held.
@@ -46,24 +48,26 @@ pub fn reply<A: Allocator + Copy>(
         plain_reply reply ≡ sparse_reply bits.now query (words_in arguments.now)) }
 {
     match query {
-        Query::Len => Ok(no_arguments(arguments).map_or(
-            Reply::BadLine,
-            |()| Reply::Number(bits.len()),
-        )),
-        Query::Get => Ok(one_number(arguments).map_or(Reply::BadLine, |place| {
-            Reply::number_or_absent(bits.get(place))
-        })),
-        Query::Rank0 => Ok(one_number(arguments).map_or(
-            Reply::BadLine,
-            |place| Reply::Number(bits.rank0(place)),
-        )),
-        Query::Rank1 => Ok(one_number(arguments).map_or(
-            Reply::BadLine,
-            |place| Reply::Number(bits.rank1(place)),
-        )),
-        Query::Select1 => Ok(one_number(arguments).map_or(Reply::BadLine, |r| {
-            Reply::Number(bits.select1(r as usize))
-        })),
+        Query::Len => match no_arguments(arguments) {
+            None => Ok(Reply::BadLine),
+            Some(()) => Ok(Reply::Number(bits.len())),
+        },
+        Query::Get => match one_number(arguments) {
+            None => Ok(Reply::BadLine),
+            Some(place) => Ok(Reply::number_or_absent(bits.get(place))),
+        },
+        Query::Rank0 => match one_number(arguments) {
+            None => Ok(Reply::BadLine),
+            Some(place) => Ok(Reply::Number(bits.rank0(place))),
+        },
+        Query::Rank1 => match one_number(arguments) {
+            None => Ok(Reply::BadLine),
+            Some(place) => Ok(Reply::Number(bits.rank1(place))),
+        },
+        Query::Select1 => match one_number(arguments) {
+            None => Ok(Reply::BadLine),
+            Some(r) => Ok(Reply::Number(bits.select1(r as usize))),
+        },
         Query::Iter1 => match no_arguments(arguments) {
             None => Ok(Reply::BadLine),
             Some(()) => Ok(Reply::Numbers(members_left(alloc, bits.iter1())?)),

@@ -1,9 +1,9 @@
 //! How a line is answered, and what is held after it.
-ghost use Rattle.std.specs.Prelude.{◌≡◌, ◌++◌, length, take, IfOk, OnOk};
+ghost use Rattle.std.specs.Prelude.{◌≡◌, ◌++◌, ◌∷◌, [], length, take, IfOk, OnOk, IsErr, MatchResult};
 ghost use Rattle.vers_words.specs.Text.{words_in};
-ghost use Rattle.vers_words.specs.Reply.{plain_reply};
+ghost use Rattle.vers_words.specs.Reply.{plain_reply, reply_text};
 ghost use Rattle.vers_cli.specs.Name.{name_of};
-ghost use Rattle.vers_cli.specs.Holding.{Nothing};
+ghost use Rattle.vers_cli.specs.Holding.{Nothing, kind_of, held_after};
 ghost use Rattle.vers_cli.specs.Rules.{loaded, load_reply, holding_after_load, reply_to, holding_after_name};
 ghost use Rattle.vers_cli.specs.Answers.{answer_to, holding_after, by_the_rules};
 
@@ -51,14 +51,10 @@ impl<'a, A: Allocator + Copy> Store<'a, A> {
         ensures holds { OnOk result (self.new
             ≡ holding_after_load self.old (loaded load (words_in arguments.now))) }
     {
-        match held::load(self.alloc, load, arguments)? {
+        match accept(&mut self.held, held::load(self.alloc, load, arguments))? {
             Loading::Malformed => Ok(Reply::BadLine),
             Loading::Inadmissible => Ok(Reply::Refused),
-            Loading::Accepted(held) => {
-                let len = held.len();
-                self.held = held;
-                Ok(Reply::Number(len))
-            }
+            Loading::Accepted(()) => Ok(Reply::Number(self.held.len())),
         }
     }
 
@@ -87,10 +83,43 @@ impl<'a, A: Allocator + Copy> Store<'a, A> {
         let Some((word, arguments)) = split_first_word(without_return(line)) else {
             return Ok(());
         };
-        self.reply(word, arguments)?.append_to(answers)?;
-        answers.push(b'\n')?;
-        Ok(())
+        append_line(self.reply(word, arguments)?, answers)
     }
+}
+
+// Puts what a load line gives in the place of what was held, where it is accepted. What is held may be
+// of any type, so that the proof doesn't go through its fields.
+fn accept<H: Drop>(
+    held: &mut H,
+    given: Result<Loading<H>, AllocError>,
+) -> Result<Loading<()>, AllocError>
+    ensures { MatchResult given (λ loading.
+        (result ≡ Ok (kind_of loading)) × (held.new ≡ held_after held.old loading))
+        (λ _. IsErr result) }
+{
+    match given {
+        Ok(Loading::Malformed) => Ok(Loading::Malformed),
+        Ok(Loading::Inadmissible) => Ok(Loading::Inadmissible),
+        Ok(Loading::Accepted(new)) => {
+            *held = new;
+            Ok(Loading::Accepted(()))
+        }
+        Err(error) => Err(error),
+    }
+}
+
+// Appends a reply with the end of its line. Where memory is refused a part of it may stand appended.
+fn append_line<A: Allocator + Copy>(
+    reply: Reply<A>,
+    answers: &mut Vec<u8, A>,
+) -> Result<(), AllocError>
+    ensures text { OnOk result (answers.new.items
+        ≡ answers.old.items ++ (reply_text (plain_reply reply) ++ 10 ∷ [])) }
+    ensures kept { take (length answers.old.items) answers.new.items ≡ answers.old.items }
+{
+    reply.append_to(answers)?;
+    answers.push(b'\n')?;
+    Ok(())
 }
 
 impl<A: Allocator + Copy> Answerer<A> for Store<'_, A> {

@@ -33,8 +33,10 @@ pub fn load<A: Allocator + Copy>(
     if *width > WIDEST {
         return Ok(Loading::Inadmissible);
     }
-    let symbols = WaveletMatrix::from_slice(alloc, numbers, *width as u16)?;
-    Ok(Loading::Accepted(symbols))
+    match WaveletMatrix::from_slice(alloc, numbers, *width as u16) {
+        Ok(symbols) => Ok(Loading::Accepted(symbols)),
+        Err(error) => Err(error),
+    }
 }
 
 /// The reply of a query line, where these symbols are held.

@@ -30,8 +30,10 @@ pub fn load<'a, A: Allocator + Copy>(
         return Ok(Loading::Inadmissible);
     }
     // The list is never too long, so an error is of memory.
-    let tree = BpTree::from_bit_vector(bit_vec(alloc, digits)?).map_err(|_| AllocError)?;
-    Ok(Loading::Accepted(tree))
+    match BpTree::from_bit_vector(bit_vec(alloc, digits)?) {
+        Ok(tree) => Ok(Loading::Accepted(tree)),
+        Err(_) => Err(AllocError),
+    }
 }
 
 /// The reply of a query line, where these parentheses are held.

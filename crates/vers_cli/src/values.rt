@@ -26,8 +26,10 @@ pub fn load<A: Allocator + Copy>(
     if numbers.len() > MAX_LEN {
         return Ok(Loading::Inadmissible);
     }
-    let values = FastRmq::from_vec(numbers)?;
-    Ok(Loading::Accepted(values))
+    match FastRmq::from_vec(numbers) {
+        Ok(values) => Ok(Loading::Accepted(values)),
+        Err(error) => Err(error),
+    }
 }
 
 /// The reply of a query line, where these values are held.
@@ -35,13 +37,14 @@ pub fn reply<A: Allocator + Copy>(values: &FastRmq<A>, query: Query, arguments: 
     ensures { plain_reply result ≡ values_reply values.now query (words_in arguments.now) }
 {
     match query {
-        Query::Len => no_arguments(arguments).map_or(
-            Reply::BadLine,
-            |()| Reply::Number(values.len() as u64),
-        ),
-        Query::RangeMin => two_numbers(arguments).map_or(Reply::BadLine, |(i, j)| {
-            Reply::number_or_refused(range_min(values, i, j))
-        }),
+        Query::Len => match no_arguments(arguments) {
+            None => Reply::BadLine,
+            Some(()) => Reply::Number(values.len() as u64),
+        },
+        Query::RangeMin => match two_numbers(arguments) {
+            None => Reply::BadLine,
+            Some((i, j)) => Reply::number_or_refused(range_min(values, i, j)),
+        },
         _ => Reply::WrongStructure,
     }
 }

@@ -1,10 +1,8 @@
-use Rattle.std.proofs.Common.{sym, ap, ◌∙◌}
-use Rattle.vers_words.specs.Reply.{Numbers}
+use Rattle.std.proofs.Common.{sym, ◌∙◌}
 use Rattle.vers_cli.proofs.Pairs.{shared}
 use Rattle.vers_cli.proofs.documents.shared.Goals as goal
 
-pub returns-in_ok-intersect-in-Some : goal.returns-in_ok-intersect-in-Some
-returns-in_ok-intersect-in-Some g c =
-    ap Numbers c.in_ok-intersect-in-Some.ensures
-    ∙ shared c.args.postings.now.documents (record { documents = c.args.documents.now; costs = c.in_ok-costs.costs.items }) c.in-Some.others
-    (sym c.in-Some.is ∙ c.in_ok-admitted.ensures)
+pub returns-in-Ok-Some : goal.returns-in-Ok-Some
+returns-in-Ok-Some g c =
+    rw (← shared c.args.postings.now.documents (record { documents = c.args.documents.now; costs = c.in_ok-costs.costs.items }) c.in-Ok-Some.others
+    (sym c.in-Ok-Some.field-0-is ∙ rw c.in-Ok-Some.is at c.admitted.ensures)) c.common_reply.ensures

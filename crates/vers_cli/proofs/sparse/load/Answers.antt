@@ -8,10 +8,10 @@ use Rattle.vers_cli.proofs.sparse.load.Goals as goal
 pub new-requires-clause-rising : goal.new-requires-clause-rising
 new-requires-clause-rising g c = c.if-not-is_strictly_ascending.ensures.all.0 refl
 
-pub returns : goal.returns
-returns g c =
+pub returns-in-Ok : goal.returns-in-Ok
+returns-in-Ok g c =
     let numbers : all_numbers (words_in c.args.arguments.now) ≡ Some (c.in-Some-split_first.len.now ∷ c.in-Some-split_first.ones.now) =
     sym (rw c.in-Some.is at c.in_ok-numbers.ensures) ∙ ap Some (sym c.as_slice.ensures.value ∙ c.in-Some-split_first.ensures.cases.0) in
-    sparse_accepted c.in-Some-split_first.len.now c.in-Some-split_first.ones.now c.in_ok-bits.bits
-    (sym c.if-not-is_strictly_ascending.ensures.each) (sym c.if-not-are_below.ensures.each) c.in_ok-bits.ensures.length c.in_ok-bits.ensures.places
+    sparse_accepted c.in-Some-split_first.len.now c.in-Some-split_first.ones.now c.in-Ok.bits
+    (sym c.if-not-is_strictly_ascending.ensures.each) (sym c.if-not-are_below.ensures.each) c.in-Ok.ensures.length c.in-Ok.ensures.places
     ∙ ap sparse_loaded (sym numbers)

@@ -1,9 +1,13 @@
-use Rattle.std.proofs.Common.{◌≡◌, ◌++◌, ◌∷◌, [], sym, ap, ◌∙◌, refl, append_assoc}
+use Rattle.std.proofs.Common.{◌≡◌, ◌∷◌, [], Result, Ok, Err, OnOk, sym, ap, ◌∙◌, refl}
 use Rattle.std.proofs.lemmas.List.{append-nil}
 use Rattle.vers_words.specs.Text.{words_in, words_of}
-use Rattle.vers_words.specs.Reply.{plain_reply, reply_text}
 use Rattle.vers_cli.specs.Answers.{answer_to_words, holding_after_words}
 use Rattle.vers_cli.proofs.store.Store.append_answer.Goals as goal
+
+-- what holds whatever a call gives
+on_ok : {T E : Type 0} (r : Result T E) (P : Type 0) → P → OnOk r P
+on_ok (Ok x) P p = p
+on_ok (Err e) P p = tt
 
 pub returns-in_default-clause-answer : goal.returns-in_default-clause-answer
 unfolding answer_to_words
@@ -21,13 +25,10 @@ pub returns-clause-answer : goal.returns-clause-answer
 unfolding answer_to_words
 returns-clause-answer g c =
     let words : words_of c.args.line.now ≡ c.in-Some.word.now ∷ words_in c.in-Some.arguments.now = ap words_in (sym c.without_return.ensures) ∙ c.in-Some.ensures.words in
-    let before = c.args.answers.now.items in
-    let reply = plain_reply c.in_ok-reply.field-0 in
-    c.in_ok-push.ensures.items ∙ ap (λ l. l ++ 10 ∷ []) c.in_ok-append_to.ensures.text ∙ append_assoc before (reply_text reply) (10 ∷ [])
-    ∙ rw words (ap (λ r. before ++ (reply_text r ++ 10 ∷ [])) c.in_ok-reply.ensures.reply)
+    rw (words, ← c.in_ok-reply.ensures.reply) c.append_line.ensures.text
 
 pub returns-clause-holds : goal.returns-clause-holds
 unfolding holding_after_words
 returns-clause-holds g c =
     let words : words_of c.args.line.now ≡ c.in-Some.word.now ∷ words_in c.in-Some.arguments.now = ap words_in (sym c.without_return.ensures) ∙ c.in-Some.ensures.words in
-    rw words c.in_ok-reply.ensures.holds
+    rw words (on_ok _ _ c.in_ok-reply.ensures.holds)
