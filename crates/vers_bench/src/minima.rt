@@ -65,17 +65,17 @@ fn first_least<M: RangeMinima>(minima: &M, range: &Ends) -> u64 {
 
 /// What is asked of items: ranges of any length, and short ones.
 #[derive(Clone, Copy)]
-struct Source<'a> {
+struct Questions<'a> {
     items: &'a [u64],
     wide: &'a [Ends],
     short: &'a [Ends],
 }
 
-fn run_built<M: RangeMinima>(report: &Report, source: Source, minima: &M) -> io::Result<()> {
-    let size = bits_per_item(minima.bytes(), source.items.len() as u64);
+fn run_built<M: RangeMinima>(report: &Report, questions: Questions, minima: &M) -> io::Result<()> {
+    let size = bits_per_item(minima.bytes(), questions.items.len() as u64);
     report.size("heap_bits_per_item", size)?;
-    report.queries("range_min", minima, source.wide, first_least)?;
-    report.queries("range_min_short", minima, source.short, first_least)
+    report.queries("range_min", minima, questions.wide, first_least)?;
+    report.queries("range_min_short", minima, questions.short, first_least)
 }
 
 fn fast(items: Vec<u64>) -> Result<FastRmq<Global>, AllocError> {
@@ -92,18 +92,18 @@ fn binary(items: Vec<u64>) -> Result<BinaryRmq<Global>, AllocError> {
     BinaryRmq::from_vec(items)
 }
 
-fn run_fast(report: &Report, source: Source) -> io::Result<()> {
-    let count = source.items.len() as u64;
-    report.builds_of_copies(count, count, source.items, Vec::from_slice, fast)?;
-    let items = Vec::from_slice(report.alloc(), source.items)?;
-    asked(report, source, fast(items), run_built)
+fn run_fast(report: &Report, questions: Questions) -> io::Result<()> {
+    let count = questions.items.len() as u64;
+    report.builds_of_copies(count, count, questions.items, Vec::from_slice, fast)?;
+    let items = Vec::from_slice(report.alloc(), questions.items)?;
+    asked(report, questions, fast(items), run_built)
 }
 
-fn run_binary(report: &Report, source: Source) -> io::Result<()> {
-    let count = source.items.len() as u64;
-    report.builds_of_copies(count, count, source.items, Vec::from_slice, binary)?;
-    let items = Vec::from_slice(report.alloc(), source.items)?;
-    asked(report, source, binary(items), run_built)
+fn run_binary(report: &Report, questions: Questions) -> io::Result<()> {
+    let count = questions.items.len() as u64;
+    report.builds_of_copies(count, count, questions.items, Vec::from_slice, binary)?;
+    let items = Vec::from_slice(report.alloc(), questions.items)?;
+    asked(report, questions, binary(items), run_built)
 }
 
 fn run_items(report: &Report, items: &[u64]) -> io::Result<()> {
@@ -113,13 +113,13 @@ fn run_items(report: &Report, items: &[u64]) -> io::Result<()> {
     let mut random = Random::new(10);
     let wide = random.many(alloc, count, n, Ends::between)?;
     let short = random.many(alloc, count, n, short_range)?;
-    let source = Source {
+    let questions = Questions {
         items,
         wide: wide.as_slice(),
         short: short.as_slice(),
     };
-    run_fast(&report.of("rmq_fast"), source)?;
-    run_binary(&report.of("rmq_binary"), source)
+    run_fast(&report.of("rmq_fast"), questions)?;
+    run_binary(&report.of("rmq_binary"), questions)
 }
 
 fn run_count(report: &Report, n: usize) -> io::Result<()> {
