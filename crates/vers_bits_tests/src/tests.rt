@@ -1,6 +1,5 @@
-//! What is done and asked stands in tables. A test holds no list itself, which would be slow to prove: it
-//! hands what a maker answers to an owner of any type, and helpers over any allocator ask it by a
-//! reference.
+//! What is done and asked stands in tables. A test holds no list and asserts once, of what helpers over any
+//! allocator found: a test that holds lists, or asserts often, is slow to prove.
 mod chunks;
 mod comparing;
 mod editing;
