@@ -11,8 +11,8 @@ pub use asking::{
 use std::alloc::{AllocError, Allocator};
 use std::cell::Cell;
 pub use trials::{
-    Check, Conversion, Edit, Making, Trial, first_wrong_trial, requests, try_clone_checked, try_conversion,
-    try_edit, try_making, try_use_checked,
+    Check, Conversion, Edit, Making, Trial, first_wrong_trial, requests, try_clone_checked,
+    try_conversion, try_edit, try_making, try_use_checked,
 };
 pub use tries::{
     Ending, LENGTHS, each_refused, first_wrong_call, takes_memory, try_change, try_clone,

@@ -101,6 +101,7 @@ pub fn try_use_checked<B: Allocator, T: Drop, X: Drop, C: Check<T>>(
 /// A call that makes a value.
 pub trait Making {
     type Made: Drop;
+
     type Fault: PartialEq + Drop;
 
     /// The fault where there is no memory.
@@ -174,6 +175,7 @@ pub fn try_edit<B: Allocator, T: Drop, X: Drop, C: Edit<T>>(
 /// A call that takes a value and answers another one.
 pub trait Conversion<T> {
     type Made: Drop;
+
     type Refused;
 
     /// The call.
