@@ -20,19 +20,10 @@ fn excess<const N: usize, A: Allocator + Copy>(tree: &BpTree<N, A>, i: usize) ->
     )
 }
 
-/// The answers of a query, a truth value as 1 or 0. The excess is asked only of places that the tree
-/// has, and the other queries only where their conditions hold.
-pub fn ask<const N: usize, A: Allocator + Copy>(tree: &BpTree<N, A>, query: Query) -> Answer {
+// The answers of a query about a place, or of one that asks for balanced parentheses.
+fn ask_place<const N: usize, A: Allocator + Copy>(tree: &BpTree<N, A>, query: Query) -> Answer {
     let mut tally = Tally::new();
     match query {
-        Query::Len => Answer::uncounted(number(Some(tree.len()))),
-        Query::Size => Answer::uncounted(number(Some(tree.size()))),
-        Query::IsEmpty => Answer::of_truths(Some(tree.is_empty()), Some(tree.is_empty())),
-        Query::Root => Answer::of_places(tree.root(), tree.root()),
-        Query::IsBalanced => Answer::of_truths(
-            Some(tree.is_balanced()),
-            Some(tree.is_balanced_counted(&mut tally)),
-        ),
         Query::Excess(i) => excess(tree, i),
         Query::Forward(i, r) => {
             Answer::of_places(
@@ -52,11 +43,28 @@ pub fn ask<const N: usize, A: Allocator + Copy>(tree: &BpTree<N, A>, query: Quer
             tree.enclose(i),
             tree.enclose_counted(i, &mut tally),
         ),
+        _ => ask_balanced(tree, query).unwrap_or(Answer::not_asked()),
+    }
+}
+
+/// The answers of a query, a truth value as 1 or 0. The excess is asked only of places that the tree
+/// has, and the other queries only where their conditions hold.
+pub fn ask<const N: usize, A: Allocator + Copy>(tree: &BpTree<N, A>, query: Query) -> Answer {
+    let mut tally = Tally::new();
+    match query {
+        Query::Len => Answer::uncounted(number(Some(tree.len()))),
+        Query::Size => Answer::uncounted(number(Some(tree.size()))),
+        Query::IsEmpty => Answer::of_truths(Some(tree.is_empty()), Some(tree.is_empty())),
+        Query::Root => Answer::of_places(tree.root(), tree.root()),
+        Query::IsBalanced => Answer::of_truths(
+            Some(tree.is_balanced()),
+            Some(tree.is_balanced_counted(&mut tally)),
+        ),
         Query::Handle(i) => Answer::of_places(
             Some(tree.node_handle(i)),
             Some(tree.node_handle_counted(i, &mut tally)),
         ),
-        _ => ask_balanced(tree, query).unwrap_or(Answer::not_asked()),
+        _ => ask_place(tree, query),
     }
 }
 

@@ -134,6 +134,34 @@ fn about_pair<const N: usize, A: Allocator + Copy>(
     ))
 }
 
+// The answers about the node at a place. None where the place has no node.
+fn about_place<const N: usize, A: Allocator + Copy>(
+    tree: &BpTree<N, A>,
+    place: usize,
+    question: Question,
+) -> Option<Answer>
+    requires { IsBalanced tree.now }
+{
+    let node = node_at(tree, place)?;
+    Some(about_node(tree, node, question))
+}
+
+// The answers about the two ends of a level.
+fn about_ends<const N: usize, A: Allocator + Copy>(
+    tree: &BpTree<N, A>,
+    depth: u64,
+) -> (Answer, Answer)
+    requires { IsBalanced tree.now }
+{
+    let mut tally = Tally::new();
+    let leftmost = tree.level_leftmost_counted(depth, &mut tally);
+    let rightmost = tree.level_rightmost_counted(depth, &mut tally);
+    (
+        Answer::of_places(tree.level_leftmost(depth), leftmost),
+        Answer::of_places(tree.level_rightmost(depth), rightmost),
+    )
+}
+
 /// The answers of a query that asks for balanced parentheses. None where they are not balanced, and
 /// where a place has no node.
 pub fn ask_balanced<const N: usize, A: Allocator + Copy>(
@@ -143,21 +171,11 @@ pub fn ask_balanced<const N: usize, A: Allocator + Copy>(
     if !are_balanced(tree) {
         return None;
     }
-    let mut tally = Tally::new();
     match query {
-        Query::Node(place, question) => {
-            let node = node_at(tree, place)?;
-            Some(about_node(tree, node, question))
-        }
+        Query::Node(place, question) => about_place(tree, place, question),
         Query::IsAncestor(ancestor, descendant) => about_pair(tree, ancestor, descendant),
-        Query::LevelLeftmost(depth) => Some(Answer::of_places(
-            tree.level_leftmost(depth),
-            tree.level_leftmost_counted(depth, &mut tally),
-        )),
-        Query::LevelRightmost(depth) => Some(Answer::of_places(
-            tree.level_rightmost(depth),
-            tree.level_rightmost_counted(depth, &mut tally),
-        )),
+        Query::LevelLeftmost(depth) => Some(about_ends(tree, depth).0),
+        Query::LevelRightmost(depth) => Some(about_ends(tree, depth).1),
         _ => None,
     }
 }
