@@ -2,7 +2,7 @@
 use crate::shared::posted;
 use postings::{Postings, PostingsError};
 use std::alloc::{AllocError, Allocator, Global};
-use test_alloc::{Ending, LENGTHS, Refusing, takes_memory, try_convert, try_make};
+use test_alloc::{Ending, LENGTHS, Refusing, asked, takes_memory, try_convert, try_make};
 
 // The first `n` even numbers.
 fn evens<A: Allocator + Copy>(alloc: A, n: usize) -> Result<Vec<u64, A>, AllocError> {
@@ -46,10 +46,11 @@ fn tried_intersect<B: Allocator, A: Allocator + Copy>(
     alloc: A,
     documents: &[u64],
 ) -> Ending {
-    match posted(alloc, documents, documents) {
-        Ok(list) => try_shared(heap, &list, documents),
-        Err(_) => Ending::Wrong,
-    }
+    asked(
+        posted(alloc, documents, documents),
+        |list: &Postings<A>| try_shared(heap, list, documents),
+    )
+    .unwrap_or(Ending::Wrong)
 }
 
 // Whether both calls take memory where there are documents, and answer each refusal.
