@@ -1,44 +1,39 @@
 //! What lines are answered by.
 use crate::devices::answers;
-use crate::memory::repeated;
+use std::alloc::{AllocError, Global};
 use std::test::Fail;
+use vers_cli::RunError;
 
-#[test]
-fn ranks_places_and_bits(rt: HostRuntime) -> Result<(), Fail> {
-    let text = answers(
-        rt.alloc(),
+/// What a case shows, its input and its output.
+pub type Case = (&'static str, &'static [u8], &'static [u8]);
+
+/// What the first case shows that is answered otherwise; nothing where all are answered so.
+pub fn first_wrong(alloc: Global, cases: &[Case]) -> Result<&'static str, RunError> {
+    for (case, input, output) in cases {
+        if answers(alloc, *input)?.as_slice() != *output {
+            return Ok(*case);
+        }
+    }
+    Ok("")
+}
+
+const CASES: [Case; 21] = [
+    (
+        "ranks, places and bits",
         b"bits 0110\nrank1 3\nselect1 1\nselect1 2\nget 9\n",
-    )?;
-    assert_eq!(rt; text.as_slice(), b"4\n2\n2\n4\nnone\n".as_slice());
-    Ok(())
-}
-
-#[test]
-fn nothing_held_and_the_empty_list(rt: HostRuntime) -> Result<(), Fail> {
-    let text = answers(rt.alloc(), b"get 0\nbits 2\nbits\nrank0 7\n")?;
-    assert_eq!(rt;
-        text.as_slice(),
-        b"wrong structure\nbad line\n0\n0\n".as_slice()
-    );
-    Ok(())
-}
-
-// An empty third line, a byte 13 at the end of the eighth, and no line end after the last.
-#[test]
-fn malformed_lines(rt: HostRuntime) -> Result<(), Fail> {
-    let text = answers(
-        rt.alloc(),
+        b"4\n2\n2\n4\nnone\n",
+    ),
+    (
+        "nothing held, and the empty list",
+        b"get 0\nbits 2\nbits\nrank0 7\n",
+        b"wrong structure\nbad line\n0\n0\n",
+    ),
+    (
+        "an empty third line, a byte 13 at the end of the eighth, and no line end after the last",
         b"rank1 x\nfoo 1\n\nbits\nget 0\nbits 0 1\nlen\nbits 1\r\nget 000\nget -1\nrank1 18446744073709551615\nrank1 18446744073709551616\nselect1 0",
-    )?;
-    assert_eq!(rt;
-        text.as_slice(),
-        b"wrong structure\nbad line\n0\nnone\nbad line\n0\n1\n1\nbad line\n1\nbad line\n0\n".as_slice()
-    );
-    Ok(())
-}
-
-// What a case shows, its input and its output.
-const CASES: [(&str, &[u8], &[u8]); 17] = [
+        b"wrong structure\nbad line\n0\nnone\nbad line\n0\n1\n1\nbad line\n1\nbad line\n0\n",
+    ),
+    ("no input, no answer", b"", b""),
     (
         "every query of a list of bits",
         b"bits 0110\nlen\nget 0\nget 1\nrank0 2\nrank0 9\nrank1 2\nselect0 1\nselect0 2\nselect1 0\n",
@@ -122,28 +117,8 @@ const CASES: [(&str, &[u8], &[u8]); 17] = [
     ),
 ];
 
-// Equal values over more than two blocks of 128.
-#[test]
-fn the_first_of_many_equal_values(rt: HostRuntime) -> Result<(), Fail> {
-    let mut input = repeated(rt.alloc(), b"values", 1)?;
-    input.extend_from_slice(repeated(rt.alloc(), b" 7", 300)?.as_slice())?;
-    input.extend_from_slice(b"\nrange_min 5 290\nrange_min 299 299\nrange_min 0 300\n")?;
-    let text = answers(rt.alloc(), input.as_slice())?;
-    assert_eq!(rt; text.as_slice(), b"300\n5\n299\nrefused\n".as_slice());
-    Ok(())
-}
-
-#[test]
-fn lines_and_their_answers(rt: HostRuntime) -> Result<(), Fail> {
-    for (case, input, output) in CASES {
-        assert_eq!(rt; answers(rt.alloc(), input)?.as_slice(), output, "{case}");
-    }
-    assert_eq!(rt; answers(rt.alloc(), b"")?.len(), 0);
-    Ok(())
-}
-
 // The same of parentheses.
-const TREE_CASES: [(&str, &[u8], &[u8]); 9] = [
+const TREE_CASES: [Case; 9] = [
     (
         "every query of parentheses",
         b"tree 110100\nsize\nroot\nis_balanced\nexcess 0\nexcess 2\nexcess 5\nclose 0\nclose 1\nopen 5\nopen 4\nenclose 4\nenclose 1\nenclose 0\nfwd_search 0 -1\nbwd_search 5 -1\nnode_handle 2\nnode_handle 3\ndfs_iter\n",
@@ -191,33 +166,8 @@ const TREE_CASES: [(&str, &[u8], &[u8]); 9] = [
     ),
 ];
 
-#[test]
-fn lines_of_parentheses(rt: HostRuntime) -> Result<(), Fail> {
-    for (case, input, output) in TREE_CASES {
-        assert_eq!(rt; answers(rt.alloc(), input)?.as_slice(), output, "{case}");
-    }
-    Ok(())
-}
-
-// Parentheses over more than two blocks of 512: 700 that open, and then 700 that close.
-#[test]
-fn parentheses_over_blocks(rt: HostRuntime) -> Result<(), Fail> {
-    let mut input = repeated(rt.alloc(), b"tree ", 1)?;
-    input.extend_from_slice(repeated(rt.alloc(), b"1", 700)?.as_slice())?;
-    input.extend_from_slice(repeated(rt.alloc(), b"0", 700)?.as_slice())?;
-    input.extend_from_slice(
-        b"\nis_balanced\nclose 0\nclose 600\nopen 1300\nenclose 700\nexcess 699\nexcess 1398\nfwd_search 10 -11\nbwd_search 1399 -1\n",
-    )?;
-    let text = answers(rt.alloc(), input.as_slice())?;
-    assert_eq!(rt;
-        text.as_slice(),
-        b"1400\n1\n1399\n799\n99\n698\n700\n1\n1399\n0\n".as_slice()
-    );
-    Ok(())
-}
-
 // The same of symbols.
-const SYMBOLS_CASES: [(&str, &[u8], &[u8]); 8] = [
+const SYMBOLS_CASES: [Case; 8] = [
     (
         "every query of symbols",
         b"symbols 3 1 5 3\nlen\nget_u64 1\nget_u64 3\nrank_u64 3 11\nrank_u64 0 1\nrank_u64 4 1\nrank_range_u64 1 3 3\nrank_range_u64 1 2 3\nselect_u64 0 3\nselect_u64 1 3\nselect_u64 1 1\nselect_offset_u64 1 0 1\nselect_offset_u64 1 0 3\nquantile_u64 0 3 1\nquantile_u64 0 3 2\nquantile_u64 1 3 0\nrange_min_u64 1 3\nrange_max_u64 1 3\nrange_median_u64 0 2\npredecessor_u64 0 3 4\nsuccessor_u64 0 3 4\npredecessor_u64 1 2 4\nsuccessor_u64 0 1 2\niter_u64\niter_sorted_u64\n",
@@ -260,16 +210,8 @@ const SYMBOLS_CASES: [(&str, &[u8], &[u8]); 8] = [
     ),
 ];
 
-#[test]
-fn lines_of_symbols(rt: HostRuntime) -> Result<(), Fail> {
-    for (case, input, output) in SYMBOLS_CASES {
-        assert_eq!(rt; answers(rt.alloc(), input)?.as_slice(), output, "{case}");
-    }
-    Ok(())
-}
-
 // The same of documents with costs.
-const POSTINGS_CASES: [(&str, &[u8], &[u8]); 8] = [
+const POSTINGS_CASES: [Case; 8] = [
     (
         "documents with costs, and lines of them that are malformed or refused",
         b"postings 2 7 5 3 9 3 12 8\ncheapest 6 12\nnext 13\nintersect 5 6 12 40\nintersect\nintersect 5 5\npostings 1\npostings 3 1 2 1\ncontains 5\n",
@@ -313,25 +255,106 @@ const POSTINGS_CASES: [(&str, &[u8], &[u8]); 8] = [
 ];
 
 #[test]
-fn lines_of_documents(rt: HostRuntime) -> Result<(), Fail> {
-    for (case, input, output) in POSTINGS_CASES {
-        assert_eq!(rt; answers(rt.alloc(), input)?.as_slice(), output, "{case}");
+fn lines_and_their_answers(rt: HostRuntime) -> Result<(), Fail> {
+    assert_eq!(rt; first_wrong(rt.alloc(), &CASES)?, "");
+    assert_eq!(rt; first_wrong(rt.alloc(), &TREE_CASES)?, "");
+    assert_eq!(rt; first_wrong(rt.alloc(), &SYMBOLS_CASES)?, "");
+    assert_eq!(rt; first_wrong(rt.alloc(), &POSTINGS_CASES)?, "");
+    Ok(())
+}
+
+/// An input whose first line has two texts, each so many times.
+pub struct LongCase {
+    case: &'static str,
+    start: &'static [u8],
+    first: (&'static [u8], usize),
+    second: (&'static [u8], usize),
+    queries: &'static [u8],
+    output: &'static [u8],
+}
+
+// Inputs over more than two blocks of 128 values or of 512 bits or symbols, and one that is longer than
+// a read.
+const LONG_CASES: [LongCase; 6] = [
+    LongCase {
+        case: "the first of many equal values",
+        start: b"values",
+        first: (b" 7", 300),
+        second: (b"", 0),
+        queries: b"\nrange_min 5 290\nrange_min 299 299\nrange_min 0 300\n",
+        output: b"300\n5\n299\nrefused\n",
+    },
+    LongCase {
+        case: "700 parentheses that open, and then 700 that close",
+        start: b"tree ",
+        first: (b"1", 700),
+        second: (b"0", 700),
+        queries: b"\nis_balanced\nclose 0\nclose 600\nopen 1300\nenclose 700\nexcess 699\nexcess 1398\nfwd_search 10 -11\nbwd_search 1399 -1\n",
+        output: b"1400\n1\n1399\n799\n99\n698\n700\n1\n1399\n0\n",
+    },
+    LongCase {
+        case: "the symbols 0, 1, 2 and 3, and so 300 times",
+        start: b"symbols 2",
+        first: (b" 0 1 2 3", 300),
+        second: (b"", 0),
+        queries: b"\nrank_u64 1200 2\nselect_u64 299 3\nquantile_u64 0 1200 599\nquantile_u64 0 1200 600\nrange_median_u64 0 1200\nrange_max_u64 1 4\nrank_range_u64 5 1195 0\nselect_offset_u64 601 149 1\nget_u64 1199\n",
+        output: b"1200\n300\n1199\n1\n2\n1\n3\n297\n1197\n3\n",
+    },
+    LongCase {
+        case: "a path of 700 nodes",
+        start: b"tree ",
+        first: (b"1", 700),
+        second: (b"0", 700),
+        queries: b"\nis_leaf 698\nis_leaf 699\ndepth 699\nparent 699\nlevel_ancestor 699 699\nlevel_ancestor 699 700\nfirst_child 0\nlast_child 698\nsubtree_size 0\nsubtree_size 690\nis_ancestor 0 699\nis_ancestor 699 0\nlevel_leftmost 699\nlevel_rightmost 300\nrev_children 698\nnext_sibling 5\nsubtree_post_iter 697\n",
+        output: b"1400\n0\n1\n699\n698\n0\nnone\n1\n699\n700\n10\n1\n0\n699\n300\n699\nnone\n699 698 697\n",
+    },
+    LongCase {
+        case: "a node with 600 leaves",
+        start: b"tree ",
+        first: (b"1", 2),
+        second: (b"01", 599),
+        queries: b"00\nlast_child 0\nnext_sibling 1\nprevious_sibling 1199\nlevel_next 511\nlevel_prev 513\nsubtree_size 0\nnode_index 1199\nlevel_leftmost 1\nlevel_rightmost 1\nparent 1199\nis_ancestor 0 1199\ndepth 601\n",
+        output: b"1202\n1199\n3\n1197\n513\n511\n601\n600\n1\n1199\n0\n1\n1\n",
+    },
+    LongCase {
+        case: "200000 bits, a one at every odd place",
+        start: b"bits ",
+        first: (b"01", 100000),
+        second: (b"", 0),
+        queries: b"\nrank1 20000\nselect1 9999\nselect0 9999\nget 20000\nlen\n",
+        output: b"200000\n10000\n19999\n19998\n0\n200000\n",
+    },
+];
+
+/// Adds a text so many times.
+pub fn push_repeated(whole: &mut Vec<u8>, text: &[u8], times: usize) -> Result<(), AllocError> {
+    for _ in 0..times {
+        whole.extend_from_slice(text)?;
     }
     Ok(())
 }
 
-// Symbols over more than two blocks of 512: 0, 1, 2 and 3, and so 300 times.
+fn long_input(alloc: Global, long: &LongCase) -> Result<Vec<u8>, AllocError> {
+    let mut input = Vec::new(alloc);
+    push_repeated(&mut input, long.start, 1)?;
+    push_repeated(&mut input, long.first.0, long.first.1)?;
+    push_repeated(&mut input, long.second.0, long.second.1)?;
+    push_repeated(&mut input, long.queries, 1)?;
+    Ok(input)
+}
+
+// What the first long case shows that is answered otherwise; nothing where all are answered so.
+fn first_wrong_long(alloc: Global) -> Result<&'static str, RunError> {
+    for long in &LONG_CASES {
+        if answers(alloc, long_input(alloc, long)?.as_slice())?.as_slice() != long.output {
+            return Ok(long.case);
+        }
+    }
+    Ok("")
+}
+
 #[test]
-fn symbols_over_blocks(rt: HostRuntime) -> Result<(), Fail> {
-    let mut input = repeated(rt.alloc(), b"symbols 2", 1)?;
-    input.extend_from_slice(repeated(rt.alloc(), b" 0 1 2 3", 300)?.as_slice())?;
-    input.extend_from_slice(
-        b"\nrank_u64 1200 2\nselect_u64 299 3\nquantile_u64 0 1200 599\nquantile_u64 0 1200 600\nrange_median_u64 0 1200\nrange_max_u64 1 4\nrank_range_u64 5 1195 0\nselect_offset_u64 601 149 1\nget_u64 1199\n",
-    )?;
-    let text = answers(rt.alloc(), input.as_slice())?;
-    assert_eq!(rt;
-        text.as_slice(),
-        b"1200\n300\n1199\n1\n2\n1\n3\n297\n1197\n3\n".as_slice()
-    );
+fn long_lines_and_their_answers(rt: HostRuntime) -> Result<(), Fail> {
+    assert_eq!(rt; first_wrong_long(rt.alloc())?, "");
     Ok(())
 }

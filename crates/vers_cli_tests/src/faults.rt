@@ -2,7 +2,6 @@
 use crate::devices::{FailingReader, FailingWriter, run_over};
 use std::alloc::{AllocError, Global};
 use std::io::{Read, Write};
-use std::process::Abort;
 use std::test::Fail;
 use vers_cli::{Device, RunError, fault_line};
 
@@ -37,14 +36,9 @@ fn lines_ended(bytes: usize) -> usize {
         .count()
 }
 
-// A run whose read of this number fails, if the run comes so far. The lines that ended before it
-// are answered, and nothing is read after it.
-fn fails_at_read(
-    rt: &impl Abort,
-    alloc: Global,
-    piece: usize,
-    fails_at: u64,
-) -> Result<(), AllocError> {
+// Whether a run whose read of this number fails, if the run comes so far, answers the lines that ended
+// before it, and reads nothing after it.
+fn is_right_at_read(alloc: Global, piece: usize, fails_at: u64) -> Result<bool, AllocError> {
     let reader = FailingReader {
         rest: INPUT,
         piece,
@@ -54,37 +48,35 @@ fn fails_at_read(
     let end = run_over(alloc, reader, Vec::new(alloc));
     let reads = INPUT.len().div_ceil(piece.max(1)) as u64 + 1;
     let fails = fails_at <= reads;
-    let lines = if fails {
-        assert_eq!(rt; end.result, Err(RunError::Read));
-        lines_ended((fails_at as usize).saturating_sub(1).saturating_mul(piece))
+    let (result, lines) = if fails {
+        let read = (fails_at as usize).saturating_sub(1).saturating_mul(piece);
+        (Err(RunError::Read), lines_ended(read))
     } else {
-        assert_eq!(rt; end.result, Ok(()));
-        ANSWERS.len()
+        (Ok(()), ANSWERS.len())
     };
-    assert_eq!(rt; end.reader_failed, fails);
-    assert!(rt; !end.writer_failed);
-    assert_eq!(rt; end.reader.reads, fails_at.min(reads));
-    assert_eq!(rt;
-        end.writer.as_slice(),
-        first_answers(alloc, lines)?.as_slice()
-    );
-    Ok(())
+    let text = first_answers(alloc, lines)?;
+    Ok(
+        end.result == result
+            && end.reader_failed == fails
+            && !end.writer_failed
+            && end.reader.reads == fails_at.min(reads)
+            && end.writer.as_slice() == text.as_slice(),
+    )
 }
 
 #[test]
 fn each_read_fails_in_turn(rt: HostRuntime) -> Result<(), Fail> {
     for piece in [1usize, 3, 7, 10, 100] {
         for fails_at in 1..40u64 {
-            fails_at_read(&rt, rt.alloc(), piece, fails_at)?;
+            assert!(rt; is_right_at_read(rt.alloc(), piece, fails_at)?);
         }
     }
     Ok(())
 }
 
-// A run whose write of this number fails or takes none, if the run comes so far, to a writer that
-// takes one byte at once. What was written before is a beginning of the answers, and nothing is
-// written after it.
-fn fails_at_write(rt: &impl Abort, alloc: Global, takes_none: bool, fails_at: u64) {
+// Whether a run whose write of this number fails or takes none, if the run comes so far, to a writer that
+// takes one byte at once, has written a beginning of the answers before, and writes nothing after it.
+fn is_right_at_write(alloc: Global, takes_none: bool, fails_at: u64) -> bool {
     let writer = FailingWriter {
         piece: 1,
         fails_at,
@@ -94,43 +86,43 @@ fn fails_at_write(rt: &impl Abort, alloc: Global, takes_none: bool, fails_at: u6
     let end = run_over(alloc, INPUT, writer);
     let writes = OUTPUT.len() as u64;
     let fails = fails_at <= writes;
-    if fails {
-        assert_eq!(rt; end.result, Err(RunError::Write));
+    let (result, written) = if fails {
+        (Err(RunError::Write), fails_at.saturating_sub(1))
     } else {
-        assert_eq!(rt; end.result, Ok(()));
-    }
-    assert_eq!(rt; end.writer_failed, fails);
-    assert!(rt; !end.reader_failed);
-    assert_eq!(rt; end.writer.calls, fails_at.min(writes));
-    let written = if fails {
-        fails_at.saturating_sub(1)
-    } else {
-        writes
+        (Ok(()), writes)
     };
-    assert_eq!(rt; end.writer.text.len() as u64, written);
-    assert!(rt; OUTPUT.starts_with(end.writer.text.as_slice()));
+    end.result == result
+        && end.writer_failed == fails
+        && !end.reader_failed
+        && end.writer.calls == fails_at.min(writes)
+        && end.writer.text.len() as u64 == written
+        && OUTPUT.starts_with(end.writer.text.as_slice())
 }
 
 #[test]
 fn each_write_fails_in_turn(rt: HostRuntime) {
     for takes_none in [false, true] {
         for fails_at in 1..30u64 {
-            fails_at_write(&rt, rt.alloc(), takes_none, fails_at);
+            assert!(rt; is_right_at_write(rt.alloc(), takes_none, fails_at));
         }
     }
+}
+
+// Whether a run to a writer that takes so many bytes of each piece writes all answers.
+fn is_whole_in_parts(alloc: Global, piece: usize) -> bool {
+    let writer = FailingWriter {
+        piece,
+        ..FailingWriter::whole(alloc)
+    };
+    let end = run_over(alloc, INPUT, writer);
+    end.result == Ok(()) && end.writer.text.as_slice() == OUTPUT
 }
 
 // A writer that takes some bytes of each piece is asked again for the rest.
 #[test]
 fn a_writer_takes_pieces_in_parts(rt: HostRuntime) {
     for piece in 1..12usize {
-        let writer = FailingWriter {
-            piece,
-            ..FailingWriter::whole(rt.alloc())
-        };
-        let end = run_over(rt.alloc(), INPUT, writer);
-        assert_eq!(rt; end.result, Ok(()));
-        assert_eq!(rt; end.writer.text.as_slice(), OUTPUT);
+        assert!(rt; is_whole_in_parts(rt.alloc(), piece));
     }
 }
 
@@ -152,8 +144,7 @@ fn a_device_reads_once_a_call(rt: HostRuntime) {
         (Some(1), true),
         (Some(0), true),
     ] {
-        assert_eq!(rt; reader.read(&mut buffer).ok(), given);
-        assert_eq!(rt; reader.failed(), failed);
+        assert!(rt; reader.read(&mut buffer).ok() == given && reader.failed() == failed);
     }
     assert_eq!(rt; reader.into_inner().reads, 5);
 }
@@ -161,24 +152,23 @@ fn a_device_reads_once_a_call(rt: HostRuntime) {
 // The same of writes, by an error or by a write that takes no byte. A write of no byte is no fault.
 #[test]
 fn a_device_writes_once_a_call(rt: HostRuntime) {
-    for takes_none in [false, true] {
+    for (takes_none, fault) in [(false, None), (true, Some(0usize))] {
         let mut writer = Device::new(FailingWriter {
             piece: 2,
             fails_at: 3,
             takes_none,
             ..FailingWriter::whole(rt.alloc())
         });
-        let fault = if takes_none { Some(0usize) } else { None };
-        assert_eq!(rt; writer.write(b"").ok(), Some(0));
-        assert_eq!(rt; writer.write(b"abc").ok(), Some(2));
-        assert!(rt; !writer.failed());
-        assert_eq!(rt; writer.write(b"c").ok(), fault);
-        assert!(rt; writer.failed());
-        assert_eq!(rt; writer.write(b"c").ok(), Some(1));
-        assert!(rt; writer.failed());
-        let FailingWriter { text, calls, .. } = writer.into_inner();
-        assert_eq!(rt; text.as_slice(), b"abc".as_slice());
-        assert_eq!(rt; calls, 4);
+        for (piece, given, failed) in [
+            (b"".as_slice(), Some(0usize), false),
+            (b"abc", Some(2), false),
+            (b"c", fault, true),
+            (b"c", Some(1), true),
+        ] {
+            assert!(rt; writer.write(piece).ok() == given && writer.failed() == failed);
+        }
+        let end = writer.into_inner();
+        assert!(rt; end.text.as_slice() == b"abc".as_slice() && end.calls == 4);
     }
 }
 
@@ -190,8 +180,7 @@ fn a_device_flushes_once_a_call(rt: HostRuntime) {
         ..FailingWriter::whole(rt.alloc())
     });
     for (is_fine, failed) in [(true, false), (false, true), (true, true)] {
-        assert_eq!(rt; writer.flush().is_ok(), is_fine);
-        assert_eq!(rt; writer.failed(), failed);
+        assert!(rt; writer.flush().is_ok() == is_fine && writer.failed() == failed);
     }
     assert_eq!(rt; writer.into_inner().calls, 3);
 }

@@ -1,11 +1,8 @@
 //! What lines of balanced parentheses are answered by.
-use crate::devices::answers;
-use crate::memory::repeated;
-use std::alloc::{AllocError, Global};
+use crate::answers::{Case, first_wrong};
 use std::test::Fail;
 
-// What a case shows, its input and its output.
-const CASES: [(&str, &[u8], &[u8]); 14] = [
+const CASES: [Case; 14] = [
     (
         "parentheses, balanced and not",
         b"tree 110100\nclose 0\nchildren 0\nchildren 1\ndfs_post_iter\nenclose 4\ntree 01\nparent 0\nfwd_search 0 1\n",
@@ -80,54 +77,6 @@ const CASES: [(&str, &[u8], &[u8]); 14] = [
 
 #[test]
 fn lines_of_nodes(rt: HostRuntime) -> Result<(), Fail> {
-    for (case, input, output) in CASES {
-        assert_eq!(rt; answers(rt.alloc(), input)?.as_slice(), output, "{case}");
-    }
-    Ok(())
-}
-
-// A load line of two texts, each so many times, and what stands after them.
-fn long_tree(
-    alloc: Global,
-    first: (&[u8], usize),
-    second: (&[u8], usize),
-    queries: &[u8],
-) -> Result<Vec<u8>, AllocError> {
-    let mut input = repeated(alloc, b"tree ", 1)?;
-    input.extend_from_slice(repeated(alloc, first.0, first.1)?.as_slice())?;
-    input.extend_from_slice(repeated(alloc, second.0, second.1)?.as_slice())?;
-    input.extend_from_slice(queries)?;
-    Ok(input)
-}
-
-// A path of 700 nodes, over more than two blocks of 512 bits.
-#[test]
-fn a_path_over_blocks(rt: HostRuntime) -> Result<(), Fail> {
-    let input = long_tree(
-        rt.alloc(),
-        (b"1", 700),
-        (b"0", 700),
-        b"\nis_leaf 698\nis_leaf 699\ndepth 699\nparent 699\nlevel_ancestor 699 699\nlevel_ancestor 699 700\nfirst_child 0\nlast_child 698\nsubtree_size 0\nsubtree_size 690\nis_ancestor 0 699\nis_ancestor 699 0\nlevel_leftmost 699\nlevel_rightmost 300\nrev_children 698\nnext_sibling 5\nsubtree_post_iter 697\n",
-    )?;
-    assert_eq!(rt;
-        answers(rt.alloc(), input.as_slice())?.as_slice(),
-        b"1400\n0\n1\n699\n698\n0\nnone\n1\n699\n700\n10\n1\n0\n699\n300\n699\nnone\n699 698 697\n".as_slice()
-    );
-    Ok(())
-}
-
-// A node with 600 leaves, over more than two blocks of 512 bits.
-#[test]
-fn a_star_over_blocks(rt: HostRuntime) -> Result<(), Fail> {
-    let input = long_tree(
-        rt.alloc(),
-        (b"1", 2),
-        (b"01", 599),
-        b"00\nlast_child 0\nnext_sibling 1\nprevious_sibling 1199\nlevel_next 511\nlevel_prev 513\nsubtree_size 0\nnode_index 1199\nlevel_leftmost 1\nlevel_rightmost 1\nparent 1199\nis_ancestor 0 1199\ndepth 601\n",
-    )?;
-    assert_eq!(rt;
-        answers(rt.alloc(), input.as_slice())?.as_slice(),
-        b"1202\n1199\n3\n1197\n513\n511\n601\n600\n1\n1199\n0\n1\n1\n".as_slice()
-    );
+    assert_eq!(rt; first_wrong(rt.alloc(), &CASES)?, "");
     Ok(())
 }

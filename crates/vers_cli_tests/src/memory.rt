@@ -1,7 +1,7 @@
 //! Runs that are refused memory, and long inputs.
-use crate::devices::{FailingReader, FailingWriter, answers, run_over};
+use crate::answers::{Case, first_wrong, push_repeated};
+use crate::devices::{Ended, FailingReader, FailingWriter, run_over};
 use std::alloc::{AllocError, Global};
-use std::process::Abort;
 use std::test::Fail;
 use test_alloc::Refusing;
 use vers_cli::RunError;
@@ -27,157 +27,214 @@ const RUNS: [(&[u8], &[u8]); 4] = [
     ),
 ];
 
-// A run over one of these inputs whose request of this number is refused, if it comes so far: how
-// many bytes of whole answer lines it wrote, or None where it ended with no request refused.
-fn refused_at(
-    rt: &impl Abort,
-    alloc: Global,
-    (input, output): (&[u8], &[u8]),
-    piece: usize,
-    request: u64,
-) -> Option<usize> {
+type End<'a> = Ended<FailingReader<'a>, Vec<u8>>;
+
+// Whether a run ended with all its answers, and gave its memory back.
+fn is_whole(end: &End, heap: &Refusing<Global>, output: &[u8]) -> bool {
+    end.result == Ok(()) && end.writer.as_slice() == output && heap.asked() == heap.freed()
+}
+
+// Whether a run ended at a request of this number that was refused, after the answers of a first part of
+// the lines, and gave its memory back.
+fn is_cut_off(end: &End, heap: &Refusing<Global>, output: &[u8], request: u64) -> bool {
+    let text = end.writer.as_slice();
+    end.result == Err(RunError::Memory)
+        && output.starts_with(text)
+        && (text.is_empty() || text.ends_with(b"\n"))
+        && heap.asked().saturating_sub(heap.freed()) == 1
+        && (request == 1) == (end.reader.reads == 0)
+}
+
+// How a run ended of which a request may have been refused: whether as it must, and how many bytes of
+// whole answer lines it wrote, or None where no request was refused.
+#[derive(Clone, Copy, Drop)]
+struct Outcome {
+    is_right: bool,
+    written: Option<usize>,
+}
+
+fn outcome_of(end: &End, heap: &Refusing<Global>, output: &[u8], request: u64) -> Outcome {
+    let is_fine = !end.reader_failed && !end.writer_failed;
+    if heap.refused() == 0 {
+        return Outcome {
+            is_right: is_fine && is_whole(end, heap, output),
+            written: None,
+        };
+    }
+    Outcome {
+        is_right: is_fine && is_cut_off(end, heap, output, request),
+        written: Some(end.writer.len()),
+    }
+}
+
+// A run over one of these inputs whose request of this number is refused, if it comes so far.
+fn refused_at(alloc: Global, run: (&[u8], &[u8]), piece: usize, request: u64) -> Outcome {
     let heap = Refusing::nth(alloc, request);
+    let reader = FailingReader {
+        rest: run.0,
+        piece,
+        fails_at: 0,
+        reads: 0,
+    };
+    let end = run_over(&heap, reader, Vec::new(alloc));
+    outcome_of(&end, &heap, run.1, request)
+}
+
+// Whether each run ends as it must where its first request is refused, then the second, and so on,
+// until a run ends with none refused. The later the request, the more answers are written, at last
+// nearly half of them.
+fn is_right_at_each_request(alloc: Global, run: (&[u8], &[u8]), piece: usize) -> bool {
+    let mut most = 0usize;
+    for request in 1..400u64 {
+        let end = refused_at(alloc, run, piece, request);
+        let Some(written) = end.written else {
+            return end.is_right && request > 10 && most >= run.1.len() / 2;
+        };
+        if !end.is_right || written < most {
+            return false;
+        }
+        most = written;
+    }
+    false
+}
+
+#[test]
+fn each_request_is_refused_in_turn(rt: HostRuntime) {
+    for run in RUNS {
+        for piece in [5usize, 100] {
+            assert!(rt; is_right_at_each_request(rt.alloc(), run, piece));
+        }
+    }
+}
+
+// With ample memory a load line that isn't admitted is refused, and what was held is kept.
+const REFUSED: [Case; 12] = [
+    (
+        "sorted 3 1",
+        b"bits 0110\nsorted 3 1\nrank1 3\n",
+        b"4\nrefused\n2\n",
+    ),
+    (
+        "sorted 1 2 3 2",
+        b"bits 0110\nsorted 1 2 3 2\nrank1 3\n",
+        b"4\nrefused\n2\n",
+    ),
+    (
+        "sorted 18446744073709551615 0",
+        b"bits 0110\nsorted 18446744073709551615 0\nrank1 3\n",
+        b"4\nrefused\n2\n",
+    ),
+    (
+        "sparse 0 0",
+        b"bits 0110\nsparse 0 0\nrank1 3\n",
+        b"4\nrefused\n2\n",
+    ),
+    (
+        "sparse 3 3",
+        b"bits 0110\nsparse 3 3\nrank1 3\n",
+        b"4\nrefused\n2\n",
+    ),
+    (
+        "sparse 5 3 3",
+        b"bits 0110\nsparse 5 3 3\nrank1 3\n",
+        b"4\nrefused\n2\n",
+    ),
+    (
+        "sparse 5 3 1",
+        b"bits 0110\nsparse 5 3 1\nrank1 3\n",
+        b"4\nrefused\n2\n",
+    ),
+    (
+        "sparse 18446744073709551615 18446744073709551615",
+        b"bits 0110\nsparse 18446744073709551615 18446744073709551615\nrank1 3\n",
+        b"4\nrefused\n2\n",
+    ),
+    (
+        "symbols 65 1",
+        b"bits 0110\nsymbols 65 1\nrank1 3\n",
+        b"4\nrefused\n2\n",
+    ),
+    (
+        "symbols 18446744073709551615",
+        b"bits 0110\nsymbols 18446744073709551615\nrank1 3\n",
+        b"4\nrefused\n2\n",
+    ),
+    (
+        "postings 2 1 2 5",
+        b"bits 0110\npostings 2 1 2 5\nrank1 3\n",
+        b"4\nrefused\n2\n",
+    ),
+    (
+        "postings 1 1 3 1 2 1",
+        b"bits 0110\npostings 1 1 3 1 2 1\nrank1 3\n",
+        b"4\nrefused\n2\n",
+    ),
+];
+
+#[test]
+fn refused_load_lines(rt: HostRuntime) -> Result<(), Fail> {
+    assert_eq!(rt; first_wrong(rt.alloc(), &REFUSED)?, "");
+    Ok(())
+}
+
+// A text so many times.
+fn repeated(alloc: Global, text: &[u8], times: usize) -> Result<Vec<u8>, AllocError> {
+    let mut whole = Vec::new(alloc);
+    push_repeated(&mut whole, text, times)?;
+    Ok(whole)
+}
+
+// Whether a run over lines that lie across the reads in every way writes these answers, by at most so
+// many writes, and gives its memory back.
+fn is_right_in_pieces(
+    alloc: Global,
+    input: &[u8],
+    output: &[u8],
+    piece: usize,
+    writes: u64,
+) -> bool {
+    let heap = Refusing::none(alloc);
     let reader = FailingReader {
         rest: input,
         piece,
         fails_at: 0,
         reads: 0,
     };
-    let end = run_over(&heap, reader, Vec::new(alloc));
-    assert!(rt; !end.reader_failed);
-    assert!(rt; !end.writer_failed);
-    let text = end.writer.as_slice();
-    if heap.refused() == 0 {
-        assert_eq!(rt; end.result, Ok(()));
-        assert_eq!(rt; text, output);
-        assert_eq!(rt; heap.asked(), heap.freed());
-        return None;
-    }
-    assert_eq!(rt; end.result, Err(RunError::Memory));
-    assert!(rt; output.starts_with(text));
-    assert!(rt; text.is_empty() || text.ends_with(b"\n"));
-    assert_eq!(rt; heap.asked().saturating_sub(heap.freed()), 1);
-    assert_eq!(rt; request == 1, end.reader.reads == 0);
-    Some(text.len())
-}
-
-// The first request of a run is refused, then the second, and so on, until a run ends with none
-// refused. The later the request, the more answers are written, at last nearly half of them.
-fn each_request_is_refused(rt: &impl Abort, alloc: Global, run: (&[u8], &[u8]), piece: usize) {
-    let mut undisturbed = 0u64;
-    let mut most = 0usize;
-    for request in 1..400u64 {
-        let Some(written) = refused_at(rt, alloc, run, piece, request) else {
-            undisturbed = request;
-            break;
-        };
-        assert!(rt; written >= most);
-        most = written;
-    }
-    assert!(rt; undisturbed > 10);
-    assert!(rt; most >= run.1.len() / 2);
-}
-
-#[test]
-fn each_request_is_refused_in_turn(rt: HostRuntime) {
-    for run in RUNS {
-        each_request_is_refused(&rt, rt.alloc(), run, 5);
-        each_request_is_refused(&rt, rt.alloc(), run, 100);
-    }
-}
-
-// With ample memory a load line that isn't admitted is refused, and what was held is kept.
-#[test]
-fn refused_load_lines(rt: HostRuntime) -> Result<(), Fail> {
-    for line in [
-        b"sorted 3 1".as_slice(),
-        b"sorted 1 2 3 2",
-        b"sorted 18446744073709551615 0",
-        b"sparse 0 0",
-        b"sparse 3 3",
-        b"sparse 5 3 3",
-        b"sparse 5 3 1",
-        b"sparse 18446744073709551615 18446744073709551615",
-        b"symbols 65 1",
-        b"symbols 18446744073709551615",
-        b"postings 2 1 2 5",
-        b"postings 1 1 3 1 2 1",
-    ] {
-        let mut input = Vec::new(rt.alloc());
-        input.extend_from_slice(b"bits 0110\n")?;
-        input.extend_from_slice(line)?;
-        input.extend_from_slice(b"\nrank1 3\n")?;
-        let text = answers(rt.alloc(), input.as_slice())?;
-        assert_eq!(rt; text.as_slice(), b"4\nrefused\n2\n".as_slice());
-    }
-    Ok(())
-}
-
-// A load line of so many digits, a one at every odd place, and queries of its list.
-fn long_input(alloc: Global, digits: usize) -> Result<Vec<u8>, AllocError> {
-    let mut input = Vec::new(alloc);
-    input.extend_from_slice(b"bits ")?;
-    for place in 0..digits {
-        input.push(if place % 2 == 0 { b'0' } else { b'1' })?;
-    }
-    input.extend_from_slice(b"\nrank1 20000\nselect1 9999\nselect0 9999\nget 20000\nlen\n")?;
-    Ok(input)
-}
-
-#[test]
-fn a_line_longer_than_a_read(rt: HostRuntime) -> Result<(), Fail> {
-    let input = long_input(rt.alloc(), 200000)?;
-    let text = answers(rt.alloc(), input.as_slice())?;
-    assert_eq!(rt;
-        text.as_slice(),
-        b"200000\n10000\n19999\n19998\n0\n200000\n".as_slice()
-    );
-    Ok(())
-}
-
-/// A text so many times.
-pub fn repeated(alloc: Global, text: &[u8], times: usize) -> Result<Vec<u8>, AllocError> {
-    let mut whole = Vec::new(alloc);
-    for _ in 0..times {
-        whole.extend_from_slice(text)?;
-    }
-    Ok(whole)
-}
-
-// A run over lines that lie across the reads in every way: its answers, the memory that is given
-// back, and at most so many writes.
-fn answers_in_pieces(
-    rt: &impl Abort,
-    alloc: Global,
-    piece: usize,
-    lines: usize,
-    writes: u64,
-) -> Result<(), AllocError> {
-    let input = repeated(alloc, b"bits 0110\nselect1 1\nget 9\n\nfoo\n", lines)?;
-    let output = repeated(alloc, b"4\n2\nnone\nbad line\n", lines)?;
-    let heap = Refusing::none(alloc);
-    let reader = FailingReader {
-        rest: input.as_slice(),
-        piece,
-        fails_at: 0,
-        reads: 0,
-    };
     let end = run_over(&heap, reader, FailingWriter::whole(alloc));
-    assert_eq!(rt; end.result, Ok(()));
-    assert!(rt; end.writer.text.as_slice() == output.as_slice());
-    assert!(rt; end.writer.calls <= writes);
-    assert_eq!(rt; heap.asked(), heap.freed());
-    Ok(())
+    end.result == Ok(())
+        && end.writer.text.as_slice() == output
+        && end.writer.calls <= writes
+        && heap.asked() == heap.freed()
 }
 
 // The answers of the lines of one read are written at once: the input has 93000 bytes, of which a
 // read takes at most 65536, and 12000 answer lines.
 #[test]
 fn many_lines(rt: HostRuntime) -> Result<(), Fail> {
+    let input = repeated(rt.alloc(), b"bits 0110\nselect1 1\nget 9\n\nfoo\n", 3000)?;
+    let output = repeated(rt.alloc(), b"4\n2\nnone\nbad line\n", 3000)?;
     for (piece, writes) in [(1usize, 12000u64), (11, 8455), (4096, 23), (100000, 2)] {
-        answers_in_pieces(&rt, rt.alloc(), piece, 3000, writes)?;
+        assert!(rt;
+            is_right_in_pieces(
+                rt.alloc(),
+                input.as_slice(),
+                output.as_slice(),
+                piece,
+                writes
+            )
+        );
     }
     Ok(())
+}
+
+// How many writes a run takes over the input, or None where it writes other answers.
+fn writes_of(alloc: Global, input: &[u8], output: &[u8]) -> Option<u64> {
+    let end = run_over(alloc, input, FailingWriter::whole(alloc));
+    if end.result == Ok(()) && end.writer.text.as_slice() == output {
+        Some(end.writer.calls)
+    } else {
+        None
+    }
 }
 
 // Answers that pass 64 KiB within one read are written in parts: 3000 lines of 44 bytes are 132000.
@@ -188,21 +245,16 @@ fn many_answers_of_one_read(rt: HostRuntime) -> Result<(), Fail> {
         b"sorted 1000000001 1000000002 1000000003 1000000004\n",
         1,
     )?;
-    input.extend_from_slice(repeated(rt.alloc(), b"iter\n", 3000)?.as_slice())?;
+    push_repeated(&mut input, b"iter\n", 3000)?;
     let mut output = repeated(rt.alloc(), b"4\n", 1)?;
-    output.extend_from_slice(repeated(
-        rt.alloc(),
+    push_repeated(
+        &mut output,
         b"1000000001 1000000002 1000000003 1000000004\n",
         3000,
-    )?
-    .as_slice())?;
-    let end = run_over(
-        rt.alloc(),
-        input.as_slice(),
-        FailingWriter::whole(rt.alloc()),
+    )?;
+    assert_eq!(rt;
+        writes_of(rt.alloc(), input.as_slice(), output.as_slice()),
+        Some(3)
     );
-    assert_eq!(rt; end.result, Ok(()));
-    assert!(rt; end.writer.text.as_slice() == output.as_slice());
-    assert_eq!(rt; end.writer.calls, 3);
     Ok(())
 }
