@@ -21,11 +21,7 @@ pub fn sum_of_places<I: Iterator<Item = usize> + Drop>(walk: I) -> u64
     requires can { I.can_next walk }
     requires ends { IsFinite (I.remaining walk) }
 {
-    let mut sum = 0u64;
-    for place in walk {
-        sum = sum.wrapping_add(place as u64);
-    }
-    sum
+    walk.fold(0u64, |sum, place| sum.wrapping_add(place as u64))
 }
 
 /// The sum of the numbers that a walk passes.
@@ -34,11 +30,7 @@ pub fn sum_of<I: Iterator<Item = u64> + Drop>(walk: I) -> u64
     requires can { I.can_next walk }
     requires ends { IsFinite (I.remaining walk) }
 {
-    let mut sum = 0u64;
-    for number in walk {
-        sum = sum.wrapping_add(number);
-    }
-    sum
+    walk.fold(0u64, |sum, number| sum.wrapping_add(number))
 }
 
 #[inline(never)]
