@@ -115,7 +115,7 @@ class Tried:
             raise Failure(f"two wrong bodies of {self.name} have one name")
         return dict(files)
 
-    def keys(self):
+    def keys(self, files):
         """Returns for each of its wrong bodies, by their names, the sum of all that a try of it reads."""
         total = hashlib.sha256(subprocess.run(["rt", "version"], stdout=subprocess.PIPE, check=True).stdout)
         read = [__file__, edits.__file__]
@@ -126,7 +126,7 @@ class Tried:
         for file in read:
             total.update(f"{os.path.basename(file)} {sum_of(file)}\n".encode())
         of = lambda file: hashlib.sha256(f"{total.hexdigest()} {sum_of(file)}".encode()).hexdigest()
-        return {name: of(file) for name, file in self.files().items()}
+        return {name: of(file) for name, file in files.items()}
 
     def check(self, folder):
         """Checks this crate, or a copy of it, and returns what was said and the status."""
@@ -265,11 +265,12 @@ class Run:
 
     def try_crate(self, crate):
         """Tries those wrong bodies of a crate that were not refused earlier, and returns what came of each."""
-        keys, known, left = crate.keys(), {} if self.flags.anew else kept(crate.name), []
+        files, known, left = crate.files(), {} if self.flags.anew else kept(crate.name), []
+        keys = crate.keys(files)
         told = {edit: Told("refused", "", known[key]) for edit, key in keys.items() if key in known}
         if len(told) < len(keys):
             crate.learn_names(self.proofs.begin(crate.name).result())
-        for edit, file in crate.files().items():
+        for edit, file in files.items():
             try:
                 left += [] if edit in told else [edits.load_edit(file, crate.texts, crate.known)]
             except BadEdit as error:
