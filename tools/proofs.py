@@ -2,11 +2,13 @@
 """Proves crates with those below them, as many side by side as there are processors: proofs.py CRATE..
 
 Each crate begins once those below it are proved, those first on which most stand, with a job more for each processor that nothing
-waits for. Standard error tells of each. A program is built besides, and its file `out/NAME.built` is then as old as the
-beginning of the run. An interrupt ends what was begun.
+waits for. It is proved in a repository of its own, since a check locks the folders of all crates below. Standard error tells
+of each. A program is built besides, and its file `out/NAME.built` is then as old as the beginning of the run. An interrupt
+ends what was begun.
 """
 import contextlib
 import os
+import shutil
 import signal
 import subprocess
 import sys
@@ -17,6 +19,7 @@ from collections import Counter
 from concurrent.futures import ThreadPoolExecutor
 
 TOP = os.path.dirname(os.path.dirname(os.path.abspath(__file__)))
+PARTS = ("src", "specs", "proofs")
 
 
 class Failure(Exception):
@@ -46,6 +49,30 @@ class Crates:
     def below(self, name):
         """Returns the libraries below a crate, each after those that it stands on."""
         return list(dict.fromkeys(it for use in self.uses(name) for it in [*self.below(use), use]))
+
+    def copy_to(self, room, name, made):
+        """Makes a repository of a crate with some of what was made of it, over the libraries below it as they were built."""
+        shutil.copy2(f"{self.top}/HANDLES", room)
+        with open(f"{room}/crates.txt", "w", encoding="utf-8") as it:
+            it.write("".join(f"{self.lines[it]}\n" for it in [*self.below(name), name]))
+        for crate in [*self.below(name), name]:
+            for part in [*PARTS, made if crate == name else "out/rlib"]:
+                if os.path.isdir(f"{self.folder(crate)}/{part}"):
+                    shutil.copytree(f"{self.folder(crate)}/{part}", f"{room}/crates/{crate}/{part}", copy_function=linked)
+
+    def take_back(self, room, name):
+        """Takes what was made of a crate in a repository of its own."""
+        shutil.rmtree(f"{self.folder(name)}/out", ignore_errors=True)
+        shutil.move(f"{room}/crates/{name}/out", f"{self.folder(name)}/out")
+
+
+def linked(one, other):
+    """Gives a file that a check replaces, and never writes into, a second name; copies any other, or to another disk."""
+    is_replaced = "/out/rlib/" in one or one.endswith(".oantt")
+    try:
+        (os.link if is_replaced else shutil.copy2)(one, other)
+    except OSError:
+        shutil.copy2(one, other)
 
 
 class Processors:
@@ -126,13 +153,20 @@ class Proofs:
         for below in self.crates.below(name):
             self.begun[below].result()
         above = sum(name in self.crates.below(it) for it in self.crates.lines)
-        command = ["rt", "run" if self.crates.is_program(name) else "lib", "--jobs"]
-        run = lambda jobs: self.processors.run((name, "proof"), [*command, str(jobs)], self.crates.folder(name))
-        said, status = self.processors.do(-above, run)
-        if status:
-            raise Failure(f"{name} is not proved:\n{said[-4000:]}")
+        said = self.processors.do(-above, lambda jobs: self.prove_apart(name, jobs))
         self.tell(f"{name} is proved")
         return said
+
+    def prove_apart(self, name, jobs):
+        """Proves a crate in a repository of its own, and returns what was said."""
+        with tempfile.TemporaryDirectory(prefix="proof-") as room:
+            self.crates.copy_to(room, name, "out")
+            command = ["rt", "run" if self.crates.is_program(name) else "lib", "--jobs", str(jobs)]
+            said, status = self.processors.run((name, "proof"), command, f"{room}/crates/{name}")
+            if status:
+                raise Failure(f"{name} is not proved:\n{said[-4000:]}")
+            self.crates.take_back(room, name)
+            return said
 
 
 def processor_count():

@@ -20,7 +20,6 @@ import hashlib
 import json
 import os
 import re
-import shutil
 import subprocess
 import sys
 import tempfile
@@ -31,9 +30,8 @@ from typing import NamedTuple
 import edits
 import wrong_plants
 from edits import BadEdit
-from proofs import TOP, Crates, Failure, Processors, Proofs, processor_count
+from proofs import PARTS, TOP, Crates, Failure, Processors, Proofs, processor_count
 
-PARTS = ("src", "specs", "proofs")
 KEPT = os.path.join(os.environ.get("XDG_CACHE_HOME") or os.path.expanduser("~/.cache"), "woltsjem", "wrong_bodies")
 # The most that is kept of a crate.
 MOST_KEPT = 1000
@@ -143,7 +141,7 @@ class Tried:
     def try_wave(self, wave):
         """Checks a copy of the crate that has each of these wrong bodies."""
         with tempfile.TemporaryDirectory(prefix="wrong-bodies-") as room:
-            self.copy_to(room)
+            self.crates.copy_to(room, self.name, "out/incremental")
             for file in {it.file for it in wave}:
                 lines = list(self.texts[file])
                 for edit in wave:
@@ -153,28 +151,6 @@ class Tried:
                     it.write("\n".join(lines))
             said, _ = self.check(f"{room}/crates/{self.name}")
             return report_of(said)
-
-    def copy_to(self, room):
-        """Makes a repository of this crate with what was proved of it, over the libraries below it as they were built."""
-        shutil.copy2(f"{self.crates.top}/HANDLES", room)
-        with open(f"{room}/crates.txt", "w", encoding="utf-8") as it:
-            it.write("".join(f"{self.crates.lines[name]}\n" for name in [*self.below, self.name]))
-        for name in [*self.below, self.name]:
-            of, to = self.crates.folder(name), f"{room}/crates/{name}"
-            for part in PARTS:
-                if os.path.isdir(f"{of}/{part}"):
-                    shutil.copytree(f"{of}/{part}", f"{to}/{part}")
-            made = "out/incremental" if name == self.name else "out/rlib"
-            shutil.copytree(f"{of}/{made}", f"{to}/{made}", copy_function=linked)
-
-
-def linked(one, other):
-    """Gives a file that a check replaces, and never writes into, a second name; copies any other, or to another disk."""
-    is_replaced = "/out/rlib/" in one or one.endswith(".oantt")
-    try:
-        (os.link if is_replaced else shutil.copy2)(one, other)
-    except OSError:
-        shutil.copy2(one, other)
 
 
 def sum_of(file):
