@@ -1,77 +1,59 @@
 //! Trees from builders.
 ghost use Rattle.std.specs.Prelude.{◌<◌, ◌≤◌};
 
-use crate::tests::lists::{asked, changed};
+use crate::tests::lists::asked;
 use std::alloc::{Allocator, Global};
 use vers_bits::bit_vec::GrowError;
 use vers_trees::trees::bp::{BpBuilder, BpTree, BuildError, MAX_BLOCK_SIZE};
 
-// What a builder is told: to enter a node, or to leave one.
-#[derive(Clone, Copy, Drop)]
-enum Step {
-    Enter,
-    Leave,
-}
-
-// The steps, and what is built: how many bits, how many ones, and whether they are balanced.
-type Case<'a> = (&'a [Step], Result<(usize, usize, bool), BuildError>);
+// The steps, of which a one enters a node and a zero leaves one, and what is built: how many bits, how many
+// ones, and whether they are balanced.
+type Case<'a> = (&'a [u8], Result<(usize, usize, bool), BuildError>);
 
 const CASES: [Case; 6] = [
     (&[], Ok((0, 0, true))),
-    (&[Step::Enter, Step::Leave], Ok((2, 1, true))),
-    (&[Step::Leave, Step::Enter], Ok((2, 1, false))),
-    (
-        &[Step::Enter, Step::Enter, Step::Leave],
-        Err(BuildError::Excess(1)),
-    ),
-    (&[Step::Leave, Step::Leave], Err(BuildError::Excess(-2))),
-    (
-        &[
-            Step::Enter,
-            Step::Enter,
-            Step::Leave,
-            Step::Enter,
-            Step::Leave,
-            Step::Leave,
-        ],
-        Ok((6, 3, true)),
-    ),
+    (&[1, 0], Ok((2, 1, true))),
+    (&[0, 1], Ok((2, 1, false))),
+    (&[1, 1, 0], Err(BuildError::Excess(1))),
+    (&[0, 0], Err(BuildError::Excess(-2))),
+    (&[1, 1, 0, 1, 0, 0], Ok((6, 3, true))),
 ];
 
-// Takes the steps.
-fn walk<const N: usize, A: Allocator + Copy>(
+fn take_steps<const N: usize, A: Allocator + Copy>(
     builder: &mut BpBuilder<N, A>,
-    steps: &[Step],
+    steps: &[u8],
 ) -> Result<(), GrowError> {
     for step in steps {
-        match *step {
-            Step::Enter => builder.enter_node()?,
-            Step::Leave => builder.leave_node()?,
+        if *step == 1 {
+            builder.enter_node()?;
+        } else {
+            builder.leave_node()?;
         }
     }
     Ok(())
 }
 
-// A builder after the steps, with room for as many nodes.
-fn builder_of<const N: usize>(
-    alloc: Global,
-    steps: &[Step],
-) -> Result<BpBuilder<N, Global>, GrowError>
-    requires some { 0 < N }
-    requires bounded { N ≤ MAX_BLOCK_SIZE }
-{
-    changed(
-        BpBuilder::with_capacity(alloc, steps.len() as u64),
-        |builder: &mut BpBuilder<N, Global>| walk(builder, steps),
-    )
+/// A builder that was made, after steps. A one enters a node, and another number leaves one.
+pub fn stepped<const N: usize, A: Allocator + Copy>(
+    made: Result<BpBuilder<N, A>, GrowError>,
+    steps: &[u8],
+) -> Result<BpBuilder<N, A>, GrowError> {
+    match made {
+        Ok(mut builder) => match take_steps(&mut builder, steps) {
+            Ok(()) => Ok(builder),
+            Err(fault) => Err(fault),
+        },
+        Err(fault) => Err(fault),
+    }
 }
 
-// What is built of the steps.
-fn built<const N: usize>(alloc: Global, steps: &[Step]) -> Result<(usize, usize, bool), BuildError>
+// What is built of the steps, with room for as many nodes.
+fn built<const N: usize>(alloc: Global, steps: &[u8]) -> Result<(usize, usize, bool), BuildError>
     requires some { 0 < N }
     requires bounded { N ≤ MAX_BLOCK_SIZE }
 {
-    let Ok(builder) = builder_of::<N>(alloc, steps) else {
+    let room = BpBuilder::<N, Global>::with_capacity(alloc, steps.len() as u64);
+    let Ok(builder) = stepped(room, steps) else {
         return Err(BuildError::Memory);
     };
     asked(

@@ -3,7 +3,7 @@ ghost use Rattle.std.specs.Prelude.{◌<◌, ◌≤◌};
 
 use crate::tests::lists::{Query, ask, asked, tree_of};
 use crate::tests::plain::{
-    Group, Node, Order, answer, is_ancestor, leftmost, nodes_of, places, rightmost,
+    Group, Node, Order, answer, is_ancestor, leftmost, nodes_of, opened_at, places, rightmost,
 };
 use crate::tests::queries::Question;
 use crate::tests::tours::{First, TOURS, Tour, tour_gives};
@@ -66,7 +66,7 @@ fn toured(
         Tour::RevChildren => (Group::Under(Some(node)), Order::Backwards),
         Tour::Subtree => (Group::Subtree(node), Order::Opening),
         Tour::SubtreePost => (Group::Subtree(node), Order::Closing),
-        Tour::All => (Group::All, Order::Opening),
+        Tour::Iter | Tour::All => (Group::All, Order::Opening),
         Tour::AllPost => (Group::All, Order::Closing),
     };
     places(alloc, nodes, group, order)
@@ -95,7 +95,7 @@ impl Compared {
         node: usize,
         question: Question,
     ) {
-        let place = nodes.get(node).map_or(usize::MAX, |it| it.open);
+        let place = opened_at(nodes, node);
         let wanted = answer(nodes, node, question);
         self.note(ask(tree, Query::Node(place, question)).is(wanted));
     }
@@ -126,7 +126,7 @@ impl Compared {
         nodes: &[Node],
         node: usize,
     ) {
-        let place = nodes.get(node).map_or(usize::MAX, |it| it.open);
+        let place = opened_at(nodes, node);
         for (other, below) in nodes.iter().enumerate() {
             self.pairs = self.pairs.saturating_add(1);
             let wanted = i64::from(is_ancestor(nodes, node, other));
@@ -142,7 +142,7 @@ impl Compared {
         nodes: &[Node],
         node: usize,
     ) -> Result<(), AllocError> {
-        let place = nodes.get(node).map_or(usize::MAX, |it| it.open);
+        let place = opened_at(nodes, node);
         for tour in TOURS {
             let wanted = toured(alloc, nodes, node, tour)?;
             for first in [First::Plain, First::Counted] {
@@ -198,13 +198,16 @@ fn with_bits<const N: usize>(
     requires bounded { N ≤ MAX_BLOCK_SIZE }
 {
     let nodes = nodes_of(alloc, bits)?;
-    asked(tree_of::<N>(alloc, bits), |tree: &BpTree<N, Global>| {
-        let mut after = before;
-        if tree.is_balanced() {
-            after.note_forest(alloc, tree, nodes.as_slice())?;
-        }
-        Ok(after)
-    })
+    asked(
+        tree_of::<N, Global>(alloc, bits),
+        |tree: &BpTree<N, Global>| {
+            let mut after = before;
+            if tree.is_balanced() {
+                after.note_forest(alloc, tree, nodes.as_slice())?;
+            }
+            Ok(after)
+        },
+    )
 }
 
 // Bit `k` of list number `code` is bit `k` of the number.
@@ -243,15 +246,17 @@ fn every_answer_is_that_of_a_plain_forest(rt: HostRuntime) {
     assert!(rt; compared == [Ok(EVERY); 4]);
 }
 
-// How often the second and the third part of a long list are repeated.
-const TIMES: usize = 20;
-
-// The parts of long lists: one way down; a node with leaves; trees of several shapes, of which one has nodes
-// in its first child and after it all the way down.
-const LONG: [[&[u8]; 4]; 3] = [
-    [&[], &[1], &[0], &[]],
-    [&[1], &[1, 0], &[], &[0]],
-    [&[1, 0], &[1, 1, 0, 1, 1, 0, 0], &[0], &[1, 1, 0, 0]],
+// The parts of long lists, and how often each is repeated: one way down; a node with leaves; trees of several
+// shapes, of which one has nodes in its first child and after it all the way down.
+const LONG: [[(&[u8], usize); 4]; 3] = [
+    [(&[], 1), (&[1], 20), (&[0], 20), (&[], 1)],
+    [(&[1], 1), (&[1, 0], 20), (&[], 20), (&[0], 1)],
+    [
+        (&[1, 0], 1),
+        (&[1, 1, 0, 1, 1, 0, 0], 20),
+        (&[0], 20),
+        (&[1, 1, 0, 0], 1),
+    ],
 ];
 
 // They have 20, 21 and 83 nodes.
@@ -262,15 +267,13 @@ const ALL_LONG: Compared = Compared {
     wrong: 0,
 };
 
-fn long_bits(alloc: Global, parts: [&[u8]; 4]) -> Result<Vec<u8>, AllocError> {
+fn long_bits(alloc: Global, parts: &[(&[u8], usize)]) -> Result<Vec<u8>, AllocError> {
     let mut bits = Vec::new(alloc);
-    bits.extend_from_slice(parts[0])?;
-    for part in [parts[1], parts[2]] {
-        for _ in 0..TIMES {
+    for (part, times) in parts {
+        for _ in 0..*times {
             bits.extend_from_slice(part)?;
         }
     }
-    bits.extend_from_slice(parts[3])?;
     Ok(bits)
 }
 
@@ -281,7 +284,7 @@ fn long<const N: usize>(alloc: Global) -> Result<Compared, GrowError>
 {
     let mut all = Compared::NONE;
     for parts in LONG {
-        let bits = long_bits(alloc, parts)?;
+        let bits = long_bits(alloc, &parts)?;
         all = with_bits::<N>(alloc, bits.as_slice(), all)?;
     }
     Ok(all)

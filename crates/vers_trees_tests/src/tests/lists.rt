@@ -3,7 +3,7 @@ ghost use Rattle.std.specs.Prelude.{◌<◌, ◌≤◌};
 
 use crate::tests::nodes::ask_balanced;
 pub use crate::tests::queries::{Answer, Query, number};
-use std::alloc::{Allocator, Global};
+use std::alloc::Allocator;
 use vers_bits::bit_vec::{BitVec, GrowError};
 use vers_tally::tally::Tally;
 use vers_trees::trees::bp::{BpTree, MAX_BLOCK_SIZE};
@@ -81,24 +81,11 @@ pub fn asked<T: Drop, R, E, F: FnOnce(&T) -> Result<R, E>>(
     }
 }
 
-/// What was made, after a change to it that may fail.
-pub fn changed<T: Drop, E, F: FnOnce(&mut T) -> Result<(), E>>(
-    made: Result<T, E>,
-    change: F,
-) -> Result<T, E>
-    requires { F.IsAlwaysCallable change }
-{
-    match made {
-        Ok(mut it) => match change(&mut it) {
-            Ok(()) => Ok(it),
-            Err(fault) => Err(fault),
-        },
-        Err(fault) => Err(fault),
-    }
-}
-
 /// The tree of bits, each a one where the number is odd.
-pub fn tree_of<const N: usize>(alloc: Global, bits: &[u8]) -> Result<BpTree<N, Global>, GrowError>
+pub fn tree_of<const N: usize, A: Allocator + Copy>(
+    alloc: A,
+    bits: &[u8],
+) -> Result<BpTree<N, A>, GrowError>
     requires some { 0 < N }
     requires bounded { N ≤ MAX_BLOCK_SIZE }
 {

@@ -124,9 +124,17 @@ fn count(nodes: &[Node], group: Group) -> usize {
     found
 }
 
-// Where a node opens.
+/// Where a node opens.
+pub fn opened_at(nodes: &[Node], node: usize) -> usize {
+    match nodes.get(node) {
+        Some(it) => it.open,
+        None => usize::MAX,
+    }
+}
+
+// The same of a node that may not be there.
 fn place(nodes: &[Node], node: Option<usize>) -> Option<i64> {
-    let opened = nodes.get(node?)?.open;
+    let opened = opened_at(nodes, node?);
     number(Some(opened))
 }
 
@@ -199,9 +207,10 @@ pub fn places<A: Allocator + Copy>(
 ) -> Result<Vec<usize, A>, AllocError> {
     let mut places = Vec::new(alloc);
     for k in 0..nodes.len().saturating_mul(2) {
-        let found = node_by(nodes, order, k).filter(|node| is_in(nodes, group, *node));
-        if let Some(it) = found.and_then(|node| nodes.get(node)) {
-            places.push(it.open)?;
+        if let Some(node) = node_by(nodes, order, k) {
+            if is_in(nodes, group, node) {
+                places.push(opened_at(nodes, node))?;
+            }
         }
     }
     Ok(places)

@@ -79,10 +79,10 @@ impl Answer {
 
 /// A place as a number with a sign.
 pub fn number(place: Option<usize>) -> Option<i64> {
-    place.and_then(|place| i64::try_from(place).ok())
+    i64::try_from(place?).ok()
 }
 
 // A truth value as 1 or 0.
 fn truth(answer: Option<bool>) -> Option<i64> {
-    answer.map(|it| i64::from(it))
+    Some(i64::from(answer?))
 }

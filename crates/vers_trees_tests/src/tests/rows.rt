@@ -14,223 +14,195 @@ const THREE_BYTES: [u8; 24] = [
     1, 1, 1, 0, 0, 1, 1, 1, 0, 1, 0, 1, 1, 1, 0, 0, 1, 0, 0, 1, 0, 0, 0, 0,
 ];
 
-// The bits, what is asked, and the answers.
-type Case<'a> = (&'a [u8], &'a [Query], &'a [Option<i64>]);
+// What is asked, and the answer.
+type Row = (Query, Option<i64>);
+
+// A walk from the node at a place, and what it gives.
+type Walked<'a> = (Tour, usize, &'a [usize]);
+
+// Bits, and what is asked of their tree.
+#[derive(Clone, Copy, Drop)]
+struct Case<'a> {
+    bits: &'a [u8],
+    rows: &'a [Row],
+    tours: &'a [Walked<'a>],
+}
 
 const CASES: [Case; 9] = [
-    (
-        &THREE_BYTES,
-        &[
-            Query::Len,
-            Query::Size,
-            Query::Root,
-            Query::IsBalanced,
-            Query::Close(1),
-            Query::Close(5),
-            Query::Open(18),
-            Query::Excess(12),
-            Query::Excess(23),
-            Query::Node(13, Question::Depth),
-            Query::Node(13, Question::LevelAncestor(2)),
-            Query::LevelRightmost(3),
+    Case {
+        bits: &THREE_BYTES,
+        rows: &[
+            (Query::Len, Some(24)),
+            (Query::Size, Some(12)),
+            (Query::Root, Some(0)),
+            (Query::IsBalanced, Some(1)),
+            (Query::Close(1), Some(4)),
+            (Query::Close(5), Some(22)),
+            (Query::Open(18), Some(11)),
+            (Query::Excess(12), Some(5)),
+            (Query::Excess(23), Some(0)),
+            (Query::Node(13, Question::Depth), Some(5)),
+            (Query::Node(13, Question::LevelAncestor(2)), Some(11)),
+            (Query::LevelRightmost(3), Some(19)),
         ],
-        &[
-            Some(24),
-            Some(12),
-            Some(0),
-            Some(1),
-            Some(4),
-            Some(22),
-            Some(11),
-            Some(5),
-            Some(0),
-            Some(5),
-            Some(11),
-            Some(19),
+        tours: &[
+            (Tour::Children, 6, &[7, 9, 11, 19]),
+            (Tour::RevChildren, 6, &[19, 11, 9, 7]),
         ],
-    ),
-    (
-        &[1, 0, 1, 0],
-        &[
-            Query::IsBalanced,
-            Query::Close(0),
-            Query::Close(2),
-            Query::Open(3),
-            Query::Enclose(2),
-            Query::Enclose(3),
-            Query::Handle(1),
-            Query::Handle(2),
-            Query::LevelRightmost(0),
-            Query::Node(0, Question::NextSibling),
-            Query::Node(2, Question::Parent),
+    },
+    Case {
+        bits: &[1, 0, 1, 0],
+        rows: &[
+            (Query::IsBalanced, Some(1)),
+            (Query::Close(0), Some(1)),
+            (Query::Close(2), Some(3)),
+            (Query::Open(3), Some(2)),
+            (Query::Enclose(2), None),
+            (Query::Enclose(3), None),
+            (Query::Handle(1), Some(2)),
+            (Query::Handle(2), Some(4)),
+            (Query::LevelRightmost(0), Some(2)),
+            (Query::Node(0, Question::NextSibling), Some(2)),
+            (Query::Node(2, Question::Parent), None),
         ],
-        &[
-            Some(1),
-            Some(1),
-            Some(3),
-            Some(2),
-            None,
-            None,
-            Some(2),
-            Some(4),
-            Some(2),
-            Some(2),
-            None,
+        tours: &[],
+    },
+    Case {
+        bits: &[0, 1],
+        rows: &[
+            (Query::IsBalanced, Some(0)),
+            (Query::Forward(0, 1), Some(1)),
+            (Query::Backward(1, 1), Some(0)),
+            (Query::Forward(0, i64::MIN), None),
+            (Query::Close(1), None),
+            (Query::Open(0), None),
         ],
-    ),
-    (
-        &[0, 1],
-        &[
-            Query::IsBalanced,
-            Query::Forward(0, 1),
-            Query::Backward(1, 1),
-            Query::Forward(0, i64::MIN),
-            Query::Close(1),
-            Query::Open(0),
+        tours: &[(Tour::Iter, 0, &[1]), (Tour::All, 0, &[1])],
+    },
+    Case {
+        bits: &[],
+        rows: &[
+            (Query::Len, Some(0)),
+            (Query::Size, Some(0)),
+            (Query::IsEmpty, Some(1)),
+            (Query::Root, None),
+            (Query::IsBalanced, Some(1)),
+            (Query::Excess(0), None),
+            (Query::Forward(0, 0), None),
+            (Query::Backward(0, 0), None),
+            (Query::Enclose(0), None),
+            (Query::Handle(0), Some(0)),
+            (Query::LevelLeftmost(0), None),
+            (Query::LevelRightmost(0), None),
         ],
-        &[Some(0), Some(1), Some(0), None, None, None],
-    ),
-    (
-        &[],
-        &[
-            Query::Len,
-            Query::Size,
-            Query::IsEmpty,
-            Query::Root,
-            Query::IsBalanced,
-            Query::Excess(0),
-            Query::Forward(0, 0),
-            Query::Backward(0, 0),
-            Query::Enclose(0),
-            Query::Handle(0),
-            Query::LevelLeftmost(0),
-            Query::LevelRightmost(0),
+        tours: &[(Tour::Iter, 0, &[]), (Tour::All, 0, &[])],
+    },
+    Case {
+        bits: &NODE_WITH_TWO,
+        rows: &[
+            (Query::IsEmpty, Some(0)),
+            (Query::Close(0), Some(5)),
+            (Query::Enclose(4), Some(0)),
+            (Query::Forward(0, i64::MAX), None),
+            (Query::Forward(5, 0), None),
+            (Query::Forward(usize::MAX, 0), None),
+            (Query::Backward(6, -1), None),
+            (Query::Backward(5, i64::MIN), None),
+            (Query::Backward(usize::MAX, i64::MAX), None),
+            (Query::Handle(usize::MAX), Some(6)),
+            (Query::Len, Some(6)),
+            (Query::Size, Some(3)),
+            (Query::Root, Some(0)),
+            (Query::IsBalanced, Some(1)),
+            (Query::Excess(1), Some(2)),
+            (Query::Forward(1, 0), Some(3)),
+            (Query::Open(4), Some(3)),
+            (Query::Enclose(2), Some(0)),
+            (Query::Handle(2), Some(3)),
         ],
-        &[
-            Some(0),
-            Some(0),
-            Some(1),
-            None,
-            Some(1),
-            None,
-            None,
-            None,
-            None,
-            Some(0),
-            None,
-            None,
+        tours: &[
+            (Tour::Children, 0, &[1, 3]),
+            (Tour::RevChildren, 0, &[3, 1]),
+            (Tour::Children, 1, &[]),
+            (Tour::Subtree, 0, &[0, 1, 3]),
+            (Tour::SubtreePost, 0, &[1, 3, 0]),
+            (Tour::Iter, 0, &[0, 1, 3]),
+            (Tour::All, 0, &[0, 1, 3]),
+            (Tour::AllPost, 0, &[1, 3, 0]),
         ],
-    ),
-    (
-        &[1, 1, 0, 1, 0, 0],
-        &[
-            Query::IsEmpty,
-            Query::Close(0),
-            Query::Enclose(4),
-            Query::Forward(0, i64::MAX),
-            Query::Forward(5, 0),
-            Query::Forward(usize::MAX, 0),
-            Query::Backward(6, -1),
-            Query::Backward(5, i64::MIN),
-            Query::Backward(usize::MAX, i64::MAX),
-            Query::Handle(usize::MAX),
+    },
+    Case {
+        bits: &[1, 0, 1, 0, 1, 0, 1, 0, 1, 1],
+        rows: &[
+            (Query::Backward(8, 0), Some(6)),
+            (Query::Forward(0, 0), Some(2)),
+            (Query::IsBalanced, Some(0)),
         ],
-        &[
-            Some(0),
-            Some(5),
-            Some(0),
-            None,
-            None,
-            None,
-            None,
-            None,
-            None,
-            Some(6),
+        tours: &[],
+    },
+    Case {
+        bits: &[1; 24],
+        rows: &[
+            (Query::Backward(16, 0), None),
+            (Query::Backward(16, -16), Some(0)),
+            (Query::Forward(0, 23), Some(23)),
+            (Query::IsBalanced, Some(0)),
         ],
-    ),
-    (
-        &[1, 0, 1, 0, 1, 0, 1, 0, 1, 1],
-        &[
-            Query::Backward(8, 0),
-            Query::Forward(0, 0),
-            Query::IsBalanced,
+        tours: &[],
+    },
+    Case {
+        bits: &[1, 0],
+        rows: &[
+            (Query::IsBalanced, Some(1)),
+            (Query::Close(0), Some(1)),
+            (Query::Open(1), Some(0)),
+            (Query::Node(0, Question::Depth), Some(0)),
+            (Query::Node(0, Question::IsLeaf), Some(1)),
+            (Query::Node(0, Question::Parent), None),
+            (Query::Node(0, Question::SubtreeSize), Some(1)),
+            (Query::LevelRightmost(0), Some(0)),
         ],
-        &[Some(6), Some(2), Some(0)],
-    ),
-    (
-        &[1; 24],
-        &[
-            Query::Backward(16, 0),
-            Query::Backward(16, -16),
-            Query::Forward(0, 23),
-            Query::IsBalanced,
+        tours: &[],
+    },
+    Case {
+        bits: &NODE_WITH_TWO,
+        rows: &[
+            (Query::Node(3, Question::Index), Some(2)),
+            (Query::Node(1, Question::LevelNext), Some(3)),
+            (Query::IsAncestor(1, 3), Some(0)),
+            (Query::IsAncestor(0, 3), Some(1)),
+            (Query::LevelLeftmost(2), None),
+            (Query::LevelLeftmost(u64::MAX), None),
+            (
+                Query::Node(3, Question::LevelAncestor(9223372036854775808)),
+                None,
+            ),
+            (Query::Node(0, Question::FirstChild), Some(1)),
+            (Query::Node(0, Question::LastChild), Some(3)),
+            (Query::Node(3, Question::PreviousSibling), Some(1)),
         ],
-        &[None, Some(0), Some(23), Some(0)],
-    ),
-    (
-        &[1, 0],
-        &[
-            Query::IsBalanced,
-            Query::Close(0),
-            Query::Open(1),
-            Query::Node(0, Question::Depth),
-            Query::Node(0, Question::IsLeaf),
-            Query::Node(0, Question::Parent),
-            Query::Node(0, Question::SubtreeSize),
-            Query::LevelRightmost(0),
-        ],
-        &[
-            Some(1),
-            Some(1),
-            Some(0),
-            Some(0),
-            Some(1),
-            None,
-            Some(1),
-            Some(0),
-        ],
-    ),
-    (
-        &[1, 1, 0, 1, 0, 0],
-        &[
-            Query::Node(3, Question::Index),
-            Query::Node(1, Question::LevelNext),
-            Query::IsAncestor(1, 3),
-            Query::IsAncestor(0, 3),
-            Query::LevelLeftmost(2),
-            Query::LevelLeftmost(u64::MAX),
-            Query::Node(3, Question::LevelAncestor(9223372036854775808)),
-            Query::Node(0, Question::FirstChild),
-            Query::Node(0, Question::LastChild),
-            Query::Node(3, Question::PreviousSibling),
-        ],
-        &[
-            Some(2),
-            Some(3),
-            Some(0),
-            Some(1),
-            None,
-            None,
-            None,
-            Some(1),
-            Some(3),
-            Some(1),
-        ],
-    ),
+        tours: &[],
+    },
 ];
 
 // Whether a tree answers each query as wanted.
-fn gives_answers<const N: usize, A: Allocator + Copy>(
-    tree: &BpTree<N, A>,
-    queries: &[Query],
-    wanted: &[Option<i64>],
-) -> bool {
-    for (query, want) in queries.iter().zip(wanted.iter()) {
-        if !ask(tree, *query).is(*want) {
+fn gives_answers<const N: usize, A: Allocator + Copy>(tree: &BpTree<N, A>, rows: &[Row]) -> bool {
+    for (query, wanted) in rows {
+        if !ask(tree, *query).is(*wanted) {
             return false;
         }
     }
-    queries.len() == wanted.len()
+    true
+}
+
+// Whether each walk gives what is wanted.
+fn gives_tours<const N: usize, A: Allocator + Copy>(tree: &BpTree<N, A>, tours: &[Walked]) -> bool {
+    for (tour, node, wanted) in tours {
+        if tour_gives(tree, *tour, *node, First::Plain, wanted) != Some(true) {
+            return false;
+        }
+    }
+    true
 }
 
 // The number of the first case, counted from 0, that is answered otherwise, with blocks of `N` bits.
@@ -238,13 +210,17 @@ fn wrong_case<const N: usize>(alloc: Global, cases: &[Case]) -> Result<Option<us
     requires some { 0 < N }
     requires bounded { N ≤ MAX_BLOCK_SIZE }
 {
-    for (case, (bits, queries, wanted)) in cases.iter().enumerate() {
+    for (number, case) in cases.iter().enumerate() {
         let is_right = asked(
-            tree_of::<N>(alloc, bits),
-            |tree: &BpTree<N, Global>| Ok(gives_answers(tree, queries, wanted)),
-        )?;
-        if !is_right {
-            return Ok(Some(case));
+            tree_of::<N, Global>(alloc, case.bits),
+            |tree: &BpTree<N, Global>| {
+                Ok(gives_answers(tree, case.rows) && gives_tours(tree, case.tours))
+            },
+        );
+        match is_right {
+            Ok(true) => {}
+            Ok(false) => return Ok(Some(number)),
+            Err(fault) => return Err(fault),
         }
     }
     Ok(None)
@@ -269,62 +245,8 @@ fn wrong_of_all_cases(alloc: Global) -> [Result<Option<usize>, GrowError>; 7] {
 }
 
 #[test]
-fn queries_and_their_answers(rt: HostRuntime) {
+fn queries_and_walks_and_what_they_give(rt: HostRuntime) {
     assert!(rt; wrong_of_all_cases(rt.alloc()) == [Ok(None); 7]);
-}
-
-// The bits, and a walk from a node: which one, from where, and what it gives.
-type Walked<'a> = (&'a [u8], Tour, usize, &'a [usize]);
-
-const TOURS: [Walked; 9] = [
-    (&THREE_BYTES, Tour::Children, 6, &[7, 9, 11, 19]),
-    (&THREE_BYTES, Tour::RevChildren, 6, &[19, 11, 9, 7]),
-    (&NODE_WITH_TWO, Tour::Children, 0, &[1, 3]),
-    (&NODE_WITH_TWO, Tour::RevChildren, 0, &[3, 1]),
-    (&NODE_WITH_TWO, Tour::Children, 1, &[]),
-    (&NODE_WITH_TWO, Tour::Subtree, 0, &[0, 1, 3]),
-    (&NODE_WITH_TWO, Tour::SubtreePost, 0, &[1, 3, 0]),
-    (&NODE_WITH_TWO, Tour::All, 0, &[0, 1, 3]),
-    (&NODE_WITH_TWO, Tour::AllPost, 0, &[1, 3, 0]),
-];
-
-// The number of the first walk, counted from 0, that gives something else, with blocks of `N` bits.
-fn wrong_tour<const N: usize>(alloc: Global, tours: &[Walked]) -> Result<Option<usize>, GrowError>
-    requires some { 0 < N }
-    requires bounded { N ≤ MAX_BLOCK_SIZE }
-{
-    for (row, (bits, tour, node, wanted)) in tours.iter().enumerate() {
-        let given = asked(
-            tree_of::<N>(alloc, bits),
-            |tree: &BpTree<N, Global>| Ok(tour_gives(tree, *tour, *node, First::Plain, wanted)),
-        )?;
-        if given != Some(true) {
-            return Ok(Some(row));
-        }
-    }
-    Ok(None)
-}
-
-// The same with blocks of each size.
-fn wrong_tours(alloc: Global, tours: &[Walked]) -> [Result<Option<usize>, GrowError>; 7] {
-    [
-        wrong_tour::<1>(alloc, tours),
-        wrong_tour::<3>(alloc, tours),
-        wrong_tour::<8>(alloc, tours),
-        wrong_tour::<12>(alloc, tours),
-        wrong_tour::<64>(alloc, tours),
-        wrong_tour::<512>(alloc, tours),
-        wrong_tour::<4294967296>(alloc, tours),
-    ]
-}
-
-fn wrong_of_all_tours(alloc: Global) -> [Result<Option<usize>, GrowError>; 7] {
-    wrong_tours(alloc, &TOURS)
-}
-
-#[test]
-fn walks_and_what_they_give(rt: HostRuntime) {
-    assert!(rt; wrong_of_all_tours(rt.alloc()) == [Ok(None); 7]);
 }
 
 // The bytes of a tree with blocks of `N` bits.
@@ -333,7 +255,7 @@ fn bytes<const N: usize>(alloc: Global, bits: &[u8]) -> Result<usize, GrowError>
     requires bounded { N ≤ MAX_BLOCK_SIZE }
 {
     asked(
-        tree_of::<N>(alloc, bits),
+        tree_of::<N, Global>(alloc, bits),
         |tree: &BpTree<N, Global>| Ok(tree.heap_size()),
     )
 }

@@ -1,7 +1,7 @@
 //! Every list of up to 10 bits, asked everything and compared with a plain scan of its excesses.
 ghost use Rattle.std.specs.Prelude.{◌<◌, ◌≤◌};
 
-use crate::tests::lists::{Query, ask, asked};
+use crate::tests::lists::{Query, ask, asked, number};
 use std::alloc::{AllocError, Allocator, Global};
 use vers_bits::bit_vec::{BitVec, GrowError};
 use vers_trees::trees::bp::{BpTree, MAX_BLOCK_SIZE};
@@ -34,10 +34,9 @@ fn excesses<A: Allocator + Copy>(
 ) -> Result<Vec<i64, A>, AllocError> {
     let mut sums = Vec::new(alloc);
     let mut sum = 0i64;
-    sums.push(sum)?;
-    for k in 0..n {
-        sum = sum.saturating_add(if is_one(code, k) { 1 } else { -1 });
+    for k in 0..n.saturating_add(1) {
         sums.push(sum)?;
+        sum = sum.saturating_add(if is_one(code, k) { 1 } else { -1 });
     }
     Ok(sums)
 }
@@ -77,19 +76,17 @@ fn place_of_one(sums: &[i64], i: usize) -> Option<i64> {
             left -= 1;
         }
     }
-    i64::try_from(sums.len())
-        .ok()
-        .and_then(|places| places.checked_sub(1))
-}
-
-// A place as a number with a sign.
-fn number(place: Option<usize>) -> Option<i64> {
-    place.and_then(|place| i64::try_from(place).ok())
+    number(sums.len().checked_sub(1))
 }
 
 // Whether no excess is below 0, and the last is 0.
 fn is_level(sums: &[i64]) -> bool {
-    sums.last() == Some(&0) && sums.iter().all(|sum| *sum >= 0)
+    for sum in sums {
+        if *sum < 0 {
+            return false;
+        }
+    }
+    sums.last() == Some(&0)
 }
 
 // How many answers were compared, and how many were wrong.
@@ -132,7 +129,7 @@ impl Compared {
         code: usize,
         i: usize,
     ) {
-        let past = i.checked_add(1).and_then(|next| sums.get(next).copied());
+        let past = sums.get(i.saturating_add(1)).copied();
         let depth = if is_one(code, i) { -1 } else { -2 };
         self.others = self.others.saturating_add(5);
         self.note(ask(tree, Query::Excess(i)).is(past));

@@ -92,16 +92,18 @@ pub enum Tour {
     RevChildren,
     Subtree,
     SubtreePost,
+    Iter,
     All,
     AllPost,
 }
 
 /// All of them.
-pub const TOURS: [Tour; 6] = [
+pub const TOURS: [Tour; 7] = [
     Tour::Children,
     Tour::RevChildren,
     Tour::Subtree,
     Tour::SubtreePost,
+    Tour::Iter,
     Tour::All,
     Tour::AllPost,
 ];
@@ -126,7 +128,8 @@ fn tour_from<const N: usize, A: Allocator + Copy>(
 }
 
 /// Whether a walk gives just these nodes, from the node at a place or, where it is over all nodes, from the
-/// first. None where the parentheses are not balanced or the place has no node.
+/// first. None where the parentheses are not balanced, of which the walks over all ones may be asked, and
+/// where the place has no node.
 pub fn tour_gives<const N: usize, A: Allocator + Copy>(
     tree: &BpTree<N, A>,
     tour: Tour,
@@ -134,15 +137,17 @@ pub fn tour_gives<const N: usize, A: Allocator + Copy>(
     first: First,
     wanted: &[usize],
 ) -> Option<bool> {
+    match tour {
+        Tour::Iter => return Some(gives(tree.iter(), first, wanted)),
+        Tour::All => return Some(gives(tree.dfs_iter(), first, wanted)),
+        _ => {}
+    }
     if !are_balanced(tree) {
         return None;
     }
-    match tour {
-        Tour::All => Some(gives(tree.dfs_iter(), first, wanted)),
-        Tour::AllPost => Some(gives(tree.dfs_post_iter(), first, wanted)),
-        _ => {
-            let node = node_at(tree, place)?;
-            Some(tour_from(tree, tour, node, first, wanted))
-        }
+    if matches!(tour, Tour::AllPost) {
+        return Some(gives(tree.dfs_post_iter(), first, wanted));
     }
+    let node = node_at(tree, place)?;
+    Some(tour_from(tree, tour, node, first, wanted))
 }
