@@ -279,21 +279,29 @@ where
     }
 }
 
+fn tried_tree(heap: &Heap, call: Call, forest: Forest) -> Ending {
+    let tree = tree_of::<8, &Heap>(heap, forest.bits);
+    tried_made(heap, tree, call, &forest, forest.nodes)
+}
+
+fn tried_maker(heap: &Heap, forest: Forest) -> Ending {
+    try_conversion(heap, BitVec::from_bits(heap, forest.bits), &forest)
+}
+
+fn tried_build(heap: &Heap, forest: Forest) -> Ending {
+    let builder = stepped::<8, &Heap>(Ok(BpBuilder::new(heap)), forest.bits);
+    try_conversion(heap, builder, &forest)
+}
+
 fn tried(heap: &Heap, call: Call, forest: Forest) -> Ending {
     let bits = forest.bits;
     match call {
-        Call::FromBitVector => try_conversion(heap, BitVec::from_bits(heap, bits), &forest),
-        Call::Build => {
-            let builder = stepped::<8, &Heap>(Ok(BpBuilder::new(heap)), bits);
-            try_conversion(heap, builder, &forest)
-        }
+        Call::FromBitVector => tried_maker(heap, forest),
+        Call::Build => tried_build(heap, forest),
         Call::New | Call::WithCapacity | Call::Steps => {
             try_making(heap, &Builder { heap, call, bits })
         }
-        _ => {
-            let tree = tree_of::<8, &Heap>(heap, bits);
-            tried_made(heap, tree, call, &forest, forest.nodes)
-        }
+        _ => tried_tree(heap, call, forest),
     }
 }
 
