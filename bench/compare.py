@@ -37,7 +37,10 @@ def built_original(folder, level):
     if folder:
         command += ["--offline", "--config", f'patch.crates-io.vers-vecs.path="{os.path.abspath(folder)}"']
     flags = {"RUSTFLAGS": f"-C target-cpu={level} --cap-lints allow"}
-    subprocess.run(command, cwd=PROJECT, check=True, env={**os.environ, **flags})
+    built = subprocess.run(command, cwd=PROJECT, env={**os.environ, **flags}, check=False)
+    if built.returncode:
+        hint = "" if folder else "; without a network, name a folder with the sources of vers-vecs 1.10.2 by --original FOLDER"
+        sys.exit(f"cargo could not build the original's driver{hint}")
     return os.path.join(PROJECT, "target/release/bench_original")
 
 

@@ -5,6 +5,10 @@ A row has a call as it is declared, the first paragraph of its doc comment, the 
 counted form of the call adds to the counters at most, and its time where docs/PERFORMANCE.md has one. A call and its counted form
 share a row. `--check` compares the page
 with the sources and writes nothing, which the gate does.
+
+It also says which names that the facade hands on, and which calls of its types, neither the crate vers-vecs has, by
+`tools/original_names.txt`, nor the table of our own names in docs/DIFFERENCES.md; and which names stand there that aren't our own.
+Counted forms and laws are all our own, and the table says so in a row of theirs.
 """
 import os
 import re
@@ -15,6 +19,9 @@ from rattle_types import base
 from text_rules import listed_files, public_functions, read, sources_of
 
 PAGE = "docs/CALLS.md"
+DIFFERENCES = "docs/DIFFERENCES.md"
+ORIGINAL = "tools/original_names.txt"
+FACADE = "crates/vers_vecs/src/lib.rt"
 HEAD = """# Calls
 
 Every public call of the library, by the type or the module that it belongs to. `tools/call_list.py` writes this page out of the
@@ -101,11 +108,51 @@ def page(top):
     return "\n\n".join(parts) + "\n"
 
 
+def names_of_original(top):
+    """Returns the names of the original's types and calls, by the crate here that has them."""
+    found, crate = {}, None
+    for line in read(os.path.join(top, ORIGINAL)).splitlines():
+        head = re.match(r"(\w+): ", line)
+        crate = head[1] if head else crate
+        if crate:
+            found.setdefault(crate, set()).update(re.findall(r"\w+", line[head.end() if head else 0:]))
+    return found
+
+
+def own_names(top):
+    """Returns the names that the facade hands on, and the calls of its types as `Type::call`, that the original lacks."""
+    original, files = names_of_original(top), listed_files(top)
+    facade = re.sub(r"(?s)pub mod laws \{.*?\n\}", "", read(os.path.join(top, FACADE)))
+    own, types = set(), {"BothEnds", "MadeEnds", "ListEnds"}
+    for crate, names in re.findall(r"pub use (\w+)::[\w:]*?\{?\s*(\w+(?:,\s*\w+)*),?\s*\}?;", facade):
+        types.update(re.findall(r"\w+", names))
+        own.update(set(re.findall(r"\w+", names)) - original.get(crate, set()))
+    for crate in CRATES:
+        for function in public_functions(crate, sources_of(top, crate, files)):
+            # the bodies of all walks stand in `vers_tally`, and their calls are those of the iterators
+            known = original.get(crate) or set().union(*original.values())
+            if function.holder in types and not function.name.endswith("_counted") and function.name not in known | {function.holder}:
+                own.add(f"{function.holder}::{function.name}")
+    return own
+
+
+def misplaced_names(top):
+    """Yields a line for each name of our own that the table lacks, and for each one there that isn't our own."""
+    page = read(os.path.join(top, DIFFERENCES))
+    rows = re.findall(r"(?m)^\| (`.*?) \|", page[page.index("## Names of our own"):])
+    listed, own = set(re.findall(r"`([^`]*)`", " ".join(rows))), own_names(top)
+    yield from (f"{DIFFERENCES}: the table of our own names lacks `{name}`" for name in sorted(own - listed))
+    yield from (f"{DIFFERENCES}: `{name}` is no name of our own" for name in sorted(listed - own))
+
+
 def main():
     top = os.path.dirname(os.path.dirname(os.path.abspath(__file__)))
     path = os.path.join(top, PAGE)
     if sys.argv[1:] == ["--check"]:
-        sys.exit(0 if os.path.exists(path) and read(path) == page(top) else f"{PAGE} isn't what tools/call_list.py writes")
+        said = list(misplaced_names(top))
+        if not os.path.exists(path) or read(path) != page(top):
+            said.append(f"{PAGE} isn't what tools/call_list.py writes")
+        sys.exit("\n".join(said) or 0)
     with open(path, "w", encoding="utf-8") as file:
         file.write(page(top))
 
