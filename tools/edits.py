@@ -23,13 +23,16 @@ class Function(NamedTuple):
 
 
 class Edit(NamedTuple):
-    """A wrong body: what the lines of its function become, and the names that the check has for that function and its closures."""
+    """A wrong body: the function that it changes, and what the lines of that become."""
 
     name: str
     file: str
     function: Function
     lines: list
-    names: list
+
+    def place(self):
+        """Returns where its function stands."""
+        return self.file, self.function.first
 
 
 class BadEdit(Exception):
@@ -99,7 +102,7 @@ def owner_names(owner):
 
 
 def names_of(function, file, known):
-    """Returns the names among the known ones that are those of a function, which comes first, and of the closures in it."""
+    """Returns those of the names that a check has for a function, whose own comes first, and for the closures in it."""
     path = re.sub(r"^src/|\.rt$", "", file).replace("/", "::")
     module = [] if path in ("lib", "main") else path.split("::")
     split = {name: name.split("::")[1:] for name in known}
@@ -138,7 +141,7 @@ def pairs_of(path):
     return file, pairs
 
 
-def load_edit(path, texts, known):
+def load_edit(path, texts):
     """Returns a wrong body with the function that it changes."""
     file, pairs = pairs_of(path)
     if file not in texts or not pairs:
@@ -153,8 +156,7 @@ def load_edit(path, texts, known):
     if not changed or len(lines) != len(texts[file]):
         raise BadEdit("it changes nothing, or the number of lines")
     within = [it for it in functions_of(texts[file]) if it.body <= changed[0] and changed[-1] <= it.last]
-    names = names_of(within[0], file, known) if within else []
-    if not names:
-        raise BadEdit(f"it lies in no body of one function of {file} that the check names")
+    if not within:
+        raise BadEdit(f"it lies in no body of one function of {file}")
     name = os.path.basename(path)[: -len(".edit")]
-    return Edit(name, file, within[0], lines[within[0].first : within[0].last + 1], names)
+    return Edit(name, file, within[0], lines[within[0].first : within[0].last + 1])

@@ -148,6 +148,11 @@ class Proofs:
                     self.begun[it] = self.pool.submit(self.prove, it)
             return self.begun[name]
 
+    def prove_all(self, names):
+        """Proves crates and those below them."""
+        for it in [self.begin(name) for name in names]:
+            it.result()
+
     def prove(self, name):
         """Proves a crate once those below it are proved: a library is built for the crates above it, a program is built and run."""
         for below in self.crates.below(name):
@@ -184,8 +189,7 @@ def main():
     proofs = Proofs(Crates(TOP), processors, timed)
     try:
         tell("proving the crates, those below first; this takes some minutes the first time")
-        for it in [proofs.begin(name) for name in sys.argv[1:]]:
-            it.result()
+        proofs.prove_all(sys.argv[1:])
         for name in filter(proofs.crates.is_program, sys.argv[1:]):
             built = f"{proofs.crates.folder(name)}/out/{name}.built"
             with open(built, "w", encoding="utf-8"):

@@ -2,7 +2,8 @@
 """Tries the wrong bodies of the crates, many at a time: wrong_bodies.py [--jobs N] [--most N] [--anew] [--self-test] [CRATE..]
 
 Functions are proved against the contracts of those that they call. So wrong bodies of different functions don't meddle:
-a wave puts many into one copy of a proved crate, at most one a function, and checks once. Those of `crates/NAME/wrong/` are
+a wave puts many into one copy of a crate, at most one a function, and checks once. A crate is proved before where another is tried that
+stands on it; else its first wave proves all that it doesn't touch, and the others begin with that. Those of `crates/NAME/wrong/` are
 tried, and those of `must-fail/`, which `rt ci` tries singly. One line tells of each, as `refused NAME in FUNCTION: GOAL`:
 
     refused   a goal of its function, or of a closure in it, doesn't hold, or a written answer of the function is wrong
@@ -20,6 +21,7 @@ import hashlib
 import json
 import os
 import re
+import shutil
 import subprocess
 import sys
 import tempfile
@@ -88,9 +90,11 @@ def told_of(name, report):
     return Told("untold", name, said) if said.startswith("could not tell") else None
 
 
-def verdict(edit, report):
-    """Returns what a check told of a wrong body: by its function, or by a closure in it."""
-    told = [told_of(name, report) for name in edit.names]
+def verdict(edit, names, report):
+    """Returns what a check told of a wrong body: by its function, or by a closure in it; these have the names."""
+    if not names:
+        return Told("bad", "no function", f"the check names no function of {edit.file} that it lies in") if report.functions else None
+    told = [told_of(name, report) for name in names]
     wrong = [it for it in told if it and it.kind != "proved"]
     return min(wrong, key=lambda it: it.kind != "refused") if wrong else told[0]
 
@@ -98,12 +102,12 @@ def verdict(edit, report):
 # --- a crate
 
 class Tried:
-    """A crate whose wrong bodies are tried: its sources, and once it is proved the names of its functions."""
+    """A crate whose wrong bodies are tried, and its sources."""
 
     def __init__(self, crates, name, processors):
         self.crates, self.name, self.processors = crates, name, processors
         self.folder, self.below = crates.folder(name), crates.below(name)
-        self.texts, self.known = edits.read_texts(self.folder), []
+        self.texts, self.proved = edits.read_texts(self.folder), f"{self.folder}/out/incremental"
 
     def files(self):
         """Returns the files of its wrong bodies, by their names."""
@@ -126,20 +130,8 @@ class Tried:
         of = lambda file: hashlib.sha256(f"{total.hexdigest()} {sum_of(file)}".encode()).hexdigest()
         return {name: of(file) for name, file in files.items()}
 
-    def check(self, folder):
-        """Checks this crate, or a copy of it, and returns what was said and the status."""
-        return self.processors.run((self.name, "waves"), ["rt", "check", "--jobs", "1"], folder)
-
-    def learn_names(self, said):
-        """Takes the names of its functions from what its proof said, or where that was kept and said nothing, from a check over it."""
-        if not report_of(said).functions:
-            said, status = self.processors.do(0, lambda _: self.check(self.folder))
-            if status:
-                raise Failure(f"{self.name} is not proved:\n{said[-4000:]}")
-        self.known = list(report_of(said).functions)
-
-    def try_wave(self, wave):
-        """Checks a copy of the crate that has each of these wrong bodies."""
+    def try_wave(self, wave, jobs):
+        """Checks a copy of the crate that has each of these wrong bodies, and keeps what is proved there where nothing was."""
         with tempfile.TemporaryDirectory(prefix="wrong-bodies-") as room:
             self.crates.copy_to(room, self.name, "out/incremental")
             for file in {it.file for it in wave}:
@@ -149,8 +141,12 @@ class Tried:
                         lines[edit.function.first : edit.function.last + 1] = edit.lines
                 with open(f"{room}/crates/{self.name}/{file}", "w", encoding="utf-8") as it:
                     it.write("\n".join(lines))
-            said, _ = self.check(f"{room}/crates/{self.name}")
-            return report_of(said)
+            folder = f"{room}/crates/{self.name}"
+            said, _ = self.processors.run((self.name, "waves"), ["rt", "check", "--jobs", str(jobs)], folder)
+            report = report_of(said)
+            if report.functions and not os.path.isdir(self.proved):
+                shutil.move(f"{folder}/out/incremental", self.proved)
+            return report
 
 
 def sum_of(file):
@@ -163,23 +159,25 @@ def sum_of(file):
 
 def dealt(left, most):
     """Returns wrong bodies in waves: none larger than the bound, none with two of one function, and all of about one size."""
-    times = Counter(it.names[0] for it in left)
+    times = Counter(it.place() for it in left)
     waves = [[] for _ in range(max(-(-len(left) // most), *times.values()))]
-    for edit in sorted(left, key=lambda it: (-times[it.names[0]], it.names[0])):
-        free = [it for it in waves if edit.names[0] not in {other.names[0] for other in it}]
+    for edit in sorted(left, key=lambda it: (-times[it.place()], it.place())):
+        free = [it for it in waves if edit.place() not in {other.place() for other in it}]
         min(free, key=len).append(edit)
     return waves
 
 
 def settled(wave, report):
     """Returns what a wave told of its wrong bodies, by their names; nothing of those that wait for a later wave."""
-    told = {}
+    told, changed = {}, set()
     for edit in wave:
+        names = edits.names_of(edit.function, edit.file, report.functions)
         error = next((it for it in report.errors if it[0] == edit.file and edit.function.first <= it[1] <= edit.function.last), None)
-        it = Told("bad", edit.names[0], error[2]) if error else verdict(edit, report)
+        it = Told("bad", edit.function.name, error[2]) if error else verdict(edit, names, report)
         if it or len(wave) == 1:
-            told[edit.name] = it or Told("untold", edit.names[0], report.functions.get(edit.names[0]) or report.end)
-    changed = {name for edit in wave for name in edit.names}
+            name = names[0] if names else edit.function.name
+            told[edit.name] = it or Told("untold", name, report.functions.get(name) or report.end)
+        changed.update(names)
     for it in filter(None, (told_of(name, report) for name in report.functions if name not in changed)):
         if it.kind == "refused":
             raise Failure(f"{it.name} is refused and no body of the wave is in it, so the wave shows nothing: {it.text}")
@@ -187,11 +185,12 @@ def settled(wave, report):
 
 
 def try_in_waves(crate, left, most):
-    """Tries wrong bodies of a proved crate, and gives what came of each as it is told."""
+    """Tries wrong bodies of a crate, and gives what came of each as it is told. Until something of the crate is proved, waves come singly."""
     with ThreadPoolExecutor(max(len(left), 1)) as pool:
         while left:
-            waves, before = dealt(left, most), len(left)
-            turns = pool.map(lambda wave: crate.processors.do(1, lambda _: crate.try_wave(wave)), waves)
+            waves, before, is_first = dealt(left, most), len(left), not os.path.isdir(crate.proved)
+            waves = waves[:1] if is_first else waves
+            turns = pool.map(lambda wave: crate.processors.do(-before, lambda jobs: crate.try_wave(wave, jobs if is_first else 1)), waves)
             for wave, report in zip(waves, turns):
                 told = settled(wave, report)
                 left = [it for it in left if it.name not in told]
@@ -229,13 +228,14 @@ class Run:
 
     def __init__(self, top, flags):
         self.flags, self.processors = flags, Processors(flags.jobs)
-        self.crates = Crates(top)
+        self.crates, self.below = Crates(top), set()
         self.proofs = Proofs(self.crates, self.processors)
 
     def try_crates(self, names):
         """Tries the wrong bodies of crates, of all where none is named, and returns what came of each, by crate."""
         tried = [Tried(self.crates, name, self.processors) for name in names or self.crates.lines]
         tried = [it for it in tried if it.files()]
+        self.below = {it for crate in tried for it in crate.below}
         with ThreadPoolExecutor(len(tried) or 1) as pool:
             return dict(zip([it.name for it in tried], pool.map(self.try_crate, tried)))
 
@@ -245,10 +245,10 @@ class Run:
         keys = crate.keys(files)
         told = {edit: Told("refused", "", known[key]) for edit, key in keys.items() if key in known}
         if len(told) < len(keys):
-            crate.learn_names(self.proofs.begin(crate.name).result())
+            self.proofs.prove_all(crate.below if crate.name not in self.below else [*crate.below, crate.name])
         for edit, file in files.items():
             try:
-                left += [] if edit in told else [edits.load_edit(file, crate.texts, crate.known)]
+                left += [] if edit in told else [edits.load_edit(file, crate.texts)]
             except BadEdit as error:
                 told[edit] = self.tell(edit, Told("bad", "no function", str(error)))
         for edit, it in try_in_waves(crate, left, self.flags.most):
@@ -294,8 +294,7 @@ def main():
         print(f"wrong_bodies: {run.processors.ended}")
         return 1
     for name, of in told.items():
-        proof, waves = (run.processors.seconds[name, part] / 60 for part in ("proof", "waves"))
-        print(f"{name}: {len(of)} wrong bodies; processor minutes: its proof {proof:.1f}, its waves {waves:.1f}")
+        print(f"{name}: {len(of)} wrong bodies, {run.processors.seconds[name, 'waves'] / 60:.1f} processor minutes")
     kinds = Counter(it.kind == "refused" for of in told.values() for it in of.values())
     print(f"{kinds[True]} passed, {kinds[False]} failed")
     return 1 if kinds[False] or not kinds[True] else 0
