@@ -26,6 +26,8 @@ LIST_CALLS = SHELF_CALLS + (
     "get", "get_unchecked", "get_bits", "get_bits_unchecked", "is_bit_set", "is_bit_set_unchecked", "set", "set_unchecked",
     "push", "append", "append_bit", "append_bits", "append_bits_unchecked",
 )
+# the call of lanes that writes them into a plain list, and reads nothing of it
+STORE = "copy_to_slice"
 # calls that look into an option or a result, and those that hand on what is in it
 LOOKING, UNWRAPPING = ("is_some", "is_none", "is_ok", "is_err"), ("unwrap", "ok", "map_err")
 
@@ -114,6 +116,8 @@ class Checker(Values):
     def unknown_call(self, node, name, values):
         """Looks at a call of a function that isn't of these crates."""
         handed = max([it.kind for it in values] or [NUMBER])
+        if handed == LIST and name == STORE:
+            return ANYTHING
         if handed != NUMBER:
             what = f"hands {KIND_NAMES[handed]} to `{name}`, which is no function of these crates"
             return self.fault(node, what, "numbers, or a function of these crates")

@@ -15,6 +15,7 @@ TABLES = {
     "FastRmq": {"places": "Vec<u8, A>", "masks": "Vec<BlockMasks, A>"},
     "BlockMasks": {"whole": "Masks", "parts": "Masks"},
     "Masks": {"prefixes": "u128", "suffixes": "u128"},
+    "ChunkWalk": {"offsets": "[u8; CHUNK]"},
     "ByteTables": {"forward": "[u64; 256]", "backward": "[u64; 256]"},
 }
 ALLOWED = (

@@ -22,6 +22,11 @@ KERNELS = (
     Kernel("last_up_to", ("differences", "far_below"), ("RsVec::block_among",)),
     Kernel("differences", ("splat", "from_slice"), ("last_up_to",)),
     Kernel("far_below", ("simd_ge", "to_bitmask", "count_ones"), ("last_up_to",)),
+    Kernel("ChunkWalk::load", ("put_offsets", "put_offsets_plainly"), ("ChunkWalk::next_counted",)),
+    Kernel("put_offsets", ("offsets_in_byte", "splat", "put_lanes"), ("ChunkWalk::load",)),
+    Kernel("offsets_in_byte", ("lanes_from",), ("put_offsets",)),
+    Kernel("lanes_from", ("from_slice",), ("offsets_in_byte",)),
+    Kernel("put_lanes", ("copy_to_slice",), ("put_offsets",)),
 )
 
 

@@ -467,6 +467,17 @@ KERNELS = (
         "RsVec::block_with doesn't ask the kernel RsVec::block_among",
         Instead("RsVec::block_with", "self.block_among(bit, r, s, tally)", "self.block_up_to(bit, r, s, 16, tally)"),
     ),
+    plant("the kernel put_offsets has no call of `splat`", Instead("put_offsets", "offsets_in_byte(high) + u8x8::splat(8)", "offsets_in_byte(high)")),
+    plant("the kernel lanes_from has no call of `from_slice`", Instead("lanes_from", "u8x8::from_slice(", "taken_one_by_one(")),
+    plant("the kernel put_lanes has no call of `copy_to_slice`", Instead("put_lanes", "lanes.copy_to_slice(", "lanes.put_one_by_one(")),
+    plant(
+        "ChunkWalk::load doesn't ask the kernel put_offsets",
+        Instead("ChunkWalk::load", "put_offsets((chunk & 0xffff) as u16, &mut self.offsets)", "put_offsets_plainly(chunk, CHUNK, &mut self.offsets)"),
+    ),
+    plant(
+        "the kernel ChunkWalk::load has no call of `put_offsets_plainly`",
+        Instead("ChunkWalk::load", "put_offsets_plainly(chunk, rest, &mut self.offsets)", "put_offsets((chunk & 0xffff) as u16, &mut self.offsets)"),
+    ),
     plant("BitVec::count_ones doesn't ask the kernel ones_of", Instead("BitVec::count_ones", "ones_of(self.limbs())", "ones_one_by_one(self.limbs())")),
     plant("BitVec::eq doesn't ask the kernel are_same", Instead("BitVec::eq", "are_same(self.limbs(), other.limbs())", "self.limbs() == other.limbs()")),
 )

@@ -8,6 +8,7 @@ pub mod Builds
 pub mod Parts
 pub mod Pairs
 pub mod BothEnds
+pub mod OffsetLanes
 pub mod Chunks
 pub mod Neighbours
 pub mod Equal

@@ -10,7 +10,7 @@ use Rattle.vers_bits.proofs.PublicLaws.{count_more_no, select_at, count_at_selec
 use Rattle.vers_rank.proofs.Reading.{marked_bit, value_one}
 
 -- a digit of a number without its lowest q digits
-digit_after : (n q i : ℕ) → bit_at (n / 2 ^ q) i ≡ bit_at n (q + i)
+pub digit_after : (n q i : ℕ) → bit_at (n / 2 ^ q) i ≡ bit_at n (q + i)
 digit_after n q i =
     let parts : n ≡ n / 2 ^ q * 2 ^ q + n % 2 ^ q = omega arith in
     let high : bit_at (n / 2 ^ q * 2 ^ q + n % 2 ^ q) (q + i) ≡ bit_at (n / 2 ^ q) (q + i - q) = bit_at_cat_high (n / 2 ^ q) q (n % 2 ^ q) (q + i) (mod_below n (2 ^ q) (pow_pos q)) (omega arith) in

@@ -5,4 +5,5 @@ mod build;
 pub mod fast_rs_vec;
 mod lanes;
 pub mod laws;
+mod offsets;
 mod word;

@@ -1,11 +1,11 @@
 -- What the walks over the places of the ones (or zeros) of an indexed list keep.
-use Rattle.std.specs.Prelude.{◌≡◌, ℕ, ◌+◌, ◌-◌, ◌*◌, ◌/◌, ◌<◌, ◌≤◌, min, Bool, true, List, length, drop, slice_index_or, false, if◌then◌else◌}
-use Rattle.std.specs.Int.{bit_at, trailing_zeros}
-use mir.Syntax.{w64}
+use Rattle.std.specs.Prelude.{◌≡◌, ℕ, ◌+◌, ◌-◌, ◌*◌, ◌/◌, ◌%◌, ◌<◌, ◌≤◌, ◌++◌, Bool, true, List, length, drop, slice_index, slice_index_or, false, if◌then◌else◌}
+use Rattle.std.specs.Int.{bit_at}
 use Rattle.vers_bits.specs.Bits.{is_bit, count, places}
 use Rattle.vers_rank.specs.declared.fast_rs_vec.reader.Reader.{Reader}
 use Rattle.vers_rank.specs.declared.fast_rs_vec.bit_set_iter.ChunkWalk.{ChunkWalk}
 use Rattle.vers_rank.specs.Walks.{chunk_count}
+use Rattle.vers_rank.specs.inside.Offsets.{last_first}
 
 -- a list of bits, and the bit whose places are asked for
 pub record PlacesOf : Type 0 where
@@ -54,22 +54,18 @@ marked bit word = if bit then word else 18446744073709551615 - word
 unfoldable pub places_from : Bool → List Bool → ℕ → List ℕ
 places_from bit bits p = drop (count bit bits p) (places bit bits)
 
--- the first place of a walk by chunks that was not passed: that of the chunk's lowest one, or the chunk's end
-abbrev pub first_left : ChunkWalk → ℕ
-first_left walk = min (walk.start + trailing_zeros w64 walk.chunk) walk.end
-
--- the places that a walk by chunks has still to give
+-- the places that a walk by chunks has still to give: those of the last chunk that it has not given, and those after it
 abbrev pub chunk_places_left : List Bool → ChunkWalk → List ℕ
-chunk_places_left bits walk = places_from walk.bit bits (first_left walk)
+chunk_places_left bits walk = last_first walk.start walk.offsets walk.left ++ places_from walk.bit bits walk.end
 
 -- how many chunks a walk has still to load
 abbrev pub chunks_unread : List Bool → ChunkWalk → ℕ
 chunks_unread bits walk = chunk_count (length bits - walk.end)
 
--- the ones of the chunk, counted from start, are the places up to end that hold the bit and were not passed
+-- the buffer holds offsets of places of the list, and up to the list's end whole chunks were loaded
 pub record IsChunkWalkOf (bits : List Bool) (walk : ChunkWalk) : Type 0 where
-  pub short : walk.end ≤ walk.start + 16
+  pub room : length walk.offsets ≡ 16
+  pub few : walk.left ≤ 16
   pub within : walk.end ≤ length bits
-  pub fits : walk.chunk < 18446744073709551616
-  pub sound : (i : ℕ) → bit_at walk.chunk i ≡ 1 → (walk.start + i < walk.end) × (is_bit walk.bit (slice_index_or bits (walk.start + i) false) ≡ true)
-  pub complete : (i : ℕ) → first_left walk ≤ walk.start + i → walk.start + i < walk.end → is_bit walk.bit (slice_index_or bits (walk.start + i) false) ≡ true → bit_at walk.chunk i ≡ 1
+  pub whole : walk.end < length bits → walk.end % 16 ≡ 0
+  pub inside : (j : ℕ) → j < walk.left → walk.start + slice_index walk.offsets j < length bits

@@ -1,35 +1,32 @@
-//! The iterators that scan chunks of 16 bits for zeros or ones.
+//! The iterators that turn chunks of 16 bits into the offsets of their zeros or ones.
 ghost use Rattle.std.specs.Prelude.{◌≡◌, ◌+◌, ◌-◌, ◌<◌, ◌≤◌, true, false, length};
 ghost use Rattle.std.specs.Iterator.{item_count, YieldsFirst};
-ghost use Rattle.vers_bits.specs.Bits.{number, part, places};
+ghost use Rattle.vers_bits.specs.Bits.{places};
 ghost use Rattle.vers_bits.specs.Walk.{TakesFirst};
-ghost use Rattle.vers_tally.specs.Reads.{one_more, AddsAtMost};
-ghost use Rattle.vers_rank.specs.Queries.{get_bits_reads};
+ghost use Rattle.vers_tally.specs.Reads.{AddsAtMost};
 ghost use Rattle.vers_rank.specs.Walks.{chunk_count, chunk_reads};
 ghost use Rattle.vers_rank.specs.inside.Walks.{chunk_places_left, chunks_unread, IsChunkWalkOf};
 
-use super::RsVec;
 use super::reader::marks;
+use super::{LIMB, RsVec};
+use crate::offsets::{CHUNK, put_offsets, put_offsets_plainly};
 use std::alloc::Allocator;
 use std::marker::Model;
 use vers_tally::tally::Tally;
 
-/// How many bits are loaded at a time.
-const CHUNK: usize = 16;
-
-// The chunk that was loaded last, from place `start` up to `end`: the ones of `chunk` are its places
-// still to come that hold the bit, and the lowest bit of it stands for `start`.
+// A walk that has loaded the chunks up to place `end`. Of the last one, which begins at place `start`,
+// the first `left` of the offsets are still to come, the last of them first.
 #[derive(Clone, Copy, Drop)]
 struct ChunkWalk {
     bit: bool,
     start: usize,
     end: usize,
-    chunk: u64,
+    left: usize,
+    offsets: [u8; CHUNK],
 }
 
 impl ChunkWalk {
-    // The next place of the bit, by the lowest one of the chunk, which is cleared. Loads chunks on the
-    // way.
+    // The next place of the bit, by the next offset in the buffer. Loads chunks on the way.
     fn next_counted<A: Allocator + Copy>(
         &mut self,
         bits: &RsVec<A>,
@@ -44,21 +41,21 @@ impl ChunkWalk {
             (chunk_reads (chunks_unread bits.now self.old - chunks_unread bits.now self.new)) }
     {
         let _ = &bits.bits;
-        while self.chunk == 0 {
+        while self.left == 0 {
             if self.end >= bits.len() {
                 return None;
             }
             self.load(bits, tally);
         }
-        let lowest = self.chunk.trailing_zeros() as usize;
-        self.chunk &= !(1 << lowest);
-        Some(self.start + lowest)
+        self.left -= 1;
+        Some(self.start + self.offsets[self.left] as usize)
     }
 
-    // Loads the next chunk, where all places of the last one were passed.
+    // Loads the next chunk, where all places of the last one were passed: 16 bits by lanes, and the
+    // rest of the list, where it has fewer, one by one.
     fn load<A: Allocator + Copy>(&mut self, bits: &RsVec<A>, tally: &mut Tally)
         requires walk { IsChunkWalkOf bits.now self.old }
-        requires passed { self.old.chunk ≡ 0 }
+        requires passed { self.old.left ≡ 0 }
         requires more { self.old.end < length bits.now }
         ensures walk { IsChunkWalkOf bits.now self.new }
         ensures same_left { chunk_places_left bits.now self.new
@@ -69,25 +66,18 @@ impl ChunkWalk {
             (chunk_reads (chunks_unread bits.now self.old - chunks_unread bits.now self.new)) }
     {
         tally.add_chunk();
-        let n = CHUNK.min(bits.len() - self.end);
-        let chunk = bits_at(bits, self.end, n, tally);
-        let held = marks(self.bit, chunk) & ((1 << n) - 1);
-        self.chunk = held;
+        let limb = bits.bits.limb(self.end / LIMB, tally);
+        let chunk = marks(self.bit, limb) >> (self.end % LIMB);
+        let rest = bits.len() - self.end;
         self.start = self.end;
-        self.end += n;
+        if rest < CHUNK {
+            self.left = put_offsets_plainly(chunk, rest, &mut self.offsets);
+            self.end += rest;
+        } else {
+            self.left = put_offsets((chunk & 0xffff) as u16, &mut self.offsets);
+            self.end += CHUNK;
+        }
     }
-}
-
-// The number of `n` bits of the list from `place` on.
-#[tactic(auto, using(crate::proofs::Parts::parts))]
-fn bits_at<A: Allocator + Copy>(bits: &RsVec<A>, place: usize, n: usize, tally: &mut Tally) -> u64
-    requires few { n ≤ 64 }
-    requires within { place + n ≤ length bits.now }
-    ensures value { result ≡ number (part bits.now place n) }
-    ensures counted { tally.new.rank_calls ≡ one_more tally.old.rank_calls }
-    ensures adds { AddsAtMost tally.old tally.new get_bits_reads }
-{
-    bits.get_bits_counted(place, n, tally).unwrap()
 }
 
 // The places of one kind of bit that are still to come, found by chunks.
@@ -123,7 +113,8 @@ impl<'a, A: Allocator + Copy> Chunks<'a, A> {
                 bit,
                 start: 0,
                 end: 0,
-                chunk: 0,
+                left: 0,
+                offsets: [0; CHUNK],
             },
         }
     }
@@ -140,7 +131,8 @@ impl<'a, A: Allocator + Copy> Chunks<'a, A> {
 }
 
 /// An iterator over the places of a list: of its zeros where `ZERO` is true, and else of its ones,
-/// ascending. It loads chunks of 16 bits and scans them, which is fast where the bit is frequent.
+/// ascending. It loads chunks of 16 bits and lists the offsets in each by lanes, which is fast where the
+/// bit is frequent.
 /// Contracts see its `rest` as the list of `bits`, the places `left`, which are still to come, and
 /// the number of chunks that are `unread`. Each chunk is loaded once.
 #[derive(Drop)]

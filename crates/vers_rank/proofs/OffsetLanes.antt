@@ -1,0 +1,212 @@
+-- Offsets of the ones of a few bits, in a buffer that is read from its end.
+use Rattle.std.proofs.Common.{zero, suc, ◌≡◌, ℕ, ◌+◌, ◌-◌, ◌*◌, ◌/◌, ◌%◌, ◌^◌, ◌<◌, ◌≤◌, Bool, true, false, cond, List, [], ◌∷◌, ◌++◌, map, filter, bytes_eq, ltb, ltb-true, set, replicate, length, get_or, eqb, ne_eqb, refl, sym, ap, ◌∙◌, inl, inr, arith}
+use Rattle.std.specs.Prelude.{count_ones, bit_and}
+use Rattle.std.specs.Int.{bit_at}
+use Rattle.std.specs.List.{range_with_len}
+use Rattle.std.proofs.lemmas.Bool.{cases_lt, cases_eq, cases_Bool, agree_below, agree_below_at}
+use Rattle.std.proofs.lemmas.List.{length-set, get_or-set_same, get_or-set_other}
+use Rattle.std.proofs.lemmas.List.Elements.{All-filter, All-from_get_or, All-head, All-tail, filter-append}
+use Rattle.std.specs.List.{All}
+use Rattle.std.proofs.lemmas.List.FromFn.{length-range_with_len, get_or-range_with_len}
+use Rattle.std.proofs.lemmas.Nat.{mod_below, pow_pos}
+use Rattle.std.proofs.lemmas.Slice.Eq.{bytes_eq-Decides}
+use Rattle.std.proofs.lemmas.Nat.Bits.{bit_at-zero, bit_at_cat_low, bit_at_cat_high, shr_and_one}
+use Rattle.std.proofs.lemmas.Simd.{length-zip2, length-put_chunk, length-chunk, get_or-chunk, get_or-zip2, get_or-replicate, get_or-put_chunk_at, get_or-put_chunk_below}
+use lib.Count.{ones}
+use lib.Lanes.{chunk, put_chunk, zip2}
+use Rattle.vers_rank.specs.declared.offsets.TheConstants.{OFFSETS}
+use Rattle.vers_rank.specs.inside.Offsets.{last_first, ones_below}
+
+-- ---- numbers that are read from the end
+-- m numbers more, which are those of another list
+pub last_first_more : (s t : ℕ) (xs ys : List ℕ) (k m : ℕ) → ((j : ℕ) → j < m → s + get_or xs (k + j) 0 ≡ t + get_or ys j 0) → last_first s xs (k + m) ≡ last_first t ys m ++ last_first s xs k
+last_first_more s t xs ys k zero same = ap (last_first s xs) (let e : k + zero ≡ k = omega arith in e)
+last_first_more s t xs ys k (suc m) same =
+    let e : k + suc m ≡ suc (k + m) = omega arith in
+    ap (last_first s xs) e
+    ∙ ap (λ x. x ∷ last_first s xs (k + m)) (same m (omega arith))
+    ∙ ap (λ l. (t + get_or ys m 0) ∷ l) (last_first_more s t xs ys k m (λ j h. same j (omega (arith, h))))
+
+pub last_first_same : (s t : ℕ) (xs ys : List ℕ) (m : ℕ) → ((j : ℕ) → j < m → s + get_or xs j 0 ≡ t + get_or ys j 0) → last_first s xs m ≡ last_first t ys m
+last_first_same s t xs ys zero same = refl
+last_first_same s t xs ys (suc m) same =
+    ap (λ x. x ∷ last_first s xs m) (same m (omega arith))
+    ∙ ap (λ l. (t + get_or ys m 0) ∷ l) (last_first_same s t xs ys m (λ j h. same j (omega (arith, h))))
+
+pub last_first_from : (s : ℕ) (xs : List ℕ) (n : ℕ) → last_first s xs n ≡ map (λ x. s + x) (last_first 0 xs n)
+last_first_from s xs zero = refl
+last_first_from s xs (suc n) =
+    let e : s + get_or xs n 0 ≡ s + (0 + get_or xs n 0) = omega arith in
+    ap (λ x. x ∷ last_first s xs n) e ∙ ap (λ l. (s + (0 + get_or xs n 0)) ∷ l) (last_first_from s xs n)
+
+each_last_first : (P : ℕ → Type 0) (xs : List ℕ) (n : ℕ) → All P (last_first 0 xs n) → (j : ℕ) → j < n → P (0 + get_or xs j 0)
+each_last_first P xs zero all j h = absurd (omega (arith, h))
+each_last_first P xs (suc n) all j h = elim (cases_eq j n) [
+  | inl same ↦ rw same (All-head P (0 + get_or xs n 0) (last_first 0 xs n) all)
+  | inr other ↦ each_last_first P xs n (All-tail P (0 + get_or xs n 0) (last_first 0 xs n) all) j (elim (cases_lt j n) [ inl less ↦ less | inr more ↦ absurd (other (omega (arith, h, more))) ])
+]
+
+-- ---- places of ones
+range_below : (n : ℕ) → All (λ i. i < n) (range_with_len 0 n)
+range_below n = All-from_get_or (λ i. i < n) (range_with_len 0 n) 0 (λ i h. let small : i < n = omega (arith, h, length-range_with_len 0 n) in omega (arith, small, get_or-range_with_len 0 n i 0 small))
+
+-- the offsets in a buffer lie among the bits
+pub offset_below : (xs : List ℕ) (count n w : ℕ) → last_first 0 xs count ≡ ones_below n w → (j : ℕ) → j < count → get_or xs j 0 < n
+offset_below xs count n w listed j h =
+    let all : All (λ i. i < n) (last_first 0 xs count) = rw listed (All-filter (λ i. eqb (bit_at w i) 1) (λ i. i < n) (range_with_len 0 n) (range_below n)) in
+    omega (arith, each_last_first (λ i. i < n) xs count all j h)
+
+-- the places that pass a test, by those that pass it from place d on
+passing_from : (p q : ℕ → Bool) (d a n : ℕ) → ((i : ℕ) → a ≤ i → i < a + n → p (d + i) ≡ q i) → filter p (range_with_len (d + a) n) ≡ map (λ i. d + i) (filter q (range_with_len a n))
+passing_from p q d a zero same = refl
+passing_from p q d a (suc n) same =
+    let next : d + a + 1 ≡ d + (a + 1) = omega arith in
+    let rest : filter p (range_with_len (d + a + 1) n) ≡ map (λ i. d + i) (filter q (range_with_len (a + 1) n)) =
+    ap (λ k. filter p (range_with_len k n)) next ∙ passing_from p q d (a + 1) n (λ i low high. same i (omega (arith, low)) (omega (arith, high))) in
+    let here = same a (omega arith) (omega arith) in
+    elim (cases_Bool (q a)) [
+      | inl on ↦ rw (here, on) (ap (λ l. (d + a) ∷ l) rest)
+      | inr off ↦ rw (here, off) rest
+    ]
+
+-- the places that pass either of two tests which agree on them
+passing_both : (p q : ℕ → Bool) (a n : ℕ) → ((i : ℕ) → a ≤ i → i < a + n → p i ≡ q i) → filter p (range_with_len a n) ≡ filter q (range_with_len a n)
+passing_both p q a zero same = refl
+passing_both p q a (suc n) same =
+    let rest = passing_both p q (a + 1) n (λ i low high. same i (omega (arith, low)) (omega (arith, high))) in
+    let here = same a (omega arith) (omega arith) in
+    elim (cases_Bool (q a)) [
+      | inl on ↦ rw (here, on) (ap (λ l. a ∷ l) rest)
+      | inr off ↦ rw (here, off) rest
+    ]
+
+none_from : (a n : ℕ) → filter (λ i. eqb (bit_at 0 i) 1) (range_with_len a n) ≡ []
+none_from a zero = refl
+none_from a (suc n) = rw (bit_at-zero a) (none_from (a + 1) n)
+
+pub none_below : (n : ℕ) → ones_below n 0 ≡ []
+none_below n = none_from 0 n
+
+low_digit : (c i : ℕ) → i < 8 → bit_at (c % 256) i ≡ bit_at c i
+low_digit c i h =
+    let parts : c ≡ c / 256 * 2 ^ 8 + c % 256 = omega arith in
+    sym (ap (λ m. bit_at m i) parts ∙ bit_at_cat_low (c / 256) 8 (c % 256) i h)
+
+high_digit : (c i : ℕ) → bit_at c (8 + i) ≡ bit_at (c / 256) i
+high_digit c i =
+    let parts : c ≡ c / 256 * 2 ^ 8 + c % 256 = omega arith in
+    let place : 8 + i - 8 ≡ i = omega arith in
+    ap (λ m. bit_at m (8 + i)) parts ∙ bit_at_cat_high (c / 256) 8 (c % 256) (8 + i) (mod_below c 256 (pow_pos 8)) (omega arith) ∙ ap (bit_at (c / 256)) place
+
+-- the ones of 16 bits are those of the low byte, and those of the high byte 8 places on
+two_bytes : (c : ℕ) → ones_below 16 c ≡ ones_below 8 (c % 256) ++ map (λ i. 8 + i) (ones_below 8 (c / 256))
+two_bytes c =
+    let p : ℕ → Bool = λ i. eqb (bit_at c i) 1 in
+    filter-append p (range_with_len 0 8) (range_with_len 8 8)
+    ∙ ap (λ l. l ++ filter p (range_with_len 8 8)) (passing_both p (λ i. eqb (bit_at (c % 256) i) 1) 0 8 (λ i low high. ap (λ d. eqb d 1) (sym (low_digit c i (omega (arith, high))))))
+    ∙ ap (λ l. ones_below 8 (c % 256) ++ l) (passing_from p (λ i. eqb (bit_at (c / 256) i) 1) 8 0 8 (λ i low high. ap (λ d. eqb d 1) (high_digit c i)))
+
+-- ---- the table
+-- what the table holds for the byte v
+abbrev entry : ℕ → List ℕ
+entry v = chunk (8 * v) 8 OFFSETS
+
+lists_ones : ℕ → Bool
+lists_ones v = bytes_eq (last_first 0 (entry v) (count_ones v)) (ones_below 8 v)
+
+-- each entry is tried
+all_list : agree_below lists_ones (λ _. true) 256 ≡ true
+unfolding lists_ones ones
+all_list = refl
+
+is_small : ℕ → Bool
+is_small i = ltb (get_or OFFSETS i 0) 8
+
+all_small : agree_below is_small (λ _. true) 2048 ≡ true
+unfolding is_small
+all_small = refl
+
+pub entry_listed : (v : ℕ) → v < 256 → last_first 0 (entry v) (count_ones v) ≡ ones_below 8 v
+unfolding lists_ones
+entry_listed v h = (bytes_eq-Decides (last_first 0 (entry v) (count_ones v)) (ones_below 8 v)).0 (agree_below_at lists_ones (λ _. true) 256 v all_list h)
+
+pub entry_long : (v : ℕ) → v < 256 → length (entry v) ≡ 8
+entry_long v h = length-chunk (8 * v) 8 OFFSETS (let size : length OFFSETS ≡ 2048 = refl in omega (arith, size))
+
+pub entry_small : (v : ℕ) → v < 256 → (j : ℕ) → j < 8 → get_or (entry v) j 0 < 8
+unfolding is_small
+entry_small v h j small = omega (arith, get_or-chunk (8 * v) 8 OFFSETS j 0 small, ltb-true _ _ (agree_below_at is_small (λ _. true) 2048 (8 * v + j) all_small (omega (arith, small))))
+
+-- ---- both bytes in one buffer
+pub raised_long : (highs : List ℕ) → length highs ≡ 8 → length (zip2 (λ a b. (a + b) % 256) highs (replicate 8 8)) ≡ 8
+raised_long highs long = length-zip2 (λ a b. (a + b) % 256) highs (replicate 8 8) long ∙ long
+
+module _ (buffer highs lows : List ℕ) (c : ℕ) (room : length buffer ≡ 16) (long_high : length highs ≡ 8) (long_low : length lows ≡ 8) (small : (j : ℕ) → j < 8 → get_or highs j 0 < 8) (high_listed : last_first 0 highs (count_ones (c / 256)) ≡ ones_below 8 (c / 256)) (low_listed : last_first 0 lows (count_ones (c % 256)) ≡ ones_below 8 (c % 256)) (few_high : count_ones (c / 256) ≤ 8) (few_low : count_ones (c % 256) ≤ 8) where
+  abbrev above : ℕ
+  above = count_ones (c / 256)
+
+  abbrev raised : List ℕ
+  raised = zip2 (λ a b. (a + b) % 256) highs (replicate 8 8)
+
+  raised_at : (j : ℕ) → j < 8 → get_or raised j 0 ≡ 8 + get_or highs j 0
+  raised_at j h = get_or-zip2 (λ a b. (a + b) % 256) highs (replicate 8 8) j 0 0 0 (omega (arith, long_high, h)) h ∙ ap (λ b. (get_or highs j 0 + b) % 256) (get_or-replicate 8 j 8 0 h) ∙ omega (arith, small j h)
+
+  abbrev first : List ℕ
+  first = put_chunk 0 buffer raised
+
+  abbrev filled : List ℕ
+  filled = put_chunk above first lows
+
+  first_room : length first ≡ 16
+  first_room = length-put_chunk 0 buffer raised ∙ room
+
+  high_at : (j : ℕ) → j < above → 0 + get_or filled j 0 ≡ 8 + get_or highs j 0
+  high_at j h =
+      let within : j < 8 = omega (arith, h, few_high) in
+      let at = get_or-put_chunk_at 0 buffer raised j 0 (omega (arith, raised_long highs long_high, within)) (omega (arith, raised_long highs long_high, room)) in
+      let place : 0 + j ≡ j = omega arith in
+      omega (arith, get_or-put_chunk_below above first lows j 0 h, at, ap (λ k. get_or first k 0) place, raised_at j within)
+
+  low_at : (j : ℕ) → j < count_ones (c % 256) → 0 + get_or filled (above + j) 0 ≡ 0 + get_or lows j 0
+  low_at j h = omega (arith, get_or-put_chunk_at above first lows j 0 (omega (arith, long_low, few_low, h)) (omega (arith, long_low, first_room, few_high)))
+
+  pub both_listed : last_first 0 filled (above + count_ones (c % 256)) ≡ ones_below 16 c
+  both_listed =
+      last_first_more 0 0 filled lows above (count_ones (c % 256)) low_at
+      ∙ ap (λ l. l ++ last_first 0 filled above) low_listed
+      ∙ ap (λ l. ones_below 8 (c % 256) ++ l) (last_first_same 0 8 filled highs above high_at ∙ last_first_from 8 highs above ∙ ap (map (λ i. 8 + i)) high_listed)
+      ∙ sym (two_bytes c)
+
+-- ---- one by one
+-- the offsets from number i on are in the buffer
+abbrev pub IsListed : ℕ → ℕ → ℕ → ℕ → List ℕ → Type 0
+IsListed w n i held buffer = (i ≤ n) × (held + i ≤ n) × (length buffer ≡ 16) × (last_first 0 buffer held ≡ filter (λ k. eqb (bit_at w k) 1) (range_with_len i (n - i)))
+
+module _ (w n i held : ℕ) (buffer : List ℕ) (some : 0 < i) (is : IsListed w n i held buffer) where
+  abbrev passing : ℕ → ℕ → List ℕ
+  passing a m = filter (λ k. eqb (bit_at w k) 1) (range_with_len a m)
+
+  before : passing (i - 1) (n - (i - 1)) ≡ cond (eqb (bit_at w (i - 1)) 1) ((i - 1) ∷ passing i (n - i)) (passing i (n - i))
+  before =
+      let more : n - (i - 1) ≡ suc (n - i) = omega (arith, some, is.0) in
+      let next : i - 1 + 1 ≡ i = omega (arith, some) in
+      ap (λ m. passing (i - 1) m) more ∙ ap (λ a. cond (eqb (bit_at w (i - 1)) 1) ((i - 1) ∷ passing a (n - i)) (passing a (n - i))) next
+
+  pub one_listed : n ≤ 16 → bit_and (w / 2 ^ (i - 1)) 1 ≡ 1 → IsListed w n (i - 1) (held + 1) (set buffer held (i - 1))
+  one_listed few on =
+      let one : bit_at w (i - 1) ≡ 1 = sym (shr_and_one w (i - 1)) ∙ on in
+      let here : get_or (set buffer held (i - 1)) held 0 ≡ i - 1 = get_or-set_same buffer held (i - 1) 0 (omega (arith, is.1, is.2, few, some)) in
+      let rest : last_first 0 (set buffer held (i - 1)) held ≡ passing i (n - i) =
+      last_first_same 0 0 (set buffer held (i - 1)) buffer held (λ j h. omega (arith, get_or-set_other buffer held j (i - 1) 0 (λ e. absurd (omega (arith, e, h))))) ∙ is.3 in
+      let yes : passing (i - 1) (n - (i - 1)) ≡ (i - 1) ∷ passing i (n - i) = before ∙ ap (λ d. cond (eqb d 1) ((i - 1) ∷ passing i (n - i)) (passing i (n - i))) one in
+      let next : held + 1 ≡ suc held = omega arith in (
+        omega (arith, is.0),
+        omega (arith, is.1, some),
+        length-set buffer held (i - 1) ∙ is.2,
+        ap (last_first 0 (set buffer held (i - 1))) next ∙ ap (λ x. x ∷ last_first 0 (set buffer held (i - 1)) held) (omega (arith, here)) ∙ ap (λ l. (i - 1) ∷ l) rest ∙ sym yes,
+      )
+
+  pub none_listed : (bit_and (w / 2 ^ (i - 1)) 1 ≡ 1 → ⊥) → IsListed w n (i - 1) held buffer
+  none_listed off =
+      let none : eqb (bit_at w (i - 1)) 1 ≡ false = ne_eqb (bit_at w (i - 1)) 1 (λ e. off (shr_and_one w (i - 1) ∙ e)) in
+      (omega (arith, is.0), omega (arith, is.1), is.2, is.3 ∙ sym (before ∙ ap (λ b. cond b ((i - 1) ∷ passing i (n - i)) (passing i (n - i))) none))
