@@ -1,18 +1,23 @@
-"""Which bodies take words by lanes or by chunks: the kernels, with what has to stand in each, and who asks them.
+"""Which bodies take words by lanes or by chunks, or make symbols by counting: the kernels, with what has to stand in each, and who asks them.
 
-A proof says what a kernel answers and not how, so only the text shows that it goes by lanes. `KERNELS` names each with the
-calls that its body has to make and the functions that ask it, which are the public calls or lead to them.
+A proof says what a kernel answers and not how, so only the text shows that it goes by lanes, or counts where it could sort.
+`KERNELS` names each with the calls that its body has to make, the functions that ask it, which are the public calls or lead
+to them, and the calls that its body may not make.
 """
 from typing import NamedTuple
 
 
 class Kernel(NamedTuple):
-    """A body that goes by lanes or chunks."""
+    """A body that goes by lanes or chunks, or by counting."""
 
     name: str
     calls: tuple
     asked_by: tuple
+    without: tuple = ()
 
+
+# Ways to sort, which no maker by counting may take.
+SORTS = ("sort", "sort_by", "sort_by_digit", "sort_by_key", "sort_unstable", "sort_unstable_by_key", "sorted", "sorted_levels", "levels_by_sorting", "split")
 
 KERNELS = (
     Kernel("ones_of", ("as_chunks", "ones_of_chunk"), ("BitVec::count_ones",)),
@@ -27,6 +32,11 @@ KERNELS = (
     Kernel("offsets_in_byte", ("lanes_from",), ("put_offsets",)),
     Kernel("lanes_from", ("from_slice",), ("offsets_in_byte",)),
     Kernel("put_lanes", ("copy_to_slice",), ("put_offsets",)),
+    Kernel("WaveletMatrix::counted", ("counted_levels",), ("WaveletMatrix::from_slice_pc", "WaveletMatrix::from_bit_vec_pc"), SORTS),
+    Kernel("counted_levels", ("table", "levels_by_counting"), ("WaveletMatrix::counted",), SORTS),
+    Kernel("levels_by_counting", ("placed_digits", "start_next"), ("counted_levels",), SORTS),
+    Kernel("placed_digits", ("copy_first", "prefix"), ("levels_by_counting",), SORTS),
+    Kernel("start_next", ("rank0", "zeros"), ("levels_by_counting",), SORTS),
 )
 
 
@@ -37,7 +47,7 @@ def called(function):
 
 
 def lane_faults(library, kernels=KERNELS):
-    """Yields a line for each kernel that is gone, that doesn't go by lanes or chunks, or that isn't asked."""
+    """Yields a line for each kernel that is gone, that doesn't make its calls, that makes one it may not, or that isn't asked."""
     bodies = {}
     for function in library.functions:
         if function.body:
@@ -48,7 +58,9 @@ def lane_faults(library, kernels=KERNELS):
             yield f"crates: {len(found)} kernels {kernel.name}; allowed: one"
             continue
         for call in sorted(set(kernel.calls) - called(found[0])):
-            yield f"{found[0].where}: the kernel {kernel.name} has no call of `{call}`; allowed: a body by lanes or chunks"
+            yield f"{found[0].where}: the kernel {kernel.name} has no call of `{call}`; allowed: a body by lanes or chunks, or by counting"
+        for call in sorted(set(kernel.without) & called(found[0])):
+            yield f"{found[0].where}: the kernel {kernel.name} calls `{call}`; allowed: counting"
         for asker in kernel.asked_by:
             if not any(kernel.name.rsplit("::", 1)[-1] in called(it) for it in bodies.get(asker, [])):
                 yield f"{found[0].where}: {asker} doesn't ask the kernel {kernel.name}; allowed: a body that asks it"

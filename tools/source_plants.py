@@ -480,6 +480,20 @@ KERNELS = (
     ),
     plant("BitVec::count_ones doesn't ask the kernel ones_of", Instead("BitVec::count_ones", "ones_of(self.limbs())", "ones_one_by_one(self.limbs())")),
     plant("BitVec::eq doesn't ask the kernel are_same", Instead("BitVec::eq", "are_same(self.limbs(), other.limbs())", "self.limbs() == other.limbs()")),
+    plant(
+        "WaveletMatrix::counted doesn't ask the kernel counted_levels",
+        Instead("WaveletMatrix::counted", "counted_levels(alloc, source)", "sorted_levels(alloc, source)"),
+    ),
+    plant(
+        "WaveletMatrix::from_slice_pc doesn't ask the kernel WaveletMatrix::counted",
+        Instead("WaveletMatrix::from_slice_pc", "WaveletMatrix::counted(alloc, &source)", "WaveletMatrix::sorted(alloc, &source)"),
+    ),
+    plant(
+        "the kernel counted_levels calls `sorted_levels`",
+        Instead("counted_levels", "levels_by_counting(alloc, source, &mut starts, &mut ends)",
+                "levels_by_counting(alloc, source, &mut starts, &mut ends)?; sorted_levels(alloc, source)"),
+    ),
+    plant("the kernel placed_digits has no call of `prefix`", Instead("placed_digits", "source.prefix(item, i)", "ranked_among(source, item, i)")),
 )
 PLANTS = LOOPS + COMPARISONS + COUNTER + PLAIN_FORMS + OTHER_NAMES + FUNCTIONS + KEPT + WALKS + VECTORS + QUERIES + SOURCES + SMALL + KERNELS
 

@@ -31,8 +31,8 @@ counters that keeps a list. An *index type* is one with a `heap_size`.
    may be one call of the type's own public `q`.
 5. The counter's type has one name, and stands only in a parameter `tally: &mut Tally` and where a fresh counter is made. No
    macro writes code in crates with counted bodies.
-6. Kernels go by lanes or by chunks of words (`lane_rules.py`): each body that `KERNELS` names makes the calls that it has to,
-   and is asked by the functions that lead to it.
+6. Kernels go by lanes or by chunks of words, and makers by counting count (`lane_rules.py`): each body that `KERNELS` names
+   makes the calls that it has to and none that sorts, and is asked by the functions that lead to it.
 
 The forms are read by `rattle_items.py` and `rattle_bodies.py`, and `source_model.py` knows what names stand for. Exit
 status 1 where a rule is broken, with a line for each place: where it is, what stands there, and what is allowed instead.

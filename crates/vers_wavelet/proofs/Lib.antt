@@ -10,4 +10,5 @@ pub mod Sizes
 pub mod Gathering
 pub mod Sources
 pub mod Counting
+pub mod Statements
 pub mod PublicLaws

@@ -1,12 +1,14 @@
 -- The laws that proofs of other crates may cite. A crate above imports this file and no other of this folder.
-use Rattle.std.proofs.Common.{◌≡◌, ℕ, ◌-◌, ◌<◌, ◌≤◌, Bool, List, length, get_or}
-use Rattle.std.specs.Prelude.{slice_range}
+use Rattle.std.proofs.Common.{◌≡◌, ℕ, ◌-◌, ◌^◌, ◌<◌, ◌≤◌, Bool, eqb, List, length, get_or}
+use Rattle.std.specs.Prelude.{slice_range, All}
 use Rattle.std.specs.List.{count_by}
 use Rattle.std.specs.List.Sorted.{IsNonDecreasing}
-use Rattle.vers_wavelet.specs.Symbols.{by_size, in_bits, IsKth}
+use Rattle.vers_wavelet.specs.Symbols.{by_size, in_bits, occurrences, IsKth}
+use Rattle.vers_wavelet.specs.Makers.{low_symbols}
 use Rattle.vers_wavelet.proofs.BySize as BySize
 use Rattle.vers_wavelet.proofs.Items as Items
 use Rattle.vers_wavelet.proofs.Members as Members
+use Rattle.vers_wavelet.proofs.Statements as Statements
 
 -- ---- members by size
 
@@ -27,7 +29,19 @@ kth_at = BySize.kth_at
 pub one_kth : (xs : List ℕ) (i x y : ℕ) → IsKth xs i x → IsKth xs i y → x ≡ y
 one_kth = BySize.one_kth
 
+-- quantiles in turn list the members in ascending order
+pub quantiles_ascend : (numbers quantiles : List ℕ) → length quantiles ≡ length numbers → ((i : ℕ) → i < length numbers → IsKth numbers i (get_or quantiles i 0)) → quantiles ≡ by_size numbers
+quantiles_ascend = Statements.quantiles_ascend
+
 -- ---- ranges and symbols
+
+-- numbers of at most k digits are their own low digits
+pub small_numbers_stay : (numbers : List ℕ) (k : ℕ) → 0 < k → All (λ y. y < 2 ^ k) numbers → low_symbols numbers k ≡ numbers
+small_numbers_stay = Statements.small_numbers_stay
+
+-- a symbol occurs in a range as often as it is among the range's members
+pub occurrences_are_counted : (numbers : List ℕ) (a b s : ℕ) → b ≤ length numbers → length (occurrences numbers a b s) ≡ count_by (λ y. eqb y s) (slice_range numbers a b)
+occurrences_are_counted = Statements.occurrences_are_counted
 
 -- the range of all places is the list
 pub whole_range : (xs : List ℕ) → slice_range xs 0 (length xs) ≡ xs

@@ -1,5 +1,5 @@
 //! The nearest symbols of a range on either side of a symbol.
-ghost use Rattle.std.specs.Prelude.{◌≡◌, ◌%◌, ◌^◌, ◌≤◌, ◌↔◌, length, slice_range, IsSome, IfSome, IfOk, Any};
+ghost use Rattle.std.specs.Prelude.{◌≡◌, ◌≢◌, ◌%◌, ◌^◌, ◌<◌, ◌≤◌, ◌↔◌, length, slice_range, Ok, None, IsSome, IfSome, IfOk, Any};
 ghost use Rattle.vers_bits.specs.Bits.{number};
 ghost use Rattle.vers_tally.specs.Reads.{AddsAtMost};
 ghost use Rattle.vers_wavelet.specs.Symbols.{IsPredecessor, IsSuccessor};
@@ -28,6 +28,9 @@ impl<A: Allocator + Copy> WaveletMatrix<A> {
             × (range.end ≤ length self.now.items)
             × Any (λ y. y ≤ (number symbol.now))
             (slice_range self.now.items range.start range.end)) }
+        ensures other_width { length symbol.now ≢ self.now.width → result ≡ Ok None }
+        ensures past { length self.now.items < range.end → result ≡ Ok None }
+        ensures empty { range.end ≤ range.start → result ≡ Ok None }
     {
         let mut tally = Tally::new();
         self.predecessor_counted(range, symbol, &mut tally)
@@ -52,10 +55,13 @@ impl<A: Allocator + Copy> WaveletMatrix<A> {
             × (range.end ≤ length self.now.items)
             × Any (λ y. y ≤ (number symbol.now))
             (slice_range self.now.items range.start range.end)) }
+        ensures other_width { length symbol.now ≢ self.now.width → result ≡ Ok None }
+        ensures past { length self.now.items < range.end → result ≡ Ok None }
+        ensures empty { range.end ≤ range.start → result ≡ Ok None }
         ensures adds { AddsAtMost tally.old tally.new (query_reads self.now) }
     {
         if symbol.len() != self.bits_per_element()
-            || range.start > range.end
+            || range.start >= range.end
             || range.end > self.len()
         {
             return Ok(None);
@@ -82,6 +88,9 @@ impl<A: Allocator + Copy> WaveletMatrix<A> {
             × (range.end ≤ length self.now.items)
             × Any (λ y. (number symbol.now)
             ≤ y) (slice_range self.now.items range.start range.end)) }
+        ensures other_width { length symbol.now ≢ self.now.width → result ≡ Ok None }
+        ensures past { length self.now.items < range.end → result ≡ Ok None }
+        ensures empty { range.end ≤ range.start → result ≡ Ok None }
     {
         let mut tally = Tally::new();
         self.successor_counted(range, symbol, &mut tally)
@@ -106,10 +115,13 @@ impl<A: Allocator + Copy> WaveletMatrix<A> {
             × (range.end ≤ length self.now.items)
             × Any (λ y. (number symbol.now)
             ≤ y) (slice_range self.now.items range.start range.end)) }
+        ensures other_width { length symbol.now ≢ self.now.width → result ≡ Ok None }
+        ensures past { length self.now.items < range.end → result ≡ Ok None }
+        ensures empty { range.end ≤ range.start → result ≡ Ok None }
         ensures adds { AddsAtMost tally.old tally.new (query_reads self.now) }
     {
         if symbol.len() != self.bits_per_element()
-            || range.start > range.end
+            || range.start >= range.end
             || range.end > self.len()
         {
             return Ok(None);

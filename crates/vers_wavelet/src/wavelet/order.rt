@@ -1,5 +1,5 @@
 //! Members of a range by size.
-ghost use Rattle.std.specs.Prelude.{◌≡◌, ℕ, ◌+◌, ◌-◌, ◌/◌, ◌<◌, ◌≤◌, ◌↔◌, length, slice_range, IsSome, IfSome, IfOk};
+ghost use Rattle.std.specs.Prelude.{◌≡◌, ℕ, ◌+◌, ◌-◌, ◌/◌, ◌<◌, ◌≤◌, ◌↔◌, length, slice_range, Ok, None, IsSome, IfSome, IfOk};
 ghost use Rattle.vers_bits.specs.Bits.{number};
 ghost use Rattle.vers_tally.specs.Reads.{AddsAtMost};
 ghost use Rattle.vers_wavelet.specs.Symbols.{IsKth};
@@ -21,6 +21,8 @@ impl<A: Allocator + Copy> WaveletMatrix<A> {
             × (length v ≡ self.now.width))) }
         ensures answered { IfOk result (λ o. IsSome o
             ↔ (range.end ≤ length self.now.items) × (range.start + i < range.end)) }
+        ensures past { length self.now.items < range.end → result ≡ Ok None }
+        ensures few { range.end ≤ range.start + i → result ≡ Ok None }
     {
         let mut tally = Tally::new();
         self.quantile_counted(range, i, &mut tally)
@@ -41,6 +43,8 @@ impl<A: Allocator + Copy> WaveletMatrix<A> {
             × (length v ≡ self.now.width))) }
         ensures answered { IfOk result (λ o. IsSome o
             ↔ (range.end ≤ length self.now.items) × (range.start + i < range.end)) }
+        ensures past { length self.now.items < range.end → result ≡ Ok None }
+        ensures few { range.end ≤ range.start + i → result ≡ Ok None }
         ensures adds { AddsAtMost tally.old tally.new (query_reads self.now) }
     {
         if range.end > self.len() || range.start >= range.end || i >= range.end - range.start {
@@ -70,6 +74,7 @@ impl<A: Allocator + Copy> WaveletMatrix<A> {
         ensures value { IfOk result (λ o. IfSome o (λ v.
             IsKth self.now.items i (number v) × (length v ≡ self.now.width))) }
         ensures answered { IfOk result (λ o. IsSome o ↔ (i < length self.now.items)) }
+        ensures past { length self.now.items ≤ i → result ≡ Ok None }
     {
         let mut tally = Tally::new();
         self.get_sorted_counted(i, &mut tally)
@@ -87,6 +92,7 @@ impl<A: Allocator + Copy> WaveletMatrix<A> {
         ensures value { IfOk result (λ o. IfSome o (λ v.
             IsKth self.now.items i (number v) × (length v ≡ self.now.width))) }
         ensures answered { IfOk result (λ o. IsSome o ↔ (i < length self.now.items)) }
+        ensures past { length self.now.items ≤ i → result ≡ Ok None }
         ensures adds { AddsAtMost tally.old tally.new (query_reads self.now) }
     {
         self.quantile_counted(0..self.len(), i, tally)
@@ -108,6 +114,8 @@ impl<A: Allocator + Copy> WaveletMatrix<A> {
             × (length v ≡ self.now.width))) }
         ensures answered { IfOk result (λ o. IsSome o
             ↔ (range.start < range.end) × (range.end ≤ length self.now.items)) }
+        ensures past { length self.now.items < range.end → result ≡ Ok None }
+        ensures empty { range.end ≤ range.start → result ≡ Ok None }
     {
         let mut tally = Tally::new();
         self.range_min_counted(range, &mut tally)
@@ -127,6 +135,8 @@ impl<A: Allocator + Copy> WaveletMatrix<A> {
             × (length v ≡ self.now.width))) }
         ensures answered { IfOk result (λ o. IsSome o
             ↔ (range.start < range.end) × (range.end ≤ length self.now.items)) }
+        ensures past { length self.now.items < range.end → result ≡ Ok None }
+        ensures empty { range.end ≤ range.start → result ≡ Ok None }
         ensures adds { AddsAtMost tally.old tally.new (query_reads self.now) }
     {
         self.quantile_counted(range, 0, tally)
@@ -149,6 +159,8 @@ impl<A: Allocator + Copy> WaveletMatrix<A> {
             (number v) × (length v ≡ self.now.width))) }
         ensures answered { IfOk result (λ o. IsSome o
             ↔ (range.start < range.end) × (range.end ≤ length self.now.items)) }
+        ensures past { length self.now.items < range.end → result ≡ Ok None }
+        ensures empty { range.end ≤ range.start → result ≡ Ok None }
     {
         let mut tally = Tally::new();
         self.range_max_counted(range, &mut tally)
@@ -168,6 +180,8 @@ impl<A: Allocator + Copy> WaveletMatrix<A> {
             (number v) × (length v ≡ self.now.width))) }
         ensures answered { IfOk result (λ o. IsSome o
             ↔ (range.start < range.end) × (range.end ≤ length self.now.items)) }
+        ensures past { length self.now.items < range.end → result ≡ Ok None }
+        ensures empty { range.end ≤ range.start → result ≡ Ok None }
         ensures adds { AddsAtMost tally.old tally.new (query_reads self.now) }
     {
         if range.start >= range.end {
@@ -196,6 +210,8 @@ impl<A: Allocator + Copy> WaveletMatrix<A> {
             ((range.end - 1 - range.start) / 2) (number v) × (length v ≡ self.now.width))) }
         ensures answered { IfOk result (λ o. IsSome o
             ↔ (range.start < range.end) × (range.end ≤ length self.now.items)) }
+        ensures past { length self.now.items < range.end → result ≡ Ok None }
+        ensures empty { range.end ≤ range.start → result ≡ Ok None }
     {
         let mut tally = Tally::new();
         self.range_median_counted(range, &mut tally)
@@ -215,6 +231,8 @@ impl<A: Allocator + Copy> WaveletMatrix<A> {
             ((range.end - 1 - range.start) / 2) (number v) × (length v ≡ self.now.width))) }
         ensures answered { IfOk result (λ o. IsSome o
             ↔ (range.start < range.end) × (range.end ≤ length self.now.items)) }
+        ensures past { length self.now.items < range.end → result ≡ Ok None }
+        ensures empty { range.end ≤ range.start → result ≡ Ok None }
         ensures adds { AddsAtMost tally.old tally.new (query_reads self.now) }
     {
         if range.start >= range.end {

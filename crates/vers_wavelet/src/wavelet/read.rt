@@ -1,5 +1,5 @@
 //! The symbol at a place.
-ghost use Rattle.std.specs.Prelude.{◌≡◌, ◌<◌, ◌≤◌, ◌↔◌, length, slice_get, slice_index, Some, IsSome, IfSome, IfOk};
+ghost use Rattle.std.specs.Prelude.{◌≡◌, ◌<◌, ◌≤◌, ◌↔◌, length, slice_get, slice_index, Some, None, Ok, IsSome, IfSome, IfOk};
 ghost use Rattle.vers_bits.specs.Bits.{number};
 ghost use Rattle.vers_tally.specs.Reads.{AddsAtMost};
 ghost use Rattle.vers_wavelet.specs.Reads.{query_reads};
@@ -16,6 +16,7 @@ impl<A: Allocator + Copy> WaveletMatrix<A> {
         ensures value { IfOk result (λ o. IfSome o (λ v.
             (slice_get self.now.items place ≡ Some (number v)) × (length v ≡ self.now.width))) }
         ensures answered { IfOk result (λ o. IsSome o ↔ (place < length self.now.items)) }
+        ensures past { length self.now.items ≤ place → result ≡ Ok None }
     {
         let mut tally = Tally::new();
         self.get_value_counted(place, &mut tally)
@@ -32,6 +33,7 @@ impl<A: Allocator + Copy> WaveletMatrix<A> {
         ensures value { IfOk result (λ o. IfSome o (λ v.
             (slice_get self.now.items place ≡ Some (number v)) × (length v ≡ self.now.width))) }
         ensures answered { IfOk result (λ o. IsSome o ↔ (place < length self.now.items)) }
+        ensures past { length self.now.items ≤ place → result ≡ Ok None }
         ensures adds { AddsAtMost tally.old tally.new (query_reads self.now) }
     {
         if place >= self.len() {
