@@ -1,5 +1,5 @@
 -- What a tree of balanced parentheses answers, in the words of any tree.
-use Rattle.std.proofs.Common.{◌≡◌, ◌≢◌, ◌↔◌, ℕ, zero, suc, ◌<◌, Bool, true, false, List, [], ◌∷◌, length, get_or, eqb, Option, Some, None, arith, subst, sym, refl, ap, ◌∙◌}
+use Rattle.std.proofs.Common.{◌≡◌, ◌≢◌, ◌↔◌, ℕ, zero, suc, ◌<◌, ◌≤◌, Bool, true, false, List, [], ◌∷◌, length, get_or, eqb, Option, Some, None, arith, subst, sym, refl, ap, ◌∙◌}
 use Rattle.std.specs.Prelude.{IsTrue, slice_get, option_map, ◌==◌}
 use Rattle.std.proofs.lemmas.Bool.Decides.{Decides-eqb}
 use Rattle.vers_bits.specs.Bits.{count, places, select}
@@ -40,6 +40,17 @@ unfolding select
 handle_by l b i n e h =
     let s = nodes_by l b in
     ap (λ (xs : List ℕ). slice_get xs i) s ∙ at_place (places true l) i (length l) (subst (λ (xs : List ℕ). i < length xs) s h) ∙ ap Some (sym e)
+
+past_end : (xs : List ℕ) (i d : ℕ) → length xs ≤ i → get_or xs i d ≡ d
+past_end [] i d h = refl
+past_end (x ∷ xs) zero d h = absurd (omega arith)
+past_end (x ∷ xs) (suc i) d h = past_end xs i d (omega arith)
+
+pub handle_past : (l : List Bool) → IsBalanced l → (i n : ℕ) → n ≡ select true l i → length (nodes (forest_of l)) ≤ i → n ≡ length (text (forest_of l))
+unfolding select
+handle_past l b i n e h =
+    e ∙ past_end (places true l) i (length l) (subst (λ (xs : List ℕ). length xs ≤ i) (nodes_by l b) h)
+    ∙ ap (λ (xs : List Bool). length xs) (sym (text-forest_of l b))
 
 never : (n : ℕ) → suc n ≡ 0 → ⊥
 never n e = omega arith

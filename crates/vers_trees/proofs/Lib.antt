@@ -22,6 +22,7 @@ pub mod ListsOfNodes
 pub mod WalksOfNodes
 pub mod ClosedByZeros
 pub mod Matching
+pub mod Enclosed
 pub mod Scans
 pub mod Octal
 pub mod Bytes

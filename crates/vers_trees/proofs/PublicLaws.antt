@@ -1,11 +1,16 @@
 -- The laws that proofs of other crates may cite. A crate above imports this file and no other of this folder.
-use Rattle.std.proofs.Common.{◌≡◌, ℕ, ◌+◌, ◌-◌, ◌<◌, ◌≤◌, ◌↔◌, Bool, true, false, List, [], ◌∷◌, ◌++◌, map, length, get_or, Option, Some, None}
+use Rattle.std.proofs.Common.{◌≡◌, ℕ, ◌+◌, ◌-◌, ◌*◌, ◌<◌, ◌≤◌, ◌↔◌, Bool, true, false, List, [], ◌∷◌, ◌++◌, map, length, get_or, Option, Some, None}
 use Rattle.std.specs.Prelude.{slice_get, option_map, Contains}
 use Rattle.vers_bits.specs.Bits.{bit_value}
-use Rattle.vers_trees.specs.Forest.{Forest, IsBalanced, forest_of}
-use Rattle.vers_trees.specs.Nodes.{nodes, IsNode, depth, level, first_of, last_of, next_of, previous_of}
+use Rattle.vers_trees.specs.Excess.{enclosing}
+use Rattle.vers_trees.specs.Forest.{Forest, text, pairs, IsBalanced, forest_of}
+use Rattle.vers_trees.specs.Layout.{block_count, node_count}
+use Rattle.vers_trees.specs.Nodes.{nodes, IsNode, parent, depth, level, first_of, last_of, next_of, previous_of}
 use Rattle.vers_trees.specs.LevelWalks.{IsAlongLevel}
+use Rattle.vers_trees.proofs.Enclosed as Enclosed
+use Rattle.vers_trees.proofs.Grammar as Grammar
 use Rattle.vers_trees.proofs.NodeLaws as NodeLaws
+use Rattle.vers_trees.proofs.Widths as Widths
 use Rattle.vers_trees.proofs.LevelWalks as LevelWalks
 
 -- ---- nodes
@@ -21,6 +26,22 @@ node_iff_bit = NodeLaws.node_iff_bit
 -- the same, by what `get` answers
 pub node_iff_got : (bits : List Bool) (v : ℕ) → IsBalanced bits → IsNode (forest_of bits) v ↔ (option_map bit_value (slice_get bits v) ≡ Some 1)
 node_iff_got = NodeLaws.node_iff_got
+
+-- ---- pairs
+
+-- of both places of a pair, the nearest pair around it opens at the parent of its node
+pub enclosed_by_parent : (F : Forest) (v c : ℕ) → Contains (pairs F) (v, c) → (enclosing (text F) v ≡ parent F v) × (enclosing (text F) c ≡ parent F v)
+enclosed_by_parent = Enclosed.enclosed_by_parent
+
+-- the forest of a balanced list writes down that list again
+pub text-forest_of : (bits : List Bool) → IsBalanced bits → text (forest_of bits) ≡ bits
+text-forest_of = Grammar.text-forest_of
+
+-- ---- the tree over the blocks
+
+-- it has fewer than three nodes a block
+pub few_nodes : (size n : ℕ) → 0 < size → 0 < n → node_count size n < 3 * block_count size n
+few_nodes = Widths.few_nodes
 
 -- ---- levels
 

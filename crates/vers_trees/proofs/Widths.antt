@@ -6,7 +6,7 @@ use Rattle.std.proofs.lemmas.List.{get_or_append_left, get_or_at, get_or-drop}
 use Rattle.std.proofs.Math.Seq.{take-append_seam}
 use Rattle.std.proofs.Math.Nat.{pow-succ', pow-le-pow_right}
 use Rattle.vers_tally.specs.Reads.{digits}
-use Rattle.vers_tally.proofs.PublicLaws.{digits-le, digits_up, digits_pow, digits_below_pow}
+use Rattle.vers_tally.proofs.PublicLaws.{digits-le, digits_up, digits_pow, digits_below_pow, clog_least, pow_next}
 use Rattle.vers_trees.specs.declared.trees.bp.min_max.Node.{Node}
 use Rattle.vers_trees.specs.inside.MinMax.{IsPart, AreBlocks, CoveredFrom, AreLeaves, empty_node}
 use Rattle.vers_trees.specs.Layout.{block_count, clog, levels, node_count}
@@ -126,20 +126,20 @@ few_levels l size first some h = let e = levels_some size (length l) some in ome
 pub blocks_are_leaves : (l : List Bool) (size first : ℕ) (nodes : List Node) → 0 < size → length l < 2 ^ 63 → AreFirstBlocks l size first (block_count size (length l)) nodes → AreLeaves (drop first nodes)
 blocks_are_leaves l size first nodes so short b = leaves_of l size (drop first nodes) (are_blocks l size first nodes so b) short
 
+one_at_least : (n size : ℕ) → 0 < size → 0 < n → 0 < block_count size n
+one_at_least n size so h =
+    let d = (div_ceil_times n size so).0 in
+    ⊎_elim
+    (λ (x : 0 < block_count size n). x)
+    (λ (x : block_count size n ≤ 0).
+    let z : block_count size n * size ≡ 0 * size = ap (λ (m : ℕ). m * size) (let g : block_count size n ≡ 0 = omega arith in g) in
+    absurd (omega arith))
+    (cases_lt 0 (block_count size n))
+
 room_for : (l : List Bool) (size first : ℕ) (nodes : List Node) → 0 < size → 0 < length l → AreFirstBlocks l size first (block_count size (length l)) nodes → first < length nodes
 room_for l size first nodes so some b =
     let c = b.counted in
     let g : 0 < block_count size (length l) = one_at_least (length l) size so some in omega arith
-  where
-    one_at_least : (n size : ℕ) → 0 < size → 0 < n → 0 < block_count size n
-    one_at_least n size so h =
-        let d = (div_ceil_times n size so).0 in
-        ⊎_elim
-        (λ (x : 0 < block_count size n). x)
-        (λ (x : block_count size n ≤ 0).
-        let z : block_count size n * size ≡ 0 * size = ap (λ (m : ℕ). m * size) (let g : block_count size n ≡ 0 = omega arith in g) in
-        absurd (omega arith))
-        (cases_lt 0 (block_count size n))
 
 pub tree_made : (l : List Bool) (size first : ℕ) (leaves nodes : List Node) → 0 < size → 0 < length l → length l < 2 ^ 63 → IsWidth (block_count size (length l)) (first + 1) → AreFirstBlocks l size first (block_count size (length l)) leaves → length nodes ≡ length leaves → drop first nodes ≡ drop first leaves → CoveredFrom first nodes 0 → IsTreeOf l size first nodes
 tree_made l size first leaves nodes so some short w b n e c =
@@ -164,3 +164,21 @@ indexed l size first nodes h so b n t = record { short = h; some = so; bounded =
 -- what is written through a slice of a vector is what the vector holds
 pub written_back : (new old : List Node) (n : ℕ) → n ≡ length new → take n (new ++ drop (length new) old) ≡ new
 written_back new old n e = ap (λ (m : ℕ). take m (new ++ drop (length new) old)) e ∙ take-append_seam new _
+
+-- ---- how few nodes there are
+few_over : (b : ℕ) → 0 < b → b + max 1 (2 ^ clog b - 1) < 3 * b
+few_over b h = ⊎_elim
+    (λ (x : 0 < clog b).
+    let low : 2 ^ (clog b - 1) < b = ⊎_elim (λ (y : 2 ^ (clog b - 1) < b). y) (λ (y : b ≤ 2 ^ (clog b - 1)). let z = clog_least b (clog b - 1) y in absurd (omega arith)) (cases_lt (2 ^ (clog b - 1)) b) in
+    let twice = pow_next (clog b - 1) in
+    let same : 2 ^ (clog b - 1 + 1) ≡ 2 ^ clog b = ap (λ (n : ℕ). 2 ^ n) (let g : clog b - 1 + 1 ≡ clog b = omega arith in g) in
+    omega arith)
+    (λ (x : clog b ≤ 0).
+    let one : 2 ^ clog b ≡ 1 = ap (λ (n : ℕ). 2 ^ n) (let z : clog b ≡ 0 = omega arith in z) in
+    omega arith)
+    (cases_lt 0 (clog b))
+
+pub few_nodes : (size n : ℕ) → 0 < size → 0 < n → node_count size n < 3 * block_count size n
+few_nodes size n s h = rw (node_count_some size n h) (few_over (block_count size n) (one_at_least n size s h))
+
+pub ruleset few = (few_nodes)

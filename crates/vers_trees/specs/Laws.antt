@@ -1,7 +1,9 @@
 -- The laws of parentheses, as statements.
-use Rattle.std.specs.Prelude.{◌≡◌, ◌≢◌, ℕ, ◌+◌, ◌<◌, ◌↔◌, Bool, true, false, List, length, slice_get, Contains, ℤ, negsuc, ◌+ℤ◌, Some}
-use Rattle.vers_trees.specs.Excess.{excess, first_rise_after, last_rise_before}
-use Rattle.vers_trees.specs.Forest.{Forest, text, pairs}
+use Rattle.std.specs.Prelude.{◌≡◌, ◌≢◌, ℕ, ◌+◌, ◌*◌, ◌<◌, ◌↔◌, Bool, true, false, List, length, slice_get, Contains, ℤ, negsuc, ◌+ℤ◌, Some}
+use Rattle.vers_trees.specs.Excess.{excess, first_rise_after, last_rise_before, enclosing}
+use Rattle.vers_trees.specs.Forest.{Forest, text, pairs, IsBalanced, forest_of}
+use Rattle.vers_trees.specs.Layout.{block_count, node_count}
+use Rattle.vers_trees.specs.Nodes.{parent}
 
 -- j is a place after i, past which the excess is r more than past i, and the first such
 pub record IsFirstRiseAfter (bits : List Bool) (i : ℕ) (r : ℤ) (j : ℕ) : Type 0 where
@@ -38,6 +40,19 @@ CloseFindsPair = (F : Forest) (v c : ℕ) → slice_get (text F) v ≡ Some true
 abbrev pub OpenFindsPair : Type 0
 OpenFindsPair = (F : Forest) (v c : ℕ) → slice_get (text F) c ≡ Some false
     → (last_rise_before (text F) c (negsuc 0) ≡ Some v) ↔ Contains (pairs F) (v, c)
+
+-- of both places of a pair, the nearest pair around it opens at the parent of its node, and there is none for a root
+abbrev pub EncloseFindsParent : Type 0
+EncloseFindsParent = (F : Forest) (v c : ℕ) → Contains (pairs F) (v, c)
+    → (enclosing (text F) v ≡ parent F v) × (enclosing (text F) c ≡ parent F v)
+
+-- the forest of a balanced list writes down that list again
+abbrev pub ForestWritesItsList : Type 0
+ForestWritesItsList = (bits : List Bool) → IsBalanced bits → text (forest_of bits) ≡ bits
+
+-- the tree over the blocks of some bits has fewer than three nodes a block
+abbrev pub NodesAreFew : Type 0
+NodesAreFew = (size n : ℕ) → 0 < size → 0 < n → node_count size n < 3 * block_count size n
 
 -- each one is closed somewhere, and what opens there is that one
 abbrev pub OpenUndoesClose : Type 0

@@ -1,6 +1,6 @@
 //! Laws of parentheses. Each function does nothing: its contract is the law, and its proof is
 //! checked with the crate.
-ghost use Rattle.vers_trees.specs.Laws.{ForwardFindsFirst, BackwardFindsLast, OneForest, CloseFindsPair, OpenFindsPair, OpenUndoesClose, CloseUndoesOpen};
+ghost use Rattle.vers_trees.specs.Laws.{ForwardFindsFirst, BackwardFindsLast, OneForest, CloseFindsPair, OpenFindsPair, OpenUndoesClose, CloseUndoesOpen, EncloseFindsParent, ForestWritesItsList, NodesAreFew};
 ghost use Rattle.vers_trees.specs.WalkLaws.{PreorderOpensInOrder, PostorderClosesInOrder, OnesAreNodes};
 ghost use Rattle.vers_trees.specs.ReadLaws.{CallsAreWithinOneBound, CallsReadFew, SearchesReadFew};
 ghost use Rattle.vers_trees.specs.NodeLaws.{NodeIffOne, LevelIffDepth, LevelsGoOn, LevelsGoBack, LevelsAreParts};
@@ -45,6 +45,23 @@ pub fn open_undoes_close()
 #[tactic(auto, using(crate::proofs::Matching::partners))]
 pub fn close_undoes_open()
     ensures { CloseUndoesOpen }
+{}
+
+/// In a forest written down, what encloses either place of a pair is the parent of its node.
+pub fn enclose_finds_parent()
+    ensures { EncloseFindsParent }
+{}
+
+/// The forest of a balanced list writes down that list again.
+#[tactic(auto, using(crate::proofs::Enclosed::written))]
+pub fn forest_writes_its_list()
+    ensures { ForestWritesItsList }
+{}
+
+/// The tree over the blocks of a list with some bits has fewer than three nodes a block.
+#[tactic(auto, using(crate::proofs::Widths::few))]
+pub fn nodes_are_few()
+    ensures { NodesAreFew }
 {}
 
 /// The nodes of a forest in preorder open at the ones of its text, each at the next one.

@@ -1,5 +1,5 @@
 //! Ordered trees: what they answer about the nodes of a forest, and how they are built.
-ghost use Rattle.std.specs.Prelude.{◌≡◌, ◌≢◌, ◌↔◌, ◌++◌, ◌∷◌, ◌<◌, ◌==◌, ℕ, Bool, true, false, List, [], length, slice_get, pos, IsTrue, IfOk, IfErr, OnOk, OnErr, Some, option_map};
+ghost use Rattle.std.specs.Prelude.{◌≡◌, ◌≢◌, ◌↔◌, ◌++◌, ◌∷◌, ◌<◌, ◌≤◌, ◌==◌, ℕ, Bool, true, false, List, [], length, slice_get, pos, IsTrue, IfOk, IfErr, OnOk, OnErr, Some, option_map};
 ghost use Rattle.vers_trees.specs.Excess.{excess};
 ghost use Rattle.vers_trees.specs.Forest.{Forest, text};
 ghost use Rattle.vers_trees.specs.Nodes.{nodes, IsNode, parent, children, siblings, first_of, last_of, next_of, previous_of, node_index, depth, subtree, is_ancestor, level, level_ancestor};
@@ -63,11 +63,12 @@ pub trait Tree {
         requires node { IsNode (forest self.now) (place self.now node) }
         ensures { result ≡ node_index (forest self.now) (place self.now node) };
 
-    /// The node of this number in preorder, counted from 0. Where there is none the handle names no
-    /// node.
+    /// The node of this number in preorder, counted from 0. Where there is none, the place of the handle
+    /// is the end of the forest written down, where no node opens.
     fn node_handle(&self, index: usize) -> Self::NodeHandle
         requires stands { is_forest self.now }
-        ensures { index < length (nodes (forest self.now)) → slice_get (nodes (forest self.now)) index ≡ Some (place self.now result) };
+        ensures node { index < length (nodes (forest self.now)) → slice_get (nodes (forest self.now)) index ≡ Some (place self.now result) }
+        ensures past { length (nodes (forest self.now)) ≤ index → place self.now result ≡ length (text (forest self.now)) };
 
     /// Whether a node has no children.
     fn is_leaf(&self, node: Self::NodeHandle) -> bool
@@ -148,21 +149,27 @@ pub trait LevelTree: Tree {
 /// What builds a tree while the nodes of a forest are entered and left, in the order in which it is
 /// written down.
 ///
-/// Contracts speak of the steps so far, true where a node was entered and false where one was left.
+/// Contracts speak of the steps so far, true where a node was entered and false where one was left, and
+/// of how many a builder takes at most.
 pub trait TreeBuilder {
     type Tree: Tree;
 
     ghost steps: { Self → List Bool };
 
-    /// Enters a node.
+    // The most steps that a builder takes.
+    ghost most_steps: { ℕ };
+
+    /// Enters a node. TooLong where there are as many steps as a builder takes, and nowhere else.
     fn enter_node(&mut self) -> Result<(), GrowError>
         ensures grown { OnOk result (steps self.new ≡ steps self.old ++ true ∷ []) }
-        ensures kept { OnErr result (steps self.new ≡ steps self.old) };
+        ensures kept { OnErr result (steps self.new ≡ steps self.old) }
+        ensures too_long { (result ≡ Err GrowError.TooLong) ↔ (length (steps self.old) ≡ most_steps) };
 
-    /// Leaves a node.
+    /// Leaves a node. TooLong where there are as many steps as a builder takes, and nowhere else.
     fn leave_node(&mut self) -> Result<(), GrowError>
         ensures grown { OnOk result (steps self.new ≡ steps self.old ++ false ∷ []) }
-        ensures kept { OnErr result (steps self.new ≡ steps self.old) };
+        ensures kept { OnErr result (steps self.new ≡ steps self.old) }
+        ensures too_long { (result ≡ Err GrowError.TooLong) ↔ (length (steps self.old) ≡ most_steps) };
 
     /// The tree of the forest that the steps write down. Where not as many nodes were left as entered it
     /// is refused with how many more were entered.

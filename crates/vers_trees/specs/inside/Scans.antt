@@ -49,6 +49,10 @@ rises (b ∷ l) = bit_value (b && is_not_closed l) + rises l
 abbrev pub scan_reads : ℕ → Reads
 scan_reads n = record no_reads { data_words = n; rank_calls = n }
 
+-- the same of a scan that begins in a block of n bits
+abbrev pub block_reads : ℕ → Reads
+block_reads n = record no_reads { data_words = n; rank_calls = n; blocks = 1 }
+
 -- the place after p, where it opens
 abbrev pub opened_after : List Bool → ℕ → Option ℕ
 opened_after l p = if slice_index_or l (p + 1) false then Some (p + 1) else None

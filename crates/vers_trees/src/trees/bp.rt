@@ -1,9 +1,9 @@
 //! Ordered trees as lists of balanced parentheses.
-ghost use Rattle.std.specs.Prelude.{◌≡◌, ◌≢◌, ℕ, ◌+◌, ◌<◌, ◌≤◌, ◌↔◌, ◌^◌, [], length, true, IfOk, IsTrue, Decides, Some, None};
+ghost use Rattle.std.specs.Prelude.{◌≡◌, ◌≢◌, ℕ, ◌+◌, ◌<◌, ◌≤◌, ◌↔◌, ◌^◌, [], length, true, IfOk, IsTrue, Decides, Some, None, slice_get};
 ghost use Rattle.std.specs.Prelude.{negsuc};
 ghost use Rattle.vers_bits.specs.Bits.{count, select};
 ghost use Rattle.vers_tally.specs.Reads.{AddsAtMost, only_nodes};
-ghost use Rattle.vers_rank.specs.Queries.{superblock_count, rank_reads, select_reads};
+ghost use Rattle.vers_rank.specs.Queries.{superblock_count, get_reads, rank_reads, select_reads};
 ghost use Rattle.vers_trees.specs.Excess.{excess, first_rise_after, last_rise_before, enclosing};
 ghost use Rattle.vers_trees.specs.Forest.{IsBalanced};
 ghost use Rattle.vers_trees.specs.inside.Index.{IsIndexed};
@@ -152,6 +152,28 @@ impl<const BLOCK_SIZE: usize, A: Allocator + Copy> BpTree<BLOCK_SIZE, A> {
         ensures { result ≡ tree_heap_size BLOCK_SIZE self.now }
     {
         self.bits.heap_size().saturating_add(self.tree.heap_size())
+    }
+
+    /// Whether the parenthesis at a place opens. None for a place that the list doesn't have.
+    #[inline]
+    pub fn is_open(&self, i: usize) -> Option<bool>
+        ensures { result ≡ slice_get self.now i }
+    {
+        let mut tally = Tally::new();
+        self.is_open_counted(i, &mut tally)
+    }
+
+    /// Whether the parenthesis at a place opens, by one bit read. None for a place that the list doesn't
+    /// have.
+    #[inline(always)]
+    pub fn is_open_counted(&self, i: usize, tally: &mut Tally) -> Option<bool>
+        ensures value { result ≡ slice_get self.now i }
+        ensures adds { AddsAtMost tally.old tally.new get_reads }
+    {
+        if i >= self.bits.len() {
+            return None;
+        }
+        Some(self.bits.is_one_counted(i, tally))
     }
 
     /// The excess past the bit at a place: the ones less the zeros up to it, itself among them.

@@ -139,6 +139,8 @@ impl<const BLOCK_SIZE: usize, A: Allocator + Copy> TreeBuilder for BpBuilder<BLO
 
     ghost steps = { λ b. b };
 
+    ghost most_steps = { 9223372036854775807 };
+
     fn enter_node(&mut self) -> Result<(), GrowError> {
         self.enter_node()
     }

@@ -12,7 +12,7 @@ use super::search::Searched;
 use std::alloc::Allocator;
 use std::marker::Model;
 use vers_rank::fast_rs_vec::{Places, RsVec};
-use vers_tally::ends::{BothEnds, Source};
+use vers_tally::ends::{Borrowing, BothEnds, Source};
 use vers_tally::tally::Tally;
 
 /// The nodes that `count` zeros of a list close, from zero number `first` on, which iterators find
@@ -57,6 +57,19 @@ impl<'a, const BLOCK_SIZE: usize, A: Allocator + Copy> Source for ClosedNodes<'a
     fn item_at(&mut self, i: usize, tally: &mut Tally) -> usize {
         let close = self.zeros.item_at(self.first + i, tally);
         self.searched.backward(close, -1, tally).unwrap_or(0)
+    }
+}
+
+impl<'a, const BLOCK_SIZE: usize, A: Allocator + Copy> Borrowing
+    for ClosedNodes<'a, BLOCK_SIZE, A> {
+    #[inline]
+    fn second(&self) -> Self {
+        ClosedNodes {
+            searched: self.searched,
+            zeros: self.zeros.second(),
+            first: self.first,
+            count: self.count,
+        }
     }
 }
 

@@ -1,9 +1,9 @@
 //! Scans of the bits of one block.
 ghost use Rattle.std.specs.Prelude.{◌≡◌, ℕ, ◌*◌, ◌-◌, ◌%◌, ◌^◌, ◌<◌, ◌≤◌, ◌-ℤ◌, ◌≤ℤ◌, ◌<ℤ◌, Bool, false, List, pos, negsuc, count_ones, length, IsTrue, MatchResult};
 ghost use Rattle.vers_bits.specs.Bits.{number};
-ghost use Rattle.vers_tally.specs.Reads.{AddsAtMost};
+ghost use Rattle.vers_tally.specs.Reads.{AddsAtMost, one_more};
 ghost use Rattle.vers_trees.specs.Excess.{bit_step};
-ghost use Rattle.vers_trees.specs.inside.Scans.{IsFirstRise, IsLastRise, HasNoRise, HasNoRiseBefore, falls, rises, scan_reads};
+ghost use Rattle.vers_trees.specs.inside.Scans.{IsFirstRise, IsLastRise, HasNoRise, HasNoRiseBefore, falls, rises, scan_reads, block_reads};
 ghost use Rattle.vers_trees.specs.inside.MinMax.{IsPart};
 
 use crate::trees::bp::bytes::{ByteTables, place_met};
@@ -71,6 +71,7 @@ fn bits_forward<A: Allocator + Copy>(
     tally: &mut Tally,
 ) -> Result<usize, i64>
     requires order { begin ≤ end }
+    requires few { end - begin < 8 }
     requires inside { end ≤ length bits.now }
     requires short { length bits.now < 2 ^ 63 }
     requires passed { (from : ℕ) × (from ≤ begin) × HasNoRise bits.now from begin target rise }
@@ -137,7 +138,7 @@ fn bytes_forward<A: Allocator + Copy>(
 
 // The first place from `from` on and before `end` after which the excess is `target` above that
 // before `from`. If there is none, how much the excess rises from `from` to `end`. Whole bytes are
-// looked up, and the bits after the last are scanned.
+// looked up, and the bits after the last, fewer than eight, are scanned. The scan is counted as begun.
 #[inline(always)]
 pub(super) fn scan_forward<A: Allocator + Copy>(
     bits: &RsVec<A>,
@@ -154,9 +155,11 @@ pub(super) fn scan_forward<A: Allocator + Copy>(
         result
         (λ place. IsFirstRise bits.now from end target place)
         (λ rise. HasNoRise bits.now from end target rise) }
-    ensures adds { AddsAtMost tally.old tally.new (scan_reads (end - from)) }
+    ensures begun { tally.new.blocks ≡ one_more tally.old.blocks }
+    ensures adds { AddsAtMost tally.old tally.new (block_reads (end - from)) }
 {
     let tail = from + (end - from) / 8 * 8;
+    tally.add_block();
     let rise = match bytes_forward(bits, tables, from, tail, 0, target, tally) {
         Ok(place) => return Ok(place),
         Err(rise) => rise,
@@ -175,6 +178,7 @@ fn bits_backward<A: Allocator + Copy>(
     tally: &mut Tally,
 ) -> Result<usize, i64>
     requires order { begin ≤ end }
+    requires few { end - begin < 8 }
     requires short { length bits.now < 2 ^ 63 }
     requires passed { (to : ℕ) × (end ≤ to) × (to ≤ length bits.now)
         × HasNoRiseBefore bits.now end to target rise }
@@ -244,7 +248,8 @@ fn bytes_backward<A: Allocator + Copy>(
 
 // The last place from `from` on and before `end` before which the excess is `target` above that
 // before `end`. If there is none, how much the excess before `from` is above that before `end`.
-// Whole bytes are looked up, and the bits before the first are scanned.
+// Whole bytes are looked up, and the bits before the first, fewer than eight, are scanned. The scan is
+// counted as begun.
 #[inline(always)]
 pub(super) fn scan_backward<A: Allocator + Copy>(
     bits: &RsVec<A>,
@@ -261,9 +266,11 @@ pub(super) fn scan_backward<A: Allocator + Copy>(
         result
         (λ place. IsLastRise bits.now from end target place)
         (λ rise. HasNoRiseBefore bits.now from end target rise) }
-    ensures adds { AddsAtMost tally.old tally.new (scan_reads (end - from)) }
+    ensures begun { tally.new.blocks ≡ one_more tally.old.blocks }
+    ensures adds { AddsAtMost tally.old tally.new (block_reads (end - from)) }
 {
     let head = end - (end - from) / 8 * 8;
+    tally.add_block();
     let rise = match bytes_backward(bits, tables, head, end, 0, target, tally) {
         Ok(place) => return Ok(place),
         Err(rise) => rise,

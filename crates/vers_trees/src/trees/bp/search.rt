@@ -68,14 +68,12 @@ impl<'a, const BLOCK_SIZE: usize, A: Allocator + Copy> Searched<'a, BLOCK_SIZE, 
         }
         let block = i / BLOCK_SIZE;
         let end = (block * BLOCK_SIZE + BLOCK_SIZE).min(len);
-        tally.add_block();
         let rise = match scan_forward(self.bits, &self.tree.tables, i + 1, end, r, tally) {
             Ok(place) => return Some(place),
             Err(rise) => rise,
         };
         let left = r.checked_sub(rise)?;
         let (next, rest) = self.tree.next_block_counted(block, left, tally)?;
-        tally.add_block();
         let next_end = (next * BLOCK_SIZE + BLOCK_SIZE).min(len);
         scan_forward(
             self.bits,
@@ -103,7 +101,6 @@ impl<'a, const BLOCK_SIZE: usize, A: Allocator + Copy> Searched<'a, BLOCK_SIZE, 
             return Some(i - 1);
         }
         let block = (i - 1) / BLOCK_SIZE;
-        tally.add_block();
         let begin = block * BLOCK_SIZE;
         let rise = match scan_backward(self.bits, &self.tree.tables, begin, i, r, tally) {
             Ok(place) => return Some(place),
@@ -111,7 +108,6 @@ impl<'a, const BLOCK_SIZE: usize, A: Allocator + Copy> Searched<'a, BLOCK_SIZE, 
         };
         let left = r.checked_sub(rise)?;
         let (previous, rest) = self.tree.previous_block_counted(block, left, tally)?;
-        tally.add_block();
         let start = previous * BLOCK_SIZE;
         scan_backward(
             self.bits,
