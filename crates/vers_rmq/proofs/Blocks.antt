@@ -4,11 +4,11 @@ use Rattle.std.specs.Int.{bit_at}
 use Rattle.std.proofs.lemmas.Bool.{cases_lt}
 use Rattle.std.proofs.lemmas.List.{length_push, get_or_push, get_or_append_left}
 use Rattle.vers_rmq.specs.declared.rmq.fast_rmq.TheConstants.{MAX_LEN}
-use Rattle.vers_rmq.specs.declared.rmq.least.Candidate.{Candidate}
+use Rattle.vers_rmq.specs.declared.rmq.least.PlacedItem.{PlacedItem}
 use Rattle.vers_rmq.specs.declared.rmq.fast_rmq.mask.Masks.{Masks}
 use Rattle.vers_rmq.specs.declared.rmq.fast_rmq.block.BlockMasks.{BlockMasks}
 use Rattle.vers_rmq.specs.Minima.{IsFirstLeast}
-use Rattle.vers_rmq.specs.inside.Candidates.{IsLeastItem, lesser_candidate}
+use Rattle.vers_rmq.specs.inside.Candidates.{IsLeastItem, lesser_item}
 use Rattle.vers_rmq.specs.inside.Masks.{IsLastSet, IsFirstSet, AreMasks, part_end}
 use Rattle.vers_rmq.specs.inside.Blocks.{IsBlock, AreBlocks, AreAllBlocks, block_end, no_masks}
 use Rattle.vers_bits.specs.Bits.{block_count}
@@ -117,7 +117,7 @@ pub ruleset reading = (block_inside)
 
 -- ---- ranges over blocks
 -- the least of whole blocks, from the least of their least items
-pub between : (xs ys mi pl t : List ℕ) (ms : List BlockMasks) (a c : ℕ) (q r : Candidate) → AreAllBlocks xs mi pl ms → xs ≡ ys → t ≡ pl → 128 * c + 128 ≤ length ys
+pub between : (xs ys mi pl t : List ℕ) (ms : List BlockMasks) (a c : ℕ) (q r : PlacedItem) → AreAllBlocks xs mi pl ms → xs ≡ ys → t ≡ pl → 128 * c + 128 ≤ length ys
     → IsLeastItem mi a c q → r.place ≡ 128 * q.place + get_or t q.place 0 → r.value ≡ q.value → IsLeastItem ys (128 * a) (128 * c + 127) r
 between xs ys mi pl t ms a c q r h e et inside found place value =
     let room : 128 * c + 128 ≤ length xs = omega (arith, ap length e) in
@@ -142,16 +142,16 @@ pub best_is : (xs mi pl t : List ℕ) (ms : List BlockMasks) (b : ℕ) → AreAl
 best_is xs mi pl t ms b h et inside = rw et (omega (arith, h.blocks.places_counted))
 
 -- the end of a block and the start of the next
-pub two_parts : (xs ys : List ℕ) (i j m n : ℕ) (a b r : Candidate) → xs ≡ ys → i / 128 + 1 ≡ j / 128 → j < length ys
+pub two_parts : (xs ys : List ℕ) (i j m n : ℕ) (a b r : PlacedItem) → xs ≡ ys → i / 128 + 1 ≡ j / 128 → j < length ys
     → IsFirstLeast ys i (min (128 * (i / 128) + 128) (length ys) - 1) m → IsFirstLeast ys (128 * (j / 128)) j n
-    → a.place ≡ m → a.value ≡ get_or xs m 0 → b.place ≡ n → b.value ≡ get_or xs n 0 → r ≡ lesser_candidate a b → IsLeastItem ys i j r
+    → a.place ≡ m → a.value ≡ get_or xs m 0 → b.place ≡ n → b.value ≡ get_or xs n 0 → r ≡ lesser_item a b → IsLeastItem ys i j r
 two_parts xs ys i j m n a b r e next inside left right pa va pb vb v =
     item_join ys i (min (128 * (i / 128) + 128) (length ys) - 1) (128 * (j / 128)) j a b r
     (item_at ys i (min (128 * (i / 128) + 128) (length ys) - 1) m a left pa (va ∙ ap (λ zs. get_or zs m 0) e)) (item_at ys (128 * (j / 128)) j n b right pb (vb ∙ ap (λ zs. get_or zs n 0) e))
     (omega arith) (omega arith) (omega arith) v
 
 -- the bounds of the blocks between may be spelled otherwise
-pub block_bounds : (xs : List ℕ) (i j : ℕ) (c : Candidate) → i / 128 + 1 < j / 128 → IsLeastItem xs (128 * (i / 128 + 1)) (128 * (j / 128 - 1) + 127) c → IsLeastItem xs (128 * (i / 128) + 128) (128 * (j / 128) - 1) c
+pub block_bounds : (xs : List ℕ) (i j : ℕ) (c : PlacedItem) → i / 128 + 1 < j / 128 → IsLeastItem xs (128 * (i / 128 + 1)) (128 * (j / 128 - 1) + 127) c → IsLeastItem xs (128 * (i / 128) + 128) (128 * (j / 128) - 1) c
 block_bounds xs i j c next h =
     let start : 128 * (i / 128 + 1) ≡ 128 * (i / 128) + 128 = omega arith in
     let stop : 128 * (j / 128 - 1) + 127 ≡ 128 * (j / 128) - 1 = omega arith in
@@ -165,8 +165,8 @@ block_least xs ys mi pl ms b v p h e ev from to inside =
     subst Q e (omega (arith, ev, here.value, here.best.least p from (omega (arith, ap length e))))
 
 -- the end of a block before what comes after it
-pub end_before : (xs ys : List ℕ) (i m e : ℕ) (a b r : Candidate) → xs ≡ ys → 128 * (i / 128) + 128 ≤ length ys
-    → IsFirstLeast ys i (min (128 * (i / 128) + 128) (length ys) - 1) m → a.place ≡ m → a.value ≡ get_or xs m 0 → r ≡ lesser_candidate a b
+pub end_before : (xs ys : List ℕ) (i m e : ℕ) (a b r : PlacedItem) → xs ≡ ys → 128 * (i / 128) + 128 ≤ length ys
+    → IsFirstLeast ys i (min (128 * (i / 128) + 128) (length ys) - 1) m → a.place ≡ m → a.value ≡ get_or xs m 0 → r ≡ lesser_item a b
     → IsLeastItem ys (128 * (i / 128) + 128) e b → IsLeastItem ys i e r
 end_before xs ys i m e a b r same inside left pa va v after =
     item_join ys i (min (128 * (i / 128) + 128) (length ys) - 1) (128 * (i / 128) + 128) e a b r
@@ -174,8 +174,8 @@ end_before xs ys i m e a b r same inside left pa va v after =
     (omega arith) (omega arith) (omega (arith, after.place.from, after.place.to)) v
 
 -- the start of a block after what comes before it
-pub start_after : (xs ys : List ℕ) (f j m : ℕ) (a b r : Candidate) → xs ≡ ys → 128 ≤ j
-    → IsFirstLeast ys (128 * (j / 128)) j m → b.place ≡ m → b.value ≡ get_or xs m 0 → r ≡ lesser_candidate a b
+pub start_after : (xs ys : List ℕ) (f j m : ℕ) (a b r : PlacedItem) → xs ≡ ys → 128 ≤ j
+    → IsFirstLeast ys (128 * (j / 128)) j m → b.place ≡ m → b.value ≡ get_or xs m 0 → r ≡ lesser_item a b
     → IsLeastItem ys f (128 * (j / 128) - 1) a → IsLeastItem ys f j r
 start_after xs ys f j m a b r same later right pb vb v before =
     item_join ys f (128 * (j / 128) - 1) (128 * (j / 128)) j a b r before
@@ -184,21 +184,21 @@ start_after xs ys f j m a b r same later right pb vb v before =
 
 -- ---- ranges over parts of a block
 -- the end of the part of the first place
-pub part_start : (xs ys : List ℕ) (i m : ℕ) (a : Candidate) → xs ≡ ys → 16 * (i / 16) + 16 ≤ length ys → IsFirstLeast ys i (min (16 * (i / 16) + 16) (length ys) - 1) m → a.place ≡ m → a.value ≡ get_or xs m 0
+pub part_start : (xs ys : List ℕ) (i m : ℕ) (a : PlacedItem) → xs ≡ ys → 16 * (i / 16) + 16 ≤ length ys → IsFirstLeast ys i (min (16 * (i / 16) + 16) (length ys) - 1) m → a.place ≡ m → a.value ≡ get_or xs m 0
     → IsLeastItem ys i (16 * (i / 16 + 1) - 1) a
 part_start xs ys i m a e inside left pa va =
     item_ends ys i (min (16 * (i / 16) + 16) (length ys) - 1) (16 * (i / 16 + 1) - 1) a (omega arith)
     (item_at ys i (min (16 * (i / 16) + 16) (length ys) - 1) m a left pa (va ∙ ap (λ zs. get_or zs m 0) e))
 
 -- a whole part more
-pub part_more : (xs ys : List ℕ) (i q j m : ℕ) (a b r : Candidate) → xs ≡ ys → i < 16 * q → j ≡ 16 * q + 15 → IsLeastItem ys i (16 * q - 1) a → IsFirstLeast ys (16 * (j / 16)) j m → b.place ≡ m → b.value ≡ get_or xs m 0
-    → r ≡ lesser_candidate a b → IsLeastItem ys i (16 * (q + 1) - 1) r
+pub part_more : (xs ys : List ℕ) (i q j m : ℕ) (a b r : PlacedItem) → xs ≡ ys → i < 16 * q → j ≡ 16 * q + 15 → IsLeastItem ys i (16 * q - 1) a → IsFirstLeast ys (16 * (j / 16)) j m → b.place ≡ m → b.value ≡ get_or xs m 0
+    → r ≡ lesser_item a b → IsLeastItem ys i (16 * (q + 1) - 1) r
 part_more xs ys i q j m a b r e before ej left right pb vb v =
     item_ends ys i j (16 * (q + 1) - 1) r (omega arith)
     (item_join ys i (16 * q - 1) (16 * (j / 16)) j a b r left (item_at ys (16 * (j / 16)) j m b right pb (vb ∙ ap (λ zs. get_or zs m 0) e)) (omega arith) (omega arith) (omega arith) v)
 
 -- the start of the part of the last place
-pub part_end_with : (xs ys : List ℕ) (i q j m : ℕ) (a b r : Candidate) → xs ≡ ys → i < 16 * q → q ≡ j / 16 → IsLeastItem ys i (16 * q - 1) a → IsFirstLeast ys (16 * (j / 16)) j m → b.place ≡ m → b.value ≡ get_or xs m 0
-    → r ≡ lesser_candidate a b → IsLeastItem ys i j r
+pub part_end_with : (xs ys : List ℕ) (i q j m : ℕ) (a b r : PlacedItem) → xs ≡ ys → i < 16 * q → q ≡ j / 16 → IsLeastItem ys i (16 * q - 1) a → IsFirstLeast ys (16 * (j / 16)) j m → b.place ≡ m → b.value ≡ get_or xs m 0
+    → r ≡ lesser_item a b → IsLeastItem ys i j r
 part_end_with xs ys i q j m a b r e before eq left right pb vb v =
     item_join ys i (16 * q - 1) (16 * (j / 16)) j a b r left (item_at ys (16 * (j / 16)) j m b right pb (vb ∙ ap (λ zs. get_or zs m 0) e)) (omega arith) (omega arith) (omega arith) v

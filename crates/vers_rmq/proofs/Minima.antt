@@ -2,9 +2,9 @@
 use Rattle.std.proofs.Common.{◌≡◌, ℕ, ◌+◌, ◌-◌, ◌<◌, ◌≤◌, List, leb, get_or, sym, ap, ◌∙◌, subst, inl, inr, arith}
 use Rattle.std.proofs.lemmas.Bool.{cases_lt, cond-true, cond-false, le-leb, lt-leb}
 use Rattle.std.proofs.lemmas.Bool.Decides.{nat_tests}
-use Rattle.vers_rmq.specs.declared.rmq.least.Candidate.{Candidate}
+use Rattle.vers_rmq.specs.declared.rmq.least.PlacedItem.{PlacedItem}
 use Rattle.vers_rmq.specs.Minima.{IsFirstLeast, lesser}
-use Rattle.vers_rmq.specs.inside.Candidates.{IsLeastItem, lesser_candidate}
+use Rattle.vers_rmq.specs.inside.Candidates.{IsLeastItem, lesser_item}
 
 -- a range of one place
 pub least_at : (xs : List ℕ) (i : ℕ) → IsFirstLeast xs i i i
@@ -70,21 +70,21 @@ pub least_ends : (xs : List ℕ) (i j k m : ℕ) → j ≡ k → IsFirstLeast xs
 least_ends xs i j k m e a = let P : ℕ → Type 0 = λ n. IsFirstLeast xs i n m in subst P e a
 
 -- the choice between candidates
-candidate_first : (a b : Candidate) → a.value ≤ b.value → lesser_candidate a b ≡ a
+candidate_first : (a b : PlacedItem) → a.value ≤ b.value → lesser_item a b ≡ a
 candidate_first a b h = cond-true (leb a.value b.value) a b (le-leb a.value b.value h)
 
-candidate_second : (a b : Candidate) → b.value < a.value → lesser_candidate a b ≡ b
+candidate_second : (a b : PlacedItem) → b.value < a.value → lesser_item a b ≡ b
 candidate_second a b h = cond-false (leb a.value b.value) a b (lt-leb a.value b.value h)
 
 -- a candidate read at a place
-pub item_at : (xs : List ℕ) (i j m : ℕ) (c : Candidate) → IsFirstLeast xs i j m → c.place ≡ m → c.value ≡ get_or xs m 0 → IsLeastItem xs i j c
+pub item_at : (xs : List ℕ) (i j m : ℕ) (c : PlacedItem) → IsFirstLeast xs i j m → c.place ≡ m → c.value ≡ get_or xs m 0 → IsLeastItem xs i j c
 item_at xs i j m c a place value = record {
   place = let P : ℕ → Type 0 = λ p. IsFirstLeast xs i j p in subst P (sym place) a;
   item = value ∙ ap (λ p. get_or xs p 0) (sym place);
 }
 
 -- the candidates of two ranges that meet or overlap
-pub item_join : (xs : List ℕ) (i k h j : ℕ) (a b r : Candidate) → IsLeastItem xs i k a → IsLeastItem xs h j b → i ≤ h → h ≤ k + 1 → k ≤ j → r ≡ lesser_candidate a b → IsLeastItem xs i j r
+pub item_join : (xs : List ℕ) (i k h j : ℕ) (a b r : PlacedItem) → IsLeastItem xs i k a → IsLeastItem xs h j b → i ≤ h → h ≤ k + 1 → k ≤ j → r ≡ lesser_item a b → IsLeastItem xs i j r
 item_join xs i k h j a b r left right ih hk kj e = elim (cases_lt b.value a.value) [
   | inl lt ↦
       let lower : get_or xs b.place 0 < get_or xs a.place 0 = omega (arith, left.item, right.item) in
@@ -97,7 +97,7 @@ item_join xs i k h j a b r left right ih hk kj e = elim (cases_lt b.value a.valu
 ]
 
 -- a range begins earlier, at items that are above its least one
-pub item_earlier : (xs : List ℕ) (i h j v : ℕ) (c : Candidate) → i ≤ h → c.value < v → ((p : ℕ) → i ≤ p → p < h → v ≤ get_or xs p 0) → IsLeastItem xs h j c → IsLeastItem xs i j c
+pub item_earlier : (xs : List ℕ) (i h j v : ℕ) (c : PlacedItem) → i ≤ h → c.value < v → ((p : ℕ) → i ≤ p → p < h → v ≤ get_or xs p 0) → IsLeastItem xs h j c → IsLeastItem xs i j c
 item_earlier xs i h j v c ih lt above found = record {
   place = record {
     from = omega (arith, found.place.from);
@@ -109,7 +109,7 @@ item_earlier xs i h j v c ih lt above found = record {
 }
 
 -- a range goes on over items that are not below its least one
-pub item_longer : (xs : List ℕ) (i k j v : ℕ) (c : Candidate) → k ≤ j + 1 → c.value ≤ v → ((p : ℕ) → k ≤ p → p ≤ j → v ≤ get_or xs p 0) → 0 < k → IsLeastItem xs i (k - 1) c → IsLeastItem xs i j c
+pub item_longer : (xs : List ℕ) (i k j v : ℕ) (c : PlacedItem) → k ≤ j + 1 → c.value ≤ v → ((p : ℕ) → k ≤ p → p ≤ j → v ≤ get_or xs p 0) → 0 < k → IsLeastItem xs i (k - 1) c → IsLeastItem xs i j c
 item_longer xs i k j v c kj le above some found = record {
   place = record {
     from = found.place.from;
@@ -121,14 +121,14 @@ item_longer xs i k j v c kj le above some found = record {
 }
 
 -- the ends of a range may be spelled otherwise
-pub item_ends : (xs : List ℕ) (i j k : ℕ) (c : Candidate) → j ≡ k → IsLeastItem xs i j c → IsLeastItem xs i k c
+pub item_ends : (xs : List ℕ) (i j k : ℕ) (c : PlacedItem) → j ≡ k → IsLeastItem xs i j c → IsLeastItem xs i k c
 item_ends xs i j k c e a = let P : ℕ → Type 0 = λ n. IsLeastItem xs i n c in subst P e a
 
 -- the place of the chosen one
-pub chosen_place : (xs : List ℕ) (m n : ℕ) (r : Candidate) → r ≡ lesser_candidate (record { place = m; value = get_or xs m 0 }) (record { place = n; value = get_or xs n 0 }) → r.place ≡ lesser xs m n
+pub chosen_place : (xs : List ℕ) (m n : ℕ) (r : PlacedItem) → r ≡ lesser_item (record { place = m; value = get_or xs m 0 }) (record { place = n; value = get_or xs n 0 }) → r.place ≡ lesser xs m n
 chosen_place xs m n r e =
-    let first : Candidate = record { place = m; value = get_or xs m 0 } in
-    let second : Candidate = record { place = n; value = get_or xs n 0 } in
+    let first : PlacedItem = record { place = m; value = get_or xs m 0 } in
+    let second : PlacedItem = record { place = n; value = get_or xs n 0 } in
     elim (cases_lt (get_or xs n 0) (get_or xs m 0)) [
       | inl lt ↦ ap (λ c. c.place) (e ∙ candidate_second first second lt) ∙ sym (lesser_second xs m n lt)
       | inr le ↦ ap (λ c. c.place) (e ∙ candidate_first first second le) ∙ sym (lesser_first xs m n le)
@@ -158,14 +158,14 @@ least_within xs s e i j m a si im mj je = record {
 pub ruleset inner = (least_within)
 
 -- a scan: its start, a step, and its end
-pub scan_start : (xs : List ℕ) (i : ℕ) (c : Candidate) → c.place ≡ i → c.value ≡ get_or xs i 0 → IsLeastItem xs i (i + 1 - 1) c
+pub scan_start : (xs : List ℕ) (i : ℕ) (c : PlacedItem) → c.place ≡ i → c.value ≡ get_or xs i 0 → IsLeastItem xs i (i + 1 - 1) c
 scan_start xs i c place value = item_ends xs i i (i + 1 - 1) c (omega arith) (item_at xs i i i c (least_at xs i) place value)
 
-pub scan_more : (xs : List ℕ) (i k : ℕ) (a b r : Candidate) → i < k → IsLeastItem xs i (k - 1) a → b.place ≡ k → b.value ≡ get_or xs k 0 → r ≡ lesser_candidate a b → IsLeastItem xs i (k + 1 - 1) r
+pub scan_more : (xs : List ℕ) (i k : ℕ) (a b r : PlacedItem) → i < k → IsLeastItem xs i (k - 1) a → b.place ≡ k → b.value ≡ get_or xs k 0 → r ≡ lesser_item a b → IsLeastItem xs i (k + 1 - 1) r
 scan_more xs i k a b r ik best place value e =
     item_ends xs i k (k + 1 - 1) r (omega arith) (item_join xs i (k - 1) k k a b r best (item_at xs k k k b (least_at xs k) place value) (omega arith) (omega arith) (omega arith) e)
 
-pub scan_end : (xs : List ℕ) (i j k : ℕ) (c : Candidate) → k ≡ j + 1 → IsLeastItem xs i (k - 1) c → IsLeastItem xs i j c
+pub scan_end : (xs : List ℕ) (i j k : ℕ) (c : PlacedItem) → k ≡ j + 1 → IsLeastItem xs i (k - 1) c → IsLeastItem xs i j c
 scan_end xs i j k c e best = item_ends xs i (k - 1) j c (omega arith) best
 
 pub ruleset choosing = (scan_start, scan_more, scan_end)

@@ -5,9 +5,9 @@ use Rattle.std.proofs.lemmas.Nat.{pow_pos}
 use Rattle.std.proofs.lemmas.Bool.{cases_lt}
 use Rattle.std.proofs.lemmas.List.{length_push, get_or_push, get_or_append_left}
 use Rattle.vers_rmq.specs.Layout.{clog}
-use Rattle.vers_rmq.specs.declared.rmq.least.Candidate.{Candidate}
+use Rattle.vers_rmq.specs.declared.rmq.least.PlacedItem.{PlacedItem}
 use Rattle.vers_rmq.specs.Minima.{IsFirstLeast, lesser}
-use Rattle.vers_rmq.specs.inside.Candidates.{IsLeastItem, lesser_candidate}
+use Rattle.vers_rmq.specs.inside.Candidates.{IsLeastItem, lesser_item}
 use Rattle.vers_rmq.specs.inside.Tables.{HoldsPlaces, IsTable, reach}
 use Rattle.vers_tally.proofs.PublicLaws.{clog_is, clog_up, pow_next, digits-le}
 use Rattle.vers_rmq.proofs.Minima.{least_at, least_join, least_ends, item_at, item_join, item_ends}
@@ -90,9 +90,9 @@ pub room_is : (xs table t : List ℕ) (k i n : ℕ) → IsTable xs table → t �
 room_is xs table t k i n holds e h en = rw e (room_of xs table k i n holds h en)
 
 -- a query from two entries
-pub asked : (xs ys : List ℕ) (k i j w h m n : ℕ) (a b r : Candidate) → xs ≡ ys → i ≤ j → w ≡ 2 ^ k → 2 ^ k ≤ j - i + 1 → j - i + 1 < 2 * 2 ^ k → h ≡ j + 1 - w
+pub asked : (xs ys : List ℕ) (k i j w h m n : ℕ) (a b r : PlacedItem) → xs ≡ ys → i ≤ j → w ≡ 2 ^ k → 2 ^ k ≤ j - i + 1 → j - i + 1 < 2 * 2 ^ k → h ≡ j + 1 - w
     → IsFirstLeast ys i (i + 2 ^ k - 1) m → IsFirstLeast ys h (h + 2 ^ k - 1) n → a.place ≡ m → a.value ≡ get_or xs m 0 → b.place ≡ n → b.value ≡ get_or xs n 0
-    → r ≡ lesser_candidate a b → IsLeastItem ys i j r
+    → r ≡ lesser_item a b → IsLeastItem ys i j r
 asked xs ys k i j w h m n a b r e ij ew low high eh left right pa va pb vb v =
     item_join ys i (i + 2 ^ k - 1) h j a b r
     (item_at ys i (i + 2 ^ k - 1) m a left pa (va ∙ ap (λ zs. get_or zs m 0) e))

@@ -14,7 +14,7 @@ use vers_tally::tally::Tally;
 
 /// A list of bits that keeps only the places of its ones, as an ascending list: for bits of which
 /// few are ones. Contracts see a `SparseRSVec` as the list of its bits.
-#[derive(Clone, Drop)]
+#[derive(Drop)]
 pub struct SparseRSVec<A: Allocator + Copy> {
     ones: EliasFanoVec<A>,
     len: u64,
@@ -29,6 +29,19 @@ impl<A: Allocator + Copy> Model for SparseRSVec<A> {
     ghost view = { λ v. ones_at v.ones v.len };
 
     ghost invariant = { λ v. AreSparse v.ones v.len };
+}
+
+impl<A: Allocator + Copy> Clone for SparseRSVec<A> {
+    ghost is_clone = { λ old new. new ≡ old };
+
+    /// A second list of the same bits.
+    fn clone(&self) -> Result<Self, AllocError> {
+        let ones = self.ones.clone()?;
+        Ok(SparseRSVec {
+            ones,
+            len: self.len,
+        })
+    }
 }
 
 #[tactic(auto, using(crate::proofs::SparseBits::sparse))]

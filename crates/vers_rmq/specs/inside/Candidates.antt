@@ -1,13 +1,13 @@
--- Places of least items, with the items there.
+-- Least items, with their places.
 use Rattle.std.specs.Prelude.{◌≡◌, ℕ, List, slice_index, nat_le, if◌then◌else◌}
-use Rattle.vers_rmq.specs.declared.rmq.least.Candidate.{Candidate}
+use Rattle.vers_rmq.specs.declared.rmq.least.PlacedItem.{PlacedItem}
 use Rattle.vers_rmq.specs.Minima.{IsFirstLeast}
 
 -- the candidate stands at the first place of a least item from i to j, and has that item
-pub record IsLeastItem (items : List ℕ) (i j : ℕ) (candidate : Candidate) : Type 0 where
+pub record IsLeastItem (items : List ℕ) (i j : ℕ) (candidate : PlacedItem) : Type 0 where
   pub place : IsFirstLeast items i j candidate.place
   pub item : candidate.value ≡ slice_index items candidate.place
 
--- the one of two candidates that has the lesser item, the first where they are equal
-abbrev pub lesser_candidate : Candidate → Candidate → Candidate
-lesser_candidate first second = if nat_le first.value second.value then first else second
+-- the lesser of two items, the first where they are equal
+abbrev pub lesser_item : PlacedItem → PlacedItem → PlacedItem
+lesser_item first second = if nat_le first.value second.value then first else second

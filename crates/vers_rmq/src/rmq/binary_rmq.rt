@@ -3,7 +3,6 @@ ghost use Rattle.std.specs.Prelude.{◌≡◌, ◌+◌, ◌-◌, ◌^◌, ◌<�
 ghost use Rattle.std.specs.Iterator.{Drains, IsFinite};
 ghost use Rattle.vers_tally.specs.Reads.{only_items, AddsAtMost};
 ghost use Rattle.vers_rmq.specs.Minima.{IsFirstLeast};
-ghost use Rattle.vers_rmq.specs.inside.Candidates.{IsLeastItem};
 ghost use Rattle.vers_rmq.specs.Layout.{binary_heap_size};
 ghost use Rattle.vers_rmq.specs.Ranges.{start_place, end_place, IsRangeOf};
 ghost use Rattle.vers_rmq.specs.Makers.{Refused};
@@ -13,7 +12,8 @@ mod table;
 use crate::rmq::binary_rmq::table::{log2, places, width};
 use crate::rmq::bounds::{end_place, start_place};
 use crate::rmq::gather::gathered;
-use crate::rmq::least::{Candidate, lesser_of, read_at};
+pub use crate::rmq::least::PlacedItem;
+use crate::rmq::least::{lesser_of, read_at};
 use std::alloc::{AllocError, Allocator};
 use std::marker::Model;
 use std::ops::Bound;
@@ -132,22 +132,46 @@ impl<A: Allocator + Copy> BinaryRmq<A> {
         table[self.items.len() * k + i] as usize
     }
 
-    // Item number `k`, by one item read.
-    #[inline(always)]
-    pub(super) fn item_counted(&self, k: usize, tally: &mut Tally) -> u64
-        requires { k < length self.now }
-        ensures value { result ≡ slice_index self.now k }
-        ensures adds { AddsAtMost tally.old tally.new (only_items 1) }
+    /// The item at a place of the list.
+    #[inline]
+    pub fn item(&self, place: usize) -> u64
+        requires { place < length self.now }
+        ensures { result ≡ slice_index self.now place }
     {
-        self.items.read(k, tally)
+        let mut tally = Tally::new();
+        self.item_counted(place, &mut tally)
     }
 
-    // The first least item from place `i` to place `j`, both included, by at most 2 items read.
+    /// The item at a place of the list, by one item read.
     #[inline(always)]
-    pub(super) fn least_counted(&self, i: usize, j: usize, tally: &mut Tally) -> Candidate
+    pub fn item_counted(&self, place: usize, tally: &mut Tally) -> u64
+        requires { place < length self.now }
+        ensures value { result ≡ slice_index self.now place }
+        ensures adds { AddsAtMost tally.old tally.new (only_items 1) }
+    {
+        self.items.read(place, tally)
+    }
+
+    /// The first least item from place `i` to place `j`, both included, with its place.
+    #[inline]
+    pub fn range_min_item(&self, i: usize, j: usize) -> PlacedItem
         requires order { i ≤ j }
         requires inside { j < length self.now }
-        ensures value { IsLeastItem self.now i j result }
+        ensures place { IsFirstLeast self.now i j result.place }
+        ensures item { result.value ≡ slice_index self.now result.place }
+    {
+        let mut tally = Tally::new();
+        self.range_min_item_counted(i, j, &mut tally)
+    }
+
+    /// The first least item from place `i` to place `j`, both included, with its place, by at most 2
+    /// items read.
+    #[inline(always)]
+    pub fn range_min_item_counted(&self, i: usize, j: usize, tally: &mut Tally) -> PlacedItem
+        requires order { i ≤ j }
+        requires inside { j < length self.now }
+        ensures place { IsFirstLeast self.now i j result.place }
+        ensures item { result.value ≡ slice_index self.now result.place }
         ensures adds { AddsAtMost tally.old tally.new (only_items 2) }
     {
         let _ = &self.items;
@@ -166,7 +190,7 @@ impl<A: Allocator + Copy> BinaryRmq<A> {
         ensures value { IsFirstLeast self.now i j result }
         ensures adds { AddsAtMost tally.old tally.new (only_items 2) }
     {
-        self.least_counted(i, j, tally).place
+        self.range_min_item_counted(i, j, tally).place
     }
 
     /// The first place of a least item from place `i` to place `j`, both included.

@@ -16,7 +16,7 @@ use crate::rmq::bounds::{end_place, start_place};
 use crate::rmq::fast_rmq::block::{BlockMasks, Blocks, all_blocks};
 use crate::rmq::fast_rmq::mask::{first_set, last_set};
 use crate::rmq::gather::gathered;
-use crate::rmq::least::{Candidate, lesser_of, read_at, scan};
+use crate::rmq::least::{PlacedItem, lesser_of, read_at, scan};
 use std::alloc::{AllocError, Allocator};
 use std::marker::Model;
 use std::ops::Bound;
@@ -202,7 +202,7 @@ impl<A: Allocator + Copy> FastRmq<A> {
 
     // The first least item of the blocks from `a` to `c`, which are whole.
     #[inline(always)]
-    fn between(&self, a: usize, c: usize, tally: &mut Tally) -> Candidate
+    fn between(&self, a: usize, c: usize, tally: &mut Tally) -> PlacedItem
         requires order { a ≤ c }
         requires within { 128 * c + 128 ≤ length self.now }
         ensures value { IsLeastItem self.now (128 * a) (128 * c + 127) result }
@@ -210,8 +210,8 @@ impl<A: Allocator + Copy> FastRmq<A> {
     {
         let _ = self.items.len();
         let places = self.places.as_slice();
-        let least = self.minima.least_counted(a, c, tally);
-        Candidate {
+        let least = self.minima.range_min_item_counted(a, c, tally);
+        PlacedItem {
             place: 128 * least.place + places[least.place] as usize,
             value: least.value,
         }
@@ -281,7 +281,7 @@ impl<A: Allocator + Copy> FastRmq<A> {
     // The first least item from `i` on, where `after` is that from the start of the next block on. No
     // item of the block of `i` is read where its least one is above `after`.
     #[inline(always)]
-    fn least_from(&self, i: usize, after: Candidate, tally: &mut Tally) -> Candidate
+    fn least_from(&self, i: usize, after: PlacedItem, tally: &mut Tally) -> PlacedItem
         requires { 128 * (i / 128) + 128 ≤ length self.now }
         ensures value { (to : ℕ) → IsLeastItem self.now (128 * (i / 128) + 128) to after
             → IsLeastItem self.now i to result }
@@ -297,7 +297,7 @@ impl<A: Allocator + Copy> FastRmq<A> {
     // The first least item up to `j`, where `before` is that up to the end of the block before. No item
     // of the block of `j` is read where its least one isn't below `before`.
     #[inline(always)]
-    fn least_up_to(&self, before: Candidate, j: usize, tally: &mut Tally) -> Candidate
+    fn least_up_to(&self, before: PlacedItem, j: usize, tally: &mut Tally) -> PlacedItem
         requires inside { j < length self.now }
         requires later { 128 ≤ j }
         ensures value { (from : ℕ) → IsLeastItem self.now from (128 * (j / 128) - 1) before

@@ -2,22 +2,24 @@
 ghost use Rattle.std.specs.Prelude.{◌≡◌, ◌+◌, ◌-◌, ◌<◌, ◌≤◌, length, slice_index};
 ghost use Rattle.vers_tally.specs.Reads.{only_items, AddsAtMost};
 ghost use Rattle.vers_rmq.specs.Minima.{lesser};
-ghost use Rattle.vers_rmq.specs.inside.Candidates.{IsLeastItem, lesser_candidate};
+ghost use Rattle.vers_rmq.specs.inside.Candidates.{IsLeastItem, lesser_item};
 
 use std::alloc::Allocator;
 use vers_tally::tally::{CountedItems, Tally};
 
-// A place of a list, and the item there.
-#[derive(Clone, Copy)]
-pub(super) struct Candidate {
-    pub(super) place: usize,
-    pub(super) value: u64,
+/// An item of a list, with the place where it stands.
+#[derive(Clone, Copy, Drop)]
+pub struct PlacedItem {
+    /// The place.
+    pub place: usize,
+    /// The item.
+    pub value: u64,
 }
 
-// The one of two candidates that has the lesser item, the first where they are equal.
+// The lesser of two items, the first where they are equal.
 #[inline(always)]
-pub(super) fn lesser_of(first: Candidate, second: Candidate) -> Candidate
-    ensures { result ≡ lesser_candidate first second }
+pub(super) fn lesser_of(first: PlacedItem, second: PlacedItem) -> PlacedItem
+    ensures { result ≡ lesser_item first second }
 {
     if first.value <= second.value {
         first
@@ -34,11 +36,11 @@ pub(super) fn lesser_place(items: &[u64], m: usize, n: usize) -> usize
     ensures value { result ≡ lesser items.now m n }
     ensures inside { result < length items.now }
 {
-    let first = Candidate {
+    let first = PlacedItem {
         place: m,
         value: items[m],
     };
-    let second = Candidate {
+    let second = PlacedItem {
         place: n,
         value: items[n],
     };
@@ -51,14 +53,14 @@ pub(super) fn read_at<A: Allocator + Copy>(
     items: &CountedItems<A>,
     place: usize,
     tally: &mut Tally,
-) -> Candidate
+) -> PlacedItem
     requires { place < length items.now }
     ensures at { result.place ≡ place }
     ensures item { result.value ≡ slice_index items.now place }
     ensures adds { AddsAtMost tally.old tally.new (only_items 1) }
 {
     let value = items.read(place, tally);
-    Candidate { place, value }
+    PlacedItem { place, value }
 }
 
 // The first least item from `i` to `j`, by reading each of them once.
@@ -69,7 +71,7 @@ pub(super) fn scan<A: Allocator + Copy>(
     i: usize,
     j: usize,
     tally: &mut Tally,
-) -> Candidate
+) -> PlacedItem
     requires order { i ≤ j }
     requires inside { j < length items.now }
     ensures value { IsLeastItem items.now i j result }

@@ -1,9 +1,11 @@
 //! Iterators over ascending lists.
+use crate::tests::bits::bits_of;
 use crate::tests::lists::list_of;
 use crate::tests::walks::{
-    Step, first_wrong_step, sum_by_mut, sum_by_reference, sum_by_value, walk_over, wrong_step,
+    Step, first_wrong_step, follows, sum_by_mut, sum_by_reference, sum_by_value, walk_over,
+    wrong_step,
 };
-use std::alloc::{AllocError, Allocator};
+use std::alloc::{AllocError, Allocator, Global};
 use test_alloc::{asked, asked_mut};
 
 // The members, the steps of one iterator, and what they answer.
@@ -105,4 +107,132 @@ fn sums<A: Allocator + Copy>(alloc: A, numbers: &[u64]) -> [Result<u64, AllocErr
 #[test]
 fn loops_over_members(rt: HostRuntime) {
     assert_eq!(rt; sums(rt.alloc(), &[4, 4, 9]), [Ok(17); 3]);
+}
+
+// Mixtures of steps from both ends, by single members and by whole words and blocks of them.
+const MIXTURES: [&[Step]; 5] = [
+    &[Step::Next, Step::NextBack],
+    &[
+        Step::Len,
+        Step::Next,
+        Step::NextCounted,
+        Step::NextBack,
+        Step::Nth(1),
+        Step::NextBackCounted,
+        Step::SizeHint,
+        Step::NthBack(2),
+    ],
+    &[
+        Step::NthCounted(63),
+        Step::NextBack,
+        Step::Next,
+        Step::NthBackCounted(64),
+        Step::NextCounted,
+        Step::Nth(0),
+    ],
+    &[
+        Step::NthBack(511),
+        Step::Next,
+        Step::NextBack,
+        Step::Nth(511),
+        Step::NextBackCounted,
+    ],
+    &[
+        Step::Next,
+        Step::Min,
+        Step::NextBack,
+        Step::Max,
+        Step::Nth(64),
+        Step::Last,
+        Step::NthBack(63),
+        Step::Count,
+    ],
+];
+
+// How many members there are: more than a word has bits, than two, than a block, and than two.
+const LONG: [usize; 4] = [65, 130, 513, 1100];
+
+// How the members of a long list lie.
+#[derive(Clone, Copy, Drop)]
+enum Lie {
+    Twice,
+    Equal,
+    Apart,
+    WithAGap,
+}
+
+// The last two ascend strictly, and can be places of ones.
+const LIES: [Lie; 4] = [Lie::Twice, Lie::Equal, Lie::Apart, Lie::WithAGap];
+
+fn member(lie: Lie, i: u64) -> u64 {
+    match lie {
+        Lie::Twice => i / 2,
+        Lie::Equal => 7,
+        Lie::Apart => i.wrapping_mul(1_000_003),
+        Lie::WithAGap => i.wrapping_add(if i < 70 { 0 } else { 1 << 40 }),
+    }
+}
+
+fn members<A: Allocator + Copy>(alloc: A, lie: Lie, len: usize) -> Result<Vec<u64, A>, AllocError> {
+    let mut numbers = Vec::new(alloc);
+    for i in 0..len as u64 {
+        numbers.push(member(lie, i))?;
+    }
+    Ok(numbers)
+}
+
+// Whether the iterators over a list, that own one, and over the ones of a sparse list give the numbers.
+fn are_followed<A: Allocator + Copy>(
+    alloc: A,
+    lie: Lie,
+    numbers: &[u64],
+    steps: &[Step],
+) -> Result<bool, AllocError> {
+    let is_walked = asked(
+        list_of(alloc, numbers),
+        |list| follows(&mut list.iter(), numbers, steps),
+    )?;
+    let is_walked_by_owner = asked_mut(
+        walk_over(alloc, numbers),
+        |walk| follows(walk, numbers, steps),
+    )?;
+    if matches!(lie, Lie::Twice | Lie::Equal) {
+        return Ok(is_walked && is_walked_by_owner);
+    }
+    let are_ones_walked = asked(
+        bits_of(alloc, numbers, u64::MAX),
+        |bits| follows(&mut bits.iter1(), numbers, steps),
+    )?;
+    Ok(is_walked && is_walked_by_owner && are_ones_walked)
+}
+
+// The first mixture that is not followed, of lists of one length.
+fn first_wrong_mixture<A: Allocator + Copy>(
+    alloc: A,
+    len: usize,
+) -> Result<Option<usize>, AllocError> {
+    for lie in LIES {
+        let numbers = members(alloc, lie, len)?;
+        for (row, steps) in MIXTURES.iter().enumerate() {
+            if !are_followed(alloc, lie, numbers.as_slice(), steps)? {
+                return Ok(Some(row));
+            }
+        }
+    }
+    Ok(None)
+}
+
+// The first length at which one is not.
+fn first_wrong_of_long(alloc: Global) -> Result<Option<(usize, usize)>, AllocError> {
+    for len in LONG {
+        if let Some(row) = first_wrong_mixture(alloc, len)? {
+            return Ok(Some((len, row)));
+        }
+    }
+    Ok(None)
+}
+
+#[test]
+fn mixtures_of_both_ends_over_long_lists(rt: HostRuntime) {
+    assert!(rt; matches!(first_wrong_of_long(rt.alloc()), Ok(None)));
 }

@@ -1,16 +1,18 @@
 //! Every call that takes memory, each of its requests refused in turn, and the calls that take none, of
 //! lists of every length.
-use crate::tests::bits::{Query as BitQuery, answer as bit_answer, bits_of};
-use crate::tests::lists::{Query, answer, list_of};
-use crate::tests::walks::{Step, first_wrong_step, walk_over, wrong_step};
+use crate::tests::bits::{Query as BitQuery, answer as bit_answer, bits_of, counted};
+use crate::tests::lists::{Query, answer, counted_answer, list_of};
+use crate::tests::walks::{Step, end, follows, plain_answer, sum_by_mut, sum_by_reference};
 use std::alloc::{AllocError, Allocator, Global};
 use test_alloc::{
-    Ending, LENGTHS, Refusing, asked, first_wrong, takes_memory, try_clone, try_convert, try_make,
-    try_use,
+    Check, Ending, LENGTHS, Making, Refusing, Trial, first_wrong_trial, try_clone_checked,
+    try_making, try_use_checked,
 };
 use vers_bits::bit_vec::{BitVec, GrowError};
 use vers_sorted::elias_fano::{EliasFanoIter, EliasFanoVec};
 use vers_sorted::sparse::SparseRSVec;
+
+type Heap = Refusing<Global>;
 
 // Member `i` of the ascending list: each member twice.
 fn member(i: usize) -> u64 {
@@ -26,21 +28,23 @@ fn is_one(place: u64) -> bool {
     place % 3 == 1
 }
 
-// The members and the places of ones.
-#[derive(Drop)]
-struct Numbers {
-    members: Vec<u64>,
-    ones: Vec<u64>,
+// How many bits the sparse list of so many ones has.
+fn bit_count(len: usize) -> u64 {
+    (len as u64).wrapping_mul(3)
 }
 
-fn numbers_of(alloc: Global, len: usize) -> Result<Numbers, AllocError> {
-    let mut numbers = Numbers {
-        members: Vec::new(alloc),
-        ones: Vec::new(alloc),
-    };
+fn members_of<A: Allocator + Copy>(alloc: A, len: usize) -> Result<Vec<u64, A>, AllocError> {
+    let mut numbers = Vec::new(alloc);
     for i in 0..len {
-        numbers.members.push(member(i))?;
-        numbers.ones.push(place_of_one(i))?;
+        numbers.push(member(i))?;
+    }
+    Ok(numbers)
+}
+
+fn ones_of<A: Allocator + Copy>(alloc: A, len: usize) -> Result<Vec<u64, A>, AllocError> {
+    let mut numbers = Vec::new(alloc);
+    for i in 0..len {
+        numbers.push(place_of_one(i))?;
     }
     Ok(numbers)
 }
@@ -54,40 +58,149 @@ fn all_bits<A: Allocator + Copy>(alloc: A, len: usize) -> Result<BitVec<A>, Grow
     Ok(bits)
 }
 
+// Whether both forms of each query answer as told.
+fn answers_all<A: Allocator + Copy>(list: &EliasFanoVec<A>, rows: &[(Query, Option<u64>)]) -> bool {
+    for (query, wanted) in rows {
+        if answer(list, *query) != *wanted || counted_answer(list, *query).answer != *wanted {
+            return false;
+        }
+    }
+    true
+}
+
+// Whether the queries answer about member `i`.
+fn knows_member<A: Allocator + Copy>(list: &EliasFanoVec<A>, i: usize) -> bool {
+    let v = member(i);
+    let is_second_value = i > 0 && i % 2 == 0;
+    let rows = [
+        (Query::Get(i), Some(v)),
+        (Query::GetUnchecked(i), Some(v)),
+        (Query::Select(i), Some(v)),
+        (Query::Delta(i), Some(if is_second_value { 3 } else { 0 })),
+        (Query::Rank(v), Some((i - i % 2) as u64)),
+        (Query::Has(v), Some(1)),
+        (Query::Has(v.wrapping_add(1)), Some(0)),
+        (Query::Predecessor(v), Some(v)),
+        (Query::Predecessor(v.wrapping_add(1)), Some(v)),
+        (Query::PredecessorUnchecked(v), Some(v)),
+        (Query::Successor(v), Some(v)),
+        (Query::SuccessorUnchecked(v), Some(v)),
+    ];
+    answers_all(list, &rows)
+}
+
+// Whether a list knows its length, and where it ends.
+fn knows_ends<A: Allocator + Copy>(list: &EliasFanoVec<A>, len: usize) -> bool {
+    let rows = [
+        (Query::Len, Some(len as u64)),
+        (Query::IsEmpty, Some(u64::from(len == 0))),
+        (Query::Get(len), None),
+        (Query::Select(len), None),
+        (Query::Delta(len), None),
+        (Query::Rank(u64::MAX), Some(len as u64)),
+        (Query::Successor(u64::MAX), None),
+    ];
+    answers_all(list, &rows) && list.heap_size() > 0
+}
+
+// Whether a list has so many members, and answers about the first, one amid and the last.
 fn has_members<A: Allocator + Copy>(list: &EliasFanoVec<A>, len: usize) -> bool {
     for i in 0..len {
         if list.get(i) != Some(member(i)) {
             return false;
         }
     }
-    list.len() == len
-}
-
-fn walks_over<A: Allocator + Copy>(members: &mut EliasFanoIter<A>, len: usize) -> bool {
-    for i in 0..len {
-        if members.next() != Some(member(i)) {
+    for i in some_of(len) {
+        if i < len && !knows_member(list, i) {
             return false;
         }
     }
-    members.next().is_none()
+    knows_ends(list, len)
 }
 
-fn has_ones<A: Allocator + Copy>(bits: &SparseRSVec<A>, len: u64, is_inverted: bool) -> bool {
-    for place in 0..len {
-        if bits.is_set(place) != Some(is_one(place) != is_inverted) {
-            return false;
-        }
+// The first of so many numbers, two amid and the last, where there are as many.
+fn some_of(len: usize) -> [usize; 4] {
+    [0, len / 2, len / 2 + 1, len.saturating_sub(1)]
+}
+
+// The steps of a walk: all that take no copy of it.
+const STEPS: [Step; 10] = [
+    Step::Len,
+    Step::Next,
+    Step::NextBack,
+    Step::NextCounted,
+    Step::NextBackCounted,
+    Step::SizeHint,
+    Step::Nth(1),
+    Step::NthBack(0),
+    Step::NthCounted(0),
+    Step::NthBackCounted(1),
+];
+
+// The steps of a walk over a list that stands elsewhere, whose copies take no memory.
+const STEPS_AND_ENDS: [Step; 7] = [
+    Step::Last,
+    Step::Count,
+    Step::Min,
+    Step::Max,
+    Step::Nth(63),
+    Step::NthBack(7),
+    Step::Next,
+];
+
+// The members of a list, and where it takes its memory.
+#[derive(Clone, Copy, Drop)]
+struct Members<'a, 'b> {
+    heap: &'a Heap,
+    numbers: &'b [u64],
+}
+
+impl<A: Allocator + Copy> Check<EliasFanoVec<A>> for Members<'_, '_> {
+    fn is_right(&self, list: &mut EliasFanoVec<A>) -> bool {
+        has_members(list, self.numbers.len())
+            && follows(&mut list.iter(), self.numbers, &STEPS)
+            && follows(&mut list.iter(), self.numbers, &STEPS_AND_ENDS)
+            && sum_by_reference(list) == sum_by_mut(list)
     }
-    bits.len() == len
 }
 
-// How many bits the sparse list of so many ones has.
-fn bit_count(len: usize) -> u64 {
-    (len as u64).wrapping_mul(3)
+// Whether a walk that owns its list gives the members.
+impl<A: Allocator + Copy> Check<EliasFanoIter<A>> for Members<'_, '_> {
+    fn is_right(&self, walk: &mut EliasFanoIter<A>) -> bool {
+        follows(walk, self.numbers, &STEPS)
+    }
 }
 
-// A call about numbers. The first ones take memory. The others take none, and those of one kind are tried
-// together.
+impl<'a> Making for Members<'a, '_> {
+    type Made = EliasFanoVec<&'a Heap>;
+
+    type Fault = AllocError;
+
+    fn out_of_memory(&self) -> AllocError {
+        AllocError
+    }
+
+    fn make(&self) -> Result<EliasFanoVec<&'a Heap>, AllocError> {
+        list_of(self.heap, self.numbers)
+    }
+
+    fn is_right(&self, list: &EliasFanoVec<&'a Heap>) -> bool {
+        has_members(list, self.numbers.len())
+    }
+}
+
+// A list that becomes a walk, which is asked for its end.
+trait Walked: Drop {
+    fn end_of_walk(self, asked: Step) -> Option<u64>;
+}
+
+impl<A: Allocator + Copy> Walked for EliasFanoVec<A> {
+    fn end_of_walk(self, asked: Step) -> Option<u64> {
+        end(self.into_iter(), asked)
+    }
+}
+
+// A call about numbers. Those from `Queries` on take no memory.
 #[derive(Clone, Copy, Drop)]
 enum Call {
     FromSlice,
@@ -98,311 +211,279 @@ enum Call {
     FromBitvec,
     FromBitvecInverted,
     Queries,
-    Walks,
-    IntoIter,
-    Steps,
+    WalkOf,
+    EndOfWalk(Step),
     SparseQueries,
 }
 
-// Each call, and whether it takes memory, for the select samples at least.
-const CALLS: [(Call, bool); 12] = [
-    (Call::FromSlice, true),
-    (Call::Clone, true),
-    (Call::CloneWalk, true),
-    (Call::New, true),
-    (Call::CloneSparse, true),
-    (Call::FromBitvec, true),
-    (Call::FromBitvecInverted, true),
-    (Call::Queries, false),
-    (Call::Walks, false),
-    (Call::IntoIter, false),
-    (Call::Steps, false),
-    (Call::SparseQueries, false),
+const CALLS: [Call; 14] = [
+    Call::FromSlice,
+    Call::Clone,
+    Call::CloneWalk,
+    Call::New,
+    Call::CloneSparse,
+    Call::FromBitvec,
+    Call::FromBitvecInverted,
+    Call::Queries,
+    Call::WalkOf,
+    Call::EndOfWalk(Step::Last),
+    Call::EndOfWalk(Step::Count),
+    Call::EndOfWalk(Step::Min),
+    Call::EndOfWalk(Step::Max),
+    Call::SparseQueries,
 ];
 
-// Whether the queries of a list work about a member that it has; or only the length where it has none.
-fn queries_work<A: Allocator + Copy>(list: &EliasFanoVec<A>, i: usize, len: usize) -> bool {
-    let v = member(i);
-    let rows = [
-        (Query::Len, Some(len as u64)),
-        (Query::IsEmpty, Some(u64::from(len == 0))),
-        (Query::Get(len), None),
-        (Query::Get(i), Some(v)),
-        (Query::GetUnchecked(i), Some(v)),
-        (Query::Select(i), Some(v)),
-        (Query::Rank(v), Some((i - i % 2) as u64)),
-        (Query::Has(v), Some(1)),
-        (Query::Predecessor(v), Some(v)),
-        (Query::PredecessorUnchecked(v), Some(v)),
-        (Query::Successor(v), Some(v)),
-        (Query::SuccessorUnchecked(v), Some(v)),
-    ];
-    let asked = if len == 0 { 3 } else { rows.len() };
-    first_wrong(list, &rows[..asked], answer).is_none()
-        && list.delta(i).is_some() == (len > 0)
-        && list.heap_size() > 0
-}
-
-// The last of so many members.
-fn last_of(len: usize) -> Option<u64> {
-    if len == 0 {
-        return None;
+// A walk that owns what was made, and its clone.
+fn tried_walk<B: Allocator, T: IntoIterator + Drop, X: Drop, C: Check<T::IntoIter>>(
+    heap: &Refusing<B>,
+    made: Result<T, X>,
+    call: Call,
+    check: &C,
+) -> Ending
+where
+    T::IntoIter: Clone + Drop,
+{
+    let Ok(it) = made else {
+        return Ending::Wrong;
+    };
+    if matches!(call, Call::CloneWalk) {
+        return try_clone_checked(heap, Ok::<_, X>(it.into_iter()), check);
     }
-    Some(member(len - 1))
+    heap.start();
+    let mut walk = it.into_iter();
+    ending_if(check.is_right(&mut walk))
 }
 
-// The steps of a walk over a list of so many members.
-fn steps_of(len: usize) -> [(Step, Option<u64>); 4] {
-    let second_end = if len > 1 { last_of(len) } else { None };
-    [
-        (Step::Len, Some(len as u64)),
-        (Step::Next, (len > 0).then_some(0)),
-        (Step::NextBack, second_end),
-        (Step::Nth(usize::MAX), None),
-    ]
+fn tried_end<B: Allocator, T: Walked, X: Drop>(
+    heap: &Refusing<B>,
+    made: Result<T, X>,
+    asked: Step,
+    wanted: Option<u64>,
+) -> Ending {
+    let Ok(it) = made else {
+        return Ending::Wrong;
+    };
+    heap.start();
+    ending_if(it.end_of_walk(asked) == wanted)
 }
 
-// What copies of a walk end with.
-fn ends_of(len: usize) -> [(Step, Option<u64>); 4] {
-    let last = last_of(len);
-    [
-        (Step::Count, Some(len as u64)),
-        (Step::Last, last),
-        (Step::Max, last),
-        (Step::Min, (len > 0).then_some(0)),
-    ]
+fn ending_if(is_right: bool) -> Ending {
+    if is_right {
+        Ending::Done
+    } else {
+        Ending::Wrong
+    }
 }
 
-// Whether the queries of a sparse list work about one number `i`, or only the length where there is none.
-fn sparse_queries_work<A: Allocator + Copy>(bits: &SparseRSVec<A>, i: usize, len: usize) -> bool {
+// A call of an ascending list, of any type, since a list itself is slower to prove.
+fn tried_made<
+    B: Allocator,
+    T: Walked + Clone + IntoIterator,
+    X: Drop,
+    C: Check<T> + Check<T::IntoIter>,
+>(heap: &Refusing<B>, made: Result<T, X>, call: Call, check: &C, numbers: &[u64]) -> Ending
+where
+    T::IntoIter: Clone + Drop,
+{
+    match call {
+        Call::Clone => try_clone_checked(heap, made, check),
+        Call::CloneWalk | Call::WalkOf => tried_walk(heap, made, call, check),
+        Call::EndOfWalk(asked) => tried_end(heap, made, asked, plain_answer(numbers, asked)),
+        _ => try_use_checked(heap, made, check),
+    }
+}
+
+fn tried_list(heap: &Heap, call: Call, numbers: &[u64]) -> Ending {
+    let members = Members { heap, numbers };
+    if matches!(call, Call::FromSlice) {
+        return try_making(heap, &members);
+    }
+    tried_made(heap, list_of(heap, numbers), call, &members, numbers)
+}
+
+// Whether both forms of each query of a sparse list answer as told.
+fn bits_answer_all<A: Allocator + Copy>(
+    bits: &SparseRSVec<A>,
+    rows: &[(BitQuery, Option<u64>)],
+) -> bool {
+    for (query, wanted) in rows {
+        if bit_answer(bits, *query) != *wanted || counted(bits, *query) != *wanted {
+            return false;
+        }
+    }
+    true
+}
+
+// Whether a sparse list knows one number `i`, and the zeros beside it.
+fn knows_one<A: Allocator + Copy>(bits: &SparseRSVec<A>, i: usize) -> bool {
     let place = place_of_one(i);
+    let zeros = place.wrapping_sub(i as u64);
     let rows = [
-        (BitQuery::Len, Some(bit_count(len))),
-        (BitQuery::IsEmpty, Some(u64::from(len == 0))),
-        (BitQuery::Get(bit_count(len)), None),
         (BitQuery::Get(place), Some(1)),
         (BitQuery::GetUnchecked(place), Some(1)),
         (BitQuery::IsSet(place), Some(1)),
         (BitQuery::IsSetUnchecked(place), Some(1)),
         (BitQuery::Rank1(place), Some(i as u64)),
-        (BitQuery::Rank0(place), Some(place.wrapping_sub(i as u64))),
+        (BitQuery::Rank0(place), Some(zeros)),
         (BitQuery::Select1(i), Some(place)),
         (BitQuery::Iter1(i), Some(place)),
+        (BitQuery::Get(place.wrapping_add(1)), Some(0)),
+        (BitQuery::IsSet(place.wrapping_sub(1)), Some(0)),
+        (
+            BitQuery::Rank1(place.wrapping_add(1)),
+            Some((i as u64).wrapping_add(1)),
+        ),
     ];
-    let asked = if len == 0 { 3 } else { rows.len() };
-    first_wrong(bits, &rows[..asked], bit_answer).is_none() && bits.heap_size() > 0
+    bits_answer_all(bits, &rows)
 }
 
-// What is made of so many numbers.
-trait Made: Drop {
-    // Whether it has them. A walk is taken to its end.
-    fn is_of(&mut self, len: usize) -> bool;
-
-    // Whether the calls of one kind work, which take no memory.
-    fn works(&mut self, call: Call, len: usize) -> bool;
+// Whether it has so many ones, and knows some of them and where it ends.
+fn has_all_ones<A: Allocator + Copy>(bits: &SparseRSVec<A>, len: usize) -> bool {
+    for i in 0..len {
+        if bits.select1(i) != place_of_one(i) {
+            return false;
+        }
+    }
+    for i in some_of(len) {
+        if i < len && !knows_one(bits, i) {
+            return false;
+        }
+    }
+    let rows = [
+        (BitQuery::Len, Some(bit_count(len))),
+        (BitQuery::IsEmpty, Some(u64::from(len == 0))),
+        (BitQuery::Get(bit_count(len)), None),
+        (BitQuery::IsSet(bit_count(len)), None),
+        (BitQuery::Select1(len), Some(bit_count(len))),
+        (BitQuery::Rank1(u64::MAX), Some(len as u64)),
+    ];
+    bits_answer_all(bits, &rows) && bits.heap_size() > 0
 }
 
-impl<A: Allocator + Copy> Made for EliasFanoVec<A> {
-    fn is_of(&mut self, len: usize) -> bool {
-        has_members(self, len)
+// Whether a list of all bits has its ones, or its zeros where it is inverted.
+fn has_bits<A: Allocator + Copy>(bits: &SparseRSVec<A>, len: u64, is_inverted: bool) -> bool {
+    for place in 0..len {
+        if bits.is_set(place) != Some(is_one(place) != is_inverted) {
+            return false;
+        }
+    }
+    bits.len() == len
+}
+
+// The places of the ones of a sparse list.
+#[derive(Clone, Copy, Drop)]
+struct Ones<'a> {
+    places: &'a [u64],
+}
+
+impl<A: Allocator + Copy> Check<SparseRSVec<A>> for Ones<'_> {
+    fn is_right(&self, bits: &mut SparseRSVec<A>) -> bool {
+        has_all_ones(bits, self.places.len()) && follows(&mut bits.iter1(), self.places, &STEPS)
+    }
+}
+
+// A maker of a sparse list, by the places of its ones or by as many bits.
+#[derive(Drop)]
+struct SparseMaker<'a, 'b> {
+    heap: &'a Heap,
+    call: Call,
+    places: &'b [u64],
+    bits: &'b BitVec<&'a Heap>,
+}
+
+impl<'a> Making for SparseMaker<'a, '_> {
+    type Made = SparseRSVec<&'a Heap>;
+
+    type Fault = AllocError;
+
+    fn out_of_memory(&self) -> AllocError {
+        AllocError
     }
 
-    fn works(&mut self, call: Call, len: usize) -> bool {
-        match call {
-            Call::Queries => queries_work(self, len / 2, len),
-            _ => {
-                wrong_step(self, &ends_of(len)).is_none()
-                    && wrong_step(self, &steps_of(len)).is_none()
-            }
+    fn make(&self) -> Result<SparseRSVec<&'a Heap>, AllocError> {
+        match self.call {
+            Call::FromBitvec => SparseRSVec::from_bitvec(self.bits),
+            Call::FromBitvecInverted => SparseRSVec::from_bitvec_inverted(self.bits),
+            _ => bits_of(self.heap, self.places, bit_count(self.places.len())),
+        }
+    }
+
+    fn is_right(&self, list: &SparseRSVec<&'a Heap>) -> bool {
+        let len = self.places.len();
+        match self.call {
+            Call::FromBitvec => has_bits(list, len as u64, false),
+            Call::FromBitvecInverted => has_bits(list, len as u64, true),
+            _ => has_all_ones(list, len),
         }
     }
 }
 
-impl<A: Allocator + Copy> Made for EliasFanoIter<A> {
-    fn is_of(&mut self, len: usize) -> bool {
-        walks_over(self, len)
-    }
-
-    fn works(&mut self, _call: Call, len: usize) -> bool {
-        first_wrong_step(self, &steps_of(len)).is_none()
-    }
-}
-
-impl<A: Allocator + Copy> Made for SparseRSVec<A> {
-    fn is_of(&mut self, len: usize) -> bool {
-        has_ones(self, bit_count(len), false)
-    }
-
-    fn works(&mut self, _call: Call, len: usize) -> bool {
-        sparse_queries_work(self, len / 2, len)
-    }
-}
-
-fn tried_clone<B: Allocator, T: Made + Clone>(
-    heap: &Refusing<B>,
-    made: Result<T, AllocError>,
-    len: usize,
-) -> Ending {
-    try_clone(heap, made, |it: &mut T| it.is_of(len))
-}
-
-fn tried_use<B: Allocator, T: Made>(
-    heap: &Refusing<B>,
-    made: Result<T, AllocError>,
-    call: Call,
-    len: usize,
-) -> Ending {
-    try_use(heap, made, |it: &mut T| it.works(call, len))
-}
-
-// Calls about an ascending list.
-fn tried_list<B: Allocator, A: Allocator + Copy>(
-    heap: &Refusing<B>,
-    alloc: A,
-    call: Call,
-    members: &[u64],
-) -> Ending {
-    let len = members.len();
-    match call {
-        Call::FromSlice => try_make(
-            heap,
-            AllocError,
-            || list_of(alloc, members),
-            |list: &EliasFanoVec<A>| has_members(list, len),
-        ),
-        Call::Clone => tried_clone(heap, list_of(alloc, members), len),
-        _ => tried_use(heap, list_of(alloc, members), call, len),
-    }
-}
-
-// The walk that owns a list.
-fn into_walk<A: Allocator + Copy>(list: EliasFanoVec<A>) -> Result<EliasFanoIter<A>, AllocError> {
-    Ok(list.into_iter())
-}
-
-// Calls about a walk that owns its list.
-fn tried_walk<B: Allocator, A: Allocator + Copy>(
-    heap: &Refusing<B>,
-    alloc: A,
-    call: Call,
-    members: &[u64],
-) -> Ending {
-    let len = members.len();
-    match call {
-        Call::CloneWalk => tried_clone(heap, walk_over(alloc, members), len),
-        Call::IntoIter => try_convert(
-            heap,
-            list_of(alloc, members),
-            into_walk,
-            |walk: &EliasFanoIter<A>| walk.len() == len,
-            |_| false,
-        ),
-        _ => tried_use(heap, walk_over(alloc, members), call, len),
-    }
-}
-
-// The sparse list of the places of ones, or of all bits or the inverted ones.
-fn sparse_of<A: Allocator + Copy>(
-    alloc: A,
-    call: Call,
-    ones: &[u64],
-    bits: &BitVec<A>,
-) -> Result<SparseRSVec<A>, AllocError> {
-    match call {
-        Call::FromBitvec => SparseRSVec::from_bitvec(bits),
-        Call::FromBitvecInverted => SparseRSVec::from_bitvec_inverted(bits),
-        _ => bits_of(alloc, ones, bit_count(ones.len())),
-    }
-}
-
-fn is_sparse_of<A: Allocator + Copy>(list: &SparseRSVec<A>, call: Call, len: usize) -> bool {
-    match call {
-        Call::FromBitvec => has_ones(list, len as u64, false),
-        Call::FromBitvecInverted => has_ones(list, len as u64, true),
-        _ => has_ones(list, bit_count(len), false),
-    }
-}
-
-// Makers of a sparse list.
-fn tried_sparse_maker<B: Allocator, A: Allocator + Copy>(
-    heap: &Refusing<B>,
-    alloc: A,
-    call: Call,
-    ones: &[u64],
-    bits: &BitVec<A>,
-) -> Ending {
-    try_make(
-        heap,
-        AllocError,
-        || sparse_of(alloc, call, ones, bits),
-        |list: &SparseRSVec<A>| is_sparse_of(list, call, ones.len()),
-    )
-}
-
-// Calls about a sparse list.
-fn tried_sparse<B: Allocator, A: Allocator + Copy>(
-    heap: &Refusing<B>,
-    alloc: A,
-    call: Call,
-    ones: &[u64],
-) -> Ending {
-    let len = ones.len();
-    match call {
-        Call::CloneSparse => tried_clone(heap, bits_of(alloc, ones, bit_count(len)), len),
-        Call::SparseQueries => tried_use(heap, bits_of(alloc, ones, bit_count(len)), call, len),
-        _ => asked(
-            all_bits(alloc, len),
-            |bits: &BitVec<A>| tried_sparse_maker(heap, alloc, call, ones, bits),
-        )
-        .unwrap_or(Ending::Wrong),
-    }
-}
-
-fn tried<B: Allocator, A: Allocator + Copy>(
-    heap: &Refusing<B>,
-    alloc: A,
-    call: Call,
-    numbers: &Numbers,
-) -> Ending {
-    match call {
-        Call::FromSlice | Call::Clone | Call::Queries | Call::Walks => {
-            tried_list(heap, alloc, call, &numbers.members)
+fn tried_sparse_maker(heap: &Heap, call: Call, places: &[u64]) -> Ending {
+    match all_bits(heap, places.len()) {
+        Ok(bits) => {
+            let bits = &bits;
+            try_making(
+                heap,
+                &SparseMaker {
+                    heap,
+                    call,
+                    places,
+                    bits,
+                },
+            )
         }
-        Call::CloneWalk | Call::IntoIter | Call::Steps => {
-            tried_walk(heap, alloc, call, &numbers.members)
-        }
-        _ => tried_sparse(heap, alloc, call, &numbers.ones),
+        Err(_) => Ending::Wrong,
     }
 }
 
-// The row of the first call that goes wrong.
-fn first_wrong_row(alloc: Global, numbers: &Numbers) -> Option<usize> {
-    for (row, (call, should_take)) in CALLS.iter().enumerate() {
-        let is_tried = |heap: &Refusing<Global>| tried(heap, heap, *call, numbers);
-        if takes_memory(alloc, is_tried) != Some(*should_take) {
-            return Some(row);
+fn tried_sparse(heap: &Heap, call: Call, places: &[u64]) -> Ending {
+    let ones = Ones { places };
+    let made = bits_of(heap, places, bit_count(places.len()));
+    if matches!(call, Call::CloneSparse) {
+        return try_clone_checked(heap, made, &ones);
+    }
+    try_use_checked(heap, made, &ones)
+}
+
+fn tried_of_members(heap: &Heap, call: Call, len: usize) -> Ending {
+    match members_of(heap, len) {
+        Ok(numbers) => tried_list(heap, call, numbers.as_slice()),
+        Err(_) => Ending::Wrong,
+    }
+}
+
+fn tried_of_ones(heap: &Heap, call: Call, len: usize) -> Ending {
+    let Ok(places) = ones_of(heap, len) else {
+        return Ending::Wrong;
+    };
+    match call {
+        Call::CloneSparse | Call::SparseQueries => tried_sparse(heap, call, places.as_slice()),
+        _ => tried_sparse_maker(heap, call, places.as_slice()),
+    }
+}
+
+impl Trial<Global> for Call {
+    fn run(self, heap: &Heap, len: usize) -> Ending {
+        match self {
+            Call::New
+            | Call::CloneSparse
+            | Call::FromBitvec
+            | Call::FromBitvecInverted
+            | Call::SparseQueries => tried_of_ones(heap, self, len),
+            _ => tried_of_members(heap, self, len),
         }
     }
-    None
-}
 
-// The first length at which one goes wrong, and its row.
-fn first_wrong_of_lengths(alloc: Global) -> Result<Option<(usize, usize)>, AllocError> {
-    for len in LENGTHS {
-        let wrong = asked(
-            numbers_of(alloc, len),
-            |numbers: &Numbers| first_wrong_row(alloc, numbers),
-        )?;
-        if let Some(row) = wrong {
-            return Ok(Some((len, row)));
+    fn takes_memory(self, _: usize) -> bool {
+        match self {
+            Call::Queries | Call::WalkOf | Call::EndOfWalk(_) | Call::SparseQueries => false,
+            _ => true,
         }
     }
-    Ok(None)
 }
 
-// Each request of a call that takes memory is refused in turn.
+// Each request of a call that takes memory is refused in turn, and the other calls make none.
 #[test]
 fn calls_take_memory_or_none(rt: HostRuntime) {
-    let wrong = first_wrong_of_lengths(rt.alloc());
-    assert!(rt; matches!(wrong, Ok(None)));
+    assert!(rt; first_wrong_trial(rt.alloc(), &LENGTHS, &CALLS).is_none());
 }

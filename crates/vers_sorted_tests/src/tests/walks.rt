@@ -24,8 +24,8 @@ pub enum Step {
     Max,
 }
 
-// What a walk ends with.
-fn end<S: Ascending>(members: BothEnds<S>, asked: Step) -> Option<u64> {
+/// What a walk ends with.
+pub fn end<S: Ascending>(members: BothEnds<S>, asked: Step) -> Option<u64> {
     match asked {
         Step::Last => members.last(),
         Step::Count => Some(members.count() as u64),
@@ -115,6 +115,73 @@ impl<A: Allocator + Copy> Walk for EliasFanoIter<A> {
     fn answer(&mut self, asked: Step) -> Option<u64> {
         answer_of_owning(self, asked)
     }
+}
+
+// What a step takes of a plain list, or is told of it, and what is left then.
+type AnswerAndRest<'a> = (Option<u64>, &'a [u64]);
+
+// Item `n` from the front, and what stands after it.
+fn from_front(left: &[u64], n: usize) -> AnswerAndRest<'_> {
+    match left.get(n) {
+        Some(item) => (Some(*item), &left[n + 1..]),
+        None => (None, &[]),
+    }
+}
+
+// Item `n` from the back, and what stands before it.
+fn from_back(left: &[u64], n: usize) -> AnswerAndRest<'_> {
+    if n >= left.len() {
+        return (None, &[]);
+    }
+    let place = left.len() - 1 - n;
+    (Some(left[place]), &left[..place])
+}
+
+// The first and the last item of a plain list.
+fn first_of(left: &[u64]) -> Option<u64> {
+    from_front(left, 0).0
+}
+
+fn last_of(left: &[u64]) -> Option<u64> {
+    from_back(left, 0).0
+}
+
+// The plain answer of a step.
+fn taken(left: &[u64], asked: Step) -> AnswerAndRest<'_> {
+    match asked {
+        Step::Next | Step::NextCounted => from_front(left, 0),
+        Step::NextBack | Step::NextBackCounted => from_back(left, 0),
+        Step::Nth(n) | Step::NthCounted(n) => from_front(left, n),
+        Step::NthBack(n) | Step::NthBackCounted(n) => from_back(left, n),
+        Step::Len | Step::SizeHint | Step::Count => (Some(left.len() as u64), left),
+        Step::Min => (first_of(left), left),
+        Step::Last | Step::Max => (last_of(left), left),
+    }
+}
+
+/// The same without what is left.
+pub fn plain_answer(left: &[u64], asked: Step) -> Option<u64> {
+    taken(left, asked).0
+}
+
+/// Whether a walk gives the numbers of a plain list, where these steps are taken in turn until all have
+/// passed, and once more then.
+pub fn follows<W: Walk>(walk: &mut W, numbers: &[u64], steps: &[Step]) -> bool {
+    let mut left = numbers;
+    for _ in 0..numbers.len().saturating_add(2) {
+        let has_ended = left.is_empty();
+        for step in steps {
+            let (wanted, rest) = taken(left, *step);
+            if walk.answer(*step) != wanted {
+                return false;
+            }
+            left = rest;
+        }
+        if has_ended {
+            return true;
+        }
+    }
+    false
 }
 
 /// The number of the first step that answers wrong.
