@@ -2,12 +2,14 @@
 #![tactic(auto)]
 
 mod asking;
+mod sizes;
 mod trials;
 mod tries;
 
 pub use asking::{
     Step, asked, asked_both, asked_mut, first_wrong, first_wrong_length, first_wrong_step,
 };
+pub use sizes::{SIZES, Size, Sizing, Spare, first_wrong_size, spare_of};
 use std::alloc::{AllocError, Allocator};
 use std::cell::Cell;
 pub use trials::{
