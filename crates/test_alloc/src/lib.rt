@@ -2,12 +2,14 @@
 #![tactic(auto)]
 
 mod asking;
+mod sizes;
 mod trials;
 mod tries;
 
 pub use asking::{
     Step, asked, asked_both, asked_mut, first_wrong, first_wrong_length, first_wrong_step,
 };
+pub use sizes::{SIZES, Size, Sizing, Spare, first_wrong_size, spare_of};
 use std::alloc::{AllocError, Allocator};
 use std::cell::Cell;
 pub use trials::{
@@ -27,6 +29,7 @@ pub struct Plan {
     asked: Cell<u64>,
     refused: Cell<u64>,
     freed: Cell<u64>,
+    held: Cell<usize>,
 }
 
 impl Drop for Plan {
@@ -38,6 +41,7 @@ impl Drop for Plan {
             asked: _,
             refused: _,
             freed: _,
+            held: _,
         } = self;
     }
 }
@@ -61,6 +65,7 @@ impl<B: Allocator> Refusing<B> {
                 asked: Cell::new(0),
                 refused: Cell::new(0),
                 freed: Cell::new(0),
+                held: Cell::new(0),
             },
         }
     }
@@ -135,6 +140,11 @@ impl<B: Allocator> Refusing<B> {
     pub fn freed(&self) -> u64 {
         self.plan.freed.get()
     }
+
+    /// How many bytes were granted and not given back.
+    pub fn held_bytes(&self) -> usize {
+        self.plan.held.get()
+    }
 }
 
 impl<B: Allocator> Drop for Refusing<B> {
@@ -143,32 +153,37 @@ impl<B: Allocator> Drop for Refusing<B> {
     }
 }
 
-fn is_refused(plan: &Plan) -> bool {
+// Whether the next request, for so many bytes, is refused. It is counted.
+fn is_refused(plan: &Plan, size: usize) -> bool {
     let number = plan.asked.get().saturating_add(1);
     plan.asked.set(number);
     let is_refused = plan.first.get() <= number && number <= plan.last.get();
     if is_refused {
         plan.refused.set(plan.refused.get().saturating_add(1));
+    } else {
+        plan.held.set(plan.held.get().wrapping_add(size));
     }
     is_refused
 }
 
-fn count_freed(plan: &Plan) {
+// Counts a block of so many bytes that is given back.
+fn count_freed(plan: &Plan, size: usize) {
     plan.freed.set(plan.freed.get().saturating_add(1));
+    plan.held.set(plan.held.get().wrapping_sub(size));
 }
 
 unsafe impl<B: Allocator> Allocator for Refusing<B> {
     ghost dealloc_token = { λ heap ty ptr. B.dealloc_token heap.inner ty ptr };
 
     fn allocate(&self, size: usize, align: usize) -> Result<*mut u8, AllocError> {
-        if is_refused(&self.plan) {
+        if is_refused(&self.plan, size) {
             return Err(AllocError);
         }
         self.inner.allocate(size, align)
     }
 
     unsafe fn deallocate(&self, ptr: *mut u8, size: usize, align: usize) {
-        count_freed(&self.plan);
+        count_freed(&self.plan, size);
         self.inner.deallocate(ptr, size, align);
     }
 }

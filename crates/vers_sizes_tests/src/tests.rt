@@ -1,0 +1,283 @@
+//! Each structure and its clone at lengths around the ends of limbs, blocks and superblocks.
+//!
+//! What is made of a given block size names its allocator: its size over any allocator is not known.
+ghost use Rattle.std.specs.Prelude.{◌<◌, ◌≤◌};
+
+use postings::{Postings, PostingsError};
+use std::alloc::{AllocError, Allocator, Global};
+use std::mem::size_of;
+use test_alloc::{Refusing, SIZES, Size, Sizing, Spare, asked, first_wrong_size, spare_of};
+use vers_bits::bit_vec::{BitVec, GrowError};
+use vers_rank::fast_rs_vec::RsVec;
+use vers_rmq::rmq::binary_rmq::{self, BinaryRmq};
+use vers_rmq::rmq::fast_rmq::{self, FastRmq};
+use vers_sorted::elias_fano::EliasFanoVec;
+use vers_sorted::order::is_ascending;
+use vers_sorted::sparse::SparseRSVec;
+use vers_trees::trees::bp::{BpTree, MAX_BLOCK_SIZE};
+use vers_wavelet::wavelet::WaveletMatrix;
+
+type Heap = Refusing<Global>;
+
+// How many levels a matrix of symbols of three bits has.
+const LEVELS: usize = 3;
+
+// `len` ascending numbers.
+fn numbers_of<A: Allocator + Copy>(alloc: A, len: usize) -> Result<Vec<u64, A>, AllocError> {
+    let mut numbers = Vec::with_capacity(alloc, len)?;
+    for k in 0..len as u64 {
+        numbers.push(k.wrapping_mul(3).wrapping_add(1))?;
+    }
+    Ok(numbers)
+}
+
+// The size that each structure tells.
+#[derive(Clone, Copy, Drop)]
+struct HeapSize;
+
+impl<A: Allocator + Copy> Size<BitVec<A>> for HeapSize {
+    fn bytes(&self, list: &BitVec<A>) -> usize {
+        list.heap_size()
+    }
+}
+
+impl<A: Allocator + Copy> Size<RsVec<A>> for HeapSize {
+    fn bytes(&self, list: &RsVec<A>) -> usize {
+        list.heap_size()
+    }
+}
+
+impl<A: Allocator + Copy> Size<EliasFanoVec<A>> for HeapSize {
+    fn bytes(&self, list: &EliasFanoVec<A>) -> usize {
+        list.heap_size()
+    }
+}
+
+impl<A: Allocator + Copy> Size<SparseRSVec<A>> for HeapSize {
+    fn bytes(&self, list: &SparseRSVec<A>) -> usize {
+        list.heap_size()
+    }
+}
+
+impl<A: Allocator + Copy> Size<WaveletMatrix<A>> for HeapSize {
+    fn bytes(&self, symbols: &WaveletMatrix<A>) -> usize {
+        symbols.heap_size()
+    }
+}
+
+impl<A: Allocator + Copy> Size<BinaryRmq<A>> for HeapSize {
+    fn bytes(&self, minima: &BinaryRmq<A>) -> usize {
+        minima.heap_size()
+    }
+}
+
+impl<A: Allocator + Copy> Size<FastRmq<A>> for HeapSize {
+    fn bytes(&self, minima: &FastRmq<A>) -> usize {
+        minima.heap_size()
+    }
+}
+
+impl<const N: usize, A: Allocator + Copy> Size<BpTree<N, A>> for HeapSize {
+    fn bytes(&self, tree: &BpTree<N, A>) -> usize {
+        tree.heap_size()
+    }
+}
+
+// A structure, and how it is made.
+#[derive(Clone, Copy, Drop)]
+enum Made {
+    Indexed,
+    BitsAgain,
+    Ascending,
+    Sparse,
+    Symbols,
+    SymbolsCounted,
+    Binary,
+    Fast,
+    SmallBlocks,
+    LargeBlocks,
+    Posted,
+}
+
+const ALL: [Made; 11] = [
+    Made::Indexed,
+    Made::BitsAgain,
+    Made::Ascending,
+    Made::Sparse,
+    Made::Symbols,
+    Made::SymbolsCounted,
+    Made::Binary,
+    Made::Fast,
+    Made::SmallBlocks,
+    Made::LargeBlocks,
+    Made::Posted,
+];
+
+fn indexed<A: Allocator + Copy>(alloc: A, numbers: &[u64]) -> Result<RsVec<A>, GrowError> {
+    Ok(RsVec::from_bit_vec(BitVec::from_bits_u64(alloc, numbers)?)?)
+}
+
+fn bits_again<A: Allocator + Copy>(alloc: A, numbers: &[u64]) -> Result<BitVec<A>, GrowError> {
+    Ok(indexed(alloc, numbers)?.into_bit_vec())
+}
+
+fn sparse<A: Allocator + Copy>(alloc: A, numbers: &[u64]) -> Result<SparseRSVec<A>, GrowError> {
+    let bits = BitVec::from_bits_u64(alloc, numbers)?;
+    Ok(SparseRSVec::from_bitvec(&bits)?)
+}
+
+fn tree<const N: usize, A: Allocator + Copy>(
+    alloc: A,
+    numbers: &[u64],
+) -> Result<BpTree<N, A>, GrowError>
+    requires some { 0 < N }
+    requires bounded { N ≤ MAX_BLOCK_SIZE }
+{
+    BpTree::from_bit_vector(BitVec::from_bits_u64(alloc, numbers)?)
+}
+
+fn ascending<A: Allocator + Copy>(
+    alloc: A,
+    numbers: &[u64],
+) -> Result<EliasFanoVec<A>, AllocError> {
+    if !is_ascending(numbers) {
+        return Err(AllocError);
+    }
+    EliasFanoVec::from_slice(alloc, numbers)
+}
+
+fn binary<A: Allocator + Copy>(alloc: A, numbers: &[u64]) -> Result<BinaryRmq<A>, AllocError> {
+    if numbers.len() > binary_rmq::MAX_LEN {
+        return Err(AllocError);
+    }
+    BinaryRmq::from_vec(Vec::from_slice(alloc, numbers)?)
+}
+
+fn fast<A: Allocator + Copy>(alloc: A, numbers: &[u64]) -> Result<FastRmq<A>, AllocError> {
+    if numbers.len() > fast_rmq::MAX_LEN {
+        return Err(AllocError);
+    }
+    FastRmq::from_vec(Vec::from_slice(alloc, numbers)?)
+}
+
+fn posted<A: Allocator + Copy>(alloc: A, numbers: &[u64]) -> Result<Postings<A>, PostingsError> {
+    Postings::from_sorted(numbers, Vec::from_slice(alloc, numbers)?)
+}
+
+// What the two lists of documents and of costs tell.
+fn told_of_parts(inner: Global, numbers: &[u64]) -> Result<usize, AllocError> {
+    let documents = asked(
+        ascending(inner, numbers),
+        |list: &EliasFanoVec<Global>| list.heap_size(),
+    )?;
+    let costs = asked(
+        fast(inner, numbers),
+        |list: &FastRmq<Global>| list.heap_size(),
+    )?;
+    Ok(documents.wrapping_add(costs))
+}
+
+fn spare_of_posted(inner: Global, heap: &Heap, numbers: &[u64]) -> Option<Spare> {
+    let told = told_of_parts(inner, numbers).ok()?;
+    let held = asked(
+        posted(heap, numbers),
+        |_: &Postings<&Heap>| heap.held_bytes(),
+    )
+    .ok()?;
+    Some(Spare {
+        made: held.checked_sub(told)?,
+        cloned: 0,
+    })
+}
+
+fn spare_of_tree(made: Made, heap: &Heap, numbers: &[u64]) -> Option<Spare> {
+    match made {
+        Made::SmallBlocks => spare_of(heap, tree::<8, &Heap>(heap, numbers), &HeapSize),
+        _ => spare_of(heap, tree::<512, &Heap>(heap, numbers), &HeapSize),
+    }
+}
+
+fn spare_of_bits(made: Made, heap: &Heap, numbers: &[u64]) -> Option<Spare> {
+    match made {
+        Made::Indexed => spare_of(heap, indexed(heap, numbers), &HeapSize),
+        Made::BitsAgain => spare_of(heap, bits_again(heap, numbers), &HeapSize),
+        Made::Sparse => spare_of(heap, sparse(heap, numbers), &HeapSize),
+        _ => spare_of_tree(made, heap, numbers),
+    }
+}
+
+fn spare_of_symbols(made: Made, heap: &Heap, numbers: &[u64]) -> Option<Spare> {
+    match made {
+        Made::Symbols => spare_of(heap, WaveletMatrix::from_slice(heap, numbers, 3), &HeapSize),
+        _ => spare_of(
+            heap,
+            WaveletMatrix::from_slice_pc(heap, numbers, 3),
+            &HeapSize,
+        ),
+    }
+}
+
+fn spare_of_made(made: Made, inner: Global, heap: &Heap, numbers: &[u64]) -> Option<Spare> {
+    match made {
+        Made::Ascending => spare_of(heap, ascending(heap, numbers), &HeapSize),
+        Made::Symbols | Made::SymbolsCounted => spare_of_symbols(made, heap, numbers),
+        Made::Binary => spare_of(heap, binary(heap, numbers), &HeapSize),
+        Made::Fast => spare_of(heap, fast(heap, numbers), &HeapSize),
+        Made::Posted => spare_of_posted(inner, heap, numbers),
+        _ => spare_of_bits(made, heap, numbers),
+    }
+}
+
+// How many nodes the tree over blocks has: its leaves, and as many others as a full tree of the next power of
+// two has, or the root at least.
+fn node_count(len: usize, block_size: usize) -> usize
+    requires { 0 < block_size }
+{
+    if len == 0 {
+        return 0;
+    }
+    let leaves = len.div_ceil(block_size);
+    let full = leaves.checked_next_power_of_two().unwrap_or(leaves);
+    leaves.saturating_add(full.saturating_sub(1).max(1))
+}
+
+// The bytes that are held beside the lists: a matrix has a vector of its levels.
+fn structs(made: Made) -> usize {
+    match made {
+        Made::Symbols | Made::SymbolsCounted => LEVELS.wrapping_mul(size_of::<RsVec<&Heap>>()),
+        _ => 0,
+    }
+}
+
+// The most bytes by which the vectors of a made value are rounded up. A vector that grows has room for four
+// words at least, and at most for twice what it holds, as that of the nodes.
+fn rounded(made: Made, len: usize) -> usize {
+    match made {
+        Made::Ascending | Made::Sparse | Made::Posted => 24,
+        Made::SymbolsCounted => LEVELS.wrapping_mul(32),
+        Made::SmallBlocks => node_count(len, 8).wrapping_mul(24),
+        Made::LargeBlocks => node_count(len, 512).wrapping_mul(24),
+        _ => 0,
+    }
+}
+
+// A clone holds just what is told.
+impl Sizing<Global> for Made {
+    fn spare(self, inner: Global, heap: &Heap, len: usize) -> Option<Spare> {
+        match numbers_of(inner, len) {
+            Ok(numbers) => spare_of_made(self, inner, heap, numbers.as_slice()),
+            Err(_) => None,
+        }
+    }
+
+    fn is_allowed(self, len: usize, spare: Spare) -> bool {
+        let structs = structs(self);
+        let most = structs.saturating_add(rounded(self, len));
+        spare.cloned == structs && structs <= spare.made && spare.made <= most
+    }
+}
+
+#[test]
+fn sizes_told_are_held(rt: HostRuntime) {
+    assert!(rt; first_wrong_size(rt.alloc(), &SIZES, &ALL).is_none());
+}
