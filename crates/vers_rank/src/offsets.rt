@@ -11,7 +11,7 @@ pub(crate) const CHUNK: usize = 16;
 /// Puts the offsets of the ones of 16 bits into a buffer, the highest first, by lanes: 8 for each
 /// byte, those of the low byte over what the high byte doesn't need. Returns how many there are.
 #[inline(always)]
-pub(crate) fn put_offsets(bits: u16, offsets: &mut [u8; CHUNK]) -> usize
+pub(crate) fn put_offsets(bits: u16, offsets: &mut [u8; CHUNK]) -> u32
     ensures room { length offsets.new ≡ 16 }
     ensures few { result ≤ 16 }
     ensures listed { last_first 0 offsets.new result ≡ ones_below 16 bits }
@@ -21,10 +21,10 @@ pub(crate) fn put_offsets(bits: u16, offsets: &mut [u8; CHUNK]) -> usize
     }
     let low = (bits & 0xff) as usize;
     let high = (bits >> 8) as usize;
-    let above = high.count_ones() as usize;
+    let above = high.count_ones();
     put_lanes(offsets, 0, offsets_in_byte(high) + u8x8::splat(8));
-    put_lanes(offsets, above, offsets_in_byte(low));
-    above + low.count_ones() as usize
+    put_lanes(offsets, above as usize, offsets_in_byte(low));
+    above + low.count_ones()
 }
 
 // Puts 8 lanes into a buffer.
@@ -59,18 +59,18 @@ fn lanes_from(numbers: &[u8], from: usize) -> u8x8
 
 /// Puts the offsets of the ones among the `n` lowest bits of a word into a buffer, the highest
 /// first, one by one: the plain form, for the last bits of a list. Returns how many there are.
-pub(crate) fn put_offsets_plainly(word: u64, n: usize, offsets: &mut [u8; CHUNK]) -> usize
+pub(crate) fn put_offsets_plainly(word: u64, n: usize, offsets: &mut [u8; CHUNK]) -> u32
     requires { n ≤ 16 }
     ensures room { length offsets.new ≡ 16 }
     ensures few { result ≤ 16 }
     ensures listed { last_first 0 offsets.new result ≡ ones_below n word }
 {
-    let mut held = 0;
+    let mut held: u32 = 0;
     let mut i = n;
     while i > 0 {
         i -= 1;
         if word >> i & 1 == 1 {
-            offsets[held] = i as u8;
+            offsets[held as usize] = i as u8;
             held += 1;
         }
     }

@@ -21,7 +21,7 @@ struct ChunkWalk {
     bit: bool,
     start: usize,
     end: usize,
-    left: usize,
+    left: u32,
     offsets: [u8; CHUNK],
 }
 
@@ -48,7 +48,7 @@ impl ChunkWalk {
             self.load(bits, tally);
         }
         self.left -= 1;
-        Some(self.start + self.offsets[self.left] as usize)
+        Some(self.start + self.offsets[self.left as usize] as usize)
     }
 
     // Loads the next chunk, where all places of the last one were passed: 16 bits by lanes, and the

@@ -1,7 +1,7 @@
 //! The places of two ones that follow each other.
 ghost use Rattle.std.specs.Prelude.{◌≡◌, ◌+◌, ◌/◌, ◌<◌, ◌≤◌, length, true};
 ghost use Rattle.vers_bits.specs.Bits.{select};
-ghost use Rattle.vers_tally.specs.Reads.{AddsAtMost, times};
+ghost use Rattle.vers_tally.specs.Reads.{AddsAtMost, one_more, times};
 ghost use Rattle.vers_rank.specs.Queries.{superblock_count, select_reads};
 
 use super::{LIMB, RsVec};
@@ -31,14 +31,15 @@ impl<A: Allocator + Copy> RsVec<A> {
     }
 
     /// The places of one number `r`, counted from 0, and of the one after it, each the length where
-    /// there are no more. By the reads of one select where both stand in one word of 64 bits, and
-    /// else by those of two.
+    /// there are no more. Counts one query, by the reads of one select where both stand in one word
+    /// of 64 bits, and else by those of two.
     #[inline(always)]
     #[tactic(auto, using(crate::proofs::Pairs::pairs))]
     pub fn select1_pair_counted(&self, r: usize, tally: &mut Tally) -> PlacePair
         ensures first { result.first ≡ select true self.now r }
         ensures second { result.second ≡ select true self.now (r + 1) }
         ensures within { (result.first ≤ length self.now) × (result.second ≤ length self.now) }
+        ensures counted { tally.new.rank_calls ≡ one_more tally.old.rank_calls }
         ensures adds { AddsAtMost tally.old tally.new
             (times 2 (select_reads (superblock_count (length self.now)))) }
         ensures near { result.second < length self.now
@@ -60,7 +61,7 @@ impl<A: Allocator + Copy> RsVec<A> {
         let second = if after != 0 {
             first + 1 + after.trailing_zeros() as usize
         } else {
-            self.select1_counted(r + 1, tally)
+            self.place_of(true, r + 1, tally)
         };
         PlacePair { first, second }
     }

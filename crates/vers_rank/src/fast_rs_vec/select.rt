@@ -131,6 +131,23 @@ impl<A: Allocator + Copy> RsVec<A> {
             (select_reads (superblock_count (length self.now))) }
     {
         tally.add_rank_call();
+        self.place_of(bit, r, tally)
+    }
+
+    // The place of number `r` of the zeros or the ones, or the length, as a part of a query.
+    #[inline(always)]
+    #[tactic(auto, using(crate::proofs::Selects::totals))]
+    pub(super) fn place_of(&self, bit: bool, r: usize, tally: &mut Tally) -> usize
+        ensures value { result ≡ select bit self.now r }
+        ensures within { result ≤ length self.now }
+        ensures same_queries { tally.new.rank_calls ≡ tally.old.rank_calls }
+        ensures adds { AddsAtMost tally.old tally.new
+            (record no_reads {
+              data_words = 8;
+              block_entries = 16;
+              superblock_entries = digits (superblock_count (length self.now)) + 11;
+            }) }
+    {
         let len = self.len();
         if r >= self.total(bit) {
             return len;

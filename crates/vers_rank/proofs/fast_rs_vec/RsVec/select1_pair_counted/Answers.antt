@@ -30,12 +30,12 @@ returns-then-after-ne0-clause-within g c =
 
 pub returns-else-after-ne0-clause-within : goal.returns-else-after-ne0-clause-within
 returns-else-after-ne0-clause-within g c =
-    (omega (arith, c.locate-at.ensures.value, (count_at_select true c.args.self.now c.args.r (omega (arith, c.ones.ensures.value, c.if-r-ones.false))).0), c.select1_counted-second.ensures.within)
+    (omega (arith, c.locate-at.ensures.value, (count_at_select true c.args.self.now c.args.r (omega (arith, c.ones.ensures.value, c.if-r-ones.false))).0), c.place_of-second.ensures.within)
 
 pub returns-else-after-ne0-clause-near : goal.returns-else-after-ne0-clause-near
 returns-else-after-ne0-clause-near g c within same =
     let at = c.locate-at.result in
-    let there = c.select1_counted-second.ensures.value in
+    let there = c.place_of-second.ensures.value in
     let fits : limb c.args.self.now at.limb < 18446744073709551616 = omega (arith, c.locate-at.ensures.word) in
     let none : limb c.args.self.now at.limb / 2 ^ at.place / 2 ≡ 0 = omega (arith, c.if-after-ne0.false, ap (λ w. w / 2 ^ at.place / 2) c.locate-at.ensures.word) in
     absurd (none_after c.args.self.now c.args.r at.limb at.place fits c.locate-at.ensures.within.1 (omega (arith, c.ones.ensures.value, c.if-r-ones.false)) c.locate-at.ensures.value none
