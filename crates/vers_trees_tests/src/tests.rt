@@ -4,6 +4,7 @@
 //! prints both sides.
 mod builders;
 mod bytes;
+mod costs;
 mod forests;
 mod lists;
 mod memory;

@@ -4,6 +4,7 @@ ghost use Rattle.std.specs.Prelude.{◌<◌, ◌≤◌};
 use crate::tests::lists::asked;
 use std::alloc::{Allocator, Global};
 use vers_bits::bit_vec::GrowError;
+use vers_trees::trees::TreeBuilder;
 use vers_trees::trees::bp::{BpBuilder, BpTree, BuildError, MAX_BLOCK_SIZE};
 
 // The steps, of which a one enters a node and a zero leaves one, and what is built: how many bits, how many
@@ -62,6 +63,35 @@ fn built<const N: usize>(alloc: Global, steps: &[u8]) -> Result<(usize, usize, b
     )
 }
 
+// What any builder builds of the steps, by the calls of its trait.
+fn built_by<B: TreeBuilder + Drop>(mut builder: B, steps: &[u8]) -> Result<B::Tree, BuildError> {
+    for step in steps {
+        let taken = if *step == 1 {
+            builder.enter_node()
+        } else {
+            builder.leave_node()
+        };
+        if taken.is_err() {
+            return Err(BuildError::Memory);
+        }
+    }
+    builder.build()
+}
+
+// The same of a builder of trees of parentheses.
+fn built_by_trait<const N: usize>(
+    alloc: Global,
+    steps: &[u8],
+) -> Result<(usize, usize, bool), BuildError>
+    requires some { 0 < N }
+    requires bounded { N ≤ MAX_BLOCK_SIZE }
+{
+    asked(
+        built_by(BpBuilder::<N, Global>::new(alloc), steps),
+        |tree: &BpTree<N, Global>| Ok((tree.len(), tree.size(), tree.is_balanced())),
+    )
+}
+
 // The number of the first case, counted from 0, of which something else is built.
 fn wrong_case(alloc: Global, cases: &[Case]) -> Option<usize> {
     for (row, (steps, wanted)) in cases.iter().enumerate() {
@@ -69,8 +99,9 @@ fn wrong_case(alloc: Global, cases: &[Case]) -> Option<usize> {
             built::<1>(alloc, steps),
             built::<12>(alloc, steps),
             built::<4294967296>(alloc, steps),
+            built_by_trait::<12>(alloc, steps),
         ];
-        if trees != [*wanted; 3] {
+        if trees != [*wanted; 4] {
             return Some(row);
         }
     }

@@ -24,6 +24,9 @@ fn excess<const N: usize, A: Allocator + Copy>(tree: &BpTree<N, A>, i: usize) ->
 fn ask_place<const N: usize, A: Allocator + Copy>(tree: &BpTree<N, A>, query: Query) -> Answer {
     let mut tally = Tally::new();
     match query {
+        Query::IsOpen(i) => {
+            Answer::of_truths(tree.is_open(i), tree.is_open_counted(i, &mut tally))
+        }
         Query::Excess(i) => excess(tree, i),
         Query::Forward(i, r) => {
             Answer::of_places(

@@ -4,8 +4,12 @@
 //! What is made of a given block size names its allocator: its size over any allocator is not known.
 use crate::tests::builders::stepped;
 use crate::tests::lists::{Query, ask, tree_of};
-use crate::tests::plain::{Node, answer, nodes_of};
+use crate::tests::nodes::are_balanced;
+use crate::tests::plain::{
+    Group, Node, Order, answer, is_ancestor, leftmost, nodes_of, places, rightmost,
+};
 use crate::tests::queries::{Question, number};
+use crate::tests::tours::{First, Tour, tour_gives};
 use crate::tests::walks::NODE_WITH_TWO;
 use std::alloc::{AllocError, Allocator, Global};
 use test_alloc::{
@@ -33,11 +37,103 @@ fn forest_bits<A: Allocator + Copy>(alloc: A, nodes: usize) -> Result<Vec<u8, A>
     Ok(bits)
 }
 
-// A forest, as its bits and as a plain list of its nodes.
+// A forest, as its bits and as a plain list of its nodes, with their places in postorder.
 #[derive(Clone, Copy, Drop)]
 struct Forest<'a> {
     bits: &'a [u8],
     nodes: &'a [Node],
+    closed: &'a [usize],
+}
+
+// What is asked of some nodes, beside what is asked of all.
+const QUESTIONS: [Question; 11] = [
+    Question::FirstChild,
+    Question::LastChild,
+    Question::NextSibling,
+    Question::PreviousSibling,
+    Question::Parent,
+    Question::Index,
+    Question::IsLeaf,
+    Question::Depth,
+    Question::LevelNext,
+    Question::LevelPrev,
+    Question::LevelAncestor(1),
+];
+
+// Whether both forms of the queries about the kin of a node answer as the list has it.
+fn has_kin<const N: usize, A: Allocator + Copy>(
+    tree: &BpTree<N, A>,
+    nodes: &[Node],
+    k: usize,
+) -> bool {
+    let Some(node) = nodes.get(k) else {
+        return true;
+    };
+    for question in QUESTIONS {
+        if !ask(tree, Query::Node(node.open, question)).is(answer(nodes, k, question)) {
+            return false;
+        }
+    }
+    let is_below = i64::from(is_ancestor(nodes, 0, k));
+    ask(tree, Query::IsAncestor(0, node.open)).is(Some(is_below))
+        && ask(tree, Query::LevelLeftmost(node.depth)).is(leftmost(nodes, node.depth))
+        && ask(tree, Query::LevelRightmost(node.depth)).is(rightmost(nodes, node.depth))
+        && ask(tree, Query::IsOpen(node.open)).is(Some(1))
+        && ask(tree, Query::IsOpen(node.close)).is(Some(0))
+}
+
+// The children of the first root, in order and backwards, of a forest of one node, of three, and of more.
+const CHILDREN: [[&[usize]; 2]; 3] = [[&[], &[]], [&[1, 3], &[3, 1]], [&[1], &[1]]];
+
+// Whether the walks from the first root give the nodes of the forest, all of which are below it.
+fn has_walks<const N: usize, A: Allocator + Copy>(tree: &BpTree<N, A>, closed: &[usize]) -> bool {
+    let [children, backwards] = match closed.len() {
+        0 => return true,
+        1 => CHILDREN[0],
+        3 => CHILDREN[1],
+        _ => CHILDREN[2],
+    };
+    for (tour, wanted) in [
+        (Tour::Children, children),
+        (Tour::RevChildren, backwards),
+        (Tour::SubtreePost, closed),
+        (Tour::AllPost, closed),
+    ] {
+        if tour_gives(tree, tour, 0, First::Counted, wanted) != Some(true) {
+            return false;
+        }
+    }
+    true
+}
+
+fn item(items: &[usize], k: usize) -> Option<usize> {
+    Some(*items.get(k)?)
+}
+
+// Whether a walk in postorder gives its nodes by turns from both ends, and each by its number.
+fn has_postorder<const N: usize, A: Allocator + Copy>(
+    tree: &BpTree<N, A>,
+    closed: &[usize],
+) -> bool {
+    if !are_balanced(tree) {
+        return false;
+    }
+    let mut walk = tree.dfs_post_iter();
+    let len = closed.len();
+    for k in 0..len / 2 {
+        let from_back = len.wrapping_sub(k).wrapping_sub(1);
+        if walk.next() != item(closed, k) || walk.next_back() != item(closed, from_back) {
+            return false;
+        }
+    }
+    let mut copy = walk.clone();
+    copy.len() == len % 2
+        && copy.nth(0) == walk.nth_back(0)
+        && walk.next().is_none()
+        && copy.next_back().is_none()
+        && tree.dfs_post_iter().nth(1) == item(closed, 1)
+        && tree.dfs_post_iter().last() == item(closed, len.wrapping_sub(1))
+        && tree.dfs_post_iter().nth(len).is_none()
 }
 
 // Whether both forms of the queries about a node answer as the list has it.
@@ -82,7 +178,13 @@ fn last_opened(nodes: &[Node]) -> Option<usize> {
 
 impl<const N: usize, A: Allocator + Copy> Check<BpTree<N, A>> for Forest<'_> {
     fn is_right(&self, tree: &mut BpTree<N, A>) -> bool {
+        let len = self.nodes.len();
         has_nodes(tree, self.nodes)
+            && has_kin(tree, self.nodes, 0)
+            && has_kin(tree, self.nodes, len / 2)
+            && has_kin(tree, self.nodes, len.wrapping_sub(1))
+            && has_walks(tree, self.closed)
+            && has_postorder(tree, self.closed)
     }
 }
 
@@ -168,16 +270,40 @@ const CALLS: [Call; 13] = [
     Call::IntoBitVec,
 ];
 
-// A builder that is new, has room for the nodes of a forest, or has taken its steps.
+// A builder that is new, has room for the nodes of a forest, or has taken its steps. What stands in it is told
+// by the tree that is built of it, once nothing is refused any more.
 #[derive(Drop)]
 struct Builder<'a, 'b> {
     heap: &'a Heap,
     call: Call,
-    bits: &'b [u8],
+    forest: Forest<'b>,
+}
+
+// What is built of a builder that was made, and has taken the steps where the call is of them.
+fn made_of<'a>(heap: &'a Heap, call: Call, bits: &[u8]) -> Result<BpTree<8, &'a Heap>, GrowError> {
+    let made = match call {
+        Call::WithCapacity => BpBuilder::with_capacity(heap, bits.len() as u64 / 2),
+        Call::Steps => stepped(Ok(BpBuilder::new(heap)), bits),
+        _ => Ok(BpBuilder::new(heap)),
+    };
+    built(heap, made)
+}
+
+fn built<'a>(
+    heap: &Heap,
+    made: Result<BpBuilder<8, &'a Heap>, GrowError>,
+) -> Result<BpTree<8, &'a Heap>, GrowError> {
+    match made {
+        Ok(builder) => {
+            heap.allow_all();
+            builder.build().ok().ok_or(GrowError::TooLong)
+        }
+        Err(fault) => Err(fault),
+    }
 }
 
 impl<'a> Making for Builder<'a, '_> {
-    type Made = BpBuilder<8, &'a Heap>;
+    type Made = BpTree<8, &'a Heap>;
 
     type Fault = GrowError;
 
@@ -185,16 +311,15 @@ impl<'a> Making for Builder<'a, '_> {
         GrowError::Memory
     }
 
-    fn make(&self) -> Result<BpBuilder<8, &'a Heap>, GrowError> {
-        match self.call {
-            Call::WithCapacity => BpBuilder::with_capacity(self.heap, self.bits.len() as u64 / 2),
-            Call::Steps => stepped(Ok(BpBuilder::new(self.heap)), self.bits),
-            _ => Ok(BpBuilder::new(self.heap)),
-        }
+    fn make(&self) -> Result<BpTree<8, &'a Heap>, GrowError> {
+        made_of(self.heap, self.call, self.forest.bits)
     }
 
-    fn is_right(&self, _: &BpBuilder<8, &'a Heap>) -> bool {
-        true
+    fn is_right(&self, tree: &BpTree<8, &'a Heap>) -> bool {
+        match self.call {
+            Call::Steps => has_nodes(tree, self.forest.nodes),
+            _ => has_nodes(tree, &[]),
+        }
     }
 }
 
@@ -294,23 +419,52 @@ fn tried_build(heap: &Heap, forest: Forest) -> Ending {
 }
 
 fn tried(heap: &Heap, call: Call, forest: Forest) -> Ending {
-    let bits = forest.bits;
     match call {
         Call::FromBitVector => tried_maker(heap, forest),
         Call::Build => tried_build(heap, forest),
         Call::New | Call::WithCapacity | Call::Steps => {
-            try_making(heap, &Builder { heap, call, bits })
+            try_making(heap, &Builder { heap, call, forest })
         }
         _ => tried_tree(heap, call, forest),
     }
 }
 
+// The places of the nodes in the order in which they close. On a path the last one closes first.
+fn closing_order<A: Allocator + Copy>(
+    alloc: A,
+    nodes: &[Node],
+) -> Result<Vec<usize, A>, AllocError> {
+    if nodes.len() == 3 {
+        return places(alloc, nodes, Group::All, Order::Closing);
+    }
+    let mut closed = Vec::new(alloc);
+    for node in nodes.iter().rev() {
+        closed.push(node.open)?;
+    }
+    Ok(closed)
+}
+
+fn tried_of_nodes(heap: &Heap, call: Call, bits: &[u8], nodes: &[Node]) -> Ending {
+    match closing_order(heap, nodes) {
+        Ok(closed) => {
+            let closed = closed.as_slice();
+            tried(
+                heap,
+                call,
+                Forest {
+                    bits,
+                    nodes,
+                    closed,
+                },
+            )
+        }
+        Err(_) => Ending::Wrong,
+    }
+}
+
 fn tried_of_bits(heap: &Heap, call: Call, bits: &[u8]) -> Ending {
     match nodes_of(heap, bits) {
-        Ok(nodes) => {
-            let nodes = nodes.as_slice();
-            tried(heap, call, Forest { bits, nodes })
-        }
+        Ok(nodes) => tried_of_nodes(heap, call, bits, nodes.as_slice()),
         Err(_) => Ending::Wrong,
     }
 }

@@ -8,6 +8,7 @@ pub enum Query {
     IsEmpty,
     Root,
     IsBalanced,
+    IsOpen(usize),
     Excess(usize),
     Forward(usize, i64),
     Backward(usize, i64),
