@@ -2,6 +2,7 @@
 use postings::{Postings, PostingsError};
 use std::alloc::Allocator;
 use test_alloc::asked;
+use vers_tally::tally::Tally;
 
 /// A list of these documents with these costs.
 pub fn posted<A: Allocator + Copy>(
@@ -33,6 +34,20 @@ pub fn answer<A: Allocator + Copy>(list: &Postings<A>, question: Question) -> Op
         Question::Rank(document) => Some(list.rank(document)),
         Question::Next(document) => list.next_at_least(document),
         Question::Cheapest(from, to) => list.cheapest(from, to),
+    }
+}
+
+/// The answer of the counted form of a question. One that has none is asked as it is.
+pub fn counted_answer<A: Allocator + Copy>(list: &Postings<A>, question: Question) -> Option<u64> {
+    let mut tally = Tally::new();
+    match question {
+        Question::Contains(document) => {
+            Some(u64::from(list.contains_counted(document, &mut tally)))
+        }
+        Question::Rank(document) => Some(list.rank_counted(document, &mut tally)),
+        Question::Next(document) => list.next_at_least_counted(document, &mut tally),
+        Question::Cheapest(from, to) => list.cheapest_counted(from, to, &mut tally),
+        _ => answer(list, question),
     }
 }
 

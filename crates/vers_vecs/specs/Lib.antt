@@ -30,6 +30,7 @@ pub use Rattle.vers_rmq.specs.Layout as MinimaLayout
 pub use Rattle.vers_rmq.specs.Laws as MinimaLaws
 -- trees of parentheses
 pub use Rattle.vers_trees.specs.Excess
+pub use Rattle.vers_trees.specs.Bytes
 pub use Rattle.vers_trees.specs.Forest
 pub use Rattle.vers_trees.specs.Nodes
 pub use Rattle.vers_trees.specs.Traversals

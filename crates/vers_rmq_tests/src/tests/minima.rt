@@ -46,6 +46,11 @@ pub trait RangeMinima: Clone + Drop {
         requires start { start_index start < 2 ^ 64 }
         requires end { 0 < end_index end (item_count self.now) }
         requires order { start_place start (item_count self.now) ≤ end_place end (item_count self.now) };
+
+    // Whether the calls that this type alone has agree that the first least item stands at a place.
+    fn agrees(&self, i: usize, j: usize, place: usize) -> bool
+        requires order { i ≤ j }
+        requires inside { j < item_count self.now };
 }
 
 /// How both types are made, with memory of an allocator.
@@ -63,14 +68,15 @@ pub trait MadeOf<A>: RangeMinima {
 }
 
 /// The place of the first least item from `i` to `j`. None of a range that the list does not have, and
-/// where the counted form answers another place, or reads more items than it may.
+/// where another form answers another place, or reads more items than it may.
 pub fn least<R: RangeMinima>(minima: &R, i: usize, j: usize) -> Option<usize> {
     if i > j || j >= minima.count() {
         return None;
     }
     let mut tally = Tally::new();
     let place = minima.place_counted(i, j, &mut tally);
-    if tally.items() <= R::MOST_READS && minima.place(i, j) == place {
+    let is_few = tally.items() <= R::MOST_READS;
+    if is_few && minima.place(i, j) == place && minima.agrees(i, j, place) {
         Some(place)
     } else {
         None
@@ -183,6 +189,20 @@ impl<A: Allocator + Copy> RangeMinima for BinaryRmq<A> {
     fn place_in_counted(&self, start: Bound<usize>, end: Bound<usize>, tally: &mut Tally) -> usize {
         self.range_min_with_range_counted(start, end, tally)
     }
+
+    fn agrees(&self, i: usize, j: usize, place: usize) -> bool {
+        if place >= self.len() {
+            return false;
+        }
+        let mut tally = Tally::new();
+        let least = self.range_min_item(i, j);
+        let counted = self.range_min_item_counted(i, j, &mut tally);
+        least.place == place
+            && counted.place == place
+            && least.value == self.item(place)
+            && counted.value == self.item_counted(place, &mut tally)
+            && tally.items() <= 3
+    }
 }
 
 impl<A: Allocator + Copy> MadeOf<A> for FastRmq<A> {
@@ -239,6 +259,10 @@ impl<A: Allocator + Copy> RangeMinima for FastRmq<A> {
 
     fn place_in_counted(&self, start: Bound<usize>, end: Bound<usize>, tally: &mut Tally) -> usize {
         self.range_min_with_range_counted(start, end, tally)
+    }
+
+    fn agrees(&self, _: usize, _: usize, _: usize) -> bool {
+        true
     }
 }
 

@@ -7,6 +7,8 @@ use crate::tests::walks::{
 };
 use std::alloc::{AllocError, Allocator, Global};
 use test_alloc::{asked, asked_mut};
+use vers_sorted::elias_fano::{EliasFanoIter, EliasFanoVec};
+use vers_sorted::sparse::SparseRSVec;
 
 // The members, the steps of one iterator, and what they answer.
 type Walk<'a> = (&'a [u64], &'a [(Step, Option<u64>)]);
@@ -181,6 +183,42 @@ fn members<A: Allocator + Copy>(alloc: A, lie: Lie, len: usize) -> Result<Vec<u6
     Ok(numbers)
 }
 
+// What is walked, by an iterator over it or as one.
+trait Walked: Drop {
+    // Whether the walk gives the numbers.
+    fn gives(&mut self, numbers: &[u64], steps: &[Step]) -> bool;
+}
+
+impl<A: Allocator + Copy> Walked for EliasFanoVec<A> {
+    fn gives(&mut self, numbers: &[u64], steps: &[Step]) -> bool {
+        follows(&mut self.iter(), numbers, steps)
+    }
+}
+
+impl<A: Allocator + Copy> Walked for EliasFanoIter<A> {
+    fn gives(&mut self, numbers: &[u64], steps: &[Step]) -> bool {
+        follows(self, numbers, steps)
+    }
+}
+
+impl<A: Allocator + Copy> Walked for SparseRSVec<A> {
+    fn gives(&mut self, numbers: &[u64], steps: &[Step]) -> bool {
+        follows(&mut self.iter1(), numbers, steps)
+    }
+}
+
+// The same of what was made.
+fn made_gives<T: Walked>(
+    made: Result<T, AllocError>,
+    numbers: &[u64],
+    steps: &[Step],
+) -> Result<bool, AllocError> {
+    match made {
+        Ok(mut it) => Ok(it.gives(numbers, steps)),
+        Err(fault) => Err(fault),
+    }
+}
+
 // Whether the iterators over a list, that own one, and over the ones of a sparse list give the numbers.
 fn are_followed<A: Allocator + Copy>(
     alloc: A,
@@ -188,22 +226,12 @@ fn are_followed<A: Allocator + Copy>(
     numbers: &[u64],
     steps: &[Step],
 ) -> Result<bool, AllocError> {
-    let is_walked = asked(
-        list_of(alloc, numbers),
-        |list| follows(&mut list.iter(), numbers, steps),
-    )?;
-    let is_walked_by_owner = asked_mut(
-        walk_over(alloc, numbers),
-        |walk| follows(walk, numbers, steps),
-    )?;
-    if matches!(lie, Lie::Twice | Lie::Equal) {
-        return Ok(is_walked && is_walked_by_owner);
-    }
-    let are_ones_walked = asked(
-        bits_of(alloc, numbers, u64::MAX),
-        |bits| follows(&mut bits.iter1(), numbers, steps),
-    )?;
-    Ok(is_walked && is_walked_by_owner && are_ones_walked)
+    let can_be_ones = matches!(lie, Lie::Apart | Lie::WithAGap);
+    Ok(
+        made_gives(list_of(alloc, numbers), numbers, steps)?
+            && made_gives(walk_over(alloc, numbers), numbers, steps)?
+            && (!can_be_ones || made_gives(bits_of(alloc, numbers, u64::MAX), numbers, steps)?),
+    )
 }
 
 // The first mixture that is not followed, of lists of one length.
