@@ -26,7 +26,7 @@ holding_of (held.Bits bits) = BitsHeld bits
 holding_of (held.Sorted members) = SortedHeld members
 holding_of (held.Sparse bits) = SparseHeld bits
 holding_of (held.Values values) = ValuesHeld values
-holding_of (held.Tree bits) = TreeHeld bits
+holding_of (held.Tree tree) = TreeHeld tree.value
 holding_of (held.Symbols symbols) = SymbolsHeld symbols
 holding_of (held.Postings posted) = PostingsHeld posted
 

@@ -26,7 +26,8 @@ pub enum Held<'a, A: Allocator + Copy> {
     Sorted(EliasFanoVec<A>),
     Sparse(SparseRSVec<A>),
     Values(FastRmq<A>),
-    Tree(BpTree<512, &'a A>),
+    // In a box, since the tables of bytes inside make it large, and each move copies it.
+    Tree(Box<BpTree<512, &'a A>, &'a A>),
     Symbols(WaveletMatrix<A>),
     Postings(Postings<A>),
 }

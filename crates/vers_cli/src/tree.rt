@@ -3,6 +3,7 @@ ghost use Rattle.std.specs.Prelude.{◌≡◌, true, IfOk};
 ghost use Rattle.vers_bits.specs.Bits.{places};
 ghost use Rattle.vers_words.specs.Text.{words_in};
 ghost use Rattle.vers_words.specs.Arguments.{bits_of};
+ghost use Rattle.vers_words.specs.Loading.{map_loading};
 ghost use Rattle.vers_words.specs.Reply.{plain_reply};
 ghost use Rattle.vers_cli.specs.TreeLines.{first_place, tree_loaded, tree_reply, whole_reply as reply_of_whole, excess_reply, place_reply as reply_at_place, search_reply as reply_of_search};
 
@@ -20,8 +21,9 @@ use vers_words::reply::Reply;
 pub fn load<'a, A: Allocator + Copy>(
     alloc: &'a A,
     arguments: &[u8],
-) -> Result<Loading<BpTree<512, &'a A>>, AllocError>
-    ensures { IfOk result (λ loading. loading ≡ tree_loaded (bits_of (words_in arguments.now))) }
+) -> Result<Loading<Box<BpTree<512, &'a A>, &'a A>>, AllocError>
+    ensures { IfOk result (λ loading.
+        map_loading (λ tree. tree.value) loading ≡ tree_loaded (bits_of (words_in arguments.now))) }
 {
     let Some(digits) = bit_digits(arguments) else {
         return Ok(Loading::Malformed);
@@ -31,7 +33,7 @@ pub fn load<'a, A: Allocator + Copy>(
     }
     // The list is never too long, so an error is of memory.
     match BpTree::from_bit_vector(bit_vec(alloc, digits)?) {
-        Ok(tree) => Ok(Loading::Accepted(tree)),
+        Ok(tree) => Ok(Loading::Accepted(Box::new(alloc, tree)?)),
         Err(_) => Err(AllocError),
     }
 }

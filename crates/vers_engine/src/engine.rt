@@ -64,6 +64,17 @@ fn write_piece<W: Sink>(writer: &mut Device<W>, piece: &[u8]) -> Result<(), RunE
     Ok(())
 }
 
+// Room for so many bytes of a line, and of answers, is kept for the next ones.
+const KEPT_LEN: usize = 262144;
+
+// Takes all bytes out, and gives back the room of a long line or answer.
+fn empty<A: Allocator>(bytes: &mut Vec<u8, A>)
+    ensures { bytes.new.items ≡ [] }
+{
+    bytes.clear();
+    bytes.shrink_to(KEPT_LEN);
+}
+
 // What answers lines, the bytes that were read since the last end of a line, and the answers that
 // are not written yet.
 #[derive(Drop)]
@@ -86,7 +97,7 @@ impl<S: Answerer<A>, A: Allocator> Session<S, A> {
         self.pending.extend_from_slice(end)?;
         self.store
             .answer(self.pending.as_slice(), &mut self.answers)?;
-        self.pending.clear();
+        empty(&mut self.pending);
         Ok(())
     }
 
@@ -139,7 +150,7 @@ impl<S: Answerer<A>, A: Allocator> Session<S, A> {
         ensures fault { FailsAlong result writer.old.has_failed writer.new.has_failed }
     {
         write_piece(writer, self.answers.as_slice())?;
-        self.answers.clear();
+        empty(&mut self.answers);
         Ok(())
     }
 
