@@ -1,5 +1,7 @@
 //! The lines of a list of symbols.
-ghost use Rattle.std.specs.Prelude.{◌≡◌, IfOk};
+ghost use Rattle.std.specs.Prelude.{◌≡◌, ◌<◌, ◌≤◌, ◌%◌, ◌++◌, ℕ, List, length, option_map, IfOk, OnOk};
+ghost use Rattle.vers_bits.specs.Bits.{low_bits, pack};
+ghost use Rattle.vers_wavelet.specs.Makers.{low_symbols};
 ghost use Rattle.vers_words.specs.Text.{words_in};
 ghost use Rattle.vers_words.specs.Arguments.{all_numbers as numbers_all};
 ghost use Rattle.vers_words.specs.Reply.{plain_reply};
@@ -8,16 +10,48 @@ ghost use Rattle.vers_cli.specs.SymbolsLines.{symbols_loaded, symbols_reply, all
 use crate::name::{AllQuery, Query, RangeQuery, SymbolQuery, SymbolsQuery, WithinQuery};
 use crate::sorted::members_left;
 use std::alloc::{AllocError, Allocator};
+use vers_bits::bit_vec::BitVec;
+use vers_bits::laws::packed_elements_are_items;
 use vers_wavelet::wavelet::WaveletMatrix;
 use vers_words::arguments::{all_numbers, no_arguments, one_number, three_numbers, two_numbers};
 use vers_words::loading::Loading;
 use vers_words::reply::Reply;
+use vers_words::text::{number, split_first_word};
 
 // How many bits a symbol has at most.
 const WIDEST: u64 = 64;
 
+// Symbols of at most so many bits are kept packed as they are read.
+const PACKED_WIDTH: u64 = 12;
+
 /// What the load line `symbols K n ..` gives.
 pub fn load<A: Allocator + Copy>(
+    alloc: A,
+    arguments: &[u8],
+) -> Result<Loading<WaveletMatrix<A>>, AllocError>
+    ensures { IfOk result (λ loading.
+        loading ≡ symbols_loaded (numbers_all (words_in arguments.now))) }
+{
+    if begins_narrow(arguments) {
+        load_packed(alloc, arguments)
+    } else {
+        load_numbers(alloc, arguments)
+    }
+}
+
+// Whether the first word is a width at which symbols are kept packed.
+fn begins_narrow(arguments: &[u8]) -> bool {
+    let Some((word, _)) = split_first_word(arguments) else {
+        return false;
+    };
+    match number(word) {
+        Some(width) => width <= PACKED_WIDTH,
+        None => false,
+    }
+}
+
+// The same, by way of the numbers themselves, which are sorted faster than packed ones.
+fn load_numbers<A: Allocator + Copy>(
     alloc: A,
     arguments: &[u8],
 ) -> Result<Loading<WaveletMatrix<A>>, AllocError>
@@ -37,6 +71,101 @@ pub fn load<A: Allocator + Copy>(
         Ok(symbols) => Ok(Loading::Accepted(symbols)),
         Err(error) => Err(error),
     }
+}
+
+// The same, by way of the numbers packed in a list of bits.
+fn load_packed<A: Allocator + Copy>(
+    alloc: A,
+    arguments: &[u8],
+) -> Result<Loading<WaveletMatrix<A>>, AllocError>
+    ensures { IfOk result (λ loading.
+        loading ≡ symbols_loaded (numbers_all (words_in arguments.now))) }
+{
+    let Some((word, numbers)) = split_first_word(arguments) else {
+        return Ok(Loading::Malformed);
+    };
+    let Some(width) = number(word) else {
+        return Ok(Loading::Malformed);
+    };
+    let Some(packed) = packed_numbers(alloc, numbers, kept_width(width))? else {
+        return Ok(Loading::Malformed);
+    };
+    if width > WIDEST {
+        return Ok(Loading::Inadmissible);
+    }
+    match of_packed(&packed, width as u16) {
+        Ok(symbols) => Ok(Loading::Accepted(symbols)),
+        Err(error) => Err(error),
+    }
+}
+
+// How many bits of each number are kept: none where so many are refused.
+fn kept_width(width: u64) -> usize
+    ensures narrow { result ≤ 64 }
+    ensures all { width ≤ 64 → result ≡ width }
+{
+    if width <= WIDEST { width as usize } else { 0 }
+}
+
+// The low `width` bits of each number of a line, one after another. None where a word is no number
+// below 2^64.
+fn packed_numbers<A: Allocator + Copy>(
+    alloc: A,
+    arguments: &[u8],
+    width: usize,
+) -> Result<Option<BitVec<A>>, AllocError>
+    requires { width ≤ 64 }
+    ensures { IfOk result (λ found.
+        found ≡ option_map (λ numbers. pack numbers width) (numbers_all (words_in arguments.now))) }
+{
+    let mut packed = BitVec::new(alloc);
+    let mut rest = arguments;
+    while let Some((word, others)) = split_first_word(rest) {
+        let Some(value) = number(word) else {
+            return Ok(None);
+        };
+        append_low(&mut packed, value, width)?;
+        rest = others;
+    }
+    Ok(Some(packed))
+}
+
+// Appends the low `n` bits of a number. More bits than a list may have are more than there is memory
+// for.
+fn append_low<A: Allocator + Copy>(
+    bits: &mut BitVec<A>,
+    number: u64,
+    n: usize,
+) -> Result<(), AllocError>
+    requires { n ≤ 64 }
+    ensures { OnOk result (bits.new ≡ bits.old ++ low_bits number n) }
+{
+    if bits.append_bits(number, n).is_err() {
+        return Err(AllocError);
+    }
+    Ok(())
+}
+
+// The symbols of `width` bits each that a list of bits holds; none where they have no bits. Prefixes
+// are counted where the tables for it take no more room than the symbols.
+fn of_packed<A: Allocator + Copy>(
+    packed: &BitVec<A>,
+    width: u16,
+) -> Result<WaveletMatrix<A>, AllocError>
+    requires narrow { width ≤ 64 }
+    requires whole { 0 < width → length packed.now % width ≡ 0 }
+    ensures width { IfOk result (λ symbols. symbols.width ≡ width) }
+    ensures items { IfOk result (λ symbols. (numbers : List ℕ) → packed.now ≡ pack numbers width
+        → symbols.items ≡ low_symbols numbers width) }
+{
+    packed_elements_are_items();
+    if width == 0 {
+        return WaveletMatrix::from_slice(packed.allocator(), &[], 0);
+    }
+    if width <= 56 && packed.len() >> (width + 7) != 0 {
+        return WaveletMatrix::from_bit_vec_pc(packed, width);
+    }
+    WaveletMatrix::from_bit_vec(packed, width)
 }
 
 /// The reply of a query line, where these symbols are held.

@@ -1,0 +1,21 @@
+use Rattle.std.proofs.Common.{◌≡◌, Some, None, refl, sym, ap, ◌∙◌}
+use Rattle.std.proofs.lemmas.List.{append-nil}
+use Rattle.vers_words.specs.Text.{number_of}
+use Rattle.vers_cli.proofs.Packs.{bits_then-push}
+use Rattle.vers_cli.proofs.symbols.packed_numbers.Goals as goal
+
+pub loop-word-init : goal.loop-word-init
+loop-word-init g c = rw c.new-packed.ensures refl
+
+pub returns-in_default-number : goal.returns-in_default-number
+returns-in_default-number g c =
+    let none : number_of c.in-Some.word.now ≡ None = sym c.number.ensures ∙ c.in_default-number.is in
+    sym (c.loop-word.invariant ∙ rw (c.in-Some.ensures.words, none) refl)
+
+pub returns : goal.returns
+returns g c = sym (c.loop-word.invariant ∙ rw c.in_default.ensures.words (ap Some (append-nil _)))
+
+pub loop-word-preserved : goal.loop-word-preserved
+loop-word-preserved g c =
+    let some : number_of c.in-Some.word.now ≡ Some c.in-Some-number.value = sym c.number.ensures ∙ c.in-Some-number.is in
+    c.loop-word.invariant ∙ rw (c.in-Some.ensures.words, some, c.in_ok-append_low.ensures) (bits_then-push _ _ _ _)
