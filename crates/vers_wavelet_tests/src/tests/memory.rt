@@ -423,16 +423,11 @@ fn tried_of_list<B: Allocator, A: Allocator + Copy>(
     asked(symbols_of(alloc, numbers, WIDTH), of_list).unwrap_or(Ending::Wrong)
 }
 
-// Whether a call of so many symbols takes memory: for the symbol that it answers, and where that is looked for.
-fn takes_some(call: Call, len: usize) -> bool {
-    len > 0 || matches!(call, Call::Predecessor | Call::Successor)
-}
-
-// The number of the first call that goes wrong.
+// The number of the first call that goes wrong. Each takes memory for the symbol that it answers, and none where there are no symbols.
 fn first_wrong_call(alloc: Global, numbers: &[u64]) -> Option<usize> {
     for (row, call) in CALLS.iter().enumerate() {
         let is_tried = |heap: &Refusing<Global>| tried_of_list(heap, heap, *call, numbers);
-        if takes_memory(alloc, is_tried) != Some(takes_some(*call, numbers.len())) {
+        if takes_memory(alloc, is_tried) != Some(!numbers.is_empty()) {
             return Some(row);
         }
     }
