@@ -6,5 +6,6 @@ mod counted;
 mod iterators;
 mod lists;
 mod memory;
+mod mixtures;
 mod plain;
 mod queries;

@@ -1,7 +1,7 @@
 //! Walks over the bits and over the places of a list, from both ends.
 ghost use Rattle.std.specs.Iterator.{IsFinite};
 
-use crate::tests::lists::{list_10110, runs};
+use crate::tests::lists::{Over, list_10110, runs};
 use std::alloc::{AllocError, Allocator, Global};
 use test_alloc::{Step, asked, asked_mut};
 use vers_bits::bit_vec::GrowError;
@@ -192,16 +192,8 @@ fn wrong_ones(
         .or(wrong_owned_step(selected_ones(list), is_counted, rows))
 }
 
-// Over which items a list is walked.
-#[derive(Clone, Copy, Drop)]
-enum Over {
-    Bits,
-    Zeros,
-    Ones,
-}
-
-// The first wrong step of all walks over a list.
-fn wrong_walk(
+/// The first wrong step of all walks over a list.
+pub fn wrong_walk(
     list: &RsVec<Global>,
     over: Over,
     is_counted: bool,

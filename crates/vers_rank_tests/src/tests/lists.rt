@@ -100,3 +100,21 @@ pub fn turned_at<A: Allocator + Copy>(
     }
     indexed(bits)
 }
+
+/// Over which items a list is walked.
+#[derive(Clone, Copy, Drop)]
+pub enum Over {
+    Bits,
+    Zeros,
+    Ones,
+}
+
+/// The item that a walk over a list of a look gives for a place, if it gives one.
+pub fn item_at(over: Over, look: Look, place: usize) -> Option<u64> {
+    let bit = bit_of(look, place);
+    match over {
+        Over::Bits => Some(u64::from(bit)),
+        Over::Zeros => (!bit).then_some(place as u64),
+        Over::Ones => bit.then_some(place as u64),
+    }
+}

@@ -1,7 +1,7 @@
 //! Every call that takes memory, each of its requests refused in turn, and the calls that take none, of
 //! lists of every length.
 use crate::tests::iterators::Walk;
-use crate::tests::lists::{Look, bit_of, bits_of, list_of};
+use crate::tests::lists::{Look, Over, bit_of, bits_of, item_at, list_of};
 use crate::tests::queries::{answer, counted, queries_at};
 use std::alloc::{AllocError, Allocator, Global};
 use test_alloc::{
@@ -31,24 +31,6 @@ fn has_bits<A: Allocator + Copy>(list: &RsVec<A>, look: Look, len: usize) -> boo
         ones = ones.wrapping_add(usize::from(is_one));
     }
     list.len() == len && list.ones() == ones
-}
-
-// Over which items a list is walked.
-#[derive(Clone, Copy, Drop)]
-enum Over {
-    Bits,
-    Zeros,
-    Ones,
-}
-
-// The item that a walk over a list of a look gives for a place, if it gives one.
-fn item_at(over: Over, look: Look, place: usize) -> Option<u64> {
-    let bit = bit_of(look, place);
-    match over {
-        Over::Bits => Some(u64::from(bit)),
-        Over::Zeros => (!bit).then_some(place as u64),
-        Over::Ones => bit.then_some(place as u64),
-    }
 }
 
 // A walk over a list of a look, of so many bits.
