@@ -90,13 +90,11 @@ def told_of(name, report):
     return Told("untold", name, said) if said.startswith("could not tell") else None
 
 
-def verdict(edit, names, report):
-    """Returns what a check told of a wrong body: by its function, or by a closure in it; these have the names."""
-    if not names:
-        return Told("bad", "no function", f"the check names no function of {edit.file} that it lies in") if report.functions else None
+def verdict(names, report):
+    """Returns what a check told of a wrong body, by the names of its function and of the closures in it, or None where it told nothing."""
     told = [told_of(name, report) for name in names]
     wrong = [it for it in told if it and it.kind != "proved"]
-    return min(wrong, key=lambda it: it.kind != "refused") if wrong else told[0]
+    return min(wrong, key=lambda it: it.kind != "refused") if wrong else next(iter(told), None)
 
 
 # --- a crate
@@ -173,7 +171,7 @@ def settled(wave, report):
     for edit in wave:
         names = edits.names_of(edit.function, edit.file, report.functions)
         error = next((it for it in report.errors if it[0] == edit.file and edit.function.first <= it[1] <= edit.function.last), None)
-        it = Told("bad", edit.function.name, error[2]) if error else verdict(edit, names, report)
+        it = Told("bad", edit.function.name, error[2]) if error else verdict(names, report)
         if it or len(wave) == 1:
             name = names[0] if names else edit.function.name
             told[edit.name] = it or Told("untold", name, report.functions.get(name) or report.end)
