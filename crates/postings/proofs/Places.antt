@@ -6,8 +6,8 @@ use Rattle.std.specs.List.Sorted.{IsNonDecreasing}
 use Rattle.std.proofs.Math.Bool.{and-false}
 use Rattle.std.proofs.lemmas.Bool.{cases_lt, le-leb, lt-leb}
 use Rattle.std.proofs.lemmas.Option.{slice_get-get_or}
-use Rattle.vers_rmq.specs.Minima.{IsFirstLeast, first_least_of}
-use Rattle.vers_rmq.proofs.PublicLaws.{first_least_of-range}
+use Rattle.vers_rmq.specs.Minima.{IsFirstLeast, first_least_of, least_place}
+use Rattle.vers_rmq.proofs.PublicLaws.{first_least_of-range, as_first}
 use Rattle.vers_sorted.specs.Sorted.{below}
 use Rattle.vers_sorted.proofs.PublicLaws.{below_le, below_before, below_after}
 use Rattle.postings.specs.Posted.{Posted, places_between, cheapest}
@@ -77,11 +77,12 @@ cheapest_none posted from to up empty =
 
 -- the document at the first place of a least cost is cheapest
 pub cheapest_some : (posted : Posted) (from to m : ℕ) → IsNonDecreasing posted.documents → below posted.documents from < below posted.documents (to + 1)
-    → IsFirstLeast posted.costs (below posted.documents from) (below posted.documents (to + 1) - 1) m → slice_get posted.documents m ≡ cheapest posted from to
+    → m ≡ least_place posted.costs (below posted.documents from) (below posted.documents (to + 1) - 1) → slice_get posted.documents m ≡ cheapest posted from to
 unfolding cheapest
-cheapest_some posted from to m up some first =
+cheapest_some posted from to m up some same =
     let a = below posted.documents from in
     let b = below posted.documents (to + 1) in
+    let first : IsFirstLeast posted.costs a (b - 1) m = as_first posted.costs a (b - 1) m (omega (arith, some)) same in
     let last : a + (b - a) - 1 ≡ b - 1 = omega (arith, some) in
     let found : first_least_of posted.costs (range_with_len a (b - a)) ≡ Some m = first_least_of-range posted.costs a (b - a) m (omega (arith, some)) (rw last first) in
     rw (places_between-range posted.documents from to up, found)

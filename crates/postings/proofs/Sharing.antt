@@ -10,7 +10,7 @@ use Rattle.std.proofs.lemmas.List.Elements.{filter_more}
 use Rattle.vers_sorted.specs.Layout.{member_reads, search_reads}
 use Rattle.vers_tally.specs.Ends.{Walking}
 use Rattle.vers_tally.specs.Reads.{Reads, AddsAtMost, IsWithin, plus, times}
-use Rattle.vers_tally.proofs.PublicLaws.{adds_then, adds_weaker}
+use Rattle.vers_tally.proofs.PublicLaws.{adds_then, adds_weaker, within_itself}
 use Rattle.postings.specs.Posted.{is_among, common, lookups, intersect_reads}
 
 -- a walk along the shorter list took k documents and has the others left, and of those taken the ones that the longer list has were found
@@ -37,24 +37,11 @@ common_start shorter longer = refl
 more_room : (k x y : ℕ) → k * (x + y) + x + y ≤ (k + 1) * (x + y)
 more_room k x y = omega arith
 
-within_same : (p : Reads) → IsWithin p p
-within_same p = record {
-  data_words = omega arith;
-  block_entries = omega arith;
-  superblock_entries = omega arith;
-  low_parts = omega arith;
-  rank_calls = omega arith;
-  items = omega arith;
-  blocks = omega arith;
-  nodes = omega arith;
-  chunks = omega arith;
-}
-
 -- one more look-up
 lookups_more : (k : ℕ) (p q old between next new : Reads) → AddsAtMost old between (times k (plus p q)) → AddsAtMost between next p → AddsAtMost next new q
     → AddsAtMost old new (times (k + 1) (plus p q))
 lookups_more k p q a b c d before step look =
-    adds_then before (adds_then step look (within_same _))
+    adds_then before (adds_then step look (within_itself _))
     (record {
       data_words = omega (arith, more_room k p.data_words q.data_words);
       block_entries = omega (arith, more_room k p.block_entries q.block_entries);

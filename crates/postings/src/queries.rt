@@ -19,7 +19,7 @@ impl<A: Allocator + Copy> Postings<A> {
         self.documents.has(document)
     }
 
-    /// Whether a document is in the list, by one search among the documents.
+    /// The same as `contains`, by one search among the documents.
     #[inline(always)]
     pub fn contains_counted(&self, document: u64, tally: &mut Tally) -> bool
         ensures value { result ≡ is_among self.now.documents document }
@@ -37,7 +37,7 @@ impl<A: Allocator + Copy> Postings<A> {
         self.documents.rank(document)
     }
 
-    /// How many documents are below a number, by one search among the documents.
+    /// The same as `rank`, by one search among the documents.
     #[inline(always)]
     pub fn rank_counted(&self, document: u64, tally: &mut Tally) -> u64
         ensures value { result ≡ below self.now.documents document }
@@ -55,8 +55,7 @@ impl<A: Allocator + Copy> Postings<A> {
         self.documents.successor(document)
     }
 
-    /// The first document that is not below a number, by one search among the documents. None where
-    /// there is none.
+    /// The same as `next_at_least`, by one search among the documents.
     #[inline(always)]
     pub fn next_at_least_counted(&self, document: u64, tally: &mut Tally) -> Option<u64>
         ensures value { result ≡ least_not_below self.now.documents document }
@@ -75,9 +74,8 @@ impl<A: Allocator + Copy> Postings<A> {
         self.cheapest_counted(from, to, &mut tally)
     }
 
-    /// The first document of least cost among those from one number to another, both included, by
-    /// two searches among the documents, at most 18 costs and one document. None where there is
-    /// none.
+    /// The same as `cheapest`, by two searches among the documents, at most 18 costs and one
+    /// document.
     #[inline(always)]
     pub fn cheapest_counted(&self, from: u64, to: u64, tally: &mut Tally) -> Option<u64>
         ensures value { result ≡ cheapest self.now from to }
@@ -101,8 +99,7 @@ impl<A: Allocator + Copy> Postings<A> {
         self.intersect_counted(other, &mut tally)
     }
 
-    /// The documents that another list has too, ascending, by one search in the longer list for each
-    /// document of the shorter. Memory is that of this list.
+    /// The same as `intersect`, by one search in the longer list for each document of the shorter.
     pub fn intersect_counted(
         &self,
         other: &Postings<A>,

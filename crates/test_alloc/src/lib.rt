@@ -13,12 +13,12 @@ pub use sizes::{SIZES, Size, Sizing, Spare, first_wrong_size, spare_of};
 use std::alloc::{AllocError, Allocator};
 use std::cell::Cell;
 pub use trials::{
-    Check, Conversion, Edit, Making, Trial, first_wrong_trial, requests, try_clone_checked,
-    try_conversion, try_edit, try_making, try_use_checked,
+    Check, Conversion, Edit, Making, Trial, Tried, first_wrong_trial, is_made_right, requests,
+    tried_on, try_clone_checked, try_conversion, try_edit, try_making, try_use_checked,
 };
 pub use tries::{
-    Ending, LENGTHS, each_refused, first_wrong_call, takes_memory, try_change, try_clone,
-    try_convert, try_make, try_use,
+    Ending, LENGTHS, done_if, each_refused, first_wrong_call, out_of_memory_if, takes_memory,
+    try_change, try_clone, try_convert, try_make, try_use,
 };
 
 /// Which requests are refused, and what has been asked so far. Requests count from 1.

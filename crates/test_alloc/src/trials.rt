@@ -77,8 +77,8 @@ pub fn try_clone_checked<B: Allocator, T: Clone + Drop, X: Drop, C: Check<T>>(
     }
 }
 
-// Whether a value was made, and is right.
-fn is_made_right<T: Drop, X: Drop, C: Check<T>>(made: Result<T, X>, check: &C) -> bool {
+/// Whether a value was made, and is right.
+pub fn is_made_right<T: Drop, X: Drop, C: Check<T>>(made: Result<T, X>, check: &C) -> bool {
     match made {
         Ok(mut it) => check.is_right(&mut it),
         Err(_) => false,
@@ -96,6 +96,20 @@ pub fn try_use_checked<B: Allocator, T: Drop, X: Drop, C: Check<T>>(
     };
     heap.start();
     done_if(check.is_right(&mut it))
+}
+
+/// A try of a call that takes a value by reference.
+pub trait Tried<T> {
+    /// How the try ends.
+    fn tried(&self, it: &T) -> Ending;
+}
+
+/// How a try of a value that was made ends. It owns the value.
+pub fn tried_on<T: Drop, X: Drop, C: Tried<T>>(made: Result<T, X>, call: &C) -> Ending {
+    match made {
+        Ok(it) => call.tried(&it),
+        Err(_) => Ending::Wrong,
+    }
 }
 
 /// A call that makes a value.

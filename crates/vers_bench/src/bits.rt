@@ -2,7 +2,7 @@
 use crate::lists::bits_of;
 use crate::report::{Report, asked};
 use crate::walks::sum_of_places;
-use crate::workload::Random;
+use crate::workload::Below;
 use std::alloc::{AllocError, Global};
 use std::io;
 use vers_rank::fast_rs_vec::RsVec;
@@ -48,31 +48,13 @@ fn run_built(report: &Report, limbs: &[u64], bits: &Bits) -> io::Result<()> {
     let ones = bits.ones() as u64;
     report.builds_of_copies(len, ones, limbs, bits_of, RsVec::from_bit_vec)?;
     report.size("heap_overhead_percent", overhead(bits))?;
-    let mut random = Random::new(7);
-    run_ranks(report, bits, &mut random)?;
-    run_selects(report, bits, &mut random)?;
+    let places = report.questions(7, 0, Below(len));
+    report.queries("rank1", bits, &places, rank1)?;
+    report.chained_queries("rank1_chained", bits, &places, rank1)?;
+    let numbers = report.questions(7, 1, Below(ones));
+    report.queries("select1", bits, &numbers, select1)?;
+    report.chained_queries("select1_chained", bits, &numbers, select1)?;
+    let numbers = report.questions(7, 2, Below(bits.zeros() as u64));
+    report.queries("select0", bits, &numbers, select0)?;
     report.walk("iter1", ones, bits, iter1_pass)
-}
-
-fn run_ranks(report: &Report, bits: &Bits, random: &mut Random) -> io::Result<()> {
-    let len = bits.len() as u64;
-    let places = random.many_below(report.alloc(), report.query_count(), len)?;
-    let places = places.as_slice();
-    report.queries("rank1", bits, places, rank1)?;
-    report.chained_queries("rank1_chained", bits, places, rank1)
-}
-
-fn run_selects(report: &Report, bits: &Bits, random: &mut Random) -> io::Result<()> {
-    let ones = bits.ones() as u64;
-    let numbers = random.many_below(report.alloc(), report.query_count(), ones)?;
-    let numbers = numbers.as_slice();
-    report.queries("select1", bits, numbers, select1)?;
-    report.chained_queries("select1_chained", bits, numbers, select1)?;
-    run_zeros(report, bits, random)
-}
-
-fn run_zeros(report: &Report, bits: &Bits, random: &mut Random) -> io::Result<()> {
-    let zeros = bits.zeros() as u64;
-    let numbers = random.many_below(report.alloc(), report.query_count(), zeros)?;
-    report.queries("select0", bits, numbers.as_slice(), select0)
 }

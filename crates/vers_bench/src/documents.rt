@@ -2,7 +2,7 @@
 //!
 //! Each pass is a function of its own in the machine code, so that a profiler counts its instructions.
 use crate::report::{Report, asked, many, or_refused};
-use crate::workload::{Ends, NONE, Random, documents, drawn, fold, values};
+use crate::workload::{Below, Between, Ends, NONE, documents, drawn, fold, values};
 use postings::Postings;
 use std::alloc::{AllocError, Global};
 use std::io;
@@ -171,19 +171,18 @@ fn run_documents(report: &Report, all: &Plain) -> io::Result<()> {
 }
 
 fn run_queries(report: &Report, all: &Plain, list: &List) -> io::Result<()> {
-    let mut random = Random::new(13);
     let end = all.last().copied().unwrap_or(0).wrapping_add(2);
-    let numbers = random.many_below(report.alloc(), report.query_count(), end)?;
-    run_searches(report, list, all, numbers.as_slice())?;
-    let ranges = random.many(report.alloc(), report.query_count(), end, Ends::between)?;
-    report.queries("cheapest", list, ranges.as_slice(), cheapest)
-}
-
-fn run_searches(report: &Report, list: &List, all: &Plain, numbers: &[u64]) -> io::Result<()> {
-    report.queries("contains", list, numbers, contains)?;
-    report.queries("contains_halving", all, numbers, contains_halving)?;
-    report.queries("next_at_least", list, numbers, next)?;
-    report.queries("next_at_least_halving", all, numbers, next_halving)
+    let numbers = report.questions(13, 0, Below(end));
+    report.queries("contains", list, &numbers, contains)?;
+    report.queries("contains_halving", all, &numbers, contains_halving)?;
+    report.queries("next_at_least", list, &numbers, next)?;
+    report.queries("next_at_least_halving", all, &numbers, next_halving)?;
+    report.queries(
+        "cheapest",
+        list,
+        &report.questions(13, 1, Between(end)),
+        cheapest,
+    )
 }
 
 // How many documents lists have together.

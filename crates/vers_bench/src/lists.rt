@@ -2,7 +2,7 @@
 //!
 //! Each pass is a function of its own in the machine code, so that a profiler counts its instructions.
 use crate::report::{Report, asked, or_refused};
-use crate::workload::{NONE, Random};
+use crate::workload::{Below, NONE};
 use std::alloc::{AllocError, Global};
 use std::io;
 use vers_bits::bit_vec::{BitVec, GrowError};
@@ -63,8 +63,8 @@ pub fn run(report: &Report, limbs: &[u64]) -> io::Result<()> {
 
 fn run_built(report: &Report, _source: (), bits: &Bits) -> io::Result<()> {
     let len = bits.len() as u64;
-    let places = Random::new(7).many_below(report.alloc(), report.query_count(), len)?;
     report.walk("extend_bitvec", len, bits, extend_bitvec_pass)?;
-    report.queries("get_bits", bits, places.as_slice(), get_bits)?;
+    let places = report.questions(7, 0, Below(len));
+    report.queries("get_bits", bits, &places, get_bits)?;
     report.walk("count_ones", len, bits, count_ones_pass)
 }

@@ -46,51 +46,41 @@ fn take_words(rt: &HostRuntime, settings: &mut Settings) -> io::Result<()> {
     Ok(())
 }
 
-// Runs the series of a structure over a list of bits.
-fn run_list<F: FnOnce(&Report, &[u64]) -> io::Result<()> + Copy>(
-    report: &Report,
-    limb_count: usize,
-    percent: u64,
-    run: F,
-) -> io::Result<()>
-    requires { F.IsAlwaysCallable run }
-{
-    let data = RandomBits {
-        limb_count,
-        percent,
-    };
+// Runs the series of a structure that is made of a list of bits.
+fn run_limbs(report: &Report, limbs: &[u64]) -> io::Result<()> {
+    match report.structure {
+        "bits" => bits::run(report, limbs),
+        "walks" => walks::run(report, limbs),
+        "list" => lists::run(report, limbs),
+        _ => sparse::run(report, limbs),
+    }
+}
+
+// The same over a list of random bits.
+fn run_list(report: &Report, data: RandomBits) -> io::Result<()> {
     let parameters = data.parameters(report.alloc())?;
     let limbs = data.limbs(report.alloc())?;
-    run(&report.over(parameters.as_str()), limbs.as_slice())
+    run_limbs(&report.over(parameters.as_str()), limbs.as_slice())
 }
 
 // The same over lists of each share of ones.
-fn run_shares<F: FnOnce(&Report, &[u64]) -> io::Result<()> + Copy>(
-    report: &Report,
-    limb_count: usize,
-    percents: &[u64],
-    run: F,
-) -> io::Result<()>
-    requires { F.IsAlwaysCallable run }
-{
+fn run_shares(report: &Report, limb_count: usize, percents: &[u64]) -> io::Result<()> {
     for percent in percents {
-        run_list(report, limb_count, *percent, run)?;
+        let data = RandomBits {
+            limb_count,
+            percent: *percent,
+        };
+        run_list(report, data)?;
     }
     Ok(())
 }
 
 // The same over a list of 2^20 bits, and where times are asked for over one of 2^26 too.
-fn run_lengths<F: FnOnce(&Report, &[u64]) -> io::Result<()> + Copy>(
-    report: &Report,
-    percents: &[u64],
-    run: F,
-) -> io::Result<()>
-    requires { F.IsAlwaysCallable run }
-{
+fn run_lengths(report: &Report, percents: &[u64]) -> io::Result<()> {
     let settings = report.settings;
-    run_shares(report, settings.scaled(16_384), percents, run)?;
+    run_shares(report, settings.scaled(16_384), percents)?;
     if settings.are_timed() {
-        run_shares(report, settings.scaled(1_048_576), percents, run)
+        run_shares(report, settings.scaled(1_048_576), percents)
     } else {
         Ok(())
     }
@@ -104,11 +94,10 @@ const STRUCTURES: [&str; 9] = [
 // Runs the series of a structure.
 fn run_structure(report: &Report) -> io::Result<()> {
     match report.structure {
-        "bits" => run_lengths(report, &[50, 5], bits::run),
-        "walks" => run_lengths(report, &[50, 5], walks::run),
-        "list" => run_lengths(report, &[50], lists::run),
+        "bits" | "walks" => run_lengths(report, &[50, 5]),
+        "list" => run_lengths(report, &[50]),
         "sorted" => sorted::run(report),
-        "sparse" => run_shares(report, report.settings.scaled(16_384), &[5, 1], sparse::run),
+        "sparse" => run_shares(report, report.settings.scaled(16_384), &[5, 1]),
         "wavelet" => symbols::run(report),
         "rmq" => minima::run(report),
         "tree" => trees::run(report),

@@ -1,6 +1,6 @@
 //! The series of range minima.
 use crate::report::{Report, asked, bits_per_item};
-use crate::workload::{Ends, Random, values};
+use crate::workload::{Between, Draw, Ends, Random, values};
 use std::alloc::{AllocError, Global};
 use std::io;
 use vers_rmq::rmq::binary_rmq::BinaryRmq;
@@ -49,13 +49,20 @@ impl RangeMinima for BinaryRmq<Global> {
     }
 }
 
-// A range of at most 64 items.
-fn short_range(random: &mut Random, n: u64) -> Ends {
-    let first = random.below(n);
-    let last = first.saturating_add(random.below(64));
-    Ends {
-        first,
-        last: last.min(n.saturating_sub(1)),
+// The ranges of at most 64 of so many items.
+#[derive(Clone, Copy)]
+struct Short(u64);
+
+impl Draw for Short {
+    type Item = Ends;
+
+    fn draw(&self, random: &mut Random) -> Ends {
+        let first = random.below(self.0);
+        let last = first.saturating_add(random.below(64));
+        Ends {
+            first,
+            last: last.min(self.0.saturating_sub(1)),
+        }
     }
 }
 
@@ -63,19 +70,20 @@ fn first_least<M: RangeMinima>(minima: &M, range: &Ends) -> u64 {
     minima.first_least(range.first as usize, range.last as usize) as u64
 }
 
-/// What is asked of items: ranges of any length, and short ones.
-#[derive(Clone, Copy)]
-struct Questions<'a> {
-    items: &'a [u64],
-    wide: &'a [Ends],
-    short: &'a [Ends],
-}
-
-fn run_built<M: RangeMinima>(report: &Report, questions: Questions, minima: &M) -> io::Result<()> {
-    let size = bits_per_item(minima.bytes(), questions.items.len() as u64);
-    report.size("heap_bits_per_item", size)?;
-    report.queries("range_min", minima, questions.wide, first_least)?;
-    report.queries("range_min_short", minima, questions.short, first_least)
+fn run_built<M: RangeMinima>(report: &Report, n: u64, minima: &M) -> io::Result<()> {
+    report.size("heap_bits_per_item", bits_per_item(minima.bytes(), n))?;
+    report.queries(
+        "range_min",
+        minima,
+        &report.questions(10, 0, Between(n)),
+        first_least,
+    )?;
+    report.queries(
+        "range_min_short",
+        minima,
+        &report.questions(10, 2, Short(n)),
+        first_least,
+    )
 }
 
 fn fast(items: Vec<u64>) -> Result<FastRmq<Global>, AllocError> {
@@ -92,34 +100,23 @@ fn binary(items: Vec<u64>) -> Result<BinaryRmq<Global>, AllocError> {
     BinaryRmq::from_vec(items)
 }
 
-fn run_fast(report: &Report, questions: Questions) -> io::Result<()> {
-    let count = questions.items.len() as u64;
-    report.builds_of_copies(count, count, questions.items, Vec::from_slice, fast)?;
-    let items = Vec::from_slice(report.alloc(), questions.items)?;
-    asked(report, questions, fast(items), run_built)
-}
-
-fn run_binary(report: &Report, questions: Questions) -> io::Result<()> {
-    let count = questions.items.len() as u64;
-    report.builds_of_copies(count, count, questions.items, Vec::from_slice, binary)?;
-    let items = Vec::from_slice(report.alloc(), questions.items)?;
-    asked(report, questions, binary(items), run_built)
+// Runs all series over a type of range minima, which `make` makes.
+fn run_type<M: RangeMinima, F: FnOnce(Vec<u64>) -> Result<M, AllocError> + Copy>(
+    report: &Report,
+    items: &[u64],
+    make: F,
+) -> io::Result<()>
+    requires { F.IsAlwaysCallable make }
+{
+    let n = items.len() as u64;
+    report.builds_of_copies(n, n, items, Vec::from_slice, make)?;
+    let made = make(Vec::from_slice(report.alloc(), items)?);
+    asked(report, n, made, run_built)
 }
 
 fn run_items(report: &Report, items: &[u64]) -> io::Result<()> {
-    let alloc = report.alloc();
-    let n = items.len() as u64;
-    let count = report.query_count();
-    let mut random = Random::new(10);
-    let wide = random.many(alloc, count, n, Ends::between)?;
-    let short = random.many(alloc, count, n, short_range)?;
-    let questions = Questions {
-        items,
-        wide: wide.as_slice(),
-        short: short.as_slice(),
-    };
-    run_fast(&report.of("rmq_fast"), questions)?;
-    run_binary(&report.of("rmq_binary"), questions)
+    run_type(&report.of("rmq_fast"), items, fast)?;
+    run_type(&report.of("rmq_binary"), items, binary)
 }
 
 fn run_count(report: &Report, n: usize) -> io::Result<()> {

@@ -1,5 +1,5 @@
 //! What is printed: a line for each series, with its checksum, and with its time where one is asked for.
-use crate::workload::fold;
+use crate::workload::{Below, Draw, Questions, fold};
 use std::alloc::{AllocError, Global};
 use std::io;
 use std::time::{CpuClock, Duration};
@@ -95,6 +95,11 @@ impl<'a> Report<'a> {
         self.settings.scaled(1_000_000)
     }
 
+    /// The questions of such a series, drawn after `lists_before` lists of as many numbers.
+    pub fn questions<D: Draw>(&self, seed: u64, lists_before: usize, from: D) -> Questions<D> {
+        Questions::new(self.query_count(), seed, lists_before, from)
+    }
+
     // Prints the line of an operation: nanoseconds in thousandths, and the checksum.
     fn print(&self, operation: &str, thousandths: u64, checksum: u64) -> io::Result<()> {
         let Report {
@@ -164,21 +169,6 @@ impl<'a> Report<'a> {
         self.times("build", times, count, checksum)
     }
 
-    // Runs a series of `count` operations and prints its line. `pass` does them all and returns the
-    // checksum.
-    fn series<F: FnMut() -> u64>(&self, operation: &str, count: u64, mut pass: F) -> io::Result<()>
-        requires { F.IsAlwaysCallable pass }
-    {
-        let mut times = Vec::new(self.rt.alloc());
-        let mut checksum = 0u64;
-        for _ in 0..self.settings.repetitions() {
-            let start = self.rt.thread_cpu_time()?;
-            checksum = pass();
-            times.push(nanoseconds_since(self.rt, start)?)?;
-        }
-        self.times(operation, times, count, checksum)
-    }
-
     /// Runs a series of `count` operations on a structure and prints its line. `pass` does them all and
     /// returns the checksum.
     pub fn passes<T, Q, F: FnOnce(&T, &[Q]) -> u64 + Copy>(
@@ -194,7 +184,7 @@ impl<'a> Report<'a> {
         let mut times = Vec::new(self.rt.alloc());
         let mut checksum = 0u64;
         for _ in 0..self.settings.repetitions() {
-            let timed = timed_pass(self.rt, structure, queries, pass)?;
+            let timed = measured(self.rt, structure, queries, pass)?;
             times.push(timed.nanoseconds)?;
             checksum = timed.checksum;
         }
@@ -209,20 +199,14 @@ impl<'a> Report<'a> {
         structure: &T,
         pass: F,
     ) -> io::Result<()>
-        requires { F.pre pass structure }
+        requires { F.IsAlwaysCallable pass }
     {
-        let mut times = Vec::new(self.rt.alloc());
-        let mut checksum = 0u64;
-        for _ in 0..self.settings.repetitions() {
-            let timed = timed_walk(self.rt, structure, pass)?;
-            times.push(timed.nanoseconds)?;
-            checksum = timed.checksum;
-        }
-        self.times(operation, times, count, checksum)
+        let pass = |it: &T, _: &[()]| pass(it);
+        self.passes(operation, count, structure, &[], pass)
     }
 
-    /// Runs a series of queries and prints its line. `answer` answers one.
-    pub fn queries<T, Q, F: FnOnce(&T, &Q) -> u64 + Copy>(
+    /// Runs a series of queries of a list and prints its line. `answer` answers one.
+    pub fn listed_queries<T, Q, F: FnOnce(&T, &Q) -> u64 + Copy>(
         &self,
         operation: &str,
         structure: &T,
@@ -232,11 +216,22 @@ impl<'a> Report<'a> {
         requires { F.IsAlwaysCallable answer }
     {
         let count = queries.len() as u64;
-        self.series(
-            operation,
-            count,
-            || queries_pass(structure, queries, answer),
-        )
+        let pass = |it: &T, all: &[Q]| queries_pass(it, all, answer);
+        self.passes(operation, count, structure, queries, pass)
+    }
+
+    /// The same of queries that are drawn.
+    pub fn queries<T, D: Draw, F: FnOnce(&T, &D::Item) -> u64 + Copy>(
+        &self,
+        operation: &str,
+        structure: &T,
+        queries: &Questions<D>,
+        answer: F,
+    ) -> io::Result<()>
+        requires { F.IsAlwaysCallable answer }
+    {
+        let queries = queries.made(self.alloc())?;
+        self.listed_queries(operation, structure, queries.as_slice(), answer)
     }
 
     /// The same of queries that each wait for the answer of the one before.
@@ -244,39 +239,46 @@ impl<'a> Report<'a> {
         &self,
         operation: &str,
         structure: &T,
-        queries: &[u64],
+        queries: &Questions<Below>,
         answer: F,
     ) -> io::Result<()>
         requires { F.IsAlwaysCallable answer }
     {
+        let queries = queries.made(self.alloc())?;
         let count = queries.len() as u64;
-        self.series(
-            operation,
-            count,
-            || chained_pass(structure, queries, answer),
-        )
+        let pass = |it: &T, all: &[u64]| chained_pass(it, all, answer);
+        self.passes(operation, count, structure, queries.as_slice(), pass)
     }
 
     /// The same of queries that are each asked with an item of another list.
-    pub fn paired_queries<T, Q, U, F: FnOnce(&T, &Q, &U) -> u64 + Copy>(
+    pub fn paired_queries<T, D: Draw, E: Draw, F: FnOnce(&T, &D::Item, &E::Item) -> u64 + Copy>(
         &self,
         operation: &str,
         structure: &T,
-        queries: &[Q],
+        queries: &Questions<D>,
+        others: &Questions<E>,
+        answer: F,
+    ) -> io::Result<()>
+        requires { F.IsAlwaysCallable answer }
+    {
+        let others = others.made(self.alloc())?;
+        self.queries_with(operation, structure, queries, others.as_slice(), answer)
+    }
+
+    fn queries_with<T, D: Draw, U, F: FnOnce(&T, &D::Item, &U) -> u64 + Copy>(
+        &self,
+        operation: &str,
+        structure: &T,
+        queries: &Questions<D>,
         others: &[U],
         answer: F,
     ) -> io::Result<()>
         requires { F.IsAlwaysCallable answer }
     {
+        let queries = queries.made(self.alloc())?;
         let count = queries.len() as u64;
-        let mut times = Vec::new(self.rt.alloc());
-        let mut checksum = 0u64;
-        for _ in 0..self.settings.repetitions() {
-            let timed = timed_pairs(self.rt, structure, queries, others, answer)?;
-            times.push(timed.nanoseconds)?;
-            checksum = timed.checksum;
-        }
-        self.times(operation, times, count, checksum)
+        let pass = |it: &T, all: &[D::Item]| paired_pass(it, all, others, answer);
+        self.passes(operation, count, structure, queries.as_slice(), pass)
     }
 }
 
@@ -337,7 +339,7 @@ fn nanoseconds_since(rt: &HostRuntime, start: Duration) -> io::Result<u64> {
 }
 
 // How long a pass took, and its checksum.
-fn timed_pass<T, Q, F: FnOnce(&T, &[Q]) -> u64>(
+fn measured<T, Q, F: FnOnce(&T, &[Q]) -> u64>(
     rt: &HostRuntime,
     structure: &T,
     queries: &[Q],
@@ -347,34 +349,6 @@ fn timed_pass<T, Q, F: FnOnce(&T, &[Q]) -> u64>(
 {
     let start = rt.thread_cpu_time()?;
     let checksum = pass(structure, queries);
-    timed_since(rt, start, checksum)
-}
-
-// The same of a walk.
-fn timed_walk<T, F: FnOnce(&T) -> u64>(
-    rt: &HostRuntime,
-    structure: &T,
-    pass: F,
-) -> io::Result<Timed>
-    requires { F.pre pass structure }
-{
-    let start = rt.thread_cpu_time()?;
-    let checksum = pass(structure);
-    timed_since(rt, start, checksum)
-}
-
-// The same of queries that are each asked with an item of another list.
-fn timed_pairs<T, Q, U, F: FnOnce(&T, &Q, &U) -> u64 + Copy>(
-    rt: &HostRuntime,
-    structure: &T,
-    queries: &[Q],
-    others: &[U],
-    answer: F,
-) -> io::Result<Timed>
-    requires { F.IsAlwaysCallable answer }
-{
-    let start = rt.thread_cpu_time()?;
-    let checksum = paired_pass(structure, queries, others, answer);
     timed_since(rt, start, checksum)
 }
 

@@ -3,7 +3,9 @@ ghost use Rattle.std.specs.List.Sorted.{IsNonDecreasing};
 
 use crate::report::{Report, asked, bits_per_item};
 use crate::walks::sum_of;
-use crate::workload::{Clustered, NONE, Random, members_clustered, members_uniform};
+use crate::workload::{
+    Below, Clustered, Draw, NONE, Questions, Random, members_clustered, members_uniform,
+};
 use std::alloc::Global;
 use std::io;
 use vers_sorted::elias_fano::EliasFanoVec;
@@ -36,7 +38,7 @@ fn iter_pass(list: &Members) -> u64 {
     sum_of(list.iter())
 }
 
-/// Which values are asked for: `count` of them, `span` values from `first` on.
+/// Which values are asked for: `span` values from `first` on, by `count` queries.
 #[derive(Clone, Copy)]
 struct Asked {
     first: u64,
@@ -44,41 +46,24 @@ struct Asked {
     count: usize,
 }
 
-fn value_asked(random: &mut Random, values: Asked) -> u64 {
-    values.first.wrapping_add(random.below(values.span))
-}
+impl Draw for Asked {
+    type Item = u64;
 
-fn run_places(
-    report: &Report,
-    list: &Members,
-    random: &mut Random,
-    count: usize,
-) -> io::Result<()> {
-    let places = random.many_below(report.alloc(), count, list.len() as u64)?;
-    let places = places.as_slice();
-    report.queries("get", list, places, get)?;
-    report.queries("delta", list, places, delta)
-}
-
-fn run_values(
-    report: &Report,
-    list: &Members,
-    random: &mut Random,
-    values: Asked,
-) -> io::Result<()> {
-    let values = random.many(report.alloc(), values.count, values, value_asked)?;
-    let values = values.as_slice();
-    report.queries("rank", list, values, rank)?;
-    report.queries("predecessor", list, values, predecessor)?;
-    report.queries("successor", list, values, successor)
+    fn draw(&self, random: &mut Random) -> u64 {
+        self.first.wrapping_add(random.below(self.span))
+    }
 }
 
 fn run_built(report: &Report, values: Asked, list: &Members) -> io::Result<()> {
     let len = list.len() as u64;
     report.size("heap_bits_per_item", bits_per_item(list.heap_size(), len))?;
-    let mut random = Random::new(8);
-    run_places(report, list, &mut random, values.count)?;
-    run_values(report, list, &mut random, values)?;
+    let places = Questions::new(values.count, 8, 0, Below(len));
+    report.queries("get", list, &places, get)?;
+    report.queries("delta", list, &places, delta)?;
+    let values = Questions::new(values.count, 8, 1, values);
+    report.queries("rank", list, &values, rank)?;
+    report.queries("predecessor", list, &values, predecessor)?;
+    report.queries("successor", list, &values, successor)?;
     report.walk("iter", len, list, iter_pass)
 }
 
@@ -110,32 +95,25 @@ fn run_uniform(report: &Report, len: usize) -> io::Result<()> {
     run_kind(report, "uniform", members.as_slice(), values)
 }
 
-fn run_equal(report: &Report, len: usize, count: usize) -> io::Result<()> {
-    let Clustered { members, first } = members_clustered(report.alloc(), len, true)?;
-    let values = Asked {
-        first: first.wrapping_sub(1),
-        span: 3,
-        count,
-    };
-    run_kind(report, "equal", members.as_slice(), values)
+// Lists with a dense cluster, or with many equal members. They have few queries.
+fn run_clustered(report: &Report, len: usize, are_equal: bool) -> io::Result<()> {
+    let Clustered { members, first } = members_clustered(report.alloc(), len, are_equal)?;
+    let count = report.settings.scaled(2_000);
+    let members = members.as_slice();
+    if are_equal {
+        let first = first.wrapping_sub(1);
+        let span = 3;
+        run_kind(report, "equal", members, Asked { first, span, count })
+    } else {
+        let span = (len as u64).saturating_mul(2) / 10;
+        run_kind(report, "cluster", members, Asked { first, span, count })
+    }
 }
 
-fn run_cluster(report: &Report, len: usize, count: usize) -> io::Result<()> {
-    let Clustered { members, first } = members_clustered(report.alloc(), len, false)?;
-    let values = Asked {
-        first,
-        span: (len as u64).saturating_mul(2) / 10,
-        count,
-    };
-    run_kind(report, "cluster", members.as_slice(), values)
-}
-
-/// Runs all series over lists of members: far apart, with many equal ones, and with a dense cluster. The
-/// last two have few queries.
+/// Runs all series over lists of members: far apart, with many equal ones, and with a dense cluster.
 pub fn run(report: &Report) -> io::Result<()> {
     let len = report.query_count();
-    let few = report.settings.scaled(2_000);
     run_uniform(report, len)?;
-    run_equal(report, len, few)?;
-    run_cluster(report, len, few)
+    run_clustered(report, len, true)?;
+    run_clustered(report, len, false)
 }

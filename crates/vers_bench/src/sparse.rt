@@ -2,7 +2,7 @@
 use crate::lists::bits_of;
 use crate::report::{Report, asked, bits_per_item};
 use crate::walks::sum_of;
-use crate::workload::{NONE, Random};
+use crate::workload::{Below, NONE};
 use std::alloc::{AllocError, Global};
 use std::io;
 use vers_bits::bit_vec::BitVec;
@@ -53,16 +53,14 @@ fn run_bits(report: &Report, _source: (), bits: &Bits) -> io::Result<()> {
 
 fn run_built(report: &Report, ones: u64, list: &Sparse) -> io::Result<()> {
     report.size("heap_bits_per_item", bits_per_item(list.heap_size(), ones))?;
-    let mut random = Random::new(7);
-    run_places(report, list, &mut random)?;
-    let numbers = random.many_below(report.alloc(), report.query_count(), ones)?;
-    report.queries("select1", list, numbers.as_slice(), select1)?;
+    let places = report.questions(7, 0, Below(list.len()));
+    report.queries("get", list, &places, get)?;
+    report.queries("rank1", list, &places, rank1)?;
+    report.queries(
+        "select1",
+        list,
+        &report.questions(7, 1, Below(ones)),
+        select1,
+    )?;
     report.walk("iter1", ones, list, iter1_pass)
-}
-
-fn run_places(report: &Report, list: &Sparse, random: &mut Random) -> io::Result<()> {
-    let places = random.many_below(report.alloc(), report.query_count(), list.len())?;
-    let places = places.as_slice();
-    report.queries("get", list, places, get)?;
-    report.queries("rank1", list, places, rank1)
 }

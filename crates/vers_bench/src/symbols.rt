@@ -1,7 +1,7 @@
 //! The series of wavelet matrices.
 use crate::report::{Report, asked, bits_per_item};
 use crate::walks::sum_of;
-use crate::workload::{NONE, Random, place_or_none, symbols};
+use crate::workload::{Below, Draw, NONE, Questions, Random, place_or_none, symbols};
 use std::alloc::{AllocError, Global};
 use std::io;
 use vers_wavelet::wavelet::WaveletMatrix;
@@ -34,10 +34,16 @@ struct Quantile {
     number: usize,
 }
 
-impl Quantile {
-    fn drawn(random: &mut Random, n: u64) -> Quantile {
-        let from = random.below(n);
-        let long = random.below(n.saturating_sub(from)).saturating_add(1);
+// The ranges of a list of so many symbols, each with a member.
+#[derive(Clone, Copy)]
+struct Quantiles(u64);
+
+impl Draw for Quantiles {
+    type Item = Quantile;
+
+    fn draw(&self, random: &mut Random) -> Quantile {
+        let from = random.below(self.0);
+        let long = random.below(self.0.saturating_sub(from)).saturating_add(1);
         Quantile {
             from: from as usize,
             to: from.saturating_add(long) as usize,
@@ -46,29 +52,13 @@ impl Quantile {
     }
 }
 
-fn member_of(random: &mut Random, list: &[u64]) -> u64 {
-    let place = random.below(list.len() as u64) as usize;
-    list.get(place).copied().unwrap_or(0)
-}
+impl Draw for Symbols<'_> {
+    type Item = u64;
 
-/// What is asked: places, symbols of the list, their numbers, and members of ranges by size.
-#[derive(Drop)]
-struct Queries {
-    places: Vec<u64>,
-    symbols: Vec<u64>,
-    ranks: Vec<u64>,
-    quantiles: Vec<Quantile>,
-}
-
-fn queries_of(alloc: Global, source: Symbols, count: usize) -> Result<Queries, AllocError> {
-    let mut random = Random::new(9);
-    let n = source.list.len() as u64;
-    Ok(Queries {
-        places: random.many_below(alloc, count, n)?,
-        symbols: random.many(alloc, count, source.list, member_of)?,
-        ranks: random.many_below(alloc, count, source.most_occurrences())?,
-        quantiles: random.many(alloc, count, n, Quantile::drawn)?,
-    })
+    fn draw(&self, random: &mut Random) -> u64 {
+        let place = random.below(self.list.len() as u64) as usize;
+        self.list.get(place).copied().unwrap_or(0)
+    }
 }
 
 fn get(matrix: &Matrix, place: &u64) -> u64 {
@@ -114,33 +104,23 @@ fn sorted_walk_pass(matrix: &Matrix) -> u64 {
     }
 }
 
-fn run_queries(report: &Report, matrix: &Matrix, queries: &Queries) -> io::Result<()> {
-    let symbols = queries.symbols.as_slice();
-    let places = queries.places.as_slice();
-    report.queries("get_u64", matrix, places, get)?;
-    report.paired_queries("rank_u64", matrix, places, symbols, rank)?;
-    let ranks = queries.ranks.as_slice();
-    report.paired_queries("select_u64", matrix, ranks, symbols, select)?;
-    let quantiles = queries.quantiles.as_slice();
-    report.queries("quantile_u64", matrix, quantiles, kth)
-}
-
-// The series that the original's driver does not have.
-fn run_own(report: &Report, matrix: &Matrix, queries: &Queries) -> io::Result<()> {
-    let quantiles = queries.quantiles.as_slice();
-    let symbols = queries.symbols.as_slice();
-    report.paired_queries("predecessor_u64", matrix, quantiles, symbols, predecessor)?;
-    report.paired_queries("successor_u64", matrix, quantiles, symbols, successor)?;
+fn run_built(report: &Report, source: Symbols, matrix: &Matrix) -> io::Result<()> {
     let n = matrix.len() as u64;
+    let size = bits_per_item(matrix.heap_size(), n);
+    report.size("heap_bits_per_item", size)?;
+    let count = report.settings.scaled(200_000);
+    let places = Questions::new(count, 9, 0, Below(n));
+    let symbols = Questions::new(count, 9, 1, source);
+    let ranks = Questions::new(count, 9, 2, Below(source.most_occurrences()));
+    let quantiles = Questions::new(count, 9, 3, Quantiles(n));
+    report.queries("get_u64", matrix, &places, get)?;
+    report.paired_queries("rank_u64", matrix, &places, &symbols, rank)?;
+    report.paired_queries("select_u64", matrix, &ranks, &symbols, select)?;
+    report.queries("quantile_u64", matrix, &quantiles, kth)?;
+    report.paired_queries("predecessor_u64", matrix, &quantiles, &symbols, predecessor)?;
+    report.paired_queries("successor_u64", matrix, &quantiles, &symbols, successor)?;
     report.walk("iter_u64", n, matrix, walk_pass)?;
     report.walk("iter_sorted_u64", n, matrix, sorted_walk_pass)
-}
-
-fn run_built(report: &Report, queries: &Queries, matrix: &Matrix) -> io::Result<()> {
-    let size = bits_per_item(matrix.heap_size(), matrix.len() as u64);
-    report.size("heap_bits_per_item", size)?;
-    run_queries(report, matrix, queries)?;
-    run_own(report, matrix, queries)
 }
 
 // A build by stable sorting, of symbols that have at most 64 bits.
@@ -165,9 +145,12 @@ fn run_builds(report: &Report, source: Symbols) -> io::Result<()> {
 
 fn run_symbols(report: &Report, source: Symbols) -> io::Result<()> {
     run_builds(report, source)?;
-    let alloc = report.alloc();
-    let queries = queries_of(alloc, source, report.settings.scaled(200_000))?;
-    asked(report, &queries, sorted_build(alloc, source), run_built)
+    asked(
+        report,
+        source,
+        sorted_build(report.alloc(), source),
+        run_built,
+    )
 }
 
 fn run_width(report: &Report, n: usize, width: u16) -> io::Result<()> {

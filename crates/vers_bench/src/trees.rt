@@ -158,7 +158,7 @@ fn parent(tree: &Tree, node: usize) -> Option<usize>
 // From the first root through the whole tree by first children, next siblings and parents. Each step
 // enters a node or leaves one.
 #[inline(never)]
-fn dfs_walk_pass(tree: &Tree) -> u64
+fn dfs_walk_pass(tree: &Tree, _none: &[()]) -> u64
     requires balanced { IsBalanced tree.now }
 {
     let mut sum = 0;
@@ -309,11 +309,15 @@ fn run_tree(report: &Report, _source: (), tree: &Tree) -> io::Result<()> {
     if !tree.is_balanced() {
         return Err(io::Error::from(io::ErrorKind::InvalidInput));
     }
-    let size = bits_per_item(tree.heap_size(), tree.len() as u64);
-    report.size("heap_bits_per_item", size)?;
+    report.size(
+        "heap_bits_per_item",
+        bits_per_item(tree.heap_size(), tree.len() as u64),
+    )?;
     run_nodes(report, tree)?;
     run_few(report, tree)?;
-    run_walks(report, tree)
+    let size = tree.size() as u64;
+    report.walk("dfs_iter", size, tree, dfs_iter_pass)?;
+    report.passes("dfs_walk", size, tree, &[], dfs_walk_pass)
 }
 
 fn run_nodes(report: &Report, tree: &Tree) -> io::Result<()>
@@ -338,12 +342,16 @@ fn run_searches(report: &Report, tree: &Tree, nodes: &[usize]) -> io::Result<()>
     requires balanced { IsBalanced tree.now }
     requires nodes { All (λ v. IsNode (forest_of tree.now) v) nodes.now }
 {
-    report.queries("close", tree, nodes, close)?;
-    let ends = ends_of(report.alloc(), tree, nodes)?;
-    report.queries("open", tree, ends.as_slice(), open)?;
+    report.listed_queries("close", tree, nodes, close)?;
+    run_ends(report, tree, nodes)?;
     let count = nodes.len() as u64;
     report.passes("parent", count, tree, nodes, parent_pass)?;
     report.passes("subtree_size", count, tree, nodes, subtree_size_pass)
+}
+
+fn run_ends(report: &Report, tree: &Tree, nodes: &[usize]) -> io::Result<()> {
+    let ends = ends_of(report.alloc(), tree, nodes)?;
+    report.listed_queries("open", tree, ends.as_slice(), open)
 }
 
 fn run_climbs(report: &Report, tree: &Tree, climbs: &[Climb]) -> io::Result<()>
@@ -360,12 +368,4 @@ fn run_children(report: &Report, tree: &Tree, nodes: &[usize]) -> io::Result<()>
 {
     let count = children_count(tree, nodes);
     report.passes("children", count, tree, nodes, children_pass)
-}
-
-fn run_walks(report: &Report, tree: &Tree) -> io::Result<()>
-    requires { IsBalanced tree.now }
-{
-    let size = tree.size() as u64;
-    report.walk("dfs_iter", size, tree, dfs_iter_pass)?;
-    report.walk("dfs_walk", size, tree, dfs_walk_pass)
 }

@@ -1,6 +1,9 @@
 //! The data and the queries, the same at each run and in every driver of the benchmark.
 use std::alloc::{AllocError, Global};
 
+// What the generator's state grows by with each number.
+const STRIDE: u64 = 0x9E37_79B9_7F4A_7C15;
+
 /// The generator splitmix64.
 #[derive(Drop)]
 pub struct Random {
@@ -13,9 +16,14 @@ impl Random {
         Random { state: seed }
     }
 
+    /// A generator that begins at a seed and has given `skipped` numbers.
+    fn after(seed: u64, skipped: usize) -> Self {
+        Random::new(seed.wrapping_add(STRIDE.wrapping_mul(skipped as u64)))
+    }
+
     /// The next number.
     pub fn step(&mut self) -> u64 {
-        self.state = self.state.wrapping_add(0x9E37_79B9_7F4A_7C15);
+        self.state = self.state.wrapping_add(STRIDE);
         let z = self.state;
         let z = (z ^ (z >> 30)).wrapping_mul(0xBF58_476D_1CE4_E5B9);
         let z = (z ^ (z >> 27)).wrapping_mul(0x94D0_49BB_1331_11EB);
@@ -27,36 +35,66 @@ impl Random {
         self.step().checked_rem(n).unwrap_or(0)
     }
 
-    // The highest bits of the next number.
-    fn shifted(&mut self, shift: u32) -> u64 {
-        self.step() >> shift.min(63)
-    }
-
-    /// The next `count` numbers below `n`.
-    pub fn many_below(
+    /// The next `count` items that are drawn.
+    pub fn many<D: Draw>(
         &mut self,
         alloc: Global,
         count: usize,
-        n: u64,
-    ) -> Result<Vec<u64>, AllocError> {
-        self.many(alloc, count, n, Random::below)
-    }
-
-    /// The next `count` items that `draw` takes from what is drawn of `source`.
-    pub fn many<S: Copy, T: Drop, F: FnOnce(&mut Random, S) -> T + Copy>(
-        &mut self,
-        alloc: Global,
-        count: usize,
-        source: S,
-        draw: F,
-    ) -> Result<Vec<T>, AllocError>
-        requires { F.IsAlwaysCallable draw }
-    {
+        from: &D,
+    ) -> Result<Vec<D::Item>, AllocError> {
         let mut all = Vec::with_capacity(alloc, count)?;
         for _ in 0..count {
-            all.push(draw(self, source))?;
+            all.push(from.draw(self))?;
         }
         Ok(all)
+    }
+}
+
+/// What items are drawn from.
+pub trait Draw {
+    /// An item.
+    type Item: Drop;
+
+    /// The next item.
+    fn draw(&self, random: &mut Random) -> Self::Item;
+}
+
+/// The numbers below one.
+#[derive(Clone, Copy)]
+pub struct Below(pub u64);
+
+impl Draw for Below {
+    type Item = u64;
+
+    fn draw(&self, random: &mut Random) -> u64 {
+        random.below(self.0)
+    }
+}
+
+/// A list of questions, which is drawn when it is needed, each time the same.
+#[derive(Drop)]
+pub struct Questions<D> {
+    seed: u64,
+    /// How many numbers of the generator are left out.
+    skipped: usize,
+    count: usize,
+    from: D,
+}
+
+impl<D: Draw> Questions<D> {
+    /// `count` questions, drawn after `lists_before` lists of as many numbers.
+    pub fn new(count: usize, seed: u64, lists_before: usize, from: D) -> Self {
+        Questions {
+            seed,
+            skipped: count.wrapping_mul(lists_before),
+            count,
+            from,
+        }
+    }
+
+    /// All of them.
+    pub fn made(&self, alloc: Global) -> Result<Vec<D::Item>, AllocError> {
+        Random::after(self.seed, self.skipped).many(alloc, self.count, &self.from)
     }
 }
 
@@ -85,11 +123,16 @@ pub struct Ends {
     pub last: u64,
 }
 
-impl Ends {
-    /// A range between two numbers below `n` at random.
-    pub fn between(random: &mut Random, n: u64) -> Ends {
-        let one = random.below(n);
-        let other = random.below(n);
+/// The ranges between two numbers below one.
+#[derive(Clone, Copy)]
+pub struct Between(pub u64);
+
+impl Draw for Between {
+    type Item = Ends;
+
+    fn draw(&self, random: &mut Random) -> Ends {
+        let one = random.below(self.0);
+        let other = random.below(self.0);
         Ends {
             first: one.min(other),
             last: one.max(other),
@@ -116,29 +159,45 @@ impl RandomBits {
 
     /// The limbs, the same at each call.
     pub fn limbs(&self, alloc: Global) -> Result<Vec<u64>, AllocError> {
-        Random::new(1).many(alloc, self.limb_count, self.percent, random_word)
+        Random::new(1).many(alloc, self.limb_count, self)
     }
 }
 
-fn random_word(random: &mut Random, percent: u64) -> u64 {
-    let mut word = 0u64;
-    for i in 0..64u32 {
-        if random.below(100) < percent {
-            word |= 1u64 << i;
+impl Draw for RandomBits {
+    type Item = u64;
+
+    fn draw(&self, random: &mut Random) -> u64 {
+        let mut limb = 0u64;
+        for i in 0..64u32 {
+            if random.below(100) < self.percent {
+                limb |= 1u64 << i;
+            }
         }
+        limb
     }
-    word
+}
+
+// The highest bits of numbers of 64, without as many of the lowest, which are at most 63.
+#[derive(Clone, Copy)]
+struct Highest(u32);
+
+impl Draw for Highest {
+    type Item = u64;
+
+    fn draw(&self, random: &mut Random) -> u64 {
+        random.step() >> self.0.min(63)
+    }
 }
 
 /// Numbers of 64 bits.
 pub fn values(alloc: Global, count: usize) -> Result<Vec<u64>, AllocError> {
-    Random::new(5).many(alloc, count, 0, Random::shifted)
+    Random::new(5).many(alloc, count, &Highest(0))
 }
 
 /// Symbols of at most 64 bits: the highest bits of numbers of 64.
 pub fn symbols(alloc: Global, count: usize, width: u16) -> Result<Vec<u64>, AllocError> {
     let shift = 64u32.saturating_sub(width as u32);
-    Random::new(4).many(alloc, count, shift, Random::shifted)
+    Random::new(4).many(alloc, count, &Highest(shift))
 }
 
 /// How far members that follow each other are apart: `least` and a number below `span`.

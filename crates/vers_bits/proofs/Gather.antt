@@ -11,7 +11,7 @@ use Rattle.vers_bits.specs.Bits.{bit_value, number, low_bits}
 use Rattle.vers_bits.proofs.Num.{number-lt, bit_value_le}
 use Rattle.vers_bits.proofs.LowBits.{length-low_bits, low_bits-add, low_bits_of_number, low_bits_of_rest}
 
-le_trans_lt : {a b c : ℕ} → a < b → b ≤ c → a < c
+pub le_trans_lt : {a b c : ℕ} → a < b → b ≤ c → a < c
 le_trans_lt h k = omega arith
 
 -- a number of few digits is small

@@ -1,12 +1,12 @@
 -- The highest bit of a number.
-use Rattle.std.proofs.Common.{◌≡◌, ℕ, suc, ◌+◌, ◌-◌, ◌/◌, ◌^◌, ◌<◌, ◌≤◌, ap, ◌∙◌, arith}
+use Rattle.std.proofs.Common.{◌≡◌, ℕ, suc, ◌-◌, ◌/◌, ◌^◌, ◌<◌, ◌≤◌, ap, ◌∙◌, arith}
 use Rattle.std.specs.Int.{bit_at}
 use Rattle.std.specs.Int.Count.{count_leading_zeros}
 use Rattle.std.proofs.Math.Nat.{pow-suc}
 use Rattle.std.proofs.lemmas.Nat.{pow_pos, leading_top, le-div, div_below}
 use Rattle.std.proofs.lemmas.Nat.Bits.{bit_at_above}
 
-top_bit : (n m : ℕ) → 2 ^ m ≤ n → n < 2 ^ suc m → bit_at n m ≡ 1
+pub top_bit : (n m : ℕ) → 2 ^ m ≤ n → n < 2 ^ suc m → bit_at n m ≡ 1
 top_bit n m low high =
     let one : 1 ≤ n / 2 ^ m = le-div 1 n (2 ^ m) (pow_pos m) (omega (arith, low)) in
     let two : n / 2 ^ m < 2 = div_below n (2 ^ m) 2 (pow_pos m) (omega (arith, high, pow-suc 2 m)) in

@@ -15,7 +15,6 @@ pub mod Growing
 pub mod Gather
 pub mod Edits
 pub mod Filling
-pub mod Stops
 pub mod Masks
 pub mod Zips
 pub mod Packed

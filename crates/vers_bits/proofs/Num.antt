@@ -1,5 +1,5 @@
 -- Lists of bits as numbers, and counts of their bits.
-use Rattle.std.proofs.Common.{◌≡◌, ℕ, zero, suc, ◌/◌, ◌%◌, ◌^◌, ◌<◌, ◌≤◌, Bool, true, false, cond, List, [], ◌∷◌, length, take, drop, get_or, sym, ◌∙◌, arith}
+use Rattle.std.proofs.Common.{◌≡◌, ℕ, zero, suc, ◌/◌, ◌%◌, ◌^◌, ◌<◌, ◌≤◌, Bool, true, false, cond, List, [], ◌∷◌, length, take, drop, get_or, refl, sym, ap, ◌+◌, ◌*◌, ◌∙◌, arith}
 use Rattle.std.specs.List.{count_by}
 use Rattle.std.specs.Int.{bit_at}
 use Rattle.std.specs.Prelude.{count_ones}
@@ -8,7 +8,8 @@ use Rattle.std.proofs.lemmas.Nat.Bits.{bit_at_lowest, bit_at-suc, bit_at-zero}
 use Rattle.std.proofs.lemmas.List.Sums.{sum_by-cons}
 use Rattle.std.proofs.Math.Nat.{pow-suc}
 use lib.Count.{ones_step, ones-ones}
-use Rattle.vers_bits.specs.Bits.{bit_value, number, is_bit}
+use Rattle.std.proofs.lemmas.List.{get_or-take, get_or-drop}
+use Rattle.vers_bits.specs.Bits.{bit_value, number, is_bit, limb}
 
 -- the lowest digit, and the others
 pub number_odd : (b : Bool) (l : List Bool) → number (b ∷ l) % 2 ≡ bit_value b
@@ -22,6 +23,15 @@ number_half false l = omega arith
 pub bit_value_le : (b : Bool) → bit_value b ≤ 1
 bit_value_le true = omega arith
 bit_value_le false = omega arith
+
+-- the value of a bit tells it
+pub value_none : (x : Bool) → bit_value x ≡ 0 → x ≡ false
+value_none false e = refl
+value_none true e = absurd (omega arith)
+
+pub value_one : (x : Bool) → bit_value x ≡ 1 → x ≡ true
+value_one true e = refl
+value_one false e = absurd (omega arith)
 
 pub number-lt : (l : List Bool) → number l < 2 ^ length l
 number-lt [] = omega arith
@@ -47,3 +57,12 @@ bit_at-number (b ∷ l) (suc i) = bit_at-suc (number (b ∷ l)) i ∙ (rw number
 pub ones-number : (l : List Bool) → count_ones (number l) ≡ count_by (is_bit true) l
 ones-number [] = ones-ones 0
 ones-number (b ∷ l) = ones_step (number (b ∷ l)) ∙ (rw (number_odd, number_half, ones-number l) (sym (sum_by-cons (λ x. cond x 1 0) b l)))
+
+-- a bit of the part from p on, by the part's number
+pub part_bit : (l : List Bool) (p n i : ℕ) → i < n → bit_at (number (take n (drop p l))) i ≡ bit_value (get_or l (p + i) false)
+part_bit l p n i h = bit_at-number (take n (drop p l)) i ∙ ap bit_value (get_or-take n (drop p l) i false h ∙ get_or-drop p l i false)
+
+-- a bit of a limb
+pub limb_bit : (l : List Bool) (k i : ℕ) → i < 64 → bit_at (limb l k) i ≡ bit_value (get_or l (64 * k + i) false)
+unfolding limb
+limb_bit l k i h = part_bit l (64 * k) 64 i h

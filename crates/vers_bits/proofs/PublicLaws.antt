@@ -1,5 +1,6 @@
 -- The laws that proofs of other crates may cite. A crate above imports this file and no other of this folder.
-use Rattle.std.proofs.Common.{◌≡◌, ℕ, ◌+◌, ◌-◌, ◌*◌, ◌%◌, ◌/◌, ◌^◌, ◌<◌, ◌≤◌, min, Bool, true, false, List, length, map, drop, get_or, slice_get, Option, None, Some}
+use Rattle.std.proofs.Common.{◌≡◌, ℕ, ◌+◌, ◌-◌, ◌*◌, ◌%◌, ◌/◌, ◌^◌, ◌<◌, ◌≤◌, min, suc, Bool, true, false, eqb, List, ◌∷◌, ◌++◌, length, map, take, drop, get_or, slice_get, Option, None, Some}
+use mir.Val.{bool_byte}
 use Rattle.std.specs.Prelude.{count_ones, filter, find}
 use Rattle.std.specs.Iterator.{YieldsFirst, YieldsLast, MakesProgress, item_count}
 use Rattle.std.specs.Int.{bit_at}
@@ -12,6 +13,7 @@ use Rattle.vers_bits.specs.Walk.{TakesNth, TakesNthBack, TakesFirst, TakesLast, 
 pub use Rattle.vers_bits.proofs.Places.{IsPlace}
 use Rattle.vers_bits.proofs.Num as Num
 use Rattle.vers_bits.proofs.LowBits as LowBits
+use Rattle.vers_bits.proofs.Gather as Gather
 use Rattle.vers_bits.proofs.Highest as Highest
 use Rattle.vers_bits.proofs.Count as Count
 use Rattle.vers_bits.proofs.Places as Places
@@ -219,3 +221,62 @@ length-bits = BothEnds.length-bits
 
 pub bit_item : (bits : List Bool) (p : ℕ) (x : ℕ) → p < length (map bit_value bits) → x ≡ bit_value (get_or bits p false) → slice_get (map bit_value bits) p ≡ Some x
 bit_item = BothEnds.bit_item
+
+-- ---- numbers of bits
+
+-- the lowest digit of a list's number, and the others
+pub number_odd : (b : Bool) (l : List Bool) → number (b ∷ l) % 2 ≡ bit_value b
+number_odd = Num.number_odd
+
+pub number_half : (b : Bool) (l : List Bool) → number (b ∷ l) / 2 ≡ number l
+number_half = Num.number_half
+
+-- the number of the first k bits
+pub number-take : (k : ℕ) (l : List Bool) → number (take k l) ≡ number l % 2 ^ k
+number-take = Num.number-take
+
+-- a number of few digits is small
+pub number_below : (l : List Bool) (k : ℕ) → length l ≤ k → number l < 2 ^ k
+number_below = Gather.number_below
+
+-- the value of a bit tells it
+pub bit_value_le : (b : Bool) → bit_value b ≤ 1
+bit_value_le = Num.bit_value_le
+
+pub value_none : (x : Bool) → bit_value x ≡ 0 → x ≡ false
+value_none = Num.value_none
+
+pub value_one : (x : Bool) → bit_value x ≡ 1 → x ≡ true
+value_one = Num.value_one
+
+pub bit_value_test : (m : ℕ) → m < 2 → bit_value (eqb m 1) ≡ m
+bit_value_test = LowBits.bit_value_test
+
+pub test_bit_value : (b : Bool) → eqb (bit_value b) 1 ≡ b
+test_bit_value = LowBits.test_bit_value
+
+-- a bit of the part from p on, and of a limb, by its number
+pub part_bit : (l : List Bool) (p n i : ℕ) → i < n → bit_at (number (take n (drop p l))) i ≡ bit_value (get_or l (p + i) false)
+part_bit = Num.part_bit
+
+pub limb_bit : (l : List Bool) (k i : ℕ) → i < 64 → bit_at (limb l k) i ≡ bit_value (get_or l (64 * k + i) false)
+limb_bit = Num.limb_bit
+
+-- the highest digit of a number
+pub top_bit : (n m : ℕ) → 2 ^ m ≤ n → n < 2 ^ suc m → bit_at n m ≡ 1
+top_bit = Highest.top_bit
+
+-- ---- bits that are gathered in a word
+
+pub byte_value : (b : Bool) → bool_byte b ≡ bit_value b
+byte_value = Gather.byte_value
+
+-- the number of the items from place i on, by that of the items after it
+pub number_from : {X : Type 0} (f : X → Bool) (xs : List X) (i j : ℕ) (x : X) → i < length xs → j ≡ i + 1 → x ≡ get_or xs i x
+    → 2 * number (map f (drop j xs)) + bit_value (f x) ≡ number (map f (drop i xs))
+number_from f xs i j x h next is = Gather.number_from f xs i j x h next is
+
+-- the items that were gathered in a word go over to the list of bits
+pub limb_gathered : {X : Type 0} (f : X → Bool) (l more : List Bool) (rest front back : List X) (m w : ℕ) → front ≡ take m rest → back ≡ drop m rest
+    → w ≡ number (map f front) → more ≡ l ++ low_bits w (length front) → more ++ map f back ≡ l ++ map f rest
+limb_gathered f l more rest front back m w first last word grown = Gather.limb_gathered f l more rest front back m w first last word grown

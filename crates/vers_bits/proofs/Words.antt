@@ -14,6 +14,8 @@ use Rattle.std.proofs.lemmas.Option.{slice_get-get_or, slice_get_past}
 use Rattle.vers_bits.specs.Bits.{bit_value, limb}
 use Rattle.vers_bits.specs.inside.Words.{word_bit, word_bits, HoldsBits, AddsBit}
 use Rattle.vers_bits.proofs.Num.{number-lt, bit_at-number, bit_value_le}
+use Rattle.vers_bits.proofs.LowBits.{bit_value_test}
+use Rattle.vers_bits.proofs.Gather.{le_trans_lt}
 
 pub length-word_bits : (ws : List ℕ) (n : ℕ) → length (word_bits ws n) ≡ n
 unfolding word_bits
@@ -36,10 +38,6 @@ pub word_bits_are : (ws : List ℕ) (n : ℕ) (l : List Bool) → length l ≡ n
 word_bits_are ws n l e each =
     same_lists _ _ (length-word_bits ws n ∙ sym e)
     (λ k d h. let small : k < n = omega (arith, length-word_bits ws n) in get_or-word_bits ws n k d small ∙ each k small ∙ grind (arith, places))
-
--- a read of a place
-bit_value_test : (m : ℕ) → m < 2 → bit_value (eqb m 1) ≡ m
-bit_value_test m h = elim (cases_eq m 1) [ inl e ↦ rw e refl | inr ne ↦ let z : m ≡ 0 = omega arith in rw z refl ]
 
 pub slice_get-word_bits : (ws : List ℕ) (n i : ℕ) → i < n
     → slice_get (word_bits ws n) i ≡ Some (eqb (bit_and (get_or ws (i / 64) 0 / 2 ^ (i % 64)) 1) 1)
@@ -85,9 +83,6 @@ bit_of_limb ws n k i holds small =
       | inr past ↦ ap bit_value (get_or_past (word_bits ws n) (64 * k + i) false (omega (arith, length-word_bits ws n)))
           ∙ ap bit_value (sym (holds.padded (64 * k + i) past)) ∙ here
     ]
-
-le_trans_lt : {a b c : ℕ} → a < b → b ≤ c → a < c
-le_trans_lt h k = omega arith
 
 pub limb-lt : (l : List Bool) (k : ℕ) → limb l k < 2 ^ 64
 unfolding limb

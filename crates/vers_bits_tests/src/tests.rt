@@ -1,5 +1,7 @@
 //! What is done and asked stands in tables. A test holds no list and asserts once, of what helpers over any
 //! allocator found: a test that holds lists, or asserts often, is slow to prove.
+use std::process::Abort;
+
 mod chunks;
 mod comparing;
 mod editing;
@@ -12,3 +14,9 @@ mod masks;
 mod memory;
 mod pattern;
 mod queries;
+
+// Fails where a row is wrong, of a case or at a length. An assertion makes each function that has one slow to
+// prove, so most tests share this one.
+fn assert_none_wrong(rt: &impl Abort, wrong: Option<(usize, usize)>) {
+    assert_eq!(*rt; wrong, None, "a case or a length, and a row");
+}

@@ -1,5 +1,6 @@
 -- The lines of documents with costs.
 use Rattle.std.specs.Prelude.{ℕ, Bool, ◌&&◌, nat_le, nat_lt, List, [], ◌∷◌, length, Option, option_map, Some, None, if◌then◌else◌}
+use Rattle.std.specs.Option.{option_and_then}
 use Rattle.vers_bits.specs.Bits.{bit_value}
 use Rattle.vers_sorted.specs.Sorted.{below, least_not_below, each_next}
 use Rattle.vers_rmq.specs.declared.rmq.fast_rmq.TheConstants.{MAX_LEN}
@@ -41,8 +42,7 @@ posted_loaded (Some posted) = accepted_or_not (if_admitted posted)
 
 -- the load line `postings d c ..`, for its numbers
 abbrev pub postings_loaded : Option (List ℕ) → Loading Posted
-postings_loaded None = Malformed
-postings_loaded (Some numbers) = posted_loaded (posted_of numbers)
+postings_loaded numbers = posted_loaded (option_and_then posted_of numbers)
 
 -- the query line `intersect d ..`, for its documents
 abbrev pub shared_reply : List ℕ → List ℕ → PlainReply

@@ -10,7 +10,7 @@ use Rattle.vers_trees.specs.Excess.{excess, first_rise_after, last_rise_before, 
 use Rattle.vers_trees.specs.Forest.{forest_of}
 use Rattle.vers_trees.specs.Nodes.{closing, is_ancestor, is_proper_ancestor, depth, parent, nodes_under, level, level_ancestor, subtree, node_index}
 use Rattle.vers_trees.specs.Traversals.{subtree_post}
-use Rattle.vers_rmq.specs.Minima.{is_least as costs_least, first_least_of}
+use Rattle.vers_rmq.specs.Minima.{is_least as costs_least, first_least_of, least_place}
 use Rattle.postings.specs.Posted.{is_among, places_between as places_of_range, cheapest, common}
 use Rattle.vers_words.specs.Text.{number_of, signed_number_of}
 use Rattle.vers_engine.specs.Lines.{lines_of}
@@ -25,7 +25,7 @@ use Rattle.vers_cli.specs.declared.name.ForestQuery.TheVariants.{Level, LevelAnc
 use Rattle.vers_cli.specs.declared.name.LevelQuery.TheVariants.{LevelRightmost}
 use Rattle.vers_cli.specs.Name.{name_of}
 use Rattle.vers_cli.specs.Holding.{Holding, Nothing, BitsHeld, SortedHeld, SparseHeld, ValuesHeld, TreeHeld, SymbolsHeld, PostingsHeld}
-use Rattle.vers_cli.specs.ValuesLines.{places_between, first_least}
+use Rattle.vers_cli.specs.ValuesLines.{first_least}
 use Rattle.vers_cli.specs.ForestLines.{are_balanced}
 use Rattle.vers_cli.specs.PostingsLines.{posted_of}
 use Rattle.vers_cli.specs.Answers.{answer_to_words, answer_to, holding_after_words, holding_after, answers_to}
@@ -148,16 +148,16 @@ unfolding answer_to_words
 answer-no_length = refl
 
 -- a range has both its ends, and of equal least values the first place counts
-pub places_between-2-4 : places_between 2 4 ≡ 2 ∷ 3 ∷ 4 ∷ []
-places_between-2-4 = refl
-
 pub first_least-0-4 : first_least values_31211 0 4 ≡ Some 1
+unfolding least_place first_least_of costs_least
 first_least-0-4 = refl
 
 pub first_least-2-4 : first_least values_31211 2 4 ≡ Some 3
+unfolding least_place first_least_of costs_least
 first_least-2-4 = refl
 
 pub first_least-4-4 : first_least values_31211 4 4 ≡ Some 4
+unfolding least_place first_least_of costs_least
 first_least-4-4 = refl
 
 -- the start is past the end, or the end is no place
@@ -168,7 +168,7 @@ pub first_least-0-5 : first_least values_31211 0 5 ≡ None
 first_least-0-5 = refl
 
 pub answer-range_min_2_4 : answer_to (ValuesHeld values_31211) (codes "range_min 2 4") ≡ ended (codes "3")
-unfolding answer_to_words number_of digits
+unfolding answer_to_words number_of digits least_place first_least_of costs_least
 answer-range_min_2_4 = refl
 
 pub answer-range_min_0_5 : answer_to (ValuesHeld values_31211) (codes "range_min 0 5") ≡ ended (codes "refused")

@@ -1,6 +1,6 @@
 -- The lines of a list of values.
-use Rattle.std.specs.Prelude.{ℕ, ◌+◌, ◌-◌, Bool, ◌&&◌, nat_le, nat_lt, List, length, slice_index, find, Option, Some, None, if◌then◌else◌}
-use Rattle.std.specs.List.{list_all, range_with_len}
+use Rattle.std.specs.Prelude.{ℕ, ◌&&◌, nat_le, nat_lt, List, length, Option, Some, None, if◌then◌else◌}
+use Rattle.vers_rmq.specs.Minima.{least_place}
 use Rattle.vers_rmq.specs.declared.rmq.fast_rmq.TheConstants.{MAX_LEN}
 use Rattle.vers_words.specs.Arguments.{no_arguments, two_numbers}
 use Rattle.vers_words.specs.declared.loading.Loading.{Loading}
@@ -9,20 +9,10 @@ use Rattle.vers_words.specs.Reply.{PlainReply, WrongStructure, Number, if_well_f
 use Rattle.vers_cli.specs.declared.name.Query.{Query}
 use Rattle.vers_cli.specs.declared.name.Query.TheVariants.{Len, RangeMin}
 
--- the places from i to j, both included
-abbrev pub places_between : ℕ → ℕ → List ℕ
-places_between i j = range_with_len i (j + 1 - i)
-
--- whether none of the values at these places is below the one at place m
-abbrev pub is_least : List ℕ → List ℕ → ℕ → Bool
-is_least values places m = list_all (λ p. nat_le (slice_index values m) (slice_index values p)) places
-
 -- the first place of a least value from i to j, where i is at most j and j is a place
 abbrev pub first_least : List ℕ → ℕ → ℕ → Option ℕ
 first_least values i j =
-    if nat_le i j && nat_lt j (length values)
-    then find (is_least values (places_between i j)) (places_between i j)
-    else None
+    if nat_le i j && nat_lt j (length values) then Some (least_place values i j) else None
 
 -- the load line `values n ..`, for its numbers
 abbrev pub values_loaded : Option (List ℕ) → Loading (List ℕ)

@@ -1,5 +1,6 @@
 //! The lines of documents with costs.
 ghost use Rattle.std.specs.Prelude.{◌≡◌, length, option_map, IfOk, IfSome};
+ghost use Rattle.std.specs.Option.{option_and_then};
 ghost use Rattle.vers_words.specs.Text.{words_in};
 ghost use Rattle.vers_words.specs.Arguments.{all_numbers as numbers_all};
 ghost use Rattle.vers_words.specs.Reply.{plain_reply, Numbers};
@@ -21,10 +22,7 @@ pub fn load<A: Allocator + Copy>(
     ensures { IfOk result (λ loading.
         loading ≡ postings_loaded (numbers_all (words_in arguments.now))) }
 {
-    let Some(numbers) = all_numbers(alloc, arguments)? else {
-        return Ok(Loading::Malformed);
-    };
-    let Some(Pairs { documents, costs }) = in_pairs(alloc, numbers.as_slice())? else {
+    let Some(Pairs { documents, costs }) = all_pairs(alloc, arguments)? else {
         return Ok(Loading::Malformed);
     };
     match admitted(documents.as_slice(), costs) {
@@ -80,6 +78,24 @@ struct Pairs<A: Allocator> {
     costs: Vec<u64, A>,
 }
 
+// The documents and costs that a line writes in turn. None where a word is no number below 2^64, or the
+// last document has no cost. The numbers themselves are let go at the end.
+fn all_pairs<A: Allocator + Copy>(
+    alloc: A,
+    arguments: &[u8],
+) -> Result<Option<Pairs<A>>, AllocError>
+    ensures pairs { IfOk result (λ found. option_map
+        (λ pairs. record { documents = pairs.documents.items; costs = pairs.costs.items }) found
+        ≡ option_and_then posted_of (numbers_all (words_in arguments.now))) }
+    ensures paired { IfOk result (λ found. IfSome found
+        (λ pairs. length pairs.documents.items ≡ length pairs.costs.items)) }
+{
+    match all_numbers(alloc, arguments)? {
+        None => Ok(None),
+        Some(numbers) => in_pairs(alloc, numbers.as_slice()),
+    }
+}
+
 // Numbers taken as documents and costs in turn. None where the last document has no cost.
 fn in_pairs<A: Allocator + Copy>(alloc: A, numbers: &[u64]) -> Result<Option<Pairs<A>>, AllocError>
     ensures pairs { IfOk result (λ found. option_map
@@ -87,8 +103,8 @@ fn in_pairs<A: Allocator + Copy>(alloc: A, numbers: &[u64]) -> Result<Option<Pai
     ensures paired { IfOk result (λ found. IfSome found
         (λ pairs. length pairs.documents.items ≡ length pairs.costs.items)) }
 {
-    let mut documents = Vec::new(alloc);
-    let mut costs = Vec::new(alloc);
+    let mut documents = Vec::with_capacity(alloc, numbers.len() / 2)?;
+    let mut costs = Vec::with_capacity(alloc, numbers.len() / 2)?;
     let mut rest = numbers;
     while let Some((document, others)) = rest.split_first() {
         let Some((cost, more)) = others.split_first() else {

@@ -13,7 +13,7 @@ use std::alloc::{AllocError, Allocator};
 use vers_bits::bit_vec::BitVec;
 use vers_bits::laws::packed_elements_are_items;
 use vers_wavelet::wavelet::WaveletMatrix;
-use vers_words::arguments::{all_numbers, no_arguments, one_number, three_numbers, two_numbers};
+use vers_words::arguments::{no_arguments, one_number, three_numbers, two_numbers};
 use vers_words::loading::Loading;
 use vers_words::reply::Reply;
 use vers_words::text::{number, split_first_word};
@@ -21,60 +21,8 @@ use vers_words::text::{number, split_first_word};
 // How many bits a symbol has at most.
 const WIDEST: u64 = 64;
 
-// Symbols of at most so many bits are kept packed as they are read.
-const PACKED_WIDTH: u64 = 12;
-
-/// What the load line `symbols K n ..` gives.
+/// What the load line `symbols K n ..` gives. Its numbers are kept packed as they are read.
 pub fn load<A: Allocator + Copy>(
-    alloc: A,
-    arguments: &[u8],
-) -> Result<Loading<WaveletMatrix<A>>, AllocError>
-    ensures { IfOk result (λ loading.
-        loading ≡ symbols_loaded (numbers_all (words_in arguments.now))) }
-{
-    if begins_narrow(arguments) {
-        load_packed(alloc, arguments)
-    } else {
-        load_numbers(alloc, arguments)
-    }
-}
-
-// Whether the first word is a width at which symbols are kept packed.
-fn begins_narrow(arguments: &[u8]) -> bool {
-    let Some((word, _)) = split_first_word(arguments) else {
-        return false;
-    };
-    match number(word) {
-        Some(width) => width <= PACKED_WIDTH,
-        None => false,
-    }
-}
-
-// The same, by way of the numbers themselves, which are sorted faster than packed ones.
-fn load_numbers<A: Allocator + Copy>(
-    alloc: A,
-    arguments: &[u8],
-) -> Result<Loading<WaveletMatrix<A>>, AllocError>
-    ensures { IfOk result (λ loading.
-        loading ≡ symbols_loaded (numbers_all (words_in arguments.now))) }
-{
-    let Some(numbers) = all_numbers(alloc, arguments)? else {
-        return Ok(Loading::Malformed);
-    };
-    let Some((width, numbers)) = numbers.as_slice().split_first() else {
-        return Ok(Loading::Malformed);
-    };
-    if *width > WIDEST {
-        return Ok(Loading::Inadmissible);
-    }
-    match WaveletMatrix::from_slice(alloc, numbers, *width as u16) {
-        Ok(symbols) => Ok(Loading::Accepted(symbols)),
-        Err(error) => Err(error),
-    }
-}
-
-// The same, by way of the numbers packed in a list of bits.
-fn load_packed<A: Allocator + Copy>(
     alloc: A,
     arguments: &[u8],
 ) -> Result<Loading<WaveletMatrix<A>>, AllocError>

@@ -7,12 +7,12 @@ use Rattle.std.proofs.lemmas.Nat.{and_le_l}
 use Rattle.std.proofs.lemmas.Nat.Bits.{bit_at-zero, bit_at-lt, bit_at_and, ones_shl, ones_shr, bit_at_ones, bit_at_ones_above, bit_at_mask_inside, bit_at_mask_below}
 use lib.Count.{ones}
 use Rattle.vers_bits.specs.Bits.{bit_value, is_bit, count, limb}
-use Rattle.vers_bits.proofs.PublicLaws.{count_up, count_past, count_le_all, count_more_yes, count_more_no}
+use Rattle.vers_bits.proofs.PublicLaws.{count_up, count_past, count_le_all, count_more_yes, count_more_no, value_one}
 use Rattle.vers_rank.specs.declared.fast_rs_vec.reader.Reader.{Reader}
 use Rattle.vers_rank.specs.inside.Walks.{IsFrom, IsReading, IsBelow, IsReadingBack, marked}
 use Rattle.vers_rank.specs.inside.Index.{held_in}
 use Rattle.vers_rank.proofs.Words.{ones_few, ones_split}
-use Rattle.vers_rank.proofs.Reading.{marked_bit, marked_fits, value_one}
+use Rattle.vers_rank.proofs.Reading.{marked_bit, marked_fits}
 
 -- ---- the ones of a word, bit by bit
 one_of_bit : (x : ℕ) → count_ones (x % 2 ^ 1) ≡ x % 2

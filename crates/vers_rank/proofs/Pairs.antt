@@ -1,13 +1,13 @@
 -- The one after a one, in the same limb.
-use Rattle.std.proofs.Common.{◌≡◌, ◌≢◌, ℕ, zero, suc, ◌+◌, ◌-◌, ◌*◌, ◌/◌, ◌%◌, ◌^◌, ◌<◌, ◌≤◌, Bool, true, false, List, length, get_or, refl, sym, ap, ◌∙◌, arith, inl, inr, w64}
+use Rattle.std.proofs.Common.{◌≡◌, ◌≢◌, ℕ, zero, suc, ◌+◌, ◌-◌, ◌*◌, ◌/◌, ◌%◌, ◌^◌, ◌<◌, ◌≤◌, Bool, true, false, List, length, get_or, sym, ap, ◌∙◌, arith, inl, inr, w64}
 use Rattle.std.specs.Int.{bit_at, trailing_zeros}
 use Rattle.std.proofs.lemmas.Bool.{cases_lt}
 use Rattle.std.proofs.lemmas.List.{get_or_past}
 use Rattle.std.proofs.lemmas.Nat.Bits.{bit_at-suc, bit_at-zero, bit_at_cat_high, bit_at_above, bit_at-trailing_zeros}
 use Rattle.std.proofs.lemmas.Nat.{mod_below, pow_pos}
 use Rattle.vers_bits.specs.Bits.{bit_value, count, limb, select}
-use Rattle.vers_bits.proofs.PublicLaws.{count_more_no, select_at, count_at_select, select_past, select_up, select_holds}
-use Rattle.vers_rank.proofs.Reading.{marked_bit, value_one}
+use Rattle.vers_bits.proofs.PublicLaws.{count_more_no, select_at, count_at_select, select_past, select_up, select_holds, value_one, value_none}
+use Rattle.vers_rank.proofs.Reading.{marked_bit}
 
 -- a digit of a number without its lowest q digits
 pub digit_after : (n q i : ℕ) → bit_at (n / 2 ^ q) i ≡ bit_at n (q + i)
@@ -20,10 +20,6 @@ digit_after n q i =
 -- the same of the digits past number q
 digit_past : (n q i : ℕ) → bit_at (n / 2 ^ q / 2) i ≡ bit_at n (q + 1 + i)
 digit_past n q i = let e : q + suc i ≡ q + 1 + i = omega arith in sym (bit_at-suc (n / 2 ^ q) i) ∙ digit_after n q (suc i) ∙ ap (bit_at n) e
-
-value_none : (x : Bool) → bit_value x ≡ 0 → x ≡ false
-value_none false e = refl
-value_none true e = absurd (omega arith)
 
 -- where no place of a stretch holds a one, the count stays
 ones_stay : (l : List Bool) (p d : ℕ) → p + d ≤ length l → ((i : ℕ) → i < d → get_or l (p + i) false ≡ false) → count true l (p + d) ≡ count true l p

@@ -1,13 +1,12 @@
 -- The word that a walk over places is reading.
-use Rattle.std.proofs.Common.{◌≡◌, ℕ, ◌+◌, ◌-◌, ◌*◌, ◌/◌, ◌%◌, ◌^◌, ◌<◌, ◌≤◌, min, Bool, true, false, List, length, get_or, take, drop, refl, sym, ap, ◌∙◌, arith, inl, inr, w64}
+use Rattle.std.proofs.Common.{◌≡◌, ℕ, ◌+◌, ◌-◌, ◌*◌, ◌/◌, ◌%◌, ◌^◌, ◌<◌, ◌≤◌, min, Bool, true, false, List, length, get_or, refl, sym, ap, ◌∙◌, arith, inl, inr, w64}
 use Rattle.std.specs.Prelude.{bit_and}
 use Rattle.std.specs.Int.{bit_at, bit_not, trailing_zeros}
 use Rattle.std.proofs.lemmas.Bool.{cases_lt, cases_eq, cases_Bool}
-use Rattle.std.proofs.lemmas.List.{get_or-take, get_or-drop}
 use Rattle.std.proofs.lemmas.Nat.{and_le_l}
 use Rattle.std.proofs.lemmas.Nat.Bits.{bit_at-zero, bit_at-lt, bit_at_and, bit_at_not, bit_at-trailing_zeros, bit_at_clear_same, bit_at_clear_other, ones_shl, bit_at_mask_inside, bit_at_mask_below}
 use Rattle.vers_bits.specs.Bits.{bit_value, is_bit, count, limb, select}
-use Rattle.vers_bits.proofs.PublicLaws.{bit_at-number, count_up, count_none, count_le, select_at, count_at_select, select_not_below, select_holds, count_more_yes}
+use Rattle.vers_bits.proofs.PublicLaws.{count_up, count_none, count_le, select_at, count_at_select, select_not_below, select_holds, count_more_yes, limb_bit, value_one}
 use Rattle.vers_rank.specs.declared.fast_rs_vec.reader.Reader.{Reader}
 use Rattle.vers_rank.specs.inside.Walks.{IsFrom, IsReading, marked}
 
@@ -101,12 +100,6 @@ module _ (b : Bool) (l : List Bool) (reader : Reader) (r : ℕ) (here : reader.n
   lowest_fits bounded = (omega (arith, lowest_at, (count_at_select b l r some).0), omega (arith, (count_le b l (length l)).1))
 
 -- ---- a limb anew
-limb_bit : (l : List Bool) (k i : ℕ) → i < 64 → bit_at (limb l k) i ≡ bit_value (get_or l (64 * k + i) false)
-unfolding limb
-limb_bit l k i h =
-    bit_at-number (take 64 (drop (64 * k) l)) i
-    ∙ ap bit_value (get_or-take 64 (drop (64 * k) l) i false h ∙ get_or-drop (64 * k) l i false)
-
 pub not_value : (x : Bool) → 1 - bit_value x ≡ bit_value (is_bit false x)
 not_value true = refl
 not_value false = refl
@@ -114,10 +107,6 @@ not_value false = refl
 pub marked_bit : (b : Bool) (l : List Bool) (k i : ℕ) → limb l k < 18446744073709551616 → i < 64 → bit_at (marked b (limb l k)) i ≡ bit_value (is_bit b (get_or l (64 * k + i) false))
 marked_bit true l k i fits h = limb_bit l k i h
 marked_bit false l k i fits h = bit_at_not w64 (limb l k) i fits h ∙ ap (λ x. 1 - x) (limb_bit l k i h) ∙ not_value (get_or l (64 * k + i) false)
-
-pub value_one : (x : Bool) → bit_value x ≡ 1 → x ≡ true
-value_one true e = refl
-value_one false e = absurd (omega arith)
 
 pub marked_fits : (b : Bool) (word : ℕ) → word < 18446744073709551616 → marked b word < 18446744073709551616
 marked_fits b word fits = elim (cases_Bool b) [ inl on ↦ rw on fits | inr off ↦ rw off (omega arith) ]

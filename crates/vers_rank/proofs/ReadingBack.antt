@@ -7,10 +7,10 @@ use Rattle.std.proofs.lemmas.Bool.{cases_lt, cases_eq}
 use Rattle.std.proofs.lemmas.Nat.{and_le_l}
 use Rattle.std.proofs.lemmas.Nat.Bits.{bit_at-zero, bit_at-lt, bit_at_and, bit_at_clear_same, bit_at_clear_other, bit_at_ones, bit_at_ones_above, ones_shr}
 use Rattle.vers_bits.specs.Bits.{bit_value, is_bit, count, limb, select}
-use Rattle.vers_bits.proofs.PublicLaws.{highest_bit, count_up, count_none, select_at, count_at_select, select_below, select_holds}
+use Rattle.vers_bits.proofs.PublicLaws.{highest_bit, count_up, count_none, select_at, count_at_select, select_below, select_holds, value_one}
 use Rattle.vers_rank.specs.declared.fast_rs_vec.reader.Reader.{Reader}
 use Rattle.vers_rank.specs.inside.Walks.{IsBelow, IsReadingBack, marked}
-use Rattle.vers_rank.proofs.Reading.{marked_bit, marked_fits, value_one}
+use Rattle.vers_rank.proofs.Reading.{marked_bit, marked_fits}
 
 -- number r is a place below number r + 1
 select_is_below : (b : Bool) (l : List Bool) (r : ℕ) → r < count b l (length l) → IsBelow b l (r + 1) (select b l r)

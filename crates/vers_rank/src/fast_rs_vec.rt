@@ -22,7 +22,7 @@ pub use select_iter::{Places, SelectIntoIter, SelectIter};
 use std::alloc::{AllocError, Allocator};
 use std::marker::Model;
 use vers_bits::bit_vec::{BitVec, MAX_LEN};
-use vers_tally::tally::{BlockEntries, CountedBits, SuperblockEntries, Tally};
+use vers_tally::tally::{BlockEntries, CountedBits, SuperblockEntries, Tally, Uncounted};
 
 /// How many bits a limb has.
 const LIMB: usize = 64;
@@ -71,12 +71,12 @@ impl<A: Allocator + Copy> Clone for RsVec<A> {
 
     /// A second list of the same bits, with a copy of the index.
     fn clone(&self) -> Result<Self, AllocError> {
-        let bits = self.bits.as_bit_vec().clone()?;
+        let bits = self.bits.as_bit_vec(Uncounted).clone()?;
         let alloc = bits.allocator();
-        let blocks = Vec::from_slice(alloc, self.blocks.as_slice())?;
-        let superblocks = Vec::from_slice(alloc, self.superblocks.as_slice())?;
-        let zero_samples = Vec::from_slice(alloc, self.zero_samples.as_slice())?;
-        let one_samples = Vec::from_slice(alloc, self.one_samples.as_slice())?;
+        let blocks = Vec::from_slice(alloc, self.blocks.as_slice(Uncounted))?;
+        let superblocks = Vec::from_slice(alloc, self.superblocks.as_slice(Uncounted))?;
+        let zero_samples = Vec::from_slice(alloc, self.zero_samples.as_slice(Uncounted))?;
+        let one_samples = Vec::from_slice(alloc, self.one_samples.as_slice(Uncounted))?;
         Ok(RsVec {
             bits: CountedBits::new(bits),
             blocks: BlockEntries::new(blocks),
@@ -116,7 +116,7 @@ impl<A: Allocator + Copy> RsVec<A> {
     pub fn into_bit_vec(self) -> BitVec<A>
         ensures { result ≡ self }
     {
-        self.bits.into_bit_vec()
+        self.bits.into_bit_vec(Uncounted)
     }
 
     /// How many bits the list has.
@@ -179,7 +179,7 @@ impl<A: Allocator + Copy> RsVec<A> {
         self.get_counted(place, &mut tally)
     }
 
-    /// The bit at a place, 1 or 0, by one data word. None for a place that the list doesn't have.
+    /// The same as `get`, by one data word.
     #[inline(always)]
     pub fn get_counted(&self, place: usize, tally: &mut Tally) -> Option<u64>
         ensures value { result ≡ option_map bit_value (slice_get self.now place) }
@@ -222,8 +222,7 @@ impl<A: Allocator + Copy> RsVec<A> {
         self.get_bits_counted(place, n, &mut tally)
     }
 
-    /// The number of the `n` bits from `place` on, by at most two data words; 0 for no bits. None
-    /// where there are not so many, or `n` is above 64.
+    /// The same as `get_bits`, by at most two data words.
     #[inline(always)]
     #[tactic(auto, using(crate::proofs::Parts::parts))]
     pub fn get_bits_counted(&self, place: usize, n: usize, tally: &mut Tally) -> Option<u64>

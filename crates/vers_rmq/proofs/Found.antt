@@ -1,9 +1,11 @@
 -- The first place of a least item, found among the places of its range.
-use Rattle.std.proofs.Common.{◌≡◌, ℕ, zero, suc, ◌+◌, ◌-◌, ◌<◌, ◌≤◌, Bool, true, false, List, get_or, leb, Some, refl, inl, inr, arith}
+use Rattle.std.proofs.Common.{◌≡◌, ℕ, zero, suc, ◌+◌, ◌-◌, ◌<◌, ◌≤◌, Bool, true, false, List, get_or, leb, Some, refl, sym, subst, inl, inr, arith}
 use Rattle.std.proofs.Math.Bool.{and-false}
 use Rattle.std.specs.List.{find, list_all, range_with_len}
 use Rattle.std.proofs.lemmas.Bool.{cases_lt, le-leb, lt-leb}
-use Rattle.vers_rmq.specs.Minima.{IsFirstLeast, is_least, first_least_of}
+use Rattle.vers_rmq.specs.Minima.{IsFirstLeast, is_least, first_least_of, lesser, least_place}
+use Rattle.vers_rmq.specs.Laws.{LeastPlaceIsFirst}
+use Rattle.vers_rmq.proofs.Minima.{least_at, least_join, least_ends}
 
 -- the first of n numbers from a on that does
 find_first : (test : ℕ → Bool) (a n m : ℕ) → a ≤ m → m < a + n → test m ≡ true → ((k : ℕ) → a ≤ k → k < m → test k ≡ false) → find test (range_with_len a n) ≡ Some m
@@ -33,3 +35,32 @@ first_least_of-range items i n m some first =
     find_first (is_least items (range_with_len i n)) i n m first.from (omega (arith, first.to, some))
     (all_of_range (λ p. leb (get_or items m 0) (get_or items p 0)) i n (λ p f t. le-leb _ _ (first.least p f (omega arith))))
     (λ k f t. one_of_range (λ p. leb (get_or items k 0) (get_or items p 0)) i n m first.from (omega (arith, first.to, some)) (lt-leb _ _ (first.leftmost k f t)))
+
+-- a first least place is the least place
+pub is_least_place : (items : List ℕ) (i j m : ℕ) → IsFirstLeast items i j m → m ≡ least_place items i j
+unfolding least_place
+is_least_place items i j m first =
+    let last : i + (j + 1 - i) - 1 ≡ j = omega (arith, first.from, first.to) in
+    let found : first_least_of items (range_with_len i (j + 1 - i)) ≡ Some m = first_least_of-range items i (j + 1 - i) m (omega (arith, first.from, first.to)) (rw last first) in
+    rw found refl
+
+-- n + 1 places from i on have a first least one
+some_place : (items : List ℕ) (i n : ℕ) → (m : ℕ) × IsFirstLeast items i (i + n) m
+some_place items i zero = let end : i ≡ i + 0 = omega arith in (i, least_ends items i i (i + 0) i end (least_at items i))
+some_place items i (suc n) =
+    let before = some_place items i n in
+    (lesser items before.0 (i + suc n), least_join items i (i + n) (i + suc n) (i + suc n) before.0 (i + suc n) before.1 (least_at items (i + suc n)) (omega arith) (omega arith) (omega arith))
+
+-- the least place is the first least one
+pub least_place-first : LeastPlaceIsFirst
+least_place-first items i j order =
+    let some = some_place items i (j - i) in
+    let end : i + (j - i) ≡ j = omega (arith, order) in
+    let first : IsFirstLeast items i j some.0 = least_ends items i (i + (j - i)) j some.0 end some.1 in
+    let P : ℕ → Type 0 = λ m. IsFirstLeast items i j m in subst P (is_least_place items i j some.0 first) first
+
+-- what is the least place is the first least one
+pub as_first : (items : List ℕ) (i j m : ℕ) → i ≤ j → m ≡ least_place items i j → IsFirstLeast items i j m
+as_first items i j m order same = let P : ℕ → Type 0 = λ m. IsFirstLeast items i j m in subst P (sym same) (least_place-first items i j order)
+
+pub ruleset first_places = (least_place-first)

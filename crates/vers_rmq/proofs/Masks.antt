@@ -3,13 +3,14 @@ use Rattle.std.proofs.Common.{◌≡◌, ◌≢◌, ℕ, suc, ◌+◌, ◌-◌, 
 use Rattle.std.specs.Int.{bit_at, w64, w128, trailing_zeros}
 use Rattle.std.specs.Int.Bits.{or_zero_r}
 use Rattle.std.specs.Int.Count.{count_leading_zeros}
-use Rattle.std.proofs.Math.Nat.{pow-suc, pow-le-pow_right}
-use Rattle.std.proofs.lemmas.Nat.{pow_pos, leading_top, le-div, div_below, and_le_l, one_shl, shl_below}
+use Rattle.std.proofs.Math.Nat.{pow-le-pow_right}
+use Rattle.std.proofs.lemmas.Nat.{pow_pos, leading_top, div_below, and_le_l, one_shl, shl_below}
 use Rattle.std.proofs.lemmas.Nat.Bits.{bit_at_and, bit_at_or, bit_at_ones, bit_at_ones_above, bit_at_above, bit_at-lt, bit_at_set_same, bit_at_set_other, bit_at-trailing_zeros, bit_at-zero, bit_at-pow_same, bit_at-pow_other, bit_at_cat_low, bit_at_cat_high, ones_shr, same_from_bits}
 use Rattle.std.proofs.lemmas.Bool.{cases_lt}
 use Rattle.vers_rmq.specs.Minima.{IsFirstLeast}
 use Rattle.vers_rmq.specs.inside.Masks.{IsLastSet, IsFirstSet, AddsOne, PrefixUpTo, SuffixFrom, IsPrefixMask, IsSuffixMask, part_end}
 use Rattle.vers_rmq.proofs.Minima.{least_at, least_longer, least_earlier, least_left, least_right, least_ends}
+use Rattle.vers_bits.proofs.PublicLaws.{top_bit}
 
 -- the items at two least places are the same
 same_value : (xs : List ℕ) (i j m n : ℕ) → IsFirstLeast xs i j m → IsFirstLeast xs i j n → get_or xs m 0 ≤ get_or xs n 0
@@ -189,12 +190,6 @@ pub merged_none : (mask o : ℕ) → bit_or mask (0 * 2 ^ o) ≡ mask
 merged_none mask o = let z : 0 * 2 ^ o ≡ 0 = omega arith in ap (bit_or mask) z ∙ or_zero_r mask
 
 -- ---- the highest and the lowest 1
-top_bit : (n m : ℕ) → 2 ^ m ≤ n → n < 2 ^ suc m → bit_at n m ≡ 1
-top_bit n m low high =
-    let one : 1 ≤ n / 2 ^ m = le-div 1 n (2 ^ m) (pow_pos m) (omega (arith, low)) in
-    let two : n / 2 ^ m < 2 = div_below n (2 ^ m) 2 (pow_pos m) (omega (arith, high, pow-suc 2 m)) in
-    let e : n / 2 ^ m ≡ 1 = omega arith in omega (arith, e)
-
 some_bit : (n i : ℕ) → bit_at n i ≡ 1 → 0 < n
 some_bit n i h = elim (cases_lt 0 n) [ inl y ↦ y | inr z ↦ let e : n ≡ 0 = omega arith in absurd (omega (arith, h, ap (λ v. bit_at v i) e, bit_at-zero i)) ]
 

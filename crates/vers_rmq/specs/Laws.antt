@@ -1,7 +1,11 @@
 -- The laws of range minima, as statements.
-use Rattle.std.specs.Prelude.{◌≡◌, ℕ, List}
-use Rattle.vers_rmq.specs.Minima.{IsFirstLeast}
+use Rattle.std.specs.Prelude.{◌≡◌, ℕ, ◌≤◌, List}
+use Rattle.vers_rmq.specs.Minima.{IsFirstLeast, least_place}
 
 -- a range has one first least place
 abbrev pub OneFirstLeast : Type 0
 OneFirstLeast = (items : List ℕ) (i j m n : ℕ) → IsFirstLeast items i j m → IsFirstLeast items i j n → m ≡ n
+
+-- the least place of a range is its first place of a least item
+abbrev pub LeastPlaceIsFirst : Type 0
+LeastPlaceIsFirst = (items : List ℕ) (i j : ℕ) → i ≤ j → IsFirstLeast items i j (least_place items i j)

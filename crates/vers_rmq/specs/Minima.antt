@@ -1,6 +1,7 @@
 -- The first place of a least item in a range.
-use Rattle.std.specs.Prelude.{ℕ, ◌<◌, ◌≤◌, Bool, List, Option, find, slice_index, nat_le, if◌then◌else◌}
-use Rattle.std.specs.List.{list_all}
+use Rattle.std.specs.Prelude.{ℕ, ◌+◌, ◌-◌, ◌<◌, ◌≤◌, Bool, List, Option, find, slice_index, nat_le, if◌then◌else◌}
+use Rattle.std.specs.List.{list_all, range_with_len}
+use Rattle.std.specs.Option.{unwrap_or}
 
 -- m is a place from i to j, both included, no item from i to j is below the one at m, and those from i to before m are above it
 pub record IsFirstLeast (items : List ℕ) (i j m : ℕ) : Type 0 where
@@ -20,3 +21,7 @@ is_least items places m = list_all (λ p. nat_le (slice_index items m) (slice_in
 -- the first of the places that has a least item of them
 unfoldable pub first_least_of : List ℕ → List ℕ → Option ℕ
 first_least_of items places = find (is_least items places) places
+
+-- the first place of a least item from place i to place j, both included, and i where i is past j
+unfoldable pub least_place : List ℕ → ℕ → ℕ → ℕ
+least_place items i j = unwrap_or (first_least_of items (range_with_len i (j + 1 - i))) i

@@ -17,6 +17,8 @@ use vers_sorted::sparse::SparseRSVec;
 use vers_trees::trees::bp::{BpTree, MAX_BLOCK_SIZE};
 use vers_wavelet::wavelet::WaveletMatrix;
 
+mod bits;
+
 type Heap = Refusing<Global>;
 
 // How many levels a matrix of symbols of three bits has.
@@ -228,19 +230,6 @@ fn spare_of_made(made: Made, inner: Global, heap: &Heap, numbers: &[u64]) -> Opt
     }
 }
 
-// How many nodes the tree over blocks has: its leaves, and as many others as a full tree of the next power of
-// two has, or the root at least.
-fn node_count(len: usize, block_size: usize) -> usize
-    requires { 0 < block_size }
-{
-    if len == 0 {
-        return 0;
-    }
-    let leaves = len.div_ceil(block_size);
-    let full = leaves.checked_next_power_of_two().unwrap_or(leaves);
-    leaves.saturating_add(full.saturating_sub(1).max(1))
-}
-
 // The bytes that are held beside the lists: a matrix has a vector of its levels.
 fn structs(made: Made) -> usize {
     match made {
@@ -250,13 +239,11 @@ fn structs(made: Made) -> usize {
 }
 
 // The most bytes by which the vectors of a made value are rounded up. A vector that grows has room for four
-// words at least, and at most for twice what it holds, as that of the nodes.
-fn rounded(made: Made, len: usize) -> usize {
+// words at least.
+fn rounded(made: Made) -> usize {
     match made {
         Made::Ascending | Made::Sparse | Made::Posted => 24,
         Made::SymbolsCounted => LEVELS.wrapping_mul(32),
-        Made::SmallBlocks => node_count(len, 8).wrapping_mul(24),
-        Made::LargeBlocks => node_count(len, 512).wrapping_mul(24),
         _ => 0,
     }
 }
@@ -270,9 +257,9 @@ impl Sizing<Global> for Made {
         }
     }
 
-    fn is_allowed(self, len: usize, spare: Spare) -> bool {
+    fn is_allowed(self, _len: usize, spare: Spare) -> bool {
         let structs = structs(self);
-        let most = structs.saturating_add(rounded(self, len));
+        let most = structs.saturating_add(rounded(self));
         spare.cloned == structs && structs <= spare.made && spare.made <= most
     }
 }

@@ -10,7 +10,7 @@ use Rattle.std.proofs.lemmas.Grind.{same_number_lists}
 use Rattle.std.proofs.lemmas.List.{get_or_past, get_or_default, length-take, drop-take, drop-drop, map-id}
 use Rattle.std.proofs.lemmas.Nat.Bits.{bit_at-trailing_zeros}
 use Rattle.vers_bits.specs.Bits.{bit_value, number, count, places, select}
-use Rattle.vers_bits.proofs.PublicLaws.{bit_at-number, number-lt, number-drop, select_at, count_at_select, count_more_yes, length-places}
+use Rattle.vers_bits.proofs.PublicLaws.{bit_at-number, number-lt, number-drop, select_at, count_at_select, count_more_yes, length-places, part_bit, value_none, value_one}
 use Rattle.vers_rank.specs.Queries.{part_number_or_zero}
 use Rattle.vers_sorted.specs.declared.elias_fano.ahead.Ahead.{Ahead}
 use Rattle.vers_sorted.specs.Layout.{high_parts, high_place}
@@ -19,7 +19,7 @@ use Rattle.vers_sorted.specs.inside.Ahead.{HasRead, IsAhead}
 use Rattle.vers_sorted.specs.Ones.{ones_at}
 use Rattle.vers_sorted.proofs.Ones.{ones_at-places}
 use Rattle.vers_sorted.proofs.Holds.{hold_high}
-use Rattle.vers_sorted.proofs.Scans.{part_bit, zero_bit, one_bit, count_stays, part_of, counted_past}
+use Rattle.vers_sorted.proofs.Scans.{count_stays, part_of, counted_past}
 
 -- the high parts are those of the layout, since they have the same ones
 pub high_same : {s : List ℕ} {high low : List Bool} {first last width : ℕ} → IsPacked s high low first last width → high ≡ high_parts s
@@ -57,8 +57,8 @@ module _ (l : List Bool) (p n : ℕ) (within : p + n ≤ length l) (few : n ≤ 
             absurd (omega (arith, found.1, bit_at-number (take n (drop p l)) t, ap bit_value none))
       ] in (
         low,
-        one_bit (get_or l (p + t) false) (sym (part_bit l p n t low) ∙ found.1),
-        count_stays true l p t (omega arith) (λ i less. zero_bit (get_or l (p + i) false) (sym (part_bit l p n i (omega arith)) ∙ found.2 i less)),
+        value_one (get_or l (p + t) false) (sym (part_bit l p n t low) ∙ found.1),
+        count_stays true l p t (omega arith) (λ i less. value_none (get_or l (p + i) false) (sym (part_bit l p n i (omega arith)) ∙ found.2 i less)),
       )
 
   -- what is left of the part past a place of it

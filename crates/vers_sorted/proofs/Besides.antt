@@ -5,13 +5,13 @@ use Rattle.std.specs.Int.{bit_at, trailing_zeros}
 use Rattle.std.specs.Int.Count.{count_leading_zeros}
 use Rattle.std.proofs.lemmas.Bool.{cases_lt}
 use Rattle.vers_bits.specs.Bits.{number, count, select}
-use Rattle.vers_bits.proofs.PublicLaws.{highest_bit, select_at, count_at_select, count_both, count_more_yes}
+use Rattle.vers_bits.proofs.PublicLaws.{highest_bit, select_at, count_at_select, count_both, count_more_yes, part_bit, value_none, value_one}
 use Rattle.vers_rank.specs.Queries.{part_number_or_zero}
 use Rattle.vers_sorted.specs.Layout.{first_of, last_of, high_of}
 use Rattle.vers_sorted.specs.inside.Parts.{IsPacked, IsStart}
 use Rattle.vers_sorted.specs.inside.Buckets.{IsBucket}
 use Rattle.vers_sorted.specs.declared.elias_fano.search.Bucket.{Bucket}
-use Rattle.vers_sorted.proofs.Scans.{part_bit, part_read, zero_bit, one_bit, count_stays}
+use Rattle.vers_sorted.proofs.Scans.{part_read, count_stays}
 use Rattle.vers_sorted.proofs.Aheads.{small, lowest}
 use Rattle.vers_sorted.proofs.Split.{high_up}
 use Rattle.vers_sorted.proofs.Buckets.{start_at, zeros_counted}
@@ -53,12 +53,12 @@ module _ (l : List Bool) (to w : ℕ) (far : 64 ≤ to) (read : part_number_or_z
       let at : to - 1 - z ≡ to - 64 + (63 - z) = omega (arith, highest.0) in
       let rest : to - 64 + (63 - z) + 1 + z ≡ to = omega (arith, highest.0) in
       let on : get_or l (to - 64 + (63 - z)) false ≡ true =
-      one_bit (get_or l p false) (sym (part_bit l (to - 64) 64 (63 - z) (omega arith)) ∙ bit_is (63 - z) (omega arith) 1 highest.1) in
+      value_one (get_or l p false) (sym (part_bit l (to - 64) 64 (63 - z) (omega arith)) ∙ bit_is (63 - z) (omega arith) 1 highest.1) in
       let stays : count true l (to - 64 + (63 - z) + 1 + z) ≡ count true l (to - 64 + (63 - z) + 1) =
       count_stays true l (p + 1) z (omega (arith, part.0, highest.0)) (λ i less.
       let place : to - 64 + (63 - z) + 1 + i ≡ to - 64 + (64 - z + i) = omega (arith, highest.0) in
       ap (λ q. get_or l q false) place
-      ∙ zero_bit (get_or l (to - 64 + (64 - z + i)) false) (sym (part_bit l (to - 64) 64 (64 - z + i) (omega (arith, highest.0))) ∙ bit_is (64 - z + i) (omega (arith, highest.0)) 0 (highest.2 (64 - z + i) (omega (arith, highest.0))))) in
+      ∙ value_none (get_or l (to - 64 + (64 - z + i)) false) (sym (part_bit l (to - 64) 64 (64 - z + i) (omega (arith, highest.0))) ∙ bit_is (64 - z + i) (omega (arith, highest.0)) 0 (highest.2 (64 - z + i) (omega (arith, highest.0))))) in
       let past = count_more_yes true l p (omega (arith, part.0, highest.0)) on in
       at ∙ sym (select_at true l k p (omega (arith, part.0, highest.0)) on (omega (arith, past, stays, ap (count true l) rest, before)))
 

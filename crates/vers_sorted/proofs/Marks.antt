@@ -8,14 +8,11 @@ use Rattle.std.proofs.lemmas.Nat.{shr-shr}
 use Rattle.std.proofs.lemmas.Nat.Bits.{bit_at-zero, bit_at-trailing_zeros, bit_at_not}
 use Rattle.vers_bits.specs.Bits.{bit_value, is_bit, count, places, limb}
 use Rattle.vers_sorted.specs.Ones.{AreMarked}
-use Rattle.vers_sorted.proofs.Scans.{part_bit, zero_bit, one_bit, count_stays}
+use Rattle.vers_sorted.proofs.Scans.{count_stays}
 use Rattle.vers_sorted.proofs.SparseBits.{first_places_none, first_places_more, first_places_limb, first_places_end}
+use Rattle.vers_bits.proofs.PublicLaws.{value_none, value_one, limb_bit}
 
 -- ---- a limb
-
-limb_bit : (l : List Bool) (k i : ℕ) → i < 64 → bit_at (limb l k) i ≡ bit_value (get_or l (64 * k + i) false)
-unfolding limb
-limb_bit l k i h = part_bit l (64 * k) 64 i h
 
 other_value : (x : Bool) → 1 - bit_value x ≡ bit_value (not x)
 other_value true = refl
@@ -49,11 +46,11 @@ module _ (b : Bool) (l : List Bool) (p n w : ℕ) (within : p + n ≤ length l) 
   ]
 
   off : (i : ℕ) → i < n → i < trailing_zeros w64 w → is_bit b (get_or l (p + i) false) ≡ false
-  off i h low = zero_bit (is_bit b (get_or l (p + i) false)) (sym (marked i h) ∙ below_lowest i low)
+  off i h low = value_none (is_bit b (get_or l (p + i) false)) (sym (marked i h) ∙ below_lowest i low)
 
   on : trailing_zeros w64 w < n → is_bit b (get_or l (p + trailing_zeros w64 w) false) ≡ true
   on h = elim (cases_lt 0 w) [
-    | inl some ↦ one_bit (is_bit b (get_or l (p + trailing_zeros w64 w) false)) (sym (marked (trailing_zeros w64 w) h) ∙ (bit_at-trailing_zeros w64 w some fits).1)
+    | inl some ↦ value_one (is_bit b (get_or l (p + trailing_zeros w64 w) false)) (sym (marked (trailing_zeros w64 w) h) ∙ (bit_at-trailing_zeros w64 w some fits).1)
     | inr none ↦
         let z : w ≡ 0 = omega arith in
         let all : trailing_zeros w64 0 ≡ 64 = trailing_of_zero 64 in

@@ -1,27 +1,14 @@
 -- The next zero or one, by the number of the bits that follow.
-use Rattle.std.proofs.Common.{◌≡◌, ℕ, zero, suc, ◌+◌, ◌<◌, ◌≤◌, Bool, true, false, List, length, take, drop, get_or, refl, sym, ap, ◌∙◌, arith, Some}
+use Rattle.std.proofs.Common.{◌≡◌, ℕ, zero, suc, ◌+◌, ◌<◌, ◌≤◌, Bool, true, false, List, length, take, drop, get_or, sym, ap, ◌∙◌, arith, Some}
 use mir.Syntax.{w64}
-use Rattle.std.specs.Int.{bit_at, trailing_ones}
+use Rattle.std.specs.Int.{trailing_ones}
 use Rattle.std.specs.Prelude.{nat_le, ◌&&◌}
 use Rattle.std.proofs.lemmas.Bool.{leb-true, and_parts}
 use Rattle.std.proofs.lemmas.Option.{cond_some}
-use Rattle.std.proofs.lemmas.List.{get_or-take, get_or-drop}
 use Rattle.std.proofs.lemmas.Nat.Bits.{bit_at-trailing_ones}
-use Rattle.vers_bits.specs.Bits.{bit_value, is_bit, number, count, select}
-use Rattle.vers_bits.proofs.PublicLaws.{count_le, bit_at-number, select_at, count_at_select, count_more_no}
+use Rattle.vers_bits.specs.Bits.{is_bit, number, count, select}
+use Rattle.vers_bits.proofs.PublicLaws.{count_le, select_at, count_at_select, count_more_no, part_bit, value_none, value_one}
 use Rattle.vers_rank.specs.Queries.{part_number_or_zero}
-
--- a bit of the part from p on, by the part's number
-pub part_bit : (l : List Bool) (p n i : ℕ) → i < n → bit_at (number (take n (drop p l))) i ≡ bit_value (get_or l (p + i) false)
-part_bit l p n i h = bit_at-number (take n (drop p l)) i ∙ ap bit_value (get_or-take n (drop p l) i false h ∙ get_or-drop p l i false)
-
-pub zero_bit : (x : Bool) → bit_value x ≡ 0 → x ≡ false
-zero_bit false e = refl
-zero_bit true e = cc e
-
-pub one_bit : (x : Bool) → bit_value x ≡ 1 → x ≡ true
-one_bit true e = refl
-one_bit false e = cc e
 
 -- where no place of a stretch holds the bit, the count stays
 pub count_stays : (b : Bool) (l : List Bool) (p d : ℕ) → p + d ≤ length l → ((i : ℕ) → i < d → is_bit b (get_or l (p + i) false) ≡ false) → count b l (p + d) ≡ count b l p
@@ -37,10 +24,10 @@ next_zero l p h within counted small =
     let w : ℕ = number (take 64 (drop p l)) in
     let t : ℕ = trailing_ones w64 w in
     let found = bit_at-trailing_ones w64 w small in
-    let here : get_or l (p + t) false ≡ false = zero_bit (get_or l (p + t) false) (sym (part_bit l p 64 t found.0) ∙ found.1) in
+    let here : get_or l (p + t) false ≡ false = value_none (get_or l (p + t) false) (sym (part_bit l p 64 t found.0) ∙ found.1) in
     select_at false l h (p + t) (omega (arith, found.0)) (ap (is_bit false) here)
     (count_stays false l p t (omega (arith, found.0)) (λ i less.
-    let on : get_or l (p + i) false ≡ true = one_bit (get_or l (p + i) false) (sym (part_bit l p 64 i (omega (arith, found.0))) ∙ found.2 i less) in
+    let on : get_or l (p + i) false ≡ true = value_one (get_or l (p + i) false) (sym (part_bit l p 64 i (omega (arith, found.0))) ∙ found.2 i less) in
     ap (is_bit false) on) ∙ counted)
 
 -- past zero number h as many zeros stand as h and one more

@@ -16,7 +16,7 @@ pub use iter::{EliasFanoIter, EliasFanoRefIter};
 use std::alloc::{AllocError, Allocator};
 use std::marker::Model;
 use vers_rank::fast_rs_vec::RsVec;
-use vers_tally::tally::{CountedBits, Tally};
+use vers_tally::tally::{CountedBits, Tally, Uncounted};
 
 /// An ascending list of numbers, equal ones allowed, in about two bits a member and as many more
 /// as a low part has. Contracts see an `EliasFanoVec` as the list of its members, and each query
@@ -52,7 +52,7 @@ impl<A: Allocator + Copy> Clone for EliasFanoVec<A> {
     /// A second list of the same members.
     fn clone(&self) -> Result<Self, AllocError> {
         let high = self.high.clone()?;
-        let low = self.low.as_bit_vec().clone()?;
+        let low = self.low.as_bit_vec(Uncounted).clone()?;
         Ok(EliasFanoVec {
             high,
             low: CountedBits::new(low),
@@ -90,7 +90,7 @@ impl<A: Allocator + Copy> EliasFanoVec<A> {
     {
         let _ = self.high.len();
         let _ = self.low.len();
-        self.high.heap_size() + self.low.as_bit_vec().heap_size()
+        self.high.heap_size() + self.low.as_bit_vec(Uncounted).heap_size()
     }
 
     /// The member at a place. None past the last.

@@ -119,7 +119,7 @@ impl<A: Allocator + Copy> SparseRSVec<A> {
         self.is_set_counted(place, &mut tally)
     }
 
-    /// Whether the bit at a place is a one. None for a place that the list doesn't have.
+    /// The same as `is_set`, by the reads of one search among the places of the ones.
     #[inline(always)]
     pub fn is_set_counted(&self, place: u64, tally: &mut Tally) -> Option<bool>
         ensures value { result ≡ slice_get self.now place }
@@ -161,7 +161,7 @@ impl<A: Allocator + Copy> SparseRSVec<A> {
         self.get_counted(place, &mut tally)
     }
 
-    /// The bit at a place, 1 or 0. None for a place that the list doesn't have.
+    /// The same as `get`, by the reads of one search among the places of the ones.
     #[inline(always)]
     pub fn get_counted(&self, place: u64, tally: &mut Tally) -> Option<u64>
         ensures value { result ≡ option_map bit_value (slice_get self.now place) }
@@ -192,7 +192,7 @@ impl<A: Allocator + Copy> SparseRSVec<A> {
         self.select1_counted(r, &mut tally)
     }
 
-    /// The place of one number `r`, counted from 0, or the length where there are no more.
+    /// The same as `select1`, by the reads of one member of the places of the ones.
     #[inline(always)]
     pub fn select1_counted(&self, r: usize, tally: &mut Tally) -> u64
         ensures value { result ≡ select true self.now r }
@@ -216,7 +216,7 @@ impl<A: Allocator + Copy> SparseRSVec<A> {
         self.rank1_counted(place, &mut tally)
     }
 
-    /// How many ones stand below a place.
+    /// The same as `rank1`, by the reads of one search among the places of the ones.
     #[inline(always)]
     pub fn rank1_counted(&self, place: u64, tally: &mut Tally) -> u64
         ensures value { result ≡ count true self.now place }
@@ -237,7 +237,7 @@ impl<A: Allocator + Copy> SparseRSVec<A> {
         self.rank0_counted(place, &mut tally)
     }
 
-    /// How many zeros stand below a place.
+    /// The same as `rank0`, by the reads of one search among the places of the ones.
     #[inline(always)]
     #[tactic(auto, using(crate::proofs::SparseBits::zeros))]
     pub fn rank0_counted(&self, place: u64, tally: &mut Tally) -> u64

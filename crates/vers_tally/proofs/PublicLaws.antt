@@ -20,6 +20,10 @@ adds_then s t h = Adding.adds_then s t h
 pub adds_weaker : {a b p q : Reads} → AddsAtMost a b p → IsWithin p q → AddsAtMost a b q
 adds_weaker s h = Adding.adds_weaker s h
 
+-- a bound is within itself
+pub within_itself : (p : Reads) → IsWithin p p
+within_itself = Adding.within_itself
+
 -- ---- binary digits
 
 -- half a number has a digit less

@@ -169,7 +169,7 @@ impl<S: Source> BothEnds<S> {
         self.next_back_counted(&mut tally)
     }
 
-    /// The first of the items left, which is taken, by the reads of one item.
+    /// The same as `next`, by the reads of one item.
     #[inline(always)]
     pub fn next_counted(&mut self, tally: &mut Tally) -> Option<S::Item>
         ensures steps { TakesFirst self.old.left result self.new.left }
@@ -179,7 +179,7 @@ impl<S: Source> BothEnds<S> {
         self.nth_counted(0, tally)
     }
 
-    /// The last of the items left, which is taken, by the reads of one item.
+    /// The same as `next_back`, by the reads of one item.
     #[inline(always)]
     pub fn next_back_counted(&mut self, tally: &mut Tally) -> Option<S::Item>
         ensures steps { TakesLast self.old.left result self.new.left }
@@ -189,8 +189,7 @@ impl<S: Source> BothEnds<S> {
         self.nth_back_counted(0, tally)
     }
 
-    /// Drops `n` items and takes the next, by the reads of one item. Where no more than `n` are
-    /// left, none is taken and the iterator has ended.
+    /// The same as `nth`, by the reads of one item.
     #[inline(always)]
     pub fn nth_counted(&mut self, n: usize, tally: &mut Tally) -> Option<S::Item>
         ensures steps { TakesNth n self.old.left result self.new.left }
@@ -201,8 +200,7 @@ impl<S: Source> BothEnds<S> {
         Some(self.source.item_at(i, tally))
     }
 
-    /// Drops `n` items from the back and takes the next, by the reads of one item. Where no more
-    /// than `n` are left, none is taken and the iterator has ended.
+    /// The same as `nth_back`, by the reads of one item.
     #[inline(always)]
     pub fn nth_back_counted(&mut self, n: usize, tally: &mut Tally) -> Option<S::Item>
         ensures steps { TakesNthBack n self.old.left result self.new.left }

@@ -136,7 +136,7 @@ impl<M: Maker> MadeEnds<M> {
         self.nth_back(0)
     }
 
-    /// The first of the items left, which is passed, by the reads of one item.
+    /// The same as `next`, by the reads of one item.
     pub fn next_counted(&mut self, tally: &mut Tally) -> Option<Result<M::Item, AllocError>>
         ensures steps { MakesFirst self.old.left result self.new.left }
         ensures same_step { self.new.step ≡ self.old.step }
@@ -145,7 +145,7 @@ impl<M: Maker> MadeEnds<M> {
         self.nth_counted(0, tally)
     }
 
-    /// The last of the items left, which is passed, by the reads of one item.
+    /// The same as `next_back`, by the reads of one item.
     pub fn next_back_counted(&mut self, tally: &mut Tally) -> Option<Result<M::Item, AllocError>>
         ensures steps { MakesLast self.old.left result self.new.left }
         ensures same_step { self.new.step ≡ self.old.step }
@@ -154,8 +154,7 @@ impl<M: Maker> MadeEnds<M> {
         self.nth_back_counted(0, tally)
     }
 
-    /// Drops `n` items and makes the next, by the reads of one item. Where no more than `n` are
-    /// left, none is made and the iterator has ended.
+    /// The same as `nth`, by the reads of one item.
     pub fn nth_counted(
         &mut self,
         n: usize,
@@ -169,8 +168,7 @@ impl<M: Maker> MadeEnds<M> {
         Some(self.maker.make_at(i, tally))
     }
 
-    /// Drops `n` items from the back and makes the next, by the reads of one item. Where no more
-    /// than `n` are left, none is made and the iterator has ended.
+    /// The same as `nth_back`, by the reads of one item.
     pub fn nth_back_counted(
         &mut self,
         n: usize,

@@ -161,6 +161,10 @@ impl Tally {
     }
 }
 
+/// Says that a whole list is read and nothing counted: for clones, equality, sizes and conversions.
+#[derive(Clone, Copy)]
+pub struct Uncounted;
+
 /// A list of bits whose limbs and low parts are read only with a counter.
 #[derive(Drop)]
 pub struct CountedBits<A: Allocator + Copy> {
@@ -186,16 +190,16 @@ impl<A: Allocator + Copy> CountedBits<A> {
 
     /// The same bits, no longer counted. Takes no memory.
     #[inline]
-    pub fn into_bit_vec(self) -> BitVec<A>
+    pub fn into_bit_vec(self, _whole: Uncounted) -> BitVec<A>
         ensures { result ≡ self }
     {
         let CountedBits { bits } = self;
         bits
     }
 
-    /// The whole list, for clones, conversions and equality. No counted query reads it.
+    /// The whole list, for clones, conversions and equality.
     #[inline]
-    pub fn as_bit_vec(&self) -> &BitVec<A>
+    pub fn as_bit_vec(&self, _whole: Uncounted) -> &BitVec<A>
         ensures { result.now ≡ self.now }
     {
         &self.bits
@@ -322,9 +326,9 @@ impl<A: Allocator + Copy> BlockEntries<A> {
         self.entries.len()
     }
 
-    /// All entries, for clones, conversions and equality. No counted query reads them.
+    /// All entries, for clones, conversions and equality.
     #[inline]
-    pub fn as_slice(&self) -> &[u16]
+    pub fn as_slice(&self, _whole: Uncounted) -> &[u16]
         ensures { result.now ≡ self.now }
     {
         self.entries.as_slice()
@@ -392,9 +396,9 @@ impl<A: Allocator + Copy> SuperblockEntries<A> {
         self.entries.len()
     }
 
-    /// All entries, for clones, conversions and equality. No counted query reads them.
+    /// All entries, for clones, conversions and equality.
     #[inline]
-    pub fn as_slice(&self) -> &[u64]
+    pub fn as_slice(&self, _whole: Uncounted) -> &[u64]
         ensures { result.now ≡ self.now }
     {
         self.entries.as_slice()
@@ -446,9 +450,9 @@ impl<A: Allocator + Copy> CountedItems<A> {
         self.numbers.len()
     }
 
-    /// All numbers, for clones, conversions and equality. No counted query reads them.
+    /// All numbers, for clones, conversions and equality.
     #[inline]
-    pub fn as_slice(&self) -> &[u64]
+    pub fn as_slice(&self, _whole: Uncounted) -> &[u64]
         ensures { result.now ≡ self.now }
     {
         self.numbers.as_slice()
@@ -499,9 +503,9 @@ impl<N: Copy, A: Allocator + Copy> CountedNodes<N, A> {
         self.entries.len()
     }
 
-    /// All nodes, for clones. No counted query reads them.
+    /// All nodes, for clones.
     #[inline]
-    pub fn as_slice(&self) -> &[N]
+    pub fn as_slice(&self, _whole: Uncounted) -> &[N]
         ensures { result.now ≡ self.now }
     {
         self.entries.as_slice()

@@ -8,8 +8,8 @@ use Rattle.std.proofs.lemmas.Bool.Decides.{nat_tests}
 use Rattle.std.proofs.lemmas.Bool.{cases_lt}
 use Rattle.std.proofs.lemmas.Nat.{mod-pow-add}
 use Rattle.std.proofs.lemmas.List.{take-append-drop, length-take-le, length-drop, drop-take, take_all, drop_all}
-use Rattle.vers_bits.specs.Bits.{number, part, count, limb, bit_value}
-use Rattle.vers_bits.proofs.PublicLaws.{number-lt, number-drop, count_limb, count_both, count_none}
+use Rattle.vers_bits.specs.Bits.{number, part, count, limb}
+use Rattle.vers_bits.proofs.PublicLaws.{number-lt, number-drop, count_limb, count_both, count_none, number-take}
 use Rattle.vers_rank.specs.Queries.{part_number_or_zero}
 use Rattle.vers_trees.specs.Excess.{excess}
 use Rattle.vers_trees.specs.Bytes.{IsByte, IsEntry, sum_along, place_in, least_in, greatest_in}
@@ -72,19 +72,6 @@ excess-ones bits e =
     whole (count true bits 8) (count false bits 8) 0 (count_ones (number bits)) (omega arith) (omega arith)
 
 -- ---- the byte in a word
-number_half : (b : Bool) (l : List Bool) → number (b ∷ l) / 2 ≡ number l
-number_half true l = omega arith
-number_half false l = omega arith
-
-number_odd : (b : Bool) (l : List Bool) → number (b ∷ l) % 2 ≡ bit_value b
-number_odd true l = omega arith
-number_odd false l = omega arith
-
-pub number-take : (k : ℕ) (l : List Bool) → number (take k l) ≡ number l % 2 ^ k
-number-take zero l = omega arith
-number-take (suc k) [] = grind arith
-number-take (suc k) (b ∷ l) = grind (arith, number-take k l, number_half b l, number_odd b l, mod-pow-add (number (b ∷ l)) k 1)
-
 drop-drop : (l : List Bool) (i j : ℕ) → drop i (drop j l) ≡ drop (j + i) l
 drop-drop l i zero = ap (λ (n : ℕ). drop n l) (let g : i ≡ 0 + i = omega arith in g)
 drop-drop [] i (suc j) = drop_all i [] (omega arith) ∙ sym (drop_all (suc j + i) [] (omega arith))

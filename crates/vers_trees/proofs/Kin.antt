@@ -5,7 +5,7 @@ use Rattle.std.specs.List.{Contains, last_or}
 use Rattle.std.specs.Option.{option_eq}
 use Rattle.std.proofs.lemmas.Int.{ints}
 use Rattle.std.proofs.lemmas.Bool.{cases_lt, cases_order}
-use Rattle.std.proofs.lemmas.Bool.Decides.{Decides-ltb, Decides-eqb, Decides-and, Decides-like, same_from_decides}
+use Rattle.std.proofs.lemmas.Bool.Decides.{Decides-ltb, Decides-and, Decides-like, same_from_decides}
 use Rattle.std.proofs.Math.Nat.{eq-or-lt_of_le}
 use Rattle.vers_trees.specs.Excess.{last_rise_before}
 use Rattle.vers_trees.specs.Forest.{Forest, text}
@@ -17,17 +17,8 @@ use Rattle.vers_trees.proofs.Pairs.{contains_first, contains_later}
 use Rattle.vers_trees.proofs.Partners.{before_from_closes}
 use Rattle.vers_trees.proofs.Ancestors.{nested}
 use Rattle.vers_trees.proofs.Siblings.{same_around, last_of_siblings, first_of_siblings, first_child_above, last_child_closes, last_child_above}
-use Rattle.vers_trees.proofs.NodeList.{HasPair, one_pair, node_pair, closes_to, find_filtered, filter_filtered, first_filtered, first_node, no_first_node, last_node, no_last_node}
+use Rattle.vers_trees.proofs.NodeList.{HasPair, one_pair, node_pair, closes_to, find_filtered, filter_filtered, first_filtered, first_node, no_first_node, last_node, no_last_node, option_decides}
 use Rattle.vers_trees.proofs.Around.{refuted, proper_decides, parent_around, above_parent, has_parent}
-
-option_decides : (a b : Option ℕ) → Decides (option_eq eqb a b) (a ≡ b)
-option_decides None None = (λ e. refl, λ e. refl)
-option_decides None (Some y) = (λ e. absurd (cc), λ e. absurd (cc))
-option_decides (Some x) None = (λ e. absurd (cc), λ e. absurd (cc))
-option_decides (Some x) (Some y) = (λ e. ap Some ((Decides-eqb x y).0 e), λ e. (Decides-eqb x y).1 (same x y e))
-  where
-    same : (x y : ℕ) → Some x ≡ Some y → x ≡ y
-    same x y e = cc
 
 -- whether w has this parent
 abbrev under : Forest → Option ℕ → ℕ → Bool

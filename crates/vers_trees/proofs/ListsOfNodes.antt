@@ -1,10 +1,10 @@
 -- The children of a node, and the nodes of its tree, by the tree that stands at its place.
-use Rattle.std.proofs.Common.{◌≡◌, ℕ, suc, ◌+◌, ◌<◌, ◌≤◌, ◌⊎◌, inl, inr, Bool, true, false, List, [], ◌∷◌, ◌++◌, map, length, get_or, eqb, ℤ, pos, negsuc, ◌+ℤ◌, ◌<ℤ◌, Option, Some, None, arith, length-append, subst, sym, refl, ap, ◌∙◌}
+use Rattle.std.proofs.Common.{◌≡◌, ℕ, suc, ◌+◌, ◌<◌, ◌≤◌, ◌⊎◌, inl, inr, Bool, true, false, List, [], ◌∷◌, ◌++◌, map, length, get_or, eqb, ℤ, pos, negsuc, ◌+ℤ◌, ◌<ℤ◌, Option, Some, arith, length-append, subst, sym, refl, ap, ◌∙◌}
 use Rattle.std.specs.Prelude.{filter, All, Decides, unwrap_or}
 use Rattle.std.specs.Ordering.{int_eq}
 use Rattle.std.specs.Option.{option_eq}
 use Rattle.std.proofs.lemmas.Int.{ints}
-use Rattle.std.proofs.lemmas.Bool.Decides.{Decides-int_eq, Decides-eqb}
+use Rattle.std.proofs.lemmas.Bool.Decides.{Decides-int_eq}
 use Rattle.std.proofs.lemmas.List.{append-nil, get_or_append_left, get_or-append-add}
 use Rattle.std.proofs.lemmas.List.Elements.{filter-append, All-head, All-tail, All-map, All-weaker}
 use Rattle.vers_bits.specs.Bits.{is_bit, places}
@@ -17,7 +17,7 @@ use Rattle.vers_trees.proofs.Excess.{excess-zero, excess-append_left, excess-app
 use Rattle.vers_trees.proofs.Paired.{Closes, Paired, paired_closes, closes_rises, open_is_paired, close_is_paired, excess_in_first, excess_in_rest, never_negative}
 use Rattle.vers_trees.proofs.Partners.{before_from_closes}
 use Rattle.vers_trees.proofs.Searches.{before_is}
-use Rattle.vers_trees.proofs.NodeList.{HasPair, nodes_are_ones, closing_is, closes_to, one_pair}
+use Rattle.vers_trees.proofs.NodeList.{HasPair, nodes_are_ones, closing_is, closes_to, one_pair, option_decides}
 use Rattle.vers_trees.proofs.Around.{refuted, ancestor_decides, parent_above, above_parent}
 use Rattle.vers_trees.proofs.Lists.{shifted, opening_places, closing_places, shifted-shifted, shifted-append, places-append, filter_all, filter_none, filter_middle, filter_mapped, HasBitAt, all_places, places-tree}
 use Rattle.vers_trees.proofs.ListsBelow.{below, branch, StandsAt, branch_stands, closes_standing}
@@ -182,15 +182,6 @@ tops_of (tree X Y) =
         let e = excess_in_first X Y x (omega arith) in
         let f : excess (text (tree X Y)) (1 + x) ≡ excess (text (tree X Y)) (x + 1) = ap (excess (text (tree X Y))) (let g : 1 + x ≡ x + 1 = omega arith in g) in
         omega (arith, ints)
-
-option_decides : (a b : Option ℕ) → Decides (option_eq eqb a b) (a ≡ b)
-option_decides None None = (λ e. refl, λ e. refl)
-option_decides None (Some y) = (λ e. absurd (cc), λ e. absurd (cc))
-option_decides (Some x) None = (λ e. absurd (cc), λ e. absurd (cc))
-option_decides (Some x) (Some y) = (λ e. ap Some ((Decides-eqb x y).0 e), λ e. (Decides-eqb x y).1 (same x y e))
-  where
-    same : (x y : ℕ) → Some x ≡ Some y → x ≡ y
-    same x y e = cc
 
 -- whether v is the parent
 under_it : Forest → ℕ → ℕ → Bool

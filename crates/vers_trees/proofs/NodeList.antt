@@ -1,6 +1,7 @@
 -- The nodes of a forest are the places of the ones that it is written down with.
 use Rattle.std.proofs.Common.{◌≡◌, ℕ, zero, suc, ◌+◌, ◌<◌, Bool, true, false, cond, ◌&&◌, List, [], ◌∷◌, ◌++◌, map, length, get_or, Option, Some, None, eqb, arith, ⊎_elim, add-zero, zero-add, subst, sym, refl, ap, ◌∙◌}
-use Rattle.std.specs.Prelude.{find, filter, slice_get, unwrap_or, option_map}
+use Rattle.std.specs.Prelude.{find, filter, slice_get, unwrap_or, option_map, Decides}
+use Rattle.std.specs.Option.{option_eq}
 use Rattle.std.specs.List.{Contains, range_with_len, last_or}
 use Rattle.std.proofs.lemmas.Bool.{cases_Bool}
 use Rattle.std.proofs.lemmas.Bool.Decides.{Decides-eqb}
@@ -185,3 +186,13 @@ last_node F t v i b p n =
 
 pub no_last_node : (F : Forest) (t : ℕ → Bool) → ((w : ℕ) → w < length (text F) → get_or (text F) w false ≡ true → t w ≡ false) → last_or None (filter t (nodes F)) ≡ None
 no_last_node F t n = last_node_below F t ∙ none_last_below (node_test F t) (length (text F)) (λ k y. fails F t k (λ c. n k y c))
+
+-- whether two numbers or none are the same
+pub option_decides : (a b : Option ℕ) → Decides (option_eq eqb a b) (a ≡ b)
+option_decides None None = (λ e. refl, λ e. refl)
+option_decides None (Some y) = (λ e. absurd (cc), λ e. absurd (cc))
+option_decides (Some x) None = (λ e. absurd (cc), λ e. absurd (cc))
+option_decides (Some x) (Some y) = (λ e. ap Some ((Decides-eqb x y).0 e), λ e. (Decides-eqb x y).1 (same x y e))
+  where
+    same : (x y : ℕ) → Some x ≡ Some y → x ≡ y
+    same x y e = cc

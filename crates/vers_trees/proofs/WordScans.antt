@@ -9,7 +9,7 @@ use Rattle.std.proofs.lemmas.Bool.{cases_lt}
 use Rattle.std.proofs.lemmas.Nat.{or_block, and_block, or_lt}
 use Rattle.std.proofs.lemmas.List.{take_all}
 use Rattle.vers_bits.specs.Bits.{number, part, count, limb, bit_value}
-use Rattle.vers_bits.proofs.PublicLaws.{count_limb_whole, count_both, count_none}
+use Rattle.vers_bits.proofs.PublicLaws.{count_limb_whole, count_both, count_none, number_half, number_odd, number-take}
 use Rattle.vers_trees.specs.Excess.{excess}
 use Rattle.vers_tally.specs.Reads.{Reads, AddsAtMost}
 use Rattle.vers_tally.proofs.PublicLaws.{adds_then}
@@ -17,7 +17,7 @@ use Rattle.vers_rank.specs.Queries.{get_bits_reads}
 use Rattle.vers_trees.specs.inside.Scans.{HasNoRise, HasNoRiseBefore, falls, is_not_closed, rises, scan_reads}
 use Rattle.vers_trees.proofs.Scans.{rise_fits, fits_small, excess_near}
 use Rattle.vers_trees.proofs.Excess.{excess-zero, excess-nil, excess-open, excess-close}
-use Rattle.vers_trees.proofs.ByteScans.{length-part, excess-part, number-take}
+use Rattle.vers_trees.proofs.ByteScans.{length-part, excess-part}
 use Rattle.std.proofs.Math.Nat.{pow-suc}
 use lib.Count.{ones_step, ones-ones}
 
@@ -28,14 +28,6 @@ number_next b l = omega arith
 bit_small : (b : Bool) → bit_value b < 2 ^ 1
 bit_small true = omega arith
 bit_small false = omega arith
-
-number_half : (b : Bool) (l : List Bool) → number (b ∷ l) / 2 ≡ number l
-number_half true l = omega arith
-number_half false l = omega arith
-
-number_odd : (b : Bool) (l : List Bool) → number (b ∷ l) % 2 ≡ bit_value b
-number_odd true l = omega arith
-number_odd false l = omega arith
 
 ones_next : (b : Bool) (l : List Bool) → count_ones (number (b ∷ l)) ≡ bit_value b + count_ones (number l)
 ones_next b l = ones_step (number (b ∷ l)) ∙ ap (λ (n : ℕ). number (b ∷ l) % 2 + count_ones n) (number_half b l) ∙ ap (λ (n : ℕ). n + count_ones (number l)) (number_odd b l)

@@ -1,13 +1,12 @@
 -- Digits of numbers, and numbers that are made digit by digit from the highest on.
-use Rattle.std.proofs.Common.{◌≡◌, ℕ, zero, suc, ◌+◌, ◌*◌, ◌/◌, ◌%◌, ◌^◌, ◌<◌, ◌≤◌, Bool, true, false, eqb, List, [], ◌∷◌, length, set, get_or, replicate, refl, sym, ap, ◌∙◌, arith, add-one, inl, inr}
+use Rattle.std.proofs.Common.{◌≡◌, ℕ, zero, suc, ◌+◌, ◌*◌, ◌/◌, ◌%◌, ◌^◌, ◌<◌, ◌≤◌, Bool, true, false, eqb, List, [], ◌∷◌, length, set, get_or, replicate, refl, sym, ap, ◌∙◌, arith, add-one}
 use Rattle.std.specs.Int.{bit_at}
 use Rattle.std.specs.Prelude.{bit_and}
 use Rattle.std.proofs.Math.Nat.{pow-suc, pow-le-pow_right, mod-eq_of_lt}
 use Rattle.std.proofs.lemmas.Nat.Bits.{shr_and_one, bit_at-lt}
 use Rattle.std.proofs.lemmas.Nat.{one_shl, mod-pow-add, mod_low, div-add-mod', pow_pos}
-use Rattle.std.proofs.lemmas.Bool.{cases_eq}
 use Rattle.vers_bits.specs.Bits.{bit_value, number}
-use Rattle.vers_bits.proofs.PublicLaws.{bit_at-number, number-lt}
+use Rattle.vers_bits.proofs.PublicLaws.{bit_at-number, number-lt, bit_value_test, test_bit_value}
 use Rattle.vers_wavelet.specs.Levels.{digit, HasRoom}
 
 -- of a machine's number
@@ -19,21 +18,13 @@ word_room number i h room = omega (arith, one_shl i 64 h, room.fits, pow-suc 2 i
 
 pub ruleset words = (word_digit, word_room, one_shl)
 
--- a bit as a number and back
-value_of_test : (m : ℕ) → m < 2 → bit_value (eqb m 1) ≡ m
-value_of_test m h = elim (cases_eq m 1) [ inl e ↦ rw e refl | inr ne ↦ let z : m ≡ 0 = omega arith in rw z refl ]
-
-test_of_value : (b : Bool) → eqb (bit_value b) 1 ≡ b
-test_of_value true = refl
-test_of_value false = refl
-
 -- of a list
 pub list_digit : (l : List Bool) (i : ℕ) → get_or l i false ≡ digit (number l) i
-list_digit l i = sym (test_of_value (get_or l i false)) ∙ ap (λ d. eqb d 1) (sym (bit_at-number l i))
+list_digit l i = sym (test_bit_value (get_or l i false)) ∙ ap (λ d. eqb d 1) (sym (bit_at-number l i))
 
 -- the highest of the k + 1 lowest digits, and the others
 pub digit_value : (s i : ℕ) → bit_value (digit s i) ≡ s / 2 ^ i % 2
-digit_value s i = value_of_test (bit_at s i) (bit_at-lt s i)
+digit_value s i = bit_value_test (bit_at s i) (bit_at-lt s i)
 
 pub top_digit : (s k : ℕ) → s % 2 ^ (k + 1) ≡ bit_value (digit s k) * 2 ^ k + s % 2 ^ k
 top_digit s k =

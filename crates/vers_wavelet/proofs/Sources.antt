@@ -8,11 +8,10 @@ use Rattle.std.proofs.lemmas.List.FromFn.{length-range_with_len, get_or-range_wi
 use Rattle.std.proofs.lemmas.Nat.{one_shl, and_mask, row_fits, pow_pos}
 use Rattle.std.proofs.lemmas.Option.{slice_get-get_or}
 use Rattle.vers_bits.specs.Bits.{number, part}
-use Rattle.vers_bits.proofs.PublicLaws.{number-drop}
+use Rattle.vers_bits.proofs.PublicLaws.{number-drop, number_below}
 use Rattle.vers_wavelet.specs.Levels.{digit}
 use Rattle.vers_wavelet.specs.Makers.{prefix}
 use Rattle.vers_wavelet.proofs.Digits.{list_digit}
-use Rattle.vers_wavelet.proofs.Gathering.{number_below}
 
 -- of a machine's number
 pub word_prefix : (w n v : ℕ) → n < 64 → bit_and (v / 2 ^ (w - n)) (1 * 2 ^ n % 2 ^ 64 - 1) ≡ prefix w n v

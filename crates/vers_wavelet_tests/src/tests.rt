@@ -8,4 +8,7 @@ mod makers;
 mod memory;
 mod numbers;
 mod queries;
+mod refused;
+mod walks;
 mod wide;
+mod without_memory;

@@ -69,7 +69,7 @@ pub fn all_numbers<A: Allocator + Copy>(
     ensures { IfOk result (λ found.
         option_map (λ numbers. numbers.items) found ≡ numbers_all (words_in arguments.now)) }
 {
-    let mut numbers = Vec::new(alloc);
+    let mut numbers = Vec::with_capacity(alloc, count_numbers(arguments))?;
     let mut rest = arguments;
     while let Some((word, others)) = split_first_word(rest) {
         let Some(value) = number(word) else {
@@ -79,6 +79,20 @@ pub fn all_numbers<A: Allocator + Copy>(
         rest = others;
     }
     Ok(Some(numbers))
+}
+
+// How many numbers stand before the first word that is none: for so many there is room from the start, and no more.
+fn count_numbers(arguments: &[u8]) -> usize {
+    let mut count: usize = 0;
+    let mut rest = arguments;
+    while let Some((word, others)) = split_first_word(rest) {
+        if number(word).is_none() {
+            return count;
+        }
+        count = count.saturating_add(1);
+        rest = others;
+    }
+    count
 }
 
 /// The arguments of a line that takes bits: one word of the digits 0 and 1, or no word for the empty

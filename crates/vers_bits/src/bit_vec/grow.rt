@@ -1,13 +1,37 @@
 //! Calls that make a list of bits grow.
-ghost use Rattle.std.specs.Prelude.{◌≡◌, ℕ, ◌+◌, ◌-◌, ◌*◌, ◌/◌, ◌%◌, ◌^◌, ◌<◌, ◌≤◌, ◌↔◌, [], ◌∷◌, ◌++◌, length, take, drop, IsOk, OnOk, OnErr, ◌==◌, IfErr, flat_map, replicate, Bool, List, false};
+ghost use Rattle.std.specs.Prelude.{◌≡◌, ℕ, ◌+◌, ◌-◌, ◌*◌, ◌/◌, ◌%◌, ◌^◌, ◌<◌, ◌≤◌, ◌↔◌, [], ◌∷◌, ◌++◌, length, take, drop, Some, None, IsOk, OnOk, OnErr, ◌==◌, IfErr, flat_map, replicate, Bool, List, false};
 ghost use Rattle.std.specs.Borrow.{Bor};
-ghost use Rattle.std.specs.Iterator.{Drains, IsFinite};
+ghost use Rattle.std.specs.Iterator.{Drains, IsFinite, YieldsThen};
 ghost use Rattle.vers_bits.specs.Bits.{low_bits};
 ghost use Rattle.vers_bits.specs.Makers.{StopsAt};
 
 use crate::bit_vec::words::{add_bit, add_bits, add_within, add_zeros, low_part};
 use crate::bit_vec::{BitVec, GrowError, MAX_LEN};
 use std::alloc::{AllocError, Allocator};
+
+// A list of bits, or a reference to one.
+trait AsList<A: Allocator + Copy> {
+    ghost bits: { Self → List Bool };
+
+    fn as_list(&self) -> &BitVec<A>
+        ensures { result.now ≡ bits self.now };
+}
+
+impl<A: Allocator + Copy> AsList<A> for BitVec<A> {
+    ghost bits = { λ list. list };
+
+    fn as_list(&self) -> &BitVec<A> {
+        self
+    }
+}
+
+impl<'a, A: Allocator + Copy> AsList<A> for &'a BitVec<A> {
+    ghost bits = { λ list. list.now };
+
+    fn as_list(&self) -> &BitVec<A> {
+        self
+    }
+}
 
 #[tactic(auto, using(crate::proofs::Words::words, crate::proofs::Holds::holding, crate::proofs::Growing::growth))]
 impl<A: Allocator + Copy> BitVec<A> {
@@ -212,11 +236,33 @@ impl<A: Allocator + Copy> BitVec<A> {
         self.extend_from(other, 0)
     }
 
+    // Appends the lists that an iterator has left. Where the call is refused, the iterator has just
+    // passed the list that found no place.
+    #[inline(always)]
+    fn extend_by<L: AsList<A> + Drop, I: Iterator<Item = L>>(
+        &mut self,
+        lists: &mut I,
+    ) -> Result<(), GrowError>
+        requires can { I.can_next lists.old }
+        requires ends { IsFinite (I.remaining lists.old) }
+        ensures grown { OnOk result ((xs : List L) × YieldsThen I.next_gives lists.old xs None lists.new
+            × (self.new ≡ self.old ++ flat_map L.bits xs)) }
+        ensures refused { IfErr result (λ e. (xs : List L) × (x : L)
+            × YieldsThen I.next_gives lists.old xs (Some x) lists.new
+            × (self.new ≡ self.old ++ flat_map L.bits xs)
+            × ((e ≡ GrowError.TooLong) ↔ (MAX_LEN < length self.new + length (L.bits x)))) }
+    {
+        while let Some(list) = lists.next() {
+            self.extend_bitvec(list.as_list())?;
+        }
+        Ok(())
+    }
+
     /// Appends the lists of an iterator that ends, in order. At the first list that finds no place
     /// the call is refused: the lists before it stay appended, and of that one nothing.
     pub fn extend<I: Iterator<Item = BitVec<A>> + Drop>(
         &mut self,
-        lists: I,
+        mut lists: I,
     ) -> Result<(), GrowError>
         requires can { I.can_next lists }
         requires ends { IsFinite (I.remaining lists) }
@@ -226,16 +272,13 @@ impl<A: Allocator + Copy> BitVec<A> {
             (self.new ≡ self.old ++ flat_map (λ y. y) xs)
             × ((e ≡ GrowError.TooLong) ↔ (MAX_LEN < length self.new + length x)))) }
     {
-        for list in lists {
-            self.extend_bitvec(&list)?;
-        }
-        Ok(())
+        self.extend_by(&mut lists)
     }
 
     /// The same as `extend`, of lists behind references.
     pub fn extend_ref<'a, I: Iterator<Item = &'a BitVec<A>> + Drop>(
         &mut self,
-        lists: I,
+        mut lists: I,
     ) -> Result<(), GrowError>
     where
         A: 'a,
@@ -247,10 +290,7 @@ impl<A: Allocator + Copy> BitVec<A> {
             (self.new ≡ self.old ++ flat_map (λ y. y.now) xs)
             × ((e ≡ GrowError.TooLong) ↔ (MAX_LEN < length self.new + length x.now)))) }
     {
-        for list in lists {
-            self.extend_bitvec(list)?;
-        }
-        Ok(())
+        self.extend_by(&mut lists)
     }
 
     // Makes room for `added` bits more.

@@ -1,6 +1,6 @@
 //! Makers of lists of bits.
-ghost use Rattle.std.specs.Prelude.{◌≡◌, ℕ, Bool, ◌+◌, ◌-◌, ◌*◌, ◌/◌, ◌%◌, ◌^◌, ◌<◌, ◌≤◌, ◌↔◌, ◌==◌, List, [], ◌∷◌, ◌++◌, length, map, flat_map, replicate, true, false, IfOk, IfErr, IsOk, OnOk, OnErr, if◌then◌else◌};
-ghost use Rattle.std.specs.Iterator.{Drains, IsFinite};
+ghost use Rattle.std.specs.Prelude.{◌≡◌, ℕ, Bool, ◌+◌, ◌-◌, ◌*◌, ◌/◌, ◌%◌, ◌^◌, ◌<◌, ◌≤◌, ◌↔◌, ◌==◌, List, [], ◌∷◌, ◌++◌, length, map, flat_map, replicate, true, false, IfOk, IfErr, IsOk, OnOk, OnErr, Some, None, if◌then◌else◌};
+ghost use Rattle.std.specs.Iterator.{Drains, IsFinite, YieldsThen};
 ghost use Rattle.vers_bits.specs.Bits.{bit_value, number, low_bits, pack};
 ghost use Rattle.vers_bits.specs.Makers.{StopsAt};
 
@@ -172,24 +172,27 @@ impl<A: Allocator + Copy> BitVec<A> {
         Ok(list)
     }
 
-    // A bit an item of an iterator. The first bit of each limb is appended, which may take memory.
-    // The others are gathered in a word until the limb is full.
-    fn odd_items_of<T: Item, I: Iterator<Item = T> + Drop>(
+    // A bit an item that an iterator has left. Where it is refused, the iterator has just passed the
+    // item that found no place. The first bit of each limb is appended, which may take memory. The
+    // others are gathered in a word until the limb is full.
+    #[inline(always)]
+    fn odd_items_of<T: Item, I: Iterator<Item = T>>(
         alloc: A,
-        items: I,
+        items: &mut I,
     ) -> Result<Self, GrowError>
-        requires can { I.can_next items }
-        requires ends { IsFinite (I.remaining items) }
-        ensures made { IfOk result (λ v. (xs : List T) × Drains I.next_gives items xs
+        requires can { I.can_next items.old }
+        requires ends { IsFinite (I.remaining items.old) }
+        ensures made { IfOk result (λ v. (xs : List T) × YieldsThen I.next_gives items.old xs None items.new
             × (v ≡ map T.is_odd xs)) }
-        ensures refused { IfErr result (λ e. StopsAt I.next_gives items
-            (λ xs x. (e ≡ GrowError.TooLong) ↔ (MAX_LEN < length xs + 1))) }
+        ensures refused { IfErr result (λ e. (xs : List T) × (x : T)
+            × YieldsThen I.next_gives items.old xs (Some x) items.new
+            × ((e ≡ GrowError.TooLong) ↔ (MAX_LEN < length xs + 1))) }
     {
         let mut list = BitVec::new(alloc);
         let mut word = 0;
         let mut gathered = 0;
         let mut room = 0;
-        for item in items {
+        while let Some(item) = items.next() {
             if gathered < room {
                 word = with_digit(word, gathered, item.is_odd());
                 gathered += 1;
@@ -222,21 +225,24 @@ impl<A: Allocator + Copy> BitVec<A> {
         Ok(list)
     }
 
-    // The low `k` digits of each item of an iterator.
-    fn packed_items_of<T: Item, I: Iterator<Item = T> + Drop>(
+    // The low `k` digits of each item that an iterator has left. Where it is refused, the iterator has
+    // just passed the item that found no place.
+    #[inline(always)]
+    fn packed_items_of<T: Item, I: Iterator<Item = T>>(
         alloc: A,
-        items: I,
+        items: &mut I,
         k: usize,
     ) -> Result<Self, GrowError>
-        requires can { I.can_next items }
-        requires ends { IsFinite (I.remaining items) }
-        ensures made { IfOk result (λ v. (xs : List T) × Drains I.next_gives items xs
+        requires can { I.can_next items.old }
+        requires ends { IsFinite (I.remaining items.old) }
+        ensures made { IfOk result (λ v. (xs : List T) × YieldsThen I.next_gives items.old xs None items.new
             × (v ≡ flat_map (λ x. low_bits (T.number x) k) xs)) }
-        ensures refused { IfErr result (λ e. StopsAt I.next_gives items
-            (λ xs x. (e ≡ GrowError.TooLong) ↔ (MAX_LEN < (length xs + 1) * k))) }
+        ensures refused { IfErr result (λ e. (xs : List T) × (x : T)
+            × YieldsThen I.next_gives items.old xs (Some x) items.new
+            × ((e ≡ GrowError.TooLong) ↔ (MAX_LEN < (length xs + 1) * k))) }
     {
         let mut list = BitVec::new(alloc);
-        for item in items {
+        while let Some(item) = items.next() {
             list.append_digits(item.number(), k)?;
         }
         Ok(list)
@@ -278,7 +284,7 @@ impl<A: Allocator + Copy> BitVec<A> {
     /// that would pass `MAX_LEN` bits, Memory at the one that finds no memory.
     pub fn from_bits_iter<I: Iterator<Item = u64> + Drop>(
         alloc: A,
-        bits: I,
+        mut bits: I,
     ) -> Result<Self, GrowError>
         requires can { I.can_next bits }
         requires ends { IsFinite (I.remaining bits) }
@@ -287,7 +293,7 @@ impl<A: Allocator + Copy> BitVec<A> {
         ensures refused { IfErr result (λ e. StopsAt I.next_gives bits
             (λ xs x. (e ≡ GrowError.TooLong) ↔ (MAX_LEN < length xs + 1))) }
     {
-        BitVec::odd_items_of(alloc, bits)
+        BitVec::odd_items_of(alloc, &mut bits)
     }
 
     /// The truth values. TooLong where they are more than `MAX_LEN`.
@@ -302,7 +308,7 @@ impl<A: Allocator + Copy> BitVec<A> {
     /// Memory at the one that finds no memory.
     pub fn from_bool_iter<I: Iterator<Item = bool> + Drop>(
         alloc: A,
-        bools: I,
+        mut bools: I,
     ) -> Result<Self, GrowError>
         requires can { I.can_next bools }
         requires ends { IsFinite (I.remaining bools) }
@@ -310,14 +316,14 @@ impl<A: Allocator + Copy> BitVec<A> {
         ensures refused { IfErr result (λ e. StopsAt I.next_gives bools
             (λ xs x. (e ≡ GrowError.TooLong) ↔ (MAX_LEN < length xs + 1))) }
     {
-        BitVec::odd_items_of(alloc, bools)
+        BitVec::odd_items_of(alloc, &mut bools)
     }
 
     /// The bits of the limbs of an iterator that ends, 64 of each, its least significant bit first.
     /// TooLong at the limb that would pass `MAX_LEN` bits, Memory at the one that finds no memory.
     pub fn from_limbs_iter<I: Iterator<Item = u64> + Drop>(
         alloc: A,
-        limbs: I,
+        mut limbs: I,
     ) -> Result<Self, GrowError>
         requires can { I.can_next limbs }
         requires ends { IsFinite (I.remaining limbs) }
@@ -326,7 +332,7 @@ impl<A: Allocator + Copy> BitVec<A> {
         ensures refused { IfErr result (λ e. StopsAt I.next_gives limbs
             (λ xs x. (e ≡ GrowError.TooLong) ↔ (MAX_LEN < (length xs + 1) * 64))) }
     {
-        BitVec::packed_items_of(alloc, limbs, 64)
+        BitVec::packed_items_of(alloc, &mut limbs, 64)
     }
 
     /// The low `k` bits of each number, one after another, with zeros above its 8 bits. TooLong
@@ -369,7 +375,7 @@ impl<A: Allocator + Copy> BitVec<A> {
     /// TooLong at the number that would pass `MAX_LEN` bits, Memory at the one that finds no memory.
     pub fn pack_from_iter_u8<I: Iterator<Item = u8> + Drop>(
         alloc: A,
-        sequence: I,
+        mut sequence: I,
         k: usize,
     ) -> Result<Self, GrowError>
         requires can { I.can_next sequence }
@@ -379,14 +385,14 @@ impl<A: Allocator + Copy> BitVec<A> {
         ensures refused { IfErr result (λ e. StopsAt I.next_gives sequence
             (λ xs x. (e ≡ GrowError.TooLong) ↔ (MAX_LEN < (length xs + 1) * k))) }
     {
-        BitVec::packed_items_of(alloc, sequence, k)
+        BitVec::packed_items_of(alloc, &mut sequence, k)
     }
 
     /// The low `k` bits of each number of an iterator that ends, with zeros above its 16 bits.
     /// TooLong at the number that would pass `MAX_LEN` bits, Memory at the one that finds no memory.
     pub fn pack_from_iter_u16<I: Iterator<Item = u16> + Drop>(
         alloc: A,
-        sequence: I,
+        mut sequence: I,
         k: usize,
     ) -> Result<Self, GrowError>
         requires can { I.can_next sequence }
@@ -396,14 +402,14 @@ impl<A: Allocator + Copy> BitVec<A> {
         ensures refused { IfErr result (λ e. StopsAt I.next_gives sequence
             (λ xs x. (e ≡ GrowError.TooLong) ↔ (MAX_LEN < (length xs + 1) * k))) }
     {
-        BitVec::packed_items_of(alloc, sequence, k)
+        BitVec::packed_items_of(alloc, &mut sequence, k)
     }
 
     /// The low `k` bits of each number of an iterator that ends, with zeros above its 32 bits.
     /// TooLong at the number that would pass `MAX_LEN` bits, Memory at the one that finds no memory.
     pub fn pack_from_iter_u32<I: Iterator<Item = u32> + Drop>(
         alloc: A,
-        sequence: I,
+        mut sequence: I,
         k: usize,
     ) -> Result<Self, GrowError>
         requires can { I.can_next sequence }
@@ -413,14 +419,14 @@ impl<A: Allocator + Copy> BitVec<A> {
         ensures refused { IfErr result (λ e. StopsAt I.next_gives sequence
             (λ xs x. (e ≡ GrowError.TooLong) ↔ (MAX_LEN < (length xs + 1) * k))) }
     {
-        BitVec::packed_items_of(alloc, sequence, k)
+        BitVec::packed_items_of(alloc, &mut sequence, k)
     }
 
     /// The low `k` bits of each number of an iterator that ends, with zeros above its 64 bits.
     /// TooLong at the number that would pass `MAX_LEN` bits, Memory at the one that finds no memory.
     pub fn pack_from_iter_u64<I: Iterator<Item = u64> + Drop>(
         alloc: A,
-        sequence: I,
+        mut sequence: I,
         k: usize,
     ) -> Result<Self, GrowError>
         requires can { I.can_next sequence }
@@ -430,7 +436,7 @@ impl<A: Allocator + Copy> BitVec<A> {
         ensures refused { IfErr result (λ e. StopsAt I.next_gives sequence
             (λ xs x. (e ≡ GrowError.TooLong) ↔ (MAX_LEN < (length xs + 1) * k))) }
     {
-        BitVec::packed_items_of(alloc, sequence, k)
+        BitVec::packed_items_of(alloc, &mut sequence, k)
     }
 }
 

@@ -1,5 +1,7 @@
 //! Calls that take limbs by chunks, against a plain computation, around the ends of limbs and chunks.
+use crate::tests::assert_none_wrong;
 use crate::tests::pattern::{bit, pattern};
+use crate::tests::queries::{Change, is_made};
 use std::alloc::Allocator;
 use vers_bits::bit_vec::{BitVec, GrowError};
 
@@ -20,33 +22,20 @@ fn are_equal<A: Allocator + Copy>(one: &BitVec<A>, other: &BitVec<A>) -> bool {
     *one == *other
 }
 
-// Whether a list with one bit turned is equal to what it was. The bit is turned back.
-fn is_equal_turned<A: Allocator + Copy>(
+// Whether a list is not equal to what it was once a bit is turned. The bit is turned back.
+fn is_turn_seen<A: Allocator + Copy>(
     list: &mut BitVec<A>,
     before: &BitVec<A>,
     place: usize,
 ) -> bool {
-    if place >= list.len() {
-        return true;
-    }
-    list.flip_bit(place);
-    let is_equal = are_equal(list, before);
-    is_equal || !is_turned_back(list, place)
+    let turn = Change::FlipBit(place);
+    is_made(list, turn) && !are_equal(list, before) && is_made(list, turn)
 }
 
-// Turns the bit at a place, if there is one, and answers whether there is.
-fn is_turned_back<A: Allocator + Copy>(list: &mut BitVec<A>, place: usize) -> bool {
-    if place >= list.len() {
-        return false;
-    }
-    list.flip_bit(place);
-    true
-}
-
-// Whether each bit can be turned only with the list not equal any more to what it was.
-fn is_each_bit_seen<A: Allocator + Copy>(list: &mut BitVec<A>, before: &BitVec<A>) -> bool {
+// Whether that holds of each bit, and the list is equal to what it was when all are turned back.
+fn is_each_turn_seen<A: Allocator + Copy>(list: &mut BitVec<A>, before: &BitVec<A>) -> bool {
     for place in 0..before.len() {
-        if is_equal_turned(list, before, place) {
+        if !is_turn_seen(list, before, place) {
             return false;
         }
     }
@@ -56,30 +45,29 @@ fn is_each_bit_seen<A: Allocator + Copy>(list: &mut BitVec<A>, before: &BitVec<A
 // Whether two lists of one length that were made alike are equal, and unequal with one bit turned.
 fn compares<A: Allocator + Copy>(list: &BitVec<A>, another: Result<BitVec<A>, GrowError>) -> bool {
     match another {
-        Ok(mut other) => are_equal(list, &other) && is_each_bit_seen(&mut other, list),
+        Ok(mut other) => are_equal(list, &other) && is_each_turn_seen(&mut other, list),
         Err(_) => false,
     }
 }
 
 // Whether a list of the pattern has its ones, and is equal to another one, and to none with one bit turned.
-fn counts_and_compares<A: Allocator + Copy>(
-    made: Result<BitVec<A>, GrowError>,
-    len: usize,
-) -> bool {
+fn counts_and_compares<A: Allocator + Copy>(list: &BitVec<A>, len: usize) -> bool {
+    list.count_ones() == ones_of_pattern(len) && compares(list, pattern(list.allocator(), 0, len))
+}
+
+// The same of a list that was made.
+fn is_right<A: Allocator + Copy>(made: Result<BitVec<A>, GrowError>, len: usize) -> bool {
     match made {
-        Ok(list) => {
-            list.count_ones() == ones_of_pattern(len)
-                && compares(&list, pattern(list.allocator(), 0, len))
-        }
+        Ok(list) => counts_and_compares(&list, len),
         Err(_) => false,
     }
 }
 
 // The first length at which a list of the pattern is counted or compared wrong.
-fn first_wrong_length<A: Allocator + Copy>(alloc: A) -> Option<usize> {
+fn first_wrong_length<A: Allocator + Copy>(alloc: A) -> Option<(usize, usize)> {
     for len in &LENGTHS {
-        if !counts_and_compares(pattern(alloc, 0, *len), *len) {
-            return Some(*len);
+        if !is_right(pattern(alloc, 0, *len), *len) {
+            return Some((*len, 0));
         }
     }
     None
@@ -87,5 +75,5 @@ fn first_wrong_length<A: Allocator + Copy>(alloc: A) -> Option<usize> {
 
 #[test]
 fn lists_are_counted_and_compared(rt: HostRuntime) {
-    assert_eq!(rt; first_wrong_length(rt.alloc()), None, "a length");
+    assert_none_wrong(&rt, first_wrong_length(rt.alloc()));
 }

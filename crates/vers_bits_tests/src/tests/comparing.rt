@@ -1,11 +1,14 @@
 //! Equality and hashes.
-use std::alloc::{Allocator, Global};
+use crate::tests::assert_none_wrong;
+use std::alloc::Allocator;
 use std::hash::{BuildHasher, BuildHasherDefault, FoldHasher};
-use test_alloc::asked_both;
 use vers_bits::bit_vec::{BitVec, GrowError};
 
-// A list as numbers of so many bits each, another one, and whether they are equal.
-const PAIRS: [((&[u64], usize), (&[u64], usize), bool); 6] = [
+// A list as numbers of so many bits each.
+type Packed = (&'static [u64], usize);
+
+// Two lists, and whether they are equal.
+const PAIRS: [(Packed, Packed, bool); 6] = [
     ((&[1], 64), (&[2], 64), false),
     ((&[1], 64), (&[1], 64), true),
     ((&[1, 1], 64), (&[2], 64), false),
@@ -18,21 +21,31 @@ fn hash_of<A: Allocator + Copy>(list: &BitVec<A>) -> u64 {
     BuildHasherDefault::<FoldHasher>::default().hash_one(list)
 }
 
-// Whether lists are equal, and whether their hashes are.
-fn compare<A: Allocator + Copy>(one: &BitVec<A>, other: &BitVec<A>) -> (bool, bool) {
-    (*one == *other, hash_of(one) == hash_of(other))
+// Whether lists are equal, as their hashes are too, or differ, as told.
+fn compares<A: Allocator + Copy>(one: &BitVec<A>, other: &BitVec<A>, are_equal: bool) -> bool {
+    (*one == *other) == are_equal && (hash_of(one) == hash_of(other)) == are_equal
+}
+
+// The same of a list and one that is made.
+fn compares_with<A: Allocator + Copy>(one: &BitVec<A>, other: Packed, are_equal: bool) -> bool {
+    match BitVec::pack_sequence_u64(one.allocator(), other.0, other.1) {
+        Ok(other) => compares(one, &other, are_equal),
+        Err(_) => false,
+    }
+}
+
+fn is_pair<A: Allocator + Copy>(alloc: A, one: Packed, other: Packed, are_equal: bool) -> bool {
+    match BitVec::pack_sequence_u64(alloc, one.0, one.1) {
+        Ok(one) => compares_with(&one, other, are_equal),
+        Err(_) => false,
+    }
 }
 
 // The first pair, by its number counted from 0, that compares otherwise.
-fn first_wrong_pair(alloc: Global) -> Option<usize> {
+fn first_wrong_pair<A: Allocator + Copy>(alloc: A) -> Option<(usize, usize)> {
     for (row, (one, other, are_equal)) in PAIRS.iter().enumerate() {
-        let found = asked_both(
-            BitVec::pack_sequence_u64(alloc, one.0, one.1),
-            BitVec::pack_sequence_u64(alloc, other.0, other.1),
-            |one, other| compare(one, other),
-        );
-        if found != Ok((*are_equal, *are_equal)) {
-            return Some(row);
+        if !is_pair(alloc, *one, *other, *are_equal) {
+            return Some((row, 0));
         }
     }
     None
@@ -40,7 +53,7 @@ fn first_wrong_pair(alloc: Global) -> Option<usize> {
 
 #[test]
 fn lists_are_compared_and_hashed(rt: HostRuntime) {
-    assert_eq!(rt; first_wrong_pair(rt.alloc()), None, "a pair");
+    assert_none_wrong(&rt, first_wrong_pair(rt.alloc()));
 }
 
 // Appends ten ones and drops them again.

@@ -1,4 +1,5 @@
 //! Lists that are changed by scripts, and splits.
+use crate::tests::assert_none_wrong;
 use crate::tests::queries::{Change, Line, Query, first_wrong_line};
 use std::alloc::Allocator;
 use std::test::Fail;
@@ -149,7 +150,7 @@ fn first_wrong_script<A: Allocator + Copy>(alloc: A) -> Option<(usize, usize)> {
 
 #[test]
 fn scripts_go_as_they_say(rt: HostRuntime) {
-    assert_eq!(rt; first_wrong_script(rt.alloc()), None, "a script and a line");
+    assert_none_wrong(&rt, first_wrong_script(rt.alloc()));
 }
 
 #[test]

@@ -1,15 +1,20 @@
 //! Lists that are appended to others.
+use crate::tests::makers::push;
+use crate::tests::memory::growth::{extend, extend_ref};
+use crate::tests::queries::{Query, first_wrong_answer};
 use std::alloc::Allocator;
 use vers_bits::bit_vec::{BitVec, GrowError};
 
 // Whether so many ones end in the limbs 1, all ones, 6 after those are appended.
 fn appends_limbs<A: Allocator + Copy>(list: &mut BitVec<A>, limbs: &BitVec<A>, len: usize) -> bool {
-    list.extend_bitvec(limbs).is_ok()
-        && list.len() == len.wrapping_add(192)
-        && list.get_bits(len, 64) == Some(1)
-        && list.get_bits(len.wrapping_add(64), 64) == Some(u64::MAX)
-        && list.get_bits(len.wrapping_add(128), 64) == Some(6)
-        && list.count_ones() == (len as u64).wrapping_add(67)
+    let rows = [
+        (Query::Len, Some((len as u64).wrapping_add(192))),
+        (Query::GetBits(len, 64), Some(1)),
+        (Query::GetBits(len.wrapping_add(64), 64), Some(u64::MAX)),
+        (Query::GetBits(len.wrapping_add(128), 64), Some(6)),
+        (Query::CountOnes, Some((len as u64).wrapping_add(67))),
+    ];
+    list.extend_bitvec(limbs).is_ok() && first_wrong_answer(list, &rows).is_none()
 }
 
 fn ones_append_limbs<A: Allocator + Copy>(limbs: &BitVec<A>, len: usize) -> bool {
@@ -55,9 +60,7 @@ fn is_1100<A: Allocator + Copy>(list: &BitVec<A>) -> bool {
 fn two_lists<A: Allocator + Copy>(alloc: A) -> Result<Vec<BitVec<A>, A>, GrowError> {
     let mut lists = Vec::new(alloc);
     for bits in [[1u8, 0].as_slice(), [0].as_slice()] {
-        if lists.push(BitVec::from_bits(alloc, bits)?).is_err() {
-            return Err(GrowError::Memory);
-        }
+        push(&mut lists, BitVec::from_bits(alloc, bits)?)?;
     }
     Ok(lists)
 }
@@ -68,7 +71,7 @@ fn extends_by_reference<A: Allocator + Copy>(
     lists: &[BitVec<A>],
 ) -> bool {
     match made {
-        Ok(mut one) => one.extend_ref(lists.iter()).is_ok() && is_1100(&one),
+        Ok(mut one) => extend_ref(&mut one, lists).0.is_ok() && is_1100(&one),
         Err(_) => false,
     }
 }
@@ -78,7 +81,7 @@ fn extends_by_value<A: Allocator + Copy>(
     lists: Vec<BitVec<A>, A>,
 ) -> bool {
     match made {
-        Ok(mut one) => one.extend(lists.into_iter()).is_ok() && is_1100(&one),
+        Ok(mut one) => extend(&mut one, lists).0.is_ok() && is_1100(&one),
         Err(_) => false,
     }
 }

@@ -1,11 +1,12 @@
 //! Walks over the bits and the limbs of a list, from both ends.
+use crate::tests::assert_none_wrong;
 use std::alloc::{AllocError, Allocator};
-use test_alloc::{Step, asked};
-use vers_bits::bit_vec::{BitVec, BitVecIter, GrowError};
-use vers_bits::list_ends::{ListEnds, Listed};
+use test_alloc::Step;
+use vers_bits::bit_vec::{BitVec, GrowError};
+use vers_bits::list_ends::{BorrowedList, ListEnds, Listed, OwnedList};
 
-// What a step of a walk gives, or how many items are left.
-fn take<L: Listed<Item = u64>>(walk: &mut ListEnds<L>, step: Step) -> Option<u64> {
+/// What a step of a walk gives, or how many items are left.
+pub fn take<L: Listed<Item = u64>>(walk: &mut ListEnds<L>, step: Step) -> Option<u64> {
     match step {
         Step::Next => walk.next(),
         Step::NextBack => walk.next_back(),
@@ -120,13 +121,22 @@ fn four_limbs<A: Allocator + Copy>(alloc: A) -> Result<BitVec<A>, GrowError> {
 
 #[test]
 fn bits_from_both_ends(rt: HostRuntime) {
-    assert_eq!(rt; first_wrong_bits(rt.alloc()), None, "a walk and a step");
+    assert_none_wrong(&rt, first_wrong_bits(rt.alloc()));
+}
+
+// The same of limbs that were made.
+fn first_wrong_of_made<A: Allocator + Copy>(
+    made: Result<BitVec<A>, GrowError>,
+) -> Option<(usize, usize)> {
+    match made {
+        Ok(list) => first_wrong_limbs(&list),
+        Err(_) => Some((LIMBS.len(), 0)),
+    }
 }
 
 #[test]
 fn limbs_from_both_ends(rt: HostRuntime) {
-    let wrong = asked(four_limbs(rt.alloc()), first_wrong_limbs);
-    assert_eq!(rt; wrong, Ok(None), "a walk and a step");
+    assert_none_wrong(&rt, first_wrong_of_made(four_limbs(rt.alloc())));
 }
 
 // Whether a walk says that so many items are left.
@@ -134,22 +144,118 @@ fn has_left<L: Listed<Item = u64>>(walk: &ListEnds<L>, left: usize) -> bool {
     walk.len() == left && walk.size_hint() == (left, Some(left))
 }
 
-// Whether walks over 10110 have their last items, counts and sizes, and go on alone once they are cloned.
-fn ends_work<A: Allocator + Copy>(list: &BitVec<A>) -> bool {
-    let mut bits = list.iter();
-    let first = bits.nth(1);
-    let mut second = bits.clone();
-    first == Some(0)
-        && has_left(&second, 3)
-        && second.next_back() == Some(0)
-        && has_left(&second, 2)
-        && has_left(&bits, 3)
-        && has_end(list)
+/// What a walk gives that is begun and then cloned: its first steps, how many items are left then and the last of
+/// them, and the steps of the clone, which are then those of the walk too.
+#[derive(Clone, Copy, Drop)]
+pub struct Cloned<'a> {
+    pub first: &'a [(Step, Option<u64>)],
+    pub left: usize,
+    pub last: Option<u64>,
+    pub steps: &'a [(Step, Option<u64>)],
 }
 
-// Whether a walk over 10110 ends as it should.
-fn has_end<A: Allocator + Copy>(list: &BitVec<A>) -> bool {
-    list.iter().last() == Some(0) && list.iter().count() == 5
+// Walks over the bits 10110.
+const CLONED_BITS: [Cloned<'static>; 3] = [
+    Cloned {
+        first: &[],
+        left: 5,
+        last: Some(0),
+        steps: &[(Step::NthBack(1), Some(1))],
+    },
+    Cloned {
+        first: &[(Step::Nth(1), Some(0))],
+        left: 3,
+        last: Some(0),
+        steps: &[(Step::NextBack, Some(0)), (Step::Len, Some(2))],
+    },
+    Cloned {
+        first: &[(Step::Nth(2), Some(1))],
+        left: 2,
+        last: Some(0),
+        steps: &[
+            (Step::NextBack, Some(0)),
+            (Step::Next, Some(1)),
+            (Step::Nth(0), None),
+        ],
+    },
+];
+
+// Walks over the limbs 7, all ones, 9, 1.
+const CLONED_LIMBS: [Cloned<'static>; 2] = [
+    Cloned {
+        first: &[],
+        left: 4,
+        last: Some(1),
+        steps: &[(Step::Next, Some(7))],
+    },
+    Cloned {
+        first: &[(Step::NextBack, Some(1))],
+        left: 3,
+        last: Some(9),
+        steps: &[(Step::NthBack(1), Some(u64::MAX)), (Step::Len, Some(1))],
+    },
+];
+
+// Whether a clone goes on as told, and then the walk itself.
+fn go_on<L: Listed<Item = u64>>(
+    walk: &mut ListEnds<L>,
+    twin: &mut ListEnds<L>,
+    cloned: &Cloned<'_>,
+) -> bool {
+    has_left(twin, cloned.left)
+        && wrong_step(twin, cloned.steps).is_none()
+        && has_left(walk, cloned.left)
+        && wrong_step(walk, cloned.steps).is_none()
+}
+
+/// Whether a walk by a reference gives what is told of it.
+pub fn is_cloned<L: BorrowedList<Item = u64>>(walk: &mut ListEnds<L>, cloned: &Cloned<'_>) -> bool {
+    let is_begun = wrong_step(walk, cloned.first).is_none();
+    let has_end = walk.clone().last() == cloned.last && walk.clone().count() == cloned.left;
+    let mut twin = walk.clone();
+    is_begun && has_end && go_on(walk, &mut twin, cloned)
+}
+
+// The same of a walk that owns its list.
+fn is_owned_cloned<L: OwnedList<Item = u64>>(walk: &mut ListEnds<L>, cloned: &Cloned<'_>) -> bool {
+    let is_begun = wrong_step(walk, cloned.first).is_none();
+    let copy: Result<ListEnds<L>, AllocError> = walk.clone();
+    match copy {
+        Ok(mut twin) => is_begun && go_on(walk, &mut twin, cloned),
+        Err(_) => false,
+    }
+}
+
+fn are_bits_cloned<A: Allocator + Copy>(
+    made: Result<BitVec<A>, GrowError>,
+    cloned: &Cloned<'_>,
+) -> bool {
+    match made {
+        Ok(list) => {
+            is_cloned(&mut list.iter(), cloned) && is_owned_cloned(&mut list.into_iter(), cloned)
+        }
+        Err(_) => false,
+    }
+}
+
+// The first walk over the bits that is cloned otherwise than told.
+fn first_wrong_clone<A: Allocator + Copy>(alloc: A) -> Option<usize> {
+    for (row, cloned) in CLONED_BITS.iter().enumerate() {
+        if !are_bits_cloned(list_10110(alloc), cloned) {
+            return Some(row);
+        }
+    }
+    None
+}
+
+// The same of walks over the limbs.
+fn first_wrong_limb_clone<A: Allocator + Copy>(list: &BitVec<A>) -> Option<usize> {
+    for (row, cloned) in CLONED_LIMBS.iter().enumerate() {
+        if !is_cloned(&mut list.iter_limbs(), cloned) {
+            return Some(row);
+        }
+    }
+    None
 }
 
 // How many ones the limbs of a list have.
@@ -161,57 +267,21 @@ fn ones_of<A: Allocator + Copy>(list: &BitVec<A>) -> u32 {
     ones
 }
 
-// The same as of the bits, of the limbs 7, all ones, 9, 1.
-fn limb_ends_work<A: Allocator + Copy>(list: &BitVec<A>) -> bool {
-    let mut limbs = list.iter_limbs();
-    let last = limbs.next_back();
-    let mut second = limbs.clone();
-    last == Some(1)
-        && second.nth_back(1) == Some(u64::MAX)
-        && has_left(&second, 1)
-        && has_left(&limbs, 3)
-        && has_limb_end(list)
-}
-
-fn has_limb_end<A: Allocator + Copy>(list: &BitVec<A>) -> bool {
-    list.iter_limbs().last() == Some(1) && list.iter_limbs().count() == 4 && ones_of(list) == 70
-}
-
-// What is left of 10110 once 101 were taken: its steps.
-const REST: [(Step, Option<u64>); 3] = [
-    (Step::NextBack, Some(0)),
-    (Step::Next, Some(1)),
-    (Step::Nth(0), None),
-];
-
-// Whether a clone of a walk has two bits left and goes on alone.
-fn goes_on<A: Allocator + Copy>(copy: Result<BitVecIter<A>, AllocError>) -> bool {
-    match copy {
-        Ok(mut bits) => has_left(&bits, 2) && wrong_step(&mut bits, &REST).is_none(),
-        Err(_) => false,
-    }
-}
-
-// Whether a walk that owns 10110 goes on alone once it is cloned.
-fn clones_work<A: Allocator + Copy>(bits: &mut BitVecIter<A>) -> bool {
-    bits.nth(2) == Some(1) && goes_on(bits.clone()) && bits.nth_back(1) == Some(1)
-}
-
-// Whether walks over 10110 work, and those that own it.
-fn bits_work<A: Allocator + Copy>(list: BitVec<A>) -> bool {
-    ends_work(&list) && clones_work(&mut list.into_iter())
-}
-
 // The last item of 10110 by a walk that owns it, and how many items it has.
 fn end_of_owned<A: Allocator + Copy>(alloc: A) -> Result<(Option<u64>, usize), GrowError> {
     let last = list_10110(alloc)?.into_iter().last();
     Ok((last, list_10110(alloc)?.into_iter().count()))
 }
 
+// Whether walks over the limbs 7, all ones, 9, 1 end and are cloned, and a loop over them has all their ones.
+fn limbs_work<A: Allocator + Copy>(list: &BitVec<A>) -> bool {
+    first_wrong_limb_clone(list).is_none() && ones_of(list) == 70
+}
+
 // Which walks end and are cloned as they should.
 fn walks_work<A: Allocator + Copy>(alloc: A) -> Result<[bool; 3], GrowError> {
-    let bits = bits_work(list_10110(alloc)?);
-    let limbs = limb_ends_work(&four_limbs(alloc)?);
+    let bits = first_wrong_clone(alloc).is_none();
+    let limbs = limbs_work(&four_limbs(alloc)?);
     Ok([bits, limbs, end_of_owned(alloc) == Ok((Some(0), 5))])
 }
 
@@ -261,16 +331,23 @@ fn loops_over_the_list_and_its_references(rt: HostRuntime) {
     assert_eq!(rt; numbers(list_10110(rt.alloc())), Ok([22, 22, 22]));
 }
 
+// Steps of a walk that has ended.
+const ENDED: [(Step, Option<u64>); 3] = [
+    (Step::Next, None),
+    (Step::NextBack, None),
+    (Step::Len, Some(0)),
+];
+
 // Whether walks over no bits have ended.
 fn have_ended<A: Allocator + Copy>(list: &BitVec<A>) -> bool {
-    list.iter().next().is_none()
-        && list.iter().next_back().is_none()
+    wrong_step(&mut list.iter(), &ENDED).is_none()
+        && wrong_step(&mut list.iter_limbs(), &ENDED).is_none()
         && list.iter().last().is_none()
-        && list.iter_limbs().next().is_none()
 }
 
 fn no_bits_have_ended<A: Allocator + Copy>(alloc: A) -> bool {
-    have_ended(&BitVec::new(alloc)) && BitVec::new(alloc).into_iter().next_back().is_none()
+    have_ended(&BitVec::new(alloc))
+        && wrong_step(&mut BitVec::new(alloc).into_iter(), &ENDED).is_none()
 }
 
 #[test]

@@ -58,14 +58,11 @@ impl<A: Allocator + Copy> Items<A> {
 
     // Adds the lowest digits of a number, as many as each type has.
     fn add(&mut self, number: u64) -> Result<(), AllocError> {
-        let [first, second, third, fourth, ..] = number.to_le_bytes();
-        self.bools.push(number % 2 == 1)?;
-        self.bytes.push(first)?;
-        self.shorts.push(u16::from_le_bytes([first, second]))?;
-        self.words
-            .push(u32::from_le_bytes([first, second, third, fourth]))?;
-        self.longs.push(number)?;
-        Ok(())
+        push(&mut self.bools, number % 2 == 1)?;
+        push(&mut self.bytes, (number % 256) as u8)?;
+        push(&mut self.shorts, (number % 65536) as u16)?;
+        push(&mut self.words, (number % 4294967296) as u32)?;
+        push(&mut self.longs, number)
     }
 
     /// The items with the lowest digits of the numbers.
@@ -85,6 +82,15 @@ impl<A: Allocator + Copy> Items<A> {
         }
         Ok(items)
     }
+}
+
+/// A push of which the prover knows nothing.
+pub fn push<T: Drop, A: Allocator + Copy>(
+    items: &mut Vec<T, A>,
+    item: T,
+) -> Result<(), AllocError> {
+    items.push(item)?;
+    Ok(())
 }
 
 /// The list that a maker makes of items; where it takes only a length, of as many bits.

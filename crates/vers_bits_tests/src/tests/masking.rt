@@ -1,8 +1,9 @@
 //! What masks make, how they are read, and lists of different lengths.
-use crate::tests::masks::{Mask, apply, masked};
+use crate::tests::masks::{Mask, answer_of_nor, answer_of_or, apply, is_cloned, masked};
+use crate::tests::queries::{Query, first_wrong_answer};
 use std::alloc::{AllocError, Allocator};
 use test_alloc::asked_both;
-use vers_bits::bit_vec::{BitMask, BitVec, LengthMismatch};
+use vers_bits::bit_vec::{BitVec, LengthMismatch};
 
 // The masks, and what each makes of the bits 0011 and 0101, as a number of which the first bit is the lowest.
 const NUMBERS: [(Mask, u64); 4] = [
@@ -67,32 +68,40 @@ fn two_lists_are_combined_bit_by_bit(rt: HostRuntime) {
     assert_eq!(rt; wrong, Ok(None), "a mask");
 }
 
-// Whether a mask of 70 bits reads as ones.
-fn reads_as_ones<A: Allocator + Copy>(mask: &BitMask<'_, '_, A>) -> bool {
-    mask.get_bits(3, 64) == Some(18446744073709551615)
-        && mask.get_bits(7, 64).is_none()
-        && mask.get(69) == Some(1)
-        && mask.get(70).is_none()
-        && mask.is_bit_set(69) == Some(true)
-        && mask.is_bit_set(70).is_none()
-        && mask.count_ones() == 70
-        && mask.count_zeros() == 0
-}
+// What is asked of masks that make 70 ones, and the answers.
+const OF_ONES: [(Query, Option<u64>); 14] = [
+    (Query::GetBits(3, 64), Some(u64::MAX)),
+    (Query::GetBits(7, 64), None),
+    (Query::Get(69), Some(1)),
+    (Query::Get(70), None),
+    (Query::IsBitSet(69), Some(1)),
+    (Query::IsBitSet(70), None),
+    (Query::CountOnes, Some(70)),
+    (Query::CountZeros, Some(0)),
+    (Query::GetBitsUnchecked(60, 10), Some(1023)),
+    (Query::GetBitsUnchecked(66, 4), Some(15)),
+    (Query::GetUnchecked(0), Some(1)),
+    (Query::GetUnchecked(65), Some(1)),
+    (Query::IsBitSetUnchecked(3), Some(1)),
+    (Query::IsBitSetUnchecked(64), Some(1)),
+];
 
-// Whether or of zeros and ones, which are lists of 70 bits, reads as ones, and its clone too.
-fn or_reads_as_ones<A: Allocator + Copy>(zeros: &BitVec<A>, ones: &BitVec<A>) -> bool {
-    if zeros.len() != 70 {
-        return false;
+// The row of the first question of the or of zeros and ones that has another answer, and the same of a closure that
+// makes ones of zeros.
+fn first_wrong_reads<A: Allocator + Copy>(
+    zeros: &BitVec<A>,
+    ones: &BitVec<A>,
+) -> (Option<usize>, Option<usize>) {
+    let mut wrong = (None, None);
+    for (row, (query, wanted)) in OF_ONES.iter().enumerate() {
+        if answer_of_or(zeros, ones, *query) != *wanted {
+            wrong.0 = Some(row);
+        }
+        if answer_of_nor(zeros, zeros, *query) != *wanted {
+            wrong.1 = Some(row);
+        }
     }
-    let Ok(mask) = zeros.mask_or(ones) else {
-        return false;
-    };
-    let second = mask.clone();
-    reads_as_ones(&mask)
-        && reads_as_ones(&second)
-        && mask.get_bits_unchecked(60, 10) == 1023
-        && mask.get_unchecked(0) == 1
-        && mask.is_bit_set_unchecked(64)
+    wrong
 }
 
 // Whether a list was made, and is equal to another one.
@@ -111,22 +120,12 @@ fn makes_zeros<A: Allocator + Copy>(zeros: &BitVec<A>, ones: &BitVec<A>) -> bool
     mask.count_ones() == 0 && mask.count_zeros() == 70 && is_equal(mask.to_bit_vec(), zeros)
 }
 
-// Whether a closure that answers ones where both bits are zeros makes ones of zeros of 70 bits.
+// Whether a closure that answers ones where both bits are zeros makes ones of zeros.
 fn makes_ones<A: Allocator + Copy>(zeros: &BitVec<A>, ones: &BitVec<A>) -> bool {
-    if zeros.len() != 70 {
-        return false;
+    match zeros.mask_custom(zeros, |a: u64, b: u64| !(a | b)) {
+        Ok(mask) => is_equal(mask.to_bit_vec(), ones),
+        Err(_) => false,
     }
-    let Ok(mask) = zeros.mask_custom(zeros, |a: u64, b: u64| !(a | b)) else {
-        return false;
-    };
-    mask.count_ones() == 70
-        && mask.get(69) == Some(1)
-        && mask.is_bit_set(70).is_none()
-        && mask.get_unchecked(65) == 1
-        && mask.is_bit_set_unchecked(3)
-        && mask.get_bits(3, 64) == Some(u64::MAX)
-        && mask.get_bits_unchecked(66, 4) == 15
-        && is_equal(mask.to_bit_vec(), ones)
 }
 
 fn nor(a: u64, b: u64) -> u64 {
@@ -138,21 +137,24 @@ fn is_changed_to_ones<A: Allocator + Copy>(
     copy: Result<BitVec<A>, AllocError>,
     zeros: &BitVec<A>,
 ) -> bool {
+    let rows = [
+        (Query::Len, Some(70)),
+        (Query::CountOnes, Some(70)),
+        (Query::HeapSize, Some(16)),
+    ];
     match copy {
         Ok(mut list) => {
-            list.apply_mask_custom(zeros, nor).is_ok()
-                && list.len() == 70
-                && list.count_ones() == 70
-                && list.heap_size() == 16
+            list.apply_mask_custom(zeros, nor).is_ok() && first_wrong_answer(&list, &rows).is_none()
         }
         Err(_) => false,
     }
 }
 
 // What goes right with 70 zeros and as many ones.
-fn masks_work<A: Allocator + Copy>(zeros: &BitVec<A>, ones: &BitVec<A>) -> [bool; 4] {
+fn masks_work<A: Allocator + Copy>(zeros: &BitVec<A>, ones: &BitVec<A>) -> [bool; 5] {
     [
-        or_reads_as_ones(zeros, ones),
+        first_wrong_reads(zeros, ones) == (None, None),
+        is_cloned(zeros.mask_or(ones)),
         makes_zeros(zeros, ones),
         makes_ones(zeros, ones),
         is_changed_to_ones(zeros.clone(), zeros),
@@ -165,33 +167,37 @@ fn a_mask_is_read_like_a_list(rt: HostRuntime) {
     let ones = BitVec::from_ones(rt.alloc(), 70);
     assert_eq!(rt;
         asked_both(zeros, ones, |zeros, ones| masks_work(zeros, ones)),
-        Ok([true, true, true, true])
+        Ok([true; 5])
     );
 }
 
 // Whether no mask of two lists is made.
 fn makes_no_mask<A: Allocator + Copy>(one: &BitVec<A>, other: &BitVec<A>) -> bool {
-    let mismatch = Some(LengthMismatch);
-    one.mask_or(other).err() == mismatch
-        && one.mask_and(other).err() == mismatch
-        && one.mask_xor(other).err() == mismatch
-        && one.mask_custom(other, |a: u64, b: u64| !(a ^ b)).err() == mismatch
+    for (mask, _) in &NUMBERS {
+        if !matches!(masked(*mask, one, other), Err(None)) {
+            return false;
+        }
+    }
+    true
 }
 
-// Whether a copy of zeros is changed by no mask.
+// Whether a list of 70 zeros is changed by no mask.
+fn stays<A: Allocator + Copy>(list: &mut BitVec<A>, other: &BitVec<A>) -> bool {
+    for (mask, _) in &NUMBERS {
+        if apply(*mask, list, other) != Err(LengthMismatch) {
+            return false;
+        }
+    }
+    first_wrong_answer(list, &[(Query::Len, Some(70)), (Query::CountOnes, Some(0))]).is_none()
+}
+
+// The same of a copy of zeros.
 fn is_not_changed<A: Allocator + Copy>(
     copy: Result<BitVec<A>, AllocError>,
     other: &BitVec<A>,
 ) -> bool {
     match copy {
-        Ok(mut list) => {
-            list.apply_mask_or(other) == Err(LengthMismatch)
-                && list.apply_mask_and(other) == Err(LengthMismatch)
-                && list.apply_mask_xor(other) == Err(LengthMismatch)
-                && list.apply_mask_custom(other, nor) == Err(LengthMismatch)
-                && list.len() == 70
-                && list.count_ones() == 0
-        }
+        Ok(mut list) => stays(&mut list, other),
         Err(_) => false,
     }
 }

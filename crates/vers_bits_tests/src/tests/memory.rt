@@ -1,6 +1,6 @@
 //! Every call that takes memory, each of its requests refused in turn, and the calls that take none.
 mod clones;
-mod growth;
+pub mod growth;
 mod makers;
 mod none;
 mod splits;

@@ -1,4 +1,6 @@
 //! What is asked of a list of bits, and what is done to it, by tables.
+ghost use Rattle.std.specs.Prelude.{◌+◌, ◌≤◌, IsTrue};
+
 use std::alloc::Allocator;
 use vers_bits::bit_vec::{BitVec, GrowError};
 
@@ -30,38 +32,78 @@ pub fn answer<A: Allocator + Copy>(list: &BitVec<A>, query: Query) -> Option<u64
         Query::CountOnes => Some(list.count_ones()),
         Query::CountZeros => Some(list.count_zeros()),
         Query::Get(place) => list.get(place),
-        Query::IsBitSet(place) => list.is_bit_set(place).map(|bit| u64::from(bit)),
+        Query::IsBitSet(place) => number_of(list.is_bit_set(place)),
         Query::GetBits(place, n) => list.get_bits(place, n),
         Query::UnpackElement(index, n) => list.unpack_element(index, n),
         _ => unchecked_answer(list, query),
     }
 }
 
+/// A truth value as 1 or 0.
+pub fn number_of(bit: Option<bool>) -> Option<u64> {
+    Some(u64::from(bit?))
+}
+
+// The answers of the calls that have a condition.
 fn unchecked_answer<A: Allocator + Copy>(list: &BitVec<A>, query: Query) -> Option<u64> {
-    let len = list.len();
     match query {
-        Query::Limb(k) => {
-            if k.checked_mul(64)? >= len {
-                return None;
-            }
-            Some(list.limb(k))
-        }
-        Query::GetUnchecked(place) if place < len => Some(list.get_unchecked(place)),
-        Query::IsBitSetUnchecked(place) if place < len => {
-            Some(u64::from(list.is_bit_set_unchecked(place)))
-        }
-        Query::GetBitsUnchecked(place, n) if n <= 64 && place <= len && n <= len - place => {
-            Some(list.get_bits_unchecked(place, n))
-        }
-        Query::UnpackElementUnchecked(index, n) if n <= 64 => {
-            let place = index.checked_mul(n)?;
-            if place > len || n > len - place {
-                return None;
-            }
-            Some(list.unpack_element_unchecked(index, n))
-        }
+        Query::Limb(k) => limb(list, k),
+        Query::GetUnchecked(place) => get_unchecked(list, place),
+        Query::IsBitSetUnchecked(place) => is_bit_set_unchecked(list, place),
+        Query::GetBitsUnchecked(place, n) => get_bits_unchecked(list, place, n),
+        Query::UnpackElementUnchecked(index, n) => unpack_element_unchecked(list, index, n),
         _ => None,
     }
+}
+
+fn limb<A: Allocator + Copy>(list: &BitVec<A>, k: usize) -> Option<u64> {
+    if k >= list.len().div_ceil(64) {
+        return None;
+    }
+    Some(list.limb(k))
+}
+
+fn get_unchecked<A: Allocator + Copy>(list: &BitVec<A>, place: usize) -> Option<u64> {
+    if place >= list.len() {
+        return None;
+    }
+    Some(list.get_unchecked(place))
+}
+
+fn is_bit_set_unchecked<A: Allocator + Copy>(list: &BitVec<A>, place: usize) -> Option<u64> {
+    if place >= list.len() {
+        return None;
+    }
+    Some(u64::from(list.is_bit_set_unchecked(place)))
+}
+
+/// Whether a list of `len` bits has so many from a place on, and a number has room for them.
+pub fn is_part(len: usize, place: usize, n: usize) -> bool
+    ensures { IsTrue result → (n ≤ 64) × (place + n ≤ len) }
+{
+    n <= 64 && place <= len && n <= len - place
+}
+
+fn get_bits_unchecked<A: Allocator + Copy>(
+    list: &BitVec<A>,
+    place: usize,
+    n: usize,
+) -> Option<u64> {
+    if !is_part(list.len(), place, n) {
+        return None;
+    }
+    Some(list.get_bits_unchecked(place, n))
+}
+
+fn unpack_element_unchecked<A: Allocator + Copy>(
+    list: &BitVec<A>,
+    index: usize,
+    n: usize,
+) -> Option<u64> {
+    if !is_part(list.len(), index.checked_mul(n)?, n) {
+        return None;
+    }
+    Some(list.unpack_element_unchecked(index, n))
 }
 
 /// The row of the first question, counted from 0, that has another answer.
@@ -95,8 +137,8 @@ pub enum Change {
     DropLast(usize),
 }
 
-// Appends bits.
-fn append<A: Allocator + Copy>(list: &mut BitVec<A>, change: Change) -> Result<(), GrowError> {
+/// Makes a change that appends bits.
+pub fn append<A: Allocator + Copy>(list: &mut BitVec<A>, change: Change) -> Result<(), GrowError> {
     match change {
         Change::Append(bit) => list.append(bit),
         Change::AppendBit(number) => list.append_bit(number),

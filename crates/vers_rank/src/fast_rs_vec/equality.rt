@@ -5,7 +5,7 @@ ghost use Rattle.vers_bits.specs.Equality.{same_bits, same_bits_per, same_bits_e
 use super::RsVec;
 use super::reader::Reader;
 use std::alloc::Allocator;
-use vers_tally::tally::Tally;
+use vers_tally::tally::{Tally, Uncounted};
 
 impl<A: Allocator + Copy> RsVec<A> {
     /// Whether both lists have the same bits, by comparing the places of their zeros where `ZERO`
@@ -59,7 +59,7 @@ impl<A: Allocator + Copy> PartialEq for RsVec<A> {
         ensures by_bits { result ≡ same_bits self.now other.now }
         ensures exact { IsTrue result ↔ (self.now ≡ other.now) }
     {
-        self.bits.as_bit_vec() == other.bits.as_bit_vec()
+        self.bits.as_bit_vec(Uncounted) == other.bits.as_bit_vec(Uncounted)
     }
 }
 

@@ -49,8 +49,7 @@ impl<A: Allocator + Copy> RsVec<A> {
         self.predecessor1_counted(place, &mut tally)
     }
 
-    /// The least place of a zero above `place`, by at most one rank and one select. None where
-    /// there is none, and for a place past the end.
+    /// The same as `successor0`, by at most one rank and one select.
     #[inline(always)]
     pub fn successor0_counted(&self, place: usize, tally: &mut Tally) -> Option<u64>
         ensures value { result ≡ place_after false self.now place }
@@ -60,8 +59,7 @@ impl<A: Allocator + Copy> RsVec<A> {
         self.successor_counted(false, place, tally)
     }
 
-    /// The least place of a one above `place`, by at most one rank and one select. None where
-    /// there is none, and for a place past the end.
+    /// The same as `successor1`, by at most one rank and one select.
     #[inline(always)]
     pub fn successor1_counted(&self, place: usize, tally: &mut Tally) -> Option<u64>
         ensures value { result ≡ place_after true self.now place }
@@ -71,8 +69,7 @@ impl<A: Allocator + Copy> RsVec<A> {
         self.successor_counted(true, place, tally)
     }
 
-    /// The greatest place of a zero below `place`, which may lie past the end, by at most one rank
-    /// and one select. None where there is none.
+    /// The same as `predecessor0`, by at most one rank and one select.
     #[inline(always)]
     pub fn predecessor0_counted(&self, place: usize, tally: &mut Tally) -> Option<u64>
         ensures value { result ≡ place_before false self.now place }
@@ -82,8 +79,7 @@ impl<A: Allocator + Copy> RsVec<A> {
         self.predecessor_counted(false, place, tally)
     }
 
-    /// The greatest place of a one below `place`, which may lie past the end, by at most one rank
-    /// and one select. None where there is none.
+    /// The same as `predecessor1`, by at most one rank and one select.
     #[inline(always)]
     pub fn predecessor1_counted(&self, place: usize, tally: &mut Tally) -> Option<u64>
         ensures value { result ≡ place_before true self.now place }

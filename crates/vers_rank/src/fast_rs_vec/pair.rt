@@ -30,9 +30,8 @@ impl<A: Allocator + Copy> RsVec<A> {
         self.select1_pair_counted(r, &mut tally)
     }
 
-    /// The places of one number `r`, counted from 0, and of the one after it, each the length where
-    /// there are no more. Counts one query, by the reads of one select where both stand in one word
-    /// of 64 bits, and else by those of two.
+    /// The same as `select1_pair`. Counts one query, by the reads of one select where both stand in
+    /// one word of 64 bits, and else by those of two.
     #[inline(always)]
     #[tactic(auto, using(crate::proofs::Pairs::pairs))]
     pub fn select1_pair_counted(&self, r: usize, tally: &mut Tally) -> PlacePair

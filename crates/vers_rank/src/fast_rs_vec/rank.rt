@@ -29,8 +29,7 @@ impl<A: Allocator + Copy> RsVec<A> {
         self.rank1_counted(place, &mut tally)
     }
 
-    /// How many zeros stand below a place, by at most 8 data words, one block entry and one
-    /// superblock entry. Past the end all zeros count.
+    /// The same as `rank0`, by at most 8 data words, one block entry and one superblock entry.
     #[inline(always)]
     #[tactic(auto, using(crate::proofs::Ranks::sums))]
     pub fn rank0_counted(&self, place: usize, tally: &mut Tally) -> usize
@@ -49,8 +48,7 @@ impl<A: Allocator + Copy> RsVec<A> {
         place - self.ones_below(place, false, tally)
     }
 
-    /// How many ones stand below a place, by at most 8 data words, one block entry and one
-    /// superblock entry. Past the end all ones count.
+    /// The same as `rank1`, by at most 8 data words, one block entry and one superblock entry.
     #[inline(always)]
     #[tactic(auto, using(crate::proofs::Ranks::sums))]
     pub fn rank1_counted(&self, place: usize, tally: &mut Tally) -> usize

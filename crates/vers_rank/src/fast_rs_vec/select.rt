@@ -92,9 +92,8 @@ impl<A: Allocator + Copy> RsVec<A> {
         self.select1_counted(r, &mut tally)
     }
 
-    /// The place of zero number `r`, counted from 0, or the length where there are no more. By at
-    /// most 8 data words, 17 block entries, and 12 superblock entries beside one for each binary
-    /// digit of the number of superblocks.
+    /// The same as `select0`, by at most 8 data words, 17 block entries, and 12 superblock entries
+    /// beside one for each binary digit of the number of superblocks.
     #[inline(always)]
     pub fn select0_counted(&self, r: usize, tally: &mut Tally) -> usize
         ensures value { result ≡ select false self.now r }
@@ -106,9 +105,8 @@ impl<A: Allocator + Copy> RsVec<A> {
         self.select_counted(false, r, tally)
     }
 
-    /// The place of one number `r`, counted from 0, or the length where there are no more. By at
-    /// most 8 data words, 17 block entries, and 12 superblock entries beside one for each binary
-    /// digit of the number of superblocks.
+    /// The same as `select1`, by at most 8 data words, 17 block entries, and 12 superblock entries
+    /// beside one for each binary digit of the number of superblocks.
     #[inline(always)]
     pub fn select1_counted(&self, r: usize, tally: &mut Tally) -> usize
         ensures value { result ≡ select true self.now r }

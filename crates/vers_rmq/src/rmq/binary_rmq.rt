@@ -2,7 +2,7 @@
 ghost use Rattle.std.specs.Prelude.{◌≡◌, ◌+◌, ◌-◌, ◌^◌, ◌<◌, ◌≤◌, ◌↔◌, [], length, slice_index, IsTrue, IfOk, IfErr};
 ghost use Rattle.std.specs.Iterator.{Drains, IsFinite};
 ghost use Rattle.vers_tally.specs.Reads.{only_items, AddsAtMost};
-ghost use Rattle.vers_rmq.specs.Minima.{IsFirstLeast};
+ghost use Rattle.vers_rmq.specs.Minima.{IsFirstLeast, least_place};
 ghost use Rattle.vers_rmq.specs.Layout.{binary_heap_size};
 ghost use Rattle.vers_rmq.specs.Ranges.{start_place, end_place, IsRangeOf};
 ghost use Rattle.vers_rmq.specs.Makers.{Refused};
@@ -18,7 +18,7 @@ use std::alloc::{AllocError, Allocator};
 use std::marker::Model;
 use std::ops::Bound;
 use vers_bits::bit_vec::GrowError;
-use vers_tally::tally::{CountedItems, Tally};
+use vers_tally::tally::{CountedItems, Tally, Uncounted};
 
 /// The most items that a `BinaryRmq` holds.
 pub const MAX_LEN: usize = 4294967295;
@@ -52,7 +52,7 @@ impl<A: Allocator + Copy> Clone for BinaryRmq<A> {
     /// A second value of the same items, with a copy of the table.
     fn clone(&self) -> Result<Self, AllocError> {
         let alloc = *self.table.allocator();
-        let items = Vec::from_slice(alloc, self.items.as_slice())?;
+        let items = Vec::from_slice(alloc, self.items.as_slice(Uncounted))?;
         let table = Vec::from_slice(alloc, self.table.as_slice())?;
         Ok(BinaryRmq {
             items: CountedItems::new(items),
@@ -109,7 +109,7 @@ impl<A: Allocator + Copy> BinaryRmq<A> {
     pub fn as_slice(&self) -> &[u64]
         ensures { result.now ≡ self.now }
     {
-        self.items.as_slice()
+        self.items.as_slice(Uncounted)
     }
 
     /// The bytes that the items and the table take.
@@ -142,7 +142,7 @@ impl<A: Allocator + Copy> BinaryRmq<A> {
         self.item_counted(place, &mut tally)
     }
 
-    /// The item at a place of the list, by one item read.
+    /// The same as `item`, by one item read.
     #[inline(always)]
     pub fn item_counted(&self, place: usize, tally: &mut Tally) -> u64
         requires { place < length self.now }
@@ -157,20 +157,21 @@ impl<A: Allocator + Copy> BinaryRmq<A> {
     pub fn range_min_item(&self, i: usize, j: usize) -> PlacedItem
         requires order { i ≤ j }
         requires inside { j < length self.now }
-        ensures place { IsFirstLeast self.now i j result.place }
+        ensures place { result.place ≡ least_place self.now i j }
+        ensures within { (i ≤ result.place) × (result.place ≤ j) }
         ensures item { result.value ≡ slice_index self.now result.place }
     {
         let mut tally = Tally::new();
         self.range_min_item_counted(i, j, &mut tally)
     }
 
-    /// The first least item from place `i` to place `j`, both included, with its place, by at most 2
-    /// items read.
+    /// The same as `range_min_item`, by at most 2 items read.
     #[inline(always)]
     pub fn range_min_item_counted(&self, i: usize, j: usize, tally: &mut Tally) -> PlacedItem
         requires order { i ≤ j }
         requires inside { j < length self.now }
-        ensures place { IsFirstLeast self.now i j result.place }
+        ensures place { result.place ≡ least_place self.now i j }
+        ensures within { (i ≤ result.place) × (result.place ≤ j) }
         ensures item { result.value ≡ slice_index self.now result.place }
         ensures adds { AddsAtMost tally.old tally.new (only_items 2) }
     {
@@ -181,13 +182,13 @@ impl<A: Allocator + Copy> BinaryRmq<A> {
         lesser_of(left, right)
     }
 
-    /// The first place of a least item from place `i` to place `j`, both included, by at most 2 items
-    /// read.
+    /// The same as `range_min`, by at most 2 items read.
     #[inline(always)]
     pub fn range_min_counted(&self, i: usize, j: usize, tally: &mut Tally) -> usize
         requires order { i ≤ j }
         requires inside { j < length self.now }
-        ensures value { IsFirstLeast self.now i j result }
+        ensures value { result ≡ least_place self.now i j }
+        ensures within { (i ≤ result) × (result ≤ j) }
         ensures adds { AddsAtMost tally.old tally.new (only_items 2) }
     {
         self.range_min_item_counted(i, j, tally).place
@@ -198,17 +199,14 @@ impl<A: Allocator + Copy> BinaryRmq<A> {
     pub fn range_min(&self, i: usize, j: usize) -> usize
         requires order { i ≤ j }
         requires inside { j < length self.now }
-        ensures { IsFirstLeast self.now i j result }
+        ensures value { result ≡ least_place self.now i j }
+        ensures within { (i ≤ result) × (result ≤ j) }
     {
         let mut tally = Tally::new();
         self.range_min_counted(i, j, &mut tally)
     }
 
-    /// The first place of a least item in a range of which the ends are cut to the places of the list,
-    /// by at most 2 items read.
-    ///
-    /// There is at least one item, a start excluded is not the greatest number, an end excluded is not
-    /// 0, and the start, cut so, is not past the end.
+    /// The same as `range_min_with_range`, by at most 2 items read.
     #[inline(always)]
     pub fn range_min_with_range_counted(
         &self,
@@ -217,8 +215,8 @@ impl<A: Allocator + Copy> BinaryRmq<A> {
         tally: &mut Tally,
     ) -> usize
         requires { IsRangeOf start end (length self.now) }
-        ensures value { IsFirstLeast self.now
-            (start_place start (length self.now)) (end_place end (length self.now)) result }
+        ensures value { result ≡ least_place self.now
+            (start_place start (length self.now)) (end_place end (length self.now)) }
         ensures adds { AddsAtMost tally.old tally.new (only_items 2) }
     {
         let n = self.len();
@@ -233,8 +231,8 @@ impl<A: Allocator + Copy> BinaryRmq<A> {
     #[inline]
     pub fn range_min_with_range(&self, start: Bound<usize>, end: Bound<usize>) -> usize
         requires { IsRangeOf start end (length self.now) }
-        ensures { IsFirstLeast self.now
-            (start_place start (length self.now)) (end_place end (length self.now)) result }
+        ensures { result ≡ least_place self.now
+            (start_place start (length self.now)) (end_place end (length self.now)) }
     {
         let mut tally = Tally::new();
         self.range_min_with_range_counted(start, end, &mut tally)

@@ -2,7 +2,7 @@
 ghost use Rattle.std.specs.Prelude.{◌≡◌, ◌+◌, ◌-◌, ◌*◌, ◌/◌, ◌^◌, ◌<◌, ◌≤◌, ◌↔◌, [], ℕ, length, min, slice_index, IsTrue, IfOk, IfErr};
 ghost use Rattle.std.specs.Iterator.{Drains, IsFinite};
 ghost use Rattle.vers_tally.specs.Reads.{only_items, AddsAtMost};
-ghost use Rattle.vers_rmq.specs.Minima.{IsFirstLeast};
+ghost use Rattle.vers_rmq.specs.Minima.{IsFirstLeast, least_place};
 ghost use Rattle.vers_rmq.specs.inside.Candidates.{IsLeastItem};
 ghost use Rattle.vers_rmq.specs.Layout.{fast_heap_size};
 ghost use Rattle.vers_rmq.specs.Ranges.{start_place, end_place, IsRangeOf};
@@ -21,7 +21,7 @@ use std::alloc::{AllocError, Allocator};
 use std::marker::Model;
 use std::ops::Bound;
 use vers_bits::bit_vec::GrowError;
-use vers_tally::tally::{CountedItems, Tally};
+use vers_tally::tally::{CountedItems, Tally, Uncounted};
 
 /// The most items that a `FastRmq` holds.
 pub const MAX_LEN: usize = 549755813760;
@@ -63,7 +63,7 @@ impl<A: Allocator + Copy> Clone for FastRmq<A> {
     /// A second value of the same items, with a copy of what is kept of the blocks.
     fn clone(&self) -> Result<Self, AllocError> {
         let alloc = *self.places.allocator();
-        let items = Vec::from_slice(alloc, self.items.as_slice())?;
+        let items = Vec::from_slice(alloc, self.items.as_slice(Uncounted))?;
         let minima = self.minima.clone()?;
         let places = Vec::from_slice(alloc, self.places.as_slice())?;
         let masks = Vec::from_slice(alloc, self.masks.as_slice())?;
@@ -132,7 +132,7 @@ impl<A: Allocator + Copy> FastRmq<A> {
     pub fn as_slice(&self) -> &[u64]
         ensures { result.now ≡ self.now }
     {
-        self.items.as_slice()
+        self.items.as_slice(Uncounted)
     }
 
     /// A copy of the allocator.
@@ -330,14 +330,14 @@ impl<A: Allocator + Copy> FastRmq<A> {
         self.least_up_to(from, j, tally).place
     }
 
-    /// The first place of a least item from place `i` to place `j`, both included, by at most 18 items
-    /// read. Over more than one block they are at most 6, over parts of one block at most 8, and in one
-    /// part at most 16.
+    /// The same as `range_min`, by at most 18 items read: at most 6 over more than one block, 8
+    /// over parts of one block, and 16 in one part.
     #[inline(always)]
     pub fn range_min_counted(&self, i: usize, j: usize, tally: &mut Tally) -> usize
         requires order { i ≤ j }
         requires inside { j < length self.now }
-        ensures value { IsFirstLeast self.now i j result }
+        ensures value { result ≡ least_place self.now i j }
+        ensures within { (i ≤ result) × (result ≤ j) }
         ensures adds { AddsAtMost tally.old tally.new (only_items 18) }
     {
         if i / 16 == j / 16 {
@@ -354,17 +354,14 @@ impl<A: Allocator + Copy> FastRmq<A> {
     pub fn range_min(&self, i: usize, j: usize) -> usize
         requires order { i ≤ j }
         requires inside { j < length self.now }
-        ensures { IsFirstLeast self.now i j result }
+        ensures value { result ≡ least_place self.now i j }
+        ensures within { (i ≤ result) × (result ≤ j) }
     {
         let mut tally = Tally::new();
         self.range_min_counted(i, j, &mut tally)
     }
 
-    /// The first place of a least item in a range of which the ends are cut to the places of the list,
-    /// by as many items read as `range_min_counted`.
-    ///
-    /// There is at least one item, a start excluded is not the greatest number, an end excluded is not
-    /// 0, and the start, cut so, is not past the end.
+    /// The same as `range_min_with_range`, by as many items read as `range_min_counted`.
     #[inline(always)]
     pub fn range_min_with_range_counted(
         &self,
@@ -373,8 +370,8 @@ impl<A: Allocator + Copy> FastRmq<A> {
         tally: &mut Tally,
     ) -> usize
         requires { IsRangeOf start end (length self.now) }
-        ensures value { IsFirstLeast self.now
-            (start_place start (length self.now)) (end_place end (length self.now)) result }
+        ensures value { result ≡ least_place self.now
+            (start_place start (length self.now)) (end_place end (length self.now)) }
         ensures adds { AddsAtMost tally.old tally.new (only_items 18) }
     {
         let n = self.len();
@@ -389,8 +386,8 @@ impl<A: Allocator + Copy> FastRmq<A> {
     #[inline]
     pub fn range_min_with_range(&self, start: Bound<usize>, end: Bound<usize>) -> usize
         requires { IsRangeOf start end (length self.now) }
-        ensures { IsFirstLeast self.now
-            (start_place start (length self.now)) (end_place end (length self.now)) result }
+        ensures { result ≡ least_place self.now
+            (start_place start (length self.now)) (end_place end (length self.now)) }
     {
         let mut tally = Tally::new();
         self.range_min_with_range_counted(start, end, &mut tally)

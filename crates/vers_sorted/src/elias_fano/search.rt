@@ -172,8 +172,8 @@ impl<A: Allocator + Copy> EliasFanoVec<A> {
         self.with_low_part((place - i - 1) as u64, i, tally)
     }
 
-    /// Whether a number is a member. Reads as `rank_counted`, and no select beyond those for the
-    /// members with its high part.
+    /// The same as `has`, by at most as many low parts and queries of the high parts as the number
+    /// of members has binary digits, and 8 more.
     #[inline(always)]
     #[tactic(auto, using(crate::proofs::Members::members, crate::proofs::Bounds::bounds))]
     pub fn has_counted(&self, v: u64, tally: &mut Tally) -> bool
@@ -199,8 +199,7 @@ impl<A: Allocator + Copy> EliasFanoVec<A> {
         self.with_low_part(bucket.high, k, tally) == v
     }
 
-    /// The member at a place. None past the last. By at most 2 low parts and 2 queries of the high
-    /// parts.
+    /// The same as `get`, by at most 2 low parts and 2 queries of the high parts.
     #[inline(always)]
     #[tactic(auto, using(crate::proofs::Packed::gets, crate::proofs::Bounds::bounds))]
     pub fn get_counted(&self, i: usize, tally: &mut Tally) -> Option<u64>
@@ -224,8 +223,7 @@ impl<A: Allocator + Copy> EliasFanoVec<A> {
         self.get_counted(i, tally)
     }
 
-    /// How far member `i` lies above the one before it, and the first member itself for 0. None
-    /// past the last. By at most 2 low parts and 2 queries of the high parts.
+    /// The same as `delta`, by at most 2 low parts and 2 queries of the high parts.
     #[inline(always)]
     #[tactic(auto, using(crate::proofs::Neighbours::deltas, crate::proofs::Bounds::bounds))]
     pub fn delta_counted(&self, i: usize, tally: &mut Tally) -> Option<u64>
@@ -246,10 +244,8 @@ impl<A: Allocator + Copy> EliasFanoVec<A> {
         Some(member - before)
     }
 
-    /// How many members are below `v`.
-    ///
-    /// By at most as many low parts and queries of the high parts as the number of members has
-    /// binary digits, and 8 more, with any number of equal members.
+    /// The same as `rank`, by at most as many low parts and queries of the high parts as the number
+    /// of members has binary digits, and 8 more.
     #[inline(always)]
     #[tactic(auto, using(crate::proofs::Bounds::bounds, crate::proofs::Buckets::ends))]
     pub fn rank_counted(&self, v: u64, tally: &mut Tally) -> u64
@@ -272,7 +268,8 @@ impl<A: Allocator + Copy> EliasFanoVec<A> {
         self.below_in(bucket, v, tally) as u64
     }
 
-    /// The greatest member that is not above `v`. None where there is none. Reads as `rank_counted`.
+    /// The same as `predecessor`, by at most as many low parts and queries of the high parts as the
+    /// number of members has binary digits, and 8 more.
     #[inline(always)]
     #[tactic(auto, using(crate::proofs::Bounds::bounds, crate::proofs::Buckets::ends))]
     pub fn predecessor_counted(&self, v: u64, tally: &mut Tally) -> Option<u64>
@@ -301,7 +298,8 @@ impl<A: Allocator + Copy> EliasFanoVec<A> {
         Some(self.with_low_part(bucket.high, k - 1, tally))
     }
 
-    /// The least member that is not below `v`. None where there is none. Reads as `rank_counted`.
+    /// The same as `successor`, by at most as many low parts and queries of the high parts as the
+    /// number of members has binary digits, and 8 more.
     #[inline(always)]
     #[tactic(auto, using(crate::proofs::Bounds::bounds, crate::proofs::Buckets::ends))]
     pub fn successor_counted(&self, v: u64, tally: &mut Tally) -> Option<u64>

@@ -163,8 +163,7 @@ impl<const BLOCK_SIZE: usize, A: Allocator + Copy> BpTree<BLOCK_SIZE, A> {
         self.is_open_counted(i, &mut tally)
     }
 
-    /// Whether the parenthesis at a place opens, by one bit read. None for a place that the list doesn't
-    /// have.
+    /// The same as `is_open`, by one bit read.
     #[inline(always)]
     pub fn is_open_counted(&self, i: usize, tally: &mut Tally) -> Option<bool>
         ensures value { result ≡ slice_get self.now i }
@@ -186,8 +185,7 @@ impl<const BLOCK_SIZE: usize, A: Allocator + Copy> BpTree<BLOCK_SIZE, A> {
         self.excess_counted(i, &mut tally)
     }
 
-    /// The excess past the bit at a place: the ones less the zeros up to it, itself among them. By the
-    /// reads of one rank.
+    /// The same as `excess`, by the reads of one rank.
     #[inline(always)]
     pub fn excess_counted(&self, i: usize, tally: &mut Tally) -> i64
         requires { i < length self.now }
@@ -209,9 +207,8 @@ impl<const BLOCK_SIZE: usize, A: Allocator + Copy> BpTree<BLOCK_SIZE, A> {
         self.fwd_search_counted(i, r, &mut tally)
     }
 
-    /// The first place after `i` past which the excess is `r` more than past `i`, by at most two
-    /// blocks, four nodes a level, and twice as many bits as a block has. None where there is none, and
-    /// for a place that the list doesn't have.
+    /// The same as `fwd_search`, by at most two blocks, four nodes a level, and twice as many bits
+    /// as a block has.
     #[inline(always)]
     pub fn fwd_search_counted(&self, i: usize, r: i64, tally: &mut Tally) -> Option<usize>
         ensures value { result ≡ first_rise_after self.now i r }
@@ -230,9 +227,8 @@ impl<const BLOCK_SIZE: usize, A: Allocator + Copy> BpTree<BLOCK_SIZE, A> {
         self.bwd_search_counted(i, r, &mut tally)
     }
 
-    /// The last place before `i` before which the excess is `r` more than before `i`, by at most two
-    /// blocks, four nodes a level, and twice as many bits as a block has. None where there is none, and
-    /// for a place that the list doesn't have.
+    /// The same as `bwd_search`, by at most two blocks, four nodes a level, and twice as many bits
+    /// as a block has.
     #[inline(always)]
     pub fn bwd_search_counted(&self, i: usize, r: i64, tally: &mut Tally) -> Option<usize>
         ensures value { result ≡ last_rise_before self.now i r }
@@ -319,7 +315,7 @@ impl<const BLOCK_SIZE: usize, A: Allocator + Copy> BpTree<BLOCK_SIZE, A> {
         self.is_balanced_counted(&mut tally)
     }
 
-    /// Whether the parentheses are balanced, by one node and no bit.
+    /// The same as `is_balanced`, by one node and no bit.
     #[inline(always)]
     pub fn is_balanced_counted(&self, tally: &mut Tally) -> bool
         ensures value { Decides result (IsBalanced self.now) }
@@ -341,8 +337,7 @@ impl<const BLOCK_SIZE: usize, A: Allocator + Copy> BpTree<BLOCK_SIZE, A> {
         self.node_handle_counted(i, &mut tally)
     }
 
-    /// The place of one number `i`, counted from 0, or the number of bits where there are no more, by
-    /// the reads of one select.
+    /// The same as `node_handle`, by the reads of one select.
     #[inline(always)]
     pub fn node_handle_counted(&self, i: usize, tally: &mut Tally) -> usize
         ensures value { result ≡ select true self.now i }

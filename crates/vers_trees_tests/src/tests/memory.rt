@@ -4,7 +4,7 @@
 //! What is made of a given block size names its allocator: its size over any allocator is not known.
 use crate::tests::builders::stepped;
 use crate::tests::lists::{Query, ask, tree_of};
-use crate::tests::nodes::are_balanced;
+use crate::tests::nodes::{are_balanced, node_at};
 use crate::tests::plain::{
     Group, Node, Order, answer, is_ancestor, leftmost, nodes_of, places, rightmost,
 };
@@ -46,7 +46,7 @@ struct Forest<'a> {
 }
 
 // What is asked of some nodes, beside what is asked of all.
-const QUESTIONS: [Question; 11] = [
+const QUESTIONS: [Question; 12] = [
     Question::FirstChild,
     Question::LastChild,
     Question::NextSibling,
@@ -55,6 +55,7 @@ const QUESTIONS: [Question; 11] = [
     Question::Index,
     Question::IsLeaf,
     Question::Depth,
+    Question::SubtreeSize,
     Question::LevelNext,
     Question::LevelPrev,
     Question::LevelAncestor(1),
@@ -104,6 +105,23 @@ fn has_walks<const N: usize, A: Allocator + Copy>(tree: &BpTree<N, A>, closed: &
         }
     }
     true
+}
+
+// Whether the walk over the first root and what is below it gives all nodes, as they open.
+fn has_subtree<const N: usize, A: Allocator + Copy>(tree: &BpTree<N, A>, nodes: &[Node]) -> bool {
+    if !are_balanced(tree) {
+        return false;
+    }
+    let Some(root) = node_at(tree, 0) else {
+        return nodes.is_empty();
+    };
+    let mut walk = tree.subtree_iter(root);
+    for node in nodes {
+        if walk.next() != Some(node.open) {
+            return false;
+        }
+    }
+    walk.next().is_none()
 }
 
 fn item(items: &[usize], k: usize) -> Option<usize> {
@@ -184,6 +202,7 @@ impl<const N: usize, A: Allocator + Copy> Check<BpTree<N, A>> for Forest<'_> {
             && has_kin(tree, self.nodes, len / 2)
             && has_kin(tree, self.nodes, len.wrapping_sub(1))
             && has_walks(tree, self.closed)
+            && has_subtree(tree, self.nodes)
             && has_postorder(tree, self.closed)
     }
 }

@@ -25,9 +25,8 @@ impl<A: Allocator + Copy> WaveletMatrix<A> {
         self.rank_range_counted(range, symbol, &mut tally)
     }
 
-    /// How many places of a range hold a symbol. None for a symbol of another length, and for a
-    /// range that starts at or past the end, ends past it or is reversed. By at most `4k` rank
-    /// calls for symbols of `k` bits, each within the reads of one select of a level.
+    /// The same as `rank_range`, by at most `4k` rank calls for symbols of `k` bits, each within
+    /// the reads of one select of a level.
     #[inline(always)]
     pub fn rank_range_counted(
         &self,
@@ -78,10 +77,8 @@ impl<A: Allocator + Copy> WaveletMatrix<A> {
         self.rank_offset_counted(offset, end, symbol, &mut tally)
     }
 
-    /// How many places from `offset` on, before `end`, hold a symbol. None for a symbol of another
-    /// length, for an `offset` at or past the end of the list, and for an `end` past it or before
-    /// `offset`. By at most `4k` rank calls for symbols of `k` bits, each within the reads of one
-    /// select of a level.
+    /// The same as `rank_offset`, by at most `4k` rank calls for symbols of `k` bits, each within
+    /// the reads of one select of a level.
     #[inline(always)]
     pub fn rank_offset_counted(
         &self,
@@ -122,9 +119,8 @@ impl<A: Allocator + Copy> WaveletMatrix<A> {
         self.rank_counted(end, symbol, &mut tally)
     }
 
-    /// How many of the first `end` places hold a symbol. None for a symbol of another length, and
-    /// where there are not so many places. By at most `4k` rank calls for symbols of `k` bits, each
-    /// within the reads of one select of a level.
+    /// The same as `rank`, by at most `4k` rank calls for symbols of `k` bits, each within the
+    /// reads of one select of a level.
     #[inline(always)]
     pub fn rank_counted(&self, end: usize, symbol: &BitVec<A>, tally: &mut Tally) -> Option<usize>
         ensures value { IfSome result (λ n. n
@@ -163,10 +159,8 @@ impl<A: Allocator + Copy> WaveletMatrix<A> {
         self.rank_range_u64_counted(range, symbol, &mut tally)
     }
 
-    /// How many places of a range hold a symbol, of which the low digits count. None where the
-    /// symbols have more than 64 bits, and for a range that starts at or past the end, ends past it
-    /// or is reversed. By at most `4k` rank calls for symbols of `k` bits, each within the reads of
-    /// one select of a level.
+    /// The same as `rank_range_u64`, by at most `4k` rank calls for symbols of `k` bits, each
+    /// within the reads of one select of a level.
     #[inline(always)]
     pub fn rank_range_u64_counted(
         &self,
@@ -213,10 +207,8 @@ impl<A: Allocator + Copy> WaveletMatrix<A> {
         self.rank_offset_u64_counted(offset, end, symbol, &mut tally)
     }
 
-    /// How many places from `offset` on, before `end`, hold a symbol, of which the low digits
-    /// count. None where the symbols have more than 64 bits, for an `offset` at or past the end of
-    /// the list, and for an `end` past it or before `offset`. By at most `4k` rank calls for
-    /// symbols of `k` bits, each within the reads of one select of a level.
+    /// The same as `rank_offset_u64`, by at most `4k` rank calls for symbols of `k` bits, each
+    /// within the reads of one select of a level.
     #[inline(always)]
     pub fn rank_offset_u64_counted(
         &self,
@@ -256,9 +248,8 @@ impl<A: Allocator + Copy> WaveletMatrix<A> {
         self.rank_u64_counted(end, symbol, &mut tally)
     }
 
-    /// How many of the first `end` places hold a symbol, of which the low digits count. None where
-    /// the symbols have more than 64 bits, and where there are not so many places. By at most `4k`
-    /// rank calls for symbols of `k` bits, each within the reads of one select of a level.
+    /// The same as `rank_u64`, by at most `4k` rank calls for symbols of `k` bits, each within the
+    /// reads of one select of a level.
     #[inline(always)]
     pub fn rank_u64_counted(&self, end: usize, symbol: u64, tally: &mut Tally) -> Option<usize>
         ensures value { IfSome result (λ n. n

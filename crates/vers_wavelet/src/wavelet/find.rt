@@ -28,10 +28,8 @@ impl<A: Allocator + Copy> WaveletMatrix<A> {
         self.select_offset_counted(offset, rank, symbol, &mut tally)
     }
 
-    /// The place of occurrence `rank`, counted from 0, of a symbol, among those from `offset` on.
-    /// None for a symbol of another length, for an `offset` at or past the end, and where there are
-    /// not so many. By at most `4k` rank calls for symbols of `k` bits, each within the reads of
-    /// one select of a level.
+    /// The same as `select_offset`, by at most `4k` rank calls for symbols of `k` bits, each within
+    /// the reads of one select of a level.
     #[inline(always)]
     pub fn select_offset_counted(
         &self,
@@ -81,9 +79,8 @@ impl<A: Allocator + Copy> WaveletMatrix<A> {
         self.select_counted(rank, symbol, &mut tally)
     }
 
-    /// The place of occurrence `rank`, counted from 0, of a symbol. None for a symbol of another
-    /// length, and where there are not so many. By at most `4k` rank calls for symbols of `k` bits,
-    /// each within the reads of one select of a level.
+    /// The same as `select`, by at most `4k` rank calls for symbols of `k` bits, each within the
+    /// reads of one select of a level.
     #[inline(always)]
     pub fn select_counted(
         &self,
@@ -131,10 +128,8 @@ impl<A: Allocator + Copy> WaveletMatrix<A> {
         self.select_offset_u64_counted(offset, rank, symbol, &mut tally)
     }
 
-    /// The place of occurrence `rank`, counted from 0, of a symbol, of which the low digits count,
-    /// among those from `offset` on. None where the symbols have more than 64 bits, for an `offset`
-    /// at or past the end, and where there are not so many. By at most `4k` rank calls for symbols
-    /// of `k` bits, each within the reads of one select of a level.
+    /// The same as `select_offset_u64`, by at most `4k` rank calls for symbols of `k` bits, each
+    /// within the reads of one select of a level.
     #[inline(always)]
     pub fn select_offset_u64_counted(
         &self,
@@ -184,9 +179,8 @@ impl<A: Allocator + Copy> WaveletMatrix<A> {
         self.select_u64_counted(rank, symbol, &mut tally)
     }
 
-    /// The place of occurrence `rank`, counted from 0, of a symbol, of which the low digits count.
-    /// None where the symbols have more than 64 bits, and where there are not so many. By at most
-    /// `4k` rank calls for symbols of `k` bits, each within the reads of one select of a level.
+    /// The same as `select_u64`, by at most `4k` rank calls for symbols of `k` bits, each within
+    /// the reads of one select of a level.
     #[inline(always)]
     pub fn select_u64_counted(&self, rank: usize, symbol: u64, tally: &mut Tally) -> Option<usize>
         ensures value { IfSome result (λ p. slice_get

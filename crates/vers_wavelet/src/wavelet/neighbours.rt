@@ -36,10 +36,8 @@ impl<A: Allocator + Copy> WaveletMatrix<A> {
         self.predecessor_counted(range, symbol, &mut tally)
     }
 
-    /// The greatest symbol of a range that is not above a symbol. None for a symbol of another
-    /// length, for a range that is reversed or ends past the end, and where there is no such
-    /// symbol. By at most `4k` rank calls for symbols of `k` bits, each within the reads of one
-    /// select of a level.
+    /// The same as `predecessor`, by at most `4k` rank calls for symbols of `k` bits, each within
+    /// the reads of one select of a level.
     #[inline(always)]
     pub fn predecessor_counted(
         &self,
@@ -96,10 +94,8 @@ impl<A: Allocator + Copy> WaveletMatrix<A> {
         self.successor_counted(range, symbol, &mut tally)
     }
 
-    /// The least symbol of a range that is not below a symbol. None for a symbol of another length,
-    /// for a range that is reversed or ends past the end, and where there is no such symbol. By at
-    /// most `4k` rank calls for symbols of `k` bits, each within the reads of one select of a
-    /// level.
+    /// The same as `successor`, by at most `4k` rank calls for symbols of `k` bits, each within the
+    /// reads of one select of a level.
     #[inline(always)]
     pub fn successor_counted(
         &self,
@@ -148,10 +144,8 @@ impl<A: Allocator + Copy> WaveletMatrix<A> {
         self.predecessor_u64_counted(range, symbol, &mut tally)
     }
 
-    /// The greatest symbol of a range that is not above a symbol, of which the low digits count.
-    /// None where the symbols have more than 64 bits, for a range that is reversed or ends past the
-    /// end, and where there is no such symbol. By at most `4k` rank calls for symbols of `k` bits,
-    /// each within the reads of one select of a level.
+    /// The same as `predecessor_u64`, by at most `4k` rank calls for symbols of `k` bits, each
+    /// within the reads of one select of a level.
     #[inline(always)]
     pub fn predecessor_u64_counted(
         &self,
@@ -192,10 +186,8 @@ impl<A: Allocator + Copy> WaveletMatrix<A> {
         self.successor_u64_counted(range, symbol, &mut tally)
     }
 
-    /// The least symbol of a range that is not below a symbol, of which the low digits count. None
-    /// where the symbols have more than 64 bits, for a range that is reversed or ends past the end,
-    /// and where there is no such symbol. By at most `4k` rank calls for symbols of `k` bits, each
-    /// within the reads of one select of a level.
+    /// The same as `successor_u64`, by at most `4k` rank calls for symbols of `k` bits, each within
+    /// the reads of one select of a level.
     #[inline(always)]
     pub fn successor_u64_counted(
         &self,

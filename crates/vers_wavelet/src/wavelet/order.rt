@@ -28,9 +28,8 @@ impl<A: Allocator + Copy> WaveletMatrix<A> {
         self.quantile_counted(range, i, &mut tally)
     }
 
-    /// Member `i` of a range by size, counted from 0, equal ones too. None for a range that ends
-    /// past the end, and where the range has not so many places. By at most `4k` rank calls for
-    /// symbols of `k` bits, each within the reads of one select of a level.
+    /// The same as `quantile`, by at most `4k` rank calls for symbols of `k` bits, each within the
+    /// reads of one select of a level.
     #[inline(always)]
     pub fn quantile_counted(
         &self,
@@ -80,9 +79,8 @@ impl<A: Allocator + Copy> WaveletMatrix<A> {
         self.get_sorted_counted(i, &mut tally)
     }
 
-    /// Member `i` of all symbols by size, counted from 0, equal ones too. None where there are not
-    /// so many. By at most `4k` rank calls for symbols of `k` bits, each within the reads of one
-    /// select of a level.
+    /// The same as `get_sorted`, by at most `4k` rank calls for symbols of `k` bits, each within
+    /// the reads of one select of a level.
     #[inline(always)]
     pub fn get_sorted_counted(
         &self,
@@ -121,9 +119,8 @@ impl<A: Allocator + Copy> WaveletMatrix<A> {
         self.range_min_counted(range, &mut tally)
     }
 
-    /// The least symbol of a range. None for a range that is empty, reversed or ends past the end.
-    /// By at most `4k` rank calls for symbols of `k` bits, each within the reads of one select of a
-    /// level.
+    /// The same as `range_min`, by at most `4k` rank calls for symbols of `k` bits, each within the
+    /// reads of one select of a level.
     #[inline(always)]
     pub fn range_min_counted(
         &self,
@@ -166,9 +163,8 @@ impl<A: Allocator + Copy> WaveletMatrix<A> {
         self.range_max_counted(range, &mut tally)
     }
 
-    /// The greatest symbol of a range. None for a range that is empty, reversed or ends past the
-    /// end. By at most `4k` rank calls for symbols of `k` bits, each within the reads of one select
-    /// of a level.
+    /// The same as `range_max`, by at most `4k` rank calls for symbols of `k` bits, each within the
+    /// reads of one select of a level.
     #[inline(always)]
     pub fn range_max_counted(
         &self,
@@ -217,9 +213,8 @@ impl<A: Allocator + Copy> WaveletMatrix<A> {
         self.range_median_counted(range, &mut tally)
     }
 
-    /// The symbol in the middle of a range by size, the lower one of two. None for a range that is
-    /// empty, reversed or ends past the end. By at most `4k` rank calls for symbols of `k` bits,
-    /// each within the reads of one select of a level.
+    /// The same as `range_median`, by at most `4k` rank calls for symbols of `k` bits, each within
+    /// the reads of one select of a level.
     #[inline(always)]
     pub fn range_median_counted(
         &self,
@@ -266,10 +261,8 @@ impl<A: Allocator + Copy> WaveletMatrix<A> {
         self.quantile_u64_counted(range, i, &mut tally)
     }
 
-    /// Member `i` of a range by size, counted from 0, equal ones too. None where the symbols have
-    /// more than 64 bits, for a range that ends past the end, and where the range has not so many
-    /// places. By at most `4k` rank calls for symbols of `k` bits, each within the reads of one
-    /// select of a level.
+    /// The same as `quantile_u64`, by at most `4k` rank calls for symbols of `k` bits, each within
+    /// the reads of one select of a level.
     #[inline(always)]
     pub fn quantile_u64_counted(
         &self,
@@ -319,9 +312,8 @@ impl<A: Allocator + Copy> WaveletMatrix<A> {
         self.get_sorted_u64_counted(i, &mut tally)
     }
 
-    /// Member `i` of all symbols by size, counted from 0, equal ones too. None where the symbols
-    /// have more than 64 bits, and where there are not so many. By at most `4k` rank calls for
-    /// symbols of `k` bits, each within the reads of one select of a level.
+    /// The same as `get_sorted_u64`, by at most `4k` rank calls for symbols of `k` bits, each
+    /// within the reads of one select of a level.
     #[inline(always)]
     pub fn get_sorted_u64_counted(&self, i: usize, tally: &mut Tally) -> Option<u64>
         ensures value { IfSome result (λ x. IsKth self.now.items i x) }
@@ -353,9 +345,8 @@ impl<A: Allocator + Copy> WaveletMatrix<A> {
         self.range_min_u64_counted(range, &mut tally)
     }
 
-    /// The least symbol of a range. None where the symbols have more than 64 bits, and for a range
-    /// that is empty, reversed or ends past the end. By at most `4k` rank calls for symbols of `k`
-    /// bits, each within the reads of one select of a level.
+    /// The same as `range_min_u64`, by at most `4k` rank calls for symbols of `k` bits, each within
+    /// the reads of one select of a level.
     #[inline(always)]
     pub fn range_min_u64_counted(&self, range: Range<usize>, tally: &mut Tally) -> Option<u64>
         ensures value { IfSome result (λ x. IsKth (slice_range self.now.items range.start range.end)
@@ -389,9 +380,8 @@ impl<A: Allocator + Copy> WaveletMatrix<A> {
         self.range_max_u64_counted(range, &mut tally)
     }
 
-    /// The greatest symbol of a range. None where the symbols have more than 64 bits, and for a
-    /// range that is empty, reversed or ends past the end. By at most `4k` rank calls for symbols
-    /// of `k` bits, each within the reads of one select of a level.
+    /// The same as `range_max_u64`, by at most `4k` rank calls for symbols of `k` bits, each within
+    /// the reads of one select of a level.
     #[inline(always)]
     pub fn range_max_u64_counted(&self, range: Range<usize>, tally: &mut Tally) -> Option<u64>
         ensures value { IfSome result (λ x. IsKth (slice_range self.now.items range.start range.end)
@@ -431,10 +421,8 @@ impl<A: Allocator + Copy> WaveletMatrix<A> {
         self.range_median_u64_counted(range, &mut tally)
     }
 
-    /// The symbol in the middle of a range by size, the lower one of two. None where the symbols
-    /// have more than 64 bits, and for a range that is empty, reversed or ends past the end. By at
-    /// most `4k` rank calls for symbols of `k` bits, each within the reads of one select of a
-    /// level.
+    /// The same as `range_median_u64`, by at most `4k` rank calls for symbols of `k` bits, each
+    /// within the reads of one select of a level.
     #[inline(always)]
     pub fn range_median_u64_counted(&self, range: Range<usize>, tally: &mut Tally) -> Option<u64>
         ensures value { IfSome result (λ x. IsKth (slice_range self.now.items range.start range.end)

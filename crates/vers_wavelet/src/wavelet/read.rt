@@ -22,8 +22,8 @@ impl<A: Allocator + Copy> WaveletMatrix<A> {
         self.get_value_counted(place, &mut tally)
     }
 
-    /// The symbol at a place. None for a place that the list doesn't have. By at most `4k` rank
-    /// calls for symbols of `k` bits, each within the reads of one select of a level.
+    /// The same as `get_value`, by at most `4k` rank calls for symbols of `k` bits, each within the
+    /// reads of one select of a level.
     #[inline(always)]
     pub fn get_value_counted(
         &self,
@@ -66,8 +66,7 @@ impl<A: Allocator + Copy> WaveletMatrix<A> {
         self.get_u64_counted(place, &mut tally)
     }
 
-    /// The symbol at a place. None where the symbols have more than 64 bits, and for a place that
-    /// the list doesn't have. By at most `4k` rank calls for symbols of `k` bits, each within the
+    /// The same as `get_u64`, by at most `4k` rank calls for symbols of `k` bits, each within the
     /// reads of one select of a level.
     #[inline(always)]
     pub fn get_u64_counted(&self, place: usize, tally: &mut Tally) -> Option<u64>

@@ -1,8 +1,8 @@
 //! Answers for numbers compared with those of a plain list, over every range and every symbol.
-use crate::tests::lists::list_answer;
-use crate::tests::numbers::{Query, answer, symbols_of};
-use std::alloc::{AllocError, Allocator};
-use test_alloc::asked;
+use crate::tests::lists::is_answered_in_lists;
+use crate::tests::numbers::{Query, is_answered, symbols_of};
+use std::alloc::Allocator;
+use test_alloc::{Check, is_made_right};
 use vers_wavelet::wavelet::WaveletMatrix;
 
 // Lists of symbols of 3 bits, which fit in a few symbols more than one limb too.
@@ -81,7 +81,7 @@ fn plain_of_range(part: &[u64], query: Query) -> Option<u64> {
 }
 
 // The answer of a query by the plain list.
-fn plain(numbers: &[u64], query: Query) -> Option<u64> {
+fn plain_answer(numbers: &[u64], query: Query) -> Option<u64> {
     match query {
         Query::Select(r, s) => found(numbers, r, s),
         Query::RankRange(a, _, _) if a >= numbers.len() => None,
@@ -92,63 +92,75 @@ fn plain(numbers: &[u64], query: Query) -> Option<u64> {
     }
 }
 
-// A query that numbers and lists of bits answer otherwise than the plain list.
-fn wrong_query<A: Allocator + Copy>(
-    alloc: A,
-    list: &WaveletMatrix<A>,
-    numbers: &[u64],
-    query: Query,
-) -> bool {
-    let wanted = plain(numbers, query);
-    answer(list, query) != wanted || list_answer(alloc, list, query) != wanted
+// A range of a list, and a symbol or the number of a member.
+#[derive(Clone, Copy, Drop)]
+struct Part {
+    a: usize,
+    b: usize,
+    s: u64,
 }
 
-// The first range of a list, and the symbol or the number of a member, that some query answers wrong.
-fn first_wrong_range<A: Allocator + Copy>(
+// Whether numbers and lists of bits answer each query about a part as the plain list does.
+fn is_right_about<A: Allocator + Copy>(
     alloc: A,
     list: &WaveletMatrix<A>,
     numbers: &[u64],
-) -> Option<(usize, usize, u64)> {
-    let end = numbers.len().saturating_add(2);
-    for a in 0..end {
-        for b in 0..end {
-            for s in 0..8 {
-                let queries = [
-                    Query::RankRange(a, b, s),
-                    Query::Select(a, s),
-                    Query::Quantile(a, b, s as usize),
-                    Query::Predecessor(a, b, s),
-                    Query::Successor(a, b, s),
-                ];
-                for query in queries.iter() {
-                    if wrong_query(alloc, list, numbers, *query) {
-                        return Some((a, b, s));
+    part: Part,
+) -> bool {
+    let Part { a, b, s } = part;
+    let queries = [
+        Query::RankRange(a, b, s),
+        Query::Select(a, s),
+        Query::Quantile(a, b, s as usize),
+        Query::Predecessor(a, b, s),
+        Query::Successor(a, b, s),
+    ];
+    for query in queries.iter() {
+        let wanted = plain_answer(numbers, *query);
+        if !is_answered(list, *query, wanted)
+            || !is_answered_in_lists(alloc, list, *query, wanted)
+        {
+            return false;
+        }
+    }
+    true
+}
+
+// A plain list, which stands for its symbols.
+#[derive(Drop)]
+struct Plain<'a, A: Allocator + Copy> {
+    alloc: A,
+    numbers: &'a [u64],
+}
+
+// Whether symbols answer as it does about each part.
+impl<A: Allocator + Copy> Check<WaveletMatrix<A>> for Plain<'_, A> {
+    fn is_right(&self, list: &mut WaveletMatrix<A>) -> bool {
+        let end = self.numbers.len().saturating_add(2);
+        for a in 0..end {
+            for b in 0..end {
+                for s in 0..8 {
+                    if !is_right_about(self.alloc, list, self.numbers, Part { a, b, s }) {
+                        return false;
                     }
                 }
             }
+        }
+        true
+    }
+}
+
+// The first list whose symbols answer a query otherwise.
+fn first_wrong_list<A: Allocator + Copy>(alloc: A, lists: &[&[u64]]) -> Option<usize> {
+    for (case, numbers) in lists.iter().enumerate() {
+        if !is_made_right(symbols_of(alloc, numbers, 3), &Plain { alloc, numbers }) {
+            return Some(case);
         }
     }
     None
 }
 
-// The first list that answers a query otherwise, and about which range and symbol.
-fn first_wrong_list<A: Allocator + Copy>(
-    alloc: A,
-    lists: &[&[u64]],
-) -> Result<Option<(usize, (usize, usize, u64))>, AllocError> {
-    for (case, numbers) in lists.iter().enumerate() {
-        let wrong = asked(
-            symbols_of(alloc, numbers, 3),
-            |list| first_wrong_range(alloc, list, numbers),
-        )?;
-        if let Some(range) = wrong {
-            return Ok(Some((case, range)));
-        }
-    }
-    Ok(None)
-}
-
 #[test]
 fn every_range_as_a_plain_list(rt: HostRuntime) {
-    assert!(rt; matches!(first_wrong_list(rt.alloc(), &LISTS), Ok(None)));
+    assert!(rt; first_wrong_list(rt.alloc(), &LISTS).is_none());
 }

@@ -1,9 +1,15 @@
 //! Symbols that are lists of their bits, asked for the same answers as numbers.
-use crate::tests::numbers::{Query, answer, as_number};
+//!
+//! A refused answer stays one: it is never taken for none.
+use crate::tests::numbers::{Query, answer, as_number, is_within, place_below};
 use std::alloc::{AllocError, Allocator};
-use test_alloc::asked;
+use test_alloc::{Check, is_made_right};
 use vers_bits::bit_vec::{BitVec, GrowError};
+use vers_tally::tally::Tally;
 use vers_wavelet::wavelet::WaveletMatrix;
+
+/// What a query for lists of bits answers, as a number.
+pub type Told = Result<Option<u64>, AllocError>;
 
 /// The low bits of a number.
 pub fn symbol_of<A: Allocator + Copy>(
@@ -44,14 +50,20 @@ fn number_by<A: Allocator + Copy>(coding: Coding, symbol: &BitVec<A>) -> u64 {
     }
 }
 
-// The number of an answer that is a list of bits. Out of memory it is none.
-fn number_in<A: Allocator + Copy>(
-    coding: Coding,
-    found: Result<Option<BitVec<A>>, AllocError>,
-) -> Option<u64> {
+// The number of an answer that may be none.
+fn told<A: Allocator + Copy>(coding: Coding, found: Result<Option<BitVec<A>>, AllocError>) -> Told {
     match found {
-        Ok(Some(symbol)) => Some(number_by(coding, &symbol)),
-        _ => None,
+        Ok(Some(symbol)) => Ok(Some(number_by(coding, &symbol))),
+        Ok(None) => Ok(None),
+        Err(fault) => Err(fault),
+    }
+}
+
+// The number of an answer that is there.
+fn told_one<A: Allocator + Copy>(coding: Coding, found: Result<BitVec<A>, AllocError>) -> Told {
+    match found {
+        Ok(symbol) => Ok(Some(number_by(coding, &symbol))),
+        Err(fault) => Err(fault),
     }
 }
 
@@ -61,33 +73,122 @@ fn answer_for<A: Allocator + Copy>(
     query: Query,
     coding: Coding,
     symbol: &BitVec<A>,
-) -> Option<u64> {
+) -> Told {
     match query {
-        Query::RankRange(a, b, _) => as_number(list.rank_range(a..b, symbol)),
-        Query::RankOffset(a, b, _) => as_number(list.rank_offset(a, b, symbol)),
-        Query::Rank(i, _) => as_number(list.rank(i, symbol)),
-        Query::SelectOffset(o, r, _) => as_number(list.select_offset(o, r, symbol)),
-        Query::Select(r, _) => as_number(list.select(r, symbol)),
-        Query::Predecessor(a, b, _) => number_in(coding, list.predecessor(a..b, symbol)),
-        Query::Successor(a, b, _) => number_in(coding, list.successor(a..b, symbol)),
-        _ => None,
+        Query::RankRange(a, b, _) => Ok(as_number(list.rank_range(a..b, symbol))),
+        Query::RankOffset(a, b, _) => Ok(as_number(list.rank_offset(a, b, symbol))),
+        Query::Rank(i, _) => Ok(as_number(list.rank(i, symbol))),
+        Query::SelectOffset(o, r, _) => Ok(as_number(list.select_offset(o, r, symbol))),
+        Query::Select(r, _) => Ok(as_number(list.select(r, symbol))),
+        Query::Predecessor(a, b, _) => told(coding, list.predecessor(a..b, symbol)),
+        Query::Successor(a, b, _) => told(coding, list.successor(a..b, symbol)),
+        _ => Ok(None),
     }
 }
 
-/// The answer of a query that answers a symbol. None of other queries.
-pub fn symbol_answer<A: Allocator + Copy>(
+// The same of the counted form.
+fn counted_for<A: Allocator + Copy>(
     list: &WaveletMatrix<A>,
     query: Query,
     coding: Coding,
-) -> Option<u64> {
+    symbol: &BitVec<A>,
+    tally: &mut Tally,
+) -> Told {
     match query {
-        Query::Get(i) => number_in(coding, list.get_value(i)),
-        Query::Quantile(a, b, i) => number_in(coding, list.quantile(a..b, i)),
-        Query::Sorted(i) => number_in(coding, list.get_sorted(i)),
-        Query::Min(a, b) => number_in(coding, list.range_min(a..b)),
-        Query::Max(a, b) => number_in(coding, list.range_max(a..b)),
-        Query::Median(a, b) => number_in(coding, list.range_median(a..b)),
-        _ => None,
+        Query::RankRange(a, b, _) => Ok(as_number(list.rank_range_counted(a..b, symbol, tally))),
+        Query::RankOffset(a, b, _) => Ok(as_number(list.rank_offset_counted(a, b, symbol, tally))),
+        Query::Rank(i, _) => Ok(as_number(list.rank_counted(i, symbol, tally))),
+        Query::SelectOffset(o, r, _) => {
+            Ok(as_number(list.select_offset_counted(o, r, symbol, tally)))
+        }
+        Query::Select(r, _) => Ok(as_number(list.select_counted(r, symbol, tally))),
+        Query::Predecessor(a, b, _) => told(coding, list.predecessor_counted(a..b, symbol, tally)),
+        Query::Successor(a, b, _) => told(coding, list.successor_counted(a..b, symbol, tally)),
+        _ => Ok(None),
+    }
+}
+
+// The same of the unchecked form, where there is one and its condition holds.
+fn unchecked_for<A: Allocator + Copy>(
+    list: &WaveletMatrix<A>,
+    query: Query,
+    coding: Coding,
+    symbol: &BitVec<A>,
+) -> Told {
+    let len = list.len();
+    if symbol.len() != list.bits_per_element() {
+        return answer_for(list, query, coding, symbol);
+    }
+    match query {
+        Query::RankRange(a, b, _) if a < len && a <= b && b <= len => {
+            Ok(Some(list.rank_range_unchecked(a..b, symbol) as u64))
+        }
+        Query::RankOffset(a, b, _) if a < len && a <= b && b <= len => {
+            Ok(Some(list.rank_offset_unchecked(a, b, symbol) as u64))
+        }
+        Query::Rank(i, _) if i <= len => Ok(Some(list.rank_unchecked(i, symbol) as u64)),
+        Query::SelectOffset(o, r, _) if o < len => {
+            Ok(place_below(list.select_offset_unchecked(o, r, symbol), len))
+        }
+        Query::Select(r, _) => Ok(place_below(list.select_unchecked(r, symbol), len)),
+        _ => answer_for(list, query, coding, symbol),
+    }
+}
+
+// The answer of a query that answers a symbol.
+fn symbol_answer<A: Allocator + Copy>(
+    list: &WaveletMatrix<A>,
+    query: Query,
+    coding: Coding,
+) -> Told {
+    match query {
+        Query::Get(i) => told(coding, list.get_value(i)),
+        Query::Quantile(a, b, i) => told(coding, list.quantile(a..b, i)),
+        Query::Sorted(i) => told(coding, list.get_sorted(i)),
+        Query::Min(a, b) => told(coding, list.range_min(a..b)),
+        Query::Max(a, b) => told(coding, list.range_max(a..b)),
+        Query::Median(a, b) => told(coding, list.range_median(a..b)),
+        _ => Ok(answer(list, query)),
+    }
+}
+
+// The same of the counted form.
+fn counted_symbol<A: Allocator + Copy>(
+    list: &WaveletMatrix<A>,
+    query: Query,
+    coding: Coding,
+    tally: &mut Tally,
+) -> Told {
+    match query {
+        Query::Get(i) => told(coding, list.get_value_counted(i, tally)),
+        Query::Quantile(a, b, i) => told(coding, list.quantile_counted(a..b, i, tally)),
+        Query::Sorted(i) => told(coding, list.get_sorted_counted(i, tally)),
+        Query::Min(a, b) => told(coding, list.range_min_counted(a..b, tally)),
+        Query::Max(a, b) => told(coding, list.range_max_counted(a..b, tally)),
+        Query::Median(a, b) => told(coding, list.range_median_counted(a..b, tally)),
+        _ => Ok(answer(list, query)),
+    }
+}
+
+// The same of the unchecked form, where its condition holds.
+fn unchecked_symbol<A: Allocator + Copy>(
+    list: &WaveletMatrix<A>,
+    query: Query,
+    coding: Coding,
+) -> Told {
+    let len = list.len();
+    match query {
+        Query::Get(i) if i < len => told_one(coding, list.get_value_unchecked(i)),
+        Query::Quantile(a, b, i) if a < b && b <= len && i < b - a => {
+            told_one(coding, list.quantile_unchecked(a..b, i))
+        }
+        Query::Sorted(i) if i < len => told_one(coding, list.get_sorted_unchecked(i)),
+        Query::Min(a, b) if a < b && b <= len => told_one(coding, list.range_min_unchecked(a..b)),
+        Query::Max(a, b) if a < b && b <= len => told_one(coding, list.range_max_unchecked(a..b)),
+        Query::Median(a, b) if a < b && b <= len => {
+            told_one(coding, list.range_median_unchecked(a..b))
+        }
+        _ => symbol_answer(list, query, coding),
     }
 }
 
@@ -105,37 +206,94 @@ pub fn symbol_asked(query: Query) -> Option<u64> {
     }
 }
 
-/// The answer of a query for a symbol that was made.
-pub fn answer_for_made<A: Allocator + Copy>(
-    list: &WaveletMatrix<A>,
-    query: Query,
-    coding: Coding,
-    symbol: Result<BitVec<A>, GrowError>,
-) -> Option<u64> {
-    asked(
-        symbol,
-        |symbol: &BitVec<A>| answer_for(list, query, coding, symbol),
-    )
-    .unwrap_or(None)
+/// In which form a query is asked. One whose condition doesn't hold is not asked unchecked.
+#[derive(Clone, Copy, Drop)]
+pub enum Form {
+    Plain,
+    Counted,
+    Unchecked,
 }
 
-/// The answer of one query, asked for lists of bits where it is about symbols.
-pub fn list_answer<A: Allocator + Copy>(
+/// The answer of a form of a query, for which a symbol of at most 64 bits is at hand.
+pub fn answer_in<A: Allocator + Copy>(
+    list: &WaveletMatrix<A>,
+    query: Query,
+    form: Form,
+    symbol: &BitVec<A>,
+) -> Told {
+    let is_for_symbol = symbol_asked(query).is_some();
+    let coding = Coding::Bits;
+    match form {
+        Form::Plain if is_for_symbol => answer_for(list, query, coding, symbol),
+        Form::Plain => symbol_answer(list, query, coding),
+        Form::Counted if is_for_symbol => {
+            counted_for(list, query, coding, symbol, &mut Tally::new())
+        }
+        Form::Counted => counted_symbol(list, query, coding, &mut Tally::new()),
+        Form::Unchecked if is_for_symbol => unchecked_for(list, query, coding, symbol),
+        Form::Unchecked => unchecked_symbol(list, query, coding),
+    }
+}
+
+/// A query of a list, how its symbols are read, and what it should answer.
+#[derive(Drop)]
+pub struct Asked<'a, A: Allocator + Copy> {
+    pub list: &'a WaveletMatrix<A>,
+    pub query: Query,
+    pub coding: Coding,
+    pub wanted: Option<u64>,
+}
+
+/// Whether all forms of a query for a symbol answer so, and the counted one within its reads.
+pub fn is_answered_to<A: Allocator + Copy>(asked: &Asked<'_, A>, symbol: &BitVec<A>) -> bool {
+    let wanted = Ok(asked.wanted);
+    let mut tally = Tally::new();
+    answer_for(asked.list, asked.query, asked.coding, symbol) == wanted
+        && counted_for(asked.list, asked.query, asked.coding, symbol, &mut tally) == wanted
+        && is_within(asked.list, &tally)
+        && unchecked_for(asked.list, asked.query, asked.coding, symbol) == wanted
+}
+
+impl<A: Allocator + Copy> Check<BitVec<A>> for Asked<'_, A> {
+    fn is_right(&self, symbol: &mut BitVec<A>) -> bool {
+        is_answered_to(self, symbol)
+    }
+}
+
+/// The same of a query that answers a symbol.
+pub fn is_symbol_answered<A: Allocator + Copy>(asked: &Asked<'_, A>) -> bool {
+    let wanted = Ok(asked.wanted);
+    let mut tally = Tally::new();
+    symbol_answer(asked.list, asked.query, asked.coding) == wanted
+        && counted_symbol(asked.list, asked.query, asked.coding, &mut tally) == wanted
+        && is_within(asked.list, &tally)
+        && unchecked_symbol(asked.list, asked.query, asked.coding) == wanted
+}
+
+/// Whether all forms of a query answer so, asked for the symbol where it is for one.
+pub fn is_answered_for<A: Allocator + Copy>(
+    asked: &Asked<'_, A>,
+    symbol: Result<BitVec<A>, GrowError>,
+) -> bool {
+    match symbol_asked(asked.query) {
+        Some(_) => is_made_right(symbol, asked),
+        None => is_symbol_answered(asked),
+    }
+}
+
+/// The same for a symbol of the low bits of the query's number.
+pub fn is_answered_in_lists<A: Allocator + Copy>(
     alloc: A,
     list: &WaveletMatrix<A>,
     query: Query,
-) -> Option<u64> {
-    match query {
-        Query::Len | Query::IsEmpty | Query::Width | Query::BitLen | Query::HeapSize => {
-            return answer(list, query);
-        }
-        _ => {}
-    }
-    match symbol_asked(query) {
-        Some(number) => {
-            let symbol = symbol_of(alloc, number, list.bits_per_element());
-            answer_for_made(list, query, Coding::Bits, symbol)
-        }
-        None => symbol_answer(list, query, Coding::Bits),
-    }
+    wanted: Option<u64>,
+) -> bool {
+    let number = symbol_asked(query).unwrap_or(0);
+    let asked = Asked {
+        list,
+        query,
+        coding: Coding::Bits,
+        wanted,
+    };
+    is_answered_for(&asked, symbol_of(alloc, number, list.bits_per_element()))
 }

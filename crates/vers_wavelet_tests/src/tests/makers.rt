@@ -1,6 +1,6 @@
 //! Makers of symbols: by stable sorting and by counting prefixes, of numbers and of lists of bits.
 use std::alloc::{AllocError, Allocator, Global};
-use test_alloc::{Ending, Refusing, asked, takes_memory, try_make};
+use test_alloc::asked;
 use vers_bits::bit_vec::{BitVec, GrowError};
 use vers_wavelet::wavelet::WaveletMatrix;
 
@@ -178,8 +178,12 @@ fn is_one(e: usize, i: usize) -> bool {
     e.wrapping_mul(e).wrapping_add(i.wrapping_mul(5)) % 7 < 3
 }
 
-// Symbols of so many bits, one after another.
-fn packed<A: Allocator + Copy>(alloc: A, count: usize, width: u16) -> Result<BitVec<A>, GrowError> {
+/// Symbols of so many bits, one after another.
+pub fn packed<A: Allocator + Copy>(
+    alloc: A,
+    count: usize,
+    width: u16,
+) -> Result<BitVec<A>, GrowError> {
     let mut bits = BitVec::new(alloc);
     for e in 0..count {
         for i in 0..width as usize {
@@ -207,8 +211,12 @@ fn is_symbol<A: Allocator + Copy>(symbol: &Option<BitVec<A>>, width: u16, e: usi
     }
 }
 
-// Whether a matrix has those symbols.
-fn has_symbols<A: Allocator + Copy>(symbols: &WaveletMatrix<A>, count: usize, width: u16) -> bool {
+/// Whether a matrix has those symbols.
+pub fn has_symbols<A: Allocator + Copy>(
+    symbols: &WaveletMatrix<A>,
+    count: usize,
+    width: u16,
+) -> bool {
     for e in 0..count {
         if asked(symbols.get_value(e), |it| is_symbol(it, width, e)) != Ok(true) {
             return false;
@@ -228,10 +236,16 @@ fn makes_symbols(alloc: Global, method: Method, count: usize, width: u16) -> boo
     matches!(asked(packed(alloc, count, width), made), Ok(Ok(true)))
 }
 
+// How many symbols there are: none, and numbers around the ends of 16 lanes, of words, of blocks and of
+// superblocks of a level.
+const COUNTS: [usize; 17] = [
+    0, 1, 2, 15, 16, 17, 63, 64, 65, 130, 511, 512, 513, 8191, 8192, 8193, 16385,
+];
+
 // The first width at which a maker does not make them, and how many they are.
 fn first_wrong_symbols(alloc: Global, method: Method, widths: &[u16]) -> Option<(u16, usize)> {
     for width in widths {
-        for count in [0, 1, 2, 63, 64, 65, 130] {
+        for count in COUNTS {
             if !makes_symbols(alloc, method, count, *width) {
                 return Some((*width, count));
             }
@@ -253,85 +267,61 @@ fn counting_makes_the_same_symbols(rt: HostRuntime) {
     assert!(rt; wrong.is_none());
 }
 
+// The number of symbol `e`, of whose bits there are at most 64.
+fn number(e: usize, width: u16) -> u64 {
+    let mut number: u64 = 0;
+    for i in 0..u64::from(width.min(64)) {
+        number |= u64::from(is_one(e, i as usize)) << i;
+    }
+    number
+}
+
+// The numbers of so many symbols.
+fn numbers(alloc: Global, count: usize, width: u16) -> Result<Vec<u64>, AllocError> {
+    let mut numbers = Vec::new(alloc);
+    for e in 0..count {
+        numbers.push(number(e, width))?;
+    }
+    Ok(numbers)
+}
+
+// Whether a maker makes the symbols of those numbers.
+fn makes_numbers(alloc: Global, method: Method, count: usize, width: u16) -> bool {
+    let Ok(numbers) = numbers(alloc, count, width) else {
+        return false;
+    };
+    let row = Row {
+        numbers: &numbers,
+        width,
+        symbols: &numbers,
+    };
+    first_wrong_numbers(alloc, method, &[row]).is_none()
+}
+
+// How many symbols of 9 bits a maker does not make of their numbers.
+fn first_wrong_count(alloc: Global, method: Method) -> Option<usize> {
+    for count in COUNTS {
+        if !makes_numbers(alloc, method, count, 9) {
+            return Some(count);
+        }
+    }
+    None
+}
+
+#[test]
+fn counting_makes_the_same_of_numbers(rt: HostRuntime) {
+    assert!(rt; first_wrong_count(rt.alloc(), Method::Sorting).is_none());
+    assert!(rt; first_wrong_count(rt.alloc(), Method::Counting).is_none());
+}
+
 #[test]
 fn the_widest_symbols(rt: HostRuntime) {
     assert!(rt; makes_symbols(rt.alloc(), Method::Sorting, 2, u16::MAX));
     assert!(rt; makes_symbols(rt.alloc(), Method::Sorting, 0, u16::MAX));
 }
 
-// A maker of symbols of a list of bits, or of their numbers, with its requests refused.
-fn tried<B: Allocator, A: Allocator + Copy>(
-    method: Method,
-    heap: &Refusing<B>,
-    alloc: A,
-    numbers: &[u64],
-    width: u16,
-) -> Ending {
-    try_make(
-        heap,
-        AllocError,
-        || of_numbers(alloc, method, numbers, width),
-        |symbols: &WaveletMatrix<A>| has_numbers(symbols, width, numbers),
-    )
-}
-
-fn tried_of_bits<B: Allocator, A: Allocator + Copy>(
-    heap: &Refusing<B>,
-    method: Method,
-    bits: &BitVec<A>,
-    count: usize,
-    width: u16,
-) -> Ending {
-    try_make(
-        heap,
-        AllocError,
-        || of_bits(method, bits, width),
-        |symbols: &WaveletMatrix<A>| {
-            // The symbols that are read take memory too.
-            heap.allow_all();
-            has_symbols(symbols, count, width)
-        },
-    )
-}
-
-// Whether a maker of numbers takes memory, and is refused as it has to be.
-fn numbers_refused(alloc: Global, method: Method, numbers: &[u64], width: u16) -> Option<bool> {
-    takes_memory(
-        alloc,
-        |heap: &Refusing<Global>| tried(method, heap, heap, numbers, width),
-    )
-}
-
-// The same of a maker of bits.
-fn bits_refused(alloc: Global, method: Method, count: usize, width: u16) -> Option<bool> {
-    takes_memory(alloc, |heap: &Refusing<Global>| {
-        asked(
-            packed(heap, count, width),
-            |bits| tried_of_bits(heap, method, bits, count, width),
-        )
-        .unwrap_or(Ending::Wrong)
-    })
-}
-
-// Whether the makers of some symbols and of none take memory, and are refused as they have to be.
-fn take_memory(alloc: Global, method: Method) -> bool {
-    numbers_refused(alloc, method, &[7, 2, 5, 5, 0], 3) == Some(true)
-        && numbers_refused(alloc, method, &[], 3) == Some(true)
-        && bits_refused(alloc, method, 5, 6) == Some(true)
-        && bits_refused(alloc, method, 0, 6) == Some(true)
-}
-
 #[test]
-fn makers_are_refused_in_turn(rt: HostRuntime) {
-    assert!(rt; take_memory(rt.alloc(), Method::Sorting));
-    assert!(rt; take_memory(rt.alloc(), Method::Counting));
-    assert!(rt; bits_refused(rt.alloc(), Method::Sorting, 3, 65) == Some(true));
-}
-
-#[test]
-fn no_digits_take_no_memory(rt: HostRuntime) {
-    let takes = numbers_refused(rt.alloc(), Method::Sorting, &[], 0);
-    assert!(rt; takes == Some(false));
+fn no_digits_are_no_symbols(rt: HostRuntime) {
     let len = len_of(rt.alloc(), Method::Sorting, &[7, 2], 0);
     assert!(rt; matches!(len, Ok(0)));
 }

@@ -1,8 +1,9 @@
 //! The queries for symbols that are numbers.
-use crate::tests::lists::list_answer;
-use crate::tests::numbers::{Query, answer, counted_answer, symbols_of};
-use std::alloc::{AllocError, Allocator};
-use test_alloc::asked;
+use crate::tests::lists::{is_answered_in_lists, symbol_of};
+use crate::tests::numbers::{Query, is_answered, symbols_of};
+use std::alloc::{Allocator, Global};
+use test_alloc::{Check, is_made_right};
+use vers_bits::bit_vec::BitVec;
 use vers_wavelet::wavelet::WaveletMatrix;
 
 // The symbols, their width, what is asked and the answers.
@@ -96,49 +97,120 @@ const CASES: [Case; 5] = [
     ),
 ];
 
-// The number of the first query that is answered wrong, by the plain form, by the counted one, or for symbols
-// that are lists of bits.
-fn first_wrong_answer<A: Allocator + Copy>(
+// What is asked of symbols, and the answers.
+#[derive(Drop)]
+struct Rows<'a, A: Allocator + Copy> {
     alloc: A,
-    list: &WaveletMatrix<A>,
-    rows: &[(Query, Option<u64>)],
-) -> Option<usize> {
-    for (row, (query, wanted)) in rows.iter().enumerate() {
-        let found = [
-            answer(list, *query),
-            counted_answer(list, *query).answer,
-            list_answer(alloc, list, *query),
-        ];
-        if found != [*wanted; 3] {
-            return Some(row);
+    rows: &'a [(Query, Option<u64>)],
+}
+
+// Whether all forms of the queries answer so, for numbers and for lists of bits.
+impl<A: Allocator + Copy> Check<WaveletMatrix<A>> for Rows<'_, A> {
+    fn is_right(&self, list: &mut WaveletMatrix<A>) -> bool {
+        for (query, wanted) in self.rows.iter() {
+            if !is_answered(list, *query, *wanted)
+                || !is_answered_in_lists(self.alloc, list, *query, *wanted)
+            {
+                return false;
+            }
+        }
+        true
+    }
+}
+
+// The first case that is answered wrong.
+fn first_wrong_case<A: Allocator + Copy>(alloc: A, cases: &[Case]) -> Option<usize> {
+    for (case, (numbers, width, rows)) in cases.iter().enumerate() {
+        if !is_made_right(symbols_of(alloc, numbers, *width), &Rows { alloc, rows }) {
+            return Some(case);
         }
     }
     None
 }
 
-// The first case that is answered wrong, and its row.
-fn first_wrong_case<A: Allocator + Copy>(
-    alloc: A,
-    cases: &[Case],
-) -> Result<Option<(usize, usize)>, AllocError> {
-    for (case, (numbers, width, rows)) in cases.iter().enumerate() {
-        let wrong = asked(
-            symbols_of(alloc, numbers, *width),
-            |list| first_wrong_answer(alloc, list, rows),
-        )?;
-        if let Some(row) = wrong {
-            return Ok(Some((case, row)));
-        }
-    }
-    Ok(None)
-}
-
 // The table stands in a function of its own, which is faster to prove than in a test.
-fn first_wrong_of_all<A: Allocator + Copy>(alloc: A) -> Result<Option<(usize, usize)>, AllocError> {
+fn first_wrong_of_all<A: Allocator + Copy>(alloc: A) -> Option<usize> {
     first_wrong_case(alloc, &CASES)
 }
 
 #[test]
 fn answers(rt: HostRuntime) {
-    assert!(rt; matches!(first_wrong_of_all(rt.alloc()), Ok(None)));
+    assert!(rt; first_wrong_of_all(rt.alloc()).is_none());
+}
+
+// Where unchecked selects of `[1, 5, 3]` find an occurrence: the first place, the occurrence, the symbol and the
+// place that is answered, which is the length where there is none.
+const PLACES: [(usize, usize, u64, usize); 6] = [
+    (0, 1, 3, 3),
+    (0, 0, 3, 2),
+    (1, 0, 5, 1),
+    (2, 0, 5, 3),
+    (3, 0, 3, 3),
+    (0, usize::MAX, 1, 3),
+];
+
+// Whether unchecked selects for numbers find them.
+fn finds_places<A: Allocator + Copy>(list: &WaveletMatrix<A>) -> bool {
+    if list.len() != 3 || list.bits_per_element() > 64 {
+        return false;
+    }
+    for (offset, rank, symbol, place) in PLACES.iter() {
+        if *offset > 3 || list.select_offset_u64_unchecked(*offset, *rank, *symbol) != *place {
+            return false;
+        }
+        if *offset == 0 && list.select_u64_unchecked(*rank, *symbol) != *place {
+            return false;
+        }
+    }
+    true
+}
+
+// Occurrence `rank` of a symbol from a place on, and where it is.
+#[derive(Drop)]
+struct Found<'a, A: Allocator + Copy> {
+    list: &'a WaveletMatrix<A>,
+    offset: usize,
+    rank: usize,
+    place: usize,
+}
+
+// Whether unchecked selects for a list of bits find it.
+impl<A: Allocator + Copy> Check<BitVec<A>> for Found<'_, A> {
+    fn is_right(&self, symbol: &mut BitVec<A>) -> bool {
+        if symbol.len() != self.list.bits_per_element() || self.offset > self.list.len() {
+            return false;
+        }
+        let found = self
+            .list
+            .select_offset_unchecked(self.offset, self.rank, symbol);
+        found == self.place
+            && (self.offset > 0 || self.list.select_unchecked(self.rank, symbol) == self.place)
+    }
+}
+
+// The places where unchecked selects find an occurrence.
+#[derive(Drop)]
+struct Places(Global);
+
+impl Check<WaveletMatrix<Global>> for Places {
+    fn is_right(&self, list: &mut WaveletMatrix<Global>) -> bool {
+        for (offset, rank, symbol, place) in PLACES.iter() {
+            let found = Found {
+                list,
+                offset: *offset,
+                rank: *rank,
+                place: *place,
+            };
+            if !is_made_right(symbol_of(self.0, *symbol, 3), &found) {
+                return false;
+            }
+        }
+        finds_places(list)
+    }
+}
+
+#[test]
+fn unchecked_selects_answer_the_length_for_none(rt: HostRuntime) {
+    let alloc = rt.alloc();
+    assert!(rt; is_made_right(symbols_of(alloc, &[1, 5, 3], 3), &Places(alloc)));
 }

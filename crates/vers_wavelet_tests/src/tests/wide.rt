@@ -2,11 +2,11 @@
 //!
 //! A number of three digits stands for the symbol that has them at its first, its middle and its last place,
 //! and zeros elsewhere: so symbols stand in the order of their numbers.
-use crate::tests::lists::{Coding, answer_for_made, symbol_answer, symbol_asked};
+use crate::tests::lists::{Asked, Coding, is_answered_for, symbol_asked};
 use crate::tests::makers::{Method, of_bits};
 use crate::tests::numbers::{Query, answer};
-use std::alloc::{Allocator, Global};
-use test_alloc::{asked, first_wrong};
+use std::alloc::{AllocError, Allocator, Global};
+use test_alloc::{Check, is_made_right};
 use vers_bits::bit_vec::{BitVec, GrowError};
 use vers_wavelet::wavelet::WaveletMatrix;
 
@@ -84,38 +84,37 @@ fn bits_of<A: Allocator + Copy>(
     Ok(bits)
 }
 
-// The answer of a query for a symbol of so many bits, which may be another width than the list's.
-fn answer_of<A: Allocator + Copy>(
+// Whether all forms of a query answer so, for a symbol of so many bits, which may be another width than the
+// list's.
+fn is_answered_at<A: Allocator + Copy>(
     alloc: A,
     list: &WaveletMatrix<A>,
     query: Query,
     width: usize,
-) -> Option<u64> {
-    match symbol_asked(query) {
-        Some(number) => {
-            answer_for_made(
-                list,
-                query,
-                Coding::Digits,
-                bits_of(alloc, &[number], width),
-            )
-        }
-        None => symbol_answer(list, query, Coding::Digits),
-    }
+    wanted: Option<u64>,
+) -> bool {
+    let number = symbol_asked(query).unwrap_or(0);
+    let asked = Asked {
+        list,
+        query,
+        coding: Coding::Digits,
+        wanted,
+    };
+    is_answered_for(&asked, bits_of(alloc, &[number], width))
 }
 
-// The number of the first query that is answered wrong.
-fn first_wrong_answer<A: Allocator + Copy>(
+// Whether all queries are answered as their rows say.
+fn are_answered<A: Allocator + Copy>(
     alloc: A,
     list: &WaveletMatrix<A>,
     rows: &[(Query, Option<u64>)],
-) -> Option<usize> {
-    let width = list.bits_per_element();
-    first_wrong(
-        list,
-        rows,
-        |list, query| answer_of(alloc, list, query, width),
-    )
+) -> bool {
+    for (query, wanted) in rows.iter() {
+        if !is_answered_at(alloc, list, *query, list.bits_per_element(), *wanted) {
+            return false;
+        }
+    }
+    true
 }
 
 // Whether queries that take a number, or answer one, have no answer.
@@ -146,50 +145,86 @@ fn refuses_width<A: Allocator + Copy>(
     width: usize,
 ) -> bool {
     for query in queries {
-        if answer_of(alloc, list, *query, width).is_some() {
+        if !is_answered_at(alloc, list, *query, width, None) {
             return false;
         }
     }
     true
 }
 
+// Whether a symbol is there, of so many ones.
+fn is_of_ones<A: Allocator + Copy>(
+    symbol: Result<Option<BitVec<A>>, AllocError>,
+    width: usize,
+) -> bool {
+    match symbol {
+        Ok(Some(symbol)) => symbol.len() == width && symbol.count_ones() == width as u64,
+        _ => false,
+    }
+}
+
+// Whether there is one symbol, of ones, which is no number.
+fn is_one_of_ones<A: Allocator + Copy>(list: &WaveletMatrix<A>) -> bool {
+    list.len() == 1
+        && list.iter_u64().is_none()
+        && is_of_ones(list.get_value(0), list.bits_per_element())
+}
+
 // What has to hold of symbols.
 #[derive(Clone, Copy, Drop)]
-enum Check<'a> {
+enum Property<'a> {
     // Queries are answered as their rows say.
     Rows(&'a [(Query, Option<u64>)]),
     // Nothing is answered to numbers.
     NoNumbers(&'a [(Query, Option<u64>)]),
     // Nothing is answered to symbols of so many bits.
     OtherWidth(usize),
+    // There is one, whose bits are ones.
+    OneOfOnes,
 }
 
-fn holds<A: Allocator + Copy>(alloc: A, list: &WaveletMatrix<A>, check: Check) -> bool {
-    match check {
-        Check::Rows(rows) => first_wrong_answer(alloc, list, rows).is_none(),
-        Check::NoNumbers(rows) => has_none(list, rows),
-        Check::OtherWidth(width) => refuses_width(alloc, list, &OF_ANOTHER_WIDTH, width),
+// Symbols of so many bits, and what has to hold of them.
+#[derive(Drop)]
+struct Wide<'a> {
+    alloc: Global,
+    width: u16,
+    property: Property<'a>,
+}
+
+impl Check<WaveletMatrix<Global>> for Wide<'_> {
+    fn is_right(&self, list: &mut WaveletMatrix<Global>) -> bool {
+        match self.property {
+            Property::Rows(rows) => are_answered(self.alloc, list, rows),
+            Property::NoNumbers(rows) => has_none(list, rows),
+            Property::OtherWidth(width) => {
+                refuses_width(self.alloc, list, &OF_ANOTHER_WIDTH, width)
+            }
+            Property::OneOfOnes => is_one_of_ones(list),
+        }
     }
 }
 
-// Whether it holds of the symbols of so many bits for some numbers.
-fn holds_of(alloc: Global, numbers: &[u64], width: u16, check: Check) -> bool {
-    let of_symbols = |bits: &BitVec<Global>| {
-        asked(
-            of_bits(Method::Sorting, bits, width),
-            |list| holds(alloc, list, check),
-        )
-    };
-    matches!(
-        asked(bits_of(alloc, numbers, width as usize), of_symbols),
-        Ok(Ok(true))
-    )
+// Whether it holds of the symbols that a list of bits has.
+impl Check<BitVec<Global>> for Wide<'_> {
+    fn is_right(&self, bits: &mut BitVec<Global>) -> bool {
+        is_made_right(of_bits(Method::Sorting, bits, self.width), self)
+    }
 }
 
-// The first of some widths at which it does not.
-fn first_wrong_width(alloc: Global, numbers: &[u64], widths: &[u16], check: Check) -> Option<u16> {
+// The first of some widths at which a property does not hold of the symbols for some numbers.
+fn first_wrong_width(
+    alloc: Global,
+    numbers: &[u64],
+    widths: &[u16],
+    property: Property,
+) -> Option<u16> {
     for width in widths {
-        if !holds_of(alloc, numbers, *width, check) {
+        let wide = Wide {
+            alloc,
+            width: *width,
+            property,
+        };
+        if !is_made_right(bits_of(alloc, numbers, *width as usize), &wide) {
             return Some(*width);
         }
     }
@@ -205,27 +240,43 @@ fn rows() -> &'static [(Query, Option<u64>)] {
 
 #[test]
 fn wide_symbols(rt: HostRuntime) {
-    let wrong = first_wrong_width(rt.alloc(), &NUMBERS, &WIDTHS, Check::Rows(rows()));
+    let wrong = first_wrong_width(rt.alloc(), &NUMBERS, &WIDTHS, Property::Rows(rows()));
     assert!(rt; wrong.is_none());
 }
 
 #[test]
 fn no_wide_symbols(rt: HostRuntime) {
-    let wrong = first_wrong_width(rt.alloc(), &[], &WIDTHS, Check::Rows(&ROWS_OF_NONE));
+    let wrong = first_wrong_width(rt.alloc(), &[], &WIDTHS, Property::Rows(&ROWS_OF_NONE));
     assert!(rt; wrong.is_none());
 }
 
 #[test]
 fn no_numbers_of_more_than_64_bits(rt: HostRuntime) {
-    let wrong = first_wrong_width(rt.alloc(), &NUMBERS, &[65, 127], Check::NoNumbers(rows()));
+    let wrong = first_wrong_width(
+        rt.alloc(),
+        &NUMBERS,
+        &[65, 127],
+        Property::NoNumbers(rows()),
+    );
     assert!(rt; wrong.is_none());
 }
 
 #[test]
 fn symbols_of_another_length(rt: HostRuntime) {
     for other in [0, 1, 2, 63, 66, 128] {
-        let check = Check::OtherWidth(other);
-        let wrong = first_wrong_width(rt.alloc(), &NUMBERS, &[3, 64, 65, 127], check);
+        let property = Property::OtherWidth(other);
+        let wrong = first_wrong_width(rt.alloc(), &NUMBERS, &[3, 64, 65, 127], property);
         assert!(rt; wrong.is_none());
     }
+}
+
+#[test]
+fn one_symbol_of_127_ones(rt: HostRuntime) {
+    let alloc = rt.alloc();
+    let wide = Wide {
+        alloc,
+        width: 127,
+        property: Property::OneOfOnes,
+    };
+    assert!(rt; is_made_right(BitVec::from_ones(alloc, 127), &wide));
 }

@@ -1,4 +1,5 @@
 //! Clones of lists and of walks that own one, and lists made of masks, at every length.
+use crate::tests::assert_none_wrong;
 use crate::tests::masks::{Mask, masked, masked_bit};
 use crate::tests::pattern::{Bits, bit, bit_from, has_bits, has_pattern, pattern};
 use std::alloc::{AllocError, Allocator, Global};
@@ -126,6 +127,5 @@ impl Trial<Global> for Copying {
 
 #[test]
 fn copies_are_refused_in_turn(rt: HostRuntime) {
-    let wrong = first_wrong_trial(rt.alloc(), &LENGTHS, &COPYINGS);
-    assert_eq!(rt; wrong, None, "a length and a row");
+    assert_none_wrong(&rt, first_wrong_trial(rt.alloc(), &LENGTHS, &COPYINGS));
 }

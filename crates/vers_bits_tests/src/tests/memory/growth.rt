@@ -1,9 +1,10 @@
 //! The calls that make a list grow, at every length.
+use crate::tests::assert_none_wrong;
+use crate::tests::makers::push;
 use crate::tests::pattern::{bit, has_pattern, pattern, word};
+use crate::tests::queries::{Change, Query, append, first_wrong_answer};
 use std::alloc::{Allocator, Global};
-use test_alloc::{
-    Conversion, Edit, Ending, LENGTHS, Refusing, Trial, first_wrong_trial, try_conversion, try_edit,
-};
+use test_alloc::{Edit, Ending, LENGTHS, Refusing, Trial, first_wrong_trial, try_edit};
 use vers_bits::bit_vec::{BitVec, GrowError};
 
 // How many bits the last limb of a list has room for.
@@ -60,17 +61,18 @@ fn grow<A: Allocator + Copy>(
     other: &BitVec<A>,
 ) -> Result<(), GrowError> {
     let next = word(list.len());
-    match growth {
-        Growth::Append => list.append(bit(list.len())),
-        Growth::AppendBit => list.append_bit(next),
-        Growth::AppendBitU8 => list.append_bit_u8((next % 256) as u8),
-        Growth::AppendBitU16 => list.append_bit_u16((next % 65536) as u16),
-        Growth::AppendBitU32 => list.append_bit_u32((next % 4294967296) as u32),
-        Growth::AppendWord => list.append_word(next),
-        Growth::AppendBits(n) => list.append_bits(next, n.min(64)),
-        Growth::AppendBitsUnchecked(n) => list.append_bits_unchecked(next, n.min(64)),
-        Growth::ExtendBitvec(_) => list.extend_bitvec(other),
-    }
+    let change = match growth {
+        Growth::Append => Change::Append(bit(list.len())),
+        Growth::AppendBit => Change::AppendBit(next),
+        Growth::AppendBitU8 => Change::AppendBitU8((next % 256) as u8),
+        Growth::AppendBitU16 => Change::AppendBitU16((next % 65536) as u16),
+        Growth::AppendBitU32 => Change::AppendBitU32((next % 4294967296) as u32),
+        Growth::AppendWord => Change::AppendWord(next),
+        Growth::AppendBits(n) => Change::AppendBits(next, n),
+        Growth::AppendBitsUnchecked(n) => Change::AppendBitsUnchecked(next, n),
+        Growth::ExtendBitvec(_) => return list.extend_bitvec(other),
+    };
+    append(list, change)
 }
 
 // A call on a list of `len` bits of the pattern, with the bits that it may append.
@@ -129,8 +131,7 @@ impl Trial<Global> for Growth {
 
 #[test]
 fn growth_is_refused_in_turn(rt: HostRuntime) {
-    let wrong = first_wrong_trial(rt.alloc(), &LENGTHS, &GROWTHS);
-    assert_eq!(rt; wrong, None, "a length and a row");
+    assert_none_wrong(&rt, first_wrong_trial(rt.alloc(), &LENGTHS, &GROWTHS));
 }
 
 // Lists by which a list is extended, with the bits of the pattern from a place on.
@@ -142,66 +143,10 @@ fn pieces_of<A: Allocator + Copy>(
     let mut pieces = Vec::new(alloc);
     let mut at = from;
     for len in lengths {
-        if pieces.push(pattern(alloc, at, *len)?).is_err() {
-            return Err(GrowError::Memory);
-        }
+        push(&mut pieces, pattern(alloc, at, *len)?)?;
         at = at.wrapping_add(*len);
     }
     Ok(pieces)
-}
-
-// A list and what it is extended by.
-#[derive(Drop)]
-struct Parts<A: Allocator + Copy> {
-    list: BitVec<A>,
-    pieces: Vec<BitVec<A>, A>,
-}
-
-fn parts_of<A: Allocator + Copy>(
-    alloc: A,
-    len: usize,
-    lengths: &[usize],
-) -> Result<Parts<A>, GrowError> {
-    Ok(Parts {
-        list: pattern(alloc, 0, len)?,
-        pieces: pieces_of(alloc, len, lengths)?,
-    })
-}
-
-// What a refused extension left, and its fault.
-#[derive(Drop)]
-struct Refused<A: Allocator + Copy> {
-    list: BitVec<A>,
-    fault: GrowError,
-}
-
-// The list, extended by the pieces or by references to them.
-fn extended<A: Allocator + Copy>(
-    parts: Parts<A>,
-    is_by_reference: bool,
-) -> Result<BitVec<A>, Refused<A>> {
-    let Parts { mut list, pieces } = parts;
-    let result = if is_by_reference {
-        list.extend_ref(pieces.iter())
-    } else {
-        list.extend(pieces.into_iter())
-    };
-    match result {
-        Ok(()) => Ok(list),
-        Err(fault) => Err(Refused { list, fault }),
-    }
-}
-
-// Whether a list is `len` bits of the pattern and some of the first pieces whole, but not all.
-fn has_whole_pieces<A: Allocator + Copy>(list: &BitVec<A>, len: usize, lengths: &[usize]) -> bool {
-    let mut whole = len;
-    for length in lengths {
-        if list.len() == whole {
-            return has_pattern(list, 0, whole);
-        }
-        whole = whole.wrapping_add(*length);
-    }
-    false
 }
 
 // By what lists a list is extended, and how.
@@ -214,8 +159,8 @@ enum Extension {
 const EXTENSIONS: [Extension; 4] = [
     Extension::ByValue(&[4, 1, 0]),
     Extension::ByReference(&[4, 1, 0]),
-    Extension::ByValue(&[1, 130, 64]),
-    Extension::ByReference(&[1, 130, 64]),
+    Extension::ByValue(&[1, 130, 64, 200]),
+    Extension::ByReference(&[1, 130, 64, 200]),
 ];
 
 fn lengths_of(extension: Extension) -> &'static [usize] {
@@ -224,44 +169,73 @@ fn lengths_of(extension: Extension) -> &'static [usize] {
     }
 }
 
-fn sum(lengths: &[usize]) -> usize {
+// The sum of the first lengths, `count` of them.
+fn sum_of_first(lengths: &[usize], count: usize) -> usize {
     let mut sum = 0usize;
-    for length in lengths {
-        sum = sum.wrapping_add(*length);
+    for (k, length) in lengths.iter().enumerate() {
+        if k < count {
+            sum = sum.wrapping_add(*length);
+        }
     }
     sum
 }
 
-// An extension of a list of `len` bits.
-#[derive(Drop)]
-struct Extending {
-    extension: Extension,
-    len: usize,
+/// Extends a list by pieces. Answers what the call answered, and how many pieces it did not take.
+pub fn extend<A: Allocator + Copy>(
+    list: &mut BitVec<A>,
+    pieces: Vec<BitVec<A>, A>,
+) -> (Result<(), GrowError>, usize) {
+    let mut walk = pieces.into_iter();
+    let answer = list.extend(&mut walk);
+    (answer, walk.len())
 }
 
-impl<A: Allocator + Copy> Conversion<Parts<A>> for Extending {
-    type Made = BitVec<A>;
+/// The same by references to them.
+pub fn extend_ref<A: Allocator + Copy>(
+    list: &mut BitVec<A>,
+    pieces: &[BitVec<A>],
+) -> (Result<(), GrowError>, usize) {
+    let mut walk = pieces.iter();
+    let answer = list.extend_ref(&mut walk);
+    (answer, walk.len())
+}
 
-    type Refused = Refused<A>;
-
-    fn convert(&self, parts: Parts<A>) -> Result<BitVec<A>, Refused<A>> {
-        match self.extension {
-            Extension::ByValue(_) => extended(parts, false),
-            Extension::ByReference(_) => extended(parts, true),
-        }
+fn extend_by<A: Allocator + Copy>(
+    list: &mut BitVec<A>,
+    extension: Extension,
+    pieces: Vec<BitVec<A>, A>,
+) -> (Result<(), GrowError>, usize) {
+    match extension {
+        Extension::ByValue(_) => extend(list, pieces),
+        Extension::ByReference(_) => extend_ref(list, pieces.as_slice()),
     }
+}
 
-    fn is_right(&self, list: &BitVec<A>) -> bool {
-        has_pattern(
-            list,
-            0,
-            self.len.wrapping_add(sum(lengths_of(self.extension))),
-        )
-    }
-
-    fn is_kept(&self, refused: Refused<A>) -> bool {
-        refused.fault == GrowError::Memory
-            && has_whole_pieces(&refused.list, self.len, lengths_of(self.extension))
+// Tries an extension of a list of the pattern. Where it is refused, the pieces before the last one that was
+// taken stay appended, and no bit more.
+fn tried_pieces<B: Allocator, A: Allocator + Copy>(
+    heap: &Refusing<B>,
+    list: &mut BitVec<A>,
+    extension: Extension,
+    made: Result<Vec<BitVec<A>, A>, GrowError>,
+) -> Ending {
+    let Ok(pieces) = made else {
+        return Ending::Wrong;
+    };
+    let (lengths, len) = (lengths_of(extension), list.len());
+    heap.start();
+    let (answer, untaken) = extend_by(list, extension, pieces);
+    let taken = lengths.len().wrapping_sub(untaken);
+    let whole = if answer.is_ok() {
+        taken
+    } else {
+        taken.wrapping_sub(1)
+    };
+    let is_right = has_pattern(list, 0, len.wrapping_add(sum_of_first(lengths, whole)));
+    match answer {
+        Ok(()) if is_right && untaken == 0 => Ending::Done,
+        Err(GrowError::Memory) if is_right => Ending::OutOfMemory,
+        _ => Ending::Wrong,
     }
 }
 
@@ -271,8 +245,13 @@ fn tried_extension<B: Allocator, A: Allocator + Copy>(
     extension: Extension,
     len: usize,
 ) -> Ending {
-    let parts = parts_of(alloc, len, lengths_of(extension));
-    try_conversion(heap, parts, &Extending { extension, len })
+    match pattern(alloc, 0, len) {
+        Ok(mut list) => {
+            let pieces = pieces_of(alloc, len, lengths_of(extension));
+            tried_pieces(heap, &mut list, extension, pieces)
+        }
+        Err(_) => Ending::Wrong,
+    }
 }
 
 impl Trial<Global> for Extension {
@@ -281,15 +260,19 @@ impl Trial<Global> for Extension {
     }
 
     fn takes_memory(self, len: usize) -> bool {
-        sum(lengths_of(self)) > room(len)
+        sum_of_first(lengths_of(self), usize::MAX) > room(len)
     }
 }
 
 #[test]
 fn extensions_are_refused_in_turn(rt: HostRuntime) {
-    let wrong = first_wrong_trial(rt.alloc(), &LENGTHS, &EXTENSIONS);
-    assert_eq!(rt; wrong, None, "a length and a row");
+    assert_none_wrong(&rt, first_wrong_trial(rt.alloc(), &LENGTHS, &EXTENSIONS));
 }
+
+// The limb 6, and what it is with a one appended.
+const KEPT: [(Query, Option<u64>); 2] = [(Query::Len, Some(64)), (Query::GetBits(0, 64), Some(6))];
+
+const GROWN: [(Query, Option<u64>); 2] = [(Query::Len, Some(65)), (Query::Get(64), Some(1))];
 
 // Whether a list of one limb in memory for just as many bits is kept by a refused `append`, grows by one
 // that is granted, and then takes no memory for a bit that the last limb has room for.
@@ -298,14 +281,14 @@ fn appends_as_told<A: Allocator + Copy, B: Allocator>(
     list: &mut BitVec<A>,
 ) -> bool {
     heap.refuse_all();
-    let refused = list.append(true);
-    let is_kept = list.len() == 64 && list.get_bits(0, 64) == Some(6);
+    let refused = append(list, Change::Append(true));
+    let is_kept = first_wrong_answer(list, &KEPT).is_none();
     heap.allow_all();
-    let granted = list.append(true);
-    let has_grown = list.len() == 65 && list.get(64) == Some(1);
+    let granted = append(list, Change::Append(true));
+    let has_grown = first_wrong_answer(list, &GROWN).is_none();
     heap.refuse_all();
     let asked = heap.asked();
-    let within = list.append(false);
+    let within = append(list, Change::Append(false));
     refused == Err(GrowError::Memory)
         && is_kept
         && granted == Ok(())

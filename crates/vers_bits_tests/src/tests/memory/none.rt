@@ -1,12 +1,19 @@
 //! The calls that take no memory, of lists of every length, with each request refused.
+use crate::tests::assert_none_wrong;
+use crate::tests::iterators::{Cloned, is_cloned as is_walk_cloned, take};
+use crate::tests::masks::{Mask, answer_of_nor, answer_of_or, apply, is_cloned};
 use crate::tests::pattern::{bit, has_pattern, pattern, word};
+use crate::tests::queries::{
+    Change, Line, Query, answer, first_wrong_answer, first_wrong_line, is_made,
+};
 use std::alloc::{AllocError, Allocator, Global};
 use std::hash::{BuildHasher, BuildHasherDefault, FoldHasher};
 use test_alloc::{
-    Check, Conversion, Ending, LENGTHS, Refusing, Trial, first_wrong_trial, try_conversion,
+    Check, Conversion, Ending, LENGTHS, Refusing, Step, Trial, first_wrong_trial, try_conversion,
     try_use_checked,
 };
-use vers_bits::bit_vec::{BitMask, BitVec, BitVecIter, GrowError, LengthMismatch, OutOfRange};
+use vers_bits::bit_vec::{BitVec, BitVecIter, GrowError};
+use vers_bits::list_ends::{BorrowedList, ListEnds};
 
 // Calls that are tried together.
 #[derive(Clone, Copy, Drop)]
@@ -49,9 +56,15 @@ fn is_new<A: Allocator + Copy>(list: &BitVec<A>) -> bool {
 
 fn queries_work<A: Allocator + Copy>(list: &BitVec<A>, len: usize) -> bool {
     let hasher = BuildHasherDefault::<FoldHasher>::default();
-    list.len() == len
-        && list.is_empty() == (len == 0)
-        && list.heap_size() == len.div_ceil(64).wrapping_mul(8)
+    let rows = [
+        (Query::Len, Some(len as u64)),
+        (Query::IsEmpty, Some(u64::from(len == 0))),
+        (
+            Query::HeapSize,
+            Some((len.div_ceil(64) as u64).wrapping_mul(8)),
+        ),
+    ];
+    first_wrong_answer(list, &rows).is_none()
         && list.count_ones().wrapping_add(list.count_zeros()) == len as u64
         && *list == *list
         && hasher.hash_one(list) == hasher.hash_one(list)
@@ -63,53 +76,70 @@ fn queries_work<A: Allocator + Copy>(list: &BitVec<A>, len: usize) -> bool {
 
 // Whether a place is read as the pattern has it, or as none past the end.
 fn reads_work<A: Allocator + Copy>(list: &BitVec<A>, place: usize) -> bool {
-    if place >= list.len() {
-        return list.get(place).is_none() && list.is_bit_set(place).is_none();
+    let wanted = (place < list.len()).then_some(u64::from(bit(place)));
+    for query in &[
+        Query::Get(place),
+        Query::IsBitSet(place),
+        Query::GetBits(place, 1),
+        Query::UnpackElement(place, 1),
+        Query::GetUnchecked(place),
+        Query::IsBitSetUnchecked(place),
+        Query::GetBitsUnchecked(place, 1),
+        Query::UnpackElementUnchecked(place, 1),
+    ] {
+        if answer(list, *query) != wanted {
+            return false;
+        }
     }
-    let number = u64::from(bit(place));
-    list.get(place) == Some(number)
-        && list.is_bit_set(place) == Some(bit(place))
-        && list.get_unchecked(place) == number
-        && list.is_bit_set_unchecked(place) == bit(place)
-        && list.get_bits(place, 1) == Some(number)
-        && list.unpack_element(place, 1) == Some(number)
+    true
 }
 
-fn walks_work<A: Allocator + Copy>(list: &BitVec<A>) -> bool {
-    let bits = list.iter();
-    let limbs = list.iter_limbs();
-    bits.clone().count() == list.len()
-        && bits.clone().last() == list.get(list.len().wrapping_sub(1))
-        && limbs.clone().count() == list.len().div_ceil(64)
-        && list.iter().next_back() == list.iter().last()
-        && list.iter_limbs().next_back() == list.iter_limbs().last()
+// Whether walks have so many items, of which the last one is at both ends of what is left when it is taken.
+fn walks_work<A: Allocator + Copy>(list: &BitVec<A>, len: usize) -> bool {
+    let bit = answer(list, Query::Get(len.wrapping_sub(1)));
+    let limb = answer(list, Query::Limb(len.div_ceil(64).wrapping_sub(1)));
+    are_last(&mut list.iter(), len, bit) && are_last(&mut list.iter_limbs(), len.div_ceil(64), limb)
+}
+
+fn are_last<L: BorrowedList<Item = u64>>(
+    walk: &mut ListEnds<L>,
+    left: usize,
+    last: Option<u64>,
+) -> bool {
+    let cloned = Cloned {
+        first: &[],
+        left,
+        last,
+        steps: &[(Step::NextBack, last)],
+    };
+    is_walk_cloned(walk, &cloned)
 }
 
 fn steps_work<A: Allocator + Copy>(bits: &mut BitVecIter<A>, len: usize) -> bool {
-    bits.len() == len
-        && bits.next().is_some() == (len > 0)
-        && bits.next_back().is_some() == (len > 1)
-        && bits.nth(2).is_some() == (len > 4)
-        && bits.nth_back(2).is_some() == (len > 7)
+    take(bits, Step::Len) == Some(len as u64)
+        && take(bits, Step::Next).is_some() == (len > 0)
+        && take(bits, Step::NextBack).is_some() == (len > 1)
+        && take(bits, Step::Nth(2)).is_some() == (len > 4)
+        && take(bits, Step::NthBack(2)).is_some() == (len > 7)
 }
 
 // Whether the bit at a place of the list is changed as told, and none past the end is.
 fn edits_work<A: Allocator + Copy>(list: &mut BitVec<A>, place: usize) -> bool {
     if place >= list.len() {
-        return list.set(place, 1) == Err(OutOfRange);
+        return !is_made(list, Change::Set(place, 1));
     }
-    list.flip_bit(place);
-    let flipped = list.is_bit_set(place);
-    if place < list.len() {
-        list.flip_bit_unchecked(place);
-    }
-    let is_back = list.is_bit_set(place) == Some(bit(place));
-    if place < list.len() {
-        list.set_unchecked(place, 0);
-    }
-    let is_zero = list.get(place) == Some(0);
-    let is_one = list.set(place, 1) == Ok(()) && list.get(place) == Some(1);
-    flipped == Some(!bit(place)) && is_back && is_zero && is_one
+    let number = u64::from(bit(place));
+    let script = [
+        Line::Make(Change::FlipBit(place)),
+        Line::Ask(Query::Get(place), Some(1 - number)),
+        Line::Make(Change::FlipBitUnchecked(place)),
+        Line::Ask(Query::Get(place), Some(number)),
+        Line::Make(Change::SetUnchecked(place, 0)),
+        Line::Ask(Query::Get(place), Some(0)),
+        Line::Make(Change::Set(place, 1)),
+        Line::Ask(Query::Get(place), Some(1)),
+    ];
+    first_wrong_line(list, &script).is_none()
 }
 
 fn drops_work<A: Allocator + Copy>(list: &mut BitVec<A>, len: usize) -> bool {
@@ -119,40 +149,47 @@ fn drops_work<A: Allocator + Copy>(list: &mut BitVec<A>, len: usize) -> bool {
     is_shorter && list.is_empty()
 }
 
-fn nor(x: u64, y: u64) -> u64 {
-    !(x | y)
-}
+// Reads of the first bit.
+const READS: [Query; 6] = [
+    Query::Get(0),
+    Query::IsBitSet(0),
+    Query::GetBits(0, 1),
+    Query::GetUnchecked(0),
+    Query::IsBitSetUnchecked(0),
+    Query::GetBitsUnchecked(0, 1),
+];
 
-fn mask_works<A: Allocator + Copy>(mask: Result<BitMask<'_, '_, A>, LengthMismatch>) -> bool {
-    let Ok(mask) = mask else {
-        return false;
-    };
-    let twin = mask.clone();
-    let ones = mask.count_ones();
-    mask.get(0) == twin.get(0)
-        && mask.get_bits(0, 64) == twin.get_bits(0, 64)
-        && ones == twin.count_ones()
-        && mask.count_zeros() == twin.count_zeros()
+// Whether the first bit of two lists, if they have one, is read right through both masks, which have each other's
+// zeros as ones.
+fn masks_are_read<A: Allocator + Copy>(left: &BitVec<A>, right: &BitVec<A>) -> bool {
+    let is_one = answer(left, READS[0]) == Some(1) || answer(right, READS[0]) == Some(1);
+    let has_one = !left.is_empty();
+    for query in &READS {
+        if answer_of_or(left, right, *query) != has_one.then_some(u64::from(is_one))
+            || answer_of_nor(left, right, *query) != has_one.then_some(u64::from(!is_one))
+        {
+            return false;
+        }
+    }
+    answer_of_or(left, right, Query::CountOnes) == answer_of_nor(left, right, Query::CountZeros)
 }
 
 fn masks_work<A: Allocator + Copy>(left: &BitVec<A>, right: &BitVec<A>) -> bool {
-    mask_works(left.mask_or(right))
-        && mask_works(left.mask_and(right))
-        && mask_works(left.mask_xor(right))
-        && left
-            .mask_custom(right, |x: u64, y: u64| !(x ^ y))
-            .is_ok_and(|mask| mask.count_ones() <= left.len() as u64)
+    is_cloned(left.mask_or(right))
+        && is_cloned(left.mask_and(right))
+        && is_cloned(left.mask_xor(right))
+        && masks_are_read(left, right)
 }
 
-// Or and then and with a list leave that list, and xor with it zeros, of which nor with zeros makes ones.
+// Or and then and with a list leave that list, of which nothing is left without its own ones, and xor brings it back.
 fn changes_work<A: Allocator + Copy>(left: &mut BitVec<A>, right: &BitVec<A>) -> bool {
-    left.apply_mask_or(right) == Ok(())
-        && left.apply_mask_and(right) == Ok(())
+    apply(Mask::Or, left, right) == Ok(())
+        && apply(Mask::And, left, right) == Ok(())
         && *left == *right
-        && left.apply_mask_xor(right) == Ok(())
-        && left.count_ones() == 0
-        && left.apply_mask_custom(right, nor) == Ok(())
-        && left.count_ones() == right.count_zeros()
+        && apply(Mask::AndNot, left, right) == Ok(())
+        && answer(left, Query::CountOnes) == Some(0)
+        && apply(Mask::Xor, left, right) == Ok(())
+        && *left == *right
 }
 
 // Calls on a list of `len` bits, or on what is made of one or for one.
@@ -167,7 +204,7 @@ impl<A: Allocator + Copy> Check<BitVec<A>> for Using {
         match self.calls {
             Calls::New => is_new(&BitVec::new(list.allocator())),
             Calls::Queries => queries_work(list, self.len),
-            Calls::Walks => walks_work(list),
+            Calls::Walks => walks_work(list, self.len),
             Calls::Edits => edits_work(list, self.len / 2) && edits_work(list, self.len),
             Calls::Drops => drops_work(list, self.len),
             _ => false,
@@ -279,6 +316,5 @@ impl Trial<Global> for Calls {
 // of splits.
 #[test]
 fn these_calls_take_no_memory(rt: HostRuntime) {
-    let wrong = first_wrong_trial(rt.alloc(), &LENGTHS, &ALL);
-    assert_eq!(rt; wrong, None, "a length and a row");
+    assert_none_wrong(&rt, first_wrong_trial(rt.alloc(), &LENGTHS, &ALL));
 }

@@ -1,4 +1,5 @@
 //! Splits at the start, in the middle, before the end and at the end of lists of every length.
+use crate::tests::assert_none_wrong;
 use crate::tests::pattern::{has_pattern, pattern};
 use std::alloc::{Allocator, Global};
 use test_alloc::{Conversion, Ending, LENGTHS, Refusing, Trial, first_wrong_trial, try_conversion};
@@ -148,6 +149,5 @@ impl Trial<Global> for Split {
 
 #[test]
 fn splits_are_refused_in_turn(rt: HostRuntime) {
-    let wrong = first_wrong_trial(rt.alloc(), &LENGTHS, &SPLITS);
-    assert_eq!(rt; wrong, None, "a length and a row");
+    assert_none_wrong(&rt, first_wrong_trial(rt.alloc(), &LENGTHS, &SPLITS));
 }

@@ -26,6 +26,20 @@ impl Model for ByteTables {
     ghost invariant = { λ t. AreEntries false 256 t.forward × AreEntries true 256 t.backward };
 }
 
+// What a table holds of a byte. It can't be made otherwise, so what takes one has looked the byte up.
+#[derive(Drop)]
+pub(super) struct Entry {
+    packed: u64,
+}
+
+impl Model for Entry {
+    ghost use Rattle.std.specs.Prelude.{ℕ};
+
+    ghost Value = { ℕ };
+
+    ghost view = { λ entry. entry.packed };
+}
+
 impl ByteTables {
     /// The tables of all bytes. Takes no memory.
     pub fn new() -> ByteTables {
@@ -53,7 +67,7 @@ impl ByteTables {
     pub fn forward_entry(&self, byte: u8) -> u64
         ensures { (bits : List Bool) → IsByte bits byte → IsEntry false bits result }
     {
-        self.forward[byte as usize]
+        self.met_forward(byte).packed
     }
 
     /// The entry of a byte from its end, where a one takes 1 and a zero adds 1.
@@ -61,7 +75,27 @@ impl ByteTables {
     pub fn backward_entry(&self, byte: u8) -> u64
         ensures { (bits : List Bool) → IsByte bits byte → IsEntry true bits result }
     {
-        self.backward[byte as usize]
+        self.met_backward(byte).packed
+    }
+
+    // What is met in a byte from its start.
+    #[inline(always)]
+    pub(super) fn met_forward(&self, byte: u8) -> Entry
+        ensures { (bits : List Bool) → IsByte bits byte → IsEntry false bits result }
+    {
+        Entry {
+            packed: self.forward[byte as usize],
+        }
+    }
+
+    // What is met in a byte from its end.
+    #[inline(always)]
+    pub(super) fn met_backward(&self, byte: u8) -> Entry
+        ensures { (bits : List Bool) → IsByte bits byte → IsEntry true bits result }
+    {
+        Entry {
+            packed: self.backward[byte as usize],
+        }
     }
 }
 
@@ -185,7 +219,7 @@ fn above(rise: i64, target: i64) -> u64
 
 // The place in a byte of the given entry at which a sum that begins at `rise` first is `target`.
 #[inline(always)]
-pub(super) fn place_met(entry: u64, rise: i64, target: i64) -> Option<usize>
+pub(super) fn place_met(entry: Entry, rise: i64, target: i64) -> Option<usize>
     requires bounded { greatest_in entry ≤ 16 }
     requires ordered { least_in entry ≤ greatest_in entry }
     requires low { negsuc 9223372036854775799 ≤ℤ rise }
@@ -199,12 +233,13 @@ pub(super) fn place_met(entry: u64, rise: i64, target: i64) -> Option<usize>
         × (rise +ℤ (pos x -ℤ pos 8) ≡ target)
         × (place ≡ place_in entry x)) }
 {
-    if target < sum_at(rise, entry / 32 % 32) {
+    let packed = entry.packed;
+    if target < sum_at(rise, packed / 32 % 32) {
         return None;
     }
-    if sum_at(rise, entry % 32) < target {
+    if sum_at(rise, packed % 32) < target {
         return None;
     }
     let x = above(rise, target);
-    Some((entry >> (10 + 3 * x)) as usize % 8)
+    Some((packed >> (10 + 3 * x)) as usize % 8)
 }

@@ -82,7 +82,7 @@ impl<'a, const BLOCK_SIZE: usize, D, A: Allocator + Copy> Siblings<'a, BLOCK_SIZ
         self.next_counted(&mut tally)
     }
 
-    /// The first of the nodes left, which is taken, by one bit read and the reads of one search.
+    /// The same as `next`, by one bit read and the reads of one search.
     #[inline(always)]
     pub fn next_counted(&mut self, tally: &mut Tally) -> Option<usize>
         ensures steps { TakesFirst self.old.left result self.new.left }

@@ -23,10 +23,7 @@ impl<const BLOCK_SIZE: usize, A: Allocator + Copy> BpTree<BLOCK_SIZE, A> {
         self.level_ancestor_counted(node, levels, &mut tally)
     }
 
-    /// The ancestor of a node that is so many levels up, itself at 0, by the reads of one search. None
-    /// where there is none.
-    ///
-    /// The parentheses are balanced, and a node opens at the place.
+    /// The same as `level_ancestor`, by the reads of one search.
     #[inline(always)]
     pub fn level_ancestor_counted(
         &self,
@@ -62,9 +59,7 @@ impl<const BLOCK_SIZE: usize, A: Allocator + Copy> BpTree<BLOCK_SIZE, A> {
         self.level_next_counted(node, &mut tally)
     }
 
-    /// The next node of the same depth, by the reads of two searches. None where there is none.
-    ///
-    /// The parentheses are balanced, and a node opens at the place.
+    /// The same as `level_next`, by the reads of two searches.
     #[inline(always)]
     pub fn level_next_counted(&self, node: usize, tally: &mut Tally) -> Option<usize>
         requires balanced { IsBalanced self.now }
@@ -92,9 +87,7 @@ impl<const BLOCK_SIZE: usize, A: Allocator + Copy> BpTree<BLOCK_SIZE, A> {
         self.level_prev_counted(node, &mut tally)
     }
 
-    /// The node of the same depth before, by the reads of two searches. None where there is none.
-    ///
-    /// The parentheses are balanced, and a node opens at the place.
+    /// The same as `level_prev`, by the reads of two searches.
     #[inline(always)]
     pub fn level_prev_counted(&self, node: usize, tally: &mut Tally) -> Option<usize>
         requires balanced { IsBalanced self.now }
@@ -120,10 +113,7 @@ impl<const BLOCK_SIZE: usize, A: Allocator + Copy> BpTree<BLOCK_SIZE, A> {
         self.level_leftmost_counted(depth, &mut tally)
     }
 
-    /// The first node of a depth, by the reads of one search, where roots have depth 0. None where no
-    /// node is so deep.
-    ///
-    /// The parentheses are balanced.
+    /// The same as `level_leftmost`, by the reads of one search.
     #[inline(always)]
     pub fn level_leftmost_counted(&self, depth: u64, tally: &mut Tally) -> Option<usize>
         requires balanced { IsBalanced self.now }
@@ -151,10 +141,7 @@ impl<const BLOCK_SIZE: usize, A: Allocator + Copy> BpTree<BLOCK_SIZE, A> {
         self.level_rightmost_counted(depth, &mut tally)
     }
 
-    /// The last node of a depth, by the reads of two searches, where roots have depth 0. None where
-    /// no node is so deep.
-    ///
-    /// The parentheses are balanced.
+    /// The same as `level_rightmost`, by the reads of two searches.
     #[inline(always)]
     pub fn level_rightmost_counted(&self, depth: u64, tally: &mut Tally) -> Option<usize>
         requires balanced { IsBalanced self.now }

@@ -10,7 +10,7 @@ use crate::trees::bp::bytes::ByteTables;
 use crate::trees::bp::min_max::build::{nodes_over, width};
 use std::alloc::{AllocError, Allocator};
 use vers_bits::bit_vec::BitVec;
-use vers_tally::tally::{CountedNodes, Tally};
+use vers_tally::tally::{CountedNodes, Tally, Uncounted};
 
 // The total, least and greatest excess of a part.
 #[derive(Clone, Copy)]
@@ -103,7 +103,7 @@ impl<A: Allocator + Copy> MinMaxTree<A> {
         ensures same_nodes { IfOk result (λ t. t.nodes ≡ self.now.nodes) }
         ensures same_first { IfOk result (λ t. t.first ≡ self.now.first) }
     {
-        let nodes = Vec::from_slice(self.alloc, self.nodes.as_slice())?;
+        let nodes = Vec::from_slice(self.alloc, self.nodes.as_slice(Uncounted))?;
         Ok(MinMaxTree {
             alloc: self.alloc,
             nodes: CountedNodes::new(nodes),

@@ -27,9 +27,7 @@ impl<const BLOCK_SIZE: usize, A: Allocator + Copy> BpTree<BLOCK_SIZE, A> {
         self.parent_counted(node, &mut tally)
     }
 
-    /// The parent of a node, by the reads of one search. None for a root.
-    ///
-    /// The parentheses are balanced, and a node opens at the place.
+    /// The same as `parent`, by the reads of one search.
     #[inline(always)]
     pub fn parent_counted(&self, node: usize, tally: &mut Tally) -> Option<usize>
         requires balanced { IsBalanced self.now }
@@ -53,9 +51,7 @@ impl<const BLOCK_SIZE: usize, A: Allocator + Copy> BpTree<BLOCK_SIZE, A> {
         self.first_child_counted(node, &mut tally)
     }
 
-    /// The first child of a node, by one bit read. None for a leaf.
-    ///
-    /// The parentheses are balanced, and a node opens at the place.
+    /// The same as `first_child`, by one bit read.
     #[inline(always)]
     pub fn first_child_counted(&self, node: usize, tally: &mut Tally) -> Option<usize>
         requires balanced { IsBalanced self.now }
@@ -79,9 +75,7 @@ impl<const BLOCK_SIZE: usize, A: Allocator + Copy> BpTree<BLOCK_SIZE, A> {
         self.last_child_counted(node, &mut tally)
     }
 
-    /// The last child of a node, by the reads of two searches. None for a leaf.
-    ///
-    /// The parentheses are balanced, and a node opens at the place.
+    /// The same as `last_child`, by the reads of two searches.
     #[inline(always)]
     pub fn last_child_counted(&self, node: usize, tally: &mut Tally) -> Option<usize>
         requires balanced { IsBalanced self.now }
@@ -111,10 +105,7 @@ impl<const BLOCK_SIZE: usize, A: Allocator + Copy> BpTree<BLOCK_SIZE, A> {
         self.next_sibling_counted(node, &mut tally)
     }
 
-    /// The next node with the same parent, by the reads of one search and one bit; roots are
-    /// siblings. None for the last of them.
-    ///
-    /// The parentheses are balanced, and a node opens at the place.
+    /// The same as `next_sibling`, by one bit read and the reads of one search.
     #[inline(always)]
     pub fn next_sibling_counted(&self, node: usize, tally: &mut Tally) -> Option<usize>
         requires balanced { IsBalanced self.now }
@@ -139,10 +130,7 @@ impl<const BLOCK_SIZE: usize, A: Allocator + Copy> BpTree<BLOCK_SIZE, A> {
         self.previous_sibling_counted(node, &mut tally)
     }
 
-    /// The node before with the same parent, by one bit read and the reads of one search; roots are
-    /// siblings. None for the first of them.
-    ///
-    /// The parentheses are balanced, and a node opens at the place.
+    /// The same as `previous_sibling`, by one bit read and the reads of one search.
     #[inline(always)]
     pub fn previous_sibling_counted(&self, node: usize, tally: &mut Tally) -> Option<usize>
         requires balanced { IsBalanced self.now }
@@ -172,9 +160,7 @@ impl<const BLOCK_SIZE: usize, A: Allocator + Copy> BpTree<BLOCK_SIZE, A> {
         self.is_leaf_counted(node, &mut tally)
     }
 
-    /// Whether a node has no children, by one bit read.
-    ///
-    /// The parentheses are balanced, and a node opens at the place.
+    /// The same as `is_leaf`, by one bit read.
     #[inline(always)]
     pub fn is_leaf_counted(&self, node: usize, tally: &mut Tally) -> bool
         requires balanced { IsBalanced self.now }
@@ -198,9 +184,7 @@ impl<const BLOCK_SIZE: usize, A: Allocator + Copy> BpTree<BLOCK_SIZE, A> {
         self.node_index_counted(node, &mut tally)
     }
 
-    /// The number of a node in preorder, counted from 0, by the reads of one rank.
-    ///
-    /// The parentheses are balanced, and a node opens at the place.
+    /// The same as `node_index`, by the reads of one rank.
     #[inline(always)]
     pub fn node_index_counted(&self, node: usize, tally: &mut Tally) -> usize
         requires balanced { IsBalanced self.now }
@@ -224,9 +208,7 @@ impl<const BLOCK_SIZE: usize, A: Allocator + Copy> BpTree<BLOCK_SIZE, A> {
         self.depth_counted(node, &mut tally)
     }
 
-    /// How many nodes a node lies in, by the reads of one rank: 0 for a root.
-    ///
-    /// The parentheses are balanced, and a node opens at the place.
+    /// The same as `depth`, by the reads of one rank.
     #[inline(always)]
     pub fn depth_counted(&self, node: usize, tally: &mut Tally) -> u64
         requires balanced { IsBalanced self.now }
@@ -252,10 +234,7 @@ impl<const BLOCK_SIZE: usize, A: Allocator + Copy> BpTree<BLOCK_SIZE, A> {
         self.subtree_size_counted(node, &mut tally)
     }
 
-    /// How many nodes the tree of a node has, itself among them, by the reads of one search. It is
-    /// never None.
-    ///
-    /// The parentheses are balanced, and a node opens at the place.
+    /// The same as `subtree_size`, by the reads of one search.
     #[inline(always)]
     pub fn subtree_size_counted(&self, node: usize, tally: &mut Tally) -> Option<usize>
         requires balanced { IsBalanced self.now }
@@ -282,10 +261,7 @@ impl<const BLOCK_SIZE: usize, A: Allocator + Copy> BpTree<BLOCK_SIZE, A> {
         self.is_ancestor_counted(ancestor, descendant, &mut tally)
     }
 
-    /// Whether the first node is an ancestor of the second, by the reads of two searches; each node
-    /// is its own. It is never None.
-    ///
-    /// The parentheses are balanced, and nodes open at both places.
+    /// The same as `is_ancestor`, by the reads of two searches.
     #[inline(always)]
     pub fn is_ancestor_counted(
         &self,

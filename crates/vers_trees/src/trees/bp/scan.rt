@@ -125,7 +125,7 @@ fn bytes_forward<A: Allocator + Copy>(
         let mut within = 0;
         while within < size {
             let byte = ((word >> within) % 256) as u8;
-            if let Some(place) = place_met(tables.forward_entry(byte), rise, target) {
+            if let Some(place) = place_met(tables.met_forward(byte), rise, target) {
                 return Ok(start + within + place);
             }
             rise += byte_step(byte);
@@ -236,7 +236,7 @@ fn bytes_backward<A: Allocator + Copy>(
         while within > 0 {
             within -= 8;
             let byte = ((word >> within) % 256) as u8;
-            if let Some(place) = place_met(tables.backward_entry(byte), rise, target) {
+            if let Some(place) = place_met(tables.met_backward(byte), rise, target) {
                 return Ok(start + within + place);
             }
             rise -= byte_step(byte);

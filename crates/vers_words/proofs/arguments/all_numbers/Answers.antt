@@ -5,7 +5,7 @@ use Rattle.vers_words.proofs.Numbers.{numbers_then-none, numbers_then-push}
 use Rattle.vers_words.proofs.arguments.all_numbers.Goals as goal
 
 pub loop-word-init : goal.loop-word-init
-loop-word-init g c = rw c.new-numbers.ensures.items (sym (numbers_then-none _))
+loop-word-init g c = rw c.in_ok-numbers.ensures.items (sym (numbers_then-none _))
 
 pub returns-in_default-number : goal.returns-in_default-number
 returns-in_default-number g c =

@@ -7,11 +7,12 @@ use Rattle.vers_bits.specs.declared.bit_vec.TheConstants.{MAX_LEN}
 use Rattle.vers_bits.proofs.Words.{length-word_bits}
 use Rattle.vers_bits.proofs.LowBits.{low_bits_none}
 use Rattle.vers_bits.proofs.Gather.{limb_begun}
-use Rattle.vers_bits.proofs.Stops.{stops_at}
 use Rattle.vers_bits.proofs.bit_vec.BitVec.odd_items_of.Goals as goal
 
 pub loop-item-init : goal.loop-item-init
 loop-item-init g c = record {
+  can = c.requires.can;
+  ends = c.requires.ends;
   bits = ap (λ l. l ++ low_bits 0 0) c.new-list.ensures ∙ low_bits_none 0;
   small = omega arith;
   within = omega arith;
@@ -26,6 +27,8 @@ loop-item-preserved g c =
     let full = c.append_within.ensures in
     let grown = c.in_ok-append.ensures.grown in
     record {
+      can = search rules;
+      ends = search rules;
       bits =
           ap (λ l. c.append.new.self ++ l) (low_bits_none 0) ∙ append-nil c.append.new.self ∙ grown ∙ ap (λ l. l ++ bit ∷ []) (full ∙ c.loop-item.invariant.bits)
           ∙ ap (λ b. map odd xs ++ b ∷ []) c.is_odd-else-gathered-room.ensures ∙ sym (map-append odd xs (c.in-Some.item ∷ []));
@@ -46,6 +49,9 @@ returns-in_err-append-clause-refused g c =
     let short : length before ≤ MAX_LEN =
     omega (arith, ap length c.in_err-append.ensures.kept, ap length c.list.view_is, length-word_bits c.list.inside.«data».items c.list.inside.len, c.list.invariant.bounded) in
     let exact = c.in_err-append.ensures.too_long in
-    rw (p.1, p.2)
-    (stops_at g.I.Iterator.next_gives c.args.items _ xs c.in-Some.item c.loop-item.item-iterator c.next.new.self (search rules) c.in-Some.ensures.steps
-    ((λ e. omega (arith, exact.0 (ap Err e))), (λ h. let q : Err c.in_err-append.field-0.0 ≡ Err TooLong = exact.1 (omega arith) in cc)))
+    rw (p.1, p.2) (
+      xs,
+      c.in-Some.item,
+      (_, c.loop-item.yielded_by, c.in-Some.ensures.steps),
+      ((λ e. omega (arith, exact.0 (ap Err e))), (λ h. let q : Err c.in_err-append.field-0.0 ≡ Err TooLong = exact.1 (omega arith) in cc)),
+    )

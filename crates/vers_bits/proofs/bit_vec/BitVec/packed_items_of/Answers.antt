@@ -1,17 +1,19 @@
-use Rattle.std.proofs.Common.{rules, ◌≡◌, ◌+◌, ◌*◌, length, Err, ap, ◌∙◌, arith}
+use Rattle.std.proofs.Common.{◌≡◌, ◌+◌, ◌*◌, length, Err, ap, ◌∙◌, arith}
 use Rattle.std.proofs.lemmas.Result.{err_from_is_err_and}
 use Rattle.vers_bits.specs.declared.bit_vec.fault.GrowError.TheVariants.{TooLong}
 use Rattle.vers_bits.proofs.Growing.{length-packed}
-use Rattle.vers_bits.proofs.Stops.{stops_at}
 use Rattle.vers_bits.proofs.bit_vec.BitVec.packed_items_of.Goals as goal
 
 pub returns-in_err-append_digits-clause-refused : goal.returns-in_err-append_digits-clause-refused
 returns-in_err-append_digits-clause-refused g c =
     let p = err_from_is_err_and c.from_residual.result c.from_residual.ensures.1 in
     let number = g.T.Item.number in
-    let before = ap length c.loop-item.invariant ∙ length-packed number c.args.k c.loop-item.yielded in
+    let before = ap length c.loop-item.invariant.packed ∙ length-packed number c.args.k c.loop-item.yielded in
     let long : length c.loop-item.list + c.args.k ≡ (length c.loop-item.yielded + 1) * c.args.k = omega (arith, before) in
     let exact = c.in_err-append_digits.ensures.too_long in
-    rw (p.1, p.2)
-    (stops_at g.I.Iterator.next_gives c.args.items _ c.loop-item.yielded c.in-Some.item c.loop-item.item-iterator c.next.new.self (search rules) c.in-Some.ensures.steps
-    ((λ e. omega (arith, exact.0 (ap Err e))), (λ h. let q : Err c.in_err-append_digits.field-0.0 ≡ Err TooLong = exact.1 (omega arith) in cc)))
+    rw (p.1, p.2) (
+      c.loop-item.yielded,
+      c.in-Some.item,
+      (_, c.loop-item.yielded_by, c.in-Some.ensures.steps),
+      ((λ e. omega (arith, exact.0 (ap Err e))), (λ h. let q : Err c.in_err-append_digits.field-0.0 ≡ Err TooLong = exact.1 (omega arith) in cc)),
+    )

@@ -1,7 +1,12 @@
 use Rattle.std.proofs.Common.{◌≡◌}
+use Rattle.std.specs.Iterator.{IsFinite}
 use Rattle.std.specs.List.{flat_map}
 use Rattle.vers_bits.specs.Bits.{low_bits}
 use Rattle.vers_bits.proofs.bit_vec.BitVec.packed_items_of.Given as goal
 
 abbrev pub invariant-loop-item : goal.invariant-loop-item
-invariant-loop-item g l = l.list ≡ flat_map (λ x. low_bits (g.T.Item.number x) l.k) l.yielded
+invariant-loop-item g l = record {
+  can : g.I.Iterator.can_next l.items;
+  ends : IsFinite (g.I.Iterator.remaining l.items);
+  packed : l.list ≡ flat_map (λ x. low_bits (g.T.Item.number x) l.k) l.yielded;
+}

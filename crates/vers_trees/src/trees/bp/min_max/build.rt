@@ -34,9 +34,10 @@ fn leaves_of<A: Allocator + Copy>(
         (block_count size (length bits.now)) v.items) }
 {
     let len = bits.len();
-    let mut nodes = Vec::new(bits.allocator());
+    let leaves = len.div_ceil(size);
+    let mut nodes = Vec::with_capacity(bits.allocator(), first.saturating_add(leaves))?;
     nodes.resize(first, Node::empty())?;
-    for block in 0..len.div_ceil(size) {
+    for block in 0..leaves {
         let end = (block * size + size).min(len);
         nodes.push(node_of(bits, block * size, end))?;
     }

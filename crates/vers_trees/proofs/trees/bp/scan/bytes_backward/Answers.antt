@@ -21,7 +21,7 @@ place_met-requires-clause-bounded g c =
     let room : (c.loop-within.within - 8) + 8 ≤ c.min-size.result = omega arith in
     let word = word_read c.args.bits.now (c.loop-stop.stop - c.min-size.result) c.min-size.result _ c.unwrap-word.result c.get_bits_counted.ensures.value c.unwrap-word.ensures (omega arith) (omega arith) in
     let is : IsByte (part c.args.bits.now ((c.loop-stop.stop - c.min-size.result) + (c.loop-within.within - 8)) 8) (c.unwrap-word.result / 2 ^ (c.loop-within.within - 8) % 256) = byte_in c.args.bits.now (c.loop-stop.stop - c.min-size.result) c.min-size.result (c.loop-within.within - 8) c.unwrap-word.result word room (omega arith) in
-    let entry : IsEntry true (part c.args.bits.now ((c.loop-stop.stop - c.min-size.result) + (c.loop-within.within - 8)) 8) c.backward_entry.result = c.backward_entry.ensures _ is in
+    let entry : IsEntry true (part c.args.bits.now ((c.loop-stop.stop - c.min-size.result) + (c.loop-within.within - 8)) 8) c.met_backward.result = c.met_backward.ensures _ is in
     let at : (c.loop-stop.stop - c.min-size.result) + c.loop-within.within ≡ ((c.loop-stop.stop - c.min-size.result) + (c.loop-within.within - 8)) + 8 = omega arith in
     entry.bounded
 
@@ -32,7 +32,7 @@ place_met-requires-clause-ordered g c =
     let room : (c.loop-within.within - 8) + 8 ≤ c.min-size.result = omega arith in
     let word = word_read c.args.bits.now (c.loop-stop.stop - c.min-size.result) c.min-size.result _ c.unwrap-word.result c.get_bits_counted.ensures.value c.unwrap-word.ensures (omega arith) (omega arith) in
     let is : IsByte (part c.args.bits.now ((c.loop-stop.stop - c.min-size.result) + (c.loop-within.within - 8)) 8) (c.unwrap-word.result / 2 ^ (c.loop-within.within - 8) % 256) = byte_in c.args.bits.now (c.loop-stop.stop - c.min-size.result) c.min-size.result (c.loop-within.within - 8) c.unwrap-word.result word room (omega arith) in
-    let entry : IsEntry true (part c.args.bits.now ((c.loop-stop.stop - c.min-size.result) + (c.loop-within.within - 8)) 8) c.backward_entry.result = c.backward_entry.ensures _ is in
+    let entry : IsEntry true (part c.args.bits.now ((c.loop-stop.stop - c.min-size.result) + (c.loop-within.within - 8)) 8) c.met_backward.result = c.met_backward.ensures _ is in
     let at : (c.loop-stop.stop - c.min-size.result) + c.loop-within.within ≡ ((c.loop-stop.stop - c.min-size.result) + (c.loop-within.within - 8)) + 8 = omega arith in
     entry_ordered _ _ _ entry
 
@@ -43,7 +43,7 @@ place_met-requires-clause-low g c =
     let room : (c.loop-within.within - 8) + 8 ≤ c.min-size.result = omega arith in
     let word = word_read c.args.bits.now (c.loop-stop.stop - c.min-size.result) c.min-size.result _ c.unwrap-word.result c.get_bits_counted.ensures.value c.unwrap-word.ensures (omega arith) (omega arith) in
     let is : IsByte (part c.args.bits.now ((c.loop-stop.stop - c.min-size.result) + (c.loop-within.within - 8)) 8) (c.unwrap-word.result / 2 ^ (c.loop-within.within - 8) % 256) = byte_in c.args.bits.now (c.loop-stop.stop - c.min-size.result) c.min-size.result (c.loop-within.within - 8) c.unwrap-word.result word room (omega arith) in
-    let entry : IsEntry true (part c.args.bits.now ((c.loop-stop.stop - c.min-size.result) + (c.loop-within.within - 8)) 8) c.backward_entry.result = c.backward_entry.ensures _ is in
+    let entry : IsEntry true (part c.args.bits.now ((c.loop-stop.stop - c.min-size.result) + (c.loop-within.within - 8)) 8) c.met_backward.result = c.met_backward.ensures _ is in
     let at : (c.loop-stop.stop - c.min-size.result) + c.loop-within.within ≡ ((c.loop-stop.stop - c.min-size.result) + (c.loop-within.within - 8)) + 8 = omega arith in
     let was = subst (λ (n : ℕ). HasNoRiseBefore c.args.bits.now n r.0 (to_z w64 (of_z w64 c.args.target)) (to_z w64 c.loop-within.rise-bits)) at (j.passed r.0 r.1 r.2 (rw (to_z-of_z w64 c.args.target c.ranges.target, to_z-of_z w64 c.args.rise c.ranges.rise) r.3)) in
     let small = fall_small c.args.bits.now (((c.loop-stop.stop - c.min-size.result) + (c.loop-within.within - 8)) + 8) r.0 _ (to_z w64 c.loop-within.rise-bits) was (omega arith) (omega arith) r.2 c.requires.short in
@@ -56,7 +56,7 @@ place_met-requires-clause-high g c =
     let room : (c.loop-within.within - 8) + 8 ≤ c.min-size.result = omega arith in
     let word = word_read c.args.bits.now (c.loop-stop.stop - c.min-size.result) c.min-size.result _ c.unwrap-word.result c.get_bits_counted.ensures.value c.unwrap-word.ensures (omega arith) (omega arith) in
     let is : IsByte (part c.args.bits.now ((c.loop-stop.stop - c.min-size.result) + (c.loop-within.within - 8)) 8) (c.unwrap-word.result / 2 ^ (c.loop-within.within - 8) % 256) = byte_in c.args.bits.now (c.loop-stop.stop - c.min-size.result) c.min-size.result (c.loop-within.within - 8) c.unwrap-word.result word room (omega arith) in
-    let entry : IsEntry true (part c.args.bits.now ((c.loop-stop.stop - c.min-size.result) + (c.loop-within.within - 8)) 8) c.backward_entry.result = c.backward_entry.ensures _ is in
+    let entry : IsEntry true (part c.args.bits.now ((c.loop-stop.stop - c.min-size.result) + (c.loop-within.within - 8)) 8) c.met_backward.result = c.met_backward.ensures _ is in
     let at : (c.loop-stop.stop - c.min-size.result) + c.loop-within.within ≡ ((c.loop-stop.stop - c.min-size.result) + (c.loop-within.within - 8)) + 8 = omega arith in
     let was = subst (λ (n : ℕ). HasNoRiseBefore c.args.bits.now n r.0 (to_z w64 (of_z w64 c.args.target)) (to_z w64 c.loop-within.rise-bits)) at (j.passed r.0 r.1 r.2 (rw (to_z-of_z w64 c.args.target c.ranges.target, to_z-of_z w64 c.args.rise c.ranges.rise) r.3)) in
     let small = fall_small c.args.bits.now (((c.loop-stop.stop - c.min-size.result) + (c.loop-within.within - 8)) + 8) r.0 _ (to_z w64 c.loop-within.rise-bits) was (omega arith) (omega arith) r.2 c.requires.short in
@@ -69,14 +69,14 @@ returns-in-Some-clause-value g c =
     let room : (c.loop-within.within - 8) + 8 ≤ c.min-size.result = omega arith in
     let word = word_read c.args.bits.now (c.loop-stop.stop - c.min-size.result) c.min-size.result _ c.unwrap-word.result c.get_bits_counted.ensures.value c.unwrap-word.ensures (omega arith) (omega arith) in
     let is : IsByte (part c.args.bits.now ((c.loop-stop.stop - c.min-size.result) + (c.loop-within.within - 8)) 8) (c.unwrap-word.result / 2 ^ (c.loop-within.within - 8) % 256) = byte_in c.args.bits.now (c.loop-stop.stop - c.min-size.result) c.min-size.result (c.loop-within.within - 8) c.unwrap-word.result word room (omega arith) in
-    let entry : IsEntry true (part c.args.bits.now ((c.loop-stop.stop - c.min-size.result) + (c.loop-within.within - 8)) 8) c.backward_entry.result = c.backward_entry.ensures _ is in
+    let entry : IsEntry true (part c.args.bits.now ((c.loop-stop.stop - c.min-size.result) + (c.loop-within.within - 8)) 8) c.met_backward.result = c.met_backward.ensures _ is in
     let at : (c.loop-stop.stop - c.min-size.result) + c.loop-within.within ≡ ((c.loop-stop.stop - c.min-size.result) + (c.loop-within.within - 8)) + 8 = omega arith in
     let s = c.in-Some.ensures in
     λ to o n q.
     let p = subst (λ (n : ℕ). HasNoRiseBefore c.args.bits.now n to (to_z w64 (of_z w64 c.args.target)) (to_z w64 c.loop-within.rise-bits)) at (j.passed to o n (rw (to_z-of_z w64 c.args.target c.ranges.target, to_z-of_z w64 c.args.rise c.ranges.rise) q)) in
-    let found = backward_byte_found c.args.bits.now c.args.begin ((c.loop-stop.stop - c.min-size.result) + (c.loop-within.within - 8)) to (to_z w64 (of_z w64 c.args.target)) (to_z w64 c.loop-within.rise-bits) c.backward_entry.result s.0 p (omega arith) (omega arith) n entry s.1 s.2 s.3 in
+    let found = backward_byte_found c.args.bits.now c.args.begin ((c.loop-stop.stop - c.min-size.result) + (c.loop-within.within - 8)) to (to_z w64 (of_z w64 c.args.target)) (to_z w64 c.loop-within.rise-bits) c.met_backward.result s.0 p (omega arith) (omega arith) n entry s.1 s.2 s.3 in
     subst (λ (k : ℕ). IsLastRise c.args.bits.now c.args.begin to c.args.target ((c.loop-stop.stop - c.min-size.result) + (c.loop-within.within - 8) + k)) (sym s.4)
-    (subst (λ (z : ℤ). IsLastRise c.args.bits.now c.args.begin to z ((c.loop-stop.stop - c.min-size.result) + (c.loop-within.within - 8) + place_in c.backward_entry.result s.0)) (to_z-of_z w64 c.args.target c.ranges.target) found)
+    (subst (λ (z : ℤ). IsLastRise c.args.bits.now c.args.begin to z ((c.loop-stop.stop - c.min-size.result) + (c.loop-within.within - 8) + place_in c.met_backward.result s.0)) (to_z-of_z w64 c.args.target c.ranges.target) found)
 
 pub overflow_sub-rise-in-loop-within : goal.overflow_sub-rise-in-loop-within
 overflow_sub-rise-in-loop-within g c =
@@ -85,12 +85,12 @@ overflow_sub-rise-in-loop-within g c =
     let room : (c.loop-within.within - 8) + 8 ≤ c.min-size.result = omega arith in
     let word = word_read c.args.bits.now (c.loop-stop.stop - c.min-size.result) c.min-size.result _ c.unwrap-word.result c.get_bits_counted.ensures.value c.unwrap-word.ensures (omega arith) (omega arith) in
     let is : IsByte (part c.args.bits.now ((c.loop-stop.stop - c.min-size.result) + (c.loop-within.within - 8)) 8) (c.unwrap-word.result / 2 ^ (c.loop-within.within - 8) % 256) = byte_in c.args.bits.now (c.loop-stop.stop - c.min-size.result) c.min-size.result (c.loop-within.within - 8) c.unwrap-word.result word room (omega arith) in
-    let entry : IsEntry true (part c.args.bits.now ((c.loop-stop.stop - c.min-size.result) + (c.loop-within.within - 8)) 8) c.backward_entry.result = c.backward_entry.ensures _ is in
+    let entry : IsEntry true (part c.args.bits.now ((c.loop-stop.stop - c.min-size.result) + (c.loop-within.within - 8)) 8) c.met_backward.result = c.met_backward.ensures _ is in
     let at : (c.loop-stop.stop - c.min-size.result) + c.loop-within.within ≡ ((c.loop-stop.stop - c.min-size.result) + (c.loop-within.within - 8)) + 8 = omega arith in
     let was = subst (λ (n : ℕ). HasNoRiseBefore c.args.bits.now n r.0 (to_z w64 (of_z w64 c.args.target)) (to_z w64 c.loop-within.rise-bits)) at (j.passed r.0 r.1 r.2 (rw (to_z-of_z w64 c.args.target c.ranges.target, to_z-of_z w64 c.args.rise c.ranges.rise) r.3)) in
     let total : c.byte_step-rise.result ≡ excess (part c.args.bits.now ((c.loop-stop.stop - c.min-size.result) + (c.loop-within.within - 8)) 8) 8 = byte_total _ _ c.byte_step-rise.result is c.byte_step-rise.ensures in
     let fits = byte_fits c.args.bits.now ((c.loop-stop.stop - c.min-size.result) + (c.loop-within.within - 8)) c.byte_step-rise.result (omega arith) c.requires.short total in
-    let more = backward_byte_more c.args.bits.now ((c.loop-stop.stop - c.min-size.result) + (c.loop-within.within - 8)) r.0 (to_z w64 (of_z w64 c.args.target)) (to_z w64 c.loop-within.rise-bits) c.byte_step-rise.result c.backward_entry.result was (omega arith) r.2 entry c.in_default.ensures total in
+    let more = backward_byte_more c.args.bits.now ((c.loop-stop.stop - c.min-size.result) + (c.loop-within.within - 8)) r.0 (to_z w64 (of_z w64 c.args.target)) (to_z w64 c.loop-within.rise-bits) c.byte_step-rise.result c.met_backward.result was (omega arith) r.2 entry c.in_default.ensures total in
     let sum : FitsSigned w64 ((to_z w64 c.loop-within.rise-bits) -ℤ c.byte_step-rise.result) = rise_fits c.args.bits.now r.0 ((c.loop-stop.stop - c.min-size.result) + (c.loop-within.within - 8)) _ c.requires.short r.2 (omega arith) more.risen in
     rw (to_z-of_z w64 c.byte_step-rise.result fits) sum
 
@@ -101,18 +101,18 @@ loop-within-preserved g c =
     let room : (c.loop-within.within - 8) + 8 ≤ c.min-size.result = omega arith in
     let word = word_read c.args.bits.now (c.loop-stop.stop - c.min-size.result) c.min-size.result _ c.unwrap-word.result c.get_bits_counted.ensures.value c.unwrap-word.ensures (omega arith) (omega arith) in
     let is : IsByte (part c.args.bits.now ((c.loop-stop.stop - c.min-size.result) + (c.loop-within.within - 8)) 8) (c.unwrap-word.result / 2 ^ (c.loop-within.within - 8) % 256) = byte_in c.args.bits.now (c.loop-stop.stop - c.min-size.result) c.min-size.result (c.loop-within.within - 8) c.unwrap-word.result word room (omega arith) in
-    let entry : IsEntry true (part c.args.bits.now ((c.loop-stop.stop - c.min-size.result) + (c.loop-within.within - 8)) 8) c.backward_entry.result = c.backward_entry.ensures _ is in
+    let entry : IsEntry true (part c.args.bits.now ((c.loop-stop.stop - c.min-size.result) + (c.loop-within.within - 8)) 8) c.met_backward.result = c.met_backward.ensures _ is in
     let at : (c.loop-stop.stop - c.min-size.result) + c.loop-within.within ≡ ((c.loop-stop.stop - c.min-size.result) + (c.loop-within.within - 8)) + 8 = omega arith in
     let was = subst (λ (n : ℕ). HasNoRiseBefore c.args.bits.now n r.0 (to_z w64 (of_z w64 c.args.target)) (to_z w64 c.loop-within.rise-bits)) at (j.passed r.0 r.1 r.2 (rw (to_z-of_z w64 c.args.target c.ranges.target, to_z-of_z w64 c.args.rise c.ranges.rise) r.3)) in
     let total : c.byte_step-rise.result ≡ excess (part c.args.bits.now ((c.loop-stop.stop - c.min-size.result) + (c.loop-within.within - 8)) 8) 8 = byte_total _ _ c.byte_step-rise.result is c.byte_step-rise.ensures in
     let fits = byte_fits c.args.bits.now ((c.loop-stop.stop - c.min-size.result) + (c.loop-within.within - 8)) c.byte_step-rise.result (omega arith) c.requires.short total in
-    let more = backward_byte_more c.args.bits.now ((c.loop-stop.stop - c.min-size.result) + (c.loop-within.within - 8)) r.0 (to_z w64 (of_z w64 c.args.target)) (to_z w64 c.loop-within.rise-bits) c.byte_step-rise.result c.backward_entry.result was (omega arith) r.2 entry c.in_default.ensures total in
+    let more = backward_byte_more c.args.bits.now ((c.loop-stop.stop - c.min-size.result) + (c.loop-within.within - 8)) r.0 (to_z w64 (of_z w64 c.args.target)) (to_z w64 c.loop-within.rise-bits) c.byte_step-rise.result c.met_backward.result was (omega arith) r.2 entry c.in_default.ensures total in
     let sum : FitsSigned w64 ((to_z w64 c.loop-within.rise-bits) -ℤ c.byte_step-rise.result) = rise_fits c.args.bits.now r.0 ((c.loop-stop.stop - c.min-size.result) + (c.loop-within.within - 8)) _ c.requires.short r.2 (omega arith) more.risen in
     let e = minus_is (to_z w64 c.loop-within.rise-bits) c.byte_step-rise.result fits sum in
     record {
       high = omega arith;
       whole = omega arith;
-      passed = λ to u v q. rw e (backward_byte_more c.args.bits.now ((c.loop-stop.stop - c.min-size.result) + (c.loop-within.within - 8)) to (to_z w64 (of_z w64 c.args.target)) (to_z w64 c.loop-within.rise-bits) c.byte_step-rise.result c.backward_entry.result (subst (λ (n : ℕ). HasNoRiseBefore c.args.bits.now n to (to_z w64 (of_z w64 c.args.target)) (to_z w64 c.loop-within.rise-bits)) at (j.passed to u v q)) (omega arith) v entry c.in_default.ensures total);
+      passed = λ to u v q. rw e (backward_byte_more c.args.bits.now ((c.loop-stop.stop - c.min-size.result) + (c.loop-within.within - 8)) to (to_z w64 (of_z w64 c.args.target)) (to_z w64 c.loop-within.rise-bits) c.byte_step-rise.result c.met_backward.result (subst (λ (n : ℕ). HasNoRiseBefore c.args.bits.now n to (to_z w64 (of_z w64 c.args.target)) (to_z w64 c.loop-within.rise-bits)) at (j.passed to u v q)) (omega arith) v entry c.in_default.ensures total);
     }
 
 pub stays_above_back-requires : goal.stays_above_back-requires

@@ -21,7 +21,7 @@ place_met-requires-clause-bounded g c =
     let room : c.loop-within.within + 8 ≤ c.min-size.result = omega arith in
     let word = word_read c.args.bits.now c.loop-start.start c.min-size.result _ c.unwrap-word.result c.get_bits_counted.ensures.value c.unwrap-word.ensures (omega arith) (omega arith) in
     let is : IsByte (part c.args.bits.now (c.loop-start.start + c.loop-within.within) 8) (c.unwrap-word.result / 2 ^ c.loop-within.within % 256) = byte_in c.args.bits.now c.loop-start.start c.min-size.result c.loop-within.within c.unwrap-word.result word room (omega arith) in
-    let entry : IsEntry false (part c.args.bits.now (c.loop-start.start + c.loop-within.within) 8) c.forward_entry.result = c.forward_entry.ensures _ is in
+    let entry : IsEntry false (part c.args.bits.now (c.loop-start.start + c.loop-within.within) 8) c.met_forward.result = c.met_forward.ensures _ is in
     entry.bounded
 
 pub place_met-requires-clause-ordered : goal.place_met-requires-clause-ordered
@@ -31,7 +31,7 @@ place_met-requires-clause-ordered g c =
     let room : c.loop-within.within + 8 ≤ c.min-size.result = omega arith in
     let word = word_read c.args.bits.now c.loop-start.start c.min-size.result _ c.unwrap-word.result c.get_bits_counted.ensures.value c.unwrap-word.ensures (omega arith) (omega arith) in
     let is : IsByte (part c.args.bits.now (c.loop-start.start + c.loop-within.within) 8) (c.unwrap-word.result / 2 ^ c.loop-within.within % 256) = byte_in c.args.bits.now c.loop-start.start c.min-size.result c.loop-within.within c.unwrap-word.result word room (omega arith) in
-    let entry : IsEntry false (part c.args.bits.now (c.loop-start.start + c.loop-within.within) 8) c.forward_entry.result = c.forward_entry.ensures _ is in
+    let entry : IsEntry false (part c.args.bits.now (c.loop-start.start + c.loop-within.within) 8) c.met_forward.result = c.met_forward.ensures _ is in
     entry_ordered _ _ _ entry
 
 pub place_met-requires-clause-low : goal.place_met-requires-clause-low
@@ -41,7 +41,7 @@ place_met-requires-clause-low g c =
     let room : c.loop-within.within + 8 ≤ c.min-size.result = omega arith in
     let word = word_read c.args.bits.now c.loop-start.start c.min-size.result _ c.unwrap-word.result c.get_bits_counted.ensures.value c.unwrap-word.ensures (omega arith) (omega arith) in
     let is : IsByte (part c.args.bits.now (c.loop-start.start + c.loop-within.within) 8) (c.unwrap-word.result / 2 ^ c.loop-within.within % 256) = byte_in c.args.bits.now c.loop-start.start c.min-size.result c.loop-within.within c.unwrap-word.result word room (omega arith) in
-    let entry : IsEntry false (part c.args.bits.now (c.loop-start.start + c.loop-within.within) 8) c.forward_entry.result = c.forward_entry.ensures _ is in
+    let entry : IsEntry false (part c.args.bits.now (c.loop-start.start + c.loop-within.within) 8) c.met_forward.result = c.met_forward.ensures _ is in
     let o = c.requires.passed.1 in
     let was = j.passed c.requires.passed.0 c.requires.passed.1 (rw (to_z-of_z w64 c.args.target c.ranges.target, to_z-of_z w64 c.args.rise c.ranges.rise) c.requires.passed.2) in
     let small = rise_small c.args.bits.now c.requires.passed.0 (c.loop-start.start + c.loop-within.within) _ (to_z w64 c.loop-within.rise-bits) was (omega arith) (omega arith) c.requires.short in
@@ -54,7 +54,7 @@ place_met-requires-clause-high g c =
     let room : c.loop-within.within + 8 ≤ c.min-size.result = omega arith in
     let word = word_read c.args.bits.now c.loop-start.start c.min-size.result _ c.unwrap-word.result c.get_bits_counted.ensures.value c.unwrap-word.ensures (omega arith) (omega arith) in
     let is : IsByte (part c.args.bits.now (c.loop-start.start + c.loop-within.within) 8) (c.unwrap-word.result / 2 ^ c.loop-within.within % 256) = byte_in c.args.bits.now c.loop-start.start c.min-size.result c.loop-within.within c.unwrap-word.result word room (omega arith) in
-    let entry : IsEntry false (part c.args.bits.now (c.loop-start.start + c.loop-within.within) 8) c.forward_entry.result = c.forward_entry.ensures _ is in
+    let entry : IsEntry false (part c.args.bits.now (c.loop-start.start + c.loop-within.within) 8) c.met_forward.result = c.met_forward.ensures _ is in
     let o = c.requires.passed.1 in
     let was = j.passed c.requires.passed.0 c.requires.passed.1 (rw (to_z-of_z w64 c.args.target c.ranges.target, to_z-of_z w64 c.args.rise c.ranges.rise) c.requires.passed.2) in
     let small = rise_small c.args.bits.now c.requires.passed.0 (c.loop-start.start + c.loop-within.within) _ (to_z w64 c.loop-within.rise-bits) was (omega arith) (omega arith) c.requires.short in
@@ -67,13 +67,13 @@ returns-in-Some-clause-value g c =
     let room : c.loop-within.within + 8 ≤ c.min-size.result = omega arith in
     let word = word_read c.args.bits.now c.loop-start.start c.min-size.result _ c.unwrap-word.result c.get_bits_counted.ensures.value c.unwrap-word.ensures (omega arith) (omega arith) in
     let is : IsByte (part c.args.bits.now (c.loop-start.start + c.loop-within.within) 8) (c.unwrap-word.result / 2 ^ c.loop-within.within % 256) = byte_in c.args.bits.now c.loop-start.start c.min-size.result c.loop-within.within c.unwrap-word.result word room (omega arith) in
-    let entry : IsEntry false (part c.args.bits.now (c.loop-start.start + c.loop-within.within) 8) c.forward_entry.result = c.forward_entry.ensures _ is in
+    let entry : IsEntry false (part c.args.bits.now (c.loop-start.start + c.loop-within.within) 8) c.met_forward.result = c.met_forward.ensures _ is in
     let s = c.in-Some.ensures in
     λ from o q.
     let p = j.passed from o (rw (to_z-of_z w64 c.args.target c.ranges.target, to_z-of_z w64 c.args.rise c.ranges.rise) q) in
-    let found = forward_byte_found c.args.bits.now from (c.loop-start.start + c.loop-within.within) c.args.end (to_z w64 (of_z w64 c.args.target)) (to_z w64 c.loop-within.rise-bits) c.forward_entry.result s.0 p (omega arith) (omega arith) c.requires.inside entry s.1 s.2 s.3 in
+    let found = forward_byte_found c.args.bits.now from (c.loop-start.start + c.loop-within.within) c.args.end (to_z w64 (of_z w64 c.args.target)) (to_z w64 c.loop-within.rise-bits) c.met_forward.result s.0 p (omega arith) (omega arith) c.requires.inside entry s.1 s.2 s.3 in
     subst (λ (k : ℕ). IsFirstRise c.args.bits.now from c.args.end c.args.target (c.loop-start.start + c.loop-within.within + k)) (sym s.4)
-    (subst (λ (z : ℤ). IsFirstRise c.args.bits.now from c.args.end z (c.loop-start.start + c.loop-within.within + place_in c.forward_entry.result s.0)) (to_z-of_z w64 c.args.target c.ranges.target) found)
+    (subst (λ (z : ℤ). IsFirstRise c.args.bits.now from c.args.end z (c.loop-start.start + c.loop-within.within + place_in c.met_forward.result s.0)) (to_z-of_z w64 c.args.target c.ranges.target) found)
 
 pub overflow_add-rise-in-loop-within : goal.overflow_add-rise-in-loop-within
 overflow_add-rise-in-loop-within g c =
@@ -82,12 +82,12 @@ overflow_add-rise-in-loop-within g c =
     let room : c.loop-within.within + 8 ≤ c.min-size.result = omega arith in
     let word = word_read c.args.bits.now c.loop-start.start c.min-size.result _ c.unwrap-word.result c.get_bits_counted.ensures.value c.unwrap-word.ensures (omega arith) (omega arith) in
     let is : IsByte (part c.args.bits.now (c.loop-start.start + c.loop-within.within) 8) (c.unwrap-word.result / 2 ^ c.loop-within.within % 256) = byte_in c.args.bits.now c.loop-start.start c.min-size.result c.loop-within.within c.unwrap-word.result word room (omega arith) in
-    let entry : IsEntry false (part c.args.bits.now (c.loop-start.start + c.loop-within.within) 8) c.forward_entry.result = c.forward_entry.ensures _ is in
+    let entry : IsEntry false (part c.args.bits.now (c.loop-start.start + c.loop-within.within) 8) c.met_forward.result = c.met_forward.ensures _ is in
     let o = c.requires.passed.1 in
     let was = j.passed c.requires.passed.0 c.requires.passed.1 (rw (to_z-of_z w64 c.args.target c.ranges.target, to_z-of_z w64 c.args.rise c.ranges.rise) c.requires.passed.2) in
     let total : c.byte_step-rise.result ≡ excess (part c.args.bits.now (c.loop-start.start + c.loop-within.within) 8) 8 = byte_total _ _ c.byte_step-rise.result is c.byte_step-rise.ensures in
     let fits = byte_fits c.args.bits.now (c.loop-start.start + c.loop-within.within) c.byte_step-rise.result (omega arith) c.requires.short total in
-    let more = forward_byte_more c.args.bits.now c.requires.passed.0 (c.loop-start.start + c.loop-within.within) (to_z w64 (of_z w64 c.args.target)) (to_z w64 c.loop-within.rise-bits) c.byte_step-rise.result c.forward_entry.result was (omega arith) (omega arith) entry c.in_default.ensures total in
+    let more = forward_byte_more c.args.bits.now c.requires.passed.0 (c.loop-start.start + c.loop-within.within) (to_z w64 (of_z w64 c.args.target)) (to_z w64 c.loop-within.rise-bits) c.byte_step-rise.result c.met_forward.result was (omega arith) (omega arith) entry c.in_default.ensures total in
     let sum : FitsSigned w64 (to_z w64 c.loop-within.rise-bits +ℤ c.byte_step-rise.result) = rise_fits c.args.bits.now c.requires.passed.0 (c.loop-start.start + c.loop-within.within + 8) _ c.requires.short (omega arith) (omega arith) more.risen in
     rw (to_z-of_z w64 c.byte_step-rise.result fits) sum
 
@@ -98,19 +98,19 @@ loop-within-preserved g c =
     let room : c.loop-within.within + 8 ≤ c.min-size.result = omega arith in
     let word = word_read c.args.bits.now c.loop-start.start c.min-size.result _ c.unwrap-word.result c.get_bits_counted.ensures.value c.unwrap-word.ensures (omega arith) (omega arith) in
     let is : IsByte (part c.args.bits.now (c.loop-start.start + c.loop-within.within) 8) (c.unwrap-word.result / 2 ^ c.loop-within.within % 256) = byte_in c.args.bits.now c.loop-start.start c.min-size.result c.loop-within.within c.unwrap-word.result word room (omega arith) in
-    let entry : IsEntry false (part c.args.bits.now (c.loop-start.start + c.loop-within.within) 8) c.forward_entry.result = c.forward_entry.ensures _ is in
+    let entry : IsEntry false (part c.args.bits.now (c.loop-start.start + c.loop-within.within) 8) c.met_forward.result = c.met_forward.ensures _ is in
     let o = c.requires.passed.1 in
     let was = j.passed c.requires.passed.0 c.requires.passed.1 (rw (to_z-of_z w64 c.args.target c.ranges.target, to_z-of_z w64 c.args.rise c.ranges.rise) c.requires.passed.2) in
     let total : c.byte_step-rise.result ≡ excess (part c.args.bits.now (c.loop-start.start + c.loop-within.within) 8) 8 = byte_total _ _ c.byte_step-rise.result is c.byte_step-rise.ensures in
     let fits = byte_fits c.args.bits.now (c.loop-start.start + c.loop-within.within) c.byte_step-rise.result (omega arith) c.requires.short total in
-    let more = forward_byte_more c.args.bits.now c.requires.passed.0 (c.loop-start.start + c.loop-within.within) (to_z w64 (of_z w64 c.args.target)) (to_z w64 c.loop-within.rise-bits) c.byte_step-rise.result c.forward_entry.result was (omega arith) (omega arith) entry c.in_default.ensures total in
+    let more = forward_byte_more c.args.bits.now c.requires.passed.0 (c.loop-start.start + c.loop-within.within) (to_z w64 (of_z w64 c.args.target)) (to_z w64 c.loop-within.rise-bits) c.byte_step-rise.result c.met_forward.result was (omega arith) (omega arith) entry c.in_default.ensures total in
     let sum : FitsSigned w64 (to_z w64 c.loop-within.rise-bits +ℤ c.byte_step-rise.result) = rise_fits c.args.bits.now c.requires.passed.0 (c.loop-start.start + c.loop-within.within + 8) _ c.requires.short (omega arith) (omega arith) more.risen in
     let e = plus_is (to_z w64 c.loop-within.rise-bits) c.byte_step-rise.result fits sum in
     record {
       high = room;
       whole = omega arith;
       passed = λ from u q.
-          let k = forward_byte_more c.args.bits.now from (c.loop-start.start + c.loop-within.within) (to_z w64 (of_z w64 c.args.target)) (to_z w64 c.loop-within.rise-bits) c.byte_step-rise.result c.forward_entry.result (j.passed from u q) (omega arith) (omega arith) entry c.in_default.ensures total in
+          let k = forward_byte_more c.args.bits.now from (c.loop-start.start + c.loop-within.within) (to_z w64 (of_z w64 c.args.target)) (to_z w64 c.loop-within.rise-bits) c.byte_step-rise.result c.met_forward.result (j.passed from u q) (omega arith) (omega arith) entry c.in_default.ensures total in
           let at : c.loop-start.start + c.loop-within.within + 8 ≡ c.loop-start.start + (c.loop-within.within + 8) = omega arith in
           rw e (subst (λ (n : ℕ). HasNoRise c.args.bits.now from n (to_z w64 (of_z w64 c.args.target)) (to_z w64 c.loop-within.rise-bits +ℤ c.byte_step-rise.result)) at k);
     }

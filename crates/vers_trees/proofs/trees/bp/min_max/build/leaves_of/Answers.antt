@@ -15,5 +15,5 @@ loop-block-preserved g c =
 
 pub returns : goal.returns
 returns g c =
-    let e : c.loop-block.block ≡ block_count c.args.size (length c.args.bits.now) = (let x = c.loop-block-test.false in let y = c.loop-block.auto.block-end in let d = c.div_ceil-block-end.ensures in let h : c.loop-block.block ≡ c.div_ceil-block-end.result = omega arith in h ∙ d) ∙ ap (block_count c.args.size) c.len-len.ensures.value in
+    let e : c.loop-block.block ≡ block_count c.args.size (length c.args.bits.now) = (let x = c.loop-block-test.false in let y = c.loop-block.auto.block-end in let d = c.div_ceil-leaves.ensures in let h : c.loop-block.block ≡ c.div_ceil-leaves.result = omega arith in h ∙ d) ∙ ap (block_count c.args.size) c.len-len.ensures.value in
     subst (λ (n : ℕ). AreFirstBlocks c.args.bits.now c.args.size c.args.first n c.loop-block.nodes.items) e c.loop-block.invariant

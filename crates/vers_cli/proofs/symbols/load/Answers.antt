@@ -5,7 +5,7 @@ use Rattle.vers_words.specs.Text.{number_of, words_in}
 use Rattle.vers_words.specs.Arguments.{all_numbers}
 use Rattle.vers_cli.specs.SymbolsLines.{symbols_loaded}
 use Rattle.vers_cli.proofs.Packs.{packed_whole, symbols_accepted}
-use Rattle.vers_cli.proofs.symbols.load_packed.Goals as goal
+use Rattle.vers_cli.proofs.symbols.load.Goals as goal
 
 pub of_packed-requires-clause-whole : goal.of_packed-requires-clause-whole
 of_packed-requires-clause-whole g c =
