@@ -15,8 +15,8 @@ import re
 import sys
 
 from performance import times_of_calls
-from rattle_types import base
-from text_rules import listed_files, public_functions, read, sources_of
+from sources import public_functions, read_crate
+from text_rules import read
 
 PAGE = "docs/CALLS.md"
 DIFFERENCES = "docs/DIFFERENCES.md"
@@ -35,40 +35,29 @@ CRATES = ("vers_bits", "vers_tally", "vers_rank", "vers_sorted", "vers_rmq", "ve
 
 
 def doc_above(lines, at):
-    """Returns the doc comment above line `at`, past attributes, as paragraphs."""
+    """Returns the first paragraph of the doc comment above line `at`, past attributes."""
     found = []
     at -= 1
     while at >= 0 and re.match(r"\s*(#\[|///)", lines[at]):
         if lines[at].strip().startswith("///"):
             found.insert(0, lines[at].strip()[3:].strip())
         at -= 1
-    return [" ".join(it.split()) for it in "\n".join(found).split("\n\n")]
-
-
-def clauses_of(text, start, end):
-    """Returns the clauses between a head and a body, as (kind, name, fact)."""
-    found = re.findall(
-        r"(?ms)^\s*(requires|ensures) (?:([a-z_]\w*) )?\{ (.*?)\s\}\s*(?=^\s*(?:requires|ensures)\b|\Z)", text[start:end]
-    )
-    return [(kind, name, " ".join(fact.split())) for kind, name, fact in found]
+    return " ".join("\n".join(found).split("\n\n")[0].split())
 
 
 class Row:
     """A call: its owner, its name, its declaration, its doc, its conditions and its bound on reads."""
 
     def __init__(self, function):
-        text = function.file.contents
-        lines = text.split("\n")
-        self.holder = function.holder or function.file.module
+        self.holder = function.holder or function.source.module
         self.name = function.name
-        body = function.file.words[function.body[0]].start if function.body else text.index(";", function.start)
-        first = re.search(r"\n\s*(?:requires|ensures|where)\b", text[function.start:body])
-        head = text[function.start:function.start + first.start()] if first else text[function.start:body]
-        self.head = re.sub(r",? \)", ")", re.sub(r"\( ", "(", " ".join(head.split()))).removeprefix("pub ").removeprefix("const ").removeprefix("fn ")
-        self.doc = doc_above(lines, text.count("\n", 0, function.start))[0]
-        clauses = clauses_of(text, function.start, body)
-        self.conditions = [fact for kind, _, fact in clauses if kind == "requires"]
-        self.reads = [re.sub(r"^AddsAtMost tally\.old tally\.new ", "", fact) for _, _, fact in clauses if fact.startswith("AddsAtMost tally.old")]
+        head = re.sub(r"(?<!&)\bmut (\w+: )", r"\1", function.head)
+        head = re.sub(r",? \)", ")", re.sub(r"\( ", "(", head))
+        self.head = head.removeprefix("pub ").removeprefix("const ").removeprefix("fn ")
+        self.doc = doc_above(function.source.lines, function.first)
+        self.conditions = [fact for kind, _, fact in function.clauses if kind == "requires"]
+        bounds = [fact for _, _, fact in function.clauses if fact.startswith("AddsAtMost tally.old")]
+        self.reads = [re.sub(r"^AddsAtMost tally\.old tally\.new ", "", fact) for fact in bounds]
 
 
 def cell(text):
@@ -95,13 +84,11 @@ def section(title, rows, times):
 
 def page(top):
     """Returns the text of the page."""
-    files, parts, times = listed_files(top), [HEAD.rstrip("\n")], times_of_calls(top)
+    parts, times = [HEAD.rstrip("\n")], times_of_calls(top)
     for crate in CRATES:
         groups = {}
-        functions = sorted(public_functions(crate, sources_of(top, crate, files)), key=lambda it: (it.file.path, it.start))
-        for function in functions:
-            is_marker = function.owner and function.owner.trait
-            if not is_marker and function.file.module != "laws":
+        for function in sorted(public_functions(read_crate(top, crate)), key=lambda it: (it.source.path, it.first)):
+            if not function.trait and not function.is_declared_by_trait and function.source.module != "laws":
                 row = Row(function)
                 groups.setdefault(row.holder, []).append(row)
         parts += [section(f"`{holder}` of `{crate}`", rows, times) for holder, rows in sorted(groups.items())]
@@ -121,14 +108,14 @@ def names_of_original(top):
 
 def own_names(top):
     """Returns the names that the facade hands on, and the calls of its types as `Type::call`, that the original lacks."""
-    original, files = names_of_original(top), listed_files(top)
+    original = names_of_original(top)
     facade = re.sub(r"(?s)pub mod laws \{.*?\n\}", "", read(os.path.join(top, FACADE)))
     own, types = set(), {"BothEnds", "MadeEnds", "ListEnds"}
     for crate, names in re.findall(r"pub use (\w+)::[\w:]*?\{?\s*(\w+(?:,\s*\w+)*),?\s*\}?;", facade):
         types.update(re.findall(r"\w+", names))
         own.update(set(re.findall(r"\w+", names)) - original.get(crate, set()))
     for crate in CRATES:
-        for function in public_functions(crate, sources_of(top, crate, files)):
+        for function in public_functions(read_crate(top, crate)):
             # the bodies of all walks stand in `vers_tally`, and their calls are those of the iterators
             known = original.get(crate) or set().union(*original.values())
             if function.holder in types and not function.name.endswith("_counted") and function.name not in known | {function.holder}:

@@ -1,25 +1,13 @@
 """Wrong bodies as files, and the functions of the source text that they change.
 
-A wrong body is a file NAME.edit: a line 'file: src/..', and pairs of lines 'old: TEXT' and 'new: TEXT'. Each TEXT is one
-line, and the old one stands once in the file. Sources are read in the layout of `rt fmt`: a function's body is opened by a
-line as far in as the function's first line, and closed by the next brace that stands alone as far in.
+A wrong body is a file FUNCTION--WHAT-IS-WRONG.edit: a line 'file: src/..', and pairs of lines 'old: TEXT' and 'new: TEXT'. Each TEXT is one
+line, and the old one stands once in the file.
 """
 import os
 import re
 from typing import NamedTuple
 
-HEAD = re.compile(r"(?: {4})?(?:pub(?:\([a-z]+\))? )?(?:const |unsafe )*fn (\w+)")
-OWNER = re.compile(r"(?:pub(?:\([a-z]+\))? )?(?:unsafe )?(?:impl|trait)\b")
-
-
-class Function(NamedTuple):
-    """A function with a body: the head of its impl or trait, and the numbers of its first line, the first of its body and its last."""
-
-    name: str
-    owner: str
-    first: int
-    body: int
-    last: int
+from sources import Function, Source, without_generics
 
 
 class Edit(NamedTuple):
@@ -51,36 +39,6 @@ def read_texts(crate):
 
 # --- functions
 
-def functions_of(lines):
-    """Returns the functions of a source file that have a body, but for those inside another."""
-    found, owner = [], ""
-    for at, line in enumerate(lines):
-        if OWNER.match(line):
-            rest = lines[at:]
-            owner = " ".join(rest[: next(i for i, it in enumerate(rest, 1) if it.endswith(("{", "}")))])
-        elif line == "}":
-            owner = ""
-        head = HEAD.match(line)
-        span = span_of(lines, at) if head else None
-        if span:
-            found.append(Function(head[1], owner, at, *span))
-    return found
-
-
-def span_of(lines, at):
-    """Returns the first line of the body of the function that begins at a line, and the body's last, or None where it has none."""
-    indent = re.match(" *", lines[at])[0]
-    for body in range(at, len(lines)):
-        line = lines[body]
-        if body > at and (HEAD.match(line) or line == "}"):
-            return None
-        if line.startswith(indent) and line[len(indent) :][:1] not in ("", " ") and line.endswith("{"):
-            return body + 1, lines.index(indent + "}", body)
-        if line.endswith("}") and body == at:
-            return at, at
-    return None
-
-
 def type_name(text):
     """Returns the word by which the check names a type in the name of an impl: &mut BitVec<A> is RefMutBitVec, and u64 is U64."""
     head = re.match(r"(&?)(?:'\w+ )?(mut )?(.*)", text.strip())
@@ -90,12 +48,7 @@ def type_name(text):
 
 def owner_names(owner):
     """Returns the names of the type and of the trait that the head of an impl has, or of a trait itself and none."""
-    bare, depth = "", 0
-    for last, sign in zip(" " + owner, re.sub(r"\bwhere\b.*", "", owner) + " "):
-        depth += sign == "<"
-        bare += "" if depth else sign
-        depth -= sign == ">" and last not in "-="
-    words = re.sub(r"^.*?\b(?:impl|trait)\b", "", bare.split("{")[0])
+    words = re.sub(r"^.*?\b(?:impl|trait)\b", "", re.sub(r"\bwhere\b.*", "", without_generics(owner)).split("{")[0])
     trait, is_for, kind = words.rpartition(" for ")
     kind = type_name(kind.split(":")[0])
     return "Any" if len(kind) == 1 else kind, type_name(trait) if is_for else ""
@@ -155,8 +108,10 @@ def load_edit(path, texts):
     changed = [at for at, (was, now) in enumerate(zip(texts[file], lines)) if was != now]
     if not changed or len(lines) != len(texts[file]):
         raise BadEdit("it changes nothing, or the number of lines")
-    within = [it for it in functions_of(texts[file]) if it.body <= changed[0] and changed[-1] <= it.last]
+    within = [it for it in Source("", file, "\n".join(texts[file])).functions if it.has_body and it.body <= changed[0] and changed[-1] <= it.last]
     if not within:
         raise BadEdit(f"it lies in no body of one function of {file}")
     name = os.path.basename(path)[: -len(".edit")]
+    if not name.startswith(f"{within[0].name}--"):
+        raise BadEdit(f"its name doesn't begin with `{within[0].name}--`, for the function that it changes")
     return Edit(name, file, within[0], lines[within[0].first : within[0].last + 1])

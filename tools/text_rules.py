@@ -6,21 +6,20 @@
 - `crates.txt` lists the folders of `crates/`, each once.
 - Nothing cites a label of a paper or a path of one machine, and the links of the documents lead somewhere.
 - Each word of a crate's `specs/` that the contract of a public function cites stands in `docs/DEFINITIONS.md`, in backticks.
-- Searches of parentheses take whole bytes from the tables: `WHOLE_BYTES` has the call that each function on the way makes.
 - `let _ =` is a mention for the prover, of a field (`&self.len`) or of a length (`high.len()`), and nothing else.
 - Documents and comments are in plain English: `UNPLAIN` has the phrases that aren't, with those to write instead.
 - Of the proofs of a crate below, a crate imports the page of laws (`PublicLaws`) alone, or one that its `proofs/Lib.antt`
   passes on under another name, and of its `specs/inside` nothing.
 - What only proofs need stands in `specs/inside`: no contract of a public function and no other page of `specs/` cites a word of it.
+- The page of layouts ends with the stored run of the program whose values it draws (`DRAWN`).
 - What is said to stand on the contracts of another part of its crate imports nothing of that part's inside: `ON_CONTRACTS`.
 
 Exit status 1 where a rule is broken, with a line for each place. `--self-test` breaks each rule in a small
 repository of its own and wants every break found.
 
 `--wrong-bodies` lists the public functions that compute something and that no wrong body reaches: no edit of the
-crate's `wrong/` or `must-fail/` changes them, or a function of the crate that they call. A body computes something unless it is
-empty, reads a field, wraps its argument, or hands its arguments on to one call. A call is taken for that of the type
-that stands before it, or of the field's type; where the text doesn't tell which function is called, it reaches none.
+crate's `wrong/` or `must-fail/` changes them, or a function of the crate that they name. A body computes something unless it is
+empty, reads a field, wraps its argument, or hands its arguments on to one call.
 """
 import os
 import re
@@ -28,8 +27,7 @@ import subprocess
 import sys
 import tempfile
 
-from rattle_items import file_of
-from rattle_types import Unread, base
+from sources import public_functions, read_crate
 
 LONGEST_FILE = 800
 LONGEST_FUNCTION = 60
@@ -39,6 +37,7 @@ PUBLIC = re.compile(r"[ \t]*pub (?:const )?(?:unsafe )?(fn|struct|enum|trait|con
 PASSES_ON = re.compile(r"\{(?:[\w.:&*]+(?:::<\w+>)?(?:\([\w\s,&.*]*\)|\{\w+\})?)?\}")
 SPECS = re.compile(r"\bghost use Rattle\.(?!std\b)\w+\.specs\.(?!declared\b)([\w.]+)\.\{([^}]*)\}")
 DEFINITIONS = "docs/DEFINITIONS.md"
+DRAWN = "docs/LAYOUTS.md", "crates/vers_layouts/stdout"
 LINK = re.compile(r"\]\(([^)#:\s]+)(?:#[^)]*)?\)")
 TEXTS = (".md", ".rt", ".antt", ".edit", ".py", ".sh", ".txt")
 DROPPED = re.compile(r"\blet _ = ([^;]*);")
@@ -52,18 +51,6 @@ ON_CONTRACTS = {
     "crates/vers_sorted/proofs/SparseBits.antt": {"Holds", "Packed", "Buckets", "Makes", "Split", "Scans", "Aheads", "inside"},
     "crates/vers_rmq/proofs/Blocks.antt": {"Tables"},
 }
-# functions on the way from a search to the tables of bytes, and the start of the call that each of them makes, in which no
-# bit is read alone
-SCANS, SEARCHES = "crates/vers_trees/src/trees/bp/scan.rt", "crates/vers_trees/src/trees/bp/search.rt"
-WHOLE_BYTES = {
-    (SEARCHES, "forward"): "scan_forward(self.bits,&self.tree.tables,",
-    (SEARCHES, "backward"): "scan_backward(self.bits,&self.tree.tables,",
-    (SCANS, "scan_forward"): "bytes_forward(bits,tables,from,tail,",
-    (SCANS, "scan_backward"): "bytes_backward(bits,tables,head,end,",
-    (SCANS, "bytes_forward"): "place_met(tables.forward_entry(byte),",
-    (SCANS, "bytes_backward"): "place_met(tables.backward_entry(byte),",
-}
-READS_A_BIT = "is_one_counted("
 # phrases that are not plain English, and what to write instead
 UNPLAIN = {"want of memory": "out of memory", "at the most": "at most"}
 
@@ -82,30 +69,25 @@ def listed_files(top):
     return sorted({path for path in answer.stdout.split("\n") if path and os.path.exists(os.path.join(top, path))})
 
 
-def undocumented(path, text):
+def undocumented(source):
     """Yields a line for each public item that has no doc comment right above it."""
-    lines = text.split("\n")
-    if not text.startswith("//!"):
-        yield f"{path}: the first line doesn't say what the module is"
-    file = file_of("", path, text)
-    skipped = {file.line(file.words[at].start) for first, end in file.skipped for at in range(first, end)}
-    for number, line in enumerate(lines):
+    if not source.text.startswith("//!"):
+        yield f"{source.path}: the first line doesn't say what the module is"
+    for number, line in enumerate(source.lines):
         item, above = PUBLIC.match(line), number - 1
-        while above >= 0 and lines[above].strip().startswith("#["):
+        while above >= 0 and source.lines[above].strip().startswith("#["):
             above -= 1
-        if item and number + 1 not in skipped and (above < 0 or not lines[above].strip().startswith("///")):
-            yield f"{path}:{number + 1}: {item[1]} {item[2]} has no doc comment"
+        if item and (above < 0 or not source.lines[above].strip().startswith("///")):
+            yield f"{source.path}:{number + 1}: {item[1]} {item[2]} has no doc comment"
 
 
-def too_long(path, text, is_tests):
+def too_long(source):
     """Yields a line where the file or one of its functions is longer than the rule allows."""
-    count = text.count("\n") + 1
-    if count > LONGEST_FILE:
-        yield f"{path}: {count} lines"
-    for function in [] if is_tests else file_of("", path, text).functions:
-        length = function.body and text.count("\n", function.file.words[function.body[0]].start, function.end) + 1
-        if length and length > LONGEST_FUNCTION:
-            yield f"{function.where}: {function.name} has {length} lines"
+    if len(source.lines) > LONGEST_FILE:
+        yield f"{source.path}: {len(source.lines)} lines"
+    for it in [] if source.crate.endswith("_tests") else source.functions:
+        if it.has_body and it.last - it.body + 2 > LONGEST_FUNCTION:
+            yield f"{it.where}: {it.name} has {it.last - it.body + 2} lines"
 
 
 def no_mentions(path, text):
@@ -113,14 +95,6 @@ def no_mentions(path, text):
     for found in DROPPED.finditer(text):
         if not MENTION.fullmatch(found[1]):
             yield f"{path}:{text.count(chr(10), 0, found.start()) + 1}: drops `{found[1]}`; allowed: a mention of a field or a length"
-
-
-def bit_by_bit(path, text):
-    """Yields a line for each function on the way to the tables of bytes that doesn't take whole bytes from them."""
-    bodies = {it.name: it.text for it in file_of("", path, text).functions if it.body}
-    for (where, name), call in WHOLE_BYTES.items():
-        if where == path and (call not in bodies.get(name, "") or READS_A_BIT in bodies[name]):
-            yield f"{path}: {name} doesn't take whole bytes from the tables; allowed: `{call} ..)` and no bit read alone"
 
 
 def unplain(path, text):
@@ -155,116 +129,67 @@ def imported_insides(path, text, pages):
             yield f"{line}: imports `{part or name}`, and is said to stand on contracts alone"
 
 
-def changed_functions(top, crate, sources, found):
-    """Returns those of the crate's functions in which its edits change something."""
-    changed = set()
-    folders = [it for it in (os.path.join(top, "crates", crate, name) for name in ("must-fail", "wrong")) if os.path.isdir(it)]
-    for file in sorted(os.path.join(folder, name) for folder in folders for name in os.listdir(folder)):
-        lines = read(file).split("\n")
-        path = f"crates/{crate}/" + next((line[len("file: "):] for line in lines if line.startswith("file: ")), "")
-        text = sources.get(path, "")
-        places = [text.find(line[len("old: "):]) for line in lines if line.startswith("old: ")]
-        changed.update(it for it in found if it.file.path == path and any(it.start <= place < it.end for place in places))
-    return changed
-
-
-def called_functions(function, found, fields):
-    """Returns those of the crate's functions that a body calls, as far as the text tells them."""
-    called = set()
-    for call in re.finditer(r"(?:\b(\w+)(?:::<[^>]*>)?(::|\.))?\b(\w+)(?:::<[^>]*>)?\(", function.text):
-        before, by, name = call.groups()
-        named = [it for it in found if it.name == name]
-        of = function.holder if before in ("self", "Self") else before if by == "::" else fields.get((function.holder, before))
-        exact = [it for it in named if it.holder == of] if of else []
-        own_file = [it for it in named if not it.owner and it.file is function.file] if not by else []
-        called.update(exact or own_file or (named if len(named) == 1 else []))
-    return called
-
-
-def without_wrong_body(top, crate, sources):
+def without_wrong_body(top, crate):
     """Yields a line for each public function that computes something and that no edit of the crate reaches."""
-    files = [file_of(crate, path, text) for path, text in sources.items()]
-    found = [it for file in files for it in file.functions if it.body]
-    fields = {(struct.name, name): base(type_).name for file in files for struct in file.structs for name, type_, _ in struct.fields}
-    calls = {it: called_functions(it, found, fields) for it in found}
-    reached = changed_functions(top, crate, sources, found)
+    sources = read_crate(top, crate)
+    found = [it for source in sources for it in source.functions if it.has_body]
+    reached = {it for file, old in edits_of(top, crate) for it in found if it.source.path == f"crates/{crate}/{file}" and old in it.text}
+    named = {it: set(re.findall(r"\b\w+\b(?=(?:::<[^>]*>)?\()", it.code)) for it in found}
     while True:
-        more = {it for it, called in calls.items() if called & reached} - reached
+        names = {it.name for it in reached}
+        more = {it for it in found if named[it] & names} - reached
         if not more:
             break
         reached |= more
     for it in found:
-        computes = any(word.text == "ensures" for word in it.clauses) and not PASSES_ON.fullmatch(it.text)
-        if it.is_public and computes and it not in reached:
+        body = "{" + re.sub(r"\s+", "", it.code) + "}"
+        if it.is_public and "ensures" in it.declared and not PASSES_ON.fullmatch(body) and it not in reached:
             yield f"{it.where}: no wrong body reaches {it.full_name}"
 
 
-def sources_of(top, crate, files):
-    """Returns the sources of a crate by their paths."""
-    return {path: read(os.path.join(top, path)) for path in files if path.startswith(f"crates/{crate}/src/") and path.endswith(".rt")}
+def edits_of(top, crate):
+    """Yields the file and each old text of the crate's wrong bodies."""
+    for folder in (f"{top}/crates/{crate}/{name}" for name in ("must-fail", "wrong")):
+        for name in sorted(os.listdir(folder)) if os.path.isdir(folder) else ():
+            lines = read(f"{folder}/{name}").split("\n")
+            file = next((it[len("file: ") :] for it in lines if it.startswith("file: ")), "")
+            yield from ((file, it[len("old: ") :]) for it in lines if it.startswith("old: "))
 
 
-def crate_faults(top, crate, files):
+def crate_faults(top, crate):
     """Yields what is broken in the sources of one crate."""
-    for path, text in sources_of(top, crate, files).items():
-        yield from too_long(path, text, crate.endswith("_tests"))
-        yield from bit_by_bit(path, text)
-        if not os.path.basename(path) == "main.rt":
-            yield from undocumented(path, text)
-            yield from no_mentions(path, text)
+    for source in read_crate(top, crate):
+        yield from too_long(source)
+        if source.module != "main":
+            yield from undocumented(source)
+            yield from no_mentions(source.path, source.text)
 
 
-def public_files(crate, sources):
-    """Returns the paths of a library's files that are public modules, down from its `lib.rt`."""
-    found = {f"crates/{crate}/src/lib.rt"} & set(sources)
-    queue = list(found)
-    while queue:
-        path = queue.pop()
-        folder = os.path.dirname(path) if path.endswith("/lib.rt") else path[:-len(".rt")]
-        below = {f"{folder}/{name}.rt" for name in re.findall(r"(?m)^pub mod (\w+);", sources[path])}
-        queue += (below & set(sources)) - found
-        found |= below & set(sources)
-    return found
-
-
-def public_functions(crate, sources):
-    """Yields a library's functions that can be called from outside: by their module, or by that of their type or trait."""
-    parsed, public = [file_of(crate, path, text) for path, text in sources.items()], public_files(crate, sources)
-    exported = set(re.findall(r"\w+", " ".join(it for path in public for it in re.findall(r"\bpub use ([^;]*);", sources[path]))))
-    named = [it for file in parsed for it in file.structs + file.traits if it.is_public]
-    shown = {it.name for it in named if it.file.path in public or it.name in exported}
-    for function in [it for file in parsed for it in file.functions]:
-        is_open = function.is_public or function.owner and function.owner.is_trait
-        is_free = not function.owner and (function.file.path in public or function.name in exported)
-        if is_open and (is_free or function.holder in shown):
-            yield function
-
-
-def undefined(crate, sources, defined):
+def undefined(top, crate, defined):
     """Yields a line for each word of `specs/` that the contract of a public function cites, and that isn't defined or is of `specs/inside`."""
     cited, inside = {}, {}
-    for function in public_functions(crate, sources):
+    for function in public_functions(read_crate(top, crate)):
         words = {}
-        for page, names in SPECS.findall(function.file.contents):
+        for page, names in SPECS.findall(function.source.text):
             for name in [it.split(" as ") for it in names.split(",")]:
                 words[name[-1].strip()] = name[0].strip(), page
-        for before, word in zip(function.clauses, function.clauses[1:]):
-            if word.text in words and before.text != ".":
-                name, page = words[word.text]
+        facts = " ".join(fact for _, _, fact in function.clauses)
+        for word in re.findall(r"(?<![\w.])\w+", facts):
+            if word in words:
+                name, page = words[word]
                 (inside if page.startswith("inside") else cited).setdefault(name, function)
     for word, function in sorted(cited.items()):
         if word not in defined:
-            yield f"{function.file.path}: {function.full_name} cites `{word}`, which {DEFINITIONS} doesn't define"
+            yield f"{function.source.path}: {function.full_name} cites `{word}`, which {DEFINITIONS} doesn't define"
     for word, function in sorted(inside.items()):
-        yield f"{function.file.path}: {function.full_name} cites `{word}` of `specs/inside`, which no public contract may"
+        yield f"{function.source.path}: {function.full_name} cites `{word}` of `specs/inside`, which no public contract may"
 
 
 def missing_wrong_bodies(top):
     """Yields a line for each public function of the repository at `top` that wants a wrong body."""
-    files = listed_files(top)
-    for crate in sorted({path.split("/")[1] for path in files if path.startswith("crates/")}):
+    for crate in sorted(os.listdir(f"{top}/crates")):
         if not crate.startswith("test_") and not crate.endswith("_tests"):
-            yield from without_wrong_body(top, crate, sources_of(top, crate, files))
+            yield from without_wrong_body(top, crate)
 
 
 def faults(top):
@@ -277,11 +202,10 @@ def faults(top):
     words = read(os.path.join(top, DEFINITIONS)) if DEFINITIONS in files else ""
     defined = {word for text in re.findall(r"`([^`]*)`", words) for word in re.findall(r"\w+", text)}
     for crate in there:
-        try:
-            yield from crate_faults(top, crate, files)
-            yield from undefined(crate, sources_of(top, crate, files), defined)
-        except Unread as form:
-            yield f"crates/{crate}: {form.what}, which `rattle_items.py` can't read"
+        yield from crate_faults(top, crate)
+        yield from undefined(top, crate, defined)
+    if DRAWN[0] in files and not read(os.path.join(top, DRAWN[0])).endswith(f"```text\n{read(os.path.join(top, DRAWN[1]))}```\n"):
+        yield f"{DRAWN[0]}: its end isn't {DRAWN[1]}"
     pages = {crate: pages_of_laws(top, crate, files) for crate in there}
     for path in files:
         if not path.endswith(TEXTS) and os.path.basename(path) not in ("test", "vers", "run"):
@@ -302,11 +226,13 @@ def faults(top):
 
 
 GOOD = {
-    "crates.txt": "low: # a comment\nhigh: low\nvers_rmq:\nvers_trees:\n",
+    "crates.txt": "low: # a comment\nhigh: low\nvers_rmq:\nvers_layouts:\n",
     "README.md": "See [the page](docs/PAGE.md).\n",
     "docs/PAGE.md": "A page.\n",
     "docs/DEFINITIONS.md": "`more x` is the number after `x`.\n",
     "crates/low/src/lib.rt": "//! A crate.\nghost use Rattle.low.specs.More.{more};\n\n/// One more.\n#[inline]\npub fn next(x: u8) -> u8\n    ensures { result ≡ more x }\n{\n    let _ = &x.first;\n    let _ = x.len();\n    helper(x) & 255\n}\n\nfn helper(x: u8) -> u8 {\n    x + 1\n}\n",
+    "docs/LAYOUTS.md": "Values.\n\n```text\nbits 1\n```\n",
+    "crates/vers_layouts/stdout": "bits 1\n",
     "crates/low/wrong/off.edit": "file: src/lib.rt\nold:     x + 1\nnew:     x + 2\n",
     "crates/low/specs/More.antt": "use Rattle.low.specs.Less.{less}\n",
     "crates/low/proofs/PublicLaws.antt": "use Rattle.low.proofs.Own.{law}\n",
@@ -315,8 +241,6 @@ GOOD = {
     "crates/high/proofs/More.antt": "use Rattle.low.proofs.PublicLaws.{law}\nuse Rattle.high.proofs.Own.{law}\n",
     "crates/vers_rmq/proofs/Blocks.antt": "use Rattle.vers_rmq.proofs.Minima.{law}\n",
     "crates/vers_rmq/proofs/More.antt": "use Rattle.high.proofs.LowLaws.{law}\n",
-    SEARCHES: "//! Searches.\n" + "".join(f"fn {name}() {{\n    {call} 1)\n}}\n" for (path, name), call in WHOLE_BYTES.items() if path == SEARCHES),
-    SCANS: "//! Scans.\n" + "".join(f"fn {name}() {{\n    {call} 1)\n}}\n" for (path, name), call in WHOLE_BYTES.items() if path == SCANS),
 }
 # what is wanted to be said, and the change to the good repository that asks for it
 BREAKS = {
@@ -337,9 +261,7 @@ BREAKS = {
     "cites `more` of `specs/inside`": ("crates/low/src/lib.rt", "specs.More", "specs.inside.More"),
     "drops `helper(x)`": ("crates/low/src/lib.rt", "let _ = x.len();", "let _ = helper(x);"),
     "imports `Tables`": ("crates/vers_rmq/proofs/Blocks.antt", "proofs.Minima", "specs.inside.Tables"),
-    "backward doesn't take whole bytes": (SEARCHES, "scan_backward(self.bits,&self.tree.tables,", "bits_backward(self.bits,"),
-    "scan_forward doesn't take whole bytes": (SCANS, "bytes_forward(bits,tables,from,tail,", "bits_forward(bits,from,tail,"),
-    "bytes_forward doesn't take whole bytes": (SCANS, "place_met(tables.forward_entry(byte), 1)", "place_met(tables.forward_entry(byte), bits.is_one_counted(1))"),
+    "its end isn't": ("crates/vers_layouts/stdout", "bits 1", "bits 2"),
     "leads nowhere": ("README.md", "docs/PAGE.md", "docs/NONE.md"),
     "says `at the most`": ("docs/PAGE.md", "A page.", "A page has at\nthe most one link."),
     "says `want of memory`": ("crates/low/src/lib.rt", "/// One more.\n", "/// One more. Err for want\n/// of memory.\n"),

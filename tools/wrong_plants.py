@@ -51,14 +51,15 @@ returns c = omega (arith, c.next.ensures, c.second.ensures)
 
 # What is to be told of each wrong body, with its old text and the new one.
 PLANTS = {
-    "adds-two": ("refused", "x + STEP", "x + STEP + STEP"),
-    "adds-none": ("refused", "x + STEP", "if x + STEP == 0 { STEP } else { x }"),
-    "second-is-next": ("refused", "next(next(x))", "next(x)"),
-    "third-is-fourth": ("refused", "second(next(x))", "second(next(x)) + STEP"),
-    "third-is-second": ("gone", "second(next(x))", "second(x)"),
-    "first-is-right": ("proved", "if x == y { y } else { x }", "if y == x { y } else { x }"),
-    "third-is-right": ("proved", "second(next(x))", "{ second(next(x)) }"),
-    "first-is-no-number": ("bad", "if x == y { y } else { x }", "x == y"),
+    "next--adds-two": ("refused", "x + STEP", "x + STEP + STEP"),
+    "next--adds-none": ("refused", "x + STEP", "if x + STEP == 0 { STEP } else { x }"),
+    "second--second-is-next": ("refused", "next(next(x))", "next(x)"),
+    "third--third-is-fourth": ("refused", "second(next(x))", "second(next(x)) + STEP"),
+    "third--third-is-second": ("gone", "second(next(x))", "second(x)"),
+    "first--first-is-right": ("proved", "if x == y { y } else { x }", "if y == x { y } else { x }"),
+    "third--third-is-right": ("proved", "second(next(x))", "{ second(next(x)) }"),
+    "first--first-is-no-number": ("bad", "if x == y { y } else { x }", "x == y"),
+    "first--is-of-another": ("bad", "x + STEP", "x + STEP + STEP"),
     "stands-nowhere": ("bad", "x - STEP", "x"),
     "changes-a-constant": ("bad", "STEP: u64 = 1", "STEP: u64 = 2"),
     "changes-two-functions": ("bad", "next(x)", "next(x + 0)"),
