@@ -100,12 +100,17 @@ def measured(drivers, structures, passes, options):
 
 
 def counts_of(path):
-    """Yields the instructions of each profile, in the order in which they were written: PATH.1, PATH.2 and so on."""
+    """Yields the instructions of each profile of a pass, in the order in which they were written: PATH.1, PATH.2 and so on.
+
+    A function whose name only looks like that of a pass leaves a profile with no instructions.
+    """
     for number in itertools.count(1):
         if not os.path.exists(f"{path}.{number}"):
             return
         with open(f"{path}.{number}", encoding="utf-8") as file:
-            yield int(re.search(r"(?m)^totals: (\d+)", file.read())[1])
+            count = int(re.search(r"(?m)^totals: (\d+)", file.read())[1])
+        if count:
+            yield count
 
 
 def instructions_of(program, driver, structure):
