@@ -1,6 +1,6 @@
 -- What is kept of blocks of 128 items.
 use Rattle.std.specs.Prelude.{◌≡◌, ℕ, ◌+◌, ◌-◌, ◌*◌, ◌<◌, ◌≤◌, min, List, length, slice_index, slice_index_or}
-use Rattle.vers_rmq.specs.declared.rmq.fast_rmq.TheConstants.{MAX_LEN}
+use Rattle.vers_rmq.specs.declared.rmq.fast_rmq.TheConstants.{MAX_LEN, BLOCK, PART}
 use Rattle.vers_rmq.specs.declared.rmq.fast_rmq.block.BlockMasks.{BlockMasks}
 use Rattle.vers_rmq.specs.Minima.{IsFirstLeast}
 use Rattle.vers_bits.specs.Bits.{block_count}
@@ -8,7 +8,7 @@ use Rattle.vers_rmq.specs.inside.Masks.{AreMasks}
 
 -- where block b of n items ends
 abbrev pub block_end : ℕ → ℕ → ℕ
-block_end n b = min (128 * b + 128) n
+block_end n b = min (BLOCK * b + BLOCK) n
 
 -- the masks of no items
 abbrev pub no_masks : BlockMasks
@@ -16,10 +16,10 @@ no_masks = record { whole = record { prefixes = 0; suffixes = 0 }; parts = recor
 
 -- what is kept of block b: the place of its least item by the distance from its start, that item, and its masks
 pub record IsBlock (items : List ℕ) (b place least : ℕ) (masks : BlockMasks) : Type 0 where
-  pub whole : AreMasks items 128 (128 * b) (block_end (length items) b) masks.whole
-  pub parts : AreMasks items 16 (128 * b) (block_end (length items) b) masks.parts
-  pub best : IsFirstLeast items (128 * b) (block_end (length items) b - 1) (128 * b + place)
-  pub value : least ≡ slice_index items (128 * b + place)
+  pub whole : AreMasks items BLOCK (BLOCK * b) (block_end (length items) b) masks.whole
+  pub parts : AreMasks items PART (BLOCK * b) (block_end (length items) b) masks.parts
+  pub best : IsFirstLeast items (BLOCK * b) (block_end (length items) b - 1) (BLOCK * b + place)
+  pub value : least ≡ slice_index items (BLOCK * b + place)
 
 -- what is kept of the first n blocks
 pub record AreBlocks (items : List ℕ) (n : ℕ) (minima places : List ℕ) (masks : List BlockMasks) : Type 0 where
@@ -31,4 +31,4 @@ pub record AreBlocks (items : List ℕ) (n : ℕ) (minima places : List ℕ) (ma
 -- what is kept of all blocks
 pub record AreAllBlocks (items minima places : List ℕ) (masks : List BlockMasks) : Type 0 where
   pub bounded : length items ≤ MAX_LEN
-  pub blocks : AreBlocks items (block_count 128 (length items)) minima places masks
+  pub blocks : AreBlocks items (block_count BLOCK (length items)) minima places masks

@@ -23,6 +23,12 @@ use std::ops::Bound;
 use vers_bits::bit_vec::GrowError;
 use vers_tally::tally::{CountedItems, Tally, Uncounted};
 
+/// The items of a block, of which the last one may have fewer.
+const BLOCK: usize = 128;
+
+/// The items of a part of a block.
+const PART: usize = 16;
+
 /// The most items that a `FastRmq` holds.
 pub const MAX_LEN: usize = 549755813760;
 
@@ -155,11 +161,11 @@ impl<A: Allocator + Copy> FastRmq<A> {
     #[tactic(auto, using(crate::proofs::Blocks::reading))]
     fn prefix_place(&self, j: usize) -> usize
         requires { j < length self.now }
-        ensures value { IsFirstLeast self.now (128 * (j / 128)) j result }
+        ensures value { IsFirstLeast self.now (BLOCK * (j / BLOCK)) j result }
         ensures inside { result < length self.now }
     {
         let masks = self.masks.as_slice();
-        128 * (j / 128) + last_set(masks[j / 128].whole.prefixes, j % 128)
+        BLOCK * (j / BLOCK) + last_set(masks[j / BLOCK].whole.prefixes, j % BLOCK)
     }
 
     // The first place of a least item from `i` to the end of its block.
@@ -167,12 +173,12 @@ impl<A: Allocator + Copy> FastRmq<A> {
     #[tactic(auto, using(crate::proofs::Blocks::reading))]
     fn suffix_place(&self, i: usize) -> usize
         requires { i < length self.now }
-        ensures value { IsFirstLeast self.now i (min (128 * (i / 128) + 128) (length self.now) - 1)
+        ensures value { IsFirstLeast self.now i (min (BLOCK * (i / BLOCK) + BLOCK) (length self.now) - 1)
             result }
         ensures inside { result < length self.now }
     {
         let masks = self.masks.as_slice();
-        128 * (i / 128) + first_set(masks[i / 128].whole.suffixes, i % 128)
+        BLOCK * (i / BLOCK) + first_set(masks[i / BLOCK].whole.suffixes, i % BLOCK)
     }
 
     // The first place of a least item from the start of the part of `j` to `j`.
@@ -180,11 +186,11 @@ impl<A: Allocator + Copy> FastRmq<A> {
     #[tactic(auto, using(crate::proofs::Blocks::reading))]
     fn part_prefix_place(&self, j: usize) -> usize
         requires { j < length self.now }
-        ensures value { IsFirstLeast self.now (16 * (j / 16)) j result }
+        ensures value { IsFirstLeast self.now (PART * (j / PART)) j result }
         ensures inside { result < length self.now }
     {
         let masks = self.masks.as_slice();
-        128 * (j / 128) + last_set(masks[j / 128].parts.prefixes, j % 128)
+        BLOCK * (j / BLOCK) + last_set(masks[j / BLOCK].parts.prefixes, j % BLOCK)
     }
 
     // The first place of a least item from `i` to the end of its part.
@@ -192,27 +198,27 @@ impl<A: Allocator + Copy> FastRmq<A> {
     #[tactic(auto, using(crate::proofs::Blocks::reading))]
     fn part_suffix_place(&self, i: usize) -> usize
         requires { i < length self.now }
-        ensures value { IsFirstLeast self.now i (min (16 * (i / 16) + 16) (length self.now) - 1)
+        ensures value { IsFirstLeast self.now i (min (PART * (i / PART) + PART) (length self.now) - 1)
             result }
         ensures inside { result < length self.now }
     {
         let masks = self.masks.as_slice();
-        128 * (i / 128) + first_set(masks[i / 128].parts.suffixes, i % 128)
+        BLOCK * (i / BLOCK) + first_set(masks[i / BLOCK].parts.suffixes, i % BLOCK)
     }
 
     // The first least item of the blocks from `a` to `c`, which are whole.
     #[inline(always)]
     fn between(&self, a: usize, c: usize, tally: &mut Tally) -> PlacedItem
         requires order { a ≤ c }
-        requires within { 128 * c + 128 ≤ length self.now }
-        ensures value { IsLeastItem self.now (128 * a) (128 * c + 127) result }
+        requires within { BLOCK * c + BLOCK ≤ length self.now }
+        ensures value { IsLeastItem self.now (BLOCK * a) (BLOCK * c + (BLOCK - 1)) result }
         ensures adds { AddsAtMost tally.old tally.new (only_items 2) }
     {
         let _ = self.items.len();
         let places = self.places.as_slice();
         let least = self.minima.range_min_item_counted(a, c, tally);
         PlacedItem {
-            place: 128 * least.place + places[least.place] as usize,
+            place: BLOCK * least.place + places[least.place] as usize,
             value: least.value,
         }
     }
@@ -223,7 +229,7 @@ impl<A: Allocator + Copy> FastRmq<A> {
     fn least_in_part(&self, i: usize, j: usize, tally: &mut Tally) -> usize
         requires order { i ≤ j }
         requires inside { j < length self.now }
-        requires part { i / 16 ≡ j / 16 }
+        requires part { i / PART ≡ j / PART }
         ensures value { IsFirstLeast self.now i j result }
         ensures adds { AddsAtMost tally.old tally.new (only_items 16) }
     {
@@ -244,8 +250,8 @@ impl<A: Allocator + Copy> FastRmq<A> {
     #[tactic(auto, using(crate::proofs::Minima::inner))]
     fn least_in_block(&self, i: usize, j: usize, tally: &mut Tally) -> usize
         requires inside { j < length self.now }
-        requires parts { i / 16 < j / 16 }
-        requires block { i / 128 ≡ j / 128 }
+        requires parts { i / PART < j / PART }
+        requires block { i / BLOCK ≡ j / BLOCK }
         ensures value { IsFirstLeast self.now i j result }
         ensures adds { AddsAtMost tally.old tally.new (only_items 8) }
     {
@@ -258,8 +264,12 @@ impl<A: Allocator + Copy> FastRmq<A> {
             return first;
         }
         let mut least = read_at(&self.items, self.part_suffix_place(i), tally);
-        for part in i / 16 + 1..j / 16 {
-            let here = read_at(&self.items, self.part_prefix_place(16 * part + 15), tally);
+        for part in i / PART + 1..j / PART {
+            let here = read_at(
+                &self.items,
+                self.part_prefix_place(PART * part + (PART - 1)),
+                tally,
+            );
             least = lesser_of(least, here);
         }
         let here = read_at(&self.items, self.part_prefix_place(j), tally);
@@ -269,8 +279,8 @@ impl<A: Allocator + Copy> FastRmq<A> {
     // The least item of block `b`, by one item read.
     #[inline(always)]
     fn least_of_block(&self, b: usize, tally: &mut Tally) -> u64
-        requires { 128 * b < length self.now }
-        ensures least { (p : ℕ) → 128 * b ≤ p → p < 128 * b + 128 → p < length self.now
+        requires { BLOCK * b < length self.now }
+        ensures least { (p : ℕ) → BLOCK * b ≤ p → p < BLOCK * b + BLOCK → p < length self.now
             → result ≤ slice_index self.now p }
         ensures adds { AddsAtMost tally.old tally.new (only_items 1) }
     {
@@ -282,12 +292,12 @@ impl<A: Allocator + Copy> FastRmq<A> {
     // item of the block of `i` is read where its least one is above `after`.
     #[inline(always)]
     fn least_from(&self, i: usize, after: PlacedItem, tally: &mut Tally) -> PlacedItem
-        requires { 128 * (i / 128) + 128 ≤ length self.now }
-        ensures value { (to : ℕ) → IsLeastItem self.now (128 * (i / 128) + 128) to after
+        requires { BLOCK * (i / BLOCK) + BLOCK ≤ length self.now }
+        ensures value { (to : ℕ) → IsLeastItem self.now (BLOCK * (i / BLOCK) + BLOCK) to after
             → IsLeastItem self.now i to result }
         ensures adds { AddsAtMost tally.old tally.new (only_items 2) }
     {
-        let least = self.least_of_block(i / 128, tally);
+        let least = self.least_of_block(i / BLOCK, tally);
         if after.value < least {
             return after;
         }
@@ -299,12 +309,12 @@ impl<A: Allocator + Copy> FastRmq<A> {
     #[inline(always)]
     fn least_up_to(&self, before: PlacedItem, j: usize, tally: &mut Tally) -> PlacedItem
         requires inside { j < length self.now }
-        requires later { 128 ≤ j }
-        ensures value { (from : ℕ) → IsLeastItem self.now from (128 * (j / 128) - 1) before
+        requires later { BLOCK ≤ j }
+        ensures value { (from : ℕ) → IsLeastItem self.now from (BLOCK * (j / BLOCK) - 1) before
             → IsLeastItem self.now from j result }
         ensures adds { AddsAtMost tally.old tally.new (only_items 2) }
     {
-        let least = self.least_of_block(j / 128, tally);
+        let least = self.least_of_block(j / BLOCK, tally);
         if before.value <= least {
             return before;
         }
@@ -316,16 +326,16 @@ impl<A: Allocator + Copy> FastRmq<A> {
     #[inline(always)]
     fn least_over_blocks(&self, i: usize, j: usize, tally: &mut Tally) -> usize
         requires inside { j < length self.now }
-        requires blocks { i / 128 < j / 128 }
+        requires blocks { i / BLOCK < j / BLOCK }
         ensures value { IsFirstLeast self.now i j result }
         ensures adds { AddsAtMost tally.old tally.new (only_items 6) }
     {
-        if i / 128 + 1 == j / 128 {
+        if i / BLOCK + 1 == j / BLOCK {
             let first = read_at(&self.items, self.suffix_place(i), tally);
             let last = read_at(&self.items, self.prefix_place(j), tally);
             return lesser_of(first, last).place;
         }
-        let middle = self.between(i / 128 + 1, j / 128 - 1, tally);
+        let middle = self.between(i / BLOCK + 1, j / BLOCK - 1, tally);
         let from = self.least_from(i, middle, tally);
         self.least_up_to(from, j, tally).place
     }
@@ -340,10 +350,10 @@ impl<A: Allocator + Copy> FastRmq<A> {
         ensures within { (i ≤ result) × (result ≤ j) }
         ensures adds { AddsAtMost tally.old tally.new (only_items 18) }
     {
-        if i / 16 == j / 16 {
+        if i / PART == j / PART {
             return self.least_in_part(i, j, tally);
         }
-        if i / 128 == j / 128 {
+        if i / BLOCK == j / BLOCK {
             return self.least_in_block(i, j, tally);
         }
         self.least_over_blocks(i, j, tally)

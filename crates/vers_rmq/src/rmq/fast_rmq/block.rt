@@ -4,8 +4,8 @@ ghost use Rattle.vers_rmq.specs.Minima.{IsFirstLeast};
 ghost use Rattle.vers_rmq.specs.inside.Masks.{AreMasks};
 ghost use Rattle.vers_rmq.specs.inside.Blocks.{AreBlocks, AreAllBlocks};
 
-use crate::rmq::fast_rmq::MAX_LEN;
 use crate::rmq::fast_rmq::mask::{Masks, prefix_masks, suffix_masks};
+use crate::rmq::fast_rmq::{BLOCK, MAX_LEN, PART};
 use std::alloc::{AllocError, Allocator};
 
 // The masks of a block, which take 64 bytes: those of all of it, and those of its parts of 16 items.
@@ -26,10 +26,10 @@ pub(super) struct Blocks<A: Allocator + Copy> {
 // The masks of the block from `start` to before `end`, and the first place of its least item.
 fn block_masks(items: &[u64], start: usize, end: usize) -> (BlockMasks, usize)
     requires some { start < end }
-    requires few { end ≤ start + 128 }
+    requires few { end ≤ start + BLOCK }
     requires inside { end ≤ length items.now }
-    ensures whole { AreMasks items.now 128 start end result.0.whole }
-    ensures parts { AreMasks items.now 16 start end result.0.parts }
+    ensures whole { AreMasks items.now BLOCK start end result.0.whole }
+    ensures parts { AreMasks items.now PART start end result.0.parts }
     ensures least { IsFirstLeast items.now start (end - 1) result.1 }
 {
     let (prefixes, part_prefixes, least) = prefix_masks(items, start, end);
@@ -51,14 +51,14 @@ fn add_block<A: Allocator + Copy>(
     b: usize,
 ) -> Result<(), AllocError>
     requires few { length items.now ≤ MAX_LEN }
-    requires inside { 128 * b < length items.now }
+    requires inside { BLOCK * b < length items.now }
     requires before { AreBlocks items.now b blocks.old.minima.items blocks.old.places.items
         blocks.old.masks.items }
     ensures { IfOk result (λ _. AreBlocks items.now (b + 1)
         blocks.new.minima.items blocks.new.places.items blocks.new.masks.items) }
 {
-    let start = 128 * b;
-    let end = items.len().min(start + 128);
+    let start = BLOCK * b;
+    let end = items.len().min(start + BLOCK);
     let (masks, least) = block_masks(items, start, end);
     blocks.minima.push(items[least])?;
     blocks.places.push((least - start) as u8)?;
@@ -76,7 +76,7 @@ pub(super) fn all_blocks<A: Allocator + Copy>(
     ensures { IfOk result (λ v. AreAllBlocks items.now v.minima.items v.places.items
         v.masks.items) }
 {
-    let count = items.len().div_ceil(128);
+    let count = items.len().div_ceil(BLOCK);
     let mut blocks = Blocks {
         minima: Vec::with_capacity(alloc, count)?,
         places: Vec::with_capacity(alloc, count)?,

@@ -5,6 +5,8 @@ ghost use Rattle.std.specs.Int.{bit_at};
 ghost use Rattle.vers_rmq.specs.Minima.{IsFirstLeast};
 ghost use Rattle.vers_rmq.specs.inside.Masks.{IsLastSet, IsFirstSet, AddsOne, PrefixUpTo, SuffixFrom, IsPrefixMask, IsSuffixMask};
 
+use crate::rmq::fast_rmq::{BLOCK, PART};
+
 // The two masks of a block by one width of its parts.
 #[derive(Clone, Copy)]
 pub(super) struct Masks {
@@ -31,7 +33,7 @@ fn with_one(bits: u64, d: usize) -> u64
 // The mask with one 1, at `d`.
 #[inline(always)]
 fn one_at(d: usize) -> u128
-    requires { d < 128 }
+    requires { d < BLOCK }
     ensures { AddsOne 0 result d }
 {
     1 << d
@@ -40,7 +42,7 @@ fn one_at(d: usize) -> u128
 // The mask with the bits, of which the first goes to `d`.
 #[inline(always)]
 fn with_bits(mask: u128, bits: u64, d: usize) -> u128
-    requires within { d < 128 }
+    requires within { d < BLOCK }
     requires room { bits * 2 ^ d < 2 ^ 128 }
     ensures { result ≡ bit_or mask (bits * 2 ^ d) }
 {
@@ -52,10 +54,10 @@ fn with_bits(mask: u128, bits: u64, d: usize) -> u128
 #[tactic(auto, using(crate::proofs::Masks::prefixing))]
 fn more_prefixes(items: &[u64], start: usize, from: usize, to: usize, done: Partial) -> Partial
     requires base { start ≤ from }
-    requires block { from < start + 128 }
+    requires block { from < start + BLOCK }
     requires order { from ≤ to }
-    requires few { to ≤ from + 16 }
-    requires within { to ≤ start + 128 }
+    requires few { to ≤ from + PART }
+    requires within { to ≤ start + BLOCK }
     requires inside { to ≤ length items.now }
     requires least { done.least < length items.now }
     ensures { (first : ℕ) → PrefixUpTo items.now start first from done.mask done.least
@@ -82,8 +84,8 @@ fn more_prefixes(items: &[u64], start: usize, from: usize, to: usize, done: Part
 fn part_prefixes(items: &[u64], start: usize, from: usize, to: usize) -> Partial
     requires base { start ≤ from }
     requires some { from < to }
-    requires few { to ≤ from + 16 }
-    requires within { from + 16 ≤ start + 128 }
+    requires few { to ≤ from + PART }
+    requires within { from + PART ≤ start + BLOCK }
     requires inside { to ≤ length items.now }
     ensures { PrefixUpTo items.now start from to result.mask result.least }
 {
@@ -107,8 +109,8 @@ fn prefixes_past(
 ) -> Partial
     requires base { start < from }
     requires some { from < to }
-    requires few { to ≤ from + 16 }
-    requires within { to ≤ start + 128 }
+    requires few { to ≤ from + PART }
+    requires within { to ≤ start + BLOCK }
     requires inside { to ≤ length items.now }
     requires done { PrefixUpTo items.now start start from done.mask done.least }
     requires least { IsFirstLeast items.now from (to - 1) least }
@@ -126,17 +128,17 @@ fn prefixes_past(
 #[tactic(auto, using(crate::proofs::Masks::prefix_parts))]
 pub(super) fn prefix_masks(items: &[u64], start: usize, end: usize) -> (u128, u128, usize)
     requires some { start < end }
-    requires few { end ≤ start + 128 }
+    requires few { end ≤ start + BLOCK }
     requires inside { end ≤ length items.now }
-    ensures whole { IsPrefixMask items.now 128 start end result.0 }
-    ensures parts { IsPrefixMask items.now 16 start end result.1 }
+    ensures whole { IsPrefixMask items.now BLOCK start end result.0 }
+    ensures parts { IsPrefixMask items.now PART start end result.1 }
     ensures least { IsFirstLeast items.now start (end - 1) result.2 }
 {
-    let mut at = end.min(start + 16);
+    let mut at = end.min(start + PART);
     let mut whole = part_prefixes(items, start, start, at);
     let mut parts = whole.mask;
     'parts: while at < end {
-        let stop = end.min(at + 16);
+        let stop = end.min(at + PART);
         let part = part_prefixes(items, start, at, stop);
         parts |= part.mask;
         whole = prefixes_past(items, start, at, stop, whole, part.least);
@@ -150,10 +152,10 @@ pub(super) fn prefix_masks(items: &[u64], start: usize, end: usize) -> (u128, u1
 #[tactic(auto, using(crate::proofs::Masks::suffixing))]
 fn more_suffixes(items: &[u64], start: usize, from: usize, to: usize, done: Partial) -> Partial
     requires base { start ≤ from }
-    requires block { from < start + 128 }
+    requires block { from < start + BLOCK }
     requires order { from ≤ to }
-    requires few { to ≤ from + 16 }
-    requires within { to ≤ start + 128 }
+    requires few { to ≤ from + PART }
+    requires within { to ≤ start + BLOCK }
     requires inside { to ≤ length items.now }
     requires least { done.least < length items.now }
     ensures { (end : ℕ) → SuffixFrom items.now start to end done.mask done.least
@@ -182,8 +184,8 @@ fn more_suffixes(items: &[u64], start: usize, from: usize, to: usize, done: Part
 fn part_suffixes(items: &[u64], start: usize, from: usize, to: usize) -> Partial
     requires base { start ≤ from }
     requires some { from < to }
-    requires few { to ≤ from + 16 }
-    requires within { to ≤ start + 128 }
+    requires few { to ≤ from + PART }
+    requires within { to ≤ start + BLOCK }
     requires inside { to ≤ length items.now }
     ensures { SuffixFrom items.now start from to result.mask result.least }
 {
@@ -207,8 +209,8 @@ fn suffixes_past(
 ) -> Partial
     requires base { start ≤ from }
     requires some { from < to }
-    requires few { to ≤ from + 16 }
-    requires within { to ≤ start + 128 }
+    requires few { to ≤ from + PART }
+    requires within { to ≤ start + BLOCK }
     requires inside { to ≤ length items.now }
     requires done { done.least < length items.now }
     requires least { IsFirstLeast items.now from (to - 1) least }
@@ -226,17 +228,17 @@ fn suffixes_past(
 #[tactic(auto, using(crate::proofs::Masks::suffix_parts))]
 pub(super) fn suffix_masks(items: &[u64], start: usize, end: usize) -> (u128, u128)
     requires some { start < end }
-    requires few { end ≤ start + 128 }
+    requires few { end ≤ start + BLOCK }
     requires inside { end ≤ length items.now }
-    ensures whole { IsSuffixMask items.now 128 start start end result.0 }
-    ensures parts { IsSuffixMask items.now 16 start start end result.1 }
+    ensures whole { IsSuffixMask items.now BLOCK start start end result.0 }
+    ensures parts { IsSuffixMask items.now PART start start end result.1 }
 {
-    let mut at = start + (end - 1 - start) / 16 * 16;
+    let mut at = start + (end - 1 - start) / PART * PART;
     let mut whole = part_suffixes(items, start, at, end);
     let mut parts = whole.mask;
     'parts: while at > start {
         let stop = at;
-        at -= 16;
+        at -= PART;
         let part = part_suffixes(items, start, at, stop);
         parts |= part.mask;
         whole = suffixes_past(items, start, at, stop, whole, part.least);
@@ -248,7 +250,7 @@ pub(super) fn suffix_masks(items: &[u64], start: usize, end: usize) -> (u128, u1
 #[inline(always)]
 #[tactic(auto, using(crate::proofs::Masks::finding))]
 pub(super) fn last_set(mask: u128, j: usize) -> usize
-    requires few { j < 128 }
+    requires few { j < BLOCK }
     requires first { bit_at mask 0 ≡ 1 }
     ensures { IsLastSet mask j result }
 {
@@ -259,7 +261,7 @@ pub(super) fn last_set(mask: u128, j: usize) -> usize
 #[inline(always)]
 #[tactic(auto, using(crate::proofs::Masks::finding))]
 pub(super) fn first_set(mask: u128, i: usize) -> usize
-    requires few { i < 128 }
+    requires few { i < BLOCK }
     requires some { 0 < mask / 2 ^ i }
     ensures { IsFirstSet mask i result }
 {
