@@ -1,6 +1,7 @@
 -- What the queries of an indexed list of bits answer and read, and what its index takes.
 use Rattle.std.specs.Prelude.{ℕ, ◌+◌, ◌*◌, ◌/◌, ◌&&◌, max, List, Bool, true, false, length, nat_le, Option, None, Some, if◌then◌else◌}
 use Rattle.vers_bits.specs.Bits.{number, part, count, block_count, limb_count}
+use Rattle.vers_rank.specs.declared.fast_rs_vec.TheConstants.{BLOCK, SUPERBLOCK}
 use Rattle.vers_tally.specs.Reads.{Reads, no_reads, plus, digits}
 
 -- the number of the n bits from place p on, where there are so many and n is at most 64; 0 for no bits
@@ -9,15 +10,15 @@ part_number_or_zero bits p n = if nat_le n 64 && nat_le (p + n) (length bits) th
 
 -- how many superblocks of 8192 bits n bits fill
 abbrev pub superblock_count : ℕ → ℕ
-superblock_count n = block_count 8192 n
+superblock_count n = block_count SUPERBLOCK n
 
 -- how many select samples a list has: one for each 8192 of its zeros or ones, and two at the ends
 abbrev pub sample_count : List Bool → ℕ
-sample_count bits = max (count false bits (length bits)) (count true bits (length bits)) / 8192 + 2
+sample_count bits = max (count false bits (length bits)) (count true bits (length bits)) / SUPERBLOCK + 2
 
 -- the bytes of a list with its index: limbs of 8, an entry of 2 for each block of 512 bits, superblock entries of 8, samples of 16
 abbrev pub index_size : List Bool → ℕ
-index_size bits = 8 * limb_count (length bits) + 2 * block_count 512 (length bits) + 8 * superblock_count (length bits) + 16 * sample_count bits
+index_size bits = 8 * limb_count (length bits) + 2 * block_count BLOCK (length bits) + 8 * superblock_count (length bits) + 16 * sample_count bits
 
 -- what reading one bit adds at most
 abbrev pub get_reads : Reads

@@ -28,13 +28,13 @@ use vers_tally::tally::{BlockEntries, CountedBits, SuperblockEntries, Tally, Unc
 const LIMB: usize = 64;
 
 /// How many bits a block has.
-const BLOCK: usize = 512;
+pub(crate) const BLOCK: usize = 512;
 
 /// How many bits a superblock has, and how many ones or zeros lie between two select samples.
-const SUPERBLOCK: usize = 8192;
+pub(crate) const SUPERBLOCK: usize = 8192;
 
 /// How many blocks a superblock has.
-const BLOCKS: usize = SUPERBLOCK / BLOCK;
+pub(crate) const BLOCKS: usize = SUPERBLOCK / BLOCK;
 
 /// A list of bits that counts its ones and zeros and finds their places. Contracts see it as the
 /// list of its bits.

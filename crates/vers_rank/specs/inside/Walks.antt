@@ -4,6 +4,7 @@ use Rattle.std.specs.Int.{bit_at}
 use Rattle.vers_bits.specs.Bits.{is_bit, count, places}
 use Rattle.vers_rank.specs.declared.fast_rs_vec.reader.Reader.{Reader}
 use Rattle.vers_rank.specs.declared.fast_rs_vec.bit_set_iter.ChunkWalk.{ChunkWalk}
+use Rattle.vers_rank.specs.declared.fast_rs_vec.TheConstants.{BLOCK}
 use Rattle.vers_rank.specs.Walks.{chunk_count}
 use Rattle.vers_rank.specs.inside.Offsets.{last_first}
 
@@ -26,7 +27,7 @@ pub record IsReading (bit : Bool) (bits : List Bool) (reader : Reader) : Type 0 
   pub sound : (i : ℕ) → i < 64 → bit_at reader.word i ≡ 1 → 64 * reader.limb + i < length bits → IsFrom bit bits reader.next (64 * reader.limb + i)
   pub begun : 0 < reader.word → 0 < reader.edge
   pub complete : 0 < reader.edge → (i : ℕ) → i < 64 → IsFrom bit bits reader.next (64 * reader.limb + i) → bit_at reader.word i ≡ 1
-  pub in_block : reader.edge ≤ count bit bits (512 * (reader.limb / 8) + 512)
+  pub in_block : reader.edge ≤ count bit bits (BLOCK * (reader.limb / 8) + BLOCK)
 
 -- place p holds the bit, and fewer than n places before it do
 pub record IsBelow (bit : Bool) (bits : List Bool) (n p : ℕ) : Type 0 where
@@ -42,7 +43,7 @@ pub record IsReadingBack (bit : Bool) (bits : List Bool) (reader : Reader) : Typ
   pub after : reader.next ≤ count bit bits (64 * reader.limb + 64)
   pub sound : (i : ℕ) → i < 64 → bit_at reader.word i ≡ 1 → IsBelow bit bits reader.next (64 * reader.limb + i)
   pub complete : (i : ℕ) → i < 64 → IsBelow bit bits reader.next (64 * reader.limb + i) → bit_at reader.word i ≡ 1
-  pub in_block : count bit bits (512 * (reader.limb / 8)) ≤ reader.edge
+  pub in_block : count bit bits (BLOCK * (reader.limb / 8)) ≤ reader.edge
 
 -- a word, or its complement where zeros are asked for
 abbrev pub marked : Bool → ℕ → ℕ

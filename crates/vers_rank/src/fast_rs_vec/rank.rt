@@ -4,7 +4,7 @@ ghost use Rattle.vers_bits.specs.Bits.{count};
 ghost use Rattle.vers_tally.specs.Reads.{no_reads, one_more, only_data_words, AddsAtMost};
 ghost use Rattle.vers_rank.specs.Queries.{rank_reads};
 
-use super::{BLOCK, RsVec};
+use super::{BLOCK, BLOCKS, RsVec};
 use std::alloc::Allocator;
 use vers_tally::tally::Tally;
 
@@ -71,7 +71,7 @@ impl<A: Allocator + Copy> RsVec<A> {
     // says that the place is within the list too.
     #[inline(always)]
     fn is_in_whole_block(&self, place: usize) -> bool
-        ensures { IsTrue result ↔ (512 * (place / 512) + 512 ≤ length self.now) }
+        ensures { IsTrue result ↔ (BLOCK * (place / BLOCK) + BLOCK ≤ length self.now) }
     {
         place < self.len() / BLOCK * BLOCK
     }
@@ -81,7 +81,7 @@ impl<A: Allocator + Copy> RsVec<A> {
     #[tactic(auto, using(crate::proofs::Ranks::sums))]
     fn ones_below(&self, place: usize, is_whole: bool, tally: &mut Tally) -> usize
         requires within { place < length self.now }
-        requires whole { IsTrue is_whole → 512 * (place / 512) + 512 ≤ length self.now }
+        requires whole { IsTrue is_whole → BLOCK * (place / BLOCK) + BLOCK ≤ length self.now }
         ensures value { result ≡ count true self.now place }
         ensures few { result ≤ place }
         ensures adds { AddsAtMost tally.old tally.new
@@ -96,12 +96,12 @@ impl<A: Allocator + Copy> RsVec<A> {
     #[inline(always)]
     #[tactic(auto, using(crate::proofs::Ranks::entries))]
     pub(super) fn zeros_before(&self, block: usize, tally: &mut Tally) -> usize
-        requires { 512 * block < length self.now }
-        ensures value { result ≡ count false self.now (512 * block) }
+        requires { BLOCK * block < length self.now }
+        ensures value { result ≡ count false self.now (BLOCK * block) }
         ensures adds { AddsAtMost tally.old tally.new
             (record no_reads { block_entries = 1; superblock_entries = 1 }) }
     {
-        self.blocks.read(block, tally) as usize + self.superblocks.read(block / 16, tally) as usize
+        self.blocks.read(block, tally) as usize + self.superblocks.read(block / BLOCKS, tally) as usize
     }
 
     // The ones from the start of a block up to a place in it, by halves: its first 4 limbs, the first 2
@@ -111,10 +111,10 @@ impl<A: Allocator + Copy> RsVec<A> {
     // read.
     #[inline(always)]
     fn ones_in_block(&self, block: usize, place: usize, is_whole: bool, tally: &mut Tally) -> usize
-        requires within { (512 * block ≤ place) × (place < 512 * block + 512)
+        requires within { (BLOCK * block ≤ place) × (place < BLOCK * block + BLOCK)
             × (place < length self.now) }
-        requires whole { IsTrue is_whole → 512 * block + 512 ≤ length self.now }
-        ensures value { count true self.now (512 * block) + result ≡ count true self.now place }
+        requires whole { IsTrue is_whole → BLOCK * block + BLOCK ≤ length self.now }
+        ensures value { count true self.now (BLOCK * block) + result ≡ count true self.now place }
         ensures adds { AddsAtMost tally.old tally.new (only_data_words 8) }
     {
         let halves = self.ones_before_half(block, place, is_whole, tally);
@@ -133,10 +133,10 @@ impl<A: Allocator + Copy> RsVec<A> {
         is_whole: bool,
         tally: &mut Tally,
     ) -> usize
-        requires within { (512 * block ≤ place) × (place < 512 * block + 512)
+        requires within { (BLOCK * block ≤ place) × (place < BLOCK * block + BLOCK)
             × (place < length self.now) }
-        requires whole { IsTrue is_whole → 512 * block + 512 ≤ length self.now }
-        ensures value { count true self.now (512 * block) + result
+        requires whole { IsTrue is_whole → BLOCK * block + BLOCK ≤ length self.now }
+        ensures value { count true self.now (BLOCK * block) + result
             ≡ count true self.now (256 * (place / 256)) }
         ensures few { result ≤ 256 }
         ensures adds { AddsAtMost tally.old tally.new (only_data_words 4) }
@@ -156,7 +156,7 @@ impl<A: Allocator + Copy> RsVec<A> {
     #[tactic(auto, using(crate::proofs::Ranks::parts))]
     fn ones_before_quarter(&self, place: usize, is_whole: bool, tally: &mut Tally) -> usize
         requires within { place < length self.now }
-        requires whole { IsTrue is_whole → 512 * (place / 512) + 512 ≤ length self.now }
+        requires whole { IsTrue is_whole → BLOCK * (place / BLOCK) + BLOCK ≤ length self.now }
         ensures value { count true self.now (256 * (place / 256)) + result
             ≡ count true self.now (128 * (place / 128)) }
         ensures few { result ≤ 128 }
@@ -175,7 +175,7 @@ impl<A: Allocator + Copy> RsVec<A> {
     #[tactic(auto, using(crate::proofs::Ranks::parts))]
     fn ones_before_limb(&self, place: usize, is_whole: bool, tally: &mut Tally) -> usize
         requires within { place < length self.now }
-        requires whole { IsTrue is_whole → 512 * (place / 512) + 512 ≤ length self.now }
+        requires whole { IsTrue is_whole → BLOCK * (place / BLOCK) + BLOCK ≤ length self.now }
         ensures value { count true self.now (128 * (place / 128)) + result
             ≡ count true self.now (64 * (place / 64)) }
         ensures few { result ≤ 64 }

@@ -65,7 +65,7 @@ pub(super) struct InWord {
 #[inline(always)]
 fn guessed(r: usize, n: usize) -> usize
     requires some { 0 < n }
-    requires few { 8192 * (n - 1) < 2 ^ 64 }
+    requires few { SUPERBLOCK * (n - 1) < 2 ^ 64 }
     ensures { result < n }
 {
     (r % SUPERBLOCK * (n - 1) + SUPERBLOCK / 2) / SUPERBLOCK
@@ -183,11 +183,11 @@ impl<A: Allocator + Copy> RsVec<A> {
     // The number in a superblock that number `r`, which stands there, is.
     #[inline(always)]
     fn number_in(&self, bit: bool, r: usize, s: usize, tally: &mut Tally) -> u16
-        requires within { 8192 * s < length self.now }
-        requires from { count bit self.now (8192 * s) ≤ r }
-        requires to { r < count bit self.now (8192 * (s + 1)) }
-        ensures value { count bit self.now (8192 * s) + result ≡ r }
-        ensures small { result < 8192 }
+        requires within { SUPERBLOCK * s < length self.now }
+        requires from { count bit self.now (SUPERBLOCK * s) ≤ r }
+        requires to { r < count bit self.now (SUPERBLOCK * (s + 1)) }
+        ensures value { count bit self.now (SUPERBLOCK * s) + result ≡ r }
+        ensures small { result < SUPERBLOCK }
         ensures adds { AddsAtMost tally.old tally.new (only_superblock_entries 1) }
     {
         let _ = &self.bits;
@@ -198,14 +198,14 @@ impl<A: Allocator + Copy> RsVec<A> {
     // bits.
     #[inline(always)]
     fn limb_of(&self, bit: bool, r: u16, s: usize, is_whole: bool, tally: &mut Tally) -> InLimb
-        requires within { 8192 * s < length self.now }
-        requires whole { IsTrue is_whole → 8192 * s + 8192 ≤ length self.now }
-        requires last { IsFalse is_whole → length self.now < 8192 * s + 8192 }
-        requires small { r < 8192 }
-        requires to { count bit self.now (8192 * s) + r < count bit self.now (8192 * (s + 1)) }
+        requires within { SUPERBLOCK * s < length self.now }
+        requires whole { IsTrue is_whole → SUPERBLOCK * s + SUPERBLOCK ≤ length self.now }
+        requires last { IsFalse is_whole → length self.now < SUPERBLOCK * s + SUPERBLOCK }
+        requires small { r < SUPERBLOCK }
+        requires to { count bit self.now (SUPERBLOCK * s) + r < count bit self.now (SUPERBLOCK * (s + 1)) }
         ensures within { 64 * result.limb < length self.now }
         ensures counted { held bit self.now (64 * result.limb) + result.rest
-            ≡ count bit self.now (8192 * s) + r }
+            ≡ count bit self.now (SUPERBLOCK * s) + r }
         ensures few { result.rest < held_in bit (limb self.now result.limb) 64 }
         ensures adds { AddsAtMost tally.old tally.new
             (record no_reads { data_words = 7; block_entries = 16 }) }
@@ -228,8 +228,8 @@ impl<A: Allocator + Copy> RsVec<A> {
     #[inline(always)]
     #[tactic(auto, using(crate::proofs::Ranks::sums))]
     fn count_at_superblock(&self, bit: bool, s: usize, tally: &mut Tally) -> usize
-        requires { 8192 * s < length self.now }
-        ensures value { result ≡ count bit self.now (8192 * s) }
+        requires { SUPERBLOCK * s < length self.now }
+        ensures value { result ≡ count bit self.now (SUPERBLOCK * s) }
         ensures adds { AddsAtMost tally.old tally.new (only_superblock_entries 1) }
     {
         let zeros = self.superblocks.read(s, tally) as usize;
@@ -239,11 +239,11 @@ impl<A: Allocator + Copy> RsVec<A> {
     // How many places of a superblock before its block number `j` hold the bit.
     #[inline(always)]
     fn count_in_superblock(&self, bit: bool, s: usize, j: u16, tally: &mut Tally) -> u16
-        requires few { j < 16 }
-        requires within { 512 * (16 * s + j) < length self.now }
-        ensures value { count bit self.now (8192 * s) + result
-            ≡ count bit self.now (512 * (16 * s + j)) }
-        ensures few { result ≤ 8192 }
+        requires few { j < BLOCKS }
+        requires within { BLOCK * (BLOCKS * s + j) < length self.now }
+        ensures value { count bit self.now (SUPERBLOCK * s) + result
+            ≡ count bit self.now (BLOCK * (BLOCKS * s + j)) }
+        ensures few { result ≤ SUPERBLOCK }
         ensures adds { AddsAtMost tally.old tally.new (only_block_entries 1) }
     {
         let _ = &self.bits;
@@ -255,7 +255,7 @@ impl<A: Allocator + Copy> RsVec<A> {
     #[inline(always)]
     #[tactic(auto, using(crate::proofs::Ranks::sums))]
     pub(super) fn count_at_block(&self, bit: bool, block: usize, tally: &mut Tally) -> usize
-        ensures value { result ≡ count bit self.now (512 * block) }
+        ensures value { result ≡ count bit self.now (BLOCK * block) }
         ensures adds { AddsAtMost tally.old tally.new
             (record no_reads { block_entries = 1; superblock_entries = 1 }) }
     {
@@ -269,7 +269,7 @@ impl<A: Allocator + Copy> RsVec<A> {
     // The superblock that sample number `j` names.
     #[inline(always)]
     fn sample(&self, bit: bool, j: usize, tally: &mut Tally) -> usize
-        requires { 8192 * j < count bit self.now (length self.now) + 8192 }
+        requires { SUPERBLOCK * j < count bit self.now (length self.now) + SUPERBLOCK }
         ensures value { IsSample bit self.now j result }
         ensures adds { AddsAtMost tally.old tally.new (only_superblock_entries 1) }
     {
@@ -284,9 +284,9 @@ impl<A: Allocator + Copy> RsVec<A> {
     #[tactic(auto, using(crate::proofs::Selects::between))]
     fn superblock_with(&self, bit: bool, r: usize, tally: &mut Tally) -> usize
         requires { r < count bit self.now (length self.now) }
-        ensures within { 8192 * result < length self.now }
-        ensures from { count bit self.now (8192 * result) ≤ r }
-        ensures to { r < count bit self.now (8192 * (result + 1)) }
+        ensures within { SUPERBLOCK * result < length self.now }
+        ensures from { count bit self.now (SUPERBLOCK * result) ≤ r }
+        ensures to { r < count bit self.now (SUPERBLOCK * (result + 1)) }
         ensures adds { AddsAtMost tally.old tally.new
             (only_superblock_entries (digits (superblock_count (length self.now)) + 10)) }
     {
@@ -309,12 +309,12 @@ impl<A: Allocator + Copy> RsVec<A> {
         tally: &mut Tally,
     ) -> usize
         requires some { 0 < n }
-        requires within { 8192 * (first + n) < length self.now + 8192 }
-        requires from { count bit self.now (8192 * first) ≤ r }
-        requires to { r < count bit self.now (8192 * (first + n)) }
-        ensures within { 8192 * result < length self.now }
-        ensures from { count bit self.now (8192 * result) ≤ r }
-        ensures to { r < count bit self.now (8192 * (result + 1)) }
+        requires within { SUPERBLOCK * (first + n) < length self.now + SUPERBLOCK }
+        requires from { count bit self.now (SUPERBLOCK * first) ≤ r }
+        requires to { r < count bit self.now (SUPERBLOCK * (first + n)) }
+        ensures within { SUPERBLOCK * result < length self.now }
+        ensures from { count bit self.now (SUPERBLOCK * result) ≤ r }
+        ensures to { r < count bit self.now (SUPERBLOCK * (result + 1)) }
         ensures adds { AddsAtMost tally.old tally.new
             (only_superblock_entries (digits (n - 1) + 8)) }
     {
@@ -341,12 +341,12 @@ impl<A: Allocator + Copy> RsVec<A> {
         tally: &mut Tally,
     ) -> usize
         requires some { 0 < n }
-        requires within { 8192 * (first + n) < length self.now + 8192 }
-        requires from { count bit self.now (8192 * first) ≤ r }
-        requires to { r < count bit self.now (8192 * (first + n)) }
-        ensures within { 8192 * result < length self.now }
-        ensures from { count bit self.now (8192 * result) ≤ r }
-        ensures to { r < count bit self.now (8192 * (result + 1)) }
+        requires within { SUPERBLOCK * (first + n) < length self.now + SUPERBLOCK }
+        requires from { count bit self.now (SUPERBLOCK * first) ≤ r }
+        requires to { r < count bit self.now (SUPERBLOCK * (first + n)) }
+        ensures within { SUPERBLOCK * result < length self.now }
+        ensures from { count bit self.now (SUPERBLOCK * result) ≤ r }
+        ensures to { r < count bit self.now (SUPERBLOCK * (result + 1)) }
         ensures adds { AddsAtMost tally.old tally.new
             (only_superblock_entries (digits (n - 1) + 7)) }
     {
@@ -371,12 +371,12 @@ impl<A: Allocator + Copy> RsVec<A> {
         tally: &mut Tally,
     ) -> usize
         requires some { 0 < n }
-        requires within { 8192 * (first + n) < length self.now + 8192 }
-        requires from { count bit self.now (8192 * first) ≤ r }
-        requires to { r < count bit self.now (8192 * (first + n)) }
-        ensures within { 8192 * result < length self.now }
-        ensures from { count bit self.now (8192 * result) ≤ r }
-        ensures to { r < count bit self.now (8192 * (result + 1)) }
+        requires within { SUPERBLOCK * (first + n) < length self.now + SUPERBLOCK }
+        requires from { count bit self.now (SUPERBLOCK * first) ≤ r }
+        requires to { r < count bit self.now (SUPERBLOCK * (first + n)) }
+        ensures within { SUPERBLOCK * result < length self.now }
+        ensures from { count bit self.now (SUPERBLOCK * result) ≤ r }
+        ensures to { r < count bit self.now (SUPERBLOCK * (result + 1)) }
         ensures adds { AddsAtMost tally.old tally.new
             (only_superblock_entries (digits (n - 1) + 7)) }
     {
@@ -403,12 +403,12 @@ impl<A: Allocator + Copy> RsVec<A> {
         tally: &mut Tally,
     ) -> usize
         requires some { 0 < n }
-        requires within { 8192 * (first + n) < length self.now + 8192 }
-        requires from { count bit self.now (8192 * first) ≤ r }
-        requires to { r < count bit self.now (8192 * (first + n)) }
-        ensures within { 8192 * result < length self.now }
-        ensures from { count bit self.now (8192 * result) ≤ r }
-        ensures to { r < count bit self.now (8192 * (result + 1)) }
+        requires within { SUPERBLOCK * (first + n) < length self.now + SUPERBLOCK }
+        requires from { count bit self.now (SUPERBLOCK * first) ≤ r }
+        requires to { r < count bit self.now (SUPERBLOCK * (first + n)) }
+        ensures within { SUPERBLOCK * result < length self.now }
+        ensures from { count bit self.now (SUPERBLOCK * result) ≤ r }
+        ensures to { r < count bit self.now (SUPERBLOCK * (result + 1)) }
         ensures adds { AddsAtMost tally.old tally.new
             (only_superblock_entries (digits (n - 1) + 3)) }
     {
@@ -442,20 +442,20 @@ impl<A: Allocator + Copy> RsVec<A> {
         is_whole: bool,
         tally: &mut Tally,
     ) -> FoundBlock
-        requires within { 8192 * s < length self.now }
-        requires whole { IsTrue is_whole → 8192 * s + 8192 ≤ length self.now }
-        requires last { IsFalse is_whole → length self.now < 8192 * s + 8192 }
-        requires small { r < 8192 }
-        requires to { count bit self.now (8192 * s) + r < count bit self.now (8192 * (s + 1)) }
-        ensures few { result.block < 16 }
-        ensures within { 512 * (16 * s + result.block) < length self.now }
+        requires within { SUPERBLOCK * s < length self.now }
+        requires whole { IsTrue is_whole → SUPERBLOCK * s + SUPERBLOCK ≤ length self.now }
+        requires last { IsFalse is_whole → length self.now < SUPERBLOCK * s + SUPERBLOCK }
+        requires small { r < SUPERBLOCK }
+        requires to { count bit self.now (SUPERBLOCK * s) + r < count bit self.now (SUPERBLOCK * (s + 1)) }
+        ensures few { result.block < BLOCKS }
+        ensures within { BLOCK * (BLOCKS * s + result.block) < length self.now }
         ensures whole { IsTrue is_whole
-            → 512 * (16 * s + result.block) + 512 ≤ length self.now }
+            → BLOCK * (BLOCKS * s + result.block) + BLOCK ≤ length self.now }
         ensures from { result.rest ≤ r }
-        ensures counted { count bit self.now (512 * (16 * s + result.block)) + result.rest
-            ≡ count bit self.now (8192 * s) + r }
-        ensures to { count bit self.now (8192 * s) + r
-            < count bit self.now (512 * (16 * s + result.block + 1)) }
+        ensures counted { count bit self.now (BLOCK * (BLOCKS * s + result.block)) + result.rest
+            ≡ count bit self.now (SUPERBLOCK * s) + r }
+        ensures to { count bit self.now (SUPERBLOCK * s) + r
+            < count bit self.now (BLOCK * (BLOCKS * s + result.block + 1)) }
         ensures adds { AddsAtMost tally.old tally.new (only_block_entries 16) }
     {
         if is_whole {
@@ -469,15 +469,15 @@ impl<A: Allocator + Copy> RsVec<A> {
     // read and compared at once, by lanes.
     #[inline(always)]
     fn block_among(&self, bit: bool, r: u16, s: usize, tally: &mut Tally) -> FoundBlock
-        requires within { 8192 * s + 8192 ≤ length self.now }
-        requires small { r < 8192 }
-        ensures few { result.block < 16 }
+        requires within { SUPERBLOCK * s + SUPERBLOCK ≤ length self.now }
+        requires small { r < SUPERBLOCK }
+        ensures few { result.block < BLOCKS }
         ensures from { result.rest ≤ r }
-        ensures counted { count bit self.now (512 * (16 * s + result.block)) + result.rest
-            ≡ count bit self.now (8192 * s) + r }
-        ensures to { result.block + 1 < 16
-            → count bit self.now (8192 * s) + r
-            < count bit self.now (512 * (16 * s + result.block + 1)) }
+        ensures counted { count bit self.now (BLOCK * (BLOCKS * s + result.block)) + result.rest
+            ≡ count bit self.now (SUPERBLOCK * s) + r }
+        ensures to { result.block + 1 < BLOCKS
+            → count bit self.now (SUPERBLOCK * s) + r
+            < count bit self.now (BLOCK * (BLOCKS * s + result.block + 1)) }
         ensures adds { AddsAtMost tally.old tally.new (only_block_entries 16) }
     {
         let _ = &self.bits;
@@ -490,16 +490,16 @@ impl<A: Allocator + Copy> RsVec<A> {
     #[inline(always)]
     #[tactic(auto, using(crate::proofs::Selects::block_search))]
     fn block_up_to(&self, bit: bool, r: u16, s: usize, n: u16, tally: &mut Tally) -> FoundBlock
-        requires some { (0 < n) × (n ≤ 16) }
-        requires within { 512 * (16 * s + n) < length self.now + 512 }
-        requires small { r < 8192 }
+        requires some { (0 < n) × (n ≤ BLOCKS) }
+        requires within { BLOCK * (BLOCKS * s + n) < length self.now + BLOCK }
+        requires small { r < SUPERBLOCK }
         ensures few { result.block < n }
         ensures from { result.rest ≤ r }
-        ensures counted { count bit self.now (512 * (16 * s + result.block)) + result.rest
-            ≡ count bit self.now (8192 * s) + r }
+        ensures counted { count bit self.now (BLOCK * (BLOCKS * s + result.block)) + result.rest
+            ≡ count bit self.now (SUPERBLOCK * s) + r }
         ensures to { result.block + 1 < n
-            → count bit self.now (8192 * s) + r
-            < count bit self.now (512 * (16 * s + result.block + 1)) }
+            → count bit self.now (SUPERBLOCK * s) + r
+            < count bit self.now (BLOCK * (BLOCKS * s + result.block + 1)) }
         ensures adds { AddsAtMost tally.old tally.new (only_block_entries n) }
     {
         let mut rest = r;
@@ -523,13 +523,13 @@ impl<A: Allocator + Copy> RsVec<A> {
         is_whole: bool,
         tally: &mut Tally,
     ) -> InLimb
-        requires within { 512 * block < length self.now }
-        requires whole { IsTrue is_whole → 512 * block + 512 ≤ length self.now }
-        requires to { count bit self.now (512 * block) + r
-            < count bit self.now (512 * (block + 1)) }
+        requires within { BLOCK * block < length self.now }
+        requires whole { IsTrue is_whole → BLOCK * block + BLOCK ≤ length self.now }
+        requires to { count bit self.now (BLOCK * block) + r
+            < count bit self.now (BLOCK * (block + 1)) }
         ensures within { 64 * result.limb < length self.now }
         ensures counted { held bit self.now (64 * result.limb) + result.rest
-            ≡ count bit self.now (512 * block) + r }
+            ≡ count bit self.now (BLOCK * block) + r }
         ensures few { result.rest < held_in bit (limb self.now result.limb) 64 }
         ensures adds { AddsAtMost tally.old tally.new (only_data_words 7) }
     {
@@ -573,8 +573,8 @@ impl<A: Allocator + Copy> RsVec<A> {
         is_whole: bool,
         tally: &mut Tally,
     ) -> FoundLimb
-        requires within { 512 * block < length self.now }
-        requires whole { IsTrue is_whole → 512 * block + 512 ≤ length self.now }
+        requires within { BLOCK * block < length self.now }
+        requires whole { IsTrue is_whole → BLOCK * block + BLOCK ≤ length self.now }
         ensures found { IsLimbWith bit self.now block r
             (min (8 * block + 7) ((length self.now - 1) / 64)) result.limb result.before }
         ensures adds { AddsAtMost tally.old tally.new (only_data_words 7) }
@@ -590,7 +590,7 @@ impl<A: Allocator + Copy> RsVec<A> {
     // on what they hold, which would be guessed wrong.
     #[inline(always)]
     fn limb_by_halves(&self, bit: bool, r: usize, block: usize, tally: &mut Tally) -> FoundLimb
-        requires within { 512 * block + 448 < length self.now }
+        requires within { BLOCK * block + 448 < length self.now }
         ensures found { IsLimbWith bit self.now block r (8 * block + 7) result.limb result.before }
         ensures adds { AddsAtMost tally.old tally.new (only_data_words 7) }
     {
@@ -603,7 +603,7 @@ impl<A: Allocator + Copy> RsVec<A> {
     #[inline(always)]
     #[tactic(auto, using(crate::proofs::Selects::halves_of_block))]
     fn half_with(&self, bit: bool, r: usize, block: usize, tally: &mut Tally) -> FoundLimb
-        requires within { 512 * block + 448 < length self.now }
+        requires within { BLOCK * block + 448 < length self.now }
         ensures found { IsAmongLimbs bit self.now block r 4 result.limb result.before }
         ensures adds { AddsAtMost tally.old tally.new (only_data_words 4) }
     {
@@ -625,7 +625,7 @@ impl<A: Allocator + Copy> RsVec<A> {
         half: FoundLimb,
         tally: &mut Tally,
     ) -> FoundLimb
-        requires within { 512 * block + 448 < length self.now }
+        requires within { BLOCK * block + 448 < length self.now }
         requires half { IsAmongLimbs bit self.now block r 4 half.limb half.before }
         ensures found { IsAmongLimbs bit self.now block r 2 result.limb result.before }
         ensures adds { AddsAtMost tally.old tally.new (only_data_words 2) }
@@ -646,7 +646,7 @@ impl<A: Allocator + Copy> RsVec<A> {
         quarter: FoundLimb,
         tally: &mut Tally,
     ) -> FoundLimb
-        requires within { 512 * block + 448 < length self.now }
+        requires within { BLOCK * block + 448 < length self.now }
         requires quarter { IsAmongLimbs bit self.now block r 2 quarter.limb quarter.before }
         ensures found { IsLimbWith bit self.now block r (8 * block + 7) result.limb result.before }
         ensures adds { AddsAtMost tally.old tally.new (only_data_words 1) }
