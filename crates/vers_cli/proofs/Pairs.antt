@@ -1,7 +1,10 @@
 -- Documents with their costs, as the numbers of a line write them.
-use Rattle.std.proofs.Common.{◌≡◌, ℕ, ◌≤◌, Bool, true, false, List, [], ◌∷◌, ◌++◌, length, append_assoc, Option, Some, None, unwrap_or, refl, ap}
-use Rattle.std.specs.Prelude.{nat_lt, option_map, if◌then◌else◌}
-use Rattle.std.proofs.lemmas.Bool.{le-leb}
+use Rattle.std.proofs.Common.{◌≡◌, ℕ, ◌≤◌, Bool, true, false, List, [], ◌∷◌, ◌++◌, length, append_assoc, Option, Some, None, unwrap_or, refl, ap, arith}
+use Rattle.std.specs.Prelude.{nat_lt, option_map, IfSome, if◌then◌else◌}
+use Rattle.std.specs.Option.{option_and_then, is_some}
+use Rattle.std.proofs.lemmas.Option.{same_Some}
+use Rattle.std.proofs.lemmas.Bool.{and_parts, le-leb}
+use Rattle.std.proofs.lemmas.Bool.Decides.{nat_tests}
 use Rattle.std.specs.List.Sorted.{IsStrictlyIncreasing}
 use Rattle.vers_rmq.specs.declared.rmq.fast_rmq.TheConstants.{MAX_LEN}
 use Rattle.vers_sorted.proofs.PublicLaws.{each_next-rising}
@@ -11,7 +14,10 @@ use Rattle.postings.specs.declared.fault.PostingsError.{PostingsError}
 use Rattle.postings.specs.declared.fault.PostingsError.TheVariants.{NotAscending}
 use Rattle.vers_sorted.specs.Sorted.{each_next}
 use Rattle.vers_words.specs.Reply.{Numbers, Refused}
-use Rattle.vers_cli.specs.PostingsLines.{posted_first, are_admitted, if_admitted, shared_reply}
+use Rattle.vers_cli.specs.Holding.{is_accepted}
+use Rattle.vers_cli.specs.SortedLines.{rises_to}
+use Rattle.vers_cli.specs.PostingsLines.{posted_first, posted_of, posted_loaded, postings_loaded, are_admitted, if_admitted, shared_reply}
+use Rattle.vers_cli.proofs.Rises.{end_of, these_rise, each_next-weaker}
 
 -- documents with their costs, and then others
 abbrev pub posted_then : List ℕ → List ℕ → Option Posted → Option Posted
@@ -26,6 +32,51 @@ pub posted_then-push : (documents costs : List ℕ) (d c : ℕ) (others : Option
 posted_then-push documents costs d c None = refl
 posted_then-push documents costs d c (Some more) =
     rw (append_assoc documents (d ∷ []) more.documents, append_assoc costs (c ∷ []) more.costs) refl
+
+-- the documents alone
+abbrev pub documents_in : Option Posted → Option (List ℕ)
+documents_in found = option_map (λ posted. posted.documents) found
+
+pub documents_in-first : (d c : ℕ) (others : Option Posted) → documents_in (option_map (posted_first d c) others) ≡ option_map (λ more. d ∷ more) (documents_in others)
+documents_in-first d c None = refl
+documents_in-first d c (Some more) = refl
+
+-- there are no more than numbers
+few_first : (d c : ℕ) (more : List ℕ) (others : Option Posted) (posted : Posted) → ((p : Posted) → others ≡ Some p → length p.documents ≤ length more)
+    → option_map (posted_first d c) others ≡ Some posted → length posted.documents ≤ length (d ∷ c ∷ more)
+few_first d c more None posted few h = cc
+few_first d c more (Some p) posted few h =
+    let n = few p refl in
+    rw (← ap (λ (o : Option Posted). length (unwrap_or o p).documents) h) (omega arith)
+
+pub few_documents : (numbers : List ℕ) (posted : Posted) → posted_of numbers ≡ Some posted → length posted.documents ≤ length numbers
+few_documents [] posted h = rw (← ap (λ (o : Option Posted). length (unwrap_or o posted).documents) h) (omega arith)
+few_documents (d ∷ []) posted h = cc
+few_documents (d ∷ c ∷ more) posted h = few_first d c more (posted_of more) posted (few_documents more) h
+
+-- documents of which it is told what may come next
+pub documents_rise : (end : ℕ) (found : Option Posted) → end_of 1 0 (documents_in found) ≡ Some end
+    → (posted : Posted) × (found ≡ Some posted) × (rises_to 1 end posted.documents ≡ true)
+documents_rise end None h = cc
+documents_rise end (Some posted) h = (posted, refl, these_rise 1 end posted.documents h)
+
+-- these are accepted where they are not too many
+pub documents_accepted : (end : ℕ) (posted : Posted) → length posted.documents ≤ MAX_LEN → rises_to 1 end posted.documents ≡ true
+    → is_accepted (posted_loaded (Some posted)) ≡ true
+documents_accepted end posted few h =
+    let p = and_parts _ _ h in
+    rw (each_next-weaker _ nat_lt (λ n next below. grind (arith, nat_tests)) posted.documents p.0, le-leb (length posted.documents) MAX_LEN few) refl
+
+-- so is a line of so many numbers
+pub postings_accepted : (found : Option (List ℕ)) (count : ℕ) (told : Option ℕ) → option_map length found ≡ Some count → count ≤ MAX_LEN
+    → IfSome told (λ end. (posted : Posted) × (option_and_then posted_of found ≡ Some posted) × (rises_to 1 end posted.documents ≡ true))
+    → is_some told ≡ true → is_accepted (postings_loaded found) ≡ true
+postings_accepted None count told many few rise some = cc
+postings_accepted (Some numbers) count None many few rise some = cc
+postings_accepted (Some numbers) count (Some end) many few rise some =
+    let fewer = few_documents numbers rise.0 rise.1 in
+    let all : length numbers ≡ count = same_Some (length numbers) count many in
+    rw rise.1 (documents_accepted end rise.0 (omega arith) rise.2)
 
 -- documents that ascend strictly and are not too many are admitted
 pub is_admitted : (posted : Posted) → IsStrictlyIncreasing posted.documents → length posted.documents ≤ MAX_LEN → Some posted ≡ if_admitted posted

@@ -1,5 +1,5 @@
 -- What is held between lines, as the plain list.
-use Rattle.std.specs.Prelude.{ℕ, Bool, List, length}
+use Rattle.std.specs.Prelude.{ℕ, Bool, false, true, List, length}
 use Rattle.vers_wavelet.specs.Symbols.{Symbols}
 use Rattle.postings.specs.Posted.{Posted}
 use Rattle.vers_words.specs.Loading.{map_loading}
@@ -44,6 +44,12 @@ length_of (PostingsHeld posted) = length posted.documents
 -- what a load line gives, without what it writes
 abbrev pub kind_of : {H : Type 0} → Loading H → Loading (Unit {0})
 kind_of loading = map_loading (λ _. tt) loading
+
+-- whether a load line that gives this is accepted
+abbrev pub is_accepted : {H : Type 0} → Loading H → Bool
+is_accepted Malformed = false
+is_accepted Inadmissible = false
+is_accepted (Accepted new) = true
 
 -- what is held after a load line gives this: as before, unless it is accepted
 abbrev pub held_after : {H : Type 0} → H → Loading H → H

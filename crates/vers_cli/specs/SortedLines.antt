@@ -1,5 +1,6 @@
 -- The lines of an ascending list.
-use Rattle.std.specs.Prelude.{ℕ, nat_le, List, length, slice_get, Option, Some, None, if◌then◌else◌}
+use Rattle.std.specs.Prelude.{ℕ, ◌+◌, Bool, ◌&&◌, nat_le, List, length, slice_get, Option, Some, None, if◌then◌else◌}
+use Rattle.std.specs.List.{list_all}
 use Rattle.vers_sorted.specs.Sorted.{below, greatest_not_above, least_not_below, delta, each_next}
 use Rattle.vers_words.specs.Arguments.{no_arguments, one_number}
 use Rattle.vers_words.specs.declared.loading.Loading.{Loading}
@@ -12,6 +13,11 @@ use Rattle.vers_cli.specs.declared.name.Query.TheVariants.{Len, Get, Rank, Prede
 abbrev pub sorted_loaded : Option (List ℕ) → Loading (List ℕ)
 sorted_loaded None = Malformed
 sorted_loaded (Some numbers) = if each_next nat_le numbers then Accepted numbers else Inadmissible
+
+-- whether each number is at least `gap` below the next one, and all are at least `gap` below `end`
+abbrev pub rises_to : ℕ → ℕ → List ℕ → Bool
+rises_to gap end numbers =
+    each_next (λ n next. nat_le (n + gap) next) numbers && list_all (λ n. nat_le (n + gap) end) numbers
 
 -- the query lines, where these members are held
 abbrev pub sorted_reply : List ℕ → Query → List (List ℕ) → PlainReply

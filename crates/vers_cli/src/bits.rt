@@ -4,6 +4,7 @@ ghost use Rattle.std.specs.List.{list_all};
 ghost use Rattle.vers_words.specs.Text.{words_in};
 ghost use Rattle.vers_words.specs.Arguments.{is_bit_digit, bits_of, bits_of_digits};
 ghost use Rattle.vers_words.specs.Reply.{plain_reply};
+ghost use Rattle.vers_cli.specs.Holding.{is_accepted as accepts};
 ghost use Rattle.vers_cli.specs.BitsLines.{bits_loaded, bits_reply};
 
 use crate::name::Query;
@@ -13,6 +14,16 @@ use vers_rank::fast_rs_vec::RsVec;
 use vers_words::arguments::{bit_digits, no_arguments, one_number};
 use vers_words::loading::Loading;
 use vers_words::reply::Reply;
+
+/// Whether the load line `bits S` is accepted.
+pub fn is_accepted(arguments: &[u8]) -> bool
+    ensures { result ≡ accepts (bits_loaded (bits_of (words_in arguments.now))) }
+{
+    match bit_digits(arguments) {
+        None => false,
+        Some(digits) => digits.len() <= MAX_LEN,
+    }
+}
 
 /// What the load line `bits S` gives.
 pub fn load<A: Allocator + Copy>(

@@ -1,18 +1,32 @@
 //! The lines of documents with costs.
-ghost use Rattle.std.specs.Prelude.{◌≡◌, length, option_map, IfOk, IfSome};
+ghost use Rattle.std.specs.Prelude.{◌≡◌, ◌<◌, [], true, length, option_map, Some, IfOk, IfSome, MatchOption};
 ghost use Rattle.std.specs.Option.{option_and_then};
 ghost use Rattle.vers_words.specs.Text.{words_in};
-ghost use Rattle.vers_words.specs.Arguments.{all_numbers as numbers_all};
+ghost use Rattle.vers_words.specs.Arguments.{no_arguments as none_of, all_numbers as numbers_all};
 ghost use Rattle.vers_words.specs.Reply.{plain_reply, Numbers};
-ghost use Rattle.postings.specs.Posted.{common};
-ghost use Rattle.vers_cli.specs.PostingsLines.{posted_of, if_admitted, postings_loaded, postings_reply, shared_reply};
+ghost use Rattle.postings.specs.Posted.{Posted, common};
+ghost use Rattle.vers_cli.specs.Holding.{is_accepted as accepts};
+ghost use Rattle.vers_cli.specs.SortedLines.{rises_to};
+ghost use Rattle.vers_cli.specs.PostingsLines.{posted_first, posted_of, if_admitted, postings_loaded, postings_reply, shared_reply};
 
 use crate::name::Query;
 use postings::{Postings, PostingsError};
 use std::alloc::{AllocError, Allocator};
-use vers_words::arguments::{all_numbers, no_arguments, one_number, two_numbers};
+use vers_rmq::rmq::fast_rmq::MAX_LEN;
+use vers_words::arguments::{all_numbers, count_numbers, no_arguments, one_number, two_numbers};
 use vers_words::loading::Loading;
 use vers_words::reply::Reply;
+use vers_words::text::{number, split_first_word};
+
+/// Whether it is certain that the load line `postings d c ..` is accepted.
+pub fn is_accepted(arguments: &[u8]) -> bool
+    ensures { result ≡ true → accepts (postings_loaded (numbers_all (words_in arguments.now))) ≡ true }
+{
+    match count_numbers(arguments) {
+        None => false,
+        Some(count) => count <= MAX_LEN && end_of_documents(arguments).is_some(),
+    }
+}
 
 /// What the load line `postings d c ..` gives.
 pub fn load<A: Allocator + Copy>(
@@ -79,7 +93,7 @@ struct Pairs<A: Allocator> {
 }
 
 // The documents and costs that a line writes in turn. None where a word is no number below 2^64, or the
-// last document has no cost. The numbers themselves are let go at the end.
+// last document has no cost.
 fn all_pairs<A: Allocator + Copy>(
     alloc: A,
     arguments: &[u8],
@@ -90,31 +104,59 @@ fn all_pairs<A: Allocator + Copy>(
     ensures paired { IfOk result (λ found. IfSome found
         (λ pairs. length pairs.documents.items ≡ length pairs.costs.items)) }
 {
-    match all_numbers(alloc, arguments)? {
+    let Some(count) = count_numbers(arguments) else {
+        return Ok(None);
+    };
+    let mut documents = Vec::with_capacity(alloc, count / 2)?;
+    let mut costs = Vec::with_capacity(alloc, count / 2)?;
+    let mut rest = arguments;
+    while let Some((document, cost, others)) = split_first_pair(rest) {
+        documents.push(document)?;
+        costs.push(cost)?;
+        rest = others;
+    }
+    match no_arguments(rest) {
         None => Ok(None),
-        Some(numbers) => in_pairs(alloc, numbers.as_slice()),
+        Some(()) => Ok(Some(Pairs { documents, costs })),
     }
 }
 
-// Numbers taken as documents and costs in turn. None where the last document has no cost.
-fn in_pairs<A: Allocator + Copy>(alloc: A, numbers: &[u64]) -> Result<Option<Pairs<A>>, AllocError>
-    ensures pairs { IfOk result (λ found. option_map
-        (λ pairs. record { documents = pairs.documents.items; costs = pairs.costs.items }) found ≡ posted_of numbers.now) }
-    ensures paired { IfOk result (λ found. IfSome found
-        (λ pairs. length pairs.documents.items ≡ length pairs.costs.items)) }
+// The document and the cost that a text begins with, and what stands after them. None where it doesn't
+// begin with two numbers below 2^64.
+fn split_first_pair(text: &[u8]) -> Option<(u64, u64, &[u8])>
+    ensures pairs { MatchOption result
+        (option_and_then posted_of (numbers_all (words_in text.now))
+        ≡ option_map (λ _. record { documents = []; costs = [] }) (none_of (words_in text.now)))
+        (λ parts. option_and_then posted_of (numbers_all (words_in text.now))
+        ≡ option_map (posted_first parts.0 parts.1)
+        (option_and_then posted_of (numbers_all (words_in parts.2.now)))) }
+    ensures shorter { IfSome result (λ parts. length parts.2.now < length text.now) }
 {
-    let mut documents = Vec::with_capacity(alloc, numbers.len() / 2)?;
-    let mut costs = Vec::with_capacity(alloc, numbers.len() / 2)?;
-    let mut rest = numbers;
-    while let Some((document, others)) = rest.split_first() {
-        let Some((cost, more)) = others.split_first() else {
-            return Ok(None);
-        };
-        documents.push(*document)?;
-        costs.push(*cost)?;
-        rest = more;
+    let (word, others) = split_first_word(text)?;
+    let (cost_word, more) = split_first_word(others)?;
+    let document = number(word)?;
+    let cost = number(cost_word)?;
+    Some((document, cost, more))
+}
+
+// What document may come next where the words of a line are documents that ascend strictly, each with
+// its cost. None where they aren't, or none may come.
+fn end_of_documents(arguments: &[u8]) -> Option<u64>
+    ensures { IfSome result (λ end. (posted : Posted)
+        × (option_and_then posted_of (numbers_all (words_in arguments.now)) ≡ Some posted)
+        × (rises_to 1 end posted.documents ≡ true)) }
+{
+    let mut end = 0u64;
+    let mut rest = arguments;
+    while let Some((document, _, others)) = split_first_pair(rest) {
+        if document < end {
+            return None;
+        }
+        end = document.checked_add(1)?;
+        rest = others;
     }
-    Ok(Some(Pairs { documents, costs }))
+    no_arguments(rest)?;
+    Some(end)
 }
 
 // Documents with their costs. None where the documents don't ascend strictly or are too many.

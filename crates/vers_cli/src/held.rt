@@ -1,8 +1,8 @@
 //! What is held between lines.
-ghost use Rattle.std.specs.Prelude.{◌≡◌, IfOk};
+ghost use Rattle.std.specs.Prelude.{◌≡◌, true, IfOk};
 ghost use Rattle.vers_words.specs.Text.{words_in};
 ghost use Rattle.vers_words.specs.Loading.{map_loading};
-ghost use Rattle.vers_cli.specs.Holding.{holding_of, length_of};
+ghost use Rattle.vers_cli.specs.Holding.{holding_of, length_of, is_accepted as accepts};
 ghost use Rattle.vers_cli.specs.Rules.{loaded, query_reply};
 
 use crate::name::{Load, Query};
@@ -32,6 +32,33 @@ pub enum Held<'a, A: Allocator + Copy> {
     Postings(Postings<A>),
 }
 
+/// Whether it is certain that a load line is accepted. It takes no memory to tell.
+pub fn is_accepted(load: Load, arguments: &[u8]) -> bool
+    ensures { result ≡ true → accepts (loaded load (words_in arguments.now)) ≡ true }
+{
+    match load {
+        Load::Bits => bits::is_accepted(arguments),
+        Load::Sorted => sorted::is_accepted(arguments),
+        Load::Sparse => sparse::is_accepted(arguments),
+        Load::Values => values::is_accepted(arguments),
+        Load::Tree => tree::is_accepted(arguments),
+        Load::Symbols => symbols::is_accepted(arguments),
+        Load::Postings => documents::is_accepted(arguments),
+    }
+}
+
+// What a structure's own load line gives, as what is held.
+macro_rules! held_as {
+    ($loading:expr, $held:path) => {
+        match $loading {
+            Ok(Loading::Malformed) => Ok(Loading::Malformed),
+            Ok(Loading::Inadmissible) => Ok(Loading::Inadmissible),
+            Ok(Loading::Accepted(list)) => Ok(Loading::Accepted($held(list))),
+            Err(error) => Err(error),
+        }
+    };
+}
+
 /// What a load line gives.
 pub fn load<'a, A: Allocator + Copy>(
     alloc: &'a A,
@@ -42,48 +69,13 @@ pub fn load<'a, A: Allocator + Copy>(
         map_loading holding_of loading ≡ loaded load (words_in arguments.now)) }
 {
     match load {
-        Load::Bits => match bits::load(*alloc, arguments) {
-            Ok(Loading::Malformed) => Ok(Loading::Malformed),
-            Ok(Loading::Inadmissible) => Ok(Loading::Inadmissible),
-            Ok(Loading::Accepted(bits)) => Ok(Loading::Accepted(Held::Bits(bits))),
-            Err(error) => Err(error),
-        },
-        Load::Sorted => match sorted::load(*alloc, arguments) {
-            Ok(Loading::Malformed) => Ok(Loading::Malformed),
-            Ok(Loading::Inadmissible) => Ok(Loading::Inadmissible),
-            Ok(Loading::Accepted(members)) => Ok(Loading::Accepted(Held::Sorted(members))),
-            Err(error) => Err(error),
-        },
-        Load::Sparse => match sparse::load(*alloc, arguments) {
-            Ok(Loading::Malformed) => Ok(Loading::Malformed),
-            Ok(Loading::Inadmissible) => Ok(Loading::Inadmissible),
-            Ok(Loading::Accepted(bits)) => Ok(Loading::Accepted(Held::Sparse(bits))),
-            Err(error) => Err(error),
-        },
-        Load::Values => match values::load(*alloc, arguments) {
-            Ok(Loading::Malformed) => Ok(Loading::Malformed),
-            Ok(Loading::Inadmissible) => Ok(Loading::Inadmissible),
-            Ok(Loading::Accepted(values)) => Ok(Loading::Accepted(Held::Values(values))),
-            Err(error) => Err(error),
-        },
-        Load::Tree => match tree::load(alloc, arguments) {
-            Ok(Loading::Malformed) => Ok(Loading::Malformed),
-            Ok(Loading::Inadmissible) => Ok(Loading::Inadmissible),
-            Ok(Loading::Accepted(tree)) => Ok(Loading::Accepted(Held::Tree(tree))),
-            Err(error) => Err(error),
-        },
-        Load::Symbols => match symbols::load(*alloc, arguments) {
-            Ok(Loading::Malformed) => Ok(Loading::Malformed),
-            Ok(Loading::Inadmissible) => Ok(Loading::Inadmissible),
-            Ok(Loading::Accepted(symbols)) => Ok(Loading::Accepted(Held::Symbols(symbols))),
-            Err(error) => Err(error),
-        },
-        Load::Postings => match documents::load(*alloc, arguments) {
-            Ok(Loading::Malformed) => Ok(Loading::Malformed),
-            Ok(Loading::Inadmissible) => Ok(Loading::Inadmissible),
-            Ok(Loading::Accepted(postings)) => Ok(Loading::Accepted(Held::Postings(postings))),
-            Err(error) => Err(error),
-        },
+        Load::Bits => held_as!(bits::load(*alloc, arguments), Held::Bits),
+        Load::Sorted => held_as!(sorted::load(*alloc, arguments), Held::Sorted),
+        Load::Sparse => held_as!(sparse::load(*alloc, arguments), Held::Sparse),
+        Load::Values => held_as!(values::load(*alloc, arguments), Held::Values),
+        Load::Tree => held_as!(tree::load(alloc, arguments), Held::Tree),
+        Load::Symbols => held_as!(symbols::load(*alloc, arguments), Held::Symbols),
+        Load::Postings => held_as!(documents::load(*alloc, arguments), Held::Postings),
     }
 }
 

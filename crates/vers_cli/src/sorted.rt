@@ -1,9 +1,10 @@
 //! The lines of an ascending list.
-ghost use Rattle.std.specs.Prelude.{◌≡◌, IfOk};
+ghost use Rattle.std.specs.Prelude.{◌≡◌, ℕ, List, Some, true, IfOk, IfSome};
 ghost use Rattle.vers_words.specs.Text.{words_in};
 ghost use Rattle.vers_words.specs.Arguments.{all_numbers as numbers_all};
 ghost use Rattle.vers_words.specs.Reply.{plain_reply};
-ghost use Rattle.vers_cli.specs.SortedLines.{sorted_loaded, sorted_reply};
+ghost use Rattle.vers_cli.specs.Holding.{is_accepted as accepts};
+ghost use Rattle.vers_cli.specs.SortedLines.{rises_to, sorted_loaded, sorted_reply};
 
 use crate::name::Query;
 use std::alloc::{AllocError, Allocator};
@@ -13,6 +14,34 @@ use vers_tally::ends::{BothEnds, Source};
 use vers_words::arguments::{all_numbers, no_arguments, one_number};
 use vers_words::loading::Loading;
 use vers_words::reply::Reply;
+use vers_words::text::{number, split_first_word};
+
+/// Whether it is certain that the load line `sorted n ..` is accepted.
+pub fn is_accepted(arguments: &[u8]) -> bool
+    ensures { result ≡ true → accepts (sorted_loaded (numbers_all (words_in arguments.now))) ≡ true }
+{
+    end_of_rise(arguments, 0).is_some()
+}
+
+/// What may come next where the words of a line are numbers that rise by at least `gap` from each to
+/// the next. None where they don't.
+pub fn end_of_rise(arguments: &[u8], gap: u64) -> Option<u64>
+    ensures { IfSome result (λ end. (numbers : List ℕ)
+        × (numbers_all (words_in arguments.now) ≡ Some numbers)
+        × (rises_to gap end numbers ≡ true)) }
+{
+    let mut end = 0u64;
+    let mut rest = arguments;
+    while let Some((word, others)) = split_first_word(rest) {
+        let value = number(word)?;
+        if value < end {
+            return None;
+        }
+        end = value.checked_add(gap)?;
+        rest = others;
+    }
+    Some(end)
+}
 
 /// What the load line `sorted n ..` gives.
 pub fn load<A: Allocator + Copy>(

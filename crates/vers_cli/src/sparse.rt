@@ -1,18 +1,33 @@
 //! The lines of a sparse list of bits.
-ghost use Rattle.std.specs.Prelude.{◌≡◌, IfOk};
+ghost use Rattle.std.specs.Prelude.{◌≡◌, true, IfOk};
 ghost use Rattle.vers_words.specs.Text.{words_in};
 ghost use Rattle.vers_words.specs.Arguments.{all_numbers as numbers_all};
 ghost use Rattle.vers_words.specs.Reply.{plain_reply};
+ghost use Rattle.vers_cli.specs.Holding.{is_accepted as accepts};
 ghost use Rattle.vers_cli.specs.SparseLines.{sparse_loaded, sparse_reply};
 
 use crate::name::Query;
-use crate::sorted::members_left;
+use crate::sorted::{end_of_rise, members_left};
 use std::alloc::{AllocError, Allocator};
 use vers_sorted::order::{are_below, is_strictly_ascending};
 use vers_sorted::sparse::SparseRSVec;
 use vers_words::arguments::{all_numbers, no_arguments, one_number};
 use vers_words::loading::Loading;
 use vers_words::reply::Reply;
+use vers_words::text::{number, split_first_word};
+
+/// Whether it is certain that the load line `sparse LEN p ..` is accepted.
+pub fn is_accepted(arguments: &[u8]) -> bool
+    ensures { result ≡ true → accepts (sparse_loaded (numbers_all (words_in arguments.now))) ≡ true }
+{
+    let Some((word, places)) = split_first_word(arguments) else {
+        return false;
+    };
+    match (number(word), end_of_rise(places, 1)) {
+        (Some(len), Some(end)) => end <= len,
+        _ => false,
+    }
+}
 
 /// What the load line `sparse LEN p ..` gives.
 pub fn load<A: Allocator + Copy>(

@@ -51,10 +51,22 @@ impl<'a, A: Allocator + Copy> Store<'a, A> {
         ensures holds { OnOk result (self.new
             ≡ holding_after_load self.old (loaded load (words_in arguments.now))) }
     {
+        self.make_room(load, arguments);
         match accept(&mut self.held, held::load(self.alloc, load, arguments))? {
             Loading::Malformed => Ok(Reply::BadLine),
             Loading::Inadmissible => Ok(Reply::Refused),
             Loading::Accepted(()) => Ok(Reply::Number(self.held.len())),
+        }
+    }
+
+    // Lets go of what is held where a load line is certain to be accepted, so that its room is there for what
+    // comes in its place.
+    fn make_room(&mut self, load: Load, arguments: &[u8])
+        ensures { holding_after_load self.new (loaded load (words_in arguments.now))
+            ≡ holding_after_load self.old (loaded load (words_in arguments.now)) }
+    {
+        if held::is_accepted(load, arguments) {
+            put(&mut self.held, Held::Nothing);
         }
     }
 
@@ -87,6 +99,13 @@ impl<'a, A: Allocator + Copy> Store<'a, A> {
     }
 }
 
+// Puts a value in the place of another, which is let go.
+fn put<H: Drop>(held: &mut H, new: H)
+    ensures { held.new ≡ new }
+{
+    *held = new;
+}
+
 // Puts what a load line gives in the place of what was held, where it is accepted. What is held may be
 // of any type, so that the proof doesn't go through its fields.
 fn accept<H: Drop>(
@@ -101,7 +120,7 @@ fn accept<H: Drop>(
         Ok(Loading::Malformed) => Ok(Loading::Malformed),
         Ok(Loading::Inadmissible) => Ok(Loading::Inadmissible),
         Ok(Loading::Accepted(new)) => {
-            *held = new;
+            put(held, new);
             Ok(Loading::Accepted(()))
         }
         Err(error) => Err(error),

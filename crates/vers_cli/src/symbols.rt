@@ -5,6 +5,7 @@ ghost use Rattle.vers_wavelet.specs.Makers.{low_symbols};
 ghost use Rattle.vers_words.specs.Text.{words_in};
 ghost use Rattle.vers_words.specs.Arguments.{all_numbers as numbers_all};
 ghost use Rattle.vers_words.specs.Reply.{plain_reply};
+ghost use Rattle.vers_cli.specs.Holding.{is_accepted as accepts};
 ghost use Rattle.vers_cli.specs.SymbolsLines.{symbols_loaded, symbols_reply, all_reply as reply_of_all, place_reply as reply_at_place, symbol_reply as reply_of_symbol, range_reply as reply_of_range, within_reply as reply_within};
 
 use crate::name::{AllQuery, Query, RangeQuery, SymbolQuery, SymbolsQuery, WithinQuery};
@@ -13,13 +14,26 @@ use std::alloc::{AllocError, Allocator};
 use vers_bits::bit_vec::BitVec;
 use vers_bits::laws::packed_elements_are_items;
 use vers_wavelet::wavelet::WaveletMatrix;
-use vers_words::arguments::{no_arguments, one_number, three_numbers, two_numbers};
+use vers_words::arguments::{count_numbers, no_arguments, one_number, three_numbers, two_numbers};
 use vers_words::loading::Loading;
 use vers_words::reply::Reply;
 use vers_words::text::{number, split_first_word};
 
 // How many bits a symbol has at most.
 const WIDEST: u64 = 64;
+
+/// Whether the load line `symbols K n ..` is accepted.
+pub fn is_accepted(arguments: &[u8]) -> bool
+    ensures { result ≡ accepts (symbols_loaded (numbers_all (words_in arguments.now))) }
+{
+    let Some((word, numbers)) = split_first_word(arguments) else {
+        return false;
+    };
+    match number(word) {
+        None => false,
+        Some(width) => width <= WIDEST && count_numbers(numbers).is_some(),
+    }
+}
 
 /// What the load line `symbols K n ..` gives. Its numbers are kept packed as they are read.
 pub fn load<A: Allocator + Copy>(

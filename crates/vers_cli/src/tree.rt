@@ -5,6 +5,7 @@ ghost use Rattle.vers_words.specs.Text.{words_in};
 ghost use Rattle.vers_words.specs.Arguments.{bits_of};
 ghost use Rattle.vers_words.specs.Loading.{map_loading};
 ghost use Rattle.vers_words.specs.Reply.{plain_reply};
+ghost use Rattle.vers_cli.specs.Holding.{is_accepted as accepts};
 ghost use Rattle.vers_cli.specs.TreeLines.{first_place, tree_loaded, tree_reply, whole_reply as reply_of_whole, excess_reply, place_reply as reply_at_place, search_reply as reply_of_search};
 
 use crate::bits::bit_vec;
@@ -16,6 +17,16 @@ use vers_trees::trees::bp::{BpTree, MAX_LEN};
 use vers_words::arguments::{bit_digits, no_arguments, number_and_signed, one_number};
 use vers_words::loading::Loading;
 use vers_words::reply::Reply;
+
+/// Whether the load line `tree S` is accepted.
+pub fn is_accepted(arguments: &[u8]) -> bool
+    ensures { result ≡ accepts (tree_loaded (bits_of (words_in arguments.now))) }
+{
+    match bit_digits(arguments) {
+        None => false,
+        Some(digits) => digits.len() <= MAX_LEN,
+    }
+}
 
 /// What the load line `tree S` gives.
 pub fn load<'a, A: Allocator + Copy>(

@@ -3,14 +3,25 @@ ghost use Rattle.std.specs.Prelude.{◌≡◌, IfOk};
 ghost use Rattle.vers_words.specs.Text.{words_in};
 ghost use Rattle.vers_words.specs.Arguments.{all_numbers as numbers_all};
 ghost use Rattle.vers_words.specs.Reply.{plain_reply};
+ghost use Rattle.vers_cli.specs.Holding.{is_accepted as accepts};
 ghost use Rattle.vers_cli.specs.ValuesLines.{first_least, values_loaded, values_reply};
 
 use crate::name::Query;
 use std::alloc::{AllocError, Allocator};
 use vers_rmq::rmq::fast_rmq::{FastRmq, MAX_LEN};
-use vers_words::arguments::{all_numbers, no_arguments, two_numbers};
+use vers_words::arguments::{all_numbers, count_numbers, no_arguments, two_numbers};
 use vers_words::loading::Loading;
 use vers_words::reply::Reply;
+
+/// Whether the load line `values n ..` is accepted.
+pub fn is_accepted(arguments: &[u8]) -> bool
+    ensures { result ≡ accepts (values_loaded (numbers_all (words_in arguments.now))) }
+{
+    match count_numbers(arguments) {
+        None => false,
+        Some(count) => count <= MAX_LEN,
+    }
+}
 
 /// What the load line `values n ..` gives.
 pub fn load<A: Allocator + Copy>(

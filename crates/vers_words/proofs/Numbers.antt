@@ -58,3 +58,7 @@ numbers_then-none (Some more) = refl
 pub numbers_then-push : (numbers : List ℕ) (n : ℕ) (others : Option (List ℕ)) → numbers_then numbers (option_map (λ more. n ∷ more) others) ≡ numbers_then (numbers ++ n ∷ []) others
 numbers_then-push numbers n None = refl
 numbers_then-push numbers n (Some more) = ap Some (sym (append_assoc numbers (n ∷ []) more))
+
+-- how many numbers there are, and those of further words
+abbrev pub count_then : ℕ → Option (List ℕ) → Option ℕ
+count_then n others = option_map (λ more. n + length more) others

@@ -1,6 +1,6 @@
 //! The arguments of a line, which are the words of what stands after its first one. Each function
 //! answers None where they are malformed.
-ghost use Rattle.std.specs.Prelude.{◌≡◌, true, option_map, IfOk, IfSome};
+ghost use Rattle.std.specs.Prelude.{◌≡◌, true, length, option_map, IfOk, IfSome};
 ghost use Rattle.std.specs.List.{list_all};
 ghost use Rattle.vers_words.specs.Text.{words_in};
 ghost use Rattle.vers_words.specs.Arguments.{no_arguments as none_of, one_number as number_alone, two_numbers as numbers_two, three_numbers as numbers_three, number_and_signed as number_and_signed_number, all_numbers as numbers_all, is_bit_digit, bits_of_digits, bits_of};
@@ -69,7 +69,11 @@ pub fn all_numbers<A: Allocator + Copy>(
     ensures { IfOk result (λ found.
         option_map (λ numbers. numbers.items) found ≡ numbers_all (words_in arguments.now)) }
 {
-    let mut numbers = Vec::with_capacity(alloc, count_numbers(arguments))?;
+    let Some(count) = count_numbers(arguments) else {
+        return Ok(None);
+    };
+    // There is room for all from the start, and for no more.
+    let mut numbers = Vec::with_capacity(alloc, count)?;
     let mut rest = arguments;
     while let Some((word, others)) = split_first_word(rest) {
         let Some(value) = number(word) else {
@@ -81,18 +85,21 @@ pub fn all_numbers<A: Allocator + Copy>(
     Ok(Some(numbers))
 }
 
-// How many numbers stand before the first word that is none: for so many there is room from the start, and no more.
-fn count_numbers(arguments: &[u8]) -> usize {
+/// How many numbers a line writes that takes any number of them. None where a word is no number below
+/// 2^64.
+pub fn count_numbers(arguments: &[u8]) -> Option<usize>
+    ensures { result ≡ option_map length (numbers_all (words_in arguments.now)) }
+{
     let mut count: usize = 0;
     let mut rest = arguments;
     while let Some((word, others)) = split_first_word(rest) {
         if number(word).is_none() {
-            return count;
+            return None;
         }
-        count = count.saturating_add(1);
+        count += 1;
         rest = others;
     }
-    count
+    Some(count)
 }
 
 /// The arguments of a line that takes bits: one word of the digits 0 and 1, or no word for the empty

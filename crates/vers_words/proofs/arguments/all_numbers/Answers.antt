@@ -9,13 +9,13 @@ loop-word-init g c = rw c.in_ok-numbers.ensures.items (sym (numbers_then-none _)
 
 pub returns-in_default-number : goal.returns-in_default-number
 returns-in_default-number g c =
-    let none : number_of c.in-Some.word.now ≡ None = sym c.number.ensures ∙ c.in_default-number.is in
-    sym (c.loop-word.invariant ∙ rw (c.in-Some.ensures.words, none) refl)
+    let none : number_of c.in-Some-split_first_word.word.now ≡ None = sym c.number.ensures ∙ c.in_default-number.is in
+    sym (c.loop-word.invariant ∙ rw (c.in-Some-split_first_word.ensures.words, none) refl)
 
 pub returns : goal.returns
-returns g c = sym (c.loop-word.invariant ∙ rw c.in_default.ensures.words (ap Some (append-nil _)))
+returns g c = sym (c.loop-word.invariant ∙ rw c.in_default-split_first_word.ensures.words (ap Some (append-nil _)))
 
 pub loop-word-preserved : goal.loop-word-preserved
 loop-word-preserved g c =
-    let some : number_of c.in-Some.word.now ≡ Some c.in-Some-number.value = sym c.number.ensures ∙ c.in-Some-number.is in
-    c.loop-word.invariant ∙ rw (c.in-Some.ensures.words, some, c.in_ok-push.ensures.items) (numbers_then-push _ _ _)
+    let some : number_of c.in-Some-split_first_word.word.now ≡ Some c.in-Some-number.value = sym c.number.ensures ∙ c.in-Some-number.is in
+    c.loop-word.invariant ∙ rw (c.in-Some-split_first_word.ensures.words, some, c.in_ok-push.ensures.items) (numbers_then-push _ _ _)

@@ -1,5 +1,14 @@
-use Rattle.std.proofs.Common.{length}
+use Rattle.std.proofs.Common.{◌≡◌, ◌+◌, ◌≤◌, length}
+use Rattle.std.specs.Prelude.{option_map}
+use Rattle.vers_words.specs.Text.{words_in}
+use Rattle.vers_words.specs.Arguments.{all_numbers}
+use Rattle.vers_words.proofs.Numbers.{count_then}
 use Rattle.vers_words.proofs.arguments.count_numbers.Given as goal
+
+abbrev pub invariant-loop-word : goal.invariant-loop-word
+invariant-loop-word l =
+    (option_map length (all_numbers (words_in l.arguments)) ≡ count_then l.count (all_numbers (words_in l.rest)))
+    × (l.count + length l.rest ≤ length l.arguments)
 
 abbrev pub decreases-loop-word : goal.decreases-loop-word
 decreases-loop-word l = length l.rest

@@ -1,0 +1,11 @@
+use Rattle.std.proofs.Common.{sym, ◌∙◌}
+use Rattle.vers_words.specs.Text.{words_in}
+use Rattle.vers_words.specs.Arguments.{all_numbers}
+use Rattle.vers_cli.proofs.Pairs.{postings_accepted}
+use Rattle.vers_cli.proofs.documents.is_accepted.Goals as goal
+
+pub returns-then-count-le-MAX_LEN : goal.returns-then-count-le-MAX_LEN
+returns-then-count-le-MAX_LEN c =
+    λ some.
+    postings_accepted (all_numbers (words_in c.args.arguments.now)) c.in-Some.count c.end_of_documents.result
+    (sym c.count_numbers.ensures ∙ c.in-Some.is) c.if-count-le-MAX_LEN.true c.end_of_documents.ensures (sym c.is_some.ensures ∙ some)
