@@ -10,5 +10,7 @@ pub mod Sizes
 pub mod Gathering
 pub mod Sources
 pub mod Counting
+pub mod Batches
+pub mod Answering
 pub mod Statements
 pub mod PublicLaws

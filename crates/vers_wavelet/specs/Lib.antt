@@ -3,3 +3,4 @@ pub mod Reads
 pub mod Levels
 pub mod Makers
 pub mod Laws
+pub mod Batches

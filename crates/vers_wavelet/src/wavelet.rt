@@ -2,6 +2,7 @@
 ghost use Rattle.std.specs.Prelude.{◌≡◌, ℕ, ◌+◌, ◌-◌, ◌*◌, ◌%◌, ◌^◌, ◌<◌, ◌≤◌, ◌↔◌, [], length, slice_get, slice_index, slice_range, count_by, nat_lt, nat_le, Some, None, All, IsTrue, IsSome, IfSome};
 ghost use Rattle.vers_wavelet.specs.Symbols.{Symbols};
 
+mod batch;
 mod count;
 pub(crate) mod digits;
 mod find;
@@ -15,6 +16,7 @@ mod read;
 mod sizes;
 mod walk;
 
+pub use batch::GetQuery;
 pub use iter::{
     BySize, InOrder, Lists, Matrix, Numbers, Order, SortedLists, SortedNumbers, SymbolLists,
     SymbolNumbers, WaveletIter, WaveletNumIter, WaveletNumRefIter, WaveletRefIter,

@@ -1,0 +1,84 @@
+-- Lists whose items are changed one by one.
+use Rattle.std.proofs.Common.{◌≡◌, ◌≢◌, ℕ, suc, ◌+◌, ◌*◌, ◌<◌, ◌≤◌, List, [], ◌∷◌, length, set, get_or, get_or-set_same, get_or-set_other, length-set, refl, sym, ap, ◌∙◌, subst, arith, inl, inr}
+use Rattle.std.specs.Prelude.{map, All}
+use Rattle.std.proofs.lemmas.Bool.{cases_lt}
+use Rattle.vers_bits.proofs.PublicLaws.{any_default}
+use Rattle.vers_tally.specs.Reads.{Reads, AddsAtMost, times}
+use Rattle.vers_tally.proofs.PublicLaws.{adds_then}
+use Rattle.vers_wavelet.specs.Batches.{Become, Changed}
+
+pub changed_none : {Q : Type 0} (R : Q → Q → Type 0) (xs : List Q) → Changed R xs xs 0
+changed_none R xs = record { long = refl; first = λ p d h l. absurd (omega arith); others = λ p d h. refl }
+
+-- one item more
+pub changed_more : {Q : Type 0} {R : Q → Q → Type 0} {xs ys : List Q} {j : ℕ} → Changed R xs ys j → j < length xs → (x y : Q) → x ≡ get_or ys j x → R x y
+    → Changed R xs (set ys j y) (j + 1)
+changed_more {Q} {R} {xs} {ys} {j} before inside x y at becomes = record {
+  long = length-set ys j y ∙ before.long;
+  first = λ p d h l. elim (cases_lt p j) [
+    | inl lower ↦
+        let ne : p ≢ j = omega arith in
+        subst (λ (z : Q). R (get_or xs p d) z) (sym (get_or-set_other ys j p y d ne)) (before.first p d lower l)
+    | inr last ↦
+        let e : p ≡ j = omega arith in
+        let within : j < length ys = omega (arith, before.long) in
+        let from : get_or xs p d ≡ x = ap (λ n. get_or xs n d) e ∙ sym (before.others j d (omega arith)) ∙ any_default ys j d x within ∙ sym at in
+        let to : get_or (set ys j y) p d ≡ y = ap (λ n. get_or (set ys j y) n d) e ∙ get_or-set_same ys j y d within in
+        subst (λ (z : Q). R z (get_or (set ys j y) p d)) (sym from) (subst (λ (z : Q). R x z) (sym to) becomes)
+  ];
+  others = λ p d h.
+      let ne : p ≢ j = omega arith in
+      get_or-set_other ys j p y d ne ∙ before.others p d (omega arith);
+}
+
+-- all of them
+pub changed_all : {Q : Type 0} {R : Q → Q → Type 0} {xs ys : List Q} {j : ℕ} → Changed R xs ys j → length xs ≤ j → Become R xs ys
+changed_all done past = record { long = done.long; each = λ p d h. done.first p d (omega arith) h }
+
+-- one change after another
+pub become_then : {Q : Type 0} {R S T : Q → Q → Type 0} {xs ys zs : List Q} → Become R xs ys → Become S ys zs → ((x y z : Q) → R x y → S y z → T x z) → Become T xs zs
+become_then first second both = record {
+  long = second.long ∙ first.long;
+  each = λ p d h. both _ _ _ (first.each p d h) (second.each p d (omega (arith, h, first.long)));
+}
+
+-- what holds of each item that was changed
+pub become_all : {Q : Type 0} {R : Q → Q → Type 0} {P : Q → Type 0} {xs ys : List Q} → Become R xs ys → ((x y : Q) → R x y → P y) → All P ys
+become_all change each = λ p d h. each _ _ (change.each p d (omega (arith, h, change.long)))
+
+-- what is read off the new items, from the old ones
+pub become_map : {Q B : Type 0} {R : Q → Q → Type 0} (f g : Q → B) (xs ys : List Q) → Become R xs ys → ((x y : Q) → R x y → f y ≡ g x) → map f ys ≡ map g xs
+become_map f g [] [] change same = refl
+become_map f g [] (y ∷ ys) change same = absurd (omega (arith, change.long))
+become_map f g (x ∷ xs) [] change same = absurd (omega (arith, change.long))
+become_map {Q} {B} {R} f g (x ∷ xs) (y ∷ ys) change same =
+    let first : f y ≡ g x = same x y (change.each 0 x (omega arith)) in
+    let others : map f ys ≡ map g xs = become_map f g xs ys (record { long = omega (arith, change.long); each = λ p d h. change.each (suc p) d (omega arith) }) same in
+    ap (λ b. b ∷ map f ys) first ∙ ap (λ bs. g x ∷ bs) others
+
+-- what held of all holds of an item that is still as it was
+pub still : {Q : Type 0} {R : Q → Q → Type 0} (P : Q → Type 0) {xs ys : List Q} {j : ℕ} → All P xs → Changed R xs ys j → j < length xs → (x : Q) → x ≡ get_or ys j x → P x
+still P {xs} {ys} {j} all before inside x at = subst P (sym (before.others j x (omega arith)) ∙ sym at) (all j x inside)
+
+-- the same change by what follows from the relation
+pub become_weaker : {Q : Type 0} {R S : Q → Q → Type 0} {xs ys : List Q} → Become R xs ys → ((x y : Q) → R x y → S x y) → Become S xs ys
+become_weaker change follows = record { long = change.long; each = λ p d h. follows _ _ (change.each p d h) }
+
+-- ---- reads
+
+once_more : (k x : ℕ) → k * x + x ≤ (k + 1) * x
+once_more k x = omega arith
+
+-- a bound k times, and once more
+pub adds_once_more : {a b c r : Reads} (k : ℕ) → AddsAtMost a b (times k r) → AddsAtMost b c r → AddsAtMost a c (times (k + 1) r)
+adds_once_more {a} {b} {c} {r} k before more = adds_then before more (record {
+  data_words = once_more k r.data_words;
+  block_entries = once_more k r.block_entries;
+  superblock_entries = once_more k r.superblock_entries;
+  low_parts = once_more k r.low_parts;
+  rank_calls = once_more k r.rank_calls;
+  items = once_more k r.items;
+  blocks = once_more k r.blocks;
+  nodes = once_more k r.nodes;
+  chunks = once_more k r.chunks;
+})

@@ -1,0 +1,19 @@
+use Rattle.std.proofs.Common.{◌+◌, length, arith, rules}
+use Rattle.vers_wavelet.proofs.Batches.{changed_none, changed_more, changed_all, still}
+use Rattle.vers_wavelet.proofs.wavelet.batch.step_each.Goals as goal
+
+pub loop-j-init : goal.loop-j-init
+loop-j-init g c = record { changed = changed_none _ _; adds = search rules }
+
+pub step-requires : goal.step-requires
+step-requires g c =
+    still (λ q. g.Q.Query.keeps (length c.args.level.now) (c.args.i + 1) q) c.requires c.loop-j.invariant.changed c.loop-j-test.true c.index-queries-j.result c.index-queries-j.is
+
+pub loop-j-preserved : goal.loop-j-preserved
+loop-j-preserved g c = record {
+  changed = changed_more c.loop-j.invariant.changed c.loop-j-test.true c.index-queries-j.result c.step.result c.index-queries-j.is (c.step.ensures.keeps, c.step.ensures.same);
+  adds = search rules;
+}
+
+pub returns-clause-each : goal.returns-clause-each
+returns-clause-each g c = changed_all c.loop-j.invariant.changed (omega arith)

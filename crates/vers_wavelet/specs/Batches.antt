@@ -1,0 +1,13 @@
+-- Lists whose items are changed one by one.
+use Rattle.std.specs.Prelude.{◌≡◌, ℕ, ◌<◌, ◌≤◌, List, length, slice_index_or}
+
+-- each item of xs has become one of ys that the relation allows
+pub record Become {Q : Type 0} (R : Q → Q → Type 0) (xs ys : List Q) : Type 0 where
+  pub long : length ys ≡ length xs
+  pub each : (p : ℕ) (d : Q) → p < length xs → R (slice_index_or xs p d) (slice_index_or ys p d)
+
+-- the first j items have, and the others are as they were
+pub record Changed {Q : Type 0} (R : Q → Q → Type 0) (xs ys : List Q) (j : ℕ) : Type 0 where
+  pub long : length ys ≡ length xs
+  pub first : (p : ℕ) (d : Q) → p < j → p < length xs → R (slice_index_or xs p d) (slice_index_or ys p d)
+  pub others : (p : ℕ) (d : Q) → j ≤ p → slice_index_or ys p d ≡ slice_index_or xs p d

@@ -1,0 +1,91 @@
+//! Many queries at once, all of them level by level.
+ghost use Rattle.std.specs.Prelude.{◌≡◌, ℕ, ◌+◌, ◌<◌, ◌≤◌, List, [], ◌∷◌, Bool, Option, length, All};
+ghost use Rattle.vers_tally.specs.Reads.{AddsAtMost, times};
+ghost use Rattle.vers_rank.specs.Queries.{rank_reads};
+ghost use Rattle.vers_wavelet.specs.Levels.{AreLevels};
+ghost use Rattle.vers_wavelet.specs.Batches.{Become};
+
+mod get;
+
+pub use get::GetQuery;
+use std::alloc::Allocator;
+use vers_rank::fast_rs_vec::RsVec;
+use vers_tally::tally::Tally;
+
+// A query that is asked level by level, and keeps in itself where it stands and what it found so far.
+pub(super) trait Query: Copy {
+    // What a query of `n` places keeps to where `k` levels are left.
+    ghost keeps: { ℕ → ℕ → Self → Type 0 };
+
+    // What the answer will be after the levels that are left.
+    ghost outcome: { List (List Bool) → Self → Option ℕ };
+
+    // What a query that is asked of all levels, of `n` places, answers.
+    ghost meaning: { List (List Bool) → ℕ → Self → Option ℕ };
+
+    // The query before the first of some levels with `len` places.
+    fn begin(self, levels: usize, len: usize) -> Self
+        ensures keeps { keeps len levels result }
+        ensures same { (ls : List (List Bool)) → length ls ≡ levels
+            → outcome ls result ≡ meaning ls len self };
+
+    // The query after one level more, with `i` levels left.
+    fn step<A: Allocator + Copy>(self, level: &RsVec<A>, i: usize, tally: &mut Tally) -> Self
+        requires { keeps (length level.now) (i + 1) self }
+        ensures keeps { keeps (length level.now) i result }
+        ensures same { (ls : List (List Bool)) → length ls ≡ i
+            → outcome ls result ≡ outcome (level.now ∷ ls) self }
+        ensures adds { AddsAtMost tally.old tally.new (times 2 rank_reads) };
+}
+
+// Makes each query one before the first level.
+#[inline(always)]
+fn begin_each<Q: Query>(queries: &mut [Q], levels: usize, len: usize)
+    ensures { Become (λ q r. Q.keeps len levels r
+        × ((ls : List (List Bool)) → length ls ≡ levels → Q.outcome ls r ≡ Q.meaning ls len q))
+        queries.old queries.new }
+{
+    for j in 0..queries.len() {
+        queries[j] = queries[j].begin(levels, len);
+    }
+}
+
+// Leads each query through one level more, with `i` levels left.
+#[inline(always)]
+fn step_each<A: Allocator + Copy, Q: Query>(
+    level: &RsVec<A>,
+    i: usize,
+    queries: &mut [Q],
+    tally: &mut Tally,
+)
+    requires { All (λ q. Q.keeps (length level.now) (i + 1) q) queries.old }
+    ensures each { Become (λ q r. Q.keeps (length level.now) i r
+        × ((ls : List (List Bool)) → length ls ≡ i
+        → Q.outcome ls r ≡ Q.outcome (level.now ∷ ls) q)) queries.old queries.new }
+    ensures adds { AddsAtMost tally.old tally.new
+        (times (length queries.old) (times 2 rank_reads)) }
+{
+    for j in 0..queries.len() {
+        queries[j] = queries[j].step(level, i, tally);
+    }
+}
+
+// Asks all queries, level by level.
+#[inline(always)]
+pub(super) fn ask_each<A: Allocator + Copy, Q: Query>(
+    levels: &[RsVec<A>],
+    len: usize,
+    queries: &mut [Q],
+    tally: &mut Tally,
+)
+    requires { AreLevels levels.now len }
+    ensures each { Become (λ q r. Q.keeps len 0 r
+        × (Q.outcome [] r ≡ Q.meaning levels.now len q)) queries.old queries.new }
+    ensures adds { AddsAtMost tally.old tally.new
+        (times (length levels.now) (times (length queries.old) (times 2 rank_reads))) }
+{
+    begin_each(queries, levels.len(), len);
+    for k in 0..levels.len() {
+        step_each(&levels[k], levels.len() - (k + 1), queries, tally);
+    }
+}

@@ -1,0 +1,92 @@
+//! The symbols at many places.
+ghost use Rattle.std.specs.Prelude.{◌≡◌, ℕ, ◌+◌, ◌<◌, ◌≤◌, List, Bool, Option, Some, None, length, map, nat_le, slice_get, option_map, IfSome, if◌then◌else◌};
+ghost use Rattle.vers_tally.specs.Reads.{AddsAtMost, times};
+ghost use Rattle.vers_wavelet.specs.Levels.{value, values, HasRoom};
+ghost use Rattle.vers_wavelet.specs.Reads.{query_reads};
+
+use crate::wavelet::WaveletMatrix;
+use crate::wavelet::batch::{Query, ask_each};
+use crate::wavelet::digits::Digits;
+use crate::wavelet::level::read_level;
+use std::alloc::Allocator;
+use vers_rank::fast_rs_vec::RsVec;
+use vers_tally::tally::Tally;
+
+/// A place to be asked for its symbol, and the answer.
+#[derive(Clone, Copy, Drop)]
+pub struct GetQuery {
+    /// The place. The call that answers works in it, and leaves a place of its own.
+    pub place: usize,
+    /// The symbol at the place, once the query is answered.
+    pub answer: Option<u64>,
+}
+
+impl GetQuery {
+    /// A query for the symbol at a place.
+    #[inline]
+    pub fn new(place: usize) -> Self
+        ensures place { result.place ≡ place }
+        ensures answer { result.answer ≡ None }
+    {
+        GetQuery {
+            place,
+            answer: None,
+        }
+    }
+}
+
+impl Query for GetQuery {
+    ghost keeps = { λ n k q. IfSome q.answer (λ y. (q.place < n) × (k ≤ 64) × HasRoom 64 k y) };
+
+    ghost outcome = { λ ls q. option_map (λ y. y + value ls q.place) q.answer };
+
+    ghost meaning = { λ ls n q. if nat_le (length ls) 64 then slice_get (values ls n) q.place else None };
+
+    #[inline(always)]
+    fn begin(self, levels: usize, len: usize) -> Self {
+        let is_known = levels <= 64 && self.place < len;
+        GetQuery {
+            place: self.place,
+            answer: if is_known { Some(0) } else { None },
+        }
+    }
+
+    #[inline(always)]
+    fn step<A: Allocator + Copy>(self, level: &RsVec<A>, i: usize, tally: &mut Tally) -> Self {
+        let Some(mut number) = self.answer else {
+            return self;
+        };
+        let step = read_level(level, self.place, tally);
+        number.put_digit(i, step.bit);
+        GetQuery {
+            place: step.place,
+            answer: Some(number),
+        }
+    }
+}
+
+#[tactic(auto, using(crate::proofs::Lists::lists))]
+impl<A: Allocator + Copy> WaveletMatrix<A> {
+    /// The symbols at many places, each as `get_u64` answers: none takes memory, and all are read level by level, which
+    /// is faster than one after the other where there are many.
+    pub fn get_u64_each(&self, queries: &mut [GetQuery])
+        ensures { map (λ q. q.answer) queries.new ≡ map (λ q.
+            if nat_le self.now.width 64 then slice_get self.now.items q.place else None)
+            queries.old }
+    {
+        let mut tally = Tally::new();
+        self.get_u64_each_counted(queries, &mut tally)
+    }
+
+    /// The same as `get_u64_each`, by the reads of `get_u64` at most for each query.
+    #[inline(always)]
+    pub fn get_u64_each_counted(&self, queries: &mut [GetQuery], tally: &mut Tally)
+        ensures value { map (λ q. q.answer) queries.new ≡ map (λ q.
+            if nat_le self.now.width 64 then slice_get self.now.items q.place else None)
+            queries.old }
+        ensures adds { AddsAtMost tally.old tally.new
+            (times (length queries.old) (query_reads self.now)) }
+    {
+        ask_each(&self.levels, self.len, queries, tally);
+    }
+}
