@@ -1,12 +1,13 @@
 -- What queries that go level by level answer.
-use Rattle.std.proofs.Common.{◌≡◌, ℕ, ◌+◌, ◌*◌, ◌^◌, ◌<◌, ◌≤◌, Bool, true, false, leb, ltb, List, [], ◌∷◌, length, get_or, refl, sym, ap, ◌∙◌, arith}
-use Rattle.std.specs.Prelude.{Option, Some, None, option_map, slice_get, if◌then◌else◌}
+use Rattle.std.proofs.Common.{◌≡◌, ℕ, ◌+◌, ◌-◌, ◌*◌, ◌%◌, ◌^◌, ◌&&◌, ◌<◌, ◌≤◌, Bool, true, false, leb, ltb, List, [], ◌∷◌, length, get_or, refl, sym, ap, ◌∙◌, arith}
+use Rattle.std.specs.Prelude.{Option, Some, None, option_map, slice_get, IfSome, if◌then◌else◌}
 use Rattle.std.proofs.lemmas.Bool.Decides.{nat_tests}
 use Rattle.std.proofs.lemmas.Option.{slice_get-get_or, slice_get_past}
 use Rattle.vers_bits.specs.Bits.{bit_value}
-use Rattle.vers_wavelet.specs.Levels.{value, values, next}
-use Rattle.vers_wavelet.proofs.Values.{value_is, value_none, leb_yes}
-use Rattle.vers_wavelet.proofs.Lists.{length-values, get_or-values}
+use Rattle.vers_wavelet.specs.Levels.{value, values, next, way, digit, AreLevels}
+use Rattle.vers_wavelet.specs.Symbols.{occurrences}
+use Rattle.vers_wavelet.proofs.Values.{value_is, value_none, leb_yes, next-up, way_is, way_none}
+use Rattle.vers_wavelet.proofs.Lists.{length-values, get_or-values, count_is}
 
 leb_no : (a b : ℕ) → b < a → leb a b ≡ false
 leb_no a b h = grind (arith, nat_tests)
@@ -63,3 +64,50 @@ get_goes v ls p i number more b o is long bit e =
 pub get_ends : (o : Option ℕ) (p : ℕ) → o ≡ option_map (λ y. y + value [] p) o
 get_ends None p = refl
 get_ends (Some y) p = let e : y ≡ y + value [] p = omega (arith, value_none p) in ap Some e
+
+-- ---- occurrences counted
+
+pub rank_begins : {ls : List (List Bool)} {n : ℕ} → AreLevels ls n → (s end : ℕ) → end ≤ n
+    → way ls s end - way ls s (end - end) ≡ length (occurrences (values ls n) 0 end (s % 2 ^ length ls))
+rank_begins {ls} levels s end within =
+    let none : end - end ≡ 0 = omega arith in
+    ap (λ i. way ls s end - way ls s i) none ∙ count_is levels s 0 end (way ls s 0) (way ls s end) (omega arith) within (omega arith)
+
+-- an answer where two tests pass, and where one fails
+pub if_both : {X : Type 0} (a b c d : ℕ) (x : X) → a ≤ b → c ≤ d → Some x ≡ (if leb a b && leb c d then Some x else None)
+if_both a b c d x h l = sym (ap (λ t. if t && leb c d then Some x else None) (leb_yes a b h) ∙ ap (λ t. if t then Some x else None) (leb_yes c d l))
+
+pub if_first_fails : {X : Type 0} (a b c d : ℕ) (x : X) → b < a → None ≡ (if leb a b && leb c d then Some x else None)
+if_first_fails a b c d x h = sym (ap (λ t. if t && leb c d then Some x else None) (leb_no a b h))
+
+pub if_second_fails : {X : Type 0} (a b c d : ℕ) (x : X) → a ≤ b → d < c → None ≡ (if leb a b && leb c d then Some x else None)
+if_second_fails a b c d x h l = sym (ap (λ t. if t && leb c d then Some x else None) (leb_yes a b h) ∙ ap (λ t. if t then Some x else None) (leb_no c d l))
+
+-- where no place is left, none is on any level
+pub rank_rests : (o : Option ℕ) (c s end : ℕ) (ls ms : List (List Bool)) → o ≡ Some c → c ≡ 0
+    → option_map (λ c. way ls s end - way ls s (end - c)) o ≡ option_map (λ c. way ms s end - way ms s (end - c)) o
+rank_rests o c s end ls ms is none =
+    let e : o ≡ Some 0 = is ∙ ap Some none in
+    let same : end - 0 ≡ end = omega arith in
+    let left : way ls s end - way ls s (end - 0) ≡ 0 = omega (arith, ap (way ls s) same) in
+    let right : way ms s end - way ms s (end - 0) ≡ 0 = omega (arith, ap (way ms s) same) in
+    ap (option_map (λ c. way ls s end - way ls s (end - c))) e ∙ ap Some (left ∙ sym right) ∙ sym (ap (option_map (λ c. way ms s end - way ms s (end - c))) e)
+
+pub rank_goes : (v : List Bool) (ls : List (List Bool)) (s end c i start to : ℕ) (b : Bool) (o : Option ℕ) → o ≡ Some c → length ls ≡ i → b ≡ digit s i
+    → start ≡ next b v (end - c) → to ≡ next b v end
+    → Some (way ls s to - way ls s (to - (to - start))) ≡ option_map (λ c. way (v ∷ ls) s end - way (v ∷ ls) s (end - c)) o
+rank_goes v ls s end c i start to b o is long bit from last =
+    let up : start ≤ to = omega (arith, from, last, next-up b v (end - c) end (omega arith)) in
+    let back : to - (to - start) ≡ start = omega arith in
+    let same : b ≡ digit s (length ls) = bit ∙ ap (digit s) (sym long) in
+    let down = λ (j : ℕ). way_is v ls s j ∙ ap (λ d. way ls s (next d v j)) (sym same) in
+    let left : way ls s to ≡ way (v ∷ ls) s end = ap (way ls s) last ∙ sym (down end) in
+    let right : way ls s (to - (to - start)) ≡ way (v ∷ ls) s (end - c) = ap (way ls s) (back ∙ from) ∙ sym (down (end - c)) in
+    ap Some (ap (λ j. j - way ls s (to - (to - start))) left ∙ ap (λ j. way (v ∷ ls) s end - j) right)
+    ∙ sym (ap (option_map (λ c. way (v ∷ ls) s end - way (v ∷ ls) s (end - c))) is)
+
+pub rank_ends : (o : Option ℕ) (n s end : ℕ) → IfSome o (λ c. (c ≤ end) × (end ≤ n) × (0 ≤ 64)) → o ≡ option_map (λ c. way [] s end - way [] s (end - c)) o
+rank_ends None n s end kept = refl
+rank_ends (Some c) n s end kept =
+    let e : c ≡ way [] s end - way [] s (end - c) = omega (arith, kept.0, way_none s end, way_none s (end - c)) in
+    ap Some e

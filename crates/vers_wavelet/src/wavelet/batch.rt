@@ -6,8 +6,10 @@ ghost use Rattle.vers_wavelet.specs.Levels.{AreLevels};
 ghost use Rattle.vers_wavelet.specs.Batches.{Become};
 
 mod get;
+mod rank;
 
 pub use get::GetQuery;
+pub use rank::RankQuery;
 use std::alloc::Allocator;
 use vers_rank::fast_rs_vec::RsVec;
 use vers_tally::tally::Tally;
@@ -26,8 +28,10 @@ pub(super) trait Query: Copy {
     // The query before the first of some levels with `len` places.
     fn begin(self, levels: usize, len: usize) -> Self
         ensures keeps { keeps len levels result }
-        ensures same { (ls : List (List Bool)) → length ls ≡ levels
-            → outcome ls result ≡ meaning ls len self };
+        ensures same { (ls : List (List Bool)) → AreLevels ls len → length ls ≡ levels
+            → outcome ls result ≡ meaning ls len self }
+        ensures wide { 64 < levels → keeps len 0 result
+            × ((ls ms : List (List Bool)) → outcome ls result ≡ outcome ms result) };
 
     // The query after one level more, with `i` levels left.
     fn step<A: Allocator + Copy>(self, level: &RsVec<A>, i: usize, tally: &mut Tally) -> Self
@@ -42,7 +46,10 @@ pub(super) trait Query: Copy {
 #[inline(always)]
 fn begin_each<Q: Query>(queries: &mut [Q], levels: usize, len: usize)
     ensures { Become (λ q r. Q.keeps len levels r
-        × ((ls : List (List Bool)) → length ls ≡ levels → Q.outcome ls r ≡ Q.meaning ls len q))
+        × ((ls : List (List Bool)) → AreLevels ls len → length ls ≡ levels
+        → Q.outcome ls r ≡ Q.meaning ls len q)
+        × (64 < levels → Q.keeps len 0 r
+        × ((ls ms : List (List Bool)) → Q.outcome ls r ≡ Q.outcome ms r)))
         queries.old queries.new }
 {
     for j in 0..queries.len() {
@@ -70,7 +77,7 @@ fn step_each<A: Allocator + Copy, Q: Query>(
     }
 }
 
-// Asks all queries, level by level.
+// Asks all queries, level by level. Where the symbols are no numbers of the machine, no level is read.
 #[inline(always)]
 pub(super) fn ask_each<A: Allocator + Copy, Q: Query>(
     levels: &[RsVec<A>],
@@ -85,6 +92,9 @@ pub(super) fn ask_each<A: Allocator + Copy, Q: Query>(
         (times (length levels.now) (times (length queries.old) (times 2 rank_reads))) }
 {
     begin_each(queries, levels.len(), len);
+    if levels.len() > 64 {
+        return;
+    }
     for k in 0..levels.len() {
         step_each(&levels[k], levels.len() - (k + 1), queries, tally);
     }

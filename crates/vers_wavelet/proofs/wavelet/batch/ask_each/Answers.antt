@@ -10,7 +10,7 @@ pub loop-k-init : goal.loop-k-init
 loop-k-init g c =
     let none : length c.args.levels.now ≡ length c.args.levels.now - 0 = omega arith in
     record {
-      asked = become_weaker c.begin_each.ensures (λ q r t. (subst (λ (n : ℕ). g.Q.Query.keeps c.args.len n r) none t.0, t.1 c.args.levels.now refl));
+      asked = become_weaker c.begin_each.ensures (λ q r t. (subst (λ (n : ℕ). g.Q.Query.keeps c.args.len n r) none t.0, t.1 c.args.levels.now c.requires refl));
       adds = search rules;
     }
 
@@ -37,6 +37,12 @@ loop-k-preserved g c =
       adds = adds_once_more k c.loop-k.invariant.adds
           (subst (λ (n : ℕ). AddsAtMost c.loop-k.tally c.step_each.new.tally (times n (times 2 rank_reads))) c.loop-k.invariant.asked.long c.step_each.ensures.adds);
     }
+
+pub returns-then-levels-gt64-clause-each : goal.returns-then-levels-gt64-clause-each
+returns-then-levels-gt64-clause-each g c =
+    become_weaker c.begin_each.ensures (λ q r t.
+    let wide = t.2 c.if-levels-gt64.true in
+    (wide.0, wide.1 [] c.args.levels.now ∙ t.1 c.args.levels.now c.requires refl))
 
 pub returns-clause-each : goal.returns-clause-each
 returns-clause-each g c =

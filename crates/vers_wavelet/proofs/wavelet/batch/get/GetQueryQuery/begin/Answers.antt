@@ -5,14 +5,14 @@ use Rattle.vers_wavelet.proofs.wavelet.batch.get.GetQueryQuery.begin.Goals.{then
 
 pub returns-then-is_known-clause-same : goal.returns-then-is_known-clause-same
 returns-then-is_known-clause-same c =
-    λ ls e. elim c.if-levels-le64.branch [
+    λ ls levels e. elim c.if-levels-le64.branch [
       | then-levels-le64 w ↦ of_words (length ls) _ _ (omega (arith, e, w.if-levels-le64.true)) (get_begins ls c.args.len c.args.self.place (lt_passed _ _ w.is_known-is c.if-is_known.true))
       | else-levels-le64 w ↦ absurd (omega (arith, w.if-levels-le64.false, le_passed c.args.levels 64 w.is_known-is c.if-is_known.true))
     ]
 
 pub returns-else-is_known-clause-same : goal.returns-else-is_known-clause-same
 returns-else-is_known-clause-same c =
-    λ ls e. elim c.if-levels-le64.branch [
+    λ ls levels e. elim c.if-levels-le64.branch [
       | then-levels-le64 w ↦ of_words (length ls) _ _ (omega (arith, e, w.if-levels-le64.true)) (get_past ls c.args.len c.args.self.place (lt_failed _ _ w.is_known-is c.if-is_known.false))
       | else-levels-le64 w ↦ of_wide (length ls) _ (omega (arith, e, w.if-levels-le64.false))
     ]
