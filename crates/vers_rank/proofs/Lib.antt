@@ -1,3 +1,4 @@
+pub mod Batches
 pub mod Words
 pub mod ByteOnes
 pub mod BytePlaces

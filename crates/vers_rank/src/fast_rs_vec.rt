@@ -4,6 +4,7 @@ ghost use Rattle.vers_bits.specs.Bits.{bit_value, count, number, part, select};
 ghost use Rattle.vers_tally.specs.Reads.{AddsAtMost, one_more};
 ghost use Rattle.vers_rank.specs.Queries.{part_number_or_zero, superblock_count, index_size, get_reads, get_bits_reads, rank_reads, select_reads};
 
+mod batch;
 mod bit_set_iter;
 mod equality;
 mod iter;

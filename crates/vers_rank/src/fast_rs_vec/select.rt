@@ -48,9 +48,9 @@ impl FoundLimb {
 
 // A limb, and the number in it that a number of a block is.
 #[derive(Clone, Copy)]
-struct InLimb {
-    limb: usize,
-    rest: usize,
+pub(super) struct InLimb {
+    pub(super) limb: usize,
+    pub(super) rest: usize,
 }
 
 // Where a place stands: its limb with the word that the limb holds, and its place in the word.
@@ -182,7 +182,7 @@ impl<A: Allocator + Copy> RsVec<A> {
 
     // The number in a superblock that number `r`, which stands there, is.
     #[inline(always)]
-    fn number_in(&self, bit: bool, r: usize, s: usize, tally: &mut Tally) -> u16
+    pub(super) fn number_in(&self, bit: bool, r: usize, s: usize, tally: &mut Tally) -> u16
         requires within { SUPERBLOCK * s < length self.now }
         requires from { count bit self.now (SUPERBLOCK * s) ≤ r }
         requires to { r < count bit self.now (SUPERBLOCK * (s + 1)) }
@@ -282,7 +282,7 @@ impl<A: Allocator + Copy> RsVec<A> {
     // The superblock of number `r`.
     #[inline(always)]
     #[tactic(auto, using(crate::proofs::Selects::between))]
-    fn superblock_with(&self, bit: bool, r: usize, tally: &mut Tally) -> usize
+    pub(super) fn superblock_with(&self, bit: bool, r: usize, tally: &mut Tally) -> usize
         requires { r < count bit self.now (length self.now) }
         ensures within { SUPERBLOCK * result < length self.now }
         ensures from { count bit self.now (SUPERBLOCK * result) ≤ r }
@@ -434,7 +434,7 @@ impl<A: Allocator + Copy> RsVec<A> {
     // The block of number `r` of a superblock.
     #[inline(always)]
     #[tactic(auto, using(crate::proofs::Selects::within_superblock))]
-    fn block_with(
+    pub(super) fn block_with(
         &self,
         bit: bool,
         r: u16,
@@ -515,7 +515,7 @@ impl<A: Allocator + Copy> RsVec<A> {
 
     // The limb of number `r` of a block, and the number in it.
     #[inline(always)]
-    fn limb_in_block(
+    pub(super) fn limb_in_block(
         &self,
         bit: bool,
         r: usize,
@@ -543,7 +543,7 @@ impl<A: Allocator + Copy> RsVec<A> {
 
     // Where a number of a limb stands.
     #[inline(always)]
-    fn place_in_limb(&self, bit: bool, at: InLimb, tally: &mut Tally) -> InWord
+    pub(super) fn place_in_limb(&self, bit: bool, at: InLimb, tally: &mut Tally) -> InWord
         requires within { 64 * at.limb < length self.now }
         requires few { at.rest < held_in bit (limb self.now at.limb) 64 }
         requires some { held bit self.now (64 * at.limb) + at.rest
