@@ -15,9 +15,9 @@ use Rattle.vers_tally.specs.Reads.{Reads, AddsAtMost}
 use Rattle.vers_tally.proofs.PublicLaws.{adds_then}
 use Rattle.vers_rank.specs.Queries.{get_bits_reads}
 use Rattle.vers_trees.specs.inside.Scans.{HasNoRise, HasNoRiseBefore, falls, is_not_closed, rises, scan_reads}
-use Rattle.vers_trees.proofs.Scans.{rise_fits, fits_small, excess_near}
+use Rattle.vers_trees.proofs.Scans.{fits_small, forward_more, backward_more}
 use Rattle.vers_trees.proofs.Excess.{excess-zero, excess-nil, excess-open, excess-close}
-use Rattle.vers_trees.proofs.ByteScans.{length-part, excess-part}
+use Rattle.vers_trees.proofs.ByteScans.{length-part, excess-part, total_of}
 use Rattle.std.proofs.Math.Nat.{pow-suc}
 use lib.Count.{ones_step, ones-ones}
 
@@ -197,66 +197,24 @@ less_is target rise d f g low a b t =
 pub word_counted : (a b c : Reads) (n m : ℕ) → n + 2 ≤ m → AddsAtMost a b (scan_reads n) → AddsAtMost b c get_bits_reads → AddsAtMost a c (scan_reads m)
 word_counted a b c n m e p q = adds_then p q (record { data_words = omega arith; block_entries = omega arith; superblock_entries = omega arith; low_parts = omega arith; rank_calls = omega arith; items = omega arith; blocks = omega arith; nodes = omega arith; chunks = omega arith })
 
--- ---- the excess of a word
-whole : (a b n : ℕ) → a ≡ 0 + n → b + a ≡ 64 → pos a -ℤ pos b ≡ pos (2 * n) -ℤ pos 64
-whole a b n e f = omega (arith, ints)
-
-pub excess_of_word : (l : List Bool) (word : ℕ) → length l ≡ 64 → word ≡ number l → excess l 64 ≡ pos (2 * count_ones word) -ℤ pos 64
-unfolding excess limb
-excess_of_word l word h e =
-    let c = count_limb_whole l 0 in
-    let z = count_none true l in
-    let b = count_both l 64 in
-    let t : limb l 0 ≡ word = ap number (take_all 64 l (omega arith)) ∙ sym e in
-    let f = ap count_ones t in
-    whole (count true l 64) (count false l 64) (count_ones word) (omega arith) (omega arith)
-
--- ---- steps over a word
-pub word_fits : (l : List Bool) (p : ℕ) (d : ℤ) → p + 64 ≤ length l → length l < 2 ^ 63 → d ≡ excess (part l p 64) 64 → FitsSigned w64 d
-word_fits l p d h short e = rise_fits l p (p + 64) d short (omega arith) h (let f = excess-part l p 64 64 h (omega arith) in omega (arith, ints))
-
--- a word before the end of the list the rise is not near the least number
-pub rise_far : (l : List Bool) (from place : ℕ) (r rise : ℤ) → HasNoRise l from place r rise → from ≤ place → place + 64 ≤ length l → length l < 2 ^ 63 → negsuc 9223372036854775743 ≤ℤ rise
-rise_far l from place r rise p o h short =
-    let n = excess_near l from place o in let a = n.0 in let b = n.1 in let e = p.risen in
-    omega (arith, ints)
-
-pub fall_far : (l : List Bool) (place to : ℕ) (r rise : ℤ) → HasNoRiseBefore l place to r rise → 64 ≤ place → place ≤ to → to ≤ length l → length l < 2 ^ 63 → negsuc 9223372036854775743 ≤ℤ rise
-fall_far l place to r rise p some o h short =
-    let n = excess_near l place to o in let a = n.0 in let b = n.1 in let e = p.risen in
-    omega (arith, ints)
-
-pub forward_word_more : (l : List Bool) (from p : ℕ) (r rise total least : ℤ) → HasNoRise l from p r rise → from ≤ p → p + 64 ≤ length l → least ≡ pos (falls false (part l p 64)) → r <ℤ (rise -ℤ least) → total ≡ excess (part l p 64) 64
-    → HasNoRise l from (p + 64) r (rise +ℤ total)
-forward_word_more l from p r rise total least h o a f t e =
+-- ---- past a word
+pub forward_word : (l : List Bool) (from p : ℕ) (r rise d : ℤ) (word : ℕ) → HasNoRise l from p r rise → length l < 2 ^ 63 → from ≤ p → p + 64 ≤ length l → word ≡ number (part l p 64) → r <ℤ (rise -ℤ pos (falls false (part l p 64))) → d ≡ pos (2 * count_ones word) -ℤ pos 64
+    → FitsSigned w64 (rise +ℤ to_z w64 (of_z w64 d)) × HasNoRise l from (p + 64) r (to_z w64 (of_z w64 (rise +ℤ to_z w64 (of_z w64 d))))
+forward_word l from p r rise d word h short o a e f q = forward_more l from p (p + 64) r rise d h short o (omega arith) a (total_of l p 64 word d (omega arith) a e q) (λ k y z w.
     let ri = h.risen in
-    let g = excess-part l p 64 64 a (omega arith) in
-    record { risen = omega (arith, ints); none = λ k y z. go k y z (cases_lt k p) }
-  where
-    go : (k : ℕ) → from ≤ k → k < p + 64 → (k < p) ⊎ (p ≤ k) → excess l (k + 1) ≢ excess l from +ℤ r
-    go k y z (inl i) q = h.none k y i q
-    go k y z (inr i) q =
-        let ri = h.risen in
-        let g = excess-part l p 64 (k - p + 1) a (omega arith) in
-        let here : excess l (p + (k - p + 1)) ≡ excess l (k + 1) = ap (excess l) (let g : p + (k - p + 1) ≡ k + 1 = omega arith in g) in
-        let u = above false (part l p 64) (k - p + 1) in
-        absurd (omega (arith, ints))
+    let g = excess-part l p 64 (k - p + 1) a (omega arith) in
+    let here : excess l (p + (k - p + 1)) ≡ excess l (k + 1) = ap (excess l) (omega arith) in
+    let u = above false (part l p 64) (k - p + 1) in
+    absurd (omega (arith, ints)))
 
-pub backward_word_more : (l : List Bool) (p end : ℕ) (r rise total least : ℤ) → HasNoRiseBefore l (p + 64) end r rise → p + 64 ≤ end → end ≤ length l → least ≡ pos (rises (part l p 64)) → r <ℤ (rise -ℤ least) → total ≡ excess (part l p 64) 64
-    → HasNoRiseBefore l p end r (rise -ℤ total)
-backward_word_more l p end r rise total least h a b f t e =
+pub backward_word : (l : List Bool) (p end : ℕ) (r rise d : ℤ) (word : ℕ) → HasNoRiseBefore l (p + 64) end r rise → length l < 2 ^ 63 → p + 64 ≤ end → end ≤ length l → word ≡ number (part l p 64) → r <ℤ (rise -ℤ pos (rises (part l p 64))) → d ≡ pos (2 * count_ones word) -ℤ pos 64
+    → FitsSigned w64 (rise -ℤ to_z w64 (of_z w64 d)) × HasNoRiseBefore l p end r (to_z w64 (of_z w64 (rise -ℤ to_z w64 (of_z w64 d))))
+backward_word l p end r rise d word h short o a e f q = backward_more l p (p + 64) end r rise d h short (omega arith) o a (total_of l p 64 word d (omega arith) (omega arith) e q) (λ k y z w.
     let ri = h.risen in
-    let g = excess-part l p 64 64 (omega arith) (omega arith) in
-    record { risen = omega (arith, ints); none = λ k y z. go k y z (cases_lt k (p + 64)) }
-  where
-    go : (k : ℕ) → p ≤ k → k < end → (k < p + 64) ⊎ (p + 64 ≤ k) → excess l k ≢ excess l end +ℤ r
-    go k y z (inr i) q = h.none k i z q
-    go k y z (inl i) q =
-        let ri = h.risen in
-        let n = length-part l p 64 (omega arith) in
-        let same = ap (excess (part l p 64)) n in
-        let g64 = excess-part l p 64 64 (omega arith) (omega arith) in
-        let g = excess-part l p 64 (k - p) (omega arith) (omega arith) in
-        let here : excess l (p + (k - p)) ≡ excess l k = ap (excess l) (let g : p + (k - p) ≡ k = omega arith in g) in
-        let u = below (part l p 64) (k - p) (omega arith) in
-        absurd (omega (arith, ints))
+    let n = length-part l p 64 (omega arith) in
+    let same = ap (excess (part l p 64)) n in
+    let g64 = excess-part l p 64 64 (omega arith) (omega arith) in
+    let g = excess-part l p 64 (k - p) (omega arith) (omega arith) in
+    let here : excess l (p + (k - p)) ≡ excess l k = ap (excess l) (omega arith) in
+    let u = below (part l p 64) (k - p) (omega arith) in
+    absurd (omega (arith, ints)))

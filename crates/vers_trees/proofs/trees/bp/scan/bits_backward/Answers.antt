@@ -1,48 +1,38 @@
-use Rattle.std.proofs.Common.{ℤ, ◌-◌, ◌-ℤ◌, arith, w64, to_z, of_z, subst, sym, ap, ◌∙◌}
-use Rattle.std.proofs.lemmas.Int.{to_z-of_z}
+use Rattle.std.proofs.Common.{ℤ, pos, ◌-◌, ◌-ℤ◌, arith, w64, to_z, of_z, subst, sym, ap, ◌∙◌}
+use Rattle.std.proofs.lemmas.Int.{ints, to_z-of_z}
 use Rattle.vers_trees.specs.inside.Scans.{HasNoRiseBefore}
-use Rattle.vers_trees.proofs.Scans.{step_fits, minus_is, fall_more_fits, backward_found, backward_more, one_more_read}
+use Rattle.vers_trees.proofs.Scans.{step_fits, rise_fits, bit_is, backward_found, backward_bit, one_more_read}
 use Rattle.vers_trees.proofs.trees.bp.scan.bits_backward.Goals as goal
 
 pub overflow_sub-rise : goal.overflow_sub-rise
 overflow_sub-rise g c =
-    let f = step_fits _ c.step-rise.result c.step-rise.ensures in
-    let r = c.requires.passed in
-    let r1 = r.1 in let r2 = r.2 in
-    let hi = c.loop-place.invariant.high in
-    let was = c.loop-place.invariant.passed r.0 r.1 r.2 (rw (to_z-of_z w64 c.args.target c.ranges.target, to_z-of_z w64 c.args.rise c.ranges.rise) r.3) in
-    let lt = c.loop-place-test.true in
-    rw (to_z-of_z w64 c.step-rise.result f) (fall_more_fits _ c.loop-place.place _ _ (to_z w64 c.loop-place.rise-bits) c.step-rise.result _ was (omega arith) (omega arith) r.2 c.requires.short c.is_one_counted.ensures.value c.step-rise.ensures)
+    let r = c.requires.passed in let r1 = r.1 in let r2 = r.2 in let hi = c.loop-place.invariant.high in let lt = c.loop-place-test.true in
+    let was = c.loop-place.invariant.passed r.0 r1 r2 (rw (to_z-of_z w64 c.args.target c.ranges.target, to_z-of_z w64 c.args.rise c.ranges.rise) r.3) in
+    let ri = was.risen in
+    let s = bit_is c.args.bits.now (c.loop-place.place - 1) c.loop-place.place _ c.step-rise.result (omega arith) (omega arith) c.is_one_counted.ensures.value c.step-rise.ensures in
+    rw (to_z-of_z w64 c.step-rise.result (step_fits _ _ c.step-rise.ensures)) (rise_fits c.args.bits.now r.0 (c.loop-place.place - 1) _ c.requires.short r2 (omega arith) (omega (arith, ints)))
 
 pub returns-then-rise-target-clause-value : goal.returns-then-rise-target-clause-value
-returns-then-rise-target-clause-value g c =
-    let f = step_fits _ c.step-rise.result c.step-rise.ensures in
-    let r = c.requires.passed in
-    let r1 = r.1 in let r2 = r.2 in
-    let hi = c.loop-place.invariant.high in
-    let was = c.loop-place.invariant.passed r.0 r.1 r.2 (rw (to_z-of_z w64 c.args.target c.ranges.target, to_z-of_z w64 c.args.rise c.ranges.rise) r.3) in
-    let lt = c.loop-place-test.true in
-    let h = fall_more_fits _ c.loop-place.place _ _ (to_z w64 c.loop-place.rise-bits) c.step-rise.result _ was (omega arith) (omega arith) r.2 c.requires.short c.is_one_counted.ensures.value c.step-rise.ensures in
-    let e = minus_is (to_z w64 c.loop-place.rise-bits) c.step-rise.result f h in
+returns-then-rise-target-clause-value g c = λ to o n q.
+    let hi = c.loop-place.invariant.high in let lt = c.loop-place-test.true in
     let t = to_z-of_z w64 c.args.target c.ranges.target in
-    λ to o n q.
-    let p = subst (λ (z : ℤ). HasNoRiseBefore c.args.bits.now c.loop-place.place to z (to_z w64 c.loop-place.rise-bits)) t (c.loop-place.invariant.passed to o n (rw (to_z-of_z w64 c.args.target c.ranges.target, to_z-of_z w64 c.args.rise c.ranges.rise) q)) in
-    backward_found _ _ to c.loop-place.place _ _ c.step-rise.result _ p c.loop-place-test.true (omega arith) n c.is_one_counted.ensures.value c.step-rise.ensures (sym e ∙ ap (to_z w64) c.if-rise-target.true ∙ t)
+    let d = to_z-of_z w64 c.step-rise.result (step_fits _ _ c.step-rise.ensures) in
+    let p = subst (λ (z : ℤ). HasNoRiseBefore c.args.bits.now c.loop-place.place to z (to_z w64 c.loop-place.rise-bits)) t (c.loop-place.invariant.passed to o n (rw (t, to_z-of_z w64 c.args.rise c.ranges.rise) q)) in
+    let ri = p.risen in
+    let s = bit_is c.args.bits.now (c.loop-place.place - 1) c.loop-place.place _ c.step-rise.result (omega arith) (omega arith) c.is_one_counted.ensures.value c.step-rise.ensures in
+    let f = rise_fits c.args.bits.now to (c.loop-place.place - 1) (to_z w64 c.loop-place.rise-bits -ℤ c.step-rise.result) c.requires.short n (omega arith) (omega (arith, ints)) in
+    backward_found _ _ _ c.loop-place.place to _ _ (pos 0 -ℤ c.step-rise.result) p (omega arith) (omega arith) (λ k x y. absurd (omega arith)) (omega (arith, ints))
+    (omega (arith, ints, sym (to_z-of_z w64 _ f) ∙ ap (λ (z : ℤ). to_z w64 (of_z w64 (to_z w64 c.loop-place.rise-bits -ℤ z))) (sym d) ∙ ap (to_z w64) c.if-rise-target.true ∙ t))
 
 pub loop-place-preserved : goal.loop-place-preserved
 loop-place-preserved g c =
-    let f = step_fits _ c.step-rise.result c.step-rise.ensures in
-    let r = c.requires.passed in
-    let r1 = r.1 in let r2 = r.2 in
-    let hi = c.loop-place.invariant.high in
-    let was = c.loop-place.invariant.passed r.0 r.1 r.2 (rw (to_z-of_z w64 c.args.target c.ranges.target, to_z-of_z w64 c.args.rise c.ranges.rise) r.3) in
-    let lt = c.loop-place-test.true in
-    let h = fall_more_fits _ c.loop-place.place _ _ (to_z w64 c.loop-place.rise-bits) c.step-rise.result _ was (omega arith) (omega arith) r.2 c.requires.short c.is_one_counted.ensures.value c.step-rise.ensures in
-    let e = minus_is (to_z w64 c.loop-place.rise-bits) c.step-rise.result f h in
-    let t = to_z-of_z w64 c.args.target c.ranges.target in
+    let hi = c.loop-place.invariant.high in let lt = c.loop-place-test.true in let r2 = c.requires.passed.2 in let r1 = c.requires.passed.1 in
+    let d = to_z-of_z w64 c.step-rise.result (step_fits _ _ c.step-rise.ensures) in
+    let s = bit_is c.args.bits.now (c.loop-place.place - 1) c.loop-place.place _ c.step-rise.result (omega arith) (omega arith) c.is_one_counted.ensures.value c.step-rise.ensures in
     record {
       low = omega arith;
       high = omega arith;
-      passed = λ to o n q. rw e (backward_more _ to c.loop-place.place _ _ c.step-rise.result _ (c.loop-place.invariant.passed to o n q) (omega arith) (omega arith) n c.is_one_counted.ensures.value c.step-rise.ensures (λ z. c.if-rise-target.false (ap (of_z w64) (ap (λ (y : ℤ). to_z w64 c.loop-place.rise-bits -ℤ y) (to_z-of_z w64 c.step-rise.result f) ∙ z ∙ t))));
+      passed = λ to o n q. backward_bit _ _ c.loop-place.place to _ _ c.step-rise.result (c.loop-place.invariant.passed to o n q) c.requires.short (omega arith) n (omega arith) s
+          (λ z. c.if-rise-target.false (ap (of_z w64) (ap (λ (y : ℤ). to_z w64 c.loop-place.rise-bits -ℤ y) d ∙ z ∙ to_z-of_z w64 c.args.target c.ranges.target)));
       reads = one_more_read _ _ _ (c.args.end - c.loop-place.place) _ (omega arith) c.loop-place.invariant.reads c.is_one_counted.ensures.adds;
     }

@@ -1,7 +1,7 @@
 use Rattle.std.proofs.Common.{ℤ, ◌*◌, ◌/◌, ◌-◌, MatchResult, arith, w64, to_z, of_z, subst}
 use Rattle.std.proofs.lemmas.Int.{to_z-of_z}
 use Rattle.vers_trees.specs.inside.Scans.{IsLastRise, HasNoRiseBefore}
-use Rattle.vers_trees.proofs.Scans.{not_begun_back, fall_is, found_later}
+use Rattle.vers_trees.proofs.Scans.{not_begun_back, rise_is}
 use Rattle.vers_trees.proofs.trees.bp.scan.scan_backward.Goals as goal
 
 pub bytes_backward-requires-clause-passed : goal.bytes_backward-requires-clause-passed
@@ -10,19 +10,18 @@ bytes_backward-requires-clause-passed g c = (c.args.end, omega arith, c.requires
 pub returns-in-Ok-clause-value : goal.returns-in-Ok-clause-value
 returns-in-Ok-clause-value g c =
     let o = c.requires.order in let i = c.requires.inside in
-    let t = to_z-of_z w64 c.args.target c.ranges.target in
-    subst (λ (z : ℤ). IsLastRise c.args.bits.now c.args.from c.args.end z c.in-Ok.place) t (found_later _ c.args.from (c.args.end - (c.args.end - c.args.from) / 8 * 8) c.args.end _ _ (omega arith) (c.in-Ok.ensures.value c.args.end (omega arith) i (not_begun_back _ _ _)))
+    let p = rw (to_z-of_z w64 c.args.target c.ranges.target) at (c.in-Ok.ensures.value c.args.end (omega arith) i (not_begun_back _ _ _)) in
+    record { low = (let n = p.low in omega arith); inside = p.inside; sum = p.sum; last = p.last }
 
 pub bits_backward-requires-clause-passed : goal.bits_backward-requires-clause-passed
 bits_backward-requires-clause-passed g c =
     let o = c.requires.order in let i = c.requires.inside in
     let n = c.in-Err.ensures.value c.args.end (omega arith) i (not_begun_back _ _ _) in
-    (c.args.end, omega arith, i, rw (fall_is _ _ c.args.end _ c.in-Err.rise n (omega arith) i c.requires.short) n)
+    (c.args.end, omega arith, i, rw (rise_is c.args.bits.now c.args.end _ c.in-Err.rise c.requires.short i (omega arith) n.risen) n)
 
 pub returns-clause-value : goal.returns-clause-value
 returns-clause-value g c =
     let o = c.requires.order in let i = c.requires.inside in
-    let t = to_z-of_z w64 c.args.target c.ranges.target in
     let n = c.in-Err.ensures.value c.args.end (omega arith) i (not_begun_back _ _ _) in
-    let q : HasNoRiseBefore c.args.bits.now (c.args.end - (c.args.end - c.args.from) / 8 * 8) c.args.end (to_z w64 (of_z w64 c.args.target)) (to_z w64 (of_z w64 c.in-Err.rise)) = rw (fall_is _ _ c.args.end _ c.in-Err.rise n (omega arith) i c.requires.short) n in
-    subst (λ (z : ℤ). MatchResult c.bits_backward.result (λ place. IsLastRise c.args.bits.now c.args.from c.args.end z place) (λ rise. HasNoRiseBefore c.args.bits.now c.args.from c.args.end z rise)) t (c.bits_backward.ensures.value c.args.end (omega arith) i q)
+    let r = rise_is c.args.bits.now c.args.end _ c.in-Err.rise c.requires.short i (omega arith) n.risen in
+    rw (to_z-of_z w64 c.args.target c.ranges.target) at (c.bits_backward.ensures.value c.args.end (omega arith) i (rw r n))
