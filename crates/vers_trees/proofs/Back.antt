@@ -5,8 +5,8 @@ use Rattle.std.proofs.lemmas.Int.{ints, clamps, by_lt_z}
 use Rattle.std.proofs.lemmas.Bool.{cases_lt}
 use Rattle.std.proofs.Math.Nat.{eq-or-lt_of_le, pow-succ'}
 use Rattle.vers_trees.specs.declared.trees.bp.min_max.Node.{Node}
-use Rattle.vers_trees.specs.inside.MinMax.{IsInRange, IsInRangeOrStart, total_before, empty_node, Reaches, Meets, IsRange, Covers, IsMinMax, IsOddPart, LeadsBack, PassedBack, ComesBack, IsPreviousBefore}
-use Rattle.vers_trees.proofs.MinMax.{stands_children, parent_of_left, parent_of_right, stands_leaf, leaf_stands, stands_some, root_starts}
+use Rattle.vers_trees.specs.inside.MinMax.{IsInRange, IsInRangeOrStart, total_before, empty_node, Reaches, Meets, IsRange, Covers, StandsOver, IsMinMax, IsOddPart, LeadsBack, PassedBack, ComesBack, IsPreviousBefore}
+use Rattle.vers_trees.proofs.MinMax.{stands_children, parent_of_left, parent_of_right, stands_leaf, leaf_stands, stands_some, root_stands, covers_at}
 use Rattle.vers_trees.proofs.Blocks.{total_more}
 
 -- a sum in the range, with the start, is that of the start or in the range
@@ -53,30 +53,32 @@ range_meets blocks s e x t r c g q k a b n (inl z) = ⊎_elim
 pub back_fits : (first : ℕ) (nodes : List Node) (to : ℕ) (t : ℤ) (place : ℕ) (left : ℤ) (x : Node) → IsMinMax first nodes → LeadsBack first nodes to t place left → place < first → x ≡ get_or nodes (2 * place + 2) empty_node → FitsSigned w64 (left +ℤ x.total)
 back_fits first nodes to t place left x m p h e =
     let c = stands_children first place p.start p.stop p.stands h in
-    let y = m.covers (2 * place + 2) c.middle p.stop c.right in
-    let tot = y.total in let rem = p.remains in
-    let be = p.before in let wi = p.within in let lo = p.below in
-    let small = m.near c.middle p.found t (omega arith) p.meets in
-    let same : t -ℤ total_before (drop first nodes) c.middle ≡ left +ℤ (get_or nodes (2 * place + 2) empty_node).total = omega (arith, ints) in
-    rw e (subst (FitsSigned w64) same small)
+    let y = covers_at first nodes (2 * place + 2) c.middle p.stop x m e c.right in
+    let tot = y.total in let rem = p.remains in let be = p.before in let wi = p.within in let lo = p.below in
+    let same : t -ℤ total_before (drop first nodes) c.middle ≡ left +ℤ x.total = omega (arith, ints) in
+    rw same at (m.near c.middle p.found t (omega arith) p.meets)
 
 pub back_right : (first : ℕ) (nodes : List Node) (to : ℕ) (t : ℤ) (place : ℕ) (left : ℤ) (x : Node) → IsMinMax first nodes → LeadsBack first nodes to t place left → place < first → x ≡ get_or nodes (2 * place + 2) empty_node → IsInRangeOrStart x (left +ℤ x.total) → LeadsBack first nodes to t (2 * place + 2) left
 back_right first nodes to t place left x m p h e i =
     let c = stands_children first place p.start p.stop p.stands h in
-    let y = m.covers (2 * place + 2) c.middle p.stop c.right in
-    let y' : Covers (drop first nodes) c.middle p.stop x = subst (Covers (drop first nodes) c.middle p.stop) (sym e) y in
-    let tot = y'.total in let rem = p.remains in
-    let f = range_found (drop first nodes) c.middle p.stop x t (left +ℤ x.total) (stands_some first _ _ _ c.right) y' (omega (arith, ints)) i in
+    let y = covers_at first nodes (2 * place + 2) c.middle p.stop x m e c.right in
+    let tot = y.total in let rem = p.remains in
+    let f = range_found (drop first nodes) c.middle p.stop x t (left +ℤ x.total) (stands_some first _ _ _ c.right) y (omega (arith, ints)) i in
     record { start = c.middle; stop = p.stop; stands = c.right; before = p.before; within = p.within; remains = p.remains; none = p.none; found = f.0; from = f.1; below = f.2; meets = f.3 }
+
+-- no block of a node out of range meets the sum, and none past it
+none_in : (first : ℕ) (nodes : List Node) (s e to : ℕ) (t left : ℤ) (x : Node) → IsMinMax first nodes → Covers (drop first nodes) s e x → e ≤ to → to ≤ length (drop first nodes) → total_before (drop first nodes) e +ℤ left ≡ t → ((k : ℕ) → e ≤ k → k < to → Meets (drop first nodes) k t → ⊥) → (IsInRangeOrStart x (left +ℤ x.total) → ⊥) → (k : ℕ) → s ≤ k → k < to → Meets (drop first nodes) k t → ⊥
+none_in first nodes s e to t left x m y be wi rem none o k a b w = ⊎_elim
+    (λ (u : k < e). let tot = y.total in o (range_meets (drop first nodes) s e x t (left +ℤ x.total) y m.range (omega (arith, ints)) k a u (omega arith) w))
+    (λ (u : e ≤ k). none k u b w)
+    (cases_lt k e)
 
 pub back_left : (first : ℕ) (nodes : List Node) (to : ℕ) (t : ℤ) (place : ℕ) (left : ℤ) (x : Node) → IsMinMax first nodes → LeadsBack first nodes to t place left → place < first → x ≡ get_or nodes (2 * place + 2) empty_node → (IsInRangeOrStart x (left +ℤ x.total) → ⊥) → LeadsBack first nodes to t (2 * place + 1) (left +ℤ x.total)
 back_left first nodes to t place left x m p h e o =
     let c = stands_children first place p.start p.stop p.stands h in
-    let y = m.covers (2 * place + 2) c.middle p.stop c.right in
-    let y' : Covers (drop first nodes) c.middle p.stop x = subst (Covers (drop first nodes) c.middle p.stop) (sym e) y in
-    let tot = y'.total in let rem = p.remains in
-    let be = p.before in let wi = p.within in let lo = p.below in let ca = c.before in
-    let no : (k : ℕ) → c.middle ≤ k → k < p.stop → Meets (drop first nodes) k t → ⊥ = λ k a b w. o (range_meets (drop first nodes) c.middle p.stop x t (left +ℤ x.total) y' m.range (omega (arith, ints)) k a b (omega arith) w) in
+    let y = covers_at first nodes (2 * place + 2) c.middle p.stop x m e c.right in
+    let tot = y.total in let rem = p.remains in let be = p.before in let lo = p.below in let ca = c.before in
+    let no = none_in first nodes c.middle p.stop to t left x m y p.before p.within p.remains p.none o in
     record {
       start = p.start;
       stop = c.middle;
@@ -84,108 +86,35 @@ back_left first nodes to t place left x m p h e o =
       before = omega arith;
       within = p.within;
       remains = omega (arith, ints);
-      none = λ k a b w. ⊎_elim (λ (u : k < p.stop). no k a u w) (λ (u : p.stop ≤ k). p.none k u b w) (cases_lt k p.stop);
+      none = no;
       found = p.found;
       from = p.from;
-      below = ⊎_elim (λ (u : p.found < c.middle). u) (λ (u : c.middle ≤ p.found). absurd (no p.found u p.below p.meets)) (cases_lt p.found c.middle);
+      below = ⊎_elim (λ (u : p.found < c.middle). u) (λ (u : c.middle ≤ p.found). absurd (no p.found u (omega arith) p.meets)) (cases_lt p.found c.middle);
       meets = p.meets;
     }
 
 pub back_leaf : (first : ℕ) (nodes : List Node) (to : ℕ) (t : ℤ) (place : ℕ) (left : ℤ) → IsMinMax first nodes → LeadsBack first nodes to t place left → first ≤ place → IsPreviousBefore (drop first nodes) to t (place - first) left
 back_leaf first nodes to t place left m p h =
     let s = leaf_stands first place p.start p.stop p.stands h in
-    let s0 = s.0 in let s1 = s.1 in
-    let fr = p.from in let be = p.below in let bf = p.before in
+    let s0 = s.0 in let s1 = s.1 in let fr = p.from in let be = p.below in let bf = p.before in
     let here : p.found ≡ place - first = omega arith in
     let end : p.stop ≡ place - first + 1 = omega arith in
-    record {
-      before = omega arith;
-      remains = subst (λ (n : ℕ). total_before (drop first nodes) n +ℤ left ≡ t) end p.remains;
-      meets = subst (λ (n : ℕ). Meets (drop first nodes) n t) here p.meets;
-      last = λ k x y w. p.none k (omega arith) y w;
-    }
+    record { before = omega arith; remains = rw end at p.remains; meets = subst (λ (n : ℕ). Meets (drop first nodes) n t) here p.meets; last = λ k x y w. p.none k (omega arith) y w }
 
 -- ---- climbing
 pub rise_start : (first : ℕ) (nodes : List Node) (begin : ℕ) (r : ℤ) → IsMinMax first nodes → begin < length (drop first nodes) → PassedBack first nodes begin (total_before (drop first nodes) begin +ℤ r) (first + begin) r
 rise_start first nodes begin r m h =
     record { start = begin; stop = begin + 1; stands = stands_leaf first nodes m begin h; before = omega arith; within = omega arith; remains = refl; none = λ k a b w. omega arith }
 
-passed_back_found : (first : ℕ) (nodes : List Node) (to : ℕ) (t : ℤ) (j : ℕ) (left : ℤ) (x : Node) → IsMinMax first nodes → PassedBack first nodes to t (2 * j + 2) left → x ≡ get_or nodes (2 * j + 1) empty_node → IsInRangeOrStart x (left +ℤ x.total) → LeadsBack first nodes to t (2 * j + 1) left
-passed_back_found first nodes to t j left x m p e i =
-    let u = parent_of_right first j p.start p.stop p.stands in
-    let y = m.covers (2 * j + 1) u.0 p.start u.2 in
-    let y' : Covers (drop first nodes) u.0 p.start x = subst (Covers (drop first nodes) u.0 p.start) (sym e) y in
-    let tot = y'.total in let rem = p.remains in
-    let f = range_found (drop first nodes) u.0 p.start x t (left +ℤ x.total) (stands_some first _ _ _ u.2) y' (omega (arith, ints)) i in
-    record { start = u.0; stop = p.start; stands = u.2; before = p.before; within = p.within; remains = p.remains; none = p.none; found = f.0; from = f.1; below = f.2; meets = f.3 }
-
-passed_back_left : (first : ℕ) (nodes : List Node) (to : ℕ) (t : ℤ) (j : ℕ) (left : ℤ) (x : Node) → IsMinMax first nodes → PassedBack first nodes to t (2 * j + 2) left → x ≡ get_or nodes (2 * j + 1) empty_node → (IsInRangeOrStart x (left +ℤ x.total) → ⊥) → PassedBack first nodes to t j (left +ℤ x.total)
-passed_back_left first nodes to t j left x m p e o =
-    let u = parent_of_right first j p.start p.stop p.stands in
-    let y = m.covers (2 * j + 1) u.0 p.start u.2 in
-    let y' : Covers (drop first nodes) u.0 p.start x = subst (Covers (drop first nodes) u.0 p.start) (sym e) y in
-    let tot = y'.total in let rem = p.remains in let be = p.before in let wi = p.within in
-    let so = stands_some first _ _ _ u.2 in
-    record {
-      start = u.0;
-      stop = p.stop;
-      stands = u.1;
-      before = omega arith;
-      within = p.within;
-      remains = omega (arith, ints);
-      none = λ k a b w. ⊎_elim
-          (λ (v : k < p.start). o (range_meets (drop first nodes) u.0 p.start x t (left +ℤ x.total) y' m.range (omega (arith, ints)) k a v (omega arith) w))
-          (λ (v : p.start ≤ k). p.none k v b w)
-          (cases_lt k p.start);
-    }
-
-passed_back_same : (first : ℕ) (nodes : List Node) (to : ℕ) (t : ℤ) (j : ℕ) (left : ℤ) → PassedBack first nodes to t (2 * j + 1) left → PassedBack first nodes to t j left
-passed_back_same first nodes to t j left p =
-    let u = parent_of_left first j p.start p.stop p.stands in
-    record { start = p.start; stop = u.0; stands = u.1; before = p.before; within = p.within; remains = p.remains; none = p.none }
-
-passed_back_far : (first : ℕ) (nodes : List Node) (to : ℕ) (t : ℤ) (j : ℕ) (left : ℤ) (x : Node) → IsMinMax first nodes → PassedBack first nodes to t (2 * j + 2) left → x ≡ get_or nodes (2 * j + 1) empty_node → (FitsSigned w64 (left +ℤ x.total) → ⊥) → (k : ℕ) → k < to → Meets (drop first nodes) k t → ⊥
-passed_back_far first nodes to t j left x m p e long k a w =
-    let u = parent_of_right first j p.start p.stop p.stands in
-    let y = m.covers (2 * j + 1) u.0 p.start u.2 in
-    let y' : Covers (drop first nodes) u.0 p.start x = subst (Covers (drop first nodes) u.0 p.start) (sym e) y in
-    let tot = y'.total in let rem = p.remains in let wi = p.within in
-    let same : t -ℤ total_before (drop first nodes) u.0 ≡ left +ℤ x.total = omega (arith, ints) in
-    long (subst (FitsSigned w64) same (m.near u.0 k t (omega arith) w))
-
--- the same in the words of the code
-rise_found : (first : ℕ) (nodes : List Node) (to : ℕ) (t : ℤ) (place : ℕ) (left : ℤ) (x : Node) → IsMinMax first nodes → PassedBack first nodes to t place left → 0 < place → place % 2 ≡ 0 → x ≡ get_or nodes (place - 1) empty_node → IsInRangeOrStart x (left +ℤ x.total) → LeadsBack first nodes to t (place - 1) left
-rise_found first nodes to t place left x m p some even e i =
-    let here : place ≡ 2 * ((place - 2) / 2) + 2 = omega arith in
-    let next : place - 1 ≡ 2 * ((place - 2) / 2) + 1 = omega arith in
-    let p' = subst (λ (n : ℕ). PassedBack first nodes to t n left) here p in
-    let e' : x ≡ get_or nodes (2 * ((place - 2) / 2) + 1) empty_node = e ∙ ap (λ (n : ℕ). get_or nodes n empty_node) next in
-    subst (λ (n : ℕ). LeadsBack first nodes to t n left) (sym next) (passed_back_found first nodes to t ((place - 2) / 2) left x m p' e' i)
-
-rise_left : (first : ℕ) (nodes : List Node) (to : ℕ) (t : ℤ) (place : ℕ) (left : ℤ) (x : Node) → IsMinMax first nodes → PassedBack first nodes to t place left → 0 < place → place % 2 ≡ 0 → x ≡ get_or nodes (place - 1) empty_node → (IsInRangeOrStart x (left +ℤ x.total) → ⊥) → PassedBack first nodes to t ((place - 1) / 2) (left +ℤ x.total)
-rise_left first nodes to t place left x m p some even e o =
-    let here : place ≡ 2 * ((place - 2) / 2) + 2 = omega arith in
-    let next : place - 1 ≡ 2 * ((place - 2) / 2) + 1 = omega arith in
-    let p' = subst (λ (n : ℕ). PassedBack first nodes to t n left) here p in
-    let e' : x ≡ get_or nodes (2 * ((place - 2) / 2) + 1) empty_node = e ∙ ap (λ (n : ℕ). get_or nodes n empty_node) next in
-    subst (λ (n : ℕ). PassedBack first nodes to t n (left +ℤ x.total)) (let g : (place - 2) / 2 ≡ (place - 1) / 2 = omega arith in g) (passed_back_left first nodes to t ((place - 2) / 2) left x m p' e' o)
-
 rise_same : (first : ℕ) (nodes : List Node) (to : ℕ) (t : ℤ) (place : ℕ) (left : ℤ) → PassedBack first nodes to t place left → (place % 2 ≡ 0 → ⊥) → PassedBack first nodes to t ((place - 1) / 2) left
 rise_same first nodes to t place left p odd =
     let here : place ≡ 2 * ((place - 1) / 2) + 1 = omega arith in
-    passed_back_same first nodes to t ((place - 1) / 2) left (subst (λ (n : ℕ). PassedBack first nodes to t n left) here p)
+    let u = parent_of_left first ((place - 1) / 2) p.start p.stop (subst (λ (n : ℕ). StandsOver first n p.start p.stop) here p.stands) in
+    record { start = p.start; stop = u.0; stands = u.1; before = p.before; within = p.within; remains = p.remains; none = p.none }
 
-rise_too_far : (first : ℕ) (nodes : List Node) (to : ℕ) (t : ℤ) (place : ℕ) (left : ℤ) (x : Node) → IsMinMax first nodes → PassedBack first nodes to t place left → 0 < place → place % 2 ≡ 0 → x ≡ get_or nodes (place - 1) empty_node → (FitsSigned w64 (left +ℤ x.total) → ⊥) → (k : ℕ) → k < to → Meets (drop first nodes) k t → ⊥
-rise_too_far first nodes to t place left x m p some even e long =
-    let here : place ≡ 2 * ((place - 2) / 2) + 2 = omega arith in
-    let next : place - 1 ≡ 2 * ((place - 2) / 2) + 1 = omega arith in
-    let p' = subst (λ (n : ℕ). PassedBack first nodes to t n left) here p in
-    let e' : x ≡ get_or nodes (2 * ((place - 2) / 2) + 1) empty_node = e ∙ ap (λ (n : ℕ). get_or nodes n empty_node) next in
-    passed_back_far first nodes to t ((place - 2) / 2) left x m p' e' long
-
-rise_root : (first : ℕ) (nodes : List Node) (to : ℕ) (t : ℤ) (left : ℤ) → PassedBack first nodes to t 0 left → (k : ℕ) → k < to → Meets (drop first nodes) k t → ⊥
-rise_root first nodes to t left p k a w =
-    let s = root_starts first p.start p.stop p.stands in
+rise_root : (first : ℕ) (nodes : List Node) (to : ℕ) (t : ℤ) (place : ℕ) (left : ℤ) → PassedBack first nodes to t place left → place ≡ 0 → (k : ℕ) → k < to → Meets (drop first nodes) k t → ⊥
+rise_root first nodes to t place left p root k a w =
+    let s = (root_stands first p.start p.stop (subst (λ (n : ℕ). StandsOver first n p.start p.stop) root p.stands)).0 in
     p.none k (omega arith) a w
 
 -- up past the left children that the passed part begins with
@@ -198,31 +127,45 @@ comes_back first nodes to t place left odd p o = go o.zeros place p o.splits
         record {
           odd = λ some. omega arith;
           passed = λ some. subst (λ (n : ℕ). PassedBack first nodes to t n left) (let g : place ≡ odd - 2 + 1 = omega arith in g) p;
-          none = λ z. rise_root first nodes to t left (subst (λ (n : ℕ). PassedBack first nodes to t n left) (let g : place ≡ 0 = omega arith in g) p);
+          none = λ z. rise_root first nodes to t place left p (omega arith);
         }
     go (suc k) place p e =
         let twice : odd * 2 ^ suc k ≡ odd * (2 * 2 ^ k) = ap (λ (x : ℕ). odd * x) (pow-succ' 2 k) in
         go k ((place - 1) / 2) (rise_same first nodes to t place left p (λ u. omega arith)) (omega arith)
 
+-- a left child, beside the passed part
+record Left (first : ℕ) (nodes : List Node) (to : ℕ) (t : ℤ) (place : ℕ) (left : ℤ) (x : Node) : Type 0 where
+  pub passed : PassedBack first nodes to t (place + 1) left
+  pub start : ℕ
+  pub parent : StandsOver first ((place - 1) / 2) start passed.stop
+  pub stands : StandsOver first place start passed.start
+  pub covers : Covers (drop first nodes) start passed.start x
+
+left_of : (first : ℕ) (nodes : List Node) (to : ℕ) (t : ℤ) (place : ℕ) (left : ℤ) (x : Node) → IsMinMax first nodes → ComesBack first nodes to t place left → 0 < place → x ≡ get_or nodes place empty_node → Left first nodes to t place left x
+left_of first nodes to t place left x m c some e =
+    let v = c.odd some in let p = c.passed some in
+    let here : place + 1 ≡ 2 * ((place - 1) / 2) + 2 = omega arith in
+    let at : 2 * ((place - 1) / 2) + 1 ≡ place = omega arith in
+    let u = parent_of_right first ((place - 1) / 2) p.start p.stop (subst (λ (n : ℕ). StandsOver first n p.start p.stop) here p.stands) in
+    let s : StandsOver first place u.0 p.start = subst (λ (n : ℕ). StandsOver first n u.0 p.start) at u.2 in
+    record { passed = p; start = u.0; parent = u.1; stands = s; covers = covers_at first nodes place u.0 p.start x m e s }
+
 pub meets_before : (first : ℕ) (nodes : List Node) (to : ℕ) (t : ℤ) (place : ℕ) (left : ℤ) (x : Node) → IsMinMax first nodes → ComesBack first nodes to t place left → 0 < place → x ≡ get_or nodes place empty_node → IsInRangeOrStart x (left +ℤ x.total) → LeadsBack first nodes to t place left
 meets_before first nodes to t place left x m c some e i =
-    let v = c.odd some in
-    let here : place + 1 - 1 ≡ place = omega arith in
-    subst
-    (λ (n : ℕ). LeadsBack first nodes to t n left)
-    here
-    (rise_found first nodes to t (place + 1) left x m (c.passed some) (omega arith) (omega arith) (e ∙ ap (λ (n : ℕ). get_or nodes n empty_node) (sym here)) i)
+    let b = left_of first nodes to t place left x m c some e in let p = b.passed in
+    let tot = b.covers.total in let rem = p.remains in
+    let f = range_found (drop first nodes) b.start p.start x t (left +ℤ x.total) (stands_some first _ _ _ b.stands) b.covers (omega (arith, ints)) i in
+    record { start = b.start; stop = p.start; stands = b.stands; before = p.before; within = p.within; remains = p.remains; none = p.none; found = f.0; from = f.1; below = f.2; meets = f.3 }
 
 pub goes_on_before : (first : ℕ) (nodes : List Node) (to : ℕ) (t : ℤ) (place : ℕ) (left : ℤ) (x : Node) (odd : ℕ) → IsMinMax first nodes → ComesBack first nodes to t place left → 0 < place → x ≡ get_or nodes place empty_node → (IsInRangeOrStart x (left +ℤ x.total) → ⊥) → IsOddPart ((place - 1) / 2 + 1) odd → ComesBack first nodes to t (odd - 2) (left +ℤ x.total)
 goes_on_before first nodes to t place left x odd m c some e misses o =
-    let v = c.odd some in
-    let here : place ≡ place + 1 - 1 = omega arith in
-    let p = rise_left first nodes to t (place + 1) left x m (c.passed some) (omega arith) (omega arith) (e ∙ ap (λ (n : ℕ). get_or nodes n empty_node) here) misses in
-    let up : (place + 1 - 1) / 2 ≡ (place - 1) / 2 = omega arith in
-    comes_back first nodes to t ((place - 1) / 2) (left +ℤ x.total) odd (subst (λ (n : ℕ). PassedBack first nodes to t n (left +ℤ x.total)) up p) o
+    let b = left_of first nodes to t place left x m c some e in let p = b.passed in
+    let tot = b.covers.total in let rem = p.remains in let be = p.before in let so = stands_some first _ _ _ b.stands in
+    comes_back first nodes to t ((place - 1) / 2) (left +ℤ x.total) odd (record { start = b.start; stop = p.stop; stands = b.parent; before = omega arith; within = p.within; remains = omega (arith, ints); none = none_in first nodes b.start p.start to t left x m b.covers p.before p.within p.remains p.none misses }) o
 
 pub too_far_before : (first : ℕ) (nodes : List Node) (to : ℕ) (t : ℤ) (place : ℕ) (left : ℤ) (x : Node) → IsMinMax first nodes → ComesBack first nodes to t place left → 0 < place → x ≡ get_or nodes place empty_node → (FitsSigned w64 (left +ℤ x.total) → ⊥) → (k : ℕ) → k < to → Meets (drop first nodes) k t → ⊥
-too_far_before first nodes to t place left x m c some e long =
-    let v = c.odd some in
-    let here : place ≡ place + 1 - 1 = omega arith in
-    rise_too_far first nodes to t (place + 1) left x m (c.passed some) (omega arith) (omega arith) (e ∙ ap (λ (n : ℕ). get_or nodes n empty_node) here) long
+too_far_before first nodes to t place left x m c some e long k a w =
+    let b = left_of first nodes to t place left x m c some e in
+    let tot = b.covers.total in let rem = b.passed.remains in let wi = b.passed.within in
+    let same : t -ℤ total_before (drop first nodes) b.start ≡ left +ℤ x.total = omega (arith, ints) in
+    long (rw same at (m.near b.start k t (omega arith) w))

@@ -4,22 +4,15 @@ use Rattle.vers_trees.specs.declared.trees.bp.min_max.Node.{Node}
 use Rattle.vers_trees.specs.Forest.{IsBalanced}
 use Rattle.vers_trees.specs.inside.MinMax.{IsLevel, IsMinMax, Covers, empty_node}
 use Rattle.vers_trees.specs.inside.Index.{IsIndexed}
-use Rattle.vers_trees.proofs.MinMax.{stands_every, root_starts, root_stands}
+use Rattle.vers_trees.proofs.MinMax.{root}
 use Rattle.vers_trees.proofs.Build.{root_is_part}
 use Rattle.vers_trees.proofs.Blocks.{balanced_iff_root}
-
-root_covers : (first : ℕ) (nodes : List Node) → IsMinMax first nodes → Covers (drop first nodes) 0 (first + 1) (get_or nodes 0 empty_node)
-root_covers first nodes m =
-    let p = stands_every first m.height m.levels 0 0 (omega arith) (omega arith) in
-    let s = root_starts first p.0 p.1 p.2 in
-    let e = root_stands first p.0 p.1 p.2 in
-    subst (λ (n : ℕ). Covers (drop first nodes) n (first + 1) (get_or nodes 0 empty_node)) s (subst (λ (n : ℕ). Covers (drop first nodes) p.0 n (get_or nodes 0 empty_node)) e (m.covers 0 p.0 p.1 p.2))
 
 pub balanced_iff_level : (l : List Bool) (size first : ℕ) (nodes : List Node) (x : Node) → IsIndexed l size first nodes → 0 < length l → x ≡ get_or nodes 0 empty_node → IsBalanced l ↔ IsLevel x
 balanced_iff_level l size first nodes x i some e =
     let t = i.over some in
     let f = t.tree.fits in
-    let c = subst (Covers (drop first nodes) 0 (first + 1)) (sym e) (root_covers first nodes t.tree) in
+    let c : Covers (drop first nodes) 0 (first + 1) x = rw e (t.tree.covers 0 0 (first + 1) (root first t.tree.height t.tree.levels)) in
     let b = balanced_iff_root l x (root_is_part l size (drop first nodes) (first + 1) x t.blocks some f c) in
     (λ h. let r = b.0 h in record { total = r.0; least = r.1 }, λ h. b.1 (h.total, h.least))
 

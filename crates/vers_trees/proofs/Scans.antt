@@ -52,6 +52,10 @@ step_fits false d e = rw e (fits_small (negsuc 0) (omega (arith, ints)) (omega (
 pub as_stored : (P : ℤ → Type 0) (z y : ℤ) → z ≡ y → FitsSigned w64 y → P y → FitsSigned w64 z × P (to_z w64 (of_z w64 z))
 as_stored P z y e f p = rw e (f, rw (to_z-of_z w64 y f) p)
 
+-- what the machine has of a sum or a difference that was tested
+pub rest_is : (f : ℤ → ℤ) (x b : ℤ) → FitsSigned w64 x → FitsSigned w64 (f (to_z w64 (of_z w64 x))) × (b ≡ f (to_z w64 (of_z w64 x))) → to_z w64 (of_z w64 b) ≡ f x
+rest_is f x b h s = rw s.1 (to_z-of_z w64 _ s.0 ∙ ap f (to_z-of_z w64 x h))
+
 -- ---- stretches: none of the places from a on and before b has the sum t
 abbrev pub Misses : (ℕ → ℤ) → ℕ → ℕ → ℤ → Type 0
 Misses sum a b t = (k : ℕ) → a ≤ k → k < b → sum k ≢ t

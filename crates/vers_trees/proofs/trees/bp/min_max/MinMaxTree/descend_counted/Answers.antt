@@ -1,25 +1,14 @@
 use Rattle.std.proofs.Common.{rules, ◌≡◌, ℕ, ℤ, Bool, true, false, not, List, ◌*◌, ◌+◌, ◌-ℤ◌, arith, w64, FitsSigned, to_z, of_z, sym, ap, subst, ◌∙◌}
 use mir.Val.{bool_byte}
 use Rattle.std.proofs.lemmas.Int.{ints, to_z-of_z}
-use Rattle.vers_trees.specs.declared.trees.bp.min_max.Node.{Node}
-use Rattle.vers_trees.specs.inside.MinMax.{IsInRange, LeadsTo}
+use Rattle.vers_trees.specs.inside.MinMax.{IsInRange}
 use Rattle.vers_trees.proofs.Climbs.{step_left, step_right, leads_leaf}
 use Rattle.vers_trees.proofs.Steps.{no_nodes, read_down, down_ends}
 use Rattle.vers_trees.proofs.trees.bp.min_max.MinMaxTree.descend_counted.Goals as goal
 use Rattle.vers_trees.proofs.trees.bp.min_max.MinMaxTree.descend_counted.Goals.{then-is_past, else-is_past}
 
--- a test has one answer
-not_both : (x : Bool) → x ≡ true → x ≡ false → ⊥
-not_both true e f = absurd (cc)
-not_both false e f = absurd (cc)
-
-moved : (first : ℕ) (nodes : List Node) (from : ℕ) (t : ℤ) (place next : ℕ) (left : ℤ) → place ≡ next → LeadsTo first nodes from t place left → LeadsTo first nodes from t next left
-moved first nodes from t place next left e p = subst (λ (n : ℕ). LeadsTo first nodes from t n left) e p
-
 pub loop-node-init : goal.loop-node-init
-loop-node-init g c =
-    let f = to_z-of_z w64 c.args.left c.ranges.left in
-    rw f (record { leads = c.requires.leads; every = λ from t p. p; within = c.requires.within; reads = no_nodes _ _ })
+loop-node-init g c = rw (to_z-of_z w64 c.args.left c.ranges.left) (record { leads = c.requires.leads; every = λ from t p. p; within = c.requires.within; reads = no_nodes _ _ })
 
 pub returns-clause-found : goal.returns-clause-found
 returns-clause-found g c = λ from t p.
@@ -28,18 +17,17 @@ returns-clause-found g c = λ from t p.
 pub returns-clause-adds : goal.returns-clause-adds
 returns-clause-adds g c = down_ends _ _ c.loop-node.node c.args.self.now.first c.loop-node.invariant.within c.loop-node.invariant.reads
 
+-- a test has one answer
+misses : (result : Bool) (P : Type 0) → (P → result ≡ true) → result ≡ false → P → ⊥
+misses result P h e p = let t = h p in absurd (cc)
+
 pub overflow_sub-left : goal.overflow_sub-left
 overflow_sub-left g c =
-    let f : FitsSigned w64 c.node_counted-below.result.total = search rules in
-    let i = c.loop-node.invariant in
     elim c.if-is_past.branch [
-      | then-is_past b ↦
-          let no : IsInRange c.node_counted-below.result (to_z w64 c.loop-node.left-bits) → ⊥ = λ r. not_both c.reaches-is_past.result (c.reaches-is_past.ensures.1 r) b.if-is_past.true in
-          rw b.left-is (step_right _ _ _ _ _ _ c.node_counted-below.result c.requires.tree i.leads.2 c.loop-node-test.true c.node_counted-below.ensures.value no f).0
+      | then-is_past b ↦ rw b.left-is (step_right _ _ _ _ _ _ c.node_counted-below.result c.requires.tree c.loop-node.invariant.leads.2 c.loop-node-test.true c.node_counted-below.ensures.value (misses _ _ c.reaches-is_past.ensures.1 b.if-is_past.true) (search rules)).0
       | else-is_past b ↦
-          let l : FitsSigned w64 (to_z w64 c.loop-node.left-bits) = search rules in
           let z : to_z w64 c.loop-node.left-bits -ℤ to_z w64 c.if-is_past.left-bits ≡ to_z w64 c.loop-node.left-bits = (let q = b.left-is in omega (arith, ints)) in
-          subst (FitsSigned w64) (sym z) l
+          rw z (search rules)
     ]
 
 pub loop-node-preserved : goal.loop-node-preserved
@@ -48,26 +36,26 @@ loop-node-preserved g c =
     let i = c.loop-node.invariant in
     elim c.if-is_past.branch [
       | then-is_past b ↦
-          let no : IsInRange c.node_counted-below.result (to_z w64 c.loop-node.left-bits) → ⊥ = λ r. not_both c.reaches-is_past.result (c.reaches-is_past.ensures.1 r) b.if-is_past.true in
+          let no = misses _ _ c.reaches-is_past.ensures.1 b.if-is_past.true in
           let one : c.from.result ≡ 1 = c.from.ensures ∙ ap (λ (x : Bool). bool_byte (not x)) b.if-is_past.true in
           let at : 2 * c.loop-node.node + 2 ≡ 2 * c.loop-node.node + 1 + c.from.result = omega arith in
-          rw b.left-is (record {
-            leads = (i.leads.0, i.leads.1, moved _ _ _ _ _ _ _ at (step_right _ _ _ _ _ _ c.node_counted-below.result c.requires.tree i.leads.2 c.loop-node-test.true c.node_counted-below.ensures.value no f).1);
-            every = λ from t p. moved _ _ _ _ _ _ _ at (step_right _ _ _ _ _ _ c.node_counted-below.result c.requires.tree (i.every from t p) c.loop-node-test.true c.node_counted-below.ensures.value no f).1;
+          rw (b.left-is, ← at) (record {
+            leads = (i.leads.0, i.leads.1, (step_right _ _ _ _ _ _ c.node_counted-below.result c.requires.tree i.leads.2 c.loop-node-test.true c.node_counted-below.ensures.value no f).1);
+            every = λ from t p. (step_right _ _ _ _ _ _ c.node_counted-below.result c.requires.tree (i.every from t p) c.loop-node-test.true c.node_counted-below.ensures.value no f).1;
             within = omega arith;
-            reads = read_down _ _ _ c.loop-node.node (2 * c.loop-node.node + 1 + c.from.result) (omega arith) i.reads c.node_counted-below.ensures.adds;
+            reads = read_down _ _ _ c.loop-node.node (2 * c.loop-node.node + 2) (omega arith) i.reads c.node_counted-below.ensures.adds;
           })
       | else-is_past b ↦
           let l : FitsSigned w64 (to_z w64 c.loop-node.left-bits) = search rules in
           let z : to_z w64 c.loop-node.left-bits -ℤ to_z w64 c.if-is_past.left-bits ≡ to_z w64 c.loop-node.left-bits = (let q = b.left-is in omega (arith, ints)) in
-          let e : to_z w64 (of_z w64 (to_z w64 c.loop-node.left-bits -ℤ to_z w64 c.if-is_past.left-bits)) ≡ to_z w64 c.loop-node.left-bits = to_z-of_z w64 _ (subst (FitsSigned w64) (sym z) l) ∙ z in
+          let e : to_z w64 (of_z w64 (to_z w64 c.loop-node.left-bits -ℤ to_z w64 c.if-is_past.left-bits)) ≡ to_z w64 c.loop-node.left-bits = to_z-of_z w64 _ (rw z l) ∙ z in
           let r = c.reaches-is_past.ensures.0 b.if-is_past.false in
           let none : c.from.result ≡ 0 = c.from.ensures ∙ ap (λ (x : Bool). bool_byte (not x)) b.if-is_past.false in
           let at : 2 * c.loop-node.node + 1 ≡ 2 * c.loop-node.node + 1 + c.from.result = omega arith in
-          rw e (record {
-            leads = (i.leads.0, i.leads.1, moved _ _ _ _ _ _ _ at (step_left _ _ _ _ _ _ c.node_counted-below.result c.requires.tree i.leads.2 c.loop-node-test.true c.node_counted-below.ensures.value r));
-            every = λ from t p. moved _ _ _ _ _ _ _ at (step_left _ _ _ _ _ _ c.node_counted-below.result c.requires.tree (i.every from t p) c.loop-node-test.true c.node_counted-below.ensures.value r);
+          rw (e, ← at) (record {
+            leads = (i.leads.0, i.leads.1, step_left _ _ _ _ _ _ c.node_counted-below.result c.requires.tree i.leads.2 c.loop-node-test.true c.node_counted-below.ensures.value r);
+            every = λ from t p. step_left _ _ _ _ _ _ c.node_counted-below.result c.requires.tree (i.every from t p) c.loop-node-test.true c.node_counted-below.ensures.value r;
             within = omega arith;
-            reads = read_down _ _ _ c.loop-node.node (2 * c.loop-node.node + 1 + c.from.result) (omega arith) i.reads c.node_counted-below.ensures.adds;
+            reads = read_down _ _ _ c.loop-node.node (2 * c.loop-node.node + 1) (omega arith) i.reads c.node_counted-below.ensures.adds;
           })
     ]

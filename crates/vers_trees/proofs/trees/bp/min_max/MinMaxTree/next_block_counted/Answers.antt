@@ -3,32 +3,23 @@ use Rattle.std.proofs.lemmas.Int.{to_z-of_z}
 use Rattle.vers_trees.specs.declared.trees.bp.min_max.Node.{Node}
 use Rattle.vers_trees.specs.inside.MinMax.{total_before, IsInRange, Reaches, IsNextFrom}
 use Rattle.vers_trees.proofs.Climbs.{passed_start, comes_to, reaches_after, goes_on_after, too_far_after}
-use Rattle.vers_trees.proofs.MinMax.{stands_within}
+use Rattle.vers_trees.proofs.Scans.{rest_is}
 use Rattle.vers_trees.proofs.OddParts.{odd_most, digits_after}
 use Rattle.vers_trees.proofs.Steps.{no_nodes, read_up, up_ends, up_then_down, up_then_none}
 use Rattle.vers_trees.proofs.trees.bp.min_max.MinMaxTree.next_block_counted.Goals as goal
 
 pub returns-then-begin-self-clause-value : goal.returns-then-begin-self-clause-value
-returns-then-begin-self-clause-value g c = λ k a w.
-    let f = c.requires.tree.fits in let i = w.inside in let b = c.if-begin-self.true in
-    omega arith
+returns-then-begin-self-clause-value g c = λ k a w. let i = w.inside in omega arith
 
 pub node_after-node-requires : goal.node_after-node-requires
-node_after-node-requires g c = let s = c.requires.tree.short in omega arith
+node_after-node-requires g c = omega arith
 
 pub loop-node-init : goal.loop-node-init
 loop-node-init g c =
-    let b = c.requires.begins in
     let p = passed_start c.args.self.now.first c.args.self.now.nodes c.args.begin c.args.left c.requires.tree c.requires.begins in
     let o = c.node_after-node.ensures in
     let most = odd_most _ _ o in
-    let ends = o.ends in
-    let w = stands_within _ _ _ _ p.stands in
-    record {
-      comes = rw (to_z-of_z w64 c.args.left c.ranges.left) (comes_to _ _ _ _ _ _ _ c.requires.tree p o);
-      within = omega arith;
-      reads = no_nodes _ _;
-    }
+    record { comes = rw (to_z-of_z w64 c.args.left c.ranges.left) (comes_to _ _ _ _ _ _ _ c.requires.tree p o); within = omega arith; reads = no_nodes _ _ }
 
 pub returns-then-reaches-clause-adds : goal.returns-then-reaches-clause-adds
 returns-then-reaches-clause-adds g c =
@@ -36,42 +27,28 @@ returns-then-reaches-clause-adds g c =
     up_then_down _ _ _ _ c.args.self.now.first c.loop-node.node i.within c.loop-node-test.true i.reads c.node_counted-after.ensures.adds c.descend_counted.ensures.adds
 
 pub returns-clause-value : goal.returns-clause-value
-returns-clause-value g c = λ k a w.
-    let i = c.loop-node.invariant in
-    i.comes.none (omega arith) k a (subst (λ (z : ℤ). Reaches (drop c.args.self.now.first c.args.self.now.nodes) k (total_before (drop c.args.self.now.first c.args.self.now.nodes) (c.args.begin + 1) +ℤ z)) (sym (to_z-of_z w64 c.args.left c.ranges.left)) w)
+returns-clause-value g c = λ k a w. c.loop-node.invariant.comes.none (omega arith) k a (rw (to_z-of_z w64 c.args.left c.ranges.left) w)
 
 pub returns-clause-adds : goal.returns-clause-adds
 returns-clause-adds g c = up_ends _ _ c.args.self.now.first c.loop-node.node c.loop-node.invariant.within c.loop-node.invariant.reads
 
 pub descend_counted-requires-clause-leads : goal.descend_counted-requires-clause-leads
 descend_counted-requires-clause-leads g c =
-    let i = c.loop-node.invariant in
-    (_, _, reaches_after _ _ _ _ _ _ c.node_counted-after.result i.comes c.loop-node-test.true c.node_counted-after.ensures.value (c.reaches.ensures.0 c.if-reaches.true))
+    (_, _, reaches_after _ _ _ _ _ _ c.node_counted-after.result c.requires.tree c.loop-node.invariant.comes c.loop-node-test.true c.node_counted-after.ensures.value (c.reaches.ensures.0 c.if-reaches.true))
 
 pub descend_counted-requires-clause-within : goal.descend_counted-requires-clause-within
 descend_counted-requires-clause-within g c = c.loop-node.invariant.within
 
 pub returns-then-reaches-clause-value : goal.returns-then-reaches-clause-value
 returns-then-reaches-clause-value g c =
-    let i = c.loop-node.invariant in
-    let h = c.descend_counted.ensures.found _ _ (reaches_after _ _ _ _ _ _ c.node_counted-after.result i.comes c.loop-node-test.true c.node_counted-after.ensures.value (c.reaches.ensures.0 c.if-reaches.true)) in
-    subst (λ (z : ℤ). IsNextFrom (drop c.args.self.now.first c.args.self.now.nodes) (c.args.begin + 1) (total_before (drop c.args.self.now.first c.args.self.now.nodes) (c.args.begin + 1) +ℤ z) c.descend_counted.result.0 c.descend_counted.result.1) (to_z-of_z w64 c.args.left c.ranges.left) h
-
--- what is answered where there is none
-none_for : (blocks : List Node) (from : ℕ) (t : ℤ) (o : Option (ℕ × ℤ)) → o ≡ None → ((k : ℕ) → from ≤ k → Reaches blocks k t → ⊥) → MatchOption o ((k : ℕ) → from ≤ k → Reaches blocks k t → ⊥) (λ p. IsNextFrom blocks from t p.0 p.1)
-none_for blocks from t o e h = subst (λ (x : Option (ℕ × ℤ)). MatchOption x ((k : ℕ) → from ≤ k → Reaches blocks k t → ⊥) (λ p. IsNextFrom blocks from t p.0 p.1)) (sym e) h
-
--- what the code has of a difference that it has tested
-rest_is : (a x y b : ℤ) → y ≡ x → FitsSigned w64 (a -ℤ y) × (b ≡ a -ℤ y) → to_z w64 (of_z w64 b) ≡ a -ℤ x
-rest_is a x y b e s = to_z-of_z w64 b (subst (FitsSigned w64) (sym s.1) s.0) ∙ s.1 ∙ ap (λ (z : ℤ). a -ℤ z) e
+    let h = c.descend_counted.ensures.found _ _ (reaches_after _ _ _ _ _ _ c.node_counted-after.result c.requires.tree c.loop-node.invariant.comes c.loop-node-test.true c.node_counted-after.ensures.value (c.reaches.ensures.0 c.if-reaches.true)) in
+    rw (to_z-of_z w64 c.args.left c.ranges.left) at h
 
 pub returns-in_err-left-clause-value : goal.returns-in_err-left-clause-value
 returns-in_err-left-clause-value g c =
     let f : FitsSigned w64 c.node_counted-after.result.total = search rules in
-    let i = c.loop-node.invariant in
-    let no : IsInRange c.node_counted-after.result (to_z w64 c.loop-node.left-bits) → ⊥ = λ r. let h = c.reaches.ensures.1 r in let q = c.if-reaches.false in absurd (cc) in
-    let over = c.in_err-left.ensures in
-    none_for (drop c.args.self.now.first c.args.self.now.nodes) (c.args.begin + 1) _ _ c.from_residual.ensures (λ k a w. too_far_after _ _ _ _ _ _ c.node_counted-after.result c.requires.tree i.comes c.loop-node-test.true c.node_counted-after.ensures.value no (λ h. over (rw (to_z-of_z w64 c.node_counted-after.result.total f) h)) k a (subst (λ (z : ℤ). Reaches (drop c.args.self.now.first c.args.self.now.nodes) k (total_before (drop c.args.self.now.first c.args.self.now.nodes) (c.args.begin + 1) +ℤ z)) (sym (to_z-of_z w64 c.args.left c.ranges.left)) w))
+    rw c.from_residual.ensures (λ k a w. too_far_after _ _ _ _ _ _ c.node_counted-after.result c.requires.tree c.loop-node.invariant.comes c.loop-node-test.true c.node_counted-after.ensures.value
+    (λ r. let h = c.reaches.ensures.1 r in let q = c.if-reaches.false in absurd (cc)) (λ h. c.in_err-left.ensures (rw (to_z-of_z w64 c.node_counted-after.result.total f) h)) k a (rw (to_z-of_z w64 c.args.left c.ranges.left) w))
 
 pub returns-in_err-left-clause-adds : goal.returns-in_err-left-clause-adds
 returns-in_err-left-clause-adds g c =
@@ -79,26 +56,22 @@ returns-in_err-left-clause-adds g c =
     up_then_none _ _ _ c.args.self.now.first c.loop-node.node i.within c.loop-node-test.true i.reads c.node_counted-after.ensures.adds
 
 pub node_after-node-requires-in-loop-node : goal.node_after-node-requires-in-loop-node
-node_after-node-requires-in-loop-node g c = let s = c.requires.tree.short in let i = c.loop-node.invariant.within in omega arith
+node_after-node-requires-in-loop-node g c = omega arith
 
 pub loop-node-preserved : goal.loop-node-preserved
 loop-node-preserved g c =
     let f : FitsSigned w64 c.node_counted-after.result.total = search rules in
     let i = c.loop-node.invariant in
-    let wi = i.within in let ev = i.comes.even in
-    let no : IsInRange c.node_counted-after.result (to_z w64 c.loop-node.left-bits) → ⊥ = λ r. let h = c.reaches.ensures.1 r in let q = c.if-reaches.false in absurd (cc) in
-    let e = rest_is (to_z w64 c.loop-node.left-bits) c.node_counted-after.result.total _ c.in_ok-left.left (to_z-of_z w64 c.node_counted-after.result.total f) c.in_ok-left.ensures in
+    let e = rest_is (λ y. to_z w64 c.loop-node.left-bits -ℤ y) c.node_counted-after.result.total c.in_ok-left.left f c.in_ok-left.ensures in
     let o = c.node_after-node-in-loop-node.ensures in
     let most = odd_most _ _ o in
-    let up = digits_after _ _ c.loop-node-test.true ev o in
     record {
-      comes = rw e (goes_on_after _ _ _ _ _ _ c.node_counted-after.result _ c.requires.tree i.comes c.loop-node-test.true c.node_counted-after.ensures.value no o);
+      comes = rw e (goes_on_after _ _ _ _ _ _ c.node_counted-after.result _ c.requires.tree i.comes c.loop-node-test.true c.node_counted-after.ensures.value (λ r. let h = c.reaches.ensures.1 r in let q = c.if-reaches.false in absurd (cc)) o);
       within = omega arith;
-      reads = read_up _ _ _ c.args.self.now.first c.loop-node.node _ i.within up i.reads c.node_counted-after.ensures.adds;
+      reads = read_up _ _ _ c.args.self.now.first c.loop-node.node _ i.within (digits_after _ _ c.loop-node-test.true i.comes.even o) i.reads c.node_counted-after.ensures.adds;
     }
 
 pub loop-node-smaller : goal.loop-node-smaller
 loop-node-smaller g c =
-    let ev = c.loop-node.invariant.comes.even in
     let most = odd_most _ _ c.node_after-node-in-loop-node.ensures in
     omega arith
