@@ -14,7 +14,7 @@ use Rattle.vers_trees.proofs.Paired.{closes_rises, closes_paired}
 use Rattle.vers_trees.proofs.Pairs.{paired_from_contains}
 use Rattle.vers_trees.proofs.Counts.{count_agree, count_by-map, one_if, strictly_contains, contains_pair, pairs_around, pairs_within}
 use Rattle.vers_trees.proofs.Ancestors.{nested, IsAbove, above_from_before, parent_is_nearest, no_parent}
-use Rattle.vers_trees.proofs.NodeList.{HasPair, one_pair, closes_to, closing_is, ones_from, nodes_from_ones, last_node, no_last_node}
+use Rattle.vers_trees.proofs.NodeList.{HasPair, one_pair, closes_to, closing_is, ones_from, nodes_from_ones, opens, inside, last_node, no_last_node}
 
 -- ---- what a test tells
 pub refuted : {P : Type 0} → (b : Bool) → Decides b P → (P → ⊥) → b ≡ false
@@ -45,28 +45,20 @@ above_is_around F v t a h p =
 parent_found : (F : Forest) (v p : ℕ) → HasPair F v → IsAbove (text F) v 1 p → last_or None (proper_ancestors F v) ≡ Some p
 parent_found F v p h a =
     let r = above_is_around F v 1 p h a in
-    let q = r.2.closes in let qa = q.after in let qi = q.inside in
-    last_node F (λ w. is_proper_ancestor F w v) p (omega arith) (closes_rises (text F) p (closing F p) false q) ((proper_decides F p v).1 (r.0, r.1)) (λ w x y b.
-    refuted (is_proper_ancestor F w v) (proper_decides F w v) (λ (g : (w < v) × (closing F v < closing F w)).
-    let c = (one_pair F w y b).closes in
-    let g0 = g.0 in let g1 = g.1 in let ha = h.closes.after in
-    let s = parent_is_nearest (text F) v p w (closing F w) a c g0 (omega arith) in
-    omega arith))
+    last_node F _ _ (λ w. proper_decides F w v) p r.2 (r.0, r.1) (λ w x k g.
+    let g1 = g.1 in let ha = h.closes.after in
+    let s = parent_is_nearest (text F) v p w (closing F w) a k.closes g.0 (omega arith) in
+    omega arith)
 
 pub parent_is_search : (F : Forest) (v : ℕ) → HasPair F v → last_rise_before (text F) v (negsuc 0) ≡ parent F v
 unfolding parent
 parent_is_search F v h = go (last_rise_before (text F) v (negsuc 0)) refl
   where
     go : (o : Option ℕ) → last_rise_before (text F) v (negsuc 0) ≡ o → o ≡ last_or None (proper_ancestors F v)
-    go None e =
-        let ha = h.closes.after in let hi = h.closes.inside in
-        sym (no_last_node F (λ w. is_proper_ancestor F w v) (λ w y b.
-        refuted (is_proper_ancestor F w v) (proper_decides F w v) (λ (g : (w < v) × (closing F v < closing F w)).
-        let g1 = g.1 in
-        no_parent (text F) v w (closing F w) (before_none (text F) v (negsuc 0) (omega arith) e) (one_pair F w y b).closes g.0 (omega arith))))
-    go (Some p) e =
-        let s = before_some (text F) v (negsuc 0) p e in
-        sym (parent_found F v p h (above_from_before F v 1 p (omega arith) (closes_rises (text F) v (closing F v) false h.closes) s))
+    go None e = sym (no_last_node F _ _ (λ w. proper_decides F w v) (λ w k g.
+        let g1 = g.1 in let ha = h.closes.after in
+        no_parent (text F) v w (closing F w) (before_none (text F) v (negsuc 0) (inside F v h) e) k.closes g.0 (omega arith)))
+    go (Some p) e = sym (parent_found F v p h (above_from_before F v 1 p (omega arith) (opens F v h) (before_some (text F) v (negsuc 0) p e)))
 
 pub parent_above : (F : Forest) (v p : ℕ) → HasPair F v → parent F v ≡ Some p → IsAbove (text F) v 1 p
 parent_above F v p h e =

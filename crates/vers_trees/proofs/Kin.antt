@@ -17,8 +17,8 @@ use Rattle.vers_trees.proofs.Pairs.{contains_first, contains_later}
 use Rattle.vers_trees.proofs.Partners.{before_from_closes}
 use Rattle.vers_trees.proofs.Ancestors.{nested}
 use Rattle.vers_trees.proofs.Siblings.{same_around, last_of_siblings, first_of_siblings, first_child_above, last_child_closes, last_child_above}
-use Rattle.vers_trees.proofs.NodeList.{HasPair, one_pair, node_pair, closes_to, find_filtered, filter_filtered, first_filtered, first_node, no_first_node, last_node, no_last_node, option_decides}
-use Rattle.vers_trees.proofs.Around.{refuted, proper_decides, parent_around, above_parent, has_parent}
+use Rattle.vers_trees.proofs.NodeList.{HasPair, one_pair, node_pair, closes_to, opens, inside, first_in, no_first_in, last_node, no_last_node, next_in, no_next_in, previous_in, no_previous_in, option_decides}
+use Rattle.vers_trees.proofs.Around.{proper_decides, parent_around, above_parent, has_parent}
 
 -- whether w has this parent
 abbrev under : Forest → Option ℕ → ℕ → Bool
@@ -26,9 +26,6 @@ under F p w = option_eq eqb (parent F w) p
 
 under_decides : (F : Forest) (p : Option ℕ) (w : ℕ) → Decides (under F p w) (parent F w ≡ p)
 under_decides F p w = option_decides (parent F w) p
-
-same_some : (x y : ℕ) → Some x ≡ Some y → x ≡ y
-same_some x y e = cc
 
 -- tests that agree at each element keep the same elements
 filter_agree : {X : Type 0} → (p q : X → Bool) (xs : List X) → ((x : X) → Contains xs x → p x ≡ q x) → filter p xs ≡ filter q xs
@@ -60,16 +57,13 @@ unfolding nodes_under
 first_child_found F v h b =
     let ha = h.closes.after in let hi = h.closes.inside in
     let k = one_pair F (v + 1) (omega arith) b in
-    first_filtered (under F (Some v)) (nodes F)
-    ∙ first_node F (under F (Some v)) (v + 1) (omega arith) b ((under_decides F (Some v) (v + 1)).1 (above_parent F (v + 1) v k (first_child_above (text F) v (closing F v) h.closes b))) (λ w x c.
-    refuted (under F (Some v) w) (under_decides F (Some v) w) (λ (e : parent F w ≡ Some v).
-    let r = (parent_around F w v (one_pair F w (omega arith) c) e).0 in omega arith))
+    first_in F _ _ (under_decides F (Some v)) (v + 1) k (above_parent F (v + 1) v k (first_child_above (text F) v (closing F v) h.closes b)) (λ w x k e. let r = (parent_around F w v k e).0 in omega arith)
 
 -- nothing opens inside a tree that closes right after it opens
 no_child : (F : Forest) (v w : ℕ) → HasPair F v → get_or (text F) (v + 1) false ≡ false → HasPair F w → parent F w ≡ Some v → ⊥
 no_child F v w h b k e =
     let ha = h.closes.after in let hi = h.closes.inside in
-    let up = excess_after_open (text F) v false (omega arith) (closes_rises (text F) v (closing F v) false h.closes) in
+    let up = excess_after_open (text F) v false (omega arith) (opens F v h) in
     let down = excess_after_close (text F) (v + 1) false (omega arith) b in
     let r = parent_around F w v k e in let r0 = r.0 in let r1 = r.1 in let ka = k.closes.after in
     let s = h.closes.above (v + 1 + 1) (omega arith) (omega arith) in
@@ -77,64 +71,45 @@ no_child F v w h b k e =
 
 pub first_child_none : (F : Forest) (v : ℕ) → HasPair F v → get_or (text F) (v + 1) false ≡ false → first_of (children F v) ≡ None
 unfolding nodes_under
-first_child_none F v h b =
-    first_filtered (under F (Some v)) (nodes F)
-    ∙ no_first_node F (under F (Some v)) (λ w y c. refuted (under F (Some v) w) (under_decides F (Some v) w) (λ (e : parent F w ≡ Some v). no_child F v w h b (one_pair F w y c) e))
+first_child_none F v h b = no_first_in F _ _ (under_decides F (Some v)) (λ w k e. no_child F v w h b k e)
 
 pub last_child_none : (F : Forest) (v : ℕ) → HasPair F v → closing F v ≡ v + 1 → last_of (children F v) ≡ None
 unfolding nodes_under
-last_child_none F v h s =
-    let b : get_or (text F) (v + 1) false ≡ false = ap (λ (k : ℕ). get_or (text F) k false) (sym s) ∙ closes_falls (text F) v (closing F v) false h.closes in
-    no_last_node F (under F (Some v)) (λ w y c. refuted (under F (Some v) w) (under_decides F (Some v) w) (λ (e : parent F w ≡ Some v). no_child F v w h b (one_pair F w y c) e))
+last_child_none F v h s = no_last_node F _ _ (under_decides F (Some v)) (λ w k e. no_child F v w h (rw s at (closes_falls (text F) v (closing F v) false h.closes)) k e)
 
 -- the last child closes right before the node
 pub last_child_is_search : (F : Forest) (v c : ℕ) → HasPair F v → closing F v ≡ c + 1 → v < c → last_rise_before (text F) c (negsuc 0) ≡ last_of (children F v)
 unfolding nodes_under
 last_child_is_search F v c h s x =
-    let m : Closes (text F) v (c + 1) = subst (λ (k : ℕ). Closes (text F) v k) s h.closes in
+    let m : Closes (text F) v (c + 1) = rw s at h.closes in
     let mi = m.inside in
-    let b = last_child_closes (text F) v c m x in
-    let p = close_is_paired F c false (omega arith) b in
-    let q = paired_closes F p.0 c p.1 in
-    let qa = q.after in
+    let p = close_is_paired F c false (omega arith) (last_child_closes (text F) v c m x) in
+    let q = paired_closes F p.0 c p.1 in let qa = q.after in
     let after : v < p.0 = ⊎_elim
     (λ (e : p.0 ≡ v). let t = closes_once (text F) v c (c + 1) (subst (λ (k : ℕ). Closes (text F) k c) e q) m in absurd (omega arith))
     (λ (z : (p.0 < v) ⊎ (v < p.0)). ⊎_elim (λ (z : p.0 < v). let t = nested (text F) p.0 c v (c + 1) q m z (omega arith) in absurd (omega arith)) (λ (z : v < p.0). z) z)
     (cases_order p.0 v) in
-    let o = closes_rises (text F) p.0 c false q in
-    let k = one_pair F p.0 (omega arith) o in
+    let k = one_pair F p.0 (omega arith) (closes_rises (text F) p.0 c false q) in
     let pc = closes_to F p.0 c q in
     before_is (text F) c (negsuc 0) p.0 (before_from_closes (text F) p.0 c q)
-    ∙ sym (last_node F (under F (Some v)) p.0 (omega arith) o ((under_decides F (Some v) p.0).1 (above_parent F p.0 v k (last_child_above (text F) v c p.0 m q after))) (λ w y i d.
-    refuted (under F (Some v) w) (under_decides F (Some v) w) (λ (e : parent F w ≡ Some v).
-    let kw = one_pair F w i d in
+    ∙ sym (last_node F _ _ (under_decides F (Some v)) p.0 k (above_parent F p.0 v k (last_child_above (text F) v c p.0 m q after)) (λ w y kw e.
     let r = parent_around F w v kw e in let r1 = r.1 in let wa = kw.closes.after in
     let n = nested (text F) p.0 (closing F p.0) w (closing F w) k.closes kw.closes y (omega arith) in
-    let g = has_parent F w p.0 kw k y n in
-    let g2 = g.2 in let same = same_some g.0 v (sym g.1 ∙ e) in
-    omega arith)))
+    let g = has_parent F w p.0 kw k y n in let g2 = g.2 in
+    let same : Some g.0 ≡ Some v = sym g.1 ∙ e in let at : g.0 ≡ v = cc in
+    omega arith))
 
 -- ---- siblings
-next_test : (F : Forest) (v : ℕ) → next_of (siblings F v) v ≡ find (λ w. under F (parent F v) w && ltb v w) (nodes F)
-unfolding nodes_under
-next_test F v = find_filtered (under F (parent F v)) (λ w. ltb v w) (nodes F)
-
-next_decides : (F : Forest) (v w : ℕ) → Decides (under F (parent F v) w && ltb v w) ((parent F w ≡ parent F v) × (v < w))
-next_decides F v w = Decides-and (under F (parent F v) w) (ltb v w) (under_decides F (parent F v) w) (Decides-ltb v w)
-
 pub next_sibling_found : (F : Forest) (v : ℕ) → HasPair F v → closing F v + 1 < length (text F) → get_or (text F) (closing F v + 1) false ≡ true → next_of (siblings F v) v ≡ Some (closing F v + 1)
+unfolding nodes_under
 next_sibling_found F v h i b =
     let ha = h.closes.after in
     let k = one_pair F (closing F v + 1) i b in
-    next_test F v
-    ∙ first_node F (λ w. under F (parent F v) w && ltb v w) (closing F v + 1) i b ((next_decides F v (closing F v + 1)).1 (same_parent F v h k, omega arith)) (λ w x c.
-    refuted (under F (parent F v) w && ltb v w) (next_decides F v w) (λ (g : (parent F w ≡ parent F v) × (v < w)). not_beside F v w h (one_pair F w (omega arith) c) g.1 (omega arith) g.0))
+    next_in F _ _ (under_decides F (parent F v)) v (closing F v + 1) k (same_parent F v h k) (omega arith) (λ w y x k e. not_beside F v w h k y (omega arith) e)
 
 pub next_sibling_end : (F : Forest) (v : ℕ) → HasPair F v → length (text F) ≤ closing F v + 1 → next_of (siblings F v) v ≡ None
-next_sibling_end F v h i =
-    next_test F v
-    ∙ no_first_node F (λ w. under F (parent F v) w && ltb v w) (λ w y c.
-    refuted (under F (parent F v) w && ltb v w) (next_decides F v w) (λ (g : (parent F w ≡ parent F v) × (v < w)). not_beside F v w h (one_pair F w y c) g.1 (omega arith) g.0))
+unfolding nodes_under
+next_sibling_end F v h i = no_next_in F _ _ (under_decides F (parent F v)) v (λ w y k e. not_beside F v w h k y (let n = inside F w k in omega arith) e)
 
 -- what a tree's parent closes right after it has no later child
 last_beside : (F : Forest) (v w : ℕ) → HasPair F v → closing F v + 1 < length (text F) → get_or (text F) (closing F v + 1) false ≡ false → HasPair F w → closing F v < w → parent F w ≡ parent F v → ⊥
@@ -154,50 +129,28 @@ last_beside F v w h i b k x e =
     (eq-or-lt_of_le g2)
 
 pub next_sibling_none : (F : Forest) (v : ℕ) → HasPair F v → closing F v + 1 < length (text F) → get_or (text F) (closing F v + 1) false ≡ false → next_of (siblings F v) v ≡ None
-next_sibling_none F v h i b =
-    next_test F v
-    ∙ no_first_node F (λ w. under F (parent F v) w && ltb v w) (λ w y c.
-    refuted (under F (parent F v) w && ltb v w) (next_decides F v w) (λ (g : (parent F w ≡ parent F v) × (v < w)).
-    ⊎_elim
-    (λ (t : closing F v < w). last_beside F v w h i b (one_pair F w y c) t g.0)
-    (λ (t : w ≤ closing F v). not_beside F v w h (one_pair F w y c) g.1 t g.0)
-    (cases_lt (closing F v) w)))
-
-previous_test : (F : Forest) (v : ℕ) → previous_of (siblings F v) v ≡ last_or None (filter (λ w. under F (parent F v) w && ltb w v) (nodes F))
 unfolding nodes_under
-previous_test F v = ap (last_or None) (filter_filtered (under F (parent F v)) (λ w. ltb w v) (nodes F))
-
-previous_decides : (F : Forest) (v w : ℕ) → Decides (under F (parent F v) w && ltb w v) ((parent F w ≡ parent F v) × (w < v))
-previous_decides F v w = Decides-and (under F (parent F v) w) (ltb w v) (under_decides F (parent F v) w) (Decides-ltb w v)
+next_sibling_none F v h i b = no_next_in F _ _ (under_decides F (parent F v)) v (λ w y k e. ⊎_elim (λ (t : closing F v < w). last_beside F v w h i b k t e) (λ (t : w ≤ closing F v). not_beside F v w h k y t e) (cases_lt (closing F v) w))
 
 pub previous_sibling_first : (F : Forest) → previous_of (siblings F 0) 0 ≡ None
-previous_sibling_first F =
-    previous_test F 0
-    ∙ no_last_node F (λ w. under F (parent F 0) w && ltb w 0) (λ w y c.
-    refuted (under F (parent F 0) w && ltb w 0) (previous_decides F 0 w) (λ (g : (parent F w ≡ parent F 0) × (w < 0)). let g1 = g.1 in omega arith))
+unfolding nodes_under
+previous_sibling_first F = no_previous_in F _ _ (under_decides F (parent F 0)) 0 (λ w y k e. omega arith)
 
 pub previous_sibling_none : (F : Forest) (u : ℕ) → HasPair F (u + 1) → get_or (text F) u false ≡ true → previous_of (siblings F (u + 1)) (u + 1) ≡ None
+unfolding nodes_under
 previous_sibling_none F u h b =
     let p = above_parent F (u + 1) u h (first_of_siblings F u (closing F (u + 1)) h.closes b) in
-    previous_test F (u + 1)
-    ∙ no_last_node F (λ w. under F (parent F (u + 1)) w && ltb w (u + 1)) (λ w y c.
-    refuted (under F (parent F (u + 1)) w && ltb w (u + 1)) (previous_decides F (u + 1) w) (λ (g : (parent F w ≡ parent F (u + 1)) × (w < u + 1)).
-    let r = (parent_around F w u (one_pair F w y c) (g.0 ∙ p)).0 in let g1 = g.1 in omega arith))
+    no_previous_in F _ _ (under_decides F (parent F (u + 1))) (u + 1) (λ w y k e. let r = (parent_around F w u k (e ∙ p)).0 in omega arith)
 
 pub previous_sibling_is_search : (F : Forest) (u : ℕ) → HasPair F (u + 1) → get_or (text F) u false ≡ false → last_rise_before (text F) u (negsuc 0) ≡ previous_of (siblings F (u + 1)) (u + 1)
+unfolding nodes_under
 previous_sibling_is_search F u h b =
     let ha = h.closes.after in let hi = h.closes.inside in
     let p = close_is_paired F u false (omega arith) b in
-    let q = paired_closes F p.0 u p.1 in
-    let qa = q.after in
-    let o = closes_rises (text F) p.0 u false q in
-    let k = one_pair F p.0 (omega arith) o in
+    let q = paired_closes F p.0 u p.1 in let qa = q.after in
+    let k = one_pair F p.0 (omega arith) (closes_rises (text F) p.0 u false q) in
     let pc = closes_to F p.0 u q in
     let at : closing F p.0 + 1 ≡ u + 1 = omega arith in
     let same : parent F (u + 1) ≡ parent F p.0 = ap (parent F) (sym at) ∙ same_parent F p.0 k (subst (HasPair F) (sym at) h) in
     before_is (text F) u (negsuc 0) p.0 (before_from_closes (text F) p.0 u q)
-    ∙ sym (previous_test F (u + 1)
-    ∙ last_node F (λ w. under F (parent F (u + 1)) w && ltb w (u + 1)) p.0 (omega arith) o ((previous_decides F (u + 1) p.0).1 (sym same, omega arith)) (λ w y i c.
-    refuted (under F (parent F (u + 1)) w && ltb w (u + 1)) (previous_decides F (u + 1) w) (λ (g : (parent F w ≡ parent F (u + 1)) × (w < u + 1)).
-    let g1 = g.1 in
-    not_beside F p.0 w k (one_pair F w i c) y (omega arith) (g.0 ∙ same))))
+    ∙ sym (previous_in F _ _ (under_decides F (parent F (u + 1))) (u + 1) p.0 k (sym same) (omega arith) (λ w y x kw e. not_beside F p.0 w k kw y (omega arith) (e ∙ same)))

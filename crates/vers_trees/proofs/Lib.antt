@@ -7,7 +7,6 @@ pub mod Partners
 pub mod Grammar
 pub mod Ancestors
 pub mod Siblings
-pub mod LevelPlaces
 pub mod Counts
 pub mod NodeList
 pub mod Around

@@ -1,15 +1,14 @@
 -- The nodes of a forest are the places of the ones that it is written down with.
-use Rattle.std.proofs.Common.{◌≡◌, ℕ, zero, suc, ◌+◌, ◌<◌, Bool, true, false, cond, ◌&&◌, List, [], ◌∷◌, ◌++◌, map, length, get_or, Option, Some, None, eqb, arith, ⊎_elim, add-zero, zero-add, subst, sym, refl, ap, ◌∙◌}
+use Rattle.std.proofs.Common.{◌≡◌, ℕ, zero, suc, ◌+◌, ◌<◌, Bool, true, false, cond, ◌&&◌, List, [], ◌∷◌, ◌++◌, map, length, get_or, Option, Some, None, eqb, ltb, arith, ⊎_elim, add-zero, zero-add, subst, sym, refl, ap, ◌∙◌}
 use Rattle.std.specs.Prelude.{find, filter, slice_get, unwrap_or, option_map, Decides}
 use Rattle.std.specs.Option.{option_eq}
 use Rattle.std.specs.List.{Contains, range_with_len, last_or}
-use Rattle.std.proofs.lemmas.Bool.{cases_Bool}
-use Rattle.std.proofs.lemmas.Bool.Decides.{Decides-eqb}
+use Rattle.std.proofs.lemmas.Bool.Decides.{Decides-eqb, Decides-ltb, Decides-and}
 use Rattle.vers_bits.specs.Bits.{is_bit, places}
 use Rattle.vers_trees.specs.Forest.{Forest, none, tree, text, moved, pairs}
-use Rattle.vers_trees.specs.Nodes.{nodes, IsNode, closing}
-use Rattle.vers_trees.proofs.Searches.{find_is, none_find, last_below, last_of_range, last_below_is, none_last_below}
-use Rattle.vers_trees.proofs.Paired.{Closes, Paired, paired_closes, closes_paired, open_is_paired, closes_once}
+use Rattle.vers_trees.specs.Nodes.{nodes, IsNode, closing, first_of, next_of, previous_of}
+use Rattle.vers_trees.proofs.Searches.{find_is, none_find, last_is, none_last}
+use Rattle.vers_trees.proofs.Paired.{Closes, Paired, paired_closes, closes_paired, open_is_paired, closes_once, closes_rises}
 use Rattle.vers_trees.proofs.Pairs.{contains_first, contains_later, contains_map, contains_map_cases, contains_from_paired, paired_from_contains}
 
 -- the places of the ones of a list that begins at place a
@@ -154,38 +153,64 @@ first_filtered {X = X} t (x ∷ xs) = go (t x) (first_filtered t xs)
 abbrev node_test : Forest → (ℕ → Bool) → ℕ → Bool
 node_test F t v = get_or (text F) v false && t v
 
-passes : (F : Forest) (t : ℕ → Bool) (v : ℕ) → get_or (text F) v false ≡ true → t v ≡ true → node_test F t v ≡ true
-passes F t v a b = rw (a, b) refl
-
-fails : (F : Forest) (t : ℕ → Bool) (v : ℕ) → (get_or (text F) v false ≡ true → t v ≡ false) → node_test F t v ≡ false
-fails F t v h = ⊎_elim (λ (a : get_or (text F) v false ≡ true). let b = h a in rw (a, b) refl) (λ (a : get_or (text F) v false ≡ false). rw a refl) (cases_Bool (get_or (text F) v false))
+at_one : (F : Forest) (t : ℕ → Bool) (P : ℕ → Type 0) → ((w : ℕ) → Decides (t w) (P w)) → (w : ℕ) → Decides (node_test F t w) ((get_or (text F) w false ≡ true) × P w)
+at_one F t P d w = Decides-and (get_or (text F) w false) (t w) (λ e. e, λ e. e) (d w)
 
 find_node : (F : Forest) (t : ℕ → Bool) → find t (nodes F) ≡ find (node_test F t) (range_with_len 0 (length (text F)))
 unfolding places
 find_node F t = ap (find t) (nodes_are_ones F) ∙ find_filtered (λ p. is_bit true (get_or (text F) p false)) t (range_with_len 0 (length (text F)))
 
-last_node_below : (F : Forest) (t : ℕ → Bool) → last_or None (filter t (nodes F)) ≡ last_below (node_test F t) (length (text F))
+nodes_filtered : (F : Forest) (t : ℕ → Bool) → filter t (nodes F) ≡ filter (node_test F t) (range_with_len 0 (length (text F)))
 unfolding places
-last_node_below F t =
-    ap (λ (xs : List ℕ). last_or None (filter t xs)) (nodes_are_ones F)
-    ∙ ap (last_or None) (filter_filtered (λ p. is_bit true (get_or (text F) p false)) t (range_with_len 0 (length (text F))))
-    ∙ last_of_range (node_test F t) (length (text F))
+nodes_filtered F t = ap (filter t) (nodes_are_ones F) ∙ filter_filtered (λ p. is_bit true (get_or (text F) p false)) t (range_with_len 0 (length (text F)))
 
--- v is the first
-pub first_node : (F : Forest) (t : ℕ → Bool) (v : ℕ) → v < length (text F) → get_or (text F) v false ≡ true → t v ≡ true → ((w : ℕ) → w < v → get_or (text F) w false ≡ true → t w ≡ false) → find t (nodes F) ≡ Some v
-first_node F t v i b p n =
-    find_node F t ∙ find_is (node_test F t) 0 (length (text F)) v (record { from = omega arith; below = omega arith; passes = passes F t v b p; before = λ k x y. fails F t k (λ c. n k y c) })
+pub opens : (F : Forest) (v : ℕ) → HasPair F v → get_or (text F) v false ≡ true
+opens F v h = closes_rises (text F) v (closing F v) false h.closes
 
-pub no_first_node : (F : Forest) (t : ℕ → Bool) → ((w : ℕ) → w < length (text F) → get_or (text F) w false ≡ true → t w ≡ false) → find t (nodes F) ≡ None
-no_first_node F t n = find_node F t ∙ none_find (node_test F t) 0 (length (text F)) (λ k x y. fails F t k (λ c. n k (omega arith) c))
+pub inside : (F : Forest) (v : ℕ) → HasPair F v → v < length (text F)
+inside F v h = let a = h.closes.after in let i = h.closes.inside in omega arith
 
--- v is the last
-pub last_node : (F : Forest) (t : ℕ → Bool) (v : ℕ) → v < length (text F) → get_or (text F) v false ≡ true → t v ≡ true → ((w : ℕ) → v < w → w < length (text F) → get_or (text F) w false ≡ true → t w ≡ false) → last_or None (filter t (nodes F)) ≡ Some v
-last_node F t v i b p n =
-    last_node_below F t ∙ last_below_is (node_test F t) (length (text F)) v (record { below = i; passes = passes F t v b p; after = λ k x y. fails F t k (λ c. n k x y c) })
+-- v is the first, and the last, of the nodes that have P, by a test that decides it
+module _ (F : Forest) (t : ℕ → Bool) (P : ℕ → Type 0) (d : (w : ℕ) → Decides (t w) (P w)) where
+  pub first_node : (v : ℕ) → HasPair F v → P v → ((w : ℕ) → w < v → HasPair F w → P w → ⊥) → find t (nodes F) ≡ Some v
+  first_node v h p n =
+      let i = inside F v h in
+      find_node F t ∙ find_is (node_test F t) _ (at_one F t P d) 0 (length (text F)) v (record { from = omega arith; below = omega arith; holds = (opens F v h, p); first = λ k x y q. n k y (one_pair F k (omega arith) q.0) q.1 })
 
-pub no_last_node : (F : Forest) (t : ℕ → Bool) → ((w : ℕ) → w < length (text F) → get_or (text F) w false ≡ true → t w ≡ false) → last_or None (filter t (nodes F)) ≡ None
-no_last_node F t n = last_node_below F t ∙ none_last_below (node_test F t) (length (text F)) (λ k y. fails F t k (λ c. n k y c))
+  pub no_first_node : ((w : ℕ) → HasPair F w → P w → ⊥) → find t (nodes F) ≡ None
+  no_first_node n = find_node F t ∙ none_find (node_test F t) _ (at_one F t P d) 0 (length (text F)) (λ k x y q. n k (one_pair F k (omega arith) q.0) q.1)
+
+  pub last_node : (v : ℕ) → HasPair F v → P v → ((w : ℕ) → v < w → HasPair F w → P w → ⊥) → last_or None (filter t (nodes F)) ≡ Some v
+  last_node v h p n = ap (last_or None) (nodes_filtered F t) ∙ last_is (node_test F t) _ (at_one F t P d) (length (text F)) v (record { below = inside F v h; holds = (opens F v h, p); last = λ k x y q. n k x (one_pair F k y q.0) q.1 })
+
+  pub no_last_node : ((w : ℕ) → HasPair F w → P w → ⊥) → last_or None (filter t (nodes F)) ≡ None
+  no_last_node n = ap (last_or None) (nodes_filtered F t) ∙ none_last (node_test F t) _ (at_one F t P d) (length (text F)) (λ k y q. n k (one_pair F k y q.0) q.1)
+
+  pub first_in : (v : ℕ) → HasPair F v → P v → ((w : ℕ) → w < v → HasPair F w → P w → ⊥) → first_of (filter t (nodes F)) ≡ Some v
+  first_in v h p n = first_filtered t (nodes F) ∙ first_node v h p n
+
+  pub no_first_in : ((w : ℕ) → HasPair F w → P w → ⊥) → first_of (filter t (nodes F)) ≡ None
+  no_first_in n = first_filtered t (nodes F) ∙ no_first_node n
+
+-- the nearest of them after u, and before u
+module _ (F : Forest) (t : ℕ → Bool) (P : ℕ → Type 0) (d : (w : ℕ) → Decides (t w) (P w)) (u : ℕ) where
+  after_test : (w : ℕ) → Decides (t w && ltb u w) (P w × (u < w))
+  after_test w = Decides-and (t w) (ltb u w) (d w) (Decides-ltb u w)
+
+  before_test : (w : ℕ) → Decides (t w && ltb w u) (P w × (w < u))
+  before_test w = Decides-and (t w) (ltb w u) (d w) (Decides-ltb w u)
+
+  pub next_in : (v : ℕ) → HasPair F v → P v → u < v → ((w : ℕ) → u < w → w < v → HasPair F w → P w → ⊥) → next_of (filter t (nodes F)) u ≡ Some v
+  next_in v h p x n = find_filtered t (λ w. ltb u w) (nodes F) ∙ first_node F _ _ after_test v h (p, x) (λ w y k q. n w q.1 y k q.0)
+
+  pub no_next_in : ((w : ℕ) → u < w → HasPair F w → P w → ⊥) → next_of (filter t (nodes F)) u ≡ None
+  no_next_in n = find_filtered t (λ w. ltb u w) (nodes F) ∙ no_first_node F _ _ after_test (λ w k q. n w q.1 k q.0)
+
+  pub previous_in : (v : ℕ) → HasPair F v → P v → v < u → ((w : ℕ) → v < w → w < u → HasPair F w → P w → ⊥) → previous_of (filter t (nodes F)) u ≡ Some v
+  previous_in v h p x n = ap (last_or None) (filter_filtered t (λ w. ltb w u) (nodes F)) ∙ last_node F _ _ before_test v h (p, x) (λ w y k q. n w y q.1 k q.0)
+
+  pub no_previous_in : ((w : ℕ) → w < u → HasPair F w → P w → ⊥) → previous_of (filter t (nodes F)) u ≡ None
+  no_previous_in n = ap (last_or None) (filter_filtered t (λ w. ltb w u) (nodes F)) ∙ no_last_node F _ _ before_test (λ w k q. n w q.1 k q.0)
 
 -- whether two numbers or none are the same
 pub option_decides : (a b : Option ℕ) → Decides (option_eq eqb a b) (a ≡ b)
