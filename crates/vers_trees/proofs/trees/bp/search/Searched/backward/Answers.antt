@@ -1,4 +1,5 @@
-use Rattle.std.proofs.Common.{arith, ◌-◌, ◌∙◌}
+use Rattle.std.proofs.Common.{arith, w64, ◌-◌, ◌∙◌}
+use Rattle.std.proofs.lemmas.Int.{to_z-of_z}
 use Rattle.vers_trees.proofs.Finds.{found_last, previous_ends, previous_answer, none_previous, none_far_back, none_first, none_past_back}
 use Rattle.vers_trees.proofs.trees.bp.search.Searched.backward.Goals as goal
 use Rattle.vers_trees.proofs.trees.bp.search.Searched.backward.Goals.{then-i-eq0-via-then-i-eq0, then-i-eq0-via-else-i-eq0+then-i-len}
@@ -11,36 +12,32 @@ returns-then-i-eq0-clause-value g c =
     ]
 
 pub returns-in-Ok-clause-value : goal.returns-in-Ok-clause-value
-returns-in-Ok-clause-value g c =
-    found_last _ _ _ c.args.r _ c.ranges.r (let t = c.if-i-len.false in let v = c.len.ensures.value in omega arith) c.in-Ok.ensures.value
+returns-in-Ok-clause-value g c = found_last _ _ _ _ _ (omega arith) (rw (to_z-of_z w64 c.args.r c.ranges.r) at c.in-Ok.ensures.value)
 
 pub returns-in_err-left-clause-value : goal.returns-in_err-left-clause-value
 returns-in_err-left-clause-value g c =
-    let v = c.len.ensures.value in let t = c.if-i-len.false in let z = c.if-i-eq0.false in
-    c.from_residual.ensures ∙ none_far_back _ g.row.BLOCK_SIZE c.args.self.tree.now.first c.args.self.tree.now.nodes _ c.args.r c.in-Err.rise (record { indexed = c.requires; some = omega arith; inside = omega arith; fits = c.ranges.r; passed = c.in-Err.ensures.value }) c.in_err-left.ensures
+    c.from_residual.ensures ∙ none_far_back c.args.self.bits.now g.row.BLOCK_SIZE c.args.self.tree.now.first c.args.self.tree.now.nodes c.requires _ _ c.in-Err.rise (omega arith) (omega arith) c.ranges.r (rw (to_z-of_z w64 c.args.r c.ranges.r) at c.in-Err.ensures.value) c.in_err-left.ensures
 
 pub returns-in_err-previous-clause-value : goal.returns-in_err-previous-clause-value
 returns-in_err-previous-clause-value g c =
-    let v = c.len.ensures.value in let t = c.if-i-len.false in let z = c.if-i-eq0.false in
-    c.from_residual-in_err-previous.ensures ∙ none_previous _ g.row.BLOCK_SIZE c.args.self.tree.now.first c.args.self.tree.now.nodes _ c.args.r c.in-Err.rise c.in_ok-left.left (record { indexed = c.requires; some = omega arith; inside = omega arith; fits = c.ranges.r; passed = c.in-Err.ensures.value }) c.in_ok-left.ensures (let a = c.in_err-previous.ensures in a.value)
+    c.from_residual-in_err-previous.ensures ∙ none_previous c.args.self.bits.now g.row.BLOCK_SIZE c.args.self.tree.now.first c.args.self.tree.now.nodes c.requires _ _ c.in-Err.rise (omega arith) (omega arith) c.ranges.r (rw (to_z-of_z w64 c.args.r c.ranges.r) at c.in-Err.ensures.value) c.in_ok-left.left c.in_ok-left.ensures (let a = c.in_err-previous.ensures in a.value)
 
 pub overflow_mul-start : goal.overflow_mul-start
 overflow_mul-start g c =
     let e = previous_ends _ g.row.BLOCK_SIZE (c.args.i - 1) _ c.in_ok-previous.previous _ (let a = c.in_ok-previous.ensures in a.value) in
-    let v = c.len.ensures.value in let t = c.if-i-len.false in let s = c.requires.short in record { fits = omega arith }
+    record { fits = omega arith }
 
 pub overflow_add-start : goal.overflow_add-start
 overflow_add-start g c =
     let e = previous_ends _ g.row.BLOCK_SIZE (c.args.i - 1) _ c.in_ok-previous.previous _ (let a = c.in_ok-previous.ensures in a.value) in
-    let v = c.len.ensures.value in let t = c.if-i-len.false in let s = c.requires.short in record { fits = omega arith }
+    record { fits = omega arith }
 
 pub scan_backward-requires-2-clause-inside : goal.scan_backward-requires-2-clause-inside
 scan_backward-requires-2-clause-inside g c =
     let e = previous_ends _ g.row.BLOCK_SIZE (c.args.i - 1) _ c.in_ok-previous.previous _ (let a = c.in_ok-previous.ensures in a.value) in
-    let v = c.len.ensures.value in let t = c.if-i-len.false in let s = c.requires.short in omega arith
+    omega arith
 
 pub returns-clause-value : goal.returns-clause-value
 returns-clause-value g c =
-    let v = c.len.ensures.value in let t = c.if-i-len.false in let z = c.if-i-eq0.false in
     c.ok.ensures.value
-    ∙ previous_answer _ g.row.BLOCK_SIZE c.args.self.tree.now.first c.args.self.tree.now.nodes _ c.args.r c.in-Err.rise c.in_ok-left.left c.in_ok-previous.previous c.in_ok-previous.rest _ (record { indexed = c.requires; some = omega arith; inside = omega arith; fits = c.ranges.r; passed = c.in-Err.ensures.value }) c.in_ok-left.ensures (let a = c.in_ok-previous.ensures in a.value) c.scan_backward-2.ensures.value
+    ∙ previous_answer c.args.self.bits.now g.row.BLOCK_SIZE c.args.self.tree.now.first c.args.self.tree.now.nodes c.requires _ _ c.in-Err.rise (omega arith) (omega arith) c.ranges.r (rw (to_z-of_z w64 c.args.r c.ranges.r) at c.in-Err.ensures.value) c.in_ok-left.left c.in_ok-left.ensures c.in_ok-previous.previous c.in_ok-previous.rest _ (let a = c.in_ok-previous.ensures in a.value) c.scan_backward-2.ensures.value
