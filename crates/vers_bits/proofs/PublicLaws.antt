@@ -1,12 +1,12 @@
 -- The laws that proofs of other crates may cite. A crate above imports this file and no other of this folder.
 use Rattle.std.proofs.Common.{◌≡◌, ℕ, ◌+◌, ◌-◌, ◌*◌, ◌%◌, ◌/◌, ◌^◌, ◌<◌, ◌≤◌, min, suc, Bool, true, false, eqb, List, ◌∷◌, ◌++◌, length, map, take, drop, get_or, slice_get, Option, None, Some}
 use mir.Val.{bool_byte}
-use Rattle.std.specs.Prelude.{count_ones, filter, find}
+use Rattle.std.specs.Prelude.{count_ones, filter, find, flat_map}
 use Rattle.std.specs.Iterator.{YieldsFirst, YieldsLast, MakesProgress, item_count}
 use Rattle.std.specs.Int.{bit_at}
 use Rattle.std.specs.Int.Count.{count_leading_zeros}
 use Rattle.std.specs.List.{last_or}
-use Rattle.vers_bits.specs.Bits.{bit_value, number, low_bits, is_bit, count, places, select, place_after, place_before, limb}
+use Rattle.vers_bits.specs.Bits.{bit_value, number, low_bits, is_bit, count, places, select, place_after, place_before, limb, limbs, limb_count}
 use Rattle.vers_bits.specs.declared.walk.Span.{Span}
 use Rattle.vers_bits.specs.Walk.{TakesNth, TakesNthBack, TakesFirst, TakesLast, items_in}
 -- `IsPlace bit bits r p`: place p is number r of those that hold the bit
@@ -19,6 +19,8 @@ use Rattle.vers_bits.proofs.Count as Count
 use Rattle.vers_bits.proofs.Places as Places
 use Rattle.vers_bits.proofs.Neighbours as Neighbours
 use Rattle.vers_bits.proofs.BothEnds as BothEnds
+use Rattle.vers_bits.proofs.Equal as Equal
+use Rattle.vers_bits.proofs.Growing as Growing
 
 -- ---- counts
 
@@ -280,3 +282,26 @@ number_from f xs i j x h next is = Gather.number_from f xs i j x h next is
 pub limb_gathered : {X : Type 0} (f : X → Bool) (l more : List Bool) (rest front back : List X) (m w : ℕ) → front ≡ take m rest → back ≡ drop m rest
     → w ≡ number (map f front) → more ≡ l ++ low_bits w (length front) → more ++ map f back ≡ l ++ map f rest
 limb_gathered f l more rest front back m w first last word grown = Gather.limb_gathered f l more rest front back m w first last word grown
+
+-- ---- all limbs of a list
+
+-- they are as many as the bits fill, and number k of them is limb k
+pub length-limbs : (bits : List Bool) → length (limbs bits) ≡ limb_count (length bits)
+length-limbs = Equal.length-limbs
+
+pub get_or-limbs : (bits : List Bool) (k : ℕ) → k < limb_count (length bits) → get_or (limbs bits) k 0 ≡ limb bits k
+get_or-limbs = Equal.get_or-limbs
+
+-- lists of one length with the same limbs are one list
+pub equal_limbs : (xs ys : List Bool) → length xs ≡ length ys → limbs xs ≡ limbs ys → xs ≡ ys
+equal_limbs = Equal.equal_limbs
+
+-- ---- packed items
+
+-- items of k bits each take k bits each
+pub length-packed : {X : Type 0} (f : X → ℕ) (k : ℕ) (xs : List X) → length (flat_map (λ x. low_bits (f x) k) xs) ≡ length xs * k
+length-packed f k xs = Growing.length-packed f k xs
+
+-- the low bits of the number of some bits are the bits
+pub low_bits_of_part : (bits : List Bool) (p n : ℕ) → p + n ≤ length bits → low_bits (number (take n (drop p bits))) n ≡ take n (drop p bits)
+low_bits_of_part = Growing.low_bits_of_part

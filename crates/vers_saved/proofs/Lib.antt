@@ -1,0 +1,11 @@
+pub mod WordBytes
+pub mod Sums
+pub mod Orders
+pub mod Tests
+pub mod Forms
+pub mod SavedForms
+pub mod LimbLists
+pub mod RoundTrips
+pub mod SumTells
+pub mod Sources
+pub mod BitLists

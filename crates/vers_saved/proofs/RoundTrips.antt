@@ -1,0 +1,57 @@
+-- What was saved is loaded.
+use Rattle.std.proofs.Common.{◌≡◌, ℕ, ◌*◌, ◌+◌, ◌^◌, ◌<◌, ◌≤◌, Bool, true, false, List, length, refl, sym, ap, ◌∙◌, inl, inr, arith}
+use Rattle.std.specs.Prelude.{Option, None, Some, ◌⊎◌, ◌&&◌, nat_le}
+use Rattle.std.proofs.lemmas.Bool.{leb-true}
+use Rattle.vers_bits.specs.Bits.{limb_count}
+use Rattle.vers_saved.specs.declared.kind.Kind.{Kind}
+use Rattle.vers_saved.specs.declared.fault.LoadError.{LoadError}
+use Rattle.vers_saved.specs.declared.fault.LoadError.TheVariants.{Memory}
+use Rattle.vers_saved.specs.Format.{saved}
+use Rattle.vers_saved.specs.Faults.{takes_width, takes_count, item_bits, fault_of}
+use Rattle.vers_saved.specs.Kinds.{IsWhole}
+use Rattle.vers_saved.proofs.WordBytes.{length-bytes_of}
+use Rattle.vers_saved.proofs.SavedForms.{all_words, length-all_words, saved_has_no_fault, same_words}
+
+-- the bounds of a kind are words
+abbrev pub AreBounds : Kind → Type 0
+AreBounds kind = (kind.number < 2 ^ 64) × (kind.greatest_width < 2 ^ 64) × (kind.greatest_count < 2 ^ 64)
+
+and_second : (b c : Bool) → (b && c) ≡ true → c ≡ true
+and_second true c h = h
+and_second false c h = cc
+
+pub width_lt : (kind : Kind) (count width : ℕ) (words : List ℕ) → AreBounds kind → IsWhole kind count width words → width < 2 ^ 64
+width_lt kind count width words bounds whole =
+    omega (arith, bounds.1, leb-true width kind.greatest_width (and_second (nat_le kind.least_width width) (nat_le width kind.greatest_width) whole.wide))
+
+pub count_lt : (kind : Kind) (count width : ℕ) (words : List ℕ) → AreBounds kind → IsWhole kind count width words → count < 2 ^ 64
+count_lt kind count width words bounds whole =
+    omega (arith, bounds.2, leb-true count kind.greatest_count (and_second (nat_le kind.least_count count) (nat_le count kind.greatest_count) whole.many))
+
+-- a form has no fault
+pub no_fault_back : (kind : Kind) (bytes : List ℕ) (count width : ℕ) (words : List ℕ) → AreBounds kind → IsWhole kind count width words
+    → bytes ≡ saved kind.number count width words → fault_of kind bytes ≡ None
+no_fault_back kind bytes count width words bounds whole e =
+    ap (fault_of kind) e
+    ∙ saved_has_no_fault kind count width words bounds.0 (count_lt kind count width words bounds whole) (width_lt kind count width words bounds whole) whole
+
+-- so that only memory is lacking
+pub only_memory : (kind : Kind) (bytes : List ℕ) (e : LoadError) {P : Type 0} → fault_of kind bytes ≡ None → (fault_of kind bytes ≡ Some e) ⊎ ((e ≡ Memory) × P) → e ≡ Memory
+only_memory kind bytes e none refused = elim refused [
+  | inl some ↦ cc
+  | inr memory ↦ memory.0
+]
+
+-- one form is of one shape and the same words
+pub one_form : (kind : Kind) (bytes : List ℕ) (c w c' w' : ℕ) (xs ys : List ℕ) → AreBounds kind → IsWhole kind c w xs → IsWhole kind c' w' ys
+    → bytes ≡ saved kind.number c w xs → bytes ≡ saved kind.number c' w' ys → (c ≡ c') × (w ≡ w') × (xs ≡ ys)
+one_form kind bytes c w c' w' xs ys bounds hx hy e f =
+    same_words kind.number c w kind.number c' w' xs ys bounds.0 (count_lt kind c w xs bounds hx) (width_lt kind c w xs bounds hx)
+    bounds.0 (count_lt kind c' w' ys bounds hy) (width_lt kind c' w' ys bounds hy) hx.fit hy.fit (sym e ∙ f)
+
+-- how long a form is
+pub length-saved : (kind count width : ℕ) (words : List ℕ) → length (saved kind count width words) ≡ 8 * (length words + 6)
+unfolding saved
+length-saved kind count width words = length-bytes_of (all_words kind count width words) ∙ ap (λ m. 8 * m) (length-all_words kind count width words)
+
+pub ruleset sizes = (length-saved)

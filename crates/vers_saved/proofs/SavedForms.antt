@@ -1,0 +1,124 @@
+-- Saved forms have no fault, and tell what they are of.
+use Rattle.std.proofs.Common.{◌≡◌, ℕ, ◌+◌, ◌-◌, ◌*◌, ◌%◌, ◌^◌, ◌<◌, ◌||◌, Bool, true, false, List, [], ◌∷◌, ◌++◌, length, get_or, refl, sym, ap, ◌∙◌, inl, inr, arith}
+use Rattle.std.specs.Prelude.{None}
+use Rattle.std.proofs.lemmas.Bool.{cases_eq, eq-eqb, le-leb, lt-ltb}
+use Rattle.std.proofs.lemmas.List.{take_at, get_or_push, get_or-append_right, get_or_append_left, length-append, same_from_push}
+use Rattle.vers_bits.specs.Bits.{limb_count}
+use Rattle.vers_saved.specs.declared.TheConstants.{MAGIC, VERSION}
+use Rattle.vers_saved.specs.declared.fault.LoadError.{LoadError}
+use Rattle.vers_saved.specs.Format.{bytes_of, words_of, check_sum, head, with_sum, saved, saved_size}
+use Rattle.vers_saved.specs.declared.kind.Kind.{Kind}
+use Rattle.vers_saved.specs.Faults.{first_failing, item_bits, is_padded, is_summed, in_order, words_among, tests_of, fault_of}
+use Rattle.vers_saved.specs.Kinds.{EndsPadded, IsWhole}
+use Rattle.vers_saved.proofs.WordBytes.{AreWords, length-bytes_of, words_of-bytes_of, fit_cons, fit_append, fit_none}
+use Rattle.vers_saved.proofs.Sums.{check_sum-lt}
+use Rattle.vers_saved.proofs.Forms.{AllPassed}
+
+-- where each test is passed there is no fault
+pub none_failing : (tests : List (Bool × LoadError)) → AllPassed tests → first_failing tests ≡ None
+none_failing [] h = refl
+none_failing (t ∷ tests) h = rw h.0 (none_failing tests h.1)
+
+-- all words of a saved form
+abbrev pub all_words : ℕ → ℕ → ℕ → List ℕ → List ℕ
+all_words kind count width words = with_sum (head kind count width ++ words)
+
+pub all_fit : (kind count width : ℕ) (words : List ℕ) → kind < 2 ^ 64 → count < 2 ^ 64 → width < 2 ^ 64 → AreWords words → AreWords (all_words kind count width words)
+unfolding with_sum
+all_fit kind count width words k c w fit =
+    fit_append (head kind count width ++ words) (check_sum (head kind count width ++ words) ∷ [])
+    (fit_cons MAGIC (VERSION ∷ kind ∷ width ∷ count ∷ words) (omega arith) (fit_cons VERSION (kind ∷ width ∷ count ∷ words) (omega arith)
+    (fit_cons kind (width ∷ count ∷ words) k (fit_cons width (count ∷ words) w (fit_cons count words c fit)))))
+    (fit_cons (check_sum (head kind count width ++ words)) [] (check_sum-lt (head kind count width ++ words)) fit_none)
+
+pub length-all_words : (kind count width : ℕ) (words : List ℕ) → length (all_words kind count width words) ≡ length words + 6
+unfolding with_sum
+length-all_words kind count width words =
+    length-append (head kind count width ++ words) (check_sum (head kind count width ++ words) ∷ []) ∙ omega arith
+
+-- they pass the tests
+all_summed : (kind count width n : ℕ) (words : List ℕ) → length words ≡ limb_count n → is_summed n (all_words kind count width words) ≡ true
+unfolding is_summed with_sum
+all_summed kind count width n words e =
+    let long : length (head kind count width ++ words) ≡ limb_count n + 5 = omega arith in
+    eq-eqb _ _ (get_or_push (head kind count width ++ words) (check_sum (head kind count width ++ words)) 0 (limb_count n + 5) long
+    ∙ sym (ap check_sum (take_at (head kind count width ++ words) (check_sum (head kind count width ++ words) ∷ []) (limb_count n + 5) long)))
+
+or_left : (b c : Bool) → b ≡ true → (b || c) ≡ true
+or_left b c h = rw h refl
+
+or_right : (b c : Bool) → c ≡ true → (b || c) ≡ true
+or_right true c h = refl
+or_right false c h = h
+
+last_word : (kind count width n : ℕ) (words : List ℕ) → length words ≡ limb_count n → 0 < limb_count n
+    → get_or (all_words kind count width words) (limb_count n + 4) 0 ≡ get_or words (limb_count n - 1) 0
+unfolding with_sum
+last_word kind count width n words e some =
+    let place : limb_count n + 4 - 5 ≡ limb_count n - 1 = omega arith in
+    get_or_append_left (head kind count width ++ words) (check_sum (head kind count width ++ words) ∷ []) 0 (limb_count n + 4) (omega arith)
+    ∙ get_or-append_right (head kind count width) words 5 (limb_count n + 4) 0 refl (omega arith)
+    ∙ ap (λ m. get_or words m 0) place
+
+small_end : (n : ℕ) (words : List ℕ) → EndsPadded n words → (n % 64 ≡ 0 → ⊥) → get_or words (limb_count n - 1) 0 < 2 ^ (n % 64)
+small_end n words padded part = elim padded [
+  | inl whole ↦ absurd (part whole)
+  | inr small ↦ small
+]
+
+all_padded : (kind count width n : ℕ) (words : List ℕ) → length words ≡ limb_count n → EndsPadded n words → is_padded n (all_words kind count width words) ≡ true
+unfolding is_padded
+all_padded kind count width n words e padded = elim (cases_eq (n % 64) 0) [
+  | inl whole ↦ or_left _ _ (eq-eqb _ _ whole)
+  | inr part ↦
+      let small : get_or (all_words kind count width words) (limb_count n + 4) 0 < 2 ^ (n % 64) =
+      rw (last_word kind count width n words e (omega arith)) (small_end n words padded part) in
+      or_right _ _ (lt-ltb _ _ small)
+]
+
+-- the words between the head and the sum
+words_again : (kind count width n : ℕ) (words : List ℕ) → length words ≡ limb_count n → words_among n (all_words kind count width words) ≡ words
+unfolding with_sum
+words_again kind count width n words e = take_at words (check_sum (head kind count width ++ words) ∷ []) (limb_count n) e
+
+all_pass : (kind : Kind) (count width : ℕ) (words : List ℕ) → IsWhole kind count width words
+    → is_summed (count * item_bits kind width) (all_words kind.number count width words) ≡ true
+    → is_padded (count * item_bits kind width) (all_words kind.number count width words) ≡ true
+    → in_order kind.order (words_among (count * item_bits kind width) (all_words kind.number count width words)) ≡ true
+    → AllPassed (tests_of kind (saved_size (count * item_bits kind width)) (all_words kind.number count width words))
+unfolding with_sum
+all_pass kind count width words whole summed padded ordered = (
+  le-leb _ _ (omega arith),
+  (refl, (refl, (eq-eqb kind.number kind.number refl, (whole.wide, (whole.many, (le-leb _ _ whole.small,
+  (le-leb _ _ (omega arith), (le-leb _ _ (omega arith), (summed, (padded, (ordered, tt))))))))))),
+)
+
+pub saved_has_no_fault : (kind : Kind) (count width : ℕ) (words : List ℕ) → kind.number < 2 ^ 64 → count < 2 ^ 64 → width < 2 ^ 64 → IsWhole kind count width words
+    → fault_of kind (saved kind.number count width words) ≡ None
+unfolding fault_of saved
+saved_has_no_fault kind count width words k c w whole =
+    let back : words_of (bytes_of (all_words kind.number count width words)) ≡ all_words kind.number count width words =
+    words_of-bytes_of (all_words kind.number count width words) (all_fit kind.number count width words k c w whole.fit) in
+    let size : length (bytes_of (all_words kind.number count width words)) ≡ saved_size (count * item_bits kind width) =
+    length-bytes_of (all_words kind.number count width words) ∙ ap (λ m. 8 * m) (length-all_words kind.number count width words ∙ ap (λ m. m + 6) whole.counted) in
+    let summed : is_summed (count * item_bits kind width) (all_words kind.number count width words) ≡ true = all_summed kind.number count width (count * item_bits kind width) words whole.counted in
+    let padded : is_padded (count * item_bits kind width) (all_words kind.number count width words) ≡ true = all_padded kind.number count width (count * item_bits kind width) words whole.counted whole.padded in
+    let ordered : in_order kind.order (words_among (count * item_bits kind width) (all_words kind.number count width words)) ≡ true =
+    ap (in_order kind.order) (words_again kind.number count width (count * item_bits kind width) words whole.counted) ∙ whole.ordered in
+    ap (λ l. first_failing (tests_of kind (length (bytes_of (all_words kind.number count width words))) l)) back
+    ∙ ap (λ m. first_failing (tests_of kind m (all_words kind.number count width words))) size
+    ∙ none_failing (tests_of kind (saved_size (count * item_bits kind width)) (all_words kind.number count width words)) (all_pass kind count width words whole summed padded ordered)
+
+unsummed : (xs ys : List ℕ) → with_sum xs ≡ with_sum ys → xs ≡ ys
+unfolding with_sum
+unsummed xs ys e = (same_from_push xs ys (check_sum xs) (check_sum ys) e).0
+
+-- what one saved form is of
+pub same_words : (k c w k' c' w' : ℕ) (xs ys : List ℕ) → k < 2 ^ 64 → c < 2 ^ 64 → w < 2 ^ 64 → k' < 2 ^ 64 → c' < 2 ^ 64 → w' < 2 ^ 64 → AreWords xs → AreWords ys
+    → saved k c w xs ≡ saved k' c' w' ys → (c ≡ c') × (w ≡ w') × (xs ≡ ys)
+unfolding saved
+same_words k c w k' c' w' xs ys hk hc hw hk' hc' hw' fx fy e =
+    let words : all_words k c w xs ≡ all_words k' c' w' ys =
+    sym (words_of-bytes_of (all_words k c w xs) (all_fit k c w xs hk hc hw fx)) ∙ ap words_of e ∙ words_of-bytes_of (all_words k' c' w' ys) (all_fit k' c' w' ys hk' hc' hw' fy) in
+    let same : head k c w ++ xs ≡ head k' c' w' ++ ys = unsummed (head k c w ++ xs) (head k' c' w' ++ ys) words in
+    (cc, cc, cc)

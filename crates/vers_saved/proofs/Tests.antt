@@ -1,0 +1,102 @@
+-- The fault of bytes, by the tests in turn.
+use Rattle.std.proofs.Common.{◌≡◌, ℕ, ◌+◌, ◌*◌, ◌/◌, ◌<◌, ◌≤◌, Bool, true, false, cond, List, [], ◌∷◌, ◌++◌, length, get_or, refl, sym, ap, ◌∙◌, arith}
+use Rattle.std.specs.Prelude.{Option, None, Some, nat_le, map}
+use Rattle.std.specs.Simd.{first_chunks}
+use Rattle.std.proofs.lemmas.Bool.{le-leb}
+use Rattle.std.proofs.lemmas.Bool.Decides.{nat_tests}
+use Rattle.vers_saved.specs.declared.kind.Kind.{Kind}
+use Rattle.vers_saved.specs.declared.fault.LoadError.{LoadError}
+use Rattle.vers_saved.specs.declared.fault.LoadError.TheVariants.{TooShort, BadLength}
+use Rattle.vers_saved.specs.Format.{words_of, bytes_word, saved_size}
+use Rattle.vers_saved.specs.Faults.{first_failing, head_tests, body_tests, tests_of, fault_of, bits_said}
+use Rattle.vers_saved.proofs.WordBytes.{length-words_of}
+
+-- a test that fails, and one that holds
+fails : (b : Bool) (e : LoadError) (tests : List (Bool × LoadError)) → b ≡ false → first_failing ((b, e) ∷ tests) ≡ Some e
+fails true e tests h = cc
+fails false e tests h = refl
+
+holds : (b : Bool) (e : LoadError) (tests : List (Bool × LoadError)) → b ≡ true → first_failing ((b, e) ∷ tests) ≡ first_failing tests
+holds true e tests h = refl
+holds false e tests h = cc
+
+-- tests, and then others
+some_first : (b : Bool) (f e : LoadError) (rest more : Option LoadError) → (rest ≡ Some e → more ≡ Some e) → cond b rest (Some f) ≡ Some e → cond b more (Some f) ≡ Some e
+some_first true f e rest more step h = step h
+some_first false f e rest more step h = h
+
+fault_first : (xs ys : List (Bool × LoadError)) (e : LoadError) → first_failing xs ≡ Some e → first_failing (xs ++ ys) ≡ Some e
+fault_first [] ys e h = cc
+fault_first (x ∷ xs) ys e h = some_first x.0 x.1 e (first_failing xs) (first_failing (xs ++ ys)) (λ p. fault_first xs ys e p) h
+
+none_first : (b : Bool) (f : LoadError) (rest more last : Option LoadError) → (rest ≡ None → more ≡ last) → cond b rest (Some f) ≡ None → cond b more (Some f) ≡ last
+none_first true f rest more last step h = step h
+none_first false f rest more last step h = cc
+
+fault_then : (xs ys : List (Bool × LoadError)) → first_failing xs ≡ None → first_failing (xs ++ ys) ≡ first_failing ys
+fault_then [] ys h = refl
+fault_then (x ∷ xs) ys h = none_first x.0 x.1 (first_failing xs) (first_failing (xs ++ ys)) (first_failing ys) (λ p. fault_then xs ys p) h
+
+not_le : (m n : ℕ) → n < m → nat_le m n ≡ false
+not_le m n h = grind (arith, nat_tests)
+
+-- the tests after those of a head
+abbrev pub later_tests : Kind → ℕ → List ℕ → List (Bool × LoadError)
+later_tests kind size words =
+    (nat_le (saved_size (bits_said kind words)) size, TooShort) ∷ (nat_le size (saved_size (bits_said kind words)), BadLength) ∷ body_tests kind.order (bits_said kind words) words
+
+pub few_bytes : (kind : Kind) (size : ℕ) (words : List ℕ) → size < 48 → first_failing (tests_of kind size words) ≡ Some TooShort
+few_bytes kind size words h = fails (nat_le 48 size) TooShort (head_tests kind words ++ later_tests kind size words) (not_le 48 size h)
+
+past_head : (kind : Kind) (size : ℕ) (words : List ℕ) → 48 ≤ size → first_failing (head_tests kind words) ≡ None
+    → first_failing (tests_of kind size words) ≡ first_failing (later_tests kind size words)
+past_head kind size words h none =
+    holds (nat_le 48 size) TooShort (head_tests kind words ++ later_tests kind size words) (le-leb 48 size h) ∙ fault_then (head_tests kind words) (later_tests kind size words) none
+
+pub bad_head : (kind : Kind) (size : ℕ) (words : List ℕ) (e : LoadError) → 48 ≤ size → first_failing (head_tests kind words) ≡ Some e → first_failing (tests_of kind size words) ≡ Some e
+bad_head kind size words e h bad =
+    holds (nat_le 48 size) TooShort (head_tests kind words ++ later_tests kind size words) (le-leb 48 size h) ∙ fault_first (head_tests kind words) (later_tests kind size words) e bad
+
+pub too_short : (kind : Kind) (size : ℕ) (words : List ℕ) → 48 ≤ size → first_failing (head_tests kind words) ≡ None → size < saved_size (bits_said kind words)
+    → first_failing (tests_of kind size words) ≡ Some TooShort
+too_short kind size words h none short =
+    past_head kind size words h none
+    ∙ fails (nat_le (saved_size (bits_said kind words)) size) TooShort
+    ((nat_le size (saved_size (bits_said kind words)), BadLength) ∷ body_tests kind.order (bits_said kind words) words) (not_le (saved_size (bits_said kind words)) size short)
+
+long_enough : (kind : Kind) (size : ℕ) (words : List ℕ) → 48 ≤ size → first_failing (head_tests kind words) ≡ None → saved_size (bits_said kind words) ≤ size
+    → first_failing (tests_of kind size words) ≡ first_failing ((nat_le size (saved_size (bits_said kind words)), BadLength) ∷ body_tests kind.order (bits_said kind words) words)
+long_enough kind size words h none long =
+    past_head kind size words h none
+    ∙ holds (nat_le (saved_size (bits_said kind words)) size) TooShort
+    ((nat_le size (saved_size (bits_said kind words)), BadLength) ∷ body_tests kind.order (bits_said kind words) words) (le-leb (saved_size (bits_said kind words)) size long)
+
+pub too_long : (kind : Kind) (size : ℕ) (words : List ℕ) → 48 ≤ size → first_failing (head_tests kind words) ≡ None → saved_size (bits_said kind words) < size
+    → first_failing (tests_of kind size words) ≡ Some BadLength
+too_long kind size words h none long =
+    long_enough kind size words h none (omega arith)
+    ∙ fails (nat_le size (saved_size (bits_said kind words))) BadLength (body_tests kind.order (bits_said kind words) words) (not_le size (saved_size (bits_said kind words)) long)
+
+pub by_body : (kind : Kind) (size : ℕ) (words : List ℕ) → first_failing (head_tests kind words) ≡ None → size ≡ saved_size (bits_said kind words)
+    → first_failing (tests_of kind size words) ≡ first_failing (body_tests kind.order (bits_said kind words) words)
+by_body kind size words none exact =
+    long_enough kind size words (omega arith) none (omega arith)
+    ∙ holds (nat_le size (saved_size (bits_said kind words))) BadLength (body_tests kind.order (bits_said kind words) words) (le-leb size (saved_size (bits_said kind words)) (omega arith))
+
+pub fault_is : (kind : Kind) (bytes : List ℕ) → fault_of kind bytes ≡ first_failing (tests_of kind (length bytes) (words_of bytes))
+unfolding fault_of
+fault_is kind bytes = refl
+
+-- the chunks of bytes are their words
+pub words_are : (bytes : List ℕ) → map bytes_word (first_chunks 8 (length bytes / 8) bytes) ≡ words_of bytes
+unfolding words_of
+words_are bytes = refl
+
+pub ruleset whole = (fault_is, words_are, few_bytes, bad_head, too_short, too_long, by_body, length-words_of)
+
+-- bytes whose head is at fault
+pub bad_bytes : (kind : Kind) (bytes : List ℕ) (e : LoadError) (chunks : List (List ℕ)) → chunks ≡ first_chunks 8 (length bytes / 8) bytes → 48 ≤ length bytes
+    → first_failing (head_tests kind (map bytes_word chunks)) ≡ Some e → fault_of kind bytes ≡ Some e
+bad_bytes kind bytes e chunks same long bad =
+    fault_is kind bytes ∙ bad_head kind (length bytes) (words_of bytes) e long
+    (ap (λ l. first_failing (head_tests kind l)) (sym (ap (map bytes_word) same ∙ words_are bytes)) ∙ bad)

@@ -1,0 +1,76 @@
+-- The saved form of a list: words of 64 bits, each as its eight bytes with the lowest first.
+-- First a head of five words, then words that hold the list, then a sum of all words before it.
+use Rattle.std.specs.Prelude.{ℕ, ◌+◌, ◌*◌, ◌/◌, ◌%◌, ◌^◌, Bool, true, List, [], ◌∷◌, ◌++◌, length, map, fold, flat_map, bit_xor}
+use Rattle.std.specs.Int.{w64, to_le_bytes, from_le_bytes, rotate_left}
+use Rattle.std.specs.Simd.{first_chunks}
+use Rattle.vers_bits.specs.Bits.{limbs, limb_count, pack, places}
+use Rattle.vers_saved.specs.declared.kind.TheConstants.{BITS, SORTED, SYMBOLS, SPARSE, VALUES, PARENTHESES}
+use Rattle.vers_saved.specs.declared.TheConstants.{MAGIC, VERSION, START, FACTOR, TURN}
+
+-- the eight bytes of a word, the lowest first
+unfoldable pub word_bytes : ℕ → List ℕ
+word_bytes word = to_le_bytes w64 word
+
+-- the word of eight bytes, the lowest first
+unfoldable pub bytes_word : List ℕ → ℕ
+bytes_word bytes = from_le_bytes w64 bytes
+
+-- the bytes of all words
+abbrev pub bytes_of : List ℕ → List ℕ
+bytes_of words = flat_map word_bytes words
+
+-- the words of bytes, as many as they fill
+unfoldable pub words_of : List ℕ → List ℕ
+words_of bytes = map bytes_word (first_chunks 8 (length bytes / 8) bytes)
+
+-- a sum with one more word mixed in: both combined by xor, times an odd factor, and turned
+unfoldable pub mix : ℕ → ℕ → ℕ
+mix sum word = rotate_left w64 (bit_xor sum word * FACTOR % 2 ^ 64) TURN
+
+-- the sum of words: each mixed in, from the first on
+unfoldable pub check_sum : List ℕ → ℕ
+check_sum words = fold mix START words
+
+-- the head: whose it is, of which version, what kind of list, the width of its items (or the size of a tree's blocks), and how many they are
+abbrev pub head : ℕ → ℕ → ℕ → List ℕ
+head kind count width = MAGIC ∷ VERSION ∷ kind ∷ width ∷ count ∷ []
+
+-- words, and then their sum
+unfoldable pub with_sum : List ℕ → List ℕ
+with_sum words = words ++ check_sum words ∷ []
+
+-- the saved form of so many items of a width, which these words hold
+unfoldable pub saved : ℕ → ℕ → ℕ → List ℕ → List ℕ
+saved kind count width words = bytes_of (with_sum (head kind count width ++ words))
+
+-- how many bytes the saved form of n bits has
+abbrev pub saved_size : ℕ → ℕ
+saved_size n = 8 * (limb_count n + 6)
+
+-- the saved form of a list of bits: its limbs
+abbrev pub saved_bits : List Bool → List ℕ
+saved_bits bits = saved BITS (length bits) 1 (limbs bits)
+
+-- the saved form of an ascending list: each member as a word
+abbrev pub saved_sorted : List ℕ → List ℕ
+saved_sorted members = saved SORTED (length members) 64 members
+
+-- the saved form of symbols of a width: the limbs of their bits, one symbol after another
+abbrev pub saved_symbols : ℕ → List ℕ → List ℕ
+saved_symbols width items = saved SYMBOLS (length items) width (limbs (pack items width))
+
+-- the words of a list of bits with few ones: the places of the ones, and the length
+abbrev pub sparse_words : List Bool → List ℕ
+sparse_words bits = places true bits ++ length bits ∷ []
+
+-- the saved form of a list of bits with few ones
+abbrev pub saved_sparse : List Bool → List ℕ
+saved_sparse bits = saved SPARSE (length (sparse_words bits)) 64 (sparse_words bits)
+
+-- the saved form of numbers in any order: each as a word
+abbrev pub saved_values : List ℕ → List ℕ
+saved_values items = saved VALUES (length items) 64 items
+
+-- the saved form of parentheses, of which a tree has blocks of `size` bits: their limbs
+abbrev pub saved_parentheses : ℕ → List Bool → List ℕ
+saved_parentheses size bits = saved PARENTHESES (length bits) size (limbs bits)

@@ -1,0 +1,5 @@
+pub mod Format
+pub mod Faults
+pub mod Kinds
+pub mod Laws
+pub mod inside

@@ -1,0 +1,236 @@
+//! The saved form of any list: a head, words and a sum.
+ghost use Rattle.std.specs.Prelude.{◌≡◌, ℕ, List, ◌+◌, ◌*◌, ◌<◌, ◌≤◌, ◌++◌, ◌⊎◌, length, take, drop, map, slice_index, vec_len, vec_capacity, OnOk, OnErr, IfOk, IfErr, MatchResult, Some, None};
+ghost use Rattle.vers_saved.specs.Format.{word_bytes, bytes_of, bytes_word, check_sum, mix, head, words_of, saved, saved_size};
+ghost use Rattle.vers_bits.specs.Bits.{limb_count, pack};
+ghost use Rattle.vers_saved.specs.Faults.{first_failing, fault_of, item_bits, head_tests, body_tests, words_among};
+ghost use Rattle.vers_saved.specs.Kinds.{IsWhole};
+
+use crate::fault::LoadError;
+use crate::kind::{Kind, Order};
+use crate::words::{Chunks, FRAME, Words, is_in_order, is_padded, is_summed, mixed, put_word, words_in};
+use crate::{MAGIC, START, VERSION};
+use std::alloc::{AllocError, Allocator};
+use vers_bits::bit_vec::{BitVec, MAX_LEN};
+
+/// How many words a head has.
+const HEAD: usize = 5;
+
+/// What a list is, beside its words: of what kind, how many items it has, and of what width.
+#[derive(Clone, Copy, Drop)]
+pub struct Shape {
+    /// The number of its kind.
+    pub kind: u64,
+    /// How many items it has.
+    pub count: usize,
+    /// The width of its items, or the size of a tree's blocks.
+    pub width: usize,
+}
+
+// Appends a word, for which there is room. Returns the sum with the word mixed in.
+#[inline(always)]
+pub(crate) fn put_summed<B: Allocator>(out: &mut Vec<u8, B>, sum: u64, word: u64) -> u64
+    requires { vec_len out.old + 8 ≤ vec_capacity out.old }
+    ensures items { out.new.items ≡ out.old.items ++ word_bytes word }
+    ensures len { vec_len out.new ≡ vec_len out.old + 8 }
+    ensures capacity { vec_capacity out.old ≤ vec_capacity out.new }
+    ensures sum { result ≡ mix sum word }
+{
+    put_word(out, word);
+    mixed(sum, word)
+}
+
+// Appends the head of a saved form, for which there is room. Returns its sum.
+#[tactic(auto, using(crate::proofs::Sums::heads))]
+pub(crate) fn put_head<B: Allocator>(out: &mut Vec<u8, B>, shape: Shape) -> u64
+    requires { vec_len out.old + 40 ≤ vec_capacity out.old }
+    ensures items { out.new.items ≡ out.old.items ++ bytes_of (head shape.kind shape.count shape.width) }
+    ensures len { vec_len out.new ≡ vec_len out.old + 40 }
+    ensures capacity { vec_capacity out.old ≤ vec_capacity out.new }
+    ensures sum { result ≡ check_sum (head shape.kind shape.count shape.width) }
+{
+    let sum = put_summed(out, START, MAGIC);
+    let sum = put_summed(out, sum, VERSION);
+    let sum = put_summed(out, sum, shape.kind);
+    let sum = put_summed(out, sum, shape.width as u64);
+    put_summed(out, sum, shape.count as u64)
+}
+
+// How many bytes so many words take between a head and a sum.
+pub(crate) fn size_of_words(count: usize) -> Result<usize, AllocError>
+    ensures { IfOk result (λ size. size ≡ 8 * (count + 6)) }
+{
+    if count > usize::MAX / 8 - FRAME {
+        return Err(AllocError);
+    }
+    Ok(8 * (count + FRAME))
+}
+
+// Appends the saved form of words as items of a shape. Out of memory leaves the bytes as they were.
+pub(crate) fn append_saved<W: Words, B: Allocator>(
+    out: &mut Vec<u8, B>,
+    shape: Shape,
+    words: &W,
+) -> Result<(), AllocError>
+    ensures saved { OnOk result (out.new.items
+        ≡ out.old.items ++ saved shape.kind shape.count shape.width (W.words words.now)) }
+    ensures kept { OnErr result (out.new.items ≡ out.old.items) }
+{
+    let count = words.count_words();
+    out.reserve(size_of_words(count)?)?;
+    let mut sum = put_head(out, shape);
+    for k in 0..count {
+        sum = put_summed(out, sum, words.word(k));
+    }
+    put_word(out, sum);
+    Ok(())
+}
+
+/// What the head of a form says: the shape of the list, and how many bits its items have.
+#[derive(Clone, Copy, Drop)]
+pub(crate) struct Head {
+    pub(crate) shape: Shape,
+    pub(crate) bits: usize,
+}
+
+// What the head of words says, where they are the saved form of a list of that kind.
+pub(crate) fn head_of<W: Words>(kind: &Kind, words: &W) -> Result<Head, LoadError>
+    requires { 6 ≤ length (W.words words.now) }
+    ensures none { OnOk result (first_failing (head_tests kind.now (W.words words.now)) ≡ None) }
+    ensures fault { IfErr result (λ e. first_failing (head_tests kind.now (W.words words.now)) ≡ Some e) }
+    ensures said { IfOk result (λ h. (h.shape.kind ≡ kind.now.number)
+        × (h.shape.count ≡ slice_index (W.words words.now) 4)
+        × (h.shape.width ≡ slice_index (W.words words.now) 3)
+        × (h.bits ≡ h.shape.count * item_bits kind.now h.shape.width) × (h.bits ≤ MAX_LEN)) }
+{
+    if words.word(0) != MAGIC {
+        return Err(LoadError::NotOurs);
+    }
+    if words.word(1) != VERSION {
+        return Err(LoadError::OtherVersion);
+    }
+    if words.word(2) != kind.number {
+        return Err(LoadError::OtherKind);
+    }
+    let width = words.word(3) as usize;
+    if !kind.takes_width(width as u64) {
+        return Err(LoadError::OtherKind);
+    }
+    let count = words.word(4) as usize;
+    if !kind.takes_count(count as u64) {
+        return Err(LoadError::BadLength);
+    }
+    let Some(bits) = count.checked_mul(kind.bits_of_item(width)) else {
+        return Err(LoadError::BadLength);
+    };
+    if bits > MAX_LEN {
+        return Err(LoadError::BadLength);
+    }
+    let shape = Shape {
+        kind: kind.number,
+        count,
+        width,
+    };
+    Ok(Head { shape, bits })
+}
+
+// The tests of what comes after a head that says `n` bits, of as many words as they fill.
+pub(crate) fn test_body<W: Words>(order: Order, n: usize, words: &W) -> Result<(), LoadError>
+    requires { length (W.words words.now) ≡ limb_count n + FRAME }
+    ensures none { OnOk result (first_failing (body_tests order n (W.words words.now)) ≡ None) }
+    ensures fault { IfErr result (λ e. first_failing (body_tests order n (W.words words.now)) ≡ Some e) }
+{
+    if !is_summed(n, words) {
+        return Err(LoadError::BadSum);
+    }
+    if !is_padded(n, words) {
+        return Err(LoadError::BadPadding);
+    }
+    if !is_in_order(order, n, words) {
+        return Err(LoadError::NotAscending);
+    }
+    Ok(())
+}
+
+// What the head of bytes says, where they are the saved form of a list of that kind.
+#[tactic(auto, using(crate::proofs::Tests::whole))]
+fn test_bytes(kind: &Kind, bytes: &[u8]) -> Result<Head, LoadError>
+    ensures none { OnOk result (fault_of kind.now bytes.now ≡ None) }
+    ensures fault { IfErr result (λ e. fault_of kind.now bytes.now ≡ Some e) }
+    ensures said { IfOk result (λ h. (h.shape.kind ≡ kind.now.number)
+        × (h.shape.count ≡ slice_index (words_of bytes.now) 4)
+        × (h.shape.width ≡ slice_index (words_of bytes.now) 3)
+        × (h.bits ≡ h.shape.count * item_bits kind.now h.shape.width)
+        × (h.bits ≤ MAX_LEN) × (length bytes.now ≡ saved_size h.bits)) }
+{
+    let (chunks, _) = bytes.as_chunks::<8>();
+    if chunks.len() < FRAME {
+        return Err(LoadError::TooShort);
+    }
+    let words = Chunks { chunks };
+    let head = head_of(kind, &words)?;
+    let size = 8 * (head.bits.div_ceil(64) + FRAME);
+    if bytes.len() < size {
+        return Err(LoadError::TooShort);
+    }
+    if bytes.len() > size {
+        return Err(LoadError::BadLength);
+    }
+    test_body(kind.order, head.bits, &words)?;
+    Ok(head)
+}
+
+// The words in the saved form of `n` bits, as bytes.
+fn words_among(n: usize, bytes: &[u8]) -> &[[u8; 8]]
+    requires { length bytes.now ≡ saved_size n }
+    ensures words { map bytes_word result.now ≡ words_among n (words_of bytes.now) }
+    ensures len { length result.now ≡ limb_count n }
+{
+    let (words, _) = bytes.as_chunks::<8>();
+    let (_, rest) = words.split_at(HEAD);
+    let (words, _) = rest.split_at(n.div_ceil(64));
+    words
+}
+
+/// A shape, and the words that hold its items.
+#[derive(Drop)]
+pub(crate) struct Form<A: Allocator> {
+    pub(crate) shape: Shape,
+    pub(crate) words: Vec<u64, A>,
+}
+
+// The shape and the words that the bytes are the saved form of, of a list of that kind.
+pub(crate) fn form_of<A: Allocator>(alloc: A, kind: &Kind, bytes: &[u8]) -> Result<Form<A>, LoadError>
+    ensures ok { IfOk result (λ r. (bytes.now ≡ saved kind.now.number r.shape.count r.shape.width r.words.items)
+        × IsWhole kind.now r.shape.count r.shape.width r.words.items × (r.shape.kind ≡ kind.now.number)) }
+    ensures err { IfErr result (λ e. (fault_of kind.now bytes.now ≡ Some e)
+        ⊎ ((e ≡ LoadError.Memory) × (fault_of kind.now bytes.now ≡ None))) }
+{
+    let head = test_bytes(kind, bytes)?;
+    let words = words_in(alloc, words_among(head.bits, bytes))?;
+    Ok(Form {
+        shape: head.shape,
+        words,
+    })
+}
+
+// The words, taken out of a vector.
+pub(crate) fn taken<A: Allocator + Copy>(held: &mut Vec<u64, A>) -> Vec<u64, A>
+    ensures { result.items ≡ held.old.items }
+{
+    let alloc = *held.allocator();
+    std::mem::replace(held, Vec::new(alloc))
+}
+
+// The first `len` bits that words hold, which are no more than so many need.
+#[tactic(auto, using(crate::proofs::BitLists::cuts))]
+pub(crate) fn bits_of<A: Allocator + Copy>(len: usize, words: Vec<u64, A>) -> BitVec<A>
+    requires small { len ≤ MAX_LEN }
+    requires counted { length words.items ≡ limb_count len }
+    ensures value { result ≡ take len (pack words.items 64) }
+    ensures len { length result ≡ len }
+{
+    let mut bits = BitVec::from_vec(words).unwrap();
+    let past = bits.len() - len;
+    bits.drop_last(past);
+    bits
+}

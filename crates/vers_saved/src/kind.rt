@@ -1,0 +1,91 @@
+//! Kinds of lists that are saved.
+ghost use Rattle.std.specs.Prelude.{◌≡◌, ◌≤◌, ◌*◌, ◌&&◌, ℕ, true};
+ghost use Rattle.vers_saved.specs.Faults.{takes_width, takes_count, item_bits};
+
+use vers_bits::bit_vec::MAX_LEN;
+
+/// The order that the words of a list stand in.
+#[derive(Clone, Copy, PartialEq, Eq, Debug, Drop)]
+pub enum Order {
+    /// Any order.
+    Any,
+    /// No word is below the one before it.
+    Ascending,
+    /// Each word is above the one before it.
+    Rising,
+}
+
+/// A kind of lists: what its saved forms have to meet.
+#[derive(Clone, Copy, Drop)]
+pub struct Kind {
+    /// The number that says the kind.
+    pub number: u64,
+    /// The least width of its items.
+    pub least_width: u64,
+    /// The greatest width of its items.
+    pub greatest_width: u64,
+    /// How many bits an item has, or 0 where it has as many as its width says.
+    pub item_bits: u64,
+    /// How many items a list has at least.
+    pub least_count: u64,
+    /// How many items a list has at most.
+    pub greatest_count: u64,
+    /// The order of its words.
+    pub order: Order,
+}
+
+/// The number of lists of bits.
+pub const BITS: u64 = 1;
+
+/// The number of ascending lists of numbers.
+pub const SORTED: u64 = 2;
+
+/// The number of lists of symbols.
+pub const SYMBOLS: u64 = 3;
+
+/// The number of lists of bits with few ones.
+pub const SPARSE: u64 = 4;
+
+/// The number of lists of numbers in any order.
+pub const VALUES: u64 = 5;
+
+/// The number of lists of parentheses.
+pub const PARENTHESES: u64 = 6;
+
+impl Kind {
+    // Whether a list of this kind may have that width.
+    pub(crate) fn takes_width(&self, width: u64) -> bool
+        ensures { result ≡ takes_width self.now width }
+    {
+        self.least_width <= width && width <= self.greatest_width
+    }
+
+    // Whether a list of this kind may have so many items.
+    pub(crate) fn takes_count(&self, count: u64) -> bool
+        ensures { result ≡ takes_count self.now count }
+    {
+        self.least_count <= count && count <= self.greatest_count
+    }
+
+    // How many bits an item has.
+    pub(crate) fn bits_of_item(&self, width: usize) -> usize
+        ensures { result ≡ item_bits self.now width }
+    {
+        if self.item_bits == 0 {
+            width
+        } else {
+            self.item_bits as usize
+        }
+    }
+}
+
+/// Lists of bits, which have one bit an item.
+pub const BIT_LISTS: Kind = Kind {
+    number: BITS,
+    least_width: 1,
+    greatest_width: 1,
+    item_bits: 1,
+    least_count: 0,
+    greatest_count: MAX_LEN as u64,
+    order: Order::Any,
+};

@@ -1,0 +1,102 @@
+//! What has a saved form: lists that are saved to bytes and loaded from them.
+ghost use Rattle.std.specs.Prelude.{◌≡◌, ℕ, List, ◌++◌, ◌⊎◌, length, OnOk, OnErr, IfOk, IfErr, IfSome, MatchResult, Some, None, IsErr};
+ghost use Rattle.vers_saved.specs.declared.kind.Kind.{Kind};
+ghost use Rattle.vers_saved.specs.Format.{saved};
+ghost use Rattle.vers_saved.specs.Faults.{fault_of};
+ghost use Rattle.vers_saved.specs.Kinds.{IsWhole};
+
+use crate::fault::{LoadError, SaveError};
+use crate::form::{Form, Shape, append_saved, form_of};
+use crate::kind::Kind;
+use crate::words::{FRAME, Words};
+use std::alloc::{AllocError, Allocator};
+
+/// A list that has a saved form, by its words. A list of which `IsWhole` and `Fits` hold is loaded
+/// as it was saved.
+pub trait Saved: Words {
+    // The kind of such lists.
+    ghost kind: { Kind };
+
+    // How many items a list has, and their width.
+    ghost count: { Self → ℕ };
+
+    ghost width: { Self → ℕ };
+
+    // What holds of a list beside what its words show.
+    ghost Fits: { Self → Type 0 };
+
+    /// The kind of such lists.
+    fn kind() -> Kind
+        ensures { result ≡ kind };
+
+    /// The shape of the list. None where a list of this kind may not have it.
+    fn shape(&self) -> Option<Shape>
+        ensures kind { IfSome result (λ s. s.kind ≡ kind.number) }
+        ensures count { IfSome result (λ s. s.count ≡ count self.now) }
+        ensures width { IfSome result (λ s. s.width ≡ width self.now) }
+        ensures whole { IfSome result (λ _.
+            IsWhole kind (count self.now) (width self.now) (Self.words self.now)) }
+        ensures fits { IfSome result (λ _. Fits self.now) }
+        ensures none { result ≡ None
+            → ¬ IsWhole kind (count self.now) (width self.now) (Self.words self.now) };
+}
+
+/// A list that is made of the words that it was saved by, in memory of an allocator `A`.
+pub trait Loaded<A: Allocator>: Saved + Sized {
+    /// The list of items that these words hold. The words are taken out of the vector.
+    fn make(of: Shape, held: &mut Vec<u64, A>) -> Result<Self, AllocError>
+        requires { IsWhole Self.kind of.count of.width held.old.items }
+        ensures { IfOk result (λ v. (Self.count v ≡ of.count) × (Self.width v ≡ of.width)
+            × (Self.words v ≡ held.old.items) × Self.Fits v) };
+
+    // Two lists with one shape and the same words are one list.
+    ghost tells: { (x y : Self) → Self.Fits x → Self.Fits y → Self.count x ≡ Self.count y
+        → Self.width x ≡ Self.width y → Self.words x ≡ Self.words y → x ≡ y };
+}
+
+/// How many bytes the saved form of a list has. None where the list has none.
+#[tactic(auto, using(crate::proofs::RoundTrips::sizes))]
+pub fn saved_size<S: Saved>(list: &S) -> Option<usize>
+    ensures some { IfSome result (λ size. size
+        ≡ length (saved S.kind.number (S.count list.now) (S.width list.now) (S.words list.now))) }
+    ensures none { result ≡ None
+        → ¬ IsWhole S.kind (S.count list.now) (S.width list.now) (S.words list.now) }
+{
+    let _shape = list.shape()?;
+    Some(8 * (list.count_words() + FRAME))
+}
+
+/// Appends the saved form of a list. A refusal leaves the bytes as they were.
+pub fn save_to_vec<S: Saved, B: Allocator>(
+    list: &S,
+    out: &mut Vec<u8, B>,
+) -> Result<(), SaveError>
+    ensures saved { OnOk result (out.new.items ≡ out.old.items
+        ++ saved S.kind.number (S.count list.now) (S.width list.now) (S.words list.now)) }
+    ensures whole { OnOk result
+        (IsWhole S.kind (S.count list.now) (S.width list.now) (S.words list.now) × S.Fits list.now) }
+    ensures kept { OnErr result (out.new.items ≡ out.old.items) }
+    ensures refused { IfErr result (λ e. (e ≡ SaveError.Memory) ⊎ ((e ≡ SaveError.NoForm)
+        × ¬ IsWhole S.kind (S.count list.now) (S.width list.now) (S.words list.now))) }
+{
+    let Some(shape) = list.shape() else {
+        return Err(SaveError::NoForm);
+    };
+    append_saved(out, shape, list)?;
+    Ok(())
+}
+
+/// The list that the bytes are the saved form of. A fault is that of the first test that fails, and
+/// Memory comes only where all of them hold.
+pub fn load_from_slice<S: Loaded<A>, A: Allocator>(alloc: A, bytes: &[u8]) -> Result<S, LoadError>
+    ensures loaded { IfOk result (λ v. bytes.now ≡ saved S.kind.number (S.count v) (S.width v) (S.words v)) }
+    ensures whole { IfOk result (λ v. IsWhole S.kind (S.count v) (S.width v) (S.words v) × S.Fits v) }
+    ensures refused { IfErr result (λ e. (fault_of S.kind bytes.now ≡ Some e)
+        ⊎ ((e ≡ LoadError.Memory) × (fault_of S.kind bytes.now ≡ None))) }
+    ensures back { (x : S) → IsWhole S.kind (S.count x) (S.width x) (S.words x) → S.Fits x
+        → bytes.now ≡ saved S.kind.number (S.count x) (S.width x) (S.words x)
+        → MatchResult result (λ v. v ≡ x) (λ e. e ≡ LoadError.Memory) }
+{
+    let Form { shape, mut words } = form_of(alloc, &S::kind(), bytes)?;
+    Ok(S::make(shape, &mut words)?)
+}

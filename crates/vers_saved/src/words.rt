@@ -1,0 +1,156 @@
+//! Words of 64 bits, as bytes, and their sum.
+ghost use Rattle.std.specs.Prelude.{◌≡◌, ℕ, List, ◌+◌, ◌*◌, ◌<◌, ◌≤◌, ◌++◌, length, map, take, slice_index, vec_len, vec_capacity, IfOk, ◌^◌};
+ghost use Rattle.vers_saved.specs.Format.{word_bytes, bytes_word, mix, check_sum};
+ghost use Rattle.vers_saved.specs.Faults.{is_padded, is_summed, in_order, stands, words_among};
+ghost use Rattle.vers_bits.specs.Bits.{limb_count};
+
+use crate::kind::Order;
+use crate::{FACTOR, START, TURN};
+use std::alloc::{AllocError, Allocator};
+
+/// How many words a head and a sum have.
+pub(crate) const FRAME: usize = 6;
+
+/// Words, one after another.
+pub trait Words {
+    // The words.
+    ghost words: { Self → List ℕ };
+
+    /// How many words there are.
+    fn count_words(&self) -> usize
+        ensures { result ≡ length (words self.now) };
+
+    /// The word at a place.
+    fn word(&self, k: usize) -> u64
+        requires { k < length (words self.now) }
+        ensures { result ≡ slice_index (words self.now) k };
+}
+
+/// Words that stand as bytes, eight for each.
+#[derive(Clone, Copy)]
+pub(crate) struct Chunks<'a> {
+    pub(crate) chunks: &'a [[u8; 8]],
+}
+
+impl<'a> Words for Chunks<'a> {
+    ghost words = { λ c. map bytes_word c.chunks.now };
+
+    #[inline]
+    fn count_words(&self) -> usize {
+        self.chunks.len()
+    }
+
+    #[inline]
+    fn word(&self, k: usize) -> u64 {
+        word_of(self.chunks[k])
+    }
+}
+
+impl<A: Allocator> Words for Vec<u64, A> {
+    ghost words = { λ v. v.items };
+
+    #[inline]
+    fn count_words(&self) -> usize {
+        self.len()
+    }
+
+    #[inline]
+    fn word(&self, k: usize) -> u64 {
+        self[k]
+    }
+}
+
+// A sum with one more word mixed in.
+#[inline(always)]
+#[tactic(auto, unfolding(crate::specs::Format::mix))]
+pub(crate) fn mixed(sum: u64, word: u64) -> u64
+    ensures { result ≡ mix sum word }
+{
+    (sum ^ word).wrapping_mul(FACTOR).rotate_left(TURN)
+}
+
+// The word of eight bytes.
+#[inline(always)]
+#[tactic(auto, unfolding(crate::specs::Format::bytes_word))]
+fn word_of(bytes: [u8; 8]) -> u64
+    ensures { result ≡ bytes_word bytes }
+{
+    u64::from_le_bytes(bytes)
+}
+
+// Appends the bytes of a word, for which there is room.
+#[inline(always)]
+#[tactic(auto, unfolding(crate::specs::Format::word_bytes))]
+pub(crate) fn put_word<A: Allocator>(out: &mut Vec<u8, A>, word: u64)
+    requires { vec_len out.old + 8 ≤ vec_capacity out.old }
+    ensures items { out.new.items ≡ out.old.items ++ word_bytes word }
+    ensures len { vec_len out.new ≡ vec_len out.old + 8 }
+    ensures capacity { vec_capacity out.old ≤ vec_capacity out.new }
+{
+    let bytes = word.to_le_bytes();
+    out.extend_from_slice(&bytes).unwrap()
+}
+
+// The words, in a vector.
+pub(crate) fn words_in<A: Allocator>(alloc: A, words: &[[u8; 8]]) -> Result<Vec<u64, A>, AllocError>
+    ensures items { IfOk result (λ v. v.items ≡ map bytes_word words.now) }
+    ensures fit { IfOk result (λ v. (k : ℕ) → slice_index v.items k < 2 ^ 64) }
+{
+    words.iter().map(|word| word_of(*word)).collect(alloc)
+}
+
+// The sum of the words before a place.
+#[tactic(auto, using(crate::proofs::Sums::sums))]
+fn sum_before<W: Words>(end: usize, words: &W) -> u64
+    requires { end ≤ length (W.words words.now) }
+    ensures { result ≡ check_sum (take end (W.words words.now)) }
+{
+    let mut sum = START;
+    for k in 0..end {
+        sum = mixed(sum, words.word(k));
+    }
+    sum
+}
+
+// Whether the word after those of `n` bits is the sum of the words before it.
+#[tactic(auto, unfolding(crate::specs::Faults::is_summed))]
+pub(crate) fn is_summed<W: Words>(n: usize, words: &W) -> bool
+    requires { length (W.words words.now) ≡ limb_count n + FRAME }
+    ensures { result ≡ is_summed n (W.words words.now) }
+{
+    let end = n.div_ceil(64) + FRAME - 1;
+    words.word(end) == sum_before(end, words)
+}
+
+// Whether the word that the last of `n` bits lies in holds no one past them.
+#[tactic(auto, unfolding(crate::specs::Faults::is_padded))]
+pub(crate) fn is_padded<W: Words>(n: usize, words: &W) -> bool
+    requires { length (W.words words.now) ≡ limb_count n + FRAME }
+    ensures { result ≡ is_padded n (W.words words.now) }
+{
+    n % 64 == 0 || words.word(n.div_ceil(64) + FRAME - 2) < 1 << (n % 64)
+}
+
+// Whether a word stands in an order to the next one.
+#[inline(always)]
+fn stands(order: Order, before: u64, next: u64) -> bool
+    ensures { result ≡ stands order before next }
+{
+    match order {
+        Order::Any => true,
+        Order::Ascending => before <= next,
+        Order::Rising => before < next,
+    }
+}
+
+// Whether the words that hold `n` bits stand in an order.
+pub(crate) fn is_in_order<W: Words>(order: Order, n: usize, words: &W) -> bool
+    requires { length (W.words words.now) ≡ limb_count n + FRAME }
+    ensures { result ≡ in_order order (words_among n (W.words words.now)) }
+{
+    let mut holds = true;
+    for k in 1..n.div_ceil(64) {
+        holds = holds & stands(order, words.word(k + 4), words.word(k + 5));
+    }
+    holds
+}
