@@ -1,13 +1,16 @@
 -- What queries that go level by level answer.
-use Rattle.std.proofs.Common.{◌≡◌, ℕ, ◌+◌, ◌-◌, ◌*◌, ◌%◌, ◌^◌, ◌&&◌, ◌<◌, ◌≤◌, Bool, true, false, leb, ltb, List, [], ◌∷◌, length, get_or, refl, sym, ap, ◌∙◌, arith}
+use Rattle.std.proofs.Common.{◌≡◌, ℕ, ◌+◌, ◌-◌, ◌*◌, ◌%◌, ◌^◌, ◌&&◌, ◌<◌, ◌≤◌, Bool, true, false, leb, ltb, List, [], ◌∷◌, length, get_or, refl, sym, ap, ◌∙◌, subst, arith}
 use Rattle.std.specs.Prelude.{Option, Some, None, option_map, slice_get, IfSome, if◌then◌else◌}
 use Rattle.std.proofs.lemmas.Bool.Decides.{nat_tests}
 use Rattle.std.proofs.lemmas.Option.{slice_get-get_or, slice_get_past}
 use Rattle.vers_bits.specs.Bits.{bit_value}
-use Rattle.vers_wavelet.specs.Levels.{value, values, next, way, digit, AreLevels}
+use Rattle.vers_wavelet.specs.Levels.{value, values, next, way, digit, AreLevels, Rises}
+use Rattle.vers_wavelet.specs.Batches.{Seeks}
 use Rattle.vers_wavelet.specs.Symbols.{occurrences}
 use Rattle.vers_wavelet.proofs.Values.{value_is, value_none, leb_yes, next-up, way_is, way_none}
-use Rattle.vers_wavelet.proofs.Lists.{length-values, get_or-values, count_is}
+use Rattle.vers_wavelet.proofs.Members.{never}
+use Rattle.vers_wavelet.proofs.Steps.{rise_none, rise_all, rise_below, way_within}
+use Rattle.vers_wavelet.proofs.Lists.{length-values, get_or-values, count_is, found_or_none}
 
 leb_no : (a b : ℕ) → b < a → leb a b ≡ false
 leb_no a b h = grind (arith, nat_tests)
@@ -111,3 +114,42 @@ rank_ends None n s end kept = refl
 rank_ends (Some c) n s end kept =
     let e : c ≡ way [] s end - way [] s (end - c) = omega (arith, kept.0, way_none s end, way_none s (end - c)) in
     ap Some e
+
+-- ---- occurrences found
+
+pub select_goes : (v : List Bool) (ls : List (List Bool)) (s p i to : ℕ) (b : Bool) (o : Option ℕ) → o ≡ Some p → length ls ≡ i → b ≡ digit s i → to ≡ next b v p
+    → Some (way ls s to) ≡ option_map (λ p. way (v ∷ ls) s p) o
+select_goes v ls s p i to b o is long bit at =
+    let same : b ≡ digit s (length ls) = bit ∙ ap (digit s) (sym long) in
+    let down : way ls s to ≡ way (v ∷ ls) s p = ap (way ls s) at ∙ ap (λ d. way ls s (next d v p)) same ∙ sym (way_is v ls s p) in
+    ap Some down ∙ sym (ap (option_map (λ p. way (v ∷ ls) s p)) is)
+
+pub select_ends : (o : Option ℕ) (s : ℕ) → o ≡ option_map (λ p. way [] s p) o
+select_ends None s = refl
+select_ends (Some p) s = ap Some (sym (way_none s p))
+
+pub turn_known : {ls : List (List Bool)} {n : ℕ} → AreLevels ls n → (s rank first : ℕ) (o : Option ℕ) → o ≡ Some first → o ≡ Some (way ls s 0) → first + rank < n
+    → Seeks ls n s (way ls s 0 + rank) (length ls) (Some (first + rank))
+turn_known {ls} {n} levels s rank first o is begun inside =
+    let e : first ≡ way ls s 0 = cc in
+    let at : first + rank ≡ way ls s 0 + rank = ap (λ j. j + rank) e in
+    record { rises = subst (λ (q : ℕ). Rises ls n s (way ls s 0 + rank) (length ls) q) (sym at) (rise_none ls n s (way ls s 0 + rank) (omega arith)); some = λ h. refl }
+
+pub turn_past : {ls : List (List Bool)} {n : ℕ} → AreLevels ls n → (s rank first : ℕ) (o : Option ℕ) → o ≡ Some first → o ≡ Some (way ls s 0) → n ≤ first + rank
+    → Seeks ls n s (way ls s 0 + rank) (length ls) None
+turn_past {ls} {n} levels s rank first o is begun past =
+    let e : first ≡ way ls s 0 = cc in
+    record { rises = tt; some = λ h. absurd (omega (arith, e, h, way_within levels s)) }
+
+pub select_found : {ls : List (List Bool)} {n : ℕ} → AreLevels ls n → (s rank : ℕ) (o : Option ℕ) → Seeks ls n s (way ls s 0 + rank) 0 o
+    → o ≡ slice_get (occurrences (values ls n) 0 n (s % 2 ^ length ls)) rank
+select_found {ls} levels s rank None seeks = found_or_none levels s 0 rank (way ls s 0) None (omega arith) refl tt tt tt (never, seeks.some)
+select_found {ls} levels s rank (Some p) seeks =
+    let all = rise_all refl seeks.rises in
+    found_or_none levels s 0 rank (way ls s 0) (Some p) (omega arith) refl seeks.rises.within all.0 all.1 (λ t. rise_below levels refl seeks.rises, λ h. refl)
+
+pub select_answers : {ls : List (List Bool)} {n : ℕ} → AreLevels ls n → length ls ≤ 64 → (rank s r t : ℕ) (o : Option ℕ) → Seeks ls n t (way ls t 0 + r) 0 o → r ≡ rank → t ≡ s
+    → o ≡ (if leb (length ls) 64 then slice_get (occurrences (values ls n) 0 n (s % 2 ^ length ls)) rank else None)
+select_answers {ls} {n} levels few rank s r t o seeks same_rank same_symbol =
+    of_words (length ls) o _ few (select_found levels t r o seeks ∙ ap (slice_get (occurrences (values ls n) 0 n (t % 2 ^ length ls))) same_rank
+    ∙ ap (λ x. slice_get (occurrences (values ls n) 0 n (x % 2 ^ length ls)) rank) same_symbol)

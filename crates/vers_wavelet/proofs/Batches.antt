@@ -31,6 +31,11 @@ changed_more {Q} {R} {xs} {ys} {j} before inside x y at becomes = record {
       get_or-set_other ys j p y d ne ∙ before.others p d (omega arith);
 }
 
+-- the same of an item that was read with what stands for none
+pub changed_next : {Q : Type 0} {R : Q → Q → Type 0} {xs ys : List Q} {j : ℕ} → Changed R xs ys j → j < length xs → (d y : Q) → R (get_or ys j d) y → Changed R xs (set ys j y) (j + 1)
+changed_next {Q} {R} {xs} {ys} {j} before inside d y becomes =
+    changed_more before inside (get_or ys j d) y (any_default ys j d (get_or ys j d) (omega (arith, before.long))) becomes
+
 -- all of them
 pub changed_all : {Q : Type 0} {R : Q → Q → Type 0} {xs ys : List Q} {j : ℕ} → Changed R xs ys j → length xs ≤ j → Become R xs ys
 changed_all done past = record { long = done.long; each = λ p d h. done.first p d (omega arith) h }
@@ -60,9 +65,16 @@ become_map {Q} {B} {R} f g (x ∷ xs) (y ∷ ys) change same =
 pub still : {Q : Type 0} {R : Q → Q → Type 0} (P : Q → Type 0) {xs ys : List Q} {j : ℕ} → All P xs → Changed R xs ys j → j < length xs → (x : Q) → x ≡ get_or ys j x → P x
 still P {xs} {ys} {j} all before inside x at = subst P (sym (before.others j x (omega arith)) ∙ sym at) (all j x inside)
 
+pub still_next : {Q : Type 0} {R : Q → Q → Type 0} (P : Q → Type 0) {xs ys : List Q} {j : ℕ} → All P xs → Changed R xs ys j → j < length xs → (d : Q) → P (get_or ys j d)
+still_next P {xs} {ys} {j} all before inside d = still P all before inside (get_or ys j d) (any_default ys j d (get_or ys j d) (omega (arith, before.long)))
+
 -- the same change by what follows from the relation
 pub become_weaker : {Q : Type 0} {R S : Q → Q → Type 0} {xs ys : List Q} → Become R xs ys → ((x y : Q) → R x y → S x y) → Become S xs ys
 become_weaker change follows = record { long = change.long; each = λ p d h. follows _ _ (change.each p d h) }
+
+-- by what held of the items before
+pub become_with : {Q : Type 0} {P : Q → Type 0} {R S : Q → Q → Type 0} {xs ys : List Q} → All P xs → Become R xs ys → ((x y : Q) → P x → R x y → S x y) → Become S xs ys
+become_with held change follows = record { long = change.long; each = λ p d h. follows _ _ (held p d h) (change.each p d h) }
 
 -- ---- reads
 

@@ -1,5 +1,6 @@
 -- Lists whose items are changed one by one.
-use Rattle.std.specs.Prelude.{◌≡◌, ℕ, ◌<◌, ◌≤◌, List, length, slice_index_or}
+use Rattle.std.specs.Prelude.{◌≡◌, ℕ, ◌<◌, ◌≤◌, Bool, List, length, slice_index_or, Option, IsSome, IfSome}
+use Rattle.vers_wavelet.specs.Levels.{way, Rises}
 
 -- each item of xs has become one of ys that the relation allows
 pub record Become {Q : Type 0} (R : Q → Q → Type 0) (xs ys : List Q) : Type 0 where
@@ -11,3 +12,8 @@ pub record Changed {Q : Type 0} (R : Q → Q → Type 0) (xs ys : List Q) (j : �
   pub long : length ys ≡ length xs
   pub first : (p : ℕ) (d : Q) → p < j → p < length xs → R (slice_index_or xs p d) (slice_index_or ys p d)
   pub others : (p : ℕ) (d : Q) → j ≤ p → slice_index_or ys p d ≡ slice_index_or xs p d
+
+-- on level k: a place that is kept is one that holds the rest of s there, and from which the way leads to the target; and one is kept where the target is reached from a place that holds s
+pub record Seeks (ls : List (List Bool)) (n s target k : ℕ) (kept : Option ℕ) : Type 0 where
+  pub rises : IfSome kept (λ q. Rises ls n s target k q)
+  pub some : target < way ls s n → IsSome kept

@@ -7,9 +7,11 @@ ghost use Rattle.vers_wavelet.specs.Batches.{Become};
 
 mod get;
 mod rank;
+mod select;
 
 pub use get::GetQuery;
 pub use rank::RankQuery;
+pub use select::SelectQuery;
 use std::alloc::Allocator;
 use vers_rank::fast_rs_vec::RsVec;
 use vers_tally::tally::Tally;
@@ -19,6 +21,9 @@ pub(super) trait Query: Copy {
     // What a query of `n` places keeps to where `k` levels are left.
     ghost keeps: { ℕ → ℕ → Self → Type 0 };
 
+    // What of a query stays as it is.
+    ghost stays: { Self → ℕ × ℕ };
+
     // What the answer will be after the levels that are left.
     ghost outcome: { List (List Bool) → Self → Option ℕ };
 
@@ -27,6 +32,7 @@ pub(super) trait Query: Copy {
 
     // The query before the first of some levels with `len` places.
     fn begin(self, levels: usize, len: usize) -> Self
+        ensures stays { stays result ≡ stays self }
         ensures keeps { keeps len levels result }
         ensures same { (ls : List (List Bool)) → AreLevels ls len → length ls ≡ levels
             → outcome ls result ≡ meaning ls len self }
@@ -36,6 +42,7 @@ pub(super) trait Query: Copy {
     // The query after one level more, with `i` levels left.
     fn step<A: Allocator + Copy>(self, level: &RsVec<A>, i: usize, tally: &mut Tally) -> Self
         requires { keeps (length level.now) (i + 1) self }
+        ensures stays { stays result ≡ stays self }
         ensures keeps { keeps (length level.now) i result }
         ensures same { (ls : List (List Bool)) → length ls ≡ i
             → outcome ls result ≡ outcome (level.now ∷ ls) self }
@@ -45,7 +52,7 @@ pub(super) trait Query: Copy {
 // Makes each query one before the first level.
 #[inline(always)]
 fn begin_each<Q: Query>(queries: &mut [Q], levels: usize, len: usize)
-    ensures { Become (λ q r. Q.keeps len levels r
+    ensures { Become (λ q r. (Q.stays r ≡ Q.stays q) × Q.keeps len levels r
         × ((ls : List (List Bool)) → AreLevels ls len → length ls ≡ levels
         → Q.outcome ls r ≡ Q.meaning ls len q)
         × (64 < levels → Q.keeps len 0 r
@@ -66,7 +73,7 @@ fn step_each<A: Allocator + Copy, Q: Query>(
     tally: &mut Tally,
 )
     requires { All (λ q. Q.keeps (length level.now) (i + 1) q) queries.old }
-    ensures each { Become (λ q r. Q.keeps (length level.now) i r
+    ensures each { Become (λ q r. (Q.stays r ≡ Q.stays q) × Q.keeps (length level.now) i r
         × ((ls : List (List Bool)) → length ls ≡ i
         → Q.outcome ls r ≡ Q.outcome (level.now ∷ ls) q)) queries.old queries.new }
     ensures adds { AddsAtMost tally.old tally.new
@@ -86,7 +93,7 @@ pub(super) fn ask_each<A: Allocator + Copy, Q: Query>(
     tally: &mut Tally,
 )
     requires { AreLevels levels.now len }
-    ensures each { Become (λ q r. Q.keeps len 0 r
+    ensures each { Become (λ q r. (Q.stays r ≡ Q.stays q) × Q.keeps len 0 r
         × (Q.outcome [] r ≡ Q.meaning levels.now len q)) queries.old queries.new }
     ensures adds { AddsAtMost tally.old tally.new
         (times (length levels.now) (times (length queries.old) (times 2 rank_reads))) }

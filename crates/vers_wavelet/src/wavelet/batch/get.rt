@@ -38,6 +38,8 @@ impl GetQuery {
 impl Query for GetQuery {
     ghost keeps = { λ n k q. IfSome q.answer (λ y. (q.place < n) × (k ≤ 64) × HasRoom 64 k y) };
 
+    ghost stays = { λ _. (0, 0) };
+
     ghost outcome = { λ ls q. option_map (λ y. y + value ls q.place) q.answer };
 
     ghost meaning = { λ ls n q. if nat_le (length ls) 64 then slice_get (values ls n) q.place else None };

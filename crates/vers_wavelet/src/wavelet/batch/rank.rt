@@ -43,6 +43,8 @@ impl RankQuery {
 impl Query for RankQuery {
     ghost keeps = { λ n k q. IfSome q.answer (λ c. (c ≤ q.end) × (q.end ≤ n) × (k ≤ 64)) };
 
+    ghost stays = { λ _. (0, 0) };
+
     ghost outcome = { λ ls q. option_map (λ c. way ls q.symbol q.end
         - way ls q.symbol (q.end - c)) q.answer };
 

@@ -6,4 +6,4 @@ use Rattle.vers_wavelet.proofs.wavelet.WaveletMatrix.rank_u64_each_counted.Goals
 pub returns-clause-value : goal.returns-clause-value
 returns-clause-value g c =
     rw (← c.self.view_is, ← c.deref.ensures.value)
-    (become_map _ _ _ _ c.ask_each.ensures.each (λ q r t. rank_ends r.answer _ r.symbol r.end t.0 ∙ t.1))
+    (become_map _ _ _ _ c.ask_each.ensures.each (λ q r t. rank_ends r.answer _ r.symbol r.end t.1 ∙ t.2))

@@ -10,7 +10,7 @@ pub loop-k-init : goal.loop-k-init
 loop-k-init g c =
     let none : length c.args.levels.now ≡ length c.args.levels.now - 0 = omega arith in
     record {
-      asked = become_weaker c.begin_each.ensures (λ q r t. (subst (λ (n : ℕ). g.Q.Query.keeps c.args.len n r) none t.0, t.1 c.args.levels.now c.requires refl));
+      asked = become_weaker c.begin_each.ensures (λ q r t. (t.0, subst (λ (n : ℕ). g.Q.Query.keeps c.args.len n r) none t.1, t.2 c.args.levels.now c.requires refl));
       adds = search rules;
     }
 
@@ -19,7 +19,7 @@ step_each-requires g c =
     let long : c.args.len ≡ length c.index-levels-k.result = sym (ap length c.index-levels-k.is ∙ c.requires.even c.loop-k.k c.index-levels-k.result c.loop-k-test.true) in
     let left : length c.args.levels.now - c.loop-k.k ≡ length c.args.levels.now - (c.loop-k.k + 1) + 1 = omega arith in
     become_all c.loop-k.invariant.asked (λ q r t.
-    subst (λ (n : ℕ). g.Q.Query.keeps n (length c.args.levels.now - (c.loop-k.k + 1) + 1) r) long (subst (λ (n : ℕ). g.Q.Query.keeps c.args.len n r) left t.0))
+    subst (λ (n : ℕ). g.Q.Query.keeps n (length c.args.levels.now - (c.loop-k.k + 1) + 1) r) long (subst (λ (n : ℕ). g.Q.Query.keeps c.args.len n r) left t.1))
 
 pub loop-k-preserved : goal.loop-k-preserved
 loop-k-preserved g c =
@@ -31,8 +31,9 @@ loop-k-preserved g c =
     let left : length (drop (k + 1) ls) ≡ length ls - (k + 1) = levels_left ls k c.loop-k-test.true in
     record {
       asked = become_then c.loop-k.invariant.asked c.step_each.ensures.each (λ q r s t u. (
-        subst (λ (n : ℕ). g.Q.Query.keeps n (length ls - (k + 1)) s) long u.0,
-        u.1 (drop (k + 1) ls) left ∙ sym (ap (λ m. g.Q.Query.outcome m r) parts) ∙ t.1,
+        u.0 ∙ t.0,
+        subst (λ (n : ℕ). g.Q.Query.keeps n (length ls - (k + 1)) s) long u.1,
+        u.2 (drop (k + 1) ls) left ∙ sym (ap (λ m. g.Q.Query.outcome m r) parts) ∙ t.2,
       ));
       adds = adds_once_more k c.loop-k.invariant.adds
           (subst (λ (n : ℕ). AddsAtMost c.loop-k.tally c.step_each.new.tally (times n (times 2 rank_reads))) c.loop-k.invariant.asked.long c.step_each.ensures.adds);
@@ -41,8 +42,8 @@ loop-k-preserved g c =
 pub returns-then-levels-gt64-clause-each : goal.returns-then-levels-gt64-clause-each
 returns-then-levels-gt64-clause-each g c =
     become_weaker c.begin_each.ensures (λ q r t.
-    let wide = t.2 c.if-levels-gt64.true in
-    (wide.0, wide.1 [] c.args.levels.now ∙ t.1 c.args.levels.now c.requires refl))
+    let wide = t.3 c.if-levels-gt64.true in
+    (t.0, wide.0, wide.1 [] c.args.levels.now ∙ t.2 c.args.levels.now c.requires refl))
 
 pub returns-clause-each : goal.returns-clause-each
 returns-clause-each g c =
@@ -50,8 +51,9 @@ returns-clause-each g c =
     let none : length ls - c.loop-k.k ≡ 0 = omega arith in
     let end : drop c.loop-k.k ls ≡ [] = drop_all c.loop-k.k ls (omega arith) in
     become_weaker c.loop-k.invariant.asked (λ q r t. (
-      subst (λ (n : ℕ). g.Q.Query.keeps c.args.len n r) none t.0,
-      sym (ap (λ m. g.Q.Query.outcome m r) end) ∙ t.1,
+      t.0,
+      subst (λ (n : ℕ). g.Q.Query.keeps c.args.len n r) none t.1,
+      sym (ap (λ m. g.Q.Query.outcome m r) end) ∙ t.2,
     ))
 
 pub returns-clause-adds : goal.returns-clause-adds

@@ -11,7 +11,7 @@ step-requires g c =
 
 pub loop-j-preserved : goal.loop-j-preserved
 loop-j-preserved g c = record {
-  changed = changed_more c.loop-j.invariant.changed c.loop-j-test.true c.index-queries-j.result c.step.result c.index-queries-j.is (c.step.ensures.keeps, c.step.ensures.same);
+  changed = changed_more c.loop-j.invariant.changed c.loop-j-test.true c.index-queries-j.result c.step.result c.index-queries-j.is (c.step.ensures.stays, c.step.ensures.keeps, c.step.ensures.same);
   adds = search rules;
 }
 

@@ -1,4 +1,4 @@
-use Rattle.std.proofs.Common.{◌≡◌, ◌≤◌, arith, length, ap, ◌∙◌, Some}
+use Rattle.std.proofs.Common.{◌≤◌, arith, length, ap, ◌∙◌, Some}
 use Rattle.vers_wavelet.specs.Levels.{values}
 use Rattle.vers_wavelet.proofs.Lists.{length-values}
 use Rattle.vers_wavelet.proofs.Answering.{le_passed, le_failed, rank_begins, if_both, if_first_fails, if_second_fails}

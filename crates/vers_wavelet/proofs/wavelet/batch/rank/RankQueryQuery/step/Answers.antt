@@ -1,5 +1,4 @@
-use Rattle.std.proofs.Common.{◌∷◌}
-use Rattle.vers_wavelet.proofs.Answering.{rank_goes, rank_rests}
+use Rattle.vers_wavelet.proofs.Answering.{rank_goes}
 use Rattle.vers_wavelet.proofs.wavelet.batch.rank.RankQueryQuery.step.Goals as goal
 
 pub returns-clause-same : goal.returns-clause-same

@@ -1,0 +1,46 @@
+use Rattle.std.proofs.Common.{◌≡◌, ◌+◌, ◌-◌, ℕ, arith, length, rules, ◌∙◌, subst}
+use Rattle.vers_tally.specs.Reads.{AddsAtMost, times}
+use Rattle.vers_rank.specs.Queries.{select_reads, superblock_count}
+use Rattle.vers_wavelet.specs.Levels.{way}
+use Rattle.vers_wavelet.specs.Batches.{Seeks}
+use Rattle.vers_wavelet.proofs.Batches.{become_all, become_then, become_weaker, become_with, adds_once_more}
+use Rattle.vers_wavelet.proofs.wavelet.batch.select.climb_each.Goals as goal
+
+pub loop-i-init : goal.loop-i-init
+loop-i-init g c =
+    let e : length c.args.levels.now ≡ length c.args.levels.now - 0 = omega arith in
+    record {
+      risen = become_with c.requires.begun c.turn_each.ensures (λ q r begun t. (
+        t.0,
+        t.1,
+        subst (λ (k : ℕ). Seeks c.args.levels.now c.args.len r.symbol (way c.args.levels.now r.symbol 0 + r.rank) k r.answer) e (t.2 c.args.levels.now c.requires.levels begun),
+      ));
+      adds = search rules;
+    }
+
+pub rise_each-requires-clause-seeks : goal.rise_each-requires-clause-seeks
+rise_each-requires-clause-seeks g c =
+    let e : length c.args.levels.now - c.loop-i.i ≡ length c.args.levels.now - (c.loop-i.i + 1) + 1 = omega arith in
+    become_all c.loop-i.invariant.risen (λ q r t.
+    subst (λ (k : ℕ). Seeks c.args.levels.now c.args.len r.symbol (way c.args.levels.now r.symbol 0 + r.rank) k r.answer) e t.2)
+
+pub loop-i-preserved : goal.loop-i-preserved
+loop-i-preserved g c = record {
+  risen = become_then c.loop-i.invariant.risen c.rise_each.ensures.each (λ q r s t u. (u.0 ∙ t.0, u.1 ∙ t.1, u.2));
+  adds = adds_once_more c.loop-i.i c.loop-i.invariant.adds
+      (subst (λ (n : ℕ). AddsAtMost c.loop-i.tally c.rise_each.new.tally (times n (select_reads (superblock_count c.args.len)))) c.loop-i.invariant.risen.long c.rise_each.ensures.adds);
+}
+
+pub returns-clause-each : goal.returns-clause-each
+returns-clause-each g c =
+    let e : length c.args.levels.now - c.loop-i.i ≡ 0 = omega arith in
+    become_weaker c.loop-i.invariant.risen (λ q r t. (
+      t.0,
+      t.1,
+      subst (λ (k : ℕ). Seeks c.args.levels.now c.args.len r.symbol (way c.args.levels.now r.symbol 0 + r.rank) k r.answer) e t.2,
+    ))
+
+pub returns-clause-adds : goal.returns-clause-adds
+returns-clause-adds g c =
+    let all : c.loop-i.i ≡ length c.args.levels.now = omega arith in
+    subst (λ (n : ℕ). AddsAtMost c.args.tally.now c.loop-i.tally (times n (times (length c.args.queries.now) (select_reads (superblock_count c.args.len))))) all c.loop-i.invariant.adds

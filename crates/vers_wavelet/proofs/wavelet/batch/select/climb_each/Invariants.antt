@@ -1,0 +1,13 @@
+use Rattle.std.proofs.Common.{◌≡◌, ◌+◌, ◌-◌, length}
+use Rattle.vers_tally.specs.Reads.{AddsAtMost, times}
+use Rattle.vers_rank.specs.Queries.{select_reads, superblock_count}
+use Rattle.vers_wavelet.specs.Levels.{way}
+use Rattle.vers_wavelet.specs.Batches.{Become, Seeks}
+use Rattle.vers_wavelet.proofs.wavelet.batch.select.climb_each.Given as goal
+
+abbrev pub invariant-loop-i : goal.invariant-loop-i
+invariant-loop-i g l = record {
+  risen : Become (λ q r. (r.rank ≡ q.rank) × (r.symbol ≡ q.symbol)
+      × Seeks l.levels l.len r.symbol (way l.levels r.symbol 0 + r.rank) (length l.levels - l.i) r.answer) l.fn.queries l.queries;
+  adds : AddsAtMost l.fn.tally l.tally (times l.i (times (length l.fn.queries) (select_reads (superblock_count l.len))));
+}

@@ -1,0 +1,235 @@
+//! The places of many occurrences.
+ghost use Rattle.std.specs.Prelude.{◌≡◌, ℕ, ◌+◌, ◌%◌, ◌^◌, ◌<◌, ◌≤◌, List, Bool, Option, Some, None, length, map, nat_le, slice_get, option_map, All, IfSome, if◌then◌else◌};
+ghost use Rattle.vers_tally.specs.Reads.{AddsAtMost, times};
+ghost use Rattle.vers_rank.specs.Queries.{select_reads, superblock_count};
+ghost use Rattle.vers_wavelet.specs.Batches.{Become, Seeks};
+ghost use Rattle.vers_wavelet.specs.Levels.{values, way, AreLevels};
+ghost use Rattle.vers_wavelet.specs.Symbols.{occurrences};
+ghost use Rattle.vers_wavelet.specs.Reads.{query_reads};
+
+use crate::wavelet::WaveletMatrix;
+use crate::wavelet::batch::{Query, ask_each};
+use crate::wavelet::digits::Digits;
+use crate::wavelet::level::{is_of_bit, next_place, place_above};
+use std::alloc::Allocator;
+use vers_rank::fast_rs_vec::RsVec;
+use vers_tally::tally::Tally;
+
+/// A symbol and a number of one of its occurrences, to be asked for the place, and the answer.
+#[derive(Clone, Copy, Drop)]
+pub struct SelectQuery {
+    /// The number of the occurrence, counted from 0.
+    pub rank: usize,
+    /// The symbol, of which the low digits count.
+    pub symbol: u64,
+    /// The place of the occurrence, once the query is answered.
+    pub answer: Option<usize>,
+}
+
+impl SelectQuery {
+    /// A query for the place of occurrence `rank` of a symbol, counted from 0.
+    #[inline]
+    pub fn new(rank: usize, symbol: u64) -> Self
+        ensures rank { result.rank ≡ rank }
+        ensures symbol { result.symbol ≡ symbol }
+        ensures answer { result.answer ≡ None }
+    {
+        SelectQuery {
+            rank,
+            symbol,
+            answer: None,
+        }
+    }
+
+    // The query with the place of the occurrence below the last level, from that of the first one
+    // that may be.
+    #[inline(always)]
+    fn turn(self, len: usize) -> Self
+        ensures rank { result.rank ≡ self.rank }
+        ensures symbol { result.symbol ≡ self.symbol }
+        ensures seeks { (ls : List (List Bool)) → AreLevels ls len
+            → self.answer ≡ Some (way ls self.symbol 0)
+            → Seeks ls len result.symbol (way ls result.symbol 0 + result.rank) (length ls)
+            result.answer }
+    {
+        let Some(first) = self.answer else {
+            return self;
+        };
+        if self.rank >= len.saturating_sub(first) {
+            return SelectQuery {
+                rank: self.rank,
+                symbol: self.symbol,
+                answer: None,
+            };
+        }
+        SelectQuery {
+            rank: self.rank,
+            symbol: self.symbol,
+            answer: Some(first + self.rank),
+        }
+    }
+
+    // The query one level up, on level `k`. Where another symbol's place was reached, no answer is left.
+    #[inline(always)]
+    fn rise<A: Allocator + Copy>(
+        self,
+        levels: &[RsVec<A>],
+        len: usize,
+        k: usize,
+        tally: &mut Tally,
+    ) -> Self
+        requires levels { AreLevels levels.now len }
+        requires few { length levels.now ≤ 64 }
+        requires within { k < length levels.now }
+        requires seeks { Seeks levels.now len self.symbol
+            (way levels.now self.symbol 0 + self.rank) (k + 1) self.answer }
+        ensures rank { result.rank ≡ self.rank }
+        ensures symbol { result.symbol ≡ self.symbol }
+        ensures seeks { Seeks levels.now len result.symbol
+            (way levels.now result.symbol 0 + result.rank) k result.answer }
+        ensures adds { AddsAtMost tally.old tally.new (select_reads (superblock_count len)) }
+    {
+        let Some(place) = self.answer else {
+            return self;
+        };
+        let level = &levels[k];
+        let bit = self.symbol.digit(levels.len() - (k + 1));
+        if !is_of_bit(level, bit, place) {
+            return SelectQuery {
+                rank: self.rank,
+                symbol: self.symbol,
+                answer: None,
+            };
+        }
+        SelectQuery {
+            rank: self.rank,
+            symbol: self.symbol,
+            answer: Some(place_above(level, bit, place, tally)),
+        }
+    }
+}
+
+impl Query for SelectQuery {
+    ghost keeps = { λ n k q. IfSome q.answer (λ p. (p ≤ n) × (k ≤ 64)) };
+
+    ghost stays = { λ q. (q.rank, q.symbol) };
+
+    ghost outcome = { λ ls q. option_map (λ p. way ls q.symbol p) q.answer };
+
+    ghost meaning = { λ ls n q. if nat_le (length ls) 64 then Some (way ls q.symbol 0) else None };
+
+    #[inline(always)]
+    fn begin(self, levels: usize, len: usize) -> Self {
+        SelectQuery {
+            rank: self.rank,
+            symbol: self.symbol,
+            answer: if levels <= 64 { Some(0) } else { None },
+        }
+    }
+
+    #[inline(always)]
+    #[tactic(auto, using(crate::proofs::Values::parts))]
+    fn step<A: Allocator + Copy>(self, level: &RsVec<A>, i: usize, tally: &mut Tally) -> Self {
+        let Some(place) = self.answer else {
+            return self;
+        };
+        let bit = self.symbol.digit(i);
+        SelectQuery {
+            rank: self.rank,
+            symbol: self.symbol,
+            answer: Some(next_place(level, bit, place, tally)),
+        }
+    }
+}
+
+// Has each query stand where its occurrence does below the last level.
+#[inline(always)]
+fn turn_each(queries: &mut [SelectQuery], len: usize)
+    ensures { Become (λ q r. (r.rank ≡ q.rank) × (r.symbol ≡ q.symbol)
+        × ((ls : List (List Bool)) → AreLevels ls len → q.answer ≡ Some (way ls q.symbol 0)
+        → Seeks ls len r.symbol (way ls r.symbol 0 + r.rank) (length ls) r.answer))
+        queries.old queries.new }
+{
+    for j in 0..queries.len() {
+        queries[j] = queries[j].turn(len);
+    }
+}
+
+// Leads each query one level up, on level `k`.
+#[inline(always)]
+fn rise_each<A: Allocator + Copy>(
+    levels: &[RsVec<A>],
+    len: usize,
+    k: usize,
+    queries: &mut [SelectQuery],
+    tally: &mut Tally,
+)
+    requires levels { AreLevels levels.now len }
+    requires few { length levels.now ≤ 64 }
+    requires within { k < length levels.now }
+    requires seeks { All (λ q. Seeks levels.now len q.symbol
+        (way levels.now q.symbol 0 + q.rank) (k + 1) q.answer) queries.old }
+    ensures each { Become (λ q r. (r.rank ≡ q.rank) × (r.symbol ≡ q.symbol)
+        × Seeks levels.now len r.symbol (way levels.now r.symbol 0 + r.rank) k r.answer)
+        queries.old queries.new }
+    ensures adds { AddsAtMost tally.old tally.new
+        (times (length queries.old) (select_reads (superblock_count len))) }
+{
+    for j in 0..queries.len() {
+        queries[j] = queries[j].rise(levels, len, k, tally);
+    }
+}
+
+// Leads the queries up through all levels, from where the occurrences of their symbols begin below the last.
+#[inline(always)]
+fn climb_each<A: Allocator + Copy>(
+    levels: &[RsVec<A>],
+    len: usize,
+    queries: &mut [SelectQuery],
+    tally: &mut Tally,
+)
+    requires levels { AreLevels levels.now len }
+    requires few { length levels.now ≤ 64 }
+    requires begun { All (λ q. q.answer ≡ Some (way levels.now q.symbol 0)) queries.old }
+    ensures each { Become (λ q r. (r.rank ≡ q.rank) × (r.symbol ≡ q.symbol)
+        × Seeks levels.now len r.symbol (way levels.now r.symbol 0 + r.rank) 0 r.answer)
+        queries.old queries.new }
+    ensures adds { AddsAtMost tally.old tally.new (times (length levels.now)
+        (times (length queries.old) (select_reads (superblock_count len)))) }
+{
+    turn_each(queries, len);
+    for i in 0..levels.len() {
+        rise_each(levels, len, levels.len() - (i + 1), queries, tally);
+    }
+}
+
+#[tactic(auto, using(crate::proofs::Lists::lists))]
+impl<A: Allocator + Copy> WaveletMatrix<A> {
+    /// The places of many occurrences, each as `select_u64` answers: none takes memory, and all are asked
+    /// level by level, which is faster than one after the other where there are many.
+    pub fn select_u64_each(&self, queries: &mut [SelectQuery])
+        ensures { map (λ q. q.answer) queries.new ≡ map (λ q.
+            if nat_le self.now.width 64 then slice_get (occurrences self.now.items 0
+            (length self.now.items) (q.symbol % 2 ^ self.now.width)) q.rank else None) queries.old }
+    {
+        let mut tally = Tally::new();
+        self.select_u64_each_counted(queries, &mut tally)
+    }
+
+    /// The same as `select_u64_each`, by the reads of `select_u64` at most for each query.
+    #[inline(always)]
+    pub fn select_u64_each_counted(&self, queries: &mut [SelectQuery], tally: &mut Tally)
+        ensures value { map (λ q. q.answer) queries.new ≡ map (λ q.
+            if nat_le self.now.width 64 then slice_get (occurrences self.now.items 0
+            (length self.now.items) (q.symbol % 2 ^ self.now.width)) q.rank else None) queries.old }
+        ensures adds { AddsAtMost tally.old tally.new
+            (times (length queries.old) (query_reads self.now)) }
+    {
+        let levels = self.levels.as_slice();
+        ask_each(levels, self.len, queries, tally);
+        if levels.len() > 64 {
+            return;
+        }
+        climb_each(levels, self.len, queries, tally);
+    }
+}
