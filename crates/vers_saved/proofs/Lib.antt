@@ -7,5 +7,7 @@ pub mod SavedForms
 pub mod LimbLists
 pub mod RoundTrips
 pub mod SumTells
+pub mod WordLists
+pub mod Streams
 pub mod Sources
 pub mod BitLists

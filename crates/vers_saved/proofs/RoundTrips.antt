@@ -54,4 +54,17 @@ pub length-saved : (kind count width : ℕ) (words : List ℕ) → length (saved
 unfolding saved
 length-saved kind count width words = length-bytes_of (all_words kind count width words) ∙ ap (λ m. 8 * m) (length-all_words kind count width words)
 
-pub ruleset sizes = (length-saved)
+-- as many words as the shape says
+pub count_is : (kind told : Kind) (count width c w : ℕ) (words : List ℕ) → IsWhole kind count width words → told ≡ kind → c ≡ count → w ≡ width
+    → limb_count (c * item_bits told w) ≡ length words
+count_is kind told count width c w words whole is_kind is_count is_width =
+    ap (λ k. limb_count (c * item_bits k w)) is_kind ∙ ap (λ m. limb_count (m * item_bits kind w)) is_count ∙ ap (λ m. limb_count (count * item_bits kind m)) is_width ∙ sym whole.counted
+
+pub said_small : (kind told : Kind) (count width c w : ℕ) (words : List ℕ) → IsWhole kind count width words → told ≡ kind → c ≡ count → w ≡ width
+    → c * item_bits told w ≤ 18446744073709551552
+said_small kind told count width c w words whole is_kind is_count is_width =
+    rw (is_kind, is_count, is_width) whole.small
+
+pub ruleset sizes = (length-saved, count_is, said_small)
+
+pub ruleset counts = (count_is, said_small)

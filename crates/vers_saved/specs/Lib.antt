@@ -1,5 +1,6 @@
 pub mod Format
 pub mod Faults
 pub mod Kinds
+pub mod Streams
 pub mod Laws
 pub mod inside

@@ -6,25 +6,9 @@ ghost use Rattle.vers_saved.specs.declared.kind.TheConstants.{BIT_LISTS};
 use crate::form::{Shape, bits_of, taken};
 use crate::kind::{BIT_LISTS, BITS, Kind};
 use crate::saved::{Loaded, Saved};
-use crate::words::Words;
 use std::alloc::{AllocError, Allocator};
 use vers_bits::bit_vec::BitVec;
 use vers_rank::fast_rs_vec::RsVec;
-
-#[tactic(auto, using(crate::proofs::Sources::bits))]
-impl<A: Allocator + Copy> Words for BitVec<A> {
-    ghost words = { limbs };
-
-    #[inline]
-    fn count_words(&self) -> usize {
-        self.len().div_ceil(64)
-    }
-
-    #[inline]
-    fn word(&self, k: usize) -> u64 {
-        self.limb(k)
-    }
-}
 
 // The shape of a list of so many bits.
 fn shape_of(count: usize) -> Shape
@@ -39,13 +23,15 @@ fn shape_of(count: usize) -> Shape
     }
 }
 
-#[tactic(auto, using(crate::proofs::BitLists::bits))]
+#[tactic(auto, using(crate::proofs::BitLists::bits, crate::proofs::Sources::bits))]
 impl<A: Allocator + Copy> Saved for BitVec<A> {
     ghost kind = { BIT_LISTS };
 
     ghost count = { length };
 
     ghost width = { λ _. 1 };
+
+    ghost words = { limbs };
 
     ghost Fits = { λ _. ⊤ };
 
@@ -56,14 +42,58 @@ impl<A: Allocator + Copy> Saved for BitVec<A> {
     fn shape(&self) -> Option<Shape> {
         Some(shape_of(self.len()))
     }
+
+    #[inline]
+    fn word(&self, k: usize) -> u64 {
+        self.limb(k)
+    }
 }
 
-#[tactic(auto, using(crate::proofs::BitLists::bits))]
+#[tactic(auto, using(crate::proofs::BitLists::bits, crate::proofs::Sources::bits))]
 impl<A: Allocator + Copy> Loaded<A> for BitVec<A> {
     ghost use Rattle.vers_saved.specs.inside.Telling.{bits_tell};
 
     fn make(of: Shape, held: &mut Vec<u64, A>) -> Result<Self, AllocError> {
         Ok(bits_of(of.count, taken(held)))
+    }
+
+    ghost tells = { bits_tell 1 };
+}
+
+#[tactic(auto, using(crate::proofs::BitLists::bits, crate::proofs::Sources::bits))]
+impl<A: Allocator + Copy> Saved for RsVec<A> {
+    ghost kind = { BIT_LISTS };
+
+    ghost count = { length };
+
+    ghost width = { λ _. 1 };
+
+    ghost words = { limbs };
+
+    ghost Fits = { λ _. ⊤ };
+
+    fn kind() -> Kind {
+        BIT_LISTS
+    }
+
+    fn shape(&self) -> Option<Shape> {
+        Some(shape_of(self.len()))
+    }
+
+    #[inline]
+    fn word(&self, k: usize) -> u64 {
+        let len = self.len();
+        let place = 64 * k;
+        self.get_bits_unchecked(place, (len - place).min(64))
+    }
+}
+
+#[tactic(auto, using(crate::proofs::BitLists::bits, crate::proofs::Sources::bits))]
+impl<A: Allocator + Copy> Loaded<A> for RsVec<A> {
+    ghost use Rattle.vers_saved.specs.inside.Telling.{bits_tell};
+
+    fn make(of: Shape, held: &mut Vec<u64, A>) -> Result<Self, AllocError> {
+        RsVec::from_bit_vec(bits_of(of.count, taken(held)))
     }
 
     ghost tells = { bits_tell 1 };

@@ -55,34 +55,12 @@ pub(crate) fn put_head<B: Allocator>(out: &mut Vec<u8, B>, shape: Shape) -> u64
     put_summed(out, sum, shape.count as u64)
 }
 
-// How many bytes so many words take between a head and a sum.
-pub(crate) fn size_of_words(count: usize) -> Result<usize, AllocError>
-    ensures { IfOk result (λ size. size ≡ 8 * (count + 6)) }
+// How many words the items of a shape fill.
+pub(crate) fn count_words(kind: &Kind, shape: Shape) -> usize
+    requires { shape.count * item_bits kind.now shape.width ≤ MAX_LEN }
+    ensures { result ≡ limb_count (shape.count * item_bits kind.now shape.width) }
 {
-    if count > usize::MAX / 8 - FRAME {
-        return Err(AllocError);
-    }
-    Ok(8 * (count + FRAME))
-}
-
-// Appends the saved form of words as items of a shape. Out of memory leaves the bytes as they were.
-pub(crate) fn append_saved<W: Words, B: Allocator>(
-    out: &mut Vec<u8, B>,
-    shape: Shape,
-    words: &W,
-) -> Result<(), AllocError>
-    ensures saved { OnOk result (out.new.items
-        ≡ out.old.items ++ saved shape.kind shape.count shape.width (W.words words.now)) }
-    ensures kept { OnErr result (out.new.items ≡ out.old.items) }
-{
-    let count = words.count_words();
-    out.reserve(size_of_words(count)?)?;
-    let mut sum = put_head(out, shape);
-    for k in 0..count {
-        sum = put_summed(out, sum, words.word(k));
-    }
-    put_word(out, sum);
-    Ok(())
+    (shape.count * kind.bits_of_item(shape.width)).div_ceil(64)
 }
 
 /// What the head of a form says: the shape of the list, and how many bits its items have.

@@ -3,6 +3,7 @@ ghost use Rattle.std.specs.Prelude.{◌≡◌, ◌≤◌, ◌*◌, ◌&&◌, ℕ
 ghost use Rattle.vers_saved.specs.Faults.{takes_width, takes_count, item_bits};
 
 use vers_bits::bit_vec::MAX_LEN;
+use vers_rmq::rmq::{binary_rmq, fast_rmq};
 
 /// The order that the words of a list stand in.
 #[derive(Clone, Copy, PartialEq, Eq, Debug, Drop)]
@@ -79,12 +80,70 @@ impl Kind {
     }
 }
 
+/// How many words a list has at most, where each item is one.
+pub const GREATEST_WORDS: u64 = 288230376151711743;
+
 /// Lists of bits, which have one bit an item.
 pub const BIT_LISTS: Kind = Kind {
     number: BITS,
     least_width: 1,
     greatest_width: 1,
     item_bits: 1,
+    least_count: 0,
+    greatest_count: MAX_LEN as u64,
+    order: Order::Any,
+};
+
+/// Ascending lists of numbers.
+pub const SORTED_LISTS: Kind = Kind {
+    number: SORTED,
+    least_width: 64,
+    greatest_width: 64,
+    item_bits: 64,
+    least_count: 0,
+    greatest_count: GREATEST_WORDS,
+    order: Order::Ascending,
+};
+
+/// Lists of bits with few ones: the places of the ones, and the length.
+pub const SPARSE_LISTS: Kind = Kind {
+    number: SPARSE,
+    least_width: 64,
+    greatest_width: 64,
+    item_bits: 64,
+    least_count: 1,
+    greatest_count: GREATEST_WORDS,
+    order: Order::Rising,
+};
+
+/// Lists of numbers in any order, of which a sparse table finds least ones.
+pub const TABLE_VALUES: Kind = Kind {
+    number: VALUES,
+    least_width: 64,
+    greatest_width: 64,
+    item_bits: 64,
+    least_count: 0,
+    greatest_count: binary_rmq::MAX_LEN as u64,
+    order: Order::Any,
+};
+
+/// Lists of numbers in any order, of which blocks find least ones.
+pub const BLOCK_VALUES: Kind = Kind {
+    number: VALUES,
+    least_width: 64,
+    greatest_width: 64,
+    item_bits: 64,
+    least_count: 0,
+    greatest_count: fast_rmq::MAX_LEN as u64,
+    order: Order::Any,
+};
+
+/// Lists of symbols of 1 to 64 bits.
+pub const SYMBOL_LISTS: Kind = Kind {
+    number: SYMBOLS,
+    least_width: 1,
+    greatest_width: 64,
+    item_bits: 0,
     least_count: 0,
     greatest_count: MAX_LEN as u64,
     order: Order::Any,

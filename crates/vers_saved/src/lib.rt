@@ -7,7 +7,9 @@ pub mod fault;
 pub mod form;
 pub mod kind;
 pub mod laws;
+pub mod numbers;
 pub mod saved;
+pub mod stream;
 pub mod words;
 
 /// The first word of each saved form: the bytes `woltsjem`.

@@ -1,19 +1,19 @@
 //! What has a saved form: lists that are saved to bytes and loaded from them.
-ghost use Rattle.std.specs.Prelude.{◌≡◌, ℕ, List, ◌++◌, ◌⊎◌, length, OnOk, OnErr, IfOk, IfErr, IfSome, MatchResult, Some, None, IsErr};
+ghost use Rattle.std.specs.Prelude.{◌≡◌, ◌<◌, ℕ, List, ◌++◌, ◌⊎◌, length, slice_index, OnOk, OnErr, IfOk, IfErr, IfSome, MatchResult, Some, None, IsErr};
 ghost use Rattle.vers_saved.specs.declared.kind.Kind.{Kind};
 ghost use Rattle.vers_saved.specs.Format.{saved};
 ghost use Rattle.vers_saved.specs.Faults.{fault_of};
 ghost use Rattle.vers_saved.specs.Kinds.{IsWhole};
 
 use crate::fault::{LoadError, SaveError};
-use crate::form::{Form, Shape, append_saved, form_of};
+use crate::form::{Form, Shape, count_words, form_of, put_head, put_summed};
 use crate::kind::Kind;
-use crate::words::{FRAME, Words};
+use crate::words::{FRAME, put_word};
 use std::alloc::{AllocError, Allocator};
 
 /// A list that has a saved form, by its words. A list of which `IsWhole` and `Fits` hold is loaded
 /// as it was saved.
-pub trait Saved: Words {
+pub trait Saved {
     // The kind of such lists.
     ghost kind: { Kind };
 
@@ -21,6 +21,9 @@ pub trait Saved: Words {
     ghost count: { Self → ℕ };
 
     ghost width: { Self → ℕ };
+
+    // The words that hold the items.
+    ghost words: { Self → List ℕ };
 
     // What holds of a list beside what its words show.
     ghost Fits: { Self → Type 0 };
@@ -35,10 +38,16 @@ pub trait Saved: Words {
         ensures count { IfSome result (λ s. s.count ≡ count self.now) }
         ensures width { IfSome result (λ s. s.width ≡ width self.now) }
         ensures whole { IfSome result (λ _.
-            IsWhole kind (count self.now) (width self.now) (Self.words self.now)) }
+            IsWhole kind (count self.now) (width self.now) (words self.now)) }
         ensures fits { IfSome result (λ _. Fits self.now) }
         ensures none { result ≡ None
-            → ¬ IsWhole kind (count self.now) (width self.now) (Self.words self.now) };
+            → ¬ IsWhole kind (count self.now) (width self.now) (words self.now) };
+
+    /// The word at a place, of a list that has a saved form.
+    fn word(&self, k: usize) -> u64
+        requires whole { IsWhole kind (count self.now) (width self.now) (words self.now) }
+        requires within { k < length (words self.now) }
+        ensures { result ≡ slice_index (words self.now) k };
 }
 
 /// A list that is made of the words that it was saved by, in memory of an allocator `A`.
@@ -62,8 +71,32 @@ pub fn saved_size<S: Saved>(list: &S) -> Option<usize>
     ensures none { result ≡ None
         → ¬ IsWhole S.kind (S.count list.now) (S.width list.now) (S.words list.now) }
 {
-    let _shape = list.shape()?;
-    Some(8 * (list.count_words() + FRAME))
+    let shape = list.shape()?;
+    Some(8 * (count_words(&S::kind(), shape) + FRAME))
+}
+
+// Appends the saved form of a list with that shape. Out of memory leaves the bytes as they were.
+#[tactic(auto, using(crate::proofs::RoundTrips::counts))]
+fn append_saved<S: Saved, B: Allocator>(
+    list: &S,
+    shape: Shape,
+    out: &mut Vec<u8, B>,
+) -> Result<(), AllocError>
+    requires count { shape.count ≡ S.count list.now }
+    requires width { shape.width ≡ S.width list.now }
+    requires whole { IsWhole S.kind (S.count list.now) (S.width list.now) (S.words list.now) }
+    ensures saved { OnOk result (out.new.items
+        ≡ out.old.items ++ saved shape.kind shape.count shape.width (S.words list.now)) }
+    ensures kept { OnErr result (out.new.items ≡ out.old.items) }
+{
+    let count = count_words(&S::kind(), shape);
+    out.reserve(8 * (count + FRAME))?;
+    let mut sum = put_head(out, shape);
+    for k in 0..count {
+        sum = put_summed(out, sum, list.word(k));
+    }
+    put_word(out, sum);
+    Ok(())
 }
 
 /// Appends the saved form of a list. A refusal leaves the bytes as they were.
@@ -82,7 +115,7 @@ pub fn save_to_vec<S: Saved, B: Allocator>(
     let Some(shape) = list.shape() else {
         return Err(SaveError::NoForm);
     };
-    append_saved(out, shape, list)?;
+    append_saved(list, shape, out)?;
     Ok(())
 }
 

@@ -12,15 +12,11 @@ use std::alloc::{AllocError, Allocator};
 pub(crate) const FRAME: usize = 6;
 
 /// Words, one after another.
-pub trait Words {
+pub(crate) trait Words {
     // The words.
     ghost words: { Self → List ℕ };
 
-    /// How many words there are.
-    fn count_words(&self) -> usize
-        ensures { result ≡ length (words self.now) };
-
-    /// The word at a place.
+    // The word at a place.
     fn word(&self, k: usize) -> u64
         requires { k < length (words self.now) }
         ensures { result ≡ slice_index (words self.now) k };
@@ -36,11 +32,6 @@ impl<'a> Words for Chunks<'a> {
     ghost words = { λ c. map bytes_word c.chunks.now };
 
     #[inline]
-    fn count_words(&self) -> usize {
-        self.chunks.len()
-    }
-
-    #[inline]
     fn word(&self, k: usize) -> u64 {
         word_of(self.chunks[k])
     }
@@ -48,11 +39,6 @@ impl<'a> Words for Chunks<'a> {
 
 impl<A: Allocator> Words for Vec<u64, A> {
     ghost words = { λ v. v.items };
-
-    #[inline]
-    fn count_words(&self) -> usize {
-        self.len()
-    }
 
     #[inline]
     fn word(&self, k: usize) -> u64 {

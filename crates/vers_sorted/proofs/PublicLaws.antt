@@ -1,6 +1,6 @@
 -- The laws that proofs of other crates may cite. A crate above imports this file and no other of this folder.
 use Rattle.std.proofs.Common.{◌≡◌, ℕ, ◌+◌, ◌-◌, ◌<◌, ◌≤◌, Bool, List, length, slice_get, None, refl}
-use Rattle.std.specs.Prelude.{◌↔◌, IsTrue, slice_index, map, nat_lt}
+use Rattle.std.specs.Prelude.{◌↔◌, IsTrue, slice_index, map, nat_le, nat_lt}
 use Rattle.std.specs.List.Sorted.{IsNonDecreasing, IsStrictlyIncreasing}
 use Rattle.vers_bits.specs.Bits.{is_bit, places}
 use Rattle.vers_sorted.specs.Ones.{ones_at}
@@ -15,6 +15,10 @@ use Rattle.vers_sorted.proofs.Orders as Orders
 -- each number is below the next just where the list rises strictly
 pub each_next-rising : (numbers : List ℕ) → IsTrue (each_next nat_lt numbers) ↔ IsStrictlyIncreasing numbers
 each_next-rising numbers = Orders.rising_is numbers (each_next nat_lt numbers) refl
+
+-- each number is not above the next just where the list ascends
+pub each_next-ascending : (numbers : List ℕ) → IsTrue (each_next nat_le numbers) ↔ IsNonDecreasing numbers
+each_next-ascending numbers = Orders.ascending_is numbers (each_next nat_le numbers) refl
 
 -- ---- members below a number
 

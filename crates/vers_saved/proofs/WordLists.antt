@@ -1,0 +1,79 @@
+-- Saved forms of lists of numbers.
+use Rattle.std.proofs.Common.{◌≡◌, ℕ, suc, ◌+◌, ◌-◌, ◌*◌, ◌^◌, ◌<◌, ◌≤◌, Bool, true, List, [], ◌∷◌, length, get_or, refl, sym, ap, ◌∙◌, inl, inr, arith}
+use Rattle.std.specs.Prelude.{nat_le, nat_lt}
+use Rattle.std.specs.List.Sorted.{IsNonDecreasing}
+use Rattle.std.proofs.lemmas.Bool.{cases_lt}
+use Rattle.std.proofs.lemmas.Bool.Decides.{nat_tests}
+use Rattle.std.proofs.lemmas.List.{get_or_past}
+use Rattle.vers_sorted.specs.Sorted.{each_next}
+use Rattle.vers_sorted.proofs.PublicLaws.{each_next-ascending}
+use Rattle.vers_saved.specs.declared.kind.Kind.{Kind}
+use Rattle.vers_saved.specs.declared.kind.TheConstants.{SORTED_LISTS, TABLE_VALUES, BLOCK_VALUES}
+use Rattle.vers_saved.specs.Faults.{takes_width, takes_count, item_bits, in_order}
+use Rattle.vers_saved.specs.Kinds.{IsWhole}
+use Rattle.vers_saved.proofs.WordBytes.{AreWords}
+use Rattle.vers_saved.proofs.BitLists.{any_order, within}
+
+-- numbers of 64 bits, as words of a kind
+pub whole_numbers : (kind : Kind) (numbers : List ℕ) → takes_width kind 64 ≡ true → takes_count kind (length numbers) ≡ true → item_bits kind 64 ≡ 64
+    → length numbers ≤ 288230376151711743 → AreWords numbers → in_order kind.order numbers ≡ true → IsWhole kind (length numbers) 64 numbers
+whole_numbers kind numbers wide many each few fit ordered =
+    let all : length numbers * item_bits kind 64 ≡ length numbers * 64 = ap (λ m. length numbers * m) each in
+    record {
+      wide = wide;
+      many = many;
+      small = omega (arith, all);
+      counted = omega (arith, all);
+      fit = fit;
+      padded = inl (omega (arith, all));
+      ordered = ordered;
+    }
+
+pub whole_sorted : (members : List ℕ) → length members ≤ 288230376151711743 → AreWords members → IsNonDecreasing members → IsWhole SORTED_LISTS (length members) 64 members
+whole_sorted members few fit up =
+    whole_numbers SORTED_LISTS members refl (within 0 288230376151711743 (length members) (omega arith) few) refl few fit ((each_next-ascending members).1 up)
+
+pub whole_table : (items : List ℕ) → length items ≤ 4294967295 → AreWords items → IsWhole TABLE_VALUES (length items) 64 items
+whole_table items few fit =
+    whole_numbers TABLE_VALUES items refl (within 0 4294967295 (length items) (omega arith) few) refl (omega arith) fit (any_order items)
+
+pub whole_blocks : (items : List ℕ) → length items ≤ 549755813760 → AreWords items → IsWhole BLOCK_VALUES (length items) 64 items
+whole_blocks items few fit =
+    whole_numbers BLOCK_VALUES items refl (within 0 549755813760 (length items) (omega arith) few) refl (omega arith) fit (any_order items)
+
+-- members that ascend to a word are words
+pub words_to_last : (members : List ℕ) (last : ℕ) → IsNonDecreasing members → last ≡ get_or members (length members - 1) 0 → last < 2 ^ 64 → AreWords members
+words_to_last members last up is small k = elim (cases_lt k (length members)) [
+  | inl inside ↦ omega (arith, up k (length members - 1) 0 (omega arith) (omega arith), is)
+  | inr past ↦ rw (get_or_past members k 0 past) (omega arith)
+]
+
+pub no_words : (members : List ℕ) → length members ≡ 0 → AreWords members
+no_words members none k = rw (get_or_past members k 0 (omega arith)) (omega arith)
+
+-- how many words there may be
+pub sorted_few : (members : List ℕ) (count width : ℕ) → IsWhole SORTED_LISTS count width members → (count ≡ length members) × (count ≤ 288230376151711743) × (64 ≡ width)
+sorted_few members count width whole =
+    let wide : 64 ≡ width = grind (arith, nat_tests, whole.wide) in
+    (omega (arith, whole.counted, whole.small), omega (arith, whole.small), wide)
+
+pub table_few : (items : List ℕ) (count width : ℕ) → IsWhole TABLE_VALUES count width items → (count ≡ length items) × (count ≤ 4294967295) × (64 ≡ width)
+table_few items count width whole =
+    let wide : 64 ≡ width = grind (arith, nat_tests, whole.wide) in
+    let few : count ≤ 4294967295 = grind (arith, nat_tests, whole.many) in
+    (omega (arith, whole.counted, whole.small), few, wide)
+
+pub blocks_few : (items : List ℕ) (count width : ℕ) → IsWhole BLOCK_VALUES count width items → (count ≡ length items) × (count ≤ 549755813760) × (64 ≡ width)
+blocks_few items count width whole =
+    let wide : 64 ≡ width = grind (arith, nat_tests, whole.wide) in
+    let few : count ≤ 549755813760 = grind (arith, nat_tests, whole.many) in
+    (omega (arith, whole.counted, whole.small), few, wide)
+
+-- words that are loaded ascend
+pub sorted_up : (members : List ℕ) (count width : ℕ) → IsWhole SORTED_LISTS count width members → IsNonDecreasing members
+sorted_up members count width whole = (each_next-ascending members).0 whole.ordered
+
+pub too_many : (members : List ℕ) (count width : ℕ) → 288230376151711743 < length members → count ≡ length members → IsWhole SORTED_LISTS count width members → ⊥
+too_many members count width many is whole = omega (arith, (sorted_few members count width whole).1)
+
+pub ruleset numbers = (whole_sorted, whole_table, whole_blocks, sorted_few, table_few, blocks_few, sorted_up, too_many, no_words, words_to_last)

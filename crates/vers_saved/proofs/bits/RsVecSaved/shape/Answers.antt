@@ -1,0 +1,6 @@
+use Rattle.std.proofs.Common.{arith}
+use Rattle.vers_saved.proofs.BitLists.{whole_limbs}
+use Rattle.vers_saved.proofs.bits.RsVecSaved.shape.Goals as goal
+
+pub returns-clause-whole : goal.returns-clause-whole
+returns-clause-whole g c = whole_limbs c.args.self.now (omega (arith, c.len.ensures.value, c.len.ensures.bounded))

@@ -1,0 +1,160 @@
+//! Lists of numbers, saved as they are, each as a word.
+ghost use Rattle.std.specs.Prelude.{◌≡◌, ◌<◌, ◌^◌, ⊤, ℕ, length, slice_index};
+ghost use Rattle.vers_saved.specs.declared.kind.TheConstants.{SORTED_LISTS, TABLE_VALUES, BLOCK_VALUES};
+
+use crate::form::{Shape, taken};
+use crate::kind::{BLOCK_VALUES, GREATEST_WORDS, Kind, SORTED, SORTED_LISTS, TABLE_VALUES, VALUES};
+use crate::saved::{Loaded, Saved};
+use std::alloc::{AllocError, Allocator};
+use vers_rmq::rmq::binary_rmq::BinaryRmq;
+use vers_rmq::rmq::fast_rmq::FastRmq;
+use vers_sorted::elias_fano::EliasFanoVec;
+
+// The shape of so many words of a kind, one for each item.
+pub(crate) fn words_shape(kind: u64, count: usize) -> Shape
+    ensures kind { result.kind ≡ kind }
+    ensures count { result.count ≡ count }
+    ensures width { result.width ≡ 64 }
+{
+    Shape {
+        kind,
+        count,
+        width: 64,
+    }
+}
+
+// All items of a slice are words.
+fn are_words(items: &[u64])
+    ensures { (k : ℕ) → slice_index items.now k < 2 ^ 64 }
+{}
+
+// All members of a list are words, since the last one is.
+#[tactic(auto, using(crate::proofs::WordLists::numbers))]
+fn read_last<A: Allocator + Copy>(list: &EliasFanoVec<A>)
+    ensures { (k : ℕ) → slice_index list.now k < 2 ^ 64 }
+{
+    let count = list.len();
+    if count == 0 {
+        return;
+    }
+    let _last = list.get_unchecked(count - 1);
+}
+
+#[tactic(auto, using(crate::proofs::WordLists::numbers))]
+impl<A: Allocator + Copy> Saved for EliasFanoVec<A> {
+    ghost kind = { SORTED_LISTS };
+
+    ghost count = { length };
+
+    ghost width = { λ _. 64 };
+
+    ghost words = { λ members. members };
+
+    ghost Fits = { λ _. ⊤ };
+
+    fn kind() -> Kind {
+        SORTED_LISTS
+    }
+
+    fn shape(&self) -> Option<Shape> {
+        let count = self.len();
+        if count as u64 > GREATEST_WORDS {
+            return None;
+        }
+        read_last(self);
+        Some(words_shape(SORTED, count))
+    }
+
+    #[inline]
+    fn word(&self, k: usize) -> u64 {
+        self.get_unchecked(k)
+    }
+}
+
+#[tactic(auto, using(crate::proofs::WordLists::numbers))]
+impl<A: Allocator + Copy> Loaded<A> for EliasFanoVec<A> {
+    ghost use Rattle.vers_saved.specs.inside.Telling.{numbers_tell};
+
+    fn make(of: Shape, held: &mut Vec<u64, A>) -> Result<Self, AllocError> {
+        let alloc = *held.allocator();
+        EliasFanoVec::from_slice(alloc, held.as_slice())
+    }
+
+    ghost tells = { numbers_tell 64 };
+}
+
+#[tactic(auto, using(crate::proofs::WordLists::numbers))]
+impl<A: Allocator + Copy> Saved for BinaryRmq<A> {
+    ghost kind = { TABLE_VALUES };
+
+    ghost count = { length };
+
+    ghost width = { λ _. 64 };
+
+    ghost words = { λ items. items };
+
+    ghost Fits = { λ _. ⊤ };
+
+    fn kind() -> Kind {
+        TABLE_VALUES
+    }
+
+    fn shape(&self) -> Option<Shape> {
+        are_words(self.as_slice());
+        Some(words_shape(VALUES, self.len()))
+    }
+
+    #[inline]
+    fn word(&self, k: usize) -> u64 {
+        self.item(k)
+    }
+}
+
+#[tactic(auto, using(crate::proofs::WordLists::numbers))]
+impl<A: Allocator + Copy> Loaded<A> for BinaryRmq<A> {
+    ghost use Rattle.vers_saved.specs.inside.Telling.{numbers_tell};
+
+    fn make(of: Shape, held: &mut Vec<u64, A>) -> Result<Self, AllocError> {
+        BinaryRmq::from_vec(taken(held))
+    }
+
+    ghost tells = { numbers_tell 64 };
+}
+
+#[tactic(auto, using(crate::proofs::WordLists::numbers))]
+impl<A: Allocator + Copy> Saved for FastRmq<A> {
+    ghost kind = { BLOCK_VALUES };
+
+    ghost count = { length };
+
+    ghost width = { λ _. 64 };
+
+    ghost words = { λ items. items };
+
+    ghost Fits = { λ _. ⊤ };
+
+    fn kind() -> Kind {
+        BLOCK_VALUES
+    }
+
+    fn shape(&self) -> Option<Shape> {
+        are_words(self.as_slice());
+        Some(words_shape(VALUES, self.len()))
+    }
+
+    #[inline]
+    fn word(&self, k: usize) -> u64 {
+        self.as_slice()[k]
+    }
+}
+
+#[tactic(auto, using(crate::proofs::WordLists::numbers))]
+impl<A: Allocator + Copy> Loaded<A> for FastRmq<A> {
+    ghost use Rattle.vers_saved.specs.inside.Telling.{numbers_tell};
+
+    fn make(of: Shape, held: &mut Vec<u64, A>) -> Result<Self, AllocError> {
+        FastRmq::from_vec(taken(held))
+    }
+
+    ghost tells = { numbers_tell 64 };
+}

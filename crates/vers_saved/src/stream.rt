@@ -1,0 +1,129 @@
+//! Saved forms, written to any writer and read from any reader.
+ghost use Rattle.std.specs.Prelude.{◌≡◌, ◌≢◌, ℕ, ◌+◌, ◌≤◌, ◌++◌, List, vec_len, vec_capacity, OnOk, IfOk, IfErr, IfSome, Some, MatchResult, ◌⊎◌};
+ghost use Rattle.std.specs.Io.KnownBytes.{Appends, IsAtEnd, Keeps};
+ghost use Rattle.vers_saved.specs.Format.{saved};
+ghost use Rattle.vers_saved.specs.Kinds.{IsWhole};
+ghost use Rattle.vers_saved.specs.Streams.{Writes, IsRefused};
+
+use crate::fault::{LoadError, SaveError};
+use crate::form::{Shape, count_words, put_head, put_summed};
+use crate::saved::{Loaded, Saved, load_from_slice};
+use crate::words::put_word;
+use std::alloc::Allocator;
+use std::io::{Read, Write};
+
+/// How many bytes are gathered before they are written.
+const BLOCK: usize = 65536;
+
+// Writes a whole piece, or as much of it as the writer takes before a fault.
+fn write_piece<W: Write>(writer: &mut W, piece: &[u8]) -> Result<(), SaveError>
+    ensures written { Writes result (W.contents writer.old) (W.contents writer.new) piece.now }
+    ensures kind { IfErr result (λ e. e ≡ SaveError.Write) }
+{
+    let mut rest = piece;
+    while !rest.is_empty() {
+        match writer.write(rest) {
+            Ok(0) => return Err(SaveError::Write),
+            Ok(taken) => rest = &rest[taken..],
+            Err(_) => return Err(SaveError::Write),
+        }
+    }
+    Ok(())
+}
+
+// Writes what a buffer holds, where it has no room for two words.
+fn make_room<W: Write, A: Allocator>(
+    writer: &mut W,
+    buffer: &mut Vec<u8, A>,
+) -> Result<(), SaveError>
+    requires { 65536 ≤ vec_capacity buffer.old }
+    ensures written { (text : List ℕ) × (rest : List ℕ)
+        × Appends (W.contents writer.old) (W.contents writer.new) text
+        × (buffer.old.items ≡ text ++ rest) × OnOk result (rest ≡ buffer.new.items) }
+    ensures room { OnOk result (vec_len buffer.new + 16 ≤ vec_capacity buffer.new) }
+    ensures capacity { 65536 ≤ vec_capacity buffer.new }
+    ensures kind { IfErr result (λ e. e ≡ SaveError.Write) }
+{
+    if buffer.len() <= buffer.capacity() - 16 {
+        return Ok(());
+    }
+    write_piece(writer, buffer.as_slice())?;
+    buffer.clear();
+    Ok(())
+}
+
+// Writes the saved form of a list with that shape, by a buffer.
+#[tactic(auto, using(crate::proofs::RoundTrips::counts))]
+fn write_words<S: Saved, W: Write, A: Allocator>(
+    writer: &mut W,
+    mut buffer: Vec<u8, A>,
+    shape: Shape,
+    list: &S,
+) -> Result<(), SaveError>
+    requires count { shape.count ≡ S.count list.now }
+    requires width { shape.width ≡ S.width list.now }
+    requires whole { IsWhole S.kind (S.count list.now) (S.width list.now) (S.words list.now) }
+    requires room { 65536 ≤ vec_capacity buffer }
+    requires empty { vec_len buffer ≡ 0 }
+    ensures written { Writes result (W.contents writer.old) (W.contents writer.new)
+        (saved shape.kind shape.count shape.width (S.words list.now)) }
+    ensures kind { IfErr result (λ e. e ≡ SaveError.Write) }
+{
+    let count = count_words(&S::kind(), shape);
+    let mut sum = put_head(&mut buffer, shape);
+    for k in 0..count {
+        if let Err(error) = make_room(writer, &mut buffer) {
+            return Err(error);
+        }
+        sum = put_summed(&mut buffer, sum, list.word(k));
+    }
+    put_word(&mut buffer, sum);
+    write_piece(writer, buffer.as_slice())
+}
+
+/// Writes the saved form of a list, by blocks of 64 KiB. After a fault of the writer a beginning of
+/// it was written, and after another one nothing.
+pub fn save<S: Saved, A: Allocator, W: Write>(
+    alloc: A,
+    list: &S,
+    writer: &mut W,
+) -> Result<(), SaveError>
+    ensures written { result ≢ Err SaveError.NoForm
+        → Writes result (W.contents writer.old) (W.contents writer.new)
+        (saved S.kind.number (S.count list.now) (S.width list.now) (S.words list.now)) }
+    ensures kept { IfErr result (λ e. (e ≡ SaveError.Write)
+        ⊎ Keeps (W.contents writer.old) (W.contents writer.new)) }
+    ensures whole { OnOk result
+        (IsWhole S.kind (S.count list.now) (S.width list.now) (S.words list.now) × S.Fits list.now) }
+    ensures none { IfErr result (λ e. e ≡ SaveError.NoForm
+        → ¬ IsWhole S.kind (S.count list.now) (S.width list.now) (S.words list.now)) }
+{
+    let Some(shape) = list.shape() else {
+        return Err(SaveError::NoForm);
+    };
+    let Ok(buffer) = Vec::with_capacity(alloc, BLOCK) else {
+        return Err(SaveError::Memory);
+    };
+    write_words(writer, buffer, shape, list)
+}
+
+/// The list that the bytes up to the end of a reader are the saved form of.
+pub fn load<S: Loaded<A>, A: Allocator + Copy, R: Read>(
+    alloc: A,
+    reader: &mut R,
+) -> Result<S, LoadError>
+    ensures loaded { IfOk result (λ v. IfSome (R.remaining reader.old) (λ bytes.
+        bytes ≡ saved S.kind.number (S.count v) (S.width v) (S.words v))) }
+    ensures whole { IfOk result (λ v. IsWhole S.kind (S.count v) (S.width v) (S.words v) × S.Fits v) }
+    ensures refused { IfErr result (λ e. IsRefused S.kind (R.remaining reader.old) e) }
+    ensures back { (x : S) → IsWhole S.kind (S.count x) (S.width x) (S.words x) → S.Fits x
+        → R.remaining reader.old ≡ Some (saved S.kind.number (S.count x) (S.width x) (S.words x))
+        → MatchResult result (λ v. v ≡ x) (λ e. (e ≡ LoadError.Read) ⊎ (e ≡ LoadError.Memory)) }
+    ensures end { OnOk result (IsAtEnd (R.remaining reader.new)) }
+{
+    let mut bytes = Vec::new(alloc);
+    if reader.read_to_end(&mut bytes).is_err() {
+        return Err(LoadError::Read);
+    }
+    load_from_slice(alloc, bytes.as_slice())
+}
