@@ -1,20 +1,24 @@
 -- The nodes around a node: its parent, its depth, how many nodes are in its tree, and how many come before it.
-use Rattle.std.proofs.Common.{◌≡◌, ℕ, zero, suc, ◌+◌, ◌*◌, ◌<◌, ◌≤◌, Bool, true, false, ◌&&◌, List, [], ◌∷◌, length, take, ltb, leb, count_by, pos, negsuc, Option, Some, None, arith, ⊎_elim, sym, refl, ap, ◌∙◌}
-use Rattle.std.specs.Prelude.{Decides}
+use Rattle.std.proofs.Common.{◌≡◌, ℕ, zero, suc, ◌+◌, ◌*◌, ◌<◌, ◌≤◌, Bool, true, false, ◌&&◌, List, [], ◌∷◌, ◌++◌, length, take, drop, ltb, leb, count_by, pos, negsuc, Option, Some, None, arith, ⊎_elim, sym, refl, ap, ◌∙◌}
+use Rattle.std.specs.Prelude.{Decides, filter}
 use Rattle.std.specs.List.{last_or}
 use Rattle.std.proofs.lemmas.Bool.{lt-ltb, le-ltb, le-leb}
 use Rattle.std.proofs.lemmas.Bool.Decides.{Decides-ltb, Decides-and, leb_tells}
-use Rattle.std.proofs.lemmas.List.Sums.{length-filter, sum_by-cons}
-use Rattle.vers_bits.specs.Bits.{count, is_bit}
+use Rattle.std.proofs.lemmas.List.{append-nil, take-append-drop, length-take, length-drop, take_all}
+use Rattle.std.proofs.lemmas.List.Elements.{filter-append, All-map, All-weaker}
+use Rattle.std.proofs.lemmas.List.Sums.{length-filter}
+use Rattle.vers_bits.specs.Bits.{count, is_bit, places}
+use Rattle.vers_bits.proofs.PublicLaws.{length-places}
+use Rattle.vers_trees.proofs.Lists.{shifted, places-append, filter_all, filter_none, HasBitAt, all_places}
 use Rattle.vers_trees.specs.Excess.{excess, last_rise_before}
 use Rattle.vers_trees.specs.Forest.{Forest, text, pairs}
 use Rattle.vers_trees.specs.Nodes.{nodes, closing, is_ancestor, is_proper_ancestor, proper_ancestors, depth, parent, subtree, node_index}
 use Rattle.vers_trees.proofs.Searches.{before_some, before_none}
 use Rattle.vers_trees.proofs.Paired.{closes_rises, closes_paired}
 use Rattle.vers_trees.proofs.Pairs.{paired_from_contains}
-use Rattle.vers_trees.proofs.Counts.{count_agree, count_by-map, one_if, strictly_contains, contains_pair, pairs_around, pairs_within}
+use Rattle.vers_trees.proofs.Counts.{count_agree, count_by-map, strictly_contains, pairs_around}
 use Rattle.vers_trees.proofs.Ancestors.{nested, IsAbove, above_from_before, parent_is_nearest, no_parent}
-use Rattle.vers_trees.proofs.NodeList.{HasPair, one_pair, closes_to, closing_is, ones_from, nodes_from_ones, opens, inside, last_node, no_last_node}
+use Rattle.vers_trees.proofs.NodeList.{HasPair, one_pair, closes_to, closing_is, nodes_are_ones, opens, inside, last_node, no_last_node}
 
 -- ---- what a test tells
 pub refuted : {P : Type 0} → (b : Bool) → Decides b P → (P → ⊥) → b ≡ false
@@ -93,39 +97,20 @@ depth_is_excess F v h =
     let c = count_agree (λ (q : ℕ × ℕ). is_proper_ancestor F q.0 v) (λ (q : ℕ × ℕ). strictly_contains q (v, closing F v)) (pairs F) (λ q i. ap (λ (k : ℕ). ltb q.0 v && ltb (closing F v) k) (closing_is F q.0 q.1 (paired_from_contains F q i))) in
     ap pos (a ∙ b ∙ c) ∙ pairs_around F v (closing F v) (closes_paired F v (closing F v) h.closes)
 
-pub subtree_size_is : (F : Forest) (v : ℕ) → HasPair F v → 2 * length (subtree F v) + v ≡ closing F v + 1
-unfolding subtree is_ancestor
-subtree_size_is F v h =
-    let a = length-filter (λ w. is_ancestor F v w) (nodes F) in
-    let b = count_by-map (λ w. is_ancestor F v w) (λ (q : ℕ × ℕ). q.0) (pairs F) in
-    let c = count_agree (λ (q : ℕ × ℕ). is_ancestor F v q.0) (λ (q : ℕ × ℕ). contains_pair (v, closing F v) q) (pairs F) (λ q i. ap (λ (k : ℕ). leb v q.0 && leb k (closing F v)) (closing_is F q.0 q.1 (paired_from_contains F q i))) in
-    ap (λ (n : ℕ). 2 * n + v) (a ∙ b ∙ c) ∙ pairs_within F v (closing F v) (closes_paired F v (closing F v) h.closes)
-
--- of the ones of a list that begins at place a, those before place v
-ones_none : (l : List Bool) (a v : ℕ) → v ≤ a → count_by (λ w. ltb w v) (ones_from l a) ≡ 0
-ones_none [] a v h = refl
-ones_none (true ∷ l) a v h =
-    let ih = ones_none l (a + 1) v (omega arith) in
-    let c = sum_by-cons (λ w. one_if (ltb w v)) a (ones_from l (a + 1)) in
-    let e : one_if (ltb a v) ≡ 0 = ap one_if (le-ltb a v h) in
-    omega arith
-ones_none (false ∷ l) a v h = ones_none l (a + 1) v (omega arith)
-
-ones_counted : (l : List Bool) (a i v : ℕ) → v ≡ a + i → count_by (λ w. ltb w v) (ones_from l a) ≡ count_by (is_bit true) (take i l)
-ones_counted [] a zero v e = refl
-ones_counted [] a (suc i) v e = refl
-ones_counted (b ∷ l) a zero v e = ones_none (b ∷ l) a v (omega arith)
-ones_counted (true ∷ l) a (suc i) v e =
-    let ih = ones_counted l (a + 1) i v (omega arith) in
-    let c = sum_by-cons (λ w. one_if (ltb w v)) a (ones_from l (a + 1)) in
-    let d = sum_by-cons (λ x. one_if (is_bit true x)) true (take i l) in
-    let f : one_if (ltb a v) ≡ 1 = ap one_if (lt-ltb a v (omega arith)) in
-    omega arith
-ones_counted (false ∷ l) a (suc i) v e =
-    let ih = ones_counted l (a + 1) i v (omega arith) in
-    let d = sum_by-cons (λ x. one_if (is_bit true x)) false (take i l) in
-    omega arith
+-- of the places of a bit, those before place v
+below_counted : (l : List Bool) (v : ℕ) → count_by (λ w. ltb w v) (places true l) ≡ count true l v
+unfolding count
+below_counted l v =
+    let k = take v l in let t = length-take v l in let d = length-drop v l in
+    let low = All-weaker (HasBitAt true k) (λ w. ltb w v ≡ true) (λ w b. let i = b.inside in lt-ltb w v (omega arith)) (places true k) (all_places true k) in
+    let high = All-map (λ w. ltb w v ≡ false) (λ x. length k + x) (places true (drop v l)) (All-weaker (HasBitAt true (drop v l)) (λ x. ltb (length k + x) v ≡ false) (λ x b. let i = b.inside in le-ltb (length k + x) v (omega arith)) (places true (drop v l)) (all_places true (drop v l))) in
+    let kept : filter (λ w. ltb w v) (places true l) ≡ places true k =
+    ap (λ (m : List Bool). filter (λ w. ltb w v) (places true m)) (sym (take-append-drop v l))
+    ∙ ap (filter (λ w. ltb w v)) (places-append true k (drop v l))
+    ∙ filter-append (λ w. ltb w v) (places true k) (shifted (length k) (places true (drop v l)))
+    ∙ ap (λ (ys : List ℕ). filter (λ w. ltb w v) (places true k) ++ ys) (filter_none (λ w. ltb w v) _ high) ∙ append-nil _ ∙ filter_all (λ w. ltb w v) (places true k) low in
+    sym (length-filter (λ w. ltb w v) (places true l)) ∙ ap length kept ∙ length-places true k ∙ ap (count_by (is_bit true)) (take_all (length k) k (omega arith))
 
 pub index_is_rank : (F : Forest) (v : ℕ) → node_index F v ≡ count true (text F) v
-unfolding node_index count
-index_is_rank F v = ap (λ (xs : List ℕ). count_by (λ w. ltb w v) xs) (nodes_from_ones F) ∙ ones_counted (text F) 0 v v (omega arith)
+unfolding node_index
+index_is_rank F v = ap (λ (xs : List ℕ). count_by (λ w. ltb w v) xs) (nodes_are_ones F) ∙ below_counted (text F) v

@@ -1,4 +1,4 @@
--- How many pairs of a forest pass a test: those around a pair and those in it, by its places.
+-- How many pairs of a forest are around a pair, by its places.
 use Rattle.std.proofs.Common.{◌≡◌, ℕ, ◌+◌, ◌*◌, ◌<◌, ◌≤◌, ◌⊎◌, inl, inr, Bool, true, false, ◌&&◌, cond, List, [], ◌∷◌, ◌++◌, map, length, ltb, leb, count_by, pos, ◌+ℤ◌, arith, refl, sym, ap, ◌∙◌}
 use Rattle.std.specs.List.{Contains}
 use Rattle.std.proofs.lemmas.Int.{ints}
@@ -42,13 +42,6 @@ count_none p (x ∷ xs) h =
     let e : one_if (p x) ≡ 0 = ap (λ (b : Bool). one_if b) (h x (contains_first x xs)) in
     let r = count_by-cons p x xs in omega arith
 
-pub count_every : {X : Type 0} → (p : X → Bool) (xs : List X) → ((x : X) → Contains xs x → p x ≡ true) → count_by p xs ≡ length xs
-count_every p [] h = refl
-count_every p (x ∷ xs) h =
-    let ih = count_every p xs (λ y c. h y (contains_later x xs y c)) in
-    let e : one_if (p x) ≡ 1 = ap (λ (b : Bool). one_if b) (h x (contains_first x xs)) in
-    let r = count_by-cons p x xs in omega arith
-
 -- a count over the pairs of a tree and what follows it
 pub count_tree : (p : ℕ × ℕ → Bool) (X Y : Forest) → count_by p (pairs (tree X Y)) ≡ one_if (p (0, length (text X) + 1)) + (count_by (λ q. p (moved 1 q)) (pairs X) + count_by (λ q. p (moved (length (text X) + 2) q)) (pairs Y))
 count_tree p X Y =
@@ -56,18 +49,6 @@ count_tree p X Y =
     let b = count_by-append p (map (moved 1) (pairs X)) (map (moved (length (text X) + 2)) (pairs Y)) in
     let c = count_by-map p (moved 1) (pairs X) in
     let d = count_by-map p (moved (length (text X) + 2)) (pairs Y) in
-    omega arith
-
--- a forest has half as many pairs as brackets
-pub length-pairs : (F : Forest) → 2 * length (pairs F) ≡ length (text F)
-length-pairs none = refl
-length-pairs (tree X Y) =
-    let x = length-pairs X in
-    let y = length-pairs Y in
-    let t = length-tree X Y in
-    let a = length-append (map (moved 1) (pairs X)) (map (moved (length (text X) + 2)) (pairs Y)) in
-    let b = length-map (pairs X) (moved 1) in
-    let c = length-map (pairs Y) (moved (length (text X) + 2)) in
     omega arith
 
 pub inside_pair : (F : Forest) (q : ℕ × ℕ) → Contains (pairs F) q → (q.0 < q.1) × (q.1 < length (text F))
@@ -80,49 +61,25 @@ moved_lt n a x v e = grind (arith, nat_tests)
 moved_gt : (n b y c : ℕ) → c ≡ n + y → ltb c (n + b) ≡ ltb y b
 moved_gt n b y c e = grind (arith, nat_tests)
 
-moved_le : (n a x v : ℕ) → v ≡ n + x → leb v (n + a) ≡ leb x a
-moved_le n a x v e = grind (arith, nat_tests)
-
-moved_ge : (n b y c : ℕ) → c ≡ n + y → leb (n + b) c ≡ leb b y
-moved_ge n b y c e = grind (arith, nat_tests)
-
 both : (a b c d : Bool) → a ≡ b → c ≡ d → (a && c) ≡ (b && d)
 both a b c d e f = cc
-
--- q has p between its numbers, or is p
-abbrev pub contains_pair : ℕ × ℕ → ℕ × ℕ → Bool
-contains_pair q p = leb q.0 p.0 && leb p.1 q.1
 
 -- q has p between its numbers
 abbrev pub strictly_contains : ℕ × ℕ → ℕ × ℕ → Bool
 strictly_contains q p = ltb q.0 p.0 && ltb p.1 q.1
 
--- how many pairs, moved right by n, strictly contain the pair (v, c), and how many it contains
+-- how many pairs, moved right by n, strictly contain the pair (v, c)
 abbrev around : ℕ → Forest → ℕ → ℕ → ℕ
 around n F v c = count_by (λ q. strictly_contains (moved n q) (v, c)) (pairs F)
-
-abbrev within : ℕ → Forest → ℕ → ℕ → ℕ
-within n F v c = count_by (λ q. contains_pair (v, c) (moved n q)) (pairs F)
 
 around_moved : (n : ℕ) (F : Forest) (x y v c : ℕ) → v ≡ n + x → c ≡ n + y → around n F v c ≡ count_by (λ q. strictly_contains q (x, y)) (pairs F)
 around_moved n F x y v c e f =
     count_agree (λ q. strictly_contains (moved n q) (v, c)) (λ q. strictly_contains q (x, y)) (pairs F) (λ q _. both _ _ _ _ (moved_lt n q.0 x v e) (moved_gt n q.1 y c f))
 
-within_moved : (n : ℕ) (F : Forest) (x y v c : ℕ) → v ≡ n + x → c ≡ n + y → within n F v c ≡ count_by (λ q. contains_pair (x, y) q) (pairs F)
-within_moved n F x y v c e f =
-    count_agree (λ q. contains_pair (v, c) (moved n q)) (λ q. contains_pair (x, y) q) (pairs F) (λ q _. both _ _ _ _ (moved_le n q.0 x v e) (moved_ge n q.1 y c f))
-
 -- none of the pairs that open at or after v, or close at or before c, is around (v, c)
 around_none : (n : ℕ) (F : Forest) (v c : ℕ) → (v ≤ n) ⊎ (n + length (text F) ≤ c + 1) → around n F v c ≡ 0
 around_none n F v c (inl h) = count_none (λ q. strictly_contains (moved n q) (v, c)) (pairs F) (λ q _. and_left _ _ (le-ltb (n + q.0) v (omega arith)))
 around_none n F v c (inr h) = count_none (λ q. strictly_contains (moved n q) (v, c)) (pairs F) (λ q i. and_right _ _ (le-ltb c (n + q.1) (let w = (inside_pair F q i).1 in omega arith)))
-
-within_none : (n : ℕ) (F : Forest) (v c : ℕ) → (c ≤ n) ⊎ (n + length (text F) ≤ v + 1) → within n F v c ≡ 0
-within_none n F v c (inl h) = count_none (λ q. contains_pair (v, c) (moved n q)) (pairs F) (λ q i. and_right _ _ (lt-leb (n + q.1) c (let w = (inside_pair F q i).0 in omega arith)))
-within_none n F v c (inr h) = count_none (λ q. contains_pair (v, c) (moved n q)) (pairs F) (λ q i. and_left _ _ (lt-leb v (n + q.0) (let w = inside_pair F q i in let w0 = w.0 in let w1 = w.1 in omega arith)))
-
-within_every : (n : ℕ) (F : Forest) (v c : ℕ) → v ≤ n → n + length (text F) ≤ c + 1 → within n F v c ≡ length (pairs F)
-within_every n F v c h g = count_every (λ q. contains_pair (v, c) (moved n q)) (pairs F) (λ q i. and_from _ _ (le-leb v (n + q.0) (omega arith)) (le-leb (n + q.1) c (let w = (inside_pair F q i).1 in omega arith)))
 
 -- the depth of a node is the excess before it
 pub pairs_around : (F : Forest) (v c : ℕ) → Paired F v c → pos (count_by (λ q. strictly_contains q (v, c)) (pairs F)) ≡ excess (text F) v
@@ -157,33 +114,3 @@ pairs_around (tree X Y) v c (inr (inr p)) =
     let s = excess_in_rest X Y p.0 in
     let s' : excess (text (tree X Y)) v ≡ excess (text Y) p.0 = ap (excess (text (tree X Y))) ev ∙ s in
     omega (arith, ints)
-
--- twice the subtree size is the number of places from the opening bracket to the closing one
-pub pairs_within : (F : Forest) (v c : ℕ) → Paired F v c → 2 * count_by (λ q. contains_pair (v, c) q) (pairs F) + v ≡ c + 1
-pairs_within none v c p = absurd p
-pairs_within (tree X Y) v c (inl p) =
-    let ev = p.0 in let ec = p.1 in
-    let t = count_tree (λ q. contains_pair (v, c) q) X Y in
-    let a : one_if (contains_pair (v, c) (0, length (text X) + 1)) ≡ 1 = ap one_if (and_from (leb v 0) (leb (length (text X) + 1) c) (le-leb v 0 (omega arith)) (le-leb (length (text X) + 1) c (omega arith))) in
-    let b = within_every 1 X v c (omega arith) (omega arith) in
-    let d = within_none (length (text X) + 2) Y v c (inl (omega arith)) in
-    let n = length-pairs X in
-    omega arith
-pairs_within (tree X Y) v c (inr (inl p)) =
-    let k = paired_closes X p.0 p.1 p.4 in
-    let ih = pairs_within X p.0 p.1 p.4 in
-    let t = count_tree (λ q. contains_pair (v, c) q) X Y in
-    let ev = p.2 in let ec = p.3 in let ki = k.inside in let ka = k.after in
-    let a : one_if (contains_pair (v, c) (0, length (text X) + 1)) ≡ 0 = ap one_if (and_left (leb v 0) (leb (length (text X) + 1) c) (lt-leb v 0 (omega arith))) in
-    let b = within_moved 1 X p.0 p.1 v c (omega arith) (omega arith) in
-    let d = within_none (length (text X) + 2) Y v c (inl (omega arith)) in
-    omega arith
-pairs_within (tree X Y) v c (inr (inr p)) =
-    let k = paired_closes Y p.0 p.1 p.4 in
-    let ih = pairs_within Y p.0 p.1 p.4 in
-    let t = count_tree (λ q. contains_pair (v, c) q) X Y in
-    let ev = p.2 in let ec = p.3 in let ki = k.inside in let ka = k.after in
-    let a : one_if (contains_pair (v, c) (0, length (text X) + 1)) ≡ 0 = ap one_if (and_left (leb v 0) (leb (length (text X) + 1) c) (lt-leb v 0 (omega arith))) in
-    let b = within_none 1 X v c (inr (omega arith)) in
-    let d = within_moved (length (text X) + 2) Y p.0 p.1 v c ev ec in
-    omega arith

@@ -16,6 +16,7 @@ use Rattle.vers_trees.proofs.Paired.{Closes}
 use Rattle.vers_trees.proofs.Partners.{after_from_closes}
 use Rattle.vers_trees.proofs.NodeList.{HasPair, node_pair}
 use Rattle.vers_trees.proofs.Around as Around
+use Rattle.vers_trees.proofs.ListsOfNodes.{subtree_size_is}
 use Rattle.vers_trees.proofs.Kin as Kin
 use Rattle.vers_trees.proofs.LevelNodes as LevelNodes
 
@@ -64,7 +65,7 @@ module _ (l : List Bool) (b : IsBalanced l) where
 
     pub subtree_by : (c : ℕ) → closing (forest_of l) v ≡ c → (v < c) × (c < length l) × ((c - v) / 2 + min 1 ((c - v) % 2) ≡ length (subtree (forest_of l) v))
     subtree_by c e =
-        let s = Around.subtree_size_is (forest_of l) v (node_pair (forest_of l) v n) in
+        let s = subtree_size_is (forest_of l) v (node_pair (forest_of l) v n) in
         let p = node_closes in let a = p.after in let i = p.inside in
         (omega arith, omega arith, omega arith)
 

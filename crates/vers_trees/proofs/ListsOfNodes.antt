@@ -1,11 +1,11 @@
 -- The children of a node, and the nodes of its tree, by the tree that stands at its place.
-use Rattle.std.proofs.Common.{◌≡◌, ℕ, suc, ◌+◌, ◌<◌, ◌≤◌, ◌⊎◌, inl, inr, Bool, true, false, List, [], ◌∷◌, ◌++◌, map, length, get_or, eqb, ℤ, pos, negsuc, ◌+ℤ◌, ◌<ℤ◌, Option, Some, arith, length-append, subst, sym, refl, ap, ◌∙◌}
+use Rattle.std.proofs.Common.{◌≡◌, ℕ, suc, ◌+◌, ◌*◌, ◌<◌, ◌≤◌, ◌⊎◌, inl, inr, Bool, true, false, List, [], ◌∷◌, ◌++◌, map, length, get_or, eqb, ℤ, pos, negsuc, ◌+ℤ◌, ◌<ℤ◌, Option, Some, arith, length-append, subst, sym, refl, ap, ◌∙◌}
 use Rattle.std.specs.Prelude.{filter, All, Decides, unwrap_or}
 use Rattle.std.specs.Ordering.{int_eq}
 use Rattle.std.specs.Option.{option_eq}
 use Rattle.std.proofs.lemmas.Int.{ints}
 use Rattle.std.proofs.lemmas.Bool.Decides.{Decides-int_eq}
-use Rattle.std.proofs.lemmas.List.{append-nil, get_or_append_left, get_or-append-add}
+use Rattle.std.proofs.lemmas.List.{append-nil, get_or_append_left, get_or-append-add, length-map}
 use Rattle.std.proofs.lemmas.List.Elements.{filter-append, All-head, All-tail, All-map, All-weaker}
 use Rattle.vers_bits.specs.Bits.{is_bit, places}
 use Rattle.vers_trees.specs.Excess.{excess}
@@ -20,7 +20,7 @@ use Rattle.vers_trees.proofs.Searches.{before_is}
 use Rattle.vers_trees.proofs.NodeList.{HasPair, nodes_are_ones, closing_is, closes_to, one_pair, option_decides}
 use Rattle.vers_trees.proofs.Around.{refuted, ancestor_decides, parent_above, above_parent}
 use Rattle.vers_trees.proofs.Lists.{shifted, opening_places, closing_places, shifted-shifted, shifted-append, places-append, filter_all, filter_none, filter_middle, filter_mapped, HasBitAt, all_places, places-tree}
-use Rattle.vers_trees.proofs.ListsBelow.{below, branch, StandsAt, branch_stands, closes_standing}
+use Rattle.vers_trees.proofs.ListsBelow.{below, branch, StandsAt, branch_stands, closes_standing, half_of_text}
 use Rattle.vers_trees.proofs.PostorderPlaces.{closing_is_zeros, closing_paired, postorder_opens}
 use Rattle.vers_trees.proofs.SiblingWalks.{top_nodes}
 
@@ -121,6 +121,14 @@ subtree_places F v h =
     (λ w a b. outside F v w (inl a))
     (λ w a b. let c = (one_pair F w b.inside b.holds).closes.after in let k = t.closes in let n = t.long in outside F v w (inr (omega arith)))
     ∙ filter_all (λ w. is_ancestor F v w) (shifted v (places true m)) (inside_all true v m (λ w. is_ancestor F v w ≡ true) (λ x b. let p = open_is_paired (branch F v) x false b.inside b.holds in (moved_within F v t x p.0 p.1).1))
+
+-- twice the subtree size is the number of places from the opening bracket to the closing one
+pub subtree_size_is : (F : Forest) (v : ℕ) → HasPair F v → 2 * length (subtree F v) + v ≡ closing F v + 1
+subtree_size_is F v h =
+    let t = has_tree F v h in let k = t.closes in let n = t.long in
+    let s = ap length (subtree_places F v h) ∙ length-map (places true (text (branch F v))) (λ x. v + x) in
+    let half = half_of_text true (branch F v) in
+    omega arith
 
 pub zero_here : (l : List Bool) (p : ℕ) → is_bit false (get_or l p false) ≡ true → get_or l p false ≡ false
 zero_here l p h = go (get_or l p false) h

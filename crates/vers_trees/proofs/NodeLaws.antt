@@ -1,19 +1,19 @@
 -- The laws of the nodes of a forest.
 use Rattle.std.proofs.Common.{◌≡◌, ℕ, zero, suc, ◌+◌, ◌-◌, ◌<◌, ◌≤◌, ◌↔◌, Bool, true, false, cond, not, List, [], ◌∷◌, length, get_or, ltb, eqb, Option, None, Some, arith, ⊎_elim, subst, sym, refl, ap, ◌∙◌}
 use Rattle.std.specs.Prelude.{slice_get, option_map, find, filter}
-use Rattle.std.specs.List.{Contains, last_or}
+use Rattle.std.specs.List.{Contains, last_or, range_with_len}
 use Rattle.std.proofs.lemmas.Option.{get_or_from_slice_get, slice_get-get_or}
 use Rattle.std.proofs.lemmas.List.{get_or_past}
 use Rattle.std.proofs.lemmas.Bool.{cases_lt}
 use Rattle.std.proofs.lemmas.Bool.Decides.{Decides-ltb, Decides-eqb}
 use Rattle.std.proofs.lemmas.List.Filters.{length-filter_both}
-use Rattle.vers_bits.specs.Bits.{bit_value}
+use Rattle.vers_bits.specs.Bits.{bit_value, places}
 use Rattle.vers_trees.specs.Forest.{Forest, text, IsBalanced, forest_of}
 use Rattle.vers_trees.specs.Nodes.{nodes, IsNode, closing, depth, level, last_of, next_of, previous_of}
 use Rattle.vers_trees.proofs.Grammar.{text-forest_of}
 use Rattle.vers_trees.proofs.Paired.{closes_rises}
 use Rattle.vers_trees.proofs.Pairs.{contains_first, contains_later}
-use Rattle.vers_trees.proofs.NodeList.{ones_from, nodes_from_ones, one_pair, node_pair, pair_node}
+use Rattle.vers_trees.proofs.NodeList.{nodes_are_ones, one_pair, node_pair, pair_node}
 use Rattle.vers_trees.proofs.Around.{refuted}
 
 -- ---- nodes and ones
@@ -61,10 +61,9 @@ ascends_lower : (m n : ℕ) (xs : List ℕ) → m ≤ n → AscendsFrom n xs →
 ascends_lower m n [] h a = tt
 ascends_lower m n (x ∷ xs) h a = let a0 = a.0 in (omega arith, a.1)
 
-ones_ascend : (l : List Bool) (a : ℕ) → AscendsFrom a (ones_from l a)
-ones_ascend [] a = tt
-ones_ascend (true ∷ l) a = (omega arith, ones_ascend l (a + 1))
-ones_ascend (false ∷ l) a = ascends_lower a (a + 1) (ones_from l (a + 1)) (omega arith) (ones_ascend l (a + 1))
+range_ascends : (a n : ℕ) → AscendsFrom a (range_with_len a n)
+range_ascends a zero = tt
+range_ascends a (suc n) = (omega arith, range_ascends (a + 1) n)
 
 filter_ascends : (p : ℕ → Bool) (n : ℕ) (xs : List ℕ) → AscendsFrom n xs → AscendsFrom n (filter p xs)
 filter_ascends p n [] a = tt
@@ -162,7 +161,8 @@ passing_holds p (x ∷ xs) v (suc k, l, e) t = go (p x) (passing_holds p xs v (k
 
 -- ---- levels
 nodes_ascend : (F : Forest) → AscendsFrom 0 (nodes F)
-nodes_ascend F = subst (AscendsFrom 0) (sym (nodes_from_ones F)) (ones_ascend (text F) 0)
+unfolding places
+nodes_ascend F = subst (AscendsFrom 0) (sym (nodes_are_ones F)) (filter_ascends _ 0 (range_with_len 0 (length (text F))) (range_ascends 0 (length (text F))))
 
 level_ascends : (F : Forest) (d : ℕ) → AscendsFrom 0 (level F d)
 unfolding level

@@ -1,5 +1,5 @@
 -- The nodes of a forest are the places of the ones that it is written down with.
-use Rattle.std.proofs.Common.{◌≡◌, ℕ, zero, suc, ◌+◌, ◌<◌, Bool, true, false, cond, ◌&&◌, List, [], ◌∷◌, ◌++◌, map, length, get_or, Option, Some, None, eqb, ltb, arith, ⊎_elim, add-zero, zero-add, subst, sym, refl, ap, ◌∙◌}
+use Rattle.std.proofs.Common.{◌≡◌, ℕ, zero, suc, ◌+◌, ◌<◌, Bool, true, false, cond, ◌&&◌, List, [], ◌∷◌, ◌++◌, map, length, get_or, Option, Some, None, eqb, ltb, arith, subst, sym, refl, ap, ◌∙◌}
 use Rattle.std.specs.Prelude.{find, filter, slice_get, unwrap_or, option_map, Decides}
 use Rattle.std.specs.Option.{option_eq}
 use Rattle.std.specs.List.{Contains, range_with_len, last_or}
@@ -7,70 +7,24 @@ use Rattle.std.proofs.lemmas.Bool.Decides.{Decides-eqb, Decides-ltb, Decides-and
 use Rattle.vers_bits.specs.Bits.{is_bit, places}
 use Rattle.vers_trees.specs.Forest.{Forest, none, tree, text, moved, pairs}
 use Rattle.vers_trees.specs.Nodes.{nodes, IsNode, closing, first_of, next_of, previous_of}
+use Rattle.std.proofs.lemmas.List.{map-append}
+use Rattle.vers_trees.proofs.Lists.{shifted, opening_places, opening_moved, places-tree}
 use Rattle.vers_trees.proofs.Searches.{find_is, none_find, last_is, none_last}
 use Rattle.vers_trees.proofs.Paired.{Closes, Paired, paired_closes, closes_paired, open_is_paired, closes_once, closes_rises}
 use Rattle.vers_trees.proofs.Pairs.{contains_first, contains_later, contains_map, contains_map_cases, contains_from_paired, paired_from_contains}
 
--- the places of the ones of a list that begins at place a
-abbrev pub ones_from : List Bool → ℕ → List ℕ
-ones_from [] a = []
-ones_from (b ∷ l) a = cond b (a ∷ ones_from l (a + 1)) (ones_from l (a + 1))
-
-ones_from-append : (k l : List Bool) (a : ℕ) → ones_from (k ++ l) a ≡ ones_from k a ++ ones_from l (a + length k)
-ones_from-append [] l a = rw (add-zero a) refl
-ones_from-append (b ∷ k) l a =
-    let e : a + 1 + length k ≡ a + suc (length k) = omega arith in
-    let ih : ones_from (k ++ l) (a + 1) ≡ ones_from k (a + 1) ++ ones_from l (a + suc (length k)) = ones_from-append k l (a + 1) ∙ ap (λ (m : ℕ). ones_from k (a + 1) ++ ones_from l m) e in
-    go (ones_from l (a + suc (length k))) ih b
-  where
-    go : (rest : List ℕ) → ones_from (k ++ l) (a + 1) ≡ ones_from k (a + 1) ++ rest → (b : Bool) → ones_from (b ∷ (k ++ l)) a ≡ ones_from (b ∷ k) a ++ rest
-    go rest ih true = ap (λ (xs : List ℕ). a ∷ xs) ih
-    go rest ih false = ih
-
-ones_from-moved : (n : ℕ) (l : List Bool) (a : ℕ) → ones_from l (n + a) ≡ map (λ x. n + x) (ones_from l a)
-ones_from-moved n [] a = refl
-ones_from-moved n (b ∷ l) a =
-    let e : n + a + 1 ≡ n + (a + 1) = omega arith in
-    let ih : ones_from l (n + a + 1) ≡ map (λ x. n + x) (ones_from l (a + 1)) = ap (ones_from l) e ∙ ones_from-moved n l (a + 1) in
-    go ih b
-  where
-    go : ones_from l (n + a + 1) ≡ map (λ x. n + x) (ones_from l (a + 1)) → (b : Bool) → ones_from (b ∷ l) (n + a) ≡ map (λ x. n + x) (ones_from (b ∷ l) a)
-    go ih true = ap (λ (xs : List ℕ). (n + a) ∷ xs) ih
-    go ih false = ih
-
-map-append : {X Y : Type 0} → (f : X → Y) (xs ys : List X) → map f (xs ++ ys) ≡ map f xs ++ map f ys
-map-append f [] ys = refl
-map-append f (x ∷ xs) ys = ap (λ (zs : List _). f x ∷ zs) (map-append f xs ys)
-
-opens_moved : (n : ℕ) (ps : List (ℕ × ℕ)) → map (λ (p : ℕ × ℕ). p.0) (map (moved n) ps) ≡ map (λ x. n + x) (map (λ (p : ℕ × ℕ). p.0) ps)
-opens_moved n [] = refl
-opens_moved n (p ∷ ps) = ap (λ (xs : List ℕ). (n + p.0) ∷ xs) (opens_moved n ps)
-
-pub nodes_from_ones : (F : Forest) → nodes F ≡ ones_from (text F) 0
-nodes_from_ones none = refl
-nodes_from_ones (tree X Y) =
-    let n = length (text X) in
-    let x : map (λ (p : ℕ × ℕ). p.0) (map (moved 1) (pairs X)) ≡ ones_from (text X) 1 =
-    opens_moved 1 (pairs X) ∙ ap (map (λ x. 1 + x)) (nodes_from_ones X) ∙ sym (ones_from-moved 1 (text X) 0) in
-    let e : n + 2 + 0 ≡ 1 + n + 1 = omega arith in
-    let y : map (λ (p : ℕ × ℕ). p.0) (map (moved (n + 2)) (pairs Y)) ≡ ones_from (text Y) (1 + n + 1) =
-    opens_moved (n + 2) (pairs Y) ∙ ap (map (λ x. n + 2 + x)) (nodes_from_ones Y) ∙ sym (ones_from-moved (n + 2) (text Y) 0) ∙ ap (ones_from (text Y)) e in
-    let a = map-append (λ (p : ℕ × ℕ). p.0) (map (moved 1) (pairs X)) (map (moved (n + 2)) (pairs Y)) in
-    let r = ones_from-append (text X) (false ∷ text Y) 1 in
-    ap (λ (xs : List ℕ). 0 ∷ xs) (a ∙ ap (λ (xs : List ℕ). xs ++ map (λ (p : ℕ × ℕ). p.0) (map (moved (n + 2)) (pairs Y))) x ∙ ap (λ (xs : List ℕ). ones_from (text X) 1 ++ xs) y ∙ sym r)
-
--- the ones of a list by a test of places
-ones_filtered : (test : ℕ → Bool) (l : List Bool) (a : ℕ) → ((i : ℕ) → i < length l → test (a + i) ≡ get_or l i false) → filter test (range_with_len a (length l)) ≡ ones_from l a
-ones_filtered test [] a h = refl
-ones_filtered test (b ∷ l) a h =
-    let e : test a ≡ b = ap test (sym (add-zero a)) ∙ h 0 (omega arith) in
-    let ih = ones_filtered test l (a + 1) (λ i x. ap test (let g : a + 1 + i ≡ a + suc i = omega arith in g) ∙ h (suc i) (omega arith)) in
-    rw e (ap (λ (xs : List ℕ). cond b (a ∷ xs) xs) ih)
-
 -- the nodes are the places of ones, so they ascend
 pub nodes_are_ones : (F : Forest) → nodes F ≡ places true (text F)
 unfolding places
-nodes_are_ones F = nodes_from_ones F ∙ sym (ones_filtered (λ p. is_bit true (get_or (text F) p false)) (text F) 0 (λ i x. ap (λ (k : ℕ). get_or (text F) k false) (zero-add i)))
+nodes_are_ones none = refl
+nodes_are_ones (tree X Y) =
+    let n = length (text X) + 2 in
+    let e : length (text X) + 2 ≡ 1 + length (text X) + 1 = omega arith in
+    ap (λ (xs : List ℕ). 0 ∷ xs) (
+    map-append (λ (p : ℕ × ℕ). p.0) (map (moved 1) (pairs X)) (map (moved n) (pairs Y))
+    ∙ ap (λ (xs : List ℕ). xs ++ opening_places (map (moved n) (pairs Y))) (opening_moved 1 (pairs X) ∙ ap (shifted 1) (nodes_are_ones X))
+    ∙ ap (λ (xs : List ℕ). shifted 1 (places true (text X)) ++ xs) (opening_moved n (pairs Y) ∙ ap (shifted n) (nodes_are_ones Y) ∙ ap (λ (k : ℕ). shifted k (places true (text Y))) e))
+    ∙ sym (places-tree true (text X) (text Y))
 
 -- ---- a node and its pair
 pub record HasPair (F : Forest) (v : ℕ) : Type 0 where

@@ -19,12 +19,11 @@ use Rattle.vers_trees.proofs.Searches.{after_is}
 use Rattle.vers_trees.proofs.Partners.{after_from_closes}
 use Rattle.vers_trees.proofs.Paired.{closes_rises, closes_falls}
 use Rattle.vers_trees.proofs.NodeList.{HasPair, node_pair, nodes_are_ones}
-use Rattle.vers_trees.proofs.Around.{subtree_size_is}
 use Rattle.vers_trees.proofs.Lists.{shifted}
 use Rattle.vers_trees.proofs.PostorderPlaces.{postorder_opens}
 use Rattle.vers_trees.proofs.ListsBelow.{below, branch, StandsAt, part_standing, half_of_text}
 use Rattle.vers_trees.proofs.SiblingWalks.{top_nodes, walk_is, walk_short, meets_forwards, meets_backwards, top_few}
-use Rattle.vers_trees.proofs.ListsOfNodes.{HasTree, has_tree, children_places, subtree_places, subtree_post_places}
+use Rattle.vers_trees.proofs.ListsOfNodes.{subtree_size_is, HasTree, has_tree, children_places, subtree_places, subtree_post_places}
 
 -- ---- steps among siblings
 pub walk_ends : (l : List Bool) (forward : Bool) (p : ℕ) → IsWalkOfSiblings l forward p → tree_beside l forward p ≡ None → TakesFirst (siblings_left l forward p) None (siblings_left l forward p)
