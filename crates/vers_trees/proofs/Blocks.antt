@@ -1,12 +1,12 @@
 -- A block reaches a sum exactly where one of its places has it.
-use Rattle.std.proofs.Common.{◌≡◌, ℕ, zero, suc, ◌+◌, ◌-◌, ◌*◌, ◌<◌, ◌≤◌, ◌↔◌, min, Bool, List, [], ◌∷◌, length, get_or, ℤ, pos, ◌+ℤ◌, ◌≤ℤ◌, arith, add-one, ⊎_elim, subst, sym, refl, ap, ◌∙◌}
+use Rattle.std.proofs.Common.{◌≡◌, ℕ, zero, suc, ◌+◌, ◌-◌, ◌*◌, ◌<◌, ◌≤◌, ◌↔◌, min, Bool, List, [], ◌∷◌, length, get_or, ℤ, pos, ◌+ℤ◌, ◌-ℤ◌, ◌≤ℤ◌, arith, add-one, ⊎_elim, subst, sym, refl, ap, ◌∙◌}
 use Rattle.std.proofs.lemmas.Int.{ints, by_lt_z}
 use Rattle.std.proofs.lemmas.Bool.{cases_lt}
 use Rattle.vers_trees.specs.declared.trees.bp.min_max.Node.{Node}
 use Rattle.vers_trees.specs.Excess.{excess}
 use Rattle.vers_trees.specs.Forest.{IsBalanced}
 use Rattle.vers_trees.specs.inside.MinMax.{total_before, empty_node, Reaches, IsPart, AreBlocks, IsRange}
-use Rattle.vers_trees.proofs.Walk.{IsWalk}
+use Rattle.vers_trees.proofs.Walk.{IsWalk, turned}
 use Rattle.vers_trees.proofs.Excess.{excess-zero, excess-is_walk}
 use Rattle.vers_trees.proofs.Grammar.{balanced_from_excess, balanced_total, balanced_above}
 
@@ -22,14 +22,9 @@ met_upward f w t a (suc d) lo hi =
     (λ x. let r = met_upward f w t a d lo x in let r2 = r.2 in (r.0, r.1, omega arith, r.3))
 
 met_downward : (f : ℕ → ℤ) → IsWalk f → (t : ℤ) (a d : ℕ) → t ≤ℤ f a → f (a + d) ≤ℤ t → (j : ℕ) × (a ≤ j) × (j ≤ a + d) × (f j ≡ t)
-met_downward f w t a zero lo hi =
-    let e : f (a + 0) ≡ f a = ap f (let g : a + 0 ≡ a = omega arith in g) in
-    (a, omega arith, omega arith, omega (arith, ints))
-met_downward f w t a (suc d) lo hi =
-    let s : f (a + d) ≤ℤ (f (a + suc d) +ℤ pos 1) = subst (λ (n : ℕ). f (a + d) ≤ℤ (f n +ℤ pos 1)) (let g : a + d + 1 ≡ a + suc d = omega arith in g) (w.down (a + d)) in
-    by_lt_z t (f (a + d))
-    (λ x. (a + suc d, omega arith, omega arith, omega (arith, ints)))
-    (λ x. let r = met_downward f w t a d lo x in let r2 = r.2 in (r.0, r.1, omega arith, r.3))
+met_downward f w t a d lo hi =
+    let r = met_upward (λ i. pos 0 -ℤ f i) (turned f w) (pos 0 -ℤ t) a d (omega (arith, ints)) (omega (arith, ints)) in let e = r.3 in
+    (r.0, r.1, r.2, omega (arith, ints))
 
 part_meets : (l : List Bool) (a b : ℕ) (x : Node) (t : ℤ) → IsPart l a b x → (excess l a +ℤ x.least) ≤ℤ t → t ≤ℤ (excess l a +ℤ x.greatest) → (j : ℕ) × (a < j) × (j ≤ b) × (excess l j ≡ t)
 part_meets l a b x t p lo hi = ⊎_elim rising falling (cases_lt p.least.0 p.greatest.0)

@@ -1,13 +1,13 @@
 -- The text of what stands below a node is a part of the whole text.
-use Rattle.std.proofs.Common.{◌≡◌, ℕ, zero, suc, ◌+◌, ◌-◌, ◌*◌, ◌<◌, ◌≤◌, ◌⊎◌, inl, inr, Bool, true, false, cond, List, [], ◌∷◌, ◌++◌, length, take, drop, get_or, ltb, count_by, ◌+ℤ◌, ◌<ℤ◌, arith, length-append, subst, sym, refl, ap, ◌∙◌}
+use Rattle.std.proofs.Common.{◌≡◌, ℕ, zero, suc, ◌+◌, ◌-◌, ◌*◌, ◌<◌, ◌≤◌, ◌⊎◌, inl, inr, Bool, true, false, cond, List, [], ◌∷◌, ◌++◌, length, take, drop, get_or, ltb, count_by, ℤ, ◌+ℤ◌, ◌<ℤ◌, arith, length-append, subst, sym, refl, ap, ◌∙◌}
 use Rattle.std.proofs.lemmas.Int.{ints}
 use Rattle.std.proofs.lemmas.Bool.{cases_order, lt-ltb, le-ltb}
 use Rattle.std.proofs.lemmas.List.{append_assoc, get_or_append_left, get_or_at, get_or-append-add, take_at, take_all, drop_at, length-map}
 use Rattle.vers_bits.specs.Bits.{count, is_bit, places}
 use Rattle.vers_bits.proofs.PublicLaws.{count_both, length-places}
 use Rattle.vers_trees.proofs.Lists.{shifted, shifted-append, places-append}
-use Rattle.vers_trees.proofs.Excess.{excess-append_left, excess-append_right}
-use Rattle.vers_trees.proofs.Paired.{Closes, Paired, paired_closes, total_is_zero}
+use Rattle.vers_trees.proofs.Excess.{excess-zero, excess-append_left, excess-append_right}
+use Rattle.vers_trees.proofs.Paired.{Closes, Paired, paired_closes, closes_moved, total_is_zero}
 use Rattle.vers_trees.specs.Excess.{excess}
 use Rattle.vers_trees.specs.Forest.{Forest, none, tree, text}
 
@@ -62,30 +62,21 @@ branch_stands (tree X Y) (suc i) b = go (branch_stands X i) (λ (k : ℕ). branc
           written = ap (λ (l : List Bool). true ∷ (text X ++ false ∷ l)) w.written ∙ ap (λ (l : List Bool). true ∷ l) (sym (append_assoc (text X) (false ∷ w.before) (m ++ w.after)));
         })
 
--- what closes in a part of a list closes in the list
-closes_within : (k m l : List Bool) (x y : ℕ) → Closes m x y → Closes (k ++ (m ++ l)) (length k + x) (length k + y)
-closes_within k m l x y p =
-    let a = p.after in let i = p.inside in
-    let s = length-append k (m ++ l) in let t = length-append m l in
-    record {
-      after = omega arith;
-      inside = omega arith;
-      back = (let b = p.back in let u = at (y + 1) (omega arith) in let w = at x (omega arith) in let g : excess (k ++ (m ++ l)) (length k + (y + 1)) ≡ excess (k ++ (m ++ l)) (length k + x) = omega (arith, ints) in subst (λ (n : ℕ). excess (k ++ (m ++ l)) n ≡ excess (k ++ (m ++ l)) (length k + x)) (omega arith) g);
-      above = λ j h g. subst (λ (n : ℕ). excess (k ++ (m ++ l)) (length k + x) <ℤ excess (k ++ (m ++ l)) n) (omega arith) (up (j - length k) (omega arith) (omega arith));
-    }
-  where
-    at : (i : ℕ) → i ≤ length m → excess (k ++ (m ++ l)) (length k + i) ≡ excess k (length k) +ℤ excess m i
-    at i h = let r = excess-append_right k (m ++ l) i in let s = excess-append_left m l i h in omega (arith, ints)
-
-    up : (j : ℕ) → x < j → j ≤ y → excess (k ++ (m ++ l)) (length k + x) <ℤ excess (k ++ (m ++ l)) (length k + j)
-    up j h g = let i = p.inside in let b = p.above j h g in let u = at j (omega arith) in let w = at x (omega arith) in omega (arith, ints)
+-- along a part of a list the excess goes on as along the part
+pub excess_standing : (l : List Bool) (v : ℕ) (m : List Bool) → StandsAt l v m → (j : ℕ) → j ≤ length m → excess l (v + j) ≡ excess l v +ℤ excess m j
+excess_standing l v m s j h =
+    let k = s.before in
+    let at : (j : ℕ) → j ≤ length m → excess l (v + j) ≡ excess k (length k) +ℤ excess m j =
+    λ j h. rw (s.written, ← s.place) (excess-append_right k (m ++ s.after) j ∙ ap (λ (z : ℤ). excess k (length k) +ℤ z) (excess-append_left m s.after j h)) in
+    let a = at j h in let b = at 0 (omega arith) in let z = excess-zero m in
+    let e : excess l (v + 0) ≡ excess l v = ap (excess l) (omega arith) in
+    omega (arith, ints)
 
 -- the pairs of a forest that stands at v, moved by v, close in the whole list
 pub closes_standing : (l : List Bool) (v : ℕ) (F : Forest) (x y : ℕ) → StandsAt l v (text F) → Paired F x y → Closes l (v + x) (v + y)
 closes_standing l v F x y s p =
-    subst (λ (m : List Bool). Closes m (v + x) (v + y)) (sym s.written)
-    (subst (λ (n : ℕ). Closes (s.before ++ (text F ++ s.after)) (n + x) (n + y)) s.place
-    (closes_within s.before (text F) s.after x y (paired_closes F x y p)))
+    let long = ap length s.written in let a = length-append s.before (text F ++ s.after) in let b = length-append (text F) s.after in let at = s.place in
+    closes_moved l (text F) v x y (omega arith) (excess_standing l v (text F) s) (paired_closes F x y p)
 
 -- the places in a part of a list are a part of its places
 part_of_places : (bit : Bool) (k m l : List Bool) (n : ℕ) → n ≡ length (places bit m)

@@ -20,7 +20,7 @@ use Rattle.vers_trees.proofs.Searches.{before_is}
 use Rattle.vers_trees.proofs.NodeList.{HasPair, nodes_are_ones, closing_is, closes_to, one_pair, option_decides}
 use Rattle.vers_trees.proofs.Around.{refuted, ancestor_decides, parent_above, above_parent}
 use Rattle.vers_trees.proofs.Lists.{shifted, opening_places, closing_places, shifted-shifted, shifted-append, places-append, filter_all, filter_none, filter_middle, filter_mapped, HasBitAt, all_places, places-tree}
-use Rattle.vers_trees.proofs.ListsBelow.{below, branch, StandsAt, branch_stands, closes_standing, half_of_text}
+use Rattle.vers_trees.proofs.ListsBelow.{below, branch, StandsAt, branch_stands, closes_standing, excess_standing, half_of_text}
 use Rattle.vers_trees.proofs.PostorderPlaces.{closing_is_zeros, closing_paired, postorder_opens}
 use Rattle.vers_trees.proofs.SiblingWalks.{top_nodes}
 
@@ -211,18 +211,10 @@ same_test false false d e f g = refl
 -- the excess inside the tree of v is one more than before v and that below it
 excess_below : (F : Forest) (v : ℕ) → HasTree F v → (x : ℕ) → x ≤ length (text (below F v)) → excess (text F) (v + (1 + x)) ≡ excess (text F) v +ℤ (pos 1 +ℤ excess (text (below F v)) x)
 excess_below F v t x i =
-    let s = t.stands in let m = text (branch F v) in let n = t.long in
-    let k = s.before in
-    let at : (j : ℕ) → j ≤ length m → excess (text F) (v + j) ≡ excess k (length k) +ℤ excess m j =
-    λ j h. ap (λ (l : List Bool). excess l (v + j)) s.written
-    ∙ ap (λ (q : ℕ). excess (k ++ (m ++ s.after)) (q + j)) (sym s.place)
-    ∙ excess-append_right k (m ++ s.after) j ∙ ap (λ (z : ℤ). excess k (length k) +ℤ z) (excess-append_left m s.after j h) in
-    let a = at (1 + x) (omega arith) in
-    let b = at 0 (omega arith) in
-    let z = excess-zero m in
+    let m = text (branch F v) in let n = t.long in
+    let a = excess_standing (text F) v m t.stands (1 + x) (omega arith) in
     let f = excess_in_first (below F v) none x i in
-    let g : excess m (1 + x) ≡ excess m (x + 1) = ap (excess m) (let q : 1 + x ≡ x + 1 = omega arith in q) in
-    let v0 : excess (text F) (v + 0) ≡ excess (text F) v = ap (excess (text F)) (let q : v + 0 ≡ v = omega arith in q) in
+    let g : excess m (1 + x) ≡ excess m (x + 1) = ap (excess m) (omega arith) in
     omega (arith, ints)
 
 has_closes : (F : Forest) (w c : ℕ) → Closes (text F) w c → HasPair F w

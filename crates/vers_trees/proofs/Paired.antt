@@ -1,5 +1,5 @@
 -- The pairs of a forest are the places between which the excess stays above where it began.
-use Rattle.std.proofs.Common.{◌≡◌, ℕ, zero, suc, ◌+◌, ◌-◌, ◌<◌, ◌≤◌, ◌⊎◌, inl, inr, Bool, true, false, List, ◌∷◌, ◌++◌, length, get_or, pos, ◌+ℤ◌, ◌≤ℤ◌, ◌<ℤ◌, arith, add-one, length-append, subst, sym, refl, ap, ◌∙◌}
+use Rattle.std.proofs.Common.{◌≡◌, ℕ, zero, suc, ◌+◌, ◌-◌, ◌<◌, ◌≤◌, ◌⊎◌, inl, inr, Bool, true, false, List, ◌∷◌, ◌++◌, length, get_or, pos, ◌+ℤ◌, ◌≤ℤ◌, ◌<ℤ◌, arith, add-one, length-append, ⊎_elim, subst, sym, refl, ap, ◌∙◌}
 use Rattle.std.proofs.lemmas.Int.{ints}
 use Rattle.std.proofs.lemmas.Bool.{cases_lt, cases_order}
 use Rattle.std.proofs.lemmas.List.{get_or_append_left, get_or_at, get_or-append-add}
@@ -55,29 +55,19 @@ total_is_zero (tree X Y) =
 pub excess_in_rest : (X Y : Forest) (i : ℕ) → excess (text (tree X Y)) (length (text X) + 2 + i) ≡ excess (text Y) i
 excess_in_rest X Y i = rest_from_zero X Y i (total_is_zero X)
 
-abbrev Above : Forest → Type 0
-Above F = (i : ℕ) → i ≤ length (text F) → pos 0 ≤ℤ excess (text F) i
-
 -- the excess of a forest is nowhere negative
 pub never_negative : (F : Forest) (i : ℕ) → i ≤ length (text F) → pos 0 ≤ℤ excess (text F) i
 never_negative none i h = let e = excess-nil i in omega (arith, ints)
 never_negative (tree X Y) zero h = let e = excess-zero (text (tree X Y)) in omega (arith, ints)
-never_negative (tree X Y) (suc i) h = go (never_negative X) (never_negative Y) (cases_lt (length (text X)) i)
-  where
-    rest : Above Y → (k : ℕ) → length (text X) + 2 + k ≡ suc i → pos 0 ≤ℤ excess (text (tree X Y)) (suc i)
-    rest my k e =
-        let len = length-tree X Y in
-        let r = excess_in_rest X Y k in
-        let ih = my k (omega arith) in
-        let g : pos 0 ≤ℤ excess (text (tree X Y)) (length (text X) + 2 + k) = omega (arith, ints) in
-        subst (λ (m : ℕ). pos 0 ≤ℤ excess (text (tree X Y)) m) e g
-
-    go : Above X → Above Y → ((length (text X) < i) ⊎ (i ≤ length (text X))) → pos 0 ≤ℤ excess (text (tree X Y)) (suc i)
-    go mx my (inl a) = rest my (i - length (text X) - 1) (omega arith)
-    go mx my (inr a) =
-        let r = rw add-one at (excess_in_first X Y i a) in
-        let ih = mx i a in
-        omega (arith, ints)
+never_negative (tree X Y) (suc i) h = ⊎_elim
+    (λ (a : length (text X) < i).
+    let len = length-tree X Y in
+    let ih = never_negative Y (i - length (text X) - 1) (omega arith) in
+    let r = excess_in_rest X Y (i - length (text X) - 1) in
+    let e : excess (text (tree X Y)) (length (text X) + 2 + (i - length (text X) - 1)) ≡ excess (text (tree X Y)) (suc i) = ap (excess (text (tree X Y))) (omega arith) in
+    omega (arith, ints))
+    (λ (a : i ≤ length (text X)). let ih = never_negative X i a in let r = rw add-one at (excess_in_first X Y i a) in omega (arith, ints))
+    (cases_lt (length (text X)) i)
 
 -- each pair closes as the excess says
 closes_root : (X Y : Forest) → Closes (text (tree X Y)) 0 (length (text X) + 1)
@@ -90,68 +80,44 @@ closes_root X Y = record { after = omega arith; inside = let len = length-tree X
     back =
         let r = excess_in_rest X Y 0 in
         let z = excess-zero (text Y) in
-        let g : excess (text (tree X Y)) (length (text X) + 2 + 0) ≡ excess (text (tree X Y)) 0 = omega (arith, ints, start) in
-        subst (λ (m : ℕ). excess (text (tree X Y)) m ≡ excess (text (tree X Y)) 0) (omega arith) g
-
-    above : (j : ℕ) → 0 < j → j ≤ length (text X) + 1 → excess (text (tree X Y)) 0 <ℤ excess (text (tree X Y)) j
-    above zero h k = absurd (omega arith)
-    above (suc j) h k =
-        let r = rw add-one at (excess_in_first X Y j (omega arith)) in
-        let n = never_negative X j (omega arith) in
+        let e : excess (text (tree X Y)) (length (text X) + 1 + 1) ≡ excess (text (tree X Y)) (length (text X) + 2 + 0) = ap (excess (text (tree X Y))) (omega arith) in
         omega (arith, ints, start)
 
-closes_first : (X Y : Forest) (x y : ℕ) → Closes (text X) x y → Closes (text (tree X Y)) (x + 1) (y + 1)
-closes_first X Y x y p = record { after = let a = p.after in omega arith; inside = inside; back = back; above = above }
-  where
-    inside : y + 1 < length (text (tree X Y))
-    inside = let len = length-tree X Y in let i = p.inside in omega arith
+    above : (j : ℕ) → 0 < j → j ≤ length (text X) + 1 → excess (text (tree X Y)) 0 <ℤ excess (text (tree X Y)) j
+    above j h k =
+        let r = excess_in_first X Y (j - 1) (omega arith) in
+        let n = never_negative X (j - 1) (omega arith) in
+        let e : excess (text (tree X Y)) (j - 1 + 1) ≡ excess (text (tree X Y)) j = ap (excess (text (tree X Y))) (omega arith) in
+        omega (arith, ints, start)
 
-    back : excess (text (tree X Y)) (y + 1 + 1) ≡ excess (text (tree X Y)) (x + 1)
-    back =
-        let i = p.inside in let a = p.after in let b = p.back in
-        let r = excess_in_first X Y (y + 1) (omega arith) in
-        let s = excess_in_first X Y x (omega arith) in
-        omega (arith, ints)
+-- what closes in a list closes where that stands in another, along which the excess goes on as along it
+pub closes_moved : (l m : List Bool) (p x y : ℕ) → p + length m ≤ length l → ((j : ℕ) → j ≤ length m → excess l (p + j) ≡ excess l p +ℤ excess m j) → Closes m x y → Closes l (p + x) (p + y)
+closes_moved l m p x y h at c =
+    let a = c.after in let i = c.inside in let b = c.back in
+    let ax = at x (omega arith) in let ay = at (y + 1) (omega arith) in
+    record {
+      after = omega arith;
+      inside = omega arith;
+      back = (let e : excess l (p + y + 1) ≡ excess l (p + (y + 1)) = ap (excess l) (omega arith) in omega (arith, ints));
+      above = λ j u v. let r = c.above (j - p) (omega arith) (omega arith) in let aj = at (j - p) (omega arith) in let e : excess l (p + (j - p)) ≡ excess l j = ap (excess l) (omega arith) in omega (arith, ints);
+    }
 
-    above : (j : ℕ) → x + 1 < j → j ≤ y + 1 → excess (text (tree X Y)) (x + 1) <ℤ excess (text (tree X Y)) j
-    above zero h k = absurd (omega arith)
-    above (suc j) h k =
-        let i = p.inside in let a = p.after in
-        let b = p.above j (omega arith) (omega arith) in
-        let r = rw add-one at (excess_in_first X Y j (omega arith)) in
-        let s = excess_in_first X Y x (omega arith) in
-        omega (arith, ints)
+closes_first : (X Y : Forest) (x y : ℕ) → Closes (text X) x y → Closes (text (tree X Y)) (1 + x) (1 + y)
+closes_first X Y x y = closes_moved (text (tree X Y)) (text X) 1 x y (let len = length-tree X Y in omega arith) (λ j h.
+    let r = excess_in_first X Y j h in let s = excess_in_first X Y 0 (omega arith) in let z = excess-zero (text X) in
+    let e : excess (text (tree X Y)) (j + 1) ≡ excess (text (tree X Y)) (1 + j) = ap (excess (text (tree X Y))) (omega arith) in
+    omega (arith, ints))
 
 closes_rest : (X Y : Forest) (x y : ℕ) → Closes (text Y) x y → Closes (text (tree X Y)) (length (text X) + 2 + x) (length (text X) + 2 + y)
-closes_rest X Y x y p = record { after = let a = p.after in omega arith; inside = inside; back = back; above = above }
-  where
-    inside : length (text X) + 2 + y < length (text (tree X Y))
-    inside = let len = length-tree X Y in let i = p.inside in omega arith
-
-    back : excess (text (tree X Y)) (length (text X) + 2 + y + 1) ≡ excess (text (tree X Y)) (length (text X) + 2 + x)
-    back =
-        let b = p.back in
-        let r = excess_in_rest X Y (y + 1) in
-        let s = excess_in_rest X Y x in
-        let g : excess (text (tree X Y)) (length (text X) + 2 + (y + 1)) ≡ excess (text (tree X Y)) (length (text X) + 2 + x) = omega (arith, ints) in
-        subst (λ (m : ℕ). excess (text (tree X Y)) m ≡ excess (text (tree X Y)) (length (text X) + 2 + x)) (omega arith) g
-
-    at : (k : ℕ) → x < k → k ≤ y → excess (text (tree X Y)) (length (text X) + 2 + x) <ℤ excess (text (tree X Y)) (length (text X) + 2 + k)
-    at k h g =
-        let b = p.above k h g in
-        let r = excess_in_rest X Y k in
-        let s = excess_in_rest X Y x in
-        omega (arith, ints)
-
-    above : (j : ℕ) → length (text X) + 2 + x < j → j ≤ length (text X) + 2 + y → excess (text (tree X Y)) (length (text X) + 2 + x) <ℤ excess (text (tree X Y)) j
-    above j h k =
-        let a = at (j - (length (text X) + 2)) (omega arith) (omega arith) in
-        subst (λ (m : ℕ). excess (text (tree X Y)) (length (text X) + 2 + x) <ℤ excess (text (tree X Y)) m) (omega arith) a
+closes_rest X Y x y = closes_moved (text (tree X Y)) (text Y) (length (text X) + 2) x y (let len = length-tree X Y in omega arith) (λ j h.
+    let r = excess_in_rest X Y j in let s = excess_in_rest X Y 0 in let z = excess-zero (text Y) in
+    let e : excess (text (tree X Y)) (length (text X) + 2 + 0) ≡ excess (text (tree X Y)) (length (text X) + 2) = ap (excess (text (tree X Y))) (omega arith) in
+    omega (arith, ints))
 
 pub paired_closes : (F : Forest) (v c : ℕ) → Paired F v c → Closes (text F) v c
 paired_closes none v c p = absurd p
 paired_closes (tree X Y) v c (inl p) = rw (p.0, p.1) (closes_root X Y)
-paired_closes (tree X Y) v c (inr (inl p)) = rw (p.2, p.3) (closes_first X Y p.0 p.1 (paired_closes X p.0 p.1 p.4))
+paired_closes (tree X Y) v c (inr (inl p)) = let a : v ≡ 1 + p.0 = (let e = p.2 in omega arith) in let b : c ≡ 1 + p.1 = (let e = p.3 in omega arith) in rw (a, b) (closes_first X Y p.0 p.1 (paired_closes X p.0 p.1 p.4))
 paired_closes (tree X Y) v c (inr (inr p)) = rw (p.2, p.3) (closes_rest X Y p.0 p.1 (paired_closes Y p.0 p.1 p.4))
 
 -- what stands in a tree written down
@@ -164,52 +130,43 @@ close_of_first X Y d = get_or_at (text X) false (text Y) d (length (text X)) ref
 bit_in_rest : (X Y : Forest) (i : ℕ) (d : Bool) → get_or (text (tree X Y)) (suc (length (text X) + suc i)) d ≡ get_or (text Y) i d
 bit_in_rest X Y i d = get_or-append-add (text X) (false ∷ text Y) (suc i) d
 
--- each bit is one end of a pair
-abbrev OpensPaired : Forest → Type 0
-OpensPaired F = (v : ℕ) (d : Bool) → v < length (text F) → get_or (text F) v d ≡ true → (c : ℕ) × Paired F v c
+-- each bit is one end of a pair, a one where it opens and a zero where it closes
+abbrev end_at : Bool → ℕ → ℕ → ℕ
+end_at true v c = v
+end_at false v c = c
 
-abbrev ClosesPaired : Forest → Type 0
-ClosesPaired F = (c : ℕ) (d : Bool) → c < length (text F) → get_or (text F) c d ≡ false → (v : ℕ) × Paired F v c
+end_moved : (bit : Bool) (n v c : ℕ) → end_at bit (n + v) (n + c) ≡ n + end_at bit v c
+end_moved true n v c = refl
+end_moved false n v c = refl
+
+bit_is_paired : (F : Forest) (bit : Bool) (i : ℕ) (d : Bool) → i < length (text F) → get_or (text F) i d ≡ bit → (v : ℕ) × (c : ℕ) × Paired F v c × (end_at bit v c ≡ i)
+bit_is_paired none bit i d h b = absurd (omega arith)
+bit_is_paired (tree X Y) true zero d h b = (0, length (text X) + 1, inl (refl, refl), refl)
+bit_is_paired (tree X Y) false zero d h b = absurd (cc)
+bit_is_paired (tree X Y) bit (suc i) d h b = ⊎_elim
+    (λ (e : i ≡ length (text X)). last e bit (sym b ∙ ap (λ (m : ℕ). get_or (text (tree X Y)) (suc m) d) e ∙ close_of_first X Y d))
+    (λ (o : (i < length (text X)) ⊎ (length (text X) < i)). ⊎_elim
+    (λ (a : i < length (text X)).
+    let r = bit_is_paired X bit i d a (sym (open_in_first X Y i d a) ∙ b) in let m = end_moved bit 1 r.0 r.1 in let e = r.3 in
+    (1 + r.0, 1 + r.1, inr (inl (r.0, r.1, omega arith, omega arith, r.2)), omega arith))
+    (λ (a : length (text X) < i).
+    let len = length-tree X Y in let k = i - length (text X) - 1 in
+    let g : length (text X) + suc (i - length (text X) - 1) ≡ i = omega arith in
+    let r = bit_is_paired Y bit (i - length (text X) - 1) d (omega arith) (sym (bit_in_rest X Y (i - length (text X) - 1) d) ∙ ap (λ (m : ℕ). get_or (text (tree X Y)) (suc m) d) g ∙ b) in
+    let m = end_moved bit (length (text X) + 2) r.0 r.1 in let e = r.3 in
+    (length (text X) + 2 + r.0, length (text X) + 2 + r.1, inr (inr (r.0, r.1, refl, refl, r.2)), omega arith))
+    o)
+    (cases_order i (length (text X)))
+  where
+    last : i ≡ length (text X) → (bit : Bool) → bit ≡ false → (v : ℕ) × (c : ℕ) × Paired (tree X Y) v c × (end_at bit v c ≡ suc i)
+    last e true f = absurd (cc)
+    last e false f = (0, length (text X) + 1, inl (refl, refl), omega arith)
 
 pub open_is_paired : (F : Forest) (v : ℕ) (d : Bool) → v < length (text F) → get_or (text F) v d ≡ true → (c : ℕ) × Paired F v c
-open_is_paired none v d h b = absurd (omega arith)
-open_is_paired (tree X Y) zero d h b = (length (text X) + 1, inl (refl, refl))
-open_is_paired (tree X Y) (suc i) d h b = go (open_is_paired X) (open_is_paired Y) (cases_order i (length (text X)))
-  where
-    rest : OpensPaired Y → (k : ℕ) → length (text X) + suc k ≡ i → (c : ℕ) × Paired (tree X Y) (suc i) c
-    rest oy k e =
-        let len = length-tree X Y in
-        let b' : get_or (text Y) k d ≡ true = sym (bit_in_rest X Y k d) ∙ ap (λ (m : ℕ). get_or (text (tree X Y)) (suc m) d) e ∙ b in
-        let r = oy k d (omega arith) b' in
-        (length (text X) + 2 + r.0, inr (inr (k, r.0, omega arith, refl, r.1)))
-
-    go : OpensPaired X → OpensPaired Y → ((i ≡ length (text X)) ⊎ ((i < length (text X)) ⊎ (length (text X) < i))) → (c : ℕ) × Paired (tree X Y) (suc i) c
-    go ox oy (inl e) =
-        let f : get_or (text (tree X Y)) (suc i) d ≡ false = ap (λ (m : ℕ). get_or (text (tree X Y)) (suc m) d) e ∙ close_of_first X Y d in
-        absurd (cc)
-    go ox oy (inr (inl a)) =
-        let r = ox i d a (sym (open_in_first X Y i d a) ∙ b) in
-        (r.0 + 1, inr (inl (i, r.0, omega arith, refl, r.1)))
-    go ox oy (inr (inr a)) = rest oy (i - length (text X) - 1) (omega arith)
+open_is_paired F v d h b = let r = bit_is_paired F true v d h b in (r.1, subst (λ (k : ℕ). Paired F k r.1) r.3 r.2)
 
 pub close_is_paired : (F : Forest) (c : ℕ) (d : Bool) → c < length (text F) → get_or (text F) c d ≡ false → (v : ℕ) × Paired F v c
-close_is_paired none c d h b = absurd (omega arith)
-close_is_paired (tree X Y) zero d h b = absurd (cc)
-close_is_paired (tree X Y) (suc i) d h b = go (close_is_paired X) (close_is_paired Y) (cases_order i (length (text X)))
-  where
-    rest : ClosesPaired Y → (k : ℕ) → length (text X) + suc k ≡ i → (v : ℕ) × Paired (tree X Y) v (suc i)
-    rest cy k e =
-        let len = length-tree X Y in
-        let b' : get_or (text Y) k d ≡ false = sym (bit_in_rest X Y k d) ∙ ap (λ (m : ℕ). get_or (text (tree X Y)) (suc m) d) e ∙ b in
-        let r = cy k d (omega arith) b' in
-        (length (text X) + 2 + r.0, inr (inr (r.0, k, refl, omega arith, r.1)))
-
-    go : ClosesPaired X → ClosesPaired Y → ((i ≡ length (text X)) ⊎ ((i < length (text X)) ⊎ (length (text X) < i))) → (v : ℕ) × Paired (tree X Y) v (suc i)
-    go cx cy (inl e) = (0, inl (refl, omega arith))
-    go cx cy (inr (inl a)) =
-        let r = cx i d a (sym (open_in_first X Y i d a) ∙ b) in
-        (r.0 + 1, inr (inl (r.0, i, refl, omega arith, r.1)))
-    go cx cy (inr (inr a)) = rest cy (i - length (text X) - 1) (omega arith)
+close_is_paired F c d h b = let r = bit_is_paired F false c d h b in (r.0, subst (λ (k : ℕ). Paired F r.0 k) r.3 r.2)
 
 -- what closes at v does so at one place, and opens at one place
 pub closes_once : (l : List Bool) (v c d : ℕ) → Closes l v c → Closes l v d → c ≡ d
