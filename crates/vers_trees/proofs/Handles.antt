@@ -69,18 +69,8 @@ module _ (l : List Bool) (b : IsBalanced l) where
         let p = node_closes in let a = p.after in let i = p.inside in
         (omega arith, omega arith, omega arith)
 
-    pub first_child_by_one : get_or l (v + 1) false ≡ true → first_of (children (forest_of l) v) ≡ Some (v + 1)
-    first_child_by_one o = Kin.first_child_found (forest_of l) v (node_pair (forest_of l) v n) (on_text (λ m. get_or m (v + 1) false ≡ true) o)
-
-    pub no_child_by_zero : get_or l (v + 1) false ≡ false → first_of (children (forest_of l) v) ≡ None
-    no_child_by_zero o = Kin.first_child_none (forest_of l) v (node_pair (forest_of l) v n) (on_text (λ m. get_or m (v + 1) false ≡ false) o)
-
     pub first_child_by : opened_after l v ≡ first_of (children (forest_of l) v)
-    first_child_by = go (get_or l (v + 1) false) refl
-      where
-        go : (x : Bool) → get_or l (v + 1) false ≡ x → opened_after l v ≡ first_of (children (forest_of l) v)
-        go true e = sym (opens_there l v e) ∙ sym (first_child_by_one e)
-        go false e = sym (closes_there l v e) ∙ sym (no_child_by_zero e)
+    first_child_by = on_list (λ m. opened_after m v ≡ first_of (children (forest_of l) v)) (Kin.first_child_is (forest_of l) v (node_pair (forest_of l) v n))
 
     pub no_last_child : closing (forest_of l) v ≡ v + 1 → last_of (children (forest_of l) v) ≡ None
     no_last_child e = Kin.last_child_none (forest_of l) v (node_pair (forest_of l) v n) e
@@ -90,50 +80,17 @@ module _ (l : List Bool) (b : IsBalanced l) where
         let p = node_closes in let a = p.after in
         on_list (λ m. last_rise_before m (c - 1) (negsuc 0) ≡ last_of (children (forest_of l) v)) (Kin.last_child_is_search (forest_of l) v (c - 1) (node_pair (forest_of l) v n) (omega arith) (omega arith))
 
-    pub next_sibling_by_one : (c : ℕ) → closing (forest_of l) v ≡ c → c + 1 < length l → get_or l (c + 1) false ≡ true → next_of (siblings (forest_of l) v) v ≡ Some (c + 1)
-    next_sibling_by_one c e i o =
-        subst (λ (k : ℕ). next_of (siblings (forest_of l) v) v ≡ Some (k + 1)) e (Kin.next_sibling_found (forest_of l) v (node_pair (forest_of l) v n) (subst (λ (k : ℕ). k + 1 < length (text (forest_of l))) (sym e) (on_text (λ m. c + 1 < length m) i)) (subst (λ (k : ℕ). get_or (text (forest_of l)) (k + 1) false ≡ true) (sym e) (on_text (λ m. get_or m (c + 1) false ≡ true) o)))
-
-    pub no_sibling_by_zero : (c : ℕ) → closing (forest_of l) v ≡ c → c + 1 < length l → get_or l (c + 1) false ≡ false → next_of (siblings (forest_of l) v) v ≡ None
-    no_sibling_by_zero c e i o =
-        Kin.next_sibling_none (forest_of l) v (node_pair (forest_of l) v n) (subst (λ (k : ℕ). k + 1 < length (text (forest_of l))) (sym e) (on_text (λ m. c + 1 < length m) i)) (subst (λ (k : ℕ). get_or (text (forest_of l)) (k + 1) false ≡ false) (sym e) (on_text (λ m. get_or m (c + 1) false ≡ false) o))
-
-    pub no_sibling_at_end : (c : ℕ) → closing (forest_of l) v ≡ c → length l ≤ c + 1 → next_of (siblings (forest_of l) v) v ≡ None
-    no_sibling_at_end c e i =
-        Kin.next_sibling_end (forest_of l) v (node_pair (forest_of l) v n) (subst (λ (k : ℕ). length (text (forest_of l)) ≤ k + 1) (sym e) (on_text (λ m. length m ≤ c + 1) i))
-
     pub next_sibling_by : (c : ℕ) → closing (forest_of l) v ≡ c → opened_after l c ≡ next_of (siblings (forest_of l) v) v
-    next_sibling_by c e = ⊎_elim (λ (i : c + 1 < length l). go i (get_or l (c + 1) false) refl) (λ (i : length l ≤ c + 1). sym (ends_there l c i) ∙ sym (no_sibling_at_end c e i)) (cases_lt (c + 1) (length l))
-      where
-        go : c + 1 < length l → (x : Bool) → get_or l (c + 1) false ≡ x → opened_after l c ≡ next_of (siblings (forest_of l) v) v
-        go i true o = sym (opens_there l c o) ∙ sym (next_sibling_by_one c e i o)
-        go i false o = sym (closes_there l c o) ∙ sym (no_sibling_by_zero c e i o)
+    next_sibling_by c e = on_list (λ m. opened_after m c ≡ next_of (siblings (forest_of l) v) v) (rw e at (Kin.next_sibling_is (forest_of l) v (node_pair (forest_of l) v n)))
 
     pub no_sibling_before_first : v ≡ 0 → previous_of (siblings (forest_of l) v) v ≡ None
-    no_sibling_before_first e = subst (λ (k : ℕ). previous_of (siblings (forest_of l) k) k ≡ None) (sym e) (Kin.previous_sibling_first (forest_of l))
+    no_sibling_before_first e = sym (Kin.previous_sibling_is (forest_of l) v (node_pair (forest_of l) v n)) ∙ ap (Kin.closed_before (text (forest_of l))) e
 
     pub no_sibling_after_one : (v ≡ 0 → ⊥) → get_or l (v - 1) false ≡ true → previous_of (siblings (forest_of l) v) v ≡ None
-    no_sibling_after_one ne o = go v n ne o
-      where
-        go : (v : ℕ) → IsNode (forest_of l) v → (v ≡ 0 → ⊥) → get_or l (v - 1) false ≡ true → previous_of (siblings (forest_of l) v) v ≡ None
-        go zero n ne o = absurd (ne refl)
-        go (suc u) n ne o =
-            let e : u + 1 ≡ suc u = omega arith in
-            subst (λ (k : ℕ). previous_of (siblings (forest_of l) k) k ≡ None) e (Kin.previous_sibling_none (forest_of l) u (subst (HasPair (forest_of l)) (sym e) (node_pair (forest_of l) (suc u) n)) (on_text (λ m. get_or m u false ≡ true) (ap (λ (k : ℕ). get_or l k false) (let f : u ≡ suc u - 1 = omega arith in f) ∙ o)))
+    no_sibling_after_one ne o = Kin.previous_sibling_none (forest_of l) v (node_pair (forest_of l) v n) (omega arith) (on_text (λ m. get_or m (v - 1) false ≡ true) o)
 
     pub previous_sibling_by : (v ≡ 0 → ⊥) → get_or l (v - 1) false ≡ false → last_rise_before l (v - 1) (negsuc 0) ≡ previous_of (siblings (forest_of l) v) v
-    previous_sibling_by ne o = go v n ne o
-      where
-        go : (v : ℕ) → IsNode (forest_of l) v → (v ≡ 0 → ⊥) → get_or l (v - 1) false ≡ false → last_rise_before l (v - 1) (negsuc 0) ≡ previous_of (siblings (forest_of l) v) v
-        go zero n ne o = absurd (ne refl)
-        go (suc u) n ne o =
-            let e : u + 1 ≡ suc u = omega arith in
-            let f : u ≡ suc u - 1 = omega arith in
-            let k = subst (HasPair (forest_of l)) (sym e) (node_pair (forest_of l) (suc u) n) in
-            let z = on_text (λ m. get_or m u false ≡ false) (ap (λ (k : ℕ). get_or l k false) f ∙ o) in
-            ap (λ (k : ℕ). last_rise_before l k (negsuc 0)) (sym f)
-            ∙ on_list (λ m. last_rise_before m u (negsuc 0) ≡ previous_of (siblings (forest_of l) (u + 1)) (u + 1)) (Kin.previous_sibling_is_search (forest_of l) u k z)
-            ∙ ap (λ (k : ℕ). previous_of (siblings (forest_of l) k) k) e
+    previous_sibling_by ne o = on_list (λ m. last_rise_before m (v - 1) (negsuc 0) ≡ previous_of (siblings (forest_of l) v) v) (Kin.previous_sibling_is_search (forest_of l) v (node_pair (forest_of l) v n) (omega arith) (on_text (λ m. get_or m (v - 1) false ≡ false) o))
 
     pub itself_by_no_step : level_ancestor (forest_of l) v 0 ≡ Some v
     itself_by_no_step = LevelNodes.no_steps_up (forest_of l) v (node_pair (forest_of l) v n)

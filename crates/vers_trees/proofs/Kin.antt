@@ -1,11 +1,12 @@
 -- Children and siblings: where the nearest of them open.
-use Rattle.std.proofs.Common.{◌≡◌, ℕ, ◌+◌, ◌<◌, ◌≤◌, ◌≢◌, ◌⊎◌, Bool, true, false, ◌&&◌, cond, List, [], ◌∷◌, length, get_or, ltb, eqb, negsuc, Option, Some, None, arith, ⊎_elim, subst, sym, refl, ap, ◌∙◌}
+use Rattle.std.proofs.Common.{◌≡◌, ℕ, zero, suc, ◌+◌, ◌-◌, ◌<◌, ◌≤◌, ◌≢◌, ◌⊎◌, Bool, true, false, ◌&&◌, cond, List, [], ◌∷◌, length, get_or, ltb, eqb, negsuc, Option, Some, None, arith, ⊎_elim, subst, sym, refl, ap, ◌∙◌}
 use Rattle.std.specs.Prelude.{find, filter, Decides}
 use Rattle.std.specs.List.{Contains, last_or}
 use Rattle.std.specs.Option.{option_eq}
 use Rattle.std.proofs.lemmas.Int.{ints}
 use Rattle.std.proofs.lemmas.Bool.{cases_lt, cases_order}
 use Rattle.std.proofs.lemmas.Bool.Decides.{Decides-ltb, Decides-and, Decides-like, same_from_decides}
+use Rattle.std.proofs.lemmas.List.{get_or_past}
 use Rattle.std.proofs.Math.Nat.{eq-or-lt_of_le}
 use Rattle.vers_trees.specs.Excess.{last_rise_before}
 use Rattle.vers_trees.specs.Forest.{Forest, text}
@@ -52,7 +53,7 @@ same_parent F v h k =
     same_from_decides _ _ (Decides-like (is_proper_ancestor F a (closing F v + 1)) s.1 s.0 (proper_decides F a (closing F v + 1))) (proper_decides F a v)))
 
 -- ---- children
-pub first_child_found : (F : Forest) (v : ℕ) → HasPair F v → get_or (text F) (v + 1) false ≡ true → first_of (children F v) ≡ Some (v + 1)
+first_child_found : (F : Forest) (v : ℕ) → HasPair F v → get_or (text F) (v + 1) false ≡ true → first_of (children F v) ≡ Some (v + 1)
 unfolding nodes_under
 first_child_found F v h b =
     let ha = h.closes.after in let hi = h.closes.inside in
@@ -69,7 +70,7 @@ no_child F v w h b k e =
     let s = h.closes.above (v + 1 + 1) (omega arith) (omega arith) in
     omega (arith, ints)
 
-pub first_child_none : (F : Forest) (v : ℕ) → HasPair F v → get_or (text F) (v + 1) false ≡ false → first_of (children F v) ≡ None
+first_child_none : (F : Forest) (v : ℕ) → HasPair F v → get_or (text F) (v + 1) false ≡ false → first_of (children F v) ≡ None
 unfolding nodes_under
 first_child_none F v h b = no_first_in F _ _ (under_decides F (Some v)) (λ w k e. no_child F v w h b k e)
 
@@ -100,14 +101,14 @@ last_child_is_search F v c h s x =
     omega arith))
 
 -- ---- siblings
-pub next_sibling_found : (F : Forest) (v : ℕ) → HasPair F v → closing F v + 1 < length (text F) → get_or (text F) (closing F v + 1) false ≡ true → next_of (siblings F v) v ≡ Some (closing F v + 1)
+next_sibling_found : (F : Forest) (v : ℕ) → HasPair F v → closing F v + 1 < length (text F) → get_or (text F) (closing F v + 1) false ≡ true → next_of (siblings F v) v ≡ Some (closing F v + 1)
 unfolding nodes_under
 next_sibling_found F v h i b =
     let ha = h.closes.after in
     let k = one_pair F (closing F v + 1) i b in
     next_in F _ _ (under_decides F (parent F v)) v (closing F v + 1) k (same_parent F v h k) (omega arith) (λ w y x k e. not_beside F v w h k y (omega arith) e)
 
-pub next_sibling_end : (F : Forest) (v : ℕ) → HasPair F v → length (text F) ≤ closing F v + 1 → next_of (siblings F v) v ≡ None
+next_sibling_end : (F : Forest) (v : ℕ) → HasPair F v → length (text F) ≤ closing F v + 1 → next_of (siblings F v) v ≡ None
 unfolding nodes_under
 next_sibling_end F v h i = no_next_in F _ _ (under_decides F (parent F v)) v (λ w y k e. not_beside F v w h k y (let n = inside F w k in omega arith) e)
 
@@ -128,29 +129,85 @@ last_beside F v w h i b k x e =
     (λ (t : s.0 < g.0). let n = nested (text F) s.0 (closing F v + 1) g.0 (closing F g.0) m r.2.closes t (omega arith) in omega arith)
     (eq-or-lt_of_le g2)
 
-pub next_sibling_none : (F : Forest) (v : ℕ) → HasPair F v → closing F v + 1 < length (text F) → get_or (text F) (closing F v + 1) false ≡ false → next_of (siblings F v) v ≡ None
+next_sibling_none : (F : Forest) (v : ℕ) → HasPair F v → closing F v + 1 < length (text F) → get_or (text F) (closing F v + 1) false ≡ false → next_of (siblings F v) v ≡ None
 unfolding nodes_under
 next_sibling_none F v h i b = no_next_in F _ _ (under_decides F (parent F v)) v (λ w y k e. ⊎_elim (λ (t : closing F v < w). last_beside F v w h i b k t e) (λ (t : w ≤ closing F v). not_beside F v w h k y t e) (cases_lt (closing F v) w))
 
-pub previous_sibling_first : (F : Forest) → previous_of (siblings F 0) 0 ≡ None
+previous_sibling_first : (F : Forest) → previous_of (siblings F 0) 0 ≡ None
 unfolding nodes_under
 previous_sibling_first F = no_previous_in F _ _ (under_decides F (parent F 0)) 0 (λ w y k e. omega arith)
 
-pub previous_sibling_none : (F : Forest) (u : ℕ) → HasPair F (u + 1) → get_or (text F) u false ≡ true → previous_of (siblings F (u + 1)) (u + 1) ≡ None
+pub previous_sibling_none : (F : Forest) (v : ℕ) → HasPair F v → 0 < v → get_or (text F) (v - 1) false ≡ true → previous_of (siblings F v) v ≡ None
 unfolding nodes_under
-previous_sibling_none F u h b =
-    let p = above_parent F (u + 1) u h (first_of_siblings F u (closing F (u + 1)) h.closes b) in
-    no_previous_in F _ _ (under_decides F (parent F (u + 1))) (u + 1) (λ w y k e. let r = (parent_around F w u k (e ∙ p)).0 in omega arith)
+previous_sibling_none F v h some b =
+    let e : v - 1 + 1 ≡ v = omega arith in
+    let k : HasPair F (v - 1 + 1) = rw e h in
+    let p : parent F v ≡ Some (v - 1) = rw e at (above_parent F (v - 1 + 1) (v - 1) k (first_of_siblings F (v - 1) (closing F (v - 1 + 1)) k.closes b)) in
+    no_previous_in F _ _ (under_decides F (parent F v)) v (λ w y k g. let r = (parent_around F w (v - 1) k (g ∙ p)).0 in omega arith)
 
-pub previous_sibling_is_search : (F : Forest) (u : ℕ) → HasPair F (u + 1) → get_or (text F) u false ≡ false → last_rise_before (text F) u (negsuc 0) ≡ previous_of (siblings F (u + 1)) (u + 1)
+pub previous_sibling_is_search : (F : Forest) (v : ℕ) → HasPair F v → 0 < v → get_or (text F) (v - 1) false ≡ false → last_rise_before (text F) (v - 1) (negsuc 0) ≡ previous_of (siblings F v) v
 unfolding nodes_under
-previous_sibling_is_search F u h b =
-    let ha = h.closes.after in let hi = h.closes.inside in
-    let p = close_is_paired F u false (omega arith) b in
-    let q = paired_closes F p.0 u p.1 in let qa = q.after in
-    let k = one_pair F p.0 (omega arith) (closes_rises (text F) p.0 u false q) in
-    let pc = closes_to F p.0 u q in
-    let at : closing F p.0 + 1 ≡ u + 1 = omega arith in
-    let same : parent F (u + 1) ≡ parent F p.0 = ap (parent F) (sym at) ∙ same_parent F p.0 k (subst (HasPair F) (sym at) h) in
-    before_is (text F) u (negsuc 0) p.0 (before_from_closes (text F) p.0 u q)
-    ∙ sym (previous_in F _ _ (under_decides F (parent F (u + 1))) (u + 1) p.0 k (sym same) (omega arith) (λ w y x kw e. not_beside F p.0 w k kw y (omega arith) (e ∙ same)))
+previous_sibling_is_search F v h some b =
+    let i = inside F v h in
+    let p = close_is_paired F (v - 1) false (omega arith) b in
+    let q = paired_closes F p.0 (v - 1) p.1 in let qa = q.after in
+    let k = one_pair F p.0 (omega arith) (closes_rises (text F) p.0 (v - 1) false q) in
+    let pc = closes_to F p.0 (v - 1) q in
+    let at : closing F p.0 + 1 ≡ v = omega arith in
+    let same : parent F v ≡ parent F p.0 = ap (parent F) (sym at) ∙ same_parent F p.0 k (subst (HasPair F) (sym at) h) in
+    before_is (text F) (v - 1) (negsuc 0) p.0 (before_from_closes (text F) p.0 (v - 1) q)
+    ∙ sym (previous_in F _ _ (under_decides F (parent F v)) v p.0 k (sym same) (omega arith) (λ w y x kw e. not_beside F p.0 w k kw y (omega arith) (e ∙ same)))
+
+-- ---- by one bit: what opens at a place, and what closes right before it
+abbrev pub opened_here : List Bool → ℕ → Option ℕ
+opened_here l p = cond (get_or l p false) (Some p) None
+
+abbrev pub closed_before : List Bool → ℕ → Option ℕ
+closed_before l zero = None
+closed_before l (suc u) = cond (get_or l u true) None (last_rise_before l u (negsuc 0))
+
+same_bit : (l : List Bool) (i : ℕ) → i < length l → get_or l i true ≡ get_or l i false
+same_bit [] i h = absurd (omega arith)
+same_bit (b ∷ l) zero h = refl
+same_bit (b ∷ l) (suc i) h = same_bit l i (omega arith)
+
+pub first_child_is : (F : Forest) (v : ℕ) → HasPair F v → opened_here (text F) (v + 1) ≡ first_of (children F v)
+first_child_is F v h = go (get_or (text F) (v + 1) false) refl
+  where
+    go : (b : Bool) → get_or (text F) (v + 1) false ≡ b → cond b (Some (v + 1)) None ≡ first_of (children F v)
+    go true e = sym (first_child_found F v h e)
+    go false e = sym (first_child_none F v h e)
+
+pub next_sibling_is : (F : Forest) (v : ℕ) → HasPair F v → opened_here (text F) (closing F v + 1) ≡ next_of (siblings F v) v
+next_sibling_is F v h = ⊎_elim
+    (λ (i : closing F v + 1 < length (text F)). go i (get_or (text F) (closing F v + 1) false) refl)
+    (λ (i : length (text F) ≤ closing F v + 1). rw (get_or_past (text F) (closing F v + 1) false i) (sym (next_sibling_end F v h i)))
+    (cases_lt (closing F v + 1) (length (text F)))
+  where
+    go : closing F v + 1 < length (text F) → (b : Bool) → get_or (text F) (closing F v + 1) false ≡ b → cond b (Some (closing F v + 1)) None ≡ next_of (siblings F v) v
+    go i true e = sym (next_sibling_found F v h i e)
+    go i false e = sym (next_sibling_none F v h i e)
+
+pub last_child_is : (F : Forest) (v : ℕ) → HasPair F v → closed_before (text F) (closing F v) ≡ last_of (children F v)
+last_child_is F v h = go (closing F v) refl
+  where
+    go : (k : ℕ) → closing F v ≡ k → closed_before (text F) k ≡ last_of (children F v)
+    go zero e = let a = h.closes.after in absurd (omega arith)
+    go (suc c) e =
+        let a = h.closes.after in let i = h.closes.inside in
+        let m : closing F v ≡ c + 1 = omega arith in
+        ⊎_elim
+        (λ (z : v < c). rw (same_bit (text F) c (omega arith), last_child_closes (text F) v c (rw m at h.closes) z) (last_child_is_search F v c h m z))
+        (λ (z : c ≤ v). let at : v ≡ c = omega arith in let o : get_or (text F) c true ≡ true = rw at at (closes_rises (text F) v (closing F v) true h.closes) in rw o (sym (last_child_none F v h (omega arith))))
+        (cases_lt v c)
+
+pub previous_sibling_is : (F : Forest) (v : ℕ) → HasPair F v → closed_before (text F) v ≡ previous_of (siblings F v) v
+previous_sibling_is F zero h = sym (previous_sibling_first F)
+previous_sibling_is F (suc u) h = go (get_or (text F) u true) refl
+  where
+    at : suc u - 1 ≡ u
+    at = omega arith
+
+    go : (b : Bool) → get_or (text F) u true ≡ b → cond b None (last_rise_before (text F) u (negsuc 0)) ≡ previous_of (siblings F (suc u)) (suc u)
+    go true e = let i = inside F (suc u) h in sym (previous_sibling_none F (suc u) h (omega arith) (rw at (sym (same_bit (text F) u (omega arith)) ∙ e)))
+    go false e = let i = inside F (suc u) h in ap (λ (k : ℕ). last_rise_before (text F) k (negsuc 0)) (sym at) ∙ previous_sibling_is_search F (suc u) h (omega arith) (rw at (sym (same_bit (text F) u (omega arith)) ∙ e))

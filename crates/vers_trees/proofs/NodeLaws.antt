@@ -53,7 +53,7 @@ node_iff_got bits v b =
     (λ h. g.0 (n.0 h), λ h. n.1 (g.1 h))
 
 -- ---- members that ascend, the first of them from n on
-abbrev AscendsFrom : ℕ → List ℕ → Type 0
+abbrev pub AscendsFrom : ℕ → List ℕ → Type 0
 AscendsFrom n [] = Unit {0}
 AscendsFrom n (x ∷ xs) = (n ≤ x) × AscendsFrom (x + 1) xs
 
@@ -65,7 +65,7 @@ range_ascends : (a n : ℕ) → AscendsFrom a (range_with_len a n)
 range_ascends a zero = tt
 range_ascends a (suc n) = (omega arith, range_ascends (a + 1) n)
 
-filter_ascends : (p : ℕ → Bool) (n : ℕ) (xs : List ℕ) → AscendsFrom n xs → AscendsFrom n (filter p xs)
+pub filter_ascends : (p : ℕ → Bool) (n : ℕ) (xs : List ℕ) → AscendsFrom n xs → AscendsFrom n (filter p xs)
 filter_ascends p n [] a = tt
 filter_ascends p n (x ∷ xs) a = go (p x) (filter_ascends p (x + 1) xs a.1)
   where
@@ -91,7 +91,7 @@ first_above : (v : ℕ) (xs : List ℕ) → AscendsFrom (v + 1) xs → find (λ 
 first_above v [] a = refl
 first_above v (x ∷ xs) a = let a0 = a.0 in let t : ltb v x ≡ true = above v x (omega arith) in rw t refl
 
-next_member : (n i v : ℕ) (xs : List ℕ) → AscendsFrom n xs → slice_get xs i ≡ Some v → find (λ w. ltb v w) xs ≡ slice_get xs (suc i)
+pub next_member : (n i v : ℕ) (xs : List ℕ) → AscendsFrom n xs → slice_get xs i ≡ Some v → find (λ w. ltb v w) xs ≡ slice_get xs (suc i)
 next_member n i v [] a e = absurd (cc)
 next_member n zero v (x ∷ xs) a e =
     let s = same_member x v e in
@@ -109,7 +109,7 @@ none_before o n v (x ∷ xs) a h =
     let t : ltb x v ≡ false = not_above x v (omega arith) in
     rw t (none_before o (x + 1) v xs a.1 (omega arith))
 
-member_before : (o : Option ℕ) (n i v : ℕ) (xs : List ℕ) → AscendsFrom n xs → slice_get xs (suc i) ≡ Some v → last_or o (filter (λ w. ltb w v) xs) ≡ slice_get xs i
+pub member_before : (o : Option ℕ) (n i v : ℕ) (xs : List ℕ) → AscendsFrom n xs → slice_get xs (suc i) ≡ Some v → last_or o (filter (λ w. ltb w v) xs) ≡ slice_get xs i
 member_before o n i v [] a e = absurd (cc)
 member_before o n zero v (x ∷ xs) a e =
     let r = member_from (x + 1) 0 v xs a.1 e in
@@ -124,7 +124,7 @@ member_before o n (suc i) v (x ∷ xs) a e =
     let t : ltb x v ≡ true = above x v (omega arith) in
     rw t (member_before (Some x) (x + 1) i v xs a.1 e)
 
-first_member_before : (n v : ℕ) (xs : List ℕ) → AscendsFrom n xs → slice_get xs 0 ≡ Some v → last_or None (filter (λ w. ltb w v) xs) ≡ None
+pub first_member_before : (n v : ℕ) (xs : List ℕ) → AscendsFrom n xs → slice_get xs 0 ≡ Some v → last_or None (filter (λ w. ltb w v) xs) ≡ None
 first_member_before n v [] a e = refl
 first_member_before n v (x ∷ xs) a e =
     let s = same_member x v e in
@@ -134,12 +134,12 @@ last_member : (o : Option ℕ) (x : ℕ) (xs : List ℕ) → last_or o (x ∷ xs
 last_member o x [] = refl
 last_member o x (y ∷ ys) = last_member (Some x) y ys
 
-last_by_number : (xs : List ℕ) → last_of xs ≡ slice_get xs (length xs - 1)
+pub last_by_number : (xs : List ℕ) → last_of xs ≡ slice_get xs (length xs - 1)
 last_by_number [] = refl
 last_by_number (x ∷ xs) = last_member None x xs ∙ ap (slice_get (x ∷ xs)) (let e : length xs ≡ suc (length xs) - 1 = omega arith in e)
 
 -- ---- members that pass a test
-member_passes : (p : ℕ → Bool) (xs : List ℕ) (i v : ℕ) → slice_get (filter p xs) i ≡ Some v → Contains xs v × (p v ≡ true)
+pub member_passes : (p : ℕ → Bool) (xs : List ℕ) (i v : ℕ) → slice_get (filter p xs) i ≡ Some v → Contains xs v × (p v ≡ true)
 member_passes p [] i v e = absurd (cc)
 member_passes p (x ∷ xs) i v e = go (member_passes p xs) (p x) refl i e
   where
@@ -160,7 +160,7 @@ passing_holds p (x ∷ xs) v (suc k, l, e) t = go (p x) (passing_holds p xs v (k
     go false c = c
 
 -- ---- levels
-nodes_ascend : (F : Forest) → AscendsFrom 0 (nodes F)
+pub nodes_ascend : (F : Forest) → AscendsFrom 0 (nodes F)
 unfolding places
 nodes_ascend F = subst (AscendsFrom 0) (sym (nodes_are_ones F)) (filter_ascends _ 0 (range_with_len 0 (length (text F))) (range_ascends 0 (length (text F))))
 

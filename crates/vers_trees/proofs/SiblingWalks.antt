@@ -1,18 +1,21 @@
--- A walk from tree to tree meets the roots of the forest that it walks along.
-use Rattle.std.proofs.Common.{◌≡◌, ℕ, zero, suc, ◌+◌, ◌≤◌, Bool, true, false, List, [], ◌∷◌, ◌++◌, length, reverse, get_or, negsuc, Option, Some, None, arith, length-append, inl, subst, sym, refl, ap, ◌∙◌}
-use Rattle.std.proofs.lemmas.List.{append_assoc, length-map, reverse-append}
-use Rattle.vers_trees.proofs.Lists.{shifted, shifted-shifted}
-use Rattle.vers_trees.proofs.ListsBelow.{StandsAt, closes_standing}
-use Rattle.vers_trees.proofs.Paired.{Closes, closes_rises, closes_falls}
-use Rattle.vers_trees.proofs.Partners.{after_from_closes, before_from_closes}
-use Rattle.vers_trees.proofs.Searches.{after_is, before_is}
-use Rattle.vers_trees.specs.Forest.{Forest, none, tree, text}
+-- A walk from tree to tree below a node meets its children, forwards and backwards.
+use Rattle.std.proofs.Common.{◌≡◌, ℕ, zero, suc, ◌+◌, ◌-◌, ◌<◌, ◌≤◌, Bool, true, false, cond, List, [], ◌∷◌, length, reverse, get_or, ltb, eqb, negsuc, Option, Some, None, arith, sym, refl, ap, ◌∙◌}
+use Rattle.std.specs.Prelude.{slice_get}
+use Rattle.std.specs.Option.{option_eq}
+use Rattle.std.proofs.lemmas.Option.{slice_get_within, slice_get_past, slice_get-get_or}
+use Rattle.std.proofs.lemmas.List.{get_or-reverse, length-reverse}
+use Rattle.std.proofs.lemmas.List.Sums.{length-filter, count_by-le-length}
+use Rattle.vers_bits.specs.Bits.{count}
+use Rattle.vers_bits.proofs.PublicLaws.{length-places, count_le}
+use Rattle.vers_trees.specs.Excess.{first_rise_after, last_rise_before}
+use Rattle.vers_trees.specs.Forest.{Forest, text}
+use Rattle.vers_trees.specs.Nodes.{nodes, closing, parent, nodes_under, children, siblings, last_of, next_of, previous_of}
 use Rattle.vers_trees.specs.Siblings.{tree_to, opened, tree_from, tree_before, met, walked, MeetsJust}
-
--- where the trees of a forest open, one after another
-abbrev pub top_nodes : Forest → List ℕ
-top_nodes none = []
-top_nodes (tree X Y) = 0 ∷ shifted (length (text X) + 2) (top_nodes Y)
+use Rattle.vers_trees.proofs.Searches.{after_is}
+use Rattle.vers_trees.proofs.Partners.{after_from_closes}
+use Rattle.vers_trees.proofs.NodeList.{HasPair, node_pair, nodes_are_ones, opens, option_decides}
+use Rattle.vers_trees.proofs.NodeLaws.{AscendsFrom, nodes_ascend, filter_ascends, next_member, member_before, first_member_before, last_by_number, member_passes}
+use Rattle.vers_trees.proofs.Kin.{opened_here, closed_before, first_child_is, last_child_is, next_sibling_is, previous_sibling_is}
 
 -- a walk that ends meets what `walked` says, if it is given enough steps
 pub walk_is : (step : ℕ → Option (ℕ × ℕ)) (n p : ℕ) (vs : List ℕ) → MeetsJust step p vs → length vs ≤ n → walked step n p ≡ vs
@@ -31,72 +34,97 @@ walk_short step (suc n) p = go (λ (q : ℕ). walk_short step n q) (step p)
     go ih None = omega arith
     go ih (Some q) = let r = ih q.1 in omega arith
 
--- from a closing pair the steps forwards and backwards
-step_from : (l : List Bool) (v c : ℕ) → Closes l v c → tree_from l v ≡ Some (v, c + 1)
-step_from l v c p = rw (closes_rises l v c false p) (ap (tree_to v) (after_is l v (negsuc 0) c (after_from_closes l v c p)))
+-- a walk meets a list whose members its steps find one after another
+steps_meet : (step : ℕ → Option (ℕ × ℕ)) (xs : List ℕ) (At : ℕ → ℕ → Type 0) → ((p i : ℕ) → At p i → slice_get xs i ≡ None → step p ≡ None) → ((p i v : ℕ) → At p i → slice_get xs i ≡ Some v → (q : ℕ) × (step p ≡ Some (v, q)) × At q (suc i)) → (p : ℕ) → At p 0 → MeetsJust step p xs
+steps_meet step [] At none some p a = none p 0 a refl
+steps_meet step (x ∷ xs) At none some p a = let s = some p 0 x a refl in (s.0, s.1, steps_meet step xs (λ p i. At p (suc i)) (λ p i. none p (suc i)) (λ p i. some p (suc i)) s.0 s.2)
 
-step_before : (l : List Bool) (v c : ℕ) → Closes l v c → tree_before l (suc c) ≡ Some (v, v)
-step_before l v c p = rw (closes_falls l v c true p) (ap opened (before_is l c (negsuc 0) v (before_from_closes l v c p)))
+-- ---- a list that ascends, from its end
+reversed_at : (xs : List ℕ) (i : ℕ) → i < length xs → slice_get (reverse xs) i ≡ slice_get xs (length xs - 1 - i)
+reversed_at xs i h =
+    let e = length-reverse xs in
+    slice_get-get_or (reverse xs) i 0 (omega arith) ∙ ap Some (get_or-reverse xs i 0 h) ∙ sym (slice_get-get_or xs (length xs - 1 - i) 0 (omega arith))
 
--- a forest stands at p, and what follows it opens nothing
-stands_first : (l : List Bool) (p : ℕ) (X Y : Forest) → StandsAt l p (text (tree X Y)) → StandsAt l p (text (tree X none))
-stands_first l p X Y s = record {
-  before = s.before;
-  after = text Y ++ s.after;
-  place = s.place;
-  written = s.written ∙ ap (λ (m : List Bool). s.before ++ (true ∷ m)) (append_assoc (text X) (false ∷ text Y) s.after ∙ sym (append_assoc (text X) (false ∷ []) (text Y ++ s.after)));
-}
+reversed_first : (xs : List ℕ) → slice_get (reverse xs) 0 ≡ last_of xs
+reversed_first [] = refl
+reversed_first (x ∷ xs) =
+    let e : length (x ∷ xs) - 1 - 0 ≡ length (x ∷ xs) - 1 = omega arith in
+    reversed_at (x ∷ xs) 0 (omega arith) ∙ ap (slice_get (x ∷ xs)) e ∙ sym (last_by_number (x ∷ xs))
 
-stands_rest : (l : List Bool) (p : ℕ) (X Y : Forest) → StandsAt l p (text (tree X Y)) → StandsAt l (p + (length (text X) + 2)) (text Y)
-stands_rest l p X Y s = record {
-  before = s.before ++ text (tree X none);
-  after = s.after;
-  place = (let e = length-append s.before (text (tree X none)) in let f = length-append (text X) (false ∷ []) in let g = s.place in omega arith);
-  written = s.written
-      ∙ ap (λ (m : List Bool). s.before ++ (true ∷ m)) (append_assoc (text X) (false ∷ text Y) s.after ∙ sym (append_assoc (text X) (false ∷ []) (text Y ++ s.after)))
-      ∙ sym (append_assoc s.before (text (tree X none)) (text Y ++ s.after));
-}
+reversed_next : (xs : List ℕ) (i j w : ℕ) → AscendsFrom 0 xs → i + j + 1 ≡ length xs → slice_get xs j ≡ Some w → slice_get (reverse xs) (suc i) ≡ previous_of xs w
+reversed_next xs i zero w a h e = let r = length-reverse xs in slice_get_past (reverse xs) (suc i) (omega arith) ∙ sym (first_member_before 0 w xs a e)
+reversed_next xs i (suc j) w a h e =
+    let at : length xs - 1 - suc i ≡ j = omega arith in
+    reversed_at xs (suc i) (omega arith) ∙ ap (slice_get xs) at ∙ sym (member_before None 0 j w xs a e)
 
-first_closes : (l : List Bool) (p : ℕ) (X Y : Forest) → StandsAt l p (text (tree X Y)) → Closes l p (p + (length (text X) + 1))
-first_closes l p X Y s = subst (λ (n : ℕ). Closes l n (p + (length (text X) + 1))) (let e : p + 0 ≡ p = omega arith in e) (closes_standing l p (tree X Y) 0 (length (text X) + 1) s (inl (refl, refl)))
+-- ---- children
+children_ascend : (F : Forest) (v : ℕ) → AscendsFrom 0 (children F v)
+unfolding nodes_under
+children_ascend F v = filter_ascends _ 0 (nodes F) (nodes_ascend F)
 
-pub meets_forwards : (l : List Bool) (G : Forest) (p : ℕ) → StandsAt l p (text G) → get_or l (p + length (text G)) false ≡ false → MeetsJust (tree_from l) p (shifted p (top_nodes G))
-meets_forwards l none p s b =
-    let e : p + 0 ≡ p = omega arith in
-    let z : get_or l p false ≡ false = subst (λ (n : ℕ). get_or l n false ≡ false) e b in
-    rw z refl
-meets_forwards l (tree X Y) p s b =
-    let n = length (text X) + 2 in
-    let c = first_closes l p X Y s in
-    let len = length-append (text X) (false ∷ text Y) in
-    let b' : get_or l (p + n + length (text Y)) false ≡ false = subst (λ (m : ℕ). get_or l m false ≡ false) (omega arith) b in
-    let rest = meets_forwards l Y (p + n) (stands_rest l p X Y s) b' in
-    let e : p + 0 ≡ p = omega arith in
-    let past : p + (length (text X) + 1) + 1 ≡ p + n = omega arith in (
-      p + n,
-      step_from l p (p + (length (text X) + 1)) c ∙ ap (λ (m : ℕ). Some (p, m)) past ∙ ap (λ (m : ℕ). Some (m, p + n)) (sym e),
-      subst (λ (xs : List ℕ). MeetsJust (tree_from l) (p + n) xs) (sym (shifted-shifted p n (top_nodes Y))) rest,
-    )
+child_member : (F : Forest) (v i w : ℕ) → slice_get (children F v) i ≡ Some w → HasPair F w × (siblings F w ≡ children F v)
+unfolding nodes_under
+child_member F v i w e =
+    let r = member_passes (λ w. option_eq eqb (parent F w) (Some v)) (nodes F) i w e in
+    (node_pair F w r.0, ap (nodes_under F) ((option_decides (parent F w) (Some v)).0 r.1))
 
-pub meets_backwards : (l : List Bool) (G : Forest) (p : ℕ) (vs : List ℕ) → StandsAt l p (text G) → MeetsJust (tree_before l) p vs → MeetsJust (tree_before l) (p + length (text G)) (reverse (shifted p (top_nodes G)) ++ vs)
-meets_backwards l none p vs s h = subst (λ (n : ℕ). MeetsJust (tree_before l) n vs) (let e : p ≡ p + 0 = omega arith in e) h
-meets_backwards l (tree X Y) p vs s h =
-    let n = length (text X) + 2 in
-    let c = first_closes l p X Y s in
-    let len = length-append (text X) (false ∷ text Y) in
-    let one : MeetsJust (tree_before l) (suc (p + (length (text X) + 1))) (p ∷ vs) = (p, step_before l p (p + (length (text X) + 1)) c, h) in
-    let past : suc (p + (length (text X) + 1)) ≡ p + n = omega arith in
-    let rest = meets_backwards l Y (p + n) (p ∷ vs) (stands_rest l p X Y s) (subst (λ (m : ℕ). MeetsJust (tree_before l) m (p ∷ vs)) past one) in
-    let end : p + n + length (text Y) ≡ p + length (text (tree X Y)) = omega arith in
-    let e : p ≡ p + 0 = omega arith in
-    let lists : reverse (shifted (p + n) (top_nodes Y)) ++ (p ∷ vs) ≡ reverse (shifted p (top_nodes (tree X Y))) ++ vs =
-    ap (λ (xs : List ℕ). reverse xs ++ (p ∷ vs)) (sym (shifted-shifted p n (top_nodes Y)))
-    ∙ sym (append_assoc (reverse (shifted p (shifted n (top_nodes Y)))) (p ∷ []) vs)
-    ∙ ap (λ (m : ℕ). (reverse (shifted p (shifted n (top_nodes Y))) ++ (m ∷ [])) ++ vs) e
-    ∙ ap (λ (xs : List ℕ). xs ++ vs) (sym (reverse-append ((p + 0) ∷ []) (shifted p (shifted n (top_nodes Y))))) in
-    subst (λ (m : ℕ). MeetsJust (tree_before l) m (reverse (shifted p (top_nodes (tree X Y))) ++ vs)) end (subst (λ (xs : List ℕ). MeetsJust (tree_before l) (p + n + length (text Y)) xs) lists rest)
+pub children_few : (F : Forest) (v : ℕ) → length (children F v) ≤ length (text F)
+unfolding nodes_under
+children_few F v =
+    let a = length-filter (λ w. option_eq eqb (parent F w) (Some v)) (nodes F) in
+    let b = count_by-le-length (λ w. option_eq eqb (parent F w) (Some v)) (nodes F) in
+    let c = ap (λ (xs : List ℕ). length xs) (nodes_are_ones F) ∙ length-places true (text F) in
+    let d = (count_le true (text F) (length (text F))).0 in
+    omega arith
 
-pub top_few : (G : Forest) → length (top_nodes G) ≤ length (text G)
-top_few none = omega arith
-top_few (tree X Y) =
-    let ih = top_few Y in let e = length-map (top_nodes Y) (λ v. length (text X) + 2 + v) in let len = length-append (text X) (false ∷ text Y) in omega arith
+here : (l : List Bool) (p w : ℕ) → opened_here l p ≡ Some w → p ≡ w
+here l p w e = go (get_or l p false) e
+  where
+    go : (b : Bool) → cond b (Some p) None ≡ Some w → p ≡ w
+    go true e = cc
+    go false e = absurd (cc)
+
+not_here : (l : List Bool) (p : ℕ) → opened_here l p ≡ None → tree_from l p ≡ None
+not_here l p e = go (get_or l p false) e
+  where
+    go : (b : Bool) → cond b (Some p) None ≡ None → cond b (tree_to p (first_rise_after l p (negsuc 0))) None ≡ None
+    go true e = absurd (cc)
+    go false e = refl
+
+pub meets_forwards : (F : Forest) (v : ℕ) → HasPair F v → MeetsJust (tree_from (text F)) (v + 1) (children F v)
+meets_forwards F v h = steps_meet (tree_from (text F)) (children F v) (λ p i. slice_get (children F v) i ≡ opened_here (text F) p)
+    (λ p i a e. not_here (text F) p (sym a ∙ e))
+    (λ p i w a e.
+    let m = child_member F v i w e in let k = m.0 in
+    let at : p ≡ w = here (text F) p w (sym a ∙ e) in (
+      closing F w + 1,
+      rw (at, opens F w k) (ap (tree_to w) (after_is (text F) w (negsuc 0) (closing F w) (after_from_closes (text F) w (closing F w) k.closes))),
+      sym (next_member 0 i w (children F v) (children_ascend F v) e) ∙ ap (λ (vs : List ℕ). next_of vs w) (sym m.1) ∙ sym (next_sibling_is F w k),
+    ))
+    (v + 1)
+    (sym (first_child_is F v h))
+
+before_step : (l : List Bool) (p : ℕ) → tree_before l p ≡ opened (closed_before l p)
+before_step l zero = refl
+before_step l (suc u) = go (get_or l u true) (last_rise_before l u (negsuc 0))
+  where
+    go : (b : Bool) (o : Option ℕ) → cond b None (opened o) ≡ opened (cond b None o)
+    go true o = refl
+    go false o = refl
+
+pub meets_backwards : (F : Forest) (v : ℕ) → HasPair F v → MeetsJust (tree_before (text F)) (closing F v) (reverse (children F v))
+meets_backwards F v h = steps_meet (tree_before (text F)) (reverse xs) (λ p i. slice_get (reverse xs) i ≡ closed_before (text F) p)
+    (λ p i a e. before_step (text F) p ∙ ap opened (sym a ∙ e))
+    (λ p i w a e.
+    let r = length-reverse xs in let n = slice_get_within (reverse xs) i w e in
+    let at = sym (reversed_at xs i (omega arith)) ∙ e in
+    let m = child_member F v (length xs - 1 - i) w at in (
+      w,
+      before_step (text F) p ∙ ap opened (sym a ∙ e),
+      reversed_next xs i (length xs - 1 - i) w (children_ascend F v) (omega arith) at ∙ ap (λ (vs : List ℕ). previous_of vs w) (sym m.1) ∙ sym (previous_sibling_is F w m.0),
+    ))
+    (closing F v)
+    (reversed_first xs ∙ sym (last_child_is F v h))
+  where
+    xs : List ℕ
+    xs = children F v

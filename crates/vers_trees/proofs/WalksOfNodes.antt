@@ -22,8 +22,8 @@ use Rattle.vers_trees.proofs.NodeList.{HasPair, node_pair, nodes_are_ones}
 use Rattle.vers_trees.proofs.Lists.{shifted}
 use Rattle.vers_trees.proofs.PostorderPlaces.{postorder_opens}
 use Rattle.vers_trees.proofs.ListsBelow.{below, branch, StandsAt, part_standing, half_of_text}
-use Rattle.vers_trees.proofs.SiblingWalks.{top_nodes, walk_is, walk_short, meets_forwards, meets_backwards, top_few}
-use Rattle.vers_trees.proofs.ListsOfNodes.{subtree_size_is, HasTree, has_tree, children_places, subtree_places, subtree_post_places}
+use Rattle.vers_trees.proofs.SiblingWalks.{walk_is, walk_short, meets_forwards, meets_backwards, children_few}
+use Rattle.vers_trees.proofs.ListsOfNodes.{subtree_size_is, HasTree, has_tree, subtree_places, subtree_post_places}
 
 -- ---- steps among siblings
 pub walk_ends : (l : List Bool) (forward : Bool) (p : ℕ) → IsWalkOfSiblings l forward p → tree_beside l forward p ≡ None → TakesFirst (siblings_left l forward p) None (siblings_left l forward p)
@@ -56,50 +56,11 @@ walk_from l forward p vs m h =
     let e = walk_is (tree_beside l forward) (length l) p vs m h in
     (e, subst (MeetsJust (tree_beside l forward) p) (sym e) m)
 
--- what stands below a node begins right after it
-below_stands : (F : Forest) (v : ℕ) → HasTree F v → StandsAt (text F) (v + 1) (text (below F v))
-below_stands F v t =
-    let s = t.stands in
-    let m = text (below F v) in
-    record {
-      before = s.before ++ true ∷ [];
-      after = false ∷ s.after;
-      place = (let e = length-append s.before (true ∷ []) in let p = s.place in omega arith);
-      written = s.written ∙ ap (λ (l : List Bool). s.before ++ (true ∷ l)) (append_assoc m (false ∷ []) s.after) ∙ sym (append_assoc s.before (true ∷ []) (m ++ false ∷ s.after));
-    }
-
-children_short : (F : Forest) (v : ℕ) → HasPair F v → HasTree F v → length (shifted (v + 1) (top_nodes (below F v))) ≤ length (text F)
-children_short F v h t =
-    let a = length-map (top_nodes (below F v)) (λ w. v + 1 + w) in
-    let b = top_few (below F v) in
-    let c = t.closes in let i = h.closes.inside in omega arith
-
 forwards_in : (F : Forest) (v : ℕ) → IsNode F v → (siblings_left (text F) true (v + 1) ≡ children F v) × IsWalkOfSiblings (text F) true (v + 1)
-forwards_in F v n =
-    let h = node_pair F v n in
-    let t = has_tree F v h in
-    let c = t.closes in
-    let end : closing F v ≡ v + 1 + length (text (below F v)) = omega arith in
-    let bit = subst (λ (k : ℕ). get_or (text F) k false ≡ false) end (closes_falls (text F) v (closing F v) false h.closes) in
-    let m = meets_forwards (text F) (below F v) (v + 1) (below_stands F v t) bit in
-    let w = walk_from (text F) true (v + 1) (shifted (v + 1) (top_nodes (below F v))) m (children_short F v h t) in
-    (w.0 ∙ sym (children_places F v h), w.1)
+forwards_in F v n = walk_from (text F) true (v + 1) (children F v) (meets_forwards F v (node_pair F v n)) (children_few F v)
 
 backwards_in : (F : Forest) (v : ℕ) → IsNode F v → (siblings_left (text F) false (closing F v) ≡ reverse (children F v)) × IsWalkOfSiblings (text F) false (closing F v)
-backwards_in F v n =
-    let h = node_pair F v n in
-    let t = has_tree F v h in
-    let c = t.closes in
-    let xs = shifted (v + 1) (top_nodes (below F v)) in
-    let end : v + 1 + length (text (below F v)) ≡ closing F v = omega arith in
-    let next : v + 1 ≡ suc v = omega arith in
-    let bit : get_or (text F) v true ≡ true = closes_rises (text F) v (closing F v) true h.closes in
-    let start : tree_before (text F) (suc v) ≡ None = rw bit refl in
-    let m = meets_backwards (text F) (below F v) (v + 1) [] (below_stands F v t) (ap (tree_before (text F)) next ∙ start) in
-    let m' = subst (λ (ys : List ℕ). MeetsJust (tree_before (text F)) (v + 1 + length (text (below F v))) ys) (append-nil (reverse xs)) m in
-    let m'' = subst (λ (k : ℕ). MeetsJust (tree_before (text F)) k (reverse xs)) end m' in
-    let w = walk_from (text F) false (closing F v) (reverse xs) m'' (let a = length-reverse xs in let b = children_short F v h t in omega arith) in
-    (w.0 ∙ ap (λ (ys : List ℕ). reverse ys) (sym (children_places F v h)), w.1)
+backwards_in F v n = walk_from (text F) false (closing F v) (reverse (children F v)) (meets_backwards F v (node_pair F v n)) (let a = length-reverse (children F v) in let b = children_few F v in omega arith)
 
 -- what a walk with these nodes left is seen as
 abbrev pub walking : List ℕ → Reads → Walking ℕ
