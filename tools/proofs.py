@@ -17,8 +17,10 @@ import threading
 import time
 from collections import Counter
 from concurrent.futures import ThreadPoolExecutor
+from functools import partial
 
-TOP = os.path.dirname(os.path.dirname(os.path.abspath(__file__)))
+from sources import TOP, read
+
 PARTS = ("src", "specs", "proofs")
 
 
@@ -27,11 +29,10 @@ class Failure(Exception):
 
 
 class Crates:
-    """The crates that a repository lists: the line of each in crates.txt, its folder and the libraries below it."""
+    """The crates that a repository lists, and the line of each in crates.txt."""
 
     def __init__(self, top):
-        with open(f"{top}/crates.txt", encoding="utf-8") as it:
-            lines = [line.split("#")[0].strip() for line in it]
+        lines = [line.split("#")[0].strip() for line in read(f"{top}/crates.txt").split("\n")]
         self.top, self.lines = top, {line.split(":")[0].split()[0]: line for line in lines if ":" in line}
 
     def folder(self, name):
@@ -52,18 +53,14 @@ class Crates:
 
     def copy_to(self, room, name, made):
         """Makes a repository of a crate with some of what was made of it, over the libraries below it as they were built."""
+        crates = [*self.below(name), name]
         shutil.copy2(f"{self.top}/HANDLES", room)
         with open(f"{room}/crates.txt", "w", encoding="utf-8") as it:
-            it.write("".join(f"{self.lines[it]}\n" for it in [*self.below(name), name]))
-        for crate in [*self.below(name), name]:
+            it.writelines(f"{self.lines[crate]}\n" for crate in crates)
+        for crate in crates:
             for part in [*PARTS, made if crate == name else "out/rlib"]:
                 if os.path.isdir(f"{self.folder(crate)}/{part}"):
                     shutil.copytree(f"{self.folder(crate)}/{part}", f"{room}/crates/{crate}/{part}", copy_function=linked)
-
-    def take_back(self, room, name):
-        """Takes what was made of a crate in a repository of its own."""
-        shutil.rmtree(f"{self.folder(name)}/out", ignore_errors=True)
-        shutil.move(f"{room}/crates/{name}/out", f"{self.folder(name)}/out")
 
 
 def linked(one, other):
@@ -79,26 +76,39 @@ class Processors:
     """Has work done, as much side by side as there are processors, in the order of its ranks, and adds up what commands took."""
 
     def __init__(self, count):
-        self.free, self.waiting, self.changed = count, [], threading.Condition()
-        self.running, self.seconds, self.ended = set(), Counter(), ""
+        self.free, self.waiting, self.done, self.changed = count, {}, set(), threading.Condition()
+        self.queued, self.running, self.seconds, self.ended = 0, set(), Counter(), ""
 
-    def do(self, rank, work):
-        """Returns what a piece of work does when its turn comes, which is called with one job, and one more for each processor that nothing
-        waits for."""
-        turn = (rank, time.monotonic(), threading.get_ident())
+    def queue(self, rank, after=()):
+        """Queues a piece of work, which is ready once those of these names are done, and returns its turn."""
         with self.changed:
-            self.waiting.append(turn)
-            self.changed.wait_for(lambda: self.ended or self.free > 0 and turn == min(self.waiting))
-            self.waiting.remove(turn)
-            jobs = max(1, self.free - len(self.waiting))
+            self.queued += 1
+            self.waiting[rank, self.queued] = set(after)
+            return rank, self.queued
+
+    def ready(self):
+        """Returns the turns of what is ready and waits for a processor."""
+        return [turn for turn, after in self.waiting.items() if after <= self.done]
+
+    def do(self, turn, work, name=""):
+        """Returns what a piece of work does when its turn comes, which is called with one job, and one more for each processor
+        that nothing ready waits for. Where it fails, all ends."""
+        with self.changed:
+            self.changed.wait_for(lambda: self.ended or self.free > 0 and turn == min(self.ready(), default=None))
+            del self.waiting[turn]
+            jobs = max(1, self.free - len(self.ready()))
             self.free -= 1
             self.changed.notify_all()
         try:
-            return work(jobs)
-        finally:
-            with self.changed:
-                self.free += 1
-                self.changed.notify_all()
+            made = work(jobs)
+        except Exception as error:
+            self.end(str(error) or repr(error))
+            raise
+        with self.changed:
+            self.done.add(name)
+            self.free += 1
+            self.changed.notify_all()
+        return made
 
     def run(self, part, command, folder):
         """Runs a command of rt in a folder, adds what it took to a part, and returns what it printed and its status."""
@@ -106,10 +116,11 @@ class Processors:
             with self.changed:
                 if self.ended:
                     raise Failure(self.ended)
-                child = subprocess.Popen(command, cwd=folder, stdin=subprocess.DEVNULL, stdout=out, stderr=out, start_new_session=True)
+                streams = {"stdin": subprocess.DEVNULL, "stdout": out, "stderr": out}
+                child = subprocess.Popen(command, cwd=folder, start_new_session=True, **streams)
                 self.running.add(child.pid)
             _, status, used = os.wait4(child.pid, 0)
-            child.returncode = os.WEXITSTATUS(status) if os.WIFEXITED(status) else -os.WTERMSIG(status)
+            child.returncode = os.waitstatus_to_exitcode(status)
             with self.changed:
                 self.running.discard(child.pid)
                 self.seconds[part] += used.ru_utime + used.ru_stime
@@ -134,44 +145,35 @@ class Processors:
 
 
 class Proofs:
-    """Proves crates and those below them, each once, and keeps what the check said of each."""
+    """Proves crates and those below them, each once."""
 
     def __init__(self, crates, processors, tell=lambda text: None):
         self.crates, self.processors, self.tell = crates, processors, tell
-        self.pool, self.begun, self.alone = ThreadPoolExecutor(len(crates.lines) + 1), {}, threading.Lock()
-
-    def begin(self, name):
-        """Begins a crate and those below it, and returns what gives what was said of it."""
-        with self.alone:
-            for it in [*self.crates.below(name), name]:
-                if it not in self.begun:
-                    self.begun[it] = self.pool.submit(self.prove, it)
-            return self.begun[name]
+        self.pool, self.begun = ThreadPoolExecutor(len(crates.lines) + 1), {}
 
     def prove_all(self, names):
-        """Proves crates and those below them."""
-        for it in [self.begin(name) for name in names]:
-            it.result()
+        """Proves crates and those below them, of which all are queued before one begins."""
+        with self.processors.changed:
+            for it in [it for name in names for it in [*self.crates.below(name), name]]:
+                if it not in self.begun:
+                    above = sum(it in self.crates.below(other) for other in self.crates.lines)
+                    turn = self.processors.queue(-above, self.crates.below(it))
+                    self.begun[it] = self.pool.submit(self.processors.do, turn, partial(self.prove, it), it)
+        for name in names:
+            self.begun[name].result()
 
-    def prove(self, name):
-        """Proves a crate once those below it are proved: a library is built for the crates above it, a program is built and run."""
-        for below in self.crates.below(name):
-            self.begun[below].result()
-        above = sum(name in self.crates.below(it) for it in self.crates.lines)
-        said = self.processors.do(-above, lambda jobs: self.prove_apart(name, jobs))
-        self.tell(f"{name} is proved")
-        return said
-
-    def prove_apart(self, name, jobs):
-        """Proves a crate in a repository of its own, and returns what was said."""
+    def prove(self, name, jobs):
+        """Proves a crate in a repository of its own: a library is built for the crates above it, a program is built and run."""
+        folder = self.crates.folder(name)
         with tempfile.TemporaryDirectory(prefix="proof-") as room:
             self.crates.copy_to(room, name, "out")
             command = ["rt", "run" if self.crates.is_program(name) else "lib", "--jobs", str(jobs)]
             said, status = self.processors.run((name, "proof"), command, f"{room}/crates/{name}")
             if status:
                 raise Failure(f"{name} is not proved:\n{said[-4000:]}")
-            self.crates.take_back(room, name)
-            return said
+            shutil.rmtree(f"{folder}/out", ignore_errors=True)
+            shutil.move(f"{room}/crates/{name}/out", f"{folder}/out")
+        self.tell(f"{name} is proved")
 
 
 def processor_count():
@@ -181,16 +183,21 @@ def processor_count():
 
 def main():
     """Proves the crates that are named."""
-    began = time.time()
-    tell = lambda text: print(f"{sys.argv[1]}: {text}", file=sys.stderr, flush=True)
-    timed = lambda text: tell(f"{text}, after {(time.time() - began) / 60:.1f} minutes")
+    began, names = time.time(), sys.argv[1:]
+
+    def tell(text):
+        print(f"{names[0]}: {text}", file=sys.stderr, flush=True)
+
+    def tell_time(text):
+        tell(f"{text}, after {(time.time() - began) / 60:.1f} minutes")
+
     processors = Processors(processor_count())
     processors.end_on_interrupt()
-    proofs = Proofs(Crates(TOP), processors, timed)
+    proofs = Proofs(Crates(TOP), processors, tell_time)
     try:
         tell("proving the crates, those below first; this takes some minutes the first time")
-        proofs.prove_all(sys.argv[1:])
-        for name in filter(proofs.crates.is_program, sys.argv[1:]):
+        proofs.prove_all(names)
+        for name in filter(proofs.crates.is_program, names):
             built = f"{proofs.crates.folder(name)}/out/{name}.built"
             with open(built, "w", encoding="utf-8"):
                 os.utime(built, (began, began))

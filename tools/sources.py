@@ -1,21 +1,38 @@
-"""Reads the sources of a crate, in the layout of `rt fmt`: its functions with their owners, heads, clauses and bodies, and its structs.
+"""Reads the sources of a crate, in the layout of `rt fmt`: its functions with their heads, clauses and bodies, and its structs.
 
-In that layout the body of a function is opened by a line as far in as the function's first line, and closed by the next brace that
-stands alone as far in.
+In that layout the body of a function is opened by a line as far in as the function's first line, and closed by the next brace
+that stands alone as far in.
 """
 import os
 import re
+import sys
 from functools import cached_property
 
-HEAD = re.compile(r"(?: {4})?(?:pub(?:\([a-z]+\))? )?(?:const |unsafe )*fn (\w+)")
-OWNER = re.compile(r"(?:pub(?:\([a-z]+\))? )?(?:unsafe )?(?:impl|trait)\b")
+TOP = os.path.dirname(os.path.dirname(os.path.abspath(__file__)))
+PUB = r"(?:pub(?:\([a-z]+\))? )?"
+HEAD = re.compile(rf"(?: {{4}})?{PUB}(?:const |unsafe )*fn (\w+)")
+OWNER = re.compile(rf"{PUB}(?:unsafe )?(?:impl|trait)\b")
 CLAUSE = re.compile(r"(?ms)^\s*(requires|ensures) (?:([a-z_]\w*) )?\{ (.*?)\s\}\s*(?=^\s*(?:requires|ensures)\b|\Z)")
-STRUCT = re.compile(r"(?ms)^(pub(?:\([a-z]+\))? )?(struct|enum) (\w+)([^;{(]*)(\{.*?^\}|\{[^\n]*\}|\([^;]*\);|;)")
+STRUCT = re.compile(rf"(?ms)^({PUB})(struct|enum) (\w+)([^;{{(]*)(\{{.*?^\}}|\{{[^\n]*\}}|\([^;]*\);|;)")
+PARAMETER = re.compile(r"(?:mut )?(\w+): ((?:[^,<(\[]|<[^<>]*(?:<[^<>]*>[^<>]*)*>|\([^()]*\)|\[[^\[\]]*\])+)")
 
 
-def bare(text):
-    """Returns code without comments, and with empty texts."""
-    return re.sub(r'b?"(?:\\.|[^"\\])*"', '""', re.sub(r"//[^\n]*", "", text))
+def read(path):
+    """Returns the text of a file."""
+    with open(path, encoding="utf-8") as file:
+        return file.read()
+
+
+def line_of(text, at):
+    """Returns the number of the line in which a place of a text stands."""
+    return text.count("\n", 0, at) + 1
+
+
+def closed(found, leads):
+    """Returns a set with all that leads into it, of what leads where."""
+    while more := {it for it, others in leads.items() if others & found} - found:
+        found = found | more
+    return found
 
 
 def without_generics(text):
@@ -28,37 +45,39 @@ def without_generics(text):
     return found
 
 
+def split_owner(owner):
+    """Returns the type and the trait that the head of an impl names, or a trait itself and none."""
+    words = re.sub(r"^.*?\b(?:impl|trait)\b", "", re.sub(r"\bwhere\b.*", "", without_generics(owner)).split("{")[0])
+    trait, is_for, kind = words.rpartition(" for ")
+    return kind, trait if is_for else ""
+
+
+def last_word(text):
+    """Returns the name of a type or a trait, past its path and before its bounds."""
+    return (re.findall(r"\w+", text if "::" in text else text.split(":")[0]) or [""])[-1]
+
+
 class Function:
-    """A function: the head of its impl or trait, and the numbers of its first line, the first of its body and its last."""
+    """A function: the head of its impl or trait, the numbers of its first line, the first of its body and its last, and its parts."""
 
-    def __init__(self, source, name, owner, first, body, last):
-        self.source, self.name, self.owner, self.first, self.body, self.last = source, name, owner, first, body, last
-
-    @property
-    def where(self):
-        return f"{self.source.path}:{self.first + 1}"
-
-    @property
-    def has_body(self):
-        return self.body is not None
-
-    @cached_property
-    def text(self):
-        """Its text from its first line on, clauses and body included."""
-        return "\n".join(self.source.lines[self.first : self.last + 1])
-
-    @cached_property
-    def declared(self):
-        """Its text before its body."""
-        if not self.has_body:
-            return self.text.rstrip(";")
-        head = "\n".join(self.source.lines[self.first : self.body])
-        return (head if self.body < self.last else f"{head}\n{self.source.lines[self.last].rpartition('{')[0]}").rstrip("{ \n")
-
-    @cached_property
-    def head(self):
-        """Its declaration, with neither clauses nor `where`."""
-        return " ".join(re.split(r"\n\s*(?:requires|ensures|where|ghost)\b", self.declared)[0].split())
+    def __init__(self, source, owner, first, body, last):
+        self.source, self.owner, self.first, self.body, self.last = source, owner, first, body, last
+        lines = source.lines[first : last + 1]
+        self.has_body, self.text, self.where = body is not None, "\n".join(lines), f"{source.path}:{first + 1}"
+        declared, inside = self.text, ""
+        if body == last:
+            declared, _, inside = self.text.removesuffix("}").rpartition("{")
+        elif self.has_body:
+            declared, inside = "\n".join(lines[: body - first]), "\n".join(lines[body - first : -1])
+        # its text before its body; its body without comments; and its declaration, with neither clauses nor `where`
+        self.declared, self.code = declared.rstrip("{; \n"), bare(inside)
+        self.head = " ".join(re.split(r"\n\s*(?:requires|ensures|where|ghost)\b", self.declared)[0].split())
+        self.name = HEAD.match(self.text)[1]
+        # the type that it belongs to, or the trait that declares it; and the trait that its impl is of
+        self.holder, self.trait = map(last_word, split_owner(owner))
+        self.full_name = f"{self.holder}::{self.name}" if owner else self.name
+        self.is_public = bool(re.match(r"pub (?:const |unsafe )?fn\b", self.head))
+        self.is_declared_by_trait = bool(re.match(rf"{PUB}trait\b", owner))
 
     @cached_property
     def clauses(self):
@@ -66,56 +85,13 @@ class Function:
         return [(kind, name, " ".join(fact.split())) for kind, name, fact in CLAUSE.findall(self.declared)]
 
     @cached_property
-    def code(self):
-        """Its body without comments."""
-        if not self.has_body:
-            return ""
-        inside = self.text.rpartition("{")[2].rstrip("}") if self.body == self.last else "\n".join(self.source.lines[self.body : self.last])
-        return bare(inside)
-
-    @property
-    def is_public(self):
-        return self.head.startswith("pub fn") or self.head.startswith(("pub const fn", "pub unsafe fn"))
-
-    @cached_property
-    def _owners(self):
-        words = re.sub(r"^.*?\b(?:impl|trait)\b", "", re.sub(r"\bwhere\b.*", "", without_generics(self.owner)).split("{")[0])
-        trait, is_for, kind = words.rpartition(" for ")
-        last = lambda text: (re.findall(r"\w+", text.split(":")[0] if "::" not in text else text) or [""])[-1]
-        return last(kind), last(trait) if is_for else ""
-
-    @property
-    def holder(self):
-        """The name of the type that it belongs to, or of the trait that declares it, or ""."""
-        return self._owners[0] if self.owner else ""
-
-    @property
-    def trait(self):
-        """The name of the trait that its impl is of, or ""."""
-        return self._owners[1] if self.owner else ""
-
-    @property
-    def is_declared_by_trait(self):
-        return bool(re.match(r"(?:pub(?:\([a-z]+\))? )?trait\b", self.owner))
-
-    @property
-    def full_name(self):
-        return f"{self.holder}::{self.name}" if self.owner else self.name
-
-    @cached_property
     def parameters(self):
         """Its parameters but `self`, as (name, type)."""
-        inside = re.search(r"fn \w+(?:<.*?>)?\((.*)", self.head)[1]
-        depth, at = 1, 0
+        inside, depth, at = re.search(r"fn \w+(?:<.*?>)?\((.*)", self.head)[1], 1, 0
         while depth and at < len(inside):
             depth += (inside[at] == "(") - (inside[at] == ")")
             at += 1
-        return re.findall(r"(?:mut )?(\w+): ((?:[^,<(\[]|<[^<>]*(?:<[^<>]*>[^<>]*)*>|\([^()]*\)|\[[^\[\]]*\])+)", inside[: at - 1])
-
-    @property
-    def returns(self):
-        """The type that it answers, as text."""
-        return self.head.rpartition("->")[2].strip() if "->" in self.head else ""
+        return PARAMETER.findall(inside[: at - 1])
 
 
 class Source:
@@ -135,20 +111,19 @@ class Source:
                 owner = " ".join(rest[: next(i for i, it in enumerate(rest, 1) if it.endswith(("{", "}")))])
             elif line == "}":
                 owner = ""
-            head = HEAD.match(line)
-            if head:
-                found.append(Function(self, head[1], owner, at, *self.span(at)))
+            if HEAD.match(line):
+                found.append(Function(self, owner, at, *self.span(at)))
         return found
 
     def span(self, at):
         """Returns the first line of the body of the function that begins at a line, or None where it has none, and its last line."""
         indent, depth = re.match(" *", self.lines[at])[0], 0
-        for body in range(at, len(self.lines)):
-            line = self.lines[body]
+        for body, line in enumerate(self.lines[at:], at):
             depth += line.count("{") - line.count("}")
-            if line.startswith(indent) and line[len(indent) :][:1] not in ("", " ") and line.endswith("}"):
+            is_as_far_in = line.startswith(indent) and line[len(indent) :][:1] not in ("", " ")
+            if is_as_far_in and line.endswith("}"):
                 return body, body
-            if line.startswith(indent) and line[len(indent) :][:1] not in ("", " ") and line.endswith("{"):
+            if is_as_far_in and line.endswith("{"):
                 return body + 1, self.lines.index(indent + "}", body)
             if line.endswith(";") and depth == 0:
                 return None, body
@@ -156,18 +131,23 @@ class Source:
 
     @cached_property
     def structs(self):
-        """Its structs and enums, as (whether public, name, fields as (name, type), line)."""
-        found = []
-        text = bare_keeping_lines(self.text)
+        """Its structs and enums, as (name, fields as (name, type), line)."""
+        found, text = [], bare_keeping_lines(self.text)
         for it in STRUCT.finditer(text):
             inside = it[5].strip("{}();\n")
-            fields = re.findall(r"(?m)^\s*(?:pub(?:\([a-z]+\))? )?(\w+): (.*?),?$", inside) if it[2] == "struct" and it[5][0] == "{" else []
             if it[2] == "enum":
                 fields = [("", type_) for type_ in re.findall(r"\(([^()]*)\)", inside)] + re.findall(r"(\w+): ([^,{}]+)", inside)
             elif it[5][0] == "(":
                 fields = [("0", inside)]
-            found.append((it[1] == "pub ", it[3], fields, text.count("\n", 0, it.start()) + 1))
+            else:
+                fields = re.findall(rf"(?m)^\s*{PUB}(\w+): (.*?),?$", inside)
+            found.append((it[3], fields, line_of(text, it.start())))
         return found
+
+
+def bare(text):
+    """Returns code without comments, and with empty texts."""
+    return re.sub(r'b?"(?:\\.|[^"\\])*"', '""', re.sub(r"//[^\n]*", "", text))
 
 
 def bare_keeping_lines(text):
@@ -177,25 +157,18 @@ def bare_keeping_lines(text):
 
 def read_crate(top, crate):
     """Returns the sources of a crate."""
-    found = []
-    for at, _, names in sorted(os.walk(f"{top}/crates/{crate}/src")):
-        for name in sorted(names):
-            if name.endswith(".rt"):
-                with open(f"{at}/{name}", encoding="utf-8") as it:
-                    found.append(Source(crate, os.path.relpath(f"{at}/{name}", top), it.read()))
-    return found
+    paths = [f"{at}/{name}" for at, _, names in sorted(os.walk(f"{top}/crates/{crate}/src")) for name in sorted(names)]
+    return [Source(crate, os.path.relpath(it, top), read(it)) for it in paths if it.endswith(".rt")]
 
 
 def public_files(sources):
     """Returns the sources of a library that are public modules, down from its `lib.rt`."""
     by_path = {it.path: it for it in sources}
-    queue = [path for path in by_path if path.endswith("/src/lib.rt")]
-    found = set(queue)
-    for path in queue:
+    found = [path for path in by_path if path.endswith("/src/lib.rt")]
+    for path in found:
         folder = os.path.dirname(path) if path.endswith("/lib.rt") else path[: -len(".rt")]
-        below = {f"{folder}/{name}.rt" for name in re.findall(r"(?m)^pub mod (\w+);", by_path[path].text)} & set(by_path) - found
-        queue += sorted(below)
-        found |= below
+        below = {f"{folder}/{name}.rt" for name in re.findall(r"(?m)^pub mod (\w+);", by_path[path].text)}
+        found += sorted(below & set(by_path) - set(found))
     return [by_path[it] for it in found]
 
 
@@ -207,5 +180,30 @@ def public_functions(sources):
     shown = {name for name, source in named if source in public or name in exported}
     for function in [it for source in sources for it in source.functions]:
         is_free = not function.owner and (function.source in public or function.name in exported)
-        if (function.is_public or function.owner and function.is_declared_by_trait) and (is_free or function.holder in shown):
+        if (function.is_public or function.is_declared_by_trait) and (is_free or function.holder in shown):
             yield function
+
+
+def tell(name, faults):
+    """Prints what is broken, and returns the exit status that says so."""
+    said = list(faults)
+    print("\n".join(said) or f"{name}: ok")
+    return 1 if said else 0
+
+
+def write_files(top, files):
+    """Writes texts below a folder, by their paths."""
+    for path, text in files.items():
+        os.makedirs(os.path.dirname(f"{top}/{path}"), exist_ok=True)
+        with open(f"{top}/{path}", "w", encoding="utf-8") as file:
+            file.write(text)
+
+
+def write_or_check(pages, script):
+    """Writes pages of the repository, or with `--check` compares them; returns the exit status."""
+    if sys.argv[1:] != ["--check"]:
+        write_files(TOP, pages)
+        return 0
+    stale = [it for it, text in pages.items() if not os.path.exists(f"{TOP}/{it}") or read(f"{TOP}/{it}") != text]
+    print("".join(f"{it} isn't what {script} writes\n" for it in stale), end="", file=sys.stderr)
+    return 1 if stale else 0

@@ -1,22 +1,13 @@
 #!/usr/bin/env python3
 """Tries the wrong bodies of the crates, many at a time: wrong_bodies.py [--jobs N] [--most N] [--anew] [--self-test] [CRATE..]
 
-Functions are proved against the contracts of those that they call. So wrong bodies of different functions don't meddle:
-a wave puts many into one copy of a crate, at most one a function, and checks once. A crate is proved before where another is tried that
-stands on it; else its first wave proves all that it doesn't touch, and the others begin with that. Those of `crates/NAME/wrong/` are
-tried, and those of `must-fail/`, which `rt ci` tries singly. One line tells of each, as `refused NAME in FUNCTION: GOAL`:
-
-    refused   a goal of its function, or of a closure in it, doesn't hold, or a written answer of the function is wrong
-    proved    the function is proved with it: the contract is too weak, or the body is right
-    gone      it takes away a name that a written answer cites, which says nothing of the contract
-    bad       it can't be applied or compiled, or lies in no body of one function
-    untold    the check said nothing of its function, even alone, or met a limit
-
-All but the first fail the run. What the check passes over, since it calls another changed function, goes into a later
-wave. What was refused is kept in the user's folder for such files, by the sums of all that a try reads, and not tried again
-while these are the same; --anew tries all. The last line is 'N passed, M failed'.
+Functions are proved against the contracts of those that they call, so a wave puts many wrong bodies into one copy of a crate, at
+most one a function, and checks once. docs/GATE.md has what a line tells of each, as `refused NAME in FUNCTION: GOAL`, and which
+of these fail the run. The last line is 'N passed, M failed'. What was refused is kept in the user's folder for such files, by the
+sums of all that a try reads, and not tried again while these are the same; --anew tries all.
 """
 import argparse
+import contextlib
 import hashlib
 import json
 import os
@@ -27,12 +18,13 @@ import sys
 import tempfile
 from collections import Counter, defaultdict
 from concurrent.futures import ThreadPoolExecutor
+from functools import partial
 from typing import NamedTuple
 
 import edits
 import wrong_plants
-from edits import BadEdit
-from proofs import PARTS, TOP, Crates, Failure, Processors, Proofs, processor_count
+from proofs import PARTS, Crates, Failure, Processors, Proofs, processor_count
+from sources import TOP
 
 KEPT = os.path.join(os.environ.get("XDG_CACHE_HOME") or os.path.expanduser("~/.cache"), "woltsjem", "wrong_bodies")
 # The most that is kept of a crate.
@@ -51,7 +43,7 @@ class Told(NamedTuple):
 
 
 class Report(NamedTuple):
-    """What a check said: a line for each function, the errors in each one's written answers, and those of the compiler by file and line."""
+    """What a check said of each function, the errors in each one's written answers, those of the compiler, and how it ended."""
 
     functions: dict
     answers: dict
@@ -91,13 +83,11 @@ def told_of(name, report):
 
 
 def verdict(names, report):
-    """Returns what a check told of a wrong body, by the names of its function and of the closures in it, or None where it told nothing."""
+    """Returns what a check told of a wrong body, by the names of its function and of the closures in it, or None if nothing."""
     told = [told_of(name, report) for name in names]
     wrong = [it for it in told if it and it.kind != "proved"]
     return min(wrong, key=lambda it: it.kind != "refused") if wrong else next(iter(told), None)
 
-
-# --- a crate
 
 class Tried:
     """A crate whose wrong bodies are tried, and its sources."""
@@ -105,17 +95,13 @@ class Tried:
     def __init__(self, crates, name, processors):
         self.crates, self.name, self.processors = crates, name, processors
         self.folder, self.below = crates.folder(name), crates.below(name)
-        self.texts, self.proved = edits.read_texts(self.folder), f"{self.folder}/out/incremental"
+        self.sources, self.proved = edits.sources_by_path(crates.top, name), f"{self.folder}/out/incremental"
+        paths = edits.edit_files(self.folder)
+        self.files = {edits.edit_name(path): path for path in paths}
+        if len(self.files) < len(paths):
+            raise Failure(f"two wrong bodies of {name} have one name")
 
-    def files(self):
-        """Returns the files of its wrong bodies, by their names."""
-        folders = [it for it in (f"{self.folder}/must-fail", f"{self.folder}/wrong") if os.path.isdir(it)]
-        files = [(it[: -len(".edit")], f"{at}/{it}") for at in folders for it in sorted(os.listdir(at)) if it.endswith(".edit")]
-        if len(dict(files)) < len(files):
-            raise Failure(f"two wrong bodies of {self.name} have one name")
-        return dict(files)
-
-    def keys(self, files):
+    def keys(self):
         """Returns for each of its wrong bodies, by their names, the sum of all that a try of it reads."""
         total = hashlib.sha256(subprocess.run(["rt", "version"], stdout=subprocess.PIPE, check=True).stdout)
         read = [__file__, edits.__file__]
@@ -125,24 +111,25 @@ class Tried:
             read += sorted(f"{at}/{it}" for folder in folders for at, _, names in os.walk(folder) for it in names)
         for file in read:
             total.update(f"{os.path.basename(file)} {sum_of(file)}\n".encode())
-        of = lambda file: hashlib.sha256(f"{total.hexdigest()} {sum_of(file)}".encode()).hexdigest()
-        return {name: of(file) for name, file in files.items()}
+        base = total.hexdigest()
+        return {name: hashlib.sha256(f"{base} {sum_of(file)}".encode()).hexdigest() for name, file in self.files.items()}
 
     def try_wave(self, wave, jobs):
         """Checks a copy of the crate that has each of these wrong bodies, and keeps what is proved there where nothing was."""
+        is_first = not os.path.isdir(self.proved)
         with tempfile.TemporaryDirectory(prefix="wrong-bodies-") as room:
+            folder = f"{room}/crates/{self.name}"
             self.crates.copy_to(room, self.name, "out/incremental")
             for file in {it.file for it in wave}:
-                lines = list(self.texts[file])
+                lines = list(self.sources[file].lines)
                 for edit in wave:
                     if edit.file == file:
                         lines[edit.function.first : edit.function.last + 1] = edit.lines
-                with open(f"{room}/crates/{self.name}/{file}", "w", encoding="utf-8") as it:
+                with open(f"{folder}/{file}", "w", encoding="utf-8") as it:
                     it.write("\n".join(lines))
-            folder = f"{room}/crates/{self.name}"
-            said, _ = self.processors.run((self.name, "waves"), ["rt", "check", "--jobs", str(jobs)], folder)
-            report = report_of(said)
-            if report.functions and not os.path.isdir(self.proved):
+            command = ["rt", "check", "--jobs", str(jobs if is_first else 1)]
+            report = report_of(self.processors.run((self.name, "waves"), command, folder)[0])
+            if report.functions and is_first:
                 shutil.move(f"{folder}/out/incremental", self.proved)
             return report
 
@@ -169,11 +156,11 @@ def settled(wave, report):
     """Returns what a wave told of its wrong bodies, by their names; nothing of those that wait for a later wave."""
     told, changed = {}, set()
     for edit in wave:
-        names = edits.names_of(edit.function, edit.file, report.functions)
-        error = next((it for it in report.errors if it[0] == edit.file and edit.function.first <= it[1] <= edit.function.last), None)
-        it = Told("bad", edit.function.name, error[2]) if error else verdict(names, report)
+        function, names = edit.function, edits.names_of(edit.function, edit.file, report.functions)
+        error = next((it[2] for it in report.errors if it[0] == edit.file and function.first <= it[1] <= function.last), None)
+        it = Told("bad", function.name, error) if error else verdict(names, report)
         if it or len(wave) == 1:
-            name = names[0] if names else edit.function.name
+            name = names[0] if names else function.name
             told[edit.name] = it or Told("untold", name, report.functions.get(name) or report.end)
         changed.update(names)
     for it in filter(None, (told_of(name, report) for name in report.functions if name not in changed)):
@@ -183,13 +170,13 @@ def settled(wave, report):
 
 
 def try_in_waves(crate, left, most):
-    """Tries wrong bodies of a crate, and gives what came of each as it is told. Until something of the crate is proved, waves come singly."""
+    """Yields what came of each wrong body, as it is told. Until something of the crate is proved, waves come singly."""
     with ThreadPoolExecutor(max(len(left), 1)) as pool:
         while left:
-            waves, before, is_first = dealt(left, most), len(left), not os.path.isdir(crate.proved)
-            waves = waves[:1] if is_first else waves
-            turns = pool.map(lambda wave: crate.processors.do(-before, lambda jobs: crate.try_wave(wave, jobs if is_first else 1)), waves)
-            for wave, report in zip(waves, turns):
+            waves, before = dealt(left, most), len(left)
+            waves = waves if os.path.isdir(crate.proved) else waves[:1]
+            turns = [crate.processors.queue(-before) for _ in waves]
+            for wave, report in zip(waves, pool.map(crate.processors.do, turns, [partial(crate.try_wave, it) for it in waves])):
                 told = settled(wave, report)
                 left = [it for it in left if it.name not in told]
                 yield from told.items()
@@ -200,15 +187,13 @@ def try_in_waves(crate, left, most):
 
 def kept(crate):
     """Returns what was kept of a crate's wrong bodies, by the sums of what their tries read."""
-    try:
-        with open(f"{KEPT}/{crate}.json", encoding="utf-8") as it:
-            return dict(json.load(it))
-    except (OSError, ValueError, TypeError):
-        return {}
+    with contextlib.suppress(OSError, ValueError, TypeError), open(f"{KEPT}/{crate}.json", encoding="utf-8") as it:
+        return dict(json.load(it))
+    return {}
 
 
 def keep(crate, refused):
-    """Keeps what was refused, with the latest of what earlier runs kept, in one step; where that can't be, the next run tries it again."""
+    """Keeps what was refused, with the latest of what earlier runs kept; where that can't be, the next run tries it again."""
     entries = list({**kept(crate), **refused}.items())[-MOST_KEPT:]
     try:
         os.makedirs(KEPT, 0o700, exist_ok=True)
@@ -232,33 +217,33 @@ class Run:
     def try_crates(self, names):
         """Tries the wrong bodies of crates, of all where none is named, and returns what came of each, by crate."""
         tried = [Tried(self.crates, name, self.processors) for name in names or self.crates.lines]
-        tried = [it for it in tried if it.files()]
+        tried = [it for it in tried if it.files]
         self.below = {it for crate in tried for it in crate.below}
         with ThreadPoolExecutor(len(tried) or 1) as pool:
             return dict(zip([it.name for it in tried], pool.map(self.try_crate, tried)))
 
     def try_crate(self, crate):
         """Tries those wrong bodies of a crate that were not refused earlier, and returns what came of each."""
-        files, known, left = crate.files(), {} if self.flags.anew else kept(crate.name), []
-        keys = crate.keys(files)
+        keys, known, left = crate.keys(), {} if self.flags.anew else kept(crate.name), []
         told = {edit: Told("refused", "", known[key]) for edit, key in keys.items() if key in known}
         if len(told) < len(keys):
             self.proofs.prove_all(crate.below if crate.name not in self.below else [*crate.below, crate.name])
-        for edit, file in files.items():
+        for edit in [it for it in keys if it not in told]:
             try:
-                left += [] if edit in told else [edits.load_edit(file, crate.texts)]
-            except BadEdit as error:
-                told[edit] = self.tell(edit, Told("bad", "no function", str(error)))
+                left.append(edits.load_edit(crate.files[edit], crate.sources))
+            except edits.BadEdit as error:
+                told[edit] = tell(edit, Told("bad", "no function", str(error)))
         for edit, it in try_in_waves(crate, left, self.flags.most):
-            told[edit] = self.tell(edit, it)
+            told[edit] = tell(edit, it)
         if left and not self.flags.self_test:
             keep(crate.name, {keys[edit]: it.text for edit, it in told.items() if it.kind == "refused"})
         return told
 
-    def tell(self, edit, told):
-        """Prints what came of a wrong body, and returns it."""
-        print(f"{told.kind} {edit} in {told.name}: {told.text}", flush=True)
-        return told
+
+def tell(edit, told):
+    """Prints what came of a wrong body, and returns it."""
+    print(f"{told.kind} {edit} in {told.name}: {told.text}", flush=True)
+    return told
 
 
 def self_test(flags):
@@ -266,8 +251,7 @@ def self_test(flags):
     with tempfile.TemporaryDirectory(prefix="wrong-bodies-") as top:
         wrong_plants.plant(top)
         told = Run(top, flags).try_crates([])["small"]
-    wanted = {name: kind for name, (kind, _, _) in wrong_plants.PLANTS.items()}
-    missed = [name for name, kind in wanted.items() if name not in told or told[name].kind != kind]
+    missed = [name for name, (kind, _, _) in wrong_plants.PLANTS.items() if name not in told or told[name].kind != kind]
     print("self-test: " + (f"not told as what they are: {', '.join(missed)}" if missed else "ok"))
     return not missed
 
