@@ -1,5 +1,5 @@
 #!/usr/bin/env python3
-"""Writes docs/CALLS.md: every public call of the library on one page, out of the sources.
+"""Writes the tables of docs/CALLS.md: every public call of the library on one page, out of the sources.
 
 A row has a call as it is declared, the first paragraph of its doc comment, the conditions that a caller keeps, what the counted
 form of the call adds to the counters at most, and its time where docs/PERFORMANCE.md has one. A call and its counted form share a
@@ -18,16 +18,8 @@ from performance import times_of_calls
 from sources import TOP, public_functions, read, read_crate, write_or_check
 
 PAGE, DIFFERENCES, FACADE = "docs/CALLS.md", "docs/DIFFERENCES.md", "crates/vers_vecs/src/lib.rt"
-HEAD = """# Calls
-
-Every public call of the library, by the type or the module that it belongs to. `tools/call_list.py` writes this page out of the
-sources. A call without a condition answers every argument. *Reads* is the bound of the counted form, which is named like the
-call with `_counted` behind and takes a `Tally` last: each of nine counters rises by at most this. *Time* is
-what [PERFORMANCE.md](PERFORMANCE.md) has of it, which says how it was measured. A type's last parameter `A` is
-the allocator. [DEFINITIONS.md](DEFINITIONS.md) has the words of conditions and bounds, and the laws, which are functions with empty
-bodies.
-"""
-CRATES = "vers_bits vers_tally vers_rank vers_sorted vers_rmq vers_trees vers_wavelet postings vers_words vers_engine vers_cli".split()
+CRATES = "vers_bits vers_tally vers_rank vers_sorted vers_rmq vers_trees vers_wavelet postings vers_words vers_engine vers_cli"
+ADDS = "AddsAtMost tally.old tally.new "
 
 
 def owner(function):
@@ -55,23 +47,23 @@ def code(facts):
 def section(title, functions, times):
     """Returns the table of one owner, with times where one of its calls has one."""
     by_name = {it.name: it for it in functions}
-    timed = any((owner(it), it.name) in times for it in functions)
-    rows = [["Call", "Answers", "Condition", "Reads", "Time"], ["---"] * 5]
+    rows = [["Call", "Answers", "Condition", "Reads", "Time"]]
     for it in functions:
         if not it.name.endswith("_counted") or it.name.removesuffix("_counted") not in by_name:
             conditions = [fact for kind, _, fact in it.clauses if kind == "requires"]
-            bounds = [fact for _, _, fact in by_name.get(f"{it.name}_counted", it).clauses if fact.startswith("AddsAtMost tally.old")]
-            reads = [fact.removeprefix("AddsAtMost tally.old tally.new ") for fact in bounds]
-            row = [f"`{declaration(it)}`", first_paragraph(it), code(conditions), code(reads), times.get((owner(it), it.name), "")]
-            rows.append([f" {cell} ".replace("|", "\\|") for cell in row])
-    rows[0] = [f" {cell} " for cell in rows[0]]
-    return "\n".join([f"## {title}", "", *("|" + "|".join(row if timed else row[:-1]) + "|" for row in rows)])
+            facts = [fact for _, _, fact in by_name.get(f"{it.name}_counted", it).clauses]
+            reads = [fact.removeprefix(ADDS) for fact in facts if fact.startswith(ADDS)]
+            time = times.get((owner(it), it.name), "")
+            rows.append([f"`{declaration(it)}`", first_paragraph(it), code(conditions), code(reads), time])
+    width = 5 if any(row[4] for row in rows[1:]) else 4
+    lines = ["|" + "|".join(f" {cell} ".replace("|", "\\|") for cell in row[:width]) + "|" for row in rows]
+    return "\n".join([f"## {title}", "", lines[0], "|" + "---|" * width, *lines[1:]])
 
 
 def page(top):
     """Returns the text of the page."""
-    parts, times = [HEAD.rstrip("\n")], times_of_calls(top)
-    for crate in CRATES:
+    parts, times = [read(f"{top}/{PAGE}").split("\n\n## ")[0]], times_of_calls(top)
+    for crate in CRATES.split():
         groups = defaultdict(list)
         for it in sorted(public_functions(read_crate(top, crate)), key=lambda it: (it.source.path, it.first)):
             if not it.trait and not it.is_declared_by_trait and it.source.module != "laws":
@@ -90,7 +82,7 @@ def misplaced_names(top):
     for crate, names in re.findall(r"pub use (\w+)::[\w:]*?\{?\s*(\w+(?:,\s*\w+)*),?\s*\}?;", facade):
         types.update(re.findall(r"\w+", names))
         own.update(set(re.findall(r"\w+", names)) - original.get(crate, set()))
-    for crate in CRATES:
+    for crate in CRATES.split():
         # the bodies of all walks stand in `vers_tally`, and their calls are those of the iterators
         known = original.get(crate) or set().union(*original.values())
         for it in public_functions(read_crate(top, crate)):

@@ -12,15 +12,14 @@ the text is where that token and a fresh counter are made, and that no counted b
    mention is a name before a bracket, behind a dot or in a path. Where the text tells of which type a call is, only that type's
    function is meant, else all of that name. What Rust calls without a name counts as one: a loop over what is no range, a
    comparison in which nothing shows that numbers are compared.
-4. The counter's type stands as `tally: &mut Tally`, once a function, and in rule 2. Crates with counted bodies have no `unsafe`,
-   no operators of their own, and of macros `unreachable!` alone.
+4. The counter's type stands as `tally: &mut Tally` and in rule 2. Crates with counted bodies have no `unsafe`, of macros
+   `unreachable!` alone, and of Rust's traits those that `TRAITS` names, among which are no operators.
 5. Types of these crates keep numbers, allocators, counted vectors and each other, and the plain lists that `TABLES` names.
 6. A counted vector raises the counter once for each read: its counted calls are a raise and one read.
-7. Kernels go by lanes or by chunks of words, and makers by counting count: bodies make the calls that `CALLS` names, and no others
-   of those in `BARRED`. A proof says what a kernel answers, and only the text shows how.
+7. Kernels go by lanes or by chunks of words, and makers by counting count: bodies make the calls that `CALLS` names, and none of
+   those in `BARRED`. A proof says what a kernel answers, and only the text shows how.
 
-Exit status 1 where a rule is broken, with a line for each place. `--self-test` plants ways around them (`counting_plants.py`), and
-wants each found.
+Exit status 1 where a rule is broken, with a line for each place. `--self-test` plants ways around them (`counting_plants.py`).
 """
 import re
 import sys
@@ -47,17 +46,17 @@ TABLES = {
 }
 # The calls that bodies have to make: public calls those of their kernels, and kernels those that make them kernels.
 CALLS = {
-    "BitVec::count_ones": "ones_of", "ones_of": "as_chunks ones_of_chunk", "BitVec::eq": "are_same", "are_same": "as_chunks agree",
-    "agree": "from_array simd_ne any", "RsVec::block_with": "block_among", "RsVec::block_among": "read_16 last_up_to",
-    "last_up_to": "differences far_below", "differences": "splat from_slice", "far_below": "simd_ge to_bitmask count_ones",
-    "ChunkWalk::next_counted": "load", "ChunkWalk::load": "put_offsets put_offsets_plainly",
-    "put_offsets": "offsets_in_byte splat put_lanes", "offsets_in_byte": "lanes_from", "lanes_from": "from_slice",
-    "put_lanes": "copy_to_slice", "Searched::forward": "scan_forward", "scan_forward": "bytes_forward",
-    "bytes_forward": "met_forward place_met", "Searched::backward": "scan_backward", "scan_backward": "bytes_backward",
-    "bytes_backward": "met_backward place_met", "WaveletMatrix::from_slice_pc": "counted",
-    "WaveletMatrix::from_bit_vec_pc": "counted", "WaveletMatrix::counted": "counted_levels",
-    "counted_levels": "table levels_by_counting", "levels_by_counting": "placed_digits start_next",
-    "placed_digits": "copy_first prefix", "start_next": "rank0 zeros",
+    "BitVec::count_ones": "ones_of", "ones_of": "as_chunks ones_of_chunk", "BitVec::eq": "are_same",
+    "are_same": "as_chunks agree", "agree": "from_array simd_ne any", "RsVec::block_with": "block_among",
+    "RsVec::block_among": "read_16 last_up_to", "last_up_to": "differences far_below", "differences": "splat from_slice",
+    "far_below": "simd_ge to_bitmask count_ones", "ChunkWalk::next_counted": "load",
+    "ChunkWalk::load": "put_offsets put_offsets_plainly", "put_offsets": "offsets_in_byte splat put_lanes",
+    "offsets_in_byte": "lanes_from", "lanes_from": "from_slice", "put_lanes": "copy_to_slice",
+    "Searched::forward": "scan_forward", "scan_forward": "bytes_forward", "bytes_forward": "met_forward place_met",
+    "Searched::backward": "scan_backward", "scan_backward": "bytes_backward", "bytes_backward": "met_backward place_met",
+    "WaveletMatrix::from_slice_pc": "counted", "WaveletMatrix::from_bit_vec_pc": "counted",
+    "WaveletMatrix::counted": "counted_levels", "counted_levels": "table levels_by_counting",
+    "levels_by_counting": "placed_digits start_next", "placed_digits": "copy_first prefix", "start_next": "rank0 zeros",
 }
 # The calls that bodies may not make: searches of whole bytes read no single bit, and makers by counting don't sort.
 BARRED = {
@@ -79,16 +78,17 @@ KNOWN = re.compile(
     r"|map_err|push|splat|to_array|to_bitmask|copy_to_slice|simd_\w+"
 )
 STANDARD = {"Some", "Ok", "Err", "Vec", "Option", "Result", "PhantomData"}
-OPERATORS = re.compile(
-    r"(?:Add|Sub|Mul|Div|Rem|BitAnd|BitOr|BitXor|Shl|Shr)(?:Assign)?|(?:Deref|Index|Fn)(?:Mut|Once)?|(?:Partial)?Ord|Drop|Not|Neg|AsRef|Borrow"
-)
+TRAITS = {"Clone", "DoubleEndedIterator", "From", "IntoIterator", "Iterator", "PartialEq"}
 MENTION = re.compile(
-    r"(?:(?P<of>[\w.]*\w)\s*\.\s*|(?P<dot>\.)\s*|(?P<path>\w+)(?:::)?(?:<[^<>()]*>)?::)?\b(?P<name>[a-z_]\w*)\b(?P<call>\s*(?:\(|::<))?"
+    r"(?:(?P<of>[\w.]*\w)\s*\.\s*|(?P<dot>\.)\s*|(?P<path>\w+)(?:::)?(?:<[^<>()]*>)?::)?"
+    r"\b(?!(?:if|while|match|for|in|return|let|mut|else|as|loop|break|continue|true|false|self|move|ref)\b)"
+    r"(?P<name>[a-z_]\w*)\b(?P<call>\s*(?:\(|::<))?"
 )
-KEYWORDS = set("if while match for in return let mut else as loop break continue true false self move ref".split())
-# Where the counter's type may stand, and in the file of counters besides.
+# Where the counter's type may stand, and in the file of counters besides; and what else may not stand where that doesn't.
 COUNTER = r"^\s*(?:pub )?use [^;]*;|\b\w+: &mut Tally(?=[,)])|let mut tally = Tally::new\(\);"
 OF_VECTORS = r"|struct Tally|impl (?:Model for )?Tally \{|-> Tally|^\s*Tally \{|struct Uncounted"
+MISPLACED = re.compile(r"\bTally\b|\b(?!unreachable!)[a-z]\w*!(?!=)|\bunsafe\b|\b(?:struct|type) Uncounted")
+RENAMED = re.compile(r"(?m)^\s*(?:pub )?use [^;]*?\b([a-z]\w*|Tally|Uncounted) as (\w+)")
 
 
 class Library:
@@ -105,6 +105,8 @@ class Library:
                 self.fields[struct, name] = head_of(type_)
                 self.types_of_field[name].add(type_)
         self.holders = {it for function in self.functions for it in (function.holder, function.trait) if it}
+        self.structs = {name for source in sources for name, _, _ in source.structs}
+        self.traits = {word for source in sources for word in re.findall(r"\btrait (\w+)", source.text)}
         # the functions that lead to a token or to a fresh counter, other than counted bodies, which may not
         plain = [it for it in self.functions if is_looked_at(it) and not takes_counter(it)]
         made = {it for it in plain if next(self.made(it), None)} | {it for it in self.functions if "Uncounted" in it.declared}
@@ -114,35 +116,29 @@ class Library:
         """Returns the functions of a name that a type or a trait has."""
         return [it for it in self.by_name[name] if holder in (it.holder, it.trait)]
 
-    def methods(self, name):
-        return [it for it in self.by_name[name] if it.owner]
-
-    def free(self, name):
-        return [it for it in self.by_name[name] if not it.owner]
-
     def meant(self, function, found):
         """Returns the functions that a mention in a body may mean."""
         name, of, path = found["name"], found["of"], found["path"]
+        free = [it for it in self.by_name[name] if not it.owner]
         if path:
             holder = function.holder if path == "Self" else path
             if holder in self.holders | STANDARD or re.fullmatch(NUMBER, holder):
                 return self.of_type(holder, name)
-            return self.by_name[name] if path[0].isupper() else self.free(name)
+            return self.by_name[name] if path[0].isupper() else free
         if not of and not found["dot"]:
             is_bound = name in dict(function.parameters) or re.search(rf"\b(?:let|mut|for|Some\(|Ok\() ?{name}\b", function.code)
-            return self.free(name) if found["call"] or not is_bound else []
+            return free if found["call"] or not is_bound else []
         if name in ("min", "max") and not re.match(r"\s*\(\s*\)", function.code[found.end("name") :]):
             return []
         field = re.fullmatch(r"self\.(\w+)", of or "")
         type_ = self.fields.get((function.holder, field[1]), "") if field else {"tally": "Tally", "self": function.holder}.get(of)
-        if field and len(type_) > 1:
-            return self.of_type(type_, name)
-        return type_ and self.of_type(type_, name) or self.methods(name)
+        own = self.of_type(type_, name) if type_ else []
+        return own if field and len(type_) > 1 else own or [it for it in self.by_name[name] if it.owner]
 
     def mentions(self, function):
         """Yields the functions that a body may mention, with the text of the mention."""
         for found in MENTION.finditer(function.code):
-            if found["name"] not in KEYWORDS and (found["call"] or found["path"] or not found["of"] and not found["dot"]):
+            if found["call"] or found["path"] or not found["of"] and not found["dot"]:
                 yield from ((it, found[0].strip(" (")) for it in self.meant(function, found) if it is not function)
 
     def made(self, function):
@@ -151,9 +147,8 @@ class Library:
             if word in function.code:
                 yield f"makes `{word}`"
         for found in MENTION.finditer(function.code):
-            name = found["name"]
-            if found["call"] and name not in KEYWORDS and not self.by_name.get(name) and not KNOWN.fullmatch(name):
-                yield f"calls `{name}`, of which nothing is known"
+            if found["call"] and not self.by_name.get(found["name"]) and not KNOWN.fullmatch(found["name"]):
+                yield f"calls `{found['name']}`, of which nothing is known"
         for loop in re.finditer(r"\bfor\b[^;{]*?\bin\b([^{]*)\{", function.code):
             if ".." not in loop[1]:
                 yield f"loops over `{loop[1].strip()}`, which is no range"
@@ -185,43 +180,9 @@ def head_of(type_):
     return (re.findall(r"\w+", re.sub(r"&(?:'\w+ )?(?:mut )?", "", type_)) or [""])[0]
 
 
-def counters(function):
-    """Returns how many counters a function takes."""
-    return sum(type_ == "&mut Tally" for _, type_ in function.parameters)
-
-
 def takes_counter(function):
-    return counters(function) > 0
-
-
-# --- rules
-
-def counted_faults(library):
-    """Yields a line for each thing in a counted body that may read without the counter."""
-    for function in [it for it in library.functions if takes_counter(it) and is_looked_at(it)]:
-        for what in library.made(function):
-            yield f"{function.where}: {function.full_name} {what}"
-        for other, text in library.mentions(function):
-            if other in library.uncounted:
-                yield (f"{function.where}: {function.full_name} mentions `{text}`, which may be {other.full_name}, "
-                       "which reads without its counter")
-
-
-def whole_faults(library):
-    """Yields a line for each function that makes a token and may not, and for each that may and doesn't."""
-    made = {it.full_name for it in library.functions if "Uncounted" in it.code}
-    yield from (f"{name} reads a whole list without a counter" for name in sorted(made - WHOLE))
-    yield from (f"{name} is said to read a whole list, and doesn't" for name in sorted(WHOLE - made))
-
-
-def plain_faults(library):
-    """Yields a line for each plain query that isn't its counted form, and for each other function that makes a counter."""
-    for function in [it for it in library.functions if is_looked_at(it) and not takes_counter(it)]:
-        same_crate = [it for it in library.by_name[f"{function.name}_counted"] if it.source.crate == function.source.crate]
-        counted = [it for it in same_crate if it.holder == function.holder]
-        is_known = function.full_name in FRESH or function.name.endswith("_unchecked")
-        if (counted or "Tally::new" in function.code and not is_known) and not is_plain(function, counted):
-            yield f"{function.where}: {function.full_name} is not its counted form with a fresh counter"
+    """Whether a function takes a counter."""
+    return any(type_ == "&mut Tally" for _, type_ in function.parameters)
 
 
 def on_one_line(function):
@@ -229,88 +190,101 @@ def on_one_line(function):
     return re.sub(r"::<\w+>", "", " ".join(function.code.split()).replace("( ", "(").replace(", )", ")"))
 
 
-def is_plain(function, counted):
-    """Whether a query is its counted form with a fresh counter, or without the counter, or a trait's that asks the type's own."""
-    names = [name for name, _ in function.parameters]
+def counted_faults(library, function):
+    """Yields what in a counted body may read without the counter."""
+    yield from library.made(function)
+    for other, text in library.mentions(function):
+        if other in library.uncounted:
+            yield f"mentions `{text}`, which may be {other.full_name}, which reads without its counter"
+
+
+def plain_faults(library, function):
+    """Yields whether a plain query isn't its counted form, and whether another function makes a counter."""
+    counted = library.of_type(function.holder, f"{function.name}_counted")
+    names, body = [name for name, _ in function.parameters], on_one_line(function)
     asked = f"{function.name}_counted({', '.join([*names, '&mut tally'])})"
     forms = [f"let mut tally = Tally::new(); {of}{asked}" for of in ("self.", "Self::", "")]
     forms += [re.sub(r"_counted(\([^()]*?)(?:, )?tally\)", r"\1)", on_one_line(it)) for it in counted]
     forms += [f"self.{function.name}({', '.join(names)})"] if function.trait else []
-    return on_one_line(function) in forms
+    is_known = function.full_name in FRESH or function.name.endswith("_unchecked")
+    if (counted or "Tally::new" in body and not is_known) and body not in forms:
+        yield "is not its counted form with a fresh counter"
 
 
-def counter_faults(library):
-    """Yields a line for each place at which the counter's type, a macro, `unsafe` or an operator stands and may not."""
-    for source in [it for it in library.sources if it.crate != BELOW]:
-        text = bare_keeping_lines(source.text)
-        for use in re.finditer(r"(?m)^\s*(?:pub )?use [^;]*?\b([a-z]\w*|Tally|Uncounted) as (\w+)", text):
-            yield f"{source.path}:{line_of(text, use.start())}: gives `{use[1]}` the name `{use[2]}`"
-        allowed = COUNTER + (OF_VECTORS if is_vectors(source) else "")
-        rest = re.sub(allowed, lambda it: re.sub(r"[^\n]", " ", it[0]), text, flags=re.M)
-        for found in re.finditer(r"\bTally\b|\b(?!unreachable!)[a-z]\w*!(?!=)|\bunsafe\b|\b(?:struct|type) Uncounted", rest):
-            yield f"{source.path}:{line_of(rest, found.start())}: `{found[0]}` stands where it may not"
-        for function in source.functions:
-            if OPERATORS.fullmatch(function.trait):
-                yield f"{function.where}: an operator of its own, {function.trait}"
-            is_list = function.holder in ("Vec", "Box", "Rc") or "[" in function.owner.partition(" for ")[2]
-            if function.trait and (len(function.holder) < 2 or is_list):
-                yield f"{function.where}: {function.full_name} is a call of a type that is not of these crates"
-            if counters(function) > 1:
-                yield f"{function.where}: {function.full_name} takes two counters"
+def vector_faults(function):
+    """Yields whether a call of a counted vector doesn't raise the counter once for one read."""
+    own = re.findall(r"\bself\.(?:entries|numbers|bits)\b(?!\.len\(\))", function.code)
+    others = re.findall(r"(?<!self\.)\b(?:entries|numbers|bits)\b", function.code)
+    raises = re.findall(r"\btally\.(\w+) = tally\.\1\.saturating_add\((?:\d+|reads)\)", function.code)
+    is_several = re.search(r"\b(?:for|while|loop|Uncounted)\b|\|\w*[:|]|&self\.\w+\[\w*\.\.\w", function.code)
+    if takes_counter(function):
+        if len(own) != 1 or len(raises) != 1 or is_several or others:
+            yield f"raises the counter {len(raises)} times for {len(own)} reads, or reads several"
+    elif function.name != "new" and "Uncounted" not in function.declared and (own or others):
+        yield "reads without the counter"
 
 
-def kept_faults(library):
+def function_faults(library, function):
+    """Yields what is broken in a function."""
+    if is_vectors(function.source):
+        yield from vector_faults(function)
+    elif is_looked_at(function):
+        yield from counted_faults(library, function) if takes_counter(function) else plain_faults(library, function)
+    if function.trait and function.source.crate != BELOW:
+        if function.trait not in TRAITS | library.traits:
+            yield f"is a call of another trait, {function.trait}"
+        if len(function.holder) < 2 or function.holder in ("Vec", "Box", "Rc") or "[" in function.owner.partition(" for ")[2]:
+            yield "is a call of a type that is not of these crates"
+
+
+def file_faults(source):
+    """Yields a line for each place of a file at which the counter's type, a macro or `unsafe` stands and may not."""
+    text, allowed = bare_keeping_lines(source.text), COUNTER
+    for found in RENAMED.finditer(text):
+        yield line_of(text, found.end()), f"gives `{found[1]}` the name `{found[2]}`"
+    if is_vectors(source):
+        allowed += OF_VECTORS
+        for found in re.finditer(r"(?m)^    pub (\w+):", text):
+            yield line_of(text, found.end()), f"{found[1]} can be read from outside"
+    rest = re.sub(allowed, lambda it: re.sub(r"[^\n]", " ", it[0]), text, flags=re.M)
+    for found in MISPLACED.finditer(rest):
+        yield line_of(rest, found.end()), f"`{found[0]}` stands where it may not"
+
+
+def kept_faults(library, source):
     """Yields a line for each field of a type that keeps a list other than in a counted vector."""
-    structs = {name for source in library.sources for name, _, _ in source.structs}
-    traits = {word for source in library.sources for word in re.findall(r"\btrait (\w+)", source.text)}
-    allowed = structs - {"Tally", "BitVec"} | traits
-    allowed |= set("A Span PhantomData Option Alloc Self AllocError a mut const dyn".split())
-    for source in [it for it in library.sources if it.crate != BELOW and not is_vectors(it)]:
-        for struct, fields, line in source.structs:
-            for name, type_ in fields:
-                words = set(re.findall(r"[A-Za-z_]\w*", type_)) - allowed
-                is_list = "[" in type_ or any(not re.fullmatch(rf"{NUMBER}|[A-Z]|[A-Z][A-Z_]+", it) for it in words)
-                if is_list and TABLES.get(f"{struct}.{name}") != type_:
-                    yield f"{source.path}:{line}: {struct}.{name} keeps `{' '.join(type_.split())}`"
+    known = library.structs - {"Tally", "BitVec"} | library.traits
+    known |= set("A Span PhantomData Option Alloc Self AllocError a mut const dyn".split())
+    for struct, fields, line in [] if is_vectors(source) else source.structs:
+        for name, type_ in fields:
+            words = set(re.findall(r"[A-Za-z_]\w*", type_)) - known
+            is_list = "[" in type_ or any(not re.fullmatch(rf"{NUMBER}|[A-Z]|[A-Z][A-Z_]+", it) for it in words)
+            if is_list and TABLES.get(f"{struct}.{name}") != type_:
+                yield line, f"{struct}.{name} keeps `{' '.join(type_.split())}`"
 
 
-def vector_faults(library):
-    """Yields a line for each call of a counted vector that doesn't raise the counter once for one read, and for what others see."""
-    for source in filter(is_vectors, library.sources):
-        for found in re.finditer(r"(?m)^    pub (\w+):", source.text):
-            yield f"{source.path}: the field {found[1]} can be read from outside"
-        for function in source.functions:
-            own = re.findall(r"\bself\.(?:entries|numbers|bits)\b(?!\.len\(\))", function.code)
-            others = re.findall(r"(?<!self\.)\b(?:entries|numbers|bits)\b", function.code)
-            raises = re.findall(r"\btally\.(\w+) = tally\.\1\.saturating_add\((?:\d+|reads)\)", function.code)
-            is_several = re.search(r"\b(?:for|while|loop|Uncounted)\b|\|\w*[:|]|&self\.\w+\[\w*\.\.\w", function.code)
-            said = f"{function.where}: {function.full_name}"
-            if takes_counter(function):
-                if len(own) != 1 or len(raises) != 1 or is_several or others:
-                    yield f"{said} raises the counter {len(raises)} times for {len(own)} reads, or reads several"
-            elif function.name != "new" and "Uncounted" not in function.declared and (own or others):
-                yield f"{said} reads without the counter"
-
-
-def kernel_faults(library):
-    """Yields a line for each body that doesn't make its calls, that makes one it may not, or that is gone."""
-    bodies = defaultdict(list)
+def named_faults(library):
+    """Yields what is broken in the functions that tables name: those that make tokens, and kernels."""
+    made, bodies = {it.full_name for it in library.functions if "Uncounted" in it.code}, defaultdict(list)
+    yield from (f"{name} reads a whole list without a counter" for name in sorted(made - WHOLE))
+    yield from (f"{name} is said to read a whole list, and doesn't" for name in sorted(WHOLE - made))
     for function in [it for it in library.functions if it.has_body]:
         bodies[function.full_name].append(set(re.findall(r"\b([a-z_]\w*)(?:::<[^<>]*>)?\(", function.code)))
     for name, calls in CALLS.items():
-        if len(bodies[name]) != 1:
-            yield f"{len(bodies[name])} bodies {name}"
-            continue
-        yield from (f"{name} has no call of `{it}`" for it in calls.split() if it not in bodies[name][0])
-        barred = " ".join(calls for names, calls in BARRED.items() if name in names.split()).split()
-        yield from (f"{name} calls `{it}`" for it in barred if it in bodies[name][0])
+        barred = " ".join(calls for names, calls in BARRED.items() if name in names.split())
+        for body in bodies[name] if len(bodies[name]) == 1 else [set()]:
+            yield from (f"{name} has no call of `{it}`" for it in calls.split() if it not in body)
+            yield from (f"{name} calls `{it}`" for it in barred.split() if it in body)
 
 
 def faults(sources):
     """Yields what is broken in the sources of the crates with counters and those below."""
     library = Library(sources)
-    for rule in (counted_faults, whole_faults, plain_faults, counter_faults, kept_faults, vector_faults, kernel_faults):
-        yield from rule(library)
+    for it in library.functions:
+        yield from (f"{it.where}: {it.full_name} {what}" for what in function_faults(library, it))
+    for source in [it for it in sources if it.crate != BELOW]:
+        yield from (f"{source.path}:{line}: {what}" for line, what in [*file_faults(source), *kept_faults(library, source)])
+    yield from named_faults(library)
 
 
 def sources_of(top):

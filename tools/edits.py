@@ -5,31 +5,21 @@ TEXT is one line, and the old one stands once in the file.
 """
 import os
 import re
-from typing import NamedTuple
+from collections import namedtuple
 
-from sources import Function, Source, read, read_crate, split_owner
+from sources import split_owner
 
-
-class Edit(NamedTuple):
-    """A wrong body: the function that it changes, and what the lines of that become."""
-
-    name: str
-    file: str
-    function: Function
-    lines: list
-
-    def place(self):
-        """Returns where its function stands."""
-        return self.file, self.function.first
+# A wrong body: the function that it changes, and what the lines of that become.
+Edit = namedtuple("Edit", "name file function lines")
 
 
 class BadEdit(Exception):
     """Says why a wrong body can't be tried."""
 
 
-def sources_by_path(top, crate):
+def by_path(sources):
     """Returns the sources of a crate, by their paths in the crate."""
-    return {it.path.removeprefix(f"crates/{crate}/"): it for it in read_crate(top, crate)}
+    return {it.path.split("/", 2)[2]: it for it in sources}
 
 
 def edit_files(folder):
@@ -74,9 +64,9 @@ def names_of(function, file, known):
     return [*(name for name, it in split.items() if it == fits[0]), *inside]
 
 
-def load_edit(path, sources):
+def load_edit(path, text, sources):
     """Returns a wrong body with the function that it changes."""
-    said = re.findall(r"(?m)^(file|old|new): ?(.*)$", read(path))
+    said = re.findall(r"(?m)^(file|old|new): ?(.*)$", text)
     file = next((text.strip() for word, text in said if word == "file"), "")
     pairs = [(old, new) for (one, old), (other, new) in zip(said, said[1:]) if (one, other) == ("old", "new")]
     if file not in sources or not pairs:

@@ -1,20 +1,18 @@
 #!/usr/bin/env python3
-"""Hands on figures of docs/PERFORMANCE.md: to README's table, to the plot docs/speed.svg, and to docs/CALLS.md the time of a call.
+"""Hands on figures of docs/PERFORMANCE.md: to README's table, to the plot docs/speed.svg, and to docs/CALLS.md.
 
-A row of a table is read where its first cell is a call, as `rank1` or `FastRmq::range_min`, or a call and what its time is of, as
-"`iter1`, a place". Nothing is measured here. This script writes the plot and README's table; `--check` compares both with what it
-would write, and writes nothing.
+A row of a table there is read where its first cell is a call, as `rank1` or `FastRmq::range_min`, or a call and what its time is
+of, as "`iter1`, a place". Nothing is measured here. This script writes the plot, and the figures of the rows that README's table
+has; `--check` compares both with what it would write, and writes nothing.
 """
 import re
 import sys
-from collections import defaultdict
-from typing import NamedTuple
+from collections import defaultdict, namedtuple
 
 from sources import TOP, read, write_or_check
 
 SOURCE, PLOT, README = "docs/PERFORMANCE.md", "docs/speed.svg", "README.md"
-MARKS = ("<!-- speed: written by tools/performance.py -->", "<!-- speed ends -->")
-# The tables that are read: the heading, the type that it times where no row says it, over which data, and the column of the times.
+# The tables that are read: the heading, the type that it times where rows don't say it, over which data, and the times' column.
 BITS = "Beside the original, in time"
 SECTIONS = (
     (BITS, "RsVec", "2^20 bits, half ones", "2^20 bits, 50%"),
@@ -25,20 +23,8 @@ SECTIONS = (
     ("Trees of parentheses beside the original, in time", "BpTree", "a random tree of 10^6 nodes", "here"),
 )
 CALL = re.compile(r"`(?:(\w+)::)?(\w+)`(?:, (an? \w+)(?: asked or answered)?)?")
-IN_README = {
-    "RsVec": "rank1 select1 iter1", "EliasFanoVec": "rank predecessor", "FastRmq": "range_min", "WaveletMatrix": "rank_u64 quantile_u64",
-    "BpTree": "parent subtree_size dfs_iter",
-}
-
-
-class Figure(NamedTuple):
-    """A time: of which call, over which data, how long, and its ratio to the original's."""
-
-    holder: str
-    call: str
-    data: str
-    time: str
-    ratio: str
+# A time: of which call, over which data, how long, and its ratio to the original's.
+Figure = namedtuple("Figure", "holder call data time ratio")
 
 
 def figures(top):
@@ -68,52 +54,43 @@ def times_of_calls(top):
     return {(it.holder, it.call): f"{it.time}, {it.data}" for it in reversed(figures(top))}
 
 
-def with_table(text, found):
-    """Returns the text of README with the table between its marks."""
-    if text.count(MARKS[0]) != 1 or text.count(MARKS[1]) != 1:
-        sys.exit(f"{README} wants the marks {MARKS[0]} and {MARKS[1]} once each")
-    before, rest = text.split(MARKS[0])
-    shown = [it for it in found if it.call in IN_README.get(it.holder, "").split()]
-    rows = ["| | data | here | ratio to the original |", "|---|---|---:|---:|"]
-    rows += [f"| `{it.holder}`, `{it.call}` | {it.data} | {it.time} | {it.ratio} |" for it in shown]
-    return "\n".join([before + MARKS[0], *rows, MARKS[1] + rest.split(MARKS[1])[1]])
+def with_figures(text, found):
+    """Returns the text of README with these figures in the rows of its table, each of which has one."""
+    rows = {f"| `{it.holder}`, `{it.call}` | {it.data} |": f" {it.time} | {it.ratio} |" for it in found}
+    return re.sub(r"(?m)^(\| `\w+`, `\w+` \| [^|\n]* \|).*$", lambda row: row[1] + rows[row[1]], text)
 
 
-LEFT, WIDTH, STEP, UNIT = 150, 620, 22, 200
-HEAD = """<svg xmlns="http://www.w3.org/2000/svg" width="{width}" height="{height}" viewBox="0 0 {width} {height}">
-<style>text {{ font: 12px sans-serif; fill: #222 }} .group {{ font-weight: bold }} .name {{ text-anchor: end }} \
-.ratio {{ paint-order: stroke; stroke: #fff; stroke-width: 5px }} .less {{ fill: #3b7dd8 }} .more {{ fill: #d87a3b }} \
+HEAD = """<svg xmlns="http://www.w3.org/2000/svg" width="620" height="{height}" viewBox="0 0 620 {height}">
+<style>text {{ font: 12px sans-serif; fill: #222 }} .group {{ font-weight: bold }} .name {{ text-anchor: end }}
+.ratio {{ paint-order: stroke; stroke: #fff; stroke-width: 5px }} .less {{ fill: #3b7dd8 }} .more {{ fill: #d87a3b }}
 .title {{ font-size: 14px }}</style>
-<rect width="{width}" height="{height}" fill="#fff"/>
+<rect width="620" height="{height}" fill="#fff"/>
 <text x="12" y="24" class="title">Time of an operation, as a ratio to that of vers-vecs 1.10.2 (shorter is faster)</text>
-<line x1="{one}" y1="40" x2="{one}" y2="{bottom}" stroke="#222" stroke-dasharray="4 3"/>
-<text x="{beside}" y="46">1</text>
+<line x1="350" y1="40" x2="350" y2="{bottom}" stroke="#222" stroke-dasharray="4 3"/>
+<text x="354" y="46">1</text>
 """
-GROUP = '<text x="12" y="{y}" class="group">{of}</text>\n'
-BAR = """<text x="{name}" y="{y}" class="name">{of.call}</text>
-<rect x="{left}" y="{top}" width="{length}" height="14" class="{kind}"/>
-<text x="{end}" y="{y}" class="ratio">{of.ratio}</text>
+BAR = """<g transform="translate(150 {y})"><text x="-10" class="name">{it.call}</text>
+<rect y="-11" width="{length}" height="14" class="{kind}"/><text x="{end}" class="ratio">{it.ratio}</text></g>
 """
 
 
 def plot(found):
     """Returns the plot: a bar for each figure, as long as its ratio, and a line at 1."""
-    text, y, group = "", 64, None
+    text, y, group = "", 64, ""
     for it in found:
-        if (it.holder, it.data) != group:
-            group = it.holder, it.data
-            text += GROUP.format(y=y, of=", ".join(group))
-            y += STEP + 2
-        length, kind = round(float(it.ratio) * UNIT), "less" if float(it.ratio) <= 1 else "more"
-        text += BAR.format(of=it, y=y, name=LEFT - 10, left=LEFT, top=y - 11, length=length, kind=kind, end=LEFT + length + 6)
-        y += STEP
-    head = HEAD.format(width=WIDTH, height=y - 2, one=LEFT + UNIT, bottom=y - 10, beside=LEFT + UNIT + 4)
-    return f"{head}{text}</svg>\n"
+        if group != f"{it.holder}, {it.data}":
+            group = f"{it.holder}, {it.data}"
+            text += f'<text x="12" y="{y}" class="group">{group}</text>\n'
+            y += 24
+        length, kind = round(float(it.ratio) * 200), "less" if float(it.ratio) <= 1 else "more"
+        text += BAR.format(it=it, y=y, length=length, kind=kind, end=length + 6)
+        y += 22
+    return HEAD.format(height=y - 2, bottom=y - 10) + text + "</svg>\n"
 
 
 def main():
     found = figures(TOP)
-    return write_or_check({PLOT: plot(found), README: with_table(read(f"{TOP}/{README}"), found)}, "tools/performance.py")
+    return write_or_check({PLOT: plot(found), README: with_figures(read(f"{TOP}/{README}"), found)}, "tools/performance.py")
 
 
 if __name__ == "__main__":

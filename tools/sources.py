@@ -7,20 +7,20 @@ import os
 import re
 import sys
 from functools import cached_property
+from pathlib import Path
 
 TOP = os.path.dirname(os.path.dirname(os.path.abspath(__file__)))
 PUB = r"(?:pub(?:\([a-z]+\))? )?"
 HEAD = re.compile(rf"(?: {{4}})?{PUB}(?:const |unsafe )*fn (\w+)")
 OWNER = re.compile(rf"{PUB}(?:unsafe )?(?:impl|trait)\b")
 CLAUSE = re.compile(r"(?ms)^\s*(requires|ensures) (?:([a-z_]\w*) )?\{ (.*?)\s\}\s*(?=^\s*(?:requires|ensures)\b|\Z)")
-STRUCT = re.compile(rf"(?ms)^({PUB})(struct|enum) (\w+)([^;{{(]*)(\{{.*?^\}}|\{{[^\n]*\}}|\([^;]*\);|;)")
-PARAMETER = re.compile(r"(?:mut )?(\w+): ((?:[^,<(\[]|<[^<>]*(?:<[^<>]*>[^<>]*)*>|\([^()]*\)|\[[^\[\]]*\])+)")
+STRUCT = re.compile(rf"(?ms)^{PUB}(struct|enum) (\w+)([^;{{(]*)(\{{.*?^\}}|\{{[^\n]*\}}|\([^;]*\);|;)")
+PARAMETER = re.compile(r"(?:mut )?(\w+): ((?:[^,<()\[]|<[^<>]*(?:<[^<>]*>[^<>]*)*>|\([^()]*\)|\[[^\[\]]*\])+)")
 
 
 def read(path):
     """Returns the text of a file."""
-    with open(path, encoding="utf-8") as file:
-        return file.read()
+    return Path(path).read_text(encoding="utf-8")
 
 
 def line_of(text, at):
@@ -37,12 +37,10 @@ def closed(found, leads):
 
 def without_generics(text):
     """Returns the head of an impl without what stands between angle brackets."""
-    found, depth = "", 0
-    for last, sign in zip(" " + text, text + " "):
-        depth += sign == "<"
-        found += "" if depth else sign
-        depth -= sign == ">" and last not in "-="
-    return found
+    text = text.replace("->", "")
+    while (shorter := re.sub(r"<[^<>]*>", "", text)) != text:
+        text = shorter
+    return text
 
 
 def split_owner(owner):
@@ -58,7 +56,7 @@ def last_word(text):
 
 
 class Function:
-    """A function: the head of its impl or trait, the numbers of its first line, the first of its body and its last, and its parts."""
+    """A function: the head of its impl or trait, its first line, the first of its body and its last, and parts of its text."""
 
     def __init__(self, source, owner, first, body, last):
         self.source, self.owner, self.first, self.body, self.last = source, owner, first, body, last
@@ -87,11 +85,7 @@ class Function:
     @cached_property
     def parameters(self):
         """Its parameters but `self`, as (name, type)."""
-        inside, depth, at = re.search(r"fn \w+(?:<.*?>)?\((.*)", self.head)[1], 1, 0
-        while depth and at < len(inside):
-            depth += (inside[at] == "(") - (inside[at] == ")")
-            at += 1
-        return PARAMETER.findall(inside[: at - 1])
+        return PARAMETER.findall(re.split(r"fn \w+(?:<.*?>)?\(", self.head)[1])
 
 
 class Source:
@@ -116,7 +110,7 @@ class Source:
         return found
 
     def span(self, at):
-        """Returns the first line of the body of the function that begins at a line, or None where it has none, and its last line."""
+        """Returns the first line of the body of the function that begins at a line, or None for none, and its last line."""
         indent, depth = re.match(" *", self.lines[at])[0], 0
         for body, line in enumerate(self.lines[at:], at):
             depth += line.count("{") - line.count("}")
@@ -134,14 +128,9 @@ class Source:
         """Its structs and enums, as (name, fields as (name, type), line)."""
         found, text = [], bare_keeping_lines(self.text)
         for it in STRUCT.finditer(text):
-            inside = it[5].strip("{}();\n")
-            if it[2] == "enum":
-                fields = [("", type_) for type_ in re.findall(r"\(([^()]*)\)", inside)] + re.findall(r"(\w+): ([^,{}]+)", inside)
-            elif it[5][0] == "(":
-                fields = [("0", inside)]
-            else:
-                fields = re.findall(rf"(?m)^\s*{PUB}(\w+): (.*?),?$", inside)
-            found.append((it[3], fields, line_of(text, it.start())))
+            fields = PARAMETER.findall(it[4].strip("{}();\n"))
+            fields += [("0", types) for types in re.findall(r"(?<!pub)\(([^()]*)\)", it[4])]
+            found.append((it[2], fields, line_of(text, it.start())))
         return found
 
 
@@ -195,8 +184,7 @@ def write_files(top, files):
     """Writes texts below a folder, by their paths."""
     for path, text in files.items():
         os.makedirs(os.path.dirname(f"{top}/{path}"), exist_ok=True)
-        with open(f"{top}/{path}", "w", encoding="utf-8") as file:
-            file.write(text)
+        Path(f"{top}/{path}").write_text(text, encoding="utf-8")
 
 
 def write_or_check(pages, script):

@@ -1,5 +1,5 @@
 #!/usr/bin/env python3
-"""Tries the wrong bodies of the crates, many at a time: wrong_bodies.py [--jobs N] [--most N] [--anew] [--self-test] [CRATE..]
+"""Tries the wrong bodies of the crates, many at a time: wrong_bodies.py [--jobs N] [--anew] [--self-test] [CRATE..]
 
 Functions are proved against the contracts of those that they call, so a wave puts many wrong bodies into one copy of a crate, at
 most one a function, and checks once. docs/GATE.md has what a line tells of each, as `refused NAME in FUNCTION: GOAL`, and which
@@ -16,39 +16,26 @@ import shutil
 import subprocess
 import sys
 import tempfile
-from collections import Counter, defaultdict
+from collections import Counter, defaultdict, namedtuple
 from concurrent.futures import ThreadPoolExecutor
-from functools import partial
-from typing import NamedTuple
 
 import edits
 import wrong_plants
-from proofs import PARTS, Crates, Failure, Processors, Proofs, processor_count
-from sources import TOP
+from proofs import PARTS, Commands, Crates, Failure, processor_count, prove_all
+from sources import TOP, read, read_crate, write_files
 
 KEPT = os.path.join(os.environ.get("XDG_CACHE_HOME") or os.path.expanduser("~/.cache"), "woltsjem", "wrong_bodies")
-# The most that is kept of a crate.
-MOST_KEPT = 1000
+# The most that is kept of a crate, and that a wave begins with.
+MOST_KEPT, MOST_AT_ONCE = 1000, 40
 # A written answer that cites a name which isn't there, and one that was not looked at.
 GONE = re.compile(r"has no field|is not in scope|has no `|is no name")
 PASSED_OVER = re.compile(r"was not admitted|were not admitted|not checked")
 
 
-class Told(NamedTuple):
-    """What came of a wrong body: the word for it, the function, and what the check said."""
-
-    kind: str
-    name: str
-    text: str
-
-
-class Report(NamedTuple):
-    """What a check said of each function, the errors in each one's written answers, those of the compiler, and how it ended."""
-
-    functions: dict
-    answers: dict
-    errors: list
-    end: str
+# What came of a wrong body: the word for it, the function, and what the check said.
+Told = namedtuple("Told", "kind name text")
+# What a check said of each function, the errors in each one's written answers, those of the compiler, and how it ended.
+Report = namedtuple("Report", "functions answers errors end")
 
 
 def report_of(said):
@@ -90,69 +77,61 @@ def verdict(names, report):
 
 
 class Tried:
-    """A crate whose wrong bodies are tried, and its sources."""
+    """A crate whose wrong bodies are tried, its sources, and what came of those that were refused earlier."""
 
-    def __init__(self, crates, name, processors):
-        self.crates, self.name, self.processors = crates, name, processors
+    def __init__(self, crates, name, commands, is_anew):
+        self.crates, self.name, self.commands = crates, name, commands
         self.folder, self.below = crates.folder(name), crates.below(name)
-        self.sources, self.proved = edits.sources_by_path(crates.top, name), f"{self.folder}/out/incremental"
+        self.sources, self.proved = edits.by_path(read_crate(crates.top, name)), f"{self.folder}/out/incremental"
         paths = edits.edit_files(self.folder)
         self.files = {edits.edit_name(path): path for path in paths}
         if len(self.files) < len(paths):
             raise Failure(f"two wrong bodies of {name} have one name")
+        self.keys, known = self.sums(), {} if is_anew else kept(name)
+        self.told = {edit: Told("refused", "", known[key]) for edit, key in self.keys.items() if key in known}
 
-    def keys(self):
+    def sums(self):
         """Returns for each of its wrong bodies, by their names, the sum of all that a try of it reads."""
-        total = hashlib.sha256(subprocess.run(["rt", "version"], stdout=subprocess.PIPE, check=True).stdout)
-        read = [__file__, edits.__file__]
-        for name in [*self.below, self.name]:
-            total.update(self.crates.lines[name].encode())
-            folders = [f"{self.crates.folder(name)}/{part}" for part in PARTS]
-            read += sorted(f"{at}/{it}" for folder in folders for at, _, names in os.walk(folder) for it in names)
-        for file in read:
-            total.update(f"{os.path.basename(file)} {sum_of(file)}\n".encode())
-        base = total.hexdigest()
-        return {name: hashlib.sha256(f"{base} {sum_of(file)}".encode()).hexdigest() for name, file in self.files.items()}
+        version = subprocess.run(["rt", "version"], stdout=subprocess.PIPE, check=True, text=True).stdout
+        crates = [*self.below, self.name]
+        folders = [f"{self.crates.folder(name)}/{part}" for name in crates for part in PARTS]
+        found = sorted(f"{at}/{it}" for folder in folders for at, _, names in os.walk(folder) for it in names)
+        texts = [f"{os.path.basename(it)} {read(it)}" for it in [__file__, edits.__file__, *found]]
+        base = sum_of(version, *(self.crates.lines[it] for it in crates), *texts)
+        return {name: sum_of(base, read(path)) for name, path in self.files.items()}
 
-    def try_wave(self, wave, jobs):
+    def try_wave(self, wave):
         """Checks a copy of the crate that has each of these wrong bodies, and keeps what is proved there where nothing was."""
-        is_first = not os.path.isdir(self.proved)
+        is_first, changed = not os.path.isdir(self.proved), {it.file: list(self.sources[it.file].lines) for it in wave}
+        for it in wave:
+            changed[it.file][it.function.first : it.function.last + 1] = it.lines
         with tempfile.TemporaryDirectory(prefix="wrong-bodies-") as room:
             folder = f"{room}/crates/{self.name}"
             self.crates.copy_to(room, self.name, "out/incremental")
-            for file in {it.file for it in wave}:
-                lines = list(self.sources[file].lines)
-                for edit in wave:
-                    if edit.file == file:
-                        lines[edit.function.first : edit.function.last + 1] = edit.lines
-                with open(f"{folder}/{file}", "w", encoding="utf-8") as it:
-                    it.write("\n".join(lines))
-            command = ["rt", "check", "--jobs", str(jobs if is_first else 1)]
-            report = report_of(self.processors.run((self.name, "waves"), command, folder)[0])
+            write_files(folder, {file: "\n".join(lines) for file, lines in changed.items()})
+            jobs = max(1, self.commands.count // 2) if is_first else 1
+            report = report_of(self.commands.run((self.name, "waves"), ["rt", "check", "--jobs", str(jobs)], folder)[0])
             if report.functions and is_first:
                 shutil.move(f"{folder}/out/incremental", self.proved)
             return report
 
 
-def sum_of(file):
-    """Returns the sum of a file."""
-    with open(file, "rb") as it:
-        return hashlib.sha256(it.read()).hexdigest()
+def sum_of(*texts):
+    """Returns the sum of texts."""
+    return hashlib.sha256("\0".join(texts).encode()).hexdigest()
 
-
-# --- waves
 
 def dealt(left, most):
     """Returns wrong bodies in waves: none larger than the bound, none with two of one function, and all of about one size."""
-    times = Counter(it.place() for it in left)
+    times = Counter(it.function for it in left)
     waves = [[] for _ in range(max(-(-len(left) // most), *times.values()))]
-    for edit in sorted(left, key=lambda it: (-times[it.place()], it.place())):
-        free = [it for it in waves if edit.place() not in {other.place() for other in it}]
+    for edit in sorted(left, key=lambda it: (-times[it.function], it.file, it.function.first)):
+        free = [it for it in waves if edit.function not in {other.function for other in it}]
         min(free, key=len).append(edit)
     return waves
 
 
-def settled(wave, report):
+def settled(wave, report, commands):
     """Returns what a wave told of its wrong bodies, by their names; nothing of those that wait for a later wave."""
     told, changed = {}, set()
     for edit in wave:
@@ -165,25 +144,9 @@ def settled(wave, report):
         changed.update(names)
     for it in filter(None, (told_of(name, report) for name in report.functions if name not in changed)):
         if it.kind == "refused":
-            raise Failure(f"{it.name} is refused and no body of the wave is in it, so the wave shows nothing: {it.text}")
+            commands.fail(f"{it.name} is refused and no body of the wave is in it, so the wave shows nothing: {it.text}")
     return told
 
-
-def try_in_waves(crate, left, most):
-    """Yields what came of each wrong body, as it is told. Until something of the crate is proved, waves come singly."""
-    with ThreadPoolExecutor(max(len(left), 1)) as pool:
-        while left:
-            waves, before = dealt(left, most), len(left)
-            waves = waves if os.path.isdir(crate.proved) else waves[:1]
-            turns = [crate.processors.queue(-before) for _ in waves]
-            for wave, report in zip(waves, pool.map(crate.processors.do, turns, [partial(crate.try_wave, it) for it in waves])):
-                told = settled(wave, report)
-                left = [it for it in left if it.name not in told]
-                yield from told.items()
-            most = most if len(left) < before else max(1, max(map(len, waves)) // 2)
-
-
-# --- what was refused earlier
 
 def kept(crate):
     """Returns what was kept of a crate's wrong bodies, by the sums of what their tries read."""
@@ -193,64 +156,59 @@ def kept(crate):
 
 
 def keep(crate, refused):
-    """Keeps what was refused, with the latest of what earlier runs kept; where that can't be, the next run tries it again."""
+    """Keeps what was refused, with the latest of what earlier runs kept; what can't be kept or read is tried again."""
     entries = list({**kept(crate), **refused}.items())[-MOST_KEPT:]
-    try:
+    with contextlib.suppress(OSError):
         os.makedirs(KEPT, 0o700, exist_ok=True)
-        with tempfile.NamedTemporaryFile("w", dir=KEPT, delete=False, encoding="utf-8") as it:
+        with open(f"{KEPT}/{crate}.json", "w", encoding="utf-8") as it:
             json.dump(entries, it, indent=0)
-        os.replace(it.name, f"{KEPT}/{crate}.json")
-    except OSError as error:
-        print(f"wrong_bodies: what was refused of {crate} is not kept: {error}")
 
 
-# --- the whole
+def try_crates(crates, flags, commands):
+    """Tries the wrong bodies of crates, of all where none is named, and returns what came of each, by crate.
 
-class Run:
-    """A run over the crates of a repository."""
-
-    def __init__(self, top, flags):
-        self.flags, self.processors = flags, Processors(flags.jobs)
-        self.crates, self.below = Crates(top), set()
-        self.proofs = Proofs(self.crates, self.processors)
-
-    def try_crates(self, names):
-        """Tries the wrong bodies of crates, of all where none is named, and returns what came of each, by crate."""
-        tried = [Tried(self.crates, name, self.processors) for name in names or self.crates.lines]
-        tried = [it for it in tried if it.files]
-        self.below = {it for crate in tried for it in crate.below}
-        with ThreadPoolExecutor(len(tried) or 1) as pool:
-            return dict(zip([it.name for it in tried], pool.map(self.try_crate, tried)))
-
-    def try_crate(self, crate):
-        """Tries those wrong bodies of a crate that were not refused earlier, and returns what came of each."""
-        keys, known, left = crate.keys(), {} if self.flags.anew else kept(crate.name), []
-        told = {edit: Told("refused", "", known[key]) for edit, key in keys.items() if key in known}
-        if len(told) < len(keys):
-            self.proofs.prove_all(crate.below if crate.name not in self.below else [*crate.below, crate.name])
-        for edit in [it for it in keys if it not in told]:
-            try:
-                left.append(edits.load_edit(crate.files[edit], crate.sources))
-            except edits.BadEdit as error:
-                told[edit] = tell(edit, Told("bad", "no function", str(error)))
-        for edit, it in try_in_waves(crate, left, self.flags.most):
-            told[edit] = tell(edit, it)
-        if left and not self.flags.self_test:
-            keep(crate.name, {keys[edit]: it.text for edit, it in told.items() if it.kind == "refused"})
-        return told
+    The crates below are proved before, and the waves of all crates then share the processors.
+    """
+    tried = [Tried(crates, name, commands, flags.anew) for name in flags.crates or crates.lines]
+    tried = [it for it in tried if it.files]
+    prove_all(crates, {name for it in tried if len(it.told) < len(it.files) for name in it.below}, commands)
+    with ThreadPoolExecutor(commands.count) as waves, ThreadPoolExecutor(len(tried) or 1) as pool:
+        for it in pool.map(lambda crate: try_crate(crate, flags, waves), tried):
+            pass
+    return {it.name: it.told for it in tried}
 
 
-def tell(edit, told):
-    """Prints what came of a wrong body, and returns it."""
+def try_crate(crate, flags, pool):
+    """Tries those wrong bodies of a crate that were not refused earlier. Until something of it is proved, waves come singly."""
+    left, most = [], MOST_AT_ONCE
+    for edit in [it for it in crate.keys if it not in crate.told]:
+        try:
+            left.append(edits.load_edit(edit, read(crate.files[edit]), crate.sources))
+        except edits.BadEdit as error:
+            tell(crate, edit, Told("bad", "no function", str(error)))
+    while left:
+        waves, before = dealt(left, most), len(left)
+        waves = waves if os.path.isdir(crate.proved) else waves[:1]
+        for wave, report in zip(waves, pool.map(crate.try_wave, waves)):
+            for edit, told in settled(wave, report, crate.commands).items():
+                tell(crate, edit, told)
+            left = [it for it in left if it.name not in crate.told]
+        most = most if len(left) < before else max(1, max(map(len, waves)) // 2)
+    if not flags.self_test:
+        keep(crate.name, {crate.keys[edit]: it.text for edit, it in crate.told.items() if it.kind == "refused"})
+
+
+def tell(crate, edit, told):
+    """Prints what came of a wrong body, and notes it."""
     print(f"{told.kind} {edit} in {told.name}: {told.text}", flush=True)
-    return told
+    crate.told[edit] = told
 
 
 def self_test(flags):
     """Tries planted bodies of each kind, and returns whether each was told as what it is."""
     with tempfile.TemporaryDirectory(prefix="wrong-bodies-") as top:
-        wrong_plants.plant(top)
-        told = Run(top, flags).try_crates([])["small"]
+        write_files(top, wrong_plants.FILES)
+        told = try_crates(Crates(top), flags, Commands(flags.jobs))["small"]
     missed = [name for name, (kind, _, _) in wrong_plants.PLANTS.items() if name not in told or told[name].kind != kind]
     print("self-test: " + (f"not told as what they are: {', '.join(missed)}" if missed else "ok"))
     return not missed
@@ -261,22 +219,20 @@ def main():
     parser = argparse.ArgumentParser(description=__doc__.split("\n", maxsplit=1)[0])
     parser.add_argument("crates", nargs="*", metavar="CRATE")
     parser.add_argument("--jobs", type=int, default=processor_count())
-    parser.add_argument("--most", type=int, default=40)
     parser.add_argument("--anew", action="store_true")
     parser.add_argument("--self-test", action="store_true")
     flags = parser.parse_args()
     if flags.self_test:
         return 0 if self_test(flags) else 1
-    run = Run(TOP, flags)
-    run.processors.end_on_interrupt()
+    commands = Commands(flags.jobs)
+    commands.end_on_interrupt()
     try:
-        told = run.try_crates(flags.crates)
+        told = try_crates(Crates(TOP), flags, commands)
     except Failure as failure:
-        run.processors.end(str(failure))
-        print(f"wrong_bodies: {run.processors.ended}")
+        print(f"wrong_bodies: {failure}")
         return 1
     for name, of in told.items():
-        print(f"{name}: {len(of)} wrong bodies, {run.processors.seconds[name, 'waves'] / 60:.1f} processor minutes")
+        print(f"{name}: {len(of)} wrong bodies, {commands.seconds[name, 'waves'] / 60:.1f} processor minutes")
     kinds = Counter(it.kind == "refused" for of in told.values() for it in of.values())
     print(f"{kinds[True]} passed, {kinds[False]} failed")
     return 1 if kinds[False] or not kinds[True] else 0

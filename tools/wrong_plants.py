@@ -1,6 +1,4 @@
 """A small crate and wrong bodies of each kind, for the self-test of `wrong_bodies.py` to plant."""
-import os
-
 FILES = {
     "HANDLES": "Handles allowed: none.\n",
     "crates.txt": "small:\n",
@@ -10,7 +8,6 @@ ghost use Rattle.std.specs.Prelude.{◌≡◌, ◌+◌, ◌<◌};
 
 const STEP: u64 = 1;
 
-/// The next number.
 pub fn next(x: u64) -> u64
     requires { x < 100 }
     ensures { result ≡ x + 1 }
@@ -18,7 +15,6 @@ pub fn next(x: u64) -> u64
     x + STEP
 }
 
-/// The next number but one.
 pub fn second(x: u64) -> u64
     requires { x < 99 }
     ensures { result ≡ x + 2 }
@@ -26,7 +22,6 @@ pub fn second(x: u64) -> u64
     next(next(x))
 }
 
-/// The next number but two.
 pub fn third(x: u64) -> u64
     requires { x < 98 }
     ensures { result ≡ x + 3 }
@@ -34,7 +29,6 @@ pub fn third(x: u64) -> u64
     second(next(x))
 }
 
-/// The first of two numbers.
 pub fn first(x: u64, y: u64) -> u64
     ensures { result ≡ x }
 {
@@ -48,7 +42,6 @@ pub returns : goal.returns
 returns c = omega (arith, c.next.ensures, c.second.ensures)
 """,
 }
-
 # What is to be told of each wrong body, with its old text and the new one.
 PLANTS = {
     "next--adds-two": ("refused", "x + STEP", "x + STEP + STEP"),
@@ -64,12 +57,5 @@ PLANTS = {
     "changes-a-constant": ("bad", "STEP: u64 = 1", "STEP: u64 = 2"),
     "changes-two-functions": ("bad", "next(x)", "next(x + 0)"),
 }
-
-
-def plant(top):
-    """Writes the small crate and its wrong bodies."""
-    edits = {f"crates/small/wrong/{name}.edit": f"file: src/lib.rt\nold: {old}\nnew: {new}\n" for name, (_, old, new) in PLANTS.items()}
-    for path, text in {**FILES, **edits}.items():
-        os.makedirs(os.path.dirname(f"{top}/{path}"), exist_ok=True)
-        with open(f"{top}/{path}", "w", encoding="utf-8") as it:
-            it.write(text)
+for name, (_, old, new) in PLANTS.items():
+    FILES[f"crates/small/wrong/{name}.edit"] = f"file: src/lib.rt\nold: {old}\nnew: {new}\n"
