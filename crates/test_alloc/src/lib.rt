@@ -30,6 +30,7 @@ pub struct Plan {
     refused: Cell<u64>,
     freed: Cell<u64>,
     held: Cell<usize>,
+    most_held: Cell<usize>,
 }
 
 impl Drop for Plan {
@@ -42,6 +43,7 @@ impl Drop for Plan {
             refused: _,
             freed: _,
             held: _,
+            most_held: _,
         } = self;
     }
 }
@@ -66,6 +68,7 @@ impl<B: Allocator> Refusing<B> {
                 refused: Cell::new(0),
                 freed: Cell::new(0),
                 held: Cell::new(0),
+                most_held: Cell::new(0),
             },
         }
     }
@@ -145,6 +148,16 @@ impl<B: Allocator> Refusing<B> {
     pub fn held_bytes(&self) -> usize {
         self.plan.held.get()
     }
+
+    /// How many bytes were held at most at once, since the start or the last `measure_anew`.
+    pub fn most_held_bytes(&self) -> usize {
+        self.plan.most_held.get()
+    }
+
+    /// From here on `most_held_bytes` tells of what is held from now on.
+    pub fn measure_anew(&self) {
+        self.plan.most_held.set(self.plan.held.get());
+    }
 }
 
 impl<B: Allocator> Drop for Refusing<B> {
@@ -161,7 +174,9 @@ fn is_refused(plan: &Plan, size: usize) -> bool {
     if is_refused {
         plan.refused.set(plan.refused.get().saturating_add(1));
     } else {
-        plan.held.set(plan.held.get().wrapping_add(size));
+        let held = plan.held.get().wrapping_add(size);
+        plan.held.set(held);
+        plan.most_held.set(plan.most_held.get().max(held));
     }
     is_refused
 }

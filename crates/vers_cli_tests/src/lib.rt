@@ -11,3 +11,5 @@ mod faults;
 mod forest;
 #[cfg(test)]
 mod memory;
+#[cfg(test)]
+mod room;

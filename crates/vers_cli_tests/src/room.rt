@@ -1,0 +1,218 @@
+//! The most memory that a run holds while it loads a long line.
+ghost use Rattle.std.specs.Prelude.{◌≡◌, Some};
+
+use crate::devices::{Ended, run_over};
+use std::alloc::{AllocError, Global};
+use std::io;
+use std::io::Read;
+use std::test::Fail;
+use test_alloc::Refusing;
+use vers_cli::RunError;
+
+// Gives a text, and notes what is held before its last `measured` bytes are read and after them. From
+// there on the most is measured anew.
+#[derive(Drop)]
+struct MeasuringReader<'a> {
+    rest: &'a [u8],
+    measured: usize,
+    heap: &'a Refusing<Global>,
+    before: Option<usize>,
+    after: usize,
+}
+
+impl MeasuringReader<'_> {
+    fn note(&mut self)
+        ensures { self.new.rest ≡ self.old.rest }
+    {
+        let held = self.heap.held_bytes();
+        if self.before.is_none() {
+            self.before = Some(held);
+            self.heap.measure_anew();
+        }
+        self.after = held;
+    }
+}
+
+impl Read for MeasuringReader<'_> {
+    ghost remaining = { λ r. Some r.rest.now };
+
+    fn read(&mut self, buf: &mut [u8]) -> io::Result<usize> {
+        let most = self.rest.len().saturating_sub(self.measured).min(buf.len());
+        if most == 0 {
+            self.note();
+            return self.rest.read(buf);
+        }
+        self.rest.read(&mut buf[..most])
+    }
+}
+
+// A load line: its start, and what is repeated after it, with a number of seven digits before it that is
+// one more each time.
+#[derive(Clone, Copy, Drop)]
+struct Line {
+    start: &'static [u8],
+    has_number: bool,
+    text: &'static [u8],
+    times: usize,
+}
+
+const LINES: [Line; 7] = [
+    Line {
+        start: b"bits ",
+        has_number: false,
+        text: b"01",
+        times: 150000,
+    },
+    Line {
+        start: b"tree ",
+        has_number: false,
+        text: b"10",
+        times: 150000,
+    },
+    Line {
+        start: b"values",
+        has_number: false,
+        text: b" 7",
+        times: 150000,
+    },
+    Line {
+        start: b"symbols 3",
+        has_number: false,
+        text: b" 5",
+        times: 150000,
+    },
+    Line {
+        start: b"sorted",
+        has_number: true,
+        text: b"",
+        times: 40000,
+    },
+    Line {
+        start: b"sparse 9999999",
+        has_number: true,
+        text: b"",
+        times: 40000,
+    },
+    Line {
+        start: b"postings",
+        has_number: true,
+        text: b" 7",
+        times: 30000,
+    },
+];
+
+// A space and a number of seven digits.
+fn push_number(text: &mut Vec<u8>, number: usize) -> Result<(), AllocError> {
+    text.push(b' ')?;
+    for power in [1000000usize, 100000, 10000, 1000, 100, 10, 1] {
+        text.push(b"0123456789"[number / power % 10])?;
+    }
+    Ok(())
+}
+
+// A line, with so many of its repetitions.
+fn push_line(text: &mut Vec<u8>, line: Line, times: usize) -> Result<(), AllocError> {
+    text.extend_from_slice(line.start)?;
+    for number in 0..times {
+        if line.has_number {
+            push_number(text, number)?;
+        }
+        text.extend_from_slice(line.text)?;
+    }
+    text.push(b'\n')?;
+    Ok(())
+}
+
+// What is held before a line is read, at most while it is read and loaded, and after it.
+#[derive(Clone, Copy, Drop)]
+struct Held {
+    before: usize,
+    most: usize,
+    after: usize,
+}
+
+// What a run holds at the last `measured` bytes of an input.
+fn held_at(alloc: Global, input: &[u8], measured: usize) -> Result<Held, RunError> {
+    let heap = Refusing::none(alloc);
+    let reader = MeasuringReader {
+        rest: input,
+        measured,
+        heap: &heap,
+        before: None,
+        after: 0,
+    };
+    let Ended { result, reader, .. } = run_over(&heap, reader, Vec::new(alloc));
+    result?;
+    Ok(Held {
+        before: reader.before.unwrap_or(0),
+        most: heap.most_held_bytes(),
+        after: reader.after,
+    })
+}
+
+// What a run holds with no list: room for a read, for a long line and for a short answer.
+const READ_ROOM: usize = 65536;
+
+const LINE_ROOM: usize = 262144;
+
+const ANSWER_ROOM: usize = 64;
+
+// Whether a long line is loaded with at most three times the room of what is made of it and of the line
+// itself, beside the room for a read.
+fn is_loaded_in_room(alloc: Global, line: Line) -> Result<bool, RunError> {
+    let mut text = Vec::new(alloc);
+    push_line(&mut text, line, line.times)?;
+    let held = held_at(alloc, text.as_slice(), text.len())?;
+    let made = held
+        .after
+        .saturating_sub(READ_ROOM + LINE_ROOM + ANSWER_ROOM);
+    let most = made.saturating_add(text.len()).saturating_mul(3);
+    Ok(
+        made > line.times / 20
+            && held.before == READ_ROOM
+            && held.most <= most.saturating_add(READ_ROOM),
+    )
+}
+
+// The first line that takes more room.
+fn first_without_room(alloc: Global) -> Result<Option<&'static [u8]>, RunError> {
+    for line in LINES {
+        if !is_loaded_in_room(alloc, line)? {
+            return Ok(Some(line.start));
+        }
+    }
+    Ok(None)
+}
+
+#[test]
+fn a_long_line_takes_three_times_its_room(rt: HostRuntime) -> Result<(), Fail> {
+    assert!(rt; first_without_room(rt.alloc())?.is_none());
+    Ok(())
+}
+
+// Whether a line is loaded over a longer list with no more room than that one takes.
+fn is_loaded_in_its_place(alloc: Global, line: Line) -> Result<bool, RunError> {
+    let mut text = Vec::new(alloc);
+    push_line(&mut text, LINES[2], LINES[2].times)?;
+    let len = text.len();
+    push_line(&mut text, line, line.times / 3)?;
+    let held = held_at(alloc, text.as_slice(), text.len().saturating_sub(len))?;
+    Ok(held.after < held.before && held.most <= held.before)
+}
+
+// The first line that takes more room.
+fn first_beside(alloc: Global) -> Result<Option<&'static [u8]>, RunError> {
+    for line in LINES {
+        if !is_loaded_in_its_place(alloc, line)? {
+            return Ok(Some(line.start));
+        }
+    }
+    Ok(None)
+}
+
+// What was held is let go before a list comes in its place.
+#[test]
+fn a_line_is_loaded_where_a_longer_list_was(rt: HostRuntime) -> Result<(), Fail> {
+    assert!(rt; first_beside(rt.alloc())?.is_none());
+    Ok(())
+}
