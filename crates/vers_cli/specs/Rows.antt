@@ -2,9 +2,9 @@
 use Rattle.std.specs.Prelude.{◌≡◌, ℕ, ◌++◌, true, false, List, [], ◌∷◌, codes, Some, None, refl}
 use Rattle.std.specs.Fmt.{digits}
 use Rattle.vers_bits.specs.Bits.{count, places, select}
-use Rattle.vers_sorted.specs.Sorted.{below, greatest_not_above, least_not_below}
+use Rattle.vers_sorted.specs.Sorted.{below, least_not_below}
 use Rattle.vers_sorted.specs.Ones.{ones_at}
-use Rattle.vers_wavelet.specs.Symbols.{occurrences}
+use Rattle.vers_wavelet.specs.Symbols.{occurrences, range_members, kth_by_size, greatest_up_to, least_from}
 use Rattle.vers_wavelet.specs.Makers.{low_symbols}
 use Rattle.vers_trees.specs.Excess.{excess, first_rise_after, last_rise_before, enclosing}
 use Rattle.vers_trees.specs.Forest.{forest_of}
@@ -260,15 +260,15 @@ unfolding answer_to_words number_of occurrences digits
 answer-select_u64_0_3 = refl
 
 pub answer-predecessor_u64_4 : answer_to held_153 (codes "predecessor_u64 0 3 4") ≡ ended (codes "3")
-unfolding answer_to_words number_of greatest_not_above digits
+unfolding answer_to_words number_of range_members greatest_up_to digits
 answer-predecessor_u64_4 = refl
 
 pub answer-successor_u64_4 : answer_to held_153 (codes "successor_u64 0 3 4") ≡ ended (codes "5")
-unfolding answer_to_words number_of least_not_below digits
+unfolding answer_to_words number_of range_members least_from digits
 answer-successor_u64_4 = refl
 
 pub answer-range_median_u64_0_2 : answer_to held_153 (codes "range_median_u64 0 2") ≡ ended (codes "1")
-unfolding answer_to_words number_of digits
+unfolding answer_to_words number_of range_members kth_by_size digits
 answer-range_median_u64_0_2 = refl
 
 -- a range that begins past the last place, and one that ends before it begins
@@ -277,7 +277,7 @@ unfolding answer_to_words number_of
 answer-rank_range_u64_3_3 = refl
 
 pub answer-range_max_u64_3_2 : answer_to held_153 (codes "range_max_u64 3 2") ≡ ended (codes "none")
-unfolding answer_to_words number_of
+unfolding answer_to_words number_of range_members kth_by_size
 answer-range_max_u64_3_2 = refl
 
 -- the nodes of a forest

@@ -1,7 +1,6 @@
 -- The lines of a list of symbols.
-use Rattle.std.specs.Prelude.{ℕ, ◌-◌, ◌/◌, ◌%◌, ◌^◌, ◌&&◌, nat_le, nat_lt, List, [], ◌∷◌, length, slice_get, slice_range, Option, Some, None, if◌then◌else◌}
-use Rattle.vers_sorted.specs.Sorted.{greatest_not_above, least_not_below}
-use Rattle.vers_wavelet.specs.Symbols.{Symbols, occurrences, by_size}
+use Rattle.std.specs.Prelude.{ℕ, ◌-◌, ◌/◌, ◌%◌, ◌^◌, ◌&&◌, nat_le, nat_lt, List, [], ◌∷◌, length, slice_get, Option, Some, None, if◌then◌else◌}
+use Rattle.vers_wavelet.specs.Symbols.{Symbols, occurrences, by_size, range_members, kth_by_size, greatest_up_to, least_from}
 use Rattle.vers_wavelet.specs.Makers.{low_symbols}
 use Rattle.vers_words.specs.declared.loading.Loading.{Loading}
 use Rattle.vers_words.specs.declared.loading.Loading.TheVariants.{Malformed, Inadmissible, Accepted}
@@ -53,10 +52,6 @@ rank_between symbols a b s =
 abbrev pub place_from : Symbols → ℕ → ℕ → ℕ → Option ℕ
 place_from symbols o r s = slice_get (places_of symbols o (length symbols.items) s) r
 
--- the members of a range in ascending order; none where it ends past the last place, or before it begins
-abbrev pub sorted_range : Symbols → ℕ → ℕ → List ℕ
-sorted_range symbols a b = if nat_le b (length symbols.items) then by_size (slice_range symbols.items a b) else []
-
 -- the symbols that a query of all of them lists
 abbrev pub all_listed : Symbols → AllQuery → List ℕ
 all_listed symbols IterU64 = symbols.items
@@ -69,17 +64,17 @@ symbol_found symbols SelectU64 i s = place_from symbols 0 i s
 
 -- a query of a range: its first, last and middle member by size, of two in the middle the lower one
 abbrev pub range_found : Symbols → RangeQuery → ℕ → ℕ → Option ℕ
-range_found symbols RangeMinU64 a b = slice_get (sorted_range symbols a b) 0
-range_found symbols RangeMaxU64 a b = slice_get (sorted_range symbols a b) (b - a - 1)
-range_found symbols RangeMedianU64 a b = slice_get (sorted_range symbols a b) ((b - 1 - a) / 2)
+range_found symbols RangeMinU64 a b = kth_by_size (range_members symbols.items a b) 0
+range_found symbols RangeMaxU64 a b = kth_by_size (range_members symbols.items a b) (b - a - 1)
+range_found symbols RangeMedianU64 a b = kth_by_size (range_members symbols.items a b) ((b - 1 - a) / 2)
 
 -- a query with three numbers
 abbrev pub within_found : Symbols → WithinQuery → ℕ → ℕ → ℕ → Option ℕ
 within_found symbols RankRangeU64 a b s = rank_between symbols a b s
 within_found symbols SelectOffsetU64 o r s = place_from symbols o r s
-within_found symbols QuantileU64 a b i = slice_get (sorted_range symbols a b) i
-within_found symbols PredecessorU64 a b s = greatest_not_above (sorted_range symbols a b) (low_bits_of symbols s)
-within_found symbols SuccessorU64 a b s = least_not_below (sorted_range symbols a b) (low_bits_of symbols s)
+within_found symbols QuantileU64 a b i = kth_by_size (range_members symbols.items a b) i
+within_found symbols PredecessorU64 a b s = greatest_up_to (range_members symbols.items a b) (low_bits_of symbols s)
+within_found symbols SuccessorU64 a b s = least_from (range_members symbols.items a b) (low_bits_of symbols s)
 
 -- the replies of the queries, by their arguments
 abbrev pub all_reply : Symbols → AllQuery → PlainReply

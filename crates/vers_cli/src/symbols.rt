@@ -212,6 +212,7 @@ fn symbol_reply<A: Allocator + Copy>(
 }
 
 // The reply of a query of a range.
+#[tactic(auto, using(crate::proofs::SymbolReplies::word_replies))]
 fn range_reply<A: Allocator + Copy>(
     symbols: &WaveletMatrix<A>,
     query: RangeQuery,
@@ -228,6 +229,7 @@ fn range_reply<A: Allocator + Copy>(
 }
 
 // The reply of a query with three numbers.
+#[tactic(auto, using(crate::proofs::SymbolReplies::word_replies))]
 fn within_reply<A: Allocator + Copy>(
     symbols: &WaveletMatrix<A>,
     query: WithinQuery,

@@ -1,13 +1,14 @@
 -- The members of a list in ascending order, and the member that is number i by size.
-use Rattle.std.proofs.Common.{◌≡◌, ℕ, zero, suc, ◌+◌, ◌<◌, ◌≤◌, Bool, true, false, cond, ltb, leb, List, [], ◌∷◌, length, get_or, refl, sym, ap, ◌∙◌, subst, arith, inl, inr}
-use Rattle.std.specs.Prelude.{All}
+use Rattle.std.proofs.Common.{◌≡◌, ℕ, zero, suc, ◌+◌, ◌<◌, ◌≤◌, Bool, true, false, cond, ltb, leb, List, [], ◌∷◌, length, get_or, Some, None, refl, sym, ap, ◌∙◌, subst, arith, inl, inr}
+use Rattle.std.specs.Prelude.{All, ◌↔◌}
 use Rattle.std.specs.List.{count_by}
 use Rattle.std.proofs.lemmas.Bool.{cases_lt}
 use Rattle.std.specs.List.Sorted.{IsNonDecreasing}
 use Rattle.std.proofs.lemmas.Bool.Decides.{nat_tests}
+use Rattle.std.proofs.lemmas.Option.{slice_get-get_or, slice_get_past, slice_get_within, get_or_from_slice_get}
 use Rattle.std.proofs.lemmas.List.Sums.{count_by-le-length}
-use Rattle.vers_wavelet.specs.Symbols.{placed, by_size, IsKth}
-use Rattle.vers_wavelet.proofs.Members.{one, count_cons, ltb_not}
+use Rattle.vers_wavelet.specs.Symbols.{placed, by_size, kth_by_size, IsKth}
+use Rattle.vers_wavelet.proofs.Members.{one, count_cons, ltb_not, ltb_one}
 
 -- each member is at most all after it
 abbrev pub Ascends : List ℕ → Type 0
@@ -89,11 +90,14 @@ none_above x (y ∷ ys) all =
 leb_one : (y x : ℕ) → one (leb y x) ≤ 1
 leb_one y x = grind (arith, nat_tests)
 
+leb_some : (y x : ℕ) → y ≤ x → one (leb y x) ≡ 1
+leb_some y x h = grind (arith, nat_tests)
+
 ltb_some : (y x : ℕ) → y < x → one (ltb y x) ≡ 1
 ltb_some y x h = grind (arith, nat_tests)
 
 -- in ascending order, at most i members below x leave no such member at place i, and more than i not above x put one there
-not_below_at : (ys : List ℕ) → Ascends ys → (i x : ℕ) → i < length ys → count_by (λ y. ltb y x) ys ≤ i → x ≤ get_or ys i 0
+pub not_below_at : (ys : List ℕ) → Ascends ys → (i x : ℕ) → i < length ys → count_by (λ y. ltb y x) ys ≤ i → x ≤ get_or ys i 0
 not_below_at [] up i x h few = absurd (omega arith)
 not_below_at (y ∷ ys) up zero x h few = ltb_not x y (omega (arith, few, count_cons (λ z. ltb z x) y ys))
 not_below_at (y ∷ ys) up (suc i) x h few =
@@ -102,7 +106,7 @@ not_below_at (y ∷ ys) up (suc i) x h few =
       | inr fine ↦ omega (arith, fine, up.0 i 0 (omega arith))
     ]
 
-not_above_at : (ys : List ℕ) → Ascends ys → (i x : ℕ) → i < count_by (λ y. leb y x) ys → get_or ys i 0 ≤ x
+pub not_above_at : (ys : List ℕ) → Ascends ys → (i x : ℕ) → i < count_by (λ y. leb y x) ys → get_or ys i 0 ≤ x
 not_above_at [] up i x h = absurd (omega arith)
 not_above_at (y ∷ ys) up zero x h =
     elim (cases_lt x y) [
@@ -127,6 +131,46 @@ kth_at xs i x h kth =
       not_above_at (by_size xs) up i x (omega (arith, kth.more, count_by_size (λ y. leb y x) xs)),
     )
 
+none_below : (x : ℕ) (ys : List ℕ) → All (λ z. x ≤ z) ys → count_by (λ y. ltb y x) ys ≡ 0
+none_below x [] all = refl
+none_below x (y ∷ ys) all =
+    let here : one (ltb y x) ≡ 0 = ltb_none y x (all zero 0 (omega arith)) in
+    let rest : All (λ z. x ≤ z) ys = λ i d k. all (suc i) d (omega arith) in
+    omega (arith, count_cons (λ z. ltb z x) y ys, here, none_below x ys rest)
+  where
+    ltb_none : (y x : ℕ) → x ≤ y → one (ltb y x) ≡ 0
+    ltb_none y x h = grind (arith, nat_tests)
+
+-- in ascending order, at most i members are below the one at place i, and more than i are not above it
+pub few_below : (ys : List ℕ) → Ascends ys → (i : ℕ) → i < length ys → count_by (λ y. ltb y (get_or ys i 0)) ys ≤ i
+few_below [] up i h = absurd (omega arith)
+few_below (y ∷ ys) up zero h = omega (arith, none_below y (y ∷ ys) (all_with y y ys (omega arith) up.0))
+few_below (y ∷ ys) up (suc i) h =
+    let x : ℕ = get_or ys i 0 in
+    omega (arith, count_cons (λ z. ltb z x) y ys, ltb_one y x, few_below ys up.1 i (omega arith))
+
+pub more_not_above : (ys : List ℕ) → Ascends ys → (i : ℕ) → i < length ys → i < count_by (λ y. leb y (get_or ys i 0)) ys
+more_not_above [] up i h = absurd (omega arith)
+more_not_above (y ∷ ys) up zero h = omega (arith, count_cons (λ z. leb z y) y ys, leb_some y y (omega arith))
+more_not_above (y ∷ ys) up (suc i) h =
+    let x : ℕ = get_or ys i 0 in
+    omega (arith, count_cons (λ z. leb z x) y ys, leb_some y x (up.0 i 0 (omega arith)), more_not_above ys up.1 i (omega arith))
+
+-- the member at place i in ascending order is member i by size
+at_kth : (xs : List ℕ) (i : ℕ) → i < length xs → IsKth xs i (get_or (by_size xs) i 0)
+at_kth xs i h =
+    let ys : List ℕ = by_size xs in
+    let up = ascends_by_size xs in
+    let low : i < length ys = omega (arith, length-by_size xs) in
+    let x : ℕ = get_or ys i 0 in
+    record {
+      less = omega (arith, few_below ys up i low, count_by_size (λ y. ltb y x) xs);
+      more = omega (arith, more_not_above ys up i low, count_by_size (λ y. leb y x) xs);
+    }
+
+pub place_kth : (xs : List ℕ) (i x : ℕ) → i < length xs → x ≡ get_or (by_size xs) i 0 → IsKth xs i x
+place_kth xs i x h is = let P : ℕ → Type 0 = λ y. IsKth xs i y in subst P (sym is) (at_kth xs i h)
+
 -- ---- laws
 
 all_up_to : (ys : List ℕ) → Ascends ys → (i j : ℕ) (d : ℕ) → i ≤ j → j < length ys → get_or ys i d ≤ get_or ys j d
@@ -142,8 +186,36 @@ by_size_ascends xs = all_up_to (by_size xs) (ascends_by_size xs)
 
 pub ruleset ascending = (by_size_ascends)
 
+kth_within : (xs : List ℕ) (i x : ℕ) → IsKth xs i x → i < length xs
+kth_within xs i x kth = omega (arith, kth.more, count_by-le-length (λ z. leb z x) xs)
+
+pub kth_place : (xs : List ℕ) (i x : ℕ) → IsKth xs i x → x ≡ get_or (by_size xs) i 0
+kth_place xs i x kth = sym (kth_at xs i x (kth_within xs i x kth) kth)
+
 -- a list has one member of each number by size
 pub one_kth : (xs : List ℕ) (i x y : ℕ) → IsKth xs i x → IsKth xs i y → x ≡ y
-one_kth xs i x y k m =
-    let h : i < length xs = omega (arith, k.more, count_by-le-length (λ z. leb z x) xs) in
-    sym (kth_at xs i x h k) ∙ kth_at xs i y h m
+one_kth xs i x y k m = kth_place xs i x k ∙ sym (kth_place xs i y m)
+
+pub kth_some : (xs : List ℕ) (i x : ℕ) → i < length xs → x ≡ get_or (by_size xs) i 0 → kth_by_size xs i ≡ Some x
+unfolding kth_by_size
+kth_some xs i x h is = slice_get-get_or (by_size xs) i 0 (omega (arith, length-by_size xs)) ∙ ap Some (sym is)
+
+pub kth_item : (xs : List ℕ) (i : ℕ) → i < length xs → kth_by_size xs i ≡ Some (get_or (by_size xs) i 0)
+kth_item xs i h = kth_some xs i (get_or (by_size xs) i 0) h refl
+
+pub kth_none : (xs : List ℕ) (i : ℕ) → length xs ≤ i → kth_by_size xs i ≡ None
+unfolding kth_by_size
+kth_none xs i h = slice_get_past (by_size xs) i (omega (arith, length-by_size xs))
+
+-- a number is member i by size just where the definition gives it
+kth_by_size-kth : (xs : List ℕ) (i x : ℕ) → IsKth xs i x → kth_by_size xs i ≡ Some x
+kth_by_size-kth xs i x kth = kth_some xs i x (kth_within xs i x kth) (kth_place xs i x kth)
+
+kth-kth_by_size : (xs : List ℕ) (i x : ℕ) → kth_by_size xs i ≡ Some x → IsKth xs i x
+unfolding kth_by_size
+kth-kth_by_size xs i x is =
+    let h : i < length xs = omega (arith, slice_get_within (by_size xs) i x is, length-by_size xs) in
+    place_kth xs i x h (sym (get_or_from_slice_get (by_size xs) i x 0 is))
+
+pub kth_is : (xs : List ℕ) (i x : ℕ) → (kth_by_size xs i ≡ Some x) ↔ IsKth xs i x
+kth_is xs i x = (kth-kth_by_size xs i x, kth_by_size-kth xs i x)

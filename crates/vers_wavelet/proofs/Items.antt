@@ -1,21 +1,18 @@
 -- The items of the iterators over symbols.
-use Rattle.std.proofs.Common.{◌≡◌, ℕ, ◌-◌, ◌<◌, Bool, true, false, List, [], length, refl, sym, ap, ◌∙◌, subst, arith, slice_get, Some}
+use Rattle.std.proofs.Common.{◌≡◌, ℕ, ◌-◌, ◌<◌, Bool, true, false, List, [], length, refl, sym, ap, ◌∙◌, arith, slice_get, Some}
 use Rattle.std.specs.Prelude.{slice_range, slice_index}
 use Rattle.std.proofs.lemmas.List.{length-map, get_or-map, same_lists, take_all}
 use Rattle.std.proofs.lemmas.Option.{slice_get-get_or, unwrap_or-slice_get}
 use Rattle.vers_bits.specs.Bits.{number, low_bits}
 use Rattle.vers_bits.proofs.PublicLaws.{length-low_bits, number-low_bits, any_default}
 use Rattle.vers_wavelet.specs.Levels.{digit}
-use Rattle.vers_wavelet.specs.Symbols.{by_size, ordered, in_bits, IsKth}
+use Rattle.vers_wavelet.specs.Symbols.{by_size, ordered, in_bits}
 use Rattle.vers_wavelet.proofs.Digits.{list_digit, whole_symbol}
-use Rattle.vers_wavelet.proofs.BySize.{length-by_size, kth_at}
+use Rattle.vers_wavelet.proofs.BySize.{length-by_size}
 
 -- the range of all places
 pub whole_range : (xs : List ℕ) → slice_range xs 0 (length xs) ≡ xs
 whole_range xs = take_all (length xs - 0) xs (omega arith)
-
-pub kth_of_all : (xs : List ℕ) (i x : ℕ) → IsKth (slice_range xs 0 (length xs)) i x → IsKth xs i x
-kth_of_all xs i x kth = subst (λ (ys : List ℕ). IsKth ys i x) (whole_range xs) kth
 
 -- ---- items that are numbers
 pub number_item : (xs : List ℕ) (i x : ℕ) → i < length xs → x ≡ slice_index xs i → slice_get xs i ≡ Some x
@@ -26,8 +23,8 @@ length-ordered true xs = length-by_size xs
 length-ordered false xs = refl
 
 -- member i of all symbols by size
-pub sorted_member : (xs : List ℕ) (i x n : ℕ) → i < length xs → n ≡ length xs → IsKth (slice_range xs 0 n) i x → x ≡ slice_index (by_size xs) i
-sorted_member xs i x n h e kth = sym (kth_at xs i x h (kth_of_all xs i x (subst (λ (m : ℕ). IsKth (slice_range xs 0 m) i x) e kth)))
+pub sorted_member : (xs : List ℕ) (i x n : ℕ) → n ≡ length xs → x ≡ slice_index (by_size (slice_range xs 0 n)) i → x ≡ slice_index (by_size xs) i
+sorted_member xs i x n e is = is ∙ ap (λ l. slice_index (by_size l) i) (ap (slice_range xs 0) e ∙ whole_range xs)
 
 -- ---- items that are lists of bits
 
@@ -52,7 +49,5 @@ list_item xs k i l h long is =
 pub ruleset numbers = (length-ordered, number_item)
 
 pub ruleset lists = (length-in_bits, length-ordered, list_item)
-
-pub ruleset all_places = (kth_of_all)
 
 pub ruleset found = (unwrap_or-slice_get)

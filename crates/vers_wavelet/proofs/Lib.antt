@@ -6,6 +6,8 @@ pub mod Lists
 pub mod Makes
 pub mod BySize
 pub mod Items
+pub mod Ranges
+pub mod Nearest
 pub mod Sizes
 pub mod Gathering
 pub mod Sources

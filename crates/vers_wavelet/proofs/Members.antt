@@ -1,5 +1,5 @@
 -- Neighbours of a number in a list, as members by size.
-use Rattle.std.proofs.Common.{◌≡◌, ℕ, zero, suc, ◌+◌, ◌-◌, ◌<◌, ◌≤◌, Bool, true, false, true≢false, cond, not, subst, ltb, leb, List, [], ◌∷◌, length, drop, get_or, refl, sym, ◌∙◌, arith, inl, inr}
+use Rattle.std.proofs.Common.{◌≡◌, ℕ, zero, suc, ◌+◌, ◌-◌, ◌<◌, ◌≤◌, Bool, true, false, true≢false, cond, ltb, leb, List, [], ◌∷◌, length, drop, get_or, refl, sym, ◌∙◌, arith, inl, inr}
 use Rattle.std.specs.Prelude.{Contains, Any, slice_range}
 use Rattle.std.specs.List.{count_by}
 use Rattle.std.proofs.lemmas.Bool.{cases_lt}
@@ -7,8 +7,7 @@ use Rattle.std.proofs.lemmas.Bool.Decides.{nat_tests}
 use Rattle.std.proofs.lemmas.List.{length-take, length-drop}
 use Rattle.std.proofs.lemmas.List.Sums.{sum_by-cons, sum_by-le-sum_by}
 use Rattle.vers_bits.proofs.PublicLaws.{any_default}
-use mir.Val.{bool_byte}
-use Rattle.vers_wavelet.specs.Symbols.{IsKth, IsPredecessor, IsSuccessor, IsNearest, IsBeyond}
+use Rattle.vers_wavelet.specs.Symbols.{IsKth, IsPredecessor, IsSuccessor}
 
 -- a test as a number
 abbrev pub one : Bool → ℕ
@@ -38,10 +37,10 @@ less_between p q up (x ∷ xs) (suc k) h more = omega (arith, count_cons p x xs,
 between_tests : (y x : ℕ) → one (ltb y x) < one (leb y x) → y ≡ x
 between_tests y x h = grind (arith, nat_tests)
 
-leb_up : (s x y : ℕ) → s ≤ x → one (leb y s) ≤ one (leb y x)
+pub leb_up : (s x y : ℕ) → s ≤ x → one (leb y s) ≤ one (leb y x)
 leb_up s x y h = grind (arith, nat_tests)
 
-ltb_up : (s x y : ℕ) → s ≤ x → one (ltb y s) ≤ one (ltb y x)
+pub ltb_up : (s x y : ℕ) → s ≤ x → one (ltb y s) ≤ one (ltb y x)
 ltb_up s x y h = grind (arith, nat_tests)
 
 leb_ltb : (s x y : ℕ) → s < x → one (leb y s) ≤ one (ltb y x)
@@ -59,7 +58,7 @@ leb_from s y h = grind (arith, nat_tests)
 pub ltb_not : (s y : ℕ) → one (ltb y s) < 1 → s ≤ y
 ltb_not s y h = grind (arith, nat_tests)
 
-count-le : (p q : ℕ → Bool) (xs : List ℕ) → ((y : ℕ) → one (p y) ≤ one (q y)) → count_by p xs ≤ count_by q xs
+pub count-le : (p q : ℕ → Bool) (xs : List ℕ) → ((y : ℕ) → one (p y) ≤ one (q y)) → count_by p xs ≤ count_by q xs
 count-le p q xs up = sum_by-le-sum_by (λ y. cond (p y) 1 0) (λ y. cond (q y) 1 0) xs up
 
 kth_member : (xs : List ℕ) (i x : ℕ) → IsKth xs i x → Contains xs x
@@ -110,15 +109,8 @@ successor_is xs n s x e kth = record {
 }
 
 -- where some members are s, of `below` below it and `equal` that are it, it is the neighbour on both sides
-kth_same : (xs : List ℕ) (below equal s : ℕ) → below ≡ count_by (λ y. ltb y s) xs → below + equal ≡ count_by (λ y. leb y s) xs → 0 < equal → (i : ℕ) → below ≤ i → i < below + equal → IsKth xs i s
+pub kth_same : (xs : List ℕ) (below equal s : ℕ) → below ≡ count_by (λ y. ltb y s) xs → below + equal ≡ count_by (λ y. leb y s) xs → 0 < equal → (i : ℕ) → below ≤ i → i < below + equal → IsKth xs i s
 kth_same xs below equal s low high some i from to = record { less = omega (arith, low); more = omega (arith, high) }
-
-pub predecessor_same : (xs : List ℕ) (below equal s x : ℕ) → below ≡ count_by (λ y. ltb y s) xs → below + equal ≡ count_by (λ y. leb y s) xs → 0 < equal → x ≡ s → IsPredecessor xs s x
-predecessor_same xs below equal s x low high some is =
-    rw is (predecessor_is xs (below + equal) s s high (omega arith) (kth_same xs below equal s low high some (below + equal - 1) (omega arith) (omega arith)))
-
-pub successor_same : (xs : List ℕ) (below equal s x : ℕ) → below ≡ count_by (λ y. ltb y s) xs → below + equal ≡ count_by (λ y. leb y s) xs → 0 < equal → x ≡ s → IsSuccessor xs s x
-successor_same xs below equal s x low high some is = rw is (successor_is xs below s s low (kth_same xs below equal s low high some below (omega arith) (omega arith)))
 
 none_count : (xs : List ℕ) → count_by (λ y. false) xs ≡ 0
 none_count [] = refl
@@ -157,22 +149,9 @@ some_not_below xs n s e any =
     let at : s ≤ get_or xs any.0 0 = omega (arith, any_default xs any.0 any.1 0 any.2, any.3, any.4) in
     omega (arith, all_count xs, less_between (λ y. ltb y s) (λ y. true) (λ y. ltb_one y s) xs any.0 any.2 (ltb_none (get_or xs any.0 0) s at))
 
--- a range of a list has as many members as places
-pub part_length : (xs : List ℕ) (a b : ℕ) → a ≤ b → b ≤ length xs → length (slice_range xs a b) ≡ b - a
-part_length xs a b order within = omega (arith, length-take (b - a) (drop a xs), length-drop a xs)
-
--- ---- the neighbour on one side
-pub nearest_same : (up : Bool) (xs : List ℕ) (below equal s x : ℕ) → below ≡ count_by (λ y. ltb y s) xs → below + equal ≡ count_by (λ y. leb y s) xs → 0 < equal → x ≡ s → IsNearest up xs s x
-nearest_same true xs below equal s x low high some is = successor_same xs below equal s x low high some is
-nearest_same false xs below equal s x low high some is = predecessor_same xs below equal s x low high some is
-
-pub any_same : (up : Bool) (xs : List ℕ) (below equal s : ℕ) → below ≡ count_by (λ y. ltb y s) xs → below + equal ≡ count_by (λ y. leb y s) xs → 0 < equal → below + equal ≤ length xs → Any (IsBeyond up s) xs
-any_same true xs below equal s low high some few = any_not_below xs below s low (omega arith)
-any_same false xs below equal s low high some few = any_not_above xs (below + equal) s high (omega arith)
-
-pub nearest_is : (up : Bool) (xs : List ℕ) (below s x i : ℕ) → below ≡ count_by (λ y. ltb y s) xs → below ≡ count_by (λ y. leb y s) xs → (up ≡ false → 0 < below) → i ≡ below - bool_byte (not up) → IsKth xs i x → IsNearest up xs s x
-nearest_is true xs below s x i low high some at kth = successor_is xs below s x low (subst (λ (k : ℕ). IsKth xs k x) (omega (arith, at)) kth)
-nearest_is false xs below s x i low high some at kth = predecessor_is xs below s x high (some refl) (subst (λ (k : ℕ). IsKth xs k x) at kth)
+-- a range that ends within the list has as many members as places
+pub part_length : (xs : List ℕ) (a b : ℕ) → b ≤ length xs → length (slice_range xs a b) ≡ b - a
+part_length xs a b within = omega (arith, length-take (b - a) (drop a xs), length-drop a xs)
 
 pub never : {X : Type 0} → false ≡ true → X
 never {X} e = cc

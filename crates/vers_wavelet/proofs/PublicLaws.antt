@@ -1,13 +1,15 @@
 -- The laws that proofs of other crates may cite. A crate above imports this file and no other of this folder.
-use Rattle.std.proofs.Common.{◌≡◌, ℕ, ◌-◌, ◌^◌, ◌<◌, ◌≤◌, Bool, eqb, List, length, get_or}
-use Rattle.std.specs.Prelude.{slice_range, All}
+use Rattle.std.proofs.Common.{◌≡◌, ℕ, ◌-◌, ◌^◌, ◌<◌, ◌≤◌, ◌+◌, Bool, eqb, List, [], length, get_or, Option, Some, None}
+use Rattle.std.specs.Prelude.{slice_range, All, Any, IsSome, ◌↔◌}
 use Rattle.std.specs.List.{count_by}
 use Rattle.std.specs.List.Sorted.{IsNonDecreasing}
-use Rattle.vers_wavelet.specs.Symbols.{by_size, in_bits, occurrences, IsKth}
+use Rattle.vers_wavelet.specs.Symbols.{by_size, in_bits, occurrences, range_members, kth_by_size, greatest_up_to, least_from, as_word, IsKth, IsPredecessor, IsSuccessor}
 use Rattle.vers_wavelet.specs.Makers.{low_symbols}
 use Rattle.vers_wavelet.proofs.BySize as BySize
 use Rattle.vers_wavelet.proofs.Items as Items
 use Rattle.vers_wavelet.proofs.Members as Members
+use Rattle.vers_wavelet.proofs.Nearest as Nearest
+use Rattle.vers_wavelet.proofs.Ranges as Ranges
 use Rattle.vers_wavelet.proofs.Statements as Statements
 
 -- ---- members by size
@@ -29,9 +31,32 @@ kth_at = BySize.kth_at
 pub one_kth : (xs : List ℕ) (i x y : ℕ) → IsKth xs i x → IsKth xs i y → x ≡ y
 one_kth = BySize.one_kth
 
+-- it is the one that the definition gives
+pub kth_is : (xs : List ℕ) (i x : ℕ) → (kth_by_size xs i ≡ Some x) ↔ IsKth xs i x
+kth_is = BySize.kth_is
+
+pub kth_item : (xs : List ℕ) (i : ℕ) → i < length xs → kth_by_size xs i ≡ Some (get_or (by_size xs) i 0)
+kth_item = BySize.kth_item
+
 -- quantiles in turn list the members in ascending order
 pub quantiles_ascend : (numbers quantiles : List ℕ) → length quantiles ≡ length numbers → ((i : ℕ) → i < length numbers → IsKth numbers i (get_or quantiles i 0)) → quantiles ≡ by_size numbers
 quantiles_ascend = Statements.quantiles_ascend
+
+-- ---- neighbours
+
+-- the greatest member up to a number is the predecessor, and there where some member is not above the number
+pub greatest_up_to_predecessor : (xs : List ℕ) (s x : ℕ) → (greatest_up_to xs s ≡ Some x) ↔ IsPredecessor xs s x
+greatest_up_to_predecessor = Nearest.greatest_up_to_predecessor
+
+pub greatest_up_to_some : (xs : List ℕ) (s : ℕ) → IsSome (greatest_up_to xs s) ↔ Any (λ y. y ≤ s) xs
+greatest_up_to_some = Nearest.greatest_up_to_some
+
+-- the least member from a number on is the successor, and there where some member is not below the number
+pub least_from_successor : (xs : List ℕ) (s x : ℕ) → (least_from xs s ≡ Some x) ↔ IsSuccessor xs s x
+least_from_successor = Nearest.least_from_successor
+
+pub least_from_some : (xs : List ℕ) (s : ℕ) → IsSome (least_from xs s) ↔ Any (λ y. s ≤ y) xs
+least_from_some = Nearest.least_from_some
 
 -- ---- ranges and symbols
 
@@ -47,9 +72,27 @@ occurrences_are_counted = Statements.occurrences_are_counted
 pub whole_range : (xs : List ℕ) → slice_range xs 0 (length xs) ≡ xs
 whole_range = Items.whole_range
 
--- a range has as many members as places
-pub part_length : (xs : List ℕ) (a b : ℕ) → a ≤ b → b ≤ length xs → length (slice_range xs a b) ≡ b - a
+-- a range that ends within the list has as many members as places
+pub part_length : (xs : List ℕ) (a b : ℕ) → b ≤ length xs → length (slice_range xs a b) ≡ b - a
 part_length = Members.part_length
+
+-- the members of a range, by whether it ends within the list
+pub members_inside : (xs : List ℕ) (a b : ℕ) → b ≤ length xs → range_members xs a b ≡ slice_range xs a b
+members_inside = Ranges.members_inside
+
+pub members_past : (xs : List ℕ) (a b : ℕ) → length xs < b → range_members xs a b ≡ []
+members_past = Ranges.members_past
+
+-- a range has a member of a number where it ends within the list and has so many places
+pub range_has_kth : (xs : List ℕ) (a b i : ℕ) → IsSome (kth_by_size (range_members xs a b) i) ↔ (b ≤ length xs) × (a + i < b)
+range_has_kth = Ranges.range_has_kth
+
+-- symbols of at most 64 bits are numbers of the machine, and others none
+pub narrow_word : (width : ℕ) (symbol : Option ℕ) → width ≤ 64 → as_word width symbol ≡ symbol
+narrow_word = Ranges.narrow_word
+
+pub wide_word : (width : ℕ) (symbol : Option ℕ) → 64 < width → as_word width symbol ≡ None
+wide_word = Ranges.wide_word
 
 -- there are as many lists of bits as numbers
 pub length-in_bits : (k : ℕ) (xs : List ℕ) → length (in_bits k xs) ≡ length xs

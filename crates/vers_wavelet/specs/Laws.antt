@@ -1,7 +1,7 @@
 -- The laws of lists of symbols, as statements.
-use Rattle.std.specs.Prelude.{◌≡◌, ℕ, ◌^◌, ◌<◌, ◌≤◌, ◌==◌, Bool, List, length, slice_index, slice_range, count_by, All}
+use Rattle.std.specs.Prelude.{◌≡◌, ℕ, ◌^◌, ◌<◌, ◌≤◌, ◌==◌, Bool, List, length, slice_index, slice_range, count_by, All, Any, Option, Some, None, IsSome, ◌↔◌, ◌+◌}
 use Rattle.std.specs.List.Sorted.{IsNonDecreasing}
-use Rattle.vers_wavelet.specs.Symbols.{by_size, occurrences, IsKth}
+use Rattle.vers_wavelet.specs.Symbols.{by_size, occurrences, range_members, kth_by_size, greatest_up_to, least_from, as_word, IsKth, IsPredecessor, IsSuccessor}
 use Rattle.vers_wavelet.specs.Makers.{low_symbols}
 
 -- in ascending order members ascend
@@ -11,6 +11,44 @@ SortedMembersAscend = (numbers : List ℕ) → IsNonDecreasing (by_size numbers)
 -- ascending order has the same members, each as often
 abbrev pub SortingKeepsMembers : Type 0
 SortingKeepsMembers = (test : ℕ → Bool) (numbers : List ℕ) → count_by test (by_size numbers) ≡ count_by test numbers
+
+-- the member of a number by size is the one that at most so many members are below, and more are not above
+abbrev pub KthBySizeIsKth : Type 0
+KthBySizeIsKth = (numbers : List ℕ) (i x : ℕ) → (kth_by_size numbers i ≡ Some x) ↔ IsKth numbers i x
+
+-- the member of a number by size is the item at that place in ascending order
+abbrev pub KthBySizeIsItem : Type 0
+KthBySizeIsItem = (numbers : List ℕ) (i : ℕ) → i < length numbers → kth_by_size numbers i ≡ Some (slice_index (by_size numbers) i)
+
+-- a range has a member of a number where it ends within the list and has so many places
+abbrev pub RangesHaveMembers : Type 0
+RangesHaveMembers = (numbers : List ℕ) (a b i : ℕ) → IsSome (kth_by_size (range_members numbers a b) i) ↔ (b ≤ length numbers) × (a + i < b)
+
+-- the greatest member up to a number is the predecessor, and is there where some member is not above the number
+abbrev pub GreatestUpToIsPredecessor : Type 0
+GreatestUpToIsPredecessor = (numbers : List ℕ) (s x : ℕ) → (greatest_up_to numbers s ≡ Some x) ↔ IsPredecessor numbers s x
+
+abbrev pub SomeMembersAreUpTo : Type 0
+SomeMembersAreUpTo = (numbers : List ℕ) (s : ℕ) → IsSome (greatest_up_to numbers s) ↔ Any (λ y. y ≤ s) numbers
+
+-- the least member from a number on is the successor, and is there where some member is not below the number
+abbrev pub LeastFromIsSuccessor : Type 0
+LeastFromIsSuccessor = (numbers : List ℕ) (s x : ℕ) → (least_from numbers s ≡ Some x) ↔ IsSuccessor numbers s x
+
+abbrev pub SomeMembersAreFrom : Type 0
+SomeMembersAreFrom = (numbers : List ℕ) (s : ℕ) → IsSome (least_from numbers s) ↔ Any (λ y. s ≤ y) numbers
+
+-- the members of a range that ends within the list are those at its places
+abbrev pub RangesInsideStay : Type 0
+RangesInsideStay = (numbers : List ℕ) (a b : ℕ) → b ≤ length numbers → range_members numbers a b ≡ slice_range numbers a b
+
+-- symbols of at most 64 bits are numbers of the machine
+abbrev pub NarrowSymbolsAreWords : Type 0
+NarrowSymbolsAreWords = (width : ℕ) (symbol : Option ℕ) → width ≤ 64 → as_word width symbol ≡ symbol
+
+-- symbols of more bits are none
+abbrev pub WideSymbolsAreNoWords : Type 0
+WideSymbolsAreNoWords = (width : ℕ) (symbol : Option ℕ) → 64 < width → as_word width symbol ≡ None
 
 -- a list has one member of each number by size
 abbrev pub OneMemberOfANumber : Type 0

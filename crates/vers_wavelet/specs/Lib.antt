@@ -1,4 +1,5 @@
 pub mod Symbols
+pub mod Rows
 pub mod Reads
 pub mod Levels
 pub mod Makers

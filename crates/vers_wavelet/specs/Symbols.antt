@@ -1,8 +1,8 @@
 -- Lists of symbols: where a symbol stands in a range of them, and the members of a range by size.
 -- A symbol is a number; a range from a to b has the members at the places from a on, before b.
-use Rattle.std.specs.Prelude.{ℕ, ◌-◌, ◌<◌, ◌≤◌, ◌==◌, Bool, true, false, List, [], ◌∷◌, length, slice_index, filter, map, count_by, min, nat_lt, nat_le, All, Contains, if◌then◌else◌}
+use Rattle.std.specs.Prelude.{ℕ, ◌-◌, ◌<◌, ◌≤◌, ◌==◌, Bool, true, false, List, [], ◌∷◌, length, slice_index, slice_get, slice_range, filter, find, map, count_by, min, nat_lt, nat_le, All, Contains, Option, None, if◌then◌else◌}
 use Rattle.std.specs.Int.{bit_at}
-use Rattle.std.specs.List.{range_with_len, sum_by}
+use Rattle.std.specs.List.{range_with_len, sum_by, last_or}
 use Rattle.vers_bits.specs.Bits.{low_bits}
 use Rattle.vers_rank.specs.Queries.{index_size}
 
@@ -18,6 +18,41 @@ occurrences items a b s = filter (λ p. slice_index items p == s) (range_with_le
 -- a is a place of the list, and b lies from a up to the length of the list
 abbrev pub BeginsInside : ℕ → ℕ → List ℕ → Type 0
 BeginsInside a b items = (a < length items) × (b ≤ length items) × (a ≤ b)
+
+-- a number among the members of an ascending list, before the first that is not below it
+abbrev pub placed : ℕ → List ℕ → List ℕ
+placed x [] = x ∷ []
+placed x (y ∷ ys) = if nat_le x y then x ∷ y ∷ ys else y ∷ placed x ys
+
+-- the members of a list in ascending order, equal ones too
+abbrev pub by_size : List ℕ → List ℕ
+by_size [] = []
+by_size (x ∷ xs) = placed x (by_size xs)
+
+-- the members of a range, in the order of their places; none of a range that ends past the list
+unfoldable pub range_members : List ℕ → ℕ → ℕ → List ℕ
+range_members items a b = if nat_le b (length items) then slice_range items a b else []
+
+-- member i of a list by size, from 0, equal ones counted; none where there are not so many
+unfoldable pub kth_by_size : List ℕ → ℕ → Option ℕ
+kth_by_size items i = slice_get (by_size items) i
+
+-- the greatest member of a list that is not above s, or none
+unfoldable pub greatest_up_to : List ℕ → ℕ → Option ℕ
+greatest_up_to items s = last_or None (filter (λ y. nat_le y s) (by_size items))
+
+-- the least member of a list that is not below s, or none
+unfoldable pub least_from : List ℕ → ℕ → Option ℕ
+least_from items s = find (λ y. nat_le s y) (by_size items)
+
+-- the least member that is not below s, or, where `up` is false, the greatest that is not above it
+abbrev pub nearest : (up : Bool) → List ℕ → ℕ → Option ℕ
+nearest true items s = least_from items s
+nearest false items s = greatest_up_to items s
+
+-- a symbol as a number of the machine; none where symbols have more than 64 bits
+unfoldable pub as_word : (width : ℕ) → Option ℕ → Option ℕ
+as_word width symbol = if nat_le width 64 then symbol else None
 
 -- x is member i of the list by size, from 0, equal ones counted: at most i members are below x, and more than i are not above x
 pub record IsKth (items : List ℕ) (i x : ℕ) : Type 0 where
@@ -35,26 +70,6 @@ pub record IsSuccessor (items : List ℕ) (s x : ℕ) : Type 0 where
   pub member : Contains items x
   pub within : s ≤ x
   pub least : All (λ y. s ≤ y → x ≤ y) items
-
--- x is the nearest member to s of those that are not below it, or, where `up` is false, of those that are not above it
-abbrev pub IsNearest : (up : Bool) → List ℕ → ℕ → ℕ → Type 0
-IsNearest true items s x = IsSuccessor items s x
-IsNearest false items s x = IsPredecessor items s x
-
--- y is not below s, or, where `up` is false, not above it
-abbrev pub IsBeyond : (up : Bool) → ℕ → ℕ → Type 0
-IsBeyond true s y = s ≤ y
-IsBeyond false s y = y ≤ s
-
--- a number among the members of an ascending list, before the first that is not below it
-abbrev pub placed : ℕ → List ℕ → List ℕ
-placed x [] = x ∷ []
-placed x (y ∷ ys) = if nat_le x y then x ∷ y ∷ ys else y ∷ placed x ys
-
--- the members of a list in ascending order, equal ones too
-abbrev pub by_size : List ℕ → List ℕ
-by_size [] = []
-by_size (x ∷ xs) = placed x (by_size xs)
 
 -- the members of a list in ascending order where that is asked, and else as they stand
 abbrev pub ordered : Bool → List ℕ → List ℕ

@@ -1,6 +1,6 @@
 //! Laws of lists of symbols. Each function does nothing: its contract is the law, and its proof is
 //! checked with the crate.
-ghost use Rattle.vers_wavelet.specs.Laws.{SortedMembersAscend, SortingKeepsMembers, OneMemberOfANumber, QuantilesListMembersBySize, SmallNumbersStay, OccurrencesAreCounted};
+ghost use Rattle.vers_wavelet.specs.Laws.{SortedMembersAscend, SortingKeepsMembers, KthBySizeIsKth, KthBySizeIsItem, RangesHaveMembers, GreatestUpToIsPredecessor, SomeMembersAreUpTo, LeastFromIsSuccessor, SomeMembersAreFrom, RangesInsideStay, NarrowSymbolsAreWords, WideSymbolsAreNoWords, OneMemberOfANumber, QuantilesListMembersBySize, SmallNumbersStay, OccurrencesAreCounted};
 
 /// In ascending order members ascend.
 #[tactic(auto, using(crate::proofs::BySize::ascending))]
@@ -12,6 +12,59 @@ pub fn sorted_members_ascend()
 #[tactic(auto, using(crate::proofs::BySize::count_by_size))]
 pub fn sorting_keeps_members()
     ensures { SortingKeepsMembers }
+{}
+
+/// The member of a number by size is the one that at most so many members are below, and that more
+/// are not above: where a query gives the member of a number, no other number is it.
+pub fn kth_by_size_is_kth()
+    ensures { KthBySizeIsKth }
+{}
+
+/// The member of a number by size is the item at that place in ascending order.
+pub fn kth_by_size_is_item()
+    ensures { KthBySizeIsItem }
+{}
+
+/// A range has a member of a number where it ends within the list and has so many places.
+pub fn ranges_have_members()
+    ensures { RangesHaveMembers }
+{}
+
+/// The greatest member up to a number is the predecessor: a member that is not above the number,
+/// and no such member is above it.
+pub fn greatest_up_to_is_predecessor()
+    ensures { GreatestUpToIsPredecessor }
+{}
+
+/// There is a greatest member up to a number where some member is not above the number.
+pub fn some_members_are_up_to()
+    ensures { SomeMembersAreUpTo }
+{}
+
+/// The least member from a number on is the successor: a member that is not below the number, and no
+/// such member is below it.
+pub fn least_from_is_successor()
+    ensures { LeastFromIsSuccessor }
+{}
+
+/// There is a least member from a number on where some member is not below the number.
+pub fn some_members_are_from()
+    ensures { SomeMembersAreFrom }
+{}
+
+/// The members of a range that ends within the list are those at its places.
+pub fn ranges_inside_stay()
+    ensures { RangesInsideStay }
+{}
+
+/// Symbols of at most 64 bits are numbers of the machine.
+pub fn narrow_symbols_are_words()
+    ensures { NarrowSymbolsAreWords }
+{}
+
+/// Symbols of more than 64 bits are no numbers of the machine.
+pub fn wide_symbols_are_no_words()
+    ensures { WideSymbolsAreNoWords }
 {}
 
 /// A list has one member of each number by size, so that a quantile is one number.

@@ -1,8 +1,8 @@
 //! The nearest symbols of a range on either side of a symbol.
-ghost use Rattle.std.specs.Prelude.{◌≡◌, ◌≢◌, ◌%◌, ◌^◌, ◌<◌, ◌≤◌, ◌↔◌, length, slice_range, Ok, None, IsSome, IfSome, IfOk, Any};
+ghost use Rattle.std.specs.Prelude.{◌≡◌, ◌≢◌, ◌%◌, ◌^◌, ◌<◌, ◌≤◌, length, option_map, Ok, None, IfSome, IfOk};
 ghost use Rattle.vers_bits.specs.Bits.{number};
 ghost use Rattle.vers_tally.specs.Reads.{AddsAtMost};
-ghost use Rattle.vers_wavelet.specs.Symbols.{IsPredecessor, IsSuccessor};
+ghost use Rattle.vers_wavelet.specs.Symbols.{range_members, greatest_up_to, least_from, as_word};
 ghost use Rattle.vers_wavelet.specs.Reads.{query_reads};
 
 use crate::wavelet::WaveletMatrix;
@@ -11,7 +11,7 @@ use std::ops::Range;
 use vers_bits::bit_vec::BitVec;
 use vers_tally::tally::Tally;
 
-#[tactic(auto, using(crate::proofs::Lists::lists, crate::proofs::Digits::symbols))]
+#[tactic(auto, using(crate::proofs::Lists::lists, crate::proofs::Digits::symbols, crate::proofs::Nearest::neighbours))]
 impl<A: Allocator + Copy> WaveletMatrix<A> {
     /// The greatest symbol of a range that is not above a symbol. None for a symbol of another length,
     /// for a range that is reversed or ends past the end, and where there is no such symbol.
@@ -20,14 +20,10 @@ impl<A: Allocator + Copy> WaveletMatrix<A> {
         range: Range<usize>,
         symbol: &BitVec<A>,
     ) -> Result<Option<BitVec<A>>, AllocError>
-        ensures value { IfOk result (λ o. IfSome o (λ v.
-            IsPredecessor (slice_range self.now.items range.start range.end) (number symbol.now)
-            (number v) × (length v ≡ self.now.width))) }
-        ensures answered { IfOk result (λ o. IsSome o
-            ↔ (length symbol.now ≡ self.now.width) × (range.start ≤ range.end)
-            × (range.end ≤ length self.now.items)
-            × Any (λ y. y ≤ (number symbol.now))
-            (slice_range self.now.items range.start range.end)) }
+        ensures value { length symbol.now ≡ self.now.width → IfOk result (λ o. option_map number o
+            ≡ greatest_up_to (range_members self.now.items range.start range.end)
+            (number symbol.now)) }
+        ensures width { IfOk result (λ o. IfSome o (λ v. length v ≡ self.now.width)) }
         ensures other_width { length symbol.now ≢ self.now.width → result ≡ Ok None }
         ensures past { length self.now.items < range.end → result ≡ Ok None }
         ensures empty { range.end ≤ range.start → result ≡ Ok None }
@@ -45,14 +41,10 @@ impl<A: Allocator + Copy> WaveletMatrix<A> {
         symbol: &BitVec<A>,
         tally: &mut Tally,
     ) -> Result<Option<BitVec<A>>, AllocError>
-        ensures value { IfOk result (λ o. IfSome o (λ v.
-            IsPredecessor (slice_range self.now.items range.start range.end) (number symbol.now)
-            (number v) × (length v ≡ self.now.width))) }
-        ensures answered { IfOk result (λ o. IsSome o
-            ↔ (length symbol.now ≡ self.now.width) × (range.start ≤ range.end)
-            × (range.end ≤ length self.now.items)
-            × Any (λ y. y ≤ (number symbol.now))
-            (slice_range self.now.items range.start range.end)) }
+        ensures value { length symbol.now ≡ self.now.width → IfOk result (λ o. option_map number o
+            ≡ greatest_up_to (range_members self.now.items range.start range.end)
+            (number symbol.now)) }
+        ensures width { IfOk result (λ o. IfSome o (λ v. length v ≡ self.now.width)) }
         ensures other_width { length symbol.now ≢ self.now.width → result ≡ Ok None }
         ensures past { length self.now.items < range.end → result ≡ Ok None }
         ensures empty { range.end ≤ range.start → result ≡ Ok None }
@@ -78,14 +70,10 @@ impl<A: Allocator + Copy> WaveletMatrix<A> {
         range: Range<usize>,
         symbol: &BitVec<A>,
     ) -> Result<Option<BitVec<A>>, AllocError>
-        ensures value { IfOk result (λ o. IfSome o (λ v.
-            IsSuccessor (slice_range self.now.items range.start range.end) (number symbol.now)
-            (number v) × (length v ≡ self.now.width))) }
-        ensures answered { IfOk result (λ o. IsSome o
-            ↔ (length symbol.now ≡ self.now.width) × (range.start ≤ range.end)
-            × (range.end ≤ length self.now.items)
-            × Any (λ y. (number symbol.now)
-            ≤ y) (slice_range self.now.items range.start range.end)) }
+        ensures value { length symbol.now ≡ self.now.width → IfOk result (λ o. option_map number o
+            ≡ least_from (range_members self.now.items range.start range.end)
+            (number symbol.now)) }
+        ensures width { IfOk result (λ o. IfSome o (λ v. length v ≡ self.now.width)) }
         ensures other_width { length symbol.now ≢ self.now.width → result ≡ Ok None }
         ensures past { length self.now.items < range.end → result ≡ Ok None }
         ensures empty { range.end ≤ range.start → result ≡ Ok None }
@@ -103,14 +91,10 @@ impl<A: Allocator + Copy> WaveletMatrix<A> {
         symbol: &BitVec<A>,
         tally: &mut Tally,
     ) -> Result<Option<BitVec<A>>, AllocError>
-        ensures value { IfOk result (λ o. IfSome o (λ v.
-            IsSuccessor (slice_range self.now.items range.start range.end) (number symbol.now)
-            (number v) × (length v ≡ self.now.width))) }
-        ensures answered { IfOk result (λ o. IsSome o
-            ↔ (length symbol.now ≡ self.now.width) × (range.start ≤ range.end)
-            × (range.end ≤ length self.now.items)
-            × Any (λ y. (number symbol.now)
-            ≤ y) (slice_range self.now.items range.start range.end)) }
+        ensures value { length symbol.now ≡ self.now.width → IfOk result (λ o. option_map number o
+            ≡ least_from (range_members self.now.items range.start range.end)
+            (number symbol.now)) }
+        ensures width { IfOk result (λ o. IfSome o (λ v. length v ≡ self.now.width)) }
         ensures other_width { length symbol.now ≢ self.now.width → result ≡ Ok None }
         ensures past { length self.now.items < range.end → result ≡ Ok None }
         ensures empty { range.end ≤ range.start → result ≡ Ok None }
@@ -133,12 +117,9 @@ impl<A: Allocator + Copy> WaveletMatrix<A> {
     /// where the symbols have more than 64 bits, for a range that is reversed or ends past the end, and
     /// where there is no such symbol.
     pub fn predecessor_u64(&self, range: Range<usize>, symbol: u64) -> Option<u64>
-        ensures value { IfSome result (λ x. IsPredecessor
-            (slice_range self.now.items range.start range.end) (symbol % 2 ^ self.now.width) x) }
-        ensures answered { IsSome result ↔ (self.now.width ≤ 64) × (range.start ≤ range.end)
-            × (range.end ≤ length self.now.items)
-            × Any (λ y. y ≤ (symbol % 2 ^ self.now.width))
-            (slice_range self.now.items range.start range.end) }
+        ensures { result ≡ as_word self.now.width
+            (greatest_up_to (range_members self.now.items range.start range.end)
+            (symbol % 2 ^ self.now.width)) }
     {
         let mut tally = Tally::new();
         self.predecessor_u64_counted(range, symbol, &mut tally)
@@ -153,12 +134,9 @@ impl<A: Allocator + Copy> WaveletMatrix<A> {
         symbol: u64,
         tally: &mut Tally,
     ) -> Option<u64>
-        ensures value { IfSome result (λ x. IsPredecessor
-            (slice_range self.now.items range.start range.end) (symbol % 2 ^ self.now.width) x) }
-        ensures answered { IsSome result ↔ (self.now.width ≤ 64) × (range.start ≤ range.end)
-            × (range.end ≤ length self.now.items)
-            × Any (λ y. y ≤ (symbol % 2 ^ self.now.width))
-            (slice_range self.now.items range.start range.end) }
+        ensures value { result ≡ as_word self.now.width
+            (greatest_up_to (range_members self.now.items range.start range.end)
+            (symbol % 2 ^ self.now.width)) }
         ensures adds { AddsAtMost tally.old tally.new (query_reads self.now) }
     {
         if !self.fits_word() || range.start > range.end || range.end > self.len() {
@@ -175,12 +153,9 @@ impl<A: Allocator + Copy> WaveletMatrix<A> {
     /// where the symbols have more than 64 bits, for a range that is reversed or ends past the end, and
     /// where there is no such symbol.
     pub fn successor_u64(&self, range: Range<usize>, symbol: u64) -> Option<u64>
-        ensures value { IfSome result (λ x. IsSuccessor
-            (slice_range self.now.items range.start range.end) (symbol % 2 ^ self.now.width) x) }
-        ensures answered { IsSome result ↔ (self.now.width ≤ 64) × (range.start ≤ range.end)
-            × (range.end ≤ length self.now.items)
-            × Any (λ y. (symbol % 2 ^ self.now.width)
-            ≤ y) (slice_range self.now.items range.start range.end) }
+        ensures { result ≡ as_word self.now.width
+            (least_from (range_members self.now.items range.start range.end)
+            (symbol % 2 ^ self.now.width)) }
     {
         let mut tally = Tally::new();
         self.successor_u64_counted(range, symbol, &mut tally)
@@ -195,12 +170,9 @@ impl<A: Allocator + Copy> WaveletMatrix<A> {
         symbol: u64,
         tally: &mut Tally,
     ) -> Option<u64>
-        ensures value { IfSome result (λ x. IsSuccessor
-            (slice_range self.now.items range.start range.end) (symbol % 2 ^ self.now.width) x) }
-        ensures answered { IsSome result ↔ (self.now.width ≤ 64) × (range.start ≤ range.end)
-            × (range.end ≤ length self.now.items)
-            × Any (λ y. (symbol % 2 ^ self.now.width)
-            ≤ y) (slice_range self.now.items range.start range.end) }
+        ensures value { result ≡ as_word self.now.width
+            (least_from (range_members self.now.items range.start range.end)
+            (symbol % 2 ^ self.now.width)) }
         ensures adds { AddsAtMost tally.old tally.new (query_reads self.now) }
     {
         if !self.fits_word() || range.start > range.end || range.end > self.len() {

@@ -1,8 +1,8 @@
 //! Members of a range by size.
-ghost use Rattle.std.specs.Prelude.{◌≡◌, ℕ, ◌+◌, ◌-◌, ◌/◌, ◌<◌, ◌≤◌, ◌↔◌, length, slice_range, Ok, None, IsSome, IfSome, IfOk};
+ghost use Rattle.std.specs.Prelude.{◌≡◌, ℕ, ◌+◌, ◌-◌, ◌/◌, ◌<◌, ◌≤◌, length, slice_index, slice_range, option_map, Ok, None, IfSome, IfOk};
 ghost use Rattle.vers_bits.specs.Bits.{number};
 ghost use Rattle.vers_tally.specs.Reads.{AddsAtMost};
-ghost use Rattle.vers_wavelet.specs.Symbols.{IsKth};
+ghost use Rattle.vers_wavelet.specs.Symbols.{by_size, range_members, kth_by_size, as_word};
 ghost use Rattle.vers_wavelet.specs.Reads.{query_reads};
 
 use crate::wavelet::WaveletMatrix;
@@ -11,16 +11,14 @@ use std::ops::Range;
 use vers_bits::bit_vec::BitVec;
 use vers_tally::tally::Tally;
 
-#[tactic(auto, using(crate::proofs::Lists::lists, crate::proofs::Digits::symbols, crate::proofs::Items::all_places))]
+#[tactic(auto, using(crate::proofs::Lists::lists, crate::proofs::Digits::symbols, crate::proofs::Ranges::members))]
 impl<A: Allocator + Copy> WaveletMatrix<A> {
     /// Member `i` of a range by size, counted from 0, equal ones too. None for a range that ends past
     /// the end, and where the range has not so many places.
     pub fn quantile(&self, range: Range<usize>, i: usize) -> Result<Option<BitVec<A>>, AllocError>
-        ensures value { IfOk result (λ o. IfSome o (λ v.
-            IsKth (slice_range self.now.items range.start range.end) i (number v)
-            × (length v ≡ self.now.width))) }
-        ensures answered { IfOk result (λ o. IsSome o
-            ↔ (range.end ≤ length self.now.items) × (range.start + i < range.end)) }
+        ensures value { IfOk result (λ o. option_map number o
+            ≡ kth_by_size (range_members self.now.items range.start range.end) i) }
+        ensures width { IfOk result (λ o. IfSome o (λ v. length v ≡ self.now.width)) }
         ensures past { length self.now.items < range.end → result ≡ Ok None }
         ensures few { range.end ≤ range.start + i → result ≡ Ok None }
     {
@@ -37,11 +35,9 @@ impl<A: Allocator + Copy> WaveletMatrix<A> {
         i: usize,
         tally: &mut Tally,
     ) -> Result<Option<BitVec<A>>, AllocError>
-        ensures value { IfOk result (λ o. IfSome o (λ v.
-            IsKth (slice_range self.now.items range.start range.end) i (number v)
-            × (length v ≡ self.now.width))) }
-        ensures answered { IfOk result (λ o. IsSome o
-            ↔ (range.end ≤ length self.now.items) × (range.start + i < range.end)) }
+        ensures value { IfOk result (λ o. option_map number o
+            ≡ kth_by_size (range_members self.now.items range.start range.end) i) }
+        ensures width { IfOk result (λ o. IfSome o (λ v. length v ≡ self.now.width)) }
         ensures past { length self.now.items < range.end → result ≡ Ok None }
         ensures few { range.end ≤ range.start + i → result ≡ Ok None }
         ensures adds { AddsAtMost tally.old tally.new (query_reads self.now) }
@@ -58,8 +54,9 @@ impl<A: Allocator + Copy> WaveletMatrix<A> {
     pub fn quantile_unchecked(&self, range: Range<usize>, i: usize) -> Result<BitVec<A>, AllocError>
         requires order { range.start + i < range.end }
         requires within { range.end ≤ length self.now.items }
-        ensures { IfOk result (λ v. IsKth (slice_range self.now.items range.start range.end) i
-            (number v) × (length v ≡ self.now.width)) }
+        ensures { IfOk result (λ v. (number v ≡ slice_index
+            (by_size (slice_range self.now.items range.start range.end)) i)
+            × (length v ≡ self.now.width)) }
     {
         let mut tally = Tally::new();
         let mut answer = self.zero_symbol()?;
@@ -70,9 +67,8 @@ impl<A: Allocator + Copy> WaveletMatrix<A> {
     /// Member `i` of all symbols by size, counted from 0, equal ones too. None where there are not so
     /// many.
     pub fn get_sorted(&self, i: usize) -> Result<Option<BitVec<A>>, AllocError>
-        ensures value { IfOk result (λ o. IfSome o (λ v.
-            IsKth self.now.items i (number v) × (length v ≡ self.now.width))) }
-        ensures answered { IfOk result (λ o. IsSome o ↔ (i < length self.now.items)) }
+        ensures value { IfOk result (λ o. option_map number o ≡ kth_by_size self.now.items i) }
+        ensures width { IfOk result (λ o. IfSome o (λ v. length v ≡ self.now.width)) }
         ensures past { length self.now.items ≤ i → result ≡ Ok None }
     {
         let mut tally = Tally::new();
@@ -87,9 +83,8 @@ impl<A: Allocator + Copy> WaveletMatrix<A> {
         i: usize,
         tally: &mut Tally,
     ) -> Result<Option<BitVec<A>>, AllocError>
-        ensures value { IfOk result (λ o. IfSome o (λ v.
-            IsKth self.now.items i (number v) × (length v ≡ self.now.width))) }
-        ensures answered { IfOk result (λ o. IsSome o ↔ (i < length self.now.items)) }
+        ensures value { IfOk result (λ o. option_map number o ≡ kth_by_size self.now.items i) }
+        ensures width { IfOk result (λ o. IfSome o (λ v. length v ≡ self.now.width)) }
         ensures past { length self.now.items ≤ i → result ≡ Ok None }
         ensures adds { AddsAtMost tally.old tally.new (query_reads self.now) }
     {
@@ -99,7 +94,7 @@ impl<A: Allocator + Copy> WaveletMatrix<A> {
     /// Member `i` of all symbols by size, counted from 0, equal ones too.
     pub fn get_sorted_unchecked(&self, i: usize) -> Result<BitVec<A>, AllocError>
         requires within { i < length self.now.items }
-        ensures { IfOk result (λ v. IsKth self.now.items i (number v)
+        ensures { IfOk result (λ v. (number v ≡ slice_index (by_size self.now.items) i)
             × (length v ≡ self.now.width)) }
     {
         self.quantile_unchecked(0..self.len(), i)
@@ -107,11 +102,9 @@ impl<A: Allocator + Copy> WaveletMatrix<A> {
 
     /// The least symbol of a range. None for a range that is empty, reversed or ends past the end.
     pub fn range_min(&self, range: Range<usize>) -> Result<Option<BitVec<A>>, AllocError>
-        ensures value { IfOk result (λ o. IfSome o (λ v.
-            IsKth (slice_range self.now.items range.start range.end) 0 (number v)
-            × (length v ≡ self.now.width))) }
-        ensures answered { IfOk result (λ o. IsSome o
-            ↔ (range.start < range.end) × (range.end ≤ length self.now.items)) }
+        ensures value { IfOk result (λ o. option_map number o
+            ≡ kth_by_size (range_members self.now.items range.start range.end) 0) }
+        ensures width { IfOk result (λ o. IfSome o (λ v. length v ≡ self.now.width)) }
         ensures past { length self.now.items < range.end → result ≡ Ok None }
         ensures empty { range.end ≤ range.start → result ≡ Ok None }
     {
@@ -127,11 +120,9 @@ impl<A: Allocator + Copy> WaveletMatrix<A> {
         range: Range<usize>,
         tally: &mut Tally,
     ) -> Result<Option<BitVec<A>>, AllocError>
-        ensures value { IfOk result (λ o. IfSome o (λ v.
-            IsKth (slice_range self.now.items range.start range.end) 0 (number v)
-            × (length v ≡ self.now.width))) }
-        ensures answered { IfOk result (λ o. IsSome o
-            ↔ (range.start < range.end) × (range.end ≤ length self.now.items)) }
+        ensures value { IfOk result (λ o. option_map number o
+            ≡ kth_by_size (range_members self.now.items range.start range.end) 0) }
+        ensures width { IfOk result (λ o. IfSome o (λ v. length v ≡ self.now.width)) }
         ensures past { length self.now.items < range.end → result ≡ Ok None }
         ensures empty { range.end ≤ range.start → result ≡ Ok None }
         ensures adds { AddsAtMost tally.old tally.new (query_reads self.now) }
@@ -143,19 +134,19 @@ impl<A: Allocator + Copy> WaveletMatrix<A> {
     pub fn range_min_unchecked(&self, range: Range<usize>) -> Result<BitVec<A>, AllocError>
         requires order { range.start < range.end }
         requires within { range.end ≤ length self.now.items }
-        ensures { IfOk result (λ v. IsKth (slice_range self.now.items range.start range.end) 0
-            (number v) × (length v ≡ self.now.width)) }
+        ensures { IfOk result (λ v. (number v ≡ slice_index
+            (by_size (slice_range self.now.items range.start range.end)) 0)
+            × (length v ≡ self.now.width)) }
     {
         self.quantile_unchecked(range, 0)
     }
 
     /// The greatest symbol of a range. None for a range that is empty, reversed or ends past the end.
     pub fn range_max(&self, range: Range<usize>) -> Result<Option<BitVec<A>>, AllocError>
-        ensures value { IfOk result (λ o. IfSome o (λ v.
-            IsKth (slice_range self.now.items range.start range.end) (range.end - range.start - 1)
-            (number v) × (length v ≡ self.now.width))) }
-        ensures answered { IfOk result (λ o. IsSome o
-            ↔ (range.start < range.end) × (range.end ≤ length self.now.items)) }
+        ensures value { IfOk result (λ o. option_map number o
+            ≡ kth_by_size (range_members self.now.items range.start range.end)
+            (range.end - range.start - 1)) }
+        ensures width { IfOk result (λ o. IfSome o (λ v. length v ≡ self.now.width)) }
         ensures past { length self.now.items < range.end → result ≡ Ok None }
         ensures empty { range.end ≤ range.start → result ≡ Ok None }
     {
@@ -171,11 +162,10 @@ impl<A: Allocator + Copy> WaveletMatrix<A> {
         range: Range<usize>,
         tally: &mut Tally,
     ) -> Result<Option<BitVec<A>>, AllocError>
-        ensures value { IfOk result (λ o. IfSome o (λ v.
-            IsKth (slice_range self.now.items range.start range.end) (range.end - range.start - 1)
-            (number v) × (length v ≡ self.now.width))) }
-        ensures answered { IfOk result (λ o. IsSome o
-            ↔ (range.start < range.end) × (range.end ≤ length self.now.items)) }
+        ensures value { IfOk result (λ o. option_map number o
+            ≡ kth_by_size (range_members self.now.items range.start range.end)
+            (range.end - range.start - 1)) }
+        ensures width { IfOk result (λ o. IfSome o (λ v. length v ≡ self.now.width)) }
         ensures past { length self.now.items < range.end → result ≡ Ok None }
         ensures empty { range.end ≤ range.start → result ≡ Ok None }
         ensures adds { AddsAtMost tally.old tally.new (query_reads self.now) }
@@ -191,8 +181,10 @@ impl<A: Allocator + Copy> WaveletMatrix<A> {
     pub fn range_max_unchecked(&self, range: Range<usize>) -> Result<BitVec<A>, AllocError>
         requires order { range.start < range.end }
         requires within { range.end ≤ length self.now.items }
-        ensures { IfOk result (λ v. IsKth (slice_range self.now.items range.start range.end)
-            (range.end - range.start - 1) (number v) × (length v ≡ self.now.width)) }
+        ensures { IfOk result (λ v. (number v ≡ slice_index
+            (by_size (slice_range self.now.items range.start range.end))
+            (range.end - range.start - 1))
+            × (length v ≡ self.now.width)) }
     {
         let last = range.end - range.start - 1;
         self.quantile_unchecked(range, last)
@@ -201,11 +193,10 @@ impl<A: Allocator + Copy> WaveletMatrix<A> {
     /// The symbol in the middle of a range by size, the lower one of two. None for a range that is
     /// empty, reversed or ends past the end.
     pub fn range_median(&self, range: Range<usize>) -> Result<Option<BitVec<A>>, AllocError>
-        ensures value { IfOk result (λ o. IfSome o (λ v.
-            IsKth (slice_range self.now.items range.start range.end)
-            ((range.end - 1 - range.start) / 2) (number v) × (length v ≡ self.now.width))) }
-        ensures answered { IfOk result (λ o. IsSome o
-            ↔ (range.start < range.end) × (range.end ≤ length self.now.items)) }
+        ensures value { IfOk result (λ o. option_map number o
+            ≡ kth_by_size (range_members self.now.items range.start range.end)
+            ((range.end - 1 - range.start) / 2)) }
+        ensures width { IfOk result (λ o. IfSome o (λ v. length v ≡ self.now.width)) }
         ensures past { length self.now.items < range.end → result ≡ Ok None }
         ensures empty { range.end ≤ range.start → result ≡ Ok None }
     {
@@ -221,11 +212,10 @@ impl<A: Allocator + Copy> WaveletMatrix<A> {
         range: Range<usize>,
         tally: &mut Tally,
     ) -> Result<Option<BitVec<A>>, AllocError>
-        ensures value { IfOk result (λ o. IfSome o (λ v.
-            IsKth (slice_range self.now.items range.start range.end)
-            ((range.end - 1 - range.start) / 2) (number v) × (length v ≡ self.now.width))) }
-        ensures answered { IfOk result (λ o. IsSome o
-            ↔ (range.start < range.end) × (range.end ≤ length self.now.items)) }
+        ensures value { IfOk result (λ o. option_map number o
+            ≡ kth_by_size (range_members self.now.items range.start range.end)
+            ((range.end - 1 - range.start) / 2)) }
+        ensures width { IfOk result (λ o. IfSome o (λ v. length v ≡ self.now.width)) }
         ensures past { length self.now.items < range.end → result ≡ Ok None }
         ensures empty { range.end ≤ range.start → result ≡ Ok None }
         ensures adds { AddsAtMost tally.old tally.new (query_reads self.now) }
@@ -242,8 +232,10 @@ impl<A: Allocator + Copy> WaveletMatrix<A> {
     pub fn range_median_unchecked(&self, range: Range<usize>) -> Result<BitVec<A>, AllocError>
         requires order { range.start < range.end }
         requires within { range.end ≤ length self.now.items }
-        ensures { IfOk result (λ v. IsKth (slice_range self.now.items range.start range.end)
-            ((range.end - 1 - range.start) / 2) (number v) × (length v ≡ self.now.width)) }
+        ensures { IfOk result (λ v. (number v ≡ slice_index
+            (by_size (slice_range self.now.items range.start range.end))
+            ((range.end - 1 - range.start) / 2))
+            × (length v ≡ self.now.width)) }
     {
         let middle = (range.end - 1 - range.start) / 2;
         self.quantile_unchecked(range, middle)
@@ -252,10 +244,8 @@ impl<A: Allocator + Copy> WaveletMatrix<A> {
     /// Member `i` of a range by size, counted from 0, equal ones too. None where the symbols have more
     /// than 64 bits, for a range that ends past the end, and where the range has not so many places.
     pub fn quantile_u64(&self, range: Range<usize>, i: usize) -> Option<u64>
-        ensures value { IfSome result (λ x. IsKth (slice_range self.now.items range.start range.end)
-            i x) }
-        ensures answered { IsSome result ↔ (self.now.width ≤ 64)
-            × (range.end ≤ length self.now.items) × (range.start + i < range.end) }
+        ensures { result ≡ as_word self.now.width
+            (kth_by_size (range_members self.now.items range.start range.end) i) }
     {
         let mut tally = Tally::new();
         self.quantile_u64_counted(range, i, &mut tally)
@@ -270,10 +260,8 @@ impl<A: Allocator + Copy> WaveletMatrix<A> {
         i: usize,
         tally: &mut Tally,
     ) -> Option<u64>
-        ensures value { IfSome result (λ x. IsKth (slice_range self.now.items range.start range.end)
-            i x) }
-        ensures answered { IsSome result ↔ (self.now.width ≤ 64)
-            × (range.end ≤ length self.now.items) × (range.start + i < range.end) }
+        ensures value { result ≡ as_word self.now.width
+            (kth_by_size (range_members self.now.items range.start range.end) i) }
         ensures adds { AddsAtMost tally.old tally.new (query_reads self.now) }
     {
         if !self.fits_word()
@@ -294,7 +282,8 @@ impl<A: Allocator + Copy> WaveletMatrix<A> {
         requires order { range.start + i < range.end }
         requires within { range.end ≤ length self.now.items }
         requires wide { self.now.width ≤ 64 }
-        ensures { IsKth (slice_range self.now.items range.start range.end) i result }
+        ensures { result ≡ slice_index
+            (by_size (slice_range self.now.items range.start range.end)) i }
     {
         let mut tally = Tally::new();
         let mut answer: u64 = 0;
@@ -305,8 +294,7 @@ impl<A: Allocator + Copy> WaveletMatrix<A> {
     /// Member `i` of all symbols by size, counted from 0, equal ones too. None where the symbols have
     /// more than 64 bits, and where there are not so many.
     pub fn get_sorted_u64(&self, i: usize) -> Option<u64>
-        ensures value { IfSome result (λ x. IsKth self.now.items i x) }
-        ensures answered { IsSome result ↔ (self.now.width ≤ 64) × (i < length self.now.items) }
+        ensures { result ≡ as_word self.now.width (kth_by_size self.now.items i) }
     {
         let mut tally = Tally::new();
         self.get_sorted_u64_counted(i, &mut tally)
@@ -316,8 +304,7 @@ impl<A: Allocator + Copy> WaveletMatrix<A> {
     /// within the reads of one select of a level.
     #[inline(always)]
     pub fn get_sorted_u64_counted(&self, i: usize, tally: &mut Tally) -> Option<u64>
-        ensures value { IfSome result (λ x. IsKth self.now.items i x) }
-        ensures answered { IsSome result ↔ (self.now.width ≤ 64) × (i < length self.now.items) }
+        ensures value { result ≡ as_word self.now.width (kth_by_size self.now.items i) }
         ensures adds { AddsAtMost tally.old tally.new (query_reads self.now) }
     {
         self.quantile_u64_counted(0..self.len(), i, tally)
@@ -328,7 +315,7 @@ impl<A: Allocator + Copy> WaveletMatrix<A> {
     pub fn get_sorted_u64_unchecked(&self, i: usize) -> u64
         requires within { i < length self.now.items }
         requires wide { self.now.width ≤ 64 }
-        ensures { IsKth self.now.items i result }
+        ensures { result ≡ slice_index (by_size self.now.items) i }
     {
         self.quantile_u64_unchecked(0..self.len(), i)
     }
@@ -336,10 +323,8 @@ impl<A: Allocator + Copy> WaveletMatrix<A> {
     /// The least symbol of a range. None where the symbols have more than 64 bits, and for a range that
     /// is empty, reversed or ends past the end.
     pub fn range_min_u64(&self, range: Range<usize>) -> Option<u64>
-        ensures value { IfSome result (λ x. IsKth (slice_range self.now.items range.start range.end)
-            0 x) }
-        ensures answered { IsSome result ↔ (self.now.width ≤ 64) × (range.start < range.end)
-            × (range.end ≤ length self.now.items) }
+        ensures { result ≡ as_word self.now.width
+            (kth_by_size (range_members self.now.items range.start range.end) 0) }
     {
         let mut tally = Tally::new();
         self.range_min_u64_counted(range, &mut tally)
@@ -349,10 +334,8 @@ impl<A: Allocator + Copy> WaveletMatrix<A> {
     /// the reads of one select of a level.
     #[inline(always)]
     pub fn range_min_u64_counted(&self, range: Range<usize>, tally: &mut Tally) -> Option<u64>
-        ensures value { IfSome result (λ x. IsKth (slice_range self.now.items range.start range.end)
-            0 x) }
-        ensures answered { IsSome result ↔ (self.now.width ≤ 64) × (range.start < range.end)
-            × (range.end ≤ length self.now.items) }
+        ensures value { result ≡ as_word self.now.width
+            (kth_by_size (range_members self.now.items range.start range.end) 0) }
         ensures adds { AddsAtMost tally.old tally.new (query_reads self.now) }
     {
         self.quantile_u64_counted(range, 0, tally)
@@ -363,7 +346,8 @@ impl<A: Allocator + Copy> WaveletMatrix<A> {
         requires order { range.start < range.end }
         requires within { range.end ≤ length self.now.items }
         requires wide { self.now.width ≤ 64 }
-        ensures { IsKth (slice_range self.now.items range.start range.end) 0 result }
+        ensures { result ≡ slice_index
+            (by_size (slice_range self.now.items range.start range.end)) 0 }
     {
         self.quantile_u64_unchecked(range, 0)
     }
@@ -371,10 +355,9 @@ impl<A: Allocator + Copy> WaveletMatrix<A> {
     /// The greatest symbol of a range. None where the symbols have more than 64 bits, and for a range
     /// that is empty, reversed or ends past the end.
     pub fn range_max_u64(&self, range: Range<usize>) -> Option<u64>
-        ensures value { IfSome result (λ x. IsKth (slice_range self.now.items range.start range.end)
-            (range.end - range.start - 1) x) }
-        ensures answered { IsSome result ↔ (self.now.width ≤ 64) × (range.start < range.end)
-            × (range.end ≤ length self.now.items) }
+        ensures { result ≡ as_word self.now.width
+            (kth_by_size (range_members self.now.items range.start range.end)
+            (range.end - range.start - 1)) }
     {
         let mut tally = Tally::new();
         self.range_max_u64_counted(range, &mut tally)
@@ -384,10 +367,9 @@ impl<A: Allocator + Copy> WaveletMatrix<A> {
     /// the reads of one select of a level.
     #[inline(always)]
     pub fn range_max_u64_counted(&self, range: Range<usize>, tally: &mut Tally) -> Option<u64>
-        ensures value { IfSome result (λ x. IsKth (slice_range self.now.items range.start range.end)
-            (range.end - range.start - 1) x) }
-        ensures answered { IsSome result ↔ (self.now.width ≤ 64) × (range.start < range.end)
-            × (range.end ≤ length self.now.items) }
+        ensures value { result ≡ as_word self.now.width
+            (kth_by_size (range_members self.now.items range.start range.end)
+            (range.end - range.start - 1)) }
         ensures adds { AddsAtMost tally.old tally.new (query_reads self.now) }
     {
         if range.start >= range.end {
@@ -402,8 +384,9 @@ impl<A: Allocator + Copy> WaveletMatrix<A> {
         requires order { range.start < range.end }
         requires within { range.end ≤ length self.now.items }
         requires wide { self.now.width ≤ 64 }
-        ensures { IsKth (slice_range self.now.items range.start range.end)
-            (range.end - range.start - 1) result }
+        ensures { result ≡ slice_index
+            (by_size (slice_range self.now.items range.start range.end))
+            (range.end - range.start - 1) }
     {
         let last = range.end - range.start - 1;
         self.quantile_u64_unchecked(range, last)
@@ -412,10 +395,9 @@ impl<A: Allocator + Copy> WaveletMatrix<A> {
     /// The symbol in the middle of a range by size, the lower one of two. None where the symbols have
     /// more than 64 bits, and for a range that is empty, reversed or ends past the end.
     pub fn range_median_u64(&self, range: Range<usize>) -> Option<u64>
-        ensures value { IfSome result (λ x. IsKth (slice_range self.now.items range.start range.end)
-            ((range.end - 1 - range.start) / 2) x) }
-        ensures answered { IsSome result ↔ (self.now.width ≤ 64) × (range.start < range.end)
-            × (range.end ≤ length self.now.items) }
+        ensures { result ≡ as_word self.now.width
+            (kth_by_size (range_members self.now.items range.start range.end)
+            ((range.end - 1 - range.start) / 2)) }
     {
         let mut tally = Tally::new();
         self.range_median_u64_counted(range, &mut tally)
@@ -425,10 +407,9 @@ impl<A: Allocator + Copy> WaveletMatrix<A> {
     /// within the reads of one select of a level.
     #[inline(always)]
     pub fn range_median_u64_counted(&self, range: Range<usize>, tally: &mut Tally) -> Option<u64>
-        ensures value { IfSome result (λ x. IsKth (slice_range self.now.items range.start range.end)
-            ((range.end - 1 - range.start) / 2) x) }
-        ensures answered { IsSome result ↔ (self.now.width ≤ 64) × (range.start < range.end)
-            × (range.end ≤ length self.now.items) }
+        ensures value { result ≡ as_word self.now.width
+            (kth_by_size (range_members self.now.items range.start range.end)
+            ((range.end - 1 - range.start) / 2)) }
         ensures adds { AddsAtMost tally.old tally.new (query_reads self.now) }
     {
         if range.start >= range.end {
@@ -444,8 +425,9 @@ impl<A: Allocator + Copy> WaveletMatrix<A> {
         requires order { range.start < range.end }
         requires within { range.end ≤ length self.now.items }
         requires wide { self.now.width ≤ 64 }
-        ensures { IsKth (slice_range self.now.items range.start range.end)
-            ((range.end - 1 - range.start) / 2) result }
+        ensures { result ≡ slice_index
+            (by_size (slice_range self.now.items range.start range.end))
+            ((range.end - 1 - range.start) / 2) }
     {
         let middle = (range.end - 1 - range.start) / 2;
         self.quantile_u64_unchecked(range, middle)

@@ -1,9 +1,9 @@
 //! Queries of a wavelet matrix for symbols of both kinds.
-ghost use Rattle.std.specs.Prelude.{◌≡◌, ℕ, ◌+◌, ◌-◌, ◌*◌, ◌%◌, ◌^◌, ◌<◌, ◌≤◌, ◌↔◌, length, slice_get, slice_index, slice_index_or, slice_range, count_by, nat_lt, nat_le, Some, None, IsTrue, IfOk, Any};
+ghost use Rattle.std.specs.Prelude.{◌≡◌, ℕ, ◌+◌, ◌-◌, ◌*◌, ◌%◌, ◌^◌, ◌<◌, ◌≤◌, ◌↔◌, length, slice_get, slice_index, slice_index_or, slice_range, count_by, nat_lt, nat_le, Some, None, false, IsTrue, IfOk};
 ghost use Rattle.vers_bits.specs.Bits.{number};
 ghost use Rattle.vers_tally.specs.Reads.{AddsAtMost, no_reads, times};
 ghost use Rattle.vers_rank.specs.Queries.{rank_reads};
-ghost use Rattle.vers_wavelet.specs.Symbols.{occurrences, ordered, IsKth, IsNearest, IsBeyond};
+ghost use Rattle.vers_wavelet.specs.Symbols.{occurrences, ordered, by_size, range_members, nearest};
 ghost use Rattle.vers_wavelet.specs.Reads.{query_reads};
 
 use crate::wavelet::WaveletMatrix;
@@ -117,7 +117,8 @@ impl<A: Allocator + Copy> WaveletMatrix<A> {
         requires within { end ≤ length self.now.items }
         requires zero { D.number answer.old ≡ 0 }
         requires wide { self.now.width ≤ D.width answer.old }
-        ensures value { IsKth (slice_range self.now.items start end) i (D.number answer.new) }
+        ensures value { D.number answer.new
+            ≡ slice_index (by_size (slice_range self.now.items start end)) i }
         ensures same { D.width answer.new ≡ D.width answer.old }
         ensures adds { AddsAtMost tally.old tally.new (times (2 * self.now.width) rank_reads) }
     {
@@ -194,10 +195,10 @@ impl<A: Allocator + Copy> WaveletMatrix<A> {
         requires symbol { self.now.width ≤ D.width symbol.now }
         requires zero { D.number answer.old ≡ 0 }
         requires wide { self.now.width ≤ D.width answer.old }
-        ensures value { IsTrue result → IsNearest is_up (slice_range self.now.items start end)
-            (D.number symbol.now % 2 ^ self.now.width) (D.number answer.new) }
-        ensures some { IsTrue result ↔ Any (IsBeyond is_up
-            (D.number symbol.now % 2 ^ self.now.width)) (slice_range self.now.items start end) }
+        ensures found { IsTrue result → nearest is_up (range_members self.now.items start end)
+            (D.number symbol.now % 2 ^ self.now.width) ≡ Some (D.number answer.new) }
+        ensures none { result ≡ false → nearest is_up (range_members self.now.items start end)
+            (D.number symbol.now % 2 ^ self.now.width) ≡ None }
         ensures same { D.width answer.new ≡ D.width answer.old }
         ensures adds { AddsAtMost tally.old tally.new (query_reads self.now) }
     {

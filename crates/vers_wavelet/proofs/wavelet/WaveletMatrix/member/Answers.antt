@@ -3,4 +3,4 @@ use Rattle.vers_wavelet.proofs.wavelet.WaveletMatrix.member.Goals as goal
 
 pub returns-then-by_size-clause-value : goal.returns-then-by_size-clause-value
 returns-then-by_size-clause-value g c =
-    rw c.if-by_size.true (sorted_member c.args.self.now.items c.args.i _ c.len.result c.requires.within c.len.ensures.value c.kth_in.ensures.value)
+    rw c.if-by_size.true (sorted_member c.args.self.now.items c.args.i _ c.len.result c.len.ensures.value c.kth_in.ensures.value)

@@ -1,0 +1,189 @@
+-- Neighbours of a number in a list: of its members in ascending order the last up to the number, and the first from it on.
+use Rattle.std.proofs.Common.{◌≡◌, ℕ, ◌+◌, ◌-◌, ◌<◌, ◌≤◌, subst, Bool, true, false, not, ltb, leb, List, [], length, get_or, Some, None, refl, sym, ap, ◌∙◌, arith, inl, inr}
+use Rattle.std.specs.Prelude.{◌↔◌, IsSome, Any}
+use Rattle.std.specs.List.{count_by}
+use Rattle.std.proofs.lemmas.Bool.{cases_lt, le-leb, lt-leb}
+use Rattle.std.proofs.lemmas.List.Sums.{count_by-le-length}
+use Rattle.vers_bits.proofs.PublicLaws.{find_is, none_passing, last_passing_is}
+use mir.Val.{bool_byte}
+use Rattle.vers_wavelet.specs.Symbols.{by_size, kth_by_size, greatest_up_to, least_from, nearest, IsPredecessor, IsSuccessor}
+use Rattle.vers_wavelet.proofs.Members.{count-le, leb_up, ltb_up, kth_same, predecessor_is, successor_is, any_not_above, some_not_above, any_not_below, some_not_below, never}
+use Rattle.vers_wavelet.proofs.BySize.{ascends_by_size, count_by_size, length-by_size, not_below_at, not_above_at, few_below, more_not_above, kth_some, kth_none, kth_is}
+use Rattle.vers_wavelet.proofs.Ranges.{members_past, members_reversed, narrow_word, wide_word}
+
+-- ---- in ascending order, what stands before and after as many members as are below s, or not above it
+
+below_before : (xs : List ℕ) (s i : ℕ) → i < length xs → i < count_by (λ y. ltb y s) xs → get_or (by_size xs) i 0 < s
+below_before xs s i h low =
+    let ys : List ℕ = by_size xs in
+    elim (cases_lt (get_or ys i 0) s) [
+      | inl fine ↦ fine
+      | inr past ↦ absurd (omega (
+        arith,
+        few_below ys (ascends_by_size xs) i (omega (arith, length-by_size xs)),
+        count-le (λ y. ltb y s) (λ y. ltb y (get_or ys i 0)) ys (λ y. ltb_up s (get_or ys i 0) y past),
+        count_by_size (λ y. ltb y s) xs,
+      ))
+    ]
+
+above_after : (xs : List ℕ) (s i : ℕ) → i < length xs → count_by (λ y. leb y s) xs ≤ i → s < get_or (by_size xs) i 0
+above_after xs s i h high =
+    let ys : List ℕ = by_size xs in
+    elim (cases_lt s (get_or ys i 0)) [
+      | inl fine ↦ fine
+      | inr low ↦ absurd (omega (
+        arith,
+        more_not_above ys (ascends_by_size xs) i (omega (arith, length-by_size xs)),
+        count-le (λ y. leb y (get_or ys i 0)) (λ y. leb y s) ys (λ y. leb_up (get_or ys i 0) s y low),
+        count_by_size (λ y. leb y s) xs,
+      ))
+    ]
+
+-- the first member that is not below s comes right after those below it
+pub least_from_is : (xs : List ℕ) (s n : ℕ) → n ≡ count_by (λ y. ltb y s) xs → least_from xs s ≡ kth_by_size xs n
+unfolding least_from kth_by_size
+least_from_is xs s n e =
+    let ys : List ℕ = by_size xs in
+    let long = length-by_size xs in
+    let few = count_by-le-length (λ y. ltb y s) xs in
+    find_is (λ y. leb s y) ys n (omega arith)
+    (λ i h. lt-leb s (get_or ys i 0) (below_before xs s i (omega arith) (omega arith)))
+    (λ h. le-leb s (get_or ys n 0) (not_below_at ys (ascends_by_size xs) n s h (omega (arith, count_by_size (λ y. ltb y s) xs))))
+
+-- the last member that is not above s is the last of those
+pub greatest_up_to_is : (xs : List ℕ) (s n : ℕ) → n ≡ count_by (λ y. leb y s) xs → 0 < n → greatest_up_to xs s ≡ kth_by_size xs (n - 1)
+unfolding greatest_up_to kth_by_size
+greatest_up_to_is xs s n e some =
+    let ys : List ℕ = by_size xs in
+    let long = length-by_size xs in
+    let few = count_by-le-length (λ y. leb y s) xs in
+    last_passing_is None (λ y. leb y s) ys (n - 1) (omega arith)
+    (λ i h. le-leb (get_or ys i 0) s (not_above_at ys (ascends_by_size xs) i s (omega (arith, count_by_size (λ y. leb y s) xs))))
+    (λ i h short. lt-leb (get_or ys i 0) s (above_after xs s i (omega arith) (omega arith)))
+
+pub greatest_up_to_none : (xs : List ℕ) (s : ℕ) → count_by (λ y. leb y s) xs ≡ 0 → greatest_up_to xs s ≡ None
+unfolding greatest_up_to
+greatest_up_to_none xs s e =
+    let long = length-by_size xs in
+    none_passing None (λ y. leb y s) (by_size xs) (λ i h. lt-leb (get_or (by_size xs) i 0) s (above_after xs s i (omega arith) (omega arith)))
+
+-- an empty list has no neighbours
+pub none_up_to : (s : ℕ) → greatest_up_to [] s ≡ None
+none_up_to s = greatest_up_to_none [] s refl
+
+pub none_from : (s : ℕ) → least_from [] s ≡ None
+none_from s = least_from_is [] s 0 refl ∙ kth_none [] 0 (omega arith)
+
+-- ---- the neighbour on one side, by how many members are below s and how many are it
+
+pub nearest_same : (up : Bool) (xs : List ℕ) (below equal s x : ℕ) → below ≡ count_by (λ y. ltb y s) xs → below + equal ≡ count_by (λ y. leb y s) xs → 0 < equal → x ≡ s → nearest up xs s ≡ Some x
+nearest_same true xs below equal s x low high some is =
+    least_from_is xs s below low ∙ (kth_is xs below s).1 (kth_same xs below equal s low high some below (omega arith) (omega arith)) ∙ ap Some (sym is)
+nearest_same false xs below equal s x low high some is =
+    greatest_up_to_is xs s (below + equal) high (omega arith)
+    ∙ (kth_is xs (below + equal - 1) s).1 (kth_same xs below equal s low high some (below + equal - 1) (omega arith) (omega arith)) ∙ ap Some (sym is)
+
+pub nearest_is : (up : Bool) (xs : List ℕ) (below s x i : ℕ) → below ≡ count_by (λ y. ltb y s) xs → below ≡ count_by (λ y. leb y s) xs → (up ≡ true → below < length xs) → (up ≡ false → 0 < below)
+    → i ≡ below - bool_byte (not up) → x ≡ get_or (by_size xs) i 0 → nearest up xs s ≡ Some x
+nearest_is true xs below s x i low high more some at is =
+    least_from_is xs s below low ∙ kth_some xs below x (more refl) (is ∙ ap (λ k. get_or (by_size xs) k 0) (omega (arith, at)))
+nearest_is false xs below s x i low high more some at is =
+    greatest_up_to_is xs s below high (some refl)
+    ∙ kth_some xs (below - 1) x (omega (arith, some refl, high, count_by-le-length (λ y. leb y s) xs)) (is ∙ ap (λ k. get_or (by_size xs) k 0) at)
+
+pub nearest_none : (up : Bool) (xs : List ℕ) (below s : ℕ) → below ≡ count_by (λ y. ltb y s) xs → below ≡ count_by (λ y. leb y s) xs → (up ≡ true → below ≡ length xs) → (up ≡ false → below ≡ 0) → nearest up xs s ≡ None
+nearest_none true xs below s low high all none = least_from_is xs s below low ∙ kth_none xs below (omega (arith, all refl))
+nearest_none false xs below s low high all none = greatest_up_to_none xs s (omega (arith, none refl, high))
+
+-- ---- laws
+
+one_predecessor : (xs : List ℕ) (s x y : ℕ) → IsPredecessor xs s x → IsPredecessor xs s y → x ≡ y
+one_predecessor xs s x y p q =
+    let p_at = p.member in
+    let q_at = q.member in
+    omega (
+      arith,
+      p.within,
+      q.within,
+      p_at.2,
+      q_at.2,
+      p.greatest q_at.0 y q_at.1 (omega (arith, q_at.2, q.within)),
+      q.greatest p_at.0 x p_at.1 (omega (arith, p_at.2, p.within)),
+    )
+
+one_successor : (xs : List ℕ) (s x y : ℕ) → IsSuccessor xs s x → IsSuccessor xs s y → x ≡ y
+one_successor xs s x y p q =
+    let p_at = p.member in
+    let q_at = q.member in
+    omega (
+      arith,
+      p.within,
+      q.within,
+      p_at.2,
+      q_at.2,
+      p.least q_at.0 y q_at.1 (omega (arith, q_at.2, q.within)),
+      q.least p_at.0 x p_at.1 (omega (arith, p_at.2, p.within)),
+    )
+
+-- where some member is not above s, the definition gives one, and it is the predecessor
+predecessor_found : (xs : List ℕ) (s : ℕ) → 0 < count_by (λ y. leb y s) xs → (x : ℕ) × (greatest_up_to xs s ≡ Some x) × IsPredecessor xs s x
+predecessor_found xs s some =
+    let n : ℕ = count_by (λ y. leb y s) xs in
+    let x : ℕ = get_or (by_size xs) (n - 1) 0 in
+    let at : kth_by_size xs (n - 1) ≡ Some x = kth_some xs (n - 1) x (omega (arith, some, count_by-le-length (λ y. leb y s) xs)) refl in
+    (x, greatest_up_to_is xs s n refl some ∙ at, predecessor_is xs n s x refl some ((kth_is xs (n - 1) x).0 at))
+
+pub greatest_up_to_some : (xs : List ℕ) (s : ℕ) → IsSome (greatest_up_to xs s) ↔ Any (λ y. y ≤ s) xs
+greatest_up_to_some xs s = (
+  λ is. elim (cases_lt 0 (count_by (λ y. leb y s) xs)) [
+    | inl some ↦ any_not_above xs (count_by (λ y. leb y s) xs) s refl some
+    | inr none ↦ never (subst IsSome (greatest_up_to_none xs s (omega (arith, none))) is)
+  ],
+  λ any.
+      let found = predecessor_found xs s (some_not_above xs (count_by (λ y. leb y s) xs) s refl any) in
+      subst IsSome (sym found.1) refl,
+)
+
+pub greatest_up_to_predecessor : (xs : List ℕ) (s x : ℕ) → (greatest_up_to xs s ≡ Some x) ↔ IsPredecessor xs s x
+greatest_up_to_predecessor xs s x = (
+  λ is.
+      let found = predecessor_found xs s (some_not_above xs (count_by (λ y. leb y s) xs) s refl ((greatest_up_to_some xs s).0 (subst IsSome (sym is) refl))) in
+      let P : ℕ → Type 0 = λ y. IsPredecessor xs s y in
+      let same : found.0 ≡ x = cc (found.1, is) in
+      subst P same found.2,
+  λ p.
+      let found = predecessor_found xs s (some_not_above xs (count_by (λ y. leb y s) xs) s refl (p.member.0, x, p.member.1, p.member.2, p.within)) in
+      found.1 ∙ ap Some (one_predecessor xs s found.0 x found.2 p),
+)
+
+successor_found : (xs : List ℕ) (s : ℕ) → count_by (λ y. ltb y s) xs < length xs → (x : ℕ) × (least_from xs s ≡ Some x) × IsSuccessor xs s x
+successor_found xs s some =
+    let n : ℕ = count_by (λ y. ltb y s) xs in
+    let x : ℕ = get_or (by_size xs) n 0 in
+    let at : kth_by_size xs n ≡ Some x = kth_some xs n x some refl in
+    (x, least_from_is xs s n refl ∙ at, successor_is xs n s x refl ((kth_is xs n x).0 at))
+
+pub least_from_some : (xs : List ℕ) (s : ℕ) → IsSome (least_from xs s) ↔ Any (λ y. s ≤ y) xs
+least_from_some xs s = (
+  λ is. elim (cases_lt (count_by (λ y. ltb y s) xs) (length xs)) [
+    | inl some ↦ any_not_below xs (count_by (λ y. ltb y s) xs) s refl some
+    | inr all ↦ never (subst IsSome (least_from_is xs s (count_by (λ y. ltb y s) xs) refl ∙ kth_none xs (count_by (λ y. ltb y s) xs) all) is)
+  ],
+  λ any.
+      let found = successor_found xs s (some_not_below xs (count_by (λ y. ltb y s) xs) s refl any) in
+      subst IsSome (sym found.1) refl,
+)
+
+pub least_from_successor : (xs : List ℕ) (s x : ℕ) → (least_from xs s ≡ Some x) ↔ IsSuccessor xs s x
+least_from_successor xs s x = (
+  λ is.
+      let found = successor_found xs s (some_not_below xs (count_by (λ y. ltb y s) xs) s refl ((least_from_some xs s).0 (subst IsSome (sym is) refl))) in
+      let P : ℕ → Type 0 = λ y. IsSuccessor xs s y in
+      let same : found.0 ≡ x = cc (found.1, is) in
+      subst P same found.2,
+  λ p.
+      let found = successor_found xs s (some_not_below xs (count_by (λ y. ltb y s) xs) s refl (p.member.0, x, p.member.1, p.member.2, p.within)) in
+      found.1 ∙ ap Some (one_successor xs s found.0 x found.2 p),
+)
+
+pub ruleset neighbours = (none_up_to, none_from, members_past, members_reversed, narrow_word, wide_word)

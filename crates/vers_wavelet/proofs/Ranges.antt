@@ -1,0 +1,72 @@
+-- The members of a range by size, and symbols that are numbers of the machine.
+use Rattle.std.proofs.Common.{◌≡◌, ℕ, ◌+◌, ◌-◌, ◌<◌, ◌≤◌, List, [], ◌∷◌, length, get_or, Option, Some, None, refl, sym, ap, ◌∙◌, subst, arith, inl, inr}
+use Rattle.std.specs.Prelude.{slice_range, IsSome, ◌↔◌}
+use Rattle.std.proofs.lemmas.Bool.{cases_lt, le-leb, lt-leb}
+use Rattle.vers_wavelet.specs.Symbols.{by_size, range_members, kth_by_size, as_word}
+use Rattle.vers_wavelet.proofs.BySize.{kth_some, kth_none}
+use Rattle.vers_wavelet.proofs.Members.{part_length, never}
+use Rattle.vers_wavelet.proofs.Items.{whole_range}
+
+-- ---- the members of a range
+
+pub members_inside : (items : List ℕ) (a b : ℕ) → b ≤ length items → range_members items a b ≡ slice_range items a b
+unfolding range_members
+members_inside items a b within = rw (le-leb b (length items) within) refl
+
+pub members_past : (items : List ℕ) (a b : ℕ) → length items < b → range_members items a b ≡ []
+unfolding range_members
+members_past items a b past = rw (lt-leb b (length items) past) refl
+
+few_members : (items : List ℕ) (a b : ℕ) → length (range_members items a b) ≤ b - a
+few_members items a b =
+    elim (cases_lt (length items) b) [
+      | inl past ↦ omega (arith, ap length (members_past items a b past))
+      | inr within ↦ omega (arith, ap length (members_inside items a b within), part_length items a b within)
+    ]
+
+pub members_reversed : (items : List ℕ) (a b : ℕ) → b ≤ a → range_members items a b ≡ []
+members_reversed items a b order = no_items (range_members items a b) (omega (arith, few_members items a b))
+  where
+    no_items : (xs : List ℕ) → length xs ≡ 0 → xs ≡ []
+    no_items [] e = refl
+    no_items (x ∷ xs) e = absurd (omega arith)
+
+pub members_of_all : (items : List ℕ) (n : ℕ) → n ≡ length items → range_members items 0 n ≡ items
+members_of_all items n e = ap (range_members items 0) e ∙ members_inside items 0 (length items) (omega arith) ∙ whole_range items
+
+-- ---- the member of a number
+
+pub kth_inside : (items : List ℕ) (a b i x : ℕ) → b ≤ length items → a + i < b → x ≡ get_or (by_size (slice_range items a b)) i 0 → kth_by_size (range_members items a b) i ≡ Some x
+kth_inside items a b i x within some is =
+    ap (λ l. kth_by_size l i) (members_inside items a b within) ∙ kth_some (slice_range items a b) i x (omega (arith, part_length items a b within)) is
+
+pub kth_past : (items : List ℕ) (a b i : ℕ) → length items < b → kth_by_size (range_members items a b) i ≡ None
+kth_past items a b i past = kth_none (range_members items a b) i (omega (arith, ap length (members_past items a b past)))
+
+pub kth_few : (items : List ℕ) (a b i : ℕ) → b ≤ a + i → kth_by_size (range_members items a b) i ≡ None
+kth_few items a b i few = kth_none (range_members items a b) i (omega (arith, few_members items a b))
+
+-- a range has a member of a number where it ends within the list and has so many places
+pub range_has_kth : (items : List ℕ) (a b i : ℕ) → IsSome (kth_by_size (range_members items a b) i) ↔ (b ≤ length items) × (a + i < b)
+range_has_kth items a b i = (
+  λ some. elim (cases_lt (length items) b) [
+    | inl past ↦ never (subst IsSome (kth_past items a b i past) some)
+    | inr within ↦ elim (cases_lt (a + i) b) [
+      | inl so_many ↦ (within, so_many)
+      | inr few ↦ never (subst IsSome (kth_few items a b i few) some)
+    ]
+  ],
+  λ inside. subst IsSome (sym (kth_inside items a b i _ inside.0 inside.1 refl)) refl,
+)
+
+-- ---- symbols that are numbers of the machine
+
+pub narrow_word : (width : ℕ) (symbol : Option ℕ) → width ≤ 64 → as_word width symbol ≡ symbol
+unfolding as_word
+narrow_word width symbol narrow = rw (le-leb width 64 narrow) refl
+
+pub wide_word : (width : ℕ) (symbol : Option ℕ) → 64 < width → as_word width symbol ≡ None
+unfolding as_word
+wide_word width symbol wide = rw (lt-leb width 64 wide) refl
+
+pub ruleset members = (members_of_all, kth_inside, kth_past, kth_few, narrow_word, wide_word)

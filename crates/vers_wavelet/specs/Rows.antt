@@ -1,0 +1,47 @@
+-- Worked rows of the definitions, which compute.
+use Rattle.std.specs.Prelude.{◌≡◌, ℕ, List, [], ◌∷◌, Some, None, refl}
+use Rattle.vers_wavelet.specs.Symbols.{by_size, range_members, kth_by_size, greatest_up_to, least_from}
+
+-- the symbols 5, 1, 3, 1
+abbrev symbols_5131 : List ℕ
+symbols_5131 = 5 ∷ 1 ∷ 3 ∷ 1 ∷ []
+
+pub by_size-5131 : by_size symbols_5131 ≡ 1 ∷ 1 ∷ 3 ∷ 5 ∷ []
+by_size-5131 = refl
+
+pub range_members-1_3 : range_members symbols_5131 1 3 ≡ 1 ∷ 3 ∷ []
+unfolding range_members
+range_members-1_3 = refl
+
+-- a range that ends past the list, and one that ends before it begins
+pub range_members-1_5 : range_members symbols_5131 1 5 ≡ []
+unfolding range_members
+range_members-1_5 = refl
+
+pub range_members-3_1 : range_members symbols_5131 3 1 ≡ []
+unfolding range_members
+range_members-3_1 = refl
+
+pub kth_by_size-1 : kth_by_size symbols_5131 1 ≡ Some 1
+unfolding kth_by_size
+kth_by_size-1 = refl
+
+pub kth_by_size-4 : kth_by_size symbols_5131 4 ≡ None
+unfolding kth_by_size
+kth_by_size-4 = refl
+
+pub greatest_up_to-4 : greatest_up_to symbols_5131 4 ≡ Some 3
+unfolding greatest_up_to
+greatest_up_to-4 = refl
+
+pub greatest_up_to-0 : greatest_up_to symbols_5131 0 ≡ None
+unfolding greatest_up_to
+greatest_up_to-0 = refl
+
+pub least_from-4 : least_from symbols_5131 4 ≡ Some 5
+unfolding least_from
+least_from-4 = refl
+
+pub least_from-6 : least_from symbols_5131 6 ≡ None
+unfolding least_from
+least_from-6 = refl
