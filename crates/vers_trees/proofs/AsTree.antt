@@ -2,6 +2,8 @@
 use Rattle.std.proofs.Common.{◌≡◌, ◌≢◌, ◌↔◌, ℕ, zero, suc, ◌<◌, ◌≤◌, Bool, true, false, List, [], ◌∷◌, length, get_or, eqb, Option, Some, None, arith, subst, sym, refl, ap, ◌∙◌}
 use Rattle.std.specs.Prelude.{IsTrue, slice_get, option_map, ◌==◌}
 use Rattle.std.proofs.lemmas.Bool.Decides.{Decides-eqb}
+use Rattle.std.proofs.lemmas.Option.{slice_get-get_or}
+use Rattle.std.proofs.lemmas.List.{get_or_past}
 use Rattle.vers_bits.specs.Bits.{count, places, select}
 use Rattle.vers_bits.proofs.PublicLaws.{length-places}
 use Rattle.vers_trees.specs.Forest.{Forest, none, tree, text, IsBalanced, forest_of}
@@ -30,26 +32,16 @@ unfolding forest_of
 root_by [] b o n s = same_place o None (n refl)
 root_by (x ∷ l) b o n s = same_place o (Some 0) (s (λ e. absurd (cc))) ∙ sym (first_root (forest_of (x ∷ l)) (λ e. let g = sym (text-forest_of (x ∷ l) b) ∙ e in absurd (cc)))
 
-at_place : (xs : List ℕ) (i d : ℕ) → i < length xs → slice_get xs i ≡ Some (get_or xs i d)
-at_place [] i d h = absurd (omega arith)
-at_place (x ∷ xs) zero d h = refl
-at_place (x ∷ xs) (suc i) d h = at_place xs i d (omega arith)
-
 pub handle_by : (l : List Bool) → IsBalanced l → (i n : ℕ) → n ≡ select true l i → i < length (nodes (forest_of l)) → slice_get (nodes (forest_of l)) i ≡ Some n
 unfolding select
 handle_by l b i n e h =
     let s = nodes_by l b in
-    ap (λ (xs : List ℕ). slice_get xs i) s ∙ at_place (places true l) i (length l) (subst (λ (xs : List ℕ). i < length xs) s h) ∙ ap Some (sym e)
-
-past_end : (xs : List ℕ) (i d : ℕ) → length xs ≤ i → get_or xs i d ≡ d
-past_end [] i d h = refl
-past_end (x ∷ xs) zero d h = absurd (omega arith)
-past_end (x ∷ xs) (suc i) d h = past_end xs i d (omega arith)
+    ap (λ (xs : List ℕ). slice_get xs i) s ∙ slice_get-get_or (places true l) i (length l) (subst (λ (xs : List ℕ). i < length xs) s h) ∙ ap Some (sym e)
 
 pub handle_past : (l : List Bool) → IsBalanced l → (i n : ℕ) → n ≡ select true l i → length (nodes (forest_of l)) ≤ i → n ≡ length (text (forest_of l))
 unfolding select
 handle_past l b i n e h =
-    e ∙ past_end (places true l) i (length l) (subst (λ (xs : List ℕ). length xs ≤ i) (nodes_by l b) h)
+    e ∙ get_or_past (places true l) i (length l) (subst (λ (xs : List ℕ). length xs ≤ i) (nodes_by l b) h)
     ∙ ap (λ (xs : List Bool). length xs) (sym (text-forest_of l b))
 
 never : (n : ℕ) → suc n ≡ 0 → ⊥

@@ -2,6 +2,7 @@
 use Rattle.std.proofs.Common.{neg_ℤ, of_z, ◌∙◌, ◌≡◌, ℕ, ◌-◌, ◌<◌, ◌≤◌, true, false, Bool, List, length, get_or, pos, negsuc, ◌-ℤ◌, FitsSigned, to_z, None, arith, sym, refl, zero, suc, ◌+◌, [], ◌∷◌, Some}
 use mir.Syntax.{w64}
 use Rattle.std.proofs.lemmas.Int.{ints, to_z-of_z}
+use Rattle.std.proofs.lemmas.List.{get_or_past}
 use Rattle.vers_bits.specs.Bits.{count}
 use Rattle.vers_bits.proofs.PublicLaws.{count_both}
 use Rattle.vers_trees.specs.Excess.{excess, last_rise_before, enclosing}
@@ -50,11 +51,6 @@ negated n h =
     rw (with_sign n h) (f, to_z-of_z w64 (pos 0 -ℤ pos n) f ∙ e)
 
 -- the place after another
-past_end : (l : List Bool) (i : ℕ) → length l ≤ i → get_or l i false ≡ false
-past_end [] i h = refl
-past_end (x ∷ l) zero h = absurd (omega arith)
-past_end (x ∷ l) (suc i) h = past_end l i (omega arith)
-
 pub opens_there : (l : List Bool) (p : ℕ) → get_or l (p + 1) false ≡ true → Some (p + 1) ≡ opened_after l p
 opens_there l p e = rw e refl
 
@@ -62,4 +58,4 @@ pub closes_there : (l : List Bool) (p : ℕ) → get_or l (p + 1) false ≡ fals
 closes_there l p e = rw e refl
 
 pub ends_there : (l : List Bool) (p : ℕ) → length l ≤ p + 1 → None ≡ opened_after l p
-ends_there l p h = closes_there l p (past_end l (p + 1) h)
+ends_there l p h = closes_there l p (get_or_past l (p + 1) false h)

@@ -7,27 +7,6 @@ use Rattle.vers_trees.specs.WalkReads.{post_reads}
 use Rattle.vers_trees.specs.ReadLaws.{tree_reads}
 
 module _ (size n : ℕ) where
-  search_within : IsWithin (search_reads size n) (tree_reads size n)
-  search_within = record { data_words = omega arith; block_entries = omega arith; superblock_entries = omega arith; low_parts = omega arith; rank_calls = omega arith; items = omega arith; blocks = omega arith; nodes = omega arith; chunks = omega arith }
-
-  enclose_within : IsWithin (enclose_reads size n) (tree_reads size n)
-  enclose_within = record { data_words = omega arith; block_entries = omega arith; superblock_entries = omega arith; low_parts = omega arith; rank_calls = omega arith; items = omega arith; blocks = omega arith; nodes = omega arith; chunks = omega arith }
-
-  two_searches_within : IsWithin (two_searches_reads size n) (tree_reads size n)
-  two_searches_within = record { data_words = omega arith; block_entries = omega arith; superblock_entries = omega arith; low_parts = omega arith; rank_calls = omega arith; items = omega arith; blocks = omega arith; nodes = omega arith; chunks = omega arith }
-
-  post_within : IsWithin (post_reads size n) (tree_reads size n)
-  post_within = record { data_words = omega arith; block_entries = omega arith; superblock_entries = omega arith; low_parts = omega arith; rank_calls = omega arith; items = omega arith; blocks = omega arith; nodes = omega arith; chunks = omega arith }
-
-  get_within : IsWithin get_reads (tree_reads size n)
-  get_within = record { data_words = omega arith; block_entries = omega arith; superblock_entries = omega arith; low_parts = omega arith; rank_calls = omega arith; items = omega arith; blocks = omega arith; nodes = omega arith; chunks = omega arith }
-
-  rank_within : IsWithin rank_reads (tree_reads size n)
-  rank_within = record { data_words = omega arith; block_entries = omega arith; superblock_entries = omega arith; low_parts = omega arith; rank_calls = omega arith; items = omega arith; blocks = omega arith; nodes = omega arith; chunks = omega arith }
-
-  select_within : IsWithin (select_reads (superblock_count n)) (tree_reads size n)
-  select_within = record { data_words = omega arith; block_entries = omega arith; superblock_entries = omega arith; low_parts = omega arith; rank_calls = omega arith; items = omega arith; blocks = omega arith; nodes = omega arith; chunks = omega arith }
-
   pub calls_within :
       IsWithin (search_reads size n) (tree_reads size n)
       × IsWithin (enclose_reads size n) (tree_reads size n)
@@ -36,7 +15,15 @@ module _ (size n : ℕ) where
       × IsWithin get_reads (tree_reads size n)
       × IsWithin rank_reads (tree_reads size n)
       × IsWithin (select_reads (superblock_count n)) (tree_reads size n)
-  calls_within = (search_within, enclose_within, two_searches_within, post_within, get_within, rank_within, select_within)
+  calls_within = (
+    record { data_words = omega arith; block_entries = omega arith; superblock_entries = omega arith; low_parts = omega arith; rank_calls = omega arith; items = omega arith; blocks = omega arith; nodes = omega arith; chunks = omega arith },
+    record { data_words = omega arith; block_entries = omega arith; superblock_entries = omega arith; low_parts = omega arith; rank_calls = omega arith; items = omega arith; blocks = omega arith; nodes = omega arith; chunks = omega arith },
+    record { data_words = omega arith; block_entries = omega arith; superblock_entries = omega arith; low_parts = omega arith; rank_calls = omega arith; items = omega arith; blocks = omega arith; nodes = omega arith; chunks = omega arith },
+    record { data_words = omega arith; block_entries = omega arith; superblock_entries = omega arith; low_parts = omega arith; rank_calls = omega arith; items = omega arith; blocks = omega arith; nodes = omega arith; chunks = omega arith },
+    record { data_words = omega arith; block_entries = omega arith; superblock_entries = omega arith; low_parts = omega arith; rank_calls = omega arith; items = omega arith; blocks = omega arith; nodes = omega arith; chunks = omega arith },
+    record { data_words = omega arith; block_entries = omega arith; superblock_entries = omega arith; low_parts = omega arith; rank_calls = omega arith; items = omega arith; blocks = omega arith; nodes = omega arith; chunks = omega arith },
+    record { data_words = omega arith; block_entries = omega arith; superblock_entries = omega arith; low_parts = omega arith; rank_calls = omega arith; items = omega arith; blocks = omega arith; nodes = omega arith; chunks = omega arith },
+  )
 
   pub calls_few : (old new : Reads) → AddsAtMost old new (tree_reads size n)
       → (new.blocks ≤ old.blocks + 4) × (new.nodes ≤ old.nodes + 8 * levels size n) × (new.data_words ≤ old.data_words + (4 * size + 32))
