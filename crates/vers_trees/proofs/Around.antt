@@ -98,19 +98,19 @@ depth_is_excess F v h =
     ap pos (a ∙ b ∙ c) ∙ pairs_around F v (closing F v) (closes_paired F v (closing F v) h.closes)
 
 -- of the places of a bit, those before place v
-below_counted : (l : List Bool) (v : ℕ) → count_by (λ w. ltb w v) (places true l) ≡ count true l v
+pub below_counted : (bit : Bool) (l : List Bool) (v : ℕ) → count_by (λ w. ltb w v) (places bit l) ≡ count bit l v
 unfolding count
-below_counted l v =
+below_counted bit l v =
     let k = take v l in let t = length-take v l in let d = length-drop v l in
-    let low = All-weaker (HasBitAt true k) (λ w. ltb w v ≡ true) (λ w b. let i = b.inside in lt-ltb w v (omega arith)) (places true k) (all_places true k) in
-    let high = All-map (λ w. ltb w v ≡ false) (λ x. length k + x) (places true (drop v l)) (All-weaker (HasBitAt true (drop v l)) (λ x. ltb (length k + x) v ≡ false) (λ x b. let i = b.inside in le-ltb (length k + x) v (omega arith)) (places true (drop v l)) (all_places true (drop v l))) in
-    let kept : filter (λ w. ltb w v) (places true l) ≡ places true k =
-    ap (λ (m : List Bool). filter (λ w. ltb w v) (places true m)) (sym (take-append-drop v l))
-    ∙ ap (filter (λ w. ltb w v)) (places-append true k (drop v l))
-    ∙ filter-append (λ w. ltb w v) (places true k) (shifted (length k) (places true (drop v l)))
-    ∙ ap (λ (ys : List ℕ). filter (λ w. ltb w v) (places true k) ++ ys) (filter_none (λ w. ltb w v) _ high) ∙ append-nil _ ∙ filter_all (λ w. ltb w v) (places true k) low in
-    sym (length-filter (λ w. ltb w v) (places true l)) ∙ ap length kept ∙ length-places true k ∙ ap (count_by (is_bit true)) (take_all (length k) k (omega arith))
+    let low = All-weaker (HasBitAt bit k) (λ w. ltb w v ≡ true) (λ w b. let i = b.inside in lt-ltb w v (omega arith)) (places bit k) (all_places bit k) in
+    let high = All-map (λ w. ltb w v ≡ false) (λ x. length k + x) (places bit (drop v l)) (All-weaker (HasBitAt bit (drop v l)) (λ x. ltb (length k + x) v ≡ false) (λ x b. let i = b.inside in le-ltb (length k + x) v (omega arith)) (places bit (drop v l)) (all_places bit (drop v l))) in
+    let kept : filter (λ w. ltb w v) (places bit l) ≡ places bit k =
+    ap (λ (m : List Bool). filter (λ w. ltb w v) (places bit m)) (sym (take-append-drop v l))
+    ∙ ap (filter (λ w. ltb w v)) (places-append bit k (drop v l))
+    ∙ filter-append (λ w. ltb w v) (places bit k) (shifted (length k) (places bit (drop v l)))
+    ∙ ap (λ (ys : List ℕ). filter (λ w. ltb w v) (places bit k) ++ ys) (filter_none (λ w. ltb w v) _ high) ∙ append-nil _ ∙ filter_all (λ w. ltb w v) (places bit k) low in
+    sym (length-filter (λ w. ltb w v) (places bit l)) ∙ ap length kept ∙ length-places bit k ∙ ap (count_by (is_bit bit)) (take_all (length k) k (omega arith))
 
 pub index_is_rank : (F : Forest) (v : ℕ) → node_index F v ≡ count true (text F) v
 unfolding node_index
-index_is_rank F v = ap (λ (xs : List ℕ). count_by (λ w. ltb w v) xs) (nodes_are_ones F) ∙ below_counted (text F) v
+index_is_rank F v = ap (λ (xs : List ℕ). count_by (λ w. ltb w v) xs) (nodes_are_ones F) ∙ below_counted true (text F) v

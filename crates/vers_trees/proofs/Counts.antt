@@ -15,7 +15,7 @@ use Rattle.vers_trees.specs.Forest.{Forest, none, tree, text, moved, pairs}
 abbrev pub one_if : Bool → ℕ
 one_if b = cond b 1 0
 
-count_by-cons : {X : Type 0} → (p : X → Bool) (x : X) (xs : List X) → count_by p (x ∷ xs) ≡ one_if (p x) + count_by p xs
+pub count_by-cons : {X : Type 0} → (p : X → Bool) (x : X) (xs : List X) → count_by p (x ∷ xs) ≡ one_if (p x) + count_by p xs
 count_by-cons p x xs = sum_by-cons (λ y. one_if (p y)) x xs
 
 count_by-append : {X : Type 0} → (p : X → Bool) (xs ys : List X) → count_by p (xs ++ ys) ≡ count_by p xs + count_by p ys

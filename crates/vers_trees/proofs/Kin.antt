@@ -29,7 +29,7 @@ under_decides : (F : Forest) (p : Option ℕ) (w : ℕ) → Decides (under F p w
 under_decides F p w = option_decides (parent F w) p
 
 -- tests that agree at each element keep the same elements
-filter_agree : {X : Type 0} → (p q : X → Bool) (xs : List X) → ((x : X) → Contains xs x → p x ≡ q x) → filter p xs ≡ filter q xs
+pub filter_agree : {X : Type 0} → (p q : X → Bool) (xs : List X) → ((x : X) → Contains xs x → p x ≡ q x) → filter p xs ≡ filter q xs
 filter_agree {X = X} p q [] h = refl
 filter_agree {X = X} p q (x ∷ xs) h =
     let ih = filter_agree p q xs (λ y c. h y (contains_later x xs y c)) in

@@ -15,7 +15,6 @@ pub mod LevelNodes
 pub mod Handles
 pub mod Lists
 pub mod PostorderPlaces
-pub mod ListsBelow
 pub mod SiblingWalks
 pub mod ListsOfNodes
 pub mod WalksOfNodes

@@ -1,159 +1,160 @@
--- The children of a node, and the nodes of its tree, by the tree that stands at its place.
-use Rattle.std.proofs.Common.{◌≡◌, ℕ, suc, ◌+◌, ◌*◌, ◌<◌, ◌≤◌, ◌⊎◌, inl, inr, Bool, true, false, List, [], ◌∷◌, ◌++◌, map, length, get_or, eqb, ℤ, pos, negsuc, ◌+ℤ◌, ◌<ℤ◌, Option, Some, arith, length-append, subst, sym, refl, ap, ◌∙◌}
+-- The nodes of a node's tree are a part of all nodes, in preorder and in postorder.
+use Rattle.std.proofs.Common.{◌≡◌, ℕ, suc, ◌+◌, ◌*◌, ◌<◌, ◌≤◌, ◌⊎◌, inl, inr, Bool, true, false, ◌&&◌, List, [], ◌∷◌, map, length, take, drop, get_or, ltb, leb, count_by, min, negsuc, Option, arith, ⊎_elim, subst, sym, refl, ap, ◌∙◌}
 use Rattle.std.specs.Prelude.{filter, All, Decides, unwrap_or}
-use Rattle.std.specs.Ordering.{int_eq}
-use Rattle.std.specs.Option.{option_eq}
 use Rattle.std.proofs.lemmas.Int.{ints}
-use Rattle.std.proofs.lemmas.Bool.Decides.{Decides-int_eq}
-use Rattle.std.proofs.lemmas.List.{append-nil, get_or_append_left, get_or-append-add, length-map}
-use Rattle.std.proofs.lemmas.List.Elements.{filter-append, All-head, All-tail, All-map, All-weaker}
-use Rattle.vers_bits.specs.Bits.{is_bit, places}
+use Rattle.std.proofs.lemmas.Bool.{cases_lt, lt-ltb, le-ltb}
+use Rattle.std.proofs.lemmas.Bool.Decides.{nat_tests, Decides-and, Decides-like, same_from_decides}
+use Rattle.std.proofs.lemmas.List.Elements.{All-head, All-tail, All-weaker}
+use Rattle.std.proofs.lemmas.List.Sums.{length-filter, count_by-le-length}
+use Rattle.std.proofs.Math.Nat.{eq-or-lt_of_le}
+use Rattle.vers_bits.specs.Bits.{is_bit, count, places}
+use Rattle.vers_bits.proofs.PublicLaws.{count_both}
 use Rattle.vers_trees.specs.Excess.{excess}
-use Rattle.vers_trees.specs.Forest.{Forest, none, tree, text}
-use Rattle.vers_trees.specs.Nodes.{closing, is_ancestor, parent, nodes_under, children, subtree}
+use Rattle.vers_trees.specs.Forest.{Forest, text}
+use Rattle.vers_trees.specs.Nodes.{nodes, closing, is_ancestor, subtree}
 use Rattle.vers_trees.specs.Siblings.{opening_of}
 use Rattle.vers_trees.specs.Traversals.{pairs_by_closing, postorder, subtree_post}
-use Rattle.vers_trees.proofs.Excess.{excess-zero, excess-append_left, excess-append_right}
-use Rattle.vers_trees.proofs.Paired.{Closes, Paired, paired_closes, closes_rises, open_is_paired, close_is_paired, excess_in_first, excess_in_rest, never_negative}
+use Rattle.vers_trees.proofs.Paired.{Paired, paired_closes, closes_rises, close_is_paired}
 use Rattle.vers_trees.proofs.Partners.{before_from_closes}
 use Rattle.vers_trees.proofs.Searches.{before_is}
-use Rattle.vers_trees.proofs.NodeList.{HasPair, nodes_are_ones, closing_is, closes_to, one_pair, option_decides}
-use Rattle.vers_trees.proofs.Around.{refuted, ancestor_decides, parent_above, above_parent}
-use Rattle.vers_trees.proofs.Lists.{shifted, opening_places, closing_places, shifted-shifted, shifted-append, places-append, filter_all, filter_none, filter_middle, filter_mapped, HasBitAt, all_places, places-tree}
-use Rattle.vers_trees.proofs.ListsBelow.{below, branch, StandsAt, branch_stands, closes_standing, excess_standing, half_of_text}
+use Rattle.vers_trees.proofs.Ancestors.{nested}
+use Rattle.vers_trees.proofs.NodeList.{HasPair, nodes_are_ones, node_pair, one_pair, closing_is, inside}
+use Rattle.vers_trees.proofs.Around.{refuted, Decides-leb, ancestor_decides, below_counted}
+use Rattle.vers_trees.proofs.Counts.{one_if, count_by-cons}
+use Rattle.vers_trees.proofs.Kin.{filter_agree}
+use Rattle.vers_trees.proofs.Lists.{opening_places, closing_places, filter_mapped, HasBitAt, all_places}
+use Rattle.vers_trees.proofs.NodeLaws.{AscendsFrom, places_ascend}
 use Rattle.vers_trees.proofs.PostorderPlaces.{closing_is_zeros, closing_paired, postorder_opens}
 
--- the places of a list where a part of it stands: those before, those of the part, and those after
-abbrev before_places : Bool → {l : List Bool} → {v : ℕ} → {m : List Bool} → StandsAt l v m → List ℕ
-before_places bit s = places bit s.before
+-- ---- numbers from v up to c
+abbrev between : ℕ → ℕ → ℕ → Bool
+between v c w = leb v w && leb w c
 
-abbrev after_places : Bool → {l : List Bool} → {v : ℕ} → {m : List Bool} → StandsAt l v m → List ℕ
-after_places bit {l} {v} {m} s = shifted v (shifted (length m) (places bit s.after))
+between_decides : (v c w : ℕ) → Decides (between v c w) ((v ≤ w) × (w ≤ c))
+between_decides v c w = Decides-and (leb v w) (leb w c) (Decides-leb v w) (Decides-leb w c)
 
-places_split : (bit : Bool) (l : List Bool) (v : ℕ) (m : List Bool) (s : StandsAt l v m) → places bit l ≡ before_places bit s ++ (shifted v (places bit m) ++ after_places bit s)
-places_split bit l v m s =
-    let k = s.before in
-    ap (places bit) s.written
-    ∙ places-append bit k (m ++ s.after)
-    ∙ ap (λ (xs : List ℕ). places bit k ++ xs) (ap (shifted (length k)) (places-append bit m s.after) ∙ shifted-append (length k) (places bit m) (shifted (length m) (places bit s.after)))
-    ∙ ap (λ (n : ℕ). places bit k ++ (shifted n (places bit m) ++ shifted n (shifted (length m) (places bit s.after)))) s.place
+outside : (v c w : ℕ) → (w < v) ⊎ (c < w) → between v c w ≡ false
+outside v c w o = refuted (between v c w) (between_decides v c w) (λ g. let a = g.0 in let b = g.1 in omega (arith, o))
 
--- what stands before the part, and after it, in the whole list
-before_all : (bit : Bool) (l : List Bool) (v : ℕ) (m : List Bool) (s : StandsAt l v m) (P : ℕ → Type 0) → ((w : ℕ) → w < v → HasBitAt bit l w → P w) → All P (before_places bit s)
-before_all bit l v m s P h =
-    All-weaker (HasBitAt bit s.before) P (λ w b. let i = b.inside in let p = s.place in h w (omega arith) (here w b)) (places bit s.before) (all_places bit s.before)
+-- with those before v they are those before c + 1
+count_between : (v c : ℕ) (xs : List ℕ) → v ≤ c + 1 → count_by (between v c) xs + count_by (λ w. ltb w v) xs ≡ count_by (λ w. ltb w (c + 1)) xs
+count_between v c [] h = refl
+count_between v c (x ∷ xs) h =
+    let ih = count_between v c xs h in
+    let a = count_by-cons (between v c) x xs in let b = count_by-cons (λ w. ltb w v) x xs in let d = count_by-cons (λ w. ltb w (c + 1)) x xs in
+    let e = one v c x h in
+    omega arith
   where
-    here : (w : ℕ) → HasBitAt bit s.before w → HasBitAt bit l w
-    here w b = subst (λ (k : List Bool). HasBitAt bit k w) (sym s.written) (record {
-      inside = (let i = b.inside in let e = length-append s.before (m ++ s.after) in omega arith);
-      holds = ap (is_bit bit) (get_or_append_left s.before (m ++ s.after) false w b.inside) ∙ b.holds;
-    })
+    one : (v c x : ℕ) → v ≤ c + 1 → one_if (between v c x) + one_if (ltb x v) ≡ one_if (ltb x (c + 1))
+    one v c x h = grind (arith, nat_tests)
 
-after_all : (bit : Bool) (l : List Bool) (v : ℕ) (m : List Bool) (s : StandsAt l v m) (P : ℕ → Type 0) → ((w : ℕ) → v + length m ≤ w → HasBitAt bit l w → P w) → All P (after_places bit s)
-after_all bit l v m s P h =
-    All-map P (λ x. v + x) (shifted (length m) (places bit s.after))
-    (All-map (λ x. P (v + x)) (λ x. length m + x) (places bit s.after)
-    (All-weaker (HasBitAt bit s.after) (λ x. P (v + (length m + x))) (λ x b. h (v + (length m + x)) (omega arith) (here x b)) (places bit s.after) (all_places bit s.after)))
-  where
-    here : (x : ℕ) → HasBitAt bit s.after x → HasBitAt bit l (v + (length m + x))
-    here x b =
-        subst (λ (k : List Bool). HasBitAt bit k (v + (length m + x))) (sym s.written)
-        (subst (λ (n : ℕ). HasBitAt bit (s.before ++ (m ++ s.after)) (n + (length m + x))) s.place (record {
-          inside = (let i = b.inside in let e = length-append s.before (m ++ s.after) in let f = length-append m s.after in omega arith);
-          holds = ap (is_bit bit) (get_or-append-add s.before (m ++ s.after) (length m + x) false ∙ get_or-append-add m s.after x false) ∙ b.holds;
-        }))
+-- of numbers that ascend they are a part
+past_part : (v c n : ℕ) (xs : List ℕ) → AscendsFrom n xs → c < n → filter (between v c) xs ≡ []
+past_part v c n [] a h = refl
+past_part v c n (x ∷ xs) a h = let a0 = a.0 in rw (outside v c x (inr (omega arith))) (past_part v c (x + 1) xs a.1 (omega arith))
 
-inside_all : (bit : Bool) (v : ℕ) (m : List Bool) (P : ℕ → Type 0) → ((x : ℕ) → HasBitAt bit m x → P (v + x)) → All P (shifted v (places bit m))
-inside_all bit v m P h = All-map P (λ x. v + x) (places bit m) (All-weaker (HasBitAt bit m) (λ x. P (v + x)) h (places bit m) (all_places bit m))
+first_part : (v c n : ℕ) (xs : List ℕ) → AscendsFrom n xs → v ≤ n → filter (between v c) xs ≡ take (length (filter (between v c) xs)) xs
+first_part v c n [] a h = refl
+first_part v c n (x ∷ xs) a h =
+    let a0 = a.0 in
+    ⊎_elim
+    (λ (z : c < x). rw (past_part v c x (x ∷ xs) (omega arith, a.1) z) refl)
+    (λ (z : x ≤ c). rw ((between_decides v c x).1 (omega arith, z)) (ap (λ (ys : List ℕ). x ∷ ys) (first_part v c (x + 1) xs a.1 (omega arith))))
+    (cases_lt c x)
 
--- a test that fails before the part and after it keeps what it keeps of the part
-kept_in_part : (bit : Bool) (l : List Bool) (v : ℕ) (m : List Bool) (p : ℕ → Bool) → StandsAt l v m → ((w : ℕ) → w < v → HasBitAt bit l w → p w ≡ false) → ((w : ℕ) → v + length m ≤ w → HasBitAt bit l w → p w ≡ false)
-    → filter p (places bit l) ≡ filter p (shifted v (places bit m))
-kept_in_part bit l v m p s f g =
-    ap (filter p) (places_split bit l v m s)
-    ∙ filter_middle p (before_places bit s) (shifted v (places bit m)) (after_places bit s) (before_all bit l v m s (λ w. p w ≡ false) f) (after_all bit l v m s (λ w. p w ≡ false) g)
-
--- ---- the tree of a node
--- the tree of v stands at v, and closes where v does
-pub record HasTree (F : Forest) (v : ℕ) : Type 0 where
-  pub stands : StandsAt (text F) v (text (branch F v))
-  pub closes : closing F v ≡ v + length (text (below F v)) + 1
-  pub long : length (text (branch F v)) ≡ length (text (below F v)) + 2
-
-pub has_tree : (F : Forest) (v : ℕ) → HasPair F v → HasTree F v
-has_tree F v h =
-    let s = branch_stands F v (closes_rises (text F) v (closing F v) false h.closes) in
-    let t = text (below F v) in
-    let c = closes_standing (text F) v (branch F v) 0 (length t + 1) s (inl (refl, refl)) in
-    let e : v + 0 ≡ v = omega arith in
-    let d = closes_to F v (v + (length t + 1)) (subst (λ (n : ℕ). Closes (text F) n (v + (length t + 1))) e c) in
-    record { stands = s; closes = omega arith; long = (let g = length-append t (false ∷ []) in omega arith) }
-
--- where a pair closes tells where it opens
-pub opening_is : (F : Forest) (w c : ℕ) → Paired F w c → opening_of (text F) c ≡ w
-opening_is F w c p = ap (λ (o : Option ℕ). unwrap_or o 0) (before_is (text F) c (negsuc 0) w (before_from_closes (text F) w c (paired_closes F w c p)))
-
-within : (F : Forest) (v w : ℕ) → v ≤ w → closing F w ≤ closing F v → is_ancestor F v w ≡ true
-within F v w a b = (ancestor_decides F v w).1 (a, b)
-
-outside : (F : Forest) (v w : ℕ) → (w < v) ⊎ (closing F v < closing F w) → is_ancestor F v w ≡ false
-outside F v w (inl a) = refuted (is_ancestor F v w) (ancestor_decides F v w) (λ (g : (v ≤ w) × (closing F w ≤ closing F v)). let x = g.0 in omega arith)
-outside F v w (inr a) = refuted (is_ancestor F v w) (ancestor_decides F v w) (λ (g : (v ≤ w) × (closing F w ≤ closing F v)). let x = g.1 in omega arith)
-
--- a pair of the tree of v, moved to v, lies within
-moved_within : (F : Forest) (v : ℕ) → HasTree F v → (x y : ℕ) → Paired (branch F v) x y → Closes (text F) (v + x) (v + y) × (is_ancestor F v (v + x) ≡ true)
-moved_within F v t x y p =
-    let c = closes_standing (text F) v (branch F v) x y t.stands p in
-    let e = closes_to F (v + x) (v + y) c in
-    let i = (paired_closes (branch F v) x y p).inside in
-    let k = t.closes in let n = t.long in
-    (c, within F v (v + x) (omega arith) (omega arith))
-
--- the nodes of the tree of v, in preorder
-pub subtree_places : (F : Forest) (v : ℕ) → HasPair F v → subtree F v ≡ shifted v (places true (text (branch F v)))
-unfolding subtree
-subtree_places F v h =
-    let t = has_tree F v h in
-    let m = text (branch F v) in
-    ap (filter (λ w. is_ancestor F v w)) (nodes_are_ones F)
-    ∙ kept_in_part true (text F) v m (λ w. is_ancestor F v w) t.stands
-    (λ w a b. outside F v w (inl a))
-    (λ w a b. let c = (one_pair F w b.inside b.holds).closes.after in let k = t.closes in let n = t.long in outside F v w (inr (omega arith)))
-    ∙ filter_all (λ w. is_ancestor F v w) (shifted v (places true m)) (inside_all true v m (λ w. is_ancestor F v w ≡ true) (λ x b. let p = open_is_paired (branch F v) x false b.inside b.holds in (moved_within F v t x p.0 p.1).1))
-
--- twice the subtree size is the number of places from the opening bracket to the closing one
-pub subtree_size_is : (F : Forest) (v : ℕ) → HasPair F v → 2 * length (subtree F v) + v ≡ closing F v + 1
-subtree_size_is F v h =
-    let t = has_tree F v h in let k = t.closes in let n = t.long in
-    let s = ap length (subtree_places F v h) ∙ length-map (places true (text (branch F v))) (λ x. v + x) in
-    let half = half_of_text true (branch F v) in
+none_below : (v n : ℕ) (xs : List ℕ) → AscendsFrom n xs → v ≤ n → count_by (λ w. ltb w v) xs ≡ 0
+none_below v n [] a h = refl
+none_below v n (x ∷ xs) a h =
+    let a0 = a.0 in let c = count_by-cons (λ w. ltb w v) x xs in let ih = none_below v (x + 1) xs a.1 (omega arith) in
+    let e : one_if (ltb x v) ≡ 0 = ap one_if (le-ltb x v (omega arith)) in
     omega arith
 
-pub zero_here : (l : List Bool) (p : ℕ) → is_bit false (get_or l p false) ≡ true → get_or l p false ≡ false
-zero_here l p h = go (get_or l p false) h
-  where
-    go : (b : Bool) → is_bit false b ≡ true → b ≡ false
-    go true h = absurd (cc)
-    go false h = refl
+between_is_part : (v c n : ℕ) (xs : List ℕ) → AscendsFrom n xs → filter (between v c) xs ≡ take (length (filter (between v c) xs)) (drop (count_by (λ w. ltb w v) xs) xs)
+between_is_part v c n [] a = refl
+between_is_part v c n (x ∷ xs) a =
+    let a0 = a.0 in let k = count_by-cons (λ w. ltb w v) x xs in
+    ⊎_elim
+    (λ (z : x < v).
+    let one : one_if (ltb x v) ≡ 1 = ap one_if (lt-ltb x v z) in
+    let e : suc (count_by (λ w. ltb w v) xs) ≡ count_by (λ w. ltb w v) (x ∷ xs) = omega arith in
+    subst (λ (k : ℕ). filter (between v c) (x ∷ xs) ≡ take (length (filter (between v c) (x ∷ xs))) (drop k (x ∷ xs))) e (rw (outside v c x (inl z)) (between_is_part v c (x + 1) xs a.1)))
+    (λ (z : v ≤ x).
+    let e = sym (none_below v x (x ∷ xs) (omega arith, a.1) z) in
+    subst (λ (k : ℕ). filter (between v c) (x ∷ xs) ≡ take (length (filter (between v c) (x ∷ xs))) (drop k (x ∷ xs))) e (first_part v c x (x ∷ xs) (omega arith, a.1) z))
+    (cases_lt x v)
 
--- the nodes of the tree of v, in postorder
-pub subtree_post_places : (F : Forest) (v : ℕ) → HasPair F v → subtree_post F v ≡ map (opening_of (text F)) (shifted v (places false (text (branch F v))))
-unfolding subtree_post
-subtree_post_places F v h =
-    let t = has_tree F v h in
-    let m = text (branch F v) in
-    let test = λ (c : ℕ). is_ancestor F v (opening_of (text F) c) in
+-- ---- the tree of a node is what opens, and what closes, from where it opens up to where it closes
+-- the places of a bit in it, and how many they are
+pub places_in : Bool → Forest → ℕ → List ℕ
+places_in bit F v = filter (between v (closing F v)) (places bit (text F))
+
+pub as_part : (bit : Bool) (F : Forest) (v : ℕ) → places_in bit F v ≡ take (length (places_in bit F v)) (drop (count bit (text F) v) (places bit (text F)))
+unfolding places_in
+as_part bit F v =
+    subst (λ (k : ℕ). filter (between v (closing F v)) (places bit (text F)) ≡ take (length (filter (between v (closing F v)) (places bit (text F)))) (drop k (places bit (text F)))) (below_counted bit (text F) v) (between_is_part v (closing F v) 0 (places bit (text F)) (places_ascend bit (text F)))
+
+pub part_counted : (bit : Bool) (F : Forest) (v : ℕ) → HasPair F v → length (places_in bit F v) + count bit (text F) v ≡ count bit (text F) (closing F v + 1)
+unfolding places_in
+part_counted bit F v h =
+    let l = length-filter (between v (closing F v)) (places bit (text F)) in let a = h.closes.after in
+    let k = count_between v (closing F v) (places bit (text F)) (omega arith) in
+    let x = below_counted bit (text F) v in let y = below_counted bit (text F) (closing F v + 1) in
+    omega arith
+
+pub part_inside : (bit : Bool) (F : Forest) (v : ℕ) → HasPair F v → count bit (text F) v + length (places_in bit F v) ≤ length (places bit (text F))
+part_inside bit F v h =
+    let k = part_counted bit F v h in let y = below_counted bit (text F) (closing F v + 1) in
+    let m = count_by-le-length (λ w. ltb w (closing F v + 1)) (places bit (text F)) in
+    omega arith
+
+-- twice as many are the places from the opening bracket to the closing one
+pub part_size : (bit : Bool) (F : Forest) (v : ℕ) → HasPair F v → 2 * length (places_in bit F v) + v ≡ closing F v + 1
+unfolding excess
+part_size bit F v h =
+    let a = h.closes.after in let i = h.closes.inside in let e = h.closes.back in
+    let m = count_both (text F) v in let n = count_both (text F) (closing F v + 1) in
+    go bit (part_counted bit F v h) e m n
+  where
+    go : (bit : Bool) → length (places_in bit F v) + count bit (text F) v ≡ count bit (text F) (closing F v + 1) → excess (text F) (closing F v + 1) ≡ excess (text F) v → count false (text F) v + count true (text F) v ≡ min v (length (text F)) → count false (text F) (closing F v + 1) + count true (text F) (closing F v + 1) ≡ min (closing F v + 1) (length (text F)) → 2 * length (places_in bit F v) + v ≡ closing F v + 1
+    go true k e m n = let a = h.closes.after in let i = h.closes.inside in omega (arith, ints)
+    go false k e m n = let a = h.closes.after in let i = h.closes.inside in omega (arith, ints)
+
+-- the nodes of the tree of v, in preorder
+pub subtree_is : (F : Forest) (v : ℕ) → HasPair F v → subtree F v ≡ places_in true F v
+unfolding subtree places_in
+subtree_is F v h = filter_agree (λ w. is_ancestor F v w) (between v (closing F v)) (nodes F) (λ w i. agree w (node_pair F w i)) ∙ ap (filter (between v (closing F v))) (nodes_are_ones F)
+  where
+    agree : (w : ℕ) → HasPair F w → is_ancestor F v w ≡ between v (closing F v) w
+    agree w k = same_from_decides _ _ (Decides-like (is_ancestor F v w) (λ g. let a = k.closes.after in let b = g.1 in (g.0, omega arith)) (λ g. (g.0, back g.0 g.1)) (ancestor_decides F v w)) (between_decides v (closing F v) w)
+      where
+        back : v ≤ w → w ≤ closing F v → closing F w ≤ closing F v
+        back a b = ⊎_elim
+            (λ (e : v ≡ w). let s : closing F v ≡ closing F w = ap (closing F) e in omega arith)
+            (λ (z : v < w). let n = nested (text F) v (closing F v) w (closing F w) h.closes k.closes z b in omega arith)
+            (eq-or-lt_of_le a)
+
+pub subtree_size_is : (F : Forest) (v : ℕ) → HasPair F v → 2 * length (subtree F v) + v ≡ closing F v + 1
+subtree_size_is F v h = let s = ap (λ (xs : List ℕ). length xs) (subtree_is F v h) in let p = part_size true F v h in omega arith
+
+-- in postorder
+zero_here : (b : Bool) → is_bit false b ≡ true → b ≡ false
+zero_here true h = absurd (cc)
+zero_here false h = refl
+
+pub subtree_post_is : (F : Forest) (v : ℕ) → HasPair F v → subtree_post F v ≡ map (opening_of (text F)) (places_in false F v)
+unfolding subtree_post places_in
+subtree_post_is F v h =
     ap (filter (λ w. is_ancestor F v w)) (sym (postorder_opens F))
-    ∙ filter_mapped (λ w. is_ancestor F v w) test (opening_of (text F)) (places false (text F)) (All-weaker (HasBitAt false (text F)) (λ c. test c ≡ test c) (λ c b. refl) (places false (text F)) (all_places false (text F)))
-    ∙ ap (map (opening_of (text F))) (
-    kept_in_part false (text F) v m test t.stands
-    (λ c a b. let p = close_is_paired F c false b.inside (zero_here (text F) c b.holds) in let e = opening_is F p.0 c p.1 in let o = (paired_closes F p.0 c p.1).after in outside F v (opening_of (text F) c) (inl (omega arith)))
-    (λ c a b. let p = close_is_paired F c false b.inside (zero_here (text F) c b.holds) in let e = opening_is F p.0 c p.1 in let g = closing_is F p.0 c p.1 in let k = t.closes in let n = t.long in subst (λ (w : ℕ). is_ancestor F v w ≡ false) (sym e) (outside F v p.0 (inr (omega arith))))
-    ∙ filter_all test (shifted v (places false m)) (inside_all false v m (λ c. test c ≡ true) (λ y b.
-    let p = close_is_paired (branch F v) y false b.inside (zero_here m y b.holds) in
-    let r = moved_within F v t p.0 y p.1 in
-    let e : opening_of (text F) (v + y) ≡ v + p.0 = ap (λ (o : Option ℕ). unwrap_or o 0) (before_is (text F) (v + y) (negsuc 0) (v + p.0) (before_from_closes (text F) (v + p.0) (v + y) r.0)) in
-    subst (λ (w : ℕ). is_ancestor F v w ≡ true) (sym e) r.1)))
+    ∙ filter_mapped (λ w. is_ancestor F v w) (between v (closing F v)) (opening_of (text F)) (places false (text F)) (All-weaker (HasBitAt false (text F)) (λ k. is_ancestor F v (opening_of (text F) k) ≡ between v (closing F v) k) (λ k b. agree k (close_is_paired F k false b.inside (zero_here _ b.holds))) (places false (text F)) (all_places false (text F)))
+  where
+    agree : (k : ℕ) → (w : ℕ) × Paired F w k → is_ancestor F v (opening_of (text F) k) ≡ between v (closing F v) k
+    agree k p =
+        let q = paired_closes F p.0 k p.1 in let a = q.after in let c = closing_is F p.0 k p.1 in
+        let o : opening_of (text F) k ≡ p.0 = ap (λ (o : Option ℕ). unwrap_or o 0) (before_is (text F) k (negsuc 0) p.0 (before_from_closes (text F) p.0 k q)) in
+        rw o (same_from_decides _ _ (Decides-like (is_ancestor F v p.0) (λ g. let x = g.0 in let y = g.1 in (omega arith, omega arith)) (λ g.
+        let x = g.0 in let y = g.1 in
+        (⊎_elim (λ (z : p.0 < v). let n = nested (text F) p.0 k v (closing F v) q h.closes z x in absurd (omega arith)) (λ (z : v ≤ p.0). z) (cases_lt p.0 v), omega arith))
+        (ancestor_decides F v p.0)) (between_decides v (closing F v) k))
 
 -- ---- the orders
 pub closes_in_order : (F : Forest) → map (closing F) (postorder F) ≡ places false (text F)

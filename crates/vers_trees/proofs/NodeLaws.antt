@@ -160,9 +160,12 @@ passing_holds p (x ∷ xs) v (suc k, l, e) t = go (p x) (passing_holds p xs v (k
     go false c = c
 
 -- ---- levels
-pub nodes_ascend : (F : Forest) → AscendsFrom 0 (nodes F)
+pub places_ascend : (bit : Bool) (l : List Bool) → AscendsFrom 0 (places bit l)
 unfolding places
-nodes_ascend F = subst (AscendsFrom 0) (sym (nodes_are_ones F)) (filter_ascends _ 0 (range_with_len 0 (length (text F))) (range_ascends 0 (length (text F))))
+places_ascend bit l = filter_ascends _ 0 (range_with_len 0 (length l)) (range_ascends 0 (length l))
+
+pub nodes_ascend : (F : Forest) → AscendsFrom 0 (nodes F)
+nodes_ascend F = subst (AscendsFrom 0) (sym (nodes_are_ones F)) (places_ascend true (text F))
 
 level_ascends : (F : Forest) (d : ℕ) → AscendsFrom 0 (level F d)
 unfolding level

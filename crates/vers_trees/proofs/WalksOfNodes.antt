@@ -21,9 +21,8 @@ use Rattle.vers_trees.proofs.Paired.{closes_rises, closes_falls}
 use Rattle.vers_trees.proofs.NodeList.{HasPair, node_pair, nodes_are_ones}
 use Rattle.vers_trees.proofs.Lists.{shifted}
 use Rattle.vers_trees.proofs.PostorderPlaces.{postorder_opens}
-use Rattle.vers_trees.proofs.ListsBelow.{below, branch, StandsAt, part_standing, half_of_text}
 use Rattle.vers_trees.proofs.SiblingWalks.{walk_is, walk_short, meets_forwards, meets_backwards, children_few}
-use Rattle.vers_trees.proofs.ListsOfNodes.{subtree_size_is, HasTree, has_tree, subtree_places, subtree_post_places}
+use Rattle.vers_trees.proofs.ListsOfNodes.{places_in, as_part, part_inside, part_size, subtree_is, subtree_size_is, subtree_post_is}
 
 -- ---- steps among siblings
 pub walk_ends : (l : List Bool) (forward : Bool) (p : ℕ) → IsWalkOfSiblings l forward p → tree_beside l forward p ≡ None → TakesFirst (siblings_left l forward p) None (siblings_left l forward p)
@@ -99,43 +98,23 @@ within_is l v c b n e =
     let a = h.closes.after in
     (omega arith, omega arith)
 
--- a part of as many as it says lies inside
-part_inside : (n k : ℕ) (xs ys : List ℕ) → 0 < n → length ys ≡ n → take n (drop k xs) ≡ ys → k + n ≤ length xs
-part_inside n k xs ys h e t =
-    let a = length-take n (drop k xs) in
-    let b = length-drop k xs in
-    let c : length (take n (drop k xs)) ≡ length ys = ap (λ (zs : List ℕ). length zs) t in
-    omega arith
-
-record PartIs (bit : Bool) (l : List Bool) (v n : ℕ) (m : List Bool) : Type 0 where
-  pub inside : count bit l v + n ≤ length (places bit l)
-  pub part : take n (drop (count bit l v) (places bit l)) ≡ shifted v (places bit m)
-
-part_is : (bit : Bool) (F : Forest) (v : ℕ) → IsNode F v → PartIs bit (text F) v (length (subtree F v)) (text (branch F v))
-part_is bit F v n =
-    let h = node_pair F v n in
-    let t = has_tree F v h in
-    let s = subtree_size_is F v h in
-    let a = h.closes.after in let c = t.closes in let k = t.long in
-    let half = half_of_text bit (branch F v) in
-    let e : length (subtree F v) ≡ length (places bit (text (branch F v))) = omega arith in
-    let p = part_standing bit (text F) v (text (branch F v)) (length (subtree F v)) t.stands e in
-    record { inside = part_inside (length (subtree F v)) (count bit (text F) v) (places bit (text F)) (shifted v (places bit (text (branch F v)))) (omega arith) (length-map (places bit (text (branch F v))) (λ w. v + w) ∙ sym e) p; part = p }
-
 pub subtree_inside : (bit : Bool) (l : List Bool) (v : ℕ) → IsBalanced l → IsNode (forest_of l) v → count bit l v + length (subtree (forest_of l) v) ≤ length (places bit l)
-subtree_inside bit l v b n = subst (λ (m : List Bool). count bit m v + length (subtree (forest_of l) v) ≤ length (places bit m)) (text-forest_of l b) (part_is bit (forest_of l) v n).inside
+subtree_inside bit l v b n =
+    let F = forest_of l in let h = node_pair (forest_of l) v n in
+    subst (λ (m : List Bool). count bit m v + length (subtree F v) ≤ length (places bit m)) (text-forest_of l b) (let p = part_size bit F v h in let q = subtree_size_is F v h in let i = part_inside bit F v h in omega arith)
 
 pub subtree_part : (l : List Bool) (v : ℕ) → IsBalanced l → IsNode (forest_of l) v → take (length (subtree (forest_of l) v)) (drop (count true l v) (places true l)) ≡ subtree (forest_of l) v
 subtree_part l v b n =
-    let F = forest_of l in
+    let F = forest_of l in let e = subtree_is F v (node_pair F v n) in
     subst (λ (m : List Bool). take (length (subtree F v)) (drop (count true m v) (places true m)) ≡ subtree F v) (text-forest_of l b)
-    ((part_is true F v n).part ∙ sym (subtree_places F v (node_pair F v n)))
+    (ap (λ (xs : List ℕ). take (length xs) (drop (count true (text F) v) (places true (text F)))) e ∙ sym (as_part true F v) ∙ sym e)
 
 pub subtree_post_part : (l : List Bool) (v : ℕ) → IsBalanced l → IsNode (forest_of l) v → map (opening_of l) (take (length (subtree (forest_of l) v)) (drop (count false l v) (places false l))) ≡ subtree_post (forest_of l) v
 subtree_post_part l v b n =
-    let F = forest_of l in
+    let F = forest_of l in let h = node_pair (forest_of l) v n in
+    let same : length (subtree (forest_of l) v) ≡ length (places_in false (forest_of l) v) = (let p = part_size false (forest_of l) v h in let q = subtree_size_is (forest_of l) v h in omega arith) in
     subst (λ (m : List Bool). map (opening_of m) (take (length (subtree F v)) (drop (count false m v) (places false m))) ≡ subtree_post F v) (text-forest_of l b)
-    (ap (map (opening_of (text F))) (part_is false F v n).part ∙ sym (subtree_post_places F v (node_pair F v n)))
+    (ap (λ (k : ℕ). map (opening_of (text F)) (take k (drop (count false (text F) v) (places false (text F))))) same ∙ ap (map (opening_of (text F))) (sym (as_part false F v)) ∙ sym (subtree_post_is F v h))
 
 pub post_all : (l : List Bool) → IsBalanced l → map (opening_of l) (places false l) ≡ postorder (forest_of l)
 post_all l b = subst (λ (m : List Bool). map (opening_of m) (places false m) ≡ postorder (forest_of l)) (text-forest_of l b) (postorder_opens (forest_of l))
