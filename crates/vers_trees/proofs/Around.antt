@@ -1,22 +1,19 @@
 -- The nodes around a node: its parent, its depth, how many nodes are in its tree, and how many come before it.
-use Rattle.std.proofs.Common.{◌≡◌, ℕ, zero, suc, ◌+◌, ◌*◌, ◌<◌, ◌≤◌, Bool, true, false, ◌&&◌, List, [], ◌∷◌, ◌++◌, length, take, drop, ltb, leb, count_by, pos, negsuc, Option, Some, None, arith, ⊎_elim, sym, refl, ap, ◌∙◌}
+use Rattle.std.proofs.Common.{◌≡◌, ℕ, zero, suc, ◌+◌, ◌*◌, ◌<◌, ◌≤◌, Bool, true, false, cond, ◌&&◌, List, [], ◌∷◌, ◌++◌, length, take, drop, ltb, leb, count_by, pos, negsuc, Option, Some, None, arith, ⊎_elim, sym, refl, ap, ◌∙◌}
 use Rattle.std.specs.Prelude.{Decides, filter}
 use Rattle.std.specs.List.{last_or}
 use Rattle.std.proofs.lemmas.Bool.{lt-ltb, le-ltb, le-leb}
 use Rattle.std.proofs.lemmas.Bool.Decides.{Decides-ltb, Decides-and, leb_tells}
-use Rattle.std.proofs.lemmas.List.{append-nil, take-append-drop, length-take, length-drop, take_all}
-use Rattle.std.proofs.lemmas.List.Elements.{filter-append, All-map, All-weaker}
 use Rattle.std.proofs.lemmas.List.Sums.{length-filter}
 use Rattle.vers_bits.specs.Bits.{count, is_bit, places}
-use Rattle.vers_bits.proofs.PublicLaws.{length-places}
-use Rattle.vers_trees.proofs.Lists.{shifted, places-append, filter_all, filter_none, HasBitAt, all_places}
+use Rattle.vers_trees.proofs.Lists.{shifted, places-cons}
 use Rattle.vers_trees.specs.Excess.{excess, last_rise_before}
 use Rattle.vers_trees.specs.Forest.{Forest, text, pairs}
 use Rattle.vers_trees.specs.Nodes.{nodes, closing, is_ancestor, is_proper_ancestor, proper_ancestors, depth, parent, subtree, node_index}
 use Rattle.vers_trees.proofs.Searches.{before_some, before_none}
 use Rattle.vers_trees.proofs.Paired.{closes_rises, closes_paired}
 use Rattle.vers_trees.proofs.Pairs.{paired_from_contains}
-use Rattle.vers_trees.proofs.Counts.{count_agree, count_by-map, strictly_contains, pairs_around}
+use Rattle.vers_trees.proofs.Counts.{one_if, count_by-cons, count_by-append, count_by-map, count_agree, count_none, moved_lt, strictly_contains, pairs_around}
 use Rattle.vers_trees.proofs.Ancestors.{nested, IsAbove, above_from_before, parent_is_nearest, no_parent}
 use Rattle.vers_trees.proofs.NodeList.{HasPair, one_pair, closes_to, closing_is, nodes_are_ones, opens, inside, last_node, no_last_node}
 
@@ -99,17 +96,20 @@ depth_is_excess F v h =
 
 -- of the places of a bit, those before place v
 pub below_counted : (bit : Bool) (l : List Bool) (v : ℕ) → count_by (λ w. ltb w v) (places bit l) ≡ count bit l v
-unfolding count
-below_counted bit l v =
-    let k = take v l in let t = length-take v l in let d = length-drop v l in
-    let low = All-weaker (HasBitAt bit k) (λ w. ltb w v ≡ true) (λ w b. let i = b.inside in lt-ltb w v (omega arith)) (places bit k) (all_places bit k) in
-    let high = All-map (λ w. ltb w v ≡ false) (λ x. length k + x) (places bit (drop v l)) (All-weaker (HasBitAt bit (drop v l)) (λ x. ltb (length k + x) v ≡ false) (λ x b. let i = b.inside in le-ltb (length k + x) v (omega arith)) (places bit (drop v l)) (all_places bit (drop v l))) in
-    let kept : filter (λ w. ltb w v) (places bit l) ≡ places bit k =
-    ap (λ (m : List Bool). filter (λ w. ltb w v) (places bit m)) (sym (take-append-drop v l))
-    ∙ ap (filter (λ w. ltb w v)) (places-append bit k (drop v l))
-    ∙ filter-append (λ w. ltb w v) (places bit k) (shifted (length k) (places bit (drop v l)))
-    ∙ ap (λ (ys : List ℕ). filter (λ w. ltb w v) (places bit k) ++ ys) (filter_none (λ w. ltb w v) _ high) ∙ append-nil _ ∙ filter_all (λ w. ltb w v) (places bit k) low in
-    sym (length-filter (λ w. ltb w v) (places bit l)) ∙ ap length kept ∙ length-places bit k ∙ ap (count_by (is_bit bit)) (take_all (length k) k (omega arith))
+unfolding count places
+below_counted bit l zero = count_none (λ w. ltb w 0) (places bit l) (λ w i. le-ltb w 0 (omega arith))
+below_counted bit [] (suc v) = refl
+below_counted bit (b ∷ l) (suc v) =
+    let ih = below_counted bit l v in
+    let first : List ℕ = cond (is_bit bit b) (0 ∷ []) [] in
+    let rest = count_by-map (λ w. ltb w (suc v)) (λ x. 1 + x) (places bit l) ∙ count_agree (λ x. ltb (1 + x) (suc v)) (λ x. ltb x v) (places bit l) (λ x i. moved_lt 1 x v (suc v) (omega arith)) in
+    let s = here v (is_bit bit b) in
+    let c = count_by-cons (is_bit bit) b (take v l) in
+    ap (λ (xs : List ℕ). count_by (λ w. ltb w (suc v)) xs) (places-cons bit b l) ∙ count_by-append (λ w. ltb w (suc v)) first (shifted 1 (places bit l)) ∙ (let e : count_by (λ w. ltb w (suc v)) first + count_by (λ w. ltb w (suc v)) (shifted 1 (places bit l)) ≡ count_by (is_bit bit) (take (suc v) (b ∷ l)) = omega arith in e)
+  where
+    here : (v : ℕ) (t : Bool) → count_by (λ w. ltb w (suc v)) (cond t (0 ∷ []) []) ≡ one_if t
+    here v true = rw (lt-ltb 0 (suc v) (omega arith)) refl
+    here v false = refl
 
 pub index_is_rank : (F : Forest) (v : ℕ) → node_index F v ≡ count true (text F) v
 unfolding node_index

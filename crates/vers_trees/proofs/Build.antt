@@ -149,45 +149,32 @@ alone_shape x (inl r) =
     same_node (combined x empty_node) x (omega (arith, ints, clamps)) (omega (arith, ints, clamps)) (omega (arith, ints, clamps))
 alone_shape x (inr n) = rw n refl
 
-record Pair (first : ℕ) (nodes : List Node) (i : ℕ) : Type 0 where
+-- the children of a node, as the code has them
+record Pair (first : ℕ) (nodes : List Node) (i : ℕ) (x y : Node) : Type 0 where
   pub start : ℕ
   pub stop : ℕ
   pub parts : HasChildren first i start stop
-  pub left : Covers (drop first nodes) start parts.middle (get_or nodes (2 * i + 1) empty_node)
-  pub right : Covers (drop first nodes) parts.middle stop (get_or nodes (2 * i + 2) empty_node)
+  pub left : Covers (drop first nodes) start parts.middle x
+  pub right : Covers (drop first nodes) parts.middle stop y
 
-pair_at : (first h : ℕ) (nodes : List Node) (i : ℕ) → 2 ^ h ≡ first + 1 → i < first → CoveredFrom first nodes (i + 1) → Pair first nodes i
-pair_at first h nodes i lv a c =
+pair_at : (first h : ℕ) (nodes : List Node) (i : ℕ) (x y : Node) → 2 ^ h ≡ first + 1 → i < first → CoveredFrom first nodes (i + 1) → x ≡ get_or nodes (2 * i + 1) empty_node → y ≡ get_or nodes (2 * i + 2) empty_node → Pair first nodes i x y
+pair_at first h nodes i x y lv a c ex ey =
     let p = stands_every first h lv i i (omega arith) (omega arith) in
     let k = stands_children first i p.0 p.1 p.2 a in
-    record { start = p.0; stop = p.1; parts = k; left = c (2 * i + 1) p.0 k.middle (omega arith) k.left; right = c (2 * i + 2) k.middle p.1 (omega arith) k.right }
+    record { start = p.0; stop = p.1; parts = k; left = rw ex (c (2 * i + 1) p.0 k.middle (omega arith) k.left); right = rw ey (c (2 * i + 2) k.middle p.1 (omega arith) k.right) }
 
-fill_fits : (first h : ℕ) (nodes : List Node) (i : ℕ) → 2 ^ h ≡ first + 1 → i < first → AreLeaves (drop first nodes) → CoveredFrom first nodes (i + 1) → JoinFits (get_or nodes (2 * i + 1) empty_node) (get_or nodes (2 * i + 2) empty_node)
-fill_fits first h nodes i lv a l c =
-    let p = pair_at first h nodes i lv a c in
-    children_fit (drop first nodes) p.start p.parts.middle p.stop _ _ l p.parts.after p.left p.right
-
-fill_joins : (first h : ℕ) (nodes : List Node) (i : ℕ) (r : Node) → 2 ^ h ≡ first + 1 → i < first → CoveredFrom first nodes (i + 1) → ((get_or nodes (2 * i + 2) empty_node).least ≤ℤ (get_or nodes (2 * i + 2) empty_node).greatest → r ≡ combined (get_or nodes (2 * i + 1) empty_node) (get_or nodes (2 * i + 2) empty_node)) → ((get_or nodes (2 * i + 2) empty_node).greatest <ℤ (get_or nodes (2 * i + 2) empty_node).least → r ≡ get_or nodes (2 * i + 1) empty_node) → r ≡ combined (get_or nodes (2 * i + 1) empty_node) (get_or nodes (2 * i + 2) empty_node)
-fill_joins first h nodes i r lv a c both alone =
-    let p = pair_at first h nodes i lv a c in
-    ⊎_elim
-    (λ (s : IsRange (get_or nodes (2 * i + 2) empty_node)). let u = s.low in let v = s.high in both (omega (arith, ints)))
-    (λ (n : get_or nodes (2 * i + 2) empty_node ≡ empty_node).
-    alone (rw n (omega (arith, ints))) ∙ sym (alone_shape (get_or nodes (2 * i + 1) empty_node) p.left.shape) ∙ ap (combined (get_or nodes (2 * i + 1) empty_node)) (sym n))
-    p.right.shape
-
--- the same in the words of the code, whose loop goes down from i to i - 1
+-- the loop goes down from i to i - 1
 pub code_fits : (first h : ℕ) (nodes : List Node) (i : ℕ) (x y : Node) → 2 ^ h ≡ first + 1 → 0 < i → i ≤ first → AreLeaves (drop first nodes) → CoveredFrom first nodes i → x ≡ get_or nodes (2 * (i - 1) + 1) empty_node → y ≡ get_or nodes (2 * (i - 1) + 2) empty_node → JoinFits x y
 code_fits first h nodes i x y lv a b l c ex ey =
-    let c' = subst (CoveredFrom first nodes) (let g : i ≡ i - 1 + 1 = omega arith in g) c in
-    rw (ex, ey) (fill_fits first h nodes (i - 1) lv (omega arith) l c')
+    let p = pair_at first h nodes (i - 1) x y lv (omega arith) (subst (CoveredFrom first nodes) (let g : i ≡ i - 1 + 1 = omega arith in g) c) ex ey in
+    children_fit (drop first nodes) p.start p.parts.middle p.stop x y l p.parts.after p.left p.right
 
 pub code_step : (first h : ℕ) (nodes : List Node) (i : ℕ) (x y r : Node) → 2 ^ h ≡ first + 1 → 0 < i → i ≤ first → i ≤ length nodes → CoveredFrom first nodes i → x ≡ get_or nodes (2 * (i - 1) + 1) empty_node → y ≡ get_or nodes (2 * (i - 1) + 2) empty_node → (y.least ≤ℤ y.greatest → r ≡ combined x y) → (y.greatest <ℤ y.least → r ≡ x) → CoveredFrom first (set nodes (i - 1) r) (i - 1)
 code_step first h nodes i x y r lv a b n c ex ey both alone =
     let c' = subst (CoveredFrom first nodes) (let g : i ≡ i - 1 + 1 = omega arith in g) c in
-    let L : Node = get_or nodes (2 * (i - 1) + 1) empty_node in
-    let R : Node = get_or nodes (2 * (i - 1) + 2) empty_node in
-    let both' : R.least ≤ℤ R.greatest → r ≡ combined L R = subst (λ (u : Node). R.least ≤ℤ R.greatest → r ≡ combined u R) ex (subst (λ (v : Node). v.least ≤ℤ v.greatest → r ≡ combined x v) ey both) in
-    let alone' : R.greatest <ℤ R.least → r ≡ L = subst (λ (u : Node). R.greatest <ℤ R.least → r ≡ u) ex (subst (λ (v : Node). v.greatest <ℤ v.least → r ≡ x) ey alone) in
-    let e = fill_joins first h nodes (i - 1) r lv (omega arith) c' both' alone' in
-    subst (λ (z : Node). CoveredFrom first (set nodes (i - 1) z) (i - 1)) (sym e) (covered_step first nodes (i - 1) (omega arith) (omega arith) c')
+    let p = pair_at first h nodes (i - 1) x y lv (omega arith) c' ex ey in
+    let e : r ≡ combined x y = ⊎_elim
+    (λ (s : IsRange y). let u = s.low in let v = s.high in both (omega (arith, ints)))
+    (λ (n : y ≡ empty_node). alone (rw n (omega (arith, ints))) ∙ sym (alone_shape x p.left.shape) ∙ ap (combined x) (sym n))
+    p.right.shape in
+    rw (e, ex, ey) (covered_step first nodes (i - 1) (omega arith) (omega arith) c')

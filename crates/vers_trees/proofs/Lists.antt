@@ -95,27 +95,6 @@ places-tree bit k l =
     ∙ ap (λ (xs : List ℕ). shifted n last ++ xs) (shifted-shifted n 1 (places bit l))))
 
 -- ---- what a test keeps
-pub filter_all : {X : Type 0} → (p : X → Bool) (xs : List X) → All (λ x. p x ≡ true) xs → filter p xs ≡ xs
-filter_all p [] h = refl
-filter_all p (x ∷ xs) h =
-    let t : p x ≡ true = All-head (λ y. p y ≡ true) x xs h in
-    rw t (ap (λ (ys : List _). x ∷ ys) (filter_all p xs (All-tail (λ y. p y ≡ true) x xs h)))
-
-pub filter_none : {X : Type 0} → (p : X → Bool) (xs : List X) → All (λ x. p x ≡ false) xs → filter p xs ≡ []
-filter_none p [] h = refl
-filter_none p (x ∷ xs) h =
-    let t : p x ≡ false = All-head (λ y. p y ≡ false) x xs h in
-    rw t (filter_none p xs (All-tail (λ y. p y ≡ false) x xs h))
-
--- of three parts the middle one
-pub filter_middle : {X : Type 0} → (p : X → Bool) (xs ys zs : List X) → All (λ x. p x ≡ false) xs → All (λ x. p x ≡ false) zs → filter p (xs ++ (ys ++ zs)) ≡ filter p ys
-filter_middle p xs ys zs f g =
-    filter-append p xs (ys ++ zs)
-    ∙ ap (λ (ws : List _). ws ++ filter p (ys ++ zs)) (filter_none p xs f)
-    ∙ filter-append p ys zs
-    ∙ ap (λ (ws : List _). filter p ys ++ ws) (filter_none p zs g)
-    ∙ append-nil (filter p ys)
-
 -- tests of a thing and of what it is made into
 pub filter_mapped : {X Y : Type 0} → (p : Y → Bool) (q : X → Bool) (f : X → Y) (xs : List X) → All (λ x. p (f x) ≡ q x) xs → filter p (map f xs) ≡ map f (filter q xs)
 filter_mapped p q f [] h = refl

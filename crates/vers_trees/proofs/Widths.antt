@@ -120,38 +120,27 @@ unfolding levels
 levels_some size zero h = absurd (omega arith)
 levels_some size (suc n) h = refl
 
-few_levels : (l : List Bool) (size first : ℕ) → 0 < length l → digits first ≤ max 1 (clog (block_count size (length l))) → digits first ≤ levels size (length l)
-few_levels l size first some h = let e = levels_some size (length l) some in omega arith
-
 pub blocks_are_leaves : (l : List Bool) (size first : ℕ) (nodes : List Node) → 0 < size → length l < 2 ^ 63 → AreFirstBlocks l size first (block_count size (length l)) nodes → AreLeaves (drop first nodes)
 blocks_are_leaves l size first nodes so short b = leaves_of l size (drop first nodes) (are_blocks l size first nodes so b) short
 
 one_at_least : (n size : ℕ) → 0 < size → 0 < n → 0 < block_count size n
-one_at_least n size so h =
-    let d = (div_ceil_times n size so).0 in
-    ⊎_elim
-    (λ (x : 0 < block_count size n). x)
-    (λ (x : block_count size n ≤ 0).
-    let z : block_count size n * size ≡ 0 * size = ap (λ (m : ℕ). m * size) (let g : block_count size n ≡ 0 = omega arith in g) in
-    absurd (omega arith))
-    (cases_lt 0 (block_count size n))
-
-room_for : (l : List Bool) (size first : ℕ) (nodes : List Node) → 0 < size → 0 < length l → AreFirstBlocks l size first (block_count size (length l)) nodes → first < length nodes
-room_for l size first nodes so some b =
-    let c = b.counted in
-    let g : 0 < block_count size (length l) = one_at_least (length l) size so some in omega arith
+one_at_least n size so h = go (block_count size n) (div_ceil_times n size so).0
+  where
+    go : (b : ℕ) → n ≤ b * size → 0 < b
+    go zero d = absurd (omega arith)
+    go (suc b) d = omega arith
 
 pub tree_made : (l : List Bool) (size first : ℕ) (leaves nodes : List Node) → 0 < size → 0 < length l → length l < 2 ^ 63 → IsWidth (block_count size (length l)) (first + 1) → AreFirstBlocks l size first (block_count size (length l)) leaves → length nodes ≡ length leaves → drop first nodes ≡ drop first leaves → CoveredFrom first nodes 0 → IsTreeOf l size first nodes
 tree_made l size first leaves nodes so some short w b n e c =
     let d = length-drop first nodes in
     let cb = b.counted in let en = w.enough in let bo = w.bounded in
-    let r = room_for l size first leaves so some b in
+    let r = one_at_least (length l) size so some in
     let same : first + 1 - 1 ≡ first = omega arith in
     let blocks : AreBlocks l size (drop first nodes) = subst (λ (m : List Node). AreBlocks l size m) (sym e) (are_blocks l size first leaves so b) in
     record {
       tree = minmax_of l size first w.exponent nodes w.power (omega arith) (omega arith) (omega arith) short blocks c;
       blocks = blocks;
-      few = few_levels l size first some (subst (λ (m : ℕ). digits m ≤ max 1 (clog (block_count size (length l)))) same w.least);
+      few = (let e = levels_some size (length l) some in let d = ap digits same in let m = w.least in omega arith);
     }
 
 pub empty_indexed : (l : List Bool) (size first : ℕ) (nodes : List Node) → length l ≡ 0 → nodes ≡ [] → 0 < size → size ≤ 4294967296 → IsIndexed l size first nodes

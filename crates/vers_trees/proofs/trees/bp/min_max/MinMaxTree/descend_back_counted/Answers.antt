@@ -16,12 +16,11 @@ overflow_add-before g c =
     let f : FitsSigned w64 c.node_counted-below.result.total = search rules in
     rw (to_z-of_z w64 c.node_counted-below.result.total f) (back_fits _ _ _ _ _ _ c.node_counted-below.result c.requires.tree c.loop-node.invariant.leads.2 c.loop-node-test.true c.node_counted-below.ensures.value)
 
-pub returns-clause-found : goal.returns-clause-found
-returns-clause-found g c = λ to t p.
-    back_leaf c.args.self.now.first c.args.self.now.nodes to t c.loop-node.node _ c.requires.tree (c.loop-node.invariant.every to t (rw (to_z-of_z w64 c.args.left c.ranges.left) p)) c.loop-node-test.false
-
-pub returns-clause-adds : goal.returns-clause-adds
-returns-clause-adds g c = down_ends _ _ c.loop-node.node c.args.self.now.first c.loop-node.invariant.within c.loop-node.invariant.reads
+pub returns : goal.returns
+returns g c = record {
+  found = λ to t p. back_leaf c.args.self.now.first c.args.self.now.nodes to t c.loop-node.node _ c.requires.tree (c.loop-node.invariant.every to t (rw (to_z-of_z w64 c.args.left c.ranges.left) p)) c.loop-node-test.false;
+  adds = down_ends _ _ c.loop-node.node c.args.self.now.first c.loop-node.invariant.within c.loop-node.invariant.reads;
+}
 
 pub loop-node-preserved : goal.loop-node-preserved
 loop-node-preserved g c =

@@ -10,13 +10,6 @@ use Rattle.vers_trees.proofs.trees.bp.min_max.MinMaxTree.descend_counted.Goals.{
 pub loop-node-init : goal.loop-node-init
 loop-node-init g c = rw (to_z-of_z w64 c.args.left c.ranges.left) (record { leads = c.requires.leads; every = λ from t p. p; within = c.requires.within; reads = no_nodes _ _ })
 
-pub returns-clause-found : goal.returns-clause-found
-returns-clause-found g c = λ from t p.
-    leads_leaf c.args.self.now.first c.args.self.now.nodes from t c.loop-node.node _ c.requires.tree (c.loop-node.invariant.every from t (rw (to_z-of_z w64 c.args.left c.ranges.left) p)) c.loop-node-test.false
-
-pub returns-clause-adds : goal.returns-clause-adds
-returns-clause-adds g c = down_ends _ _ c.loop-node.node c.args.self.now.first c.loop-node.invariant.within c.loop-node.invariant.reads
-
 -- a test has one answer
 misses : (result : Bool) (P : Type 0) → (P → result ≡ true) → result ≡ false → P → ⊥
 misses result P h e p = let t = h p in absurd (cc)
@@ -29,6 +22,12 @@ overflow_sub-left g c =
           let z : to_z w64 c.loop-node.left-bits -ℤ to_z w64 c.if-is_past.left-bits ≡ to_z w64 c.loop-node.left-bits = (let q = b.left-is in omega (arith, ints)) in
           rw z (search rules)
     ]
+
+pub returns : goal.returns
+returns g c = record {
+  found = λ from t p. leads_leaf c.args.self.now.first c.args.self.now.nodes from t c.loop-node.node _ c.requires.tree (c.loop-node.invariant.every from t (rw (to_z-of_z w64 c.args.left c.ranges.left) p)) c.loop-node-test.false;
+  adds = down_ends _ _ c.loop-node.node c.args.self.now.first c.loop-node.invariant.within c.loop-node.invariant.reads;
+}
 
 pub loop-node-preserved : goal.loop-node-preserved
 loop-node-preserved g c =

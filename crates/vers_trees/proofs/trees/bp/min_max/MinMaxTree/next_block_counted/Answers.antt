@@ -21,39 +21,34 @@ loop-node-init g c =
     let most = odd_most _ _ o in
     record { comes = rw (to_z-of_z w64 c.args.left c.ranges.left) (comes_to _ _ _ _ _ _ _ c.requires.tree p o); within = omega arith; reads = no_nodes _ _ }
 
-pub returns-then-reaches-clause-adds : goal.returns-then-reaches-clause-adds
-returns-then-reaches-clause-adds g c =
+pub returns : goal.returns
+returns g c = record {
+  value = λ k a w. c.loop-node.invariant.comes.none (omega arith) k a (rw (to_z-of_z w64 c.args.left c.ranges.left) w);
+  adds = up_ends _ _ c.args.self.now.first c.loop-node.node c.loop-node.invariant.within c.loop-node.invariant.reads;
+}
+
+pub descend_counted-requires : goal.descend_counted-requires
+descend_counted-requires g c = record {
+  tree = c.requires.tree;
+  within = c.loop-node.invariant.within;
+  leads = (_, _, reaches_after _ _ _ _ _ _ c.node_counted-after.result c.requires.tree c.loop-node.invariant.comes c.loop-node-test.true c.node_counted-after.ensures.value (c.reaches.ensures.0 c.if-reaches.true));
+}
+
+pub returns-then-reaches : goal.returns-then-reaches
+returns-then-reaches g c =
     let i = c.loop-node.invariant in
-    up_then_down _ _ _ _ c.args.self.now.first c.loop-node.node i.within c.loop-node-test.true i.reads c.node_counted-after.ensures.adds c.descend_counted.ensures.adds
+    let h = c.descend_counted.ensures.found _ _ (reaches_after _ _ _ _ _ _ c.node_counted-after.result c.requires.tree i.comes c.loop-node-test.true c.node_counted-after.ensures.value (c.reaches.ensures.0 c.if-reaches.true)) in
+    record { value = rw (to_z-of_z w64 c.args.left c.ranges.left) at h; adds = up_then_down _ _ _ _ c.args.self.now.first c.loop-node.node i.within c.loop-node-test.true i.reads c.node_counted-after.ensures.adds c.descend_counted.ensures.adds }
 
-pub returns-clause-value : goal.returns-clause-value
-returns-clause-value g c = λ k a w. c.loop-node.invariant.comes.none (omega arith) k a (rw (to_z-of_z w64 c.args.left c.ranges.left) w)
-
-pub returns-clause-adds : goal.returns-clause-adds
-returns-clause-adds g c = up_ends _ _ c.args.self.now.first c.loop-node.node c.loop-node.invariant.within c.loop-node.invariant.reads
-
-pub descend_counted-requires-clause-leads : goal.descend_counted-requires-clause-leads
-descend_counted-requires-clause-leads g c =
-    (_, _, reaches_after _ _ _ _ _ _ c.node_counted-after.result c.requires.tree c.loop-node.invariant.comes c.loop-node-test.true c.node_counted-after.ensures.value (c.reaches.ensures.0 c.if-reaches.true))
-
-pub descend_counted-requires-clause-within : goal.descend_counted-requires-clause-within
-descend_counted-requires-clause-within g c = c.loop-node.invariant.within
-
-pub returns-then-reaches-clause-value : goal.returns-then-reaches-clause-value
-returns-then-reaches-clause-value g c =
-    let h = c.descend_counted.ensures.found _ _ (reaches_after _ _ _ _ _ _ c.node_counted-after.result c.requires.tree c.loop-node.invariant.comes c.loop-node-test.true c.node_counted-after.ensures.value (c.reaches.ensures.0 c.if-reaches.true)) in
-    rw (to_z-of_z w64 c.args.left c.ranges.left) at h
-
-pub returns-in_err-left-clause-value : goal.returns-in_err-left-clause-value
-returns-in_err-left-clause-value g c =
+pub returns-in_err-left : goal.returns-in_err-left
+returns-in_err-left g c =
     let f : FitsSigned w64 c.node_counted-after.result.total = search rules in
-    rw c.from_residual.ensures (λ k a w. too_far_after _ _ _ _ _ _ c.node_counted-after.result c.requires.tree c.loop-node.invariant.comes c.loop-node-test.true c.node_counted-after.ensures.value
-    (λ r. let h = c.reaches.ensures.1 r in let q = c.if-reaches.false in absurd (cc)) (λ h. c.in_err-left.ensures (rw (to_z-of_z w64 c.node_counted-after.result.total f) h)) k a (rw (to_z-of_z w64 c.args.left c.ranges.left) w))
-
-pub returns-in_err-left-clause-adds : goal.returns-in_err-left-clause-adds
-returns-in_err-left-clause-adds g c =
     let i = c.loop-node.invariant in
-    up_then_none _ _ _ c.args.self.now.first c.loop-node.node i.within c.loop-node-test.true i.reads c.node_counted-after.ensures.adds
+    record {
+      value = rw c.from_residual.ensures (λ k a w. too_far_after _ _ _ _ _ _ c.node_counted-after.result c.requires.tree i.comes c.loop-node-test.true c.node_counted-after.ensures.value
+          (λ r. let h = c.reaches.ensures.1 r in let q = c.if-reaches.false in absurd (cc)) (λ h. c.in_err-left.ensures (rw (to_z-of_z w64 c.node_counted-after.result.total f) h)) k a (rw (to_z-of_z w64 c.args.left c.ranges.left) w));
+      adds = up_then_none _ _ _ c.args.self.now.first c.loop-node.node i.within c.loop-node-test.true i.reads c.node_counted-after.ensures.adds;
+    }
 
 pub node_after-node-requires-in-loop-node : goal.node_after-node-requires-in-loop-node
 node_after-node-requires-in-loop-node g c = omega arith

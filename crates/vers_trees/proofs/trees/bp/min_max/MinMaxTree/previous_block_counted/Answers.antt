@@ -19,41 +19,37 @@ loop-node-init g c =
     let most = odd_most _ _ o.1 in
     record { comes = rw (to_z-of_z w64 c.args.left c.ranges.left, at) (comes_back _ _ _ _ _ _ _ p o.1); within = omega arith; reads = no_nodes _ _ }
 
-pub returns-then-meets-clause-adds : goal.returns-then-meets-clause-adds
-returns-then-meets-clause-adds g c =
+pub returns : goal.returns
+returns g c = record {
+  value = λ k a w. c.loop-node.invariant.comes.none (omega arith) k a (rw (to_z-of_z w64 c.args.left c.ranges.left) w);
+  adds = up_ends _ _ c.args.self.now.first c.loop-node.node c.loop-node.invariant.within c.loop-node.invariant.reads;
+}
+
+pub descend_back_counted-requires : goal.descend_back_counted-requires
+descend_back_counted-requires g c =
+    let e = rest_is (λ y. to_z w64 c.loop-node.left-bits +ℤ y) c.node_counted-before.result.total c.in_ok-rest.rest (search rules) c.in_ok-rest.ensures in
+    record {
+      tree = c.requires.tree;
+      within = c.loop-node.invariant.within;
+      leads = (_, _, meets_before _ _ _ _ _ _ c.node_counted-before.result c.requires.tree c.loop-node.invariant.comes c.loop-node-test.true c.node_counted-before.ensures.value (rw e at (c.meets.ensures.0 c.if-meets.true)));
+    }
+
+pub returns-then-meets : goal.returns-then-meets
+returns-then-meets g c =
     let i = c.loop-node.invariant in
-    up_then_down _ _ _ _ c.args.self.now.first c.loop-node.node i.within c.loop-node-test.true i.reads c.node_counted-before.ensures.adds c.descend_back_counted.ensures.adds
-
-pub returns-clause-value : goal.returns-clause-value
-returns-clause-value g c = λ k a w. c.loop-node.invariant.comes.none (omega arith) k a (rw (to_z-of_z w64 c.args.left c.ranges.left) w)
-
-pub returns-clause-adds : goal.returns-clause-adds
-returns-clause-adds g c = up_ends _ _ c.args.self.now.first c.loop-node.node c.loop-node.invariant.within c.loop-node.invariant.reads
-
-pub descend_back_counted-requires-clause-leads : goal.descend_back_counted-requires-clause-leads
-descend_back_counted-requires-clause-leads g c =
     let e = rest_is (λ y. to_z w64 c.loop-node.left-bits +ℤ y) c.node_counted-before.result.total c.in_ok-rest.rest (search rules) c.in_ok-rest.ensures in
-    (_, _, meets_before _ _ _ _ _ _ c.node_counted-before.result c.requires.tree c.loop-node.invariant.comes c.loop-node-test.true c.node_counted-before.ensures.value (rw e at (c.meets.ensures.0 c.if-meets.true)))
+    let h = c.descend_back_counted.ensures.found _ _ (meets_before _ _ _ _ _ _ c.node_counted-before.result c.requires.tree i.comes c.loop-node-test.true c.node_counted-before.ensures.value (rw e at (c.meets.ensures.0 c.if-meets.true))) in
+    record { value = rw (to_z-of_z w64 c.args.left c.ranges.left) at h; adds = up_then_down _ _ _ _ c.args.self.now.first c.loop-node.node i.within c.loop-node-test.true i.reads c.node_counted-before.ensures.adds c.descend_back_counted.ensures.adds }
 
-pub descend_back_counted-requires-clause-within : goal.descend_back_counted-requires-clause-within
-descend_back_counted-requires-clause-within g c = c.loop-node.invariant.within
-
-pub returns-then-meets-clause-value : goal.returns-then-meets-clause-value
-returns-then-meets-clause-value g c =
-    let e = rest_is (λ y. to_z w64 c.loop-node.left-bits +ℤ y) c.node_counted-before.result.total c.in_ok-rest.rest (search rules) c.in_ok-rest.ensures in
-    let h = c.descend_back_counted.ensures.found _ _ (meets_before _ _ _ _ _ _ c.node_counted-before.result c.requires.tree c.loop-node.invariant.comes c.loop-node-test.true c.node_counted-before.ensures.value (rw e at (c.meets.ensures.0 c.if-meets.true))) in
-    rw (to_z-of_z w64 c.args.left c.ranges.left) at h
-
-pub returns-in_err-rest-clause-value : goal.returns-in_err-rest-clause-value
-returns-in_err-rest-clause-value g c =
+pub returns-in_err-rest : goal.returns-in_err-rest
+returns-in_err-rest g c =
     let f : FitsSigned w64 c.node_counted-before.result.total = search rules in
-    rw c.from_residual.ensures (λ k a w. too_far_before _ _ _ _ _ _ c.node_counted-before.result c.requires.tree c.loop-node.invariant.comes c.loop-node-test.true c.node_counted-before.ensures.value
-    (λ h. c.in_err-rest.ensures (rw (to_z-of_z w64 c.node_counted-before.result.total f) h)) k a (rw (to_z-of_z w64 c.args.left c.ranges.left) w))
-
-pub returns-in_err-rest-clause-adds : goal.returns-in_err-rest-clause-adds
-returns-in_err-rest-clause-adds g c =
     let i = c.loop-node.invariant in
-    up_then_none _ _ _ c.args.self.now.first c.loop-node.node i.within c.loop-node-test.true i.reads c.node_counted-before.ensures.adds
+    record {
+      value = rw c.from_residual.ensures (λ k a w. too_far_before _ _ _ _ _ _ c.node_counted-before.result c.requires.tree i.comes c.loop-node-test.true c.node_counted-before.ensures.value
+          (λ h. c.in_err-rest.ensures (rw (to_z-of_z w64 c.node_counted-before.result.total f) h)) k a (rw (to_z-of_z w64 c.args.left c.ranges.left) w));
+      adds = up_then_none _ _ _ c.args.self.now.first c.loop-node.node i.within c.loop-node-test.true i.reads c.node_counted-before.ensures.adds;
+    }
 
 pub node_before-node-requires-in-loop-node : goal.node_before-node-requires-in-loop-node
 node_before-node-requires-in-loop-node g c = omega arith
