@@ -2,12 +2,10 @@
 """Writes the tables of docs/CALLS.md: every public call of the library on one page, out of the sources.
 
 A row has a call as it is declared, the first paragraph of its doc comment, the conditions that a caller keeps, what the counted
-form of the call adds to the counters at most, and its time where docs/PERFORMANCE.md has one. A call and its counted form share a
-row. `--check` compares the page with the sources and writes nothing, which the gate does.
+form adds to the counters at most, and its time where docs/PERFORMANCE.md has one. A call and its counted form share a row.
 
-It also says which names that the facade hands on, and which calls of its types, stand in neither table of docs/DIFFERENCES.md:
-that of the names of the crate vers-vecs, nor that of our own; and which names stand in the second that aren't our own. Counted
-forms and laws are all our own, and the page says so once.
+It also says which names that the facade hands on, and which calls of its types, stand in neither table of docs/DIFFERENCES.md, of
+our own names and of those of the crate vers-vecs; and which of the first aren't our own. Counted forms and laws are all our own.
 """
 import re
 import sys
@@ -40,21 +38,16 @@ def first_paragraph(function):
     return " ".join("\n".join(reversed(doc)).split("\n\n")[0].split())
 
 
-def code(facts):
-    return ", ".join(f"`{it}`" for it in facts)
-
-
 def section(title, functions, times):
     """Returns the table of one owner, with times where one of its calls has one."""
     by_name = {it.name: it for it in functions}
     rows = [["Call", "Answers", "Condition", "Reads", "Time"]]
     for it in functions:
         if not it.name.endswith("_counted") or it.name.removesuffix("_counted") not in by_name:
-            conditions = [fact for kind, _, fact in it.clauses if kind == "requires"]
-            facts = [fact for _, _, fact in by_name.get(f"{it.name}_counted", it).clauses]
-            reads = [fact.removeprefix(ADDS) for fact in facts if fact.startswith(ADDS)]
-            time = times.get((owner(it), it.name), "")
-            rows.append([f"`{declaration(it)}`", first_paragraph(it), code(conditions), code(reads), time])
+            conditions = [f"`{fact}`" for kind, fact in it.clauses if kind == "requires"]
+            bounds = [fact.split(ADDS) for _, fact in by_name.get(f"{it.name}_counted", it).clauses if fact.startswith(ADDS)]
+            reads, time = [f"`{fact}`" for _, fact in bounds], times.get((owner(it), it.name), "")
+            rows.append([f"`{declaration(it)}`", first_paragraph(it), ", ".join(conditions), ", ".join(reads), time])
     width = 5 if any(row[4] for row in rows[1:]) else 4
     lines = ["|" + "|".join(f" {cell} ".replace("|", "\\|") for cell in row[:width]) + "|" for row in rows]
     return "\n".join([f"## {title}", "", lines[0], "|" + "---|" * width, *lines[1:]])
@@ -92,11 +85,7 @@ def misplaced_names(top):
     yield from (f"{DIFFERENCES}: `{name}` is no name of our own" for name in sorted(listed - own))
 
 
-def main():
-    said = list(misplaced_names(TOP))
-    print("".join(f"{it}\n" for it in said), end="", file=sys.stderr)
-    return write_or_check({PAGE: page(TOP)}, "tools/call_list.py") or int(bool(said))
-
-
 if __name__ == "__main__":
-    sys.exit(main())
+    misplaced = list(misplaced_names(TOP))
+    print("".join(f"{it}\n" for it in misplaced), end="", file=sys.stderr)
+    sys.exit(write_or_check({PAGE: page(TOP)}, "tools/call_list.py") or bool(misplaced))

@@ -1,7 +1,7 @@
 """Ways around the counters, for the self-test of `counting_rules.py` to plant, and what has to be said of each.
 
-Code is put at the beginning of a function's body, or before a struct's first field; `beside` is put at the end of its file; of
-`instead` the first text stands there, and the second is written for it. A plant whose place is gone is an error.
+Code is put at the beginning of a function's body, or before a struct's first field; `beside` at the end of its file; of `instead`
+the second text is written for the first. A plant whose place is gone is an error.
 """
 from collections import namedtuple
 
@@ -35,7 +35,6 @@ IN_BODIES = (
     ("is no range", SHARED, f"{WALK} for _document in walk {{}}"),
     ("neither side is seen to be a number", RANK0, "let _same = *self == *self;"),
     ("neither side is seen to be a number", RANK, "let _same = self.high == self.high;"),
-    ("neither side is seen to be a number", SHARED, f"{WALK} let _same = walk == walk;"),
     ("may be RsVec::full_equals,", RANK0, "let _same = self.full_equals(self);"),
     ("may be RsVec::sparse_equals,", RANK0, "let _same = self.sparse_equals::<true>(self);"),
     ("may be RsVec::eq,", RANK, "let _same = PartialEq::eq(&self.high, &self.high);"),
@@ -45,11 +44,9 @@ IN_BODIES = (
     ("may be RsVec::rank1,", RANK, "let ask = RsVec::rank1;"),
     ("may be RsVec::rank0,", RANK0, "let span = self; let _zeros = span.rank0(place);"),
     ("may be SparseRSVec::is_set_unchecked,", "SparseRSVec::get_counted", "let _one = self.is_set_unchecked(place);"),
-    ("may be BothEnds::next,", SHARED, f"{WALK} let _next = walk.next();"),
     ("may be BothEnds::next,", RANK0, "while let Some(_bit) = self.iter().next() {}"),
     ("may be BothEnds::min,", SPARSE, "let _least = self.iter1().min();"),
     ("calls `sum`, of which nothing is known", SHARED, f"{WALK} let _sum = walk.sum();"),
-    ("calls `taken`, of which nothing is known", SHARED, f"{WALK} let _documents = taken(&mut walk);"),
     ("may be CountedBits::as_bit_vec,", RANK0, "let whole = CountedBits::as_bit_vec;"),
     ("may be BlockEntries::as_slice,", RANK0, "let _entries = self.blocks.as_slice(Uncounted);"),
     ("may be FastRmq::as_slice,", "Postings::cheapest_counted", "let _costs = self.costs.as_slice();"),
@@ -57,7 +54,6 @@ IN_BODIES = (
     ("makes `Tally::new`", RANK1, "let mut own = Tally::new();"),
     ("`word_of!` stands where it may not", RANK0, "let _word = word_of!(self);"),
     ("`unsafe` stands where it may not", RANK0, "let _word = unsafe { *place_of(0) };"),
-    ("`Tally` stands where it may not", RANK1, "let mut own = <Tally>::new();"),
     ("raises the counter 1 times for 2 reads", READ, "let _first = self.entries[0];"),
     ("or reads several", READ, "let BlockEntries { entries } = other;"),
     ("reads without the counter", "BlockEntries::len", "let _first = self.entries[0];"),

@@ -19,14 +19,14 @@ the text is where that token and a fresh counter are made, and that no counted b
 7. Kernels go by lanes or by chunks of words, and makers by counting count: bodies make the calls that `CALLS` names, and none of
    those in `BARRED`. A proof says what a kernel answers, and only the text shows how.
 
-Exit status 1 where a rule is broken, with a line for each place. `--self-test` plants ways around them (`counting_plants.py`).
+Exit status 1 where a rule is broken, with a line for each place. `--self-test` plants faults (`counting_plants.py`).
 """
 import re
 import sys
 from collections import defaultdict
 
 from proofs import Crates
-from sources import PUB, TOP, bare_keeping_lines, closed, line_of, read_crate, tell
+from sources import TOP, bare_keeping_lines, closed, line_of, read_crate, tell
 
 BELOW, COUNTERS = "vers_bits", "vers_tally"
 # The functions that may read a whole list without a counter.
@@ -68,8 +68,8 @@ NUMBER = r"(?:[ui](?:8|16|32|64|128|size)|bool)"
 NUMBERS = re.compile(rf"{NUMBER}|(?:Option|Result)<{NUMBER}.*>|\({NUMBER}(?:, {NUMBER})*\)")
 # What shows that an expression is a number: how it begins or ends, a constant, or an operator between two.
 SHOWN = re.compile(
-    rf"-?\d|(?:true|false)\b|(?:u64|usize|i64)::|[A-Z][A-Z_0-9]*$|.*\blen\(\)?$"
-    rf"|.*[\w)\]] (?:[-+*/%|^]|>>|<<|&) [\w(]|.*\bas {NUMBER}", re.S,
+    rf"(?s)-?\d|(?:true|false)\b|(?:u64|usize|i64)::|[A-Z][A-Z_0-9]*$"
+    rf"|.*(?:\blen\(\)?$|[\w)\]] (?:[-+*/%|^]|>>|<<|&) [\w(]|\bas {NUMBER})"
 )
 SIDES = re.compile(r"(?:^|[({;,&|!]|= )([^={};,]*?)(?<![=!<>])(?:==|!=)(?!=)([^={};,]*?)(?=[){;,]|&&|\|\||$)", re.M)
 # Calls of the standard library that counted bodies make: on numbers, options and lanes. Others may walk a list.
@@ -95,16 +95,15 @@ class Library:
     """The functions and structs of the crates with counters."""
 
     def __init__(self, sources):
-        self.sources = sources
         self.functions = [it for source in sources for it in source.functions]
         self.by_name, self.fields, self.types_of_field = defaultdict(list), {}, defaultdict(set)
         for function in self.functions:
             self.by_name[function.name].append(function)
         for struct, fields, _ in [it for source in sources for it in source.structs]:
             for name, type_ in fields:
-                self.fields[struct, name] = head_of(type_)
+                self.fields[struct, name] = re.match(r"\W*(?:'\w+ )?(?:mut )?(\w*)", type_)[1]
                 self.types_of_field[name].add(type_)
-        self.holders = {it for function in self.functions for it in (function.holder, function.trait) if it}
+        self.holders = STANDARD | {it for function in self.functions for it in (function.holder, function.trait) if it}
         self.structs = {name for source in sources for name, _, _ in source.structs}
         self.traits = {word for source in sources for word in re.findall(r"\btrait (\w+)", source.text)}
         # the functions that lead to a token or to a fresh counter, other than counted bodies, which may not
@@ -122,7 +121,7 @@ class Library:
         free = [it for it in self.by_name[name] if not it.owner]
         if path:
             holder = function.holder if path == "Self" else path
-            if holder in self.holders | STANDARD or re.fullmatch(NUMBER, holder):
+            if holder in self.holders or re.fullmatch(NUMBER, holder):
                 return self.of_type(holder, name)
             return self.by_name[name] if path[0].isupper() else free
         if not of and not found["dot"]:
@@ -173,11 +172,6 @@ def is_looked_at(function):
 def is_vectors(source):
     """Whether a file is that of the counters and the counted vectors."""
     return source.crate == COUNTERS and source.module == "tally"
-
-
-def head_of(type_):
-    """Returns the name of a type, past references."""
-    return (re.findall(r"\w+", re.sub(r"&(?:'\w+ )?(?:mut )?", "", type_)) or [""])[0]
 
 
 def takes_counter(function):
@@ -287,20 +281,11 @@ def faults(sources):
     yield from named_faults(library)
 
 
-def sources_of(top):
-    """Returns the sources of the libraries on which counters stand, and of those that stand on counters."""
-    crates = Crates(top)
-    names = [it for it in crates.lines if COUNTERS in [it, *crates.uses(it)] and not it.endswith("_tests")]
-    return [source for name in [BELOW, *names] if name not in ("vers_cli", "vers_vecs") for source in read_crate(top, name)]
-
-
-def main():
-    sources = sources_of(TOP)
+if __name__ == "__main__":
+    listed = Crates(TOP)
+    named = [it for it in listed.lines if COUNTERS in [it, *listed.uses(it)] and not re.search(r"_tests$|_cli$|_vecs$", it)]
+    read = [source for name in [BELOW, *named] for source in read_crate(TOP, name)]
     if "--self-test" in sys.argv:
         from counting_plants import self_test
-        return self_test(sources, faults)
-    return tell("counting rules", faults(sources))
-
-
-if __name__ == "__main__":
-    sys.exit(main())
+        sys.exit(self_test(read, faults))
+    sys.exit(tell("counting rules", faults(read)))

@@ -1,9 +1,8 @@
 #!/usr/bin/env python3
 """Hands on figures of docs/PERFORMANCE.md: to README's table, to the plot docs/speed.svg, and to docs/CALLS.md.
 
-A row of a table there is read where its first cell is a call, as `rank1` or `FastRmq::range_min`, or a call and what its time is
-of, as "`iter1`, a place". Nothing is measured here. This script writes the plot, and the figures of the rows that README's table
-has; `--check` compares both with what it would write, and writes nothing.
+A row of a table is read where its first cell is a call, as `rank1` or `FastRmq::range_min`, or a call and what its time is of, as
+"`iter1`, a place". Nothing is measured. This script writes the plot, and the figures of the rows that README's table has.
 """
 import re
 import sys
@@ -88,10 +87,6 @@ def plot(found):
     return HEAD.format(height=y - 2, bottom=y - 10) + text + "</svg>\n"
 
 
-def main():
-    found = figures(TOP)
-    return write_or_check({PLOT: plot(found), README: with_figures(read(f"{TOP}/{README}"), found)}, "tools/performance.py")
-
-
 if __name__ == "__main__":
-    sys.exit(main())
+    shown = figures(TOP)
+    sys.exit(write_or_check({PLOT: plot(shown), README: with_figures(read(f"{TOP}/{README}"), shown)}, "tools/performance.py"))

@@ -51,10 +51,6 @@ class Crates:
         """Returns the libraries below a crate, each after those that it stands on."""
         return list(dict.fromkeys(it for use in self.uses(name) for it in [*self.below(use), use]))
 
-    def above(self, name):
-        """Returns how many crates stand on one."""
-        return sum(name in self.below(it) for it in self.lines)
-
     def copy_to(self, room, name, made):
         """Makes a repository of a crate with some of what was made of it, over the libraries below it as they were built."""
         crates = [*self.below(name), name]
@@ -126,7 +122,7 @@ def prove_all(crates, names, commands, tell=lambda text: None):
     running = {}
     with ThreadPoolExecutor(commands.count) as pool:
         while order.is_active():
-            ready = sorted(order.get_ready(), key=crates.above, reverse=True)
+            ready = sorted(order.get_ready(), key=lambda it: -sum(it in crates.below(other) for other in crates.lines))
             free = commands.count - len(running)
             for at, name in enumerate(ready, 1):
                 jobs = max(1, (free + len(ready) - at) // len(ready))

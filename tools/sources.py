@@ -1,11 +1,13 @@
 """Reads the sources of a crate, in the layout of `rt fmt`: its functions with their heads, clauses and bodies, and its structs.
 
 In that layout the body of a function is opened by a line as far in as the function's first line, and closed by the next brace
-that stands alone as far in.
+that stands alone as far in. A wrong body is a file FUNCTION--WHAT-IS-WRONG.edit: a line 'file: src/..', and pairs of lines
+'old: TEXT' and 'new: TEXT'. Each TEXT is one line, and the old one stands once in the file.
 """
 import os
 import re
 import sys
+from collections import namedtuple
 from functools import cached_property
 from pathlib import Path
 
@@ -13,9 +15,11 @@ TOP = os.path.dirname(os.path.dirname(os.path.abspath(__file__)))
 PUB = r"(?:pub(?:\([a-z]+\))? )?"
 HEAD = re.compile(rf"(?: {{4}})?{PUB}(?:const |unsafe )*fn (\w+)")
 OWNER = re.compile(rf"{PUB}(?:unsafe )?(?:impl|trait)\b")
-CLAUSE = re.compile(r"(?ms)^\s*(requires|ensures) (?:([a-z_]\w*) )?\{ (.*?)\s\}\s*(?=^\s*(?:requires|ensures)\b|\Z)")
+CLAUSE = re.compile(r"(?ms)^\s*(requires|ensures) (?:[a-z_]\w* )?\{ (.*?)\s\}\s*(?=^\s*(?:requires|ensures)\b|\Z)")
 STRUCT = re.compile(rf"(?ms)^{PUB}(struct|enum) (\w+)([^;{{(]*)(\{{.*?^\}}|\{{[^\n]*\}}|\([^;]*\);|;)")
 PARAMETER = re.compile(r"(?:mut )?(\w+): ((?:[^,<()\[]|<[^<>]*(?:<[^<>]*>[^<>]*)*>|\([^()]*\)|\[[^\[\]]*\])+)")
+# A wrong body: the function that it changes, and what the lines of that become.
+Edit = namedtuple("Edit", "name file function lines")
 
 
 def read(path):
@@ -35,18 +39,12 @@ def closed(found, leads):
     return found
 
 
-def without_generics(text):
-    """Returns the head of an impl without what stands between angle brackets."""
-    text = text.replace("->", "")
-    while (shorter := re.sub(r"<[^<>]*>", "", text)) != text:
-        text = shorter
-    return text
-
-
 def split_owner(owner):
-    """Returns the type and the trait that the head of an impl names, or a trait itself and none."""
-    words = re.sub(r"^.*?\b(?:impl|trait)\b", "", re.sub(r"\bwhere\b.*", "", without_generics(owner)).split("{")[0])
-    trait, is_for, kind = words.rpartition(" for ")
+    """Returns the type and the trait that the head of an impl names, or a trait itself and none, without their generics."""
+    words = re.sub(r"\bwhere\b.*", "", owner.replace("->", "")).split("{")[0]
+    while (shorter := re.sub(r"<[^<>]*>", "", words)) != words:
+        words = shorter
+    trait, is_for, kind = re.sub(r"^.*?\b(?:impl|trait)\b", "", words).rpartition(" for ")
     return kind, trait if is_for else ""
 
 
@@ -79,8 +77,8 @@ class Function:
 
     @cached_property
     def clauses(self):
-        """Its clauses, as (kind, name, fact)."""
-        return [(kind, name, " ".join(fact.split())) for kind, name, fact in CLAUSE.findall(self.declared)]
+        """Its clauses, as (kind, fact)."""
+        return [(kind, " ".join(fact.split())) for kind, fact in CLAUSE.findall(self.declared)]
 
     @cached_property
     def parameters(self):
@@ -148,6 +146,35 @@ def read_crate(top, crate):
     """Returns the sources of a crate."""
     paths = [f"{at}/{name}" for at, _, names in sorted(os.walk(f"{top}/crates/{crate}/src")) for name in sorted(names)]
     return [Source(crate, os.path.relpath(it, top), read(it)) for it in paths if it.endswith(".rt")]
+
+
+def by_path(sources):
+    """Returns the sources of a crate, by their paths in the crate."""
+    return {it.path.split("/", 2)[2]: it for it in sources}
+
+
+def load_edit(name, text, sources):
+    """Returns a wrong body with the function that it changes, or raises a `ValueError` that says why it can't be tried."""
+    said = re.findall(r"(?m)^(file|old|new): ?(.*)$", text)
+    file = next((text.strip() for word, text in said if word == "file"), "")
+    pairs = [(old, new) for (one, old), (other, new) in zip(said, said[1:]) if (one, other) == ("old", "new")]
+    if file not in sources or not pairs:
+        raise ValueError(f"there is no file {file} in the crate, or no pair of texts")
+    text, were = sources[file].text, sources[file].lines
+    for old, new in pairs:
+        if text.count(old) != 1:
+            raise ValueError(f"its old text stands {text.count(old)} times in {file}, and not once")
+        text = text.replace(old, new)
+    lines = text.split("\n")
+    changed = [at for at, (was, now) in enumerate(zip(were, lines)) if was != now]
+    if not changed or len(lines) != len(were):
+        raise ValueError("it changes nothing, or the number of lines")
+    within = [it for it in sources[file].functions if it.has_body and it.body <= changed[0] and changed[-1] <= it.last]
+    if not within:
+        raise ValueError(f"it lies in no body of one function of {file}")
+    if not name.startswith(f"{within[0].name}--"):
+        raise ValueError(f"its name doesn't begin with `{within[0].name}--`, for the function that it changes")
+    return Edit(name, file, within[0], lines[within[0].first : within[0].last + 1])
 
 
 def public_files(sources):

@@ -2,10 +2,9 @@
 """Rules over the text of the repository that no contract states.
 
 - What may not stand in a text, by the rows of `PATTERNS`: public items without a doc comment and module files that don't say what
-  they are, labels of papers and paths of one machine, sources of 800 lines, phrases that are not plain English, and values that
+  they are, labels of papers and paths of one machine, phrases that are not plain English, sources of 800 lines, and values that
   are dropped, but for a mention for the prover, of a field (`&self.len`) or of a length (`high.len()`).
-- Functions stay below 60 lines, but for tests, which may list many cases.
-- `crates.txt` lists the folders of `crates/`, each once, and the links of the documents lead somewhere.
+- Functions stay below 60 lines, but for tests. `crates.txt` lists the folders of `crates/`. Links of documents lead somewhere.
 - Each word of a crate's `specs/` that the contract of a public function cites stands in `docs/DEFINITIONS.md`, in backticks.
 - Of the proofs of a crate below, a crate imports the page of laws (`PublicLaws`) alone, or one that its `proofs/Lib.antt`
   passes on under another name, and of its `specs/inside` nothing.
@@ -27,8 +26,7 @@ import sys
 from collections import defaultdict
 from functools import lru_cache
 
-from edits import BadEdit, by_path, load_edit
-from sources import TOP, Source, closed, line_of, public_functions, read, tell
+from sources import TOP, Source, by_path, closed, line_of, load_edit, public_functions, read, tell
 
 LONGEST_FUNCTION = 60
 DEFINITIONS = "docs/DEFINITIONS.md"
@@ -37,25 +35,23 @@ TEXTS = re.compile(r".*\.(?:md|rt|antt|edit|py|sh|txt)|(?:.*/)?(?:test|vers|run|
 # between two words of a phrase may stand the end of a line and the marks of a comment
 GAP = r"(?:\s|//[/!]?)+"
 # the files, what may not stand there, and what is said of it with the groups that were found
-PATTERNS = [(re.compile(files), re.compile(pattern), said) for files, pattern, said in (
+PATTERNS = (
     (r".*(?<!_rules\.py)", r"(?<![\w-])[DFRTW][12]?\d(?![\w-])|(?<![\w./-])/(?:work|opt|tmp|home|root|srv)/",
      "cites {0}, which the repository doesn't hold"),
     (r".*\.(?:md|rt)", rf"(?i)\bwant{GAP}of{GAP}memory\b", "says `want of memory`; write `out of memory`"),
     # `at the most recent` is plain
     (r".*\.(?:md|rt)", rf"(?i)\bat{GAP}the{GAP}most\b(?!{GAP}\w+[ae]nt\b)", "says `at the most`; write `at most`"),
     (r"crates/\w+/src/.*\.rt", r"\A(?:.*\n){800}", "has more than 800 lines"),
-    (r"crates/\w+/src/.*(?<!main)\.rt", r"\A(?!//!)", "the first line doesn't say what the module is"),
-    (r"crates/\w+/src/.*(?<!main)\.rt", r"(?m)^(?! *(?:///|#\[)).*\n(?: *#\[.*\n)*"
+    (r"crates/\w+/src/.*(?<!/main)\.rt", r"\A(?!//!)", "the first line doesn't say what the module is"),
+    (r"crates/\w+/src/.*(?<!/main)\.rt", r"(?m)^(?! *(?:///|#\[)).*\n(?: *#\[.*\n)*"
      r" *pub (?:const )?(?:unsafe )?(fn|struct|enum|trait|const|static|type) (\w+)", "{1} {2} has no doc comment"),
-    (r"crates/\w+/src/.*(?<!main)\.rt", r"\blet _ = (?!(?:&\w+(?:\.\w+)+|\w+(?:\.\w+)*\.len\(\));)([^;]*);",
+    (r"crates/\w+/src/.*(?<!/main)\.rt", r"\blet _ = (?!(?:&\w+(?:\.\w+)+|\w+(?:\.\w+)*\.len\(\));)([^;]*);",
      "drops `{1}`; allowed: a mention of a field or a length"),
-)]
+)
 PASSES_ON = re.compile(r"(?:[\w.:&*]+(?:::<\w+>)?(?:\([\w\s,&.*]*\)|\{\w+\})?)?")
 SPECS = re.compile(r"\bghost use Rattle\.(?!std\b)\w+\.specs\.(?!declared\b)([\w.]+)\.\{([^}]*)\}")
 LINK = re.compile(r"\]\(([^)#:\s]+)(?:#[^)]*)?\)")
-# the page of a crate's `proofs/` that crates above may import
-PAGE_OF_LAWS = "PublicLaws"
-PASSED_ON = re.compile(rf"(?m)^pub use Rattle\.\w+\.proofs\.{PAGE_OF_LAWS} as (\w+)$")
+PASSED_ON = re.compile(r"(?m)^pub use Rattle\.\w+\.proofs\.PublicLaws as (\w+)$")
 FOREIGN = re.compile(r"\b(\w+)(?:\.|::)(proofs|specs)(?:\.|::)(\w+)(?:(?:\.|::)(\w+))?")
 # proofs that stand on the contracts of a part of their own crate, and the files of that part's inside
 ON_CONTRACTS = {
@@ -74,8 +70,7 @@ def imported_insides(path, text, pages):
             yield f"{line}: a word of public contracts stands on `{folder}.{name}.{part}`, which only proofs need"
         elif crate in pages and crate != own:
             if name == "inside" or folder == "proofs" and name not in pages[crate]:
-                allowed = f"`{PAGE_OF_LAWS}`" if folder == "proofs" else "its other words"
-                yield f"{line}: imports `{folder}.{name}` of {crate}; allowed: {allowed}"
+                yield f"{line}: imports `{folder}.{name}` of {crate}; allowed: `PublicLaws`, and `specs` that aren't inside"
         elif crate in (own, "crate") and {name, part} & ON_CONTRACTS.get(path, set()):
             yield f"{line}: imports `{part or name}`, and is said to stand on contracts alone"
 
@@ -84,7 +79,7 @@ def undefined(sources, defined):
     """Yields a line for each word of `specs/` that a public contract cites, and that isn't defined or is of `specs/inside`."""
     for function in public_functions(sources):
         said = f"{function.where}: {function.full_name} cites"
-        cited = set(re.findall(r"(?<![\w.])\w+", " ".join(fact for _, _, fact in function.clauses)))
+        cited = set(re.findall(r"(?<![\w.])\w+", " ".join(fact for _, fact in function.clauses)))
         for page, names in SPECS.findall(function.source.text):
             words = [it.strip().split(" as ") for it in names.split(",")]
             for word in [it[0] for it in words if it[-1] in cited]:
@@ -99,8 +94,8 @@ def missing_wrong_bodies(texts):
     for crate, sources in crates_of(texts).items():
         found, changed = [it for source in sources for it in source.functions if it.has_body], set()
         for path in [it for it in texts if re.fullmatch(rf"crates/{crate}/(?:wrong|must-fail)/.*\.edit", it)]:
-            with contextlib.suppress(BadEdit):
-                changed.add(load_edit(path, texts[path], by_path(sources)).function)
+            with contextlib.suppress(ValueError):
+                changed.add(load_edit(path.rpartition("/")[2], texts[path], by_path(sources)).function)
         named = {it: set(re.findall(r"\b\w+\b(?=(?:::<[^>]*>)?\()", it.code)) for it in found}
         reached = closed(changed, {it: {other for other in found if other.name in named[it]} for it in found})
         for it in found if not re.search("^test_|_tests$", crate) else ():
@@ -134,7 +129,7 @@ def source_of(path, text):
 @lru_cache(maxsize=None)
 def text_faults(path, text):
     """Returns what is broken in one text."""
-    found = [(it, said) for files, pattern, said in PATTERNS if files.fullmatch(path) for it in pattern.finditer(text)]
+    found = [(it, said) for files, pattern, said in PATTERNS if re.fullmatch(files, path) for it in re.finditer(pattern, text)]
     links = LINK.findall(text) if path.endswith(".md") else []
     return [
         *(f"{path}:{line_of(text, it.end())}: {said.format(it[0], *it.groups())}" for it, said in found),
@@ -150,7 +145,7 @@ def faults(texts):
         yield f"crates.txt lists {sorted(named)}, and crates/ holds {sorted(crates)}"
     if not texts[DRAWN[0]].endswith(f"```text\n{texts[DRAWN[1]]}```\n"):
         yield f"{DRAWN[0]}: its end isn't {DRAWN[1]}"
-    pages = {it: {PAGE_OF_LAWS, *PASSED_ON.findall(texts.get(f"crates/{it}/proofs/Lib.antt", ""))} for it in crates}
+    pages = {it: {"PublicLaws", *PASSED_ON.findall(texts.get(f"crates/{it}/proofs/Lib.antt", ""))} for it in crates}
     for path, text in texts.items():
         yield from text_faults(path, text)
         if path.startswith("crates/") and path.endswith((".antt", ".rt")):
@@ -199,17 +194,12 @@ def self_test():
         broken = {**texts, path: texts[path].replace(old, new)}
         assert any(want in line for rule in (faults, missing_wrong_bodies) for line in rule(broken)), want
     print(f"text rules: {len(BREAKS)} planted faults are found")
-    return 0
-
-
-def main():
-    if "--self-test" in sys.argv:
-        return self_test()
-    if "--wrong-bodies" in sys.argv:
-        print("\n".join(missing_wrong_bodies(texts_of(TOP))))
-        return 0
-    return tell("text rules", faults(texts_of(TOP)))
 
 
 if __name__ == "__main__":
-    sys.exit(main())
+    if "--self-test" in sys.argv:
+        self_test()
+    elif "--wrong-bodies" in sys.argv:
+        print("\n".join(missing_wrong_bodies(texts_of(TOP))))
+    else:
+        sys.exit(tell("text rules", faults(texts_of(TOP))))

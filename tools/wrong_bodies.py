@@ -1,5 +1,5 @@
 #!/usr/bin/env python3
-"""Tries the wrong bodies of the crates, many at a time: wrong_bodies.py [--jobs N] [--anew] [--self-test] [CRATE..]
+"""Tries the wrong bodies of the crates, many at a time: wrong_bodies.py [--jobs N] [--most N] [--anew] [--self-test] [CRATE..]
 
 Functions are proved against the contracts of those that they call, so a wave puts many wrong bodies into one copy of a crate, at
 most one a function, and checks once. docs/GATE.md has what a line tells of each, as `refused NAME in FUNCTION: GOAL`, and which
@@ -18,20 +18,18 @@ import sys
 import tempfile
 from collections import Counter, defaultdict, namedtuple
 from concurrent.futures import ThreadPoolExecutor
+from pathlib import Path
 
-import edits
+import sources
 import wrong_plants
 from proofs import PARTS, Commands, Crates, Failure, processor_count, prove_all
-from sources import TOP, read, read_crate, write_files
+from sources import TOP, by_path, load_edit, read, read_crate, split_owner, write_files
 
 KEPT = os.path.join(os.environ.get("XDG_CACHE_HOME") or os.path.expanduser("~/.cache"), "woltsjem", "wrong_bodies")
-# The most that is kept of a crate, and that a wave begins with.
-MOST_KEPT, MOST_AT_ONCE = 1000, 40
+MOST_KEPT = 1000
 # A written answer that cites a name which isn't there, and one that was not looked at.
 GONE = re.compile(r"has no field|is not in scope|has no `|is no name")
 PASSED_OVER = re.compile(r"was not admitted|were not admitted|not checked")
-
-
 # What came of a wrong body: the word for it, the function, and what the check said.
 Told = namedtuple("Told", "kind name text")
 # What a check said of each function, the errors in each one's written answers, those of the compiler, and how it ended.
@@ -69,11 +67,35 @@ def told_of(name, report):
     return Told("untold", name, said) if said.startswith("could not tell") else None
 
 
-def verdict(names, report):
-    """Returns what a check told of a wrong body, by the names of its function and of the closures in it, or None if nothing."""
-    told = [told_of(name, report) for name in names]
-    wrong = [it for it in told if it and it.kind != "proved"]
-    return min(wrong, key=lambda it: it.kind != "refused") if wrong else next(iter(told), None)
+def type_name(text):
+    """Returns the word by which the check names a type in the name of an impl: &mut BitVec<A> is RefMutBitVec, and u64 is U64."""
+    head = re.match(r"(&?)(?:'\w+ )?(mut )?(.*)", text.strip())
+    word = re.match(r"\w*", head[3].split("<")[0].split("::")[-1])[0]
+    return ("Ref" if head[1] else "") + ("Mut" if head[2] else "") + word[:1].upper() + word[1:]
+
+
+def names_of(function, file, known):
+    """Returns those of the names that a check has for a function, whose own comes first, and for the closures in it."""
+    path = re.sub(r"^src/|\.rt$", "", file).replace("/", "::")
+    module = [] if path in ("lib", "main") else path.split("::")
+    split = {name: name.split("::")[1:] for name in known}
+    if not function.owner:
+        fits = [it for it in split.values() if it == [*module, function.name]]
+    else:
+        kind, trait = split_owner(function.owner)
+        kind, trait = type_name(kind.split(":")[0]), type_name(trait)
+        kind = "Any" if len(kind) == 1 else kind
+        fits = [it for it in split.values() if it[-1] == function.name and it[-2:-1] == [kind + trait] and "fn" not in it]
+        # (the arguments of a type and of a trait come after their names)
+        like = re.compile(rf"{kind}\w*{trait}\w*" if trait else kind)
+        fits = fits or [it for it in split.values() if it[:-2] == module and like.fullmatch(it[-2]) and it[-1] == function.name]
+    if len(fits) > 1:
+        fits = [it for it in fits if it[: len(module)] == module]
+    if len(fits) != 1:
+        return []
+    own = fits[0][-2 if function.owner else -1 :]
+    inside = [name for name, it in split.items() if "fn" in it and it[it.index("fn") + 1 :][: len(own)] == own]
+    return [*(name for name, it in split.items() if it == fits[0]), *inside]
 
 
 class Tried:
@@ -82,9 +104,9 @@ class Tried:
     def __init__(self, crates, name, commands, is_anew):
         self.crates, self.name, self.commands = crates, name, commands
         self.folder, self.below = crates.folder(name), crates.below(name)
-        self.sources, self.proved = edits.by_path(read_crate(crates.top, name)), f"{self.folder}/out/incremental"
-        paths = edits.edit_files(self.folder)
-        self.files = {edits.edit_name(path): path for path in paths}
+        self.sources, self.proved = by_path(read_crate(crates.top, name)), f"{self.folder}/out/incremental"
+        paths = [str(it) for part in ("must-fail", "wrong") for it in sorted(Path(self.folder, part).glob("*.edit"))]
+        self.files = {Path(path).stem: path for path in paths}
         if len(self.files) < len(paths):
             raise Failure(f"two wrong bodies of {name} have one name")
         self.keys, known = self.sums(), {} if is_anew else kept(name)
@@ -96,7 +118,7 @@ class Tried:
         crates = [*self.below, self.name]
         folders = [f"{self.crates.folder(name)}/{part}" for name in crates for part in PARTS]
         found = sorted(f"{at}/{it}" for folder in folders for at, _, names in os.walk(folder) for it in names)
-        texts = [f"{os.path.basename(it)} {read(it)}" for it in [__file__, edits.__file__, *found]]
+        texts = [f"{os.path.basename(it)} {read(it)}" for it in [__file__, sources.__file__, *found]]
         base = sum_of(version, *(self.crates.lines[it] for it in crates), *texts)
         return {name: sum_of(base, read(path)) for name, path in self.files.items()}
 
@@ -135,9 +157,12 @@ def settled(wave, report, commands):
     """Returns what a wave told of its wrong bodies, by their names; nothing of those that wait for a later wave."""
     told, changed = {}, set()
     for edit in wave:
-        function, names = edit.function, edits.names_of(edit.function, edit.file, report.functions)
+        function, names = edit.function, names_of(edit.function, edit.file, report.functions)
         error = next((it[2] for it in report.errors if it[0] == edit.file and function.first <= it[1] <= function.last), None)
-        it = Told("bad", function.name, error) if error else verdict(names, report)
+        about = [told_of(name, report) for name in names]
+        wrong = [it for it in about if it and it.kind != "proved"]
+        it = min(wrong, key=lambda it: it.kind != "refused", default=about[0] if about else None)
+        it = Told("bad", function.name, error) if error else it
         if it or len(wave) == 1:
             name = names[0] if names else function.name
             told[edit.name] = it or Told("untold", name, report.functions.get(name) or report.end)
@@ -169,8 +194,8 @@ def try_crates(crates, flags, commands):
 
     The crates below are proved before, and the waves of all crates then share the processors.
     """
-    tried = [Tried(crates, name, commands, flags.anew) for name in flags.crates or crates.lines]
-    tried = [it for it in tried if it.files]
+    names = [it for it in flags.crates or crates.lines if os.path.isdir(f"{crates.folder(it)}/wrong")]
+    tried = [Tried(crates, it, commands, flags.anew) for it in names]
     prove_all(crates, {name for it in tried if len(it.told) < len(it.files) for name in it.below}, commands)
     with ThreadPoolExecutor(commands.count) as waves, ThreadPoolExecutor(len(tried) or 1) as pool:
         for it in pool.map(lambda crate: try_crate(crate, flags, waves), tried):
@@ -180,11 +205,11 @@ def try_crates(crates, flags, commands):
 
 def try_crate(crate, flags, pool):
     """Tries those wrong bodies of a crate that were not refused earlier. Until something of it is proved, waves come singly."""
-    left, most = [], MOST_AT_ONCE
+    left, most = [], flags.most
     for edit in [it for it in crate.keys if it not in crate.told]:
         try:
-            left.append(edits.load_edit(edit, read(crate.files[edit]), crate.sources))
-        except edits.BadEdit as error:
+            left.append(load_edit(edit, read(crate.files[edit]), crate.sources))
+        except ValueError as error:
             tell(crate, edit, Told("bad", "no function", str(error)))
     while left:
         waves, before = dealt(left, most), len(left)
@@ -219,6 +244,7 @@ def main():
     parser = argparse.ArgumentParser(description=__doc__.split("\n", maxsplit=1)[0])
     parser.add_argument("crates", nargs="*", metavar="CRATE")
     parser.add_argument("--jobs", type=int, default=processor_count())
+    parser.add_argument("--most", type=int, default=40)
     parser.add_argument("--anew", action="store_true")
     parser.add_argument("--self-test", action="store_true")
     flags = parser.parse_args()
