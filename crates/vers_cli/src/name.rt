@@ -1,6 +1,24 @@
 //! The names of lines.
 ghost use Rattle.std.specs.Prelude.{◌≡◌, map, find, bytes_eq, option_map};
 
+use AllQuery::{IterSortedU64, IterU64};
+use ForestQuery::{DfsPostIter, IsAncestor, Level, LevelAncestor, Measure, Relative, Walk};
+use LevelQuery::{LevelLeftmost, LevelRightmost};
+use MeasureQuery::{Depth, IsLeaf, NodeIndex, SubtreeSize};
+use PlaceQuery::{Close, Enclose, Excess, NodeHandle, Open};
+use Query::{Forest, Symbols, Tree};
+use RangeQuery::{RangeMaxU64, RangeMedianU64, RangeMinU64};
+use RelativeQuery::{
+    FirstChild, LastChild, LevelNext, LevelPrev, NextSibling, Parent, PreviousSibling,
+};
+use SearchQuery::{BwdSearch, FwdSearch};
+use SymbolQuery::{RankU64, SelectU64};
+use SymbolsQuery::{All, GetU64, Range, Symbol, Within};
+use TreeQuery::{Place, Search, Whole};
+use WalkQuery::{Children, RevChildren, SubtreeIter, SubtreePostIter};
+use WholeQuery::{DfsIter, IsBalanced, Root, Size};
+use WithinQuery::{PredecessorU64, QuantileU64, RankRangeU64, SelectOffsetU64, SuccessorU64};
+
 /// The first word of a load line.
 #[derive(Clone, Copy, Drop)]
 pub enum Load {
@@ -207,183 +225,72 @@ pub const NAMES: [(&[u8], Name); 68] = [
     (b"iter", Name::Query(Query::Iter)),
     (b"iter1", Name::Query(Query::Iter1)),
     (b"range_min", Name::Query(Query::RangeMin)),
-    (
-        b"size",
-        Name::Query(Query::Tree(TreeQuery::Whole(WholeQuery::Size))),
-    ),
-    (
-        b"root",
-        Name::Query(Query::Tree(TreeQuery::Whole(WholeQuery::Root))),
-    ),
-    (
-        b"is_balanced",
-        Name::Query(Query::Tree(TreeQuery::Whole(WholeQuery::IsBalanced))),
-    ),
-    (
-        b"dfs_iter",
-        Name::Query(Query::Tree(TreeQuery::Whole(WholeQuery::DfsIter))),
-    ),
-    (
-        b"excess",
-        Name::Query(Query::Tree(TreeQuery::Place(PlaceQuery::Excess))),
-    ),
-    (
-        b"close",
-        Name::Query(Query::Tree(TreeQuery::Place(PlaceQuery::Close))),
-    ),
-    (
-        b"open",
-        Name::Query(Query::Tree(TreeQuery::Place(PlaceQuery::Open))),
-    ),
-    (
-        b"enclose",
-        Name::Query(Query::Tree(TreeQuery::Place(PlaceQuery::Enclose))),
-    ),
-    (
-        b"node_handle",
-        Name::Query(Query::Tree(TreeQuery::Place(PlaceQuery::NodeHandle))),
-    ),
-    (
-        b"fwd_search",
-        Name::Query(Query::Tree(TreeQuery::Search(SearchQuery::FwdSearch))),
-    ),
-    (
-        b"bwd_search",
-        Name::Query(Query::Tree(TreeQuery::Search(SearchQuery::BwdSearch))),
-    ),
+    (b"size", Name::Query(Tree(Whole(Size)))),
+    (b"root", Name::Query(Tree(Whole(Root)))),
+    (b"is_balanced", Name::Query(Tree(Whole(IsBalanced)))),
+    (b"dfs_iter", Name::Query(Tree(Whole(DfsIter)))),
+    (b"excess", Name::Query(Tree(Place(Excess)))),
+    (b"close", Name::Query(Tree(Place(Close)))),
+    (b"open", Name::Query(Tree(Place(Open)))),
+    (b"enclose", Name::Query(Tree(Place(Enclose)))),
+    (b"node_handle", Name::Query(Tree(Place(NodeHandle)))),
+    (b"fwd_search", Name::Query(Tree(Search(FwdSearch)))),
+    (b"bwd_search", Name::Query(Tree(Search(BwdSearch)))),
     (b"symbols", Name::Load(Load::Symbols)),
-    (
-        b"iter_u64",
-        Name::Query(Query::Symbols(SymbolsQuery::All(AllQuery::IterU64))),
-    ),
-    (
-        b"iter_sorted_u64",
-        Name::Query(Query::Symbols(SymbolsQuery::All(AllQuery::IterSortedU64))),
-    ),
-    (
-        b"get_u64",
-        Name::Query(Query::Symbols(SymbolsQuery::GetU64)),
-    ),
-    (
-        b"rank_u64",
-        Name::Query(Query::Symbols(SymbolsQuery::Symbol(SymbolQuery::RankU64))),
-    ),
-    (
-        b"select_u64",
-        Name::Query(Query::Symbols(SymbolsQuery::Symbol(SymbolQuery::SelectU64))),
-    ),
-    (
-        b"range_min_u64",
-        Name::Query(Query::Symbols(SymbolsQuery::Range(RangeQuery::RangeMinU64))),
-    ),
-    (
-        b"range_max_u64",
-        Name::Query(Query::Symbols(SymbolsQuery::Range(RangeQuery::RangeMaxU64))),
-    ),
+    (b"iter_u64", Name::Query(Symbols(All(IterU64)))),
+    (b"iter_sorted_u64", Name::Query(Symbols(All(IterSortedU64)))),
+    (b"get_u64", Name::Query(Symbols(GetU64))),
+    (b"rank_u64", Name::Query(Symbols(Symbol(RankU64)))),
+    (b"select_u64", Name::Query(Symbols(Symbol(SelectU64)))),
+    (b"range_min_u64", Name::Query(Symbols(Range(RangeMinU64)))),
+    (b"range_max_u64", Name::Query(Symbols(Range(RangeMaxU64)))),
     (
         b"range_median_u64",
-        Name::Query(Query::Symbols(SymbolsQuery::Range(RangeQuery::RangeMedianU64))),
+        Name::Query(Symbols(Range(RangeMedianU64))),
     ),
     (
         b"rank_range_u64",
-        Name::Query(Query::Symbols(SymbolsQuery::Within(WithinQuery::RankRangeU64))),
+        Name::Query(Symbols(Within(RankRangeU64))),
     ),
     (
         b"select_offset_u64",
-        Name::Query(Query::Symbols(SymbolsQuery::Within(WithinQuery::SelectOffsetU64))),
+        Name::Query(Symbols(Within(SelectOffsetU64))),
     ),
-    (
-        b"quantile_u64",
-        Name::Query(Query::Symbols(SymbolsQuery::Within(WithinQuery::QuantileU64))),
-    ),
+    (b"quantile_u64", Name::Query(Symbols(Within(QuantileU64)))),
     (
         b"predecessor_u64",
-        Name::Query(Query::Symbols(SymbolsQuery::Within(WithinQuery::PredecessorU64))),
+        Name::Query(Symbols(Within(PredecessorU64))),
     ),
-    (
-        b"successor_u64",
-        Name::Query(Query::Symbols(SymbolsQuery::Within(WithinQuery::SuccessorU64))),
-    ),
-    (
-        b"parent",
-        Name::Query(Query::Forest(ForestQuery::Relative(RelativeQuery::Parent))),
-    ),
-    (
-        b"first_child",
-        Name::Query(Query::Forest(ForestQuery::Relative(RelativeQuery::FirstChild))),
-    ),
-    (
-        b"last_child",
-        Name::Query(Query::Forest(ForestQuery::Relative(RelativeQuery::LastChild))),
-    ),
-    (
-        b"next_sibling",
-        Name::Query(Query::Forest(ForestQuery::Relative(RelativeQuery::NextSibling))),
-    ),
+    (b"successor_u64", Name::Query(Symbols(Within(SuccessorU64)))),
+    (b"parent", Name::Query(Forest(Relative(Parent)))),
+    (b"first_child", Name::Query(Forest(Relative(FirstChild)))),
+    (b"last_child", Name::Query(Forest(Relative(LastChild)))),
+    (b"next_sibling", Name::Query(Forest(Relative(NextSibling)))),
     (
         b"previous_sibling",
-        Name::Query(Query::Forest(ForestQuery::Relative(RelativeQuery::PreviousSibling))),
+        Name::Query(Forest(Relative(PreviousSibling))),
     ),
-    (
-        b"level_next",
-        Name::Query(Query::Forest(ForestQuery::Relative(RelativeQuery::LevelNext))),
-    ),
-    (
-        b"level_prev",
-        Name::Query(Query::Forest(ForestQuery::Relative(RelativeQuery::LevelPrev))),
-    ),
-    (
-        b"node_index",
-        Name::Query(Query::Forest(ForestQuery::Measure(MeasureQuery::NodeIndex))),
-    ),
-    (
-        b"is_leaf",
-        Name::Query(Query::Forest(ForestQuery::Measure(MeasureQuery::IsLeaf))),
-    ),
-    (
-        b"depth",
-        Name::Query(Query::Forest(ForestQuery::Measure(MeasureQuery::Depth))),
-    ),
-    (
-        b"subtree_size",
-        Name::Query(Query::Forest(ForestQuery::Measure(MeasureQuery::SubtreeSize))),
-    ),
-    (
-        b"is_ancestor",
-        Name::Query(Query::Forest(ForestQuery::IsAncestor)),
-    ),
-    (
-        b"level_ancestor",
-        Name::Query(Query::Forest(ForestQuery::LevelAncestor)),
-    ),
-    (
-        b"level_leftmost",
-        Name::Query(Query::Forest(ForestQuery::Level(LevelQuery::LevelLeftmost))),
-    ),
+    (b"level_next", Name::Query(Forest(Relative(LevelNext)))),
+    (b"level_prev", Name::Query(Forest(Relative(LevelPrev)))),
+    (b"node_index", Name::Query(Forest(Measure(NodeIndex)))),
+    (b"is_leaf", Name::Query(Forest(Measure(IsLeaf)))),
+    (b"depth", Name::Query(Forest(Measure(Depth)))),
+    (b"subtree_size", Name::Query(Forest(Measure(SubtreeSize)))),
+    (b"is_ancestor", Name::Query(Forest(IsAncestor))),
+    (b"level_ancestor", Name::Query(Forest(LevelAncestor))),
+    (b"level_leftmost", Name::Query(Forest(Level(LevelLeftmost)))),
     (
         b"level_rightmost",
-        Name::Query(Query::Forest(ForestQuery::Level(LevelQuery::LevelRightmost))),
+        Name::Query(Forest(Level(LevelRightmost))),
     ),
-    (
-        b"children",
-        Name::Query(Query::Forest(ForestQuery::Walk(WalkQuery::Children))),
-    ),
-    (
-        b"rev_children",
-        Name::Query(Query::Forest(ForestQuery::Walk(WalkQuery::RevChildren))),
-    ),
-    (
-        b"subtree_iter",
-        Name::Query(Query::Forest(ForestQuery::Walk(WalkQuery::SubtreeIter))),
-    ),
+    (b"children", Name::Query(Forest(Walk(Children)))),
+    (b"rev_children", Name::Query(Forest(Walk(RevChildren)))),
+    (b"subtree_iter", Name::Query(Forest(Walk(SubtreeIter)))),
     (
         b"subtree_post_iter",
-        Name::Query(Query::Forest(ForestQuery::Walk(WalkQuery::SubtreePostIter))),
+        Name::Query(Forest(Walk(SubtreePostIter))),
     ),
-    (
-        b"dfs_post_iter",
-        Name::Query(Query::Forest(ForestQuery::DfsPostIter)),
-    ),
+    (b"dfs_post_iter", Name::Query(Forest(DfsPostIter))),
     (b"postings", Name::Load(Load::Postings)),
     (b"contains", Name::Query(Query::Contains)),
     (b"next", Name::Query(Query::Next)),
