@@ -1,12 +1,25 @@
--- What is held between lines, as the plain list.
+-- What is held between lines, as the plain list, and the lines of each structure. A further one adds a clause to each of the
+-- first five definitions.
 use Rattle.std.specs.Prelude.{ℕ, Bool, false, true, List, length}
 use Rattle.vers_wavelet.specs.Symbols.{Symbols}
 use Rattle.postings.specs.Posted.{Posted}
+use Rattle.vers_words.specs.Arguments.{bits_of, all_numbers}
 use Rattle.vers_words.specs.Loading.{map_loading}
 use Rattle.vers_words.specs.declared.loading.Loading.{Loading}
 use Rattle.vers_words.specs.declared.loading.Loading.TheVariants.{Malformed, Inadmissible, Accepted}
+use Rattle.vers_words.specs.Reply.{PlainReply, WrongStructure}
 use Rattle.vers_cli.specs.declared.held.Held.{Held}
 use Rattle.vers_cli.specs.declared.held.Held.TheVariants as held
+use Rattle.vers_cli.specs.declared.name.Load.{Load}
+use Rattle.vers_cli.specs.declared.name.Load.TheVariants as load
+use Rattle.vers_cli.specs.declared.name.Query.{Query}
+use Rattle.vers_cli.specs.BitsLines.{bits_loaded, bits_reply}
+use Rattle.vers_cli.specs.SortedLines.{sorted_loaded, sorted_reply}
+use Rattle.vers_cli.specs.SparseLines.{sparse_loaded, sparse_reply}
+use Rattle.vers_cli.specs.ValuesLines.{values_loaded, values_reply}
+use Rattle.vers_cli.specs.TreeLines.{tree_loaded, tree_reply}
+use Rattle.vers_cli.specs.SymbolsLines.{symbols_loaded, symbols_reply}
+use Rattle.vers_cli.specs.PostingsLines.{postings_loaded, postings_reply}
 
 -- the list of the last load line that was accepted, if there was one
 pub data Holding : Type 0 where
@@ -40,6 +53,27 @@ length_of (ValuesHeld values) = length values
 length_of (TreeHeld bits) = length bits
 length_of (SymbolsHeld symbols) = length symbols.items
 length_of (PostingsHeld posted) = length posted.documents
+
+-- what a load line gives
+abbrev pub loaded : Load → List (List ℕ) → Loading Holding
+loaded load.Bits arguments = map_loading BitsHeld (bits_loaded (bits_of arguments))
+loaded load.Sorted arguments = map_loading SortedHeld (sorted_loaded (all_numbers arguments))
+loaded load.Sparse arguments = map_loading SparseHeld (sparse_loaded (all_numbers arguments))
+loaded load.Values arguments = map_loading ValuesHeld (values_loaded (all_numbers arguments))
+loaded load.Tree arguments = map_loading TreeHeld (tree_loaded (bits_of arguments))
+loaded load.Symbols arguments = map_loading SymbolsHeld (symbols_loaded (all_numbers arguments))
+loaded load.Postings arguments = map_loading PostingsHeld (postings_loaded (all_numbers arguments))
+
+-- the reply of a query line
+abbrev pub query_reply : Holding → Query → List (List ℕ) → PlainReply
+query_reply Nothing query arguments = WrongStructure
+query_reply (BitsHeld bits) query arguments = bits_reply bits query arguments
+query_reply (SortedHeld members) query arguments = sorted_reply members query arguments
+query_reply (SparseHeld bits) query arguments = sparse_reply bits query arguments
+query_reply (ValuesHeld values) query arguments = values_reply values query arguments
+query_reply (TreeHeld bits) query arguments = tree_reply bits query arguments
+query_reply (SymbolsHeld symbols) query arguments = symbols_reply symbols query arguments
+query_reply (PostingsHeld posted) query arguments = postings_reply posted query arguments
 
 -- what a load line gives, without what it writes
 abbrev pub kind_of : {H : Type 0} → Loading H → Loading (Unit {0})

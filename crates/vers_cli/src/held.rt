@@ -2,8 +2,7 @@
 ghost use Rattle.std.specs.Prelude.{◌≡◌, true, IfOk};
 ghost use Rattle.vers_words.specs.Text.{words_in};
 ghost use Rattle.vers_words.specs.Loading.{map_loading};
-ghost use Rattle.vers_cli.specs.Holding.{holding_of, length_of, is_accepted as accepts};
-ghost use Rattle.vers_cli.specs.Rules.{loaded, query_reply};
+ghost use Rattle.vers_cli.specs.Holding.{holding_of, length_of, loaded, query_reply, is_accepted as accepts};
 
 use crate::name::{Load, Query};
 use crate::{bits, documents, sorted, sparse, symbols, tree, values};

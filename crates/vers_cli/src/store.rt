@@ -3,8 +3,8 @@ ghost use Rattle.std.specs.Prelude.{◌≡◌, ◌++◌, ◌∷◌, [], length, 
 ghost use Rattle.vers_words.specs.Text.{words_in};
 ghost use Rattle.vers_words.specs.Reply.{plain_reply, reply_text};
 ghost use Rattle.vers_cli.specs.Name.{name_of};
-ghost use Rattle.vers_cli.specs.Holding.{Nothing, kind_of, held_after};
-ghost use Rattle.vers_cli.specs.Rules.{loaded, load_reply, holding_after_load, reply_to, holding_after_name};
+ghost use Rattle.vers_cli.specs.Holding.{Nothing, loaded, kind_of, held_after};
+ghost use Rattle.vers_cli.specs.Rules.{load_reply, reply_to, holding_after_name};
 ghost use Rattle.vers_cli.specs.Answers.{answer_to, holding_after, by_the_rules};
 
 use crate::held;
@@ -49,7 +49,7 @@ impl<'a, A: Allocator + Copy> Store<'a, A> {
         ensures reply { IfOk result (λ reply.
             plain_reply reply ≡ load_reply (loaded load (words_in arguments.now))) }
         ensures holds { OnOk result (self.new
-            ≡ holding_after_load self.old (loaded load (words_in arguments.now))) }
+            ≡ held_after self.old (loaded load (words_in arguments.now))) }
     {
         self.make_room(load, arguments);
         match accept(&mut self.held, held::load(self.alloc, load, arguments))? {
@@ -62,8 +62,8 @@ impl<'a, A: Allocator + Copy> Store<'a, A> {
     // Lets go of what is held where a load line is certain to be accepted, so that its room is there for what
     // comes in its place.
     fn make_room(&mut self, load: Load, arguments: &[u8])
-        ensures { holding_after_load self.new (loaded load (words_in arguments.now))
-            ≡ holding_after_load self.old (loaded load (words_in arguments.now)) }
+        ensures { held_after self.new (loaded load (words_in arguments.now))
+            ≡ held_after self.old (loaded load (words_in arguments.now)) }
     {
         if held::is_accepted(load, arguments) {
             put(&mut self.held, Held::Nothing);
