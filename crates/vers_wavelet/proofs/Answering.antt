@@ -77,14 +77,14 @@ rank_begins {ls} levels s end within =
     ap (λ i. way ls s end - way ls s i) none ∙ count_is levels s 0 end (way ls s 0) (way ls s end) (omega arith) within (omega arith)
 
 -- an answer where two tests pass, and where one fails
-pub if_both : {X : Type 0} (a b c d : ℕ) (x : X) → a ≤ b → c ≤ d → Some x ≡ (if leb a b && leb c d then Some x else None)
-if_both a b c d x h l = sym (ap (λ t. if t && leb c d then Some x else None) (leb_yes a b h) ∙ ap (λ t. if t then Some x else None) (leb_yes c d l))
+pub if_both : {X : Type 0} (a b c d : ℕ) (o : Option X) → a ≤ b → c ≤ d → o ≡ (if leb a b && leb c d then o else None)
+if_both a b c d o h l = sym (ap (λ t. if t && leb c d then o else None) (leb_yes a b h) ∙ ap (λ t. if t then o else None) (leb_yes c d l))
 
-pub if_first_fails : {X : Type 0} (a b c d : ℕ) (x : X) → b < a → None ≡ (if leb a b && leb c d then Some x else None)
-if_first_fails a b c d x h = sym (ap (λ t. if t && leb c d then Some x else None) (leb_no a b h))
+pub if_first_fails : {X : Type 0} (a b c d : ℕ) (o : Option X) → b < a → None ≡ (if leb a b && leb c d then o else None)
+if_first_fails a b c d o h = sym (ap (λ t. if t && leb c d then o else None) (leb_no a b h))
 
-pub if_second_fails : {X : Type 0} (a b c d : ℕ) (x : X) → a ≤ b → d < c → None ≡ (if leb a b && leb c d then Some x else None)
-if_second_fails a b c d x h l = sym (ap (λ t. if t && leb c d then Some x else None) (leb_yes a b h) ∙ ap (λ t. if t then Some x else None) (leb_no c d l))
+pub if_second_fails : {X : Type 0} (a b c d : ℕ) (o : Option X) → a ≤ b → d < c → None ≡ (if leb a b && leb c d then o else None)
+if_second_fails a b c d o h l = sym (ap (λ t. if t && leb c d then o else None) (leb_yes a b h) ∙ ap (λ t. if t then o else None) (leb_no c d l))
 
 -- where no place is left, none is on any level
 pub rank_rests : (o : Option ℕ) (c s end : ℕ) (ls ms : List (List Bool)) → o ≡ Some c → c ≡ 0

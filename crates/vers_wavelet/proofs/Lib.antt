@@ -14,5 +14,6 @@ pub mod Sources
 pub mod Counting
 pub mod Batches
 pub mod Answering
+pub mod Quantiles
 pub mod Statements
 pub mod PublicLaws

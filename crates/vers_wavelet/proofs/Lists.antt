@@ -178,6 +178,13 @@ kth_is ls n a b i x order within kth = record {
   more = omega (arith, over_members (λ v. leb v x) ls n a b order within, kth.more, leb_hits ls x a, leb_hits ls x b);
 }
 
+pub kth_of : (ls : List (List Bool)) (n a b i x : ℕ) → a ≤ b → b ≤ n → IsKth (slice_range (values ls n) a b) i x → KthOf ls a b i x
+unfolding under
+kth_of ls n a b i x order within kth = record {
+  less = omega (arith, over_members (λ v. ltb v x) ls n a b order within, kth.less);
+  more = omega (arith, over_members (λ v. leb v x) ls n a b order within, kth.more, leb_hits ls x a, leb_hits ls x b);
+}
+
 pub not_above_is : {ls : List (List Bool)} {n : ℕ} → AreLevels ls n → (s a b less from to : ℕ) → a ≤ b → b ≤ n → from + way ls s b ≡ to + way ls s a
     → less + under ls (s % 2 ^ length ls) a ≡ under ls (s % 2 ^ length ls) b
     → less + (to - from) ≡ count_by (λ y. leb y (s % 2 ^ length ls)) (slice_range (values ls n) a b)

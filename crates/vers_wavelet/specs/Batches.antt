@@ -1,6 +1,7 @@
 -- Lists whose items are changed one by one.
-use Rattle.std.specs.Prelude.{◌≡◌, ℕ, ◌<◌, ◌≤◌, Bool, List, length, slice_index_or, Option, IsSome, IfSome}
-use Rattle.vers_wavelet.specs.Levels.{way, Rises}
+use Rattle.std.specs.Prelude.{◌≡◌, ℕ, ◌<◌, ◌≤◌, Bool, List, length, slice_index, slice_index_or, slice_range, Option, IsSome, IfSome}
+use Rattle.vers_wavelet.specs.Levels.{way, values, Rises}
+use Rattle.vers_wavelet.specs.Symbols.{by_size}
 
 -- each item of xs has become one of ys that the relation allows
 pub record Become {Q : Type 0} (R : Q → Q → Type 0) (xs ys : List Q) : Type 0 where
@@ -17,3 +18,7 @@ pub record Changed {Q : Type 0} (R : Q → Q → Type 0) (xs ys : List Q) (j : �
 pub record Seeks (ls : List (List Bool)) (n s target k : ℕ) (kept : Option ℕ) : Type 0 where
   pub rises : IfSome kept (λ q. Rises ls n s target k q)
   pub some : target < way ls s n → IsSome kept
+
+-- member i by size of the symbols at the places from a up to b
+unfoldable pub member : List (List Bool) → ℕ → ℕ → ℕ → ℕ
+member ls a b i = slice_index (by_size (slice_range (values ls b) a b)) i

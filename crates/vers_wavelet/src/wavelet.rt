@@ -16,7 +16,7 @@ mod read;
 mod sizes;
 mod walk;
 
-pub use batch::{GetQuery, RankQuery, SelectQuery};
+pub use batch::{GetQuery, QuantileQuery, RankQuery, SelectQuery};
 pub use iter::{
     BySize, InOrder, Lists, Matrix, Numbers, Order, SortedLists, SortedNumbers, SymbolLists,
     SymbolNumbers, WaveletIter, WaveletNumIter, WaveletNumRefIter, WaveletRefIter,

@@ -6,10 +6,12 @@ ghost use Rattle.vers_wavelet.specs.Levels.{AreLevels};
 ghost use Rattle.vers_wavelet.specs.Batches.{Become};
 
 mod get;
+mod quantile;
 mod rank;
 mod select;
 
 pub use get::GetQuery;
+pub use quantile::QuantileQuery;
 pub use rank::RankQuery;
 pub use select::SelectQuery;
 use std::alloc::Allocator;

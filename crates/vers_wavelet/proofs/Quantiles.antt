@@ -1,0 +1,151 @@
+-- Members by size, from one level to the next.
+use Rattle.std.proofs.Common.{◌≡◌, ℕ, zero, suc, ◌+◌, ◌-◌, ◌*◌, ◌^◌, ◌&&◌, ◌<◌, ◌≤◌, Bool, true, false, cond, leb, ltb, List, [], ◌∷◌, length, get_or, drop, refl, sym, ap, ◌∙◌, subst, arith, inl, inr}
+use Rattle.std.specs.Prelude.{Option, Some, None, option_map, slice_get, slice_range, IfSome, All, if◌then◌else◌}
+use Rattle.std.specs.List.{count_by}
+use Rattle.std.proofs.lemmas.Bool.{cases_lt}
+use Rattle.std.proofs.lemmas.Bool.Decides.{nat_tests}
+use Rattle.std.proofs.lemmas.List.{length-take}
+use Rattle.std.proofs.lemmas.Option.{slice_get-get_or, slice_get_past}
+use Rattle.vers_bits.specs.Bits.{bit_value}
+use Rattle.vers_wavelet.specs.Levels.{value, values, next, under, KthOf, HasRoom}
+use Rattle.vers_wavelet.specs.Batches.{member}
+use Rattle.vers_wavelet.specs.Symbols.{by_size, IsKth}
+use Rattle.vers_wavelet.proofs.Values.{value-lt}
+use Rattle.vers_wavelet.proofs.Members.{one, count_cons}
+use Rattle.vers_wavelet.proofs.BySize.{Ascends, ascends_by_size, count_by_size, length-by_size, kth_at}
+use Rattle.vers_wavelet.proofs.Steps.{kth_low, kth_high}
+use Rattle.vers_wavelet.proofs.Lists.{length-values, length-part, kth_is, kth_of}
+use Rattle.vers_wavelet.proofs.Answering.{if_both, if_first_fails, if_second_fails}
+
+-- ---- the member at a place in ascending order
+
+ltb_none : (y x : ℕ) → x ≤ y → one (ltb y x) ≡ 0
+ltb_none y x h = grind (arith, nat_tests)
+
+ltb_one : (y x : ℕ) → one (ltb y x) ≤ 1
+ltb_one y x = grind (arith, nat_tests)
+
+leb_some : (y x : ℕ) → y ≤ x → one (leb y x) ≡ 1
+leb_some y x h = grind (arith, nat_tests)
+
+none_below : (x : ℕ) (ys : List ℕ) → All (λ z. x ≤ z) ys → count_by (λ y. ltb y x) ys ≡ 0
+none_below x [] all = refl
+none_below x (y ∷ ys) all =
+    let rest : All (λ z. x ≤ z) ys = λ i d k. all (suc i) d (omega arith) in
+    omega (arith, count_cons (λ z. ltb z x) y ys, ltb_none y x (all zero 0 (omega arith)), none_below x ys rest)
+
+few_below : (ys : List ℕ) → Ascends ys → (i : ℕ) → i < length ys → count_by (λ y. ltb y (get_or ys i 0)) ys ≤ i
+few_below [] up i h = absurd (omega arith)
+few_below (y ∷ ys) up zero h = omega (arith, count_cons (λ z. ltb z y) y ys, ltb_none y y (omega arith), none_below y ys up.0)
+few_below (y ∷ ys) up (suc i) h =
+    let x : ℕ = get_or ys i 0 in
+    omega (arith, count_cons (λ z. ltb z x) y ys, ltb_one y x, few_below ys up.1 i (omega arith))
+
+more_not_above : (ys : List ℕ) → Ascends ys → (i : ℕ) → i < length ys → i < count_by (λ y. leb y (get_or ys i 0)) ys
+more_not_above [] up i h = absurd (omega arith)
+more_not_above (y ∷ ys) up zero h = omega (arith, count_cons (λ z. leb z y) y ys, leb_some y y (omega arith))
+more_not_above (y ∷ ys) up (suc i) h =
+    let x : ℕ = get_or ys i 0 in
+    omega (arith, count_cons (λ z. leb z x) y ys, leb_some y x (up.0 i 0 (omega arith)), more_not_above ys up.1 i (omega arith))
+
+at_kth : (xs : List ℕ) (i : ℕ) → i < length xs → IsKth xs i (get_or (by_size xs) i 0)
+at_kth xs i h =
+    let ys : List ℕ = by_size xs in
+    let up = ascends_by_size xs in
+    let low : i < length ys = omega (arith, length-by_size xs) in
+    let x : ℕ = get_or ys i 0 in
+    record {
+      less = omega (arith, few_below ys up i low, count_by_size (λ y. ltb y x) xs);
+      more = omega (arith, more_not_above ys up i low, count_by_size (λ y. leb y x) xs);
+    }
+
+-- ---- the member of a range
+
+kth_member : (ls : List (List Bool)) (a b i : ℕ) → a + i < b → KthOf ls a b i (member ls a b i)
+unfolding member
+kth_member ls a b i h =
+    kth_of ls b a b i _ (omega arith) (omega arith) (at_kth (slice_range (values ls b) a b) i (omega (arith, length-part ls b a b (omega arith) (omega arith))))
+
+item_is : (ls : List (List Bool)) (n a b i x : ℕ) → a + i < b → b ≤ n → KthOf ls a b i x → get_or (by_size (slice_range (values ls n) a b)) i 0 ≡ x
+item_is ls n a b i x h within kth =
+    kth_at (slice_range (values ls n) a b) i x (omega (arith, length-part ls n a b (omega arith) within)) (kth_is ls n a b i x (omega arith) within kth)
+
+member_is : (ls : List (List Bool)) (a b i x : ℕ) → a + i < b → KthOf ls a b i x → member ls a b i ≡ x
+unfolding member
+member_is ls a b i x h kth = item_is ls b a b i x h (omega arith) kth
+
+passes : (v y : ℕ) → v < y → cond {A = ℕ} (ltb v y) 1 0 ≡ 1
+passes v y h = grind (arith, nat_tests)
+
+under_all : (ls : List (List Bool)) (y n : ℕ) → 2 ^ length ls ≤ y → under ls y n ≡ n
+unfolding under
+under_all ls y zero h = refl
+under_all ls y (suc n) h =
+    let here : cond {A = ℕ} (ltb (value ls n) y) 1 0 ≡ 1 = passes (value ls n) y (omega (arith, value-lt ls n)) in
+    omega (arith, under_all ls y n h, here)
+
+member-lt : (ls : List (List Bool)) (a b i : ℕ) → a + i < b → member ls a b i < 2 ^ length ls
+member-lt ls a b i h =
+    let x : ℕ = member ls a b i in
+    elim (cases_lt x (2 ^ length ls)) [
+      | inl small ↦ small
+      | inr high ↦ absurd (omega (arith, (kth_member ls a b i h).less, under_all ls x a high, under_all ls x b high))
+    ]
+
+member_goes : (bit : Bool) (v : List Bool) (ls : List (List Bool)) (a b i j : ℕ) → a + i < b → b ≤ length v → next bit v a + j < next bit v b
+    → j + cond bit (next false v b - next false v a) 0 ≡ i → next false v a ≤ next false v b
+    → member (v ∷ ls) a b i ≡ bit_value bit * 2 ^ length ls + member ls (next bit v a) (next bit v b) j
+member_goes true v ls a b i j h within order left up =
+    let x : ℕ = member ls (next true v a) (next true v b) j in
+    let kth = kth_high v ls a b i j x (omega arith) within (omega arith) (kth_member ls (next true v a) (next true v b) j order) in
+    member_is (v ∷ ls) a b i (2 ^ length ls + x) h kth ∙ omega arith
+member_goes false v ls a b i j h within order left up =
+    let same : j ≡ i = omega arith in
+    let x : ℕ = member ls (next false v a) (next false v b) j in
+    let kth : KthOf (v ∷ ls) a b j x = kth_low v ls a b j x (member-lt ls (next false v a) (next false v b) j order) (omega arith) within (kth_member ls (next false v a) (next false v b) j order) in
+    let at : KthOf (v ∷ ls) a b i x = subst (λ (m : ℕ). KthOf (v ∷ ls) a b m x) same kth in
+    member_is (v ∷ ls) a b i x h at ∙ omega arith
+
+-- ---- queries
+
+pub quantile_begins : (ls : List (List Bool)) (n a b i : ℕ) → length ls ≤ 64 → b ≤ n → a + i < b
+    → Some (0 + member ls a b i) ≡ (if leb (length ls) 64 && leb b (length (values ls n)) then slice_get (by_size (slice_range (values ls n) a b)) i else None)
+quantile_begins ls n a b i few within h =
+    let xs : List ℕ = slice_range (values ls n) a b in
+    let e : get_or (by_size xs) i 0 ≡ 0 + member ls a b i = item_is ls n a b i (member ls a b i) h within (kth_member ls a b i h) ∙ omega arith in
+    let at : slice_get (by_size xs) i ≡ Some (0 + member ls a b i) =
+    slice_get-get_or (by_size xs) i 0 (omega (arith, length-by_size xs, length-part ls n a b (omega arith) within)) ∙ ap Some e in
+    sym at ∙ if_both (length ls) 64 b (length (values ls n)) (slice_get (by_size xs) i) few (omega (arith, length-values ls n))
+
+pub quantile_none : (ls : List (List Bool)) (n a b i : ℕ) → ((length ls ≤ 64) × (b ≤ n) × (a + i < b) → ⊥)
+    → None ≡ (if leb (length ls) 64 && leb b (length (values ls n)) then slice_get (by_size (slice_range (values ls n) a b)) i else None)
+quantile_none ls n a b i refused =
+    let o : Option ℕ = slice_get (by_size (slice_range (values ls n) a b)) i in
+    elim (cases_lt 64 (length ls)) [
+      | inl wide ↦ if_first_fails (length ls) 64 b (length (values ls n)) o wide
+      | inr few ↦ elim (cases_lt n b) [
+        | inl past ↦ if_second_fails (length ls) 64 b (length (values ls n)) o few (omega (arith, length-values ls n))
+        | inr within ↦ elim (cases_lt (a + i) b) [
+          | inl inside ↦ absurd (refused (few, within, inside))
+          | inr short ↦
+              let xs : List ℕ = slice_range (values ls n) a b in
+              let none : o ≡ None = slice_get_past (by_size xs) i (omega (arith, length-by_size xs, length-take (b - a) (drop a (values ls n)))) in
+              sym none ∙ if_both (length ls) 64 b (length (values ls n)) o few (omega (arith, length-values ls n))
+        ]
+      ]
+    ]
+
+pub quantile_goes : (v : List Bool) (ls : List (List Bool)) (a b i j to end number more k : ℕ) (bit : Bool) (o : Option ℕ) → o ≡ Some number → length ls ≡ k
+    → a + i < b → b ≤ length v → to ≡ next bit v a → end ≡ next bit v b → to + j < end → j + cond bit (next false v b - next false v a) 0 ≡ i → next false v a ≤ next false v b
+    → more ≡ number + bit_value bit * 2 ^ k
+    → Some (more + member ls to end j) ≡ option_map (λ y. y + member (v ∷ ls) a b i) o
+quantile_goes v ls a b i j to end number more k bit o is long h within from last order left up e =
+    let parts : member (v ∷ ls) a b i ≡ bit_value bit * 2 ^ k + member ls to end j =
+    member_goes bit v ls a b i j h within (omega arith) left up ∙ ap (λ n. bit_value bit * 2 ^ n + member ls (next bit v a) (next bit v b) j) long
+    ∙ ap (λ p. bit_value bit * 2 ^ k + member ls p (next bit v b) j) (sym from) ∙ ap (λ p. bit_value bit * 2 ^ k + member ls to p j) (sym last) in
+    let whole : more + member ls to end j ≡ number + member (v ∷ ls) a b i = omega (arith, e, parts) in
+    ap Some whole ∙ sym (ap (option_map (λ y. y + member (v ∷ ls) a b i)) is)
+
+pub quantile_ends : (o : Option ℕ) (n a b i : ℕ) → IfSome o (λ y. (a + i < b) × (b ≤ n) × (0 ≤ 64) × HasRoom 64 0 y) → o ≡ option_map (λ y. y + member [] a b i) o
+quantile_ends None n a b i kept = refl
+quantile_ends (Some y) n a b i kept = let e : y ≡ y + member [] a b i = omega (arith, member-lt [] a b i kept.0) in ap Some e

@@ -1,0 +1,14 @@
+use Rattle.std.proofs.Common.{arith}
+use Rattle.vers_wavelet.proofs.Members.{both_ways}
+use Rattle.vers_wavelet.proofs.Quantiles.{quantile_begins, quantile_none}
+use Rattle.vers_wavelet.proofs.wavelet.batch.quantile.QuantileQueryQuery.begin.Goals as goal
+
+pub returns-then-has_answer-clause-same : goal.returns-then-has_answer-clause-same
+returns-then-has_answer-clause-same c =
+    let all = c.has_answer.ensures.0 c.if-has_answer.true in
+    λ ls levels e. quantile_begins ls c.args.len c.args.self.start c.args.self.end c.args.self.i (omega (arith, e, all.0)) all.1 all.2
+
+pub returns-else-has_answer-clause-same : goal.returns-else-has_answer-clause-same
+returns-else-has_answer-clause-same c =
+    λ ls levels e. quantile_none ls c.args.len c.args.self.start c.args.self.end c.args.self.i (λ t.
+    both_ways c.has_answer.result c.if-has_answer.false (c.has_answer.ensures.1 (omega (arith, e, t.0), t.1, t.2)))
