@@ -49,8 +49,9 @@ pub mod rmq {
 /// Lists of symbols of one width.
 pub mod wavelet {
     pub use vers_wavelet::wavelet::{
-        WaveletIter, WaveletMatrix, WaveletNumIter, WaveletNumRefIter, WaveletRefIter,
-        WaveletSortedIter, WaveletSortedNumIter, WaveletSortedNumRefIter, WaveletSortedRefIter,
+        GetQuery, QuantileQuery, RankQuery, SelectQuery, WaveletIter, WaveletMatrix,
+        WaveletNumIter, WaveletNumRefIter, WaveletRefIter, WaveletSortedIter, WaveletSortedNumIter,
+        WaveletSortedNumRefIter, WaveletSortedRefIter,
     };
 }
 

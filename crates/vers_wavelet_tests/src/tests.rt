@@ -1,6 +1,7 @@
 //! What is asked stands in tables. A test holds no matrix itself, which would be slow to prove: it hands what
 //! a maker answers to an owner of any type, and helpers over any allocator ask it by a reference.
 //! An `assert!` of an `==` is faster to prove than an `assert_eq!`, which prints both sides.
+mod batches;
 mod compared;
 mod iterators;
 mod lists;

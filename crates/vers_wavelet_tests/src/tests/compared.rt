@@ -5,15 +5,15 @@ use std::alloc::Allocator;
 use test_alloc::{Check, is_made_right};
 use vers_wavelet::wavelet::WaveletMatrix;
 
-// Lists of symbols of 3 bits, which fit in a few symbols more than one limb too.
-const LISTS: [&[u64]; 3] = [
+/// Lists of symbols of 3 bits, which fit in a few symbols more than one limb too.
+pub const LISTS: [&[u64]; 3] = [
     &[1, 4, 4, 1, 3, 1, 4, 3, 2, 0],
     &[7, 7, 7],
     &[0, 1, 2, 3, 4, 5, 6, 7, 6, 5, 4, 3, 2],
 ];
 
-// How many members of a range are not below one number, but below another.
-fn count(numbers: &[u64], from: u64, end: u64) -> usize {
+/// How many members of a range are not below one number, but below another.
+pub fn count(numbers: &[u64], from: u64, end: u64) -> usize {
     let mut found = 0usize;
     for it in numbers {
         if from <= *it && *it < end {
@@ -28,8 +28,8 @@ fn below(numbers: &[u64], number: u64) -> usize {
     count(numbers, 0, number)
 }
 
-// The least number of 3 bits of which more than `i` members of a range are not above it.
-fn kth(numbers: &[u64], i: usize) -> Option<u64> {
+/// The least number of 3 bits of which more than `i` members of a range are not above it.
+pub fn kth(numbers: &[u64], i: usize) -> Option<u64> {
     for number in 0..8 {
         if below(numbers, number + 1) > i {
             return Some(number);
@@ -38,8 +38,8 @@ fn kth(numbers: &[u64], i: usize) -> Option<u64> {
     None
 }
 
-// The place of occurrence `rank` of a number.
-fn found(numbers: &[u64], rank: usize, number: u64) -> Option<u64> {
+/// The place of occurrence `rank` of a number.
+pub fn found(numbers: &[u64], rank: usize, number: u64) -> Option<u64> {
     let mut left = rank;
     for (place, it) in numbers.iter().enumerate() {
         if *it == number {

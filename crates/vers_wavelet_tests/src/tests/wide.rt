@@ -8,7 +8,7 @@ use crate::tests::numbers::{Query, answer};
 use std::alloc::{AllocError, Allocator, Global};
 use test_alloc::{Check, is_made_right};
 use vers_bits::bit_vec::{BitVec, GrowError};
-use vers_wavelet::wavelet::WaveletMatrix;
+use vers_wavelet::wavelet::{GetQuery, QuantileQuery, RankQuery, SelectQuery, WaveletMatrix};
 
 const NUMBERS: [u64; 6] = [1, 5, 3, 7, 0, 5];
 
@@ -124,7 +124,39 @@ fn has_none<A: Allocator + Copy>(list: &WaveletMatrix<A>, rows: &[(Query, Option
             return false;
         }
     }
-    list.iter_u64().is_none() && list.iter_sorted_u64().is_none()
+    list.iter_u64().is_none() && list.iter_sorted_u64().is_none() && batches_have_none(list)
+}
+
+// Whether no query of a batch has an answer, also where it had one before.
+fn batches_have_none<A: Allocator + Copy>(list: &WaveletMatrix<A>) -> bool {
+    let mut gets = [GetQuery {
+        place: 0,
+        answer: Some(9),
+    }];
+    list.get_u64_each(&mut gets);
+    let mut ranks = [RankQuery {
+        end: 0,
+        symbol: 5,
+        answer: Some(9),
+    }];
+    list.rank_u64_each(&mut ranks);
+    let mut selects = [SelectQuery {
+        rank: 0,
+        symbol: 5,
+        answer: Some(9),
+    }];
+    list.select_u64_each(&mut selects);
+    let mut quantiles = [QuantileQuery {
+        start: 0,
+        end: 1,
+        i: 0,
+        answer: Some(9),
+    }];
+    list.quantile_u64_each(&mut quantiles);
+    gets[0].answer.is_none()
+        && ranks[0].answer.is_none()
+        && selects[0].answer.is_none()
+        && quantiles[0].answer.is_none()
 }
 
 // What is asked for a symbol of another width, and has no answer.

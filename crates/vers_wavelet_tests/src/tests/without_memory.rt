@@ -12,7 +12,7 @@ use test_alloc::{
 use vers_bits::bit_vec::BitVec;
 use vers_tally::ends::{Borrowing, BothEnds, Source};
 use vers_tally::tally::Tally;
-use vers_wavelet::wavelet::WaveletMatrix;
+use vers_wavelet::wavelet::{GetQuery, QuantileQuery, RankQuery, SelectQuery, WaveletMatrix};
 
 // Whether all forms of the queries for numbers answer the same of so many symbols.
 fn answers_numbers<A: Allocator + Copy>(list: &WaveletMatrix<A>, len: usize) -> bool {
@@ -41,6 +41,28 @@ fn answers_numbers<A: Allocator + Copy>(list: &WaveletMatrix<A>, len: usize) -> 
         }
     }
     true
+}
+
+// Whether batches of queries answer what single queries do of so many symbols.
+fn answers_batches<A: Allocator + Copy>(list: &WaveletMatrix<A>, len: usize) -> bool {
+    let i = len / 2;
+    let s = i as u64 / 2;
+    let mut gets = [GetQuery::new(i), GetQuery::new(len)];
+    list.get_u64_each(&mut gets);
+    let mut ranks = [RankQuery::new(len, s), RankQuery::new(i, s)];
+    list.rank_u64_each(&mut ranks);
+    let mut selects = [SelectQuery::new(0, s), SelectQuery::new(1, s)];
+    list.select_u64_each(&mut selects);
+    let mut quantiles = [QuantileQuery::new(0, len, i), QuantileQuery::new(i, len, 0)];
+    list.quantile_u64_each(&mut quantiles);
+    gets[0].answer == list.get_u64(i)
+        && gets[1].answer.is_none()
+        && ranks[0].answer == list.rank_u64(len, s)
+        && ranks[1].answer == list.rank_u64(i, s)
+        && selects[0].answer == list.select_u64(0, s)
+        && selects[1].answer == list.select_u64(1, s)
+        && quantiles[0].answer == list.quantile_u64(0..len, i)
+        && quantiles[1].answer == list.quantile_u64(i..len, 0)
 }
 
 // Whether ranks and selects for a list of bits answer what those for its number do.
@@ -178,6 +200,7 @@ impl<A: Allocator + Copy> Check<WaveletMatrix<A>> for Using<'_, A> {
             return refuses_width(list, len, self.symbol);
         }
         answers_numbers(list, len)
+            && answers_batches(list, len)
             && answers_lists(list, len, self.symbol)
             && refuses_ranges(list, len, self.symbol)
             && numbers_are_walked(list, self.plain, Pass::Steps)
