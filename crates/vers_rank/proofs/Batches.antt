@@ -1,13 +1,12 @@
--- Numbers that are looked for level by level, and lists of which some items have changed.
-use Rattle.std.proofs.Common.{◌≡◌, ℕ, ◌+◌, ◌-◌, ◌*◌, ◌/◌, ◌%◌, ◌<◌, ◌≤◌, Bool, List, length, map, get_or, sym, subst, ◌∙◌, inl, inr, arith}
+-- Numbers that are looked for level by level.
+use Rattle.std.proofs.Common.{◌≡◌, ℕ, ◌+◌, ◌*◌, ◌/◌, ◌%◌, ◌<◌, ◌≤◌, Bool, List, length, sym, ◌∙◌, inl, inr, arith}
 use Rattle.std.proofs.lemmas.Bool.{cases_lt}
-use Rattle.std.proofs.lemmas.List.{length-map, get_or-map, ext_get_or}
 use Rattle.vers_bits.specs.Bits.{count, limb, select}
 use Rattle.vers_bits.proofs.PublicLaws.{count_le_all, count_near, count_past, select_past}
 use Rattle.vers_rank.specs.inside.Index.{held, held_in}
-use Rattle.vers_tally.specs.Reads.{Reads, IsWithin, plus, times, only_block_entries, only_data_words}
+use Rattle.vers_tally.specs.Reads.{IsWithin, plus, times, only_block_entries, only_data_words}
 use Rattle.vers_rank.specs.Queries.{select_reads}
-use Rattle.vers_rank.specs.inside.Batches.{number_of, IsIn, StandsFor, Changed, superblock_reads}
+use Rattle.vers_rank.specs.inside.Batches.{number_of, IsIn, StandsFor, superblock_reads}
 use Rattle.vers_rank.proofs.Selects.{held_is, held_more, count_le_held}
 
 -- a number that is reached before place j stands before the end, and so do as many places as it lies past place i
@@ -78,60 +77,10 @@ few_in_limb b l k rest inside near =
     let start : held b l (64 * k) ≡ count b l (64 * k) = held_is b l (64 * k) (omega arith) in
     (start, omega (arith, held_more b l k, count_le_held b l (64 * (k + 1))))
 
--- ---- lists of which some items have changed
-
--- one change after another
-pub changed_then : {R S T : ℕ → ℕ → Type 0} {from n : ℕ} {xs ys zs : List ℕ} → Changed R from n xs ys → Changed S from n ys zs → ((x y z : ℕ) → R x y → S y z → T x z) → Changed T from n xs zs
-changed_then r s both = record {
-  long = s.long ∙ r.long;
-  each = λ j h. both _ _ _ (r.each j h) (s.each j h);
-  before = λ j h. s.before j h ∙ r.before j h;
-  after = λ j h. s.after j h ∙ r.after j h;
-}
-
--- what an item has become, by its own number
-pub each_at : {R : ℕ → ℕ → Type 0} {from n : ℕ} {xs ys : List ℕ} → Changed R from n xs ys → (i : ℕ) → from ≤ i → i < from + n → R (get_or xs i 0) (get_or ys i 0)
-each_at {R} {from} {n} {xs} {ys} is i low high =
-    let e : from + (i - from) ≡ i = omega arith in
-    subst (λ (k : ℕ). R (get_or xs k 0) (get_or ys k 0)) e (is.each (i - from) (omega arith))
-
--- the next items have changed as well
-pub changed_on : {R : ℕ → ℕ → Type 0} {m n : ℕ} {xs ys zs : List ℕ} → Changed R 0 m xs ys → Changed R m n ys zs → Changed R 0 (m + n) xs zs
-changed_on {R} {m} {n} {xs} {ys} {zs} first next =
-    let here : (i : ℕ) → i < m + n → R (get_or xs i 0) (get_or zs i 0) = λ i h. elim (cases_lt i m) [
-      | inl lower ↦ subst (λ (z : ℕ). R (get_or xs i 0) z) (sym (next.before i lower)) (each_at first i (omega arith) (omega arith))
-      | inr later ↦ subst (λ (x : ℕ). R x (get_or zs i 0)) (first.after i (omega arith)) (each_at next i later h)
-    ] in
-    record {
-      long = next.long ∙ first.long;
-      each = λ j h. let e : j ≡ 0 + j = omega arith in subst (λ (i : ℕ). R (get_or xs i 0) (get_or zs i 0)) e (here j h);
-      before = λ j h. absurd (omega arith);
-      after = λ j h. next.after j (omega arith) ∙ first.after j (omega arith);
-    }
-
--- all items are what a function gives
-pub changed_all : {f : ℕ → ℕ} {n : ℕ} {xs ys : List ℕ} → Changed (λ x y. y ≡ f x) 0 n xs ys → length xs ≤ n → ys ≡ map f xs
-changed_all {f} {n} {xs} {ys} is all =
-    ext_get_or 0 ys (map f xs) (is.long ∙ sym (length-map xs f))
-    (λ i h. let inside : i < length xs = omega (arith, is.long) in each_at is i (omega arith) (omega arith) ∙ sym (get_or-map f xs i 0 0 inside))
-
 -- ---- reads
 
 pub four_levels : (n m : ℕ) → IsWithin (plus (plus (plus (times n (superblock_reads m)) (times n (only_block_entries 16))) (times n (only_data_words 7))) (times n (only_data_words 1))) (times n (select_reads m))
 four_levels n m = record {
-  data_words = omega arith;
-  block_entries = omega arith;
-  superblock_entries = omega arith;
-  low_parts = omega arith;
-  rank_calls = omega arith;
-  items = omega arith;
-  blocks = omega arith;
-  nodes = omega arith;
-  chunks = omega arith;
-}
-
-pub times_and_times : (a b : ℕ) (p : Reads) → IsWithin (plus (times a p) (times b p)) (times (a + b) p)
-times_and_times a b p = record {
   data_words = omega arith;
   block_entries = omega arith;
   superblock_entries = omega arith;

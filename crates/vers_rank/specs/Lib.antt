@@ -1,4 +1,5 @@
 pub mod Queries
+pub mod Batches
 pub mod Walks
 pub mod Laws
 pub mod Rows

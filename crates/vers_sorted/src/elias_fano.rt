@@ -6,6 +6,7 @@ ghost use Rattle.vers_sorted.specs.Sorted.{below, greatest_not_above, least_not_
 ghost use Rattle.vers_sorted.specs.Layout.{heap_size_of};
 
 mod ahead;
+mod batch;
 mod iter;
 mod make;
 mod narrow;

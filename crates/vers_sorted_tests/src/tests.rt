@@ -2,6 +2,7 @@
 //! a maker answers to an owner of any type, and helpers over any allocator ask it by a reference.
 //! An `assert!` of an `==` is faster to prove than an `assert_eq!`, which prints both sides.
 mod ascending;
+mod batches;
 mod bits;
 mod iterators;
 mod lists;

@@ -1,5 +1,5 @@
 -- Many numbers that are looked for level by level: each is a place on the way, which stands for its number.
-use Rattle.std.specs.Prelude.{◌≡◌, ℕ, ◌+◌, ◌*◌, ◌/◌, ◌%◌, ◌<◌, ◌≤◌, List, Bool, length, slice_index}
+use Rattle.std.specs.Prelude.{◌≡◌, ℕ, ◌+◌, ◌*◌, ◌/◌, ◌%◌, ◌<◌, ◌≤◌, List, Bool, length}
 use Rattle.vers_bits.specs.Bits.{count, select}
 use Rattle.vers_tally.specs.Reads.{Reads, no_reads, only_block_entries, only_data_words, digits}
 use Rattle.vers_rank.specs.declared.fast_rs_vec.batch.Level.{Level}
@@ -44,10 +44,3 @@ level_reads Superblock superblocks = superblock_reads superblocks
 level_reads Block superblocks = only_block_entries 16
 level_reads Limb superblocks = only_data_words 7
 level_reads Place superblocks = only_data_words 1
-
--- of a list the n items from item `from` on have become what the relation allows, and the others are as they were
-pub record Changed (R : ℕ → ℕ → Type 0) (from n : ℕ) (xs ys : List ℕ) : Type 0 where
-  pub long : length ys ≡ length xs
-  pub each : (j : ℕ) → j < n → R (slice_index xs (from + j)) (slice_index ys (from + j))
-  pub before : (j : ℕ) → j < from → slice_index ys j ≡ slice_index xs j
-  pub after : (j : ℕ) → from + n ≤ j → slice_index ys j ≡ slice_index xs j

@@ -3,7 +3,8 @@ ghost use Rattle.std.specs.Prelude.{◌≡◌, ℕ, ◌+◌, ◌*◌, ◌/◌, �
 ghost use Rattle.vers_bits.specs.Bits.{count, select};
 ghost use Rattle.vers_tally.specs.Reads.{only_block_entries, only_data_words, times, AddsAtMost};
 ghost use Rattle.vers_rank.specs.Queries.{superblock_count, select_reads};
-ghost use Rattle.vers_rank.specs.inside.Batches.{Changed, Gives, IsIn, level_reads, Needs, StandsFor, superblock_reads};
+ghost use Rattle.vers_rank.specs.Batches.{Changed};
+ghost use Rattle.vers_rank.specs.inside.Batches.{Gives, IsIn, level_reads, Needs, StandsFor, superblock_reads};
 
 use super::select::InLimb;
 use super::{BLOCK, BLOCKS, LIMB, RsVec, SUPERBLOCK};
@@ -89,7 +90,7 @@ impl<A: Allocator + Copy> RsVec<A> {
         tally: &mut Tally,
     )
         requires { from + n ≤ length numbers.old }
-        ensures value { Changed (λ r p. p ≡ select bit self.now r) from n numbers.old numbers.new }
+        ensures value { Changed 0 (λ r p. p ≡ select bit self.now r) from n numbers.old numbers.new }
         ensures adds { AddsAtMost tally.old tally.new
             (times n (select_reads (superblock_count (length self.now)))) }
     {
@@ -113,7 +114,7 @@ impl<A: Allocator + Copy> RsVec<A> {
         requires within { from + n ≤ length numbers.old }
         requires each { (j : ℕ) → j < n
             → Needs level bit self.now (slice_index numbers.old (from + j)) }
-        ensures value { Changed (Gives level bit self.now) from n numbers.old numbers.new }
+        ensures value { Changed 0 (Gives level bit self.now) from n numbers.old numbers.new }
         ensures adds { AddsAtMost tally.old tally.new
             (times n (level_reads level (superblock_count (length self.now)))) }
     {

@@ -28,6 +28,10 @@ const CASES: [(&[(bool, usize)], &[(Query, Option<u64>)]); 9] = [
             (Query::Select1(2), Some(4)),
             (Query::Select0(1), Some(3)),
             (Query::Select0(usize::MAX), Some(4)),
+            (Query::Select1Each(1), Some(2)),
+            (Query::Select1Each(2), Some(4)),
+            (Query::Select0Each(1), Some(3)),
+            (Query::Select0Each(usize::MAX), Some(4)),
             (Query::Successor1(1), Some(2)),
             (Query::Successor1(2), None),
             (Query::Successor1(usize::MAX), None),
@@ -73,6 +77,8 @@ const CASES: [(&[(bool, usize)], &[(Query, Option<u64>)]); 9] = [
             (Query::HeapSize, Some(1112)),
             (Query::Select1(8191), Some(8191)),
             (Query::Select1(8192), Some(8192)),
+            (Query::Select1Each(8191), Some(8191)),
+            (Query::Select1Each(8192), Some(8192)),
         ],
     ),
     (
@@ -89,6 +95,7 @@ const CASES: [(&[(bool, usize)], &[(Query, Option<u64>)]); 9] = [
         &[
             (Query::Select1(0), Some(8192)),
             (Query::Select1(8191), Some(16383)),
+            (Query::Select1Each(8191), Some(16383)),
             (Query::Rank1(16384), Some(8192)),
             (Query::Successor1(8191), Some(8192)),
             (Query::Predecessor0(16384), Some(8191)),

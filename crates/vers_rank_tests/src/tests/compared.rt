@@ -3,7 +3,8 @@ use crate::tests::lists::{Look, bits_of, list_of, turned_at};
 use crate::tests::plain::PlainList;
 use crate::tests::queries::{Query, is_right, queries_at};
 use std::alloc::{Allocator, Global};
-use test_alloc::asked_both;
+use std::test::Fail;
+use test_alloc::{asked, asked_both};
 use vers_bits::bit_vec::GrowError;
 use vers_rank::fast_rs_vec::{BitSetIter, RsVec};
 
@@ -33,8 +34,8 @@ fn plain_answer<A: Allocator + Copy>(plain: &PlainList<A>, query: Query) -> Opti
         Query::GetBits(place, n) => plain.get_bits(place, n),
         Query::Rank0(place) => Some(plain.rank(false, place) as u64),
         Query::Rank1(place) => Some(plain.rank(true, place) as u64),
-        Query::Select0(r) => Some(plain.select(false, r) as u64),
-        Query::Select1(r) => Some(plain.select(true, r) as u64),
+        Query::Select0(r) | Query::Select0Each(r) => Some(plain.select(false, r) as u64),
+        Query::Select1(r) | Query::Select1Each(r) => Some(plain.select(true, r) as u64),
         Query::PairFirst(r) => Some(plain.select(true, r) as u64),
         Query::PairSecond(r) => Some(plain.select(true, r.saturating_add(1)) as u64),
         Query::Successor0(place) => plain.successor(false, place),
@@ -66,6 +67,43 @@ fn first_wrong_place<A: Allocator + Copy>(plain: &PlainList<A>, list: &RsVec<A>)
         return None;
     }
     Some(usize::MAX)
+}
+
+// The most numbers that a batch is tried with.
+const MOST: usize = 130;
+
+// Whether a batch of `n` numbers, one in `step` from 0 on, is answered number by number, and what
+// stands after it is kept.
+fn is_right_batch<A: Allocator + Copy>(list: &RsVec<A>, n: usize, step: usize) -> bool {
+    let mut numbers = [7usize; MOST];
+    for (i, number) in numbers.iter_mut().enumerate() {
+        if i < n {
+            *number = i.wrapping_mul(step);
+        }
+    }
+    if n <= MOST {
+        list.select1_each(&mut numbers[..n]);
+    }
+    numbers.iter().enumerate().all(|(i, place)| {
+        if i < n {
+            *place == list.select1(i.wrapping_mul(step))
+        } else {
+            *place == 7
+        }
+    })
+}
+
+// Whether batches of few and of many numbers are, where they end with a group and where they don't.
+fn are_right_batches<A: Allocator + Copy>(list: &RsVec<A>) -> bool {
+    [0, 1, 63, 64, 65, 128, 130].iter().all(|n| is_right_batch(list, *n, 1)
+        && is_right_batch(list, *n, 57))
+}
+
+#[test]
+fn batches_of_every_length(rt: HostRuntime) -> Result<(), Fail> {
+    let list = list_of(rt.alloc(), Look::Mixed, 8193);
+    assert!(rt; asked(list, |list| are_right_batches(list))?);
+    Ok(())
 }
 
 // Whether a walk by chunks gives the places that hold the bit, one after another, and no more.

@@ -2,7 +2,7 @@
 //! lists of every length.
 use crate::tests::iterators::Walk;
 use crate::tests::lists::{Look, Over, bit_of, bits_of, item_at, list_of};
-use crate::tests::queries::{answer, counted, queries_at};
+use crate::tests::queries::{Query, answer, counted, queries_at};
 use std::alloc::{AllocError, Allocator, Global};
 use test_alloc::{
     Check, Conversion, Ending, LENGTHS, Refusing, Step, Trial, first_wrong_trial, requests,
@@ -256,14 +256,21 @@ const FREE: [Free; 9] = [
     Free::PlaceSteps,
 ];
 
+// Whether both forms of a query agree.
+fn agrees<A: Allocator + Copy>(list: &RsVec<A>, query: Query) -> bool {
+    answer(list, query) == counted(list, query, &mut Tally::new())
+}
+
 // Whether both forms of the queries at a place agree.
 fn forms_agree<A: Allocator + Copy>(list: &RsVec<A>, place: usize) -> bool {
     for query in queries_at(place) {
-        if answer(list, query) != counted(list, query, &mut Tally::new()) {
+        if !agrees(list, query) {
             return false;
         }
     }
-    list.heap_size() > 0
+    agrees(list, Query::Select0Each(place))
+        && agrees(list, Query::Select1Each(place))
+        && list.heap_size() > 0
 }
 
 fn queries_work<A: Allocator + Copy>(list: &RsVec<A>, len: usize) -> bool {

@@ -17,12 +17,24 @@ pub enum Query {
     Rank1(usize),
     Select0(usize),
     Select1(usize),
+    Select0Each(usize),
+    Select1Each(usize),
     PairFirst(usize),
     PairSecond(usize),
     Successor0(usize),
     Successor1(usize),
     Predecessor0(usize),
     Predecessor1(usize),
+}
+
+// A few numbers to be asked at once, the last of which is `r`.
+fn batch_with(r: usize) -> [usize; 3] {
+    [0, usize::MAX, r]
+}
+
+// What was answered for the last of them.
+fn answer_of(places: [usize; 3]) -> Option<u64> {
+    Some(places[2] as u64)
 }
 
 /// What a query answers in its plain form.
@@ -39,6 +51,16 @@ pub fn answer<A: Allocator + Copy>(list: &RsVec<A>, query: Query) -> Option<u64>
         Query::Rank1(place) => Some(list.rank1(place) as u64),
         Query::Select0(r) => Some(list.select0(r) as u64),
         Query::Select1(r) => Some(list.select1(r) as u64),
+        Query::Select0Each(r) => {
+            let mut numbers = batch_with(r);
+            list.select0_each(&mut numbers);
+            answer_of(numbers)
+        }
+        Query::Select1Each(r) => {
+            let mut numbers = batch_with(r);
+            list.select1_each(&mut numbers);
+            answer_of(numbers)
+        }
         Query::PairFirst(r) => Some(list.select1_pair(r).first as u64),
         Query::PairSecond(r) => Some(list.select1_pair(r).second as u64),
         Query::Successor0(place) => list.successor0(place),
@@ -61,6 +83,16 @@ pub fn counted<A: Allocator + Copy>(
         Query::Rank1(place) => Some(list.rank1_counted(place, tally) as u64),
         Query::Select0(r) => Some(list.select0_counted(r, tally) as u64),
         Query::Select1(r) => Some(list.select1_counted(r, tally) as u64),
+        Query::Select0Each(r) => {
+            let mut numbers = batch_with(r);
+            list.select0_each_counted(&mut numbers, tally);
+            answer_of(numbers)
+        }
+        Query::Select1Each(r) => {
+            let mut numbers = batch_with(r);
+            list.select1_each_counted(&mut numbers, tally);
+            answer_of(numbers)
+        }
         Query::PairFirst(r) => Some(list.select1_pair_counted(r, tally).first as u64),
         Query::PairSecond(r) => Some(list.select1_pair_counted(r, tally).second as u64),
         Query::Successor0(place) => list.successor0_counted(place, tally),
@@ -99,6 +131,9 @@ pub fn bounds<A: Allocator + Copy>(list: &RsVec<A>, query: Query) -> [u64; 9] {
         Query::GetBits(..) => [2, 0, 0, 0, 1, 0, 0, 0, 0],
         Query::Rank0(_) | Query::Rank1(_) => [8, 1, 1, 0, 1, 0, 0, 0, 0],
         Query::Select0(_) | Query::Select1(_) => [8, 17, superblocks, 0, 1, 0, 0, 0, 0],
+        Query::Select0Each(_) | Query::Select1Each(_) => {
+            [24, 51, superblocks.wrapping_mul(3), 0, 3, 0, 0, 0, 0]
+        }
         Query::PairFirst(_) | Query::PairSecond(_) => {
             [16, 34, superblocks.wrapping_mul(2), 0, 2, 0, 0, 0, 0]
         }

@@ -1,11 +1,12 @@
 use Rattle.vers_tally.specs.Reads.{AddsAtMost, times}
 use Rattle.vers_rank.specs.Queries.{superblock_count}
-use Rattle.vers_rank.specs.inside.Batches.{Changed, Gives, level_reads}
+use Rattle.vers_rank.specs.Batches.{Changed}
+use Rattle.vers_rank.specs.inside.Batches.{Gives, level_reads}
 use Rattle.std.proofs.Common.{length}
 use Rattle.vers_rank.proofs.fast_rs_vec.RsVec.level_each.Given as goal
 
 abbrev pub invariant-loop-j : goal.invariant-loop-j
 invariant-loop-j g l = record {
-  changed : Changed (Gives l.level l.bit l.self) l.from l.j l.fn.numbers l.numbers;
+  changed : Changed 0 (Gives l.level l.bit l.self) l.from l.j l.fn.numbers l.numbers;
   adds : AddsAtMost l.fn.tally l.tally (times l.j (level_reads l.level (superblock_count (length l.self))));
 }

@@ -1,14 +1,13 @@
 use Rattle.std.proofs.Common.{arith, length}
-use Rattle.vers_tally.proofs.PublicLaws.{adds_then}
 use Rattle.vers_rank.specs.Queries.{superblock_count, select_reads}
-use Rattle.vers_rank.proofs.Batches.{changed_on, changed_all, times_and_times}
+use Rattle.vers_rank.proofs.PublicLaws.{changed_on, changed_all, adds_times}
 use Rattle.vers_rank.proofs.fast_rs_vec.RsVec.select_each.Goals as goal
 
 pub loop-from-preserved : goal.loop-from-preserved
 loop-from-preserved g c = record {
   within = omega arith;
   changed = changed_on c.loop-from.invariant.changed c.select_group.ensures.value;
-  adds = adds_then c.loop-from.invariant.adds c.select_group.ensures.adds (times_and_times _ _ (select_reads (superblock_count (length c.args.self.now))));
+  adds = adds_times _ _ (select_reads (superblock_count (length c.args.self.now))) c.loop-from.invariant.adds c.select_group.ensures.adds;
 }
 
 pub returns-clause-value : goal.returns-clause-value

@@ -2,13 +2,13 @@ use Rattle.std.proofs.Common.{◌≡◌, ◌-◌, ◌≤◌, length}
 use Rattle.vers_bits.specs.Bits.{select}
 use Rattle.vers_tally.specs.Reads.{AddsAtMost, times}
 use Rattle.vers_rank.specs.Queries.{superblock_count, select_reads}
-use Rattle.vers_rank.specs.inside.Batches.{Changed}
+use Rattle.vers_rank.specs.Batches.{Changed}
 use Rattle.vers_rank.proofs.fast_rs_vec.RsVec.select_each.Given as goal
 
 abbrev pub invariant-loop-from : goal.invariant-loop-from
 invariant-loop-from g l = record {
   within : l.from ≤ l.len;
-  changed : Changed (λ r p. p ≡ select l.bit l.self r) 0 l.from l.fn.numbers l.numbers;
+  changed : Changed 0 (λ r p. p ≡ select l.bit l.self r) 0 l.from l.fn.numbers l.numbers;
   adds : AddsAtMost l.fn.tally l.tally (times l.from (select_reads (superblock_count (length l.self))));
 }
 

@@ -2,7 +2,8 @@ use Rattle.std.proofs.Common.{length}
 use Rattle.vers_tally.proofs.PublicLaws.{adds_then, within_itself}
 use Rattle.vers_rank.specs.Queries.{superblock_count}
 use Rattle.vers_rank.specs.inside.Batches.{StandsFor, Needs, Gives, level_reads}
-use Rattle.vers_rank.proofs.Batches.{takes, changed_then, four_levels}
+use Rattle.vers_rank.proofs.PublicLaws.{changed_then}
+use Rattle.vers_rank.proofs.Batches.{takes, four_levels}
 use Rattle.vers_rank.proofs.fast_rs_vec.RsVec.select_group.Goals as goal
 
 pub level_each-requires-clause-each : goal.level_each-requires-clause-each

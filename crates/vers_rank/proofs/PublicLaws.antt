@@ -1,0 +1,64 @@
+-- The laws that proofs of other crates may cite. A crate above imports this file and no other of this folder.
+use Rattle.std.proofs.Common.{◌≡◌, ℕ, ◌+◌, ◌-◌, ◌<◌, ◌≤◌, List, length, map, get_or, sym, subst, ◌∙◌, inl, inr, arith}
+use Rattle.std.proofs.lemmas.Bool.{cases_lt}
+use Rattle.std.proofs.lemmas.List.{length-map, get_or-map, ext_get_or}
+use Rattle.vers_tally.specs.Reads.{Reads, AddsAtMost, IsWithin, plus, times}
+use Rattle.vers_tally.proofs.PublicLaws.{adds_then}
+use Rattle.vers_rank.specs.Batches.{Changed}
+
+-- ---- lists of which some items have changed
+
+module _ {X : Type 0} {d : X} where
+  -- one change after another
+  pub changed_then : {R S T : X → X → Type 0} {from n : ℕ} {xs ys zs : List X} → Changed d R from n xs ys → Changed d S from n ys zs → ((x y z : X) → R x y → S y z → T x z) → Changed d T from n xs zs
+  changed_then r s both = record {
+    long = s.long ∙ r.long;
+    each = λ j h. both _ _ _ (r.each j h) (s.each j h);
+    before = λ j h. s.before j h ∙ r.before j h;
+    after = λ j h. s.after j h ∙ r.after j h;
+  }
+
+  -- what an item has become, by its own number
+  pub each_at : {R : X → X → Type 0} {from n : ℕ} {xs ys : List X} → Changed d R from n xs ys → (i : ℕ) → from ≤ i → i < from + n → R (get_or xs i d) (get_or ys i d)
+  each_at {R} {from} {n} {xs} {ys} is i low high =
+      let e : from + (i - from) ≡ i = omega arith in
+      subst (λ (k : ℕ). R (get_or xs k d) (get_or ys k d)) e (is.each (i - from) (omega arith))
+
+  -- the next items have changed as well
+  pub changed_on : {R : X → X → Type 0} {m n : ℕ} {xs ys zs : List X} → Changed d R 0 m xs ys → Changed d R m n ys zs → Changed d R 0 (m + n) xs zs
+  changed_on {R} {m} {n} {xs} {ys} {zs} first next =
+      let here : (i : ℕ) → i < m + n → R (get_or xs i d) (get_or zs i d) = λ i h. elim (cases_lt i m) [
+        | inl lower ↦ subst (λ (z : X). R (get_or xs i d) z) (sym (next.before i lower)) (each_at first i (omega arith) (omega arith))
+        | inr later ↦ subst (λ (x : X). R x (get_or zs i d)) (first.after i (omega arith)) (each_at next i later h)
+      ] in
+      record {
+        long = next.long ∙ first.long;
+        each = λ j h. let e : j ≡ 0 + j = omega arith in subst (λ (i : ℕ). R (get_or xs i d) (get_or zs i d)) e (here j h);
+        before = λ j h. absurd (omega arith);
+        after = λ j h. next.after j (omega arith) ∙ first.after j (omega arith);
+      }
+
+  -- all items are what a function gives
+  pub changed_all : {f : X → X} {n : ℕ} {xs ys : List X} → Changed d (λ x y. y ≡ f x) 0 n xs ys → length xs ≤ n → ys ≡ map f xs
+  changed_all {f} {n} {xs} {ys} is all =
+      ext_get_or d ys (map f xs) (is.long ∙ sym (length-map xs f))
+      (λ i h. let inside : i < length xs = omega (arith, is.long) in each_at is i (omega arith) (omega arith) ∙ sym (get_or-map f xs i d d inside))
+
+-- ---- reads
+
+within_times : (m n : ℕ) (p : Reads) → IsWithin (plus (times m p) (times n p)) (times (m + n) p)
+within_times m n p = record {
+  data_words = omega arith;
+  block_entries = omega arith;
+  superblock_entries = omega arith;
+  low_parts = omega arith;
+  rank_calls = omega arith;
+  items = omega arith;
+  blocks = omega arith;
+  nodes = omega arith;
+  chunks = omega arith;
+}
+
+-- a bound m times, and then n times
+pub adds_times : {a b c : Reads} (m n : ℕ) (p : Reads) → AddsAtMost a b (times m p) → AddsAtMost b c (times n p) → AddsAtMost a c (times (m + n) p)
+adds_times m n p s t = adds_then s t (within_times m n p)
