@@ -2,8 +2,9 @@
 """Rules over the text of the repository that no contract states.
 
 - What may not stand in a text, by the rows of `PATTERNS`: public items without a doc comment and module files that don't say what
-  they are, labels of papers and paths of one machine, phrases that are not plain English, sources of 800 lines, and values that
-  are dropped, but for a mention for the prover, of a field (`&self.len`) or of a length (`high.len()`).
+  they are, labels of papers and paths of one machine, phrases that are not plain English, sources of 800 lines, their lines past
+  120 columns, but for imports and texts, and values that are dropped, but for a mention for the prover, of a field (`&self.len`)
+  or of a length (`high.len()`).
 - Functions stay below 60 lines, but for tests. `crates.txt` lists the folders of `crates/`. Links of documents lead somewhere.
 - Each word of a crate's `specs/` that the contract of a public function cites stands in `docs/DEFINITIONS.md`, in backticks.
 - Of the proofs of a crate below, a crate imports the page of laws (`PublicLaws`) alone, or one that its `proofs/Lib.antt`
@@ -42,6 +43,7 @@ PATTERNS = (
     # `at the most recent` is plain
     (r".*\.(?:md|rt)", rf"(?i)\bat{GAP}the{GAP}most\b(?!{GAP}\w+[ae]nt\b)", "says `at the most`; write `at most`"),
     (r"crates/\w+/src/.*\.rt", r"\A(?:.*\n){800}", "has more than 800 lines"),
+    (r".*\.rt", r'(?m)^(?! *(?:ghost )?use )[^"\n]{121,}$', "has more than 120 columns"),
     (r"crates/\w+/src/.*(?<!/main)\.rt", r"\A(?!//!)", "the first line doesn't say what the module is"),
     (r"crates/\w+/src/.*(?<!/main)\.rt", r"(?m)^(?! *(?:///|#\[)).*\n(?: *#\[.*\n)*"
      r" *pub (?:const )?(?:unsafe )?(fn|struct|enum|trait|const|static|type) (\w+)", "{1} {2} has no doc comment"),
@@ -167,6 +169,7 @@ BREAKS = {
     "reaches Tally::add_chunk": ("crates/vers_tally/wrong/add_chunk--a-chunk-wraps-at-the-greatest.edit", "old: ", "was: "),
     "Tally::chunks has 63 lines": (TALLY, "        self.chunks\n", "        self.chunks\n" + "\n" * 60),
     "has more than 800 lines": (TALLY, "//! Counters", "\n" * 800),
+    "has more than 120 columns": (TALLY, "self.chunks\n", f"self.chunks{' ' * 120}\n"),
     "crates.txt lists": ("crates.txt", "vers_words:", "vers_word:"),
     "cites F7": ("README.md", "# ", "# As F7 says "),
     "cites /srv/": ("README.md", "# ", "# In /srv/kit "),

@@ -107,7 +107,8 @@ impl<S: Answerer<A>, A: Allocator> Session<S, A> {
         ensures within { IfOk result (λ taken. taken ≤ length bytes.now) }
         ensures progress { 0 < length bytes.now → IfOk result (λ taken. 0 < taken) }
         ensures taken { (text : List ℕ) × (self.new.answers.items ≡ self.old.answers.items ++ text)
-            × TakesSome S.answering result self.old.store self.old.pending.items bytes.now text self.new.store self.new.pending.items }
+            × TakesSome S.answering result self.old.store self.old.pending.items bytes.now text
+            self.new.store self.new.pending.items }
     {
         match place_of(b'\n', bytes) {
             Some(end) => {
@@ -127,7 +128,8 @@ impl<S: Answerer<A>, A: Allocator> Session<S, A> {
         ensures progress { 0 < length bytes.now → self.old.answers.items ≡ []
             → IfOk result (λ taken. 0 < taken) }
         ensures taken { (text : List ℕ) × (self.new.answers.items ≡ self.old.answers.items ++ text)
-            × TakesSome S.answering result self.old.store self.old.pending.items bytes.now text self.new.store self.new.pending.items }
+            × TakesSome S.answering result self.old.store self.old.pending.items bytes.now text
+            self.new.store self.new.pending.items }
     {
         let mut taken = 0;
         while taken < bytes.len() && self.answers.len() < ANSWERS_LEN {
@@ -160,7 +162,8 @@ impl<S: Answerer<A>, A: Allocator> Session<S, A> {
         requires { self.old.answers.items ≡ [] }
         ensures written { (text : List ℕ)
             × Appends (W.contents writer.old.inner) (W.contents writer.new.inner) text
-            × TakesOrFails S.answering result self.old.store self.old.pending.items bytes.now text self.new.store self.new.pending.items }
+            × TakesOrFails S.answering result self.old.store self.old.pending.items bytes.now text
+            self.new.store self.new.pending.items }
         ensures answers { OnOk result (self.new.answers.items ≡ []) }
         ensures cause { result ≡ Err RunError.Write
             → FollowsWriteFault W.write_gives writer.new.inner }

@@ -44,7 +44,8 @@ impl<A: Allocator + Copy> Model for EliasFanoVec<A> {
 
     ghost view = { λ v. members v.high v.low v.first v.width v.len };
 
-    ghost invariant = { λ v. IsPacked (members v.high v.low v.first v.width v.len) v.high v.low v.first v.last v.width };
+    ghost invariant = { λ v. IsPacked (members v.high v.low v.first v.width v.len)
+        v.high v.low v.first v.last v.width };
 }
 
 impl<A: Allocator + Copy> Clone for EliasFanoVec<A> {

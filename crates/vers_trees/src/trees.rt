@@ -43,13 +43,15 @@ pub trait Tree {
     fn next_sibling(&self, node: Self::NodeHandle) -> Option<Self::NodeHandle>
         requires stands { is_forest self.now }
         requires node { IsNode (forest self.now) (place self.now node) }
-        ensures { option_map (place self.now) result ≡ next_of (siblings (forest self.now) (place self.now node)) (place self.now node) };
+        ensures { option_map (place self.now) result ≡ next_of
+            (siblings (forest self.now) (place self.now node)) (place self.now node) };
 
     /// The node before with the same parent; roots are siblings. None for the first of them.
     fn previous_sibling(&self, node: Self::NodeHandle) -> Option<Self::NodeHandle>
         requires stands { is_forest self.now }
         requires node { IsNode (forest self.now) (place self.now node) }
-        ensures { option_map (place self.now) result ≡ previous_of (siblings (forest self.now) (place self.now node)) (place self.now node) };
+        ensures { option_map (place self.now) result ≡ previous_of
+            (siblings (forest self.now) (place self.now node)) (place self.now node) };
 
     /// The last child of a node. None for a leaf.
     fn last_child(&self, node: Self::NodeHandle) -> Option<Self::NodeHandle>
@@ -67,8 +69,10 @@ pub trait Tree {
     /// is the end of the forest written down, where no node opens.
     fn node_handle(&self, index: usize) -> Self::NodeHandle
         requires stands { is_forest self.now }
-        ensures node { index < length (nodes (forest self.now)) → slice_get (nodes (forest self.now)) index ≡ Some (place self.now result) }
-        ensures past { length (nodes (forest self.now)) ≤ index → place self.now result ≡ length (text (forest self.now)) };
+        ensures node { index < length (nodes (forest self.now))
+            → slice_get (nodes (forest self.now)) index ≡ Some (place self.now result) }
+        ensures past { length (nodes (forest self.now)) ≤ index
+            → place self.now result ≡ length (text (forest self.now)) };
 
     /// Whether a node has no children.
     fn is_leaf(&self, node: Self::NodeHandle) -> bool
@@ -112,7 +116,8 @@ pub trait IsAncestor: Tree {
         requires stands { Self.is_forest self.now }
         requires ancestor { IsNode (Self.forest self.now) (Self.place self.now ancestor) }
         requires descendant { IsNode (Self.forest self.now) (Self.place self.now descendant) }
-        ensures { result ≡ Some (is_ancestor (Self.forest self.now) (Self.place self.now ancestor) (Self.place self.now descendant)) };
+        ensures { result ≡ Some (is_ancestor (Self.forest self.now)
+            (Self.place self.now ancestor) (Self.place self.now descendant)) };
 }
 
 /// A tree that knows its levels, where roots have depth 0.
@@ -121,19 +126,24 @@ pub trait LevelTree: Tree {
     fn level_ancestor(&self, node: Self::NodeHandle, levels: u64) -> Option<Self::NodeHandle>
         requires stands { Self.is_forest self.now }
         requires node { IsNode (Self.forest self.now) (Self.place self.now node) }
-        ensures { option_map (Self.place self.now) result ≡ level_ancestor (Self.forest self.now) (Self.place self.now node) levels };
+        ensures { option_map (Self.place self.now) result
+            ≡ level_ancestor (Self.forest self.now) (Self.place self.now node) levels };
 
     /// The next node of the same depth. None where there is none.
     fn level_next(&self, node: Self::NodeHandle) -> Option<Self::NodeHandle>
         requires stands { Self.is_forest self.now }
         requires node { IsNode (Self.forest self.now) (Self.place self.now node) }
-        ensures { option_map (Self.place self.now) result ≡ next_of (level (Self.forest self.now) (depth (Self.forest self.now) (Self.place self.now node))) (Self.place self.now node) };
+        ensures { option_map (Self.place self.now) result ≡ next_of
+            (level (Self.forest self.now) (depth (Self.forest self.now) (Self.place self.now node)))
+            (Self.place self.now node) };
 
     /// The node of the same depth before. None where there is none.
     fn level_prev(&self, node: Self::NodeHandle) -> Option<Self::NodeHandle>
         requires stands { Self.is_forest self.now }
         requires node { IsNode (Self.forest self.now) (Self.place self.now node) }
-        ensures { option_map (Self.place self.now) result ≡ previous_of (level (Self.forest self.now) (depth (Self.forest self.now) (Self.place self.now node))) (Self.place self.now node) };
+        ensures { option_map (Self.place self.now) result ≡ previous_of
+            (level (Self.forest self.now) (depth (Self.forest self.now) (Self.place self.now node)))
+            (Self.place self.now node) };
 
     /// The first node of a depth. None where no node is so deep.
     fn level_leftmost(&self, depth: u64) -> Option<Self::NodeHandle>

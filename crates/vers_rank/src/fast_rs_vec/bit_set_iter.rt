@@ -93,7 +93,11 @@ impl<'a, A: Allocator + Copy> Model for Chunks<'a, A> {
 
     ghost Value = { ChunksOf };
 
-    ghost view = { λ s. record { bits = s.bits.now; left = chunk_places_left s.bits.now s.walk; unread = chunks_unread s.bits.now s.walk } };
+    ghost view = { λ s. record {
+      bits = s.bits.now;
+      left = chunk_places_left s.bits.now s.walk;
+      unread = chunks_unread s.bits.now s.walk;
+    } };
 
     ghost invariant = { λ s. IsChunkWalkOf s.bits.now s.walk };
 }

@@ -339,7 +339,10 @@ impl<'a, A: Allocator + Copy> IntoIterator for &'a WaveletMatrix<A> {
 
     type IntoIter = WaveletRefIter<'a, A>;
 
-    ghost into_iter_gives = { λ matrix items. items ≡ record { left = in_bits matrix.now.width matrix.now.items; step = query_reads matrix.now } };
+    ghost into_iter_gives = { λ matrix items. items ≡ record {
+      left = in_bits matrix.now.width matrix.now.items;
+      step = query_reads matrix.now;
+    } };
 
     fn into_iter(self) -> WaveletRefIter<'a, A> {
         self.iter()
@@ -351,7 +354,10 @@ impl<'a, A: Allocator + Copy> IntoIterator for &'a mut WaveletMatrix<A> {
 
     type IntoIter = WaveletRefIter<'a, A>;
 
-    ghost into_iter_gives = { λ matrix items. items ≡ record { left = in_bits matrix.now.width matrix.now.items; step = query_reads matrix.now } };
+    ghost into_iter_gives = { λ matrix items. items ≡ record {
+      left = in_bits matrix.now.width matrix.now.items;
+      step = query_reads matrix.now;
+    } };
 
     fn into_iter(self) -> WaveletRefIter<'a, A> {
         self.iter()
@@ -363,7 +369,10 @@ impl<A: Allocator + Copy> IntoIterator for WaveletMatrix<A> {
 
     type IntoIter = WaveletIter<A>;
 
-    ghost into_iter_gives = { λ matrix items. items ≡ record { left = in_bits matrix.width matrix.items; step = query_reads matrix } };
+    ghost into_iter_gives = { λ matrix items. items ≡ record {
+      left = in_bits matrix.width matrix.items;
+      step = query_reads matrix;
+    } };
 
     /// An iterator over the symbols, as lists of their bits, which owns the matrix.
     fn into_iter(self) -> WaveletIter<A> {

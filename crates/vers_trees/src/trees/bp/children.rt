@@ -39,9 +39,13 @@ impl<'a, const BLOCK_SIZE: usize, D, A: Allocator + Copy> Model for Siblings<'a,
 
     ghost Value = { Walking ℕ };
 
-    ghost view = { λ s. record { left = siblings_left s.searched.bits.now s.forward s.place; step = enclose_reads BLOCK_SIZE (length s.searched.bits.now) } };
+    ghost view = { λ s. record {
+      left = siblings_left s.searched.bits.now s.forward s.place;
+      step = enclose_reads BLOCK_SIZE (length s.searched.bits.now);
+    } };
 
-    ghost invariant = { λ s. IsIndexed s.searched.bits.now BLOCK_SIZE s.searched.tree.now.first s.searched.tree.now.nodes
+    ghost invariant = { λ s. IsIndexed s.searched.bits.now BLOCK_SIZE
+        s.searched.tree.now.first s.searched.tree.now.nodes
         × IsWalkOfSiblings s.searched.bits.now s.forward s.place };
 }
 

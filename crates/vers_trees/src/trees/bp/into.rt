@@ -41,7 +41,10 @@ impl<const BLOCK_SIZE: usize, A: Allocator + Copy> IntoIterator for BpTree<BLOCK
 
     type IntoIter = SelectIntoIter<false, A>;
 
-    ghost into_iter_gives = { λ t items. items ≡ record { left = places true t; step = select_reads (superblock_count (length t)) } };
+    ghost into_iter_gives = { λ t items. items ≡ record {
+      left = places true t;
+      step = select_reads (superblock_count (length t));
+    } };
 
     /// An iterator over the places of the ones, ascending, which owns the list. Takes no memory.
     fn into_iter(self) -> SelectIntoIter<false, A> {

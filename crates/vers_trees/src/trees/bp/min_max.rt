@@ -141,7 +141,8 @@ impl<A: Allocator + Copy> MinMaxTree<A> {
         self.node_counted(0, tally)
     }
 
-    // The first block below the node at `place` that reaches a sum, given what remains to it there; and what remains at that block.
+    // The first block below the node at `place` that reaches a sum, given what remains to it there; and what
+    // remains at that block.
     #[inline(always)]
     fn descend_counted(&self, place: usize, mut left: i64, tally: &mut Tally) -> (usize, i64)
         requires tree { IsMinMax self.now.first self.now.nodes }

@@ -34,9 +34,13 @@ impl<'a, const BLOCK_SIZE: usize, A: Allocator + Copy> Model for ClosedNodes<'a,
 
     ghost Value = { Walking ℕ };
 
-    ghost view = { λ s. record { left = closed_by s.searched.bits.now s.first s.count; step = post_reads BLOCK_SIZE (length s.searched.bits.now) } };
+    ghost view = { λ s. record {
+      left = closed_by s.searched.bits.now s.first s.count;
+      step = post_reads BLOCK_SIZE (length s.searched.bits.now);
+    } };
 
-    ghost invariant = { λ s. IsIndexed s.searched.bits.now BLOCK_SIZE s.searched.tree.now.first s.searched.tree.now.nodes
+    ghost invariant = { λ s. IsIndexed s.searched.bits.now BLOCK_SIZE
+        s.searched.tree.now.first s.searched.tree.now.nodes
         × ArePlacesOfZeros s.searched.bits.now s.zeros.bit s.zeros.bits s.first s.count };
 }
 

@@ -182,7 +182,8 @@ fn bits_backward<A: Allocator + Copy>(
     requires short { length bits.now < 2 ^ 63 }
     requires passed { (to : ℕ) × (end ≤ to) × (to ≤ length bits.now)
         × HasNoRiseBefore bits.now end to target rise }
-    ensures value { (to : ℕ) → end ≤ to → to ≤ length bits.now → HasNoRiseBefore bits.now end to target rise → MatchResult
+    ensures value { (to : ℕ) → end ≤ to → to ≤ length bits.now
+        → HasNoRiseBefore bits.now end to target rise → MatchResult
         result
         (λ place. IsLastRise bits.now begin to target place)
         (λ rise. HasNoRiseBefore bits.now begin to target rise) }
@@ -216,7 +217,8 @@ fn bytes_backward<A: Allocator + Copy>(
     requires short { length bits.now < 2 ^ 63 }
     requires passed { (to : ℕ) × (end ≤ to) × (to ≤ length bits.now)
         × HasNoRiseBefore bits.now end to target rise }
-    ensures value { (to : ℕ) → end ≤ to → to ≤ length bits.now → HasNoRiseBefore bits.now end to target rise → MatchResult
+    ensures value { (to : ℕ) → end ≤ to → to ≤ length bits.now
+        → HasNoRiseBefore bits.now end to target rise → MatchResult
         result
         (λ place. IsLastRise bits.now begin to target place)
         (λ rise. HasNoRiseBefore bits.now begin to target rise) }
