@@ -194,7 +194,8 @@ def counted_faults(library, function):
 
 def plain_faults(library, function):
     """Yields whether a plain query isn't its counted form, and whether another function makes a counter."""
-    counted = library.of_type(function.holder, f"{function.name}_counted")
+    where = function.holder, function.source.crate
+    counted = [it for it in library.by_name[f"{function.name}_counted"] if (it.holder, it.source.crate) == where]
     names, body = [name for name, _ in function.parameters], on_one_line(function)
     asked = f"{function.name}_counted({', '.join([*names, '&mut tally'])})"
     forms = [f"let mut tally = Tally::new(); {of}{asked}" for of in ("self.", "Self::", "")]

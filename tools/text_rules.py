@@ -29,7 +29,6 @@ from functools import lru_cache
 
 from sources import TOP, Source, by_path, closed, line_of, load_edit, public_functions, read, tell
 
-LONGEST_FUNCTION = 60
 DEFINITIONS = "docs/DEFINITIONS.md"
 DRAWN = "docs/LAYOUTS.md", "crates/vers_layouts/stdout"
 TEXTS = re.compile(r".*\.(?:md|rt|antt|edit|py|sh|txt)|(?:.*/)?(?:test|vers|run|stdout)")
@@ -156,7 +155,7 @@ def faults(texts):
     for crate, sources in crates.items():
         yield from undefined(sources, defined)
         for it in [it for source in sources for it in source.functions if it.has_body and not crate.endswith("_tests")]:
-            if it.last - it.body + 2 > LONGEST_FUNCTION:
+            if it.last - it.body + 2 > 60:
                 yield f"{it.where}: {it.full_name} has {it.last - it.body + 2} lines"
 
 
