@@ -8,6 +8,8 @@ pub mod LimbLists
 pub mod RoundTrips
 pub mod SumTells
 pub mod WordLists
+pub mod Parentheses
+pub mod SparseLists
 pub mod Streams
 pub mod Sources
 pub mod BitLists

@@ -47,10 +47,10 @@ ordered_more o n words k holds before next long some h so_far is_before is_next 
     let first : get_or (words_among n words) (k - 1) 0 ≡ before = get_or-words_among n words (k - 1) (omega arith) ∙ ap (λ p. get_or words p 0) place ∙ sym is_before in
     let second : get_or (words_among n words) k 0 ≡ next = get_or-words_among n words k h ∙ sym is_next in
     let one : each_next o (take (suc (suc (k - 1))) (words_among n words))
-        ≡ (each_next o (take (suc (k - 1)) (words_among n words)) && o (get_or (words_among n words) (k - 1) 0) (get_or (words_among n words) (suc (k - 1)) 0)) =
+    ≡ (each_next o (take (suc (k - 1)) (words_among n words)) && o (get_or (words_among n words) (k - 1) 0) (get_or (words_among n words) (suc (k - 1)) 0)) =
     each_next-more o (words_among n words) (k - 1) (omega (arith, length-words_among n words long)) in
     let step : each_next o (take (suc k) (words_among n words))
-        ≡ (each_next o (take k (words_among n words)) && o (get_or (words_among n words) (k - 1) 0) (get_or (words_among n words) k 0)) =
+    ≡ (each_next o (take k (words_among n words)) && o (get_or (words_among n words) (k - 1) 0) (get_or (words_among n words) k 0)) =
     subst (λ m. each_next o (take (suc m) (words_among n words)) ≡ (each_next o (take m (words_among n words)) && o (get_or (words_among n words) (k - 1) 0) (get_or (words_among n words) m 0)))
     back one in
     ap (λ b. b && o before next) so_far

@@ -89,8 +89,25 @@ all_pass : (kind : Kind) (count width : ℕ) (words : List ℕ) → IsWhole kind
 unfolding with_sum
 all_pass kind count width words whole summed padded ordered = (
   le-leb _ _ (omega arith),
-  (refl, (refl, (eq-eqb kind.number kind.number refl, (whole.wide, (whole.many, (le-leb _ _ whole.small,
-  (le-leb _ _ (omega arith), (le-leb _ _ (omega arith), (summed, (padded, (ordered, tt))))))))))),
+  (
+    refl,
+    (
+      refl,
+      (
+        eq-eqb kind.number kind.number refl,
+        (
+          whole.wide,
+          (
+            whole.many,
+            (
+              le-leb _ _ whole.small,
+              (le-leb _ _ (omega arith), (le-leb _ _ (omega arith), (summed, (padded, (ordered, tt))))),
+            ),
+          ),
+        ),
+      ),
+    ),
+  ),
 )
 
 pub saved_has_no_fault : (kind : Kind) (count width : ℕ) (words : List ℕ) → kind.number < 2 ^ 64 → count < 2 ^ 64 → width < 2 ^ 64 → IsWhole kind count width words

@@ -1,8 +1,11 @@
 -- What a saved form of a kind holds.
-use Rattle.std.specs.Prelude.{◌≡◌, ℕ, ◌-◌, ◌*◌, ◌%◌, ◌^◌, ◌<◌, ◌≤◌, ◌⊎◌, true, List, length, slice_index}
+use Rattle.std.specs.Prelude.{min, max, ◌≡◌, ℕ, ◌-◌, ◌*◌, ◌%◌, ◌^◌, ◌<◌, ◌≤◌, ◌⊎◌, true, List, length, slice_index}
 use Rattle.vers_bits.specs.Bits.{limb_count}
 use Rattle.vers_bits.specs.declared.bit_vec.TheConstants.{MAX_LEN}
 use Rattle.vers_saved.specs.declared.kind.Kind.{Kind}
+use Rattle.vers_saved.specs.declared.kind.Order.TheVariants.{Any}
+use Rattle.vers_saved.specs.declared.kind.TheConstants.{PARENTHESES}
+use Rattle.vers_trees.specs.declared.trees.bp.TheConstants.{MAX_BLOCK_SIZE}
 use Rattle.vers_saved.specs.Faults.{takes_width, takes_count, item_bits, in_order}
 
 -- the last of n bits ends a word, or the word that it lies in holds no one past it
@@ -18,3 +21,15 @@ pub record IsWhole (kind : Kind) (count width : ℕ) (words : List ℕ) : Type 0
   pub fit : (k : ℕ) → slice_index words k < 2 ^ 64
   pub padded : EndsPadded (count * item_bits kind width) words
   pub ordered : in_order kind.order words ≡ true
+
+-- the kind of parentheses of which a tree has blocks of so many bits, where it may have such
+abbrev pub tree_kind : ℕ → Kind
+tree_kind size = record {
+  number = PARENTHESES;
+  least_width = max size 1;
+  greatest_width = min size MAX_BLOCK_SIZE;
+  item_bits = 1;
+  least_count = 0;
+  greatest_count = 9223372036854775807;
+  order = Any;
+}

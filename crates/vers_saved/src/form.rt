@@ -7,7 +7,9 @@ ghost use Rattle.vers_saved.specs.Kinds.{IsWhole};
 
 use crate::fault::LoadError;
 use crate::kind::{Kind, Order};
-use crate::words::{Chunks, FRAME, Words, is_in_order, is_padded, is_summed, mixed, put_word, words_in};
+use crate::words::{
+    Chunks, FRAME, Words, is_in_order, is_padded, is_summed, mixed, put_word, words_in,
+};
 use crate::{MAGIC, START, VERSION};
 use std::alloc::{AllocError, Allocator};
 use vers_bits::bit_vec::{BitVec, MAX_LEN};
@@ -177,7 +179,11 @@ pub(crate) struct Form<A: Allocator> {
 }
 
 // The shape and the words that the bytes are the saved form of, of a list of that kind.
-pub(crate) fn form_of<A: Allocator>(alloc: A, kind: &Kind, bytes: &[u8]) -> Result<Form<A>, LoadError>
+pub(crate) fn form_of<A: Allocator>(
+    alloc: A,
+    kind: &Kind,
+    bytes: &[u8],
+) -> Result<Form<A>, LoadError>
     ensures ok { IfOk result (λ r. (bytes.now ≡ saved kind.now.number r.shape.count r.shape.width r.words.items)
         × IsWhole kind.now r.shape.count r.shape.width r.words.items × (r.shape.kind ≡ kind.now.number)) }
     ensures err { IfErr result (λ e. (fault_of kind.now bytes.now ≡ Some e)

@@ -9,7 +9,9 @@ pub mod kind;
 pub mod laws;
 pub mod numbers;
 pub mod saved;
+pub mod sparse;
 pub mod stream;
+pub mod trees;
 pub mod words;
 
 /// The first word of each saved form: the bytes `woltsjem`.

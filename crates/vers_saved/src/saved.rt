@@ -100,10 +100,7 @@ fn append_saved<S: Saved, B: Allocator>(
 }
 
 /// Appends the saved form of a list. A refusal leaves the bytes as they were.
-pub fn save_to_vec<S: Saved, B: Allocator>(
-    list: &S,
-    out: &mut Vec<u8, B>,
-) -> Result<(), SaveError>
+pub fn save_to_vec<S: Saved, B: Allocator>(list: &S, out: &mut Vec<u8, B>) -> Result<(), SaveError>
     ensures saved { OnOk result (out.new.items ≡ out.old.items
         ++ saved S.kind.number (S.count list.now) (S.width list.now) (S.words list.now)) }
     ensures whole { OnOk result

@@ -34,7 +34,7 @@ returns-clause-back g c =
     let m = c.in_ok-make.ensures in
     λ x whole fits e.
     let one = one_form g.S.Saved.kind c.args.bytes.now c.in_ok-shape.field-0.shape.count c.in_ok-shape.field-0.shape.width (g.S.Saved.count x) (g.S.Saved.width x)
-        c.in_ok-shape.field-0.words.items (g.S.Saved.words x) bounds
-        (subst (λ k. IsWhole k c.in_ok-shape.field-0.shape.count c.in_ok-shape.field-0.shape.width c.in_ok-shape.field-0.words.items) c.kind.ensures f.1) whole
-        (f.0 ∙ ap (λ k. saved k.number c.in_ok-shape.field-0.shape.count c.in_ok-shape.field-0.shape.width c.in_ok-shape.field-0.words.items) c.kind.ensures) e in
+    c.in_ok-shape.field-0.words.items (g.S.Saved.words x) bounds
+    (subst (λ k. IsWhole k c.in_ok-shape.field-0.shape.count c.in_ok-shape.field-0.shape.width c.in_ok-shape.field-0.words.items) c.kind.ensures f.1) whole
+    (f.0 ∙ ap (λ k. saved k.number c.in_ok-shape.field-0.shape.count c.in_ok-shape.field-0.shape.width c.in_ok-shape.field-0.words.items) c.kind.ensures) e in
     g.met.S.Loaded.tells c.in_ok-make.field-0 x m.3 fits (m.0 ∙ one.0) (m.1 ∙ one.1) (m.2 ∙ one.2)

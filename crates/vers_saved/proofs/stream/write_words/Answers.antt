@@ -19,8 +19,8 @@ returns-in-Err-clause-written g c =
 pub loop-k-preserved : goal.loop-k-preserved
 loop-k-preserved g c =
     let all : c.count_words-count.result ≡ length (g.S.Saved.words c.args.list.now) =
-        c.count_words-count.ensures ∙ count_is g.S.Saved.kind c.kind.result (g.S.Saved.count c.args.list.now) (g.S.Saved.width c.args.list.now) c.args.shape.count c.args.shape.width
-        (g.S.Saved.words c.args.list.now) c.requires.whole c.kind.ensures c.requires.count c.requires.width in
+    c.count_words-count.ensures ∙ count_is g.S.Saved.kind c.kind.result (g.S.Saved.count c.args.list.now) (g.S.Saved.width c.args.list.now) c.args.shape.count c.args.shape.width
+    (g.S.Saved.words c.args.list.now) c.requires.whole c.kind.ensures c.requires.count c.requires.width in
     let i = c.loop-k.invariant.written in
     let m = c.in_default.ensures.written in
     let among : c.loop-k.k < length (g.S.Saved.words c.args.list.now) = omega (arith, all) in
@@ -40,8 +40,8 @@ loop-k-preserved g c =
 pub returns-clause-written : goal.returns-clause-written
 returns-clause-written g c =
     let all : c.count_words-count.result ≡ length (g.S.Saved.words c.args.list.now) =
-        c.count_words-count.ensures ∙ count_is g.S.Saved.kind c.kind.result (g.S.Saved.count c.args.list.now) (g.S.Saved.width c.args.list.now) c.args.shape.count c.args.shape.width
-        (g.S.Saved.words c.args.list.now) c.requires.whole c.kind.ensures c.requires.count c.requires.width in
+    c.count_words-count.ensures ∙ count_is g.S.Saved.kind c.kind.result (g.S.Saved.count c.args.list.now) (g.S.Saved.width c.args.list.now) c.args.shape.count c.args.shape.width
+    (g.S.Saved.words c.args.list.now) c.requires.whole c.kind.ensures c.requires.count c.requires.width in
     let i = c.loop-k.invariant.written in
     let p = c.write_piece.ensures.written in (
       i.0 ++ p.0,

@@ -1,0 +1,104 @@
+-- Saved forms of lists of bits with few ones.
+use Rattle.std.proofs.Common.{◌≡◌, ℕ, suc, ◌+◌, ◌-◌, ◌*◌, ◌^◌, ◌<◌, ◌≤◌, Bool, true, zero, List, [], ◌∷◌, ◌++◌, length, get_or, take, refl, sym, ap, subst, ◌∙◌, inl, inr, arith}
+use Rattle.std.specs.Prelude.{All, nat_le, nat_lt}
+use Rattle.std.specs.List.Sorted.{IsStrictlyIncreasing}
+use Rattle.std.proofs.lemmas.Bool.{cases_lt}
+use Rattle.std.proofs.lemmas.Bool.Decides.{nat_tests}
+use Rattle.std.proofs.lemmas.List.{get_or_push, get_or_append_left, get_or_past, get_or-take, get_or_default, length-append, length-take, take_more, take_all}
+use Rattle.vers_bits.specs.Bits.{count, places, select}
+use Rattle.vers_bits.proofs.PublicLaws.{length-places, count_at_select, select_up, select_past, any_default}
+use Rattle.vers_sorted.specs.Sorted.{each_next}
+use Rattle.vers_sorted.proofs.PublicLaws.{each_next-rising}
+use Rattle.vers_saved.specs.declared.kind.TheConstants.{SPARSE_LISTS}
+use Rattle.vers_saved.specs.Format.{sparse_words}
+use Rattle.vers_saved.specs.Kinds.{IsWhole}
+use Rattle.vers_saved.proofs.WordBytes.{AreWords}
+use Rattle.vers_saved.proofs.BitLists.{within}
+use Rattle.vers_saved.proofs.WordLists.{whole_numbers}
+
+pub length-sparse : (bits : List Bool) → length (sparse_words bits) ≡ count true bits (length bits) + 1
+length-sparse bits = length-append (places true bits) (length bits ∷ []) ∙ omega (arith, length-places true bits)
+
+-- word k is the place of one number k, or the length
+pub sparse_word : (bits : List Bool) (k : ℕ) → k < length (sparse_words bits) → select true bits k ≡ get_or (sparse_words bits) k 0
+unfolding select
+sparse_word bits k h = elim (cases_lt k (length (places true bits))) [
+  | inl inside ↦ any_default (places true bits) k (length bits) 0 inside ∙ sym (get_or_append_left (places true bits) (length bits ∷ []) 0 k inside)
+  | inr past ↦
+      let last : length (places true bits) ≡ k = omega (arith, length-append (places true bits) (length bits ∷ [])) in
+      get_or_past (places true bits) k (length bits) past ∙ sym (get_or_push (places true bits) (length bits) 0 k last)
+]
+
+select_rises : (bits : List Bool) (k : ℕ) → k < count true bits (length bits) → select true bits k < select true bits (k + 1)
+select_rises bits k h = elim (cases_lt (k + 1) (count true bits (length bits))) [
+  | inl inside ↦ select_up true bits k (k + 1) (omega arith) inside
+  | inr past ↦ omega (arith, (count_at_select true bits k h).0, select_past true bits (k + 1) past)
+]
+
+sparse_rises : (bits : List Bool) → IsStrictlyIncreasing (sparse_words bits)
+sparse_rises bits k h =
+    let inside : k < count true bits (length bits) = omega (arith, length-sparse bits) in
+    omega (arith, select_rises bits k inside, sparse_word bits k (omega arith), sparse_word bits (k + 1) h)
+
+sparse_fit : (bits : List Bool) → length bits < 2 ^ 64 → AreWords (sparse_words bits)
+sparse_fit bits small k = elim (cases_lt k (length (sparse_words bits))) [
+  | inl inside ↦ elim (cases_lt k (count true bits (length bits))) [
+    | inl one ↦ omega (arith, sparse_word bits k inside, (count_at_select true bits k one).0)
+    | inr past ↦ omega (arith, sparse_word bits k inside, select_past true bits k past)
+  ]
+  | inr past ↦ rw (get_or_past (sparse_words bits) k 0 past) (omega arith)
+]
+
+pub whole_sparse : (bits : List Bool) → length bits < 2 ^ 64 → count true bits (length bits) < 288230376151711743 → IsWhole SPARSE_LISTS (length (sparse_words bits)) 64 (sparse_words bits)
+whole_sparse bits small few =
+    whole_numbers SPARSE_LISTS (sparse_words bits) refl
+    (within 1 288230376151711743 (length (sparse_words bits)) (omega (arith, length-sparse bits)) (omega (arith, length-sparse bits))) refl
+    (omega (arith, length-sparse bits)) (sparse_fit bits small) ((each_next-rising (sparse_words bits)).1 (sparse_rises bits))
+
+pub sparse_shape : (c w : ℕ) (words : List ℕ) → IsWhole SPARSE_LISTS c w words → (c ≡ length words) × (1 ≤ length words) × (64 ≡ w) × (c ≤ 288230376151711743)
+sparse_shape c w words whole =
+    let wide : 64 ≡ w = grind (arith, nat_tests, whole.wide) in
+    let some : 1 ≤ c = grind (arith, nat_tests, whole.many) in
+    let same : c ≡ length words = omega (arith, whole.counted, whole.small) in
+    (same, omega arith, wide, omega (arith, whole.small))
+
+pub too_many_ones : (bits : List Bool) → 288230376151711743 ≤ count true bits (length bits) → IsWhole SPARSE_LISTS (length (sparse_words bits)) 64 (sparse_words bits) → ⊥
+too_many_ones bits many whole = omega (arith, length-sparse bits, (sparse_shape (length (sparse_words bits)) 64 (sparse_words bits) whole).3)
+
+-- what a strictly ascending list says of its beginning
+rising_to : (words : List ℕ) (i m : ℕ) → IsStrictlyIncreasing words → i + suc m < length words → get_or words i 0 < get_or words (i + suc m) 0
+rising_to words i zero up h =
+    let next : i + 1 ≡ i + suc zero = omega arith in
+    subst (λ j. get_or words i 0 < get_or words j 0) next (up i (omega arith))
+rising_to words i (suc m) up h =
+    let next : i + suc m + 1 ≡ i + suc (suc m) = omega arith in
+    let step : get_or words (i + suc m) 0 < get_or words (i + suc m + 1) 0 = up (i + suc m) (omega arith) in
+    subst (λ j. get_or words i 0 < get_or words j 0) next (omega (arith, rising_to words i m up (omega arith)))
+
+pub first_rise : (c w : ℕ) (words ones : List ℕ) → IsWhole SPARSE_LISTS c w words → ones ≡ take (length words - 1) words → IsStrictlyIncreasing ones
+first_rise c w words ones whole is =
+    subst IsStrictlyIncreasing (sym is) (λ k h.
+    let inside : k + 1 < length words - 1 = omega (arith, length-take (length words - 1) words) in
+    rw (get_or-take (length words - 1) words k 0 (omega arith), get_or-take (length words - 1) words (k + 1) 0 inside)
+    ((each_next-rising words).0 whole.ordered k (omega arith)))
+
+pub first_below : (c w : ℕ) (words ones : List ℕ) (last : ℕ) → IsWhole SPARSE_LISTS c w words → ones ≡ take (length words - 1) words → last ≡ get_or words (length words - 1) 0
+    → All (λ place. place < last) ones
+first_below c w words ones last whole is is_last =
+    subst (All (λ place. place < last)) (sym is) (λ k d h.
+    let inside : k < length words - 1 = omega (arith, length-take (length words - 1) words) in
+    let gap : k + suc (length words - 1 - (k + 1)) ≡ length words - 1 = omega arith in
+    let less : get_or words k 0 < get_or words (k + suc (length words - 1 - (k + 1))) 0 =
+    rising_to words k (length words - 1 - (k + 1)) ((each_next-rising words).0 whole.ordered) (omega arith) in
+    rw (get_or_default (take (length words - 1) words) k d 0 h, get_or-take (length words - 1) words k 0 inside, is_last)
+    (subst (λ j. get_or words k 0 < get_or words j 0) gap less))
+
+pub sparse_again : (c w : ℕ) (words ones : List ℕ) (last : ℕ) (v : List Bool) → IsWhole SPARSE_LISTS c w words → ones ≡ take (length words - 1) words → last ≡ get_or words (length words - 1) 0
+    → length v ≡ last → places true v ≡ ones → sparse_words v ≡ words
+sparse_again c w words ones last v whole is is_last long same =
+    let some : 1 ≤ length words = (sparse_shape c w words whole).1 in
+    let back : length words - 1 + 1 ≡ length words = omega arith in
+    ap (λ l. l ++ length v ∷ []) (same ∙ is) ∙ ap (λ n. take (length words - 1) words ++ n ∷ []) (long ∙ is_last)
+    ∙ sym (take_more words (length words - 1) 0 (omega arith)) ∙ ap (λ m. take m words) back ∙ take_all (length words) words (omega arith)
+
+pub ruleset sparse = (length-sparse, sparse_word, whole_sparse, sparse_shape, too_many_ones, first_rise, first_below, sparse_again)
