@@ -43,16 +43,6 @@ above_from_before F v t a h o p =
     let later : v ≤ r.0 = ⊎_elim (λ (x : r.0 < v). let af = q.after in let g = high (r.0 + 1) (omega arith) (omega arith) in let bk = q.back in absurd (omega (arith, ints))) (λ (x : v ≤ r.0). x) (cases_lt r.0 v) in
     record { before = b; shallower = sum; close = r.0; pair = q; around = ⊎_elim (λ (x : v ≡ r.0). let f = closes_falls (text F) a r.0 false q in let g = subst (λ (m : ℕ). get_or (text F) m false ≡ true) x o in absurd (cc)) (λ (x : v < r.0). x) (eq-or-lt_of_le later) }
 
-pub before_from_above : (l : List Bool) (v t a : ℕ) → v < length l → IsAbove l v t a → IsLastRiseBefore l v (neg_ℤ (pos t)) a
-before_from_above l v t a i p =
-    let s = p.shallower in let r = p.around in let q = p.pair in
-    record {
-      before = p.before;
-      inside = i;
-      sum = omega (arith, ints);
-      last = λ k x y e. let g = q.above k x (omega arith) in omega (arith, ints);
-    }
-
 -- a pair around v opens at or before the parent of v, and where the search finds nothing there is none
 pub parent_is_nearest : (l : List Bool) (v p q e : ℕ) → IsAbove l v 1 p → Closes l q e → q < v → v ≤ e → q ≤ p
 parent_is_nearest l v p q e a c x y = ⊎_elim near (λ (z : q ≤ p). z) (cases_lt p q)

@@ -155,17 +155,6 @@ sevens zero x = refl
 sevens (suc n) zero = refl
 sevens (suc n) (suc x) = sevens n x
 
--- after eight steps the entry has what was met
-pub entry_is : (from_end : Bool) (bits : List Bool) (value least greatest : ℕ) (places : List ℕ) (entry : ℕ) → HasMet from_end bits 8 value least greatest places → greatest ≤ 16 → greatest_in entry ≡ greatest → least_in entry ≡ least
-    → ((x : ℕ) → x < 17 → place_in entry x ≡ get_or places x 7) → IsEntry from_end bits entry
-entry_is from_end bits value least greatest places entry m b g l p = record {
-  bounded = omega arith;
-  high = λ k h. let u = m.high k h in omega (arith, ints);
-  low = λ k h. let u = m.low k h in omega (arith, ints);
-  met = λ x u v. subst (IsFirstMet from_end bits 8 x) (sym (p x (omega arith))) (m.met x (omega arith) (omega arith));
-  absent = λ x u o. p x (omega arith) ∙ m.absent x (⊎_elim (λ (w : x < least_in entry). inl (omega arith)) (λ (w : greatest_in entry < x). inr (omega arith)) o);
-}
-
 -- ---- tables
 pub entries_more : (from_end : Bool) (n : ℕ) (entries : List ℕ) (entry : ℕ) → n < length entries → AreEntries from_end n entries → ((bits : List Bool) → IsByte bits n → IsEntry from_end bits entry) → AreEntries from_end (n + 1) (set entries n entry)
 entries_more from_end n entries entry inside old new byte h bits is = ⊎_elim

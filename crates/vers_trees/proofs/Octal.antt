@@ -45,13 +45,6 @@ octal-digit (d ∷ ds) (suc x) h i =
     let t : octal (d ∷ ds) / 2 ^ 3 ≡ octal ds = omega arith in
     ap (λ (n : ℕ). octal (d ∷ ds) / 2 ^ n % 8) e ∙ ap (λ (n : ℕ). n % 8) (sym s) ∙ ap (λ (n : ℕ). n / 2 ^ (3 * x) % 8) t ∙ ih
 
--- what is read back from an entry
-pub entry_greatest : (entry o least greatest : ℕ) → entry ≡ 1024 * o + 32 * least + greatest → least < 32 → greatest < 32 → greatest_in entry ≡ greatest
-entry_greatest entry o least greatest e a b = omega arith
-
-pub entry_least : (entry o least greatest : ℕ) → entry ≡ 1024 * o + 32 * least + greatest → least < 32 → greatest < 32 → least_in entry ≡ least
-entry_least entry o least greatest e a b = omega arith
-
 pub entry_place : (entry : ℕ) (ds : List ℕ) (least greatest x : ℕ) → entry ≡ 1024 * octal ds + 32 * least + greatest → least < 32 → greatest < 32 → AreOctal ds → x < length ds → place_in entry x ≡ get_or ds x 7
 entry_place entry ds least greatest x e a b h i =
     let t : entry / 2 ^ 10 ≡ octal ds = omega arith in

@@ -25,10 +25,6 @@ same_around l v c d q e p n m = (there, back)
           omega arith,
         )
 
--- what opens inside a tree is not its sibling: the tree is around it, and not around itself
-pub inside_is_around : (l : List Bool) (v c u x : ℕ) → Closes l v c → Closes l u x → v < u → u ≤ c → (v < u) × (x < c)
-inside_is_around l v c u x p q h g = (h, nested l v c u x p q h g)
-
 -- where what follows a tree is a closing bracket, its pair is around the tree and around nothing later
 pub last_of_siblings : (F : Forest) (v c : ℕ) → Closes (text F) v c → c + 1 < length (text F) → get_or (text F) (c + 1) false ≡ false → (q : ℕ) × Closes (text F) q (c + 1) × (q < v)
 last_of_siblings F v c p i b =

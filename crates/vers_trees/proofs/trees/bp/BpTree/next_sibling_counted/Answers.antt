@@ -9,8 +9,5 @@ returns-in_err-close-clause-value g c = absurd (always_closes c.args.self.now c.
 pub opens_after-requires-clause-inside : goal.opens_after-requires-clause-inside
 opens_after-requires-clause-inside g c = let s = subtree_by c.args.self.now c.requires.balanced c.args.node c.requires.node c.in_ok-close.close (closing_found c.args.self.now c.requires.balanced c.args.node c.requires.node c.in_ok-close.close (let a = c.in_ok-close.ensures in a.value)) in let s1 = s.1 in let v = ap (λ (l : List Bool). length l) c.self.view_is in let i = c.self.invariant.short in omega arith
 
-pub opens_after-requires-clause-short : goal.opens_after-requires-clause-short
-opens_after-requires-clause-short g c = let v = ap (λ (l : List Bool). length l) c.self.view_is in let i = c.self.invariant.short in omega arith
-
 pub returns-clause-value : goal.returns-clause-value
 returns-clause-value g c = c.opens_after.ensures.value ∙ sym (ap (λ (l : List Bool). opened_after l c.in_ok-close.close) (sym c.self.view_is)) ∙ next_sibling_by c.args.self.now c.requires.balanced c.args.node c.requires.node c.in_ok-close.close (closing_found c.args.self.now c.requires.balanced c.args.node c.requires.node c.in_ok-close.close (let a = c.in_ok-close.ensures in a.value))

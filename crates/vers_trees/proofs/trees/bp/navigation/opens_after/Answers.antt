@@ -2,9 +2,6 @@ use Rattle.std.proofs.Common.{arith, sym, ◌∙◌}
 use Rattle.vers_trees.proofs.Queries.{opens_there, closes_there, ends_there}
 use Rattle.vers_trees.proofs.trees.bp.navigation.opens_after.Goals as goal
 
-pub overflow_add-next : goal.overflow_add-next
-overflow_add-next g c = let i = c.requires.inside in let s = c.requires.short in record { fits = omega arith }
-
 pub returns-then-next-len-clause-value : goal.returns-then-next-len-clause-value
 returns-then-next-len-clause-value g c = let t = c.if-next-len.true in let v = c.len.ensures.value in ends_there c.args.bits.now c.args.place (omega arith)
 

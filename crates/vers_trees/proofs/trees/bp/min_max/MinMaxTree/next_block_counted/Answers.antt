@@ -11,9 +11,6 @@ use Rattle.vers_trees.proofs.trees.bp.min_max.MinMaxTree.next_block_counted.Goal
 pub returns-then-begin-self-clause-value : goal.returns-then-begin-self-clause-value
 returns-then-begin-self-clause-value g c = λ k a w. let i = w.inside in omega arith
 
-pub node_after-node-requires : goal.node_after-node-requires
-node_after-node-requires g c = omega arith
-
 pub loop-node-init : goal.loop-node-init
 loop-node-init g c =
     let p = passed_start c.args.self.now.first c.args.self.now.nodes c.args.begin c.args.left c.requires.tree c.requires.begins in
@@ -49,9 +46,6 @@ returns-in_err-left g c =
           (λ r. let h = c.reaches.ensures.1 r in let q = c.if-reaches.false in absurd (cc)) (λ h. c.in_err-left.ensures (rw (to_z-of_z w64 c.node_counted-after.result.total f) h)) k a (rw (to_z-of_z w64 c.args.left c.ranges.left) w));
       adds = up_then_none _ _ _ c.args.self.now.first c.loop-node.node i.within c.loop-node-test.true i.reads c.node_counted-after.ensures.adds;
     }
-
-pub node_after-node-requires-in-loop-node : goal.node_after-node-requires-in-loop-node
-node_after-node-requires-in-loop-node g c = omega arith
 
 pub loop-node-preserved : goal.loop-node-preserved
 loop-node-preserved g c =

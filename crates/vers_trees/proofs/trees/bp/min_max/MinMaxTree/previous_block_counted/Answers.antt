@@ -9,9 +9,6 @@ use Rattle.vers_trees.proofs.OddParts.{odd_most, digits_before}
 use Rattle.vers_trees.proofs.Steps.{no_nodes, read_up, up_ends, up_then_down, up_then_none}
 use Rattle.vers_trees.proofs.trees.bp.min_max.MinMaxTree.previous_block_counted.Goals as goal
 
-pub node_before-node-requires : goal.node_before-node-requires
-node_before-node-requires g c = omega arith
-
 pub loop-node-init : goal.loop-node-init
 loop-node-init g c =
     let p = rise_start c.args.self.now.first c.args.self.now.nodes c.args.begin c.args.left c.requires.tree c.requires.begins in
@@ -50,9 +47,6 @@ returns-in_err-rest g c =
           (λ h. c.in_err-rest.ensures (rw (to_z-of_z w64 c.node_counted-before.result.total f) h)) k a (rw (to_z-of_z w64 c.args.left c.ranges.left) w));
       adds = up_then_none _ _ _ c.args.self.now.first c.loop-node.node i.within c.loop-node-test.true i.reads c.node_counted-before.ensures.adds;
     }
-
-pub node_before-node-requires-in-loop-node : goal.node_before-node-requires-in-loop-node
-node_before-node-requires-in-loop-node g c = omega arith
 
 pub loop-node-preserved : goal.loop-node-preserved
 loop-node-preserved g c =
