@@ -7,11 +7,10 @@ use Rattle.vers_trees.specs.Forest.{Forest, text, pairs, IsBalanced, forest_of}
 use Rattle.vers_trees.specs.Layout.{block_count, node_count}
 use Rattle.vers_trees.specs.Nodes.{nodes, IsNode, parent, depth, level, first_of, last_of, next_of, previous_of}
 use Rattle.vers_trees.specs.LevelWalks.{IsAlongLevel}
-use Rattle.vers_trees.proofs.Enclosed as Enclosed
-use Rattle.vers_trees.proofs.Grammar as Grammar
-use Rattle.vers_trees.proofs.NodeLaws as NodeLaws
-use Rattle.vers_trees.proofs.Widths as Widths
-use Rattle.vers_trees.proofs.LevelWalks as LevelWalks
+use Rattle.vers_trees.proofs.kin.Matching as Matching
+use Rattle.vers_trees.proofs.grammar.Grammar as Grammar
+use Rattle.vers_trees.proofs.levels.NodeLaws as NodeLaws
+use Rattle.vers_trees.proofs.layout.Widths as Widths
 
 -- ---- nodes
 
@@ -31,7 +30,7 @@ node_iff_got = NodeLaws.node_iff_got
 
 -- of both places of a pair, the nearest pair around it opens at the parent of its node
 pub enclosed_by_parent : (F : Forest) (v c : ℕ) → Contains (pairs F) (v, c) → (enclosing (text F) v ≡ parent F v) × (enclosing (text F) c ≡ parent F v)
-enclosed_by_parent = Enclosed.enclosed_by_parent
+enclosed_by_parent = Matching.enclosed_by_parent
 
 -- the forest of a balanced list writes down that list again
 pub text-forest_of : (bits : List Bool) → IsBalanced bits → text (forest_of bits) ≡ bits
@@ -68,22 +67,22 @@ levels_are_parts = NodeLaws.levels_are_parts
 
 -- from the first node of the level
 pub walk_begins : {H : Type 0} {place : H → ℕ} {F : Forest} {d : ℕ} {next : Option H} → option_map place next ≡ first_of (level F d) → IsAlongLevel place F d [] next
-walk_begins e = LevelWalks.walk_begins e
+walk_begins e = NodeLaws.walk_begins e
 
 -- the handle that comes next names a node
 pub walk_meets_nodes : {H : Type 0} {place : H → ℕ} {F : Forest} {d : ℕ} {met : List H} {next : Option H} {v : H} → IsAlongLevel place F d met next → next ≡ Some v → IsNode F (place v)
-walk_meets_nodes h e = LevelWalks.walk_meets_nodes h e
+walk_meets_nodes h e = NodeLaws.walk_meets_nodes h e
 
 -- it is met, and the next node of its depth comes next
 pub walk_goes_on : {H : Type 0} {place : H → ℕ} {F : Forest} {d : ℕ} {met all : List H} {next after : Option H} {v : H} → IsAlongLevel place F d met next → next ≡ Some v
     → all ≡ met ++ v ∷ [] → option_map place after ≡ next_of (level F (depth F (place v))) (place v) → IsAlongLevel place F d all after
-walk_goes_on h e a n = LevelWalks.walk_goes_on h e a n
+walk_goes_on h e a n = NodeLaws.walk_goes_on h e a n
 
 -- fewer are still to be met
 pub walk_comes_nearer : {H : Type 0} {place : H → ℕ} {F : Forest} {d : ℕ} {met all : List H} {next : Option H} {v : H} → IsAlongLevel place F d met next → next ≡ Some v
     → all ≡ met ++ v ∷ [] → length (level F d) - length all < length (level F d) - length met
-walk_comes_nearer h e a = LevelWalks.walk_comes_nearer h e a
+walk_comes_nearer h e a = NodeLaws.walk_comes_nearer h e a
 
 -- where none comes next, all of the level were met
 pub walk_ends : {H : Type 0} {place : H → ℕ} {F : Forest} {d : ℕ} {met : List H} {next : Option H} → IsAlongLevel place F d met next → next ≡ None → map place met ≡ level F d
-walk_ends h e = LevelWalks.walk_ends h e
+walk_ends h e = NodeLaws.walk_ends h e

@@ -1,4 +1,4 @@
-use Rattle.vers_trees.proofs.Matching.{backward_last}
+use Rattle.vers_trees.proofs.kin.Matching.{backward_last}
 use Rattle.vers_trees.proofs.laws.backward_finds_last.Goals as goal
 
 pub returns : goal.returns

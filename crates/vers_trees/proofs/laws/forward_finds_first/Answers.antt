@@ -1,4 +1,4 @@
-use Rattle.vers_trees.proofs.Matching.{forward_first}
+use Rattle.vers_trees.proofs.kin.Matching.{forward_first}
 use Rattle.vers_trees.proofs.laws.forward_finds_first.Goals as goal
 
 pub returns : goal.returns

@@ -44,7 +44,7 @@ impl<'a, const BLOCK_SIZE: usize, A: Allocator + Copy> Model for ClosedNodes<'a,
         × ArePlacesOfZeros s.searched.bits.now s.zeros.bit s.zeros.bits s.first s.count };
 }
 
-#[tactic(auto, using(crate::proofs::ClosedByZeros::closed))]
+#[tactic(auto, using(crate::proofs::walks::WalksOfNodes::closed))]
 impl<'a, const BLOCK_SIZE: usize, A: Allocator + Copy> Source for ClosedNodes<'a, BLOCK_SIZE, A> {
     type Item = usize;
 

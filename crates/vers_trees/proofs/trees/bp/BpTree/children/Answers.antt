@@ -1,7 +1,7 @@
 use Rattle.std.proofs.Common.{◌≡◌, ◌+◌, true, Bool, ℕ, List, length, arith, sym, ap, subst, ◌∙◌}
 use Rattle.vers_trees.specs.Layout.{enclose_reads}
 use Rattle.vers_trees.specs.Siblings.{siblings_left, IsWalkOfSiblings}
-use Rattle.vers_trees.proofs.WalksOfNodes.{forwards, node_inside, walking}
+use Rattle.vers_trees.proofs.walks.WalksOfNodes.{forwards, node_inside, walking}
 use Rattle.vers_trees.proofs.trees.bp.BpTree.children.Goals as goal
 
 pub overflow_add-node : goal.overflow_add-node

@@ -1,6 +1,6 @@
 use Rattle.std.proofs.Common.{Bool, true, List, arith, ap, ◌∙◌}
 use Rattle.vers_bits.specs.Bits.{count}
-use Rattle.vers_trees.proofs.Handles.{depth_by_ones}
+use Rattle.vers_trees.proofs.kin.Handles.{depth_by_ones}
 use Rattle.vers_trees.proofs.trees.bp.BpTree.depth_counted.Goals as goal
 
 pub overflow_sub-zeros : goal.overflow_sub-zeros

@@ -2,8 +2,7 @@ use Rattle.std.proofs.Common.{false, Bool, â„•, List, length, arith, sym, ap, â—
 use Rattle.vers_bits.specs.Bits.{count}
 use Rattle.vers_bits.proofs.PublicLaws.{length-places}
 use Rattle.vers_trees.specs.WalkReads.{post_reads}
-use Rattle.vers_trees.proofs.ClosedByZeros.{closed_by_all}
-use Rattle.vers_trees.proofs.WalksOfNodes.{walking}
+use Rattle.vers_trees.proofs.walks.WalksOfNodes.{closed_by_all, walking}
 use Rattle.vers_trees.proofs.trees.bp.BpTree.dfs_post_iter.Goals as goal
 
 pub closed_by-requires : goal.closed_by-requires

@@ -1,7 +1,7 @@
 use Rattle.std.proofs.Common.{◌+◌, ◌<◌, Bool, List, length, arith, w64, subst, sym, ap, ◌∙◌}
 use Rattle.std.proofs.lemmas.Int.{to_z-of_z}
 use Rattle.vers_trees.specs.Excess.{excess}
-use Rattle.vers_trees.proofs.Queries.{few_ones, small_number, difference_is}
+use Rattle.vers_trees.proofs.searches.Beside.{few_ones, small_number, difference_is}
 use Rattle.vers_trees.proofs.trees.bp.BpTree.excess_counted.Goals as goal
 
 pub overflow_sub-zeros : goal.overflow_sub-zeros

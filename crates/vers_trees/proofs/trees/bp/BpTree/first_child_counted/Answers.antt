@@ -1,6 +1,6 @@
 use Rattle.std.proofs.Common.{Bool, List, length, arith, sym, ap, ◌∙◌}
 use Rattle.vers_trees.specs.inside.Scans.{opened_after}
-use Rattle.vers_trees.proofs.Handles.{node_inside, first_child_by}
+use Rattle.vers_trees.proofs.kin.Handles.{node_inside, first_child_by}
 use Rattle.vers_trees.proofs.trees.bp.BpTree.first_child_counted.Goals as goal
 
 pub opens_after-requires-clause-inside : goal.opens_after-requires-clause-inside

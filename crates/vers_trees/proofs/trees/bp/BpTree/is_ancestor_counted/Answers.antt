@@ -1,6 +1,6 @@
 use Rattle.std.proofs.Common.{Some, arith, ap}
 use Rattle.vers_trees.specs.Forest.{forest_of}
-use Rattle.vers_trees.proofs.Handles.{always_closes, closing_found, closes_within, opens_before}
+use Rattle.vers_trees.proofs.kin.Handles.{always_closes, closing_found, closes_within, opens_before}
 use Rattle.vers_trees.proofs.trees.bp.BpTree.is_ancestor_counted.Goals as goal
 
 pub returns-in_err-outer-clause-value : goal.returns-in_err-outer-clause-value

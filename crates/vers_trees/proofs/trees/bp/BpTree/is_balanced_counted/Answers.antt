@@ -1,6 +1,6 @@
 use Rattle.std.proofs.Common.{◌≡◌, true, Bool, List, subst, sym, ◌∙◌}
 use Rattle.vers_trees.specs.Forest.{IsBalanced}
-use Rattle.vers_trees.proofs.Roots.{balanced_iff_level, some_bits}
+use Rattle.vers_trees.proofs.layout.Build.{balanced_iff_level, some_bits}
 use Rattle.vers_trees.proofs.trees.bp.BpTree.is_balanced_counted.Goals as goal
 
 pub returns-clause-value : goal.returns-clause-value

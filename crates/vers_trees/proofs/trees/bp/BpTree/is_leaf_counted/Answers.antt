@@ -1,6 +1,6 @@
 use Rattle.vers_trees.specs.Forest.{forest_of}
 use Rattle.vers_trees.specs.Nodes.{children}
-use Rattle.vers_trees.proofs.Handles.{leaf_by}
+use Rattle.vers_trees.proofs.kin.Handles.{leaf_by}
 use Rattle.vers_trees.proofs.trees.bp.BpTree.is_leaf_counted.Goals as goal
 
 pub returns-clause-value : goal.returns-clause-value

@@ -1,5 +1,5 @@
 use Rattle.std.proofs.Common.{◌∙◌}
-use Rattle.vers_trees.proofs.Handles.{always_closes, closing_found, level_next_by}
+use Rattle.vers_trees.proofs.kin.Handles.{always_closes, closing_found, level_next_by}
 use Rattle.vers_trees.proofs.trees.bp.BpTree.level_next_counted.Goals as goal
 
 pub returns-in_err-close-clause-value : goal.returns-in_err-close-clause-value

@@ -1,5 +1,5 @@
 use Rattle.std.proofs.Common.{sym, ◌∙◌}
-use Rattle.vers_trees.proofs.Handles.{no_level_prev, level_prev_by}
+use Rattle.vers_trees.proofs.kin.Handles.{no_level_prev, level_prev_by}
 use Rattle.vers_trees.proofs.trees.bp.BpTree.level_prev_counted.Goals as goal
 
 pub returns-in_err-close-clause-value : goal.returns-in_err-close-clause-value

@@ -3,8 +3,8 @@ use mir.Syntax.{w64}
 use Rattle.vers_trees.specs.Forest.{forest_of}
 use Rattle.vers_trees.specs.Excess.{last_rise_before}
 use Rattle.vers_trees.specs.Nodes.{level, last_of}
-use Rattle.vers_trees.proofs.Queries.{with_sign}
-use Rattle.vers_trees.proofs.Handles.{last_root_by, no_level_so_deep, no_level_rightmost, level_rightmost_by}
+use Rattle.vers_trees.proofs.searches.Beside.{with_sign}
+use Rattle.vers_trees.proofs.kin.Handles.{last_root_by, no_level_so_deep, no_level_rightmost, level_rightmost_by}
 use Rattle.vers_trees.proofs.trees.bp.BpTree.level_rightmost_counted.Goals as goal
 
 pub returns-then-depth-len-clause-value : goal.returns-then-depth-len-clause-value

@@ -1,6 +1,6 @@
 use Rattle.std.proofs.Common.{Bool, true, List, ap, ◌∙◌}
 use Rattle.vers_bits.specs.Bits.{count}
-use Rattle.vers_trees.proofs.Handles.{index_by}
+use Rattle.vers_trees.proofs.kin.Handles.{index_by}
 use Rattle.vers_trees.proofs.trees.bp.BpTree.node_index_counted.Goals as goal
 
 pub returns-clause-value : goal.returns-clause-value

@@ -1,4 +1,4 @@
-use Rattle.vers_trees.proofs.WalksOfNodes.{within_is, end_in}
+use Rattle.vers_trees.proofs.walks.WalksOfNodes.{within_is, end_in}
 use Rattle.vers_trees.proofs.trees.bp.BpTree.nodes_within.Goals as goal
 
 pub overflow_sub-result : goal.overflow_sub-result

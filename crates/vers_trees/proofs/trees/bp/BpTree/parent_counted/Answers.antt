@@ -1,5 +1,5 @@
 use Rattle.std.proofs.Common.{◌∙◌}
-use Rattle.vers_trees.proofs.Handles.{parent_by}
+use Rattle.vers_trees.proofs.kin.Handles.{parent_by}
 use Rattle.vers_trees.proofs.trees.bp.BpTree.parent_counted.Goals as goal
 
 pub returns-clause-value : goal.returns-clause-value

@@ -1,5 +1,5 @@
 use Rattle.std.proofs.Common.{◌-◌, Bool, false, List, length, get_or, arith, sym, ap, ◌∙◌}
-use Rattle.vers_trees.proofs.Handles.{node_inside, no_sibling_before_first, no_sibling_after_one, previous_sibling_by}
+use Rattle.vers_trees.proofs.kin.Handles.{node_inside, no_sibling_before_first, no_sibling_after_one, previous_sibling_by}
 use Rattle.vers_trees.proofs.trees.bp.BpTree.previous_sibling_counted.Goals as goal
 
 pub returns-then-node-eq0-clause-value : goal.returns-then-node-eq0-clause-value

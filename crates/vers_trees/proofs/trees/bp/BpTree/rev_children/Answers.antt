@@ -1,7 +1,7 @@
 use Rattle.std.proofs.Common.{false, Bool, ℕ, List, length, arith, sym, ap, subst, ◌∙◌}
 use Rattle.vers_trees.specs.Layout.{enclose_reads}
 use Rattle.vers_trees.specs.Siblings.{siblings_left, IsWalkOfSiblings}
-use Rattle.vers_trees.proofs.WalksOfNodes.{backwards, end_in, walking}
+use Rattle.vers_trees.proofs.walks.WalksOfNodes.{backwards, end_in, walking}
 use Rattle.vers_trees.proofs.trees.bp.BpTree.rev_children.Goals as goal
 
 pub new-requires : goal.new-requires

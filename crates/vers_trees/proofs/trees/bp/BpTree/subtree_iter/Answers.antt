@@ -2,7 +2,7 @@ use Rattle.std.proofs.Common.{true, Bool, ℕ, List, length, take, drop, arith, 
 use Rattle.vers_bits.specs.Bits.{count, places}
 use Rattle.vers_tally.specs.Ends.{Walking}
 use Rattle.vers_rank.specs.Queries.{superblock_count, select_reads}
-use Rattle.vers_trees.proofs.WalksOfNodes.{subtree_inside, subtree_part, walking}
+use Rattle.vers_trees.proofs.walks.WalksOfNodes.{subtree_inside, subtree_part, walking}
 use Rattle.vers_trees.proofs.trees.bp.BpTree.subtree_iter.Goals as goal
 
 pub part_of-requires : goal.part_of-requires

@@ -2,7 +2,7 @@ use Rattle.std.proofs.Common.{false, Bool, ℕ, List, length, arith, ap, ◌∙�
 use Rattle.vers_bits.specs.Bits.{count}
 use Rattle.vers_trees.specs.WalkReads.{post_reads}
 use Rattle.vers_trees.specs.inside.Closed.{closed_by}
-use Rattle.vers_trees.proofs.WalksOfNodes.{subtree_inside, subtree_post_part, walking}
+use Rattle.vers_trees.proofs.walks.WalksOfNodes.{subtree_inside, subtree_post_part, walking}
 use Rattle.vers_trees.proofs.trees.bp.BpTree.subtree_post_iter.Goals as goal
 
 pub closed_by-requires : goal.closed_by-requires

@@ -1,5 +1,5 @@
 use Rattle.std.proofs.Common.{Some, arith, ap, ◌∙◌}
-use Rattle.vers_trees.proofs.Handles.{always_closes, closing_found, subtree_by}
+use Rattle.vers_trees.proofs.kin.Handles.{always_closes, closing_found, subtree_by}
 use Rattle.vers_trees.proofs.trees.bp.BpTree.subtree_size_counted.Goals as goal
 
 pub returns-in_err-close-clause-value : goal.returns-in_err-close-clause-value

@@ -1,5 +1,5 @@
 use Rattle.std.proofs.Common.{◌<◌, arith, refl, ◌∙◌, subst, sym}
-use Rattle.vers_trees.proofs.Bytes.{IsNoted, as_many, met_nothing, sevens, met_more, few_more, place_small, up_or_down}
+use Rattle.vers_trees.proofs.searches.Bytes.{IsNoted, as_many, met_nothing, sevens, met_more, few_more, place_small, up_or_down}
 use Rattle.vers_trees.proofs.trees.bp.bytes.entry_of.Goals as goal
 
 pub loop-step-init : goal.loop-step-init

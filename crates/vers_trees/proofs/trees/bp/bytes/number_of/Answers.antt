@@ -1,5 +1,5 @@
 use Rattle.std.proofs.Common.{◌-◌, arith}
-use Rattle.vers_trees.proofs.Octal.{octal_small, octal_more}
+use Rattle.vers_trees.proofs.searches.Bytes.{octal_small, octal_more}
 use Rattle.vers_trees.proofs.trees.bp.bytes.number_of.Goals as goal
 
 pub overflow_mul-number : goal.overflow_mul-number

@@ -1,5 +1,5 @@
 use Rattle.std.proofs.Common.{arith, sym, ◌∙◌}
-use Rattle.vers_trees.proofs.Queries.{opens_there, closes_there, ends_there}
+use Rattle.vers_trees.proofs.searches.Beside.{opens_there, closes_there, ends_there}
 use Rattle.vers_trees.proofs.trees.bp.navigation.opens_after.Goals as goal
 
 pub returns-then-next-len-clause-value : goal.returns-then-next-len-clause-value

@@ -3,9 +3,9 @@ use Rattle.std.proofs.lemmas.Int.{ints, to_z-of_z}
 use Rattle.vers_bits.specs.Bits.{number, part}
 use Rattle.vers_trees.specs.Bytes.{place_in}
 use Rattle.vers_trees.specs.inside.Scans.{IsFirstRise, HasNoRise}
-use Rattle.vers_trees.proofs.Scans.{rise_within}
-use Rattle.vers_trees.proofs.ByteScans.{length-part, read_some, whole_word, byte_read, entry_ordered, forward_byte_found, forward_byte}
-use Rattle.vers_trees.proofs.WordScans.{forward_word, word_counted}
+use Rattle.vers_trees.proofs.searches.Scans.{rise_within}
+use Rattle.vers_trees.proofs.searches.ByteScans.{length-part, read_some, whole_word, byte_read, entry_ordered, forward_byte_found, forward_byte}
+use Rattle.vers_trees.proofs.searches.WordScans.{forward_word, word_counted}
 use Rattle.vers_trees.proofs.trees.bp.scan.bytes_forward.Goals as goal
 
 pub unwrap-word-requires : goal.unwrap-word-requires

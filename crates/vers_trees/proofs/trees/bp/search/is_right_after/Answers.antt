@@ -1,5 +1,5 @@
 use Rattle.std.proofs.Common.{arith}
-use Rattle.vers_trees.proofs.Beside.{right_after, nothing_after}
+use Rattle.vers_trees.proofs.searches.Beside.{right_after, nothing_after}
 use Rattle.vers_trees.proofs.trees.bp.search.is_right_after.Goals as goal
 
 pub returns-then-next-len-clause-value : goal.returns-then-next-len-clause-value

@@ -1,4 +1,4 @@
-use Rattle.vers_trees.proofs.Beside.{right_before}
+use Rattle.vers_trees.proofs.searches.Beside.{right_before}
 use Rattle.vers_trees.proofs.trees.bp.search.is_right_before.Goals as goal
 
 pub returns-clause-value : goal.returns-clause-value

@@ -1,4 +1,4 @@
-use Rattle.vers_trees.proofs.AsTree.{handle_past}
+use Rattle.vers_trees.proofs.kin.AsTree.{handle_past}
 use Rattle.vers_trees.proofs.trees.bp.as_tree.BpTreeTree.node_handle.Goals as goal
 
 pub returns-clause-past : goal.returns-clause-past

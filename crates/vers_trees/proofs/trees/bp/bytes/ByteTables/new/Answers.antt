@@ -1,6 +1,6 @@
 use Rattle.std.proofs.Common.{true, false, refl, arith, ◌∙◌}
 use Rattle.std.proofs.lemmas.List.{length-set}
-use Rattle.vers_trees.proofs.Bytes.{entries_more}
+use Rattle.vers_trees.proofs.searches.Bytes.{entries_more}
 use Rattle.vers_trees.proofs.trees.bp.bytes.ByteTables.new.Goals as goal
 
 pub loop-byte-init : goal.loop-byte-init

@@ -1,5 +1,5 @@
 use Rattle.std.proofs.Common.{rules, ◌≡◌, ◌+◌, ◌*◌, ℕ, length, arith, ap}
-use Rattle.vers_trees.proofs.Octal.{entry_place}
+use Rattle.vers_trees.proofs.searches.Bytes.{entry_place}
 use Rattle.vers_trees.proofs.trees.bp.bytes.Met.entry.Goals as goal
 
 pub returns-clause-places : goal.returns-clause-places

@@ -2,7 +2,7 @@ use Rattle.std.proofs.Common.{ℕ, List, Option, Some, None, sym, ap, subst}
 use Rattle.vers_bits.specs.Walk.{TakesFirst}
 use Rattle.vers_tally.specs.Ends.{Walking}
 use Rattle.vers_trees.specs.Siblings.{siblings_left}
-use Rattle.vers_trees.proofs.WalksOfNodes.{walk_ends, walk_goes_on}
+use Rattle.vers_trees.proofs.walks.WalksOfNodes.{walk_ends, walk_goes_on}
 use Rattle.vers_trees.proofs.trees.bp.children.Siblings.next_counted.Goals as goal
 
 pub returns-in_err-node-clause-steps : goal.returns-in_err-node-clause-steps

@@ -3,8 +3,8 @@ use mir.Val.{bool_byte}
 use Rattle.std.proofs.lemmas.Int.{to_z-of_z}
 use Rattle.vers_trees.specs.declared.trees.bp.min_max.Node.{Node}
 use Rattle.vers_trees.specs.inside.MinMax.{IsInRangeOrStart, LeadsBack}
-use Rattle.vers_trees.proofs.Back.{back_fits, back_right, back_left, back_leaf}
-use Rattle.vers_trees.proofs.Steps.{no_nodes, read_down, down_ends}
+use Rattle.vers_trees.proofs.layout.Climbs.{back_fits, back_right, back_left, back_leaf}
+use Rattle.vers_trees.proofs.layout.Steps.{no_nodes, read_down, down_ends}
 use Rattle.vers_trees.proofs.trees.bp.min_max.MinMaxTree.descend_back_counted.Goals as goal
 use Rattle.vers_trees.proofs.trees.bp.min_max.MinMaxTree.descend_back_counted.Goals.{then-is_past, else-is_past}
 

@@ -1,5 +1,5 @@
 use Rattle.std.proofs.Common.{sym, ◌∙◌}
-use Rattle.vers_trees.proofs.Widths.{empty_indexed}
+use Rattle.vers_trees.proofs.layout.Widths.{empty_indexed}
 use Rattle.vers_trees.proofs.trees.bp.min_max.MinMaxTree.over.Goals as goal
 
 pub returns-then-len-eq0 : goal.returns-then-len-eq0

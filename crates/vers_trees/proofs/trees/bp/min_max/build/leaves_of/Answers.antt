@@ -3,7 +3,7 @@ use Rattle.vers_trees.specs.declared.trees.bp.min_max.Node.{Node}
 use Rattle.vers_trees.specs.inside.MinMax.{IsPart}
 use Rattle.vers_trees.specs.Layout.{block_count}
 use Rattle.vers_trees.specs.inside.Index.{AreFirstBlocks}
-use Rattle.vers_trees.proofs.Widths.{block_added}
+use Rattle.vers_trees.proofs.layout.Widths.{block_added}
 use Rattle.vers_trees.proofs.trees.bp.min_max.build.leaves_of.Goals as goal
 
 pub loop-block-preserved : goal.loop-block-preserved

@@ -1,6 +1,6 @@
 use Rattle.std.proofs.Common.{◌+◌, ◌*◌, ◌/◌, min, arith, w64, ap, ◌∙◌}
 use Rattle.std.proofs.lemmas.Int.{to_z-of_z}
-use Rattle.vers_trees.proofs.Finds.{first_end, next_inside, found_first, next_answer, none_next, none_far, none_past}
+use Rattle.vers_trees.proofs.searches.Finds.{first_end, next_inside, found_first, next_answer, none_next, none_far, none_past}
 use Rattle.vers_trees.proofs.trees.bp.search.Searched.forward.Goals as goal
 
 pub returns-then-i-len-clause-value : goal.returns-then-i-len-clause-value

@@ -1,5 +1,5 @@
 use Rattle.std.proofs.Common.{negsuc, arith, sym}
-use Rattle.vers_trees.proofs.Searches.{after_some}
+use Rattle.vers_trees.proofs.searches.Searches.{after_some}
 use Rattle.vers_trees.proofs.trees.bp.search.Searched.tree_from.Goals as goal
 
 pub overflow_add-result : goal.overflow_add-result

@@ -1,0 +1,4 @@
+pub mod Excess
+pub mod Paired
+pub mod Pairs
+pub mod Grammar

@@ -1,0 +1,186 @@
+-- The list of a forest's pairs has just the places that open and close a tree.
+use Rattle.std.proofs.Common.{◌≡◌, ℕ, zero, suc, ◌+◌, ◌<◌, ◌⊎◌, inl, inr, List, ◌∷◌, ◌++◌, map, length, get_or, arith, ⊎_elim, subst, sym, refl, ap, ◌∙◌, ◌*◌, ◌≤◌, Bool, true, false, ◌&&◌, cond, [], ltb, leb, count_by, pos, ◌+ℤ◌}
+use Rattle.std.specs.List.{Contains}
+use Rattle.std.proofs.lemmas.List.{get_or-map, length-map, length-append}
+use Rattle.std.proofs.lemmas.List.Elements.{Contains-get_or, Contains-append_left, Contains-append_right, Contains-append_cases}
+use Rattle.vers_trees.proofs.grammar.Paired.{Paired, paired_closes, length-tree, excess_in_first, excess_in_rest}
+use Rattle.vers_trees.specs.Forest.{Forest, none, tree, text, moved, pairs}
+use Rattle.std.proofs.lemmas.Int.{ints}
+use Rattle.std.proofs.lemmas.Bool.Decides.{nat_tests}
+use Rattle.std.proofs.lemmas.Bool.{lt-ltb, le-ltb, le-leb, lt-leb, and_from, and_left, and_right}
+use Rattle.std.proofs.lemmas.List.Sums.{sum_by-cons, sum_by-append}
+use Rattle.vers_trees.proofs.grammar.Excess.{excess-zero}
+use Rattle.vers_trees.specs.Excess.{excess}
+
+pub contains_first : {X : Type 0} → (x : X) (xs : List X) → Contains (x ∷ xs) x
+contains_first x xs = (0, omega arith, refl)
+
+pub contains_later : {X : Type 0} → (y : X) (xs : List X) (x : X) → Contains xs x → Contains (y ∷ xs) x
+contains_later y xs x c = (suc c.0, let h = c.1 in omega arith, c.2)
+
+pub contains_cons_cases : {X : Type 0} → (y : X) (xs : List X) (x : X) → Contains (y ∷ xs) x → (y ≡ x) ⊎ Contains xs x
+contains_cons_cases y xs x c = go c.0 c.1 c.2
+  where
+    go : (k : ℕ) → k < length (y ∷ xs) → get_or (y ∷ xs) k x ≡ x → (y ≡ x) ⊎ Contains xs x
+    go zero h e = inl e
+    go (suc k) h e = inr (k, omega arith, e)
+
+pub contains_map : {X Y : Type 0} → (f : X → Y) (xs : List X) (x : X) → Contains xs x → Contains (map f xs) (f x)
+contains_map f xs x c = (c.0, (let l = length-map xs f in let h = c.1 in omega arith), get_or-map f xs c.0 x (f x) c.1 ∙ ap f c.2)
+
+pub contains_map_cases : {X Y : Type 0} → (f : X → Y) (xs : List X) (d : X) (y : Y) → Contains (map f xs) y → (x : X) × Contains xs x × (f x ≡ y)
+contains_map_cases f xs d y c =
+    let l = length-map xs f in
+    let h = c.1 in
+    let i : c.0 < length xs = omega arith in
+    (get_or xs c.0 d, Contains-get_or xs c.0 d i, sym (get_or-map f xs c.0 d y i) ∙ c.2)
+
+abbrev pub second : Forest → Forest → List (ℕ × ℕ)
+second X Y = map (moved 1) (pairs X) ++ map (moved (length (text X) + 2)) (pairs Y)
+
+-- the list of pairs holds just what `Paired` says
+pub contains_from_paired : (F : Forest) (v c : ℕ) → Paired F v c → Contains (pairs F) (v, c)
+contains_from_paired none v c p = absurd p
+contains_from_paired (tree X Y) v c (inl p) = rw (p.0, p.1) (contains_first (0, length (text X) + 1) (second X Y))
+contains_from_paired (tree X Y) v c (inr (inl p)) =
+    let ih = contains_from_paired X p.0 p.1 p.4 in
+    let m = contains_map (moved 1) (pairs X) (p.0, p.1) ih in
+    let a = Contains-append_left (map (moved 1) (pairs X)) (map (moved (length (text X) + 2)) (pairs Y)) (1 + p.0, 1 + p.1) m in
+    let r = contains_later (0, length (text X) + 1) (second X Y) (1 + p.0, 1 + p.1) a in
+    let ev : 1 + p.0 ≡ v = let e = p.2 in omega arith in
+    let ec : 1 + p.1 ≡ c = let e = p.3 in omega arith in
+    subst (λ (n : ℕ). Contains (pairs (tree X Y)) (v, n)) ec (subst (λ (n : ℕ). Contains (pairs (tree X Y)) (n, 1 + p.1)) ev r)
+contains_from_paired (tree X Y) v c (inr (inr p)) =
+    let ih = contains_from_paired Y p.0 p.1 p.4 in
+    let n = length (text X) + 2 in
+    let m = contains_map (moved (length (text X) + 2)) (pairs Y) (p.0, p.1) ih in
+    let a = Contains-append_right (map (moved 1) (pairs X)) (map (moved (length (text X) + 2)) (pairs Y)) (length (text X) + 2 + p.0, length (text X) + 2 + p.1) m in
+    let r = contains_later (0, length (text X) + 1) (second X Y) (length (text X) + 2 + p.0, length (text X) + 2 + p.1) a in
+    let ev : length (text X) + 2 + p.0 ≡ v = sym p.2 in
+    let ec : length (text X) + 2 + p.1 ≡ c = sym p.3 in
+    subst (λ (n : ℕ). Contains (pairs (tree X Y)) (v, n)) ec (subst (λ (n : ℕ). Contains (pairs (tree X Y)) (n, length (text X) + 2 + p.1)) ev r)
+
+pub paired_from_contains : (F : Forest) (q : ℕ × ℕ) → Contains (pairs F) q → Paired F q.0 q.1
+paired_from_contains none q h = let l = h.1 in absurd (omega arith)
+paired_from_contains (tree X Y) q h = go (paired_from_contains X) (paired_from_contains Y) (contains_cons_cases (0, length (text X) + 1) (second X Y) q h)
+  where
+    first : ((q : ℕ × ℕ) → Contains (pairs X) q → Paired X q.0 q.1) → Contains (map (moved 1) (pairs X)) q → Paired (tree X Y) q.0 q.1
+    first ix c =
+        let m = contains_map_cases (moved 1) (pairs X) (0, 0) q c in
+        let e = m.2 in
+        let a : q.0 ≡ m.0.0 + 1 = (let g = ap (λ (p : ℕ × ℕ). p.0) e in omega arith) in
+        let b : q.1 ≡ m.0.1 + 1 = (let g = ap (λ (p : ℕ × ℕ). p.1) e in omega arith) in
+        inr (inl (m.0.0, m.0.1, a, b, ix m.0 m.1))
+
+    rest : ((q : ℕ × ℕ) → Contains (pairs Y) q → Paired Y q.0 q.1) → Contains (map (moved (length (text X) + 2)) (pairs Y)) q → Paired (tree X Y) q.0 q.1
+    rest iy c =
+        let m = contains_map_cases (moved (length (text X) + 2)) (pairs Y) (0, 0) q c in
+        inr (inr (m.0.0, m.0.1, sym (ap (λ (p : ℕ × ℕ). p.0) m.2), sym (ap (λ (p : ℕ × ℕ). p.1) m.2), iy m.0 m.1))
+
+    go : ((q : ℕ × ℕ) → Contains (pairs X) q → Paired X q.0 q.1) → ((q : ℕ × ℕ) → Contains (pairs Y) q → Paired Y q.0 q.1) → (((0, length (text X) + 1) ≡ q) ⊎ Contains (second X Y) q) → Paired (tree X Y) q.0 q.1
+    go ix iy (inl e) = inl (sym (ap (λ (p : ℕ × ℕ). p.0) e), sym (ap (λ (p : ℕ × ℕ). p.1) e))
+    go ix iy (inr c) = ⊎_elim (first ix) (rest iy) (Contains-append_cases (map (moved 1) (pairs X)) (map (moved (length (text X) + 2)) (pairs Y)) q c)
+
+-- ---- how many pairs of a forest are around a pair, by its places
+abbrev pub one_if : Bool → ℕ
+one_if b = cond b 1 0
+
+pub count_by-cons : {X : Type 0} → (p : X → Bool) (x : X) (xs : List X) → count_by p (x ∷ xs) ≡ one_if (p x) + count_by p xs
+count_by-cons p x xs = sum_by-cons (λ y. one_if (p y)) x xs
+
+pub count_by-append : {X : Type 0} → (p : X → Bool) (xs ys : List X) → count_by p (xs ++ ys) ≡ count_by p xs + count_by p ys
+count_by-append p xs ys = sum_by-append (λ y. one_if (p y)) xs ys
+
+pub count_by-map : {X Y : Type 0} → (p : Y → Bool) (f : X → Y) (xs : List X) → count_by p (map f xs) ≡ count_by (λ x. p (f x)) xs
+count_by-map p f [] = refl
+count_by-map p f (x ∷ xs) =
+    let ih = count_by-map p f xs in
+    count_by-cons p (f x) (map f xs) ∙ ap (λ (n : ℕ). one_if (p (f x)) + n) ih ∙ sym (count_by-cons (λ y. p (f y)) x xs)
+
+-- tests that agree at each element count the same
+pub count_agree : {X : Type 0} → (p q : X → Bool) (xs : List X) → ((x : X) → Contains xs x → p x ≡ q x) → count_by p xs ≡ count_by q xs
+count_agree p q [] h = refl
+count_agree p q (x ∷ xs) h =
+    let ih = count_agree p q xs (λ y c. h y (contains_later x xs y c)) in
+    let e : p x ≡ q x = h x (contains_first x xs) in
+    count_by-cons p x xs ∙ ap (λ (b : Bool). one_if b + count_by p xs) e ∙ ap (λ (n : ℕ). one_if (q x) + n) ih ∙ sym (count_by-cons q x xs)
+
+pub count_none : {X : Type 0} → (p : X → Bool) (xs : List X) → ((x : X) → Contains xs x → p x ≡ false) → count_by p xs ≡ 0
+count_none p [] h = refl
+count_none p (x ∷ xs) h =
+    let ih = count_none p xs (λ y c. h y (contains_later x xs y c)) in
+    let e : one_if (p x) ≡ 0 = ap (λ (b : Bool). one_if b) (h x (contains_first x xs)) in
+    let r = count_by-cons p x xs in omega arith
+
+-- a count over the pairs of a tree and what follows it
+pub count_tree : (p : ℕ × ℕ → Bool) (X Y : Forest) → count_by p (pairs (tree X Y)) ≡ one_if (p (0, length (text X) + 1)) + (count_by (λ q. p (moved 1 q)) (pairs X) + count_by (λ q. p (moved (length (text X) + 2) q)) (pairs Y))
+count_tree p X Y =
+    let a = count_by-cons p (0, length (text X) + 1) (second X Y) in
+    let b = count_by-append p (map (moved 1) (pairs X)) (map (moved (length (text X) + 2)) (pairs Y)) in
+    let c = count_by-map p (moved 1) (pairs X) in
+    let d = count_by-map p (moved (length (text X) + 2)) (pairs Y) in
+    omega arith
+
+pub inside_pair : (F : Forest) (q : ℕ × ℕ) → Contains (pairs F) q → (q.0 < q.1) × (q.1 < length (text F))
+inside_pair F q c = let p = paired_closes F q.0 q.1 (paired_from_contains F q c) in (p.after, p.inside)
+
+-- the tests at pairs moved to the right by the same number
+pub moved_lt : (n a x v : ℕ) → v ≡ n + x → ltb (n + a) v ≡ ltb a x
+moved_lt n a x v e = grind (arith, nat_tests)
+
+moved_gt : (n b y c : ℕ) → c ≡ n + y → ltb c (n + b) ≡ ltb y b
+moved_gt n b y c e = grind (arith, nat_tests)
+
+both : (a b c d : Bool) → a ≡ b → c ≡ d → (a && c) ≡ (b && d)
+both a b c d e f = cc
+
+-- q has p between its numbers
+abbrev pub strictly_contains : ℕ × ℕ → ℕ × ℕ → Bool
+strictly_contains q p = ltb q.0 p.0 && ltb p.1 q.1
+
+-- how many pairs, moved right by n, strictly contain the pair (v, c)
+abbrev around : ℕ → Forest → ℕ → ℕ → ℕ
+around n F v c = count_by (λ q. strictly_contains (moved n q) (v, c)) (pairs F)
+
+around_moved : (n : ℕ) (F : Forest) (x y v c : ℕ) → v ≡ n + x → c ≡ n + y → around n F v c ≡ count_by (λ q. strictly_contains q (x, y)) (pairs F)
+around_moved n F x y v c e f =
+    count_agree (λ q. strictly_contains (moved n q) (v, c)) (λ q. strictly_contains q (x, y)) (pairs F) (λ q _. both _ _ _ _ (moved_lt n q.0 x v e) (moved_gt n q.1 y c f))
+
+-- none of the pairs that open at or after v, or close at or before c, is around (v, c)
+around_none : (n : ℕ) (F : Forest) (v c : ℕ) → (v ≤ n) ⊎ (n + length (text F) ≤ c + 1) → around n F v c ≡ 0
+around_none n F v c (inl h) = count_none (λ q. strictly_contains (moved n q) (v, c)) (pairs F) (λ q _. and_left _ _ (le-ltb (n + q.0) v (omega arith)))
+around_none n F v c (inr h) = count_none (λ q. strictly_contains (moved n q) (v, c)) (pairs F) (λ q i. and_right _ _ (le-ltb c (n + q.1) (let w = (inside_pair F q i).1 in omega arith)))
+
+-- the depth of a node is the excess before it
+pub pairs_around : (F : Forest) (v c : ℕ) → Paired F v c → pos (count_by (λ q. strictly_contains q (v, c)) (pairs F)) ≡ excess (text F) v
+pairs_around none v c p = absurd p
+pairs_around (tree X Y) v c (inl p) =
+    let ev = p.0 in let ec = p.1 in
+    let t = count_tree (λ q. strictly_contains q (v, c)) X Y in
+    let a : one_if (strictly_contains (0, length (text X) + 1) (v, c)) ≡ 0 = ap one_if (and_left (ltb 0 v) (ltb c (length (text X) + 1)) (le-ltb 0 v (omega arith))) in
+    let b = around_none 1 X v c (inl (omega arith)) in
+    let d = around_none (length (text X) + 2) Y v c (inl (omega arith)) in
+    let z : excess (text (tree X Y)) v ≡ pos 0 = ap (excess (text (tree X Y))) p.0 ∙ excess-zero (text (tree X Y)) in
+    ap pos (let r : count_by (λ q. strictly_contains q (v, c)) (pairs (tree X Y)) ≡ 0 = omega arith in r) ∙ sym z
+pairs_around (tree X Y) v c (inr (inl p)) =
+    let k = paired_closes X p.0 p.1 p.4 in
+    let ih = pairs_around X p.0 p.1 p.4 in
+    let t = count_tree (λ q. strictly_contains q (v, c)) X Y in
+    let ev = p.2 in let ec = p.3 in let ki = k.inside in let ka = k.after in
+    let a : one_if (strictly_contains (0, length (text X) + 1) (v, c)) ≡ 1 = ap one_if (and_from (ltb 0 v) (ltb c (length (text X) + 1)) (lt-ltb 0 v (omega arith)) (lt-ltb c (length (text X) + 1) (omega arith))) in
+    let b = around_moved 1 X p.0 p.1 v c (omega arith) (omega arith) in
+    let d = around_none (length (text X) + 2) Y v c (inl (omega arith)) in
+    let s = excess_in_first X Y p.0 (omega arith) in
+    let s' : excess (text (tree X Y)) v ≡ excess (text X) p.0 +ℤ pos 1 = ap (excess (text (tree X Y))) ev ∙ s in
+    omega (arith, ints)
+pairs_around (tree X Y) v c (inr (inr p)) =
+    let k = paired_closes Y p.0 p.1 p.4 in
+    let ih = pairs_around Y p.0 p.1 p.4 in
+    let t = count_tree (λ q. strictly_contains q (v, c)) X Y in
+    let ev = p.2 in let ec = p.3 in let ki = k.inside in let ka = k.after in
+    let a : one_if (strictly_contains (0, length (text X) + 1) (v, c)) ≡ 0 = ap one_if (and_right (ltb 0 v) (ltb c (length (text X) + 1)) (le-ltb c (length (text X) + 1) (omega arith))) in
+    let b = around_none 1 X v c (inr (omega arith)) in
+    let d = around_moved (length (text X) + 2) Y p.0 p.1 v c ev ec in
+    let s = excess_in_rest X Y p.0 in
+    let s' : excess (text (tree X Y)) v ≡ excess (text Y) p.0 = ap (excess (text (tree X Y))) ev ∙ s in
+    omega (arith, ints)

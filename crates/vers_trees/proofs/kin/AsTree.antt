@@ -1,0 +1,60 @@
+-- What a tree of balanced parentheses answers, in the words of any tree.
+use Rattle.std.proofs.Common.{◌≡◌, ◌≢◌, ◌↔◌, ℕ, zero, suc, ◌<◌, ◌≤◌, Bool, true, false, List, [], ◌∷◌, length, get_or, eqb, Option, Some, None, arith, subst, sym, refl, ap, ◌∙◌}
+use Rattle.std.specs.Prelude.{IsTrue, slice_get, option_map, ◌==◌}
+use Rattle.std.proofs.lemmas.Bool.Decides.{Decides-eqb}
+use Rattle.std.proofs.lemmas.Option.{slice_get-get_or}
+use Rattle.std.proofs.lemmas.List.{get_or_past}
+use Rattle.vers_bits.specs.Bits.{count, places, select}
+use Rattle.vers_bits.proofs.PublicLaws.{length-places}
+use Rattle.vers_trees.specs.Forest.{Forest, none, tree, text, IsBalanced, forest_of}
+use Rattle.vers_trees.specs.Nodes.{nodes, first_of}
+use Rattle.vers_trees.proofs.grammar.Grammar.{text-forest_of}
+use Rattle.vers_trees.proofs.kin.NodeList.{nodes_are_ones}
+use Rattle.vers_trees.proofs.kin.Around.{refuted}
+
+-- a handle is the place itself
+pub same_place : (o p : Option ℕ) → o ≡ p → option_map (λ v. v) o ≡ p
+same_place None p e = e
+same_place (Some x) p e = e
+
+pub nodes_by : (l : List Bool) → IsBalanced l → nodes (forest_of l) ≡ places true l
+nodes_by l b = nodes_are_ones (forest_of l) ∙ ap (places true) (text-forest_of l b)
+
+pub size_by : (l : List Bool) → IsBalanced l → (n : ℕ) → n ≡ count true l (length l) → n ≡ length (nodes (forest_of l))
+size_by l b n e = e ∙ sym (length-places true l) ∙ ap (λ (xs : List ℕ). length xs) (sym (nodes_by l b))
+
+first_root : (F : Forest) → text F ≢ [] → first_of (nodes F) ≡ Some 0
+first_root none h = absurd (h refl)
+first_root (tree X Y) h = refl
+
+pub root_by : (l : List Bool) → IsBalanced l → (o : Option ℕ) → (l ≡ [] → o ≡ None) → (l ≢ [] → o ≡ Some 0) → option_map (λ v. v) o ≡ first_of (nodes (forest_of l))
+unfolding forest_of
+root_by [] b o n s = same_place o None (n refl)
+root_by (x ∷ l) b o n s = same_place o (Some 0) (s (λ e. absurd (cc))) ∙ sym (first_root (forest_of (x ∷ l)) (λ e. let g = sym (text-forest_of (x ∷ l) b) ∙ e in absurd (cc)))
+
+pub handle_by : (l : List Bool) → IsBalanced l → (i n : ℕ) → n ≡ select true l i → i < length (nodes (forest_of l)) → slice_get (nodes (forest_of l)) i ≡ Some n
+unfolding select
+handle_by l b i n e h =
+    let s = nodes_by l b in
+    ap (λ (xs : List ℕ). slice_get xs i) s ∙ slice_get-get_or (places true l) i (length l) (subst (λ (xs : List ℕ). i < length xs) s h) ∙ ap Some (sym e)
+
+pub handle_past : (l : List Bool) → IsBalanced l → (i n : ℕ) → n ≡ select true l i → length (nodes (forest_of l)) ≤ i → n ≡ length (text (forest_of l))
+unfolding select
+handle_past l b i n e h =
+    e ∙ get_or_past (places true l) i (length l) (subst (λ (xs : List ℕ). length xs ≤ i) (nodes_by l b) h)
+    ∙ ap (λ (xs : List Bool). length xs) (sym (text-forest_of l b))
+
+never : (n : ℕ) → suc n ≡ 0 → ⊥
+never n e = omega arith
+
+pub empty_by : (l : List Bool) → IsBalanced l → (r : Bool) → IsTrue r ↔ (l ≡ []) → r ≡ (length (nodes (forest_of l)) == 0)
+unfolding forest_of
+empty_by [] b r h = h.1 refl
+empty_by (x ∷ l) b r h = go (forest_of (x ∷ l)) (text-forest_of (x ∷ l) b) r h
+  where
+    go : (F : Forest) → text F ≡ x ∷ l → (r : Bool) → IsTrue r ↔ (x ∷ l ≡ []) → r ≡ (length (nodes F) == 0)
+    go none e r h = absurd (cc)
+    go (tree X Y) e true h = let f = h.0 refl in absurd (cc)
+    go (tree X Y) e false h = sym (refuted (eqb (length (nodes (tree X Y))) 0) (Decides-eqb (length (nodes (tree X Y))) 0) (λ q. never _ q))
+
+pub ruleset as_tree = (same_place, size_by, handle_by)

@@ -1,0 +1,146 @@
+-- What the calls on a node of balanced parentheses answer, by the searches that they make.
+use Rattle.std.proofs.Common.{Option, None, Some, ◌≡◌, ℕ, zero, suc, ◌+◌, ◌-◌, ◌/◌, ◌%◌, min, ◌<◌, ◌≤◌, ◌↔◌, ◌&&◌, leb, Bool, true, false, List, [], ◌∷◌, length, get_or, pos, negsuc, neg_ℤ, arith, subst, sym, refl, ap, ◌∙◌, ⊎_elim}
+use Rattle.std.specs.Prelude.{IsTrue, is_some, not}
+use Rattle.std.proofs.lemmas.Int.{ints}
+use Rattle.std.proofs.lemmas.Bool.{cases_lt, le-leb, lt-leb}
+use Rattle.vers_bits.specs.Bits.{count}
+use Rattle.vers_bits.proofs.PublicLaws.{count_both}
+use Rattle.vers_trees.specs.Excess.{excess, first_rise_after, last_rise_before}
+use Rattle.vers_trees.specs.Forest.{Forest, text, IsBalanced, forest_of}
+use Rattle.vers_trees.specs.Nodes.{IsNode, closing, parent, depth, subtree, is_ancestor, node_index, children, siblings, level, level_ancestor, first_of, last_of, next_of, previous_of}
+use Rattle.vers_trees.specs.inside.Scans.{opened_after}
+use Rattle.vers_trees.proofs.searches.Beside.{opens_there, closes_there, ends_there}
+use Rattle.vers_trees.proofs.searches.Searches.{after_is}
+use Rattle.vers_trees.proofs.grammar.Grammar.{text-forest_of}
+use Rattle.vers_trees.proofs.grammar.Paired.{Closes}
+use Rattle.vers_trees.proofs.kin.Partners.{after_from_closes}
+use Rattle.vers_trees.proofs.kin.NodeList.{HasPair, node_pair}
+use Rattle.vers_trees.proofs.walks.ListsOfNodes.{subtree_size_is}
+use Rattle.vers_trees.proofs.kin.Around as Around
+use Rattle.vers_trees.proofs.kin.Kin as Kin
+use Rattle.vers_trees.proofs.levels.LevelNodes as LevelNodes
+
+module _ (l : List Bool) (b : IsBalanced l) where
+  -- what holds of the forest written down holds of the list
+  on_list : (P : List Bool → Type 0) → P (text (forest_of l)) → P l
+  on_list P h = subst P (text-forest_of l b) h
+
+  on_text : (P : List Bool → Type 0) → P l → P (text (forest_of l))
+  on_text P h = subst P (sym (text-forest_of l b)) h
+
+  module _ (v : ℕ) (n : IsNode (forest_of l) v) where
+    pub node_closes : Closes l v (closing (forest_of l) v)
+    node_closes = on_list (λ m. Closes m v (closing (forest_of l) v)) (node_pair (forest_of l) v n).closes
+
+    pub node_inside : v + 1 < length l
+    node_inside = let p = node_closes in let a = p.after in let i = p.inside in omega arith
+
+    pub closing_by : first_rise_after l v (negsuc 0) ≡ Some (closing (forest_of l) v)
+    closing_by = after_is l v (negsuc 0) (closing (forest_of l) v) (after_from_closes l v (closing (forest_of l) v) node_closes)
+
+    pub closing_found : (c : ℕ) → Some c ≡ first_rise_after l v (negsuc 0) → closing (forest_of l) v ≡ c
+    closing_found c e = same (closing (forest_of l) v) c (sym (e ∙ closing_by))
+      where
+        same : (x y : ℕ) → Some x ≡ Some y → x ≡ y
+        same x y e = cc
+
+    pub always_closes : None ≡ first_rise_after l v (negsuc 0) → ⊥
+    always_closes e = let f = e ∙ closing_by in cc
+
+    pub parent_by : last_rise_before l v (negsuc 0) ≡ parent (forest_of l) v
+    parent_by = on_list (λ m. last_rise_before m v (negsuc 0) ≡ parent (forest_of l) v) (Around.parent_is_search (forest_of l) v (node_pair (forest_of l) v n))
+
+    pub index_by : count true l v ≡ node_index (forest_of l) v
+    index_by = sym (on_list (λ m. node_index (forest_of l) v ≡ count true m v) (Around.index_is_rank (forest_of l) v))
+
+    pub depth_by : pos (depth (forest_of l) v) ≡ excess l v
+    depth_by = on_list (λ m. pos (depth (forest_of l) v) ≡ excess m v) (Around.depth_is_excess (forest_of l) v (node_pair (forest_of l) v n))
+
+    -- by the ones before the node
+    pub depth_by_ones : (ones : ℕ) → ones ≡ count true l v → (ones ≤ v) × (v - ones ≤ ones) × (ones - (v - ones) ≡ depth (forest_of l) v)
+    unfolding excess
+    depth_by_ones ones e =
+        let d = depth_by in let i = node_inside in let c = count_both l v in
+        (omega arith, omega (arith, ints), omega (arith, ints))
+
+    pub subtree_by : (c : ℕ) → closing (forest_of l) v ≡ c → (v < c) × (c < length l) × ((c - v) / 2 + min 1 ((c - v) % 2) ≡ length (subtree (forest_of l) v))
+    subtree_by c e =
+        let s = subtree_size_is (forest_of l) v (node_pair (forest_of l) v n) in
+        let p = node_closes in let a = p.after in let i = p.inside in
+        (omega arith, omega arith, omega arith)
+
+    pub first_child_by : opened_after l v ≡ first_of (children (forest_of l) v)
+    first_child_by = on_list (λ m. opened_after m v ≡ first_of (children (forest_of l) v)) (Kin.first_child_is (forest_of l) v (node_pair (forest_of l) v n))
+
+    pub no_last_child : closing (forest_of l) v ≡ v + 1 → last_of (children (forest_of l) v) ≡ None
+    no_last_child e = Kin.last_child_none (forest_of l) v (node_pair (forest_of l) v n) e
+
+    pub last_child_by : (c : ℕ) → closing (forest_of l) v ≡ c → (c ≡ v + 1 → ⊥) → last_rise_before l (c - 1) (negsuc 0) ≡ last_of (children (forest_of l) v)
+    last_child_by c e ne =
+        let p = node_closes in let a = p.after in
+        on_list (λ m. last_rise_before m (c - 1) (negsuc 0) ≡ last_of (children (forest_of l) v)) (Kin.last_child_is_search (forest_of l) v (c - 1) (node_pair (forest_of l) v n) (omega arith) (omega arith))
+
+    pub next_sibling_by : (c : ℕ) → closing (forest_of l) v ≡ c → opened_after l c ≡ next_of (siblings (forest_of l) v) v
+    next_sibling_by c e = on_list (λ m. opened_after m c ≡ next_of (siblings (forest_of l) v) v) (rw e at (Kin.next_sibling_is (forest_of l) v (node_pair (forest_of l) v n)))
+
+    pub no_sibling_before_first : v ≡ 0 → previous_of (siblings (forest_of l) v) v ≡ None
+    no_sibling_before_first e = sym (Kin.previous_sibling_is (forest_of l) v (node_pair (forest_of l) v n)) ∙ ap (Kin.closed_before (text (forest_of l))) e
+
+    pub no_sibling_after_one : (v ≡ 0 → ⊥) → get_or l (v - 1) false ≡ true → previous_of (siblings (forest_of l) v) v ≡ None
+    no_sibling_after_one ne o = Kin.previous_sibling_none (forest_of l) v (node_pair (forest_of l) v n) (omega arith) (on_text (λ m. get_or m (v - 1) false ≡ true) o)
+
+    pub previous_sibling_by : (v ≡ 0 → ⊥) → get_or l (v - 1) false ≡ false → last_rise_before l (v - 1) (negsuc 0) ≡ previous_of (siblings (forest_of l) v) v
+    previous_sibling_by ne o = on_list (λ m. last_rise_before m (v - 1) (negsuc 0) ≡ previous_of (siblings (forest_of l) v) v) (Kin.previous_sibling_is_search (forest_of l) v (node_pair (forest_of l) v n) (omega arith) (on_text (λ m. get_or m (v - 1) false ≡ false) o))
+
+    pub itself_by_no_step : level_ancestor (forest_of l) v 0 ≡ Some v
+    itself_by_no_step = LevelNodes.no_steps_up (forest_of l) v (node_pair (forest_of l) v n)
+
+    pub level_ancestor_by : (t : ℕ) → 0 < t → last_rise_before l v (neg_ℤ (pos t)) ≡ level_ancestor (forest_of l) v t
+    level_ancestor_by t some = on_list (λ m. last_rise_before m v (neg_ℤ (pos t)) ≡ level_ancestor (forest_of l) v t) (LevelNodes.level_ancestor_is_search (forest_of l) v t (node_pair (forest_of l) v n) some)
+
+    pub no_level_ancestor : (t : ℕ) → length l ≤ t → level_ancestor (forest_of l) v t ≡ None
+    no_level_ancestor t far = LevelNodes.too_far_up (forest_of l) v t (node_pair (forest_of l) v n) (on_text (λ m. length m ≤ t) far)
+
+    pub level_next_by : (c : ℕ) → closing (forest_of l) v ≡ c → first_rise_after l c (pos 1) ≡ next_of (level (forest_of l) (depth (forest_of l) v)) v
+    level_next_by c e = on_list (λ m. first_rise_after m c (pos 1) ≡ next_of (level (forest_of l) (depth (forest_of l) v)) v) (subst (λ (k : ℕ). first_rise_after (text (forest_of l)) k (pos 1) ≡ next_of (level (forest_of l) (depth (forest_of l) v)) v) e (LevelNodes.level_next_is_search (forest_of l) v (node_pair (forest_of l) v n)))
+
+    pub no_level_prev : last_rise_before l v (pos 1) ≡ None → previous_of (level (forest_of l) (depth (forest_of l) v)) v ≡ None
+    no_level_prev e = LevelNodes.no_level_prev_found (forest_of l) v (node_pair (forest_of l) v n) (on_text (λ m. last_rise_before m v (pos 1) ≡ None) e)
+
+    pub level_prev_by : (c : ℕ) → last_rise_before l v (pos 1) ≡ Some c → last_rise_before l c (negsuc 0) ≡ previous_of (level (forest_of l) (depth (forest_of l) v)) v
+    level_prev_by c e = on_list (λ m. last_rise_before m c (negsuc 0) ≡ previous_of (level (forest_of l) (depth (forest_of l) v)) v) (LevelNodes.level_prev_is_search (forest_of l) v c (node_pair (forest_of l) v n) (on_text (λ m. last_rise_before m v (pos 1) ≡ Some c) e))
+
+  pub leftmost_root : 0 < length l → first_of (level (forest_of l) 0) ≡ Some 0
+  leftmost_root h = LevelNodes.first_root (forest_of l) (on_text (λ m. 0 < length m) h)
+
+  pub no_level_so_deep : (t : ℕ) → length l ≤ t → (first_of (level (forest_of l) t) ≡ None) × (last_of (level (forest_of l) t) ≡ None)
+  no_level_so_deep t far = LevelNodes.too_deep (forest_of l) t (on_text (λ m. length m ≤ t) far)
+
+  pub level_leftmost_by : (t : ℕ) → 0 < t → first_rise_after l 0 (pos t) ≡ first_of (level (forest_of l) t)
+  level_leftmost_by t some = on_list (λ m. first_rise_after m 0 (pos t) ≡ first_of (level (forest_of l) t)) (LevelNodes.level_leftmost_is_search (forest_of l) t some)
+
+  pub last_root_by : 0 < length l → last_rise_before l (length l - 1) (negsuc 0) ≡ last_of (level (forest_of l) 0)
+  last_root_by h = on_list (λ m. last_rise_before m (length l - 1) (negsuc 0) ≡ last_of (level (forest_of l) 0)) (LevelNodes.last_root_is_search (forest_of l) (length l - 1) (on_text (λ m. length m ≡ length l - 1 + 1) (omega arith)))
+
+  pub no_level_rightmost : (t : ℕ) → 0 < length l → 0 < t → last_rise_before l (length l - 1) (pos t) ≡ None → last_of (level (forest_of l) t) ≡ None
+  no_level_rightmost t h some e = LevelNodes.no_level_rightmost (forest_of l) (length l - 1) t (on_text (λ m. length m ≡ length l - 1 + 1) (omega arith)) some (on_text (λ m. last_rise_before m (length l - 1) (pos t) ≡ None) e)
+
+  pub level_rightmost_by : (t j : ℕ) → 0 < length l → 0 < t → last_rise_before l (length l - 1) (pos t) ≡ Some j → last_rise_before l j (negsuc 0) ≡ last_of (level (forest_of l) t)
+  level_rightmost_by t j h some e = on_list (λ m. last_rise_before m j (negsuc 0) ≡ last_of (level (forest_of l) t)) (LevelNodes.level_rightmost_is_search (forest_of l) (length l - 1) t j (on_text (λ m. length m ≡ length l - 1 + 1) (omega arith)) some (on_text (λ m. last_rise_before m (length l - 1) (pos t) ≡ Some j) e))
+
+-- whether one node is an ancestor of another, by where they close
+pub closes_within : (F : Forest) (a d outer inner : ℕ) → closing F a ≡ outer → closing F d ≡ inner → a ≤ d → leb inner outer ≡ is_ancestor F a d
+unfolding is_ancestor
+closes_within F a d outer inner e f h =
+    sym (ap (λ (b : Bool). b && leb (closing F d) (closing F a)) (le-leb a d h) ∙ ap (λ (k : ℕ). leb k (closing F a)) f ∙ ap (λ (k : ℕ). leb inner k) e)
+
+pub opens_before : (F : Forest) (a d : ℕ) → d < a → leb a d ≡ is_ancestor F a d
+unfolding is_ancestor
+opens_before F a d h = lt-leb a d h ∙ sym (ap (λ (b : Bool). b && leb (closing F d) (closing F a)) (lt-leb a d h))
+
+-- a list is empty where it has no first
+pub leaf_by : (xs : List ℕ) (o : Option ℕ) (r : Bool) → is_some o ≡ not r → o ≡ first_of xs → IsTrue r ↔ (xs ≡ [])
+leaf_by [] o true e f = (λ h. refl, λ h. refl)
+leaf_by [] o false e f = let g : is_some o ≡ false = ap is_some f in absurd (cc)
+leaf_by (x ∷ xs) o true e f = let g : is_some o ≡ true = ap is_some f in absurd (cc)
+leaf_by (x ∷ xs) o false e f = (λ h. absurd (cc), λ h. absurd (cc))

@@ -1,0 +1,98 @@
+-- The laws of parentheses.
+use Rattle.std.proofs.Common.{◌≡◌, ℕ, zero, suc, ◌<◌, ◌↔◌, Bool, true, false, List, [], ◌∷◌, length, get_or, ℤ, negsuc, Some, arith, ◌≤◌, Option, None, ⊎_elim, sym, ap, ◌∙◌}
+use Rattle.std.specs.Prelude.{slice_get}
+use Rattle.std.specs.List.{Contains}
+use Rattle.vers_trees.specs.Excess.{first_rise_after, last_rise_before, excess, enclosing}
+use Rattle.vers_trees.specs.Forest.{Forest, text, pairs}
+use Rattle.vers_trees.specs.Laws.{IsFirstRiseAfter, IsLastRiseBefore}
+use Rattle.vers_trees.proofs.searches.Searches.{after_some, after_is, before_some, before_is, before_none, none_before}
+use Rattle.vers_trees.proofs.grammar.Paired.{paired_closes, closes_paired, open_is_paired, close_is_paired, Closes, closes_rises, closes_falls}
+use Rattle.vers_trees.proofs.grammar.Pairs.{contains_from_paired, paired_from_contains}
+use Rattle.vers_trees.proofs.kin.Partners.{after_from_closes, closes_from_after, before_from_closes, closes_from_before, enclose_at_close}
+use Rattle.vers_trees.proofs.grammar.Grammar.{one_forest, text-forest_of}
+use Rattle.std.proofs.lemmas.Int.{ints}
+use Rattle.std.proofs.lemmas.Bool.{cases_lt}
+use Rattle.std.proofs.Math.Nat.{eq-or-lt_of_le}
+use Rattle.vers_trees.specs.Nodes.{parent}
+use Rattle.vers_trees.proofs.kin.Around.{parent_is_search}
+use Rattle.vers_trees.proofs.grammar.Excess.{excess_after_close}
+use Rattle.vers_trees.proofs.kin.NodeList.{one_pair}
+use Rattle.vers_trees.proofs.searches.Beside.{enclosing_open, enclosing_close}
+
+pub forward_first : (l : List Bool) (i : ℕ) (r : ℤ) (j : ℕ) → (first_rise_after l i r ≡ Some j) ↔ IsFirstRiseAfter l i r j
+forward_first l i r j = (after_some l i r j, after_is l i r j)
+
+pub backward_last : (l : List Bool) (i : ℕ) (r : ℤ) (j : ℕ) → (last_rise_before l i r ≡ Some j) ↔ IsLastRiseBefore l i r j
+backward_last l i r j = (before_some l i r j, before_is l i r j)
+
+pub ruleset searches = (forward_first, backward_last)
+
+-- what a list has at a place
+same_bit : (a b : Bool) → Some a ≡ Some b → a ≡ b
+same_bit a b e = cc
+
+has_bit : (l : List Bool) (i : ℕ) (b : Bool) → slice_get l i ≡ Some b → (i < length l) × (get_or l i false ≡ b)
+has_bit [] i b e = absurd (cc)
+has_bit (x ∷ l) zero b e = (omega arith, same_bit x b e)
+has_bit (x ∷ l) (suc i) b e = let h = has_bit l i b e in let h0 = h.0 in (omega arith, h.1)
+
+pub close_pair : (F : Forest) (v c : ℕ) → slice_get (text F) v ≡ Some true → (first_rise_after (text F) v (negsuc 0) ≡ Some c) ↔ Contains (pairs F) (v, c)
+close_pair F v c h = (
+  λ e. contains_from_paired F v c (closes_paired F v c (closes_from_after (text F) v c false (has_bit (text F) v true h).1 (after_some (text F) v (negsuc 0) c e))),
+  λ k. after_is (text F) v (negsuc 0) c (after_from_closes (text F) v c (paired_closes F v c (paired_from_contains F (v, c) k))),
+)
+
+pub open_pair : (F : Forest) (v c : ℕ) → slice_get (text F) c ≡ Some false → (last_rise_before (text F) c (negsuc 0) ≡ Some v) ↔ Contains (pairs F) (v, c)
+open_pair F v c h = (
+  λ e. contains_from_paired F v c (closes_paired F v c (closes_from_before (text F) v c false (has_bit (text F) c false h).1 (before_some (text F) c (negsuc 0) v e))),
+  λ k. before_is (text F) c (negsuc 0) v (before_from_closes (text F) v c (paired_closes F v c (paired_from_contains F (v, c) k))),
+)
+
+pub open_of_close : (F : Forest) (v : ℕ) → slice_get (text F) v ≡ Some true → (c : ℕ) × (first_rise_after (text F) v (negsuc 0) ≡ Some c) × (last_rise_before (text F) c (negsuc 0) ≡ Some v)
+open_of_close F v h =
+    let b = has_bit (text F) v true h in
+    let p = open_is_paired F v false b.0 b.1 in
+    let q = paired_closes F v p.0 p.1 in
+    (p.0, after_is (text F) v (negsuc 0) p.0 (after_from_closes (text F) v p.0 q), before_is (text F) p.0 (negsuc 0) v (before_from_closes (text F) v p.0 q))
+
+pub close_of_open : (F : Forest) (c : ℕ) → slice_get (text F) c ≡ Some false → (v : ℕ) × (last_rise_before (text F) c (negsuc 0) ≡ Some v) × (first_rise_after (text F) v (negsuc 0) ≡ Some c)
+close_of_open F c h =
+    let b = has_bit (text F) c false h in
+    let p = close_is_paired F c false b.0 b.1 in
+    let q = paired_closes F p.0 c p.1 in
+    (p.0, before_is (text F) c (negsuc 0) p.0 (before_from_closes (text F) p.0 c q), after_is (text F) p.0 (negsuc 0) c (after_from_closes (text F) p.0 c q))
+
+pub ruleset partners = (one_forest, close_pair, open_pair, open_of_close, close_of_open)
+
+-- ---- what encloses a pair of a forest written down, and what the forest of a balanced list writes down
+-- where nothing is found from the opening bracket, nothing is from the closing one
+none_at_close : (l : List Bool) (v c : ℕ) → Closes l v c → last_rise_before l v (negsuc 0) ≡ None → last_rise_before l c (negsuc 1) ≡ None
+none_at_close l v c q n =
+    let a = q.after in let i = q.inside in let bk = q.back in
+    let r = excess_after_close l c true i (closes_falls l v c true q) in
+    none_before l c (negsuc 1) (λ k x e.
+    ⊎_elim
+    (λ (z : k < v). before_none l v (negsuc 0) (omega arith) n k z (omega (arith, ints)))
+    (λ (z : v ≤ k).
+    ⊎_elim
+    (λ (w : v ≡ k). let g : excess l k ≡ excess l v = ap (excess l) (sym w) in omega (arith, ints))
+    (λ (w : v < k). let g = q.above k w (omega arith) in omega (arith, ints))
+    (eq-or-lt_of_le z))
+    (cases_lt k v))
+
+found_at_close : (l : List Bool) (v c : ℕ) → Closes l v c → (o : Option ℕ) → last_rise_before l v (negsuc 0) ≡ o → last_rise_before l c (negsuc 1) ≡ o
+found_at_close l v c q None e = none_at_close l v c q e
+found_at_close l v c q (Some p) e =
+    before_is l c (negsuc 1) p (enclose_at_close l v c p q (before_some l v (negsuc 0) p e))
+
+pub enclosed_by_parent : (F : Forest) (v c : ℕ) → Contains (pairs F) (v, c) → (enclosing (text F) v ≡ parent F v) × (enclosing (text F) c ≡ parent F v)
+enclosed_by_parent F v c k =
+    let q = paired_closes F v c (paired_from_contains F (v, c) k) in
+    let a = q.after in let i = q.inside in
+    let opens = closes_rises (text F) v c false q in
+    let s = parent_is_search F v (one_pair F v (omega arith) opens) in (
+      sym (enclosing_open (text F) v opens) ∙ s,
+      sym (enclosing_close (text F) c (closes_falls (text F) v c false q)) ∙ found_at_close (text F) v c q (parent F v) s,
+    )
+
+pub ruleset written = (text-forest_of)

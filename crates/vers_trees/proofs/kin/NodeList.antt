@@ -1,0 +1,177 @@
+-- The nodes of a forest are the places of the ones that it is written down with.
+use Rattle.std.proofs.Common.{◌≡◌, ℕ, zero, suc, ◌+◌, ◌<◌, Bool, true, false, cond, ◌&&◌, List, [], ◌∷◌, ◌++◌, map, length, get_or, Option, Some, None, eqb, ltb, arith, subst, sym, refl, ap, ◌∙◌}
+use Rattle.std.specs.Prelude.{find, filter, slice_get, unwrap_or, option_map, Decides}
+use Rattle.std.specs.Option.{option_eq}
+use Rattle.std.specs.List.{Contains, range_with_len, last_or}
+use Rattle.std.proofs.lemmas.Bool.Decides.{Decides-eqb, Decides-ltb, Decides-and}
+use Rattle.vers_bits.specs.Bits.{is_bit, places}
+use Rattle.vers_trees.specs.Forest.{Forest, none, tree, text, moved, pairs}
+use Rattle.vers_trees.specs.Nodes.{nodes, IsNode, closing, first_of, next_of, previous_of}
+use Rattle.std.proofs.lemmas.List.{map-append}
+use Rattle.vers_trees.proofs.walks.Lists.{shifted, opening_places, opening_moved, places-tree}
+use Rattle.vers_trees.proofs.searches.Searches.{find_is, none_find, last_is, none_last}
+use Rattle.vers_trees.proofs.grammar.Paired.{Closes, Paired, paired_closes, closes_paired, open_is_paired, closes_once, closes_rises}
+use Rattle.vers_trees.proofs.grammar.Pairs.{contains_first, contains_later, contains_map, contains_map_cases, contains_from_paired, paired_from_contains}
+
+-- the nodes are the places of ones, so they ascend
+pub nodes_are_ones : (F : Forest) → nodes F ≡ places true (text F)
+unfolding places
+nodes_are_ones none = refl
+nodes_are_ones (tree X Y) =
+    let n = length (text X) + 2 in
+    let e : length (text X) + 2 ≡ 1 + length (text X) + 1 = omega arith in
+    ap (λ (xs : List ℕ). 0 ∷ xs) (
+    map-append (λ (p : ℕ × ℕ). p.0) (map (moved 1) (pairs X)) (map (moved n) (pairs Y))
+    ∙ ap (λ (xs : List ℕ). xs ++ opening_places (map (moved n) (pairs Y))) (opening_moved 1 (pairs X) ∙ ap (shifted 1) (nodes_are_ones X))
+    ∙ ap (λ (xs : List ℕ). shifted 1 (places true (text X)) ++ xs) (opening_moved n (pairs Y) ∙ ap (shifted n) (nodes_are_ones Y) ∙ ap (λ (k : ℕ). shifted k (places true (text Y))) e))
+    ∙ sym (places-tree true (text X) (text Y))
+
+-- ---- a node and its pair
+pub record HasPair (F : Forest) (v : ℕ) : Type 0 where
+  pub is_pair : Contains (pairs F) (v, closing F v)
+  pub closes : Closes (text F) v (closing F v)
+
+find_only : {X : Type 0} → (test : X → Bool) (xs : List X) (y : X) → Contains xs y → test y ≡ true → ((x : X) → Contains xs x → test x ≡ true → x ≡ y) → find test xs ≡ Some y
+find_only {X = X} test [] y c t h = let l = c.1 in absurd (omega arith)
+find_only {X = X} test (x ∷ xs) y c t h = go (find_only test xs y) (test x) refl
+  where
+    later : Contains (x ∷ xs) y → test x ≡ false → Contains xs y
+    later (zero, l, e) f = let g : test y ≡ false = subst (λ (z : X). test z ≡ false) e f in absurd (cc)
+    later (suc k, l, e) f = (k, omega arith, e)
+
+    go : (Contains xs y → test y ≡ true → ((z : X) → Contains xs z → test z ≡ true → z ≡ y) → find test xs ≡ Some y) → (b : Bool) → test x ≡ b → find test (x ∷ xs) ≡ Some y
+    go ih true e = rw e (ap Some (h x (contains_first x xs) e))
+    go ih false e = rw e (ih (later c e) t (λ z d g. h z (contains_later x xs z d) g))
+
+pub closing_is : (F : Forest) (v c : ℕ) → Paired F v c → closing F v ≡ c
+unfolding closing
+closing_is F v c p =
+    let f = find_only (λ (q : ℕ × ℕ). eqb q.0 v) (pairs F) (v, c) (contains_from_paired F v c p) ((Decides-eqb v v).1 refl) (λ q d t. same q d ((Decides-eqb q.0 v).0 t)) in
+    ap (λ (o : Option (ℕ × ℕ)). unwrap_or (option_map (λ (q : ℕ × ℕ). q.1) o) v) f
+  where
+    same : (q : ℕ × ℕ) → Contains (pairs F) q → q.0 ≡ v → q ≡ (v, c)
+    same q d e =
+        let m = paired_closes F q.0 q.1 (paired_from_contains F q d) in
+        let m' : Closes (text F) v q.1 = subst (λ (k : ℕ). Closes (text F) k q.1) e m in
+        let o = closes_once (text F) v q.1 c m' (paired_closes F v c p) in
+        ap (λ (k : ℕ). (k, q.1)) e ∙ ap (λ (k : ℕ). (v, k)) o
+
+has_pair : (F : Forest) (v c : ℕ) → Paired F v c → HasPair F v
+has_pair F v c p =
+    let e = sym (closing_is F v c p) in
+    record {
+      is_pair = subst (λ (k : ℕ). Contains (pairs F) (v, k)) e (contains_from_paired F v c p);
+      closes = subst (λ (k : ℕ). Closes (text F) v k) e (paired_closes F v c p);
+    }
+
+pub closes_to : (F : Forest) (v c : ℕ) → Closes (text F) v c → closing F v ≡ c
+closes_to F v c p = closing_is F v c (closes_paired F v c p)
+
+pub one_pair : (F : Forest) (v : ℕ) → v < length (text F) → get_or (text F) v false ≡ true → HasPair F v
+one_pair F v i b = let p = open_is_paired F v false i b in has_pair F v p.0 p.1
+
+pub node_pair : (F : Forest) (v : ℕ) → IsNode F v → HasPair F v
+node_pair F v n =
+    let m = contains_map_cases (λ (q : ℕ × ℕ). q.0) (pairs F) (0, 0) v n in
+    let p = paired_from_contains F m.0 m.1 in
+    subst (HasPair F) m.2 (has_pair F m.0.0 m.0.1 p)
+
+pub pair_node : (F : Forest) (v : ℕ) → HasPair F v → IsNode F v
+pair_node F v h = contains_map (λ (q : ℕ × ℕ). q.0) (pairs F) (v, closing F v) h.is_pair
+
+-- ---- the first and the last node that pass a test
+pub find_filtered : {X : Type 0} → (p t : X → Bool) (xs : List X) → find t (filter p xs) ≡ find (λ x. p x && t x) xs
+find_filtered {X = X} p t [] = refl
+find_filtered {X = X} p t (x ∷ xs) = go (p x) (t x) (find_filtered p t xs)
+  where
+    go : (a b : Bool) → find t (filter p xs) ≡ find (λ x. p x && t x) xs → find t (cond a (x ∷ filter p xs) (filter p xs)) ≡ cond (a && t x) (Some x) (find (λ x. p x && t x) xs)
+    go true b ih = ap (λ (o : Option X). cond (t x) (Some x) o) ih
+    go false b ih = ih
+
+pub filter_filtered : {X : Type 0} → (p t : X → Bool) (xs : List X) → filter t (filter p xs) ≡ filter (λ x. p x && t x) xs
+filter_filtered {X = X} p t [] = refl
+filter_filtered {X = X} p t (x ∷ xs) = go (p x) (filter_filtered p t xs)
+  where
+    go : (a : Bool) → filter t (filter p xs) ≡ filter (λ x. p x && t x) xs → filter t (cond a (x ∷ filter p xs) (filter p xs)) ≡ cond (a && t x) (x ∷ filter (λ x. p x && t x) xs) (filter (λ x. p x && t x) xs)
+    go true ih = ap (λ (ys : List X). cond (t x) (x ∷ ys) ys) ih
+    go false ih = ih
+
+pub first_filtered : {X : Type 0} → (t : X → Bool) (xs : List X) → slice_get (filter t xs) 0 ≡ find t xs
+first_filtered {X = X} t [] = refl
+first_filtered {X = X} t (x ∷ xs) = go (t x) (first_filtered t xs)
+  where
+    go : (b : Bool) → slice_get (filter t xs) 0 ≡ find t xs → slice_get (cond b (x ∷ filter t xs) (filter t xs)) 0 ≡ cond b (Some x) (find t xs)
+    go true ih = refl
+    go false ih = ih
+
+abbrev node_test : Forest → (ℕ → Bool) → ℕ → Bool
+node_test F t v = get_or (text F) v false && t v
+
+at_one : (F : Forest) (t : ℕ → Bool) (P : ℕ → Type 0) → ((w : ℕ) → Decides (t w) (P w)) → (w : ℕ) → Decides (node_test F t w) ((get_or (text F) w false ≡ true) × P w)
+at_one F t P d w = Decides-and (get_or (text F) w false) (t w) (λ e. e, λ e. e) (d w)
+
+find_node : (F : Forest) (t : ℕ → Bool) → find t (nodes F) ≡ find (node_test F t) (range_with_len 0 (length (text F)))
+unfolding places
+find_node F t = ap (find t) (nodes_are_ones F) ∙ find_filtered (λ p. is_bit true (get_or (text F) p false)) t (range_with_len 0 (length (text F)))
+
+nodes_filtered : (F : Forest) (t : ℕ → Bool) → filter t (nodes F) ≡ filter (node_test F t) (range_with_len 0 (length (text F)))
+unfolding places
+nodes_filtered F t = ap (filter t) (nodes_are_ones F) ∙ filter_filtered (λ p. is_bit true (get_or (text F) p false)) t (range_with_len 0 (length (text F)))
+
+pub opens : (F : Forest) (v : ℕ) → HasPair F v → get_or (text F) v false ≡ true
+opens F v h = closes_rises (text F) v (closing F v) false h.closes
+
+pub inside : (F : Forest) (v : ℕ) → HasPair F v → v < length (text F)
+inside F v h = let a = h.closes.after in let i = h.closes.inside in omega arith
+
+-- v is the first, and the last, of the nodes that have P, by a test that decides it
+module _ (F : Forest) (t : ℕ → Bool) (P : ℕ → Type 0) (d : (w : ℕ) → Decides (t w) (P w)) where
+  pub first_node : (v : ℕ) → HasPair F v → P v → ((w : ℕ) → w < v → HasPair F w → P w → ⊥) → find t (nodes F) ≡ Some v
+  first_node v h p n =
+      let i = inside F v h in
+      find_node F t ∙ find_is (node_test F t) _ (at_one F t P d) 0 (length (text F)) v (record { from = omega arith; below = omega arith; holds = (opens F v h, p); first = λ k x y q. n k y (one_pair F k (omega arith) q.0) q.1 })
+
+  pub no_first_node : ((w : ℕ) → HasPair F w → P w → ⊥) → find t (nodes F) ≡ None
+  no_first_node n = find_node F t ∙ none_find (node_test F t) _ (at_one F t P d) 0 (length (text F)) (λ k x y q. n k (one_pair F k (omega arith) q.0) q.1)
+
+  pub last_node : (v : ℕ) → HasPair F v → P v → ((w : ℕ) → v < w → HasPair F w → P w → ⊥) → last_or None (filter t (nodes F)) ≡ Some v
+  last_node v h p n = ap (last_or None) (nodes_filtered F t) ∙ last_is (node_test F t) _ (at_one F t P d) (length (text F)) v (record { below = inside F v h; holds = (opens F v h, p); last = λ k x y q. n k x (one_pair F k y q.0) q.1 })
+
+  pub no_last_node : ((w : ℕ) → HasPair F w → P w → ⊥) → last_or None (filter t (nodes F)) ≡ None
+  no_last_node n = ap (last_or None) (nodes_filtered F t) ∙ none_last (node_test F t) _ (at_one F t P d) (length (text F)) (λ k y q. n k (one_pair F k y q.0) q.1)
+
+  pub first_in : (v : ℕ) → HasPair F v → P v → ((w : ℕ) → w < v → HasPair F w → P w → ⊥) → first_of (filter t (nodes F)) ≡ Some v
+  first_in v h p n = first_filtered t (nodes F) ∙ first_node v h p n
+
+  pub no_first_in : ((w : ℕ) → HasPair F w → P w → ⊥) → first_of (filter t (nodes F)) ≡ None
+  no_first_in n = first_filtered t (nodes F) ∙ no_first_node n
+
+-- the nearest of them after u, and before u
+module _ (F : Forest) (t : ℕ → Bool) (P : ℕ → Type 0) (d : (w : ℕ) → Decides (t w) (P w)) (u : ℕ) where
+  after_test : (w : ℕ) → Decides (t w && ltb u w) (P w × (u < w))
+  after_test w = Decides-and (t w) (ltb u w) (d w) (Decides-ltb u w)
+
+  before_test : (w : ℕ) → Decides (t w && ltb w u) (P w × (w < u))
+  before_test w = Decides-and (t w) (ltb w u) (d w) (Decides-ltb w u)
+
+  pub next_in : (v : ℕ) → HasPair F v → P v → u < v → ((w : ℕ) → u < w → w < v → HasPair F w → P w → ⊥) → next_of (filter t (nodes F)) u ≡ Some v
+  next_in v h p x n = find_filtered t (λ w. ltb u w) (nodes F) ∙ first_node F _ _ after_test v h (p, x) (λ w y k q. n w q.1 y k q.0)
+
+  pub no_next_in : ((w : ℕ) → u < w → HasPair F w → P w → ⊥) → next_of (filter t (nodes F)) u ≡ None
+  no_next_in n = find_filtered t (λ w. ltb u w) (nodes F) ∙ no_first_node F _ _ after_test (λ w k q. n w q.1 k q.0)
+
+  pub previous_in : (v : ℕ) → HasPair F v → P v → v < u → ((w : ℕ) → v < w → w < u → HasPair F w → P w → ⊥) → previous_of (filter t (nodes F)) u ≡ Some v
+  previous_in v h p x n = ap (last_or None) (filter_filtered t (λ w. ltb w u) (nodes F)) ∙ last_node F _ _ before_test v h (p, x) (λ w y k q. n w y q.1 k q.0)
+
+  pub no_previous_in : ((w : ℕ) → w < u → HasPair F w → P w → ⊥) → previous_of (filter t (nodes F)) u ≡ None
+  no_previous_in n = ap (last_or None) (filter_filtered t (λ w. ltb w u) (nodes F)) ∙ no_last_node F _ _ before_test (λ w k q. n w q.1 k q.0)
+
+-- whether two numbers or none are the same
+pub option_decides : (a b : Option ℕ) → Decides (option_eq eqb a b) (a ≡ b)
+option_decides None None = (λ e. refl, λ e. refl)
+option_decides None (Some y) = (λ e. absurd (cc), λ e. absurd (cc))
+option_decides (Some x) None = (λ e. absurd (cc), λ e. absurd (cc))
+option_decides (Some x) (Some y) = (λ e. ap Some ((Decides-eqb x y).0 e), λ e. (Decides-eqb x y).1 (same x y e))
+  where
+    same : (x y : ℕ) → Some x ≡ Some y → x ≡ y
+    same x y e = cc

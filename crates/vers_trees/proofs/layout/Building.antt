@@ -1,0 +1,51 @@
+-- The excess of a list of parentheses that is built.
+use Rattle.std.proofs.Common.{◌≡◌, ℕ, ◌+◌, ◌<◌, ◌≤◌, Bool, List, [], ◌∷◌, ◌++◌, length, get_or, ℤ, pos, ◌+ℤ◌, FitsSigned, to_z, of_z, false, arith, length-append, sym, refl, ap, ◌∙◌}
+use mir.Syntax.{w64}
+use Rattle.std.proofs.lemmas.Int.{ints, to_z-of_z}
+use Rattle.std.proofs.lemmas.List.{get_or_at}
+use Rattle.vers_trees.specs.Excess.{excess, bit_step}
+use Rattle.vers_trees.specs.Forest.{Forest, text, IsBalanced, forest_of}
+use Rattle.vers_trees.specs.inside.Index.{IsBuilding}
+use Rattle.vers_trees.proofs.grammar.Excess.{excess-zero, excess-append_left, excess_after_bit}
+use Rattle.vers_trees.proofs.grammar.Grammar.{forest_of-text}
+use Rattle.vers_trees.proofs.searches.Scans.{rise_fits, step_fits}
+
+excess_more : (l : List Bool) (b : Bool) → excess (l ++ b ∷ []) (length l + 1) ≡ excess l (length l) +ℤ bit_step b
+excess_more l b =
+    let long = length-append l (b ∷ []) in
+    excess_after_bit (l ++ b ∷ []) (length l) false (omega arith)
+    ∙ ap (λ (z : ℤ). z +ℤ bit_step (get_or (l ++ b ∷ []) (length l) false)) (excess-append_left l (b ∷ []) (length l) (omega arith))
+    ∙ ap (λ (x : Bool). excess l (length l) +ℤ bit_step x) (get_or_at l b [] false (length l) refl)
+
+pub nothing_built : (size : ℕ) (l : List Bool) → l ≡ [] → 0 < size → size ≤ 4294967296 → IsBuilding size l (pos 0)
+nothing_built size l e so b = rw e (record { short = omega arith; some = so; bounded = b; sum = excess-zero [] })
+
+pub one_more_built : (size : ℕ) (l : List Bool) (b : Bool) (total : ℤ) → IsBuilding size l total → length l < 9223372036854775807 → IsBuilding size (l ++ b ∷ []) (total +ℤ bit_step b)
+one_more_built size l b total h room =
+    let long = length-append l (b ∷ []) in
+    record {
+      short = omega arith;
+      some = h.some;
+      bounded = h.bounded;
+      sum = ap (excess (l ++ b ∷ [])) (let g : length (l ++ b ∷ []) ≡ length l + 1 = omega arith in g) ∙ excess_more l b ∙ ap (λ (z : ℤ). z +ℤ bit_step b) h.sum;
+    }
+
+-- the excess of a list that is not too long fits
+pub built_fits : (size : ℕ) (l : List Bool) (total : ℤ) → IsBuilding size l total → FitsSigned w64 total
+built_fits size l total h =
+    let z = excess-zero l in
+    rise_fits l 0 (length l) total h.short (omega arith) (omega arith) (let s = h.sum in omega (arith, ints))
+
+-- the excess with one more bit, as the machine has it
+pub stored_sum : (size : ℕ) (l : List Bool) (b : Bool) (total d : ℤ) → IsBuilding size l total → length l < 9223372036854775807 → d ≡ bit_step b → FitsSigned w64 (to_z w64 (of_z w64 total) +ℤ to_z w64 (of_z w64 d)) × (to_z w64 (of_z w64 (to_z w64 (of_z w64 total) +ℤ to_z w64 (of_z w64 d))) ≡ total +ℤ bit_step b)
+stored_sum size l b total d h room e =
+    let f = built_fits size (l ++ b ∷ []) (total +ℤ bit_step b) (one_more_built size l b total h room) in
+    rw (to_z-of_z w64 total (built_fits size l total h), to_z-of_z w64 d (step_fits b d e), e) (f, to_z-of_z w64 (total +ℤ bit_step b) f)
+
+pub ruleset building = (nothing_built, built_fits)
+
+-- a tree of the steps stands for the forest that they write down
+pub forest_built : (t l : List Bool) (F : Forest) → t ≡ l → text F ≡ l → IsBalanced t × (forest_of t ≡ F)
+forest_built t l F e h = (record { forest = F; written = h ∙ sym e }, ap forest_of (e ∙ sym h) ∙ forest_of-text F)
+
+pub ruleset forests_built = (forest_built)

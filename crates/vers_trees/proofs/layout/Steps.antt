@@ -1,0 +1,116 @@
+-- A number without the zeros at its end, and how many digits it has.
+use Rattle.std.proofs.Common.{◌≡◌, ℕ, zero, suc, ◌+◌, ◌-◌, ◌*◌, ◌/◌, ◌%◌, ◌^◌, ◌<◌, ◌≤◌, arith, ⊎_elim, sym, ap, ◌∙◌}
+use Rattle.std.specs.Int.{bit_at}
+use Rattle.std.proofs.Math.Nat.{pow-succ', le-mul_of_pos_right}
+use Rattle.std.proofs.lemmas.Nat.{pow_pos, shr-shr}
+use Rattle.std.proofs.lemmas.Nat.Bits.{bit_at_lowest, bit_at-suc}
+use Rattle.std.proofs.lemmas.Bool.{cases_lt}
+use Rattle.vers_tally.specs.Reads.{digits, Reads, AddsAtMost, only_nodes, IsWithin, plus}
+use Rattle.vers_tally.proofs.PublicLaws.{digits_half, digits_up, adds_then, adds_weaker, adds_nothing}
+use Rattle.vers_trees.specs.inside.MinMax.{IsOddPart}
+
+-- a number whose lowest digits are zeros is what stands above them, with as many zeros behind it
+zeros_below : (i n : ℕ) → ((j : ℕ) → j < i → bit_at n j ≡ 0) → n / 2 ^ i * 2 ^ i ≡ n
+zeros_below zero n h = omega arith
+zeros_below (suc i) n h =
+    let even : n % 2 ≡ 0 = sym (bit_at_lowest n) ∙ h 0 (omega arith) in
+    let rest = zeros_below i (n / 2) (λ j a. sym (bit_at-suc n j) ∙ h (suc j) (omega arith)) in
+    let twice : 2 ^ suc i ≡ 2 * 2 ^ i = pow-succ' 2 i in
+    let above : n / 2 / 2 ^ i ≡ n / 2 ^ suc i = shr-shr n 1 i ∙ ap (λ (k : ℕ). n / 2 ^ k) (let g : 1 + i ≡ suc i = omega arith in g) in
+    let q : n / 2 ^ suc i * 2 ^ suc i ≡ n / 2 / 2 ^ i * (2 * 2 ^ i) = ap (λ (x : ℕ). x * 2 ^ suc i) (sym above) ∙ ap (λ (x : ℕ). n / 2 / 2 ^ i * x) twice in
+    omega (arith, q, rest)
+
+-- the digits from the lowest one up
+pub from_lowest_one : (i n : ℕ) → bit_at n i ≡ 1 → ((j : ℕ) → j < i → bit_at n j ≡ 0) → IsOddPart n (n / 2 ^ i)
+from_lowest_one i n one h = record { zeros = i; splits = sym (zeros_below i n h); ends = one }
+
+pub odd_most : (n odd : ℕ) → IsOddPart n odd → odd ≤ n
+odd_most n odd p = let a = le-mul_of_pos_right odd (pow_pos p.zeros) in let s = p.splits in omega arith
+
+-- an odd number above 1 has as many digits as the number before it
+digits_odd : (n : ℕ) → 1 < n → n % 2 ≡ 1 → digits n ≡ digits (n - 1)
+digits_odd n some odd =
+    let a = digits_half n (omega arith) in
+    let b = digits_half (n - 1) (omega arith) in
+    let same : digits (n / 2) ≡ digits ((n - 1) / 2) = ap digits (let g : n / 2 ≡ (n - 1) / 2 = omega arith in g) in
+    omega arith
+
+-- the node after the parent of a right child is a level up at least
+pub digits_after : (node odd : ℕ) → 0 < node → node % 2 ≡ 0 → IsOddPart ((node - 1) / 2 + 2) odd → digits odd + 1 ≤ digits (node + 1)
+digits_after node odd some even p =
+    let most = odd_most _ _ p in
+    let half = digits_half (node + 1) (omega arith) in
+    let here : digits ((node + 1) / 2) ≡ digits (node / 2) = ap digits (let g : (node + 1) / 2 ≡ node / 2 = omega arith in g) in
+    ⊎_elim
+    (λ (low : odd < node / 2 + 1). let u = digits_up odd (node / 2) (omega arith) in omega arith)
+    (λ (high : node / 2 + 1 ≤ odd).
+    let h = digits_odd odd (omega arith) p.ends in
+    let e : digits (odd - 1) ≡ digits (node / 2) = ap digits (let g : odd - 1 ≡ node / 2 = omega arith in g) in
+    omega arith)
+    (cases_lt odd (node / 2 + 1))
+
+-- the node before the parent of a left child is a level up at least
+pub digits_before : (node odd : ℕ) → node % 2 ≡ 1 → IsOddPart ((node - 1) / 2 + 1) odd → digits (odd - 2 + 1) + 1 ≤ digits (node + 1)
+digits_before node odd left p =
+    let most = odd_most _ _ p in
+    let half = digits_half (node + 1) (omega arith) in
+    let ends = p.ends in
+    let up = digits_up (odd - 2 + 1) ((node + 1) / 2) (omega arith) in
+    omega arith
+
+-- ---- how many nodes a search reads: a level has a digit more than the one above it
+nodes_within : (m n : ℕ) → m ≤ n → IsWithin (only_nodes m) (only_nodes n)
+nodes_within m n h = record { data_words = omega arith; block_entries = omega arith; superblock_entries = omega arith; low_parts = omega arith; rank_calls = omega arith; items = omega arith; blocks = omega arith; nodes = h; chunks = omega arith }
+
+nodes_both : (m n k : ℕ) → m + n ≤ k → IsWithin (plus (only_nodes m) (only_nodes n)) (only_nodes k)
+nodes_both m n k h = record { data_words = omega arith; block_entries = omega arith; superblock_entries = omega arith; low_parts = omega arith; rank_calls = omega arith; items = omega arith; blocks = omega arith; nodes = h; chunks = omega arith }
+
+pub no_nodes : (a : Reads) (n : ℕ) → AddsAtMost a a (only_nodes n)
+no_nodes a n = adds_weaker (adds_nothing a) (record { data_words = omega arith; block_entries = omega arith; superblock_entries = omega arith; low_parts = omega arith; rank_calls = omega arith; items = omega arith; blocks = omega arith; nodes = omega arith; chunks = omega arith })
+
+-- a node's number, from 1, has at least a digit
+pub digit_some : (n : ℕ) → 0 < n → 1 ≤ digits n
+digit_some n h = omega (arith, digits_half n h)
+
+digits_child : (m n : ℕ) → n / 2 ≡ m → 0 < n → digits n ≡ digits m + 1
+digits_child m n e h = omega (arith, digits_half n h, ap digits e)
+
+-- going down: a node read at each level
+pub read_down : (a b c : Reads) (node child : ℕ) → (child + 1) / 2 ≡ node + 1 → AddsAtMost a b (only_nodes (digits (node + 1) - 1)) → AddsAtMost b c (only_nodes 1) → AddsAtMost a c (only_nodes (digits (child + 1) - 1))
+read_down a b c node child e p q =
+    let d = digits_child (node + 1) (child + 1) e (omega arith) in
+    let s = digit_some (node + 1) (omega arith) in
+    adds_then p q (nodes_both _ _ _ (omega arith))
+
+pub down_ends : (a b : Reads) (node first : ℕ) → node ≤ 2 * first → AddsAtMost a b (only_nodes (digits (node + 1) - 1)) → AddsAtMost a b (only_nodes (digits first))
+down_ends a b node first h p =
+    let u = digits_up (node + 1) (2 * first + 1) (omega arith) in
+    let d = digits_child first (2 * first + 1) (omega arith) (omega arith) in
+    adds_weaker p (nodes_within _ _ (omega arith))
+
+-- climbing: at most a node read at each level
+pub read_up : (a b c : Reads) (first node up : ℕ) → node ≤ 2 * first → digits (up + 1) + 1 ≤ digits (node + 1) → AddsAtMost a b (only_nodes (digits (2 * first + 1) - digits (node + 1))) → AddsAtMost b c (only_nodes 1) → AddsAtMost a c (only_nodes (digits (2 * first + 1) - digits (up + 1)))
+read_up a b c first node up h d p q =
+    let u = digits_up (node + 1) (2 * first + 1) (omega arith) in
+    adds_then p q (nodes_both _ _ _ (omega arith))
+
+pub up_ends : (a b : Reads) (first node : ℕ) → node ≤ 2 * first → AddsAtMost a b (only_nodes (digits (2 * first + 1) - digits (node + 1))) → AddsAtMost a b (only_nodes (2 * digits first))
+up_ends a b first node h p =
+    let d = digits_child first (2 * first + 1) (omega arith) (omega arith) in
+    let s = digit_some (node + 1) (omega arith) in
+    adds_weaker p (nodes_within _ _ (omega arith))
+
+-- the last step up, which reads a node, and then nothing or the way down
+up_then : (a b c : Reads) (first node : ℕ) → node ≤ 2 * first → 0 < node → AddsAtMost a b (only_nodes (digits (2 * first + 1) - digits (node + 1))) → AddsAtMost b c (only_nodes 1) → AddsAtMost a c (only_nodes (digits first))
+up_then a b c first node h some p q =
+    let d = digits_child first (2 * first + 1) (omega arith) (omega arith) in
+    let e = digits_child ((node + 1) / 2) (node + 1) (omega arith) (omega arith) in
+    let s = digit_some ((node + 1) / 2) (omega arith) in
+    let u = digits_up (node + 1) (2 * first + 1) (omega arith) in
+    adds_then p q (nodes_both _ _ _ (omega arith))
+
+pub up_then_down : (a b c d : Reads) (first node : ℕ) → node ≤ 2 * first → 0 < node → AddsAtMost a b (only_nodes (digits (2 * first + 1) - digits (node + 1))) → AddsAtMost b c (only_nodes 1) → AddsAtMost c d (only_nodes (digits first)) → AddsAtMost a d (only_nodes (2 * digits first))
+up_then_down a b c d first node h some p q r = adds_then (up_then a b c first node h some p q) r (nodes_both _ _ _ (omega arith))
+
+pub up_then_none : (a b c : Reads) (first node : ℕ) → node ≤ 2 * first → 0 < node → AddsAtMost a b (only_nodes (digits (2 * first + 1) - digits (node + 1))) → AddsAtMost b c (only_nodes 1) → AddsAtMost a c (only_nodes (2 * digits first))
+up_then_none a b c first node h some p q = adds_weaker (up_then a b c first node h some p q) (nodes_within _ _ (omega arith))

@@ -1,0 +1,173 @@
+-- The width of a tree, and its nodes put together.
+use Rattle.std.proofs.Common.{◌≡◌, ℕ, zero, suc, ◌+◌, ◌-◌, ◌*◌, ◌^◌, ◌<◌, ◌≤◌, ◌⊎◌, inl, inr, min, max, Bool, List, [], ◌∷◌, ◌++◌, length, get_or, take, drop, arith, ⊎_elim, subst, sym, refl, ap, ◌∙◌, length-append, length-drop}
+use Rattle.std.proofs.lemmas.Bool.{cases_lt}
+use Rattle.std.proofs.lemmas.Grind.{div_ceil_times}
+use Rattle.std.proofs.lemmas.List.{get_or_append_left, get_or_at, get_or-drop}
+use Rattle.std.proofs.Math.Seq.{take-append_seam}
+use Rattle.std.proofs.Math.Nat.{pow-succ', pow-le-pow_right}
+use Rattle.vers_tally.specs.Reads.{digits}
+use Rattle.vers_tally.proofs.PublicLaws.{digits-le, digits_up, digits_pow, digits_below_pow, clog_least, pow_next}
+use Rattle.vers_trees.specs.declared.trees.bp.min_max.Node.{Node}
+use Rattle.vers_trees.specs.inside.MinMax.{IsPart, AreBlocks, CoveredFrom, AreLeaves, empty_node}
+use Rattle.vers_trees.specs.Layout.{block_count, clog, levels, node_count}
+use Rattle.vers_trees.proofs.layout.Steps.{digit_some}
+use Rattle.vers_trees.specs.inside.Index.{IsWidth, IsGrowing, AreFirstBlocks, IsTreeOf, IsIndexed}
+use Rattle.vers_trees.proofs.layout.Blocks.{minmax_of, leaves_of}
+
+pub grow_start : (leaves : ℕ) → IsGrowing leaves 2
+grow_start leaves = record { exponent = 0; power = refl; short = inl refl }
+
+pub grow_more : (leaves w : ℕ) → IsGrowing leaves w → w < leaves → IsGrowing leaves (w * 2)
+grow_more leaves w g h =
+    let p = pow-succ' 2 g.exponent in let q = g.power in
+    record { exponent = suc g.exponent; power = omega arith; short = inr (omega arith) }
+
+grown_bounded : (leaves e : ℕ) → leaves < 2 ^ 63 → (e ≡ 0) ⊎ (2 ^ e < leaves) → e < 63
+grown_bounded leaves e h (inl z) = omega arith
+grown_bounded leaves e h (inr s) = ⊎_elim
+    (λ (x : e < 63). x)
+    (λ (x : 63 ≤ e). let m = pow-le-pow_right {n = 2} (omega arith) {i = 63} {j = e} x in absurd (omega arith))
+    (cases_lt e 63)
+
+grown_least : (leaves e w : ℕ) → 2 * 2 ^ e ≡ w → (e ≡ 0) ⊎ (2 ^ e < leaves) → digits (w - 1) ≤ max 1 (clog leaves)
+grown_least leaves e w p (inl z) =
+    let one : 2 ^ e ≡ 1 = ap (λ (n : ℕ). 2 ^ n) z in
+    let d = digits-le 1 (w - 1) (omega arith) in omega arith
+grown_least leaves e w p (inr s) =
+    let q = pow-succ' 2 e in
+    let some = pow-le-pow_right {n = 2} (omega arith) {i = 0} {j = e} (omega arith) in
+    let d = digits-le (e + 1) (w - 1) (omega (arith, ap (λ (n : ℕ). 2 ^ n) (let g : e + 1 ≡ suc e = omega arith in g))) in
+    let u = digits_up (2 ^ e) (leaves - 1) (omega arith) in
+    let v = digits_pow e in
+    omega arith
+
+pub grown : (leaves w : ℕ) → leaves < 2 ^ 63 → IsGrowing leaves w → leaves ≤ w → IsWidth leaves w
+grown leaves w h g enough =
+    let p = pow-succ' 2 g.exponent in let q = g.power in
+    let small = grown_bounded leaves g.exponent h g.short in
+    let m = pow-le-pow_right {n = 2} (omega arith) {i = suc g.exponent} {j = 63} (omega arith) in
+    let some = pow-le-pow_right {n = 2} (omega arith) {i = 0} {j = g.exponent} (omega arith) in
+    record { exponent = suc g.exponent; power = omega arith; enough = enough; some = omega arith; bounded = omega arith; least = grown_least leaves g.exponent w q g.short }
+
+pub ruleset widths = (grow_start, grow_more, grown)
+
+-- ---- how many nodes there are
+width_is : (leaves w : ℕ) → IsWidth leaves w → w - 1 ≡ max 1 (2 ^ clog leaves - 1)
+width_is leaves w h =
+    let p = h.power in let s = h.some in let en = h.enough in let le = h.least in
+    let same : digits (w - 1) ≡ h.exponent = ap (λ (n : ℕ). digits (n - 1)) (sym p) ∙ digits_below_pow h.exponent in
+    let up = digits-le h.exponent (leaves - 1) (omega arith) in
+    let one = digit_some (w - 1) (omega arith) in
+    ⊎_elim
+    (λ (x : 0 < clog leaves). let e : h.exponent ≡ clog leaves = omega arith in let q : 2 ^ clog leaves ≡ w = ap (λ (n : ℕ). 2 ^ n) (sym e) ∙ p in omega arith)
+    (λ (x : clog leaves ≤ 0).
+    let e : h.exponent ≡ 1 = omega arith in let z : clog leaves ≡ 0 = omega arith in
+    let q : 2 ^ h.exponent ≡ 2 = ap (λ (n : ℕ). 2 ^ n) e in
+    let r : 2 ^ clog leaves ≡ 1 = ap (λ (n : ℕ). 2 ^ n) z in
+    omega arith)
+    (cases_lt 0 (clog leaves))
+
+node_count_some : (size n : ℕ) → 0 < n → node_count size n ≡ block_count size n + max 1 (2 ^ clog (block_count size n) - 1)
+unfolding node_count
+node_count_some size zero h = absurd (omega arith)
+node_count_some size (suc n) h = refl
+
+pub no_nodes_counted : (size n : ℕ) (nodes : List Node) → n ≡ 0 → nodes ≡ [] → length nodes ≡ node_count size n
+unfolding node_count
+no_nodes_counted size n nodes z e = rw (z, e) refl
+
+pub nodes_counted : (l : List Bool) (size first : ℕ) (nodes : List Node) → 0 < length l → IsWidth (block_count size (length l)) (first + 1) → length nodes ≡ first + block_count size (length l) → length nodes ≡ node_count size (length l)
+nodes_counted l size first nodes some w c =
+    let e = width_is (block_count size (length l)) (first + 1) w in
+    let n = node_count_some size (length l) some in
+    omega arith
+
+-- ---- the blocks
+pub no_blocks : (l : List Bool) (size first : ℕ) (nodes : List Node) → length nodes ≡ first → AreFirstBlocks l size first 0 nodes
+no_blocks l size first nodes e = record { counted = omega arith; part = λ k h. absurd (omega arith) }
+
+pub block_added : (l : List Bool) (size first n : ℕ) (nodes : List Node) (x : Node) → AreFirstBlocks l size first n nodes → IsPart l (n * size) (min (n * size + size) (length l)) x → AreFirstBlocks l size first (n + 1) (nodes ++ x ∷ [])
+block_added l size first n nodes x b p =
+    let c = b.counted in
+    record {
+      counted = let e = length-append nodes (x ∷ []) in omega arith;
+      part = λ k h. ⊎_elim
+          (λ (w : k < n). subst (λ (y : Node). IsPart l (k * size) (min (k * size + size) (length l)) y) (sym (get_or_append_left nodes (x ∷ []) empty_node (first + k) (omega arith))) (b.part k w))
+          (λ (w : n ≤ k).
+          let e : n ≡ k = omega arith in
+          subst (λ (m : ℕ). IsPart l (m * size) (min (m * size + size) (length l)) (get_or (nodes ++ x ∷ []) (first + m) empty_node)) e
+          (subst (λ (y : Node). IsPart l (n * size) (min (n * size + size) (length l)) y) (sym (get_or_at nodes x [] empty_node (first + n) c)) p))
+          (cases_lt k n);
+    }
+
+pub ruleset gathering = (no_blocks, block_added)
+
+are_blocks : (l : List Bool) (size first : ℕ) (nodes : List Node) → 0 < size → AreFirstBlocks l size first (block_count size (length l)) nodes → AreBlocks l size (drop first nodes)
+are_blocks l size first nodes so b =
+    let c = b.counted in
+    let d = length-drop first nodes in
+    record {
+      some = so;
+      enough = enough (length l) size so (omega arith);
+      part = λ k h. subst (λ (y : Node). IsPart l (k * size) (min (k * size + size) (length l)) y) (sym (get_or-drop first nodes k empty_node)) (b.part k (omega arith));
+    }
+  where
+    enough : (n size : ℕ) → 0 < size → length (drop first nodes) ≡ block_count size n → n ≤ length (drop first nodes) * size
+    enough n size so e = subst (λ (m : ℕ). n ≤ m * size) (sym e) (div_ceil_times n size so).0
+
+levels_some : (size n : ℕ) → 0 < n → levels size n ≡ max 1 (clog (block_count size n)) + 1
+unfolding levels
+levels_some size zero h = absurd (omega arith)
+levels_some size (suc n) h = refl
+
+pub blocks_are_leaves : (l : List Bool) (size first : ℕ) (nodes : List Node) → 0 < size → length l < 2 ^ 63 → AreFirstBlocks l size first (block_count size (length l)) nodes → AreLeaves (drop first nodes)
+blocks_are_leaves l size first nodes so short b = leaves_of l size (drop first nodes) (are_blocks l size first nodes so b) short
+
+one_at_least : (n size : ℕ) → 0 < size → 0 < n → 0 < block_count size n
+one_at_least n size so h = go (block_count size n) (div_ceil_times n size so).0
+  where
+    go : (b : ℕ) → n ≤ b * size → 0 < b
+    go zero d = absurd (omega arith)
+    go (suc b) d = omega arith
+
+pub tree_made : (l : List Bool) (size first : ℕ) (leaves nodes : List Node) → 0 < size → 0 < length l → length l < 2 ^ 63 → IsWidth (block_count size (length l)) (first + 1) → AreFirstBlocks l size first (block_count size (length l)) leaves → length nodes ≡ length leaves → drop first nodes ≡ drop first leaves → CoveredFrom first nodes 0 → IsTreeOf l size first nodes
+tree_made l size first leaves nodes so some short w b n e c =
+    let d = length-drop first nodes in
+    let cb = b.counted in let en = w.enough in let bo = w.bounded in
+    let r = one_at_least (length l) size so some in
+    let same : first + 1 - 1 ≡ first = omega arith in
+    let blocks : AreBlocks l size (drop first nodes) = subst (λ (m : List Node). AreBlocks l size m) (sym e) (are_blocks l size first leaves so b) in
+    record {
+      tree = minmax_of l size first w.exponent nodes w.power (omega arith) (omega arith) (omega arith) short blocks c;
+      blocks = blocks;
+      few = (let e = levels_some size (length l) some in let d = ap digits same in let m = w.least in omega arith);
+    }
+
+pub empty_indexed : (l : List Bool) (size first : ℕ) (nodes : List Node) → length l ≡ 0 → nodes ≡ [] → 0 < size → size ≤ 4294967296 → IsIndexed l size first nodes
+empty_indexed l size first nodes z e so b =
+    record { short = omega arith; some = so; bounded = b; counted = no_nodes_counted size (length l) nodes z e; over = λ h. absurd (omega arith) }
+
+pub indexed : (l : List Bool) (size first : ℕ) (nodes : List Node) → length l < 9223372036854775808 → 0 < size → size ≤ 4294967296 → length nodes ≡ node_count size (length l) → IsTreeOf l size first nodes → IsIndexed l size first nodes
+indexed l size first nodes h so b n t = record { short = h; some = so; bounded = b; counted = n; over = λ x. t }
+
+-- what is written through a slice of a vector is what the vector holds
+pub written_back : (new old : List Node) (n : ℕ) → n ≡ length new → take n (new ++ drop (length new) old) ≡ new
+written_back new old n e = ap (λ (m : ℕ). take m (new ++ drop (length new) old)) e ∙ take-append_seam new _
+
+-- ---- how few nodes there are
+few_over : (b : ℕ) → 0 < b → b + max 1 (2 ^ clog b - 1) < 3 * b
+few_over b h = ⊎_elim
+    (λ (x : 0 < clog b).
+    let low : 2 ^ (clog b - 1) < b = ⊎_elim (λ (y : 2 ^ (clog b - 1) < b). y) (λ (y : b ≤ 2 ^ (clog b - 1)). let z = clog_least b (clog b - 1) y in absurd (omega arith)) (cases_lt (2 ^ (clog b - 1)) b) in
+    let twice = pow_next (clog b - 1) in
+    let same : 2 ^ (clog b - 1 + 1) ≡ 2 ^ clog b = ap (λ (n : ℕ). 2 ^ n) (let g : clog b - 1 + 1 ≡ clog b = omega arith in g) in
+    omega arith)
+    (λ (x : clog b ≤ 0).
+    let one : 2 ^ clog b ≡ 1 = ap (λ (n : ℕ). 2 ^ n) (let z : clog b ≡ 0 = omega arith in z) in
+    omega arith)
+    (cases_lt 0 (clog b))
+
+pub few_nodes : (size n : ℕ) → 0 < size → 0 < n → node_count size n < 3 * block_count size n
+few_nodes size n s h = rw (node_count_some size n h) (few_over (block_count size n) (one_at_least n size s h))
+
+pub ruleset few = (few_nodes)

@@ -1,0 +1,251 @@
+-- The laws of the nodes of a forest.
+use Rattle.std.proofs.Common.{◌≡◌, ℕ, zero, suc, ◌+◌, ◌-◌, ◌<◌, ◌≤◌, ◌↔◌, Bool, true, false, cond, not, List, [], ◌∷◌, length, get_or, ltb, eqb, Option, None, Some, arith, ⊎_elim, subst, sym, refl, ap, ◌∙◌, ◌++◌, map, take}
+use Rattle.std.specs.Prelude.{slice_get, option_map, find, filter}
+use Rattle.std.specs.List.{Contains, last_or, range_with_len}
+use Rattle.std.proofs.lemmas.Option.{get_or_from_slice_get, slice_get-get_or, slice_get_within}
+use Rattle.std.proofs.lemmas.List.{get_or_past, map-append, length_push, take_more, take_all}
+use Rattle.std.proofs.lemmas.Bool.{cases_lt}
+use Rattle.std.proofs.lemmas.Bool.Decides.{Decides-ltb, Decides-eqb}
+use Rattle.std.proofs.lemmas.List.Filters.{length-filter_both}
+use Rattle.vers_bits.specs.Bits.{bit_value, places}
+use Rattle.vers_trees.specs.Forest.{Forest, text, IsBalanced, forest_of}
+use Rattle.vers_trees.specs.Nodes.{nodes, IsNode, closing, depth, level, last_of, next_of, previous_of, first_of}
+use Rattle.vers_trees.proofs.grammar.Grammar.{text-forest_of}
+use Rattle.vers_trees.proofs.grammar.Paired.{closes_rises}
+use Rattle.vers_trees.proofs.grammar.Pairs.{contains_first, contains_later}
+use Rattle.vers_trees.proofs.kin.NodeList.{nodes_are_ones, one_pair, node_pair, pair_node}
+use Rattle.vers_trees.proofs.kin.Around.{refuted}
+use Rattle.vers_trees.specs.LevelWalks.{IsAlongLevel}
+
+-- ---- nodes and ones
+bit_inside : (l : List Bool) (v : ℕ) → get_or l v false ≡ true → v < length l
+bit_inside l v e = ⊎_elim (λ (h : v < length l). h) (λ (h : length l ≤ v). let p = get_or_past l v false h in absurd (cc)) (cases_lt v (length l))
+
+node_bit : (F : Forest) (v : ℕ) → IsNode F v → get_or (text F) v false ≡ true
+node_bit F v n = closes_rises (text F) v (closing F v) false (node_pair F v n).closes
+
+bit_node : (F : Forest) (v : ℕ) → get_or (text F) v false ≡ true → IsNode F v
+bit_node F v e = pair_node F v (one_pair F v (bit_inside (text F) v e) e)
+
+pub node_iff_bit : (bits : List Bool) (v : ℕ) → IsBalanced bits → IsNode (forest_of bits) v ↔ (get_or bits v false ≡ true)
+node_iff_bit bits v b =
+    subst (λ (m : List Bool). IsNode (forest_of bits) v ↔ (get_or m v false ≡ true)) (text-forest_of bits b) (node_bit (forest_of bits) v, bit_node (forest_of bits) v)
+
+pub node_iff_one : (bits : List Bool) (v : ℕ) → IsBalanced bits → IsNode (forest_of bits) v ↔ (slice_get bits v ≡ Some true)
+node_iff_one bits v b =
+    let n = node_iff_bit bits v b in (
+      λ h. let e = n.0 h in slice_get-get_or bits v false (bit_inside bits v e) ∙ ap Some e,
+      λ h. n.1 (get_or_from_slice_get bits v true false h),
+    )
+
+-- a bit read as a number
+got_one : (o : Option Bool) → (o ≡ Some true) ↔ (option_map bit_value o ≡ Some 1)
+got_one None = (λ h. absurd (cc), λ h. absurd (cc))
+got_one (Some true) = (λ h. refl, λ h. refl)
+got_one (Some false) = (λ h. absurd (cc), λ h. absurd (let e = same 0 1 h in omega arith))
+  where
+    same : (m n : ℕ) → Some m ≡ Some n → m ≡ n
+    same m n h = cc
+
+pub node_iff_got : (bits : List Bool) (v : ℕ) → IsBalanced bits → IsNode (forest_of bits) v ↔ (option_map bit_value (slice_get bits v) ≡ Some 1)
+node_iff_got bits v b =
+    let n = node_iff_one bits v b in
+    let g = got_one (slice_get bits v) in
+    (λ h. g.0 (n.0 h), λ h. n.1 (g.1 h))
+
+-- ---- members that ascend, the first of them from n on
+abbrev pub AscendsFrom : ℕ → List ℕ → Type 0
+AscendsFrom n [] = Unit {0}
+AscendsFrom n (x ∷ xs) = (n ≤ x) × AscendsFrom (x + 1) xs
+
+ascends_lower : (m n : ℕ) (xs : List ℕ) → m ≤ n → AscendsFrom n xs → AscendsFrom m xs
+ascends_lower m n [] h a = tt
+ascends_lower m n (x ∷ xs) h a = let a0 = a.0 in (omega arith, a.1)
+
+range_ascends : (a n : ℕ) → AscendsFrom a (range_with_len a n)
+range_ascends a zero = tt
+range_ascends a (suc n) = (omega arith, range_ascends (a + 1) n)
+
+pub filter_ascends : (p : ℕ → Bool) (n : ℕ) (xs : List ℕ) → AscendsFrom n xs → AscendsFrom n (filter p xs)
+filter_ascends p n [] a = tt
+filter_ascends p n (x ∷ xs) a = go (p x) (filter_ascends p (x + 1) xs a.1)
+  where
+    go : (b : Bool) → AscendsFrom (x + 1) (filter p xs) → AscendsFrom n (cond b (x ∷ filter p xs) (filter p xs))
+    go true r = (a.0, r)
+    go false r = let a0 = a.0 in ascends_lower n (x + 1) (filter p xs) (omega arith) r
+
+above : (v w : ℕ) → v < w → ltb v w ≡ true
+above v w h = (Decides-ltb v w).1 h
+
+not_above : (v w : ℕ) → w ≤ v → ltb v w ≡ false
+not_above v w h = refuted (ltb v w) (Decides-ltb v w) (λ (g : v < w). omega arith)
+
+same_member : (x y : ℕ) → Some x ≡ Some y → x ≡ y
+same_member x y e = cc
+
+member_from : (n i v : ℕ) (xs : List ℕ) → AscendsFrom n xs → slice_get xs i ≡ Some v → n ≤ v
+member_from n i v [] a e = absurd (cc)
+member_from n zero v (x ∷ xs) a e = let s = same_member x v e in let a0 = a.0 in omega arith
+member_from n (suc i) v (x ∷ xs) a e = let r = member_from (x + 1) i v xs a.1 e in let a0 = a.0 in omega arith
+
+first_above : (v : ℕ) (xs : List ℕ) → AscendsFrom (v + 1) xs → find (λ w. ltb v w) xs ≡ slice_get xs 0
+first_above v [] a = refl
+first_above v (x ∷ xs) a = let a0 = a.0 in let t : ltb v x ≡ true = above v x (omega arith) in rw t refl
+
+pub next_member : (n i v : ℕ) (xs : List ℕ) → AscendsFrom n xs → slice_get xs i ≡ Some v → find (λ w. ltb v w) xs ≡ slice_get xs (suc i)
+next_member n i v [] a e = absurd (cc)
+next_member n zero v (x ∷ xs) a e =
+    let s = same_member x v e in
+    let t : ltb v x ≡ false = not_above v x (omega arith) in
+    rw t (first_above v xs (subst (λ (k : ℕ). AscendsFrom (k + 1) xs) s a.1))
+next_member n (suc i) v (x ∷ xs) a e =
+    let r = member_from (x + 1) i v xs a.1 e in
+    let t : ltb v x ≡ false = not_above v x (omega arith) in
+    rw t (next_member (x + 1) i v xs a.1 e)
+
+none_before : (o : Option ℕ) (n v : ℕ) (xs : List ℕ) → AscendsFrom n xs → v ≤ n → last_or o (filter (λ w. ltb w v) xs) ≡ o
+none_before o n v [] a h = refl
+none_before o n v (x ∷ xs) a h =
+    let a0 = a.0 in
+    let t : ltb x v ≡ false = not_above x v (omega arith) in
+    rw t (none_before o (x + 1) v xs a.1 (omega arith))
+
+pub member_before : (o : Option ℕ) (n i v : ℕ) (xs : List ℕ) → AscendsFrom n xs → slice_get xs (suc i) ≡ Some v → last_or o (filter (λ w. ltb w v) xs) ≡ slice_get xs i
+member_before o n i v [] a e = absurd (cc)
+member_before o n zero v (x ∷ xs) a e =
+    let r = member_from (x + 1) 0 v xs a.1 e in
+    let t : ltb x v ≡ true = above x v (omega arith) in
+    rw t (none_before (Some x) v v xs (from_member xs a.1 e) (omega arith))
+  where
+    from_member : (ys : List ℕ) → AscendsFrom (x + 1) ys → slice_get ys 0 ≡ Some v → AscendsFrom v ys
+    from_member [] b f = tt
+    from_member (y ∷ ys) b f = let s = same_member y v f in (omega arith, b.1)
+member_before o n (suc i) v (x ∷ xs) a e =
+    let r = member_from (x + 1) (suc i) v xs a.1 e in
+    let t : ltb x v ≡ true = above x v (omega arith) in
+    rw t (member_before (Some x) (x + 1) i v xs a.1 e)
+
+pub first_member_before : (n v : ℕ) (xs : List ℕ) → AscendsFrom n xs → slice_get xs 0 ≡ Some v → last_or None (filter (λ w. ltb w v) xs) ≡ None
+first_member_before n v [] a e = refl
+first_member_before n v (x ∷ xs) a e =
+    let s = same_member x v e in
+    none_before None v v (x ∷ xs) (omega arith, a.1) (omega arith)
+
+last_member : (o : Option ℕ) (x : ℕ) (xs : List ℕ) → last_or o (x ∷ xs) ≡ slice_get (x ∷ xs) (length xs)
+last_member o x [] = refl
+last_member o x (y ∷ ys) = last_member (Some x) y ys
+
+pub last_by_number : (xs : List ℕ) → last_of xs ≡ slice_get xs (length xs - 1)
+last_by_number [] = refl
+last_by_number (x ∷ xs) = last_member None x xs ∙ ap (slice_get (x ∷ xs)) (let e : length xs ≡ suc (length xs) - 1 = omega arith in e)
+
+-- ---- members that pass a test
+pub member_passes : (p : ℕ → Bool) (xs : List ℕ) (i v : ℕ) → slice_get (filter p xs) i ≡ Some v → Contains xs v × (p v ≡ true)
+member_passes p [] i v e = absurd (cc)
+member_passes p (x ∷ xs) i v e = go (member_passes p xs) (p x) refl i e
+  where
+    go : ((j w : ℕ) → slice_get (filter p xs) j ≡ Some w → Contains xs w × (p w ≡ true)) → (b : Bool) → p x ≡ b → (j : ℕ) → slice_get (cond b (x ∷ filter p xs) (filter p xs)) j ≡ Some v → Contains (x ∷ xs) v × (p v ≡ true)
+    go ih true t zero f = let s = same_member x v f in (subst (Contains (x ∷ xs)) s (contains_first x xs), subst (λ (k : ℕ). p k ≡ true) s t)
+    go ih true t (suc j) f = let r = ih j v f in (contains_later x xs v r.0, r.1)
+    go ih false t j f = let r = ih j v f in (contains_later x xs v r.0, r.1)
+
+passing_holds : (p : ℕ → Bool) (xs : List ℕ) (v : ℕ) → Contains xs v → p v ≡ true → Contains (filter p xs) v
+passing_holds p [] v (k, l, e) t = absurd (omega arith)
+passing_holds p (x ∷ xs) v (zero, l, e) t =
+    let s : p x ≡ true = subst (λ (k : ℕ). p k ≡ true) (sym e) t in
+    rw s (subst (Contains (x ∷ filter p xs)) e (contains_first x (filter p xs)))
+passing_holds p (x ∷ xs) v (suc k, l, e) t = go (p x) (passing_holds p xs v (k, omega arith, e) t)
+  where
+    go : (b : Bool) → Contains (filter p xs) v → Contains (cond b (x ∷ filter p xs) (filter p xs)) v
+    go true c = contains_later x (filter p xs) v c
+    go false c = c
+
+-- ---- levels
+pub places_ascend : (bit : Bool) (l : List Bool) → AscendsFrom 0 (places bit l)
+unfolding places
+places_ascend bit l = filter_ascends _ 0 (range_with_len 0 (length l)) (range_ascends 0 (length l))
+
+pub nodes_ascend : (F : Forest) → AscendsFrom 0 (nodes F)
+nodes_ascend F = subst (AscendsFrom 0) (sym (nodes_are_ones F)) (places_ascend true (text F))
+
+level_ascends : (F : Forest) (d : ℕ) → AscendsFrom 0 (level F d)
+unfolding level
+level_ascends F d = filter_ascends (λ v. eqb (depth F v) d) 0 (nodes F) (nodes_ascend F)
+
+level_member : (F : Forest) (d i v : ℕ) → slice_get (level F d) i ≡ Some v → IsNode F v × (depth F v ≡ d)
+unfolding level
+level_member F d i v e =
+    let r = member_passes (λ v. eqb (depth F v) d) (nodes F) i v e in
+    (r.0, (Decides-eqb (depth F v) d).0 r.1)
+
+contained_at : (xs : List ℕ) (v : ℕ) → Contains xs v → (i : ℕ) × (slice_get xs i ≡ Some v)
+contained_at xs v (k, l, e) = (k, slice_get-get_or xs k v l ∙ ap Some e)
+
+pub level_iff_depth : (F : Forest) (d v : ℕ) → Contains (level F d) v ↔ (IsNode F v × (depth F v ≡ d))
+unfolding level
+level_iff_depth F d v = (
+  λ c. let m = contained_at (level F d) v c in level_member F d m.0 v m.1,
+  λ h. passing_holds (λ v. eqb (depth F v) d) (nodes F) v h.0 ((Decides-eqb (depth F v) d).1 h.1),
+)
+
+pub levels_go_on : (F : Forest) (d i v : ℕ) → slice_get (level F d) i ≡ Some v
+    → IsNode F v × (depth F v ≡ d) × (next_of (level F d) v ≡ slice_get (level F d) (i + 1))
+levels_go_on F d i v e =
+    let m = level_member F d i v e in
+    let s : suc i ≡ i + 1 = omega arith in
+    (m.0, m.1, next_member 0 i v (level F d) (level_ascends F d) e ∙ ap (slice_get (level F d)) s)
+
+pub levels_go_back : (F : Forest) (d : ℕ) → (last_of (level F d) ≡ slice_get (level F d) (length (level F d) - 1))
+    × ((v : ℕ) → slice_get (level F d) 0 ≡ Some v → previous_of (level F d) v ≡ None)
+    × ((i v : ℕ) → slice_get (level F d) (i + 1) ≡ Some v → previous_of (level F d) v ≡ slice_get (level F d) i)
+levels_go_back F d = (
+  last_by_number (level F d),
+  λ v e. first_member_before 0 v (level F d) (level_ascends F d) e,
+  λ i v e. let s : i + 1 ≡ suc i = omega arith in member_before None 0 i v (level F d) (level_ascends F d) (subst (λ (k : ℕ). slice_get (level F d) k ≡ Some v) s e),
+)
+
+pub levels_are_parts : (F : Forest) (d : ℕ) → length (level F d) ≤ length (nodes F)
+unfolding level
+levels_are_parts F d =
+    let b = length-filter_both (λ v. eqb (depth F v) d) (λ v. not (eqb (depth F v) d)) (λ v. refl) (nodes F) in
+    omega arith
+
+pub ruleset node_laws = (node_iff_one, level_iff_depth, levels_go_on, levels_go_back, levels_are_parts)
+
+-- ---- a walk along a level, by any handles of nodes
+take_next : (xs : List ℕ) (n x : ℕ) → slice_get xs n ≡ Some x → take (n + 1) xs ≡ take n xs ++ x ∷ []
+take_next xs n x e = take_more xs n 0 (slice_get_within xs n x e) ∙ ap (λ (y : ℕ). take n xs ++ y ∷ []) (get_or_from_slice_get xs n x 0 e)
+
+none_past : (xs : List ℕ) (n : ℕ) → slice_get xs n ≡ None → length xs ≤ n
+none_past xs n e = ⊎_elim (λ (h : n < length xs). let f = sym (slice_get-get_or xs n 0 h) ∙ e in absurd (cc)) (λ (h : length xs ≤ n). h) (cases_lt n (length xs))
+
+member_met : {H : Type 0} {place : H → ℕ} {F : Forest} {d : ℕ} {met : List H} {next : Option H} {v : H} → IsAlongLevel place F d met next → next ≡ Some v → slice_get (level F d) (length met) ≡ Some (place v)
+member_met {place = place} h e = sym h.then ∙ ap (option_map place) e
+
+pub walk_begins : {H : Type 0} {place : H → ℕ} {F : Forest} {d : ℕ} {next : Option H} → option_map place next ≡ first_of (level F d) → IsAlongLevel place F d [] next
+walk_begins e = record { first = refl; then = e }
+
+pub walk_meets_nodes : {H : Type 0} {place : H → ℕ} {F : Forest} {d : ℕ} {met : List H} {next : Option H} {v : H} → IsAlongLevel place F d met next → next ≡ Some v → IsNode F (place v)
+walk_meets_nodes {place = place} {F = F} {d = d} {met = met} {v = v} h e = (levels_go_on F d (length met) (place v) (member_met h e)).0
+
+pub walk_goes_on : {H : Type 0} {place : H → ℕ} {F : Forest} {d : ℕ} {met all : List H} {next after : Option H} {v : H} → IsAlongLevel place F d met next → next ≡ Some v
+    → all ≡ met ++ v ∷ [] → option_map place after ≡ next_of (level F (depth F (place v))) (place v) → IsAlongLevel place F d all after
+walk_goes_on {place = place} {F = F} {d = d} {met = met} {all = all} {v = v} h e a n =
+    let m = member_met h e in
+    let g = levels_go_on F d (length met) (place v) m in
+    let long : length all ≡ length met + 1 = ap (λ (vs : List _). length vs) a ∙ length_push met v in
+    record {
+      first = ap (map place) a ∙ map-append place met (v ∷ []) ∙ ap (λ (vs : List ℕ). vs ++ place v ∷ []) h.first ∙ sym (take_next (level F d) (length met) (place v) m) ∙ ap (λ (k : ℕ). take k (level F d)) (sym long);
+      then = n ∙ ap (λ (k : ℕ). next_of (level F k) (place v)) g.1 ∙ g.2 ∙ ap (slice_get (level F d)) (sym long);
+    }
+
+pub walk_comes_nearer : {H : Type 0} {place : H → ℕ} {F : Forest} {d : ℕ} {met all : List H} {next : Option H} {v : H} → IsAlongLevel place F d met next → next ≡ Some v
+    → all ≡ met ++ v ∷ [] → length (level F d) - length all < length (level F d) - length met
+walk_comes_nearer {place = place} {F = F} {d = d} {met = met} {all = all} {v = v} h e a =
+    let inside = slice_get_within (level F d) (length met) (place v) (member_met h e) in
+    let long : length all ≡ length met + 1 = ap (λ (vs : List _). length vs) a ∙ length_push met v in
+    omega arith
+
+pub walk_ends : {H : Type 0} {place : H → ℕ} {F : Forest} {d : ℕ} {met : List H} {next : Option H} → IsAlongLevel place F d met next → next ≡ None → map place met ≡ level F d
+walk_ends {place = place} {F = F} {d = d} {met = met} h e =
+    h.first ∙ take_all (length met) (level F d) (none_past (level F d) (length met) (sym h.then ∙ ap (option_map place) e))

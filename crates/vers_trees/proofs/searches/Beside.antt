@@ -1,0 +1,106 @@
+-- The places right beside one, which a search finds by their bits alone.
+use Rattle.std.proofs.Common.{◌≡◌, ◌↔◌, ℕ, ◌+◌, ◌-◌, ◌<◌, ◌≤◌, Bool, true, false, List, length, get_or, not, nat_eq, ℤ, ◌+ℤ◌, FitsSigned, to_z, of_z, Some, arith, sym, ap, ◌∙◌, neg_ℤ, pos, negsuc, ◌-ℤ◌, None, refl, zero, suc, [], ◌∷◌}
+use mir.Syntax.{w64}
+use Rattle.std.specs.Bool.{IsTrue}
+use Rattle.std.proofs.lemmas.Int.{ints, to_z-of_z}
+use Rattle.std.proofs.lemmas.Bool.{eq-eqb, eqb-true}
+use Rattle.vers_trees.specs.Excess.{excess, first_rise_after, last_rise_before, bit_step, enclosing}
+use Rattle.vers_trees.proofs.grammar.Excess.{excess_after_bit}
+use Rattle.vers_trees.proofs.searches.Searches.{after_some, after_is, before_some, before_is, before_past}
+use Rattle.vers_trees.proofs.searches.Scans.{step_fits, fits_small}
+use Rattle.std.proofs.lemmas.List.{get_or_past}
+use Rattle.vers_bits.specs.Bits.{count}
+use Rattle.vers_bits.proofs.PublicLaws.{count_both}
+use Rattle.vers_trees.specs.inside.Scans.{opened_after}
+
+-- two numbers as the machine has them are the same just where they are
+same_stored : (d r : ℤ) → FitsSigned w64 d → FitsSigned w64 r → IsTrue (nat_eq (of_z w64 d) (of_z w64 r)) → d ≡ r
+same_stored d r f g t = sym (to_z-of_z w64 d f) ∙ ap (to_z w64) (eqb-true _ _ t) ∙ to_z-of_z w64 r g
+
+stored_same : (d r : ℤ) → d ≡ r → IsTrue (nat_eq (of_z w64 d) (of_z w64 r))
+stored_same d r e = eq-eqb _ _ (ap (of_z w64) e)
+
+-- ---- right after
+next_sum : (l : List Bool) (i : ℕ) (d : ℤ) (b : Bool) → i + 1 < length l → b ≡ get_or l (i + 1) false → d ≡ bit_step b → excess l (i + 1 + 1) ≡ excess l (i + 1) +ℤ d
+next_sum l i d b h e q = excess_after_bit l (i + 1) false h ∙ ap (λ (z : ℤ). excess l (i + 1) +ℤ z) (sym (q ∙ ap bit_step e))
+
+pub right_after : (l : List Bool) (i : ℕ) (r d : ℤ) (b : Bool) → FitsSigned w64 r → i + 1 < length l → b ≡ get_or l (i + 1) false → d ≡ bit_step b → IsTrue (nat_eq (of_z w64 d) (of_z w64 r)) ↔ (first_rise_after l i r ≡ Some (i + 1))
+right_after l i r d b f h e q =
+    let s = next_sum l i d b h e q in (
+      (λ t. let same = same_stored d r (step_fits b d q) f t in
+          after_is l i r (i + 1) (record { after = omega arith; inside = h; sum = omega (arith, ints); first = λ k x y. absurd (omega arith) })),
+      (λ found. let a = (after_some l i r (i + 1) found).sum in stored_same d r (omega (arith, ints))),
+    )
+
+pub nothing_after : (l : List Bool) (i : ℕ) (r : ℤ) → length l ≤ i + 1 → IsTrue false ↔ (first_rise_after l i r ≡ Some (i + 1))
+nothing_after l i r h = ((λ t. absurd (cc)), (λ found. let a = (after_some l i r (i + 1) found).inside in absurd (omega arith)))
+
+-- ---- right before
+sum_before : (l : List Bool) (i : ℕ) (d : ℤ) (b : Bool) → 0 < i → i < length l → b ≡ get_or l (i - 1) false → d ≡ bit_step (not b) → excess l (i - 1) ≡ excess l i +ℤ d
+sum_before l i d true some h e q =
+    let s = excess_after_bit l (i - 1) false (omega arith) ∙ ap (λ (x : Bool). excess l (i - 1) +ℤ bit_step x) (sym e) in
+    let same : excess l (i - 1 + 1) ≡ excess l i = ap (excess l) (let g : i - 1 + 1 ≡ i = omega arith in g) in
+    omega (arith, ints)
+sum_before l i d false some h e q =
+    let s = excess_after_bit l (i - 1) false (omega arith) ∙ ap (λ (x : Bool). excess l (i - 1) +ℤ bit_step x) (sym e) in
+    let same : excess l (i - 1 + 1) ≡ excess l i = ap (excess l) (let g : i - 1 + 1 ≡ i = omega arith in g) in
+    omega (arith, ints)
+
+pub right_before : (l : List Bool) (i : ℕ) (r d : ℤ) (b : Bool) → FitsSigned w64 r → 0 < i → i < length l → b ≡ get_or l (i - 1) false → d ≡ bit_step (not b) → IsTrue (nat_eq (of_z w64 d) (of_z w64 r)) ↔ (last_rise_before l i r ≡ Some (i - 1))
+right_before l i r d b f some h e q =
+    let s = sum_before l i d b some h e q in (
+      (λ t. let same = same_stored d r (step_fits (not b) d q) f t in
+          before_is l i r (i - 1) (record { before = omega arith; inside = h; sum = omega (arith, ints); last = λ k x y. absurd (omega arith) })),
+      (λ found. let a = (before_some l i r (i - 1) found).sum in stored_same d r (omega (arith, ints))),
+    )
+
+-- ---- what the queries of a tree answer, in the words of the code
+pub enclosing_open : (l : List Bool) (i : ℕ) → get_or l i false ≡ true → last_rise_before l i (negsuc 0) ≡ enclosing l i
+unfolding enclosing
+enclosing_open l i e = rw e refl
+
+pub enclosing_close : (l : List Bool) (i : ℕ) → get_or l i false ≡ false → last_rise_before l i (negsuc 1) ≡ enclosing l i
+unfolding enclosing
+enclosing_close l i e = rw e refl
+
+pub enclosing_past : (l : List Bool) (i : ℕ) → length l ≤ i → None ≡ enclosing l i
+unfolding enclosing
+enclosing_past l i h = sym (before_past l i _ h)
+
+-- the ones among the first i bits, and the rest of them as zeros
+pub few_ones : (l : List Bool) (i n : ℕ) → n ≡ count true l i → n ≤ i
+few_ones l i n e = let b = count_both l i in omega arith
+
+excess_by_ones : (l : List Bool) (i n : ℕ) → i ≤ length l → n ≡ count true l i → pos n -ℤ pos (i - n) ≡ excess l i
+unfolding excess
+excess_by_ones l i n h e = let b = count_both l i in let z : i - n ≡ count false l i = omega arith in rw (z, e) refl
+
+-- a number below 2 ^ 63 is the same with a sign
+pub small_number : (n : ℕ) → n < 9223372036854775808 → FitsSigned w64 (pos n)
+small_number n h = fits_small (pos n) (omega (arith, ints)) (omega (arith, ints))
+
+pub with_sign : (n : ℕ) → n < 9223372036854775808 → to_z w64 n ≡ pos n
+with_sign n h = to_z-of_z w64 (pos n) (small_number n h)
+
+-- the ones less the rest are the excess
+pub difference_is : (l : List Bool) (i n : ℕ) → length l < 9223372036854775808 → i ≤ length l → n ≡ count true l i → FitsSigned w64 (to_z w64 n -ℤ to_z w64 (i - n)) × (to_z w64 n -ℤ to_z w64 (i - n) ≡ excess l i)
+difference_is l i n short h e =
+    let few = few_ones l i n e in
+    rw (with_sign n (omega arith), with_sign (i - n) (omega arith)) (fits_small (pos n -ℤ pos (i - n)) (omega (arith, ints)) (omega (arith, ints)), excess_by_ones l i n h e)
+
+-- its negative
+pub negated : (n : ℕ) → n < 9223372036854775808 → FitsSigned w64 (pos 0 -ℤ to_z w64 n) × (to_z w64 (of_z w64 (pos 0 -ℤ to_z w64 n)) ≡ neg_ℤ (pos n))
+negated n h =
+    let f : FitsSigned w64 (pos 0 -ℤ pos n) = fits_small (pos 0 -ℤ pos n) (omega (arith, ints)) (omega (arith, ints)) in
+    let e : pos 0 -ℤ pos n ≡ neg_ℤ (pos n) = omega (arith, ints) in
+    rw (with_sign n h) (f, to_z-of_z w64 (pos 0 -ℤ pos n) f ∙ e)
+
+-- the place after another
+pub opens_there : (l : List Bool) (p : ℕ) → get_or l (p + 1) false ≡ true → Some (p + 1) ≡ opened_after l p
+opens_there l p e = rw e refl
+
+pub closes_there : (l : List Bool) (p : ℕ) → get_or l (p + 1) false ≡ false → None ≡ opened_after l p
+closes_there l p e = rw e refl
+
+pub ends_there : (l : List Bool) (p : ℕ) → length l ≤ p + 1 → None ≡ opened_after l p
+ends_there l p h = closes_there l p (get_or_past l (p + 1) false h)

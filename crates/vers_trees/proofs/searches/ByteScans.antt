@@ -1,0 +1,185 @@
+-- Whole bytes of a scan, by the entries of their tables.
+use Rattle.std.proofs.Common.{◌≡◌, ◌≢◌, ℕ, zero, suc, ◌+◌, ◌-◌, ◌*◌, ◌/◌, ◌%◌, ◌^◌, ◌<◌, ◌≤◌, Bool, true, false, List, [], ◌∷◌, length, take, drop, ℤ, pos, negsuc, ◌+ℤ◌, ◌-ℤ◌, ◌≤ℤ◌, arith, sym, ap, subst, refl, Option, Some, None, FitsSigned, to_z, of_z, ◌∙◌}
+use mir.Syntax.{w64}
+use Rattle.std.specs.Prelude.{count_ones}
+use Rattle.std.specs.Option.{is_some}
+use Rattle.std.proofs.lemmas.Int.{ints}
+use Rattle.std.proofs.lemmas.Bool.Decides.{nat_tests}
+use Rattle.std.proofs.lemmas.Nat.{mod-pow-add}
+use Rattle.std.proofs.lemmas.List.{take-append-drop, length-take-le, length-drop, drop-take, take_all, drop_all}
+use Rattle.std.proofs.Math.Nat.{mod-eq_of_lt}
+use Rattle.vers_bits.specs.Bits.{number, part, count, limb}
+use Rattle.vers_bits.proofs.PublicLaws.{number_below, number-drop, count_limb, count_both, count_none, number-take}
+use Rattle.vers_rank.specs.Queries.{part_number_or_zero}
+use Rattle.vers_trees.specs.Excess.{excess}
+use Rattle.vers_trees.specs.Bytes.{IsByte, IsEntry, sum_along, place_along, place_in, least_in, greatest_in}
+use Rattle.vers_trees.specs.inside.Scans.{IsFirstRise, HasNoRise, IsLastRise, HasNoRiseBefore}
+use Rattle.vers_trees.proofs.searches.Scans.{Misses, forward_found, forward_more, backward_found, backward_more}
+use Rattle.vers_trees.proofs.grammar.Excess.{excess-append_left, excess-append_right}
+
+-- ---- the excess along a part
+pub length-part : (l : List Bool) (p n : ℕ) → p + n ≤ length l → length (part l p n) ≡ n
+length-part l p n h = length-take-le n (drop p l) (let e = length-drop p l in omega arith)
+
+excess-drop : (l : List Bool) (p j : ℕ) → p ≤ length l → excess l (p + j) ≡ excess l p +ℤ excess (drop p l) j
+excess-drop l p j h =
+    let e = length-take-le p l h in
+    let w = take-append-drop p l in
+    let a = ap (λ (m : List Bool). excess m (length (take p l) + j)) w in
+    let b = excess-append_right (take p l) (drop p l) j in
+    let c = excess-append_left (take p l) (drop p l) (length (take p l)) (omega arith) in
+    let d = ap (λ (m : List Bool). excess m (length (take p l))) w in
+    let f : excess l (length (take p l) + j) ≡ excess l (length (take p l)) +ℤ excess (drop p l) j = omega (arith, ints) in
+    subst (λ (n : ℕ). excess l (n + j) ≡ excess l n +ℤ excess (drop p l) j) e f
+
+pub excess-part : (l : List Bool) (p n j : ℕ) → p + n ≤ length l → j ≤ n → excess l (p + j) ≡ excess l p +ℤ excess (part l p n) j
+excess-part l p n j h i =
+    let e = length-drop p l in
+    let m = length-part l p n h in
+    let t = ap (λ (m : List Bool). excess m j) (take-append-drop n (drop p l)) in
+    let s = excess-append_left (part l p n) (drop n (drop p l)) j (omega arith) in
+    let d = excess-drop l p j (omega arith) in
+    omega (arith, ints)
+
+-- the excess of at most 64 bits, by the ones of their number
+excess-number : (bits : List Bool) (n : ℕ) → n ≤ 64 → length bits ≡ n → excess bits n ≡ pos (2 * count_ones (number bits)) -ℤ pos n
+unfolding excess limb
+excess-number bits n few e =
+    let c = count_limb bits 0 n few in
+    let z = count_none true bits in
+    let b = count_both bits n in
+    let at : count true bits (64 * 0 + n) ≡ count true bits n = ap (count true bits) (omega arith) in
+    let whole : take 64 bits ≡ bits = take_all 64 bits (omega arith) in
+    let f : limb bits 0 % 2 ^ n ≡ number bits = rw whole (mod-eq_of_lt (number_below bits n (omega arith))) in
+    let o = ap count_ones f in
+    by_ones (count true bits n) (count false bits n) (count_ones (number bits)) n (omega arith) (omega arith)
+  where
+    by_ones : (a b m n : ℕ) → a ≡ m → b + a ≡ n → pos a -ℤ pos b ≡ pos (2 * m) -ℤ pos n
+    by_ones a b m n e f = omega (arith, ints)
+
+pub total_of : (l : List Bool) (p n word : ℕ) (d : ℤ) → n ≤ 64 → p + n ≤ length l → word ≡ number (part l p n) → d ≡ pos (2 * count_ones word) -ℤ pos n → excess l (p + n) ≡ excess l p +ℤ d
+total_of l p n word d few h e q =
+    let f = excess-part l p n n h (omega arith) in
+    let t = excess-number (part l p n) n few (length-part l p n h) in
+    let o = ap count_ones e in
+    omega (arith, ints)
+
+-- ---- the word at a place, and the byte in a word
+word_is : (l : List Bool) (p n : ℕ) → n ≤ 64 → p + n ≤ length l → part_number_or_zero l p n ≡ Some (number (part l p n))
+unfolding part_number_or_zero
+word_is l p n few within = grind (arith, nat_tests)
+
+pub read_some : (l : List Bool) (p n : ℕ) (o : Option ℕ) → o ≡ part_number_or_zero l p n → n ≤ 64 → p + n ≤ length l → is_some o ≡ true
+read_some l p n o e few within = ap is_some (e ∙ word_is l p n few within)
+
+word_read : (l : List Bool) (p n : ℕ) (o : Option ℕ) (word : ℕ) → o ≡ part_number_or_zero l p n → o ≡ Some word → n ≤ 64 → p + n ≤ length l → word ≡ number (part l p n)
+word_read l p n o word e f few within = let w = word_is l p n few within in cc
+
+pub whole_word : (l : List Bool) (p n : ℕ) (o : Option ℕ) (word : ℕ) → o ≡ part_number_or_zero l p n → o ≡ Some word → n ≡ 64 → p + n ≤ length l → word ≡ number (part l p 64)
+whole_word l p n o word e f long within = word_read l p n o word e f (omega arith) within ∙ ap (λ (k : ℕ). number (part l p k)) long
+
+drop-drop : (l : List Bool) (i j : ℕ) → drop i (drop j l) ≡ drop (j + i) l
+drop-drop l i zero = ap (λ (n : ℕ). drop n l) (omega arith)
+drop-drop [] i (suc j) = drop_all i [] (omega arith) ∙ sym (drop_all (suc j + i) [] (omega arith))
+drop-drop (b ∷ l) i (suc j) = drop-drop l i j ∙ ap (λ (n : ℕ). drop n (b ∷ l)) (let g : suc (j + i) ≡ suc j + i = omega arith in g)
+
+byte_of_word : (l : List Bool) (s n m : ℕ) → m + 8 ≤ n → s + n ≤ length l → number (part l s n) / 2 ^ m % 256 ≡ number (part l (s + m) 8)
+byte_of_word l s n m h i =
+    let e : n ≡ m + (8 + (n - m - 8)) = omega arith in
+    let b : drop m (take n (drop s l)) ≡ take (8 + (n - m - 8)) (drop m (drop s l)) = ap (λ (k : ℕ). drop m (take k (drop s l))) e ∙ drop-take m (8 + (n - m - 8)) (drop s l) in
+    ap (λ (k : ℕ). k % 256) (sym (number-drop m (part l s n)) ∙ ap number (b ∙ ap (take (8 + (n - m - 8))) (drop-drop l m s))) ∙ front (n - m - 8) (drop (s + m) l)
+  where
+    front : (k : ℕ) (l : List Bool) → number (take (8 + k) l) % 2 ^ 8 ≡ number (take 8 l)
+    front k l =
+        let w : number l % 2 ^ (8 + k) ≡ number l % 2 ^ (k + 8) = ap (λ (n : ℕ). number l % 2 ^ n) (omega arith) in
+        let s = mod-pow-add (number l) k 8 in
+        let t = number-take (8 + k) l in
+        let u = number-take 8 l in
+        omega arith
+
+pub byte_read : (l : List Bool) (s n m : ℕ) (o : Option ℕ) (word : ℕ) → o ≡ part_number_or_zero l s n → o ≡ Some word → n ≤ 64 → m + 8 ≤ n → s + n ≤ length l → IsByte (part l (s + m) 8) (word / 2 ^ m % 256)
+byte_read l s n m o word e f few h i = record {
+  eight = length-part l (s + m) 8 (omega arith);
+  valued = sym (byte_of_word l s n m h i) ∙ ap (λ (w : ℕ). w / 2 ^ m % 256) (sym (word_read l s n o word e f few i));
+}
+
+-- ---- the sums met along a byte, from one of its ends: past a place, and at the end that the scan comes from
+abbrev sum_past : Bool → List Bool → ℕ → ℤ
+sum_past false l k = excess l (k + 1)
+sum_past true l k = excess l k
+
+abbrev sum_from : Bool → List Bool → ℕ → ℤ
+sum_from false l p = excess l p
+sum_from true l p = excess l (p + 8)
+
+along : (from_end : Bool) (l : List Bool) (p n : ℕ) → p + 8 ≤ length l → n < 8 → sum_past from_end l (p + place_along from_end n) ≡ sum_from from_end l p +ℤ sum_along from_end (part l p 8) (n + 1)
+along false l p n a h = ap (excess l) (let g : p + n + 1 ≡ p + (n + 1) = omega arith in g) ∙ excess-part l p 8 (n + 1) a (omega arith)
+along true l p n a h =
+    let f = excess-part l p 8 (8 - (n + 1)) a (omega arith) in
+    let e = excess-part l p 8 8 a (omega arith) in
+    let here : excess l (p + (7 - n)) ≡ excess l (p + (8 - (n + 1))) = ap (excess l) (omega arith) in
+    omega (arith, ints)
+
+turned : (from_end : Bool) (n : ℕ) → n < 8 → (place_along from_end n < 8) × (place_along from_end (place_along from_end n) ≡ n)
+turned false n h = (h, refl)
+turned true n h = (omega arith, omega arith)
+
+natural : (a : ℕ) (z : ℤ) → pos a ≤ℤ z → (n : ℕ) × (z ≡ pos n)
+natural a (pos n) h = (n, refl)
+natural a (negsuc n) h = absurd (omega (arith, ints))
+
+-- where none of the sums of an entry is t
+missed : (from_end : Bool) (l : List Bool) (p entry : ℕ) (t : ℤ) → p + 8 ≤ length l → IsEntry from_end (part l p 8) entry → ((x : ℕ) → least_in entry ≤ x → x ≤ greatest_in entry → sum_from from_end l p +ℤ (pos x -ℤ pos 8) ≢ t) → Misses (sum_past from_end l) p (p + 8) t
+missed from_end l p entry t a e none k y z q =
+    let n : ℕ = place_along from_end (k - p) in
+    let m = turned from_end (k - p) (omega arith) in
+    let s = along from_end l p n a m.0 in
+    let m1 = m.1 in
+    let here : sum_past from_end l (p + place_along from_end n) ≡ sum_past from_end l k = ap (sum_past from_end l) (omega arith) in
+    let lo = e.low n m.0 in let hi = e.high n m.0 in
+    let x = natural (least_in entry) (sum_along from_end (part l p 8) (n + 1) +ℤ pos 8) lo in let x1 = x.1 in
+    none x.0 (omega (arith, ints)) (omega (arith, ints)) (omega (arith, ints))
+
+-- where one of them is, at the place that the entry has for it
+met : (from_end : Bool) (l : List Bool) (p entry x : ℕ) (t : ℤ) → p + 8 ≤ length l → IsEntry from_end (part l p 8) entry → least_in entry ≤ x → x ≤ greatest_in entry → sum_from from_end l p +ℤ (pos x -ℤ pos 8) ≡ t
+    → (place_in entry x < 8) × (sum_past from_end l (p + place_in entry x) ≡ t) × ((k : ℕ) → p ≤ k → k < p + 8 → place_along from_end (k - p) < place_along from_end (place_in entry x) → sum_past from_end l k ≢ t)
+met from_end l p entry x t a e u v z =
+    let m = e.met x u v in
+    let w = turned from_end m.step m.within in let w0 = w.0 in let place = m.place in
+    let back : place_along from_end (place_in entry x) ≡ m.step = ap (place_along from_end) m.place ∙ w.1 in
+    let s = along from_end l p m.step a m.within in let sum = m.sum in
+    let here : sum_past from_end l (p + place_along from_end m.step) ≡ sum_past from_end l (p + place_in entry x) = ap (λ (n : ℕ). sum_past from_end l (p + n)) (sym m.place) in
+    (omega arith, omega (arith, ints), λ k b c i q.
+    let v = turned from_end (k - p) (omega arith) in let v1 = v.1 in
+    let f = along from_end l p (place_along from_end (k - p)) a v.0 in
+    let at : sum_past from_end l (p + place_along from_end (place_along from_end (k - p))) ≡ sum_past from_end l k = ap (sum_past from_end l) (omega arith) in
+    m.first (place_along from_end (k - p)) (omega arith) (omega (arith, ints)))
+
+pub entry_ordered : (from_end : Bool) (bits : List Bool) (entry : ℕ) → IsEntry from_end bits entry → least_in entry ≤ greatest_in entry
+entry_ordered from_end bits entry e = let a = e.low 0 (omega arith) in let b = e.high 0 (omega arith) in omega (arith, ints)
+
+-- ---- forwards
+pub forward_byte_found : (l : List Bool) (from p end : ℕ) (r rise : ℤ) (entry x : ℕ) → HasNoRise l from p r rise → from ≤ p → p + 8 ≤ end → end ≤ length l → IsEntry false (part l p 8) entry → least_in entry ≤ x → x ≤ greatest_in entry → rise +ℤ (pos x -ℤ pos 8) ≡ r → IsFirstRise l from end r (p + place_in entry x)
+forward_byte_found l from p end r rise entry x h o a b e u v z =
+    let ri = h.risen in
+    let m = met false l p entry x (excess l from +ℤ r) (omega arith) e u v (omega (arith, ints)) in let m0 = m.0 in let m1 = m.1 in
+    forward_found l from p (p + place_in entry x) end r rise (pos x -ℤ pos 8) h (omega arith) (omega arith) (λ k y w. m.2 k y (omega arith) (omega arith)) (omega (arith, ints)) z
+
+pub forward_byte : (l : List Bool) (from p : ℕ) (r rise d : ℤ) (entry byte : ℕ) → HasNoRise l from p r rise → length l < 2 ^ 63 → from ≤ p → p + 8 ≤ length l → IsByte (part l p 8) byte → IsEntry false (part l p 8) entry
+    → ((x : ℕ) → least_in entry ≤ x → x ≤ greatest_in entry → rise +ℤ (pos x -ℤ pos 8) ≢ r) → d ≡ pos (2 * count_ones byte) -ℤ pos 8 → FitsSigned w64 (rise +ℤ to_z w64 (of_z w64 d)) × HasNoRise l from (p + 8) r (to_z w64 (of_z w64 (rise +ℤ to_z w64 (of_z w64 d))))
+forward_byte l from p r rise d entry byte h short o a is e none q =
+    let ri = h.risen in
+    forward_more l from p (p + 8) r rise d h short o (omega arith) a (total_of l p 8 byte d (omega arith) a (sym is.valued) q) (missed false l p entry _ a e (λ x u v w. none x u v (omega (arith, ints))))
+
+-- ---- backwards
+pub backward_byte_found : (l : List Bool) (from p end : ℕ) (r rise : ℤ) (entry x : ℕ) → HasNoRiseBefore l (p + 8) end r rise → from ≤ p → p + 8 ≤ end → end ≤ length l → IsEntry true (part l p 8) entry → least_in entry ≤ x → x ≤ greatest_in entry → rise +ℤ (pos x -ℤ pos 8) ≡ r → IsLastRise l from end r (p + place_in entry x)
+backward_byte_found l from p end r rise entry x h o a b e u v z =
+    let ri = h.risen in
+    let m = met true l p entry x (excess l end +ℤ r) (omega arith) e u v (omega (arith, ints)) in let m0 = m.0 in let m1 = m.1 in
+    backward_found l from (p + place_in entry x) (p + 8) end r rise (pos x -ℤ pos 8) h (omega arith) (omega arith) (λ k y w. m.2 k (omega arith) w (omega arith)) (omega (arith, ints)) z
+
+pub backward_byte : (l : List Bool) (p end : ℕ) (r rise d : ℤ) (entry byte : ℕ) → HasNoRiseBefore l (p + 8) end r rise → length l < 2 ^ 63 → p + 8 ≤ end → end ≤ length l → IsByte (part l p 8) byte → IsEntry true (part l p 8) entry
+    → ((x : ℕ) → least_in entry ≤ x → x ≤ greatest_in entry → rise +ℤ (pos x -ℤ pos 8) ≢ r) → d ≡ pos (2 * count_ones byte) -ℤ pos 8 → FitsSigned w64 (rise -ℤ to_z w64 (of_z w64 d)) × HasNoRiseBefore l p end r (to_z w64 (of_z w64 (rise -ℤ to_z w64 (of_z w64 d))))
+backward_byte l p end r rise d entry byte h short o a is e none q =
+    let ri = h.risen in
+    backward_more l p (p + 8) end r rise d h short (omega arith) o a (total_of l p 8 byte d (omega arith) (omega arith) (sym is.valued) q) (missed true l p entry _ (omega arith) e (λ x u v w. none x u v (omega (arith, ints))))

@@ -1,0 +1,212 @@
+-- Numbers by their octal digits, and what an entry of a table of bytes is packed of.
+use Rattle.std.proofs.Common.{◌≡◌, ℕ, zero, suc, ◌+◌, ◌-◌, ◌*◌, ◌/◌, ◌%◌, ◌^◌, ◌<◌, ◌≤◌, List, [], ◌∷◌, length, drop, get_or, arith, ap, sym, ◌∙◌, ◌≢◌, ◌⊎◌, inl, inr, Bool, true, false, ℤ, pos, negsuc, ◌+ℤ◌, ◌-ℤ◌, ◌≤ℤ◌, cond, min, max, ⊎_elim, subst, refl, replicate, nat_eq}
+use Rattle.std.proofs.Math.Nat.{pow-suc, pow-le-pow_right}
+use Rattle.std.proofs.Math.Seq.{drop-cons}
+use Rattle.std.proofs.lemmas.List.{length-drop, get_or-drop, get_or-set_same, get_or-set_other, length-set}
+use Rattle.std.proofs.lemmas.Nat.{shr-shr}
+use Rattle.vers_trees.specs.Bytes.{greatest_in, least_in, place_in, IsByte, IsEntry, IsFirstMet, sum_along, place_along}
+use Rattle.vers_trees.specs.inside.Bytes.{octal, AreEntries, HasMet, step_along}
+use Rattle.std.proofs.Math.ListN.{set}
+use Rattle.std.specs.Int.{bit_at}
+use Rattle.std.proofs.lemmas.Int.{ints}
+use Rattle.std.proofs.lemmas.Bool.{cases_lt, cases_order}
+use Rattle.vers_bits.specs.Bits.{bit_value}
+use Rattle.vers_bits.proofs.PublicLaws.{bit_at-number}
+use Rattle.vers_trees.specs.Excess.{excess, bit_step}
+use Rattle.vers_trees.proofs.grammar.Excess.{excess-zero, excess_after_bit}
+
+-- each of the digits is below 8
+abbrev pub AreOctal : List ℕ → Type 0
+AreOctal ds = (x : ℕ) → get_or ds x 7 < 8
+
+octal-lt : (ds : List ℕ) → AreOctal ds → octal ds < 8 ^ length ds
+octal-lt [] h = omega arith
+octal-lt (d ∷ ds) h = let z = h 0 in let ih = octal-lt ds (λ x. h (suc x)) in let p = pow-suc 8 (length ds) in omega arith
+
+octal_rest : (ds : List ℕ) (i : ℕ) → AreOctal ds → AreOctal (drop i ds)
+octal_rest ds i h x = rw (get_or-drop i ds x 7) (h (i + x))
+
+-- of 17 digits the number is below 2 ^ 51, whatever number of the lowest is left out
+pub octal_small : (ds : List ℕ) (i : ℕ) → length ds ≡ 17 → AreOctal ds → octal (drop i ds) < 2 ^ 51
+octal_small ds i e h =
+    let a = octal-lt (drop i ds) (octal_rest ds i h) in
+    let l = length-drop i ds in
+    let m : 8 ^ length (drop i ds) ≤ 8 ^ 17 = pow-le-pow_right {n = 8} (let z : 0 < 8 = omega arith in z) {i = length (drop i ds)} {j = 17} (omega arith) in
+    omega arith
+
+-- the digit before
+pub octal_more : (ds : List ℕ) (x number d : ℕ) → 0 < x → x ≤ length ds → number ≡ octal (drop x ds) → 8 * number + get_or ds (x - 1) d ≡ octal (drop (x - 1) ds)
+octal_more ds x number d some h e =
+    let c = ap octal (drop-cons ds (x - 1) d (omega arith)) in
+    let g : octal (drop (suc (x - 1)) ds) ≡ octal (drop x ds) = ap (λ (n : ℕ). octal (drop n ds)) (let s : suc (x - 1) ≡ x = omega arith in s) in
+    omega arith
+
+-- digit x
+pub octal-digit : (ds : List ℕ) (x : ℕ) → AreOctal ds → x < length ds → octal ds / 2 ^ (3 * x) % 8 ≡ get_or ds x 7
+octal-digit [] x h i = absurd (omega arith)
+octal-digit (d ∷ ds) zero h i = let z = h 0 in omega arith
+octal-digit (d ∷ ds) (suc x) h i =
+    let z = h 0 in
+    let ih = octal-digit ds x (λ y. h (suc y)) (omega arith) in
+    let e : 3 * suc x ≡ 3 + 3 * x = omega arith in
+    let s = shr-shr (octal (d ∷ ds)) 3 (3 * x) in
+    let t : octal (d ∷ ds) / 2 ^ 3 ≡ octal ds = omega arith in
+    ap (λ (n : ℕ). octal (d ∷ ds) / 2 ^ n % 8) e ∙ ap (λ (n : ℕ). n % 8) (sym s) ∙ ap (λ (n : ℕ). n / 2 ^ (3 * x) % 8) t ∙ ih
+
+pub entry_place : (entry : ℕ) (ds : List ℕ) (least greatest x : ℕ) → entry ≡ 1024 * octal ds + 32 * least + greatest → least < 32 → greatest < 32 → AreOctal ds → x < length ds → place_in entry x ≡ get_or ds x 7
+entry_place entry ds least greatest x e a b h i =
+    let t : entry / 2 ^ 10 ≡ octal ds = omega arith in
+    ap (λ (n : ℕ). n % 8) (sym (shr-shr entry 10 (3 * x))) ∙ ap (λ (n : ℕ). n / 2 ^ (3 * x) % 8) t ∙ octal-digit ds x h i
+
+-- ---- how the entry of a byte is met, step by step along its bits
+no_sum : (from_end : Bool) (bits : List Bool) → sum_along from_end bits 0 ≡ pos 0
+no_sum false bits = excess-zero bits
+no_sum true bits = omega (arith, ints)
+
+-- before the first step
+pub met_nothing : (from_end : Bool) (bits : List Bool) (places : List ℕ) → ((x : ℕ) → get_or places x 7 ≡ 7) → HasMet from_end bits 0 8 9 7 places
+met_nothing from_end bits places all =
+    let z = no_sum from_end bits in
+    record {
+      sum = omega (arith, ints);
+      around = inl (omega arith, omega arith, omega arith, omega arith);
+      high = λ k h. absurd (omega arith);
+      low = λ k h. absurd (omega arith);
+      met = λ x a b. absurd (omega arith);
+      absent = λ x o. all x;
+    }
+
+-- a step at a bit adds to the sum
+step_by : (from_end b : Bool) → step_along from_end b ≡ cond from_end (pos 0 -ℤ bit_step b) (bit_step b)
+step_by true true = refl
+step_by true false = refl
+step_by false true = refl
+step_by false false = refl
+
+next_sum : (from_end : Bool) (bits : List Bool) (n : ℕ) → length bits ≡ 8 → n < 8 → sum_along from_end bits (n + 1) ≡ sum_along from_end bits n +ℤ step_along from_end (get_or bits (place_along from_end n) false)
+next_sum false bits n e h = let s = excess_after_bit bits n false (omega arith) in let t = step_by false (get_or bits n false) in omega (arith, ints)
+next_sum true bits n e h =
+    let s = excess_after_bit bits (7 - n) false (omega arith) in let t = step_by true (get_or bits (7 - n) false) in
+    let a : excess bits (7 - n + 1) ≡ excess bits (8 - n) = ap (excess bits) (omega arith) in
+    let b : excess bits (8 - (n + 1)) ≡ excess bits (7 - n) = ap (excess bits) (omega arith) in
+    omega (arith, ints)
+
+-- the bit that the code takes
+pub bit_taken : (bits : List Bool) (byte place : ℕ) (b : Bool) → IsByte bits byte → bit_at byte place ≡ bit_value b → get_or bits place false ≡ b
+bit_taken bits byte place b is e = go (get_or bits place false) b (sym (bit_at-number bits place) ∙ ap (λ (n : ℕ). bit_at n place) is.valued ∙ e)
+  where
+    go : (a b : Bool) → bit_value a ≡ bit_value b → a ≡ b
+    go true true e = refl
+    go false false e = refl
+    go true false e = absurd (omega arith)
+    go false true e = absurd (omega arith)
+
+by_one : (from_end b : Bool) → (step_along from_end b ≡ pos 1) ⊎ (step_along from_end b ≡ negsuc 0)
+by_one true true = inr refl
+by_one true false = inl refl
+by_one false true = inl refl
+by_one false false = inr refl
+
+-- what was met before stays so
+later : (from_end : Bool) (bits : List Bool) (n x p : ℕ) → IsFirstMet from_end bits n x p → IsFirstMet from_end bits (n + 1) x p
+later from_end bits n x p m = let w = m.within in record { step = m.step; within = omega arith; sum = m.sum; first = m.first; place = m.place }
+
+pub up_or_down : (from_end b : Bool) (value next : ℕ) → pos next ≡ pos value +ℤ step_along from_end b → (next ≡ value + 1) ⊎ (next + 1 ≡ value)
+up_or_down from_end b value next u = ⊎_elim
+    (λ (e : step_along from_end b ≡ pos 1). inl (omega (arith, ints)))
+    (λ (e : step_along from_end b ≡ negsuc 0). inr (omega (arith, ints)))
+    (by_one from_end b)
+
+-- a bit as the code tests it
+bit_at-is : (n i : ℕ) → bit_at n i ≡ n / 2 ^ i % 2
+bit_at-is n i = refl
+
+tested : (m : ℕ) → m < 2 → m ≡ bit_value (nat_eq m 1)
+tested zero h = refl
+tested (suc zero) h = refl
+tested (suc (suc m)) h = absurd (omega arith)
+
+pub place_small : (from_end : Bool) (n : ℕ) → n < 8 → place_along from_end n < 8
+place_small true n h = omega arith
+place_small false n h = h
+
+-- what the code has after a step: the bounds, and the places
+pub record IsNoted (least greatest next p : ℕ) (places : List ℕ) (least' greatest' : ℕ) (places' : List ℕ) : Type 0 where
+  pub lower : least' ≡ min least next
+  pub upper : greatest' ≡ max greatest next
+  pub again : least ≤ next → next ≤ greatest → places' ≡ places
+  pub first : (next < least) ⊎ (greatest < next) → places' ≡ set places next p
+
+-- the place of a sum after a step: that of the step, where the sum is met for the first time, and else what it was
+noted_at : (least greatest next p : ℕ) (places : List ℕ) (least' greatest' : ℕ) (places' : List ℕ) → IsNoted least greatest next p places least' greatest' places' → next < length places → (x : ℕ)
+    → (((next < least) ⊎ (greatest < next)) × (next ≡ x) × (get_or places' x 7 ≡ p)) ⊎ ((((least ≤ next) × (next ≤ greatest)) ⊎ (next ≢ x)) × (get_or places' x 7 ≡ get_or places x 7))
+noted_at least greatest next p places least' greatest' places' w inside x = ⊎_elim
+    (λ (a : next < least). first (inl a))
+    (λ (a : least ≤ next). ⊎_elim (λ (b : greatest < next). first (inr b)) (λ (b : next ≤ greatest). inr (inl (a, b), rw (w.again a b) refl)) (cases_lt greatest next))
+    (cases_lt next least)
+  where
+    first : (next < least) ⊎ (greatest < next) → (((next < least) ⊎ (greatest < next)) × (next ≡ x) × (get_or places' x 7 ≡ p)) ⊎ ((((least ≤ next) × (next ≤ greatest)) ⊎ (next ≢ x)) × (get_or places' x 7 ≡ get_or places x 7))
+    first o = ⊎_elim
+        (λ (e : next ≡ x). inl (o, e, rw (w.first o) (subst (λ (z : ℕ). get_or (set places next p) z 7 ≡ p) e (get_or-set_same places next p 7 inside))))
+        (λ (u : (next < x) ⊎ (x < next)). let ne : next ≢ x = λ e. omega (arith, u) in inr (inr ne, rw (w.first o) (get_or-set_other places next x p 7 (λ e. ne (sym e)))))
+        (cases_order next x)
+
+pub met_more : (from_end : Bool) (bits : List Bool) (byte n value least greatest next place : ℕ) (places : List ℕ) (least' greatest' : ℕ) (places' : List ℕ) → IsByte bits byte → n < 8 → HasMet from_end bits n value least greatest places
+    → place ≡ place_along from_end n → pos next ≡ pos value +ℤ step_along from_end (nat_eq (byte / 2 ^ place % 2) 1) → next < length places → IsNoted least greatest next place places least' greatest' places'
+    → HasMet from_end bits (n + 1) next least' greatest' places'
+met_more from_end bits byte n value least greatest next place places least' greatest' places' is h m e u inside w =
+    let bit : get_or bits (place_along from_end n) false ≡ nat_eq (byte / 2 ^ place % 2) 1 =
+    bit_taken bits byte (place_along from_end n) _ is (subst (λ (q : ℕ). bit_at byte q ≡ bit_value (nat_eq (byte / 2 ^ place % 2) 1)) e (bit_at-is byte place ∙ tested (byte / 2 ^ place % 2) (omega arith))) in
+    let s = next_sum from_end bits n is.eight h ∙ ap (λ (c : Bool). sum_along from_end bits n +ℤ step_along from_end c) bit in
+    let was = m.sum in let lo = w.lower in let hi = w.upper in
+    let sum : pos next ≡ sum_along from_end bits (n + 1) +ℤ pos 8 = omega (arith, ints) in
+    let near = up_or_down from_end _ value next u in
+    let last = λ (k : ℕ) (y : k < n + 1) (z : n ≤ k). ap (sum_along from_end bits) (let g : k + 1 ≡ n + 1 = omega arith in g) in
+    record {
+      sum = sum;
+      around = inr (omega arith, omega arith);
+      high = λ k y. ⊎_elim (λ (z : k < n). let o = m.high k z in omega (arith, ints)) (λ (z : n ≤ k). let o = last k y z in omega (arith, ints)) (cases_lt k n);
+      low = λ k y. ⊎_elim (λ (z : k < n). let o = m.low k z in omega (arith, ints)) (λ (z : n ≤ k). let o = last k y z in omega (arith, ints)) (cases_lt k n);
+      met = λ x a c. ⊎_elim
+          (λ (q : ((next < least) ⊎ (greatest < next)) × (next ≡ x) × (get_or places' x 7 ≡ place)).
+          let at = q.1 in
+          record { step = n; within = omega arith; sum = omega (arith, ints); first = λ k y z. let l = m.low k y in let g = m.high k y in omega (arith, ints, q.0); place = q.2 ∙ e })
+          (λ (q : (((least ≤ next) × (next ≤ greatest)) ⊎ (next ≢ x)) × (get_or places' x 7 ≡ get_or places x 7)).
+          rw q.1 (later from_end bits n x (get_or places x 7) (m.met x (omega (arith, m.around, near, q.0)) (omega (arith, m.around, near, q.0)))))
+          (noted_at least greatest next place places least' greatest' places' w inside x);
+      absent = λ x o. ⊎_elim
+          (λ (q : ((next < least) ⊎ (greatest < next)) × (next ≡ x) × (get_or places' x 7 ≡ place)). let at = q.1 in absurd (omega (arith, o)))
+          (λ (q : (((least ≤ next) × (next ≤ greatest)) ⊎ (next ≢ x)) × (get_or places' x 7 ≡ get_or places x 7)). q.1 ∙ m.absent x (⊎_elim (λ (z : x < least'). inl (omega arith)) (λ (z : greatest' < x). inr (omega arith)) o))
+          (noted_at least greatest next place places least' greatest' places' w inside x);
+    }
+
+-- the places stay digits
+pub few_more : (least greatest next p : ℕ) (places : List ℕ) (least' greatest' : ℕ) (places' : List ℕ) → IsNoted least greatest next p places least' greatest' places' → next < length places → p < 8 → ((x : ℕ) → get_or places x 7 < 8) → (x : ℕ) → get_or places' x 7 < 8
+few_more least greatest next p places least' greatest' places' w inside small old x = let o = old x in ⊎_elim
+    (λ (q : ((next < least) ⊎ (greatest < next)) × (next ≡ x) × (get_or places' x 7 ≡ p)). let e = q.2 in omega arith)
+    (λ (q : (((least ≤ next) × (next ≤ greatest)) ⊎ (next ≢ x)) × (get_or places' x 7 ≡ get_or places x 7)). let e = q.1 in omega arith)
+    (noted_at least greatest next p places least' greatest' places' w inside x)
+
+pub as_many : (least greatest next p : ℕ) (places : List ℕ) (least' greatest' : ℕ) (places' : List ℕ) → IsNoted least greatest next p places least' greatest' places' → length places' ≡ length places
+as_many least greatest next p places least' greatest' places' w = ⊎_elim
+    (λ (a : next < least). ap length (w.first (inl a)) ∙ length-set places next p)
+    (λ (a : least ≤ next). ⊎_elim (λ (b : greatest < next). ap length (w.first (inr b)) ∙ length-set places next p) (λ (b : next ≤ greatest). ap length (w.again a b)) (cases_lt greatest next))
+    (cases_lt next least)
+
+-- no place met
+abbrev pub all_seven : ℕ → List ℕ
+all_seven n = replicate n 7
+
+pub sevens : (n x : ℕ) → get_or (all_seven n) x 7 ≡ 7
+sevens zero x = refl
+sevens (suc n) zero = refl
+sevens (suc n) (suc x) = sevens n x
+
+-- ---- tables
+pub entries_more : (from_end : Bool) (n : ℕ) (entries : List ℕ) (entry : ℕ) → n < length entries → AreEntries from_end n entries → ((bits : List Bool) → IsByte bits n → IsEntry from_end bits entry) → AreEntries from_end (n + 1) (set entries n entry)
+entries_more from_end n entries entry inside old new byte h bits is = ⊎_elim
+    (λ (w : byte < n). subst (IsEntry from_end bits) (sym (get_or-set_other entries n byte entry 0 (λ e. omega arith))) (old byte w bits is))
+    (λ (w : n ≤ byte).
+    let e : n ≡ byte = omega arith in
+    subst (λ (b : ℕ). IsEntry from_end bits (get_or (set entries n entry) b 0)) e (subst (IsEntry from_end bits) (sym (get_or-set_same entries n entry 0 inside)) (new bits (subst (IsByte bits) (sym e) is))))
+    (cases_lt byte n)

@@ -1,0 +1,148 @@
+-- Scans over the bits of a part, by stretches: a bit, a byte or a word at a time.
+use Rattle.std.proofs.Common.{◌≡◌, ◌≢◌, ℕ, zero, suc, ◌+◌, ◌-◌, ◌^◌, ◌<◌, ◌≤◌, ◌⊎◌, inl, inr, Bool, true, false, List, length, get_or, ℤ, pos, negsuc, ◌+ℤ◌, ◌-ℤ◌, ◌≤ℤ◌, ◌<ℤ◌, FitsSigned, to_z, of_z, arith, ⊎_elim, sym, ap, ◌∙◌}
+use mir.Syntax.{w64}
+use Rattle.std.specs.Int.{int_min, int_max}
+use Rattle.std.proofs.lemmas.Int.{ints, clamps, by_lt_z, to_z-of_z}
+use Rattle.std.proofs.lemmas.Bool.{cases_lt}
+use Rattle.vers_tally.specs.Reads.{Reads, AddsAtMost}
+use Rattle.vers_tally.proofs.PublicLaws.{adds_then}
+use Rattle.vers_rank.specs.Queries.{get_reads}
+use Rattle.vers_trees.specs.declared.trees.bp.min_max.Node.{Node}
+use Rattle.vers_trees.specs.Excess.{excess, bit_step}
+use Rattle.vers_trees.specs.inside.MinMax.{IsPart}
+use Rattle.vers_trees.specs.inside.Scans.{IsFirstRise, HasNoRise, IsLastRise, HasNoRiseBefore, scan_reads}
+use Rattle.vers_trees.proofs.grammar.Excess.{excess-is_walk, excess_after_bit}
+
+-- the excess changes by at most as much as there are places between
+near_by : (l : List Bool) (i d : ℕ) → (excess l (i + d) ≤ℤ (excess l i +ℤ pos d)) × (excess l i ≤ℤ (excess l (i + d) +ℤ pos d))
+near_by l i zero =
+    let e : excess l (i + 0) ≡ excess l i = ap (excess l) (omega arith) in
+    (omega (arith, ints), omega (arith, ints))
+near_by l i (suc d) =
+    let h = near_by l i d in let a = h.0 in let b = h.1 in
+    let e : excess l (i + suc d) ≡ excess l (i + d + 1) = ap (excess l) (omega arith) in
+    let u = (excess-is_walk l).up (i + d) in
+    let v = (excess-is_walk l).down (i + d) in
+    (omega (arith, ints), omega (arith, ints))
+
+pub rise_within : (l : List Bool) (i j n : ℕ) (z : ℤ) → excess l j ≡ excess l i +ℤ z → j ≤ i + n → i ≤ j + n → (z ≤ℤ pos n) × (negsuc n ≤ℤ z)
+rise_within l i j n z e a b = ⊎_elim
+    (λ (h : i < j). let w = near_by l i (j - i) in let w0 = w.0 in let w1 = w.1 in let s : excess l (i + (j - i)) ≡ excess l j = ap (excess l) (omega arith) in (omega (arith, ints), omega (arith, ints)))
+    (λ (h : j ≤ i). let w = near_by l j (i - j) in let w0 = w.0 in let w1 = w.1 in let s : excess l (j + (i - j)) ≡ excess l i = ap (excess l) (omega arith) in (omega (arith, ints), omega (arith, ints)))
+    (cases_lt i j)
+
+pub fits_small : (z : ℤ) → z ≤ℤ pos (2 ^ 63 - 1) → negsuc (2 ^ 63 - 1) ≤ℤ z → FitsSigned w64 z
+fits_small (pos n) a b = record { sfits = omega (arith, ints) }
+fits_small (negsuc n) a b = record { sfits = omega (arith, ints) }
+
+-- between two places of a list of fewer than 2^63 bits the excess rises by a number that fits
+pub rise_fits : (l : List Bool) (i j : ℕ) (z : ℤ) → length l < 2 ^ 63 → i ≤ length l → j ≤ length l → excess l j ≡ excess l i +ℤ z → FitsSigned w64 z
+rise_fits l i j z short a b e =
+    let w = rise_within l i j (length l) z e (omega arith) (omega arith) in let w0 = w.0 in let w1 = w.1 in
+    fits_small z (omega (arith, ints)) (omega (arith, ints))
+
+pub rise_is : (l : List Bool) (i j : ℕ) (z : ℤ) → length l < 2 ^ 63 → i ≤ length l → j ≤ length l → excess l j ≡ excess l i +ℤ z → to_z w64 (of_z w64 z) ≡ z
+rise_is l i j z short a b e = to_z-of_z w64 z (rise_fits l i j z short a b e)
+
+pub step_fits : (b : Bool) (d : ℤ) → d ≡ bit_step b → FitsSigned w64 d
+step_fits true d e = rw e (fits_small (pos 1) (omega (arith, ints)) (omega (arith, ints)))
+step_fits false d e = rw e (fits_small (negsuc 0) (omega (arith, ints)) (omega (arith, ints)))
+
+-- what is said of a number that fits is said of what the machine has of it
+pub as_stored : (P : ℤ → Type 0) (z y : ℤ) → z ≡ y → FitsSigned w64 y → P y → FitsSigned w64 z × P (to_z w64 (of_z w64 z))
+as_stored P z y e f p = rw e (f, rw (to_z-of_z w64 y f) p)
+
+-- what the machine has of a sum or a difference that was tested
+pub rest_is : (f : ℤ → ℤ) (x b : ℤ) → FitsSigned w64 x → FitsSigned w64 (f (to_z w64 (of_z w64 x))) × (b ≡ f (to_z w64 (of_z w64 x))) → to_z w64 (of_z w64 b) ≡ f x
+rest_is f x b h s = rw s.1 (to_z-of_z w64 _ s.0 ∙ ap f (to_z-of_z w64 x h))
+
+-- ---- stretches: none of the places from a on and before b has the sum t
+abbrev pub Misses : (ℕ → ℤ) → ℕ → ℕ → ℤ → Type 0
+Misses sum a b t = (k : ℕ) → a ≤ k → k < b → sum k ≢ t
+
+joined : (sum : ℕ → ℤ) (a b c : ℕ) (t : ℤ) → Misses sum a b t → Misses sum b c t → Misses sum a c t
+joined sum a b c t p q k x y = ⊎_elim (λ (w : k < b). p k x w) (λ (w : b ≤ k). q k w y) (cases_lt k b)
+
+-- before the first bit
+pub not_begun : (l : List Bool) (from : ℕ) (r : ℤ) → HasNoRise l from from r (pos 0)
+not_begun l from r = record { risen = omega (arith, ints); none = λ k a b. absurd (omega arith) }
+
+pub not_begun_back : (l : List Bool) (end : ℕ) (r : ℤ) → HasNoRiseBefore l end end r (pos 0)
+not_begun_back l end r = record { risen = omega (arith, ints); none = λ k a b. absurd (omega arith) }
+
+-- past a stretch on which the excess rises by d
+pub forward_found : (l : List Bool) (from p place end : ℕ) (r rise x : ℤ) → HasNoRise l from p r rise → from ≤ place → place < end → Misses (λ k. excess l (k + 1)) p place (excess l from +ℤ r) → excess l (place + 1) ≡ excess l p +ℤ x → rise +ℤ x ≡ r → IsFirstRise l from end r place
+forward_found l from p place end r rise x h o i m e z =
+    let ri = h.risen in
+    record { low = o; inside = i; sum = omega (arith, ints); first = joined (λ k. excess l (k + 1)) from p place _ h.none m }
+
+pub forward_more : (l : List Bool) (from p q : ℕ) (r rise d : ℤ) → HasNoRise l from p r rise → length l < 2 ^ 63 → from ≤ p → p ≤ q → q ≤ length l → excess l q ≡ excess l p +ℤ d → Misses (λ k. excess l (k + 1)) p q (excess l from +ℤ r) → FitsSigned w64 (rise +ℤ to_z w64 (of_z w64 d)) × HasNoRise l from q r (to_z w64 (of_z w64 (rise +ℤ to_z w64 (of_z w64 d))))
+forward_more l from p q r rise d h short o i j e m =
+    let ri = h.risen in
+    let sum : excess l q ≡ excess l from +ℤ (rise +ℤ d) = omega (arith, ints) in
+    as_stored (HasNoRise l from q r) _ (rise +ℤ d) (ap (λ (z : ℤ). rise +ℤ z) (rise_is l p q d short (omega arith) j e)) (rise_fits l from q _ short (omega arith) j sum) (record { risen = sum; none = joined (λ k. excess l (k + 1)) from p q _ h.none m })
+
+pub backward_found : (l : List Bool) (from place q end : ℕ) (r rise x : ℤ) → HasNoRiseBefore l q end r rise → from ≤ place → place < end → Misses (excess l) (place + 1) q (excess l end +ℤ r) → excess l place ≡ excess l q +ℤ x → rise +ℤ x ≡ r → IsLastRise l from end r place
+backward_found l from place q end r rise x h o i m e z =
+    let ri = h.risen in
+    record { low = o; inside = i; sum = omega (arith, ints); last = λ k a b. joined (excess l) (place + 1) q end _ m h.none k (omega arith) b }
+
+pub backward_more : (l : List Bool) (p q end : ℕ) (r rise d : ℤ) → HasNoRiseBefore l q end r rise → length l < 2 ^ 63 → p ≤ q → q ≤ end → end ≤ length l → excess l q ≡ excess l p +ℤ d → Misses (excess l) p q (excess l end +ℤ r) → FitsSigned w64 (rise -ℤ to_z w64 (of_z w64 d)) × HasNoRiseBefore l p end r (to_z w64 (of_z w64 (rise -ℤ to_z w64 (of_z w64 d))))
+backward_more l p q end r rise d h short o i j e m =
+    let ri = h.risen in
+    let sum : excess l p ≡ excess l end +ℤ (rise -ℤ d) = omega (arith, ints) in
+    as_stored (λ z. HasNoRiseBefore l p end r z) _ (rise -ℤ d) (ap (λ (z : ℤ). rise -ℤ z) (rise_is l p q d short (omega arith) (omega arith) e)) (rise_fits l end p _ short j (omega arith) sum) (record { risen = sum; none = joined (excess l) p q end _ m h.none })
+
+-- past one bit
+pub bit_is : (l : List Bool) (i j : ℕ) (b : Bool) (d : ℤ) → j ≡ i + 1 → i < length l → b ≡ get_or l i false → d ≡ bit_step b → excess l j ≡ excess l i +ℤ d
+bit_is l i j b d n h e q = ap (excess l) n ∙ excess_after_bit l i false h ∙ ap (λ (z : ℤ). excess l i +ℤ z) (sym (q ∙ ap bit_step e))
+
+pub forward_bit : (l : List Bool) (from p : ℕ) (r rise d : ℤ) → HasNoRise l from p r rise → length l < 2 ^ 63 → from ≤ p → p < length l → excess l (p + 1) ≡ excess l p +ℤ d → rise +ℤ d ≢ r → HasNoRise l from (p + 1) r (to_z w64 (of_z w64 (rise +ℤ to_z w64 (of_z w64 d))))
+forward_bit l from p r rise d h short o i e ne =
+    let ri = h.risen in
+    let m : Misses (λ k. excess l (k + 1)) p (p + 1) (excess l from +ℤ r) = λ k x y z. let same : excess l (k + 1) ≡ excess l (p + 1) = ap (excess l) (omega arith) in ne (omega (arith, ints)) in
+    (forward_more l from p (p + 1) r rise d h short o (omega arith) (omega arith) e m).1
+
+pub backward_bit : (l : List Bool) (p q end : ℕ) (r rise d : ℤ) → HasNoRiseBefore l q end r rise → length l < 2 ^ 63 → q ≤ end → end ≤ length l → q ≡ p + 1 → excess l q ≡ excess l p +ℤ d → rise -ℤ d ≢ r → HasNoRiseBefore l p end r (to_z w64 (of_z w64 (rise -ℤ to_z w64 (of_z w64 d))))
+backward_bit l p q end r rise d h short o i n e ne =
+    let ri = h.risen in
+    let m : Misses (excess l) p q (excess l end +ℤ r) = λ k x y z. let same : excess l k ≡ excess l p = ap (excess l) (omega arith) in ne (omega (arith, ints)) in
+    (backward_more l p q end r rise d h short (omega arith) o i e m).1
+
+-- one bit more is read
+pub one_more_read : (a b c : Reads) (n m : ℕ) → m ≡ n + 1 → AddsAtMost a b (scan_reads n) → AddsAtMost b c get_reads → AddsAtMost a c (scan_reads m)
+one_more_read a b c n m e p q = adds_then p q (record { data_words = omega arith; block_entries = omega arith; superblock_entries = omega arith; low_parts = omega arith; rank_calls = omega arith; items = omega arith; blocks = omega arith; nodes = omega arith; chunks = omega arith })
+
+-- ---- the node of a part
+pub part_start : (l : List Bool) (a : ℕ) (d : ℤ) → excess l (a + 1) ≡ excess l a +ℤ d → IsPart l a (a + 1) (record { total = d; least = d; greatest = d })
+part_start l a d s = record {
+  total = s;
+  low = λ j x y. let same : excess l j ≡ excess l (a + 1) = ap (excess l) (omega arith) in omega (arith, ints);
+  high = λ j x y. let same : excess l j ≡ excess l (a + 1) = ap (excess l) (omega arith) in omega (arith, ints);
+  least = (a + 1, omega arith, omega arith, s);
+  greatest = (a + 1, omega arith, omega arith, s);
+}
+
+pub part_more : (l : List Bool) (a p : ℕ) (x : Node) (d : ℤ) → IsPart l a p x → a < p → excess l (p + 1) ≡ excess l a +ℤ (x.total +ℤ d) → IsPart l a (p + 1) (record { total = x.total +ℤ d; least = int_min x.least (x.total +ℤ d); greatest = int_max x.greatest (x.total +ℤ d) })
+part_more l a p x d h o s = record {
+  total = s;
+  low = λ j u v. ⊎_elim
+      (λ (w : p < j). let same : excess l j ≡ excess l (p + 1) = ap (excess l) (omega arith) in omega (arith, ints, clamps))
+      (λ (w : j ≤ p). let m = h.low j u w in omega (arith, ints, clamps))
+      (cases_lt p j);
+  high = λ j u v. ⊎_elim
+      (λ (w : p < j). let same : excess l j ≡ excess l (p + 1) = ap (excess l) (omega arith) in omega (arith, ints, clamps))
+      (λ (w : j ≤ p). let m = h.high j u w in omega (arith, ints, clamps))
+      (cases_lt p j);
+  least = by_lt_z (x.total +ℤ d) x.least
+      (λ w. (p + 1, omega arith, omega arith, omega (arith, ints, clamps)))
+      (λ w. let k = h.least in let k1 = k.1 in let k2 = k.2 in let k3 = k.3 in (k.0, k1, omega arith, omega (arith, ints, clamps)));
+  greatest = by_lt_z x.greatest (x.total +ℤ d)
+      (λ w. (p + 1, omega arith, omega arith, omega (arith, ints, clamps)))
+      (λ w. let k = h.greatest in let k1 = k.1 in let k2 = k.2 in let k3 = k.3 in (k.0, k1, omega arith, omega (arith, ints, clamps)));
+}
+
+pub part_fits : (l : List Bool) (a p : ℕ) (x : Node) → IsPart l a p x → length l < 2 ^ 63 → a ≤ p → p ≤ length l → FitsSigned w64 x.total × FitsSigned w64 x.least × FitsSigned w64 x.greatest
+part_fits l a p x h short o i =
+    let m = h.least in let g = h.greatest in let m2 = m.2 in let g2 = g.2 in
+    (rise_fits l a p x.total short (omega arith) i h.total, rise_fits l a m.0 x.least short (omega arith) (omega arith) m.3, rise_fits l a g.0 x.greatest short (omega arith) (omega arith) g.3)

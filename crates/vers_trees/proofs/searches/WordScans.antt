@@ -1,0 +1,220 @@
+-- Whole words of a scan: how far a sum falls along one at most, by its zeros that no one stands right before, and by its ones that no zero stands right after.
+use Rattle.std.proofs.Common.{◌≡◌, ◌≢◌, ℕ, zero, suc, ◌+◌, ◌-◌, ◌*◌, ◌/◌, ◌%◌, ◌^◌, ◌<◌, ◌≤◌, Bool, true, false, ◌||◌, ◌&&◌, List, [], ◌∷◌, length, take, ℤ, pos, negsuc, ◌+ℤ◌, ◌-ℤ◌, ◌≤ℤ◌, ◌<ℤ◌, arith, sym, ap, refl, FitsSigned, to_z, of_z, inl, inr, ◌⊎◌, ◌∙◌}
+use mir.Syntax.{w64}
+use Rattle.std.specs.Prelude.{bit_or, bit_and, count_ones}
+use Rattle.std.specs.Bool.{IsTrue}
+use Rattle.std.specs.Int.Signed.{lt_z}
+use Rattle.std.proofs.lemmas.Int.{ints, to_z-of_z, to_z_pos}
+use Rattle.std.proofs.lemmas.Bool.{cases_lt}
+use Rattle.std.proofs.lemmas.Nat.{or_block, and_block, or_lt}
+use Rattle.std.proofs.lemmas.List.{take_all}
+use Rattle.vers_bits.specs.Bits.{number, part, count, limb, bit_value}
+use Rattle.vers_bits.proofs.PublicLaws.{count_limb_whole, count_both, count_none, number_half, number_odd, number-take}
+use Rattle.vers_trees.specs.Excess.{excess}
+use Rattle.vers_tally.specs.Reads.{Reads, AddsAtMost}
+use Rattle.vers_tally.proofs.PublicLaws.{adds_then}
+use Rattle.vers_rank.specs.Queries.{get_bits_reads}
+use Rattle.vers_trees.specs.inside.Scans.{HasNoRise, HasNoRiseBefore, falls, is_not_closed, rises, scan_reads}
+use Rattle.vers_trees.proofs.searches.Scans.{fits_small, forward_more, backward_more}
+use Rattle.vers_trees.proofs.grammar.Excess.{excess-zero, excess-nil, excess-open, excess-close}
+use Rattle.vers_trees.proofs.searches.ByteScans.{length-part, excess-part, total_of}
+use Rattle.std.proofs.Math.Nat.{pow-suc}
+use lib.Count.{ones_step, ones-ones}
+
+-- ---- the number of a list and its first bit
+number_next : (b : Bool) (l : List Bool) → number (b ∷ l) ≡ number l * 2 ^ 1 + bit_value b
+number_next b l = omega arith
+
+bit_small : (b : Bool) → bit_value b < 2 ^ 1
+bit_small true = omega arith
+bit_small false = omega arith
+
+ones_next : (b : Bool) (l : List Bool) → count_ones (number (b ∷ l)) ≡ bit_value b + count_ones (number l)
+ones_next b l = ones_step (number (b ∷ l)) ∙ ap (λ (n : ℕ). number (b ∷ l) % 2 + count_ones n) (number_half b l) ∙ ap (λ (n : ℕ). n + count_ones (number l)) (number_odd b l)
+
+zero_ones : count_ones 0 ≡ 0
+zero_ones = ones-ones 0
+
+-- a number of k digits has at most k ones
+ones_le : (k n : ℕ) → n < 2 ^ k → count_ones n ≤ k
+ones_le zero n h = let e : n ≡ 0 = omega arith in let z = ap count_ones e in let o = zero_ones in omega arith
+ones_le (suc k) n h =
+    let s : count_ones n ≡ n % 2 + count_ones (n / 2) = ones_step n in
+    let i = ones_le k (n / 2) (omega (arith, pow-suc 2 k)) in
+    omega arith
+
+-- ---- forwards: the zeros that no one stands right before
+abbrev before : Bool → List Bool → List Bool
+before p [] = []
+before p (b ∷ l) = p ∷ before b l
+
+abbrev covers : Bool → List Bool → List Bool
+covers p [] = []
+covers p (b ∷ l) = (b || p) ∷ covers b l
+
+or_values : (b p : Bool) → bit_or (bit_value b) (bit_value p) ≡ bit_value (b || p)
+or_values true true = refl
+or_values true false = refl
+or_values false true = refl
+or_values false false = refl
+
+number-covers : (p : Bool) (l : List Bool) → number (covers p l) ≡ bit_or (number l) (number (before p l))
+number-covers p [] = refl
+number-covers p (b ∷ l) =
+    let a = or_block 1 (number l) (number (before b l)) (bit_value b) (bit_value p) (bit_small b) (bit_small p) in
+    let e = number_next (b || p) (covers b l) in
+    e ∙ ap (λ (n : ℕ). n * 2 ^ 1 + bit_value (b || p)) (number-covers b l) ∙ ap (λ (n : ℕ). bit_or (number l) (number (before b l)) * 2 ^ 1 + n) (sym (or_values b p)) ∙ sym a
+    ∙ ap (λ (n : ℕ). bit_or n (number (before b l) * 2 ^ 1 + bit_value p)) (sym (number_next b l)) ∙ ap (bit_or (number (b ∷ l))) (sym (number_next p (before b l)))
+
+before_is : (p : Bool) (n : ℕ) (l : List Bool) → length l ≡ suc n → before p l ≡ p ∷ take n l
+before_is p n [] e = absurd (omega arith)
+before_is p zero (b ∷ []) e = refl
+before_is p zero (b ∷ c ∷ l) e = absurd (omega arith)
+before_is p (suc n) (b ∷ l) e = ap (λ (m : List Bool). p ∷ m) (before_is b n l (omega arith))
+
+ones-covers : (p : Bool) (l : List Bool) → count_ones (number (covers p l)) + falls p l ≡ length l
+ones-covers p [] = let z = zero_ones in omega arith
+ones-covers p (true ∷ l) = let e = ones_next true (covers true l) in let h = ones-covers true l in omega arith
+ones-covers true (false ∷ l) = let e = ones_next true (covers false l) in let h = ones-covers false l in omega arith
+ones-covers false (false ∷ l) = let e = ones_next false (covers false l) in let h = ones-covers false l in omega arith
+
+pub falls_counted : (l : List Bool) (word : ℕ) → length l ≡ 64 → word ≡ number l → falls false l + count_ones (bit_or word (word * 2 % 18446744073709551616)) ≡ 64
+falls_counted l word h e =
+    let o = ones-covers false l in
+    let b = ap number (before_is false 63 l h) in
+    let t = number-take 63 l in
+    let s : number (before false l) ≡ word * 2 % 18446744073709551616 = omega arith in
+    let c : number (covers false l) ≡ bit_or word (word * 2 % 18446744073709551616) = number-covers false l ∙ ap (λ (n : ℕ). bit_or n (number (before false l))) (sym e) ∙ ap (bit_or word) s in
+    let d = ap count_ones c in
+    omega arith
+
+-- no sum along the list falls further
+above : (p : Bool) (l : List Bool) (j : ℕ) → pos 0 ≤ℤ (excess l j +ℤ pos (bit_value p + falls p l))
+above p [] j = let e = excess-nil j in omega (arith, ints)
+above p (b ∷ l) zero = let e = excess-zero (b ∷ l) in omega (arith, ints)
+above p (true ∷ l) (suc j) = let h = above true l j in let e = excess-open l j in omega (arith, ints)
+above true (false ∷ l) (suc j) = let h = above false l j in let e = excess-close l j in omega (arith, ints)
+above false (false ∷ l) (suc j) = let h = above false l j in let e = excess-close l j in omega (arith, ints)
+
+pub covered_few : (word : ℕ) → word < 18446744073709551616 → count_ones (bit_or word (word * 2 % 18446744073709551616)) ≤ 64
+covered_few word h = ones_le 64 (bit_or word (word * 2 % 18446744073709551616)) (or_lt 64 word (word * 2 % 18446744073709551616) h (omega arith))
+
+-- ---- backwards: the ones that no zero stands right after
+abbrev after : List Bool → List Bool
+after [] = []
+after (b ∷ l) = is_not_closed l ∷ after l
+
+abbrev alone : List Bool → List Bool
+alone [] = []
+alone (b ∷ l) = (b && is_not_closed l) ∷ alone l
+
+and_values : (b p : Bool) → bit_and (bit_value b) (bit_value p) ≡ bit_value (b && p)
+and_values true true = refl
+and_values true false = refl
+and_values false true = refl
+and_values false false = refl
+
+number-alone : (l : List Bool) → number (alone l) ≡ bit_and (number l) (number (after l))
+number-alone [] = refl
+number-alone (b ∷ l) =
+    let p = is_not_closed l in
+    let a = and_block 1 (number l) (number (after l)) (bit_value b) (bit_value p) (bit_small b) (bit_small p) in
+    let e = number_next (b && p) (alone l) in
+    e ∙ ap (λ (n : ℕ). n * 2 ^ 1 + bit_value (b && p)) (number-alone l) ∙ ap (λ (n : ℕ). bit_and (number l) (number (after l)) * 2 ^ 1 + n) (sym (and_values b p)) ∙ sym a
+    ∙ ap (λ (n : ℕ). bit_and n (number (after l) * 2 ^ 1 + bit_value p)) (sym (number_next b l)) ∙ ap (bit_and (number (b ∷ l))) (sym (number_next p (after l)))
+
+number-after : (b : Bool) (l : List Bool) → number (after (b ∷ l)) ≡ number l + 2 ^ length l
+number-after b [] = refl
+number-after b (c ∷ l) = let h = number-after c l in omega (arith, pow-suc 2 (length l))
+
+ones-alone : (l : List Bool) → count_ones (number (alone l)) ≡ rises l
+ones-alone [] = zero_ones
+ones-alone (b ∷ l) = let e = ones_next (b && is_not_closed l) (alone l) in let h = ones-alone l in omega arith
+
+after_word : (l : List Bool) → length l ≡ 64 → number (after l) ≡ number l / 2 + 9223372036854775808
+after_word [] h = absurd (omega arith)
+after_word (b ∷ l) h =
+    let e = number-after b l in
+    let p : 2 ^ length l ≡ 9223372036854775808 = ap (λ (n : ℕ). 2 ^ n) (let g : length l ≡ 63 = omega arith in g) in
+    let s = bit_small b in
+    omega arith
+
+pub rises_counted : (l : List Bool) (word : ℕ) → length l ≡ 64 → word ≡ number l → rises l ≡ count_ones (bit_and word (word / 2 + 9223372036854775808))
+rises_counted l word h e =
+    let a = after_word l h in
+    let s : number (after l) ≡ word / 2 + 9223372036854775808 = omega arith in
+    sym (ones-alone l) ∙ ap count_ones (number-alone l ∙ ap (λ (n : ℕ). bit_and n (number (after l))) (sym e) ∙ ap (bit_and word) s)
+
+pub rises_few : (l : List Bool) → rises l ≤ length l
+rises_few [] = omega arith
+rises_few (b ∷ l) = let h = rises_few l in let s = bit_small (b && is_not_closed l) in omega arith
+
+-- no sum from the end of the list falls further
+total_few : (l : List Bool) → (excess l (length l) +ℤ pos (1 - bit_value (is_not_closed l))) ≤ℤ pos (rises l)
+total_few [] = let e = excess-nil 0 in omega (arith, ints)
+total_few (false ∷ l) = let h = total_few l in let e = excess-close l (length l) in omega (arith, ints)
+total_few (true ∷ []) = let e = excess-open [] 0 in let z = excess-zero [] in omega (arith, ints)
+total_few (true ∷ true ∷ l) = let h = total_few (true ∷ l) in let e = excess-open (true ∷ l) (suc (length l)) in omega (arith, ints)
+total_few (true ∷ false ∷ l) = let h = total_few (false ∷ l) in let e = excess-open (false ∷ l) (suc (length l)) in omega (arith, ints)
+
+below : (l : List Bool) (j : ℕ) → j ≤ length l → excess l (length l) ≤ℤ (excess l j +ℤ pos (rises l))
+below l zero h = let t = total_few l in let z = excess-zero l in omega (arith, ints)
+below [] (suc j) h = absurd (omega arith)
+below (true ∷ l) (suc j) h = let i = below l j (omega arith) in let a = excess-open l j in let b = excess-open l (length l) in omega (arith, ints)
+below (false ∷ l) (suc j) h = let i = below l j (omega arith) in let a = excess-close l j in let b = excess-close l (length l) in omega (arith, ints)
+
+-- ---- as the code has them
+count_is : (n : ℕ) → n ≤ 64 → to_z w64 n ≡ pos n
+count_is n h = to_z_pos w64 n (omega arith)
+
+pub count_fits : (n : ℕ) → n ≤ 64 → FitsSigned w64 (pos n)
+count_fits n h = fits_small (pos n) (omega (arith, ints)) (omega (arith, ints))
+
+pub zeros_fit : (n : ℕ) → n ≤ 64 → FitsSigned w64 (pos 64 -ℤ to_z w64 n)
+zeros_fit n h = rw (count_is n h) (fits_small (pos 64 -ℤ pos n) (omega (arith, ints)) (omega (arith, ints)))
+
+pub zeros_is : (n : ℕ) → n ≤ 64 → to_z w64 (of_z w64 (pos 64 -ℤ to_z w64 n)) ≡ pos 64 -ℤ pos n
+zeros_is n h = to_z-of_z w64 (pos 64 -ℤ to_z w64 n) (zeros_fit n h) ∙ ap (λ (z : ℤ). pos 64 -ℤ z) (count_is n h)
+
+pub ones_is : (n : ℕ) → n ≤ 64 → to_z w64 n ≡ pos n
+ones_is = count_is
+
+fits_high : (z : ℤ) → FitsSigned w64 z → z ≤ℤ pos (2 ^ 63 - 1)
+fits_high (pos n) f = let s = f.sfits in omega (arith, ints)
+fits_high (negsuc n) f = omega (arith, ints)
+
+pub less_fits : (rise d : ℤ) → FitsSigned w64 rise → negsuc 9223372036854775743 ≤ℤ rise → pos 0 ≤ℤ d → d ≤ℤ pos 64 → FitsSigned w64 (to_z w64 (of_z w64 rise) -ℤ d)
+less_fits rise d f low a b = let g = fits_high rise f in rw (to_z-of_z w64 rise f) (fits_small (rise -ℤ d) (omega (arith, ints)) (omega (arith, ints)))
+
+pub less_is : (target rise d : ℤ) → FitsSigned w64 target → FitsSigned w64 rise → negsuc 9223372036854775743 ≤ℤ rise → pos 0 ≤ℤ d → d ≤ℤ pos 64
+    → IsTrue (lt_z (to_z w64 (of_z w64 target)) (to_z w64 (of_z w64 (to_z w64 (of_z w64 rise) -ℤ d)))) → target <ℤ (rise -ℤ d)
+less_is target rise d f g low a b t =
+    let e : to_z w64 (of_z w64 (to_z w64 (of_z w64 rise) -ℤ d)) ≡ rise -ℤ d = to_z-of_z w64 (to_z w64 (of_z w64 rise) -ℤ d) (less_fits rise d g low a b) ∙ ap (λ (z : ℤ). z -ℤ d) (to_z-of_z w64 rise g) in
+    let k = rw (to_z-of_z w64 target f, e) at t in
+    grind (arith, ints, k)
+
+-- a word is read beside other bits
+pub word_counted : (a b c : Reads) (n m : ℕ) → n + 2 ≤ m → AddsAtMost a b (scan_reads n) → AddsAtMost b c get_bits_reads → AddsAtMost a c (scan_reads m)
+word_counted a b c n m e p q = adds_then p q (record { data_words = omega arith; block_entries = omega arith; superblock_entries = omega arith; low_parts = omega arith; rank_calls = omega arith; items = omega arith; blocks = omega arith; nodes = omega arith; chunks = omega arith })
+
+-- ---- past a word
+pub forward_word : (l : List Bool) (from p : ℕ) (r rise d : ℤ) (word : ℕ) → HasNoRise l from p r rise → length l < 2 ^ 63 → from ≤ p → p + 64 ≤ length l → word ≡ number (part l p 64) → r <ℤ (rise -ℤ pos (falls false (part l p 64))) → d ≡ pos (2 * count_ones word) -ℤ pos 64
+    → FitsSigned w64 (rise +ℤ to_z w64 (of_z w64 d)) × HasNoRise l from (p + 64) r (to_z w64 (of_z w64 (rise +ℤ to_z w64 (of_z w64 d))))
+forward_word l from p r rise d word h short o a e f q = forward_more l from p (p + 64) r rise d h short o (omega arith) a (total_of l p 64 word d (omega arith) a e q) (λ k y z w.
+    let ri = h.risen in
+    let g = excess-part l p 64 (k - p + 1) a (omega arith) in
+    let here : excess l (p + (k - p + 1)) ≡ excess l (k + 1) = ap (excess l) (omega arith) in
+    let u = above false (part l p 64) (k - p + 1) in
+    absurd (omega (arith, ints)))
+
+pub backward_word : (l : List Bool) (p end : ℕ) (r rise d : ℤ) (word : ℕ) → HasNoRiseBefore l (p + 64) end r rise → length l < 2 ^ 63 → p + 64 ≤ end → end ≤ length l → word ≡ number (part l p 64) → r <ℤ (rise -ℤ pos (rises (part l p 64))) → d ≡ pos (2 * count_ones word) -ℤ pos 64
+    → FitsSigned w64 (rise -ℤ to_z w64 (of_z w64 d)) × HasNoRiseBefore l p end r (to_z w64 (of_z w64 (rise -ℤ to_z w64 (of_z w64 d))))
+backward_word l p end r rise d word h short o a e f q = backward_more l p (p + 64) end r rise d h short (omega arith) o a (total_of l p 64 word d (omega arith) (omega arith) e q) (λ k y z w.
+    let ri = h.risen in
+    let n = length-part l p 64 (omega arith) in
+    let same = ap (excess (part l p 64)) n in
+    let g64 = excess-part l p 64 64 (omega arith) (omega arith) in
+    let g = excess-part l p 64 (k - p) (omega arith) (omega arith) in
+    let here : excess l (p + (k - p)) ≡ excess l k = ap (excess l) (omega arith) in
+    let u = below (part l p 64) (k - p) (omega arith) in
+    absurd (omega (arith, ints)))

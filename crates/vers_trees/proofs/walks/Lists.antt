@@ -1,0 +1,180 @@
+-- Lists of places: moved to the right, and those of a list that follows another.
+use Rattle.std.proofs.Common.{◌≡◌, ℕ, zero, suc, ◌+◌, ◌<◌, Bool, true, false, cond, List, [], ◌∷◌, ◌++◌, map, length, get_or, arith, subst, sym, refl, ap, ◌∙◌, negsuc, Option, Some, inl, inr}
+use Rattle.std.specs.Prelude.{filter, All, unwrap_or}
+use Rattle.std.specs.List.{range_with_len}
+use Rattle.std.proofs.lemmas.List.{map-append, append-nil, append_assoc}
+use Rattle.std.proofs.lemmas.List.Elements.{filter-append, All-nil, All-cons, All-head, All-tail, All-append, All-map, All-weaker}
+use Rattle.vers_bits.specs.Bits.{is_bit, places}
+use Rattle.vers_trees.specs.Forest.{moved, Forest, none, tree, text}
+use Rattle.vers_trees.proofs.grammar.Paired.{Paired, paired_closes}
+use Rattle.vers_trees.proofs.kin.Partners.{before_from_closes}
+use Rattle.vers_trees.proofs.searches.Searches.{before_is}
+use Rattle.vers_trees.specs.Excess.{last_rise_before}
+use Rattle.vers_trees.specs.Siblings.{opening_of}
+use Rattle.vers_trees.specs.Traversals.{pairs_by_closing, postorder}
+
+-- places moved to the right by n
+abbrev pub shifted : ℕ → List ℕ → List ℕ
+shifted n places = map (λ v. n + v) places
+
+-- where pairs open, and where they close
+abbrev pub opening_places : List (ℕ × ℕ) → List ℕ
+opening_places qs = map (λ q. q.0) qs
+
+abbrev pub closing_places : List (ℕ × ℕ) → List ℕ
+closing_places qs = map (λ q. q.1) qs
+
+pub opening_moved : (n : ℕ) (qs : List (ℕ × ℕ)) → opening_places (map (moved n) qs) ≡ shifted n (opening_places qs)
+opening_moved n [] = refl
+opening_moved n (q ∷ qs) = ap (λ (xs : List ℕ). (n + q.0) ∷ xs) (opening_moved n qs)
+
+pub closing_moved : (n : ℕ) (qs : List (ℕ × ℕ)) → closing_places (map (moved n) qs) ≡ shifted n (closing_places qs)
+closing_moved n [] = refl
+closing_moved n (q ∷ qs) = ap (λ (xs : List ℕ). (n + q.1) ∷ xs) (closing_moved n qs)
+
+pub shifted-shifted : (m n : ℕ) (xs : List ℕ) → shifted m (shifted n xs) ≡ shifted (m + n) xs
+shifted-shifted m n [] = refl
+shifted-shifted m n (x ∷ xs) =
+    let e : m + (n + x) ≡ m + n + x = omega arith in
+    ap (λ (y : ℕ). y ∷ shifted m (shifted n xs)) e ∙ ap (λ (ys : List ℕ). (m + n + x) ∷ ys) (shifted-shifted m n xs)
+
+pub shifted-append : (n : ℕ) (xs ys : List ℕ) → shifted n (xs ++ ys) ≡ shifted n xs ++ shifted n ys
+shifted-append n xs ys = map-append (λ v. n + v) xs ys
+
+-- numbers that pass a test, moved by one
+filter_next : (p q : ℕ → Bool) (a n : ℕ) → ((i : ℕ) → p (i + 1) ≡ q i) → filter p (range_with_len (a + 1) n) ≡ shifted 1 (filter q (range_with_len a n))
+filter_next p q a zero h = refl
+filter_next p q a (suc n) h = go (filter_next p q (a + 1) n h) (q a) refl
+  where
+    go : filter p (range_with_len (a + 1 + 1) n) ≡ shifted 1 (filter q (range_with_len (a + 1) n)) → (b : Bool) → q a ≡ b → filter p (range_with_len (a + 1) (suc n)) ≡ shifted 1 (filter q (range_with_len a (suc n)))
+    go ih true e =
+        let t : p (a + 1) ≡ true = h a ∙ e in
+        let s : a + 1 ≡ 1 + a = omega arith in
+        rw (t, e) (ap (λ (x : ℕ). x ∷ filter p (range_with_len (a + 1 + 1) n)) s ∙ ap (λ (xs : List ℕ). (1 + a) ∷ xs) ih)
+    go ih false e =
+        let t : p (a + 1) ≡ false = h a ∙ e in
+        rw (t, e) ih
+
+pub places-cons : (bit b : Bool) (l : List Bool) → places bit (b ∷ l) ≡ cond (is_bit bit b) (0 ∷ []) [] ++ shifted 1 (places bit l)
+unfolding places
+places-cons bit b l = go (is_bit bit b) refl
+  where
+    rest : filter (λ p. is_bit bit (get_or (b ∷ l) p false)) (range_with_len 1 (length l)) ≡ shifted 1 (places bit l)
+    rest = filter_next (λ p. is_bit bit (get_or (b ∷ l) p false)) (λ p. is_bit bit (get_or l p false)) 0 (length l) (λ i. ap (λ (m : ℕ). is_bit bit (get_or (b ∷ l) m false)) (let e : i + 1 ≡ suc i = omega arith in e))
+
+    go : (t : Bool) → is_bit bit b ≡ t → filter (λ p. is_bit bit (get_or (b ∷ l) p false)) (range_with_len 0 (length (b ∷ l))) ≡ cond (is_bit bit b) (0 ∷ []) [] ++ shifted 1 (places bit l)
+    go true e = rw e (ap (λ (xs : List ℕ). 0 ∷ xs) rest)
+    go false e = rw e rest
+
+shifted-zero : (xs : List ℕ) → shifted 0 xs ≡ xs
+shifted-zero [] = refl
+shifted-zero (x ∷ xs) = let e : 0 + x ≡ x = omega arith in ap (λ (y : ℕ). y ∷ shifted 0 xs) e ∙ ap (λ (ys : List ℕ). x ∷ ys) (shifted-zero xs)
+
+pub places-append : (bit : Bool) (k l : List Bool) → places bit (k ++ l) ≡ places bit k ++ shifted (length k) (places bit l)
+unfolding places
+places-append bit [] l = sym (shifted-zero (places bit l))
+places-append bit (b ∷ k) l =
+    let e : 1 + length k ≡ suc (length k) = omega arith in
+    let first = cond (is_bit bit b) (0 ∷ []) [] in
+    places-cons bit b (k ++ l)
+    ∙ ap (λ (xs : List ℕ). first ++ shifted 1 xs) (places-append bit k l)
+    ∙ ap (λ (xs : List ℕ). first ++ xs) (shifted-append 1 (places bit k) (shifted (length k) (places bit l)) ∙ ap (λ (xs : List ℕ). shifted 1 (places bit k) ++ xs) (shifted-shifted 1 (length k) (places bit l)))
+    ∙ sym (append_assoc first (shifted 1 (places bit k)) (shifted (1 + length k) (places bit l)))
+    ∙ ap (λ (xs : List ℕ). xs ++ shifted (1 + length k) (places bit l)) (sym (places-cons bit b k))
+    ∙ ap (λ (n : ℕ). places bit (b ∷ k) ++ shifted n (places bit l)) e
+
+-- the places of a tree written down, and of what follows it
+pub places-tree : (bit : Bool) (k l : List Bool) → places bit (true ∷ (k ++ false ∷ l))
+    ≡ cond (is_bit bit true) (0 ∷ []) [] ++ (shifted 1 (places bit k) ++ (shifted (1 + length k) (cond (is_bit bit false) (0 ∷ []) []) ++ shifted (1 + length k + 1) (places bit l)))
+places-tree bit k l =
+    let n = 1 + length k in
+    let first = cond (is_bit bit true) (0 ∷ []) [] in
+    let last = cond (is_bit bit false) (0 ∷ []) [] in
+    let rest = last ++ shifted 1 (places bit l) in
+    places-cons bit true (k ++ false ∷ l)
+    ∙ ap (λ (xs : List ℕ). first ++ shifted 1 xs) (places-append bit k (false ∷ l) ∙ ap (λ (xs : List ℕ). places bit k ++ shifted (length k) xs) (places-cons bit false l))
+    ∙ ap (λ (xs : List ℕ). first ++ xs) (
+    shifted-append 1 (places bit k) (shifted (length k) rest)
+    ∙ ap (λ (xs : List ℕ). shifted 1 (places bit k) ++ xs) (
+    shifted-shifted 1 (length k) rest
+    ∙ shifted-append n last (shifted 1 (places bit l))
+    ∙ ap (λ (xs : List ℕ). shifted n last ++ xs) (shifted-shifted n 1 (places bit l))))
+
+-- ---- what a test keeps
+-- tests of a thing and of what it is made into
+pub filter_mapped : {X Y : Type 0} → (p : Y → Bool) (q : X → Bool) (f : X → Y) (xs : List X) → All (λ x. p (f x) ≡ q x) xs → filter p (map f xs) ≡ map f (filter q xs)
+filter_mapped p q f [] h = refl
+filter_mapped p q f (x ∷ xs) h = go (q x) refl (filter_mapped p q f xs (All-tail (λ y. p (f y) ≡ q y) x xs h))
+  where
+    go : (b : Bool) → q x ≡ b → filter p (map f xs) ≡ map f (filter q xs) → filter p (map f (x ∷ xs)) ≡ map f (filter q (x ∷ xs))
+    go true e ih = let t : p (f x) ≡ true = All-head (λ y. p (f y) ≡ q y) x xs h ∙ e in rw (t, e) (ap (λ (ys : List _). f x ∷ ys) ih)
+    go false e ih = let t : p (f x) ≡ false = All-head (λ y. p (f y) ≡ q y) x xs h ∙ e in rw (t, e) ih
+
+-- ---- each of the places of a bit
+-- the list has the bit at the place
+pub record HasBitAt (bit : Bool) (l : List Bool) (p : ℕ) : Type 0 where
+  pub inside : p < length l
+  pub holds : is_bit bit (get_or l p false) ≡ true
+
+pub all_places : (bit : Bool) (l : List Bool) → All (HasBitAt bit l) (places bit l)
+unfolding places
+all_places bit [] = All-nil (HasBitAt bit [])
+all_places bit (b ∷ l) =
+    let later = All-map (HasBitAt bit (b ∷ l)) (λ v. 1 + v) (places bit l) (All-weaker (HasBitAt bit l) (λ v. HasBitAt bit (b ∷ l) (1 + v)) (λ v h. record { inside = (let i = h.inside in omega arith); holds = subst (λ (m : ℕ). is_bit bit (get_or (b ∷ l) m false) ≡ true) (let e : suc v ≡ 1 + v = omega arith in e) h.holds }) (places bit l) (all_places bit l)) in
+    subst (All (HasBitAt bit (b ∷ l))) (sym (places-cons bit b l)) (All-append (HasBitAt bit (b ∷ l)) (cond (is_bit bit b) (0 ∷ []) []) (shifted 1 (places bit l)) (go (is_bit bit b) refl) later)
+  where
+    go : (t : Bool) → is_bit bit b ≡ t → All (HasBitAt bit (b ∷ l)) (cond (is_bit bit b) (0 ∷ []) [])
+    go true e = rw e (All-cons (HasBitAt bit (b ∷ l)) 0 [] (record { inside = omega arith; holds = e }) (All-nil (HasBitAt bit (b ∷ l))))
+    go false e = rw e (All-nil (HasBitAt bit (b ∷ l)))
+
+-- ---- the nodes of a forest in postorder open what the zeros of its text close, in their order
+closing-tree : (X Y : Forest) → closing_places (pairs_by_closing (tree X Y)) ≡ shifted 1 (closing_places (pairs_by_closing X)) ++ ((length (text X) + 1) ∷ shifted (length (text X) + 2) (closing_places (pairs_by_closing Y)))
+closing-tree X Y =
+    let n = length (text X) + 2 in
+    map-append (λ q. q.1) (map (moved 1) (pairs_by_closing X)) ((0, length (text X) + 1) ∷ map (moved n) (pairs_by_closing Y))
+    ∙ ap (λ (xs : List ℕ). xs ++ ((length (text X) + 1) ∷ closing_places (map (moved n) (pairs_by_closing Y)))) (closing_moved 1 (pairs_by_closing X))
+    ∙ ap (λ (xs : List ℕ). shifted 1 (closing_places (pairs_by_closing X)) ++ ((length (text X) + 1) ∷ xs)) (closing_moved n (pairs_by_closing Y))
+
+-- the zeros are where the pairs close, in this order
+pub closing_is_zeros : (F : Forest) → closing_places (pairs_by_closing F) ≡ places false (text F)
+unfolding places
+closing_is_zeros none = refl
+closing_is_zeros (tree X Y) =
+    let n : length (text X) + 2 ≡ 1 + length (text X) + 1 = omega arith in
+    let c : length (text X) + 1 ≡ 1 + length (text X) + 0 = omega arith in
+    closing-tree X Y
+    ∙ ap (λ (xs : List ℕ). shifted 1 xs ++ ((length (text X) + 1) ∷ shifted (length (text X) + 2) (closing_places (pairs_by_closing Y)))) (closing_is_zeros X)
+    ∙ ap (λ (xs : List ℕ). shifted 1 (places false (text X)) ++ ((length (text X) + 1) ∷ shifted (length (text X) + 2) xs)) (closing_is_zeros Y)
+    ∙ ap (λ (m : ℕ). shifted 1 (places false (text X)) ++ ((length (text X) + 1) ∷ shifted m (places false (text Y)))) n
+    ∙ ap (λ (m : ℕ). shifted 1 (places false (text X)) ++ (m ∷ shifted (1 + length (text X) + 1) (places false (text Y)))) c
+    ∙ sym (places-tree false (text X) (text Y))
+
+abbrev PairedIn : Forest → ℕ × ℕ → Type 0
+PairedIn F q = Paired F q.0 q.1
+
+-- each is a pair of the forest
+pub closing_paired : (F : Forest) → All (λ q. Paired F q.0 q.1) (pairs_by_closing F)
+closing_paired none = All-nil (PairedIn none)
+closing_paired (tree X Y) =
+    let n = length (text X) + 2 in
+    let first = All-weaker (PairedIn X) (λ q. PairedIn (tree X Y) (moved 1 q)) (λ q h. inr (inl (q.0, q.1, omega arith, omega arith, h))) (pairs_by_closing X) (closing_paired X) in
+    let rest = All-weaker (PairedIn Y) (λ q. PairedIn (tree X Y) (moved n q)) (λ q h. inr (inr (q.0, q.1, refl, refl, h))) (pairs_by_closing Y) (closing_paired Y) in
+    All-append (PairedIn (tree X Y)) (map (moved 1) (pairs_by_closing X)) ((0, length (text X) + 1) ∷ map (moved n) (pairs_by_closing Y))
+    (All-map (PairedIn (tree X Y)) (moved 1) (pairs_by_closing X) first)
+    (All-cons (PairedIn (tree X Y)) (0, length (text X) + 1) (map (moved n) (pairs_by_closing Y)) (inl (refl, refl)) (All-map (PairedIn (tree X Y)) (moved n) (pairs_by_closing Y) rest))
+
+-- a search backwards from where a pair closes finds where it opens
+abbrev pub FindsOpening : List Bool → ℕ × ℕ → Type 0
+FindsOpening l q = last_rise_before l q.1 (negsuc 0) ≡ Some q.0
+
+pub all_opened : (l : List Bool) (qs : List (ℕ × ℕ)) → All (FindsOpening l) qs → map (opening_of l) (closing_places qs) ≡ opening_places qs
+all_opened l [] h = refl
+all_opened l (q ∷ qs) h =
+    let e : opening_of l q.1 ≡ q.0 = ap (λ (o : Option ℕ). unwrap_or o 0) (All-head (FindsOpening l) q qs h) in
+    ap (λ (v : ℕ). v ∷ map (opening_of l) (closing_places qs)) e ∙ ap (λ (xs : List ℕ). q.0 ∷ xs) (all_opened l qs (All-tail (FindsOpening l) q qs h))
+
+pub all_find : (F : Forest) → All (FindsOpening (text F)) (pairs_by_closing F)
+all_find F = All-weaker (PairedIn F) (FindsOpening (text F)) (λ q h. before_is (text F) q.1 (negsuc 0) q.0 (before_from_closes (text F) q.0 q.1 (paired_closes F q.0 q.1 h))) (pairs_by_closing F) (closing_paired F)
+
+pub postorder_opens : (F : Forest) → map (opening_of (text F)) (places false (text F)) ≡ postorder F
+postorder_opens F = ap (λ (xs : List ℕ). map (opening_of (text F)) xs) (sym (closing_is_zeros F)) ∙ all_opened (text F) (pairs_by_closing F) (all_find F)

@@ -1,0 +1,166 @@
+-- The nodes of a node's tree are a part of all nodes, in preorder and in postorder.
+use Rattle.std.proofs.Common.{◌≡◌, ℕ, suc, ◌+◌, ◌*◌, ◌<◌, ◌≤◌, ◌⊎◌, inl, inr, Bool, true, false, ◌&&◌, List, [], ◌∷◌, map, length, take, drop, get_or, ltb, leb, count_by, min, negsuc, Option, arith, ⊎_elim, subst, sym, refl, ap, ◌∙◌}
+use Rattle.std.specs.Prelude.{filter, All, Decides, unwrap_or}
+use Rattle.std.proofs.lemmas.Int.{ints}
+use Rattle.std.proofs.lemmas.Bool.{cases_lt, lt-ltb, le-ltb}
+use Rattle.std.proofs.lemmas.Bool.Decides.{nat_tests, Decides-and, Decides-like, same_from_decides}
+use Rattle.std.proofs.lemmas.List.Elements.{All-head, All-tail, All-weaker}
+use Rattle.std.proofs.lemmas.List.Sums.{length-filter, count_by-le-length}
+use Rattle.std.proofs.Math.Nat.{eq-or-lt_of_le}
+use Rattle.vers_bits.specs.Bits.{is_bit, count, places}
+use Rattle.vers_bits.proofs.PublicLaws.{count_both}
+use Rattle.vers_trees.specs.Excess.{excess}
+use Rattle.vers_trees.specs.Forest.{Forest, text}
+use Rattle.vers_trees.specs.Nodes.{nodes, closing, is_ancestor, subtree}
+use Rattle.vers_trees.specs.Siblings.{opening_of}
+use Rattle.vers_trees.specs.Traversals.{pairs_by_closing, postorder, subtree_post}
+use Rattle.vers_trees.proofs.grammar.Paired.{Paired, paired_closes, closes_rises, close_is_paired}
+use Rattle.vers_trees.proofs.kin.Partners.{before_from_closes, nested}
+use Rattle.vers_trees.proofs.searches.Searches.{before_is}
+use Rattle.vers_trees.proofs.kin.NodeList.{HasPair, nodes_are_ones, node_pair, one_pair, closing_is, inside}
+use Rattle.vers_trees.proofs.kin.Around.{refuted, Decides-leb, ancestor_decides, below_counted}
+use Rattle.vers_trees.proofs.grammar.Pairs.{one_if, count_by-cons}
+use Rattle.vers_trees.proofs.kin.Kin.{filter_agree}
+use Rattle.vers_trees.proofs.walks.Lists.{opening_places, closing_places, filter_mapped, HasBitAt, all_places, closing_is_zeros, closing_paired, postorder_opens}
+use Rattle.vers_trees.proofs.levels.NodeLaws.{AscendsFrom, places_ascend}
+
+-- ---- numbers from v up to c
+abbrev between : ℕ → ℕ → ℕ → Bool
+between v c w = leb v w && leb w c
+
+between_decides : (v c w : ℕ) → Decides (between v c w) ((v ≤ w) × (w ≤ c))
+between_decides v c w = Decides-and (leb v w) (leb w c) (Decides-leb v w) (Decides-leb w c)
+
+outside : (v c w : ℕ) → (w < v) ⊎ (c < w) → between v c w ≡ false
+outside v c w o = refuted (between v c w) (between_decides v c w) (λ g. let a = g.0 in let b = g.1 in omega (arith, o))
+
+-- with those before v they are those before c + 1
+count_between : (v c : ℕ) (xs : List ℕ) → v ≤ c + 1 → count_by (between v c) xs + count_by (λ w. ltb w v) xs ≡ count_by (λ w. ltb w (c + 1)) xs
+count_between v c [] h = refl
+count_between v c (x ∷ xs) h =
+    let ih = count_between v c xs h in
+    let a = count_by-cons (between v c) x xs in let b = count_by-cons (λ w. ltb w v) x xs in let d = count_by-cons (λ w. ltb w (c + 1)) x xs in
+    let e = one v c x h in
+    omega arith
+  where
+    one : (v c x : ℕ) → v ≤ c + 1 → one_if (between v c x) + one_if (ltb x v) ≡ one_if (ltb x (c + 1))
+    one v c x h = grind (arith, nat_tests)
+
+-- of numbers that ascend they are a part
+past_part : (v c n : ℕ) (xs : List ℕ) → AscendsFrom n xs → c < n → filter (between v c) xs ≡ []
+past_part v c n [] a h = refl
+past_part v c n (x ∷ xs) a h = let a0 = a.0 in rw (outside v c x (inr (omega arith))) (past_part v c (x + 1) xs a.1 (omega arith))
+
+first_part : (v c n : ℕ) (xs : List ℕ) → AscendsFrom n xs → v ≤ n → filter (between v c) xs ≡ take (length (filter (between v c) xs)) xs
+first_part v c n [] a h = refl
+first_part v c n (x ∷ xs) a h =
+    let a0 = a.0 in
+    ⊎_elim
+    (λ (z : c < x). rw (past_part v c x (x ∷ xs) (omega arith, a.1) z) refl)
+    (λ (z : x ≤ c). rw ((between_decides v c x).1 (omega arith, z)) (ap (λ (ys : List ℕ). x ∷ ys) (first_part v c (x + 1) xs a.1 (omega arith))))
+    (cases_lt c x)
+
+none_below : (v n : ℕ) (xs : List ℕ) → AscendsFrom n xs → v ≤ n → count_by (λ w. ltb w v) xs ≡ 0
+none_below v n [] a h = refl
+none_below v n (x ∷ xs) a h =
+    let a0 = a.0 in let c = count_by-cons (λ w. ltb w v) x xs in let ih = none_below v (x + 1) xs a.1 (omega arith) in
+    let e : one_if (ltb x v) ≡ 0 = ap one_if (le-ltb x v (omega arith)) in
+    omega arith
+
+between_is_part : (v c n : ℕ) (xs : List ℕ) → AscendsFrom n xs → filter (between v c) xs ≡ take (length (filter (between v c) xs)) (drop (count_by (λ w. ltb w v) xs) xs)
+between_is_part v c n [] a = refl
+between_is_part v c n (x ∷ xs) a =
+    let a0 = a.0 in let k = count_by-cons (λ w. ltb w v) x xs in
+    ⊎_elim
+    (λ (z : x < v).
+    let one : one_if (ltb x v) ≡ 1 = ap one_if (lt-ltb x v z) in
+    let e : suc (count_by (λ w. ltb w v) xs) ≡ count_by (λ w. ltb w v) (x ∷ xs) = omega arith in
+    subst (λ (k : ℕ). filter (between v c) (x ∷ xs) ≡ take (length (filter (between v c) (x ∷ xs))) (drop k (x ∷ xs))) e (rw (outside v c x (inl z)) (between_is_part v c (x + 1) xs a.1)))
+    (λ (z : v ≤ x).
+    let e = sym (none_below v x (x ∷ xs) (omega arith, a.1) z) in
+    subst (λ (k : ℕ). filter (between v c) (x ∷ xs) ≡ take (length (filter (between v c) (x ∷ xs))) (drop k (x ∷ xs))) e (first_part v c x (x ∷ xs) (omega arith, a.1) z))
+    (cases_lt x v)
+
+-- ---- the tree of a node is what opens, and what closes, from where it opens up to where it closes
+-- the places of a bit in it, and how many they are
+pub places_in : Bool → Forest → ℕ → List ℕ
+places_in bit F v = filter (between v (closing F v)) (places bit (text F))
+
+pub as_part : (bit : Bool) (F : Forest) (v : ℕ) → places_in bit F v ≡ take (length (places_in bit F v)) (drop (count bit (text F) v) (places bit (text F)))
+unfolding places_in
+as_part bit F v =
+    subst (λ (k : ℕ). filter (between v (closing F v)) (places bit (text F)) ≡ take (length (filter (between v (closing F v)) (places bit (text F)))) (drop k (places bit (text F)))) (below_counted bit (text F) v) (between_is_part v (closing F v) 0 (places bit (text F)) (places_ascend bit (text F)))
+
+pub part_counted : (bit : Bool) (F : Forest) (v : ℕ) → HasPair F v → length (places_in bit F v) + count bit (text F) v ≡ count bit (text F) (closing F v + 1)
+unfolding places_in
+part_counted bit F v h =
+    let l = length-filter (between v (closing F v)) (places bit (text F)) in let a = h.closes.after in
+    let k = count_between v (closing F v) (places bit (text F)) (omega arith) in
+    let x = below_counted bit (text F) v in let y = below_counted bit (text F) (closing F v + 1) in
+    omega arith
+
+pub part_inside : (bit : Bool) (F : Forest) (v : ℕ) → HasPair F v → count bit (text F) v + length (places_in bit F v) ≤ length (places bit (text F))
+part_inside bit F v h =
+    let k = part_counted bit F v h in let y = below_counted bit (text F) (closing F v + 1) in
+    let m = count_by-le-length (λ w. ltb w (closing F v + 1)) (places bit (text F)) in
+    omega arith
+
+-- twice as many are the places from the opening bracket to the closing one
+pub part_size : (bit : Bool) (F : Forest) (v : ℕ) → HasPair F v → 2 * length (places_in bit F v) + v ≡ closing F v + 1
+unfolding excess
+part_size bit F v h =
+    let a = h.closes.after in let i = h.closes.inside in let e = h.closes.back in
+    let m = count_both (text F) v in let n = count_both (text F) (closing F v + 1) in
+    go bit (part_counted bit F v h) e m n
+  where
+    go : (bit : Bool) → length (places_in bit F v) + count bit (text F) v ≡ count bit (text F) (closing F v + 1) → excess (text F) (closing F v + 1) ≡ excess (text F) v → count false (text F) v + count true (text F) v ≡ min v (length (text F)) → count false (text F) (closing F v + 1) + count true (text F) (closing F v + 1) ≡ min (closing F v + 1) (length (text F)) → 2 * length (places_in bit F v) + v ≡ closing F v + 1
+    go true k e m n = let a = h.closes.after in let i = h.closes.inside in omega (arith, ints)
+    go false k e m n = let a = h.closes.after in let i = h.closes.inside in omega (arith, ints)
+
+-- the nodes of the tree of v, in preorder
+pub subtree_is : (F : Forest) (v : ℕ) → HasPair F v → subtree F v ≡ places_in true F v
+unfolding subtree places_in
+subtree_is F v h = filter_agree (λ w. is_ancestor F v w) (between v (closing F v)) (nodes F) (λ w i. agree w (node_pair F w i)) ∙ ap (filter (between v (closing F v))) (nodes_are_ones F)
+  where
+    agree : (w : ℕ) → HasPair F w → is_ancestor F v w ≡ between v (closing F v) w
+    agree w k = same_from_decides _ _ (Decides-like (is_ancestor F v w) (λ g. let a = k.closes.after in let b = g.1 in (g.0, omega arith)) (λ g. (g.0, back g.0 g.1)) (ancestor_decides F v w)) (between_decides v (closing F v) w)
+      where
+        back : v ≤ w → w ≤ closing F v → closing F w ≤ closing F v
+        back a b = ⊎_elim
+            (λ (e : v ≡ w). let s : closing F v ≡ closing F w = ap (closing F) e in omega arith)
+            (λ (z : v < w). let n = nested (text F) v (closing F v) w (closing F w) h.closes k.closes z b in omega arith)
+            (eq-or-lt_of_le a)
+
+pub subtree_size_is : (F : Forest) (v : ℕ) → HasPair F v → 2 * length (subtree F v) + v ≡ closing F v + 1
+subtree_size_is F v h = let s = ap (λ (xs : List ℕ). length xs) (subtree_is F v h) in let p = part_size true F v h in omega arith
+
+-- in postorder
+zero_here : (b : Bool) → is_bit false b ≡ true → b ≡ false
+zero_here true h = absurd (cc)
+zero_here false h = refl
+
+pub subtree_post_is : (F : Forest) (v : ℕ) → HasPair F v → subtree_post F v ≡ map (opening_of (text F)) (places_in false F v)
+unfolding subtree_post places_in
+subtree_post_is F v h =
+    ap (filter (λ w. is_ancestor F v w)) (sym (postorder_opens F))
+    ∙ filter_mapped (λ w. is_ancestor F v w) (between v (closing F v)) (opening_of (text F)) (places false (text F)) (All-weaker (HasBitAt false (text F)) (λ k. is_ancestor F v (opening_of (text F) k) ≡ between v (closing F v) k) (λ k b. agree k (close_is_paired F k false b.inside (zero_here _ b.holds))) (places false (text F)) (all_places false (text F)))
+  where
+    agree : (k : ℕ) → (w : ℕ) × Paired F w k → is_ancestor F v (opening_of (text F) k) ≡ between v (closing F v) k
+    agree k p =
+        let q = paired_closes F p.0 k p.1 in let a = q.after in let c = closing_is F p.0 k p.1 in
+        let o : opening_of (text F) k ≡ p.0 = ap (λ (o : Option ℕ). unwrap_or o 0) (before_is (text F) k (negsuc 0) p.0 (before_from_closes (text F) p.0 k q)) in
+        rw o (same_from_decides _ _ (Decides-like (is_ancestor F v p.0) (λ g. let x = g.0 in let y = g.1 in (omega arith, omega arith)) (λ g.
+        let x = g.0 in let y = g.1 in
+        (⊎_elim (λ (z : p.0 < v). let n = nested (text F) p.0 k v (closing F v) q h.closes z x in absurd (omega arith)) (λ (z : v ≤ p.0). z) (cases_lt p.0 v), omega arith))
+        (ancestor_decides F v p.0)) (between_decides v (closing F v) k))
+
+-- ---- the orders
+pub closes_in_order : (F : Forest) → map (closing F) (postorder F) ≡ places false (text F)
+closes_in_order F = all_closed F (pairs_by_closing F) (closing_paired F) ∙ closing_is_zeros F
+  where
+    all_closed : (F : Forest) (qs : List (ℕ × ℕ)) → All (λ q. Paired F q.0 q.1) qs → map (closing F) (opening_places qs) ≡ closing_places qs
+    all_closed F [] h = refl
+    all_closed F (q ∷ qs) h =
+        ap (λ (c : ℕ). c ∷ map (closing F) (opening_places qs)) (closing_is F q.0 q.1 (All-head (λ q. Paired F q.0 q.1) q qs h)) ∙ ap (λ (xs : List ℕ). q.1 ∷ xs) (all_closed F qs (All-tail (λ q. Paired F q.0 q.1) q qs h))
+
+pub ruleset orders = (nodes_are_ones, closes_in_order)

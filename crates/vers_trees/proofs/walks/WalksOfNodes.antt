@@ -1,0 +1,275 @@
+-- A walk from tree to tree below a node meets its children, forwards and backwards.
+use Rattle.std.proofs.Common.{◌≡◌, ℕ, zero, suc, ◌+◌, ◌-◌, ◌<◌, ◌≤◌, Bool, true, false, cond, List, [], ◌∷◌, length, reverse, get_or, ltb, eqb, negsuc, Option, Some, None, arith, sym, refl, ap, ◌∙◌, ◌/◌, ◌++◌, map, take, drop, length-append, subst, slice_get}
+use Rattle.std.specs.Prelude.{slice_get, unwrap_or}
+use Rattle.std.specs.Option.{option_eq}
+use Rattle.std.proofs.lemmas.Option.{slice_get_within, slice_get_past, slice_get-get_or, get_or_from_slice_get}
+use Rattle.std.proofs.lemmas.List.{get_or-reverse, length-reverse, append-nil, append_assoc, length-map, length-take, length-drop, get_or-map, get_or-take, get_or-drop, take_all}
+use Rattle.std.proofs.lemmas.List.Sums.{length-filter, count_by-le-length}
+use Rattle.vers_bits.specs.Bits.{count, places, select}
+use Rattle.vers_bits.proofs.PublicLaws.{length-places, count_le}
+use Rattle.vers_trees.specs.Excess.{first_rise_after, last_rise_before}
+use Rattle.vers_trees.specs.Forest.{Forest, text, IsBalanced, forest_of}
+use Rattle.vers_trees.specs.Nodes.{nodes, closing, parent, nodes_under, children, siblings, last_of, next_of, previous_of, IsNode, subtree}
+use Rattle.vers_trees.specs.Siblings.{tree_to, opened, tree_from, tree_before, met, walked, MeetsJust, opening_of, tree_beside, siblings_left, IsWalkOfSiblings}
+use Rattle.vers_trees.proofs.searches.Searches.{after_is}
+use Rattle.vers_trees.proofs.kin.Partners.{after_from_closes}
+use Rattle.vers_trees.proofs.kin.NodeList.{HasPair, node_pair, nodes_are_ones, opens, option_decides}
+use Rattle.vers_trees.proofs.levels.NodeLaws.{AscendsFrom, nodes_ascend, filter_ascends, next_member, member_before, first_member_before, last_by_number, member_passes}
+use Rattle.vers_trees.proofs.kin.Kin.{opened_here, closed_before, first_child_is, last_child_is, next_sibling_is, previous_sibling_is}
+use Rattle.std.specs.List.{Contains}
+use Rattle.std.proofs.lemmas.List.Elements.{Contains-get_or}
+use Rattle.vers_bits.specs.Walk.{TakesFirst}
+use Rattle.vers_tally.specs.Reads.{Reads}
+use Rattle.vers_tally.specs.Ends.{Walking}
+use Rattle.vers_trees.specs.Traversals.{postorder, subtree_post}
+use Rattle.vers_trees.proofs.grammar.Grammar.{text-forest_of}
+use Rattle.vers_trees.proofs.grammar.Paired.{closes_rises, closes_falls}
+use Rattle.vers_trees.proofs.walks.Lists.{shifted, postorder_opens}
+use Rattle.vers_trees.proofs.walks.ListsOfNodes.{places_in, as_part, part_inside, part_size, subtree_is, subtree_size_is, subtree_post_is}
+use Rattle.vers_trees.specs.inside.Closed.{closed_by}
+
+-- a walk that ends meets what `walked` says, if it is given enough steps
+pub walk_is : (step : ℕ → Option (ℕ × ℕ)) (n p : ℕ) (vs : List ℕ) → MeetsJust step p vs → length vs ≤ n → walked step n p ≡ vs
+walk_is step zero p [] h g = refl
+walk_is step (suc n) p [] h g = ap (λ (o : Option (ℕ × ℕ)). met o (walked step n)) h
+walk_is step zero p (v ∷ vs) h g = absurd (omega arith)
+walk_is step (suc n) p (v ∷ vs) h g =
+    ap (λ (o : Option (ℕ × ℕ)). met o (walked step n)) h.1 ∙ ap (λ (xs : List ℕ). v ∷ xs) (walk_is step n h.0 vs h.2 (omega arith))
+
+-- a walk meets no more than its steps
+pub walk_short : (step : ℕ → Option (ℕ × ℕ)) (n p : ℕ) → length (walked step n p) ≤ n
+walk_short step zero p = omega arith
+walk_short step (suc n) p = go (λ (q : ℕ). walk_short step n q) (step p)
+  where
+    go : ((q : ℕ) → length (walked step n q) ≤ n) → (o : Option (ℕ × ℕ)) → length (met o (walked step n)) ≤ suc n
+    go ih None = omega arith
+    go ih (Some q) = let r = ih q.1 in omega arith
+
+-- a walk meets a list whose members its steps find one after another
+steps_meet : (step : ℕ → Option (ℕ × ℕ)) (xs : List ℕ) (At : ℕ → ℕ → Type 0) → ((p i : ℕ) → At p i → slice_get xs i ≡ None → step p ≡ None) → ((p i v : ℕ) → At p i → slice_get xs i ≡ Some v → (q : ℕ) × (step p ≡ Some (v, q)) × At q (suc i)) → (p : ℕ) → At p 0 → MeetsJust step p xs
+steps_meet step [] At none some p a = none p 0 a refl
+steps_meet step (x ∷ xs) At none some p a = let s = some p 0 x a refl in (s.0, s.1, steps_meet step xs (λ p i. At p (suc i)) (λ p i. none p (suc i)) (λ p i. some p (suc i)) s.0 s.2)
+
+-- ---- a list that ascends, from its end
+reversed_at : (xs : List ℕ) (i : ℕ) → i < length xs → slice_get (reverse xs) i ≡ slice_get xs (length xs - 1 - i)
+reversed_at xs i h =
+    let e = length-reverse xs in
+    slice_get-get_or (reverse xs) i 0 (omega arith) ∙ ap Some (get_or-reverse xs i 0 h) ∙ sym (slice_get-get_or xs (length xs - 1 - i) 0 (omega arith))
+
+reversed_first : (xs : List ℕ) → slice_get (reverse xs) 0 ≡ last_of xs
+reversed_first [] = refl
+reversed_first (x ∷ xs) =
+    let e : length (x ∷ xs) - 1 - 0 ≡ length (x ∷ xs) - 1 = omega arith in
+    reversed_at (x ∷ xs) 0 (omega arith) ∙ ap (slice_get (x ∷ xs)) e ∙ sym (last_by_number (x ∷ xs))
+
+reversed_next : (xs : List ℕ) (i j w : ℕ) → AscendsFrom 0 xs → i + j + 1 ≡ length xs → slice_get xs j ≡ Some w → slice_get (reverse xs) (suc i) ≡ previous_of xs w
+reversed_next xs i zero w a h e = let r = length-reverse xs in slice_get_past (reverse xs) (suc i) (omega arith) ∙ sym (first_member_before 0 w xs a e)
+reversed_next xs i (suc j) w a h e =
+    let at : length xs - 1 - suc i ≡ j = omega arith in
+    reversed_at xs (suc i) (omega arith) ∙ ap (slice_get xs) at ∙ sym (member_before None 0 j w xs a e)
+
+-- ---- children
+children_ascend : (F : Forest) (v : ℕ) → AscendsFrom 0 (children F v)
+unfolding nodes_under
+children_ascend F v = filter_ascends _ 0 (nodes F) (nodes_ascend F)
+
+child_member : (F : Forest) (v i w : ℕ) → slice_get (children F v) i ≡ Some w → HasPair F w × (siblings F w ≡ children F v)
+unfolding nodes_under
+child_member F v i w e =
+    let r = member_passes (λ w. option_eq eqb (parent F w) (Some v)) (nodes F) i w e in
+    (node_pair F w r.0, ap (nodes_under F) ((option_decides (parent F w) (Some v)).0 r.1))
+
+pub children_few : (F : Forest) (v : ℕ) → length (children F v) ≤ length (text F)
+unfolding nodes_under
+children_few F v =
+    let a = length-filter (λ w. option_eq eqb (parent F w) (Some v)) (nodes F) in
+    let b = count_by-le-length (λ w. option_eq eqb (parent F w) (Some v)) (nodes F) in
+    let c = ap (λ (xs : List ℕ). length xs) (nodes_are_ones F) ∙ length-places true (text F) in
+    let d = (count_le true (text F) (length (text F))).0 in
+    omega arith
+
+here : (l : List Bool) (p w : ℕ) → opened_here l p ≡ Some w → p ≡ w
+here l p w e = go (get_or l p false) e
+  where
+    go : (b : Bool) → cond b (Some p) None ≡ Some w → p ≡ w
+    go true e = cc
+    go false e = absurd (cc)
+
+not_here : (l : List Bool) (p : ℕ) → opened_here l p ≡ None → tree_from l p ≡ None
+not_here l p e = go (get_or l p false) e
+  where
+    go : (b : Bool) → cond b (Some p) None ≡ None → cond b (tree_to p (first_rise_after l p (negsuc 0))) None ≡ None
+    go true e = absurd (cc)
+    go false e = refl
+
+pub meets_forwards : (F : Forest) (v : ℕ) → HasPair F v → MeetsJust (tree_from (text F)) (v + 1) (children F v)
+meets_forwards F v h = steps_meet (tree_from (text F)) (children F v) (λ p i. slice_get (children F v) i ≡ opened_here (text F) p)
+    (λ p i a e. not_here (text F) p (sym a ∙ e))
+    (λ p i w a e.
+    let m = child_member F v i w e in let k = m.0 in
+    let at : p ≡ w = here (text F) p w (sym a ∙ e) in (
+      closing F w + 1,
+      rw (at, opens F w k) (ap (tree_to w) (after_is (text F) w (negsuc 0) (closing F w) (after_from_closes (text F) w (closing F w) k.closes))),
+      sym (next_member 0 i w (children F v) (children_ascend F v) e) ∙ ap (λ (vs : List ℕ). next_of vs w) (sym m.1) ∙ sym (next_sibling_is F w k),
+    ))
+    (v + 1)
+    (sym (first_child_is F v h))
+
+before_step : (l : List Bool) (p : ℕ) → tree_before l p ≡ opened (closed_before l p)
+before_step l zero = refl
+before_step l (suc u) = go (get_or l u true) (last_rise_before l u (negsuc 0))
+  where
+    go : (b : Bool) (o : Option ℕ) → cond b None (opened o) ≡ opened (cond b None o)
+    go true o = refl
+    go false o = refl
+
+pub meets_backwards : (F : Forest) (v : ℕ) → HasPair F v → MeetsJust (tree_before (text F)) (closing F v) (reverse (children F v))
+meets_backwards F v h = steps_meet (tree_before (text F)) (reverse xs) (λ p i. slice_get (reverse xs) i ≡ closed_before (text F) p)
+    (λ p i a e. before_step (text F) p ∙ ap opened (sym a ∙ e))
+    (λ p i w a e.
+    let r = length-reverse xs in let n = slice_get_within (reverse xs) i w e in
+    let at = sym (reversed_at xs i (omega arith)) ∙ e in
+    let m = child_member F v (length xs - 1 - i) w at in (
+      w,
+      before_step (text F) p ∙ ap opened (sym a ∙ e),
+      reversed_next xs i (length xs - 1 - i) w (children_ascend F v) (omega arith) at ∙ ap (λ (vs : List ℕ). previous_of vs w) (sym m.1) ∙ sym (previous_sibling_is F w m.0),
+    ))
+    (closing F v)
+    (reversed_first xs ∙ sym (last_child_is F v h))
+  where
+    xs : List ℕ
+    xs = children F v
+
+-- ---- the walks over nodes meet the lists of their definitions
+-- ---- steps among siblings
+pub walk_ends : (l : List Bool) (forward : Bool) (p : ℕ) → IsWalkOfSiblings l forward p → tree_beside l forward p ≡ None → TakesFirst (siblings_left l forward p) None (siblings_left l forward p)
+walk_ends l forward p w e = go (siblings_left l forward p) w
+  where
+    go : (vs : List ℕ) → MeetsJust (tree_beside l forward) p vs → TakesFirst vs None vs
+    go [] m = record { given = refl; left = refl }
+    go (v ∷ vs) m = absurd (let f = m.1 in cc)
+
+pub walk_goes_on : (l : List Bool) (forward : Bool) (p v q : ℕ) → IsWalkOfSiblings l forward p → tree_beside l forward p ≡ Some (v, q) → TakesFirst (siblings_left l forward p) (Some v) (siblings_left l forward q) × IsWalkOfSiblings l forward q
+unfolding siblings_left
+walk_goes_on l forward p v q w e = go (siblings_left l forward p) w (walk_short (tree_beside l forward) (length l) p)
+  where
+    second : (a b : ℕ × ℕ) → Some a ≡ Some b → a ≡ b
+    second a b h = cc
+
+    go : (vs : List ℕ) → MeetsJust (tree_beside l forward) p vs → length vs ≤ length l → TakesFirst vs (Some v) (siblings_left l forward q) × MeetsJust (tree_beside l forward) q (siblings_left l forward q)
+    go [] m h = absurd (cc)
+    go (u ∷ vs) m h =
+        let s = second (v, q) (u, m.0) (sym e ∙ m.1) in
+        let a : v ≡ u = ap (λ (x : ℕ × ℕ). x.0) s in
+        let b : m.0 ≡ q = sym (ap (λ (x : ℕ × ℕ). x.1) s) in
+        let rest = subst (λ (x : ℕ). MeetsJust (tree_beside l forward) x vs) b m.2 in
+        let r = walk_is (tree_beside l forward) (length l) q vs rest (omega arith) in
+        (record { given = ap Some a; left = r }, subst (MeetsJust (tree_beside l forward) q) (sym r) rest)
+
+walk_from : (l : List Bool) (forward : Bool) (p : ℕ) (vs : List ℕ) → MeetsJust (tree_beside l forward) p vs → length vs ≤ length l → (siblings_left l forward p ≡ vs) × IsWalkOfSiblings l forward p
+unfolding siblings_left
+walk_from l forward p vs m h =
+    let e = walk_is (tree_beside l forward) (length l) p vs m h in
+    (e, subst (MeetsJust (tree_beside l forward) p) (sym e) m)
+
+forwards_in : (F : Forest) (v : ℕ) → IsNode F v → (siblings_left (text F) true (v + 1) ≡ children F v) × IsWalkOfSiblings (text F) true (v + 1)
+forwards_in F v n = walk_from (text F) true (v + 1) (children F v) (meets_forwards F v (node_pair F v n)) (children_few F v)
+
+backwards_in : (F : Forest) (v : ℕ) → IsNode F v → (siblings_left (text F) false (closing F v) ≡ reverse (children F v)) × IsWalkOfSiblings (text F) false (closing F v)
+backwards_in F v n = walk_from (text F) false (closing F v) (reverse (children F v)) (meets_backwards F v (node_pair F v n)) (let a = length-reverse (children F v) in let b = children_few F v in omega arith)
+
+-- what a walk with these nodes left is seen as
+abbrev pub walking : List ℕ → Reads → Walking ℕ
+walking vs step = record { left = vs; step = step }
+
+-- a node closes inside the list
+pub node_inside : (l : List Bool) (v : ℕ) → IsBalanced l → IsNode (forest_of l) v → v + 1 < length l
+node_inside l v b n =
+    let h = (node_pair (forest_of l) v n).closes in
+    let a = h.after in let i = h.inside in
+    subst (λ (m : List Bool). v + 1 < length m) (text-forest_of l b) (let g : v + 1 < length (text (forest_of l)) = omega arith in g)
+
+-- where a node of a balanced list closes
+pub close_in : (l : List Bool) (v : ℕ) → IsBalanced l → IsNode (forest_of l) v → first_rise_after l v (negsuc 0) ≡ Some (closing (forest_of l) v)
+close_in l v b n =
+    let F = forest_of l in
+    subst (λ (m : List Bool). first_rise_after m v (negsuc 0) ≡ Some (closing F v)) (text-forest_of l b)
+    (after_is (text F) v (negsuc 0) (closing F v) (after_from_closes (text F) v (closing F v) (node_pair F v n).closes))
+
+pub end_in : (l : List Bool) (v : ℕ) (o : Option ℕ) (c : ℕ) → IsBalanced l → IsNode (forest_of l) v → o ≡ first_rise_after l v (negsuc 0) → c ≡ unwrap_or o v → c ≡ closing (forest_of l) v
+end_in l v o c b n e d = d ∙ ap (λ (x : Option ℕ). unwrap_or x v) (e ∙ close_in l v b n)
+
+pub forwards : (l : List Bool) (v : ℕ) → IsBalanced l → IsNode (forest_of l) v → (siblings_left l true (v + 1) ≡ children (forest_of l) v) × IsWalkOfSiblings l true (v + 1)
+forwards l v b n = subst (λ (m : List Bool). (siblings_left m true (v + 1) ≡ children (forest_of l) v) × IsWalkOfSiblings m true (v + 1)) (text-forest_of l b) (forwards_in (forest_of l) v n)
+
+pub backwards : (l : List Bool) (v c : ℕ) → IsBalanced l → IsNode (forest_of l) v → c ≡ closing (forest_of l) v → (siblings_left l false c ≡ reverse (children (forest_of l) v)) × IsWalkOfSiblings l false c
+backwards l v c b n e =
+    subst (λ (k : ℕ). (siblings_left l false k ≡ reverse (children (forest_of l) v)) × IsWalkOfSiblings l false k) (sym e)
+    (subst (λ (m : List Bool). (siblings_left m false (closing (forest_of l) v) ≡ reverse (children (forest_of l) v)) × IsWalkOfSiblings m false (closing (forest_of l) v)) (text-forest_of l b) (backwards_in (forest_of l) v n))
+
+-- ---- the tree of a node
+pub within_is : (l : List Bool) (v c : ℕ) → IsBalanced l → IsNode (forest_of l) v → c ≡ closing (forest_of l) v → (v ≤ c) × ((c - v) / 2 + 1 ≡ length (subtree (forest_of l) v))
+within_is l v c b n e =
+    let h = node_pair (forest_of l) v n in
+    let s = subtree_size_is (forest_of l) v h in
+    let a = h.closes.after in
+    (omega arith, omega arith)
+
+pub subtree_inside : (bit : Bool) (l : List Bool) (v : ℕ) → IsBalanced l → IsNode (forest_of l) v → count bit l v + length (subtree (forest_of l) v) ≤ length (places bit l)
+subtree_inside bit l v b n =
+    let F = forest_of l in let h = node_pair (forest_of l) v n in
+    subst (λ (m : List Bool). count bit m v + length (subtree F v) ≤ length (places bit m)) (text-forest_of l b) (let p = part_size bit F v h in let q = subtree_size_is F v h in let i = part_inside bit F v h in omega arith)
+
+pub subtree_part : (l : List Bool) (v : ℕ) → IsBalanced l → IsNode (forest_of l) v → take (length (subtree (forest_of l) v)) (drop (count true l v) (places true l)) ≡ subtree (forest_of l) v
+subtree_part l v b n =
+    let F = forest_of l in let e = subtree_is F v (node_pair F v n) in
+    subst (λ (m : List Bool). take (length (subtree F v)) (drop (count true m v) (places true m)) ≡ subtree F v) (text-forest_of l b)
+    (ap (λ (xs : List ℕ). take (length xs) (drop (count true (text F) v) (places true (text F)))) e ∙ sym (as_part true F v) ∙ sym e)
+
+pub subtree_post_part : (l : List Bool) (v : ℕ) → IsBalanced l → IsNode (forest_of l) v → map (opening_of l) (take (length (subtree (forest_of l) v)) (drop (count false l v) (places false l))) ≡ subtree_post (forest_of l) v
+subtree_post_part l v b n =
+    let F = forest_of l in let h = node_pair (forest_of l) v n in
+    let same : length (subtree (forest_of l) v) ≡ length (places_in false (forest_of l) v) = (let p = part_size false (forest_of l) v h in let q = subtree_size_is (forest_of l) v h in omega arith) in
+    subst (λ (m : List Bool). map (opening_of m) (take (length (subtree F v)) (drop (count false m v) (places false m))) ≡ subtree_post F v) (text-forest_of l b)
+    (ap (λ (k : ℕ). map (opening_of (text F)) (take k (drop (count false (text F) v) (places false (text F))))) same ∙ ap (map (opening_of (text F))) (sym (as_part false F v)) ∙ sym (subtree_post_is F v h))
+
+pub post_all : (l : List Bool) → IsBalanced l → map (opening_of l) (places false l) ≡ postorder (forest_of l)
+post_all l b = subst (λ (m : List Bool). map (opening_of m) (places false m) ≡ postorder (forest_of l)) (text-forest_of l b) (postorder_opens (forest_of l))
+
+-- ---- handles
+pub ones_are_nodes : (bits : List Bool) (i : ℕ) → IsBalanced bits → i < count true bits (length bits) → IsNode (forest_of bits) (select true bits i)
+unfolding select
+ones_are_nodes bits i b h =
+    let e : nodes (forest_of bits) ≡ places true bits = nodes_are_ones (forest_of bits) ∙ ap (places true) (text-forest_of bits b) in
+    let n = length-places true bits in
+    subst (λ (vs : List ℕ). Contains vs (get_or (places true bits) i (length bits))) (sym e) (Contains-get_or (places true bits) i (length bits) (omega arith))
+
+pub ruleset handles = (ones_are_nodes)
+
+-- ---- the nodes that zeros close, as a source of items
+length-zeros_from : (l : List Bool) (k n : ℕ) → k + n ≤ length (places false l) → length (take n (drop k (places false l))) ≡ n
+length-zeros_from l k n h = omega (arith, length-take n (drop k (places false l)), length-drop k (places false l))
+
+pub length-closed_by : (l : List Bool) (k n : ℕ) → k + n ≤ length (places false l) → length (closed_by l k n) ≡ n
+length-closed_by l k n h = length-map (take n (drop k (places false l))) (opening_of l) ∙ length-zeros_from l k n h
+
+-- a zero of number k + i is there, below the most bits that a list has
+pub zero_inside : (l : List Bool) (k n i : ℕ) → k + n ≤ length (places false l) → i < length (closed_by l k n) → k + i < length (places false l)
+zero_inside l k n i h low = omega (arith, h, low, length-closed_by l k n h)
+
+pub zeros_fit : (l : List Bool) → length (places false l) ≤ length l
+zeros_fit l = omega (arith, length-places false l, (count_le false l (length l)).1)
+
+pub closed_item : (l : List Bool) (k n i c : ℕ) → k + n ≤ length (places false l) → i < length (closed_by l k n) → slice_get (places false l) (k + i) ≡ Some c → slice_get (closed_by l k n) i ≡ Some (opening_of l c)
+closed_item l k n i c h low at =
+    let zs = take n (drop k (places false l)) in
+    let few : i < n = omega (arith, low, length-closed_by l k n h) in
+    let inside : i < length zs = omega (arith, few, length-zeros_from l k n h) in
+    let is : get_or zs i 0 ≡ c = get_or-take n (drop k (places false l)) i 0 few ∙ get_or-drop k (places false l) i 0 ∙ get_or_from_slice_get (places false l) (k + i) c 0 at in
+    slice_get-get_or (closed_by l k n) i 0 low ∙ ap Some (get_or-map (opening_of l) zs i 0 0 inside ∙ ap (opening_of l) is)
+
+-- the nodes that all zeros close are those of the forest, each after those below it
+pub closed_by_all : (l : List Bool) (n : ℕ) → IsBalanced l → n ≡ length (places false l) → closed_by l 0 n ≡ postorder (forest_of l)
+closed_by_all l n b e = ap (map (opening_of l)) (take_all n (places false l) (omega (arith, e))) ∙ post_all l b
+
+pub ruleset closed = (length-closed_by, zero_inside, zeros_fit, closed_item)
