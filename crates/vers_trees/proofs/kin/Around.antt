@@ -1,6 +1,6 @@
 -- The nodes around a node: its parent, its depth, how many nodes are in its tree, and how many come before it.
-use Rattle.std.proofs.Common.{◌≡◌, ℕ, zero, suc, ◌+◌, ◌*◌, ◌<◌, ◌≤◌, Bool, true, false, cond, ◌&&◌, List, [], ◌∷◌, ◌++◌, length, take, drop, ltb, leb, count_by, pos, negsuc, Option, Some, None, arith, ⊎_elim, sym, refl, ap, ◌∙◌}
-use Rattle.std.specs.Prelude.{Decides, filter}
+use Rattle.std.proofs.Common.{◌≡◌, ℕ, zero, suc, ◌+◌, ◌<◌, ◌≤◌, Bool, true, false, cond, ◌&&◌, List, [], ◌∷◌, take, ltb, leb, count_by, pos, negsuc, Option, Some, None, arith, ⊎_elim, sym, refl, ap, ◌∙◌}
+use Rattle.std.specs.Prelude.{Decides}
 use Rattle.std.specs.List.{last_or}
 use Rattle.std.proofs.lemmas.Bool.{lt-ltb, le-ltb, le-leb}
 use Rattle.std.proofs.lemmas.Bool.Decides.{Decides-ltb, Decides-and, leb_tells}
@@ -9,7 +9,7 @@ use Rattle.vers_bits.specs.Bits.{count, is_bit, places}
 use Rattle.vers_trees.proofs.walks.Lists.{shifted, places-cons}
 use Rattle.vers_trees.specs.Excess.{excess, last_rise_before}
 use Rattle.vers_trees.specs.Forest.{Forest, text, pairs}
-use Rattle.vers_trees.specs.Nodes.{nodes, closing, is_ancestor, is_proper_ancestor, proper_ancestors, depth, parent, subtree, node_index}
+use Rattle.vers_trees.specs.Nodes.{nodes, closing, is_ancestor, is_proper_ancestor, proper_ancestors, depth, parent, node_index}
 use Rattle.vers_trees.proofs.searches.Searches.{before_some, before_none}
 use Rattle.vers_trees.proofs.grammar.Paired.{closes_rises, closes_paired}
 use Rattle.vers_trees.proofs.grammar.Pairs.{paired_from_contains, one_if, count_by-cons, count_by-append, count_by-map, count_agree, count_none, moved_lt, strictly_contains, pairs_around}

@@ -1,20 +1,19 @@
 -- What the calls on a node of balanced parentheses answer, by the searches that they make.
-use Rattle.std.proofs.Common.{Option, None, Some, ◌≡◌, ℕ, zero, suc, ◌+◌, ◌-◌, ◌/◌, ◌%◌, min, ◌<◌, ◌≤◌, ◌↔◌, ◌&&◌, leb, Bool, true, false, List, [], ◌∷◌, length, get_or, pos, negsuc, neg_ℤ, arith, subst, sym, refl, ap, ◌∙◌, ⊎_elim}
+use Rattle.std.proofs.Common.{Option, None, Some, ◌≡◌, ℕ, ◌+◌, ◌-◌, ◌/◌, ◌%◌, min, ◌<◌, ◌≤◌, ◌↔◌, ◌&&◌, leb, Bool, true, false, List, [], ◌∷◌, length, get_or, pos, negsuc, neg_ℤ, arith, subst, sym, refl, ap, ◌∙◌}
 use Rattle.std.specs.Prelude.{IsTrue, is_some, not}
 use Rattle.std.proofs.lemmas.Int.{ints}
-use Rattle.std.proofs.lemmas.Bool.{cases_lt, le-leb, lt-leb}
+use Rattle.std.proofs.lemmas.Bool.{le-leb, lt-leb}
 use Rattle.vers_bits.specs.Bits.{count}
 use Rattle.vers_bits.proofs.PublicLaws.{count_both}
 use Rattle.vers_trees.specs.Excess.{excess, first_rise_after, last_rise_before}
 use Rattle.vers_trees.specs.Forest.{Forest, text, IsBalanced, forest_of}
 use Rattle.vers_trees.specs.Nodes.{IsNode, closing, parent, depth, subtree, is_ancestor, node_index, children, siblings, level, level_ancestor, first_of, last_of, next_of, previous_of}
 use Rattle.vers_trees.specs.inside.Scans.{opened_after}
-use Rattle.vers_trees.proofs.searches.Beside.{opens_there, closes_there, ends_there}
 use Rattle.vers_trees.proofs.searches.Searches.{after_is}
 use Rattle.vers_trees.proofs.grammar.Grammar.{text-forest_of}
 use Rattle.vers_trees.proofs.grammar.Paired.{Closes}
 use Rattle.vers_trees.proofs.kin.Partners.{after_from_closes}
-use Rattle.vers_trees.proofs.kin.NodeList.{HasPair, node_pair}
+use Rattle.vers_trees.proofs.kin.NodeList.{node_pair}
 use Rattle.vers_trees.proofs.walks.ListsOfNodes.{subtree_size_is}
 use Rattle.vers_trees.proofs.kin.Around as Around
 use Rattle.vers_trees.proofs.kin.Kin as Kin

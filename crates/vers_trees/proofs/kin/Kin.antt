@@ -1,11 +1,11 @@
 -- Children and siblings: where the nearest of them open.
-use Rattle.std.proofs.Common.{◌≡◌, ℕ, zero, suc, ◌+◌, ◌-◌, ◌<◌, ◌≤◌, ◌≢◌, ◌⊎◌, Bool, true, false, ◌&&◌, cond, List, [], ◌∷◌, length, get_or, ltb, eqb, negsuc, Option, Some, None, arith, ⊎_elim, subst, sym, refl, ap, ◌∙◌}
-use Rattle.std.specs.Prelude.{find, filter, Decides}
+use Rattle.std.proofs.Common.{◌≡◌, ℕ, zero, suc, ◌+◌, ◌-◌, ◌<◌, ◌≤◌, ◌≢◌, ◌⊎◌, Bool, true, false, cond, List, [], ◌∷◌, length, get_or, eqb, negsuc, Option, Some, None, arith, ⊎_elim, subst, sym, refl, ap, ◌∙◌}
+use Rattle.std.specs.Prelude.{filter, Decides}
 use Rattle.std.specs.List.{Contains, last_or}
 use Rattle.std.specs.Option.{option_eq}
 use Rattle.std.proofs.lemmas.Int.{ints}
 use Rattle.std.proofs.lemmas.Bool.{cases_lt, cases_order}
-use Rattle.std.proofs.lemmas.Bool.Decides.{Decides-ltb, Decides-and, Decides-like, same_from_decides}
+use Rattle.std.proofs.lemmas.Bool.Decides.{Decides-like, same_from_decides}
 use Rattle.std.proofs.lemmas.List.{get_or_past}
 use Rattle.std.proofs.Math.Nat.{eq-or-lt_of_le}
 use Rattle.vers_trees.specs.Excess.{last_rise_before}

@@ -1,5 +1,5 @@
 -- Building a tree of excesses from its leaves up to its root.
-use Rattle.std.proofs.Common.{◌≡◌, ℕ, zero, suc, ◌+◌, ◌-◌, ◌*◌, ◌/◌, ◌^◌, ◌<◌, ◌≤◌, ◌≢◌, ◌⊎◌, inl, inr, Bool, List, [], ◌∷◌, length, get_or, set, drop, ℤ, ◌+ℤ◌, ◌-ℤ◌, ◌≤ℤ◌, ◌<ℤ◌, arith, add-one, ⊎_elim, subst, sym, refl, ap, ◌∙◌, FitsSigned, ◌↔◌}
+use Rattle.std.proofs.Common.{◌≡◌, ℕ, ◌+◌, ◌-◌, ◌*◌, ◌/◌, ◌^◌, ◌<◌, ◌≤◌, ◌≢◌, ◌⊎◌, inl, inr, Bool, List, [], ◌∷◌, length, get_or, set, drop, ℤ, ◌+ℤ◌, ◌-ℤ◌, ◌≤ℤ◌, ◌<ℤ◌, arith, ⊎_elim, subst, sym, refl, ap, ◌∙◌, FitsSigned, ◌↔◌}
 use mir.Syntax.{w64}
 use Rattle.std.proofs.lemmas.Int.{ints, clamps}
 use Rattle.std.proofs.lemmas.Bool.{cases_lt}
@@ -8,7 +8,7 @@ use Rattle.std.proofs.Math.Nat.{eq-or-lt_of_le, div-lt_iff_lt-mul}
 use Rattle.vers_trees.proofs.grammar.Excess.{excess-zero}
 use Rattle.vers_trees.specs.declared.trees.bp.min_max.Node.{Node}
 use Rattle.vers_trees.specs.Excess.{excess}
-use Rattle.vers_trees.specs.inside.MinMax.{combined, CoveredFrom, AreLeaves, JoinFits, total_before, empty_node, Reaches, Covers, StandsOver, IsPart, AreBlocks, IsRange, IsLevel, IsMinMax}
+use Rattle.vers_trees.specs.inside.MinMax.{combined, CoveredFrom, AreLeaves, JoinFits, total_before, empty_node, Reaches, Covers, StandsOver, IsPart, AreBlocks, IsRange, IsLevel}
 use Rattle.vers_trees.proofs.layout.MinMax.{covers_combined, HasChildren, stands_children, stands_every, leaf_stands, root}
 use Rattle.vers_trees.proofs.layout.Blocks.{total_more, total_past, total_all, total_start, reaches_iff, sum_before_block, balanced_iff_root}
 use Rattle.vers_trees.specs.Forest.{IsBalanced}

@@ -1,5 +1,5 @@
 -- The nodes of one depth: which of them the searches find.
-use Rattle.std.proofs.Common.{◌≡◌, ℕ, zero, suc, ◌+◌, ◌-◌, ◌<◌, ◌≤◌, ◌≢◌, Bool, true, false, ◌&&◌, List, length, get_or, eqb, ℤ, pos, negsuc, neg_ℤ, ◌+ℤ◌, ◌≤ℤ◌, ◌<ℤ◌, Option, Some, None, arith, ⊎_elim, sym, refl, ap, ◌∙◌}
+use Rattle.std.proofs.Common.{◌≡◌, ℕ, ◌+◌, ◌-◌, ◌<◌, ◌≤◌, ◌≢◌, Bool, true, false, ◌&&◌, List, length, get_or, eqb, ℤ, pos, negsuc, neg_ℤ, ◌+ℤ◌, ◌≤ℤ◌, ◌<ℤ◌, Option, Some, None, arith, ⊎_elim, sym, refl, ap, ◌∙◌}
 use Rattle.std.specs.Prelude.{find, Decides}
 use Rattle.std.proofs.lemmas.Int.{ints}
 use Rattle.std.proofs.lemmas.Bool.{cases_lt}
@@ -9,7 +9,7 @@ use Rattle.vers_bits.proofs.PublicLaws.{count_le}
 use Rattle.vers_trees.specs.Excess.{excess, first_rise_after, last_rise_before}
 use Rattle.vers_trees.specs.Forest.{Forest, none, tree, text}
 use Rattle.vers_trees.specs.Nodes.{nodes, closing, is_ancestor, depth, level, level_ancestor, first_of, last_of, next_of, previous_of}
-use Rattle.vers_trees.proofs.searches.Searches.{after_some, after_none, before_some, before_is, before_none, none_after}
+use Rattle.vers_trees.proofs.searches.Searches.{after_some, after_none, before_some, before_is, before_none}
 use Rattle.vers_trees.proofs.grammar.Excess.{below_until, below_since, excess-zero, excess-is_walk, excess_after_open, excess_after_close, open_from_rise, close_from_fall}
 use Rattle.vers_trees.proofs.grammar.Paired.{paired_closes, close_is_paired, closes_rises, total_is_zero, never_negative}
 use Rattle.vers_trees.proofs.kin.Partners.{before_from_closes, above_from_before}

@@ -1,6 +1,5 @@
 -- The searches for a rise of the excess find the places that their facts describe.
-use Rattle.std.proofs.Common.{◌≡◌, ℕ, zero, suc, ◌+◌, ◌-◌, ◌<◌, ◌≤◌, ◌≢◌, ◌⊎◌, inl, inr, Bool, true, false, cond, List, [], ◌∷◌, ◌++◌, length, ltb, ℤ, ◌+ℤ◌, Option, Some, None, MatchOption, arith, ⊎_elim, subst, sym, refl, ap, ◌∙◌}
-use Rattle.std.specs.Ordering.{int_eq}
+use Rattle.std.proofs.Common.{◌≡◌, ℕ, zero, suc, ◌+◌, ◌-◌, ◌<◌, ◌≤◌, ◌≢◌, ◌⊎◌, Bool, true, false, cond, List, [], ◌∷◌, ◌++◌, length, ℤ, ◌+ℤ◌, Option, Some, None, MatchOption, arith, ⊎_elim, subst, sym, refl, ap, ◌∙◌}
 use Rattle.std.specs.Prelude.{find, filter, Decides}
 use Rattle.std.specs.List.{range_with_len, last_or}
 use Rattle.std.proofs.lemmas.List.{map-id}

@@ -1,15 +1,13 @@
 -- Whole words of a scan: how far a sum falls along one at most, by its zeros that no one stands right before, and by its ones that no zero stands right after.
-use Rattle.std.proofs.Common.{◌≡◌, ◌≢◌, ℕ, zero, suc, ◌+◌, ◌-◌, ◌*◌, ◌/◌, ◌%◌, ◌^◌, ◌<◌, ◌≤◌, Bool, true, false, ◌||◌, ◌&&◌, List, [], ◌∷◌, length, take, ℤ, pos, negsuc, ◌+ℤ◌, ◌-ℤ◌, ◌≤ℤ◌, ◌<ℤ◌, arith, sym, ap, refl, FitsSigned, to_z, of_z, inl, inr, ◌⊎◌, ◌∙◌}
+use Rattle.std.proofs.Common.{◌≡◌, ℕ, zero, suc, ◌+◌, ◌-◌, ◌*◌, ◌/◌, ◌%◌, ◌^◌, ◌<◌, ◌≤◌, Bool, true, false, ◌||◌, ◌&&◌, List, [], ◌∷◌, length, take, ℤ, pos, negsuc, ◌+ℤ◌, ◌-ℤ◌, ◌≤ℤ◌, ◌<ℤ◌, arith, sym, ap, refl, FitsSigned, to_z, of_z, ◌∙◌}
 use mir.Syntax.{w64}
 use Rattle.std.specs.Prelude.{bit_or, bit_and, count_ones}
 use Rattle.std.specs.Bool.{IsTrue}
 use Rattle.std.specs.Int.Signed.{lt_z}
 use Rattle.std.proofs.lemmas.Int.{ints, to_z-of_z, to_z_pos}
-use Rattle.std.proofs.lemmas.Bool.{cases_lt}
 use Rattle.std.proofs.lemmas.Nat.{or_block, and_block, or_lt}
-use Rattle.std.proofs.lemmas.List.{take_all}
-use Rattle.vers_bits.specs.Bits.{number, part, count, limb, bit_value}
-use Rattle.vers_bits.proofs.PublicLaws.{count_limb_whole, count_both, count_none, number_half, number_odd, number-take}
+use Rattle.vers_bits.specs.Bits.{number, part, bit_value}
+use Rattle.vers_bits.proofs.PublicLaws.{number_half, number_odd, number-take}
 use Rattle.vers_trees.specs.Excess.{excess}
 use Rattle.vers_tally.specs.Reads.{Reads, AddsAtMost}
 use Rattle.vers_tally.proofs.PublicLaws.{adds_then}

@@ -2,8 +2,8 @@
 use Rattle.std.proofs.Common.{◌≡◌, ℕ, zero, suc, ◌+◌, ◌<◌, Bool, true, false, cond, List, [], ◌∷◌, ◌++◌, map, length, get_or, arith, subst, sym, refl, ap, ◌∙◌, negsuc, Option, Some, inl, inr}
 use Rattle.std.specs.Prelude.{filter, All, unwrap_or}
 use Rattle.std.specs.List.{range_with_len}
-use Rattle.std.proofs.lemmas.List.{map-append, append-nil, append_assoc}
-use Rattle.std.proofs.lemmas.List.Elements.{filter-append, All-nil, All-cons, All-head, All-tail, All-append, All-map, All-weaker}
+use Rattle.std.proofs.lemmas.List.{map-append, append_assoc}
+use Rattle.std.proofs.lemmas.List.Elements.{All-nil, All-cons, All-head, All-tail, All-append, All-map, All-weaker}
 use Rattle.vers_bits.specs.Bits.{is_bit, places}
 use Rattle.vers_trees.specs.Forest.{moved, Forest, none, tree, text}
 use Rattle.vers_trees.proofs.grammar.Paired.{Paired, paired_closes}

@@ -1,5 +1,5 @@
 -- The nodes of a node's tree are a part of all nodes, in preorder and in postorder.
-use Rattle.std.proofs.Common.{◌≡◌, ℕ, suc, ◌+◌, ◌*◌, ◌<◌, ◌≤◌, ◌⊎◌, inl, inr, Bool, true, false, ◌&&◌, List, [], ◌∷◌, map, length, take, drop, get_or, ltb, leb, count_by, min, negsuc, Option, arith, ⊎_elim, subst, sym, refl, ap, ◌∙◌}
+use Rattle.std.proofs.Common.{◌≡◌, ℕ, suc, ◌+◌, ◌*◌, ◌<◌, ◌≤◌, ◌⊎◌, inl, inr, Bool, true, false, ◌&&◌, List, [], ◌∷◌, map, length, take, drop, ltb, leb, count_by, min, negsuc, Option, arith, ⊎_elim, subst, sym, refl, ap, ◌∙◌}
 use Rattle.std.specs.Prelude.{filter, All, Decides, unwrap_or}
 use Rattle.std.proofs.lemmas.Int.{ints}
 use Rattle.std.proofs.lemmas.Bool.{cases_lt, lt-ltb, le-ltb}
@@ -14,7 +14,7 @@ use Rattle.vers_trees.specs.Forest.{Forest, text}
 use Rattle.vers_trees.specs.Nodes.{nodes, closing, is_ancestor, subtree}
 use Rattle.vers_trees.specs.Siblings.{opening_of}
 use Rattle.vers_trees.specs.Traversals.{pairs_by_closing, postorder, subtree_post}
-use Rattle.vers_trees.proofs.grammar.Paired.{Paired, paired_closes, closes_rises, close_is_paired}
+use Rattle.vers_trees.proofs.grammar.Paired.{Paired, paired_closes, close_is_paired}
 use Rattle.vers_trees.proofs.kin.Partners.{before_from_closes, nested}
 use Rattle.vers_trees.proofs.searches.Searches.{before_is}
 use Rattle.vers_trees.proofs.kin.NodeList.{HasPair, nodes_are_ones, node_pair, one_pair, closing_is, inside}

@@ -1,9 +1,9 @@
 -- A walk from tree to tree below a node meets its children, forwards and backwards.
-use Rattle.std.proofs.Common.{◌≡◌, ℕ, zero, suc, ◌+◌, ◌-◌, ◌<◌, ◌≤◌, Bool, true, false, cond, List, [], ◌∷◌, length, reverse, get_or, ltb, eqb, negsuc, Option, Some, None, arith, sym, refl, ap, ◌∙◌, ◌/◌, ◌++◌, map, take, drop, length-append, subst, slice_get}
+use Rattle.std.proofs.Common.{◌≡◌, ℕ, zero, suc, ◌+◌, ◌-◌, ◌<◌, ◌≤◌, Bool, true, false, cond, List, [], ◌∷◌, length, reverse, get_or, eqb, negsuc, Option, Some, None, arith, sym, refl, ap, ◌∙◌, ◌/◌, map, take, drop, subst, slice_get}
 use Rattle.std.specs.Prelude.{slice_get, unwrap_or}
 use Rattle.std.specs.Option.{option_eq}
 use Rattle.std.proofs.lemmas.Option.{slice_get_within, slice_get_past, slice_get-get_or, get_or_from_slice_get}
-use Rattle.std.proofs.lemmas.List.{get_or-reverse, length-reverse, append-nil, append_assoc, length-map, length-take, length-drop, get_or-map, get_or-take, get_or-drop, take_all}
+use Rattle.std.proofs.lemmas.List.{get_or-reverse, length-reverse, length-map, length-take, length-drop, get_or-map, get_or-take, get_or-drop, take_all}
 use Rattle.std.proofs.lemmas.List.Sums.{length-filter, count_by-le-length}
 use Rattle.vers_bits.specs.Bits.{count, places, select}
 use Rattle.vers_bits.proofs.PublicLaws.{length-places, count_le}
@@ -23,8 +23,7 @@ use Rattle.vers_tally.specs.Reads.{Reads}
 use Rattle.vers_tally.specs.Ends.{Walking}
 use Rattle.vers_trees.specs.Traversals.{postorder, subtree_post}
 use Rattle.vers_trees.proofs.grammar.Grammar.{text-forest_of}
-use Rattle.vers_trees.proofs.grammar.Paired.{closes_rises, closes_falls}
-use Rattle.vers_trees.proofs.walks.Lists.{shifted, postorder_opens}
+use Rattle.vers_trees.proofs.walks.Lists.{postorder_opens}
 use Rattle.vers_trees.proofs.walks.ListsOfNodes.{places_in, as_part, part_inside, part_size, subtree_is, subtree_size_is, subtree_post_is}
 use Rattle.vers_trees.specs.inside.Closed.{closed_by}
 

@@ -1,8 +1,5 @@
-use Rattle.std.proofs.Common.{◌≡◌, ◌+◌, ◌-◌, ℕ, ℤ, arith, w64, to_z, of_z, sym, ap, subst, ◌∙◌}
-use Rattle.std.proofs.lemmas.Int.{ints, to_z-of_z}
-use Rattle.vers_bits.specs.Bits.{number, part}
-use Rattle.vers_trees.specs.Bytes.{place_in}
-use Rattle.vers_trees.specs.inside.Scans.{IsLastRise, HasNoRiseBefore}
+use Rattle.std.proofs.Common.{◌≡◌, ◌+◌, ◌-◌, arith, w64, to_z, of_z}
+use Rattle.std.proofs.lemmas.Int.{to_z-of_z}
 use Rattle.vers_trees.proofs.searches.Scans.{rise_within}
 use Rattle.vers_trees.proofs.searches.ByteScans.{length-part, read_some, whole_word, byte_read, entry_ordered, backward_byte_found, backward_byte}
 use Rattle.vers_trees.proofs.searches.WordScans.{backward_word, word_counted}

@@ -1,6 +1,5 @@
-use Rattle.std.proofs.Common.{ℤ, ◌*◌, ◌/◌, ◌-◌, MatchResult, arith, w64, to_z, of_z, subst}
+use Rattle.std.proofs.Common.{arith, w64}
 use Rattle.std.proofs.lemmas.Int.{to_z-of_z}
-use Rattle.vers_trees.specs.inside.Scans.{IsLastRise, HasNoRiseBefore}
 use Rattle.vers_trees.proofs.searches.Scans.{not_begun_back, rise_is}
 use Rattle.vers_trees.proofs.trees.bp.scan.scan_backward.Goals as goal
 

@@ -1,8 +1,7 @@
-use Rattle.std.proofs.Common.{rules, ◌≡◌, ℕ, ℤ, Bool, true, false, not, List, ◌*◌, ◌+◌, ◌-◌, ◌+ℤ◌, arith, w64, FitsSigned, to_z, of_z, ap, subst, sym, ◌∙◌}
+use Rattle.std.proofs.Common.{rules, ◌≡◌, Bool, not, ◌*◌, ◌+◌, ◌-◌, ◌+ℤ◌, arith, w64, FitsSigned, to_z, of_z, ap, ◌∙◌}
 use mir.Val.{bool_byte}
 use Rattle.std.proofs.lemmas.Int.{to_z-of_z}
-use Rattle.vers_trees.specs.declared.trees.bp.min_max.Node.{Node}
-use Rattle.vers_trees.specs.inside.MinMax.{IsInRangeOrStart, LeadsBack}
+use Rattle.vers_trees.specs.inside.MinMax.{IsInRangeOrStart}
 use Rattle.vers_trees.proofs.layout.Climbs.{back_fits, back_right, back_left, back_leaf}
 use Rattle.vers_trees.proofs.layout.Steps.{no_nodes, read_down, down_ends}
 use Rattle.vers_trees.proofs.trees.bp.min_max.MinMaxTree.descend_back_counted.Goals as goal

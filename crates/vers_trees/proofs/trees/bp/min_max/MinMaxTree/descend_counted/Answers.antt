@@ -1,7 +1,6 @@
-use Rattle.std.proofs.Common.{rules, ◌≡◌, ℕ, ℤ, Bool, true, false, not, List, ◌*◌, ◌+◌, ◌-ℤ◌, arith, w64, FitsSigned, to_z, of_z, sym, ap, subst, ◌∙◌}
+use Rattle.std.proofs.Common.{rules, ◌≡◌, Bool, true, false, not, ◌*◌, ◌+◌, ◌-ℤ◌, arith, w64, FitsSigned, to_z, of_z, ap, ◌∙◌}
 use mir.Val.{bool_byte}
 use Rattle.std.proofs.lemmas.Int.{ints, to_z-of_z}
-use Rattle.vers_trees.specs.inside.MinMax.{IsInRange}
 use Rattle.vers_trees.proofs.layout.Climbs.{step_left, step_right, leads_leaf}
 use Rattle.vers_trees.proofs.layout.Steps.{no_nodes, read_down, down_ends}
 use Rattle.vers_trees.proofs.trees.bp.min_max.MinMaxTree.descend_counted.Goals as goal

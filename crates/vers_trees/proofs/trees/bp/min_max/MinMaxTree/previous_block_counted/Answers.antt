@@ -1,8 +1,5 @@
-use Rattle.std.proofs.Common.{rules, ◌≡◌, ℕ, ℤ, List, Option, None, MatchOption, ◌<◌, ◌≤◌, ◌+◌, ◌+ℤ◌, drop, w64, FitsSigned, to_z, of_z, arith, subst, sym, ap, ◌∙◌}
+use Rattle.std.proofs.Common.{rules, ◌+ℤ◌, w64, FitsSigned, to_z, arith}
 use Rattle.std.proofs.lemmas.Int.{to_z-of_z}
-use Rattle.vers_tally.specs.Reads.{digits}
-use Rattle.vers_trees.specs.declared.trees.bp.min_max.Node.{Node}
-use Rattle.vers_trees.specs.inside.MinMax.{total_before, Meets, IsPreviousBefore, IsInRangeOrStart, ComesBack}
 use Rattle.vers_trees.proofs.layout.Climbs.{rise_start, comes_back, meets_before, goes_on_before, too_far_before}
 use Rattle.vers_trees.proofs.searches.Scans.{rest_is}
 use Rattle.vers_trees.proofs.layout.Steps.{odd_most, digits_before, no_nodes, read_up, up_ends, up_then_down, up_then_none}
