@@ -194,7 +194,6 @@ closes_falls l v c d p = let a = p.after in let i = p.inside in let x = p.above 
 
 pub closes_paired : (F : Forest) (v c : ℕ) → Closes (text F) v c → Paired F v c
 closes_paired F v c p =
-    let a = p.after in let i = p.inside in
     let r = open_is_paired F v false (omega arith) (closes_rises (text F) v c false p) in
     let e : r.0 ≡ c = closes_once (text F) v r.0 c (paired_closes F v r.0 r.1) p in
     subst (λ (m : ℕ). Paired F v m) e r.1

@@ -31,7 +31,6 @@ contains_map f xs x c = (c.0, (let l = length-map xs f in let h = c.1 in omega a
 pub contains_map_cases : {X Y : Type 0} → (f : X → Y) (xs : List X) (d : X) (y : Y) → Contains (map f xs) y → (x : X) × Contains xs x × (f x ≡ y)
 contains_map_cases f xs d y c =
     let l = length-map xs f in
-    let h = c.1 in
     let i : c.0 < length xs = omega arith in
     (get_or xs c.0 d, Contains-get_or xs c.0 d i, sym (get_or-map f xs c.0 d y i) ∙ c.2)
 

@@ -46,7 +46,6 @@ parent_found : (F : Forest) (v p : ℕ) → HasPair F v → IsAbove (text F) v 1
 parent_found F v p h a =
     let r = above_is_around F v 1 p h a in
     last_node F _ _ (λ w. proper_decides F w v) p r.2 (r.0, r.1) (λ w x k g.
-    let g1 = g.1 in let ha = h.closes.after in
     let s = parent_is_nearest (text F) v p w (closing F w) a k.closes g.0 (omega arith) in
     omega arith)
 
@@ -56,7 +55,6 @@ parent_is_search F v h = go (last_rise_before (text F) v (negsuc 0)) refl
   where
     go : (o : Option ℕ) → last_rise_before (text F) v (negsuc 0) ≡ o → o ≡ last_or None (proper_ancestors F v)
     go None e = sym (no_last_node F _ _ (λ w. proper_decides F w v) (λ w k g.
-        let g1 = g.1 in let ha = h.closes.after in
         no_parent (text F) v w (closing F w) (before_none (text F) v (negsuc 0) (inside F v h) e) k.closes g.0 (omega arith)))
     go (Some p) e = sym (parent_found F v p h (above_from_before F v 1 p (omega arith) (opens F v h) (before_some (text F) v (negsuc 0) p e)))
 

@@ -54,14 +54,12 @@ same_parent F v h k =
 first_child_found : (F : Forest) (v : ℕ) → HasPair F v → get_or (text F) (v + 1) false ≡ true → first_of (children F v) ≡ Some (v + 1)
 unfolding nodes_under
 first_child_found F v h b =
-    let ha = h.closes.after in let hi = h.closes.inside in
     let k = one_pair F (v + 1) (omega arith) b in
     first_in F _ _ (under_decides F (Some v)) (v + 1) k (above_parent F (v + 1) v k (first_child_above (text F) v (closing F v) h.closes b)) (λ w x k e. let r = (parent_around F w v k e).0 in omega arith)
 
 -- nothing opens inside a tree that closes right after it opens
 no_child : (F : Forest) (v w : ℕ) → HasPair F v → get_or (text F) (v + 1) false ≡ false → HasPair F w → parent F w ≡ Some v → ⊥
 no_child F v w h b k e =
-    let ha = h.closes.after in let hi = h.closes.inside in
     let up = excess_after_open (text F) v false (omega arith) (opens F v h) in
     let down = excess_after_close (text F) (v + 1) false (omega arith) b in
     let r = parent_around F w v k e in let r0 = r.0 in let r1 = r.1 in let ka = k.closes.after in
@@ -81,7 +79,6 @@ pub last_child_is_search : (F : Forest) (v c : ℕ) → HasPair F v → closing 
 unfolding nodes_under
 last_child_is_search F v c h s x =
     let m : Closes (text F) v (c + 1) = rw s at h.closes in
-    let mi = m.inside in
     let p = close_is_paired F c false (omega arith) (last_child_closes (text F) v c m x) in
     let q = paired_closes F p.0 c p.1 in let qa = q.after in
     let after : v < p.0 = ⊎_elim
@@ -102,7 +99,6 @@ last_child_is_search F v c h s x =
 next_sibling_found : (F : Forest) (v : ℕ) → HasPair F v → closing F v + 1 < length (text F) → get_or (text F) (closing F v + 1) false ≡ true → next_of (siblings F v) v ≡ Some (closing F v + 1)
 unfolding nodes_under
 next_sibling_found F v h i b =
-    let ha = h.closes.after in
     let k = one_pair F (closing F v + 1) i b in
     next_in F _ _ (under_decides F (parent F v)) v (closing F v + 1) k (same_parent F v h k) (omega arith) (λ w y x k e. not_beside F v w h k y (omega arith) e)
 

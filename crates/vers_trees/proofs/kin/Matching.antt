@@ -88,7 +88,6 @@ found_at_close l v c q (Some p) e =
 pub enclosed_by_parent : (F : Forest) (v c : ℕ) → Contains (pairs F) (v, c) → (enclosing (text F) v ≡ parent F v) × (enclosing (text F) c ≡ parent F v)
 enclosed_by_parent F v c k =
     let q = paired_closes F v c (paired_from_contains F (v, c) k) in
-    let a = q.after in let i = q.inside in
     let opens = closes_rises (text F) v c false q in
     let s = parent_is_search F v (one_pair F v (omega arith) opens) in (
       sym (enclosing_open (text F) v opens) ∙ s,

@@ -71,7 +71,6 @@ nested l v c w d p q a b = go (cases_order d c)
     go (inr (inr h)) =
         let x = q.above (c + 1) (omega arith) (omega arith) in
         let y = p.above w a b in
-        let z = p.back in
         absurd (omega (arith, ints))
 
 -- t levels up: what the backward search from a node finds is a pair around it
@@ -116,7 +115,6 @@ pub enclose_at_close : (l : List Bool) (v c p : ℕ) → Closes l v c → IsLast
 enclose_at_close l v c p q b =
     let a = q.after in let i = q.inside in let bk = q.back in
     let r = excess_after_close l c true i (closes_falls l v c true q) in
-    let s = b.sum in let bf = b.before in
     record {
       before = omega arith;
       inside = i;
@@ -159,11 +157,9 @@ last_of_siblings F v c p i b =
 -- likewise where what stands before it is an opening one
 pub first_of_siblings : (F : Forest) (v c : ℕ) → Closes (text F) (v + 1) c → get_or (text F) v false ≡ true → IsAbove (text F) (v + 1) 1 v
 first_of_siblings F v c p b =
-    let a = p.after in let i = p.inside in
     let r = open_is_paired F v false (omega arith) b in
     let m = paired_closes F v r.0 r.1 in
     let s = excess_after_open (text F) v false (omega arith) b in
-    let ma = m.after in
     record {
       before = omega arith;
       shallower = omega (arith, ints);
@@ -178,7 +174,6 @@ first_of_siblings F v c p b =
 -- the first child opens right after the node
 pub first_child_above : (l : List Bool) (v c : ℕ) → Closes l v c → get_or l (v + 1) false ≡ true → IsAbove l (v + 1) 1 v
 first_child_above l v c p b =
-    let a = p.after in let i = p.inside in
     let s = excess_after_open l v false (omega arith) (closes_rises l v c false p) in
     record {
       before = omega arith;
@@ -195,7 +190,6 @@ first_child_above l v c p b =
 pub last_child_closes : (l : List Bool) (v c : ℕ) → Closes l v (c + 1) → v < c → get_or l c false ≡ false
 last_child_closes l v c p h =
     let i = p.inside in
-    let b = p.back in
     let g = p.above c h (omega arith) in
     let f = excess_after_close l (c + 1) false i (closes_falls l v (c + 1) false p) in
     ⊎_elim
@@ -206,7 +200,5 @@ last_child_closes l v c p h =
 pub last_child_above : (l : List Bool) (v c w : ℕ) → Closes l v (c + 1) → Closes l w c → v < w → IsAbove l w 1 v
 last_child_above l v c w p q h =
     let i = p.inside in
-    let b = p.back in
     let f = excess_after_close l (c + 1) false i (closes_falls l v (c + 1) false p) in
-    let qb = q.back in let qa = q.after in
     record { before = h; shallower = omega (arith, ints); close = c + 1; pair = p; around = omega arith }

@@ -48,7 +48,6 @@ part_meets l a b x t p lo hi = ⊎_elim rising falling (cases_lt p.least.0 p.gre
 -- a block's range is one that a node may have
 pub part_range : (l : List Bool) (a b : ℕ) (x : Node) → a < b → IsPart l a b x → IsRange x
 part_range l a b x h p =
-    let t = p.total in
     let lo = p.low b h (omega arith) in let hi = p.high b h (omega arith) in
     let lo1 = p.low (a + 1) (omega arith) (omega arith) in let hi1 = p.high (a + 1) (omega arith) (omega arith) in
     let u = (excess-is_walk l).up a in let d = (excess-is_walk l).down a in
@@ -86,7 +85,6 @@ sum_before_block l size blocks b zero h =
 sum_before_block l size blocks b (suc k) h =
     let ih = sum_before_block l size blocks b k (omega arith) in
     let p = b.part k (omega arith) in
-    let t = p.total in let i = p.least in let i1 = i.1 in let i2 = i.2 in
     let m = rw add-one at (total_more blocks k (omega arith)) in
     let e : excess l (min (k * size) (length l)) ≡ excess l (k * size) = ap (excess l) (omega arith) in
     let f : excess l (min (suc k * size) (length l)) ≡ excess l (min (k * size + size) (length l)) = ap (excess l) (omega arith) in
@@ -146,7 +144,6 @@ met_place l size blocks b k t h (inr w) =
 near_sum : (l : List Bool) (size : ℕ) (blocks : List Node) → AreBlocks l size blocks → length l < 2 ^ 63 → (s k : ℕ) (t : ℤ) → k < length blocks → Meets blocks k t → FitsSigned w64 (t -ℤ total_before blocks s)
 near_sum l size blocks b short s k t h m =
     let p = sum_place l size blocks b s in let q = met_place l size blocks b k t h m in
-    let p2 = p.2 in let q2 = q.2 in
     rise_fits l p.0 q.0 (t -ℤ total_before blocks s) short p.1 q.1 (omega (arith, ints))
 
 block_range : (l : List Bool) (size : ℕ) (blocks : List Node) → AreBlocks l size blocks → (k : ℕ) → k < length blocks → IsRange (get_or blocks k empty_node)

@@ -79,7 +79,6 @@ root_is_part l size blocks e x b some le c = record {
 
     end : total_before blocks 0 +ℤ x.total ≡ excess l (length l)
     end =
-        let en = b.enough in
         sym c.total ∙ ap (total_before blocks) (let g : e ≡ length blocks + (e - length blocks) = omega arith in g) ∙ total_all blocks (e - length blocks) ∙ sum_before_block l size blocks b (length blocks) (omega arith) ∙ ap (excess l) (omega arith)
 
     place : (j : ℕ) → 0 < j → j ≤ length l → (k : ℕ) × (k < length blocks) × Reaches blocks k (excess l j)
@@ -98,7 +97,6 @@ root_is_part l size blocks e x b some le c = record {
     range : IsRange x
     range = ⊎_elim (λ (r : IsRange x). r) (λ (n : x ≡ empty_node).
         let w = place 1 (omega arith) (omega arith) in
-        let w1 = w.1 in
         let lo = rw n at (c.low w.0 (excess l 1) (omega arith) (omega arith) w.2) in
         let hi = rw n at (c.high w.0 (excess l 1) (omega arith) (omega arith) w.2) in
         absurd (omega (arith, ints))) c.shape
@@ -107,7 +105,6 @@ root_is_part l size blocks e x b some le c = record {
     met t lo hi u eq =
         let f = c.found t lo hi in
         let j = (reaches_iff l size blocks b f.0 t (f.3).inside).0 f.3 in
-        let j1 = j.1 in let j2 = j.2 in
         (j.0, omega arith, omega arith, j.3 ∙ eq)
 
 -- the sums of a node's two parts fit, and where the second has no place the first node serves for both
@@ -118,7 +115,6 @@ children_fit blocks s m e x y a sm p q = record { total = λ h. fit y.total (low
     fit z lo hi =
         let f = q.found (total_before blocks m +ℤ z) (omega (arith, ints)) (omega (arith, ints)) in
         let g = a.small s f.0 (total_before blocks m +ℤ z) (let f1 = f.1 in omega arith) f.3 in
-        let t = p.total in
         let e : total_before blocks m +ℤ z -ℤ total_before blocks s ≡ x.total +ℤ z = omega (arith, ints) in
         subst (FitsSigned w64) e g
 
@@ -136,7 +132,6 @@ same_node a b p q r = λ i. record { total = p i; least = q i; greatest = r i }
 
 alone_shape : (x : Node) → IsRange x ⊎ (x ≡ empty_node) → combined x empty_node ≡ x
 alone_shape x (inl r) =
-    let a = r.low in let b = r.high in
     same_node (combined x empty_node) x (omega (arith, ints, clamps)) (omega (arith, ints, clamps)) (omega (arith, ints, clamps))
 alone_shape x (inr n) = rw n refl
 

@@ -15,7 +15,6 @@ use Rattle.vers_trees.proofs.layout.Blocks.{total_more}
 leads_found : (first : ℕ) (nodes : List Node) (from : ℕ) (t : ℤ) (place : ℕ) (left : ℤ) → IsMinMax first nodes → (p : LeadsTo first nodes from t place left) → (k : ℕ) × (p.start ≤ k) × (k < p.stop) × Reaches (drop first nodes) k t
 leads_found first nodes from t place left m p =
     let c = m.covers place p.start p.stop p.stands in
-    let r = p.remains in let lo = p.range.low in let hi = p.range.high in
     c.found t (omega (arith, ints)) (omega (arith, ints))
 
 -- no block of a node out of range reaches the sum
@@ -35,12 +34,10 @@ step_right first nodes from t place left x m p h e o fx =
     let y = covers_at first nodes (2 * place + 1) p.start c.middle x m e c.left in
     let z = m.covers (2 * place + 2) c.middle p.stop c.right in
     let f = leads_found first nodes from t place left m p in let f1 = f.1 in
-    let tot = y.total in let rem = p.remains in
     let no = none_in (drop first nodes) p.start c.middle x t left y p.remains o in
     let far : c.middle ≤ f.0 = ⊎_elim (λ (u : f.0 < c.middle). absurd (no f.0 f.1 u f.3)) (λ (u : c.middle ≤ f.0). u) (cases_lt f.0 c.middle) in
     let s : t -ℤ total_before (drop first nodes) c.middle ≡ left -ℤ x.total = omega (arith, ints) in
     let lo = z.low f.0 t far f.2 f.3 in let hi = z.high f.0 t far f.2 f.3 in
-    let ca = c.after in let pa = p.after in
     as_stored (λ r. LeadsTo first nodes from t (2 * place + 2) r) _ (left -ℤ x.total) (ap (λ (r : ℤ). left -ℤ r) (to_z-of_z w64 x.total fx)) (rw s at (m.small c.middle f.0 t far f.3)) (record {
       start = c.middle;
       stop = p.stop;
@@ -72,7 +69,6 @@ passed_right first nodes from t place left p some even =
 passed_root : (first : ℕ) (nodes : List Node) (from : ℕ) (t : ℤ) (place : ℕ) (left : ℤ) → IsMinMax first nodes → PassedTo first nodes from t place left → place ≡ 0 → (k : ℕ) → from ≤ k → Reaches (drop first nodes) k t → ⊥
 passed_root first nodes from t place left m p root k a w =
     let e = (root_stands first p.start p.stop (subst (λ (n : ℕ). StandsOver first n p.start p.stop) root p.stands)).1 in
-    let f = m.fits in let i = w.inside in
     p.none k a (omega arith) w
 
 -- up past the right children that the passed part ends with
@@ -123,14 +119,12 @@ none_right first nodes from t place left x b misses k a c w = ⊎_elim
 pub goes_on_after : (first : ℕ) (nodes : List Node) (from : ℕ) (t : ℤ) (place : ℕ) (left : ℤ) (x : Node) (next : ℕ) → IsMinMax first nodes → ComesTo first nodes from t place left → 0 < place → x ≡ get_or nodes place empty_node → (IsInRange x left → ⊥) → IsOddPart ((place - 1) / 2 + 2) (next + 1) → ComesTo first nodes from t next (left -ℤ x.total)
 goes_on_after first nodes from t place left x next m c some e misses o =
     let b = right_of first nodes from t place left x m c some e in let p = b.passed in
-    let tot = b.covers.total in let rem = p.remains in let pa = p.after in let far = b.far in
     comes_to first nodes from t ((place - 1) / 2) (left -ℤ x.total) next m (record { start = p.start; stop = b.stop; stands = b.parent; after = omega arith; remains = omega (arith, ints); none = none_right first nodes from t place left x b misses }) o
 
 -- where what would remain is too long for a number, no later block reaches the sum
 pub too_far_after : (first : ℕ) (nodes : List Node) (from : ℕ) (t : ℤ) (place : ℕ) (left : ℤ) (x : Node) → IsMinMax first nodes → ComesTo first nodes from t place left → 0 < place → x ≡ get_or nodes place empty_node → (IsInRange x left → ⊥) → (FitsSigned w64 (left -ℤ x.total) → ⊥) → (k : ℕ) → from ≤ k → Reaches (drop first nodes) k t → ⊥
 too_far_after first nodes from t place left x m c some e misses long k a w =
     let b = right_of first nodes from t place left x m c some e in
-    let tot = b.covers.total in let rem = b.passed.remains in
     let s : t -ℤ total_before (drop first nodes) b.stop ≡ left -ℤ x.total = omega (arith, ints) in
     ⊎_elim
     (λ (u : k < b.stop). none_right first nodes from t place left x b misses k a u w)
@@ -157,7 +151,6 @@ range_found : (blocks : List Node) (s e : ℕ) (x : Node) (t r : ℤ) → s < e 
 range_found blocks s e x t r h c q i = ⊎_elim
     (λ (z : r ≡ pos 0). (s, omega arith, h, inl (omega (arith, ints))))
     (λ (i : IsInRange x r).
-    let lo = i.low in let hi = i.high in
     let f = c.found t (omega (arith, ints)) (omega (arith, ints)) in
     (f.0, f.1, f.2, inr f.3))
     (split_start x r c.shape i)
@@ -183,7 +176,6 @@ pub back_fits : (first : ℕ) (nodes : List Node) (to : ℕ) (t : ℤ) (place : 
 back_fits first nodes to t place left x m p h e =
     let c = stands_children first place p.start p.stop p.stands h in
     let y = covers_at first nodes (2 * place + 2) c.middle p.stop x m e c.right in
-    let tot = y.total in let rem = p.remains in let be = p.before in let wi = p.within in let lo = p.below in
     let same : t -ℤ total_before (drop first nodes) c.middle ≡ left +ℤ x.total = omega (arith, ints) in
     rw same at (m.near c.middle p.found t (omega arith) p.meets)
 
@@ -191,7 +183,6 @@ pub back_right : (first : ℕ) (nodes : List Node) (to : ℕ) (t : ℤ) (place :
 back_right first nodes to t place left x m p h e i =
     let c = stands_children first place p.start p.stop p.stands h in
     let y = covers_at first nodes (2 * place + 2) c.middle p.stop x m e c.right in
-    let tot = y.total in let rem = p.remains in
     let f = range_found (drop first nodes) c.middle p.stop x t (left +ℤ x.total) (stands_some first _ _ _ c.right) y (omega (arith, ints)) i in
     record { start = c.middle; stop = p.stop; stands = c.right; before = p.before; within = p.within; remains = p.remains; none = p.none; found = f.0; from = f.1; below = f.2; meets = f.3 }
 
@@ -206,7 +197,6 @@ pub back_left : (first : ℕ) (nodes : List Node) (to : ℕ) (t : ℤ) (place : 
 back_left first nodes to t place left x m p h e o =
     let c = stands_children first place p.start p.stop p.stands h in
     let y = covers_at first nodes (2 * place + 2) c.middle p.stop x m e c.right in
-    let tot = y.total in let rem = p.remains in let be = p.before in let lo = p.below in let ca = c.before in
     let no = none_back first nodes c.middle p.stop to t left x m y p.before p.within p.remains p.none o in
     record {
       start = p.start;
@@ -225,7 +215,6 @@ back_left first nodes to t place left x m p h e o =
 pub back_leaf : (first : ℕ) (nodes : List Node) (to : ℕ) (t : ℤ) (place : ℕ) (left : ℤ) → IsMinMax first nodes → LeadsBack first nodes to t place left → first ≤ place → IsPreviousBefore (drop first nodes) to t (place - first) left
 back_leaf first nodes to t place left m p h =
     let s = leaf_stands first place p.start p.stop p.stands h in
-    let s0 = s.0 in let s1 = s.1 in let fr = p.from in let be = p.below in let bf = p.before in
     let here : p.found ≡ place - first = omega arith in
     let end : p.stop ≡ place - first + 1 = omega arith in
     record { before = omega arith; remains = rw end at p.remains; meets = subst (λ (n : ℕ). Meets (drop first nodes) n t) here p.meets; last = λ k x y w. p.none k (omega arith) y w }
@@ -252,7 +241,6 @@ comes_back first nodes to t place left odd p o = go o.zeros place p o.splits
   where
     go : (k place : ℕ) → PassedBack first nodes to t place left → place + 1 ≡ odd * 2 ^ k → ComesBack first nodes to t (odd - 2) left
     go zero place p e =
-        let ends = o.ends in
         record {
           odd = λ some. omega arith;
           passed = λ some. subst (λ (n : ℕ). PassedBack first nodes to t n left) (let g : place ≡ odd - 2 + 1 = omega arith in g) p;
@@ -282,7 +270,6 @@ left_of first nodes to t place left x m c some e =
 pub meets_before : (first : ℕ) (nodes : List Node) (to : ℕ) (t : ℤ) (place : ℕ) (left : ℤ) (x : Node) → IsMinMax first nodes → ComesBack first nodes to t place left → 0 < place → x ≡ get_or nodes place empty_node → IsInRangeOrStart x (left +ℤ x.total) → LeadsBack first nodes to t place left
 meets_before first nodes to t place left x m c some e i =
     let b = left_of first nodes to t place left x m c some e in let p = b.passed in
-    let tot = b.covers.total in let rem = p.remains in
     let f = range_found (drop first nodes) b.start p.start x t (left +ℤ x.total) (stands_some first _ _ _ b.stands) b.covers (omega (arith, ints)) i in
     record { start = b.start; stop = p.start; stands = b.stands; before = p.before; within = p.within; remains = p.remains; none = p.none; found = f.0; from = f.1; below = f.2; meets = f.3 }
 
@@ -295,6 +282,5 @@ goes_on_before first nodes to t place left x odd m c some e misses o =
 pub too_far_before : (first : ℕ) (nodes : List Node) (to : ℕ) (t : ℤ) (place : ℕ) (left : ℤ) (x : Node) → IsMinMax first nodes → ComesBack first nodes to t place left → 0 < place → x ≡ get_or nodes place empty_node → (FitsSigned w64 (left +ℤ x.total) → ⊥) → (k : ℕ) → k < to → Meets (drop first nodes) k t → ⊥
 too_far_before first nodes to t place left x m c some e long k a w =
     let b = left_of first nodes to t place left x m c some e in
-    let tot = b.covers.total in let rem = b.passed.remains in let wi = b.passed.within in
     let same : t -ℤ total_before (drop first nodes) b.start ≡ left +ℤ x.total = omega (arith, ints) in
     long (rw same at (m.near b.start k t (omega arith) w))

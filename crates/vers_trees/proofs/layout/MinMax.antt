@@ -105,7 +105,6 @@ stands_every first h lv (suc fuel) (suc i) a b =
 -- a node stands among the nodes of a tree with first + 1 leaves
 pub stands_within : (first i s e : ℕ) → StandsOver first i s e → i ≤ 2 * first
 stands_within first i s e p =
-    let lv = p.levels in let ins = p.inside in let pl = p.place in
     let le : 2 ^ p.level ≤ 2 ^ (p.level + p.height) = pow-le-pow_right (omega arith) (let g : p.level ≤ p.level + p.height = omega arith in g) in
     omega arith
 

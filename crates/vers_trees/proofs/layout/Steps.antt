@@ -54,7 +54,6 @@ pub digits_before : (node odd : ℕ) → node % 2 ≡ 1 → IsOddPart ((node - 1
 digits_before node odd left p =
     let most = odd_most _ _ p in
     let half = digits_half (node + 1) (omega arith) in
-    let ends = p.ends in
     let up = digits_up (odd - 2 + 1) ((node + 1) / 2) (omega arith) in
     omega arith
 

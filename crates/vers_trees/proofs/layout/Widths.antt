@@ -104,7 +104,6 @@ pub ruleset gathering = (no_blocks, block_added)
 
 are_blocks : (l : List Bool) (size first : ℕ) (nodes : List Node) → 0 < size → AreFirstBlocks l size first (block_count size (length l)) nodes → AreBlocks l size (drop first nodes)
 are_blocks l size first nodes so b =
-    let c = b.counted in
     let d = length-drop first nodes in
     record {
       some = so;
@@ -133,7 +132,6 @@ one_at_least n size so h = go (block_count size n) (div_ceil_times n size so).0
 pub tree_made : (l : List Bool) (size first : ℕ) (leaves nodes : List Node) → 0 < size → 0 < length l → length l < 2 ^ 63 → IsWidth (block_count size (length l)) (first + 1) → AreFirstBlocks l size first (block_count size (length l)) leaves → length nodes ≡ length leaves → drop first nodes ≡ drop first leaves → CoveredFrom first nodes 0 → IsTreeOf l size first nodes
 tree_made l size first leaves nodes so some short w b n e c =
     let d = length-drop first nodes in
-    let cb = b.counted in let en = w.enough in let bo = w.bounded in
     let r = one_at_least (length l) size so some in
     let same : first + 1 - 1 ≡ first = omega arith in
     let blocks : AreBlocks l size (drop first nodes) = subst (λ (m : List Node). AreBlocks l size m) (sym e) (are_blocks l size first leaves so b) in

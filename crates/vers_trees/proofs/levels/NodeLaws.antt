@@ -106,7 +106,6 @@ next_member n (suc i) v (x ∷ xs) a e =
 none_before : (o : Option ℕ) (n v : ℕ) (xs : List ℕ) → AscendsFrom n xs → v ≤ n → last_or o (filter (λ w. ltb w v) xs) ≡ o
 none_before o n v [] a h = refl
 none_before o n v (x ∷ xs) a h =
-    let a0 = a.0 in
     let t : ltb x v ≡ false = not_above x v (omega arith) in
     rw t (none_before o (x + 1) v xs a.1 (omega arith))
 

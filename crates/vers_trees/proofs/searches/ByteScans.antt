@@ -134,7 +134,6 @@ missed from_end l p entry t a e none k y z q =
     let n : ℕ = place_along from_end (k - p) in
     let m = turned from_end (k - p) (omega arith) in
     let s = along from_end l p n a m.0 in
-    let m1 = m.1 in
     let here : sum_past from_end l (p + place_along from_end n) ≡ sum_past from_end l k = ap (sum_past from_end l) (omega arith) in
     let lo = e.low n m.0 in let hi = e.high n m.0 in
     let x = natural (least_in entry) (sum_along from_end (part l p 8) (n + 1) +ℤ pos 8) lo in let x1 = x.1 in
@@ -161,25 +160,21 @@ entry_ordered from_end bits entry e = let a = e.low 0 (omega arith) in let b = e
 -- ---- forwards
 pub forward_byte_found : (l : List Bool) (from p end : ℕ) (r rise : ℤ) (entry x : ℕ) → HasNoRise l from p r rise → from ≤ p → p + 8 ≤ end → end ≤ length l → IsEntry false (part l p 8) entry → least_in entry ≤ x → x ≤ greatest_in entry → rise +ℤ (pos x -ℤ pos 8) ≡ r → IsFirstRise l from end r (p + place_in entry x)
 forward_byte_found l from p end r rise entry x h o a b e u v z =
-    let ri = h.risen in
     let m = met false l p entry x (excess l from +ℤ r) (omega arith) e u v (omega (arith, ints)) in let m0 = m.0 in let m1 = m.1 in
     forward_found l from p (p + place_in entry x) end r rise (pos x -ℤ pos 8) h (omega arith) (omega arith) (λ k y w. m.2 k y (omega arith) (omega arith)) (omega (arith, ints)) z
 
 pub forward_byte : (l : List Bool) (from p : ℕ) (r rise d : ℤ) (entry byte : ℕ) → HasNoRise l from p r rise → length l < 2 ^ 63 → from ≤ p → p + 8 ≤ length l → IsByte (part l p 8) byte → IsEntry false (part l p 8) entry
     → ((x : ℕ) → least_in entry ≤ x → x ≤ greatest_in entry → rise +ℤ (pos x -ℤ pos 8) ≢ r) → d ≡ pos (2 * count_ones byte) -ℤ pos 8 → FitsSigned w64 (rise +ℤ to_z w64 (of_z w64 d)) × HasNoRise l from (p + 8) r (to_z w64 (of_z w64 (rise +ℤ to_z w64 (of_z w64 d))))
 forward_byte l from p r rise d entry byte h short o a is e none q =
-    let ri = h.risen in
     forward_more l from p (p + 8) r rise d h short o (omega arith) a (total_of l p 8 byte d (omega arith) a (sym is.valued) q) (missed false l p entry _ a e (λ x u v w. none x u v (omega (arith, ints))))
 
 -- ---- backwards
 pub backward_byte_found : (l : List Bool) (from p end : ℕ) (r rise : ℤ) (entry x : ℕ) → HasNoRiseBefore l (p + 8) end r rise → from ≤ p → p + 8 ≤ end → end ≤ length l → IsEntry true (part l p 8) entry → least_in entry ≤ x → x ≤ greatest_in entry → rise +ℤ (pos x -ℤ pos 8) ≡ r → IsLastRise l from end r (p + place_in entry x)
 backward_byte_found l from p end r rise entry x h o a b e u v z =
-    let ri = h.risen in
     let m = met true l p entry x (excess l end +ℤ r) (omega arith) e u v (omega (arith, ints)) in let m0 = m.0 in let m1 = m.1 in
     backward_found l from (p + place_in entry x) (p + 8) end r rise (pos x -ℤ pos 8) h (omega arith) (omega arith) (λ k y w. m.2 k (omega arith) w (omega arith)) (omega (arith, ints)) z
 
 pub backward_byte : (l : List Bool) (p end : ℕ) (r rise d : ℤ) (entry byte : ℕ) → HasNoRiseBefore l (p + 8) end r rise → length l < 2 ^ 63 → p + 8 ≤ end → end ≤ length l → IsByte (part l p 8) byte → IsEntry true (part l p 8) entry
     → ((x : ℕ) → least_in entry ≤ x → x ≤ greatest_in entry → rise +ℤ (pos x -ℤ pos 8) ≢ r) → d ≡ pos (2 * count_ones byte) -ℤ pos 8 → FitsSigned w64 (rise -ℤ to_z w64 (of_z w64 d)) × HasNoRiseBefore l p end r (to_z w64 (of_z w64 (rise -ℤ to_z w64 (of_z w64 d))))
 backward_byte l p end r rise d entry byte h short o a is e none q =
-    let ri = h.risen in
     backward_more l p (p + 8) end r rise d h short (omega arith) o a (total_of l p 8 byte d (omega arith) (omega arith) (sym is.valued) q) (missed true l p entry _ (omega arith) e (λ x u v w. none x u v (omega (arith, ints))))

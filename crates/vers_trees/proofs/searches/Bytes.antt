@@ -158,7 +158,6 @@ met_more from_end bits byte n value least greatest next place places least' grea
     let bit : get_or bits (place_along from_end n) false ≡ nat_eq (byte / 2 ^ place % 2) 1 =
     bit_taken bits byte (place_along from_end n) _ is (subst (λ (q : ℕ). bit_at byte q ≡ bit_value (nat_eq (byte / 2 ^ place % 2) 1)) e (bit_at-is byte place ∙ tested (byte / 2 ^ place % 2) (omega arith))) in
     let s = next_sum from_end bits n is.eight h ∙ ap (λ (c : Bool). sum_along from_end bits n +ℤ step_along from_end c) bit in
-    let was = m.sum in let lo = w.lower in let hi = w.upper in
     let sum : pos next ≡ sum_along from_end bits (n + 1) +ℤ pos 8 = omega (arith, ints) in
     let near = up_or_down from_end _ value next u in
     let last = λ (k : ℕ) (y : k < n + 1) (z : n ≤ k). ap (sum_along from_end bits) (let g : k + 1 ≡ n + 1 = omega arith in g) in

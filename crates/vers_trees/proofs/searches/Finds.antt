@@ -36,7 +36,6 @@ none_past_back l i r h = sym (before_past l i r h)
 
 pub found_first : (l : List Bool) (i end : ℕ) (r : ℤ) (place : ℕ) → end ≤ length l → IsFirstRise l (i + 1) end r place → Some place ≡ first_rise_after l i r
 found_first l i end r place h p =
-    let lo = p.low in let ins = p.inside in
     sym (after_is l i r place (record { after = omega arith; inside = omega arith; sum = p.sum; first = λ k x y. p.first k (omega arith) y }))
 
 pub found_last : (l : List Bool) (from i : ℕ) (r : ℤ) (place : ℕ) → i < length l → IsLastRise l from i r place → Some place ≡ last_rise_before l i r
@@ -48,7 +47,6 @@ first_end l size i so h = let o = (block_of i size so).1 in omega arith
 -- the block before that of a place ends no later than the place
 pub previous_ends : (blocks : List Node) (size p : ℕ) (t : ℤ) (j : ℕ) (rest : ℤ) → IsPreviousBefore blocks (p / size) t j rest → j * size + size ≤ p
 previous_ends blocks size p t j rest n =
-    let b = n.before in
     let m : (j + 1) * size ≤ p / size * size = mul-le-mul_right size (omega arith) in
     let d = div-mul-le_self p size in
     omega arith
@@ -185,7 +183,6 @@ module _ (l : List Bool) (size first : ℕ) (nodes : List Node) (x : IsIndexed l
           go : (o : Result ℕ ℤ) → MatchResult o (λ place. IsLastRise l (j * size) (j * size + size) (stored rest) place) (λ past. HasNoRiseBefore l (j * size) (j * size + size) (stored rest) past) → result_ok o ≡ last_rise_before l i r
           go (Ok place) q =
               let re = n.remains in let e0 = ends.0 in let e1 = ends.1 in let ask = asked_back in let wh = whole in let o1 = here.1 in
-              let lo = q.low in let hi = q.inside in let su = q.sum in
               sym (before_is l i r place (record {
                 before = omega arith;
                 inside = h;

@@ -73,23 +73,19 @@ not_begun_back l end r = record { risen = omega (arith, ints); none = λ k a b. 
 -- past a stretch on which the excess rises by d
 pub forward_found : (l : List Bool) (from p place end : ℕ) (r rise x : ℤ) → HasNoRise l from p r rise → from ≤ place → place < end → Misses (λ k. excess l (k + 1)) p place (excess l from +ℤ r) → excess l (place + 1) ≡ excess l p +ℤ x → rise +ℤ x ≡ r → IsFirstRise l from end r place
 forward_found l from p place end r rise x h o i m e z =
-    let ri = h.risen in
     record { low = o; inside = i; sum = omega (arith, ints); first = joined (λ k. excess l (k + 1)) from p place _ h.none m }
 
 pub forward_more : (l : List Bool) (from p q : ℕ) (r rise d : ℤ) → HasNoRise l from p r rise → length l < 2 ^ 63 → from ≤ p → p ≤ q → q ≤ length l → excess l q ≡ excess l p +ℤ d → Misses (λ k. excess l (k + 1)) p q (excess l from +ℤ r) → FitsSigned w64 (rise +ℤ to_z w64 (of_z w64 d)) × HasNoRise l from q r (to_z w64 (of_z w64 (rise +ℤ to_z w64 (of_z w64 d))))
 forward_more l from p q r rise d h short o i j e m =
-    let ri = h.risen in
     let sum : excess l q ≡ excess l from +ℤ (rise +ℤ d) = omega (arith, ints) in
     as_stored (HasNoRise l from q r) _ (rise +ℤ d) (ap (λ (z : ℤ). rise +ℤ z) (rise_is l p q d short (omega arith) j e)) (rise_fits l from q _ short (omega arith) j sum) (record { risen = sum; none = joined (λ k. excess l (k + 1)) from p q _ h.none m })
 
 pub backward_found : (l : List Bool) (from place q end : ℕ) (r rise x : ℤ) → HasNoRiseBefore l q end r rise → from ≤ place → place < end → Misses (excess l) (place + 1) q (excess l end +ℤ r) → excess l place ≡ excess l q +ℤ x → rise +ℤ x ≡ r → IsLastRise l from end r place
 backward_found l from place q end r rise x h o i m e z =
-    let ri = h.risen in
     record { low = o; inside = i; sum = omega (arith, ints); last = λ k a b. joined (excess l) (place + 1) q end _ m h.none k (omega arith) b }
 
 pub backward_more : (l : List Bool) (p q end : ℕ) (r rise d : ℤ) → HasNoRiseBefore l q end r rise → length l < 2 ^ 63 → p ≤ q → q ≤ end → end ≤ length l → excess l q ≡ excess l p +ℤ d → Misses (excess l) p q (excess l end +ℤ r) → FitsSigned w64 (rise -ℤ to_z w64 (of_z w64 d)) × HasNoRiseBefore l p end r (to_z w64 (of_z w64 (rise -ℤ to_z w64 (of_z w64 d))))
 backward_more l p q end r rise d h short o i j e m =
-    let ri = h.risen in
     let sum : excess l p ≡ excess l end +ℤ (rise -ℤ d) = omega (arith, ints) in
     as_stored (λ z. HasNoRiseBefore l p end r z) _ (rise -ℤ d) (ap (λ (z : ℤ). rise -ℤ z) (rise_is l p q d short (omega arith) (omega arith) e)) (rise_fits l end p _ short j (omega arith) sum) (record { risen = sum; none = joined (excess l) p q end _ m h.none })
 
@@ -99,13 +95,11 @@ bit_is l i j b d n h e q = ap (excess l) n ∙ excess_after_bit l i false h ∙ 
 
 pub forward_bit : (l : List Bool) (from p : ℕ) (r rise d : ℤ) → HasNoRise l from p r rise → length l < 2 ^ 63 → from ≤ p → p < length l → excess l (p + 1) ≡ excess l p +ℤ d → rise +ℤ d ≢ r → HasNoRise l from (p + 1) r (to_z w64 (of_z w64 (rise +ℤ to_z w64 (of_z w64 d))))
 forward_bit l from p r rise d h short o i e ne =
-    let ri = h.risen in
     let m : Misses (λ k. excess l (k + 1)) p (p + 1) (excess l from +ℤ r) = λ k x y z. let same : excess l (k + 1) ≡ excess l (p + 1) = ap (excess l) (omega arith) in ne (omega (arith, ints)) in
     (forward_more l from p (p + 1) r rise d h short o (omega arith) (omega arith) e m).1
 
 pub backward_bit : (l : List Bool) (p q end : ℕ) (r rise d : ℤ) → HasNoRiseBefore l q end r rise → length l < 2 ^ 63 → q ≤ end → end ≤ length l → q ≡ p + 1 → excess l q ≡ excess l p +ℤ d → rise -ℤ d ≢ r → HasNoRiseBefore l p end r (to_z w64 (of_z w64 (rise -ℤ to_z w64 (of_z w64 d))))
 backward_bit l p q end r rise d h short o i n e ne =
-    let ri = h.risen in
     let m : Misses (excess l) p q (excess l end +ℤ r) = λ k x y z. let same : excess l k ≡ excess l p = ap (excess l) (omega arith) in ne (omega (arith, ints)) in
     (backward_more l p q end r rise d h short (omega arith) o i e m).1
 

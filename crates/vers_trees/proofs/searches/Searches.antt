@@ -114,13 +114,11 @@ pub after_some : (l : List Bool) (i : ℕ) (r : ℤ) (j : ℕ) → first_rise_af
 unfolding first_rise_after
 after_some l i r j h =
     let f : IsFirst (rises_to l i r) (i + 1) (i + 1 + (length l - (i + 1))) j = rw h at (find_first _ (rises_to l i r) (λ k. Decides-int_eq _ _) (i + 1) (length l - (i + 1))) in
-    let a = f.from in let b = f.below in
     record { after = omega arith; inside = omega arith; sum = f.holds; first = λ k x y. f.first k (omega arith) y }
 
 pub after_is : (l : List Bool) (i : ℕ) (r : ℤ) (j : ℕ) → IsFirstRiseAfter l i r j → first_rise_after l i r ≡ Some j
 unfolding first_rise_after
 after_is l i r j p =
-    let a = p.after in let b = p.inside in
     find_is _ (rises_to l i r) (λ k. Decides-int_eq _ _) (i + 1) (length l - (i + 1)) j (record { from = omega arith; below = omega arith; holds = p.sum; first = λ k x y. p.first k (omega arith) y })
 
 pub after_none : (l : List Bool) (i : ℕ) (r : ℤ) → first_rise_after l i r ≡ None → (k : ℕ) → i < k → k < length l → excess l (k + 1) ≢ excess l (i + 1) +ℤ r

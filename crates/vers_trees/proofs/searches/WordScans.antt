@@ -199,7 +199,6 @@ word_counted a b c n m e p q = adds_then p q (record { data_words = omega arith;
 pub forward_word : (l : List Bool) (from p : ℕ) (r rise d : ℤ) (word : ℕ) → HasNoRise l from p r rise → length l < 2 ^ 63 → from ≤ p → p + 64 ≤ length l → word ≡ number (part l p 64) → r <ℤ (rise -ℤ pos (falls false (part l p 64))) → d ≡ pos (2 * count_ones word) -ℤ pos 64
     → FitsSigned w64 (rise +ℤ to_z w64 (of_z w64 d)) × HasNoRise l from (p + 64) r (to_z w64 (of_z w64 (rise +ℤ to_z w64 (of_z w64 d))))
 forward_word l from p r rise d word h short o a e f q = forward_more l from p (p + 64) r rise d h short o (omega arith) a (total_of l p 64 word d (omega arith) a e q) (λ k y z w.
-    let ri = h.risen in
     let g = excess-part l p 64 (k - p + 1) a (omega arith) in
     let here : excess l (p + (k - p + 1)) ≡ excess l (k + 1) = ap (excess l) (omega arith) in
     let u = above false (part l p 64) (k - p + 1) in
@@ -208,7 +207,6 @@ forward_word l from p r rise d word h short o a e f q = forward_more l from p (p
 pub backward_word : (l : List Bool) (p end : ℕ) (r rise d : ℤ) (word : ℕ) → HasNoRiseBefore l (p + 64) end r rise → length l < 2 ^ 63 → p + 64 ≤ end → end ≤ length l → word ≡ number (part l p 64) → r <ℤ (rise -ℤ pos (rises (part l p 64))) → d ≡ pos (2 * count_ones word) -ℤ pos 64
     → FitsSigned w64 (rise -ℤ to_z w64 (of_z w64 d)) × HasNoRiseBefore l p end r (to_z w64 (of_z w64 (rise -ℤ to_z w64 (of_z w64 d))))
 backward_word l p end r rise d word h short o a e f q = backward_more l p (p + 64) end r rise d h short (omega arith) o a (total_of l p 64 word d (omega arith) (omega arith) e q) (λ k y z w.
-    let ri = h.risen in
     let n = length-part l p 64 (omega arith) in
     let same = ap (excess (part l p 64)) n in
     let g64 = excess-part l p 64 64 (omega arith) (omega arith) in

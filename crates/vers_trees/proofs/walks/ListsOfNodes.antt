@@ -54,7 +54,6 @@ past_part v c n (x ∷ xs) a h = let a0 = a.0 in rw (outside v c x (inr (omega a
 first_part : (v c n : ℕ) (xs : List ℕ) → AscendsFrom n xs → v ≤ n → filter (between v c) xs ≡ take (length (filter (between v c) xs)) xs
 first_part v c n [] a h = refl
 first_part v c n (x ∷ xs) a h =
-    let a0 = a.0 in
     ⊎_elim
     (λ (z : c < x). rw (past_part v c x (x ∷ xs) (omega arith, a.1) z) refl)
     (λ (z : x ≤ c). rw ((between_decides v c x).1 (omega arith, z)) (ap (λ (ys : List ℕ). x ∷ ys) (first_part v c (x + 1) xs a.1 (omega arith))))

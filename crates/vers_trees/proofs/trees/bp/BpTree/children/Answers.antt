@@ -7,7 +7,6 @@ use Rattle.vers_trees.proofs.trees.bp.BpTree.children.Goals as goal
 pub overflow_add-node : goal.overflow_add-node
 overflow_add-node g c =
     let i = node_inside c.args.self.now c.args.node c.requires.balanced c.requires.is_node in
-    let s = c.searched.ensures.indexed.short in
     let e : length c.searched.result.bits.now ≡ length c.args.self.now = ap (λ (l : List Bool). length l) c.searched.ensures.bits in
     record { fits = omega arith }
 

@@ -10,7 +10,6 @@ part_of-requires g c =
     let now = c.args.self.now in
     let i = subtree_inside true now c.args.node c.requires.balanced c.requires.is_node in
     let e = c.rank1-first.ensures.value ∙ ap (λ (l : List Bool). count true l c.args.node) c.self.view_is in
-    let n = c.nodes_within-count.ensures in
     let p = ap (λ (s : Walking ℕ). length s.left) c.iter1.ensures ∙ ap (λ (l : List Bool). length (places true l)) c.self.view_is in
     omega arith
 

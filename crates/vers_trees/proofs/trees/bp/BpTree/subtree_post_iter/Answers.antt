@@ -10,7 +10,6 @@ closed_by-requires g c =
     let now = c.args.self.now in
     let i = subtree_inside false now c.args.node c.requires.balanced c.requires.is_node in
     let e = c.rank0-first.ensures.value ∙ ap (λ (l : List Bool). count false l c.args.node) c.self.view_is in
-    let n = c.nodes_within-count.ensures in
     omega arith
 
 pub returns : goal.returns

@@ -16,9 +16,7 @@ loop-step-init c = record {
 pub loop-step-preserved : goal.loop-step-preserved
 loop-step-preserved c =
     let i = c.loop-step.invariant in
-    let t = c.loop-step-test.true in
     let m = c.meet.ensures in
-    let lo = i.low in let hi = i.high in let il = i.least in let ig = i.greatest in let ml = m.least in let mg = m.greatest in
     let u = up_or_down c.args.from_end _ c.loop-step.value c.stepped-value.result c.stepped-value.ensures in
     let n = i.many in
     let w : IsNoted c.loop-step.met.least c.loop-step.met.greatest c.stepped-value.result c.place_of-place.result c.loop-step.met.places c.meet.new.self.least c.meet.new.self.greatest c.meet.new.self.places = record { lower = m.least; upper = m.greatest; again = m.again; first = m.first } in

@@ -4,7 +4,6 @@ use Rattle.vers_trees.proofs.trees.bp.bytes.number_of.Goals as goal
 
 pub overflow_mul-number : goal.overflow_mul-number
 overflow_mul-number c =
-    let t = c.told-digits in
     let i = c.loop-x.invariant in let w = i.within in
     let m = octal_more c.args.digits.now c.loop-x.x c.loop-x.number 0 c.loop-x-test.true (omega arith) i.value in
     let s = octal_small c.args.digits.now (c.loop-x.x - 1) (omega arith) c.requires in
@@ -12,7 +11,6 @@ overflow_mul-number c =
 
 pub overflow_add-number : goal.overflow_add-number
 overflow_add-number c =
-    let t = c.told-digits in
     let i = c.loop-x.invariant in let w = i.within in
     let m = octal_more c.args.digits.now c.loop-x.x c.loop-x.number 0 c.loop-x-test.true (omega arith) i.value in
     let s = octal_small c.args.digits.now (c.loop-x.x - 1) (omega arith) c.requires in
@@ -20,13 +18,10 @@ overflow_add-number c =
 
 pub loop-x-preserved : goal.loop-x-preserved
 loop-x-preserved c =
-    let t = c.told-digits in
     let i = c.loop-x.invariant in let w = i.within in
     record { within = omega arith; value = octal_more c.args.digits.now c.loop-x.x c.loop-x.number 0 c.loop-x-test.true (omega arith) i.value }
 
 pub returns-clause-bounded : goal.returns-clause-bounded
 returns-clause-bounded c =
-    let t = c.told-digits in
-    let i = c.loop-x.invariant in let v = i.value in
     let s = octal_small c.args.digits.now c.loop-x.x (omega arith) c.requires in
     omega arith

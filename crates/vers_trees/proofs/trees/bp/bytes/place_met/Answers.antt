@@ -4,8 +4,6 @@ use Rattle.vers_trees.proofs.trees.bp.bytes.place_met.Goals as goal
 
 pub returns : goal.returns
 returns c =
-    let a = c.sum_at.ensures in let b = c.sum_at-2.ensures in
-    let t = c.if-target-sum_at.false in let u = c.if-sum_at-target.false in
     let lo : FitsSigned w64 c.sum_at.result = search rules in
     let hi : FitsSigned w64 c.sum_at-2.result = search rules in
     let v = to_z-of_z w64 c.args.target c.ranges.target in

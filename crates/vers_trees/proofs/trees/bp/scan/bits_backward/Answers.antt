@@ -8,17 +8,14 @@ pub overflow_sub-rise : goal.overflow_sub-rise
 overflow_sub-rise g c =
     let r = c.requires.passed in let r1 = r.1 in let r2 = r.2 in let hi = c.loop-place.invariant.high in let lt = c.loop-place-test.true in
     let was = c.loop-place.invariant.passed r.0 r1 r2 (rw (to_z-of_z w64 c.args.target c.ranges.target, to_z-of_z w64 c.args.rise c.ranges.rise) r.3) in
-    let ri = was.risen in
     let s = bit_is c.args.bits.now (c.loop-place.place - 1) c.loop-place.place _ c.step-rise.result (omega arith) (omega arith) c.is_one_counted.ensures.value c.step-rise.ensures in
     rw (to_z-of_z w64 c.step-rise.result (step_fits _ _ c.step-rise.ensures)) (rise_fits c.args.bits.now r.0 (c.loop-place.place - 1) _ c.requires.short r2 (omega arith) (omega (arith, ints)))
 
 pub returns-then-rise-target-clause-value : goal.returns-then-rise-target-clause-value
 returns-then-rise-target-clause-value g c = λ to o n q.
-    let hi = c.loop-place.invariant.high in let lt = c.loop-place-test.true in
     let t = to_z-of_z w64 c.args.target c.ranges.target in
     let d = to_z-of_z w64 c.step-rise.result (step_fits _ _ c.step-rise.ensures) in
     let p = subst (λ (z : ℤ). HasNoRiseBefore c.args.bits.now c.loop-place.place to z (to_z w64 c.loop-place.rise-bits)) t (c.loop-place.invariant.passed to o n (rw (t, to_z-of_z w64 c.args.rise c.ranges.rise) q)) in
-    let ri = p.risen in
     let s = bit_is c.args.bits.now (c.loop-place.place - 1) c.loop-place.place _ c.step-rise.result (omega arith) (omega arith) c.is_one_counted.ensures.value c.step-rise.ensures in
     let f = rise_fits c.args.bits.now to (c.loop-place.place - 1) (to_z w64 c.loop-place.rise-bits -ℤ c.step-rise.result) c.requires.short n (omega arith) (omega (arith, ints)) in
     backward_found _ _ _ c.loop-place.place to _ _ (pos 0 -ℤ c.step-rise.result) p (omega arith) (omega arith) (λ k x y. absurd (omega arith)) (omega (arith, ints))
@@ -26,7 +23,6 @@ returns-then-rise-target-clause-value g c = λ to o n q.
 
 pub loop-place-preserved : goal.loop-place-preserved
 loop-place-preserved g c =
-    let hi = c.loop-place.invariant.high in let lt = c.loop-place-test.true in let r2 = c.requires.passed.2 in let r1 = c.requires.passed.1 in
     let d = to_z-of_z w64 c.step-rise.result (step_fits _ _ c.step-rise.ensures) in
     let s = bit_is c.args.bits.now (c.loop-place.place - 1) c.loop-place.place _ c.step-rise.result (omega arith) (omega arith) c.is_one_counted.ensures.value c.step-rise.ensures in
     record {

@@ -8,17 +8,14 @@ pub overflow_add-rise : goal.overflow_add-rise
 overflow_add-rise g c =
     let i = c.requires.inside in let o = c.requires.passed.1 in let a = c.loop-place.auto.place in
     let was = c.loop-place.invariant.passed c.requires.passed.0 o (rw (to_z-of_z w64 c.args.target c.ranges.target, to_z-of_z w64 c.args.rise c.ranges.rise) c.requires.passed.2) in
-    let ri = was.risen in
     let s = bit_is c.args.bits.now c.loop-place.place (c.loop-place.place + 1) _ c.step-rise.result (omega arith) (omega arith) c.is_one_counted.ensures.value c.step-rise.ensures in
     rw (to_z-of_z w64 c.step-rise.result (step_fits _ _ c.step-rise.ensures)) (rise_fits c.args.bits.now c.requires.passed.0 (c.loop-place.place + 1) _ c.requires.short (omega arith) (omega arith) (omega (arith, ints)))
 
 pub returns-then-rise-target-clause-value : goal.returns-then-rise-target-clause-value
 returns-then-rise-target-clause-value g c = λ from o q.
-    let i = c.requires.inside in let a = c.loop-place.auto.place in
     let t = to_z-of_z w64 c.args.target c.ranges.target in
     let d = to_z-of_z w64 c.step-rise.result (step_fits _ _ c.step-rise.ensures) in
     let p = subst (λ (z : ℤ). HasNoRise c.args.bits.now from c.loop-place.place z (to_z w64 c.loop-place.rise-bits)) t (c.loop-place.invariant.passed from o (rw (t, to_z-of_z w64 c.args.rise c.ranges.rise) q)) in
-    let ri = p.risen in
     let s = bit_is c.args.bits.now c.loop-place.place (c.loop-place.place + 1) _ c.step-rise.result (omega arith) (omega arith) c.is_one_counted.ensures.value c.step-rise.ensures in
     let f = rise_fits c.args.bits.now from (c.loop-place.place + 1) (to_z w64 c.loop-place.rise-bits +ℤ c.step-rise.result) c.requires.short (omega arith) (omega arith) (omega (arith, ints)) in
     forward_found _ from c.loop-place.place c.loop-place.place _ _ _ c.step-rise.result p (omega arith) c.loop-place-test.true (λ k x y. absurd (omega arith)) s
@@ -26,7 +23,6 @@ returns-then-rise-target-clause-value g c = λ from o q.
 
 pub loop-place-preserved : goal.loop-place-preserved
 loop-place-preserved g c =
-    let i = c.requires.inside in let a = c.loop-place.auto.place in
     let d = to_z-of_z w64 c.step-rise.result (step_fits _ _ c.step-rise.ensures) in
     let s = bit_is c.args.bits.now c.loop-place.place (c.loop-place.place + 1) _ c.step-rise.result (omega arith) (omega arith) c.is_one_counted.ensures.value c.step-rise.ensures in
     record {

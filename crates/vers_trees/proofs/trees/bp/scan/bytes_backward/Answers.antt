@@ -7,7 +7,6 @@ use Rattle.vers_trees.proofs.trees.bp.scan.bytes_backward.Goals as goal
 
 pub unwrap-word-requires : goal.unwrap-word-requires
 unwrap-word-requires g c =
-    let r1 = c.requires.passed.1 in let r2 = c.requires.passed.2 in
     read_some c.args.bits.now (c.loop-stop.stop - c.min-size.result) c.min-size.result _ c.get_bits_counted.ensures.value (omega arith) (omega arith)
 
 pub place_met-requires : goal.place_met-requires
@@ -38,7 +37,6 @@ overflow_sub-rise-in-loop-within g c =
 
 pub loop-within-preserved : goal.loop-within-preserved
 loop-within-preserved g c =
-    let r1 = c.requires.passed.1 in let r2 = c.requires.passed.2 in
     let byte = byte_read c.args.bits.now (c.loop-stop.stop - c.min-size.result) c.min-size.result (c.loop-within.within - 8) _ c.unwrap-word.result c.get_bits_counted.ensures.value c.unwrap-word.ensures (omega arith) (omega arith) (omega arith) in
     let at : c.loop-stop.stop - c.min-size.result + c.loop-within.within ≡ c.loop-stop.stop - c.min-size.result + (c.loop-within.within - 8) + 8 = omega arith in
     record {
@@ -64,7 +62,6 @@ overflow_sub-rise g c =
 
 pub loop-stop-preserved-then-stays_above_back : goal.loop-stop-preserved-then-stays_above_back
 loop-stop-preserved-then-stays_above_back g c =
-    let r1 = c.requires.passed.1 in let r2 = c.requires.passed.2 in
     let at : c.loop-stop.stop ≡ c.loop-stop.stop - c.min-size.result + 64 = omega arith in
     let word = whole_word c.args.bits.now (c.loop-stop.stop - c.min-size.result) c.min-size.result _ c.unwrap-word.result c.get_bits_counted.ensures.value c.unwrap-word.ensures c.if-size-eq64.true (omega arith) in
     let over = c.stays_above_back.ensures c.if-stays_above_back.true _ (length-part c.args.bits.now (c.loop-stop.stop - c.min-size.result) 64 (omega arith)) word in

@@ -10,19 +10,16 @@ use Rattle.vers_trees.proofs.trees.bp.scan.node_of.Goals as goal
 
 pub loop-place-init : goal.loop-place-init
 loop-place-init g c =
-    let o = c.requires.order in let i = c.requires.inside in
     rw (to_z-of_z w64 c.step-first.result (step_fits _ _ c.step-first.ensures)) (part_start _ _ c.step-first.result (bit_is _ c.args.from _ _ _ (omega arith) (omega arith) c.is_bit_set_unchecked.ensures c.step-first.ensures))
 
 pub overflow_add-node : goal.overflow_add-node
 overflow_add-node g c =
-    let o = c.requires.order in let i = c.requires.inside in let lo = c.loop-place.auto.place in let te = c.loop-place-test.true in let to = c.loop-place.invariant.total in
     let p = part_fits _ _ c.loop-place.place c.loop-place.node c.loop-place.invariant c.requires.short (omega arith) (omega arith) in
     let e = bit_is c.args.bits.now c.loop-place.place (c.loop-place.place + 1) _ c.step.result (omega arith) (omega arith) c.is_bit_set_unchecked-in-loop-place.ensures c.step.ensures in
     rw (to_z-of_z w64 c.step.result (step_fits _ _ c.step.ensures), to_z-of_z w64 c.loop-place.node.total p.0) (rise_fits c.args.bits.now c.args.from (c.loop-place.place + 1) _ c.requires.short (omega arith) (omega arith) (omega (arith, ints)))
 
 pub loop-place-preserved : goal.loop-place-preserved
 loop-place-preserved g c =
-    let o = c.requires.order in let i = c.requires.inside in let lo = c.loop-place.auto.place in let te = c.loop-place-test.true in let to = c.loop-place.invariant.total in
     let p = part_fits _ _ c.loop-place.place c.loop-place.node c.loop-place.invariant c.requires.short (omega arith) (omega arith) in
     let e = bit_is c.args.bits.now c.loop-place.place (c.loop-place.place + 1) _ c.step.result (omega arith) (omega arith) c.is_bit_set_unchecked-in-loop-place.ensures c.step.ensures in
     let s : excess c.args.bits.now (c.loop-place.place + 1) ≡ excess c.args.bits.now c.args.from +ℤ (c.loop-place.node.total +ℤ c.step.result) = omega (arith, ints) in

@@ -6,12 +6,10 @@ use Rattle.vers_trees.proofs.trees.bp.builder.BpBuilder.append.Goals as goal
 
 pub overflow_add-self : goal.overflow_add-self
 overflow_add-self g c =
-    let s = c.self.invariant.short in let v = c.len.ensures.value in let n = c.if-len-eq-MAX_LEN.false in
     (stored_sum g.row.BLOCK_SIZE c.self.inside.bits c.args.opens c.self.inside.excess c.step.result c.self.invariant (omega arith) c.step.ensures).0
 
 pub invariant_of-self-2 : goal.invariant_of-self-2
 invariant_of-self-2 g c =
-    let s = c.self.invariant.short in let v = c.len.ensures.value in let n = c.if-len-eq-MAX_LEN.false in
     let room : length c.self.inside.bits < 9223372036854775807 = omega arith in
     let grown : c.append.new.self ≡ c.self.inside.bits ++ c.args.opens ∷ [] = (let a = c.in_ok-append.ensures in a.grown) in
     rw (stored_sum g.row.BLOCK_SIZE c.self.inside.bits c.args.opens c.self.inside.excess c.step.result c.self.invariant room c.step.ensures).1

@@ -9,8 +9,6 @@ loop-byte-init c = record { forward = λ byte h. absurd (omega arith); backward 
 pub loop-byte-preserved : goal.loop-byte-preserved
 loop-byte-preserved c =
     let i = c.loop-byte.invariant in
-    let t = c.loop-byte-test.true in
-    let a = i.all in let b = i.both in
     record {
       forward = entries_more false c.loop-byte.byte c.loop-byte.forward c.entry_of-from_start.result (omega arith) i.forward c.entry_of-from_start.ensures;
       backward = entries_more true c.loop-byte.byte c.loop-byte.backward c.entry_of-from_end.result (omega arith) i.backward c.entry_of-from_end.ensures;
