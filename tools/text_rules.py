@@ -3,8 +3,8 @@
 
 - What may not stand in a text, by the rows of `PATTERNS`: public items without a doc comment and module files that don't say what
   they are, labels of papers and paths of one machine, phrases that are not plain English, sources of 800 lines, their lines past
-  120 columns, but for imports and texts, and values that are dropped, but for a mention for the prover, of a field (`&self.len`)
-  or of a length (`high.len()`).
+  120 columns, but for imports, attributes and texts, and values that are dropped, but for a mention for the prover, of a field
+  (`&self.len`) or of a length (`high.len()`).
 - Functions stay below 60 lines, but for tests. `crates.txt` lists the folders of `crates/`. Links of documents lead somewhere.
 - Each word of a crate's `specs/` that the contract of a public function cites stands in `docs/DEFINITIONS.md`, in backticks.
 - Of the proofs of a crate below, a crate imports the page of laws (`PublicLaws`) alone, or one that its `proofs/Lib.antt`
@@ -42,7 +42,7 @@ PATTERNS = (
     # `at the most recent` is plain
     (r".*\.(?:md|rt)", rf"(?i)\bat{GAP}the{GAP}most\b(?!{GAP}\w+[ae]nt\b)", "says `at the most`; write `at most`"),
     (r"crates/\w+/src/.*\.rt", r"\A(?:.*\n){800}", "has more than 800 lines"),
-    (r".*\.rt", r'(?m)^(?! *(?:ghost )?use )[^"\n]{121,}$', "has more than 120 columns"),
+    (r".*\.rt", r'(?m)^(?! *(?:(?:ghost )?use |#\[))[^"\n]{121,}$', "has more than 120 columns"),
     (r"crates/\w+/src/.*(?<!/main)\.rt", r"\A(?!//!)", "the first line doesn't say what the module is"),
     (r"crates/\w+/src/.*(?<!/main)\.rt", r"(?m)^(?! *(?:///|#\[)).*\n(?: *#\[.*\n)*"
      r" *pub (?:const )?(?:unsafe )?(fn|struct|enum|trait|const|static|type) (\w+)", "{1} {2} has no doc comment"),

@@ -101,7 +101,8 @@ impl<A: Allocator + Copy> RsVec<A> {
         ensures adds { AddsAtMost tally.old tally.new
             (record no_reads { block_entries = 1; superblock_entries = 1 }) }
     {
-        self.blocks.read(block, tally) as usize + self.superblocks.read(block / BLOCKS, tally) as usize
+        self.blocks.read(block, tally) as usize
+            + self.superblocks.read(block / BLOCKS, tally) as usize
     }
 
     // The ones from the start of a block up to a place in it, by halves: its first 4 limbs, the first 2

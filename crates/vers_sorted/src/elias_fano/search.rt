@@ -293,7 +293,8 @@ impl<A: Allocator + Copy> EliasFanoVec<A> {
         self.predecessor_with(v, None, tally)
     }
 
-    // The same, by a select less where it is known where the members start that have the high part of the number after `v`.
+    // The same, by a select less where it is known where the members start that have the high part of
+    // the number after `v`.
     #[inline(always)]
     #[tactic(auto, using(crate::proofs::Bounds::bounds, crate::proofs::Buckets::ends))]
     pub(super) fn predecessor_with(
