@@ -1,7 +1,7 @@
 //! Prints the values that the pictures of docs/LAYOUTS.md are drawn from, each as a public call answers it.
 //!
 //! A line has a structure, the name of a call, and what it answers, of the places or numbers asked for in order where
-//! there are several. `tools/layouts.py` makes the page out of the stored run.
+//! there are several. The page ends with the stored run.
 #![tactic(auto)]
 
 mod bits;
