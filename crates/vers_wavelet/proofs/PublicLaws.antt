@@ -1,10 +1,11 @@
 -- The laws that proofs of other crates may cite. A crate above imports this file and no other of this folder.
 use Rattle.std.proofs.Common.{◌≡◌, ℕ, ◌-◌, ◌^◌, ◌<◌, ◌≤◌, ◌+◌, Bool, eqb, List, [], length, get_or, Option, Some, None}
-use Rattle.std.specs.Prelude.{slice_range, All, Any, IsSome, ◌↔◌}
+use Rattle.std.specs.Prelude.{slice_range, All, Any, IsSome, IfSome, ◌↔◌}
 use Rattle.std.specs.List.{count_by}
 use Rattle.std.specs.List.Sorted.{IsNonDecreasing}
 use Rattle.vers_wavelet.specs.Symbols.{by_size, in_bits, occurrences, range_members, kth_by_size, greatest_up_to, least_from, as_word, IsKth, IsPredecessor, IsSuccessor}
 use Rattle.vers_wavelet.specs.Makers.{low_symbols}
+use Rattle.vers_wavelet.proofs.Answered as Answered
 use Rattle.vers_wavelet.proofs.BySize as BySize
 use Rattle.vers_wavelet.proofs.Items as Items
 use Rattle.vers_wavelet.proofs.Members as Members
@@ -83,9 +84,18 @@ members_inside = Ranges.members_inside
 pub members_past : (xs : List ℕ) (a b : ℕ) → length xs < b → range_members xs a b ≡ []
 members_past = Ranges.members_past
 
--- a range has a member of a number where it ends within the list and has so many places
-pub range_has_kth : (xs : List ℕ) (a b i : ℕ) → IsSome (kth_by_size (range_members xs a b) i) ↔ (b ≤ length xs) × (a + i < b)
-range_has_kth = Ranges.range_has_kth
+-- its member of a number, and its neighbours of a number
+pub range_kth : (xs : List ℕ) (a b i : ℕ) → IfSome (kth_by_size (range_members xs a b) i) (λ x. IsKth (slice_range xs a b) i x)
+    × (IsSome (kth_by_size (range_members xs a b) i) ↔ (b ≤ length xs) × (a + i < b))
+range_kth = Answered.range_kth
+
+pub range_predecessor : (xs : List ℕ) (a b s : ℕ) → IfSome (greatest_up_to (range_members xs a b) s) (λ x. IsPredecessor (slice_range xs a b) s x)
+    × (IsSome (greatest_up_to (range_members xs a b) s) ↔ (a ≤ b) × (b ≤ length xs) × Any (λ y. y ≤ s) (slice_range xs a b))
+range_predecessor = Answered.range_predecessor
+
+pub range_successor : (xs : List ℕ) (a b s : ℕ) → IfSome (least_from (range_members xs a b) s) (λ x. IsSuccessor (slice_range xs a b) s x)
+    × (IsSome (least_from (range_members xs a b) s) ↔ (a ≤ b) × (b ≤ length xs) × Any (λ y. s ≤ y) (slice_range xs a b))
+range_successor = Answered.range_successor
 
 -- symbols of at most 64 bits are numbers of the machine, and others none
 pub narrow_word : (width : ℕ) (symbol : Option ℕ) → width ≤ 64 → as_word width symbol ≡ symbol

@@ -1,5 +1,5 @@
 -- The laws of lists of symbols, as statements.
-use Rattle.std.specs.Prelude.{◌≡◌, ℕ, ◌^◌, ◌<◌, ◌≤◌, ◌==◌, Bool, List, length, slice_index, slice_range, count_by, All, Any, Option, Some, None, IsSome, ◌↔◌, ◌+◌}
+use Rattle.std.specs.Prelude.{◌≡◌, ℕ, ◌^◌, ◌<◌, ◌≤◌, ◌==◌, Bool, List, length, slice_index, slice_range, count_by, All, Any, Option, Some, None, IsSome, IfSome, ◌↔◌, ◌+◌}
 use Rattle.std.specs.List.Sorted.{IsNonDecreasing}
 use Rattle.vers_wavelet.specs.Symbols.{by_size, occurrences, range_members, kth_by_size, greatest_up_to, least_from, as_word, IsKth, IsPredecessor, IsSuccessor}
 use Rattle.vers_wavelet.specs.Makers.{low_symbols}
@@ -20,10 +20,6 @@ KthBySizeIsKth = (numbers : List ℕ) (i x : ℕ) → (kth_by_size numbers i ≡
 abbrev pub KthBySizeIsItem : Type 0
 KthBySizeIsItem = (numbers : List ℕ) (i : ℕ) → i < length numbers → kth_by_size numbers i ≡ Some (slice_index (by_size numbers) i)
 
--- a range has a member of a number where it ends within the list and has so many places
-abbrev pub RangesHaveMembers : Type 0
-RangesHaveMembers = (numbers : List ℕ) (a b i : ℕ) → IsSome (kth_by_size (range_members numbers a b) i) ↔ (b ≤ length numbers) × (a + i < b)
-
 -- the greatest member up to a number is the predecessor, and is there where some member is not above the number
 abbrev pub GreatestUpToIsPredecessor : Type 0
 GreatestUpToIsPredecessor = (numbers : List ℕ) (s x : ℕ) → (greatest_up_to numbers s ≡ Some x) ↔ IsPredecessor numbers s x
@@ -37,6 +33,20 @@ LeastFromIsSuccessor = (numbers : List ℕ) (s x : ℕ) → (least_from numbers 
 
 abbrev pub SomeMembersAreFrom : Type 0
 SomeMembersAreFrom = (numbers : List ℕ) (s : ℕ) → IsSome (least_from numbers s) ↔ Any (λ y. s ≤ y) numbers
+
+-- a range's member of a number, as a relation, and that it is there where the range ends within the list and has so many places
+abbrev pub RangesHaveMembers : Type 0
+RangesHaveMembers = (numbers : List ℕ) (a b i : ℕ) → IfSome (kth_by_size (range_members numbers a b) i) (λ x. IsKth (slice_range numbers a b) i x)
+    × (IsSome (kth_by_size (range_members numbers a b) i) ↔ (b ≤ length numbers) × (a + i < b))
+
+-- its neighbours of a number, and that they are there where the range lies within the list and has such a member
+abbrev pub RangesHavePredecessors : Type 0
+RangesHavePredecessors = (numbers : List ℕ) (a b s : ℕ) → IfSome (greatest_up_to (range_members numbers a b) s) (λ x. IsPredecessor (slice_range numbers a b) s x)
+    × (IsSome (greatest_up_to (range_members numbers a b) s) ↔ (a ≤ b) × (b ≤ length numbers) × Any (λ y. y ≤ s) (slice_range numbers a b))
+
+abbrev pub RangesHaveSuccessors : Type 0
+RangesHaveSuccessors = (numbers : List ℕ) (a b s : ℕ) → IfSome (least_from (range_members numbers a b) s) (λ x. IsSuccessor (slice_range numbers a b) s x)
+    × (IsSome (least_from (range_members numbers a b) s) ↔ (a ≤ b) × (b ≤ length numbers) × Any (λ y. s ≤ y) (slice_range numbers a b))
 
 -- the members of a range that ends within the list are those at its places
 abbrev pub RangesInsideStay : Type 0

@@ -1,6 +1,6 @@
 //! Laws of lists of symbols. Each function does nothing: its contract is the law, and its proof is
 //! checked with the crate.
-ghost use Rattle.vers_wavelet.specs.Laws.{SortedMembersAscend, SortingKeepsMembers, KthBySizeIsKth, KthBySizeIsItem, RangesHaveMembers, GreatestUpToIsPredecessor, SomeMembersAreUpTo, LeastFromIsSuccessor, SomeMembersAreFrom, RangesInsideStay, NarrowSymbolsAreWords, WideSymbolsAreNoWords, OneMemberOfANumber, QuantilesListMembersBySize, SmallNumbersStay, OccurrencesAreCounted};
+ghost use Rattle.vers_wavelet.specs.Laws.{SortedMembersAscend, SortingKeepsMembers, KthBySizeIsKth, KthBySizeIsItem, RangesHaveMembers, RangesHavePredecessors, RangesHaveSuccessors, GreatestUpToIsPredecessor, SomeMembersAreUpTo, LeastFromIsSuccessor, SomeMembersAreFrom, RangesInsideStay, NarrowSymbolsAreWords, WideSymbolsAreNoWords, OneMemberOfANumber, QuantilesListMembersBySize, SmallNumbersStay, OccurrencesAreCounted};
 
 /// In ascending order members ascend.
 #[tactic(auto, using(crate::proofs::BySize::ascending))]
@@ -25,11 +25,6 @@ pub fn kth_by_size_is_item()
     ensures { KthBySizeIsItem }
 {}
 
-/// A range has a member of a number where it ends within the list and has so many places.
-pub fn ranges_have_members()
-    ensures { RangesHaveMembers }
-{}
-
 /// The greatest member up to a number is the predecessor: a member that is not above the number,
 /// and no such member is above it.
 pub fn greatest_up_to_is_predecessor()
@@ -50,6 +45,24 @@ pub fn least_from_is_successor()
 /// There is a least member from a number on where some member is not below the number.
 pub fn some_members_are_from()
     ensures { SomeMembersAreFrom }
+{}
+
+/// A range's member of a number is the one that at most so many of its members are below, and that
+/// more are not above. It is there where the range ends within the list and has so many places.
+pub fn ranges_have_members()
+    ensures { RangesHaveMembers }
+{}
+
+/// A range's greatest member up to a number is the predecessor among its members. It is there where
+/// the range lies within the list and some of its members are not above the number.
+pub fn ranges_have_predecessors()
+    ensures { RangesHavePredecessors }
+{}
+
+/// A range's least member from a number on is the successor among its members. It is there where the
+/// range lies within the list and some of its members are not below the number.
+pub fn ranges_have_successors()
+    ensures { RangesHaveSuccessors }
 {}
 
 /// The members of a range that ends within the list are those at its places.
