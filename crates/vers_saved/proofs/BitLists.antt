@@ -1,14 +1,13 @@
 -- Saved forms of lists of bits.
 use Rattle.std.proofs.Common.{◌≡◌, ℕ, ◌-◌, ◌*◌, ◌≤◌, Bool, true, ◌&&◌, List, [], ◌∷◌, length, take, refl, sym, ap, subst, ◌∙◌, arith}
-use Rattle.std.specs.Prelude.{⊤, nat_le}
+use Rattle.std.specs.Prelude.{nat_le}
 use Rattle.std.proofs.lemmas.Bool.{le-leb}
 use Rattle.std.proofs.lemmas.Bool.Decides.{nat_tests}
 use Rattle.vers_sorted.specs.Sorted.{each_next}
 use Rattle.vers_bits.specs.Bits.{limbs, limb_count, pack}
 use Rattle.vers_bits.proofs.PublicLaws.{length-limbs}
-use Rattle.vers_saved.specs.declared.kind.Kind.{Kind}
 use Rattle.vers_saved.specs.declared.kind.TheConstants.{BIT_LISTS}
-use Rattle.vers_saved.specs.Faults.{takes_width, takes_count, item_bits}
+use Rattle.vers_saved.specs.Faults.{takes_width}
 use Rattle.vers_saved.specs.Kinds.{EndsPadded, IsWhole}
 use Rattle.vers_saved.proofs.LimbLists.{length-pack, length-first, limbs-first, limbs_fit, limbs_padded}
 

@@ -3,7 +3,7 @@ use Rattle.std.proofs.Common.{◌≡◌, ℕ, ◌+◌, ◌-◌, ◌*◌, ◌%◌
 use Rattle.std.specs.Prelude.{Option, None, Some}
 use Rattle.std.proofs.lemmas.Bool.{cases_eq, eqb-true, leb-true}
 use Rattle.std.proofs.lemmas.Bool.Decides.{nat_tests}
-use Rattle.std.proofs.lemmas.List.{take-append-drop, take-take, drop-take, drop_more, drop_all, get_or-take, get_or-drop, length-take, length-drop}
+use Rattle.std.proofs.lemmas.List.{take-append-drop, take-take, drop-take, drop_more, drop_all}
 use Rattle.vers_bits.specs.Bits.{limb_count}
 use Rattle.vers_saved.specs.declared.TheConstants.{MAGIC, VERSION}
 use Rattle.vers_saved.specs.declared.fault.LoadError.{LoadError}

@@ -1,11 +1,10 @@
 -- Saved forms of parentheses.
-use Rattle.std.proofs.Common.{◌≡◌, ℕ, suc, ◌+◌, ◌-◌, ◌*◌, ◌^◌, ◌<◌, ◌≤◌, min, max, Bool, true, false, ◌&&◌, List, [], ◌∷◌, length, get_or, take, drop, refl, sym, ap, subst, ◌∙◌, arith}
-use Rattle.std.specs.Prelude.{nat_le, slice_get, Some, None}
-use Rattle.std.proofs.lemmas.Bool.{le-leb}
+use Rattle.std.proofs.Common.{◌≡◌, ℕ, suc, ◌+◌, ◌-◌, ◌*◌, ◌<◌, ◌≤◌, min, max, Bool, false, List, length, get_or, take, drop, sym, ap, subst, ◌∙◌, arith}
+use Rattle.std.specs.Prelude.{slice_get, Some}
 use Rattle.std.proofs.lemmas.Bool.Decides.{nat_tests}
 use Rattle.std.proofs.lemmas.List.{drop_more, length-take}
 use Rattle.std.proofs.lemmas.Option.{get_or_from_slice_get}
-use Rattle.vers_bits.specs.Bits.{bit_value, number, part, limbs, limb_count, pack}
+use Rattle.vers_bits.specs.Bits.{bit_value, number, limbs, limb_count, pack}
 use Rattle.vers_bits.proofs.PublicLaws.{length-limbs, number_below, byte_value}
 use Rattle.vers_saved.specs.Kinds.{EndsPadded, IsWhole, tree_kind}
 use Rattle.vers_saved.proofs.LimbLists.{limbs-first, limbs_fit, limbs_padded}

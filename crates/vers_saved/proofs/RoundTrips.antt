@@ -1,13 +1,13 @@
 -- What was saved is loaded.
-use Rattle.std.proofs.Common.{◌≡◌, ℕ, ◌*◌, ◌+◌, ◌^◌, ◌<◌, ◌≤◌, Bool, true, false, List, length, refl, sym, ap, ◌∙◌, inl, inr, arith}
-use Rattle.std.specs.Prelude.{Option, None, Some, ◌⊎◌, ◌&&◌, nat_le}
+use Rattle.std.proofs.Common.{◌≡◌, ℕ, ◌*◌, ◌+◌, ◌^◌, ◌<◌, ◌≤◌, Bool, true, false, List, length, sym, ap, ◌∙◌, inl, inr, arith}
+use Rattle.std.specs.Prelude.{None, Some, ◌⊎◌, ◌&&◌, nat_le}
 use Rattle.std.proofs.lemmas.Bool.{leb-true}
 use Rattle.vers_bits.specs.Bits.{limb_count}
 use Rattle.vers_saved.specs.declared.kind.Kind.{Kind}
 use Rattle.vers_saved.specs.declared.fault.LoadError.{LoadError}
 use Rattle.vers_saved.specs.declared.fault.LoadError.TheVariants.{Memory}
 use Rattle.vers_saved.specs.Format.{saved}
-use Rattle.vers_saved.specs.Faults.{takes_width, takes_count, item_bits, fault_of}
+use Rattle.vers_saved.specs.Faults.{item_bits, fault_of}
 use Rattle.vers_saved.specs.Kinds.{IsWhole}
 use Rattle.vers_saved.proofs.WordBytes.{length-bytes_of}
 use Rattle.vers_saved.proofs.SavedForms.{all_words, length-all_words, saved_has_no_fault, same_words}

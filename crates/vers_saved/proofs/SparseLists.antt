@@ -1,13 +1,12 @@
 -- Saved forms of lists of bits with few ones.
-use Rattle.std.proofs.Common.{◌≡◌, ℕ, suc, ◌+◌, ◌-◌, ◌*◌, ◌^◌, ◌<◌, ◌≤◌, Bool, true, zero, List, [], ◌∷◌, ◌++◌, length, get_or, take, refl, sym, ap, subst, ◌∙◌, inl, inr, arith}
-use Rattle.std.specs.Prelude.{All, nat_le, nat_lt}
+use Rattle.std.proofs.Common.{◌≡◌, ℕ, suc, ◌+◌, ◌-◌, ◌^◌, ◌<◌, ◌≤◌, Bool, true, zero, List, [], ◌∷◌, ◌++◌, length, get_or, take, refl, sym, ap, subst, ◌∙◌, inl, inr, arith}
+use Rattle.std.specs.Prelude.{All}
 use Rattle.std.specs.List.Sorted.{IsStrictlyIncreasing}
 use Rattle.std.proofs.lemmas.Bool.{cases_lt}
 use Rattle.std.proofs.lemmas.Bool.Decides.{nat_tests}
 use Rattle.std.proofs.lemmas.List.{get_or_push, get_or_append_left, get_or_past, get_or-take, get_or_default, length-append, length-take, take_more, take_all}
 use Rattle.vers_bits.specs.Bits.{count, places, select}
 use Rattle.vers_bits.proofs.PublicLaws.{length-places, count_at_select, select_up, select_past, any_default}
-use Rattle.vers_sorted.specs.Sorted.{each_next}
 use Rattle.vers_sorted.proofs.PublicLaws.{each_next-rising}
 use Rattle.vers_saved.specs.declared.kind.TheConstants.{SPARSE_LISTS}
 use Rattle.vers_saved.specs.Format.{sparse_words}

@@ -1,9 +1,9 @@
 -- The sum of words.
-use Rattle.std.proofs.Common.{◌≡◌, ℕ, ◌+◌, ◌*◌, ◌/◌, ◌%◌, ◌^◌, ◌<◌, ◌≤◌, drop, List, [], ◌∷◌, ◌++◌, ◌-◌, nat_eq, length, get_or, take, refl, sym, ap, ◌∙◌, arith}
+use Rattle.std.proofs.Common.{◌≡◌, ℕ, ◌+◌, ◌*◌, ◌/◌, ◌%◌, ◌^◌, ◌<◌, ◌≤◌, drop, List, [], ◌∷◌, ◌++◌, length, get_or, take, refl, sym, ap, ◌∙◌, arith}
 use Rattle.std.specs.Prelude.{fold, map, bit_xor}
 use Rattle.std.proofs.lemmas.Nat.{or_lt, mod_below, pow_pos, shr_le}
 use Rattle.std.proofs.lemmas.Grind.{fold-append}
-use Rattle.std.proofs.lemmas.List.{map_more, take-map, drop-map, append_assoc, append-nil, take_more, take_all, flat_map_more}
+use Rattle.std.proofs.lemmas.List.{take-map, drop-map, append_assoc, append-nil, take_more, take_all, flat_map_more}
 use Rattle.vers_saved.specs.declared.TheConstants.{START, MAGIC, VERSION, FACTOR}
 use Rattle.std.specs.Simd.{first_chunks}
 use Rattle.vers_saved.specs.Format.{mix, check_sum, words_of, bytes_word, word_bytes, bytes_of, head, saved, with_sum}

@@ -1,11 +1,9 @@
 -- Saved forms of lists of numbers.
-use Rattle.std.proofs.Common.{◌≡◌, ℕ, suc, ◌+◌, ◌-◌, ◌*◌, ◌^◌, ◌<◌, ◌≤◌, Bool, true, List, [], ◌∷◌, length, get_or, refl, sym, ap, ◌∙◌, inl, inr, arith}
-use Rattle.std.specs.Prelude.{nat_le, nat_lt}
+use Rattle.std.proofs.Common.{◌≡◌, ℕ, ◌-◌, ◌*◌, ◌^◌, ◌<◌, ◌≤◌, true, List, length, get_or, refl, ap, inl, inr, arith}
 use Rattle.std.specs.List.Sorted.{IsNonDecreasing}
 use Rattle.std.proofs.lemmas.Bool.{cases_lt}
 use Rattle.std.proofs.lemmas.Bool.Decides.{nat_tests}
 use Rattle.std.proofs.lemmas.List.{get_or_past}
-use Rattle.vers_sorted.specs.Sorted.{each_next}
 use Rattle.vers_sorted.proofs.PublicLaws.{each_next-ascending}
 use Rattle.vers_saved.specs.declared.kind.Kind.{Kind}
 use Rattle.vers_saved.specs.declared.kind.TheConstants.{SORTED_LISTS, TABLE_VALUES, BLOCK_VALUES}

@@ -11,6 +11,7 @@ pub mod numbers;
 pub mod saved;
 pub mod sparse;
 pub mod stream;
+pub mod symbols;
 pub mod trees;
 pub mod words;
 

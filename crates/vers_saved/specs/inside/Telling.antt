@@ -1,11 +1,16 @@
 -- Proofs that lists with the same words are the same list.
-use Rattle.std.proofs.Common.{◌≡◌, ℕ, Bool, true, List, [], ◌∷◌, length, refl, sym, ap, ◌∙◌}
-use Rattle.std.proofs.lemmas.List.{same_from_push}
-use Rattle.std.specs.Prelude.{⊤, map}
-use Rattle.vers_bits.specs.Bits.{is_bit, limbs, places}
-use Rattle.vers_bits.proofs.PublicLaws.{equal_limbs}
+use Rattle.std.proofs.Common.{◌≡◌, ℕ, suc, ◌^◌, ◌<◌, ◌*◌, Bool, true, List, [], ◌∷◌, length, get_or, take, drop, refl, sym, ap, subst, ◌∙◌, inl, inr, arith}
+use Rattle.std.proofs.Math.Nat.{mod-eq_of_lt}
+use Rattle.std.proofs.lemmas.Bool.{cases_lt}
+use Rattle.std.proofs.lemmas.Nat.{pow_pos}
+use Rattle.std.proofs.lemmas.List.Elements.{All-get_or}
+use Rattle.std.proofs.lemmas.List.{same_from_push, take_at, drop_at, get_or_past}
+use Rattle.std.specs.Prelude.{⊤, map, All}
+use Rattle.vers_bits.specs.Bits.{is_bit, number, low_bits, pack, limbs, places}
+use Rattle.vers_bits.proofs.PublicLaws.{equal_limbs, length-packed, length-low_bits, number-low_bits}
 use Rattle.vers_sorted.specs.Ones.{ones_at}
 use Rattle.vers_sorted.proofs.PublicLaws.{ones_at-places}
+use Rattle.vers_wavelet.specs.Symbols.{Symbols}
 use Rattle.vers_saved.specs.Format.{sparse_words}
 
 -- lists of bits with the same limbs
@@ -26,3 +31,40 @@ pub sparse_tell : (x y : List Bool) → ⊤ → ⊤ → length (sparse_words x) 
 sparse_tell x y t u long one same =
     let p = same_from_push (places true x) (places true y) (length x) (length y) same in
     sym (ones_at-places true x ∙ same_bits x) ∙ ap (λ l. ones_at l (length x)) p.0 ∙ ap (ones_at (places true y)) p.1 ∙ ones_at-places true y ∙ same_bits y
+
+-- packed symbols tell
+abbrev AreSymbols : ℕ → List ℕ → Type 0
+AreSymbols k xs = (i : ℕ) → get_or xs i 0 < 2 ^ k
+
+are_symbols : (k : ℕ) (xs : List ℕ) → All (λ y. y < 2 ^ k) xs → AreSymbols k xs
+are_symbols k xs all i = elim (cases_lt i (length xs)) [
+  | inl inside ↦ All-get_or (λ y. y < 2 ^ k) xs i 0 inside all
+  | inr past ↦ subst (λ y. y < 2 ^ k) (sym (get_or_past xs i 0 past)) (pow_pos k)
+]
+
+same_symbol : (k x y : ℕ) → x < 2 ^ k → y < 2 ^ k → low_bits x k ≡ low_bits y k → x ≡ y
+same_symbol k x y hx hy e = sym (number-low_bits x k ∙ mod-eq_of_lt hx) ∙ ap number e ∙ number-low_bits y k ∙ mod-eq_of_lt hy
+
+pack_tells : (k : ℕ) (xs ys : List ℕ) → AreSymbols k xs → AreSymbols k ys → length xs ≡ length ys → pack xs k ≡ pack ys k → xs ≡ ys
+pack_tells k [] [] hx hy e p = refl
+pack_tells k [] (y ∷ ys) hx hy e p = absurd (omega arith)
+pack_tells k (x ∷ xs) [] hx hy e p = absurd (omega arith)
+pack_tells k (x ∷ xs) (y ∷ ys) hx hy e p =
+    let first : low_bits x k ≡ low_bits y k =
+    sym (take_at (low_bits x k) (pack xs k) k (length-low_bits x k)) ∙ ap (take k) p ∙ take_at (low_bits y k) (pack ys k) k (length-low_bits y k) in
+    let rest : pack xs k ≡ pack ys k =
+    sym (drop_at (low_bits x k) (pack xs k) k (length-low_bits x k)) ∙ ap (drop k) p ∙ drop_at (low_bits y k) (pack ys k) k (length-low_bits y k) in
+    ap (λ z. z ∷ xs) (same_symbol k x y (hx 0) (hy 0) first) ∙ ap (λ l. y ∷ l) (pack_tells k xs ys (λ i. hx (suc i)) (λ i. hy (suc i)) (omega arith) rest)
+
+-- symbols of one width, as many and with the same bits
+same_symbols : (j k : ℕ) (xs ys : List ℕ) → All (λ y. y < 2 ^ j) xs → All (λ y. y < 2 ^ k) ys → length xs ≡ length ys → j ≡ k → limbs (pack xs j) ≡ limbs (pack ys k) → xs ≡ ys
+same_symbols j k xs ys hx hy long wide same =
+    let alike : limbs (pack xs k) ≡ limbs (pack ys k) = ap (λ w. limbs (pack xs w)) (sym wide) ∙ same in
+    let many : length (pack xs k) ≡ length (pack ys k) = length-packed (λ v. v) k xs ∙ ap (λ n. n * k) long ∙ sym (length-packed (λ v. v) k ys) in
+    pack_tells k xs ys (are_symbols k xs (subst (λ w. All (λ y. y < 2 ^ w) xs) wide hx)) (are_symbols k ys hy) long (equal_limbs (pack xs k) (pack ys k) many alike)
+
+pub symbols_tell : (x y : Symbols) → All (λ v. v < 2 ^ x.width) x.items → All (λ v. v < 2 ^ y.width) y.items → length x.items ≡ length y.items → x.width ≡ y.width
+    → limbs (pack x.items x.width) ≡ limbs (pack y.items y.width) → x ≡ y
+symbols_tell x y hx hy long wide same =
+    let items : x.items ≡ y.items = same_symbols x.width y.width x.items y.items hx hy long wide same in
+    ap (λ w. record { width = w; items = x.items }) wide ∙ ap (λ l. record { width = y.width; items = l }) items

@@ -1,4 +1,4 @@
-use Rattle.std.proofs.Common.{◌≡◌, ◌<◌, ◌++◌, ◌*◌, length, ap, sym, ◌∙◌, arith}
+use Rattle.std.proofs.Common.{◌≡◌, ◌<◌, ◌++◌, length, ap, ◌∙◌, arith}
 use Rattle.vers_saved.specs.Format.{word_bytes, mix, head}
 use Rattle.vers_saved.proofs.Sums.{written_more, summed_more, written_all}
 use Rattle.vers_saved.proofs.RoundTrips.{count_is}

@@ -1,6 +1,5 @@
-use Rattle.std.proofs.Common.{◌≡◌, ◌<◌, ◌^◌, ◌∙◌, ap, sym, subst, arith, rules}
+use Rattle.std.proofs.Common.{◌≡◌, ◌∙◌, ap, subst, arith, rules}
 use Rattle.std.specs.Prelude.{None}
-use Rattle.vers_saved.specs.declared.kind.Kind.{Kind}
 use Rattle.vers_saved.specs.declared.fault.LoadError.TheVariants.{Memory}
 use Rattle.vers_saved.specs.Format.{saved}
 use Rattle.vers_saved.specs.Faults.{fault_of}

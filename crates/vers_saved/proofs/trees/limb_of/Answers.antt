@@ -1,4 +1,4 @@
-use Rattle.std.proofs.Common.{◌≡◌, ◌-◌, ◌+◌, ◌*◌, ◌<◌, ◌≤◌, min, false, get_or, length, take, drop, refl, ap, sym, subst, ◌∙◌, arith}
+use Rattle.std.proofs.Common.{◌≡◌, ◌-◌, ◌+◌, ◌*◌, ◌<◌, min, false, get_or, length, take, drop, refl, ap, sym, ◌∙◌, arith}
 use Rattle.vers_bits.specs.Bits.{number}
 use Rattle.vers_bits.proofs.PublicLaws.{length-limbs, bit_value_le}
 use Rattle.vers_saved.proofs.Parentheses.{number_before, number_small, last_limb, none_yet}

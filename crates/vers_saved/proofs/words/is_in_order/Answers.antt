@@ -1,7 +1,6 @@
 use Rattle.std.proofs.Common.{◌∙◌, ◌&&◌, ap, arith}
-use Rattle.vers_bits.specs.Bits.{limb_count}
 use Rattle.vers_saved.specs.Faults.{stands}
-use Rattle.vers_saved.proofs.Orders.{ordered_more, ordered_all}
+use Rattle.vers_saved.proofs.Orders.{ordered_more}
 use Rattle.vers_saved.proofs.words.is_in_order.Goals as goal
 
 pub loop-k-preserved : goal.loop-k-preserved

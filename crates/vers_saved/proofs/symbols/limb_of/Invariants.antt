@@ -1,0 +1,13 @@
+use Rattle.std.proofs.Common.{◌≡◌, ◌-◌, ◌+◌, ◌*◌, ◌≤◌, min, length, get_or, take, drop}
+use Rattle.vers_bits.specs.Bits.{number, pack}
+use Rattle.vers_saved.proofs.symbols.limb_of.Given as goal
+
+-- the number of the bits so far, from the last one back, and the symbol that is known
+abbrev pub invariant-loop-place : goal.invariant-loop-place
+invariant-loop-place g l =
+    (l.word ≡ number (take (min (length (pack l.list.items l.list.width)) (64 * l.fn.k + 64) - l.place) (drop l.place (pack l.list.items l.list.width))))
+    × (64 * l.fn.k ≤ l.place) × (l.place ≤ min (length (pack l.list.items l.list.width)) (64 * l.fn.k + 64))
+    × (l.symbol ≡ get_or l.list.items l.known 0)
+
+abbrev pub decreases-loop-place : goal.decreases-loop-place
+decreases-loop-place g l = l.place
