@@ -27,8 +27,11 @@ bit_small : (b : Bool) → bit_value b < 2 ^ 1
 bit_small true = omega arith
 bit_small false = omega arith
 
-ones_next : (b : Bool) (l : List Bool) → count_ones (number (b ∷ l)) ≡ bit_value b + count_ones (number l)
-ones_next b l = ones_step (number (b ∷ l)) ∙ ap (λ (n : ℕ). number (b ∷ l) % 2 + count_ones n) (number_half b l) ∙ ap (λ (n : ℕ). n + count_ones (number l)) (number_odd b l)
+ones_next : (n : ℕ) (b : Bool) → count_ones (n * 2 ^ 1 + bit_value b) ≡ bit_value b + count_ones n
+ones_next n b =
+    let s = ones_step (n * 2 ^ 1 + bit_value b) in let m = bit_small b in
+    let h = ap count_ones (let g : (n * 2 ^ 1 + bit_value b) / 2 ≡ n = omega arith in g) in
+    omega arith
 
 zero_ones : count_ones 0 ≡ 0
 zero_ones = ones-ones 0
@@ -46,23 +49,11 @@ abbrev before : Bool → List Bool → List Bool
 before p [] = []
 before p (b ∷ l) = p ∷ before b l
 
-abbrev covers : Bool → List Bool → List Bool
-covers p [] = []
-covers p (b ∷ l) = (b || p) ∷ covers b l
-
 or_values : (b p : Bool) → bit_or (bit_value b) (bit_value p) ≡ bit_value (b || p)
 or_values true true = refl
 or_values true false = refl
 or_values false true = refl
 or_values false false = refl
-
-number-covers : (p : Bool) (l : List Bool) → number (covers p l) ≡ bit_or (number l) (number (before p l))
-number-covers p [] = refl
-number-covers p (b ∷ l) =
-    let a = or_block 1 (number l) (number (before b l)) (bit_value b) (bit_value p) (bit_small b) (bit_small p) in
-    let e = number_next (b || p) (covers b l) in
-    e ∙ ap (λ (n : ℕ). n * 2 ^ 1 + bit_value (b || p)) (number-covers b l) ∙ ap (λ (n : ℕ). bit_or (number l) (number (before b l)) * 2 ^ 1 + n) (sym (or_values b p)) ∙ sym a
-    ∙ ap (λ (n : ℕ). bit_or n (number (before b l) * 2 ^ 1 + bit_value p)) (sym (number_next b l)) ∙ ap (bit_or (number (b ∷ l))) (sym (number_next p (before b l)))
 
 before_is : (p : Bool) (n : ℕ) (l : List Bool) → length l ≡ suc n → before p l ≡ p ∷ take n l
 before_is p n [] e = absurd (omega arith)
@@ -70,20 +61,26 @@ before_is p zero (b ∷ []) e = refl
 before_is p zero (b ∷ c ∷ l) e = absurd (omega arith)
 before_is p (suc n) (b ∷ l) e = ap (λ (m : List Bool). p ∷ m) (before_is b n l (omega arith))
 
-ones-covers : (p : Bool) (l : List Bool) → count_ones (number (covers p l)) + falls p l ≡ length l
-ones-covers p [] = let z = zero_ones in omega arith
-ones-covers p (true ∷ l) = let e = ones_next true (covers true l) in let h = ones-covers true l in omega arith
-ones-covers true (false ∷ l) = let e = ones_next true (covers false l) in let h = ones-covers false l in omega arith
-ones-covers false (false ∷ l) = let e = ones_next false (covers false l) in let h = ones-covers false l in omega arith
+or_ones : (p : Bool) (l : List Bool) → count_ones (bit_or (number l) (number (before p l))) + falls p l ≡ length l
+or_ones p [] = let z = zero_ones in omega arith
+or_ones p (b ∷ l) =
+    let a = or_block 1 (number l) (number (before b l)) (bit_value b) (bit_value p) (bit_small b) (bit_small p) in
+    let e : bit_or (number (b ∷ l)) (number (before p (b ∷ l))) ≡ bit_or (number l) (number (before b l)) * 2 ^ 1 + bit_value (b || p) =
+    rw (number_next b l, number_next p (before b l)) (a ∙ ap (λ (n : ℕ). bit_or (number l) (number (before b l)) * 2 ^ 1 + n) (or_values b p)) in
+    one b p (ap count_ones e ∙ ones_next _ (b || p)) (or_ones b l)
+  where
+    one : (b p : Bool) → count_ones (bit_or (number (b ∷ l)) (number (before p (b ∷ l)))) ≡ bit_value (b || p) + count_ones (bit_or (number l) (number (before b l))) → count_ones (bit_or (number l) (number (before b l))) + falls b l ≡ length l → count_ones (bit_or (number (b ∷ l)) (number (before p (b ∷ l)))) + falls p (b ∷ l) ≡ length (b ∷ l)
+    one true p c h = omega arith
+    one false true c h = omega arith
+    one false false c h = omega arith
 
 pub falls_counted : (l : List Bool) (word : ℕ) → length l ≡ 64 → word ≡ number l → falls false l + count_ones (bit_or word (word * 2 % 18446744073709551616)) ≡ 64
 falls_counted l word h e =
-    let o = ones-covers false l in
+    let o = or_ones false l in
     let b = ap number (before_is false 63 l h) in
     let t = number-take 63 l in
     let s : number (before false l) ≡ word * 2 % 18446744073709551616 = omega arith in
-    let c : number (covers false l) ≡ bit_or word (word * 2 % 18446744073709551616) = number-covers false l ∙ ap (λ (n : ℕ). bit_or n (number (before false l))) (sym e) ∙ ap (bit_or word) s in
-    let d = ap count_ones c in
+    let c : count_ones (bit_or (number l) (number (before false l))) ≡ count_ones (bit_or word (word * 2 % 18446744073709551616)) = rw (← e, s) refl in
     omega arith
 
 -- no sum along the list falls further
@@ -102,32 +99,22 @@ abbrev after : List Bool → List Bool
 after [] = []
 after (b ∷ l) = is_not_closed l ∷ after l
 
-abbrev alone : List Bool → List Bool
-alone [] = []
-alone (b ∷ l) = (b && is_not_closed l) ∷ alone l
-
 and_values : (b p : Bool) → bit_and (bit_value b) (bit_value p) ≡ bit_value (b && p)
 and_values true true = refl
 and_values true false = refl
 and_values false true = refl
 and_values false false = refl
 
-number-alone : (l : List Bool) → number (alone l) ≡ bit_and (number l) (number (after l))
-number-alone [] = refl
-number-alone (b ∷ l) =
-    let p = is_not_closed l in
-    let a = and_block 1 (number l) (number (after l)) (bit_value b) (bit_value p) (bit_small b) (bit_small p) in
-    let e = number_next (b && p) (alone l) in
-    e ∙ ap (λ (n : ℕ). n * 2 ^ 1 + bit_value (b && p)) (number-alone l) ∙ ap (λ (n : ℕ). bit_and (number l) (number (after l)) * 2 ^ 1 + n) (sym (and_values b p)) ∙ sym a
-    ∙ ap (λ (n : ℕ). bit_and n (number (after l) * 2 ^ 1 + bit_value p)) (sym (number_next b l)) ∙ ap (bit_and (number (b ∷ l))) (sym (number_next p (after l)))
-
 number-after : (b : Bool) (l : List Bool) → number (after (b ∷ l)) ≡ number l + 2 ^ length l
 number-after b [] = refl
 number-after b (c ∷ l) = let h = number-after c l in omega (arith, pow-suc 2 (length l))
 
-ones-alone : (l : List Bool) → count_ones (number (alone l)) ≡ rises l
-ones-alone [] = zero_ones
-ones-alone (b ∷ l) = let e = ones_next (b && is_not_closed l) (alone l) in let h = ones-alone l in omega arith
+and_ones : (l : List Bool) → count_ones (bit_and (number l) (number (after l))) ≡ rises l
+and_ones [] = zero_ones
+and_ones (b ∷ l) =
+    let p = is_not_closed l in
+    let a = and_block 1 (number l) (number (after l)) (bit_value b) (bit_value p) (bit_small b) (bit_small p) in
+    rw (number_next b l, number_next p (after l)) (ap count_ones (a ∙ ap (λ (n : ℕ). bit_and (number l) (number (after l)) * 2 ^ 1 + n) (and_values b p)) ∙ ones_next _ (b && p) ∙ ap (λ (n : ℕ). bit_value (b && p) + n) (and_ones l))
 
 after_word : (l : List Bool) → length l ≡ 64 → number (after l) ≡ number l / 2 + 9223372036854775808
 after_word [] h = absurd (omega arith)
@@ -141,7 +128,8 @@ pub rises_counted : (l : List Bool) (word : ℕ) → length l ≡ 64 → word �
 rises_counted l word h e =
     let a = after_word l h in
     let s : number (after l) ≡ word / 2 + 9223372036854775808 = omega arith in
-    sym (ones-alone l) ∙ ap count_ones (number-alone l ∙ ap (λ (n : ℕ). bit_and n (number (after l))) (sym e) ∙ ap (bit_and word) s)
+    let c : count_ones (bit_and (number l) (number (after l))) ≡ count_ones (bit_and word (word / 2 + 9223372036854775808)) = rw (← e, s) refl in
+    sym (and_ones l) ∙ c
 
 pub rises_few : (l : List Bool) → rises l ≤ length l
 rises_few [] = omega arith

@@ -13,6 +13,7 @@ use Rattle.vers_trees.specs.Nodes.{nodes, closing, parent, nodes_under, children
 use Rattle.vers_trees.specs.Siblings.{tree_to, opened, tree_from, tree_before, met, walked, MeetsJust, opening_of, tree_beside, siblings_left, IsWalkOfSiblings}
 use Rattle.vers_trees.proofs.searches.Searches.{after_is}
 use Rattle.vers_trees.proofs.kin.Partners.{after_from_closes}
+use Rattle.vers_trees.proofs.kin.Handles.{closing_by}
 use Rattle.vers_trees.proofs.kin.NodeList.{HasPair, node_pair, nodes_are_ones, opens, option_decides}
 use Rattle.vers_trees.proofs.levels.NodeLaws.{AscendsFrom, nodes_ascend, filter_ascends, next_member, member_before, first_member_before, last_by_number, member_passes}
 use Rattle.vers_trees.proofs.kin.Kin.{opened_here, closed_before, first_child_is, last_child_is, next_sibling_is, previous_sibling_is}
@@ -181,22 +182,8 @@ backwards_in F v n = walk_from (text F) false (closing F v) (reverse (children F
 abbrev pub walking : List ℕ → Reads → Walking ℕ
 walking vs step = record { left = vs; step = step }
 
--- a node closes inside the list
-pub node_inside : (l : List Bool) (v : ℕ) → IsBalanced l → IsNode (forest_of l) v → v + 1 < length l
-node_inside l v b n =
-    let h = (node_pair (forest_of l) v n).closes in
-    let a = h.after in let i = h.inside in
-    subst (λ (m : List Bool). v + 1 < length m) (text-forest_of l b) (let g : v + 1 < length (text (forest_of l)) = omega arith in g)
-
--- where a node of a balanced list closes
-pub close_in : (l : List Bool) (v : ℕ) → IsBalanced l → IsNode (forest_of l) v → first_rise_after l v (negsuc 0) ≡ Some (closing (forest_of l) v)
-close_in l v b n =
-    let F = forest_of l in
-    subst (λ (m : List Bool). first_rise_after m v (negsuc 0) ≡ Some (closing F v)) (text-forest_of l b)
-    (after_is (text F) v (negsuc 0) (closing F v) (after_from_closes (text F) v (closing F v) (node_pair F v n).closes))
-
 pub end_in : (l : List Bool) (v : ℕ) (o : Option ℕ) (c : ℕ) → IsBalanced l → IsNode (forest_of l) v → o ≡ first_rise_after l v (negsuc 0) → c ≡ unwrap_or o v → c ≡ closing (forest_of l) v
-end_in l v o c b n e d = d ∙ ap (λ (x : Option ℕ). unwrap_or x v) (e ∙ close_in l v b n)
+end_in l v o c b n e d = d ∙ ap (λ (x : Option ℕ). unwrap_or x v) (e ∙ closing_by l b v n)
 
 pub forwards : (l : List Bool) (v : ℕ) → IsBalanced l → IsNode (forest_of l) v → (siblings_left l true (v + 1) ≡ children (forest_of l) v) × IsWalkOfSiblings l true (v + 1)
 forwards l v b n = subst (λ (m : List Bool). (siblings_left m true (v + 1) ≡ children (forest_of l) v) × IsWalkOfSiblings m true (v + 1)) (text-forest_of l b) (forwards_in (forest_of l) v n)

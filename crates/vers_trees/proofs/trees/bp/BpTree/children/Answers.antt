@@ -1,12 +1,13 @@
 use Rattle.std.proofs.Common.{◌≡◌, ◌+◌, true, Bool, ℕ, List, length, arith, sym, ap, subst, ◌∙◌}
 use Rattle.vers_trees.specs.Layout.{enclose_reads}
 use Rattle.vers_trees.specs.Siblings.{siblings_left, IsWalkOfSiblings}
-use Rattle.vers_trees.proofs.walks.WalksOfNodes.{forwards, node_inside, walking}
+use Rattle.vers_trees.proofs.kin.Handles.{node_inside}
+use Rattle.vers_trees.proofs.walks.WalksOfNodes.{forwards, walking}
 use Rattle.vers_trees.proofs.trees.bp.BpTree.children.Goals as goal
 
 pub overflow_add-node : goal.overflow_add-node
 overflow_add-node g c =
-    let i = node_inside c.args.self.now c.args.node c.requires.balanced c.requires.is_node in
+    let i = node_inside c.args.self.now c.requires.balanced c.args.node c.requires.is_node in
     let e : length c.searched.result.bits.now ≡ length c.args.self.now = ap (λ (l : List Bool). length l) c.searched.ensures.bits in
     record { fits = omega arith }
 
