@@ -42,22 +42,14 @@ pub contains_from_paired : (F : Forest) (v c : ℕ) → Paired F v c → Contain
 contains_from_paired none v c p = absurd p
 contains_from_paired (tree X Y) v c (inl p) = rw (p.0, p.1) (contains_first (0, length (text X) + 1) (second X Y))
 contains_from_paired (tree X Y) v c (inr (inl p)) =
-    let ih = contains_from_paired X p.0 p.1 p.4 in
-    let m = contains_map (moved 1) (pairs X) (p.0, p.1) ih in
+    let m = contains_map (moved 1) (pairs X) (p.0, p.1) (contains_from_paired X p.0 p.1 p.4) in
     let a = Contains-append_left (map (moved 1) (pairs X)) (map (moved (length (text X) + 2)) (pairs Y)) (1 + p.0, 1 + p.1) m in
-    let r = contains_later (0, length (text X) + 1) (second X Y) (1 + p.0, 1 + p.1) a in
-    let ev : 1 + p.0 ≡ v = let e = p.2 in omega arith in
-    let ec : 1 + p.1 ≡ c = let e = p.3 in omega arith in
-    subst (λ (n : ℕ). Contains (pairs (tree X Y)) (v, n)) ec (subst (λ (n : ℕ). Contains (pairs (tree X Y)) (n, 1 + p.1)) ev r)
+    let ev : v ≡ 1 + p.0 = (let e = p.2 in omega arith) in let ec : c ≡ 1 + p.1 = (let e = p.3 in omega arith) in
+    rw (ev, ec) (contains_later (0, length (text X) + 1) (second X Y) (1 + p.0, 1 + p.1) a)
 contains_from_paired (tree X Y) v c (inr (inr p)) =
-    let ih = contains_from_paired Y p.0 p.1 p.4 in
-    let n = length (text X) + 2 in
-    let m = contains_map (moved (length (text X) + 2)) (pairs Y) (p.0, p.1) ih in
+    let m = contains_map (moved (length (text X) + 2)) (pairs Y) (p.0, p.1) (contains_from_paired Y p.0 p.1 p.4) in
     let a = Contains-append_right (map (moved 1) (pairs X)) (map (moved (length (text X) + 2)) (pairs Y)) (length (text X) + 2 + p.0, length (text X) + 2 + p.1) m in
-    let r = contains_later (0, length (text X) + 1) (second X Y) (length (text X) + 2 + p.0, length (text X) + 2 + p.1) a in
-    let ev : length (text X) + 2 + p.0 ≡ v = sym p.2 in
-    let ec : length (text X) + 2 + p.1 ≡ c = sym p.3 in
-    subst (λ (n : ℕ). Contains (pairs (tree X Y)) (v, n)) ec (subst (λ (n : ℕ). Contains (pairs (tree X Y)) (n, length (text X) + 2 + p.1)) ev r)
+    rw (p.2, p.3) (contains_later (0, length (text X) + 1) (second X Y) (length (text X) + 2 + p.0, length (text X) + 2 + p.1) a)
 
 pub paired_from_contains : (F : Forest) (q : ℕ × ℕ) → Contains (pairs F) q → Paired F q.0 q.1
 paired_from_contains none q h = let l = h.1 in absurd (omega arith)

@@ -1,5 +1,5 @@
 -- From one place of a pair a search for an excess that is one less finds the other.
-use Rattle.std.proofs.Common.{◌≡◌, ℕ, zero, suc, ◌+◌, ◌<◌, ◌≤◌, ◌≢◌, Bool, true, false, List, get_or, pos, negsuc, ◌+ℤ◌, arith, subst, ◌⊎◌, inl, inr, length, neg_ℤ, ◌<ℤ◌, ⊎_elim, sym, ap, ◌↔◌}
+use Rattle.std.proofs.Common.{◌≡◌, ℕ, ◌+◌, ◌-◌, ◌<◌, ◌≤◌, ◌≢◌, Bool, true, false, List, get_or, pos, negsuc, ◌+ℤ◌, arith, subst, ◌⊎◌, inl, inr, length, neg_ℤ, ◌<ℤ◌, ⊎_elim, sym, ap, ◌↔◌}
 use Rattle.std.proofs.lemmas.Int.{ints}
 use Rattle.vers_trees.proofs.grammar.Excess.{above_until, above_since, excess-is_walk, excess_after_open, excess_after_close, open_from_rise}
 use Rattle.vers_trees.proofs.grammar.Paired.{Closes, closes_rises, closes_falls, paired_closes, open_is_paired, opens_once, close_is_paired, closes_once}
@@ -28,15 +28,8 @@ closes_from_after l v c d o p =
       after = a;
       inside = i;
       back = omega (arith, ints);
-      above = λ j x y. above_until (excess l) (excess-is_walk l) (excess l v) (v + 1) j (omega arith) (omega (arith, ints)) (λ k g h e. before p r k g h y e);
+      above = λ j x y. above_until (excess l) (excess-is_walk l) (excess l v) (v + 1) j (omega arith) (omega (arith, ints)) (λ k g h e. let at : excess l (k - 1 + 1) ≡ excess l k = ap (excess l) (omega arith) in p.first (k - 1) (omega arith) (omega arith) (omega (arith, ints)));
     }
-  where
-    before : IsFirstRiseAfter l v (negsuc 0) c → excess l (v + 1) ≡ excess l v +ℤ pos 1 → (k : ℕ) → v + 1 < k → {j : ℕ} → k ≤ j → j ≤ c → excess l k ≢ excess l v
-    before p r zero g h y e = omega arith
-    before p r (suc k) g h y e =
-        let n = p.first k (omega arith) (omega arith) in
-        let e' : excess l (k + 1) ≡ excess l v = subst (λ (m : ℕ). excess l m ≡ excess l v) (omega arith) e in
-        n (omega (arith, ints))
 
 pub before_from_closes : (l : List Bool) (v c : ℕ) → Closes l v c → IsLastRiseBefore l c (negsuc 0) v
 before_from_closes l v c p =
