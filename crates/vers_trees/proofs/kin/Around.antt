@@ -1,6 +1,5 @@
 -- The nodes around a node: its parent, its depth, how many nodes are in its tree, and how many come before it.
-use Rattle.std.proofs.Common.{◌≡◌, ℕ, zero, suc, ◌+◌, ◌<◌, ◌≤◌, Bool, true, false, cond, ◌&&◌, List, [], ◌∷◌, take, ltb, leb, count_by, pos, negsuc, Option, Some, None, arith, ⊎_elim, sym, refl, ap, ◌∙◌}
-use Rattle.std.specs.Prelude.{Decides}
+use Rattle.std.proofs.Common.{◌≡◌, ℕ, zero, suc, ◌+◌, ◌<◌, ◌≤◌, Bool, true, false, cond, ◌&&◌, List, [], ◌∷◌, take, ltb, leb, count_by, pos, negsuc, Option, Some, None, arith, ⊎_elim, sym, refl, ap, ◌∙◌, Decides}
 use Rattle.std.specs.List.{last_or}
 use Rattle.std.proofs.lemmas.Bool.{lt-ltb, le-ltb, le-leb}
 use Rattle.std.proofs.lemmas.Bool.Decides.{Decides-ltb, Decides-and, leb_tells}

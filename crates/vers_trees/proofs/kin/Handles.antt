@@ -38,10 +38,7 @@ module _ (l : List Bool) (b : IsBalanced l) where
     closing_by = after_is l v (negsuc 0) (closing (forest_of l) v) (after_from_closes l v (closing (forest_of l) v) node_closes)
 
     pub closing_found : (c : ℕ) → Some c ≡ first_rise_after l v (negsuc 0) → closing (forest_of l) v ≡ c
-    closing_found c e = same (closing (forest_of l) v) c (sym (e ∙ closing_by))
-      where
-        same : (x y : ℕ) → Some x ≡ Some y → x ≡ y
-        same x y e = cc
+    closing_found c e = let s : Some (closing (forest_of l) v) ≡ Some c = sym (e ∙ closing_by) in cc
 
     pub always_closes : None ≡ first_rise_after l v (negsuc 0) → ⊥
     always_closes e = let f = e ∙ closing_by in cc

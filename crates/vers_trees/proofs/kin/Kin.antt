@@ -1,6 +1,5 @@
 -- Children and siblings: where the nearest of them open.
-use Rattle.std.proofs.Common.{◌≡◌, ℕ, zero, suc, ◌+◌, ◌-◌, ◌<◌, ◌≤◌, ◌≢◌, ◌⊎◌, Bool, true, false, cond, List, [], ◌∷◌, length, get_or, eqb, negsuc, Option, Some, None, arith, ⊎_elim, subst, sym, refl, ap, ◌∙◌}
-use Rattle.std.specs.Prelude.{filter, Decides}
+use Rattle.std.proofs.Common.{◌≡◌, ℕ, zero, suc, ◌+◌, ◌-◌, ◌<◌, ◌≤◌, ◌≢◌, ◌⊎◌, Bool, true, false, cond, List, [], ◌∷◌, length, get_or, eqb, negsuc, Option, Some, None, arith, ⊎_elim, subst, sym, refl, ap, ◌∙◌, filter, Decides}
 use Rattle.std.specs.List.{Contains, last_or}
 use Rattle.std.specs.Option.{option_eq}
 use Rattle.std.proofs.lemmas.Int.{ints}

@@ -1,6 +1,5 @@
 -- The laws of parentheses.
-use Rattle.std.proofs.Common.{◌≡◌, ℕ, zero, suc, ◌<◌, ◌↔◌, Bool, true, false, List, [], ◌∷◌, length, get_or, ℤ, negsuc, Some, arith, ◌≤◌, Option, None, ⊎_elim, sym, ap, ◌∙◌}
-use Rattle.std.specs.Prelude.{slice_get}
+use Rattle.std.proofs.Common.{◌≡◌, ℕ, zero, suc, ◌<◌, ◌↔◌, Bool, true, false, List, [], ◌∷◌, length, get_or, ℤ, negsuc, Some, arith, ◌≤◌, Option, None, ⊎_elim, sym, ap, ◌∙◌, slice_get}
 use Rattle.std.specs.List.{Contains}
 use Rattle.vers_trees.specs.Excess.{first_rise_after, last_rise_before, excess, enclosing}
 use Rattle.vers_trees.specs.Forest.{Forest, text, pairs}

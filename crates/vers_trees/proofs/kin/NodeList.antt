@@ -1,6 +1,5 @@
 -- The nodes of a forest are the places of the ones that it is written down with.
-use Rattle.std.proofs.Common.{◌≡◌, ℕ, zero, suc, ◌+◌, ◌<◌, Bool, true, false, cond, ◌&&◌, List, [], ◌∷◌, ◌++◌, map, length, get_or, Option, Some, None, eqb, ltb, arith, subst, sym, refl, ap, ◌∙◌}
-use Rattle.std.specs.Prelude.{find, filter, slice_get, unwrap_or, option_map, Decides}
+use Rattle.std.proofs.Common.{◌≡◌, ℕ, zero, suc, ◌+◌, ◌<◌, Bool, true, false, cond, ◌&&◌, List, [], ◌∷◌, ◌++◌, map, length, get_or, Option, Some, None, eqb, ltb, arith, subst, sym, refl, ap, ◌∙◌, find, filter, slice_get, unwrap_or, option_map, Decides}
 use Rattle.std.specs.Option.{option_eq}
 use Rattle.std.specs.List.{Contains, range_with_len, last_or}
 use Rattle.std.proofs.lemmas.Bool.Decides.{Decides-eqb, Decides-ltb, Decides-and}
@@ -171,7 +170,4 @@ pub option_decides : (a b : Option ℕ) → Decides (option_eq eqb a b) (a ≡ b
 option_decides None None = (λ e. refl, λ e. refl)
 option_decides None (Some y) = (λ e. absurd (cc), λ e. absurd (cc))
 option_decides (Some x) None = (λ e. absurd (cc), λ e. absurd (cc))
-option_decides (Some x) (Some y) = (λ e. ap Some ((Decides-eqb x y).0 e), λ e. (Decides-eqb x y).1 (same x y e))
-  where
-    same : (x y : ℕ) → Some x ≡ Some y → x ≡ y
-    same x y e = cc
+option_decides (Some x) (Some y) = (λ e. ap Some ((Decides-eqb x y).0 e), λ e. let s : x ≡ y = cc in (Decides-eqb x y).1 s)

@@ -1,5 +1,5 @@
 -- A block reaches a sum exactly where one of its places has it.
-use Rattle.std.proofs.Common.{◌≡◌, ℕ, zero, suc, ◌+◌, ◌-◌, ◌*◌, ◌<◌, ◌≤◌, ◌↔◌, min, Bool, List, [], ◌∷◌, length, get_or, ℤ, pos, ◌+ℤ◌, ◌-ℤ◌, ◌≤ℤ◌, arith, add-one, ⊎_elim, subst, sym, refl, ap, ◌∙◌, ◌/◌, ◌^◌, inl, inr, drop, FitsSigned}
+use Rattle.std.proofs.Common.{◌≡◌, ℕ, zero, suc, ◌+◌, ◌-◌, ◌*◌, ◌<◌, ◌≤◌, ◌↔◌, min, Bool, List, [], ◌∷◌, length, get_or, ℤ, pos, ◌+ℤ◌, ◌-ℤ◌, ◌≤ℤ◌, arith, add-one, ⊎_elim, subst, sym, refl, ap, ◌∙◌, ◌/◌, ◌^◌, inl, inr, drop, FitsSigned, w64}
 use Rattle.std.proofs.lemmas.Int.{ints, by_lt_z}
 use Rattle.std.proofs.lemmas.Bool.{cases_lt}
 use Rattle.vers_trees.specs.declared.trees.bp.min_max.Node.{Node}
@@ -8,7 +8,6 @@ use Rattle.vers_trees.specs.Forest.{IsBalanced}
 use Rattle.vers_trees.specs.inside.MinMax.{total_before, empty_node, Reaches, IsPart, AreBlocks, IsRange, Meets, AreLeaves, CoveredFrom, IsMinMax}
 use Rattle.vers_trees.proofs.grammar.Excess.{IsWalk, turned, excess-zero, excess-is_walk}
 use Rattle.vers_trees.proofs.grammar.Grammar.{balanced_from_excess, balanced_total, balanced_above}
-use mir.Syntax.{w64}
 use Rattle.std.proofs.Math.Nat.{div-lt_iff_lt-mul, mul-le-mul_right}
 use Rattle.vers_trees.proofs.searches.Scans.{rise_fits}
 

@@ -1,6 +1,5 @@
 -- The excess of a list of parentheses that is built.
-use Rattle.std.proofs.Common.{◌≡◌, ℕ, ◌+◌, ◌<◌, ◌≤◌, Bool, List, [], ◌∷◌, ◌++◌, length, get_or, ℤ, pos, ◌+ℤ◌, FitsSigned, to_z, of_z, false, arith, length-append, sym, refl, ap, ◌∙◌}
-use mir.Syntax.{w64}
+use Rattle.std.proofs.Common.{◌≡◌, ℕ, ◌+◌, ◌<◌, ◌≤◌, Bool, List, [], ◌∷◌, ◌++◌, length, get_or, ℤ, pos, ◌+ℤ◌, FitsSigned, to_z, of_z, false, arith, length-append, sym, refl, ap, ◌∙◌, w64}
 use Rattle.std.proofs.lemmas.Int.{ints, to_z-of_z}
 use Rattle.std.proofs.lemmas.List.{get_or_at}
 use Rattle.vers_trees.specs.Excess.{excess, bit_step}

@@ -1,6 +1,5 @@
 -- The steps of a search in a tree of excesses.
-use Rattle.std.proofs.Common.{◌≡◌, ℕ, zero, suc, ◌+◌, ◌-◌, ◌*◌, ◌/◌, ◌%◌, ◌^◌, ◌<◌, ◌≤◌, List, length, get_or, drop, ℤ, ◌+ℤ◌, ◌-ℤ◌, arith, ⊎_elim, subst, refl, ap, FitsSigned, to_z, of_z, ◌⊎◌, inl, inr, pos, ◌<ℤ◌}
-use mir.Syntax.{w64}
+use Rattle.std.proofs.Common.{◌≡◌, ℕ, zero, suc, ◌+◌, ◌-◌, ◌*◌, ◌/◌, ◌%◌, ◌^◌, ◌<◌, ◌≤◌, List, length, get_or, drop, ℤ, ◌+ℤ◌, ◌-ℤ◌, arith, ⊎_elim, subst, refl, ap, FitsSigned, to_z, of_z, ◌⊎◌, inl, inr, pos, ◌<ℤ◌, w64}
 use Rattle.std.proofs.lemmas.Int.{ints, to_z-of_z, clamps, by_lt_z}
 use Rattle.std.proofs.lemmas.Bool.{cases_lt}
 use Rattle.std.proofs.Math.Nat.{pow-succ', le-mul_of_pos_right, eq-or-lt_of_le}

@@ -1,6 +1,5 @@
 -- The laws of the nodes of a forest.
-use Rattle.std.proofs.Common.{◌≡◌, ℕ, zero, suc, ◌+◌, ◌-◌, ◌<◌, ◌≤◌, ◌↔◌, Bool, true, false, cond, not, List, [], ◌∷◌, length, get_or, ltb, eqb, Option, None, Some, arith, ⊎_elim, subst, sym, refl, ap, ◌∙◌, ◌++◌, map, take}
-use Rattle.std.specs.Prelude.{slice_get, option_map, find, filter}
+use Rattle.std.proofs.Common.{◌≡◌, ℕ, zero, suc, ◌+◌, ◌-◌, ◌<◌, ◌≤◌, ◌↔◌, Bool, true, false, cond, not, List, [], ◌∷◌, length, get_or, ltb, eqb, Option, None, Some, arith, ⊎_elim, subst, sym, refl, ap, ◌∙◌, ◌++◌, map, take, slice_get, option_map, find, filter}
 use Rattle.std.specs.List.{Contains, last_or, range_with_len}
 use Rattle.std.proofs.lemmas.Option.{get_or_from_slice_get, slice_get-get_or, slice_get_within}
 use Rattle.std.proofs.lemmas.List.{get_or_past, map-append, length_push, take_more, take_all}
@@ -38,14 +37,14 @@ node_iff_one bits v b =
       λ h. n.1 (get_or_from_slice_get bits v true false h),
     )
 
+same_member : (x y : ℕ) → Some x ≡ Some y → x ≡ y
+same_member x y e = cc
+
 -- a bit read as a number
 got_one : (o : Option Bool) → (o ≡ Some true) ↔ (option_map bit_value o ≡ Some 1)
 got_one None = (λ h. absurd (cc), λ h. absurd (cc))
 got_one (Some true) = (λ h. refl, λ h. refl)
-got_one (Some false) = (λ h. absurd (cc), λ h. absurd (let e = same 0 1 h in omega arith))
-  where
-    same : (m n : ℕ) → Some m ≡ Some n → m ≡ n
-    same m n h = cc
+got_one (Some false) = (λ h. absurd (cc), λ h. absurd (let e = same_member 0 1 h in omega arith))
 
 pub node_iff_got : (bits : List Bool) (v : ℕ) → IsBalanced bits → IsNode (forest_of bits) v ↔ (option_map bit_value (slice_get bits v) ≡ Some 1)
 node_iff_got bits v b =
@@ -79,9 +78,6 @@ above v w h = (Decides-ltb v w).1 h
 
 not_above : (v w : ℕ) → w ≤ v → ltb v w ≡ false
 not_above v w h = refuted (ltb v w) (Decides-ltb v w) (λ (g : v < w). omega arith)
-
-same_member : (x y : ℕ) → Some x ≡ Some y → x ≡ y
-same_member x y e = cc
 
 member_from : (n i v : ℕ) (xs : List ℕ) → AscendsFrom n xs → slice_get xs i ≡ Some v → n ≤ v
 member_from n i v [] a e = absurd (cc)

@@ -1,6 +1,5 @@
 -- The places right beside one, which a search finds by their bits alone.
-use Rattle.std.proofs.Common.{◌≡◌, ◌↔◌, ℕ, ◌+◌, ◌-◌, ◌<◌, ◌≤◌, Bool, true, false, List, length, get_or, not, nat_eq, ℤ, ◌+ℤ◌, FitsSigned, to_z, of_z, Some, arith, sym, ap, ◌∙◌, neg_ℤ, pos, negsuc, ◌-ℤ◌, None, refl}
-use mir.Syntax.{w64}
+use Rattle.std.proofs.Common.{◌≡◌, ◌↔◌, ℕ, ◌+◌, ◌-◌, ◌<◌, ◌≤◌, Bool, true, false, List, length, get_or, not, nat_eq, ℤ, ◌+ℤ◌, FitsSigned, to_z, of_z, Some, arith, sym, ap, ◌∙◌, neg_ℤ, pos, negsuc, ◌-ℤ◌, None, refl, w64}
 use Rattle.std.specs.Bool.{IsTrue}
 use Rattle.std.proofs.lemmas.Int.{ints, to_z-of_z}
 use Rattle.std.proofs.lemmas.Bool.{eq-eqb, eqb-true}

@@ -1,12 +1,11 @@
 -- Numbers by their octal digits, and what an entry of a table of bytes is packed of.
-use Rattle.std.proofs.Common.{◌≡◌, ℕ, zero, suc, ◌+◌, ◌-◌, ◌*◌, ◌/◌, ◌%◌, ◌^◌, ◌<◌, ◌≤◌, List, [], ◌∷◌, length, drop, get_or, arith, ap, sym, ◌∙◌, ◌≢◌, ◌⊎◌, inl, inr, Bool, true, false, pos, negsuc, ◌+ℤ◌, ◌-ℤ◌, cond, min, max, ⊎_elim, subst, refl, replicate, nat_eq}
+use Rattle.std.proofs.Common.{◌≡◌, ℕ, zero, suc, ◌+◌, ◌-◌, ◌*◌, ◌/◌, ◌%◌, ◌^◌, ◌<◌, ◌≤◌, List, [], ◌∷◌, length, drop, get_or, arith, ap, sym, ◌∙◌, ◌≢◌, ◌⊎◌, inl, inr, Bool, true, false, pos, negsuc, ◌+ℤ◌, ◌-ℤ◌, cond, min, max, ⊎_elim, subst, refl, replicate, nat_eq, set}
 use Rattle.std.proofs.Math.Nat.{pow-suc, pow-le-pow_right}
 use Rattle.std.proofs.Math.Seq.{drop-cons}
 use Rattle.std.proofs.lemmas.List.{length-drop, get_or-drop, get_or-set_same, get_or-set_other, length-set}
 use Rattle.std.proofs.lemmas.Nat.{shr-shr}
 use Rattle.vers_trees.specs.Bytes.{place_in, IsByte, IsEntry, IsFirstMet, sum_along, place_along}
 use Rattle.vers_trees.specs.inside.Bytes.{octal, AreEntries, HasMet, step_along}
-use Rattle.std.proofs.Math.ListN.{set}
 use Rattle.std.specs.Int.{bit_at}
 use Rattle.std.proofs.lemmas.Int.{ints}
 use Rattle.std.proofs.lemmas.Bool.{cases_lt, cases_order}

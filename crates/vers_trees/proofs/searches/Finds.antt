@@ -1,6 +1,5 @@
 -- The searches forwards and backwards: the scan of a block, what the tree answers, and the scan of that block.
-use Rattle.std.proofs.Common.{◌≡◌, ℕ, ◌+◌, ◌-◌, ◌*◌, ◌/◌, ◌<◌, ◌≤◌, ◌≢◌, inl, min, Bool, List, length, drop, ℤ, ◌+ℤ◌, ◌-ℤ◌, FitsSigned, to_z, of_z, Some, None, Result, Ok, Err, MatchResult, arith, ⊎_elim, subst, sym, ap, ◌∙◌}
-use mir.Syntax.{w64}
+use Rattle.std.proofs.Common.{◌≡◌, ℕ, ◌+◌, ◌-◌, ◌*◌, ◌/◌, ◌<◌, ◌≤◌, ◌≢◌, inl, min, Bool, List, length, drop, ℤ, ◌+ℤ◌, ◌-ℤ◌, FitsSigned, to_z, of_z, Some, None, Result, Ok, Err, MatchResult, arith, ⊎_elim, subst, sym, ap, ◌∙◌, w64}
 use Rattle.std.specs.Result.{result_ok}
 use Rattle.std.proofs.lemmas.Int.{ints, to_z-of_z}
 use Rattle.std.proofs.lemmas.Bool.{cases_lt}

@@ -1,8 +1,6 @@
 -- Whole words of a scan: how far a sum falls along one at most, by its zeros that no one stands right before, and by its ones that no zero stands right after.
-use Rattle.std.proofs.Common.{◌≡◌, ℕ, zero, suc, ◌+◌, ◌-◌, ◌*◌, ◌/◌, ◌%◌, ◌^◌, ◌<◌, ◌≤◌, Bool, true, false, ◌||◌, ◌&&◌, List, [], ◌∷◌, length, take, ℤ, pos, negsuc, ◌+ℤ◌, ◌-ℤ◌, ◌≤ℤ◌, ◌<ℤ◌, arith, sym, ap, refl, FitsSigned, to_z, of_z, ◌∙◌}
-use mir.Syntax.{w64}
-use Rattle.std.specs.Prelude.{bit_or, bit_and, count_ones}
-use Rattle.std.specs.Bool.{IsTrue}
+use Rattle.std.proofs.Common.{◌≡◌, ℕ, zero, suc, ◌+◌, ◌-◌, ◌*◌, ◌/◌, ◌%◌, ◌^◌, ◌<◌, ◌≤◌, Bool, true, false, ◌||◌, ◌&&◌, List, [], ◌∷◌, length, take, ℤ, pos, negsuc, ◌+ℤ◌, ◌-ℤ◌, ◌≤ℤ◌, ◌<ℤ◌, arith, sym, ap, refl, FitsSigned, to_z, of_z, ◌∙◌, w64, pow-suc}
+use Rattle.std.specs.Prelude.{bit_or, bit_and, count_ones, IsTrue}
 use Rattle.std.specs.Int.Signed.{lt_z}
 use Rattle.std.proofs.lemmas.Int.{ints, to_z-of_z, to_z_pos}
 use Rattle.std.proofs.lemmas.Nat.{or_block, and_block, or_lt}
@@ -16,7 +14,6 @@ use Rattle.vers_trees.specs.inside.Scans.{HasNoRise, HasNoRiseBefore, falls, is_
 use Rattle.vers_trees.proofs.searches.Scans.{fits_small, forward_more, backward_more}
 use Rattle.vers_trees.proofs.grammar.Excess.{excess-zero, excess-nil, excess-open, excess-close}
 use Rattle.vers_trees.proofs.searches.ByteScans.{length-part, excess-part, total_of}
-use Rattle.std.proofs.Math.Nat.{pow-suc}
 use lib.Count.{ones_step, ones-ones}
 
 -- ---- the number of a list and its first bit

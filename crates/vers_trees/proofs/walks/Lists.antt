@@ -1,6 +1,5 @@
 -- Lists of places: moved to the right, and those of a list that follows another.
-use Rattle.std.proofs.Common.{◌≡◌, ℕ, zero, suc, ◌+◌, ◌<◌, Bool, true, false, cond, List, [], ◌∷◌, ◌++◌, map, length, get_or, arith, subst, sym, refl, ap, ◌∙◌, negsuc, Option, Some, inl, inr}
-use Rattle.std.specs.Prelude.{filter, All, unwrap_or}
+use Rattle.std.proofs.Common.{◌≡◌, ℕ, zero, suc, ◌+◌, ◌<◌, Bool, true, false, cond, List, [], ◌∷◌, ◌++◌, map, length, get_or, arith, subst, sym, refl, ap, ◌∙◌, negsuc, Option, Some, inl, inr, filter, All, unwrap_or}
 use Rattle.std.specs.List.{range_with_len}
 use Rattle.std.proofs.lemmas.List.{map-append, append_assoc}
 use Rattle.std.proofs.lemmas.List.Elements.{All-nil, All-cons, All-head, All-tail, All-append, All-map, All-weaker}

@@ -1,6 +1,5 @@
 -- The nodes of a node's tree are a part of all nodes, in preorder and in postorder.
-use Rattle.std.proofs.Common.{◌≡◌, ℕ, suc, ◌+◌, ◌*◌, ◌<◌, ◌≤◌, ◌⊎◌, inl, inr, Bool, true, false, ◌&&◌, List, [], ◌∷◌, map, length, take, drop, ltb, leb, count_by, min, negsuc, Option, arith, ⊎_elim, subst, sym, refl, ap, ◌∙◌}
-use Rattle.std.specs.Prelude.{filter, All, Decides, unwrap_or}
+use Rattle.std.proofs.Common.{◌≡◌, ℕ, suc, ◌+◌, ◌*◌, ◌<◌, ◌≤◌, ◌⊎◌, inl, inr, Bool, true, false, ◌&&◌, List, [], ◌∷◌, map, length, take, drop, ltb, leb, count_by, min, negsuc, Option, arith, ⊎_elim, subst, sym, refl, ap, ◌∙◌, filter, All, Decides, unwrap_or}
 use Rattle.std.proofs.lemmas.Int.{ints}
 use Rattle.std.proofs.lemmas.Bool.{cases_lt, lt-ltb, le-ltb}
 use Rattle.std.proofs.lemmas.Bool.Decides.{nat_tests, Decides-and, Decides-like, same_from_decides}

@@ -1,6 +1,6 @@
 -- A walk from tree to tree below a node meets its children, forwards and backwards.
 use Rattle.std.proofs.Common.{◌≡◌, ℕ, zero, suc, ◌+◌, ◌-◌, ◌<◌, ◌≤◌, Bool, true, false, cond, List, [], ◌∷◌, length, reverse, get_or, eqb, negsuc, Option, Some, None, arith, sym, refl, ap, ◌∙◌, ◌/◌, map, take, drop, subst, slice_get}
-use Rattle.std.specs.Prelude.{slice_get, unwrap_or}
+use Rattle.std.specs.Prelude.{slice_get, unwrap_or, Contains}
 use Rattle.std.specs.Option.{option_eq}
 use Rattle.std.proofs.lemmas.Option.{slice_get_within, slice_get_past, slice_get-get_or, get_or_from_slice_get}
 use Rattle.std.proofs.lemmas.List.{get_or-reverse, length-reverse, length-map, length-take, length-drop, get_or-map, get_or-take, get_or-drop, take_all}
@@ -17,7 +17,6 @@ use Rattle.vers_trees.proofs.kin.Handles.{closing_by}
 use Rattle.vers_trees.proofs.kin.NodeList.{HasPair, node_pair, nodes_are_ones, opens, option_decides}
 use Rattle.vers_trees.proofs.levels.NodeLaws.{AscendsFrom, nodes_ascend, filter_ascends, next_member, member_before, first_member_before, last_by_number, member_passes}
 use Rattle.vers_trees.proofs.kin.Kin.{opened_here, closed_before, first_child_is, last_child_is, next_sibling_is, previous_sibling_is}
-use Rattle.std.specs.List.{Contains}
 use Rattle.std.proofs.lemmas.List.Elements.{Contains-get_or}
 use Rattle.vers_bits.specs.Walk.{TakesFirst}
 use Rattle.vers_tally.specs.Reads.{Reads}
@@ -153,13 +152,10 @@ pub walk_goes_on : (l : List Bool) (forward : Bool) (p v q : ℕ) → IsWalkOfSi
 unfolding siblings_left
 walk_goes_on l forward p v q w e = go (siblings_left l forward p) w (walk_short (tree_beside l forward) (length l) p)
   where
-    second : (a b : ℕ × ℕ) → Some a ≡ Some b → a ≡ b
-    second a b h = cc
-
     go : (vs : List ℕ) → MeetsJust (tree_beside l forward) p vs → length vs ≤ length l → TakesFirst vs (Some v) (siblings_left l forward q) × MeetsJust (tree_beside l forward) q (siblings_left l forward q)
     go [] m h = absurd (cc)
     go (u ∷ vs) m h =
-        let s = second (v, q) (u, m.0) (sym e ∙ m.1) in
+        let f : Some (v, q) ≡ Some (u, m.0) = sym e ∙ m.1 in let s : (v, q) ≡ (u, m.0) = cc in
         let a : v ≡ u = ap (λ (x : ℕ × ℕ). x.0) s in
         let b : m.0 ≡ q = sym (ap (λ (x : ℕ × ℕ). x.1) s) in
         let rest = subst (λ (x : ℕ). MeetsJust (tree_beside l forward) x vs) b m.2 in

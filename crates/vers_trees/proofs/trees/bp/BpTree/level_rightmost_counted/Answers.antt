@@ -1,5 +1,4 @@
-use Rattle.std.proofs.Common.{ℕ, ◌-◌, length, negsuc, to_z, arith, sym, ap, ◌∙◌}
-use mir.Syntax.{w64}
+use Rattle.std.proofs.Common.{ℕ, ◌-◌, length, negsuc, to_z, arith, sym, ap, ◌∙◌, w64}
 use Rattle.vers_trees.specs.Forest.{forest_of}
 use Rattle.vers_trees.specs.Excess.{last_rise_before}
 use Rattle.vers_trees.specs.Nodes.{level, last_of}
