@@ -7,7 +7,7 @@ use Rattle.vers_trees.specs.Laws.{IsFirstRiseAfter, IsLastRiseBefore}
 use Rattle.vers_trees.proofs.searches.Searches.{after_some, after_is, before_some, before_is, before_none, none_before}
 use Rattle.vers_trees.proofs.grammar.Paired.{paired_closes, closes_paired, open_is_paired, close_is_paired, Closes, closes_rises, closes_falls}
 use Rattle.vers_trees.proofs.grammar.Pairs.{contains_from_paired, paired_from_contains}
-use Rattle.vers_trees.proofs.kin.Partners.{after_from_closes, closes_from_after, before_from_closes, closes_from_before, enclose_at_close}
+use Rattle.vers_trees.proofs.kin.Partners.{after_from_closes, closes_from_after, before_from_closes, closes_from_before, before_pair, enclose_at_close}
 use Rattle.vers_trees.proofs.grammar.Grammar.{one_forest, text-forest_of}
 use Rattle.std.proofs.lemmas.Int.{ints}
 use Rattle.std.proofs.lemmas.Bool.{cases_lt}
@@ -66,18 +66,7 @@ pub ruleset partners = (one_forest, close_pair, open_pair, open_of_close, close_
 -- ---- what encloses a pair of a forest written down, and what the forest of a balanced list writes down
 -- where nothing is found from the opening bracket, nothing is from the closing one
 none_at_close : (l : List Bool) (v c : ℕ) → Closes l v c → last_rise_before l v (negsuc 0) ≡ None → last_rise_before l c (negsuc 1) ≡ None
-none_at_close l v c q n =
-    let a = q.after in let i = q.inside in let bk = q.back in
-    let r = excess_after_close l c true i (closes_falls l v c true q) in
-    none_before l c (negsuc 1) (λ k x e.
-    ⊎_elim
-    (λ (z : k < v). before_none l v (negsuc 0) (omega arith) n k z (omega (arith, ints)))
-    (λ (z : v ≤ k).
-    ⊎_elim
-    (λ (w : v ≡ k). let g : excess l k ≡ excess l v = ap (excess l) (sym w) in omega (arith, ints))
-    (λ (w : v < k). let g = q.above k w (omega arith) in omega (arith, ints))
-    (eq-or-lt_of_le z))
-    (cases_lt k v))
+none_at_close l v c q n = none_before l c (negsuc 1) (λ k x e. let b = before_pair l v c q k x e in before_none l v (negsuc 0) (let a = q.after in let i = q.inside in omega arith) n k b.0 b.1)
 
 found_at_close : (l : List Bool) (v c : ℕ) → Closes l v c → (o : Option ℕ) → last_rise_before l v (negsuc 0) ≡ o → last_rise_before l c (negsuc 1) ≡ o
 found_at_close l v c q None e = none_at_close l v c q e

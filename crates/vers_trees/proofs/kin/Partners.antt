@@ -103,17 +103,24 @@ no_parent l v q e n c x y =
     let h : (excess l v +ℤ negsuc 0) <ℤ excess l q = above_since (excess l) (excess-is_walk l) (excess l v +ℤ negsuc 0) q v (omega arith) (omega (arith, ints)) (λ k u w. n k w) in
     omega (arith, ints)
 
--- from the closing bracket two less is found where from the opening one is
+-- what is two less than before the closing bracket is one less than before the opening one, and before it
+pub before_pair : (l : List Bool) (v c : ℕ) → Closes l v c → (k : ℕ) → k < c → excess l k ≡ excess l c +ℤ negsuc 1 → (k < v) × (excess l k ≡ excess l v +ℤ negsuc 0)
+before_pair l v c q k x e =
+    let r = excess_after_close l c true q.inside (closes_falls l v c true q) in let bk = q.back in
+    let low : excess l k <ℤ excess l v = omega (arith, ints) in
+    (⊎_elim
+    (λ (z : k < v). z)
+    (λ (z : v ≤ k). ⊎_elim
+    (λ (w : v ≡ k). let g : excess l k ≡ excess l v = ap (excess l) (sym w) in absurd (omega (arith, ints)))
+    (λ (w : v < k). let g = q.above k w (omega arith) in absurd (omega (arith, ints)))
+    (eq-or-lt_of_le z))
+    (cases_lt k v), omega (arith, ints))
+
+-- so from the closing bracket two less is found where from the opening one is
 pub enclose_at_close : (l : List Bool) (v c p : ℕ) → Closes l v c → IsLastRiseBefore l v (negsuc 0) p → IsLastRiseBefore l c (negsuc 1) p
 enclose_at_close l v c p q b =
-    let a = q.after in let i = q.inside in let bk = q.back in
-    let r = excess_after_close l c true i (closes_falls l v c true q) in
-    record {
-      before = omega arith;
-      inside = i;
-      sum = omega (arith, ints);
-      last = λ k x y e. ⊎_elim (λ (z : k < v). b.last k x z (omega (arith, ints))) (λ (z : v ≤ k). ⊎_elim (λ (w : v ≡ k). let g : excess l k ≡ excess l v = ap (excess l) (sym w) in omega (arith, ints)) (λ (w : v < k). let g = q.above k w (omega arith) in omega (arith, ints)) (eq-or-lt_of_le z)) (cases_lt k v);
-    }
+    let r = excess_after_close l c true q.inside (closes_falls l v c true q) in let bk = q.back in let s = b.sum in let a = q.after in
+    record { before = omega arith; inside = q.inside; sum = omega (arith, ints); last = λ k x y e. let o = before_pair l v c q k y e in b.last k x o.0 o.1 }
 
 -- ---- what stands beside a tree, and the first and the last tree inside another
 -- a tree and the one that opens right after it lie between the same pairs

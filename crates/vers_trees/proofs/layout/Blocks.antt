@@ -52,14 +52,14 @@ part_range l a b x h p =
     let u = (excess-is_walk l).up a in let d = (excess-is_walk l).down a in
     record { low = omega (arith, ints); high = omega (arith, ints); first_low = omega (arith, ints); first_high = omega (arith, ints) }
 
+pub total_start : (blocks : List Node) → total_before blocks 0 ≡ pos 0
+total_start [] = refl
+total_start (x ∷ xs) = refl
+
 -- the sum before block k is the excess before its first place
 pub total_more : (blocks : List Node) (k : ℕ) → k < length blocks → total_before blocks (k + 1) ≡ total_before blocks k +ℤ (get_or blocks k empty_node).total
 total_more [] k h = absurd (omega arith)
-total_more (x ∷ xs) zero h = let z = total_zero xs in omega (arith, ints)
-  where
-    total_zero : (xs : List Node) → total_before xs 0 ≡ pos 0
-    total_zero [] = refl
-    total_zero (x ∷ xs) = refl
+total_more (x ∷ xs) zero h = let z = total_start xs in omega (arith, ints)
 total_more (x ∷ xs) (suc k) h = let ih = rw add-one at (total_more xs k (omega arith)) in rw add-one (omega (arith, ints))
 
 pub total_past : (blocks : List Node) (k : ℕ) → length blocks ≤ k → total_before blocks (k + 1) ≡ total_before blocks k
@@ -72,10 +72,6 @@ total_all blocks zero = ap (total_before blocks) (let g : length blocks + 0 ≡ 
 total_all blocks (suc k) =
     let p = total_past blocks (length blocks + k) (omega arith) in
     ap (total_before blocks) (let g : length blocks + suc k ≡ length blocks + k + 1 = omega arith in g) ∙ p ∙ total_all blocks k
-
-pub total_start : (blocks : List Node) → total_before blocks 0 ≡ pos 0
-total_start [] = refl
-total_start (x ∷ xs) = refl
 
 pub sum_before_block : (l : List Bool) (size : ℕ) (blocks : List Node) → AreBlocks l size blocks → (k : ℕ) → k ≤ length blocks → total_before blocks k ≡ excess l (min (k * size) (length l))
 sum_before_block l size blocks b zero h =
