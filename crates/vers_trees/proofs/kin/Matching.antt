@@ -1,7 +1,7 @@
 -- The laws of parentheses.
-use Rattle.std.proofs.Common.{◌≡◌, ℕ, zero, suc, ◌<◌, ◌↔◌, Bool, true, false, List, [], ◌∷◌, length, get_or, ℤ, negsuc, Some, arith, ◌≤◌, Option, None, ⊎_elim, sym, ap, ◌∙◌, slice_get}
+use Rattle.std.proofs.Common.{◌≡◌, ℕ, zero, suc, ◌<◌, ◌↔◌, Bool, true, false, List, [], ◌∷◌, length, get_or, ℤ, negsuc, Some, arith, Option, None, sym, ◌∙◌, slice_get}
 use Rattle.std.specs.List.{Contains}
-use Rattle.vers_trees.specs.Excess.{first_rise_after, last_rise_before, excess, enclosing}
+use Rattle.vers_trees.specs.Excess.{first_rise_after, last_rise_before, enclosing}
 use Rattle.vers_trees.specs.Forest.{Forest, text, pairs}
 use Rattle.vers_trees.specs.Laws.{IsFirstRiseAfter, IsLastRiseBefore}
 use Rattle.vers_trees.proofs.searches.Searches.{after_some, after_is, before_some, before_is, before_none, none_before}
@@ -9,12 +9,8 @@ use Rattle.vers_trees.proofs.grammar.Paired.{paired_closes, closes_paired, open_
 use Rattle.vers_trees.proofs.grammar.Pairs.{contains_from_paired, paired_from_contains}
 use Rattle.vers_trees.proofs.kin.Partners.{after_from_closes, closes_from_after, before_from_closes, closes_from_before, before_pair, enclose_at_close}
 use Rattle.vers_trees.proofs.grammar.Grammar.{one_forest, text-forest_of}
-use Rattle.std.proofs.lemmas.Int.{ints}
-use Rattle.std.proofs.lemmas.Bool.{cases_lt}
-use Rattle.std.proofs.Math.Nat.{eq-or-lt_of_le}
 use Rattle.vers_trees.specs.Nodes.{parent}
 use Rattle.vers_trees.proofs.kin.Around.{parent_is_search}
-use Rattle.vers_trees.proofs.grammar.Excess.{excess_after_close}
 use Rattle.vers_trees.proofs.kin.NodeList.{one_pair}
 use Rattle.vers_trees.proofs.searches.Beside.{enclosing_open, enclosing_close}
 

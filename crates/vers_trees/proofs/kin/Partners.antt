@@ -107,14 +107,16 @@ no_parent l v q e n c x y =
 pub before_pair : (l : List Bool) (v c : ℕ) → Closes l v c → (k : ℕ) → k < c → excess l k ≡ excess l c +ℤ negsuc 1 → (k < v) × (excess l k ≡ excess l v +ℤ negsuc 0)
 before_pair l v c q k x e =
     let r = excess_after_close l c true q.inside (closes_falls l v c true q) in let bk = q.back in
-    let low : excess l k <ℤ excess l v = omega (arith, ints) in
-    (⊎_elim
-    (λ (z : k < v). z)
-    (λ (z : v ≤ k). ⊎_elim
-    (λ (w : v ≡ k). let g : excess l k ≡ excess l v = ap (excess l) (sym w) in absurd (omega (arith, ints)))
-    (λ (w : v < k). let g = q.above k w (omega arith) in absurd (omega (arith, ints)))
-    (eq-or-lt_of_le z))
-    (cases_lt k v), omega (arith, ints))
+    let low : excess l k <ℤ excess l v = omega (arith, ints) in (
+      ⊎_elim
+          (λ (z : k < v). z)
+          (λ (z : v ≤ k). ⊎_elim
+          (λ (w : v ≡ k). let g : excess l k ≡ excess l v = ap (excess l) (sym w) in absurd (omega (arith, ints)))
+          (λ (w : v < k). let g = q.above k w (omega arith) in absurd (omega (arith, ints)))
+          (eq-or-lt_of_le z))
+          (cases_lt k v),
+      omega (arith, ints),
+    )
 
 -- so from the closing bracket two less is found where from the opening one is
 pub enclose_at_close : (l : List Bool) (v c p : ℕ) → Closes l v c → IsLastRiseBefore l v (negsuc 0) p → IsLastRiseBefore l c (negsuc 1) p

@@ -145,12 +145,15 @@ met from_end l p entry x t a e u v z =
     let w = turned from_end m.step m.within in let w0 = w.0 in let place = m.place in
     let back : place_along from_end (place_in entry x) ≡ m.step = ap (place_along from_end) m.place ∙ w.1 in
     let s = along from_end l p m.step a m.within in let sum = m.sum in
-    let here : sum_past from_end l (p + place_along from_end m.step) ≡ sum_past from_end l (p + place_in entry x) = ap (λ (n : ℕ). sum_past from_end l (p + n)) (sym m.place) in
-    (omega arith, omega (arith, ints), λ k b c i q.
-    let v = turned from_end (k - p) (omega arith) in let v1 = v.1 in
-    let f = along from_end l p (place_along from_end (k - p)) a v.0 in
-    let at : sum_past from_end l (p + place_along from_end (place_along from_end (k - p))) ≡ sum_past from_end l k = ap (sum_past from_end l) (omega arith) in
-    m.first (place_along from_end (k - p)) (omega arith) (omega (arith, ints)))
+    let here : sum_past from_end l (p + place_along from_end m.step) ≡ sum_past from_end l (p + place_in entry x) = ap (λ (n : ℕ). sum_past from_end l (p + n)) (sym m.place) in (
+      omega arith,
+      omega (arith, ints),
+      λ k b c i q.
+          let v = turned from_end (k - p) (omega arith) in let v1 = v.1 in
+          let f = along from_end l p (place_along from_end (k - p)) a v.0 in
+          let at : sum_past from_end l (p + place_along from_end (place_along from_end (k - p))) ≡ sum_past from_end l k = ap (sum_past from_end l) (omega arith) in
+          m.first (place_along from_end (k - p)) (omega arith) (omega (arith, ints)),
+    )
 
 pub entry_ordered : (from_end : Bool) (bits : List Bool) (entry : ℕ) → IsEntry from_end bits entry → least_in entry ≤ greatest_in entry
 entry_ordered from_end bits entry e = let a = e.low 0 (omega arith) in let b = e.high 0 (omega arith) in omega (arith, ints)

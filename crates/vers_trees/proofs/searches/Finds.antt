@@ -95,7 +95,6 @@ module _ (l : List Bool) (size first : ℕ) (nodes : List Node) (x : IsIndexed l
 
           whole : stored rest ≡ rest
           whole =
-              let re = n.remains in
               let s : total_before (drop first nodes) (i / size + 1) +ℤ stored left -ℤ total_before (drop first nodes) j ≡ rest = omega (arith, ints) in
               to_z-of_z w64 rest (rw s at (tree.tree.small j j _ (omega arith) n.reaches))
 
@@ -201,7 +200,6 @@ module _ (l : List Bool) (size first : ℕ) (nodes : List Node) (x : IsIndexed l
               (λ (z : total_before (drop first nodes) j ≡ total_before (drop first nodes) ((i - 1) / size) +ℤ stored left). q.none (j * size) (omega arith) (omega arith) (omega (arith, ints)))
               (λ (w : Reaches (drop first nodes) j (total_before (drop first nodes) ((i - 1) / size) +ℤ stored left)).
               let m = (reaches_iff l size (drop first nodes) tree_back.blocks j _ (omega arith)).0 w in
-              let m1 = m.1 in let m2 = m.2 in let m3 = m.3 in
               ⊎_elim
               (λ (v : m.0 < j * size + size). q.none m.0 (omega arith) v (omega (arith, ints)))
               (λ (v : j * size + size ≤ m.0). let same : excess l m.0 ≡ excess l (j * size + size) = ap (excess l) (omega arith) in not_at_end (omega (arith, ints)))

@@ -5,7 +5,7 @@ use Rattle.std.specs.Int.Signed.{lt_z}
 use Rattle.std.proofs.lemmas.Int.{ints, to_z-of_z, to_z_pos}
 use Rattle.std.proofs.lemmas.Nat.{or_block, and_block, or_lt}
 use Rattle.vers_bits.specs.Bits.{number, part, bit_value}
-use Rattle.vers_bits.proofs.PublicLaws.{number_half, number_odd, number-take}
+use Rattle.vers_bits.proofs.PublicLaws.{number-take}
 use Rattle.vers_trees.specs.Excess.{excess}
 use Rattle.vers_tally.specs.Reads.{Reads, AddsAtMost}
 use Rattle.vers_tally.proofs.PublicLaws.{adds_then}
