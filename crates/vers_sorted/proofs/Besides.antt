@@ -1,6 +1,5 @@
 -- The ones beside a place, by the number of the bits there, and the members beside a bucket.
-use Rattle.std.proofs.Common.{◌≡◌, ℕ, ◌+◌, ◌-◌, ◌/◌, ◌^◌, ◌<◌, ◌≤◌, Bool, true, false, List, length, take, drop, get_or, sym, ap, ◌∙◌, arith, Option, None, Some, inl, inr}
-use Rattle.std.specs.Prelude.{IfSome}
+use Rattle.std.proofs.Common.{◌≡◌, ℕ, ◌+◌, ◌-◌, ◌<◌, ◌≤◌, Bool, true, false, List, length, take, drop, get_or, sym, ap, ◌∙◌, arith, Some, inl, inr}
 use mir.Syntax.{w64}
 use Rattle.std.specs.Int.{bit_at, trailing_zeros}
 use Rattle.std.specs.Int.Count.{count_leading_zeros}
@@ -15,7 +14,7 @@ use Rattle.vers_sorted.specs.declared.elias_fano.search.Bucket.{Bucket}
 use Rattle.vers_sorted.proofs.Scans.{part_read, count_stays}
 use Rattle.vers_sorted.proofs.Aheads.{small, lowest}
 use Rattle.vers_sorted.proofs.Split.{high_up}
-use Rattle.vers_sorted.proofs.Buckets.{start_at, zeros_counted, high_is}
+use Rattle.vers_sorted.proofs.Buckets.{start_at, zeros_counted}
 
 -- ---- the next one from a place on
 
@@ -87,17 +86,6 @@ module _ {s : List ℕ} {high low : List Bool} {first last width : ℕ} (packed 
       let before : count false high (h + start) ≡ h = ap (count false high) (sym place) ∙ at.1 in
       let past : count false high (h + start + 1) ≡ h + 1 = ap (λ q. count false high (q + 1)) (sym place) ∙ at.2 in
       (omega (arith, place, at.0, before, count_both high (h + start)), omega (arith, place, at.0, past, count_both high (h + start + 1)), omega (arith, place, at.0))
-
-  -- the zero before the members with a high part, where it is known where they start
-  pub known_place : (v : ℕ) (known : Option ℕ) → 0 < length s → first_of s ≤ v → v ≤ last_of s → IfSome known (IsStart s (high_of s v))
-      → IfSome known (λ start. (v - first) / 2 ^ width + start ≡ select false high ((v - first) / 2 ^ width))
-  known_place v None some from to is = tt
-  known_place v (Some start) some from to is =
-      let h : (v - first) / 2 ^ width ≡ high_of s v = high_is v packed in
-      let within = high_up s v (last_of s) to from in
-      let zero = start_at packed (high_of s v) some (omega arith) in
-      let same : start ≡ select false high (high_of s v) - high_of s v = start_unique s (high_of s v) start (select false high (high_of s v) - high_of s v) is zero.1 in
-      rw h (omega (arith, same, zero.0))
 
   pub ones_past : (v : ℕ) (bucket : Bucket) → first_of s ≤ v → v ≤ last_of s → IsBucket s v bucket → bucket.end < length s
       → (bucket.high + bucket.end + 2 ≤ length high) × (count true high (bucket.high + bucket.end + 2) ≡ bucket.end)

@@ -5,7 +5,6 @@ pub mod Neighbours
 pub mod Ones
 pub mod Holds
 pub mod Packed
-pub mod Batches
 pub mod Buckets
 pub mod Makes
 pub mod Widths

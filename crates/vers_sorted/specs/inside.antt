@@ -1,5 +1,4 @@
 -- What only proofs and private functions need: no contract of a public function cites a word of it.
-pub mod Batches
 pub mod Parts
 pub mod Buckets
 pub mod Ahead

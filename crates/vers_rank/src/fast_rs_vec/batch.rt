@@ -79,7 +79,7 @@ impl<A: Allocator + Copy> RsVec<A> {
         }
     }
 
-    // Puts in the stead of each of `n` numbers its place, all of them level by level.
+    // Puts in the stead of each of `n` numbers its place.
     #[inline(always)]
     fn select_group(
         &self,
@@ -94,10 +94,32 @@ impl<A: Allocator + Copy> RsVec<A> {
         ensures adds { AddsAtMost tally.old tally.new
             (times n (select_reads (superblock_count (length self.now)))) }
     {
-        self.level_each(Level::Superblock, bit, numbers, from, n, tally);
-        self.level_each(Level::Block, bit, numbers, from, n, tally);
-        self.level_each(Level::Limb, bit, numbers, from, n, tally);
-        self.level_each(Level::Place, bit, numbers, from, n, tally);
+        if bit {
+            self.levels_each::<true>(numbers, from, n, tally);
+        } else {
+            self.levels_each::<false>(numbers, from, n, tally);
+        }
+    }
+
+    // The same, all of them level by level. The bit is a const parameter, so that the compiler makes
+    // a search for ones and one for zeros, neither of which asks at each step which it is.
+    #[inline(always)]
+    fn levels_each<const BIT: bool>(
+        &self,
+        numbers: &mut [usize],
+        from: usize,
+        n: usize,
+        tally: &mut Tally,
+    )
+        requires { from + n ≤ length numbers.old }
+        ensures value { Changed 0 (λ r p. p ≡ select BIT self.now r) from n numbers.old numbers.new }
+        ensures adds { AddsAtMost tally.old tally.new
+            (times n (select_reads (superblock_count (length self.now)))) }
+    {
+        self.level_each(Level::Superblock, BIT, numbers, from, n, tally);
+        self.level_each(Level::Block, BIT, numbers, from, n, tally);
+        self.level_each(Level::Limb, BIT, numbers, from, n, tally);
+        self.level_each(Level::Place, BIT, numbers, from, n, tally);
     }
 
     // Leads each of `n` numbers through one level.

@@ -1,5 +1,5 @@
 //! Steps along the high parts that read the bits beside a place before they ask for a select.
-ghost use Rattle.std.specs.Prelude.{◌≡◌, ◌+◌, ◌<◌, true, false, length, IfSome};
+ghost use Rattle.std.specs.Prelude.{◌≡◌, ◌+◌, ◌<◌, true, false, length};
 ghost use Rattle.vers_bits.specs.Bits.{count, select};
 ghost use Rattle.vers_tally.specs.Reads.{AddsAtMost};
 ghost use Rattle.vers_sorted.specs.inside.Parts.{reads};
@@ -45,53 +45,6 @@ pub(super) fn zero_pair<A: Allocator + Copy>(
         number = h + 1;
         first = place;
     }
-}
-
-// The same, where the number of ones before the first of them may be known.
-#[inline(always)]
-#[tactic(auto, using(crate::proofs::Scans::scans))]
-pub(super) fn zero_pair_from<A: Allocator + Copy>(
-    high: &RsVec<A>,
-    h: usize,
-    known: Option<usize>,
-    tally: &mut Tally,
-) -> PlacePair
-    requires some { h < count false high.now (length high.now) }
-    requires known { IfSome known (λ start. h + start ≡ select false high.now h) }
-    ensures first { result.first ≡ select false high.now h }
-    ensures second { result.second ≡ select false high.now (h + 1) }
-    ensures adds { AddsAtMost tally.old tally.new (reads 0 3 (length high.now)) }
-{
-    let _ = high.len();
-    let Some(start) = known else {
-        return zero_pair(high, h, tally);
-    };
-    let first = h + start;
-    let second = zero_after(high, h, first, tally);
-    PlacePair { first, second }
-}
-
-// The place of the zero after zero number `h`: most often it is among the next 64 bits.
-#[inline(always)]
-#[tactic(auto, using(crate::proofs::Scans::scans))]
-fn zero_after<A: Allocator + Copy>(
-    high: &RsVec<A>,
-    h: usize,
-    place: usize,
-    tally: &mut Tally,
-) -> usize
-    requires some { h < count false high.now (length high.now) }
-    requires place { place ≡ select false high.now h }
-    ensures value { result ≡ select false high.now (h + 1) }
-    ensures adds { AddsAtMost tally.old tally.new (reads 0 2 (length high.now)) }
-{
-    let _ = high.len();
-    if let Some(word) = high.get_bits_counted(place + 1, 64, tally) {
-        if word != u64::MAX {
-            return place + 1 + word.trailing_ones() as usize;
-        }
-    }
-    high.select0_counted(h + 1, tally)
 }
 
 // The place of one number `k`, the next one from place `from` on.

@@ -1,16 +1,16 @@
 //! What is asked of an ascending list.
-ghost use Rattle.std.specs.Prelude.{◌≡◌, ℕ, ◌+◌, ◌-◌, ◌*◌, ◌<◌, ◌≤◌, ◌==◌, List, length, slice_index, slice_get, IsTrue, IfSome};
+ghost use Rattle.std.specs.Prelude.{◌≡◌, ℕ, ◌+◌, ◌-◌, ◌*◌, ◌<◌, ◌≤◌, ◌==◌, List, length, slice_index, slice_get, IsTrue};
 ghost use Rattle.std.specs.List.{list_any};
 ghost use Rattle.std.specs.List.Sorted.{IsNonDecreasing};
 ghost use Rattle.vers_tally.specs.Reads.{only_low_parts, digits, AddsAtMost};
 ghost use Rattle.vers_sorted.specs.Sorted.{below, greatest_not_above, least_not_below, delta};
 ghost use Rattle.vers_sorted.specs.Layout.{first_of, last_of, high_of, low_of, high_length, member_reads, search_reads};
-ghost use Rattle.vers_sorted.specs.inside.Parts.{reads, IsStart};
-ghost use Rattle.vers_sorted.specs.inside.Buckets.{IsBucket, StartsAt, known_reads};
+ghost use Rattle.vers_sorted.specs.inside.Parts.{reads};
+ghost use Rattle.vers_sorted.specs.inside.Buckets.{IsBucket};
 
 use crate::elias_fano::EliasFanoVec;
 use crate::elias_fano::narrow::MANY;
-use crate::elias_fano::scan::{one_before, one_from, zero_pair_from};
+use crate::elias_fano::scan::{one_before, one_from, zero_pair};
 use std::alloc::Allocator;
 use vers_tally::tally::Tally;
 
@@ -73,21 +73,19 @@ impl<A: Allocator + Copy> EliasFanoVec<A> {
         self.with_low_part(high, i, tally)
     }
 
-    // The members with the high part of `v`, from one select, unless it is known where they start, and
-    // most often the bits after it.
+    // The members with the high part of `v`, from one select and most often the bits after it.
     #[inline(always)]
     #[tactic(auto, using(crate::proofs::Buckets::bucket))]
-    fn bucket_of(&self, v: u64, known: Option<usize>, tally: &mut Tally) -> Bucket
+    fn bucket_of(&self, v: u64, tally: &mut Tally) -> Bucket
         requires some { 0 < length self.now }
         requires from { first_of self.now ≤ v }
         requires to { v ≤ last_of self.now }
-        requires known { IfSome known (IsStart self.now (high_of self.now v)) }
         ensures bucket { IsBucket self.now v result }
         ensures adds { AddsAtMost tally.old tally.new (reads 0 3 (high_length self.now)) }
     {
         let _ = &self.len;
         let high = ((v - self.first) >> self.width) as usize;
-        let zeros = zero_pair_from(&self.high, high, known, tally);
+        let zeros = zero_pair(&self.high, high, tally);
         Bucket {
             high: high as u64,
             start: zeros.first - high,
@@ -193,7 +191,7 @@ impl<A: Allocator + Copy> EliasFanoVec<A> {
         if v > self.last {
             return false;
         }
-        let bucket = self.bucket_of(v, None, tally);
+        let bucket = self.bucket_of(v, tally);
         let k = self.below_in(bucket, v, tally);
         if k >= bucket.end {
             return false;
@@ -249,24 +247,12 @@ impl<A: Allocator + Copy> EliasFanoVec<A> {
     /// The same as `rank`, by at most as many low parts and queries of the high parts as the number
     /// of members has binary digits, and 8 more.
     #[inline(always)]
+    #[tactic(auto, using(crate::proofs::Bounds::bounds, crate::proofs::Buckets::ends))]
     pub fn rank_counted(&self, v: u64, tally: &mut Tally) -> u64
         ensures value { result ≡ below self.now v }
         ensures within { result ≤ length self.now }
         ensures ascending { IsNonDecreasing self.now }
         ensures adds { AddsAtMost tally.old tally.new (search_reads self.now) }
-    {
-        self.rank_with(v, None, tally)
-    }
-
-    // The same, by a select less where it is known where the members start that have the high part of `v`.
-    #[inline(always)]
-    #[tactic(auto, using(crate::proofs::Bounds::bounds, crate::proofs::Buckets::ends))]
-    pub(super) fn rank_with(&self, v: u64, known: Option<usize>, tally: &mut Tally) -> u64
-        requires { StartsAt self.now v known }
-        ensures value { result ≡ below self.now v }
-        ensures within { result ≤ length self.now }
-        ensures ascending { IsNonDecreasing self.now }
-        ensures adds { AddsAtMost tally.old tally.new (known_reads self.now) }
     {
         let _ = &self.first;
         if self.len() == 0 {
@@ -278,35 +264,18 @@ impl<A: Allocator + Copy> EliasFanoVec<A> {
         if v > self.last {
             return self.len() as u64;
         }
-        let bucket = self.bucket_of(v, known, tally);
+        let bucket = self.bucket_of(v, tally);
         self.below_in(bucket, v, tally) as u64
     }
 
     /// The same as `predecessor`, by at most as many low parts and queries of the high parts as the
     /// number of members has binary digits, and 8 more.
     #[inline(always)]
+    #[tactic(auto, using(crate::proofs::Bounds::bounds, crate::proofs::Buckets::ends))]
     pub fn predecessor_counted(&self, v: u64, tally: &mut Tally) -> Option<u64>
         ensures value { result ≡ greatest_not_above self.now v }
         ensures ascending { IsNonDecreasing self.now }
         ensures adds { AddsAtMost tally.old tally.new (search_reads self.now) }
-    {
-        self.predecessor_with(v, None, tally)
-    }
-
-    // The same, by a select less where it is known where the members start that have the high part of
-    // the number after `v`.
-    #[inline(always)]
-    #[tactic(auto, using(crate::proofs::Bounds::bounds, crate::proofs::Buckets::ends))]
-    pub(super) fn predecessor_with(
-        &self,
-        v: u64,
-        known: Option<usize>,
-        tally: &mut Tally,
-    ) -> Option<u64>
-        requires { StartsAt self.now (v + 1) known }
-        ensures value { result ≡ greatest_not_above self.now v }
-        ensures ascending { IsNonDecreasing self.now }
-        ensures adds { AddsAtMost tally.old tally.new (known_reads self.now) }
     {
         let _ = &self.first;
         if self.len() == 0 {
@@ -318,7 +287,7 @@ impl<A: Allocator + Copy> EliasFanoVec<A> {
         if v >= self.last {
             return Some(self.last);
         }
-        let bucket = self.bucket_of(v + 1, known, tally);
+        let bucket = self.bucket_of(v + 1, tally);
         if self.is_amid(bucket, v + 1, v, tally) {
             return Some(v);
         }
@@ -332,27 +301,11 @@ impl<A: Allocator + Copy> EliasFanoVec<A> {
     /// The same as `successor`, by at most as many low parts and queries of the high parts as the
     /// number of members has binary digits, and 8 more.
     #[inline(always)]
+    #[tactic(auto, using(crate::proofs::Bounds::bounds, crate::proofs::Buckets::ends))]
     pub fn successor_counted(&self, v: u64, tally: &mut Tally) -> Option<u64>
         ensures value { result ≡ least_not_below self.now v }
         ensures ascending { IsNonDecreasing self.now }
         ensures adds { AddsAtMost tally.old tally.new (search_reads self.now) }
-    {
-        self.successor_with(v, None, tally)
-    }
-
-    // The same, by a select less where it is known where the members start that have the high part of `v`.
-    #[inline(always)]
-    #[tactic(auto, using(crate::proofs::Bounds::bounds, crate::proofs::Buckets::ends))]
-    pub(super) fn successor_with(
-        &self,
-        v: u64,
-        known: Option<usize>,
-        tally: &mut Tally,
-    ) -> Option<u64>
-        requires { StartsAt self.now v known }
-        ensures value { result ≡ least_not_below self.now v }
-        ensures ascending { IsNonDecreasing self.now }
-        ensures adds { AddsAtMost tally.old tally.new (known_reads self.now) }
     {
         let _ = &self.first;
         if self.len() == 0 {
@@ -364,7 +317,7 @@ impl<A: Allocator + Copy> EliasFanoVec<A> {
         if v <= self.first {
             return Some(self.first);
         }
-        let bucket = self.bucket_of(v, known, tally);
+        let bucket = self.bucket_of(v, tally);
         if self.is_amid(bucket, v, v, tally) {
             return Some(v);
         }

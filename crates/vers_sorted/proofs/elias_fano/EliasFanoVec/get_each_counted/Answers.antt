@@ -1,13 +1,13 @@
 use Rattle.std.proofs.Common.{arith}
 use Rattle.vers_rank.proofs.PublicLaws.{changed_on, changed_all, adds_times}
-use Rattle.vers_sorted.specs.inside.Batches.{bound_of}
-use Rattle.vers_sorted.proofs.elias_fano.EliasFanoVec.ask_all.Goals as goal
+use Rattle.vers_sorted.specs.Layout.{member_reads}
+use Rattle.vers_sorted.proofs.elias_fano.EliasFanoVec.get_each_counted.Goals as goal
 
 pub loop-from-preserved : goal.loop-from-preserved
 loop-from-preserved g c = record {
   within = omega arith;
-  changed = changed_on c.loop-from.invariant.changed c.ask_group.ensures.value;
-  adds = adds_times _ _ (bound_of c.args.query c.args.self.now) c.loop-from.invariant.adds c.ask_group.ensures.adds;
+  changed = changed_on c.loop-from.invariant.changed c.get_group.ensures.value;
+  adds = adds_times _ _ (member_reads c.args.self.now) c.loop-from.invariant.adds c.get_group.ensures.adds;
 }
 
 pub returns-clause-value : goal.returns-clause-value

@@ -4,7 +4,7 @@ use Rattle.vers_sorted.proofs.Below.{below_le}
 use Rattle.vers_sorted.proofs.Neighbours.{succ_past, succ_at, some_left}
 use Rattle.vers_sorted.proofs.Buckets.{none_below, all_below, start_below, below_end, in_bucket}
 use Rattle.vers_sorted.proofs.Members.{least_held}
-use Rattle.vers_sorted.proofs.elias_fano.EliasFanoVec.successor_with.Goals as goal
+use Rattle.vers_sorted.proofs.elias_fano.EliasFanoVec.successor_counted.Goals as goal
 
 pub returns-then-len-eq0-clause-value : goal.returns-then-len-eq0-clause-value
 returns-then-len-eq0-clause-value g c =

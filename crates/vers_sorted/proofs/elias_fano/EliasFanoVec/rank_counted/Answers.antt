@@ -1,6 +1,6 @@
 use Rattle.std.proofs.Common.{sym, arith}
 use Rattle.vers_sorted.proofs.Buckets.{none_below, all_below}
-use Rattle.vers_sorted.proofs.elias_fano.EliasFanoVec.rank_with.Goals as goal
+use Rattle.vers_sorted.proofs.elias_fano.EliasFanoVec.rank_counted.Goals as goal
 
 pub returns-then-v-self-clause-value : goal.returns-then-v-self-clause-value
 returns-then-v-self-clause-value g c =

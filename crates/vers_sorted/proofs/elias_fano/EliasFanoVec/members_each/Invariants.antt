@@ -1,0 +1,11 @@
+use Rattle.std.proofs.Common.{◌≡◌}
+use Rattle.std.specs.Prelude.{None, slice_get, option_and_then}
+use Rattle.vers_tally.specs.Reads.{AddsAtMost, times, only_low_parts}
+use Rattle.vers_rank.specs.Batches.{Changed}
+use Rattle.vers_sorted.proofs.elias_fano.EliasFanoVec.members_each.Given as goal
+
+abbrev pub invariant-loop-j : goal.invariant-loop-j
+invariant-loop-j g l = record {
+  changed : Changed None (λ place m. m ≡ option_and_then (slice_get l.self) place) l.from l.j l.fn.places l.places;
+  adds : AddsAtMost l.fn.tally l.tally (times l.j (only_low_parts 1));
+}
