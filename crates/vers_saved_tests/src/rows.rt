@@ -1,0 +1,143 @@
+//! Stored forms, loaded and saved again, with each byte flipped and each cut.
+use crate::stored::{
+    BITS, DESCENDING, HOSTILE, NO_BITS, NO_LENGTH, NOT_OURS, OTHER_VERSION, PADDING, SORTED,
+    SPARSE, SYMBOLS, TOO_LONG, VALUES, WIDE_SYMBOLS,
+};
+use std::alloc::{Allocator, Global};
+use vers_bits::bit_vec::BitVec;
+use vers_rank::fast_rs_vec::RsVec;
+use vers_rmq::rmq::binary_rmq::BinaryRmq;
+use vers_rmq::rmq::fast_rmq::FastRmq;
+use vers_saved::fault::LoadError;
+use vers_saved::saved::{Loaded, Saved, load_from_slice, save_to_vec, saved_size};
+use vers_sorted::elias_fano::EliasFanoVec;
+use vers_sorted::sparse::SparseRSVec;
+use vers_wavelet::wavelet::WaveletMatrix;
+
+/// Whether a list is saved as these bytes, behind those that are there.
+pub fn is_saved_as<S: Saved, A: Allocator>(alloc: A, list: &S, bytes: &[u8]) -> bool {
+    let mut out: Vec<u8, A> = Vec::new(alloc);
+    if out.push(7).is_err() || save_to_vec(list, &mut out).is_err() {
+        return false;
+    }
+    saved_size(list) == Some(bytes.len()) && out.len() > 0 && out[0] == 7 && &out[1..] == bytes
+}
+
+// Whether bytes are loaded, and the list that was loaded is saved as they are.
+fn is_loaded<S: Loaded<A> + Drop, A: Allocator + Copy>(alloc: A, bytes: &[u8]) -> bool {
+    let loaded: Result<S, LoadError> = load_from_slice(alloc, bytes);
+    match loaded {
+        Ok(list) => is_saved_as(alloc, &list, bytes),
+        Err(_) => false,
+    }
+}
+
+// The fault of bytes, or None where they are loaded.
+fn fault_of<S: Loaded<A> + Drop, A: Allocator + Copy>(alloc: A, bytes: &[u8]) -> Option<LoadError> {
+    let loaded: Result<S, LoadError> = load_from_slice(alloc, bytes);
+    loaded.err()
+}
+
+// Whether a form with one bit changed is refused, and not for memory.
+fn flip_is_told<S: Loaded<A> + Drop, A: Allocator + Copy>(
+    alloc: A,
+    bytes: &[u8],
+    i: usize,
+    bit: u32,
+) -> bool {
+    let Ok(mut other) = Vec::from_slice(alloc, bytes) else {
+        return false;
+    };
+    if let Some(byte) = other.get_mut(i) {
+        *byte ^= 1u8.wrapping_shl(bit);
+    }
+    match fault_of::<S, A>(alloc, other.as_slice()) {
+        None | Some(LoadError::Memory | LoadError::Read) => false,
+        Some(_) => true,
+    }
+}
+
+// Whether no form with one bit changed is loaded.
+fn flips_are_told<S: Loaded<A> + Drop, A: Allocator + Copy>(alloc: A, bytes: &[u8]) -> bool {
+    for i in 0..bytes.len() {
+        for bit in 0..8 {
+            if !flip_is_told::<S, A>(alloc, bytes, i, bit) {
+                return false;
+            }
+        }
+    }
+    true
+}
+
+// Whether each beginning of a form is too short.
+fn cuts_are_told<S: Loaded<A> + Drop, A: Allocator + Copy>(alloc: A, bytes: &[u8]) -> bool {
+    for i in 0..bytes.len() {
+        if fault_of::<S, A>(alloc, &bytes[..i]) != Some(LoadError::TooShort) {
+            return false;
+        }
+    }
+    true
+}
+
+// Whether a form with a byte more has a wrong length.
+fn more_is_told<S: Loaded<A> + Drop, A: Allocator + Copy>(alloc: A, bytes: &[u8]) -> bool {
+    let Ok(mut longer) = Vec::from_slice(alloc, bytes) else {
+        return false;
+    };
+    longer.push(0).is_ok()
+        && fault_of::<S, A>(alloc, longer.as_slice()) == Some(LoadError::BadLength)
+}
+
+fn is_kept<S: Loaded<A> + Drop, A: Allocator + Copy>(alloc: A, bytes: &[u8]) -> bool {
+    is_loaded::<S, A>(alloc, bytes)
+        && flips_are_told::<S, A>(alloc, bytes)
+        && cuts_are_told::<S, A>(alloc, bytes)
+        && more_is_told::<S, A>(alloc, bytes)
+}
+
+#[test]
+fn lists_of_bits(rt: HostRuntime) {
+    assert!(rt; is_kept::<BitVec<Global>, Global>(rt.alloc(), &BITS));
+    assert!(rt; is_kept::<BitVec<Global>, Global>(rt.alloc(), &NO_BITS));
+    assert!(rt; is_kept::<RsVec<Global>, Global>(rt.alloc(), &BITS));
+}
+
+#[test]
+fn lists_of_numbers(rt: HostRuntime) {
+    assert!(rt; is_kept::<EliasFanoVec<Global>, Global>(rt.alloc(), &SORTED));
+    assert!(rt; is_kept::<BinaryRmq<Global>, Global>(rt.alloc(), &VALUES));
+    assert!(rt; is_kept::<FastRmq<Global>, Global>(rt.alloc(), &VALUES));
+}
+
+#[test]
+fn sparse_bits(rt: HostRuntime) {
+    assert!(rt; is_kept::<SparseRSVec<Global>, Global>(rt.alloc(), &SPARSE));
+}
+
+#[test]
+fn symbols(rt: HostRuntime) {
+    assert!(rt; is_kept::<WaveletMatrix<Global>, Global>(rt.alloc(), &SYMBOLS));
+    assert!(rt; is_kept::<WaveletMatrix<Global>, Global>(rt.alloc(), &WIDE_SYMBOLS));
+}
+
+#[test]
+fn faults(rt: HostRuntime) {
+    let alloc = rt.alloc();
+    assert!(rt; fault_of::<BitVec<Global>, Global>(alloc, &NOT_OURS) == Some(LoadError::NotOurs));
+    assert!(rt;
+        fault_of::<BitVec<Global>, Global>(alloc, &OTHER_VERSION) == Some(LoadError::OtherVersion)
+    );
+    assert!(rt; fault_of::<BitVec<Global>, Global>(alloc, &SORTED) == Some(LoadError::OtherKind));
+    assert!(rt; fault_of::<BitVec<Global>, Global>(alloc, &HOSTILE) == Some(LoadError::TooShort));
+    assert!(rt; fault_of::<BitVec<Global>, Global>(alloc, &PADDING) == Some(LoadError::BadPadding));
+    assert!(rt;
+        fault_of::<BinaryRmq<Global>, Global>(alloc, &TOO_LONG) == Some(LoadError::BadLength)
+    );
+    assert!(rt;
+        fault_of::<EliasFanoVec<Global>, Global>(alloc, &DESCENDING)
+            == Some(LoadError::NotAscending)
+    );
+    assert!(rt;
+        fault_of::<SparseRSVec<Global>, Global>(alloc, &NO_LENGTH) == Some(LoadError::NotAscending)
+    );
+}
