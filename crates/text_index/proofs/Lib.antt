@@ -1,3 +1,6 @@
 pub mod Counts
-pub mod Order
+pub mod Dictionary
 pub mod Suffixes
+pub mod Building
+pub mod Patterns
+pub mod Making
