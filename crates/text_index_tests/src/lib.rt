@@ -1,0 +1,12 @@
+//! Tests of texts in which patterns are found. An `assert!` of an `==` is faster to prove than an `assert_eq!`,
+//! which prints both sides.
+#![tactic(auto)]
+
+#[cfg(test)]
+mod memory;
+#[cfg(test)]
+mod plain;
+#[cfg(test)]
+mod rows;
+#[cfg(test)]
+mod shared;
