@@ -1,10 +1,9 @@
 #!/usr/bin/env python3
 """Proves crates with those below them, as many side by side as there are processors: proofs.py CRATE..
 
-Each crate begins once those below it are proved, those first on which most stand, and those that become ready at once share the
-processors that are free. It is proved in a repository of its own, since a check locks the folders of all crates below. Standard
-error tells of each. A program is built besides, and its file `out/NAME.built` is then as old as the beginning of the run. An
-interrupt ends what was begun.
+Each crate begins once those below it are proved, those first on which most stand. It is proved in a repository of its own, since a
+check locks the folders of all crates below. Standard error tells of each. A program is built besides, and its file `out/NAME.built`
+is then as old as the beginning of the run. An interrupt ends what was begun.
 """
 import contextlib
 import os
@@ -116,17 +115,16 @@ class Commands:
 
 
 def prove_all(crates, names, commands, tell=lambda text: None):
-    """Proves crates with those below them. All that become ready at once share the processors that are free."""
+    """Proves crates with those below them. Of those that become ready at once, the one on which most stand has as many jobs as there are
+    processors, and the others have two each, so that no processor is idle while the last of them is proved."""
     order = TopologicalSorter({it: crates.uses(it) for name in names for it in [*crates.below(name), name]})
     order.prepare()
     running = {}
     with ThreadPoolExecutor(commands.count) as pool:
         while order.is_active():
             ready = sorted(order.get_ready(), key=lambda it: -sum(it in crates.below(other) for other in crates.lines))
-            free = commands.count - len(running)
-            for at, name in enumerate(ready, 1):
-                jobs = max(1, (free + len(ready) - at) // len(ready))
-                running[pool.submit(prove, crates, name, jobs, commands)] = name
+            for at, name in enumerate(ready):
+                running[pool.submit(prove, crates, name, 2 if at else commands.count, commands)] = name
             for done in wait(running, return_when=FIRST_COMPLETED).done:
                 done.result()
                 name = running.pop(done)
