@@ -157,7 +157,7 @@ more_not_above (y ∷ ys) up (suc i) h =
     omega (arith, count_cons (λ z. leb z x) y ys, leb_some y x (up.0 i 0 (omega arith)), more_not_above ys up.1 i (omega arith))
 
 -- the member at place i in ascending order is member i by size
-at_kth : (xs : List ℕ) (i : ℕ) → i < length xs → IsKth xs i (get_or (by_size xs) i 0)
+pub at_kth : (xs : List ℕ) (i : ℕ) → i < length xs → IsKth xs i (get_or (by_size xs) i 0)
 at_kth xs i h =
     let ys : List ℕ = by_size xs in
     let up = ascends_by_size xs in

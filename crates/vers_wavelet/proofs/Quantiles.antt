@@ -1,7 +1,6 @@
 -- Members by size, from one level to the next.
 use Rattle.std.proofs.Common.{◌≡◌, ℕ, zero, suc, ◌+◌, ◌-◌, ◌*◌, ◌^◌, ◌&&◌, ◌<◌, ◌≤◌, Bool, true, false, cond, leb, ltb, List, [], ◌∷◌, length, get_or, drop, refl, sym, ap, ◌∙◌, subst, arith, inl, inr}
-use Rattle.std.specs.Prelude.{Option, Some, None, option_map, slice_get, slice_range, IfSome, All, if◌then◌else◌}
-use Rattle.std.specs.List.{count_by}
+use Rattle.std.specs.Prelude.{Option, Some, None, option_map, slice_get, slice_range, IfSome, if◌then◌else◌}
 use Rattle.std.proofs.lemmas.Bool.{cases_lt}
 use Rattle.std.proofs.lemmas.Bool.Decides.{nat_tests}
 use Rattle.std.proofs.lemmas.List.{length-take}
@@ -9,55 +8,12 @@ use Rattle.std.proofs.lemmas.Option.{slice_get-get_or, slice_get_past}
 use Rattle.vers_bits.specs.Bits.{bit_value}
 use Rattle.vers_wavelet.specs.Levels.{value, values, next, under, KthOf, HasRoom}
 use Rattle.vers_wavelet.specs.Batches.{member}
-use Rattle.vers_wavelet.specs.Symbols.{by_size, IsKth}
+use Rattle.vers_wavelet.specs.Symbols.{by_size}
 use Rattle.vers_wavelet.proofs.Values.{value-lt}
-use Rattle.vers_wavelet.proofs.Members.{one, count_cons}
-use Rattle.vers_wavelet.proofs.BySize.{Ascends, ascends_by_size, count_by_size, length-by_size, kth_at}
+use Rattle.vers_wavelet.proofs.BySize.{length-by_size, kth_at, at_kth}
 use Rattle.vers_wavelet.proofs.Steps.{kth_low, kth_high}
 use Rattle.vers_wavelet.proofs.Lists.{length-values, length-part, kth_is, kth_of}
 use Rattle.vers_wavelet.proofs.Answering.{if_both, if_first_fails, if_second_fails}
-
--- ---- the member at a place in ascending order
-
-ltb_none : (y x : ℕ) → x ≤ y → one (ltb y x) ≡ 0
-ltb_none y x h = grind (arith, nat_tests)
-
-ltb_one : (y x : ℕ) → one (ltb y x) ≤ 1
-ltb_one y x = grind (arith, nat_tests)
-
-leb_some : (y x : ℕ) → y ≤ x → one (leb y x) ≡ 1
-leb_some y x h = grind (arith, nat_tests)
-
-none_below : (x : ℕ) (ys : List ℕ) → All (λ z. x ≤ z) ys → count_by (λ y. ltb y x) ys ≡ 0
-none_below x [] all = refl
-none_below x (y ∷ ys) all =
-    let rest : All (λ z. x ≤ z) ys = λ i d k. all (suc i) d (omega arith) in
-    omega (arith, count_cons (λ z. ltb z x) y ys, ltb_none y x (all zero 0 (omega arith)), none_below x ys rest)
-
-few_below : (ys : List ℕ) → Ascends ys → (i : ℕ) → i < length ys → count_by (λ y. ltb y (get_or ys i 0)) ys ≤ i
-few_below [] up i h = absurd (omega arith)
-few_below (y ∷ ys) up zero h = omega (arith, count_cons (λ z. ltb z y) y ys, ltb_none y y (omega arith), none_below y ys up.0)
-few_below (y ∷ ys) up (suc i) h =
-    let x : ℕ = get_or ys i 0 in
-    omega (arith, count_cons (λ z. ltb z x) y ys, ltb_one y x, few_below ys up.1 i (omega arith))
-
-more_not_above : (ys : List ℕ) → Ascends ys → (i : ℕ) → i < length ys → i < count_by (λ y. leb y (get_or ys i 0)) ys
-more_not_above [] up i h = absurd (omega arith)
-more_not_above (y ∷ ys) up zero h = omega (arith, count_cons (λ z. leb z y) y ys, leb_some y y (omega arith))
-more_not_above (y ∷ ys) up (suc i) h =
-    let x : ℕ = get_or ys i 0 in
-    omega (arith, count_cons (λ z. leb z x) y ys, leb_some y x (up.0 i 0 (omega arith)), more_not_above ys up.1 i (omega arith))
-
-at_kth : (xs : List ℕ) (i : ℕ) → i < length xs → IsKth xs i (get_or (by_size xs) i 0)
-at_kth xs i h =
-    let ys : List ℕ = by_size xs in
-    let up = ascends_by_size xs in
-    let low : i < length ys = omega (arith, length-by_size xs) in
-    let x : ℕ = get_or ys i 0 in
-    record {
-      less = omega (arith, few_below ys up i low, count_by_size (λ y. ltb y x) xs);
-      more = omega (arith, more_not_above ys up i low, count_by_size (λ y. leb y x) xs);
-    }
 
 -- ---- the member of a range
 
