@@ -1,9 +1,9 @@
 -- The places of a bit.
 use Rattle.std.proofs.Common.{◌≡◌, ℕ, zero, suc, ◌+◌, ◌<◌, ◌≤◌, Bool, true, false, cond, ◌⊎◌, List, [], ◌∷◌, ◌++◌, length, get_or, refl, sym, ap, subst, ◌∙◌, arith, add-one, inl, inr}
-use Rattle.std.specs.Prelude.{filter, count_by}
+use Rattle.std.specs.Prelude.{filter}
 use Rattle.std.specs.List.{range_with_len}
 use Rattle.std.proofs.lemmas.Bool.{cases_lt, cases_Bool}
-use Rattle.std.proofs.lemmas.List.{get_or_append_left, get_or_push, get_or_past, length-append, length_push, map-id, take-append-le}
+use Rattle.std.proofs.lemmas.List.{get_or_append_left, get_or_push, get_or_past, length-append, map-id}
 use Rattle.std.proofs.lemmas.List.Sums.{count_by_more_yes, count_by_more_no}
 use Rattle.std.proofs.lemmas.List.FromFn.{filter_of_map_range_with_len_more}
 use Rattle.vers_bits.specs.Bits.{is_bit, count, places, select}
@@ -137,40 +137,6 @@ select_holds b l r n h few =
     (select_below b l r n few, at.holds, at.before)
 
 -- ---- longer lists
-
-pub count_append : (b : Bool) (l m : List Bool) (i : ℕ) → i ≤ length l → count b (l ++ m) i ≡ count b l i
-unfolding count
-count_append b l m i h = ap (count_by (is_bit b)) (take-append-le i l m h)
-
-pub place_append : {b : Bool} {l : List Bool} {r p : ℕ} (m : List Bool) → IsPlace b l r p → IsPlace b (l ++ m) r p
-place_append {b} {l} {r} {p} m at = record {
-  within = omega (arith, at.within, length-append l m);
-  holds = ap (is_bit b) (get_or_append_left l m false p at.within) ∙ at.holds;
-  before = count_append b l m p (omega (arith, at.within)) ∙ at.before;
-}
-
-pub select_append : (b : Bool) (l m : List Bool) (r : ℕ) → r < count b l (length l) → select b (l ++ m) r ≡ select b l r
-select_append b l m r some = select_from_place (place_append m (select_is_place b l r some))
-
-pub count_push_yes : (b : Bool) (l : List Bool) (x : Bool) → is_bit b x ≡ true → count b (l ++ x ∷ []) (length (l ++ x ∷ [])) ≡ count b l (length l) + 1
-count_push_yes b l x on =
-    let here : is_bit b (get_or (l ++ x ∷ []) (length l) false) ≡ true = ap (is_bit b) (get_or_push l x false (length l) refl) ∙ on in
-    ap (count b (l ++ x ∷ [])) (length_push l x)
-    ∙ count_more_yes b (l ++ x ∷ []) (length l) (omega (arith, length_push l x)) here
-    ∙ ap (λ n. n + 1) (count_append b l (x ∷ []) (length l) (omega arith))
-
-pub count_push_no : (b : Bool) (l : List Bool) (x : Bool) → is_bit b x ≡ false → count b (l ++ x ∷ []) (length (l ++ x ∷ [])) ≡ count b l (length l)
-count_push_no b l x off =
-    let here : is_bit b (get_or (l ++ x ∷ []) (length l) false) ≡ false = ap (is_bit b) (get_or_push l x false (length l) refl) ∙ off in
-    ap (count b (l ++ x ∷ [])) (length_push l x)
-    ∙ count_more_no b (l ++ x ∷ []) (length l) (omega (arith, length_push l x)) here
-    ∙ count_append b l (x ∷ []) (length l) (omega arith)
-
--- a bit appended is the last place of its kind
-pub select_push : (b : Bool) (l : List Bool) (x : Bool) (r : ℕ) → is_bit b x ≡ true → count b l (length l) ≡ r → select b (l ++ x ∷ []) r ≡ length l
-select_push b l x r on e =
-    select_at b (l ++ x ∷ []) r (length l) (omega (arith, length_push l x))
-    (ap (is_bit b) (get_or_push l x false (length l) refl) ∙ on) (count_append b l (x ∷ []) (length l) (omega arith) ∙ e)
 
 pub select_finds_number : (b : Bool) (l : List Bool) (r : ℕ) → r < count b l (length l) → (count b l (select b l r) ≡ r) × (is_bit b (get_or l (select b l r) false) ≡ true)
 select_finds_number b l r some = let at = select_is_place b l r some in (at.before, at.holds)

@@ -66,10 +66,6 @@ TakesOrFails-stays by h p bs new rest start read answers s =
     let m = IsSplit-more 10 bs read s.lines p s.split in
     (s.lines ++ m.0, m.1, m.2, (s.lines, m.0, refl, rw append-nil s.answered))
 
--- no byte
-pub TakesOrFails-none : {H : Type 0} (by : Answering H) (h : H) (p : List ℕ) → TakesOrFails by (Ok tt) h p [] [] h p
-TakesOrFails-none by h p start read answers s = rw (append-nil, append-nil) s
-
 -- some bytes, and then others
 pub TakesOrFails-then : {H : Type 0} (by : Answering H) (h : H) (p bs t : List ℕ) (h1 : H) (p1 cs u : List ℕ) (h2 : H) (p2 : List ℕ)
     → TakesOrFails by (Ok tt) h p bs t h1 p1 → TakesOrFails by (Ok tt) h1 p1 cs u h2 p2 → TakesOrFails by (Ok tt) h p (bs ++ cs) (t ++ u) h2 p2

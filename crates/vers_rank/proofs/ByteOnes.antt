@@ -1,7 +1,7 @@
 -- The ones of all bytes of a word at once.
 use Rattle.std.proofs.Common.{zero, suc, ap, sym, subst, ◌∙◌, ◌+◌, ◌/◌, inl, inr, ◌≡◌, ℕ, ◌-◌, ◌*◌, ◌%◌, ◌^◌, ◌<◌, ◌≤◌, true, refl, arith, eqb, leb}
 use Rattle.std.specs.Prelude.{count_ones, bit_and}
-use Rattle.std.proofs.lemmas.Nat.{and_mask, and_block, and_le_l, and_le_r, ones_cat, ones-le, mod_below, pow_pos, mod-pow-add, mod-mul-add}
+use Rattle.std.proofs.lemmas.Nat.{and_mask, and_block, and_le_l, and_le_r, ones_cat, mod-mul-add}
 use Rattle.std.proofs.lemmas.Nat.Bits.{and_pow}
 use Rattle.std.proofs.lemmas.Bool.{cases_lt, agree_below_at, eqb-true, leb-true}
 use lib.Count.{ones}
@@ -128,9 +128,6 @@ shifted_few w m = omega (arith, and_le_l (w / 2) m)
 pub ruleset steps = (counted_bytes, shifted_few, and_le_r)
 
 -- ---- the sums of the bytes up to each
-
-few_through : (w i : ℕ) → count_ones (w % 2 ^ i) ≤ i
-few_through w i = ones_few w i
 
 -- sums by one multiplication: c are the digits, p their sums
 sums_of : (c0 c1 c2 c3 c4 c5 c6 c7 p1 p2 p3 p4 p5 p6 p7 p8 : ℕ)

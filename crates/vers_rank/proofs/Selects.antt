@@ -2,9 +2,9 @@
 use Rattle.std.proofs.Common.{◌≡◌, ℕ, ◌+◌, ◌-◌, ◌*◌, ◌/◌, ◌<◌, ◌≤◌, Bool, true, false, List, length, get_or, ap, ◌∙◌, refl, inl, inr, arith, min}
 use Rattle.std.proofs.lemmas.Bool.{cases_lt, cases_Bool}
 use Rattle.vers_bits.specs.Bits.{is_bit, count, limb, limb_count, select}
-use Rattle.vers_bits.proofs.PublicLaws.{count_le_all, count_le, count_up, count_near, count_limb, count_limb_whole, count_both, count_past, select_at, select_past, count_at_select, count_more_yes, count_more_no}
+use Rattle.vers_bits.proofs.PublicLaws.{count_le_all, count_le, count_up, count_near, count_limb, count_both, count_past, select_at, select_past, count_at_select, count_more_yes, count_more_no}
 use Rattle.vers_tally.specs.Reads.{digits}
-use Rattle.vers_tally.proofs.PublicLaws.{digits_up, digits_halved, digits-le}
+use Rattle.vers_tally.proofs.PublicLaws.{digits_up, digits_halved}
 use Rattle.vers_rank.specs.inside.Index.{held, held_in, IsSample, IsLimbWith, IsAmongLimbs}
 use Rattle.vers_rank.proofs.Words.{ones_few}
 
@@ -56,13 +56,6 @@ count_le_held b l i = elim (cases_lt i (length l)) [
   | inr h ↦ omega (arith, count_past b l i h, held_is b l (length l) (omega arith), held_up b l (length l) i h)
 ]
 
--- what is still to come stands inside the list
-pub held_inside : (b : Bool) (l : List Bool) (i j r : ℕ) → held b l i ≤ r → r < count b l j → i < length l
-held_inside b l i j r low high = elim (cases_lt i (length l)) [
-  | inl h ↦ h
-  | inr h ↦ absurd (omega (arith, held_up b l (length l) i h, held_is b l (length l) (omega arith), count_le_all b l j))
-]
-
 -- number r is the place that the search in limb k found
 pub place_found : (b : Bool) (l : List Bool) (r k p seen : ℕ) → r < count b l (length l) → seen ≡ held b l (64 * k) → seen ≤ r → p < 64
     → held_in b (limb l k) p ≤ r - seen → r - seen < held_in b (limb l k) (p + 1) → select b l r ≡ 64 * k + p
@@ -108,9 +101,6 @@ samples_bound b l r first last some before after =
       from = low;
       to = high;
     }
-
-pub digits_below_16 : (n : ℕ) → n < 16 → digits n ≤ 4
-digits_below_16 n h = digits-le 4 n h
 
 pub ruleset in_block = (held_more, held_is)
 
@@ -192,43 +182,6 @@ pub ruleset halves_of_block = (held_up, next_two)
 -- the greater half of n has a digit less
 pub half_left : (n : ℕ) → 1 < n → digits (n - n / 2 - 1) + 1 ≤ digits (n - 1)
 half_left n h = digits_halved (n - n / 2 - 1) (n - 1) (omega arith) (omega arith)
-
--- the superblock that two choices among at most four leave
-pub one_of_few : (b : Bool) (l : List Bool) (r first last half start next found : ℕ) → first ≤ last → last < first + 4 → count b l (8192 * first) ≤ r → r < count b l (8192 * (last + 1))
-    → half ≡ min (first + 2) last → (count b l (8192 * half) ≤ r → start ≡ half) → (r < count b l (8192 * half) → start ≡ first)
-    → next ≡ min (start + 1) last → (count b l (8192 * next) ≤ r → found ≡ next) → (r < count b l (8192 * next) → found ≡ start)
-    → (found ≤ last) × (count b l (8192 * found) ≤ r) × (r < count b l (8192 * (found + 1)))
-one_of_few b l r first last half start next found some few from to halfway on off onward next_on next_off =
-    let at : ℕ → ℕ = λ s. count b l (8192 * s) in
-    let among : (start ≤ last) × (at start ≤ r) × (r < at (next + 1)) = elim (cases_lt r (at half)) [
-      | inl high ↦
-          let same : start ≡ first = off high in (
-            omega (arith, same, some),
-            omega (arith, from, ap at same),
-            elim (cases_lt (first + 1) last) [
-              | inl more ↦ let e : next + 1 ≡ half = omega (arith, same, halfway, onward) in omega (arith, high, ap at e)
-              | inr less ↦ let e : next + 1 ≡ last + 1 = omega (arith, same, some, onward) in omega (arith, to, ap at e)
-            ],
-          )
-      | inr low ↦
-          let same : start ≡ half = on low in
-          let e : next + 1 ≡ last + 1 = omega (arith, same, halfway, onward, few) in
-          (omega (arith, same, halfway), omega (arith, low, ap at same), omega (arith, to, ap at e))
-    ] in
-    elim (cases_lt r (at next)) [
-      | inl high ↦
-          let same : found ≡ start = next_off high in
-          let below : start < last = elim (cases_lt start last) [
-            | inl h ↦ h
-            | inr h ↦ (let e : next ≡ start = omega (arith, onward, among.0) in absurd (omega (arith, high, among.1, ap at e)))
-          ] in
-          let e : next ≡ found + 1 = omega (arith, below, same, onward) in
-          (omega (arith, same, among.0), omega (arith, among.1, ap at same), omega (arith, high, ap at e))
-      | inr low ↦
-          let same : found ≡ next = next_on low in
-          let e : found + 1 ≡ next + 1 = omega (arith, same) in
-          (omega (arith, same, onward), omega (arith, low, ap at same), omega (arith, among.2, ap at e))
-    ]
 
 -- a few steps, and then halves
 pub ruleset steps = (digits_up)

@@ -37,10 +37,6 @@ held_in_split_next b w i d = ap (held_in b w) (omega arith) ∙ held_in_split b 
 pub held_in_up : (b : Bool) (w i j : ℕ) → i ≤ j → held_in b w i ≤ held_in b w j
 held_in_up b w i j h = let e : i + (j - i) ≡ j = omega arith in omega (arith, ap (held_in b w) e, held_in_split b w i (j - i))
 
--- a part that does not pass a number is not past one that does
-pub not_past : (b : Bool) (w i j r : ℕ) → held_in b w j ≤ r → r < held_in b w i → j < i
-not_past b w i j r low high = elim (cases_lt j i) [ inl h ↦ h | inr h ↦ absurd (omega (arith, held_in_up b w i j h)) ]
-
 pub ruleset starts = (held_in_none, held_in_up)
 
 pub ruleset splits = (held_in_split, held_in_split_next)

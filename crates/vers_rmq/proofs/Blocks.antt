@@ -138,9 +138,6 @@ between xs ys mi pl t ms a c q r h e et inside found place value =
     let P : List ℕ → Type 0 = λ zs. IsLeastItem zs (128 * a) (128 * c + 127) r in
     subst P e (item_at xs (128 * a) (128 * c + 127) (128 * q.place + get_or pl q.place 0) r best (place ∙ ap (λ ps. 128 * q.place + get_or ps q.place 0) et) (value ∙ found.item ∙ here.value))
 
-pub best_is : (xs mi pl t : List ℕ) (ms : List BlockMasks) (b : ℕ) → AreAllBlocks xs mi pl ms → t ≡ pl → 128 * b < length xs → b < length t
-best_is xs mi pl t ms b h et inside = rw et (omega (arith, h.blocks.places_counted))
-
 -- the end of a block and the start of the next
 pub two_parts : (xs ys : List ℕ) (i j m n : ℕ) (a b r : PlacedItem) → xs ≡ ys → i / 128 + 1 ≡ j / 128 → j < length ys
     → IsFirstLeast ys i (min (128 * (i / 128) + 128) (length ys) - 1) m → IsFirstLeast ys (128 * (j / 128)) j n

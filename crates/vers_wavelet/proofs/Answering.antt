@@ -86,16 +86,6 @@ if_first_fails a b c d o h = sym (ap (λ t. if t && leb c d then o else None) (l
 pub if_second_fails : {X : Type 0} (a b c d : ℕ) (o : Option X) → a ≤ b → d < c → None ≡ (if leb a b && leb c d then o else None)
 if_second_fails a b c d o h l = sym (ap (λ t. if t && leb c d then o else None) (leb_yes a b h) ∙ ap (λ t. if t then o else None) (leb_no c d l))
 
--- where no place is left, none is on any level
-pub rank_rests : (o : Option ℕ) (c s end : ℕ) (ls ms : List (List Bool)) → o ≡ Some c → c ≡ 0
-    → option_map (λ c. way ls s end - way ls s (end - c)) o ≡ option_map (λ c. way ms s end - way ms s (end - c)) o
-rank_rests o c s end ls ms is none =
-    let e : o ≡ Some 0 = is ∙ ap Some none in
-    let same : end - 0 ≡ end = omega arith in
-    let left : way ls s end - way ls s (end - 0) ≡ 0 = omega (arith, ap (way ls s) same) in
-    let right : way ms s end - way ms s (end - 0) ≡ 0 = omega (arith, ap (way ms s) same) in
-    ap (option_map (λ c. way ls s end - way ls s (end - c))) e ∙ ap Some (left ∙ sym right) ∙ sym (ap (option_map (λ c. way ms s end - way ms s (end - c))) e)
-
 pub rank_goes : (v : List Bool) (ls : List (List Bool)) (s end c i start to : ℕ) (b : Bool) (o : Option ℕ) → o ≡ Some c → length ls ≡ i → b ≡ digit s i
     → start ≡ next b v (end - c) → to ≡ next b v end
     → Some (way ls s to - way ls s (to - (to - start))) ≡ option_map (λ c. way (v ∷ ls) s end - way (v ∷ ls) s (end - c)) o

@@ -56,9 +56,6 @@ pub ruleset lists = (list_digit, list_set)
 pub room_none : (n k : ℕ) → k ≤ n → HasRoom n k 0
 room_none n k h = record { clear = omega arith; fits = omega (arith, pow-le-pow_right {n = 2} (omega arith) {i = k} {j = n} h) }
 
-pub room_wider : (m n k number : ℕ) → m ≤ n → HasRoom m k number → HasRoom n k number
-room_wider m n k number h room = record { clear = room.clear; fits = omega (arith, room.fits, pow-le-pow_right {n = 2} (omega arith) {i = m} {j = n} h) }
-
 pub room_more : (bit : Bool) (n k number : ℕ) → HasRoom n (k + 1) number → HasRoom n k (number + bit_value bit * 2 ^ k)
 room_more bit n k number room =
     let two : 2 ^ (k + 1) ≡ 2 * 2 ^ k = omega (arith, pow-suc 2 k, ap (λ m. 2 ^ m) (add-one k)) in

@@ -10,8 +10,8 @@ use Rattle.vers_bits.specs.Bits.{bit_value, is_bit, count, select}
 use Rattle.vers_bits.proofs.PublicLaws.{select_holds}
 use Rattle.vers_tally.specs.Reads.{Reads, IsWithin, times}
 use Rattle.vers_wavelet.specs.Levels.{start, next, value, under, equal, way, digit, AreLevels, Narrowed, KthOf, Searched, Rises}
-use Rattle.vers_wavelet.proofs.Digits.{digit_value, top_digit, room_none}
-use Rattle.vers_wavelet.proofs.Values.{under_low, under_high, equal_under, under_none, next_none, next-up, next-le, none_under, all_equal, one_under, value_is, value_none, next-lt, way_none, way_is, way-up, equal_more}
+use Rattle.vers_wavelet.proofs.Digits.{top_digit, room_none}
+use Rattle.vers_wavelet.proofs.Values.{under_low, under_high, equal_under, under_none, next_none, next-up, next-le, none_under, all_equal, one_under, value_is, value_none, way_none, way_is, way-up, equal_more}
 
 pub under_step : (bit : Bool) (l : List Bool) (ls : List (List Bool)) (s i : ℕ) → s ≤ 2 ^ length ls → i ≤ length l
     → under (l ∷ ls) (bit_value bit * 2 ^ length ls + s) i + under ls s (start bit l) ≡ cond bit (next false l i) 0 + under ls s (next bit l i)
@@ -317,11 +317,6 @@ narrowed_all {ls} {s} {from} {to} {k} {a} {b} {less} e n =
 -- below the last level, or where no place is left, the ends are as far apart as those of the way down
 pub narrowed_kept : {ls : List (List Bool)} {s from to k a b less : ℕ} → k ≡ length ls → Narrowed ls s from to k a b less → a + way ls s to ≡ b + way ls s from
 narrowed_kept {ls} {s} {from} {to} e n = let all = narrowed_all e n in omega (arith, all.1, all.2)
-
-pub narrowed_empty : {ls : List (List Bool)} {s from to k a b less : ℕ} → a ≡ b → Narrowed ls s from to k a b less
-    → (less + under ls (s % 2 ^ length ls) from ≡ under ls (s % 2 ^ length ls) to) × (a + way ls s to ≡ b + way ls s from)
-narrowed_empty {ls} {s} {from} {to} {k} {a} {b} {less} e n =
-    (omega (arith, n.less_is, ap (under (drop k ls) (s % 2 ^ (length ls - k))) e), omega (arith, n.from_is, n.to_is, e, ap (way (drop k ls) s) e))
 
 -- the way down of a place, below the last level
 pub way_all : (ls : List (List Bool)) (s k p from : ℕ) → k ≡ length ls → way (drop k ls) s p ≡ way ls s from → p ≡ way ls s from

@@ -206,18 +206,6 @@ pub next-lt : (b : Bool) (l : List Bool) (i : ℕ) → i < length l → get_or l
 next-lt true l i h e = omega (arith, next-le true l (i + 1), next_yes true l i h (ap (is_bit true) e))
 next-lt false l i h e = omega (arith, next-le false l (i + 1), next_yes false l i h (ap (is_bit false) e))
 
-tests_rise : (v y z : ℕ) → y ≤ z → cond (ltb v y) 1 0 ≤ cond (ltb v z) 1 0
-tests_rise v y z h = grind (arith, nat_tests)
-
--- counts over a range rise with the bound
-pub under_rises : (ls : List (List Bool)) (y z a m : ℕ) → y ≤ z → under ls y (a + m) + under ls z a ≤ under ls z (a + m) + under ls y a
-unfolding under
-under_rises ls y z a zero h = omega (arith, ap (under ls y) (add-zero a), ap (under ls z) (add-zero a))
-under_rises ls y z a (suc m) h =
-    let e : a + suc m ≡ suc (a + m) = omega arith in
-    let more : cond (ltb (value ls (a + m)) y) 1 0 ≤ cond (ltb (value ls (a + m)) z) 1 0 = tests_rise (value ls (a + m)) y z h in
-    omega (arith, under_rises ls y z a m h, ap (under ls y) e, ap (under ls z) e, more)
-
 -- ---- the way down
 
 pub way_none : (s i : ℕ) → way [] s i ≡ i
