@@ -155,6 +155,13 @@ length-low_bits = LowBits.length-low_bits
 pub number-low_bits : (v n : ℕ) → number (low_bits v n) ≡ v % 2 ^ n
 number-low_bits = LowBits.number-low_bits
 
+-- they are those of v modulo 2 ^ n, and go on with those of v without them
+pub low_bits_of_rest : (v n : ℕ) → low_bits (v % 2 ^ n) n ≡ low_bits v n
+low_bits_of_rest = LowBits.low_bits_of_rest
+
+pub low_bits-add : (v j k : ℕ) → low_bits v (j + k) ≡ low_bits v j ++ low_bits (v / 2 ^ j) k
+low_bits-add = LowBits.low_bits-add
+
 -- ---- lists
 
 -- inside a list no default is taken

@@ -1,5 +1,5 @@
 -- The laws of lists of bits, as statements.
-use Rattle.std.specs.Prelude.{◌≡◌, ℕ, ◌*◌, ◌-◌, ◌%◌, ◌^◌, ◌<◌, ◌≤◌, ◌||◌, ◌&&◌, Bool, false, List, ◌++◌, length, take, drop, slice_index, slice_index_or, MatchOption, Some, bit_or, bit_and, bit_xor, ◌+◌, min, true}
+use Rattle.std.specs.Prelude.{◌≡◌, ℕ, ◌*◌, ◌-◌, ◌/◌, ◌%◌, ◌^◌, ◌<◌, ◌≤◌, ◌||◌, ◌&&◌, Bool, false, List, ◌++◌, length, take, drop, slice_index, slice_index_or, MatchOption, Some, bit_or, bit_and, bit_xor, ◌+◌, min, true}
 use Rattle.vers_bits.specs.Bits.{number, low_bits, pack, part_number, masked, is_bit, count, select, place_after, place_before}
 use Rattle.vers_bits.specs.Masks.{zip_bits, xor}
 use Rattle.vers_bits.specs.Equality.{hash_input}
@@ -15,6 +15,14 @@ LowBitsAreAsMany = (v k : ℕ) → length (low_bits v k) ≡ k
 
 abbrev pub LowBitsAreTheRest : Type 0
 LowBitsAreTheRest = (v k : ℕ) → number (low_bits v k) ≡ v % 2 ^ k
+
+-- what a number has above its low digits leaves these as they are
+abbrev pub LowBitsOfRest : Type 0
+LowBitsOfRest = (v k : ℕ) → low_bits (v % 2 ^ k) k ≡ low_bits v k
+
+-- the low digits go on with those of the number without them
+abbrev pub LowBitsGoOn : Type 0
+LowBitsGoOn = (v j k : ℕ) → low_bits v (j + k) ≡ low_bits v j ++ low_bits (v / 2 ^ j) k
 
 abbrev pub BitsFollowFromNumber : Type 0
 BitsFollowFromNumber = (bits : List Bool) → low_bits (number bits) (length bits) ≡ bits

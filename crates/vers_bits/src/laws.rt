@@ -1,6 +1,6 @@
 //! Laws over the definitions, which hold of every list of bits. Each function does nothing:
 //! its contract is the law, and its proof is checked with the crate.
-ghost use Rattle.vers_bits.specs.Laws.{EqualListsHashEqually, SplitListsJoin, LowBitsAreAsMany, LowBitsAreTheRest, BitsFollowFromNumber, PackedElementsAreItems, ZippedBitsAreCombined, MaskOfOrIsOr, MaskOfAndIsAnd, MaskOfXorIsXor, ZerosAndOnesAddUp, SelectFindsNumber, SelectOfCountIsNext, CountsGrow, CountsOfSpansAddUp, CountsAreFew, SelectPastLastIsLength, NoneUpToNeighbour, NoneDownToNeighbour};
+ghost use Rattle.vers_bits.specs.Laws.{EqualListsHashEqually, SplitListsJoin, LowBitsAreAsMany, LowBitsAreTheRest, LowBitsOfRest, LowBitsGoOn, BitsFollowFromNumber, PackedElementsAreItems, ZippedBitsAreCombined, MaskOfOrIsOr, MaskOfAndIsAnd, MaskOfXorIsXor, ZerosAndOnesAddUp, SelectFindsNumber, SelectOfCountIsNext, CountsGrow, CountsOfSpansAddUp, CountsAreFew, SelectPastLastIsLength, NoneUpToNeighbour, NoneDownToNeighbour};
 ghost use Rattle.vers_bits.specs.Walk.{PassesEachOnce, StaysEnded, NextIsNthOfZero, NextBackIsNthBackOfZero};
 
 /// Equal lists are fed to a hasher alike, so that they hash equally.
@@ -21,6 +21,17 @@ pub fn low_bits_are_as_many()
 /// The low `k` bits of a number make the number modulo `2 ^ k`.
 pub fn low_bits_are_the_rest()
     ensures { LowBitsAreTheRest }
+{}
+
+/// What a number has above its low `k` bits leaves these as they are.
+pub fn low_bits_leave_out_the_others()
+    ensures { LowBitsOfRest }
+{}
+
+/// The low `j + k` bits of a number are its low `j` bits, and then the low `k` bits of the number
+/// divided by `2 ^ j`.
+pub fn low_bits_go_on()
+    ensures { LowBitsGoOn }
 {}
 
 /// A list of bits follows from its number and its length.
