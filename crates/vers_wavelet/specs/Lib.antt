@@ -5,3 +5,4 @@ pub mod Levels
 pub mod Makers
 pub mod Laws
 pub mod Batches
+pub mod Found

@@ -4,6 +4,7 @@ ghost use Rattle.vers_wavelet.specs.Symbols.{Symbols, by_size, in_bits, ordered}
 ghost use Rattle.vers_wavelet.specs.Reads.{query_reads};
 
 use crate::wavelet::WaveletMatrix;
+use crate::wavelet::walk::Equals;
 use std::alloc::{AllocError, Allocator};
 use std::marker::{Model, PhantomData};
 use vers_bits::bit_vec::BitVec;
@@ -80,11 +81,14 @@ impl Order for BySize {
 }
 
 /// The symbols of a matrix as numbers, in the order `O`, which iterators read one by one. A symbol
-/// has at most 64 bits.
+/// has at most 64 bits. It keeps the symbol that was found last, with the places where it stands in a
+/// walk by size.
 #[derive(Drop)]
 pub struct SymbolNumbers<O: Order, M: Matrix> {
     matrix: M,
     order: PhantomData<O>,
+    found: u64,
+    places: Equals,
 }
 
 /// The symbols of a matrix as numbers, in their order.
@@ -96,12 +100,14 @@ pub type SortedNumbers<M> = SymbolNumbers<BySize, M>;
 impl<O: Order, M: Matrix> Model for SymbolNumbers<O, M> {
     ghost use Rattle.std.specs.Prelude.{◌≤◌};
     ghost use Rattle.vers_wavelet.specs.Symbols.{Symbols};
+    ghost use Rattle.vers_wavelet.specs.Found.{IsFoundAt};
 
     ghost Value = { Symbols };
 
     ghost view = { λ s. M.symbols s.matrix };
 
-    ghost invariant = { λ s. (M.symbols s.matrix).width ≤ 64 };
+    ghost invariant = { λ s. ((M.symbols s.matrix).width ≤ 64)
+        × IsFoundAt O.by_size (M.symbols s.matrix).items s.found s.places };
 }
 
 impl<O: Order, M: Matrix> SymbolNumbers<O, M> {
@@ -112,6 +118,8 @@ impl<O: Order, M: Matrix> SymbolNumbers<O, M> {
         SymbolNumbers {
             matrix,
             order: PhantomData,
+            found: 0,
+            places: Equals { from: 0, count: 0 },
         }
     }
 }
@@ -131,10 +139,13 @@ impl<O: Order, M: Matrix> Source for SymbolNumbers<O, M> {
 
     #[inline(always)]
     fn item_at(&mut self, i: usize, tally: &mut Tally) -> u64 {
+        if self.places.has(i) {
+            return self.found;
+        }
         let mut answer: u64 = 0;
-        self.matrix
-            .matrix()
-            .member(O::is_by_size(), i, &mut answer, tally);
+        let matrix = self.matrix.matrix();
+        self.places = matrix.member(O::is_by_size(), i, &mut answer, tally);
+        self.found = answer;
         answer
     }
 }

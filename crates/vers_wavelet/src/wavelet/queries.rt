@@ -8,7 +8,7 @@ ghost use Rattle.vers_wavelet.specs.Reads.{query_reads};
 
 use crate::wavelet::WaveletMatrix;
 use crate::wavelet::digits::{Digits, copy_digits};
-use crate::wavelet::walk::{climb, descend, find_kth, narrow, read_symbol};
+use crate::wavelet::walk::{Equals, climb, descend, find_kth, narrow, read_symbol};
 use std::alloc::{AllocError, Allocator};
 use vers_bits::bit_vec::BitVec;
 use vers_tally::tally::Tally;
@@ -103,7 +103,8 @@ impl<A: Allocator + Copy> WaveletMatrix<A> {
         read_symbol(&self.levels, self.len, place, answer, tally);
     }
 
-    // Writes member `i` of a range by size into a number that is 0.
+    // Writes member `i` of a range by size into a number that is 0, and answers which members are
+    // equal to it.
     #[inline(always)]
     pub(super) fn kth_in<D: Digits>(
         &self,
@@ -112,21 +113,23 @@ impl<A: Allocator + Copy> WaveletMatrix<A> {
         i: usize,
         answer: &mut D,
         tally: &mut Tally,
-    )
+    ) -> Equals
         requires order { start + i < end }
         requires within { end ≤ length self.now.items }
         requires zero { D.number answer.old ≡ 0 }
         requires wide { self.now.width ≤ D.width answer.old }
         ensures value { D.number answer.new
             ≡ slice_index (by_size (slice_range self.now.items start end)) i }
+        ensures equals { (j : ℕ) → j < result.count → D.number answer.new
+            ≡ slice_index (by_size (slice_range self.now.items start end)) (result.from + j) }
         ensures same { D.width answer.new ≡ D.width answer.old }
         ensures adds { AddsAtMost tally.old tally.new (times (2 * self.now.width) rank_reads) }
     {
-        find_kth(&self.levels, self.len, start, end, i, answer, tally);
+        find_kth(&self.levels, self.len, start, end, i, answer, tally)
     }
 
     // Writes into a number that is 0 member `i` of all symbols by size where that is asked, and else
-    // the symbol at place `i`.
+    // the symbol at place `i`; and answers which members are known to be equal to it.
     #[inline(always)]
     pub(super) fn member<D: Digits>(
         &self,
@@ -134,19 +137,21 @@ impl<A: Allocator + Copy> WaveletMatrix<A> {
         i: usize,
         answer: &mut D,
         tally: &mut Tally,
-    )
+    ) -> Equals
         requires within { i < length self.now.items }
         requires zero { D.number answer.old ≡ 0 }
         requires wide { self.now.width ≤ D.width answer.old }
         ensures value { D.number answer.new ≡ slice_index (ordered by_size self.now.items) i }
+        ensures equals { (j : ℕ) → j < result.count → D.number answer.new
+            ≡ slice_index (ordered by_size self.now.items) (result.from + j) }
         ensures same { D.width answer.new ≡ D.width answer.old }
         ensures adds { AddsAtMost tally.old tally.new (query_reads self.now) }
     {
         if by_size {
-            self.kth_in(0, self.len(), i, answer, tally);
-        } else {
-            self.read_at(i, answer, tally);
+            return self.kth_in(0, self.len(), i, answer, tally);
         }
+        self.read_at(i, answer, tally);
+        Equals { from: i, count: 0 }
     }
 
     // How many symbols of a range are below a symbol, and how many are it.
