@@ -42,7 +42,7 @@ TABLES = {
     "FastRmq.masks": "Vec<BlockMasks, A>", "WaveletMatrix.levels": "Vec<RsVec<A>, A>", "Words.numbers": "&'a [u64]",
     "Packed.bits": "&'a BitVec<A>", "Blocks.minima": "Vec<u64, A>", "Blocks.places": "Vec<u8, A>",
     "Blocks.masks": "Vec<BlockMasks, A>", "ByteTables.forward": "[u64; 256]", "ByteTables.backward": "[u64; 256]",
-    "ChunkWalk.offsets": "[u8; CHUNK]",
+    "ChunkWalk.offsets": "[u8; CHUNK]", "SliceNumbers.rest": "&'a [u64]", "Parts.high": "BitVec<A>", "Parts.low": "BitVec<A>",
 }
 # The calls that bodies have to make: public calls those of their kernels, and kernels those that make them kernels.
 CALLS = {

@@ -1,20 +1,22 @@
 -- How high and low parts are made.
-use Rattle.std.proofs.Common.{◌≡◌, ℕ, ◌+◌, ◌-◌, ◌*◌, ◌/◌, ◌^◌, ◌<◌, ◌≤◌, true, false, List, [], ◌∷◌, ◌++◌, length, take, refl, sym, ap, ◌∙◌, arith, inl, inr}
+use Rattle.std.proofs.Common.{◌≡◌, ◌==◌, ℕ, ◌+◌, ◌-◌, ◌*◌, ◌/◌, ◌^◌, ◌<◌, ◌≤◌, true, false, Bool, List, [], ◌∷◌, ◌++◌, length, take, drop, Option, Some, None, unwrap_or, refl, sym, ap, ◌∙◌, arith, inl, inr}
 use Rattle.std.proofs.Math.ListN.{set, replicate}
-use Rattle.std.proofs.Math.Nat.{mul-le-mul_left, mul_comm}
-use Rattle.std.specs.Prelude.{slice_index, map}
+use Rattle.std.proofs.Math.Nat.{mul-le-mul_left, mul_comm, zero-div}
+use Rattle.std.specs.Prelude.{slice_index, slice_get, map, if◌then◌else◌}
 use Rattle.std.specs.List.{range_with_len}
 use Rattle.std.specs.List.Sorted.{IsNonDecreasing}
 use Rattle.std.proofs.lemmas.Bool.{cases_lt}
-use Rattle.std.proofs.lemmas.List.{get_or_past, append-nil, map-append, take_all, take_more, length-map, length-take}
+use Rattle.std.proofs.lemmas.List.{get_or_past, append-nil, map-append, take_all, take_more, length-map, length-take, length-drop, drop-drop, get_or-drop}
+use Rattle.std.proofs.lemmas.Option.{slice_get-get_or, slice_get_past, get_or_from_slice_get}
 use Rattle.std.proofs.lemmas.List.FromFn.{map-range_with_len_more}
 use Rattle.std.proofs.lemmas.Grind.{flat_map-append}
 use Rattle.vers_bits.specs.Bits.{low_bits, pack}
+use Rattle.vers_bits.specs.Walk.{TakesFirst}
 use Rattle.vers_sorted.specs.Ones.{ones_at}
 use Rattle.vers_sorted.specs.Layout.{first_of, last_of, width, low_width, high_of, high_length, high_place, high_parts, low_parts}
 use Rattle.vers_sorted.specs.inside.Parts.{first_high_parts, first_low_parts}
 use Rattle.vers_sorted.proofs.Ones.{length-ones_at, ones_at_none, ones_at_more}
-use Rattle.vers_sorted.proofs.Split.{high_none, high_zeros, member_from}
+use Rattle.vers_sorted.proofs.Split.{high_zeros, member_from}
 use Rattle.vers_sorted.proofs.Holds.{place_within, length-pack}
 use Rattle.vers_sorted.proofs.Lengths.{high_fits}
 
@@ -32,9 +34,9 @@ first_last s up = elim (cases_lt 0 (length s)) [
   | inr none ↦ omega (arith, first_none s (omega arith))
 ]
 
-pub low_width_is : (s : List ℕ) (first last w : ℕ) → first ≡ first_of s → last ≡ last_of s → w ≡ width (length s) (last - first) → w ≡ low_width s
+pub low_width_is : (s : List ℕ) (first last n w : ℕ) → first ≡ first_of s → last ≡ last_of s → n ≡ length s → w ≡ width n (last - first) → w ≡ low_width s
 unfolding low_width
-low_width_is s first last w f l e = e ∙ ap (λ k. width (length s) (k - first)) l ∙ ap (λ k. width (length s) (last_of s - k)) f
+low_width_is s first last n w f l same e = e ∙ rw (same, l, f) refl
 
 -- the high part of a number as the code computes it
 pub high_part_is : (s : List ℕ) (v first width : ℕ) → first ≡ first_of s → width ≡ low_width s → (v - first) / 2 ^ width ≡ high_of s v
@@ -89,20 +91,85 @@ pub low_all : (s : List ℕ) → first_low_parts s (length s) ≡ low_parts s
 unfolding first_low_parts low_parts
 low_all s = ap (λ l. pack (map (λ m. m - first_of s) l) (low_width s)) (take_all (length s) s (omega arith))
 
-pub ruleset ends = (first_none, last_none, first_last)
+-- ---- numbers read in turn
+
+-- a number that was taken is that at its place
+pub taken_at : (s rest new : List ℕ) (i v : ℕ) → rest ≡ drop i s → TakesFirst rest (Some v) new → (i < length s) × (slice_index s i ≡ v) × (new ≡ drop (i + 1) s)
+taken_at s rest new i v here t =
+    let from : i + 0 ≡ i = omega arith in
+    let given : slice_get (drop i s) 0 ≡ Some v = sym (rw here at t.given) in
+    let left : new ≡ drop 1 (drop i s) = rw here at t.left in
+    elim (cases_lt i (length s)) [
+      | inl within ↦ (within, ap (slice_index s) (sym from) ∙ sym (get_or-drop i s 0 0) ∙ get_or_from_slice_get (drop i s) 0 v 0 given, left ∙ drop-drop 1 i s)
+      | inr past ↦ let none = slice_get_past (drop i s) 0 (omega (arith, length-drop i s)) in absurd (cc (given, none))
+    ]
+
+-- where none was, all were taken
+pub all_taken : (s rest new : List ℕ) (i : ℕ) → rest ≡ drop i s → i ≤ length s → TakesFirst rest None new → i ≡ length s
+all_taken s rest new i here within t =
+    let given : slice_get (drop i s) 0 ≡ None = sym (rw here at t.given) in
+    elim (cases_lt i (length s)) [
+      | inl less ↦ let some = slice_get-get_or (drop i s) 0 0 (omega (arith, length-drop i s)) in absurd (cc (given, some))
+      | inr past ↦ omega arith
+    ]
+
+-- the first, or 0
+pub first_taken : (s new : List ℕ) (taken : Option ℕ) → TakesFirst s taken new → unwrap_or taken 0 ≡ first_of s
+first_taken s new None t = sym (first_none s (sym (all_taken s s new 0 refl (omega arith) t)))
+first_taken s new (Some v) t = sym (taken_at s s new 0 v refl t).1
+
+pub ruleset ends = (first_none, last_none, first_last, first_taken)
+
+-- it isn't below the first, and its one stands among the high parts
+pub taken_above : (s rest new : List ℕ) (i v first : ℕ) → IsNonDecreasing s → first ≡ first_of s → rest ≡ drop i s → TakesFirst rest (Some v) new → first ≤ v
+taken_above s rest new i v first up f here t =
+    let at = taken_at s rest new i v here t in
+    omega (arith, member_from s i up at.0, at.1)
+
+pub one_place : (s rest new : List ℕ) (i v first width : ℕ) → IsNonDecreasing s → first ≡ first_of s → width ≡ low_width s → rest ≡ drop i s → TakesFirst rest (Some v) new
+    → ((v - first) / 2 ^ width + i + 1 ≡ high_place s i) × (high_place s i < high_length s)
+one_place s rest new i v first width up f w here t =
+    let at = taken_at s rest new i v here t in
+    let high : (v - first) / 2 ^ width ≡ high_of s (slice_index s i) = high_part_is s v first width f w ∙ ap (high_of s) (sym at.1) in
+    (ap (λ k. k + i + 1) high, place_within s up i at.0)
+
+-- the parts with those of one number more
+pub one_more : (s rest new : List ℕ) (high set_high : List Bool) (i v first width : ℕ) → IsNonDecreasing s → first ≡ first_of s → width ≡ low_width s → rest ≡ drop i s → TakesFirst rest (Some v) new
+    → high ≡ first_high_parts s i → set_high ≡ set high ((v - first) / 2 ^ width + i + 1) true → set_high ≡ first_high_parts s (i + 1)
+one_more s rest new high set_high i v first width up f w here t is put =
+    let at = taken_at s rest new i v here t in
+    put ∙ ap (λ p. set high p true) (one_place s rest new i v first width up f w here t).0
+    ∙ ap (λ l. set l (high_place s i) true) is ∙ high_next s i up at.0
+
+pub low_more : (s rest new : List ℕ) (low more_low : List Bool) (i v first width : ℕ) → first ≡ first_of s → width ≡ low_width s → rest ≡ drop i s → TakesFirst rest (Some v) new
+    → low ≡ first_low_parts s i → more_low ≡ low ++ low_bits (v - first) width → more_low ≡ first_low_parts s (i + 1)
+low_more s rest new low more_low i v first width f w here t is put =
+    let at = taken_at s rest new i v here t in
+    put ∙ ap (λ l. l ++ low_bits (v - first) width) is
+    ∙ ap (λ k. first_low_parts s i ++ low_bits (v - first) k) w
+    ∙ ap (λ k. first_low_parts s i ++ low_bits (v - k) (low_width s)) f
+    ∙ ap (λ k. first_low_parts s i ++ low_bits (k - first_of s) (low_width s)) (sym at.1)
+    ∙ low_next s i at.0
 
 -- ---- lengths
 
-pub high_some : (s : List ℕ) (v : ℕ) → 0 < length s → v ≡ high_of s (last_of s) → high_length s ≡ 2 + length s + v
-high_some s v some e = omega (arith, high_zeros s some)
+-- how many bits the high parts take
+pub high_len_is : (s : List ℕ) (n first last width bits : ℕ) → n ≡ length s → first ≡ first_of s → last ≡ last_of s → width ≡ low_width s
+    → bits ≡ (if n == 0 then 0 else 2 + n + (last - first) / 2 ^ width) → bits ≡ high_length s
+unfolding high_length
+high_len_is s n first last width bits same f l w is =
+    is ∙ ap (λ k. if k == 0 then 0 else 2 + k + (last - first) / 2 ^ width) same
+    ∙ ap (λ h. if length s == 0 then 0 else 2 + length s + h) (high_part_is s last first width f w ∙ ap (high_of s) l)
 
-pub high_sum_fits : (s : List ℕ) (first last width : ℕ) → first ≡ first_of s → last ≡ last_of s → width ≡ low_width s → 0 < length s → length s < 1152921504606846976
-    → 2 + length s + (last - first) / 2 ^ width ≤ 2305843009213693954
-high_sum_fits s first last width f l w some few =
-    omega (arith, high_some s ((last - first) / 2 ^ width) some (high_part_is s last first width f w ∙ ap (high_of s) l), high_fits s few)
-
-pub ruleset lengths = (high_none, high_some, high_part_is, high_sum_fits)
-
-pub ruleset highs = (first_last, high_start, high_next, high_all, length-first_high_parts, high_part_is, place_within, member_from)
-
-pub ruleset lows = (first_last, low_start, low_next, low_room, low_all, member_from)
+-- which are few even of no members
+pub high_sum_fits : (s : List ℕ) (n first last width : ℕ) → n ≡ length s → first ≡ first_of s → last ≡ last_of s → width ≡ low_width s → n < 1152921504606846976
+    → 2 + n + (last - first) / 2 ^ width ≤ 2305843009213693954
+high_sum_fits s n first last width same f l w few =
+    let high : (last - first) / 2 ^ width ≡ high_of s (last_of s) = high_part_is s last first width f w ∙ ap (high_of s) l in
+    elim (cases_lt 0 (length s)) [
+      | inl some ↦ omega (arith, high, high_zeros s some, high_fits s (omega arith))
+      | inr none ↦
+          let apart : last - first ≡ 0 = omega (arith, first_none s (omega arith), last_none s (omega arith)) in
+          let zero_high : (last - first) / 2 ^ width ≡ 0 = ap (λ k. k / 2 ^ width) apart ∙ zero-div (2 ^ width) in
+          omega (arith, zero_high)
+    ]

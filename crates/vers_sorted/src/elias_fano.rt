@@ -14,6 +14,7 @@ mod scan;
 mod search;
 
 pub use iter::{EliasFanoIter, EliasFanoRefIter};
+pub use make::{MAX_LEN, Numbers};
 use std::alloc::{AllocError, Allocator};
 use std::marker::Model;
 use vers_rank::fast_rs_vec::RsVec;

@@ -54,8 +54,17 @@ impl<A: Allocator + Copy> SparseRSVec<A> {
         ensures length { IfOk result (λ v. length v ≡ len) }
         ensures places { IfOk result (λ v. places true v ≡ ones.now) }
     {
-        let ones = EliasFanoVec::from_slice(alloc, ones)?;
-        Ok(SparseRSVec { ones, len })
+        Ok(SparseRSVec::from_sorted(EliasFanoVec::from_slice(alloc, ones)?, len))
+    }
+
+    /// The list of `len` bits whose ones stand at the members of a list.
+    pub fn from_sorted(ones: EliasFanoVec<A>, len: u64) -> Self
+        requires rising { IsStrictlyIncreasing ones }
+        requires within { All (λ place. place < len) ones }
+        ensures length { length result ≡ len }
+        ensures places { places true result ≡ ones }
+    {
+        SparseRSVec { ones, len }
     }
 
     /// The same bits as those of a list that keeps them all. `AllocError` only where a request for

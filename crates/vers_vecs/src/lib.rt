@@ -29,7 +29,9 @@ pub mod bit_vec {
 
 /// Ascending lists of numbers.
 pub mod elias_fano {
-    pub use vers_sorted::elias_fano::{EliasFanoIter, EliasFanoRefIter, EliasFanoVec};
+    pub use vers_sorted::elias_fano::{
+        EliasFanoIter, EliasFanoRefIter, EliasFanoVec, MAX_LEN, Numbers,
+    };
     pub use vers_sorted::order::is_ascending;
 }
 

@@ -1,14 +1,45 @@
-//! The maker of ascending lists.
-ghost use Rattle.std.specs.Prelude.{◌≡◌, ◌≢◌, ◌*◌, ◌<◌, ◌≤◌, length, IfOk};
+//! The makers of ascending lists.
+ghost use Rattle.std.specs.Prelude.{◌≡◌, ◌≢◌, ◌==◌, ◌+◌, ◌-◌, ◌/◌, ◌^◌, ◌<◌, ◌≤◌, ℕ, List, length, IfOk, if◌then◌else◌};
 ghost use Rattle.std.specs.List.Sorted.{IsNonDecreasing};
+ghost use Rattle.vers_bits.specs.Walk.{TakesFirst};
 ghost use Rattle.vers_tally.specs.Reads.{digits};
-ghost use Rattle.vers_sorted.specs.Layout.{clog, first_of, last_of, width, low_width, high_length, high_parts, low_parts};
+ghost use Rattle.vers_sorted.specs.Layout.{clog, first_of, last_of, width, low_width, high_parts, low_parts};
 
 use crate::elias_fano::EliasFanoVec;
 use std::alloc::{AllocError, Allocator};
-use vers_bits::bit_vec::{BitVec, GrowError, MAX_LEN};
+use vers_bits::bit_vec::{BitVec, GrowError, MAX_LEN as MOST_BITS};
 use vers_rank::fast_rs_vec::RsVec;
 use vers_tally::tally::CountedBits;
+
+/// The greatest length of a list. No slice of numbers is longer.
+pub const MAX_LEN: usize = 1152921504606846975;
+
+/// Numbers that are read in turn, and from a copy once more.
+pub trait Numbers: Copy {
+    // The numbers that are left.
+    ghost left: { Self → List ℕ };
+
+    /// The first of the numbers left, which is taken.
+    fn next(&mut self) -> Option<u64>
+        ensures { TakesFirst (left self.old) result (left self.new) };
+}
+
+// The numbers of a slice.
+#[derive(Clone, Copy, Drop)]
+struct SliceNumbers<'a> {
+    rest: &'a [u64],
+}
+
+impl Numbers for SliceNumbers<'_> {
+    ghost left = { λ numbers. numbers.rest.now };
+
+    #[inline]
+    fn next(&mut self) -> Option<u64> {
+        let (first, others) = self.rest.split_first()?;
+        self.rest = others;
+        Some(*first)
+    }
+}
 
 #[tactic(auto, using(crate::proofs::Packed::packed))]
 impl<A: Allocator + Copy> EliasFanoVec<A> {
@@ -17,15 +48,30 @@ impl<A: Allocator + Copy> EliasFanoVec<A> {
         requires { IsNonDecreasing numbers.now }
         ensures { IfOk result (λ v. v ≡ numbers.now) }
     {
-        let len = numbers.len();
+        let rest = SliceNumbers { rest: numbers };
+        EliasFanoVec::from_numbers(alloc, rest, numbers.len(), last_of(numbers))
+    }
+
+    /// The list of `len` ascending numbers that are read in turn, of which `last` is the last one, or 0
+    /// where there are none. `AllocError` only where a request for memory was refused.
+    pub fn from_numbers<N: Numbers>(
+        alloc: A,
+        numbers: N,
+        len: usize,
+        last: u64,
+    ) -> Result<Self, AllocError>
+        requires ascending { IsNonDecreasing (N.left numbers) }
+        requires len { len ≡ length (N.left numbers) }
+        requires last { last ≡ last_of (N.left numbers) }
+        requires few { len ≤ MAX_LEN }
+        ensures { IfOk result (λ v. v ≡ N.left numbers) }
+    {
         let first = first_of(numbers);
-        let last = last_of(numbers);
         let width = width_of(len, last - first);
-        let high = high_parts(alloc, numbers, first, last, width)?;
-        let low = low_parts(alloc, numbers, first, width)?;
+        let parts = parts_of(alloc, numbers, len, first, last, width)?;
         Ok(EliasFanoVec {
-            high: RsVec::from_bit_vec(high)?,
-            low: CountedBits::new(low),
+            high: RsVec::from_bit_vec(parts.high)?,
+            low: CountedBits::new(parts.low),
             first,
             last,
             width,
@@ -36,21 +82,18 @@ impl<A: Allocator + Copy> EliasFanoVec<A> {
 
 // The first number, or 0.
 #[tactic(auto, using(crate::proofs::Makes::ends))]
-fn first_of(numbers: &[u64]) -> u64
-    ensures { result ≡ first_of numbers.now }
+fn first_of<N: Numbers>(mut numbers: N) -> u64
+    requires { IsNonDecreasing (N.left numbers) }
+    ensures value { result ≡ first_of (N.left numbers) }
+    ensures below { first_of (N.left numbers) ≤ last_of (N.left numbers) }
 {
-    if numbers.is_empty() {
-        return 0;
-    }
-    numbers[0]
+    numbers.next().unwrap_or(0)
 }
 
 // The last number, or 0.
 #[tactic(auto, using(crate::proofs::Makes::ends))]
 fn last_of(numbers: &[u64]) -> u64
-    requires { IsNonDecreasing numbers.now }
-    ensures value { result ≡ last_of numbers.now }
-    ensures above { first_of numbers.now ≤ last_of numbers.now }
+    ensures { result ≡ last_of numbers.now }
 {
     if numbers.is_empty() {
         return 0;
@@ -84,21 +127,15 @@ fn digit_count(n: u128) -> usize
     (128 - n.leading_zeros()) as usize
 }
 
-// How many bits the high parts take.
-#[tactic(auto, using(crate::proofs::Makes::lengths))]
-fn high_length_of(numbers: &[u64], first: u64, last: u64, width: usize) -> usize
-    requires order { first ≤ last }
-    requires first { first ≡ first_of numbers.now }
-    requires last { last ≡ last_of numbers.now }
-    requires width { width ≡ low_width numbers.now }
-    requires narrow { width < 64 }
-    ensures value { result ≡ high_length numbers.now }
-    ensures fits { result ≤ MAX_LEN }
+// How many bits the high parts of `len` numbers take, where the last high part is `high`.
+fn high_length_of(len: usize, high: u64) -> usize
+    requires { 2 + len + high ≤ MOST_BITS }
+    ensures { result ≡ (if len == 0 then 0 else 2 + len + high) }
 {
-    if numbers.is_empty() {
+    if len == 0 {
         return 0;
     }
-    2 + numbers.len() + ((last - first) >> width) as usize
+    2 + len + high as usize
 }
 
 // The answer of a call on a list that is known to fit: it is refused only for memory.
@@ -113,50 +150,43 @@ fn known_to_fit<T>(answer: Result<T, GrowError>) -> Result<T, AllocError>
     }
 }
 
-// The high parts: a list of zeros in which the one of each number is set.
-#[tactic(auto, using(crate::proofs::Makes::highs))]
-fn high_parts<A: Allocator + Copy>(
+// High and low parts.
+#[derive(Drop)]
+struct Parts<A: Allocator + Copy> {
+    high: BitVec<A>,
+    low: BitVec<A>,
+}
+
+// The parts of ascending numbers: a list of zeros in which the one of each number is set, and the low parts
+// one after another.
+fn parts_of<A: Allocator + Copy, N: Numbers>(
     alloc: A,
-    numbers: &[u64],
+    mut numbers: N,
+    len: usize,
     first: u64,
     last: u64,
     width: usize,
-) -> Result<BitVec<A>, AllocError>
-    requires ascending { IsNonDecreasing numbers.now }
-    requires first { first ≡ first_of numbers.now }
-    requires last { last ≡ last_of numbers.now }
-    requires width { width ≡ low_width numbers.now }
+) -> Result<Parts<A>, AllocError>
+    requires ascending { IsNonDecreasing (N.left numbers) }
+    requires len { len ≡ length (N.left numbers) }
+    requires first { first ≡ first_of (N.left numbers) }
+    requires last { last ≡ last_of (N.left numbers) }
+    requires width { width ≡ low_width (N.left numbers) }
     requires narrow { width < 64 }
-    ensures { IfOk result (λ v. v ≡ high_parts numbers.now) }
+    requires few { len ≤ MAX_LEN }
+    ensures high { IfOk result (λ parts. parts.high ≡ high_parts (N.left numbers)) }
+    ensures low { IfOk result (λ parts. parts.low ≡ low_parts (N.left numbers)) }
 {
-    let len = high_length_of(numbers, first, last, width);
-    let mut high = known_to_fit(BitVec::from_zeros(alloc, len))?;
-    for i in 0..numbers.len() {
+    let high_len = high_length_of(len, (last - first) >> width);
+    let mut high = known_to_fit(BitVec::from_zeros(alloc, high_len))?;
+    let mut low = known_to_fit(BitVec::with_capacity(alloc, len * width))?;
+    let mut i = 0usize;
+    while let Some(number) = numbers.next() {
         let _ = high.len();
-        let place = ((numbers[i] - first) >> width) as usize + i + 1;
-        high.set_unchecked(place, 1);
+        let above = number - first;
+        high.set_unchecked((above >> width) as usize + i + 1, 1);
+        known_to_fit(low.append_bits(above, width))?;
+        i += 1;
     }
-    Ok(high)
-}
-
-// The low parts, one after another.
-#[tactic(auto, using(crate::proofs::Makes::lows))]
-fn low_parts<A: Allocator + Copy>(
-    alloc: A,
-    numbers: &[u64],
-    first: u64,
-    width: usize,
-) -> Result<BitVec<A>, AllocError>
-    requires ascending { IsNonDecreasing numbers.now }
-    requires first { first ≡ first_of numbers.now }
-    requires width { width ≡ low_width numbers.now }
-    requires narrow { width < 64 }
-    requires fits { length numbers.now * width ≤ MAX_LEN }
-    ensures { IfOk result (λ v. v ≡ low_parts numbers.now) }
-{
-    let mut low = known_to_fit(BitVec::with_capacity(alloc, numbers.len() * width))?;
-    for i in 0..numbers.len() {
-        known_to_fit(low.append_bits(numbers[i] - first, width))?;
-    }
-    Ok(low)
+    Ok(Parts { high, low })
 }

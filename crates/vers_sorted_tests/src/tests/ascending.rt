@@ -1,5 +1,5 @@
 //! The queries of ascending lists.
-use crate::tests::lists::{Query, answer, counted_answer, list_of, with_equal};
+use crate::tests::lists::{Query, answer, counted_answer, list_in_turn, list_of, with_equal};
 use std::alloc::{AllocError, Allocator};
 use test_alloc::asked;
 use vers_sorted::elias_fano::EliasFanoVec;
@@ -115,6 +115,19 @@ fn first_wrong_answer<A: Allocator + Copy>(
     None
 }
 
+// The same of a list made of the numbers in turn; as many as there are rows where there is none.
+fn first_wrong_in_turn<A: Allocator + Copy>(
+    alloc: A,
+    numbers: &[u64],
+    rows: &[(Query, Option<u64>)],
+) -> Option<usize> {
+    asked(
+        list_in_turn(alloc, numbers),
+        |list| first_wrong_answer(list, rows),
+    )
+    .unwrap_or(Some(rows.len()))
+}
+
 // The same of a copy; as many as there are rows where there is none.
 fn first_wrong_of_copy<A: Allocator + Copy>(
     list: &EliasFanoVec<A>,
@@ -128,7 +141,7 @@ fn first_wrong_of_copy<A: Allocator + Copy>(
     .unwrap_or(Some(rows.len()))
 }
 
-// The first case that is answered wrong, by a list or by its copy, and its row.
+// The first case that is answered wrong, by a list, by its copy or by one made of the numbers in turn, and its row.
 fn first_wrong_case<A: Allocator + Copy>(
     alloc: A,
     cases: &[Case],
@@ -138,7 +151,7 @@ fn first_wrong_case<A: Allocator + Copy>(
             list_of(alloc, numbers),
             |list| first_wrong_answer(list, rows).or(first_wrong_of_copy(list, rows)),
         )?;
-        if let Some(row) = wrong {
+        if let Some(row) = wrong.or(first_wrong_in_turn(alloc, numbers, rows)) {
             return Ok(Some((case, row)));
         }
     }

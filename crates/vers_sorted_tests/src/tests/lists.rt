@@ -1,6 +1,6 @@
 //! Ascending lists, and what is asked of them.
 use std::alloc::{AllocError, Allocator};
-use vers_sorted::elias_fano::EliasFanoVec;
+use vers_sorted::elias_fano::{EliasFanoVec, Numbers};
 use vers_sorted::order::is_ascending;
 use vers_tally::tally::Tally;
 
@@ -13,6 +13,34 @@ pub fn list_of<A: Allocator + Copy>(
         return EliasFanoVec::from_slice(alloc, numbers);
     }
     EliasFanoVec::from_slice(alloc, &[])
+}
+
+/// The same by the maker that reads the numbers in turn.
+pub fn list_in_turn<A: Allocator + Copy>(
+    alloc: A,
+    numbers: &[u64],
+) -> Result<EliasFanoVec<A>, AllocError> {
+    if numbers.is_empty() || !is_ascending(numbers) {
+        return EliasFanoVec::from_numbers(alloc, InTurn { rest: &[] }, 0, 0);
+    }
+    let last = numbers[numbers.len() - 1];
+    EliasFanoVec::from_numbers(alloc, InTurn { rest: numbers }, numbers.len(), last)
+}
+
+// Numbers, the first of which is taken next.
+#[derive(Clone, Copy, Drop)]
+struct InTurn<'a> {
+    rest: &'a [u64],
+}
+
+impl Numbers for InTurn<'_> {
+    ghost left = { λ numbers. numbers.rest.now };
+
+    fn next(&mut self) -> Option<u64> {
+        let (first, others) = self.rest.split_first()?;
+        self.rest = others;
+        Some(*first)
+    }
 }
 
 /// `few`, then `n` times `equal`, then `last`.

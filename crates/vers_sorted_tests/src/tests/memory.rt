@@ -1,7 +1,7 @@
 //! Every call that takes memory, each of its requests refused in turn, and the calls that take none, of
 //! lists of every length.
 use crate::tests::bits::{Query as BitQuery, answer as bit_answer, bits_of, counted};
-use crate::tests::lists::{Query, answer, counted_answer, list_of};
+use crate::tests::lists::{Query, answer, counted_answer, list_in_turn, list_of};
 use crate::tests::walks::{Step, end, follows, plain_answer, sum_by_mut, sum_by_reference};
 use std::alloc::{AllocError, Allocator, Global};
 use test_alloc::{
@@ -155,11 +155,12 @@ const STEPS_AND_ENDS: [Step; 7] = [
     Step::Next,
 ];
 
-// The members of a list, and where it takes its memory.
+// The members of a list, where it takes its memory, and whether it is made of numbers that are read in turn.
 #[derive(Clone, Copy, Drop)]
 struct Members<'a, 'b> {
     heap: &'a Heap,
     numbers: &'b [u64],
+    in_turn: bool,
 }
 
 impl<A: Allocator + Copy> Check<EliasFanoVec<A>> for Members<'_, '_> {
@@ -188,6 +189,9 @@ impl<'a> Making for Members<'a, '_> {
     }
 
     fn make(&self) -> Result<EliasFanoVec<&'a Heap>, AllocError> {
+        if self.in_turn {
+            return list_in_turn(self.heap, self.numbers);
+        }
         list_of(self.heap, self.numbers)
     }
 
@@ -211,6 +215,7 @@ impl<A: Allocator + Copy> Walked for EliasFanoVec<A> {
 #[derive(Clone, Copy, Drop)]
 enum Call {
     FromSlice,
+    FromNumbers,
     Clone,
     CloneWalk,
     New,
@@ -223,8 +228,9 @@ enum Call {
     SparseQueries,
 }
 
-const CALLS: [Call; 14] = [
+const CALLS: [Call; 15] = [
     Call::FromSlice,
+    Call::FromNumbers,
     Call::Clone,
     Call::CloneWalk,
     Call::New,
@@ -301,8 +307,12 @@ where
 }
 
 fn tried_list(heap: &Heap, call: Call, numbers: &[u64]) -> Ending {
-    let members = Members { heap, numbers };
-    if matches!(call, Call::FromSlice) {
+    let members = Members {
+        heap,
+        numbers,
+        in_turn: matches!(call, Call::FromNumbers),
+    };
+    if matches!(call, Call::FromSlice | Call::FromNumbers) {
         return try_making(heap, &members);
     }
     tried_made(heap, list_of(heap, numbers), call, &members, numbers)

@@ -1,6 +1,0 @@
-use Rattle.std.proofs.Common.{◌≡◌}
-use Rattle.vers_sorted.specs.inside.Parts.{first_high_parts}
-use Rattle.vers_sorted.proofs.elias_fano.make.high_parts.Given as goal
-
-abbrev pub invariant-loop-i : goal.invariant-loop-i
-invariant-loop-i g l = l.high ≡ first_high_parts l.numbers l.i

@@ -1,0 +1,101 @@
+use Rattle.std.proofs.Common.{◌≡◌, ◌*◌, refl, length, ap, ◌∙◌, arith}
+use Rattle.vers_sorted.specs.Layout.{low_width}
+use Rattle.vers_sorted.specs.inside.Parts.{first_high_parts, first_low_parts}
+use Rattle.vers_sorted.proofs.Lengths.{high_fits, low_fits}
+use Rattle.vers_sorted.proofs.Makes.{taken_at, all_taken, taken_above, one_place, one_more, low_more, high_len_is, high_sum_fits, high_start, high_all, length-first_high_parts, low_start, low_room, low_all}
+use Rattle.vers_sorted.proofs.elias_fano.make.parts_of.Goals as goal
+
+pub high_length_of-high_len-requires : goal.high_length_of-high_len-requires
+high_length_of-high_len-requires g c =
+    omega (arith, high_sum_fits (g.N.Numbers.left c.args.numbers) c.args.len c.args.first c.args.last c.args.width c.requires.len c.requires.first c.requires.last c.requires.width (omega arith))
+
+pub known_to_fit-requires : goal.known_to_fit-requires
+known_to_fit-requires g c =
+    λ e.
+    let s = g.N.Numbers.left c.args.numbers in
+    let high = high_len_is s c.args.len c.args.first c.args.last c.args.width _ c.requires.len c.requires.first c.requires.last c.requires.width c.high_length_of-high_len.ensures in
+    let long = c.from_zeros.ensures.too_long.0 e in
+    omega (arith, high, high_fits s (omega (arith, c.requires.len)), long)
+
+pub overflow_mul-len : goal.overflow_mul-len
+overflow_mul-len g c =
+    let s = g.N.Numbers.left c.args.numbers in
+    let low : c.args.len * c.args.width ≡ length s * low_width s = rw (c.requires.len, c.requires.width) refl in
+    record { fits = omega (arith, low, low_fits s (omega (arith, c.requires.len)) (omega (arith, c.requires.last))) }
+
+pub known_to_fit-requires-2 : goal.known_to_fit-requires-2
+known_to_fit-requires-2 g c =
+    λ e.
+    let s = g.N.Numbers.left c.args.numbers in
+    let low : c.args.len * c.args.width ≡ length s * low_width s = rw (c.requires.len, c.requires.width) refl in
+    let long = c.with_capacity.ensures.too_long.0 e in
+    omega (arith, low, low_fits s (omega (arith, c.requires.len)) (omega (arith, c.requires.last)), long)
+
+pub loop-number-init : goal.loop-number-init
+loop-number-init g c =
+    let s = g.N.Numbers.left c.args.numbers in
+    record {
+      left = refl;
+      within = omega arith;
+      high = (rw c.in_ok-high.ensures at c.from_zeros.ensures.made)
+          ∙ high_start s _ (high_len_is s c.args.len c.args.first c.args.last c.args.width _ c.requires.len c.requires.first c.requires.last c.requires.width c.high_length_of-high_len.ensures);
+      low = (rw c.in_ok-low.ensures at c.with_capacity.ensures.made) ∙ low_start s;
+    }
+
+pub overflow_sub-above : goal.overflow_sub-above
+overflow_sub-above g c =
+    taken_above (g.N.Numbers.left c.args.numbers) _ _ c.loop-number.i c.in-Some.number c.args.first c.requires.ascending c.requires.first c.loop-number.invariant.left c.in-Some.ensures
+
+pub overflow_add-above : goal.overflow_add-above
+overflow_add-above g c =
+    let s = g.N.Numbers.left c.args.numbers in
+    let place = one_place s _ _ c.loop-number.i c.in-Some.number c.args.first c.args.width c.requires.ascending c.requires.first c.requires.width c.loop-number.invariant.left c.in-Some.ensures in
+    record { fits = omega (arith, place.0, place.1, high_fits s (omega (arith, c.requires.len))) }
+
+pub overflow_add-above-in-Some : goal.overflow_add-above-in-Some
+overflow_add-above-in-Some g c =
+    let s = g.N.Numbers.left c.args.numbers in
+    let place = one_place s _ _ c.loop-number.i c.in-Some.number c.args.first c.args.width c.requires.ascending c.requires.first c.requires.width c.loop-number.invariant.left c.in-Some.ensures in
+    record { fits = omega (arith, place.0, place.1, high_fits s (omega (arith, c.requires.len))) }
+
+pub set_unchecked-requires : goal.set_unchecked-requires
+set_unchecked-requires g c =
+    let s = g.N.Numbers.left c.args.numbers in
+    let place = one_place s _ _ c.loop-number.i c.in-Some.number c.args.first c.args.width c.requires.ascending c.requires.first c.requires.width c.loop-number.invariant.left c.in-Some.ensures in
+    let total = ap length c.loop-number.invariant.high ∙ length-first_high_parts s c.loop-number.i in
+    omega (arith, place.0, place.1, total)
+
+pub known_to_fit-requires-in-Some : goal.known_to_fit-requires-in-Some
+known_to_fit-requires-in-Some g c =
+    λ e.
+    let s = g.N.Numbers.left c.args.numbers in
+    let at = taken_at s _ _ c.loop-number.i c.in-Some.number c.loop-number.invariant.left c.in-Some.ensures in
+    let long = c.append_bits.ensures.too_long.0 e in
+    let here = ap length c.loop-number.invariant.low in
+    let all : length s * c.args.width ≡ length s * low_width s = ap (λ k. length s * k) c.requires.width in
+    omega (arith, here, low_room s c.loop-number.i c.args.width c.requires.width at.0, all, low_fits s (omega (arith, c.requires.len)) (omega (arith, c.requires.last)), long)
+
+pub loop-number-preserved : goal.loop-number-preserved
+loop-number-preserved g c =
+    let s = g.N.Numbers.left c.args.numbers in
+    let at = taken_at s _ _ c.loop-number.i c.in-Some.number c.loop-number.invariant.left c.in-Some.ensures in
+    record {
+      left = at.2;
+      within = omega (arith, at.0);
+      high = one_more s _ _ c.loop-number.high _ c.loop-number.i c.in-Some.number c.args.first c.args.width c.requires.ascending c.requires.first c.requires.width
+          c.loop-number.invariant.left c.in-Some.ensures c.loop-number.invariant.high c.set_unchecked.ensures;
+      low = low_more s _ _ c.loop-number.low _ c.loop-number.i c.in-Some.number c.args.first c.args.width c.requires.first c.requires.width
+          c.loop-number.invariant.left c.in-Some.ensures c.loop-number.invariant.low (rw c.in_ok-known_to_fit.ensures at c.append_bits.ensures.grown);
+    }
+
+pub returns-clause-high : goal.returns-clause-high
+returns-clause-high g c =
+    let s = g.N.Numbers.left c.args.numbers in
+    let all = all_taken s _ _ c.loop-number.i c.loop-number.invariant.left c.loop-number.invariant.within c.in_default.ensures in
+    c.loop-number.invariant.high ∙ ap (first_high_parts s) all ∙ high_all s
+
+pub returns-clause-low : goal.returns-clause-low
+returns-clause-low g c =
+    let s = g.N.Numbers.left c.args.numbers in
+    let all = all_taken s _ _ c.loop-number.i c.loop-number.invariant.left c.loop-number.invariant.within c.in_default.ensures in
+    c.loop-number.invariant.low ∙ ap (first_low_parts s) all ∙ low_all s
