@@ -1,10 +1,9 @@
 -- Documents with their costs, as the numbers of a line write them.
 use Rattle.std.proofs.Common.{◌≡◌, ℕ, ◌≤◌, Bool, true, false, List, [], ◌∷◌, ◌++◌, length, append_assoc, Option, Some, None, unwrap_or, refl, ap, arith}
-use Rattle.std.specs.Prelude.{nat_lt, option_map, IfSome, if◌then◌else◌}
+use Rattle.std.specs.Prelude.{nat_lt, option_map, if◌then◌else◌}
 use Rattle.std.specs.Option.{option_and_then, is_some}
 use Rattle.std.proofs.lemmas.Option.{same_Some}
-use Rattle.std.proofs.lemmas.Bool.{and_parts, le-leb}
-use Rattle.std.proofs.lemmas.Bool.Decides.{nat_tests}
+use Rattle.std.proofs.lemmas.Bool.{le-leb}
 use Rattle.std.specs.List.Sorted.{IsStrictlyIncreasing}
 use Rattle.vers_rmq.specs.declared.rmq.fast_rmq.TheConstants.{MAX_LEN}
 use Rattle.vers_sorted.proofs.PublicLaws.{each_next-rising}
@@ -15,9 +14,8 @@ use Rattle.postings.specs.declared.fault.PostingsError.TheVariants.{NotAscending
 use Rattle.vers_sorted.specs.Sorted.{each_next}
 use Rattle.vers_words.specs.Reply.{Numbers, Refused}
 use Rattle.vers_cli.specs.Holding.{is_accepted}
-use Rattle.vers_cli.specs.SortedLines.{rises_to}
-use Rattle.vers_cli.specs.PostingsLines.{posted_first, posted_of, posted_loaded, postings_loaded, are_admitted, if_admitted, shared_reply}
-use Rattle.vers_cli.proofs.Rises.{end_of, these_rise, each_next-weaker}
+use Rattle.vers_cli.specs.PostingsLines.{posted_first, posted_of, postings_loaded, are_admitted, if_admitted, shared_reply}
+use Rattle.vers_cli.proofs.Rises.{rise_after, rise}
 
 -- documents with their costs, and then others
 abbrev pub posted_then : List ℕ → List ℕ → Option Posted → Option Posted
@@ -41,6 +39,11 @@ pub documents_in-first : (d c : ℕ) (others : Option Posted) → documents_in (
 documents_in-first d c None = refl
 documents_in-first d c (Some more) = refl
 
+-- where no words are left there are none
+pub none_left : (nothing : Option (Unit {0})) → is_some nothing ≡ true → documents_in (option_map (λ _. record { documents = []; costs = [] }) nothing) ≡ Some []
+none_left None some = cc
+none_left (Some nothing) some = refl
+
 -- there are no more than numbers
 few_first : (d c : ℕ) (more : List ℕ) (others : Option Posted) (posted : Posted) → ((p : Posted) → others ≡ Some p → length p.documents ≤ length more)
     → option_map (posted_first d c) others ≡ Some posted → length posted.documents ≤ length (d ∷ c ∷ more)
@@ -54,29 +57,21 @@ few_documents [] posted h = rw (← ap (λ (o : Option Posted). length (unwrap_o
 few_documents (d ∷ []) posted h = cc
 few_documents (d ∷ c ∷ more) posted h = few_first d c more (posted_of more) posted (few_documents more) h
 
--- documents of which it is told what may come next
-pub documents_rise : (end : ℕ) (found : Option Posted) → end_of 1 0 (documents_in found) ≡ Some end
-    → (posted : Posted) × (found ≡ Some posted) × (rises_to 1 end posted.documents ≡ true)
+-- documents of which it is told how they ascend
+pub documents_rise : (end : ℕ × ℕ) (found : Option Posted) → rise_after nat_lt 0 0 (documents_in found) ≡ Some end
+    → (posted : Posted) × (found ≡ Some posted) × (each_next nat_lt posted.documents ≡ true)
 documents_rise end None h = cc
-documents_rise end (Some posted) h = (posted, refl, these_rise 1 end posted.documents h)
+documents_rise end (Some posted) h = (posted, refl, (rise nat_lt posted.documents end h).0)
 
--- these are accepted where they are not too many
-pub documents_accepted : (end : ℕ) (posted : Posted) → length posted.documents ≤ MAX_LEN → rises_to 1 end posted.documents ≡ true
-    → is_accepted (posted_loaded (Some posted)) ≡ true
-documents_accepted end posted few h =
-    let p = and_parts _ _ h in
-    rw (each_next-weaker _ nat_lt (λ n next below. grind (arith, nat_tests)) posted.documents p.0, le-leb (length posted.documents) MAX_LEN few) refl
-
--- so is a line of so many numbers
-pub postings_accepted : (found : Option (List ℕ)) (count : ℕ) (told : Option ℕ) → option_map length found ≡ Some count → count ≤ MAX_LEN
-    → IfSome told (λ end. (posted : Posted) × (option_and_then posted_of found ≡ Some posted) × (rises_to 1 end posted.documents ≡ true))
-    → is_some told ≡ true → is_accepted (postings_loaded found) ≡ true
-postings_accepted None count told many few rise some = cc
-postings_accepted (Some numbers) count None many few rise some = cc
-postings_accepted (Some numbers) count (Some end) many few rise some =
+-- a line of so many numbers is accepted
+pub postings_accepted : (found : Option (List ℕ)) (count : ℕ) → option_map length found ≡ Some count → count ≤ MAX_LEN
+    → ((posted : Posted) × (option_and_then posted_of found ≡ Some posted) × (each_next nat_lt posted.documents ≡ true))
+    → is_accepted (postings_loaded found) ≡ true
+postings_accepted None count many few rise = cc
+postings_accepted (Some numbers) count many few rise =
     let fewer = few_documents numbers rise.0 rise.1 in
     let all : length numbers ≡ count = same_Some (length numbers) count many in
-    rw rise.1 (documents_accepted end rise.0 (omega arith) rise.2)
+    rw (rise.1, rise.2, le-leb (length rise.0.documents) MAX_LEN (omega arith)) refl
 
 -- documents that ascend strictly and are not too many are admitted
 pub is_admitted : (posted : Posted) → IsStrictlyIncreasing posted.documents → length posted.documents ≤ MAX_LEN → Some posted ≡ if_admitted posted

@@ -1,79 +1,139 @@
--- Numbers that rise, read from the front.
-use Rattle.std.proofs.Common.{◌≡◌, ◌≤◌, ◌+◌, ℕ, Bool, true, false, List, [], ◌∷◌, Option, Some, None, refl, arith}
-use Rattle.std.specs.Prelude.{nat_le, option_map, option_and_then, nat_lt, if◌then◌else◌}
+-- Numbers that ascend, read from the front.
+use Rattle.std.proofs.Common.{◌≡◌, ◌==◌, ◌<◌, ◌+◌, ◌-◌, ℕ, Bool, true, false, List, [], ◌∷◌, length, get_or, Option, Some, None, refl, sym, ap, ◌∙◌, arith}
+use Rattle.std.specs.Prelude.{◌||◌, ◌&&◌, All, nat_le, nat_lt, option_map, option_and_then, if◌then◌else◌}
 use Rattle.std.specs.List.{list_all}
-use Rattle.std.proofs.lemmas.Bool.{and_parts, le-leb}
+use Rattle.std.proofs.lemmas.Bool.{ne_eqb, and_parts, ltb-true}
 use Rattle.std.proofs.lemmas.Bool.Decides.{nat_tests}
+use Rattle.std.proofs.lemmas.List.Sums.{AllPass-from_list_all}
+use Rattle.std.proofs.lemmas.Option.{same_Some}
+use Rattle.vers_sorted.specs.Layout.{last_of}
 use Rattle.vers_sorted.specs.Sorted.{each_next}
+use Rattle.vers_words.specs.Text.{number_of}
+use Rattle.vers_words.specs.Arguments.{all_numbers}
 use Rattle.vers_cli.specs.Holding.{is_accepted}
-use Rattle.vers_cli.specs.SortedLines.{rises_to}
+use Rattle.vers_cli.specs.SortedLines.{first_numbers, first_then}
 use Rattle.vers_cli.specs.SparseLines.{sparse_loaded}
 
--- what may come next after numbers that rise by at least `gap` from `least` on
-abbrev pub end_from : ℕ → ℕ → List ℕ → Option ℕ
-end_from gap least [] = Some least
-end_from gap least (n ∷ more) = if nat_le least n then end_from gap (n + gap) more else None
+-- numbers after others of which the last is `last`: how many they are with those before them, and the last of all; None where they don't ascend
+abbrev pub rise_from : (ℕ → ℕ → Bool) → ℕ → ℕ → List ℕ → Option (ℕ × ℕ)
+rise_from order len last [] = Some (len, last)
+rise_from order len last (n ∷ more) = if (len == 0) || order last n then rise_from order (len + 1) n more else None
 
 -- the same of numbers that may not be there
-abbrev pub end_of : ℕ → ℕ → Option (List ℕ) → Option ℕ
-end_of gap least found = option_and_then (end_from gap least) found
+abbrev pub rise_after : (ℕ → ℕ → Bool) → ℕ → ℕ → Option (List ℕ) → Option (ℕ × ℕ)
+rise_after order len last found = option_and_then (rise_from order len last) found
 
-pub end_of-first : (gap least n : ℕ) (others : Option (List ℕ)) → nat_le least n ≡ true
-    → end_of gap least (option_map (λ more. n ∷ more) others) ≡ end_of gap (n + gap) others
-end_of-first gap least n None h = refl
-end_of-first gap least n (Some more) h = rw h refl
+pub rise_after-more : (order : ℕ → ℕ → Bool) (len last n : ℕ) (others : Option (List ℕ)) → ((len == 0) || order last n) ≡ true
+    → rise_after order len last (option_map (λ more. n ∷ more) others) ≡ rise_after order (len + 1) n others
+rise_after-more order len last n None h = refl
+rise_after-more order len last n (Some more) h = rw h refl
 
-if_some : (b : Bool) (x : Option ℕ) (v : ℕ) → (if b then x else None) ≡ Some v → (b ≡ true) × (x ≡ Some v)
+pub rise_after-none : (order : ℕ → ℕ → Bool) (len last n : ℕ) (others : Option (List ℕ)) → ((len == 0) || order last n) ≡ false
+    → rise_after order len last (option_map (λ more. n ∷ more) others) ≡ None
+rise_after-none order len last n None h = refl
+rise_after-none order len last n (Some more) h = rw h refl
+
+if_some : {X : Type 0} (b : Bool) (x : Option X) (v : X) → (if b then x else None) ≡ Some v → (b ≡ true) × (x ≡ Some v)
 if_some true x v h = (refl, h)
 if_some false x v h = cc
 
-Rises : ℕ → ℕ → ℕ → List ℕ → Type 0
-Rises gap least end numbers = (least ≤ end) × (each_next (λ n next. nat_le (n + gap) next) numbers ≡ true) × (list_all (λ n. nat_le (n + gap) end) numbers ≡ true)
+-- after a first number
+more_rise : (order : ℕ → ℕ → Bool) (len last : ℕ) (numbers : List ℕ) (end : ℕ × ℕ) → 0 < len → rise_from order len last numbers ≡ Some end
+    → (each_next order (last ∷ numbers) ≡ true) × (end.0 ≡ len + length numbers) × (end.1 ≡ get_or (last ∷ numbers) (length numbers) 0)
+more_rise order len last [] end some h =
+    let e = same_Some (len, last) end h in
+    (refl, rw (← e) (omega arith), rw (← e) refl)
+more_rise order len last (n ∷ more) end some h =
+    let counted : (len == 0) ≡ false = ne_eqb len 0 (λ e. omega arith) in
+    let p = if_some (order last n) (rise_from order (len + 1) n more) end (rw counted at h) in
+    let r = more_rise order (len + 1) n more end (omega arith) p.1 in
+    (rw (p.0, r.0) refl, omega (arith, r.1), r.2)
 
-rises-from : (gap least end : ℕ) (numbers : List ℕ) → end_from gap least numbers ≡ Some end → Rises gap least end numbers
-unfolding Rises
-rises-from gap least end [] h = (grind arith, refl, refl)
-rises-from gap least end (n ∷ []) h =
-    let p = if_some (nat_le least n) _ end h in
-    let r = rises-from gap (n + gap) end [] p.1 in
-    (grind (arith, nat_tests), refl, rw (le-leb (n + gap) end r.0) refl)
-rises-from gap least end (n ∷ next ∷ more) h =
-    let p = if_some (nat_le least n) _ end h in
-    let r = rises-from gap (n + gap) end (next ∷ more) p.1 in
-    let q = if_some (nat_le (n + gap) next) _ end p.1 in
-    (grind (arith, nat_tests), rw (q.0, r.1) refl, rw (le-leb (n + gap) end r.0, r.2) refl)
+pub rise : (order : ℕ → ℕ → Bool) (numbers : List ℕ) (end : ℕ × ℕ) → rise_from order 0 0 numbers ≡ Some end
+    → (each_next order numbers ≡ true) × (end.0 ≡ length numbers) × (end.1 ≡ last_of numbers)
+rise order [] end h =
+    let e = same_Some (0, 0) end h in
+    (refl, rw (← e) refl, rw (← e) refl)
+rise order (n ∷ more) end h =
+    let r = more_rise order 1 n more end (omega arith) h in
+    let at : length (n ∷ more) - 1 ≡ length more = omega arith in
+    (r.0, omega (arith, r.1), r.2 ∙ ap (λ k. get_or (n ∷ more) k 0) (sym at))
 
--- numbers of which it is told what may come next
-pub these_rise : (gap end : ℕ) (numbers : List ℕ) → end_from gap 0 numbers ≡ Some end → rises_to gap end numbers ≡ true
-unfolding Rises
-these_rise gap end numbers h = let r = rises-from gap 0 end numbers h in rw (r.1, r.2) refl
+more_fall : (order : ℕ → ℕ → Bool) (len last : ℕ) (numbers : List ℕ) → 0 < len → rise_from order len last numbers ≡ None → each_next order (last ∷ numbers) ≡ false
+more_fall order len last [] some h = cc
+more_fall order len last (n ∷ more) some h =
+    let counted : (len == 0) ≡ false = ne_eqb len 0 (λ e. omega arith) in
+    let k : (if order last n then rise_from order (len + 1) n more else None) ≡ None = rw counted at h in
+    elim (order last n) as (λ b. (if b then rise_from order (len + 1) n more else None) ≡ None → (b && each_next order (n ∷ more)) ≡ false) [
+      | true ↦ λ e. more_fall order (len + 1) n more (omega arith) e
+      | false ↦ λ e. refl
+    ] k
 
-pub rises : (gap end : ℕ) (found : Option (List ℕ)) → end_of gap 0 found ≡ Some end
-    → (numbers : List ℕ) × (found ≡ Some numbers) × (rises_to gap end numbers ≡ true)
-rises gap end None h = cc
-rises gap end (Some numbers) h = (numbers, refl, these_rise gap end numbers h)
+fall : (order : ℕ → ℕ → Bool) (numbers : List ℕ) → rise_from order 0 0 numbers ≡ None → each_next order numbers ≡ false
+fall order [] h = cc
+fall order (n ∷ more) h = more_fall order 1 n more (omega arith) h
 
--- what a weaker order, or a weaker test, says of them
-pub each_next-weaker : (one other : ℕ → ℕ → Bool) → ((n next : ℕ) → one n next ≡ true → other n next ≡ true)
-    → (numbers : List ℕ) → each_next one numbers ≡ true → each_next other numbers ≡ true
-each_next-weaker one other more [] h = refl
-each_next-weaker one other more (n ∷ []) h = refl
-each_next-weaker one other more (n ∷ next ∷ numbers) h =
-    let p = and_parts (one n next) (each_next one (next ∷ numbers)) h in
-    rw (more n next p.0, each_next-weaker one other more (next ∷ numbers) p.1) refl
+-- ---- the numbers of a line
 
-list_all-weaker : (one other : ℕ → Bool) → ((n : ℕ) → one n ≡ true → other n ≡ true)
-    → (numbers : List ℕ) → list_all one numbers ≡ true → list_all other numbers ≡ true
-list_all-weaker one other more [] h = refl
-list_all-weaker one other more (n ∷ numbers) h =
-    let p = and_parts (one n) (list_all one numbers) h in
-    rw (more n p.0, list_all-weaker one other more numbers p.1) refl
+-- where each word writes a number, these are all
+first_at : (n : Option ℕ) (others : Option (List ℕ)) (first numbers : List ℕ) → ((xs : List ℕ) → others ≡ Some xs → first ≡ xs)
+    → option_and_then (λ k. option_map (λ xs. k ∷ xs) others) n ≡ Some numbers → first_then n first ≡ numbers
+first_at None others first numbers rest h = cc
+first_at (Some k) None first numbers rest h = cc
+first_at (Some k) (Some xs) first numbers rest h = ap (λ l. k ∷ l) (rest xs refl) ∙ same_Some (k ∷ xs) numbers h
 
--- numbers that rise are accepted as places of ones
-pub places_accepted : (len end : ℕ) (ones : List ℕ) → end ≤ len → rises_to 1 end ones ≡ true → is_accepted (sparse_loaded (Some (len ∷ ones))) ≡ true
-places_accepted len end ones within h =
-    let p = and_parts _ _ h in
-    rw (
-      each_next-weaker _ nat_lt (λ n next below. grind (arith, nat_tests)) ones p.0,
-      list_all-weaker _ (λ place. nat_lt place len) (λ n below. grind (arith, nat_tests)) ones p.1,
-    ) refl
+all_first : (words : List (List ℕ)) (numbers : List ℕ) → all_numbers words ≡ Some numbers → first_numbers words ≡ numbers
+all_first [] numbers h = same_Some [] numbers h
+all_first (word ∷ more) numbers h = first_at (number_of word) (all_numbers more) (first_numbers more) numbers (all_first more) h
+
+-- what is told of numbers that ascend
+told_of : (order : ℕ → ℕ → Bool) (words : List (List ℕ)) (found : Option (List ℕ)) (end : ℕ × ℕ) → all_numbers words ≡ found → rise_after order 0 0 found ≡ Some end
+    → (all_numbers words ≡ Some (first_numbers words)) × ((each_next order (first_numbers words) ≡ true) × (end.0 ≡ length (first_numbers words)) × (end.1 ≡ last_of (first_numbers words)))
+told_of order words None end e h = cc
+told_of order words (Some numbers) end e h = rw (all_first words numbers e) (e, rise order numbers end h)
+
+pub told : (order : ℕ → ℕ → Bool) (words : List (List ℕ)) (end : ℕ × ℕ) → rise_after order 0 0 (all_numbers words) ≡ Some end
+    → (all_numbers words ≡ Some (first_numbers words)) × ((each_next order (first_numbers words) ≡ true) × (end.0 ≡ length (first_numbers words)) × (end.1 ≡ last_of (first_numbers words)))
+told order words end h = told_of order words (all_numbers words) end refl h
+
+-- and of those that don't
+pub not_told : (order : ℕ → ℕ → Bool) (found : Option (List ℕ)) (numbers : List ℕ) → rise_after order 0 0 found ≡ None → found ≡ Some numbers → each_next order numbers ≡ false
+not_told order found numbers h e = fall order numbers (rw e at h)
+
+-- ---- places of ones
+
+-- all places that ascend strictly are below a limit where the last one is
+last_below : (limit p : ℕ) (places : List ℕ) → each_next nat_lt (p ∷ places) ≡ true
+    → nat_lt (get_or (p ∷ places) (length places) 0) limit ≡ list_all (λ place. nat_lt place limit) (p ∷ places)
+last_below limit p [] up = grind arith
+last_below limit p (q ∷ places) up =
+    let parts = and_parts (nat_lt p q) (each_next nat_lt (q ∷ places)) up in
+    grind (arith, nat_tests, last_below limit q places parts.1, parts.0)
+
+below_last : (limit : ℕ) (places : List ℕ) → each_next nat_lt places ≡ true
+    → ((length places == 0) || nat_lt (last_of places) limit) ≡ list_all (λ place. nat_lt place limit) places
+below_last limit [] up = refl
+below_last limit (p ∷ places) up =
+    let at : length (p ∷ places) - 1 ≡ length places = omega arith in
+    let counted : (length (p ∷ places) == 0) ≡ false = ne_eqb (length (p ∷ places)) 0 (λ e. omega arith) in
+    rw counted (ap (λ k. nat_lt (get_or (p ∷ places) k 0) limit) at ∙ last_below limit p places up)
+
+pub all_below : (limit last len : ℕ) (places : List ℕ) → each_next nat_lt places ≡ true → len ≡ length places → last ≡ last_of places
+    → ((len == 0) || nat_lt last limit) ≡ list_all (λ place. nat_lt place limit) places
+all_below limit last len places up counted end = rw (counted, end) (below_last limit places up)
+
+pub all_are_below : (limit : ℕ) (places : List ℕ) → list_all (λ place. nat_lt place limit) places ≡ true → All (λ place. place < limit) places
+all_are_below limit places h k d l = ltb-true _ _ (AllPass-from_list_all (λ place. nat_lt place limit) places h k d l)
+
+-- numbers that ascend strictly ascend
+pub rising_ascends : (numbers : List ℕ) → each_next nat_lt numbers ≡ true → each_next nat_le numbers ≡ true
+rising_ascends [] h = refl
+rising_ascends (n ∷ []) h = refl
+rising_ascends (n ∷ next ∷ more) h =
+    let parts = and_parts (nat_lt n next) (each_next nat_lt (next ∷ more)) h in
+    let here : nat_le n next ≡ true = grind (arith, nat_tests, parts.0) in
+    rw (here, rising_ascends (next ∷ more) parts.1) refl
+
+-- places that ascend strictly below the length are accepted
+pub places_accepted : (len : ℕ) (ones : List ℕ) → each_next nat_lt ones ≡ true → list_all (λ place. nat_lt place len) ones ≡ true → is_accepted (sparse_loaded (Some (len ∷ ones))) ≡ true
+places_accepted len ones up within = rw (up, within) refl

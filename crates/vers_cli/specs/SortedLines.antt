@@ -1,7 +1,7 @@
 -- The lines of an ascending list.
-use Rattle.std.specs.Prelude.{ℕ, ◌+◌, Bool, ◌&&◌, nat_le, List, length, slice_get, Option, Some, None, if◌then◌else◌}
-use Rattle.std.specs.List.{list_all}
+use Rattle.std.specs.Prelude.{ℕ, Bool, true, false, nat_le, nat_lt, List, [], ◌∷◌, length, slice_get, Option, Some, None, if◌then◌else◌}
 use Rattle.vers_sorted.specs.Sorted.{below, greatest_not_above, least_not_below, delta, each_next}
+use Rattle.vers_words.specs.Text.{number_of}
 use Rattle.vers_words.specs.Arguments.{no_arguments, one_number}
 use Rattle.vers_words.specs.declared.loading.Loading.{Loading}
 use Rattle.vers_words.specs.declared.loading.Loading.TheVariants.{Malformed, Inadmissible, Accepted}
@@ -14,10 +14,20 @@ abbrev pub sorted_loaded : Option (List ℕ) → Loading (List ℕ)
 sorted_loaded None = Malformed
 sorted_loaded (Some numbers) = if each_next nat_le numbers then Accepted numbers else Inadmissible
 
--- whether each number is at least `gap` below the next one, and all are at least `gap` below `end`
-abbrev pub rises_to : ℕ → ℕ → List ℕ → Bool
-rises_to gap end numbers =
-    each_next (λ n next. nat_le (n + gap) next) numbers && list_all (λ n. nat_le (n + gap) end) numbers
+-- whether a number may stand before the next one, where numbers ascend, strictly or not
+abbrev pub in_order : Bool → ℕ → ℕ → Bool
+in_order true = nat_lt
+in_order false = nat_le
+
+-- a number, if there is one, before others
+abbrev pub first_then : Option ℕ → List ℕ → List ℕ
+first_then None others = []
+first_then (Some number) others = number ∷ others
+
+-- the numbers that words write, up to the first word that writes none
+abbrev pub first_numbers : List (List ℕ) → List ℕ
+first_numbers [] = []
+first_numbers (word ∷ more) = first_then (number_of word) (first_numbers more)
 
 -- the query lines, where these members are held
 abbrev pub sorted_reply : List ℕ → Query → List (List ℕ) → PlainReply

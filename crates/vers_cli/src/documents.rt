@@ -1,15 +1,16 @@
 //! The lines of documents with costs.
-ghost use Rattle.std.specs.Prelude.{◌≡◌, ◌<◌, [], true, length, option_map, Some, IfOk, IfSome, MatchOption};
+ghost use Rattle.std.specs.Prelude.{◌≡◌, ◌<◌, [], true, length, nat_lt, option_map, Some, IfOk, IfSome, MatchOption};
 ghost use Rattle.std.specs.Option.{option_and_then};
+ghost use Rattle.vers_sorted.specs.Sorted.{each_next};
 ghost use Rattle.vers_words.specs.Text.{words_in};
 ghost use Rattle.vers_words.specs.Arguments.{no_arguments as none_of, all_numbers as numbers_all};
 ghost use Rattle.vers_words.specs.Reply.{plain_reply, Numbers};
 ghost use Rattle.postings.specs.Posted.{Posted, common};
 ghost use Rattle.vers_cli.specs.Holding.{is_accepted as accepts};
-ghost use Rattle.vers_cli.specs.SortedLines.{rises_to};
 ghost use Rattle.vers_cli.specs.PostingsLines.{posted_first, posted_of, if_admitted, postings_loaded, postings_reply, shared_reply};
 
 use crate::name::Query;
+use crate::sorted::Rise;
 use postings::{Postings, PostingsError};
 use std::alloc::{AllocError, Allocator};
 use vers_rmq::rmq::fast_rmq::MAX_LEN;
@@ -24,7 +25,7 @@ pub fn is_accepted(arguments: &[u8]) -> bool
 {
     match count_numbers(arguments) {
         None => false,
-        Some(count) => count <= MAX_LEN && end_of_documents(arguments).is_some(),
+        Some(count) => count <= MAX_LEN && documents_ascend(arguments),
     }
 }
 
@@ -139,24 +140,23 @@ fn split_first_pair(text: &[u8]) -> Option<(u64, u64, &[u8])>
     Some((document, cost, more))
 }
 
-// What document may come next where the words of a line are documents that ascend strictly, each with
-// its cost. None where they aren't, or none may come.
-fn end_of_documents(arguments: &[u8]) -> Option<u64>
-    ensures { IfSome result (λ end. (posted : Posted)
+// Whether the words of a line are documents that ascend strictly, each with its cost.
+fn documents_ascend(arguments: &[u8]) -> bool
+    ensures { result ≡ true → (posted : Posted)
         × (option_and_then posted_of (numbers_all (words_in arguments.now)) ≡ Some posted)
-        × (rises_to 1 end posted.documents ≡ true)) }
+        × (each_next nat_lt posted.documents ≡ true) }
 {
-    let mut end = 0u64;
+    let mut rise = Rise { len: 0, last: 0 };
     let mut rest = arguments;
-    while let Some((document, _, others)) = split_first_pair(rest) {
-        if document < end {
-            return None;
+    while let Some((last, _, others)) = split_first_pair(rest) {
+        if !rise.admits(last, true) {
+            return false;
         }
-        end = document.checked_add(1)?;
+        let len = rise.len + 1;
+        rise = Rise { len, last };
         rest = others;
     }
-    no_arguments(rest)?;
-    Some(end)
+    no_arguments(rest).is_some()
 }
 
 // Documents with their costs. None where the documents don't ascend strictly or are too many.

@@ -1,46 +1,119 @@
 //! The lines of an ascending list.
-ghost use Rattle.std.specs.Prelude.{◌≡◌, ℕ, List, Some, true, IfOk, IfSome};
+ghost use Rattle.std.specs.Prelude.{◌≡◌, ◌==◌, ◌||◌, ℕ, List, Some, None, true, false, length, nat_lt, IfOk, IfSome};
+ghost use Rattle.std.specs.List.Sorted.{IsNonDecreasing};
+ghost use Rattle.vers_sorted.specs.Layout.{last_of};
+ghost use Rattle.vers_sorted.specs.Sorted.{each_next};
 ghost use Rattle.vers_words.specs.Text.{words_in};
 ghost use Rattle.vers_words.specs.Arguments.{all_numbers as numbers_all};
 ghost use Rattle.vers_words.specs.Reply.{plain_reply};
 ghost use Rattle.vers_cli.specs.Holding.{is_accepted as accepts};
-ghost use Rattle.vers_cli.specs.SortedLines.{rises_to, sorted_loaded, sorted_reply};
+ghost use Rattle.vers_cli.specs.SortedLines.{first_numbers, in_order, sorted_loaded, sorted_reply};
 
 use crate::name::Query;
 use std::alloc::{AllocError, Allocator};
-use vers_sorted::elias_fano::EliasFanoVec;
-use vers_sorted::order::is_ascending;
+use vers_sorted::elias_fano::{EliasFanoVec, MAX_LEN, Numbers};
 use vers_tally::ends::{BothEnds, Source};
-use vers_words::arguments::{all_numbers, no_arguments, one_number};
+use vers_words::arguments::{count_numbers, no_arguments, one_number};
 use vers_words::loading::Loading;
 use vers_words::reply::Reply;
 use vers_words::text::{number, split_first_word};
+
+/// How many numbers ascend, and the last of them, or 0 where there are none.
+#[derive(Clone, Copy, Drop)]
+pub struct Rise {
+    pub len: usize,
+    pub last: u64,
+}
+
+impl Rise {
+    /// Whether a number may come next.
+    pub fn admits(self, next: u64, strictly: bool) -> bool
+        ensures { result ≡ ((self.len == 0) || in_order strictly self.last next) }
+    {
+        if self.len == 0 {
+            return true;
+        }
+        if strictly {
+            self.last < next
+        } else {
+            self.last <= next
+        }
+    }
+
+    /// Whether all numbers are below a limit, where they ascend.
+    pub fn is_below(self, limit: u64) -> bool
+        ensures { result ≡ ((self.len == 0) || nat_lt self.last limit) }
+    {
+        self.len == 0 || self.last < limit
+    }
+}
+
+/// How the numbers of a line ascend. None where a word is no number below 2^64, or a number is below the
+/// one before it, or equal to it where they have to ascend strictly.
+pub fn rise_of(arguments: &[u8], strictly: bool) -> Option<Rise>
+    ensures none { result ≡ None → (numbers : List ℕ)
+        → numbers_all (words_in arguments.now) ≡ Some numbers → each_next (in_order strictly) numbers ≡ false }
+    ensures all { IfSome result (λ _.
+        numbers_all (words_in arguments.now) ≡ Some (first_numbers (words_in arguments.now))) }
+    ensures order { IfSome result (λ _.
+        each_next (in_order strictly) (first_numbers (words_in arguments.now)) ≡ true) }
+    ensures len { IfSome result (λ rise. rise.len ≡ length (first_numbers (words_in arguments.now))) }
+    ensures last { IfSome result (λ rise. rise.last ≡ last_of (first_numbers (words_in arguments.now))) }
+{
+    let mut rise = Rise { len: 0, last: 0 };
+    let mut rest = arguments;
+    while let Some((word, others)) = split_first_word(rest) {
+        let last = number(word)?;
+        if !rise.admits(last, strictly) {
+            return None;
+        }
+        let len = rise.len + 1;
+        rise = Rise { len, last };
+        rest = others;
+    }
+    Some(rise)
+}
+
+// The numbers that the words of a text write, up to the first word that writes none.
+#[derive(Clone, Copy, Drop)]
+struct LineNumbers<'a> {
+    rest: &'a [u8],
+}
+
+impl Numbers for LineNumbers<'_> {
+    ghost left = { λ numbers. first_numbers (words_in numbers.rest.now) };
+
+    fn next(&mut self) -> Option<u64> {
+        let (word, others) = split_first_word(self.rest)?;
+        let value = number(word)?;
+        self.rest = others;
+        Some(value)
+    }
+}
+
+/// The list of the numbers that a line writes, read off its text.
+pub fn members_of<A: Allocator + Copy>(
+    alloc: A,
+    arguments: &[u8],
+    rise: Rise,
+) -> Result<EliasFanoVec<A>, AllocError>
+    requires ascending { IsNonDecreasing (first_numbers (words_in arguments.now)) }
+    requires len { rise.len ≡ length (first_numbers (words_in arguments.now)) }
+    requires last { rise.last ≡ last_of (first_numbers (words_in arguments.now)) }
+    ensures { IfOk result (λ members. members ≡ first_numbers (words_in arguments.now)) }
+{
+    // A line of more numbers takes more than there is memory for.
+    if rise.len > MAX_LEN {
+        return Err(AllocError);
+    }
+    EliasFanoVec::from_numbers(alloc, LineNumbers { rest: arguments }, rise.len, rise.last)
+}
 
 /// Whether it is certain that the load line `sorted n ..` is accepted.
 pub fn is_accepted(arguments: &[u8]) -> bool
     ensures { result ≡ true → accepts (sorted_loaded (numbers_all (words_in arguments.now))) ≡ true }
 {
-    end_of_rise(arguments, 0).is_some()
-}
-
-/// What may come next where the words of a line are numbers that rise by at least `gap` from each to
-/// the next. None where they don't.
-pub fn end_of_rise(arguments: &[u8], gap: u64) -> Option<u64>
-    ensures { IfSome result (λ end. (numbers : List ℕ)
-        × (numbers_all (words_in arguments.now) ≡ Some numbers)
-        × (rises_to gap end numbers ≡ true)) }
-{
-    let mut end = 0u64;
-    let mut rest = arguments;
-    while let Some((word, others)) = split_first_word(rest) {
-        let value = number(word)?;
-        if value < end {
-            return None;
-        }
-        end = value.checked_add(gap)?;
-        rest = others;
-    }
-    Some(end)
+    rise_of(arguments, false).is_some()
 }
 
 /// What the load line `sorted n ..` gives.
@@ -51,13 +124,13 @@ pub fn load<A: Allocator + Copy>(
     ensures { IfOk result (λ loading.
         loading ≡ sorted_loaded (numbers_all (words_in arguments.now))) }
 {
-    let Some(numbers) = all_numbers(alloc, arguments)? else {
-        return Ok(Loading::Malformed);
-    };
-    if !is_ascending(numbers.as_slice()) {
+    let Some(rise) = rise_of(arguments, false) else {
+        if count_numbers(arguments).is_none() {
+            return Ok(Loading::Malformed);
+        }
         return Ok(Loading::Inadmissible);
-    }
-    match EliasFanoVec::from_slice(alloc, numbers.as_slice()) {
+    };
+    match members_of(alloc, arguments, rise) {
         Ok(members) => Ok(Loading::Accepted(members)),
         Err(error) => Err(error),
     }

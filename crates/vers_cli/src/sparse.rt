@@ -7,11 +7,10 @@ ghost use Rattle.vers_cli.specs.Holding.{is_accepted as accepts};
 ghost use Rattle.vers_cli.specs.SparseLines.{sparse_loaded, sparse_reply};
 
 use crate::name::Query;
-use crate::sorted::{end_of_rise, members_left};
+use crate::sorted::{members_left, members_of, rise_of};
 use std::alloc::{AllocError, Allocator};
-use vers_sorted::order::{are_below, is_strictly_ascending};
 use vers_sorted::sparse::SparseRSVec;
-use vers_words::arguments::{all_numbers, no_arguments, one_number};
+use vers_words::arguments::{count_numbers, no_arguments, one_number};
 use vers_words::loading::Loading;
 use vers_words::reply::Reply;
 use vers_words::text::{number, split_first_word};
@@ -23,8 +22,8 @@ pub fn is_accepted(arguments: &[u8]) -> bool
     let Some((word, places)) = split_first_word(arguments) else {
         return false;
     };
-    match (number(word), end_of_rise(places, 1)) {
-        (Some(len), Some(end)) => end <= len,
+    match (number(word), rise_of(places, true)) {
+        (Some(len), Some(rise)) => rise.is_below(len),
         _ => false,
     }
 }
@@ -37,17 +36,23 @@ pub fn load<A: Allocator + Copy>(
     ensures { IfOk result (λ loading.
         loading ≡ sparse_loaded (numbers_all (words_in arguments.now))) }
 {
-    let Some(numbers) = all_numbers(alloc, arguments)? else {
+    let Some((word, places)) = split_first_word(arguments) else {
         return Ok(Loading::Malformed);
     };
-    let Some((len, ones)) = numbers.as_slice().split_first() else {
+    let Some(len) = number(word) else {
         return Ok(Loading::Malformed);
     };
-    if !is_strictly_ascending(ones) || !are_below(ones, *len) {
+    let Some(rise) = rise_of(places, true) else {
+        if count_numbers(places).is_none() {
+            return Ok(Loading::Malformed);
+        }
+        return Ok(Loading::Inadmissible);
+    };
+    if !rise.is_below(len) {
         return Ok(Loading::Inadmissible);
     }
-    match SparseRSVec::new(alloc, ones, *len) {
-        Ok(bits) => Ok(Loading::Accepted(bits)),
+    match members_of(alloc, places, rise) {
+        Ok(ones) => Ok(Loading::Accepted(SparseRSVec::from_sorted(ones, len))),
         Err(error) => Err(error),
     }
 }

@@ -46,66 +46,83 @@ impl Read for MeasuringReader<'_> {
     }
 }
 
-// A load line: its start, and what is repeated after it, with a number of seven digits before it that is
-// one more each time.
+// A load line: its start, and what is repeated after it. Before that stands a number that is one more each time,
+// in as many digits as `below` has zeros, or none where that is 0.
 #[derive(Clone, Copy, Drop)]
 struct Line {
     start: &'static [u8],
-    has_number: bool,
+    below: usize,
     text: &'static [u8],
     times: usize,
 }
 
-const LINES: [Line; 7] = [
+const LINES: [Line; 9] = [
     Line {
         start: b"bits ",
-        has_number: false,
+        below: 0,
         text: b"01",
         times: 150000,
     },
     Line {
         start: b"tree ",
-        has_number: false,
+        below: 0,
         text: b"10",
         times: 150000,
     },
     Line {
         start: b"values",
-        has_number: false,
+        below: 0,
         text: b" 7",
         times: 150000,
     },
     Line {
         start: b"symbols 3",
-        has_number: false,
+        below: 0,
         text: b" 5",
         times: 150000,
     },
     Line {
         start: b"sorted",
-        has_number: true,
+        below: 10000000,
         text: b"",
         times: 40000,
     },
     Line {
         start: b"sparse 9999999",
-        has_number: true,
+        below: 10000000,
+        text: b"",
+        times: 40000,
+    },
+    Line {
+        start: b"sorted",
+        below: 0,
+        text: b" 7",
+        times: 100000,
+    },
+    Line {
+        start: b"sparse 99999",
+        below: 100000,
         text: b"",
         times: 40000,
     },
     Line {
         start: b"postings",
-        has_number: true,
+        below: 10000000,
         text: b" 7",
         times: 30000,
     },
 ];
 
-// A space and a number of seven digits.
-fn push_number(text: &mut Vec<u8>, number: usize) -> Result<(), AllocError> {
+// A space and a number in as many digits as `below` has zeros, or nothing where that is 0.
+fn push_number(text: &mut Vec<u8>, number: usize, below: usize) -> Result<(), AllocError> {
+    if below == 0 {
+        return Ok(());
+    }
     text.push(b' ')?;
     for power in [1000000usize, 100000, 10000, 1000, 100, 10, 1] {
-        text.push(b"0123456789"[number / power % 10])?;
+        if power < below {
+            text.push(b"0123456789"[number / power % 10])?;
+        }
     }
     Ok(())
 }
@@ -114,9 +131,7 @@ fn push_number(text: &mut Vec<u8>, number: usize) -> Result<(), AllocError> {
 fn push_line(text: &mut Vec<u8>, line: Line, times: usize) -> Result<(), AllocError> {
     text.extend_from_slice(line.start)?;
     for number in 0..times {
-        if line.has_number {
-            push_number(text, number)?;
-        }
+        push_number(text, number, line.below)?;
         text.extend_from_slice(line.text)?;
     }
     text.push(b'\n')?;

@@ -7,5 +7,5 @@ use Rattle.vers_cli.proofs.documents.is_accepted.Goals as goal
 pub returns-then-count-le-MAX_LEN : goal.returns-then-count-le-MAX_LEN
 returns-then-count-le-MAX_LEN c =
     λ some.
-    postings_accepted (all_numbers (words_in c.args.arguments.now)) c.in-Some.count c.end_of_documents.result
-    (sym c.count_numbers.ensures ∙ c.in-Some.is) c.if-count-le-MAX_LEN.true c.end_of_documents.ensures (sym c.is_some.ensures ∙ some)
+    postings_accepted (all_numbers (words_in c.args.arguments.now)) c.in-Some.count
+    (sym c.count_numbers.ensures ∙ c.in-Some.is) c.if-count-le-MAX_LEN.true (c.documents_ascend.ensures some)

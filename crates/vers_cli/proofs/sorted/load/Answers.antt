@@ -1,5 +1,7 @@
-use Rattle.std.proofs.Common.{refl}
+use Rattle.vers_sorted.proofs.PublicLaws.{each_next-ascending}
+use Rattle.vers_words.specs.Text.{words_in}
+use Rattle.vers_cli.specs.SortedLines.{first_numbers}
 use Rattle.vers_cli.proofs.sorted.load.Goals as goal
 
-pub from_slice-requires : goal.from_slice-requires
-from_slice-requires g c = rw (c.as_slice-2.ensures.value, ← c.as_slice.ensures.value) (c.if-not-is_ascending.ensures.all.0 refl)
+pub members_of-requires-clause-ascending : goal.members_of-requires-clause-ascending
+members_of-requires-clause-ascending g c = (each_next-ascending (first_numbers (words_in c.args.arguments.now))).0 c.in-Some.ensures.order

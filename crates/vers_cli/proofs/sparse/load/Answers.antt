@@ -1,17 +1,39 @@
-use Rattle.std.proofs.Common.{◌≡◌, ◌∷◌, Some, refl, sym, ◌∙◌, ap}
-use Rattle.vers_words.specs.Text.{words_in}
+use Rattle.std.proofs.Common.{◌≡◌, ◌∷◌, Some, true, refl, sym, ◌∙◌, ap}
+use Rattle.std.specs.Prelude.{nat_lt}
+use Rattle.std.specs.List.{list_all}
+use Rattle.vers_words.specs.Text.{number_of, words_in}
 use Rattle.vers_words.specs.Arguments.{all_numbers}
+use Rattle.vers_sorted.proofs.PublicLaws.{each_next-ascending, each_next-rising}
+use Rattle.vers_cli.specs.SortedLines.{first_numbers}
 use Rattle.vers_cli.specs.SparseLines.{sparse_loaded}
 use Rattle.vers_cli.proofs.Orders.{sparse_accepted}
+use Rattle.vers_cli.proofs.Rises.{all_below, all_are_below, rising_ascends}
 use Rattle.vers_cli.proofs.sparse.load.Goals as goal
 
-pub new-requires-clause-rising : goal.new-requires-clause-rising
-new-requires-clause-rising g c = c.if-not-is_strictly_ascending.ensures.all.0 refl
+pub members_of-requires-clause-ascending : goal.members_of-requires-clause-ascending
+members_of-requires-clause-ascending g c =
+    let ones = first_numbers (words_in c.in-Some.places.now) in
+    (each_next-ascending ones).0 (rising_ascends ones c.in-Some-rise_of.ensures.order)
+
+pub from_sorted-requires-clause-rising : goal.from_sorted-requires-clause-rising
+from_sorted-requires-clause-rising g c =
+    rw c.in-Ok.ensures ((each_next-rising (first_numbers (words_in c.in-Some.places.now))).0 c.in-Some-rise_of.ensures.order)
+
+pub from_sorted-requires-clause-within : goal.from_sorted-requires-clause-within
+from_sorted-requires-clause-within g c =
+    let ones = first_numbers (words_in c.in-Some.places.now) in
+    let told = c.in-Some-rise_of.ensures in
+    let below : list_all (λ place. nat_lt place c.in-Some-number.len) ones ≡ true =
+    sym (all_below c.in-Some-number.len c.in-Some-rise_of.rise.last c.in-Some-rise_of.rise.len ones told.order told.len told.last) ∙ sym c.is_below.ensures ∙ c.if-not-is_below.false in
+    rw c.in-Ok.ensures (all_are_below c.in-Some-number.len ones below)
 
 pub returns-in-Ok : goal.returns-in-Ok
 returns-in-Ok g c =
-    let numbers : all_numbers (words_in c.args.arguments.now) ≡ Some (c.in-Some-split_first.len.now ∷ c.in-Some-split_first.ones.now) =
-    sym (rw c.in-Some.is at c.in_ok-numbers.ensures) ∙ ap Some (sym c.as_slice.ensures.value ∙ c.in-Some-split_first.ensures.cases.0) in
-    sparse_accepted c.in-Some-split_first.len.now c.in-Some-split_first.ones.now c.in-Ok.bits
-    (sym c.if-not-is_strictly_ascending.ensures.each) (sym c.if-not-are_below.ensures.each) c.in-Ok.ensures.length c.in-Ok.ensures.places
+    let ones = first_numbers (words_in c.in-Some.places.now) in
+    let told = c.in-Some-rise_of.ensures in
+    let below : list_all (λ place. nat_lt place c.in-Some-number.len) ones ≡ true =
+    sym (all_below c.in-Some-number.len c.in-Some-rise_of.rise.last c.in-Some-rise_of.rise.len ones told.order told.len told.last) ∙ sym c.is_below.ensures ∙ c.if-not-is_below.false in
+    let some : number_of c.in-Some.word.now ≡ Some c.in-Some-number.len = sym c.number.ensures ∙ c.in-Some-number.is in
+    let numbers : all_numbers (words_in c.args.arguments.now) ≡ Some (c.in-Some-number.len ∷ ones) = rw (c.in-Some.ensures.words, some, told.all) refl in
+    sparse_accepted c.in-Some-number.len ones c.from_sorted.result told.order below c.from_sorted.ensures.length (c.from_sorted.ensures.places ∙ c.in-Ok.ensures)
     ∙ ap sparse_loaded (sym numbers)

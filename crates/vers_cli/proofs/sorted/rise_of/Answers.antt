@@ -1,0 +1,44 @@
+use Rattle.std.proofs.Common.{◌≡◌, Some, None, refl, sym, ◌∙◌, arith}
+use Rattle.vers_words.specs.Text.{number_of, words_in}
+use Rattle.vers_words.specs.Arguments.{all_numbers}
+use Rattle.vers_cli.specs.SortedLines.{in_order}
+use Rattle.vers_cli.proofs.Rises.{rise_after-more, rise_after-none, told, not_told}
+use Rattle.vers_cli.proofs.sorted.rise_of.Goals as goal
+
+pub returns-in_err-last-clause-none : goal.returns-in_err-last-clause-none
+returns-in_err-last-clause-none c =
+    λ none numbers at.
+    let unread : number_of c.in-Some.word.now ≡ None = sym c.number.ensures ∙ c.in_err-last.was in
+    not_told (in_order c.args.strictly) (all_numbers (words_in c.args.arguments.now)) numbers
+    (c.loop-word.invariant.after ∙ rw (c.in-Some.ensures.words, unread) refl) at
+
+pub returns-then-not-admits-clause-none : goal.returns-then-not-admits-clause-none
+returns-then-not-admits-clause-none c =
+    λ none numbers at.
+    let some : number_of c.in-Some.word.now ≡ Some c.in_ok-last.last = sym c.number.ensures ∙ c.in_ok-last.was in
+    not_told (in_order c.args.strictly) (all_numbers (words_in c.args.arguments.now)) numbers
+    (c.loop-word.invariant.after ∙ rw (c.in-Some.ensures.words, some) (rise_after-none (in_order c.args.strictly) c.loop-word.rise.len c.loop-word.rise.last c.in_ok-last.last (all_numbers (words_in c.in-Some.others.now)) (sym c.if-not-admits.ensures))) at
+
+pub returns-clause-all : goal.returns-clause-all
+returns-clause-all c =
+    (told (in_order c.args.strictly) (words_in c.args.arguments.now) (c.loop-word.rise.len, c.loop-word.rise.last) (c.loop-word.invariant.after ∙ rw c.in_default.ensures.words refl)).0
+
+pub returns-clause-order : goal.returns-clause-order
+returns-clause-order c =
+    (told (in_order c.args.strictly) (words_in c.args.arguments.now) (c.loop-word.rise.len, c.loop-word.rise.last) (c.loop-word.invariant.after ∙ rw c.in_default.ensures.words refl)).1.0
+
+pub returns-clause-len : goal.returns-clause-len
+returns-clause-len c =
+    (told (in_order c.args.strictly) (words_in c.args.arguments.now) (c.loop-word.rise.len, c.loop-word.rise.last) (c.loop-word.invariant.after ∙ rw c.in_default.ensures.words refl)).1.1
+
+pub returns-clause-last : goal.returns-clause-last
+returns-clause-last c =
+    (told (in_order c.args.strictly) (words_in c.args.arguments.now) (c.loop-word.rise.len, c.loop-word.rise.last) (c.loop-word.invariant.after ∙ rw c.in_default.ensures.words refl)).1.2
+
+pub loop-word-preserved : goal.loop-word-preserved
+loop-word-preserved c =
+    let some : number_of c.in-Some.word.now ≡ Some c.in_ok-last.last = sym c.number.ensures ∙ c.in_ok-last.was in
+    record {
+      after = c.loop-word.invariant.after ∙ rw (c.in-Some.ensures.words, some) (rise_after-more (in_order c.args.strictly) c.loop-word.rise.len c.loop-word.rise.last c.in_ok-last.last (all_numbers (words_in c.in-Some.others.now)) (sym c.if-not-admits.ensures));
+      within = omega (arith, c.loop-word.invariant.within, c.in-Some.ensures.shorter);
+    }
