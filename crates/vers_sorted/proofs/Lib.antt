@@ -7,6 +7,7 @@ pub mod Holds
 pub mod Packed
 pub mod Buckets
 pub mod Makes
+pub mod Gathers
 pub mod Widths
 pub mod Lengths
 pub mod Bounds

@@ -78,14 +78,13 @@ low_next s i h =
     ∙ flat_map-append (λ v. low_bits v (low_width s)) (map (λ m. m - first_of s) (take i s)) ((slice_index s i - first_of s) ∷ [])
     ∙ ap (λ l. pack (map (λ m. m - first_of s) (take i s)) (low_width s) ++ l) (append-nil (low_bits (slice_index s i - first_of s) (low_width s))))
 
--- the low parts of one member more still fit
-pub low_room : (s : List ℕ) (i w : ℕ) → w ≡ low_width s → i < length s → length (first_low_parts s i) + w ≤ length s * w
+-- the low parts of the first i members, which fit
+pub low_length : (s : List ℕ) (i w : ℕ) → w ≡ low_width s → i ≤ length s → (length (first_low_parts s i) ≡ w * i) × (w * i ≤ length s * w)
 unfolding first_low_parts
-low_room s i w e h =
+low_length s i w e h =
     let some : length (map (λ m. m - first_of s) (take i s)) ≡ i = length-map (take i s) (λ m. m - first_of s) ∙ omega (arith, length-take i s) in
-    let here : length (pack (map (λ m. m - first_of s) (take i s)) (low_width s)) ≡ w * i =
-    length-pack (map (λ m. m - first_of s) (take i s)) (low_width s) ∙ ap (λ n. low_width s * n) some ∙ ap (λ k. k * i) (sym e) in
-    omega (arith, here, mul-le-mul_left {m = i + 1} {n = length s} w (omega arith), mul_comm w (i + 1), mul_comm w i, mul_comm w (length s))
+    (length-pack (map (λ m. m - first_of s) (take i s)) (low_width s) ∙ ap (λ n. low_width s * n) some ∙ ap (λ k. k * i) (sym e),
+    omega (arith, mul-le-mul_left {m = i} {n = length s} w h, mul_comm w (length s)))
 
 pub low_all : (s : List ℕ) → first_low_parts s (length s) ≡ low_parts s
 unfolding first_low_parts low_parts

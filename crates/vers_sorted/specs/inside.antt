@@ -2,3 +2,4 @@
 pub mod Parts
 pub mod Buckets
 pub mod Ahead
+pub mod Gathered

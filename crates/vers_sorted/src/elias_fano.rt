@@ -8,6 +8,7 @@ ghost use Rattle.vers_sorted.specs.Layout.{heap_size_of};
 mod ahead;
 mod batch;
 mod iter;
+mod low;
 mod make;
 mod narrow;
 mod scan;

@@ -6,6 +6,7 @@ ghost use Rattle.vers_tally.specs.Reads.{digits};
 ghost use Rattle.vers_sorted.specs.Layout.{clog, first_of, last_of, width, low_width, high_parts, low_parts};
 
 use crate::elias_fano::EliasFanoVec;
+use crate::elias_fano::low::{Gathered, add_part};
 use std::alloc::{AllocError, Allocator};
 use vers_bits::bit_vec::{BitVec, GrowError, MAX_LEN as MOST_BITS};
 use vers_rank::fast_rs_vec::RsVec;
@@ -139,7 +140,7 @@ fn high_length_of(len: usize, high: u64) -> usize
 }
 
 // The answer of a call on a list that is known to fit: it is refused only for memory.
-fn known_to_fit<T>(answer: Result<T, GrowError>) -> Result<T, AllocError>
+pub(super) fn known_to_fit<T>(answer: Result<T, GrowError>) -> Result<T, AllocError>
     requires { answer ≢ Err GrowError.TooLong }
     ensures { IfOk result (λ value. answer ≡ Ok value) }
 {
@@ -180,13 +181,15 @@ fn parts_of<A: Allocator + Copy, N: Numbers>(
     let high_len = high_length_of(len, (last - first) >> width);
     let mut high = known_to_fit(BitVec::from_zeros(alloc, high_len))?;
     let mut low = known_to_fit(BitVec::with_capacity(alloc, len * width))?;
+    let mut gathered = Gathered { word: 0, len: 0 };
     let mut i = 0usize;
     while let Some(number) = numbers.next() {
         let _ = high.len();
         let above = number - first;
         high.set_unchecked((above >> width) as usize + i + 1, 1);
-        known_to_fit(low.append_bits(above, width))?;
+        gathered = add_part(&mut low, gathered, above, width)?;
         i += 1;
     }
+    known_to_fit(low.append_bits(gathered.word, gathered.len))?;
     Ok(Parts { high, low })
 }

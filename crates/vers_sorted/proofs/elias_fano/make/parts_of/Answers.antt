@@ -1,8 +1,9 @@
-use Rattle.std.proofs.Common.{◌≡◌, ◌*◌, refl, length, ap, ◌∙◌, arith}
+use Rattle.std.proofs.Common.{◌≡◌, ◌+◌, ◌*◌, refl, length, ap, ◌∙◌, arith}
 use Rattle.vers_sorted.specs.Layout.{low_width}
 use Rattle.vers_sorted.specs.inside.Parts.{first_high_parts, first_low_parts}
 use Rattle.vers_sorted.proofs.Lengths.{high_fits, low_fits}
-use Rattle.vers_sorted.proofs.Makes.{taken_at, all_taken, taken_above, one_place, one_more, low_more, high_len_is, high_sum_fits, high_start, high_all, length-first_high_parts, low_start, low_room, low_all}
+use Rattle.vers_sorted.proofs.Gathers.{none_gathered, so_many}
+use Rattle.vers_sorted.proofs.Makes.{taken_at, all_taken, taken_above, one_place, one_more, low_more, high_len_is, high_sum_fits, high_start, high_all, length-first_high_parts, low_start, low_length, low_all}
 use Rattle.vers_sorted.proofs.elias_fano.make.parts_of.Goals as goal
 
 pub high_length_of-high_len-requires : goal.high_length_of-high_len-requires
@@ -39,7 +40,8 @@ loop-number-init g c =
       within = omega arith;
       high = (rw c.in_ok-high.ensures at c.from_zeros.ensures.made)
           ∙ high_start s _ (high_len_is s c.args.len c.args.first c.args.last c.args.width _ c.requires.len c.requires.first c.requires.last c.requires.width c.high_length_of-high_len.ensures);
-      low = (rw c.in_ok-low.ensures at c.with_capacity.ensures.made) ∙ low_start s;
+      gathered = record { few = omega arith; small = omega arith };
+      low = none_gathered c.in_ok-low.low (first_low_parts s 0) (rw c.in_ok-low.ensures at c.with_capacity.ensures.made) (low_start s);
     }
 
 pub overflow_sub-above : goal.overflow_sub-above
@@ -65,15 +67,15 @@ set_unchecked-requires g c =
     let total = ap length c.loop-number.invariant.high ∙ length-first_high_parts s c.loop-number.i in
     omega (arith, place.0, place.1, total)
 
-pub known_to_fit-requires-in-Some : goal.known_to_fit-requires-in-Some
-known_to_fit-requires-in-Some g c =
-    λ e.
+pub add_part-requires-clause-short : goal.add_part-requires-clause-short
+add_part-requires-clause-short g c =
     let s = g.N.Numbers.left c.args.numbers in
     let at = taken_at s _ _ c.loop-number.i c.in-Some.number c.loop-number.invariant.left c.in-Some.ensures in
-    let long = c.append_bits.ensures.too_long.0 e in
-    let here = ap length c.loop-number.invariant.low in
+    let here = so_many c.loop-number.low (first_low_parts s c.loop-number.i) _ _ c.loop-number.invariant.low in
     let all : length s * c.args.width ≡ length s * low_width s = ap (λ k. length s * k) c.requires.width in
-    omega (arith, here, low_room s c.loop-number.i c.args.width c.requires.width at.0, all, low_fits s (omega (arith, c.requires.len)) (omega (arith, c.requires.last)), long)
+    let next : c.args.width * (c.loop-number.i + 1) ≡ c.args.width * c.loop-number.i + c.args.width = omega arith in
+    let fit = low_length s (c.loop-number.i + 1) c.args.width c.requires.width (omega (arith, at.0)) in
+    omega (arith, here, (low_length s c.loop-number.i c.args.width c.requires.width (omega (arith, at.0))).0, next, fit.1, all, low_fits s (omega (arith, c.requires.len)) (omega (arith, c.requires.last)))
 
 pub loop-number-preserved : goal.loop-number-preserved
 loop-number-preserved g c =
@@ -84,8 +86,9 @@ loop-number-preserved g c =
       within = omega (arith, at.0);
       high = one_more s _ _ c.loop-number.high _ c.loop-number.i c.in-Some.number c.args.first c.args.width c.requires.ascending c.requires.first c.requires.width
           c.loop-number.invariant.left c.in-Some.ensures c.loop-number.invariant.high c.set_unchecked.ensures;
-      low = low_more s _ _ c.loop-number.low _ c.loop-number.i c.in-Some.number c.args.first c.args.width c.requires.first c.requires.width
-          c.loop-number.invariant.left c.in-Some.ensures c.loop-number.invariant.low (rw c.in_ok-known_to_fit.ensures at c.append_bits.ensures.grown);
+      gathered = c.in_ok-gathered.ensures.gathered;
+      low = low_more s _ _ _ _ c.loop-number.i c.in-Some.number c.args.first c.args.width c.requires.first c.requires.width
+          c.loop-number.invariant.left c.in-Some.ensures c.loop-number.invariant.low c.in_ok-gathered.ensures.added;
     }
 
 pub returns-clause-high : goal.returns-clause-high
@@ -94,8 +97,17 @@ returns-clause-high g c =
     let all = all_taken s _ _ c.loop-number.i c.loop-number.invariant.left c.loop-number.invariant.within c.in_default.ensures in
     c.loop-number.invariant.high ∙ ap (first_high_parts s) all ∙ high_all s
 
+pub known_to_fit-requires-3 : goal.known_to_fit-requires-3
+known_to_fit-requires-3 g c =
+    λ e.
+    let s = g.N.Numbers.left c.args.numbers in
+    let here = so_many c.loop-number.low (first_low_parts s c.loop-number.i) _ _ c.loop-number.invariant.low in
+    let fit = low_length s c.loop-number.i c.args.width c.requires.width c.loop-number.invariant.within in
+    let all : length s * c.args.width ≡ length s * low_width s = ap (λ k. length s * k) c.requires.width in
+    omega (arith, here, fit.0, fit.1, all, low_fits s (omega (arith, c.requires.len)) (omega (arith, c.requires.last)), c.append_bits.ensures.too_long.0 e)
+
 pub returns-clause-low : goal.returns-clause-low
 returns-clause-low g c =
     let s = g.N.Numbers.left c.args.numbers in
     let all = all_taken s _ _ c.loop-number.i c.loop-number.invariant.left c.loop-number.invariant.within c.in_default.ensures in
-    c.loop-number.invariant.low ∙ ap (first_low_parts s) all ∙ low_all s
+    (rw c.in_ok-known_to_fit.ensures at c.append_bits.ensures.grown) ∙ c.loop-number.invariant.low ∙ ap (first_low_parts s) all ∙ low_all s

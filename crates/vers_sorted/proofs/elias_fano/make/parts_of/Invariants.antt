@@ -1,4 +1,6 @@
-use Rattle.std.proofs.Common.{◌≡◌, ◌≤◌, length, drop}
+use Rattle.std.proofs.Common.{◌≡◌, ◌≤◌, ◌++◌, length, drop}
+use Rattle.vers_bits.specs.Bits.{low_bits}
+use Rattle.vers_sorted.specs.inside.Gathered.{IsGathered}
 use Rattle.vers_sorted.specs.inside.Parts.{first_high_parts, first_low_parts}
 use Rattle.vers_sorted.proofs.elias_fano.make.parts_of.Given as goal
 
@@ -7,7 +9,8 @@ invariant-loop-number g l = record {
   left : g.N.Numbers.left l.numbers ≡ drop l.i (g.N.Numbers.left l.fn.numbers);
   within : l.i ≤ length (g.N.Numbers.left l.fn.numbers);
   high : l.high ≡ first_high_parts (g.N.Numbers.left l.fn.numbers) l.i;
-  low : l.low ≡ first_low_parts (g.N.Numbers.left l.fn.numbers) l.i;
+  gathered : IsGathered l.gathered;
+  low : l.low ++ low_bits l.gathered.word l.gathered.len ≡ first_low_parts (g.N.Numbers.left l.fn.numbers) l.i;
 }
 
 abbrev pub decreases-loop-number : goal.decreases-loop-number
