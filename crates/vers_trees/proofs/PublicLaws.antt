@@ -1,13 +1,15 @@
 -- The laws that proofs of other crates may cite. A crate above imports this file and no other of this folder.
-use Rattle.std.proofs.Common.{◌≡◌, ℕ, ◌+◌, ◌-◌, ◌*◌, ◌<◌, ◌≤◌, ◌↔◌, Bool, true, false, List, [], ◌∷◌, ◌++◌, map, length, get_or, Option, Some, None}
+use Rattle.std.proofs.Common.{◌≡◌, ℕ, ◌+◌, ◌-◌, ◌*◌, ◌<◌, ◌≤◌, ◌↔◌, Decides, Bool, true, false, List, [], ◌∷◌, ◌++◌, map, length, get_or, Option, Some, None}
 use Rattle.std.specs.Prelude.{slice_get, option_map, Contains}
 use Rattle.vers_bits.specs.Bits.{bit_value}
+use Rattle.vers_trees.specs.Balance.{are_balanced}
 use Rattle.vers_trees.specs.Excess.{enclosing}
 use Rattle.vers_trees.specs.Forest.{Forest, text, pairs, IsBalanced, forest_of}
 use Rattle.vers_trees.specs.Layout.{block_count, node_count}
 use Rattle.vers_trees.specs.Nodes.{nodes, IsNode, parent, depth, level, first_of, last_of, next_of, previous_of}
 use Rattle.vers_trees.specs.LevelWalks.{IsAlongLevel}
 use Rattle.vers_trees.proofs.kin.Matching as Matching
+use Rattle.vers_trees.proofs.grammar.Balance as Balance
 use Rattle.vers_trees.proofs.grammar.Grammar as Grammar
 use Rattle.vers_trees.proofs.levels.NodeLaws as NodeLaws
 use Rattle.vers_trees.proofs.layout.Widths as Widths
@@ -25,6 +27,12 @@ node_iff_bit = NodeLaws.node_iff_bit
 -- the same, by what `get` answers
 pub node_iff_got : (bits : List Bool) (v : ℕ) → IsBalanced bits → IsNode (forest_of bits) v ↔ (option_map bit_value (slice_get bits v) ≡ Some 1)
 node_iff_got = NodeLaws.node_iff_got
+
+-- ---- balance
+
+-- reading from the left decides whether parentheses are balanced
+pub balance_decides : (bits : List Bool) → Decides (are_balanced bits) (IsBalanced bits)
+balance_decides = Balance.balance_decides
 
 -- ---- pairs
 

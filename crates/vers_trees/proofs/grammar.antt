@@ -2,3 +2,4 @@ pub mod Excess
 pub mod Paired
 pub mod Pairs
 pub mod Grammar
+pub mod Balance

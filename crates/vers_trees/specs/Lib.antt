@@ -1,6 +1,7 @@
 pub mod Excess
 pub mod Bytes
 pub mod Forest
+pub mod Balance
 pub mod Nodes
 pub mod Traversals
 pub mod Siblings
@@ -9,8 +10,10 @@ pub mod WalkReads
 pub mod Laws
 pub mod WalkLaws
 pub mod NodeLaws
+pub mod BalanceLaws
 pub mod LevelWalks
 pub mod ReadLaws
 pub mod Rows
 pub mod NodeRows
+pub mod BalanceRows
 pub mod inside

@@ -3,6 +3,7 @@
 ghost use Rattle.vers_trees.specs.Laws.{ForwardFindsFirst, BackwardFindsLast, OneForest, CloseFindsPair, OpenFindsPair, OpenUndoesClose, CloseUndoesOpen, EncloseFindsParent, ForestWritesItsList, NodesAreFew};
 ghost use Rattle.vers_trees.specs.WalkLaws.{PreorderOpensInOrder, PostorderClosesInOrder, OnesAreNodes};
 ghost use Rattle.vers_trees.specs.ReadLaws.{CallsAreWithinOneBound, CallsReadFew, SearchesReadFew};
+ghost use Rattle.vers_trees.specs.BalanceLaws.{ReadingDecidesBalance};
 ghost use Rattle.vers_trees.specs.NodeLaws.{NodeIffOne, LevelIffDepth, LevelsGoOn, LevelsGoBack, LevelsAreParts};
 
 /// A search forwards finds the first place after the one asked for at which the excess has risen so.
@@ -56,6 +57,12 @@ pub fn enclose_finds_parent()
 #[tactic(auto, using(crate::proofs::kin::Matching::written))]
 pub fn forest_writes_its_list()
     ensures { ForestWritesItsList }
+{}
+
+/// Reading parentheses from the left decides whether they are balanced.
+#[tactic(auto, using(crate::proofs::grammar::Balance::balance_decides))]
+pub fn reading_decides_balance()
+    ensures { ReadingDecidesBalance }
 {}
 
 /// The tree over the blocks of a list with some bits has fewer than three nodes a block.

@@ -32,12 +32,14 @@ pub use Rattle.vers_rmq.specs.Laws as MinimaLaws
 pub use Rattle.vers_trees.specs.Excess
 pub use Rattle.vers_trees.specs.Bytes
 pub use Rattle.vers_trees.specs.Forest
+pub use Rattle.vers_trees.specs.Balance
 pub use Rattle.vers_trees.specs.Nodes
 pub use Rattle.vers_trees.specs.Traversals
 pub use Rattle.vers_trees.specs.WalkReads as TreesWalkReads
 pub use Rattle.vers_trees.specs.WalkLaws as TreesWalkLaws
 pub use Rattle.vers_trees.specs.LevelWalks
 pub use Rattle.vers_trees.specs.NodeLaws as TreesNodeLaws
+pub use Rattle.vers_trees.specs.BalanceLaws as TreesBalanceLaws
 pub use Rattle.vers_trees.specs.ReadLaws as TreesReadLaws
 pub use Rattle.vers_trees.specs.Layout as TreesLayout
 pub use Rattle.vers_trees.specs.Laws as TreesLaws

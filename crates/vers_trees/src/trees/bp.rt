@@ -10,6 +10,7 @@ ghost use Rattle.vers_trees.specs.inside.Index.{IsIndexed};
 ghost use Rattle.vers_trees.specs.Layout.{tree_heap_size, search_reads, enclose_reads};
 
 mod as_tree;
+mod balance;
 mod builder;
 mod bytes;
 mod children;
@@ -304,27 +305,6 @@ impl<const BLOCK_SIZE: usize, A: Allocator + Copy> BpTree<BLOCK_SIZE, A> {
             -2
         };
         self.bwd_search_counted(i, rise, tally)
-    }
-
-    /// Whether the parentheses are balanced: they are a forest written down.
-    #[inline]
-    pub fn is_balanced(&self) -> bool
-        ensures { Decides result (IsBalanced self.now) }
-    {
-        let mut tally = Tally::new();
-        self.is_balanced_counted(&mut tally)
-    }
-
-    /// The same as `is_balanced`, by one node and no bit.
-    #[inline(always)]
-    pub fn is_balanced_counted(&self, tally: &mut Tally) -> bool
-        ensures value { Decides result (IsBalanced self.now) }
-        ensures adds { AddsAtMost tally.old tally.new (only_nodes 1) }
-    {
-        if self.is_empty() {
-            return true;
-        }
-        self.tree.root_counted(tally).is_level()
     }
 
     /// The place of one number `i`, counted from 0, or the number of bits where there are no more: in
