@@ -1,0 +1,4 @@
+pub mod Boxes
+mod OwnerBoxes
+pub mod SymbolAnswers
+pub mod Written

@@ -1,0 +1,13 @@
+-- The queries of many numbers.
+use Rattle.std.specs.Prelude.{ℕ}
+use Rattle.vers_c.specs.declared.answer.Answer.{Answer}
+use Rattle.vers_c.specs.declared.asked.Ask.{Ask}
+use Rattle.vers_c.specs.Answers.{value_or}
+
+-- the answer to a number and two more; `other` where there is none
+abbrev pub answered : (ℕ → ℕ → ℕ → Answer) → ℕ → ℕ → ℕ → ℕ → ℕ
+answered answers other b c a = value_or other (answers a b c)
+
+-- three numbers, the first of which is replaced by the answer to them
+abbrev pub row_answered : (ℕ → ℕ → ℕ → Answer) → ℕ → Ask → Ask
+row_answered answers other ask = record { a = answered answers other ask.b ask.c ask.a; b = ask.b; c = ask.c }

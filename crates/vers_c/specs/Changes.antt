@@ -1,0 +1,40 @@
+-- The changes of a list of bits.
+use Rattle.std.specs.Prelude.{◌≡◌, ◌≢◌, ℕ, ◌-◌, ◌%◌, ◌==◌, Bool, nat_le, nat_lt, List, [], ◌∷◌, ◌++◌, length, take, slice_get, slice_set, Option, Some, None, option_map, if◌then◌else◌}
+use Rattle.vers_bits.specs.Bits.{low_bits}
+use Rattle.vers_c.specs.declared.change.Change.{Change}
+use Rattle.vers_c.specs.declared.change.Change.TheVariants.{Push, Append, Set, DropLast}
+use Rattle.vers_c.specs.declared.change.TheConstants.{CHANGES}
+use Rattle.vers_c.specs.Structures.{Structure, GrowingBits}
+
+-- the list after a change with two numbers, unless these are refused
+abbrev pub bits_changed : List Bool → Change → ℕ → ℕ → Option (List Bool)
+bits_changed bits Push a b = Some (bits ++ (a % 2 == 1) ∷ [])
+bits_changed bits Append a b = if nat_le b 64 then Some (bits ++ low_bits a b) else None
+bits_changed bits Set a b = if nat_lt a (length bits) then Some (slice_set bits a (b % 2 == 1)) else None
+bits_changed bits DropLast a b = Some (take (length bits - a) bits)
+
+-- the same of a structure
+abbrev pub structure_changed : Structure → Change → ℕ → ℕ → Option Structure
+structure_changed (GrowingBits bits) change a b = option_map GrowingBits (bits_changed bits change a b)
+structure_changed held change a b = None
+
+-- a change, if there is one
+abbrev pub changed_if : Structure → Option Change → ℕ → ℕ → Option Structure
+changed_if held None a b = None
+changed_if held (Some change) a b = structure_changed held change a b
+
+-- the change of a code, which is its place in the table
+abbrev pub changed_by_code : Structure → ℕ → ℕ → ℕ → Option Structure
+changed_by_code held code a b = changed_if held (slice_get CHANGES code) a b
+
+-- the same of a handle, which may hold nothing
+abbrev pub contents_changed : Option Structure → ℕ → ℕ → ℕ → Option (Option Structure)
+contents_changed None code a b = None
+contents_changed (Some held) code a b = option_map Some (changed_by_code held code a b)
+
+-- what is wanted was done where the status is 0, and else nothing was; it is refused or unknown only where there is no such thing
+pub record IsChanged {X : Type 0} (wanted : Option X) (before after : X) (status : ℕ) : Type 0 where
+  pub done : status ≡ 0 → wanted ≡ Some after
+  pub left : status ≢ 0 → after ≡ before
+  pub refused : status ≡ 4 → wanted ≡ None
+  pub unknown : status ≡ 2 → wanted ≡ None

@@ -1,0 +1,15 @@
+pub mod Answers
+pub mod Batches
+pub mod BitsAnswers
+pub mod Changes
+pub mod Handle
+pub mod Lists
+pub mod Makes
+pub mod MinimaAnswers
+pub mod PostingsAnswers
+pub mod Queries
+pub mod Saves
+pub mod SortedAnswers
+pub mod Structures
+pub mod SymbolsAnswers
+pub mod TreeAnswers

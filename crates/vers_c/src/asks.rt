@@ -1,0 +1,106 @@
+//! Exports that ask and change what a handle holds.
+ghost use Rattle.std.specs.Prelude.{◌≡◌, ◌≢◌, map};
+ghost use Rattle.vers_c.specs.Batches.{answered, row_answered};
+ghost use Rattle.vers_c.specs.Changes.{IsChanged, contents_changed};
+ghost use Rattle.vers_c.specs.Queries.{contents_answer, contents_status};
+ghost use Rattle.vers_c.specs.Structures.{contents};
+
+use crate::answer::Answer;
+use crate::asked::Ask;
+use crate::handle::VersHandle;
+use crate::owners::{changed, put, taken};
+use crate::status::{DONE, VACANT};
+use std::alloc::Global;
+
+/// Asks what is held.
+#[unsafe(no_mangle)]
+pub extern "C" fn vers_ask(
+    alloc: Global,
+    handle: &mut VersHandle,
+    code: u32,
+    a: u64,
+    b: u64,
+    c: u64,
+) -> Answer
+    ensures value { result ≡ contents_answer (contents handle.old) code a b c }
+    ensures kept { contents handle.new ≡ contents handle.old }
+{
+    if !handle.is_built {
+        return Answer::vacant();
+    }
+    let owner = taken(alloc, handle);
+    let answer = owner.answer_coded(code, a, b, c);
+    put(handle, owner);
+    answer
+}
+
+/// Puts in the stead of each number what is answered to it and two more numbers, and `other` where there is no answer.
+#[unsafe(no_mangle)]
+pub extern "C" fn vers_ask_each(
+    alloc: Global,
+    handle: &mut VersHandle,
+    code: u32,
+    numbers: &mut [usize],
+    b: u64,
+    c: u64,
+    other: usize,
+) -> u32
+    ensures status { result ≡ contents_status (contents handle.old) code }
+    ensures done { result ≡ DONE → numbers.new
+        ≡ map (answered (contents_answer (contents handle.old) code) other b c) numbers.old }
+    ensures left { result ≢ DONE → numbers.new ≡ numbers.old }
+    ensures kept { contents handle.new ≡ contents handle.old }
+{
+    if !handle.is_built {
+        return VACANT;
+    }
+    let owner = taken(alloc, handle);
+    let status = owner.answer_each_coded(code, numbers, b, c, other);
+    put(handle, owner);
+    status
+}
+
+/// Puts in the first place of each ask what is answered to it, and `other` where there is no answer.
+#[unsafe(no_mangle)]
+pub extern "C" fn vers_ask_rows(
+    alloc: Global,
+    handle: &mut VersHandle,
+    code: u32,
+    asks: &mut [Ask],
+    other: u64,
+) -> u32
+    ensures status { result ≡ contents_status (contents handle.old) code }
+    ensures done { result ≡ DONE → asks.new
+        ≡ map (row_answered (contents_answer (contents handle.old) code) other) asks.old }
+    ensures left { result ≢ DONE → asks.new ≡ asks.old }
+    ensures kept { contents handle.new ≡ contents handle.old }
+{
+    if !handle.is_built {
+        return VACANT;
+    }
+    let owner = taken(alloc, handle);
+    let status = owner.answer_rows_coded(code, asks, other);
+    put(handle, owner);
+    status
+}
+
+/// Changes what is held, where it has no other owner.
+#[unsafe(no_mangle)]
+pub extern "C" fn vers_change(
+    alloc: Global,
+    handle: &mut VersHandle,
+    code: u32,
+    a: u64,
+    b: u64,
+) -> u32
+    ensures { IsChanged (contents_changed (contents handle.old) code a b) (contents handle.old)
+        (contents handle.new) result }
+{
+    if !handle.is_built {
+        return VACANT;
+    }
+    let mut owner = taken(alloc, handle);
+    let status = changed(&mut owner, code, a, b);
+    put(handle, owner);
+    status
+}

@@ -1,0 +1,192 @@
+//! Exports that build a structure into a handle which holds nothing.
+ghost use Rattle.std.specs.Prelude.{◌≡◌, Some, take};
+ghost use Rattle.vers_bits.specs.Bits.{pack};
+ghost use Rattle.vers_c.specs.Makes.{IsMade, posted_made, sorted_made, sparse_made, symbols_made};
+ghost use Rattle.vers_c.specs.Structures.{contents, BlockValues, GrowingBits, IndexedBits, Parentheses, TableValues};
+
+use crate::handle::VersHandle;
+use crate::kept::Kept;
+use crate::owners::fill;
+use crate::sparse::sparse;
+use crate::status::{NO_MEMORY, OCCUPIED, REFUSED};
+use crate::{bits, minima, posted, tree};
+use std::alloc::Global;
+use vers_sorted::elias_fano::EliasFanoVec;
+use vers_sorted::order::{are_below, is_ascending, is_strictly_ascending};
+use vers_wavelet::wavelet::WaveletMatrix;
+
+/// Builds a list of bits that can change: the first `len` bits of words.
+#[unsafe(no_mangle)]
+pub extern "C" fn vers_growing_build(
+    alloc: Global,
+    words: &[u64],
+    len: usize,
+    handle: &mut VersHandle,
+) -> u32
+    ensures { IsMade (Some (GrowingBits (take len (pack words.now 64)))) (contents handle.old)
+        (contents handle.new) result }
+{
+    if handle.is_built {
+        return OCCUPIED;
+    }
+    match bits::growing(alloc, words, len) {
+        Ok(bits) => fill(alloc, handle, Kept::Growing(bits)),
+        Err(_) => NO_MEMORY,
+    }
+}
+
+/// Builds a list of bits with ranks and selects: the first `len` bits of words.
+#[unsafe(no_mangle)]
+pub extern "C" fn vers_bits_build(
+    alloc: Global,
+    words: &[u64],
+    len: usize,
+    handle: &mut VersHandle,
+) -> u32
+    ensures { IsMade (Some (IndexedBits (take len (pack words.now 64)))) (contents handle.old)
+        (contents handle.new) result }
+{
+    if handle.is_built {
+        return OCCUPIED;
+    }
+    match bits::bits(alloc, words, len) {
+        Ok(bits) => fill(alloc, handle, Kept::Bits(bits)),
+        Err(_) => NO_MEMORY,
+    }
+}
+
+/// Builds a list of `len` bits by the places of its ones. Places that don't ascend strictly, and places past the
+/// length, are refused.
+#[unsafe(no_mangle)]
+pub extern "C" fn vers_sparse_build(
+    alloc: Global,
+    ones: &[u64],
+    len: u64,
+    handle: &mut VersHandle,
+) -> u32
+    ensures { IsMade (sparse_made ones.now len) (contents handle.old) (contents handle.new) result }
+{
+    if handle.is_built {
+        return OCCUPIED;
+    }
+    if !is_strictly_ascending(ones) || !are_below(ones, len) {
+        return REFUSED;
+    }
+    match sparse(alloc, ones, len) {
+        Ok(bits) => fill(alloc, handle, Kept::Sparse(bits)),
+        Err(_) => NO_MEMORY,
+    }
+}
+
+/// Builds an ascending list. Numbers that don't ascend are refused.
+#[unsafe(no_mangle)]
+pub extern "C" fn vers_sorted_build(alloc: Global, numbers: &[u64], handle: &mut VersHandle) -> u32
+    ensures { IsMade (sorted_made numbers.now) (contents handle.old) (contents handle.new) result }
+{
+    if handle.is_built {
+        return OCCUPIED;
+    }
+    if !is_ascending(numbers) {
+        return REFUSED;
+    }
+    match EliasFanoVec::from_slice(alloc, numbers) {
+        Ok(members) => fill(alloc, handle, Kept::Sorted(members)),
+        Err(_) => NO_MEMORY,
+    }
+}
+
+/// Builds a list of symbols: the `width` low bits of numbers. A width above 64 is refused.
+#[unsafe(no_mangle)]
+pub extern "C" fn vers_symbols_build(
+    alloc: Global,
+    numbers: &[u64],
+    width: u32,
+    handle: &mut VersHandle,
+) -> u32
+    ensures { IsMade (symbols_made numbers.now width) (contents handle.old) (contents handle.new) result }
+{
+    if handle.is_built {
+        return OCCUPIED;
+    }
+    if width > 64 {
+        return REFUSED;
+    }
+    match WaveletMatrix::from_slice(alloc, numbers, width as u16) {
+        Ok(symbols) => fill(alloc, handle, Kept::Symbols(symbols)),
+        Err(_) => NO_MEMORY,
+    }
+}
+
+/// Builds a list of parentheses, a one of which opens: the first `len` bits of words.
+#[unsafe(no_mangle)]
+pub extern "C" fn vers_tree_build(
+    alloc: Global,
+    words: &[u64],
+    len: usize,
+    handle: &mut VersHandle,
+) -> u32
+    ensures { IsMade (Some (Parentheses (take len (pack words.now 64)))) (contents handle.old)
+        (contents handle.new) result }
+{
+    if handle.is_built {
+        return OCCUPIED;
+    }
+    match tree::tree(alloc, words, len) {
+        Ok(made) => fill(alloc, handle, Kept::Tree(made)),
+        Err(_) => NO_MEMORY,
+    }
+}
+
+/// Builds a list of values that finds the least of a range by blocks.
+#[unsafe(no_mangle)]
+pub extern "C" fn vers_fast_rmq_build(alloc: Global, values: &[u64], handle: &mut VersHandle) -> u32
+    ensures { IsMade (Some (BlockValues values.now)) (contents handle.old) (contents handle.new) result }
+{
+    if handle.is_built {
+        return OCCUPIED;
+    }
+    match minima::fast(alloc, values) {
+        Ok(made) => fill(alloc, handle, Kept::Fast(made)),
+        Err(_) => NO_MEMORY,
+    }
+}
+
+/// Builds a list of values that finds the least of a range by a sparse table.
+#[unsafe(no_mangle)]
+pub extern "C" fn vers_binary_rmq_build(
+    alloc: Global,
+    values: &[u64],
+    handle: &mut VersHandle,
+) -> u32
+    ensures { IsMade (Some (TableValues values.now)) (contents handle.old) (contents handle.new) result }
+{
+    if handle.is_built {
+        return OCCUPIED;
+    }
+    match minima::binary(alloc, values) {
+        Ok(made) => fill(alloc, handle, Kept::Binary(made)),
+        Err(_) => NO_MEMORY,
+    }
+}
+
+/// Builds documents with costs. Documents that don't ascend strictly, and another number of costs, are refused.
+#[unsafe(no_mangle)]
+pub extern "C" fn vers_postings_build(
+    alloc: Global,
+    documents: &[u64],
+    costs: &[u64],
+    handle: &mut VersHandle,
+) -> u32
+    ensures { IsMade (posted_made documents.now costs.now) (contents handle.old) (contents handle.new) result }
+{
+    if handle.is_built {
+        return OCCUPIED;
+    }
+    if documents.len() != costs.len() || !is_strictly_ascending(documents) {
+        return REFUSED;
+    }
+    match posted::posted(alloc, documents, costs) {
+        Ok(made) => fill(alloc, handle, Kept::Posted(made)),
+        Err(_) => NO_MEMORY,
+    }
+}

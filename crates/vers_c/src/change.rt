@@ -1,0 +1,61 @@
+//! Changes and their codes.
+ghost use Rattle.std.specs.Prelude.{◌≡◌, slice_get};
+ghost use Rattle.vers_c.specs.Changes.{IsChanged, bits_changed};
+
+use crate::status::{DONE, NO_MEMORY, REFUSED};
+use std::alloc::Global;
+use vers_bits::bit_vec::BitVec;
+
+/// What a list of bits can be changed by.
+#[derive(Clone, Copy, Drop)]
+pub enum Change {
+    /// Appends the lowest bit of `a`.
+    Push,
+    /// Appends the low `b` bits of `a`.
+    Append,
+    /// Makes the bit at place `a` the lowest bit of `b`.
+    Set,
+    /// Drops the last `a` bits, or all where there are not so many.
+    DropLast,
+}
+
+/// The change of each code, which is its place here.
+pub const CHANGES: [Change; 4] = [Change::Push, Change::Append, Change::Set, Change::DropLast];
+
+impl Change {
+    /// The change of a code. None where there is none.
+    pub fn of(code: u32) -> Option<Change>
+        ensures { result ≡ slice_get CHANGES code }
+    {
+        CHANGES.get(code as usize).copied()
+    }
+
+    /// Changes a list.
+    pub fn make(self, bits: &mut BitVec<Global>, a: u64, b: u64) -> u32
+        ensures { IsChanged (bits_changed bits.old self a b) bits.old bits.new result }
+    {
+        match self {
+            Change::Push => match bits.append_bit(a) {
+                Ok(()) => DONE,
+                Err(_) => NO_MEMORY,
+            },
+            Change::Append => {
+                if b > 64 {
+                    return REFUSED;
+                }
+                match bits.append_bits(a, b as usize) {
+                    Ok(()) => DONE,
+                    Err(_) => NO_MEMORY,
+                }
+            }
+            Change::Set => match bits.set(a as usize, b) {
+                Ok(()) => DONE,
+                Err(_) => REFUSED,
+            },
+            Change::DropLast => {
+                bits.drop_last(a as usize);
+                DONE
+            }
+        }
+    }
+}

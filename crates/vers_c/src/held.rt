@@ -1,0 +1,63 @@
+//! The pointer to an owner of a structure that C holds.
+ghost use Rattle.std.specs.Prelude.{◌≡◌, Bool, true, false};
+ghost use Rattle.vers_c.specs.Handle.{Owner as OwnerValue, held_owns};
+
+use crate::kept::Owner;
+use crate::loose::Loose;
+use std::alloc::Global;
+use std::marker::Model;
+
+/// A pointer to an owner of a structure, or to nothing. It is not `Drop`, so that no call can lose an owner.
+#[repr(C)]
+pub struct Held {
+    at: *mut u8,
+    alloc: Global,
+    pub ghost is_owner: { Bool },
+    pub ghost value: { OwnerValue },
+}
+
+impl Model for Held {
+    ghost also_owns = { λ h. held_owns h.is_owner h.alloc h.at h.value };
+}
+
+impl Held {
+    /// A pointer to nothing.
+    pub fn vacant(alloc: Global) -> Held
+        ensures { result.is_owner ≡ false }
+    {
+        Held {
+            at: std::ptr::null_mut(),
+            alloc,
+        }
+    }
+
+    /// The pointer to an owner.
+    pub fn of(owner: Loose<Owner, Global>) -> Held
+        ensures { (result.is_owner ≡ true) × (result.value ≡ owner.value) }
+    {
+        let Loose { at, alloc } = owner;
+        Held {
+            at: at as *mut u8,
+            alloc,
+        }
+    }
+
+    /// The owner again.
+    pub fn into_owner(self) -> Loose<Owner, Global>
+        requires { self.is_owner ≡ true }
+        ensures { result.value ≡ self.value }
+    {
+        let Held { at, alloc } = self;
+        Loose {
+            at: at as *mut Owner,
+            alloc,
+        }
+    }
+
+    /// Lets go of nothing.
+    pub fn discard(self)
+        requires { self.is_owner ≡ false }
+    {
+        let Held { at: _, alloc: _ } = self;
+    }
+}

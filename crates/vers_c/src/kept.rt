@@ -1,0 +1,205 @@
+//! The structures that a handle holds.
+ghost use Rattle.std.specs.Prelude.{◌≡◌, ◌≢◌, map, Some, None, IfOk, IfSome, option_map};
+ghost use Rattle.vers_c.specs.Batches.{answered, row_answered};
+ghost use Rattle.vers_c.specs.Changes.{IsChanged, changed_by_code};
+ghost use Rattle.vers_c.specs.Queries.{batch_status, coded_answer, query_of, structure_answer};
+ghost use Rattle.vers_c.specs.Lists.{common_of};
+ghost use Rattle.vers_c.specs.Structures.{structure_of};
+
+use crate::answer::Answer;
+use crate::asked::{Ask, Asked, answer_each, answer_rows};
+use crate::change::Change;
+use crate::query::Query;
+use crate::status::{DONE, UNKNOWN};
+use crate::tree::Parentheses;
+use postings::Postings;
+use std::alloc::{AllocError, Global};
+use std::sync::Arc;
+use vers_bits::bit_vec::BitVec;
+use vers_rank::fast_rs_vec::RsVec;
+use vers_rmq::rmq::binary_rmq::BinaryRmq;
+use vers_rmq::rmq::fast_rmq::FastRmq;
+use vers_sorted::elias_fano::EliasFanoVec;
+use vers_sorted::sparse::SparseRSVec;
+use vers_wavelet::wavelet::WaveletMatrix;
+
+/// An owner of a structure, which may have others in other threads.
+pub type Owner = Arc<Kept, Global>;
+
+/// A structure.
+#[derive(Drop)]
+pub enum Kept {
+    /// Bits that can change.
+    Growing(BitVec<Global>),
+    /// Bits with ranks and selects.
+    Bits(RsVec<Global>),
+    /// Bits with few ones.
+    Sparse(SparseRSVec<Global>),
+    /// An ascending list.
+    Sorted(EliasFanoVec<Global>),
+    /// A list of symbols.
+    Symbols(WaveletMatrix<Global>),
+    /// Parentheses. They are in a box, since the tables of bytes inside make a tree large.
+    Tree(Box<Parentheses, Global>),
+    /// Values, by blocks.
+    Fast(FastRmq<Global>),
+    /// Values, by a table.
+    Binary(BinaryRmq<Global>),
+    /// Documents with costs.
+    Posted(Postings<Global>),
+    /// Plain numbers, which some calls answer.
+    Numbers(Vec<u64, Global>),
+}
+
+impl Kept {
+    /// What the structure answers.
+    pub fn answer(&self, query: Query, a: u64, b: u64, c: u64) -> Answer
+        ensures { result ≡ structure_answer (structure_of self.now) query a b c }
+    {
+        match self {
+            Kept::Growing(bits) => bits.answer(query, a, b, c),
+            Kept::Bits(bits) => bits.answer(query, a, b, c),
+            Kept::Sparse(bits) => bits.answer(query, a, b, c),
+            Kept::Sorted(members) => members.answer(query, a, b, c),
+            Kept::Symbols(symbols) => symbols.answer(query, a, b, c),
+            Kept::Tree(tree) => (**tree).answer(query, a, b, c),
+            Kept::Fast(values) => values.answer(query, a, b, c),
+            Kept::Binary(values) => values.answer(query, a, b, c),
+            Kept::Posted(posted) => posted.answer(query, a, b, c),
+            Kept::Numbers(numbers) => numbers.answer(query, a, b, c),
+        }
+    }
+
+    /// What the structure answers to the query of a code.
+    pub fn answer_coded(&self, code: u32, a: u64, b: u64, c: u64) -> Answer
+        ensures { result ≡ coded_answer (structure_of self.now) code a b c }
+    {
+        match Query::of(code) {
+            Some(query) => self.answer(query, a, b, c),
+            None => Answer::unknown(),
+        }
+    }
+
+    /// Puts in the stead of each number what is answered to it, by a loop for each structure.
+    pub fn answer_each(&self, query: Query, numbers: &mut [usize], b: u64, c: u64, other: usize)
+        ensures { numbers.new
+            ≡ map (answered (structure_answer (structure_of self.now) query) other b c) numbers.old }
+    {
+        match self {
+            Kept::Growing(bits) => answer_each(bits, query, numbers, b, c, other),
+            Kept::Bits(bits) => answer_each(bits, query, numbers, b, c, other),
+            Kept::Sparse(bits) => answer_each(bits, query, numbers, b, c, other),
+            Kept::Sorted(members) => answer_each(members, query, numbers, b, c, other),
+            Kept::Symbols(symbols) => answer_each(symbols, query, numbers, b, c, other),
+            Kept::Tree(tree) => answer_each(&**tree, query, numbers, b, c, other),
+            Kept::Fast(values) => answer_each(values, query, numbers, b, c, other),
+            Kept::Binary(values) => answer_each(values, query, numbers, b, c, other),
+            Kept::Posted(posted) => answer_each(posted, query, numbers, b, c, other),
+            Kept::Numbers(held) => answer_each(held, query, numbers, b, c, other),
+        }
+    }
+
+    /// Puts in the first place of each ask what is answered to it, by a loop for each structure.
+    pub fn answer_rows(&self, query: Query, asks: &mut [Ask], other: u64)
+        ensures { asks.new ≡ map (row_answered (structure_answer (structure_of self.now) query) other) asks.old }
+    {
+        match self {
+            Kept::Growing(bits) => answer_rows(bits, query, asks, other),
+            Kept::Bits(bits) => answer_rows(bits, query, asks, other),
+            Kept::Sparse(bits) => answer_rows(bits, query, asks, other),
+            Kept::Sorted(members) => answer_rows(members, query, asks, other),
+            Kept::Symbols(symbols) => answer_rows(symbols, query, asks, other),
+            Kept::Tree(tree) => answer_rows(&**tree, query, asks, other),
+            Kept::Fast(values) => answer_rows(values, query, asks, other),
+            Kept::Binary(values) => answer_rows(values, query, asks, other),
+            Kept::Posted(posted) => answer_rows(posted, query, asks, other),
+            Kept::Numbers(held) => answer_rows(held, query, asks, other),
+        }
+    }
+
+    /// The query of a code, if the structure has it.
+    pub fn query_of(&self, code: u32) -> Option<Query>
+        ensures known { IfSome result (λ query. (query_of code ≡ Some query)
+            × (batch_status (structure_of self.now) code ≡ DONE)) }
+        ensures unknown { result ≡ None
+            → batch_status (structure_of self.now) code ≡ UNKNOWN }
+    {
+        match Query::of(code) {
+            None => None,
+            Some(query) => {
+                if self.answer(query, 0, 0, 0).status == UNKNOWN {
+                    None
+                } else {
+                    Some(query)
+                }
+            }
+        }
+    }
+
+    /// The same as `answer_each` by the code of the query.
+    pub fn answer_each_coded(
+        &self,
+        code: u32,
+        numbers: &mut [usize],
+        b: u64,
+        c: u64,
+        other: usize,
+    ) -> u32
+        ensures status { result ≡ batch_status (structure_of self.now) code }
+        ensures done { result ≡ DONE → numbers.new
+            ≡ map (answered (coded_answer (structure_of self.now) code) other b c) numbers.old }
+        ensures left { result ≢ DONE → numbers.new ≡ numbers.old }
+    {
+        match self.query_of(code) {
+            Some(query) => {
+                self.answer_each(query, numbers, b, c, other);
+                DONE
+            }
+            None => UNKNOWN,
+        }
+    }
+
+    /// The same as `answer_rows` by the code of the query.
+    pub fn answer_rows_coded(&self, code: u32, asks: &mut [Ask], other: u64) -> u32
+        ensures status { result ≡ batch_status (structure_of self.now) code }
+        ensures done { result ≡ DONE → asks.new
+            ≡ map (row_answered (coded_answer (structure_of self.now) code) other) asks.old }
+        ensures left { result ≢ DONE → asks.new ≡ asks.old }
+    {
+        match self.query_of(code) {
+            Some(query) => {
+                self.answer_rows(query, asks, other);
+                DONE
+            }
+            None => UNKNOWN,
+        }
+    }
+
+    /// Changes the structure by the change of a code.
+    pub fn change(&mut self, code: u32, a: u64, b: u64) -> u32
+        ensures { IsChanged (changed_by_code (structure_of self.old) code a b) (structure_of self.old)
+            (structure_of self.new) result }
+    {
+        let Some(change) = Change::of(code) else {
+            return UNKNOWN;
+        };
+        match self {
+            Kept::Growing(bits) => change.make(bits, a, b),
+            _ => UNKNOWN,
+        }
+    }
+
+    /// The documents that two lists share. None where one is no such list.
+    pub fn common(&self, other: &Kept) -> Result<Option<Vec<u64, Global>>, AllocError>
+        ensures { IfOk result (λ made. option_map (λ numbers. numbers.items) made
+            ≡ common_of (structure_of self.now) (structure_of other.now)) }
+    {
+        match self {
+            Kept::Posted(one) => match other {
+                Kept::Posted(two) => Ok(Some(one.intersect(two)?)),
+                _ => Ok(None),
+            },
+            _ => Ok(None),
+        }
+    }
+}

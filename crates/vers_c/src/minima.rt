@@ -1,0 +1,99 @@
+//! Lists of values for the least of ranges, and plain numbers.
+ghost use Rattle.std.specs.Prelude.{◌≡◌, IfOk};
+ghost use Rattle.vers_c.specs.MinimaAnswers.{fast_answer, first_least, numbers_answer, table_answer};
+
+use crate::answer::Answer;
+use crate::asked::Asked;
+use crate::query::Query;
+use std::alloc::Global;
+use vers_bits::bit_vec::GrowError;
+use vers_rmq::rmq::binary_rmq::BinaryRmq;
+use vers_rmq::rmq::fast_rmq::FastRmq;
+use vers_rmq::rmq::{binary_rmq, fast_rmq};
+
+/// The values, as a `FastRmq`.
+pub fn fast(alloc: Global, values: &[u64]) -> Result<FastRmq<Global>, GrowError>
+    ensures { IfOk result (λ list. list ≡ values.now) }
+{
+    if values.len() > fast_rmq::MAX_LEN {
+        return Err(GrowError::TooLong);
+    }
+    Ok(FastRmq::from_vec(Vec::from_slice(alloc, values)?)?)
+}
+
+/// The values, as a `BinaryRmq`.
+pub fn binary(alloc: Global, values: &[u64]) -> Result<BinaryRmq<Global>, GrowError>
+    ensures { IfOk result (λ list. list ≡ values.now) }
+{
+    if values.len() > binary_rmq::MAX_LEN {
+        return Err(GrowError::TooLong);
+    }
+    Ok(BinaryRmq::from_vec(Vec::from_slice(alloc, values)?)?)
+}
+
+impl Asked for FastRmq<Global> {
+    ghost answers = { fast_answer };
+
+    #[inline(always)]
+    fn answer(&self, query: Query, a: u64, b: u64, c: u64) -> Answer {
+        match query {
+            Query::Len => Answer::place(self.len()),
+            Query::Get => Answer::number_or_absent(self.as_slice().get(a as usize).copied()),
+            Query::HeapSize => Answer::place(self.heap_size()),
+            Query::RangeMin => Answer::place_or_absent(fast_least(self, a as usize, b as usize)),
+            _ => Answer::unknown(),
+        }
+    }
+}
+
+// The first place of a least value from place `i` to place `j`, both included.
+#[inline(always)]
+fn fast_least(values: &FastRmq<Global>, i: usize, j: usize) -> Option<usize>
+    ensures { result ≡ first_least values.now i j }
+{
+    if i <= j && j < values.len() {
+        Some(values.range_min(i, j))
+    } else {
+        None
+    }
+}
+
+impl Asked for BinaryRmq<Global> {
+    ghost answers = { table_answer };
+
+    #[inline(always)]
+    fn answer(&self, query: Query, a: u64, b: u64, c: u64) -> Answer {
+        match query {
+            Query::Len => Answer::place(self.len()),
+            Query::Get => Answer::number_or_absent(self.as_slice().get(a as usize).copied()),
+            Query::HeapSize => Answer::place(self.heap_size()),
+            Query::RangeMin => Answer::place_or_absent(binary_least(self, a as usize, b as usize)),
+            _ => Answer::unknown(),
+        }
+    }
+}
+
+// The first place of a least value from place `i` to place `j`, both included.
+#[inline(always)]
+fn binary_least(values: &BinaryRmq<Global>, i: usize, j: usize) -> Option<usize>
+    ensures { result ≡ first_least values.now i j }
+{
+    if i <= j && j < values.len() {
+        Some(values.range_min(i, j))
+    } else {
+        None
+    }
+}
+
+impl Asked for Vec<u64, Global> {
+    ghost answers = { λ numbers. numbers_answer numbers.items };
+
+    #[inline(always)]
+    fn answer(&self, query: Query, a: u64, b: u64, c: u64) -> Answer {
+        match query {
+            Query::Len => Answer::place(self.len()),
+            Query::Get => Answer::number_or_absent(self.as_slice().get(a as usize).copied()),
+            _ => Answer::unknown(),
+        }
+    }
+}

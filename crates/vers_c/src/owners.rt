@@ -1,0 +1,92 @@
+//! Owners of structures, in handles and out of them.
+ghost use Rattle.std.specs.Prelude.{◌≡◌, Some, None, IfOk, true, false};
+ghost use Rattle.vers_c.specs.Changes.{IsChanged, changed_by_code};
+ghost use Rattle.vers_c.specs.Makes.{IsMade};
+ghost use Rattle.vers_c.specs.Structures.{contents, structure_of};
+
+use crate::handle::VersHandle;
+use crate::held::Held;
+use crate::kept::{Kept, Owner};
+use crate::loose::Loose;
+use crate::status::{DONE, NO_MEMORY, SHARED};
+use std::alloc::{AllocError, Global};
+use std::mem;
+use std::sync::Arc;
+
+/// Takes the owner out of a handle.
+#[inline(always)]
+pub fn taken(alloc: Global, handle: &mut VersHandle) -> Box<Owner, Global>
+    requires { handle.old.is_built ≡ true }
+    ensures value { contents handle.old ≡ Some (structure_of result.value.value) }
+    ensures left { handle.new.is_built ≡ false }
+{
+    let empty = VersHandle {
+        is_built: false,
+        held: Held::vacant(alloc),
+    };
+    let VersHandle { is_built: _, held } = mem::replace(handle, empty);
+    held.into_owner().into_box()
+}
+
+/// Puts an owner into a handle that holds nothing.
+#[inline(always)]
+pub fn put(handle: &mut VersHandle, owner: Box<Owner, Global>)
+    requires { handle.old.is_built ≡ false }
+    ensures { contents handle.new ≡ Some (structure_of owner.value.value) }
+{
+    let full = VersHandle {
+        is_built: true,
+        held: Held::of(Loose::of(owner)),
+    };
+    let VersHandle { is_built: _, held } = mem::replace(handle, full);
+    held.discard();
+}
+
+// The first owner of a structure.
+fn owner_of(alloc: Global, kept: Kept) -> Result<Box<Owner, Global>, AllocError>
+    ensures { IfOk result (λ owner. owner.value.value ≡ kept) }
+{
+    let owner = Arc::new(alloc, kept)?;
+    Ok(Box::new(alloc, owner)?)
+}
+
+/// One owner more of the same structure.
+pub fn other_owner(alloc: Global, owner: &Owner) -> Result<Box<Owner, Global>, AllocError>
+    ensures { IfOk result (λ other. other.value.value ≡ owner.now.value) }
+{
+    let other = Arc::try_clone(owner)?;
+    Ok(Box::new(alloc, other)?)
+}
+
+/// Changes a structure that has no other owner.
+pub fn changed(owner: &mut Owner, code: u32, a: u64, b: u64) -> u32
+    ensures { IsChanged (changed_by_code (structure_of owner.old.value) code a b)
+        (structure_of owner.old.value) (structure_of owner.new.value) result }
+{
+    match Arc::get_mut(owner) {
+        Some(kept) => kept.change(code, a, b),
+        None => SHARED,
+    }
+}
+
+/// Puts a structure into a handle that holds nothing.
+pub fn fill(alloc: Global, handle: &mut VersHandle, kept: Kept) -> u32
+    requires { handle.old.is_built ≡ false }
+    ensures { IsMade (Some (structure_of kept)) (contents handle.old) (contents handle.new) result }
+{
+    match owner_of(alloc, kept) {
+        Ok(owner) => {
+            put(handle, owner);
+            DONE
+        }
+        Err(_) => NO_MEMORY,
+    }
+}
+
+// An owner may go to another thread.
+fn crosses<T: Send>() {}
+
+/// That an owner may go to another thread, which the check shows.
+pub fn owners_cross() {
+    crosses::<Owner>();
+}

@@ -1,0 +1,174 @@
+//! Saved forms of what a handle holds.
+ghost use Rattle.std.specs.Prelude.{◌≡◌, ◌≢◌, ◌↔◌, ◌⊎◌, Some, None, IfOk, IfErr, OnOk, IsSome, length, option_map};
+ghost use Rattle.vers_saved.specs.Format.{saved};
+ghost use Rattle.vers_c.specs.Answers.{found_or_absent, vacant};
+ghost use Rattle.vers_c.specs.Saves.{IsLoaded, contents_form, fault_as, form_of, kind_of};
+ghost use Rattle.vers_c.specs.Structures.{contents, structure_of};
+
+use crate::answer::Answer;
+use crate::handle::VersHandle;
+use crate::kept::Kept;
+use crate::kind::Kind;
+use crate::owners::{fill, put, taken};
+use crate::status::{ABSENT, DONE, NO_MEMORY, OCCUPIED, REFUSED, UNKNOWN, VACANT};
+use std::alloc::Global;
+use vers_saved::fault::{LoadError, SaveError};
+use vers_saved::saved::{Loaded, Saved, load_from_slice, save_to_vec, saved_size};
+
+// The saved form of a list.
+fn saved_of<S: Saved>(alloc: Global, list: &S) -> Result<Vec<u8, Global>, SaveError>
+    ensures { IfOk result (λ out. out.items
+        ≡ saved S.kind.number (S.count list.now) (S.width list.now) (S.words list.now)) }
+{
+    let mut out = Vec::new(alloc);
+    save_to_vec(list, &mut out)?;
+    Ok(out)
+}
+
+impl Kept {
+    /// How many bytes the saved form has. None where there is none.
+    pub fn saved_size(&self) -> Option<usize>
+        ensures { IsSome result → result ≡ option_map length (form_of (structure_of self.now)) }
+    {
+        match self {
+            Kept::Growing(bits) => saved_size(bits),
+            Kept::Bits(bits) => saved_size(bits),
+            Kept::Sparse(bits) => saved_size(bits),
+            Kept::Sorted(members) => saved_size(members),
+            Kept::Symbols(symbols) => saved_size(symbols),
+            Kept::Tree(tree) => saved_size(&**tree),
+            Kept::Fast(values) => saved_size(values),
+            Kept::Binary(values) => saved_size(values),
+            Kept::Posted(_) => None,
+            Kept::Numbers(_) => None,
+        }
+    }
+
+    /// The saved form.
+    pub fn save(&self, alloc: Global) -> Result<Vec<u8, Global>, SaveError>
+        ensures { IfOk result (λ out. form_of (structure_of self.now) ≡ Some out.items) }
+    {
+        match self {
+            Kept::Growing(bits) => saved_of(alloc, bits),
+            Kept::Bits(bits) => saved_of(alloc, bits),
+            Kept::Sparse(bits) => saved_of(alloc, bits),
+            Kept::Sorted(members) => saved_of(alloc, members),
+            Kept::Symbols(symbols) => saved_of(alloc, symbols),
+            Kept::Tree(tree) => saved_of(alloc, &**tree),
+            Kept::Fast(values) => saved_of(alloc, values),
+            Kept::Binary(values) => saved_of(alloc, values),
+            Kept::Posted(_) => Err(SaveError::NoForm),
+            Kept::Numbers(_) => Err(SaveError::NoForm),
+        }
+    }
+}
+
+/// How many bytes the saved form of what is held has.
+#[unsafe(no_mangle)]
+pub extern "C" fn vers_saved_size(alloc: Global, handle: &mut VersHandle) -> Answer
+    ensures value { result.status ≡ DONE
+        → result ≡ found_or_absent (option_map length (contents_form (contents handle.old))) }
+    ensures vacant { (result ≡ vacant) ↔ (contents handle.old ≡ None) }
+    ensures kept { contents handle.new ≡ contents handle.old }
+{
+    if !handle.is_built {
+        return Answer::vacant();
+    }
+    let owner = taken(alloc, handle);
+    let size = owner.saved_size();
+    put(handle, owner);
+    Answer::place_or_absent(size)
+}
+
+/// Writes the saved form of what is held over bytes, which are as many. Bytes of another number are refused.
+#[unsafe(no_mangle)]
+pub extern "C" fn vers_save(alloc: Global, handle: &mut VersHandle, bytes: &mut [u8]) -> u32
+    ensures saved { result ≡ DONE → contents_form (contents handle.old) ≡ Some bytes.new }
+    ensures left { result ≢ DONE → bytes.new ≡ bytes.old }
+    ensures vacant { (result ≡ VACANT) ↔ (contents handle.old ≡ None) }
+    ensures kept { contents handle.new ≡ contents handle.old }
+{
+    if !handle.is_built {
+        return VACANT;
+    }
+    let owner = taken(alloc, handle);
+    let made = owner.save(alloc);
+    put(handle, owner);
+    match made {
+        Ok(out) => written(&out, bytes),
+        Err(SaveError::NoForm) => ABSENT,
+        Err(_) => NO_MEMORY,
+    }
+}
+
+// Writes bytes over others, which are as many.
+fn written(from: &[u8], to: &mut [u8]) -> u32
+    ensures done { result ≡ DONE → to.new ≡ from.now }
+    ensures left { result ≢ DONE → to.new ≡ to.old }
+    ensures status { (result ≡ DONE) ⊎ (result ≡ REFUSED) }
+{
+    if from.len() != to.len() {
+        return REFUSED;
+    }
+    to.copy_from_slice(from);
+    DONE
+}
+
+// A loaded list as what is kept.
+macro_rules! loaded_as {
+    ($loaded:expr, $kept:path) => {
+        match $loaded {
+            Ok(list) => Ok($kept(list)),
+            Err(error) => Err(fault(error)),
+        }
+    };
+}
+
+impl Kept {
+    /// The structure of a kind that bytes are the saved form of. Trees have none of their own.
+    pub fn load(alloc: Global, kind: Kind, bytes: &[u8]) -> Result<Kept, u32>
+        ensures loaded { IfOk result (λ kept. (kind_of (structure_of kept) ≡ Some kind)
+            × (form_of (structure_of kept) ≡ Some bytes.now)) }
+        ensures told { IfErr result (λ status. (status ≡ REFUSED) ⊎ ((status ≡ UNKNOWN) ⊎ (status ≡ NO_MEMORY))) }
+    {
+        match kind {
+            Kind::Growing => loaded_as!(load_from_slice(alloc, bytes), Kept::Growing),
+            Kind::Bits => loaded_as!(load_from_slice(alloc, bytes), Kept::Bits),
+            Kind::Sparse => loaded_as!(load_from_slice(alloc, bytes), Kept::Sparse),
+            Kind::Sorted => loaded_as!(load_from_slice(alloc, bytes), Kept::Sorted),
+            Kind::Symbols => loaded_as!(load_from_slice(alloc, bytes), Kept::Symbols),
+            Kind::Tree => Err(UNKNOWN),
+            Kind::Fast => loaded_as!(load_from_slice(alloc, bytes), Kept::Fast),
+            Kind::Binary => loaded_as!(load_from_slice(alloc, bytes), Kept::Binary),
+        }
+    }
+}
+
+/// Builds the structure of a kind that bytes are the saved form of. Other bytes are refused.
+#[unsafe(no_mangle)]
+pub extern "C" fn vers_load(alloc: Global, code: u32, bytes: &[u8], handle: &mut VersHandle) -> u32
+    ensures loaded { result ≡ DONE → IsLoaded code bytes.now (contents handle.old) (contents handle.new) }
+    ensures left { result ≢ DONE → contents handle.new ≡ contents handle.old }
+    ensures occupied { (result ≡ OCCUPIED) ↔ IsSome (contents handle.old) }
+{
+    if handle.is_built {
+        return OCCUPIED;
+    }
+    let Some(kind) = Kind::of(code) else {
+        return UNKNOWN;
+    };
+    match Kept::load(alloc, kind, bytes) {
+        Ok(kept) => fill(alloc, handle, kept),
+        Err(status) => status,
+    }
+}
+
+// What a fault of loading is told as.
+fn fault(error: LoadError) -> u32
+    ensures { result ≡ fault_as error }
+{
+    match error {
+        LoadError::Memory => NO_MEMORY,
+        _ => REFUSED,
+    }
+}

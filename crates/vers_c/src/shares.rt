@@ -1,0 +1,76 @@
+//! Exports on owners: one more, one less, and what two structures share.
+ghost use Rattle.std.specs.Prelude.{◌≡◌, ◌≢◌, ◌↔◌, None, option_map};
+ghost use Rattle.vers_c.specs.Lists.{IsListed, contents_common};
+ghost use Rattle.vers_c.specs.Makes.{IsShared};
+ghost use Rattle.vers_c.specs.Structures.{contents};
+
+use crate::handle::VersHandle;
+use crate::kept::Kept;
+use crate::owners::{fill, other_owner, put, taken};
+use crate::status::{DONE, NO_MEMORY, OCCUPIED, REFUSED, VACANT};
+use std::alloc::Global;
+
+/// Lets go of what is held, if anything is: the handle can be built again. The last owner frees the structure.
+#[unsafe(no_mangle)]
+pub extern "C" fn vers_free(alloc: Global, handle: &mut VersHandle)
+    ensures { contents handle.new ≡ None }
+{
+    if handle.is_built {
+        drop(taken(alloc, handle));
+    }
+}
+
+/// Makes another handle an owner of what this one holds, for another thread. The handles are two.
+#[unsafe(no_mangle)]
+pub extern "C" fn vers_clone(alloc: Global, handle: &mut VersHandle, other: &mut VersHandle) -> u32
+    ensures shared { IsShared (contents handle.old) (contents other.old) (contents other.new) result }
+    ensures kept { contents handle.new ≡ contents handle.old }
+{
+    if !handle.is_built {
+        return VACANT;
+    }
+    if other.is_built {
+        return OCCUPIED;
+    }
+    let owner = taken(alloc, handle);
+    let status = match other_owner(alloc, &owner) {
+        Ok(second) => {
+            put(other, second);
+            DONE
+        }
+        Err(_) => NO_MEMORY,
+    };
+    put(handle, owner);
+    status
+}
+
+/// Puts the documents that two lists share into a third handle, as plain numbers. The handles are three.
+#[unsafe(no_mangle)]
+pub extern "C" fn vers_intersect(
+    alloc: Global,
+    one: &mut VersHandle,
+    other: &mut VersHandle,
+    into: &mut VersHandle,
+) -> u32
+    ensures listed { IsListed (contents_common (contents one.old) (contents other.old)) (contents into.old)
+        (contents into.new) result }
+    ensures one { contents one.new ≡ contents one.old }
+    ensures other { contents other.new ≡ contents other.old }
+{
+    if !one.is_built || !other.is_built {
+        return REFUSED;
+    }
+    if into.is_built {
+        return OCCUPIED;
+    }
+    let first = taken(alloc, one);
+    let second = taken(alloc, other);
+    let made = first.common(&second);
+    put(one, first);
+    put(other, second);
+    match made {
+        Ok(Some(numbers)) => fill(alloc, into, Kept::Numbers(numbers)),
+        Ok(None) => REFUSED,
+        Err(_) => NO_MEMORY,
+    }
+}

@@ -1,0 +1,160 @@
+//! Lists of parentheses.
+ghost use Rattle.std.specs.Prelude.{◌≡◌, ◌==◌, length, take, IfOk};
+ghost use Rattle.vers_bits.specs.Bits.{pack};
+ghost use Rattle.vers_trees.specs.Forest.{IsBalanced, forest_of};
+ghost use Rattle.vers_trees.specs.Nodes.{IsNode, children};
+ghost use Rattle.vers_c.specs.TreeAnswers.{any_tree_answer as answer_of_any, level_end_of, measure_of, relative_of, tree_answer};
+
+use crate::answer::Answer;
+use crate::asked::Asked;
+use crate::bits::growing;
+use crate::query::{LevelQuery, MeasureQuery, NodeQuery, Query, TreeQuery};
+use std::alloc::Global;
+use vers_bits::bit_vec::GrowError;
+use vers_trees::trees::bp::BpTree;
+
+/// A list of parentheses with its index.
+pub type Parentheses = BpTree<512, Global>;
+
+/// The first `len` bits of words, or all where there are not so many, as parentheses.
+pub fn tree(alloc: Global, words: &[u64], len: usize) -> Result<Box<Parentheses, Global>, GrowError>
+    ensures { IfOk result (λ tree. tree.value ≡ take len (pack words.now 64)) }
+{
+    match BpTree::from_bit_vector(growing(alloc, words, len)?) {
+        Ok(tree) => in_box(alloc, tree),
+        Err(error) => Err(error),
+    }
+}
+
+// A tree in a box.
+fn in_box(alloc: Global, tree: Parentheses) -> Result<Box<Parentheses, Global>, GrowError>
+    ensures { IfOk result (λ made. made.value ≡ tree) }
+{
+    match Box::new(alloc, tree) {
+        Ok(made) => Ok(made),
+        Err(_) => Err(GrowError::Memory),
+    }
+}
+
+impl Asked for BpTree<512, Global> {
+    ghost answers = { tree_answer };
+
+    #[inline(always)]
+    fn answer(&self, query: Query, a: u64, b: u64, c: u64) -> Answer {
+        match query {
+            Query::Len => Answer::place(self.len()),
+            Query::Get => Answer::bit_or_absent(self.is_open(a as usize)),
+            Query::HeapSize => Answer::place(self.heap_size()),
+            Query::Tree(query) => any_tree_answer(self, query, a as usize, b),
+            Query::Node(query) => {
+                if self.has_node(a as usize) {
+                    Answer::place_or_absent(relative(self, query, a as usize, b))
+                } else {
+                    Answer::refused()
+                }
+            }
+            Query::Measure(query) => {
+                if self.has_node(a as usize) {
+                    Answer::found(measure(self, query, a as usize))
+                } else {
+                    Answer::refused()
+                }
+            }
+            Query::Level(query) => {
+                if self.is_balanced() {
+                    Answer::place_or_absent(end_of_level(self, query, a))
+                } else {
+                    Answer::refused()
+                }
+            }
+            Query::IsAncestor => {
+                if self.has_node(a as usize) && self.has_node(b as usize) {
+                    Answer::bit_or_absent(self.is_ancestor(a as usize, b as usize))
+                } else {
+                    Answer::refused()
+                }
+            }
+            _ => Answer::unknown(),
+        }
+    }
+}
+
+// What any parentheses answer.
+#[inline(always)]
+fn any_tree_answer(tree: &Parentheses, query: TreeQuery, a: usize, b: u64) -> Answer
+    ensures { result ≡ answer_of_any tree.now query a b }
+{
+    match query {
+        TreeQuery::Size => Answer::place(tree.size()),
+        TreeQuery::IsBalanced => Answer::truth(tree.is_balanced()),
+        TreeQuery::Excess => {
+            if a < tree.len() {
+                Answer::found(tree.excess(a).cast_unsigned())
+            } else {
+                Answer::refused()
+            }
+        }
+        TreeQuery::Close => Answer::place_or_absent(tree.close(a)),
+        TreeQuery::Open => Answer::place_or_absent(tree.open(a)),
+        TreeQuery::Enclose => Answer::place_or_absent(tree.enclose(a)),
+        TreeQuery::NodeHandle => Answer::place(tree.node_handle(a)),
+        TreeQuery::FwdSearch => Answer::place_or_absent(tree.fwd_search(a, b.cast_signed())),
+        TreeQuery::BwdSearch => Answer::place_or_absent(tree.bwd_search(a, b.cast_signed())),
+    }
+}
+
+// The node that stands so to a node.
+#[inline(always)]
+fn relative(tree: &Parentheses, query: NodeQuery, node: usize, b: u64) -> Option<usize>
+    requires balanced { IsBalanced tree.now }
+    requires node { IsNode (forest_of tree.now) node }
+    ensures { result ≡ relative_of (forest_of tree.now) query node b }
+{
+    match query {
+        NodeQuery::Parent => tree.parent(node),
+        NodeQuery::FirstChild => tree.first_child(node),
+        NodeQuery::LastChild => tree.last_child(node),
+        NodeQuery::NextSibling => tree.next_sibling(node),
+        NodeQuery::PreviousSibling => tree.previous_sibling(node),
+        NodeQuery::LevelNext => tree.level_next(node),
+        NodeQuery::LevelPrev => tree.level_prev(node),
+        NodeQuery::LevelAncestor => tree.level_ancestor(node, b),
+    }
+}
+
+// A number of a node.
+#[inline(always)]
+fn measure(tree: &Parentheses, query: MeasureQuery, node: usize) -> u64
+    requires balanced { IsBalanced tree.now }
+    requires node { IsNode (forest_of tree.now) node }
+    ensures { result ≡ measure_of (forest_of tree.now) query node }
+{
+    match query {
+        MeasureQuery::NodeIndex => tree.node_index(node) as u64,
+        MeasureQuery::IsLeaf => u64::from(is_leaf(tree, node)),
+        MeasureQuery::Depth => tree.depth(node),
+        // It is never None.
+        MeasureQuery::SubtreeSize => tree.subtree_size(node).unwrap_or(0) as u64,
+    }
+}
+
+// Whether a node has no children.
+fn is_leaf(tree: &Parentheses, node: usize) -> bool
+    requires balanced { IsBalanced tree.now }
+    requires node { IsNode (forest_of tree.now) node }
+    ensures { result ≡ (length (children (forest_of tree.now) node) == 0) }
+{
+    tree.is_leaf(node)
+}
+
+// The first or the last node of a depth.
+#[inline(always)]
+fn end_of_level(tree: &Parentheses, query: LevelQuery, depth: u64) -> Option<usize>
+    requires { IsBalanced tree.now }
+    ensures { result ≡ level_end_of (forest_of tree.now) query depth }
+{
+    match query {
+        LevelQuery::LevelLeftmost => tree.level_leftmost(depth),
+        LevelQuery::LevelRightmost => tree.level_rightmost(depth),
+    }
+}
