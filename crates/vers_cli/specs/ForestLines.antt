@@ -1,6 +1,7 @@
 -- The lines of balanced parentheses: what is asked of the nodes of the forest that they write down.
-use Rattle.std.specs.Prelude.{ℕ, zero, suc, ◌==◌, Bool, false, true, ◌&&◌, List, [], ◌∷◌, length, reverse, slice_index_or, Option, if◌then◌else◌}
+use Rattle.std.specs.Prelude.{ℕ, ◌==◌, Bool, ◌&&◌, List, length, reverse, Option, if◌then◌else◌}
 use Rattle.vers_bits.specs.Bits.{bit_value}
+use Rattle.vers_trees.specs.Balance.{are_balanced, has_node}
 use Rattle.vers_trees.specs.Forest.{Forest, forest_of}
 use Rattle.vers_trees.specs.Nodes.{is_ancestor, depth, parent, level_ancestor, children, siblings, first_of, last_of, next_of, previous_of, level, subtree, node_index}
 use Rattle.vers_trees.specs.Traversals.{postorder, subtree_post}
@@ -16,26 +17,6 @@ use Rattle.vers_cli.specs.declared.name.WalkQuery.{WalkQuery}
 use Rattle.vers_cli.specs.declared.name.WalkQuery.TheVariants.{Children, RevChildren, SubtreeIter, SubtreePostIter}
 use Rattle.vers_cli.specs.declared.name.LevelQuery.{LevelQuery}
 use Rattle.vers_cli.specs.declared.name.LevelQuery.TheVariants.{LevelLeftmost, LevelRightmost}
-
--- whether parentheses close what they open and n that were open before them, and no more
-abbrev pub closes : ℕ → List Bool → Bool
-closes zero [] = true
-closes (suc n) [] = false
-closes n (true ∷ bits) = closes (suc n) bits
-closes zero (false ∷ bits) = false
-closes (suc n) (false ∷ bits) = closes n bits
-
--- whether parentheses are balanced
-abbrev pub are_balanced : List Bool → Bool
-are_balanced bits = closes 0 bits
-
--- whether a one stands at a place
-abbrev pub has_one : List Bool → ℕ → Bool
-has_one bits v = slice_index_or bits v false
-
--- whether parentheses are balanced and a one stands at a place, which is where a node opens
-abbrev pub has_node : List Bool → ℕ → Bool
-has_node bits v = are_balanced bits && has_one bits v
 
 -- the reply of a query under a condition, which is refused where it is not met
 abbrev pub reply_if : Bool → PlainReply → PlainReply

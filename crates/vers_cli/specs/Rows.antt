@@ -26,7 +26,6 @@ use Rattle.vers_cli.specs.declared.name.LevelQuery.TheVariants.{LevelRightmost}
 use Rattle.vers_cli.specs.Name.{name_of}
 use Rattle.vers_cli.specs.Holding.{Holding, Nothing, BitsHeld, SortedHeld, SparseHeld, ValuesHeld, TreeHeld, SymbolsHeld, PostingsHeld}
 use Rattle.vers_cli.specs.ValuesLines.{first_least}
-use Rattle.vers_cli.specs.ForestLines.{are_balanced}
 use Rattle.vers_cli.specs.PostingsLines.{posted_of}
 use Rattle.vers_cli.specs.Answers.{answer_to_words, answer_to, holding_after_words, holding_after, answers_to}
 
@@ -174,16 +173,6 @@ answer-range_min_2_4 = refl
 pub answer-range_min_0_5 : answer_to (ValuesHeld values_31211) (codes "range_min 0 5") ≡ ended (codes "refused")
 unfolding answer_to_words number_of
 answer-range_min_0_5 = refl
-
--- parentheses read from the left: all that open close, one stays open, and one closes what didn't open
-pub are_balanced-110100 : are_balanced (true ∷ true ∷ false ∷ true ∷ false ∷ false ∷ []) ≡ true
-are_balanced-110100 = refl
-
-pub are_balanced-110 : are_balanced (true ∷ true ∷ false ∷ []) ≡ false
-are_balanced-110 = refl
-
-pub are_balanced-01 : are_balanced (false ∷ true ∷ []) ≡ false
-are_balanced-01 = refl
 
 -- a node with two leaves, held
 abbrev held_tree : Holding

@@ -1,6 +1,7 @@
 -- The lines of a list of parentheses.
 use Rattle.std.specs.Prelude.{ℕ, ◌+◌, ℤ, negsuc, Bool, true, nat_le, nat_lt, List, [], ◌∷◌, length, Option, Some, None, if◌then◌else◌}
 use Rattle.vers_bits.specs.Bits.{bit_value, count, places, select}
+use Rattle.vers_trees.specs.Balance.{are_balanced}
 use Rattle.vers_trees.specs.Excess.{excess, first_rise_after, last_rise_before, enclosing}
 use Rattle.vers_trees.specs.declared.trees.bp.TheConstants.{MAX_LEN}
 use Rattle.vers_words.specs.declared.loading.Loading.{Loading}
@@ -16,7 +17,7 @@ use Rattle.vers_cli.specs.declared.name.PlaceQuery.{PlaceQuery}
 use Rattle.vers_cli.specs.declared.name.PlaceQuery.TheVariants.{Excess, Close, Open, Enclose, NodeHandle}
 use Rattle.vers_cli.specs.declared.name.SearchQuery.{SearchQuery}
 use Rattle.vers_cli.specs.declared.name.SearchQuery.TheVariants.{FwdSearch, BwdSearch}
-use Rattle.vers_cli.specs.ForestLines.{are_balanced, forest_reply}
+use Rattle.vers_cli.specs.ForestLines.{forest_reply}
 
 -- the load line `tree S`, for the bits that S writes
 abbrev pub tree_loaded : Option (List Bool) → Loading (List Bool)

@@ -1,12 +1,11 @@
 //! The lines of balanced parentheses: what is asked of the nodes of the forest that they write down.
-ghost use Rattle.std.specs.Prelude.{◌≡◌, ◌<◌, ◌==◌, true, length, Decides, IfOk, IsTrue};
+ghost use Rattle.std.specs.Prelude.{◌≡◌, ◌==◌, length, IfOk};
 ghost use Rattle.std.specs.Iterator.{Drains, IsFinite};
-ghost use Rattle.vers_trees.specs.Excess.{excess};
 ghost use Rattle.vers_trees.specs.Forest.{IsBalanced, forest_of};
 ghost use Rattle.vers_trees.specs.Nodes.{IsNode, children};
 ghost use Rattle.vers_words.specs.Text.{words_in};
 ghost use Rattle.vers_words.specs.Reply.{plain_reply};
-ghost use Rattle.vers_cli.specs.ForestLines.{are_balanced, has_one, has_node, relative_of, measure_of, walk_of, level_end_of, all_nodes_reply as reply_of_all_nodes, relative_reply as reply_of_relative, measure_reply as reply_of_measure, walk_reply as reply_of_walk, level_reply as reply_of_level, is_ancestor_reply as reply_of_is_ancestor, level_ancestor_reply as reply_of_level_ancestor, forest_reply};
+ghost use Rattle.vers_cli.specs.ForestLines.{relative_of, measure_of, walk_of, level_end_of, all_nodes_reply as reply_of_all_nodes, relative_reply as reply_of_relative, measure_reply as reply_of_measure, walk_reply as reply_of_walk, level_reply as reply_of_level, is_ancestor_reply as reply_of_is_ancestor, level_ancestor_reply as reply_of_level_ancestor, forest_reply};
 
 use crate::name::{ForestQuery, LevelQuery, MeasureQuery, RelativeQuery, WalkQuery};
 use std::alloc::{AllocError, Allocator};
@@ -56,42 +55,6 @@ pub fn reply<A: Allocator + Copy>(
     }
 }
 
-/// Whether the parentheses are balanced.
-pub fn is_balanced<A: Allocator + Copy>(tree: &BpTree<512, &A>) -> bool
-    ensures value { result ≡ are_balanced tree.now }
-    ensures grammar { Decides result (IsBalanced tree.now) }
-{
-    tree.is_balanced()
-}
-
-// The excess before a place.
-fn excess_before<A: Allocator + Copy>(tree: &BpTree<512, &A>, place: usize) -> i64
-    requires { place < length tree.now }
-    ensures { result ≡ excess tree.now place }
-{
-    if place == 0 {
-        0
-    } else {
-        tree.excess(place - 1)
-    }
-}
-
-// Whether a one stands at a place.
-fn has_one<A: Allocator + Copy>(tree: &BpTree<512, &A>, place: usize) -> bool
-    ensures { result ≡ has_one tree.now place }
-{
-    place < tree.len() && tree.excess(place) > excess_before(tree, place)
-}
-
-// Whether the parentheses are balanced and a node opens at a place.
-fn has_node<A: Allocator + Copy>(tree: &BpTree<512, &A>, place: usize) -> bool
-    ensures value { result ≡ has_node tree.now place }
-    ensures balanced { IsTrue result → IsBalanced tree.now }
-    ensures node { IsTrue result → IsNode (forest_of tree.now) place }
-{
-    is_balanced(tree) && has_one(tree, place)
-}
-
 /// The places that an iterator has left.
 pub fn places_left<A: Allocator + Copy, I: Iterator<Item = usize> + Drop>(
     alloc: A,
@@ -115,7 +78,7 @@ fn all_nodes_reply<A: Allocator + Copy>(
 ) -> Result<Reply<A>, AllocError>
     ensures { IfOk result (λ reply. plain_reply reply ≡ reply_of_all_nodes tree.now) }
 {
-    if !is_balanced(tree) {
+    if !tree.is_balanced() {
         return Ok(Reply::Refused);
     }
     Ok(Reply::Numbers(places_left(alloc, tree.dfs_post_iter())?))
@@ -129,7 +92,7 @@ fn relative_reply<A: Allocator + Copy>(
 ) -> Reply<A>
     ensures { plain_reply result ≡ reply_of_relative tree.now query node }
 {
-    if has_node(tree, node) {
+    if tree.has_node(node) {
         Reply::place_or_absent(relative(tree, query, node))
     } else {
         Reply::Refused
@@ -165,7 +128,7 @@ fn measure_reply<A: Allocator + Copy>(
 ) -> Reply<A>
     ensures { plain_reply result ≡ reply_of_measure tree.now query node }
 {
-    if has_node(tree, node) {
+    if tree.has_node(node) {
         Reply::Number(measure(tree, query, node))
     } else {
         Reply::Refused
@@ -205,7 +168,7 @@ fn walk_reply<A: Allocator + Copy>(
 ) -> Result<Reply<A>, AllocError>
     ensures { IfOk result (λ reply. plain_reply reply ≡ reply_of_walk tree.now query node) }
 {
-    if !has_node(tree, node) {
+    if !tree.has_node(node) {
         return Ok(Reply::Refused);
     }
     Ok(Reply::Numbers(walk(alloc, tree, query, node)?))
@@ -238,7 +201,7 @@ fn level_reply<A: Allocator + Copy>(
 ) -> Reply<A>
     ensures { plain_reply result ≡ reply_of_level tree.now query depth }
 {
-    if is_balanced(tree) {
+    if tree.is_balanced() {
         Reply::place_or_absent(end_of_level(tree, query, depth))
     } else {
         Reply::Refused
@@ -268,7 +231,7 @@ fn is_ancestor_reply<A: Allocator + Copy>(
 ) -> Reply<A>
     ensures { plain_reply result ≡ reply_of_is_ancestor tree.now ancestor descendant }
 {
-    if has_node(tree, ancestor) && has_node(tree, descendant) {
+    if tree.has_node(ancestor) && tree.has_node(descendant) {
         Reply::number_or_absent(tree.is_ancestor(ancestor, descendant).map(u64::from))
     } else {
         Reply::Refused
@@ -283,7 +246,7 @@ fn level_ancestor_reply<A: Allocator + Copy>(
 ) -> Reply<A>
     ensures { plain_reply result ≡ reply_of_level_ancestor tree.now node levels }
 {
-    if has_node(tree, node) {
+    if tree.has_node(node) {
         Reply::place_or_absent(tree.level_ancestor(node, levels))
     } else {
         Reply::Refused

@@ -10,7 +10,7 @@ ghost use Rattle.vers_cli.specs.TreeLines.{first_place, tree_loaded, tree_reply,
 
 use crate::bits::bit_vec;
 use crate::forest;
-use crate::forest::{is_balanced, places_left};
+use crate::forest::places_left;
 use crate::name::{PlaceQuery, Query, SearchQuery, TreeQuery, WholeQuery};
 use std::alloc::{AllocError, Allocator};
 use vers_trees::trees::bp::{BpTree, MAX_LEN};
@@ -88,7 +88,7 @@ fn whole_reply<A: Allocator + Copy>(
     match query {
         WholeQuery::Size => Ok(Reply::Number(tree.size() as u64)),
         WholeQuery::Root => Ok(Reply::place_or_absent(root(tree))),
-        WholeQuery::IsBalanced => Ok(Reply::Number(u64::from(is_balanced(tree)))),
+        WholeQuery::IsBalanced => Ok(Reply::Number(u64::from(tree.is_balanced()))),
         WholeQuery::DfsIter => Ok(Reply::Numbers(nodes(alloc, tree)?)),
     }
 }

@@ -1,4 +1,4 @@
-use Rattle.vers_cli.proofs.Balance.{first_place-is}
+use Rattle.vers_cli.proofs.FirstPlace.{first_place-is}
 use Rattle.vers_cli.proofs.tree.root.Goals as goal
 
 pub returns : goal.returns
