@@ -30,6 +30,14 @@ pub struct Ask {
     pub c: u64,
 }
 
+/// What a structure answers, in a function of its own, which saves no registers that only others need.
+#[inline(never)]
+pub fn answer_once<S: Asked>(structure: &S, query: Query, a: u64, b: u64, c: u64) -> Answer
+    ensures { result ≡ S.answers structure.now query a b c }
+{
+    structure.answer(query, a, b, c)
+}
+
 /// Puts in the stead of each number what is answered to it and two more numbers, and `other` where there is no answer.
 #[inline(always)]
 pub fn answer_each<S: Asked>(

@@ -7,10 +7,14 @@ ghost use Rattle.vers_c.specs.Lists.{common_of};
 ghost use Rattle.vers_c.specs.Structures.{structure_of};
 
 use crate::answer::Answer;
-use crate::asked::{Ask, Asked, answer_each, answer_rows};
+use crate::asked::{Ask, answer_each, answer_once, answer_rows};
+use crate::bits::each_of_bits;
 use crate::change::Change;
+use crate::minima::{each_of_values, rows_of_values};
 use crate::query::Query;
+use crate::sorted::each_of_sorted;
 use crate::status::{DONE, UNKNOWN};
+use crate::symbols::each_of_symbols;
 use crate::tree::Parentheses;
 use postings::Postings;
 use std::alloc::{AllocError, Global};
@@ -57,16 +61,16 @@ impl Kept {
         ensures { result ≡ structure_answer (structure_of self.now) query a b c }
     {
         match self {
-            Kept::Growing(bits) => bits.answer(query, a, b, c),
-            Kept::Bits(bits) => bits.answer(query, a, b, c),
-            Kept::Sparse(bits) => bits.answer(query, a, b, c),
-            Kept::Sorted(members) => members.answer(query, a, b, c),
-            Kept::Symbols(symbols) => symbols.answer(query, a, b, c),
-            Kept::Tree(tree) => (**tree).answer(query, a, b, c),
-            Kept::Fast(values) => values.answer(query, a, b, c),
-            Kept::Binary(values) => values.answer(query, a, b, c),
-            Kept::Posted(posted) => posted.answer(query, a, b, c),
-            Kept::Numbers(numbers) => numbers.answer(query, a, b, c),
+            Kept::Growing(bits) => answer_once(bits, query, a, b, c),
+            Kept::Bits(bits) => answer_once(bits, query, a, b, c),
+            Kept::Sparse(bits) => answer_once(bits, query, a, b, c),
+            Kept::Sorted(members) => answer_once(members, query, a, b, c),
+            Kept::Symbols(symbols) => answer_once(symbols, query, a, b, c),
+            Kept::Tree(tree) => answer_once(&**tree, query, a, b, c),
+            Kept::Fast(values) => answer_once(values, query, a, b, c),
+            Kept::Binary(values) => answer_once(values, query, a, b, c),
+            Kept::Posted(posted) => answer_once(posted, query, a, b, c),
+            Kept::Numbers(numbers) => answer_once(numbers, query, a, b, c),
         }
     }
 
@@ -87,12 +91,12 @@ impl Kept {
     {
         match self {
             Kept::Growing(bits) => answer_each(bits, query, numbers, b, c, other),
-            Kept::Bits(bits) => answer_each(bits, query, numbers, b, c, other),
+            Kept::Bits(bits) => each_of_bits(bits, query, numbers, b, c, other),
             Kept::Sparse(bits) => answer_each(bits, query, numbers, b, c, other),
-            Kept::Sorted(members) => answer_each(members, query, numbers, b, c, other),
-            Kept::Symbols(symbols) => answer_each(symbols, query, numbers, b, c, other),
+            Kept::Sorted(members) => each_of_sorted(members, query, numbers, b, c, other),
+            Kept::Symbols(symbols) => each_of_symbols(symbols, query, numbers, b, c, other),
             Kept::Tree(tree) => answer_each(&**tree, query, numbers, b, c, other),
-            Kept::Fast(values) => answer_each(values, query, numbers, b, c, other),
+            Kept::Fast(values) => each_of_values(values, query, numbers, b, c, other),
             Kept::Binary(values) => answer_each(values, query, numbers, b, c, other),
             Kept::Posted(posted) => answer_each(posted, query, numbers, b, c, other),
             Kept::Numbers(held) => answer_each(held, query, numbers, b, c, other),
@@ -110,7 +114,7 @@ impl Kept {
             Kept::Sorted(members) => answer_rows(members, query, asks, other),
             Kept::Symbols(symbols) => answer_rows(symbols, query, asks, other),
             Kept::Tree(tree) => answer_rows(&**tree, query, asks, other),
-            Kept::Fast(values) => answer_rows(values, query, asks, other),
+            Kept::Fast(values) => rows_of_values(values, query, asks, other),
             Kept::Binary(values) => answer_rows(values, query, asks, other),
             Kept::Posted(posted) => answer_rows(posted, query, asks, other),
             Kept::Numbers(held) => answer_rows(held, query, asks, other),

@@ -34,8 +34,8 @@ pub extern "C" fn vers_clone(alloc: Global, handle: &mut VersHandle, other: &mut
     }
     let owner = taken(alloc, handle);
     let status = match other_owner(alloc, &owner) {
-        Ok(second) => {
-            put(other, second);
+        Ok(another) => {
+            put(other, another);
             DONE
         }
         Err(_) => NO_MEMORY,
