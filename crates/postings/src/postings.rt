@@ -59,6 +59,22 @@ impl<A: Allocator + Copy> Postings<A> {
         })
     }
 
+    /// The documents, as the ascending list that keeps them.
+    #[inline]
+    pub fn documents(&self) -> &EliasFanoVec<A>
+        ensures { result.now ≡ self.now.documents }
+    {
+        &self.documents
+    }
+
+    /// The cost of each document, at the document's place.
+    #[inline]
+    pub fn costs(&self) -> &[u64]
+        ensures { result.now ≡ self.now.costs }
+    {
+        self.costs.as_slice()
+    }
+
     /// How many documents there are.
     #[inline]
     pub fn len(&self) -> usize

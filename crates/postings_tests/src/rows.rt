@@ -54,6 +54,25 @@ fn no_documents(rt: HostRuntime) {
     assert!(rt; matches!(wrong_answer(rt.alloc(), &[], &[], &NO_ANSWERS), Ok(None)));
 }
 
+// Whether a list gives these documents and costs.
+fn gives(list: &Postings<Global>, documents: &[u64], costs: &[u64]) -> bool {
+    for (place, document) in documents.iter().enumerate() {
+        if list.documents().get(place) != Some(*document) {
+            return false;
+        }
+    }
+    list.documents().len() == documents.len() && list.costs() == costs
+}
+
+#[test]
+fn documents_and_costs(rt: HostRuntime) {
+    let told = asked(
+        posted(rt.alloc(), &[2, 5, 9, 12], &[7, 3, 3, 8]),
+        |list: &Postings<Global>| gives(list, &[2, 5, 9, 12], &[7, 3, 3, 8]),
+    );
+    assert!(rt; told == Ok(true));
+}
+
 // Documents, costs, and the fault that a maker tells of them.
 type Fault<'a> = (&'a [u64], &'a [u64], Option<PostingsError>);
 

@@ -10,6 +10,7 @@ pub mod SumTells
 pub mod WordLists
 pub mod Parentheses
 pub mod SparseLists
+pub mod PostingLists
 pub mod SymbolLists
 pub mod Streams
 pub mod Sources

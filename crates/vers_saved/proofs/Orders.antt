@@ -1,9 +1,10 @@
 -- Words in an order.
-use Rattle.std.proofs.Common.{◌≡◌, ℕ, zero, suc, ◌+◌, ◌-◌, ◌<◌, ◌≤◌, ◌&&◌, Bool, true, false, List, [], ◌∷◌, length, get_or, take, drop, refl, sym, ap, subst, ◌∙◌, arith}
+use Rattle.std.proofs.Common.{◌≡◌, ℕ, zero, suc, ◌+◌, ◌-◌, ◌/◌, ◌<◌, ◌≤◌, max, ◌&&◌, Bool, true, false, List, [], ◌∷◌, length, get_or, take, drop, refl, sym, ap, subst, ◌∙◌, arith}
 use Rattle.std.proofs.lemmas.List.{get_or-take, get_or-drop, length-take, length-drop, take_all}
 use Rattle.vers_bits.specs.Bits.{limb_count}
 use Rattle.vers_sorted.specs.Sorted.{each_next}
-use Rattle.vers_saved.specs.Faults.{words_among}
+use Rattle.vers_saved.specs.declared.kind.Order.{Order}
+use Rattle.vers_saved.specs.Faults.{words_among, stands, ordered_words, in_order}
 
 and_true : (b : Bool) → (b && true) ≡ b
 and_true true = refl
@@ -58,6 +59,20 @@ ordered_more o n words k holds before next long some h so_far is_before is_next 
     ∙ ap (λ b. each_next o (take k (words_among n words)) && o (get_or (words_among n words) (k - 1) 0) b) (sym second)
     ∙ sym step ∙ ap (λ m. each_next o (take m (words_among n words))) more
 
-pub ordered_all : (o : ℕ → ℕ → Bool) (n : ℕ) (words : List ℕ) (k : ℕ) → length words ≡ limb_count n + 6 → limb_count n ≤ k
-    → each_next o (take k (words_among n words)) ≡ each_next o (words_among n words)
-ordered_all o n words k long h = ap (each_next o) (take_all k (words_among n words) (omega (arith, length-words_among n words long)))
+-- the words that have to stand in an order
+pub ordered_end : (order : Order) (words : List ℕ) (end k : ℕ) → take end words ≡ ordered_words order words → k ≡ max end 1
+    → each_next (stands order) (take k words) ≡ in_order order words
+ordered_end order words zero k is e =
+    let one : k ≡ 1 = omega (arith, e) in
+    ap (λ m. each_next (stands order) (take m words)) one ∙ each_next-one (stands order) words ∙ ap (each_next (stands order)) is
+ordered_end order words (suc end) k is e =
+    let all : k ≡ suc end = omega (arith, e) in
+    ap (λ m. each_next (stands order) (take m words)) all ∙ ap (each_next (stands order)) is
+
+pub whole_words : (words : List ℕ) (count : ℕ) → length words ≡ count → take count words ≡ words
+whole_words words count e = take_all count words (omega (arith, e))
+
+pub half_words : (words : List ℕ) (count : ℕ) → length words ≡ count → take (count / 2) words ≡ take (length words / 2) words
+half_words words count e = ap (λ m. take (m / 2) words) (sym e)
+
+pub ruleset ordering = (whole_words, half_words)

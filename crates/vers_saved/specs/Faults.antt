@@ -1,12 +1,12 @@
 -- Why bytes are no saved form: the first test of some that fails.
-use Rattle.std.specs.Prelude.{ℕ, ◌+◌, ◌*◌, ◌%◌, ◌^◌, ◌==◌, ◌&&◌, ◌||◌, Bool, true, List, [], ◌∷◌, ◌++◌, length, take, drop, slice_index, nat_lt, nat_le, Option, None, Some, if◌then◌else◌}
+use Rattle.std.specs.Prelude.{ℕ, ◌+◌, ◌*◌, ◌/◌, ◌%◌, ◌^◌, ◌==◌, ◌&&◌, ◌||◌, Bool, true, List, [], ◌∷◌, ◌++◌, length, take, drop, slice_index, nat_lt, nat_le, Option, None, Some, if◌then◌else◌}
 use Rattle.vers_bits.specs.Bits.{limb_count}
 use Rattle.vers_bits.specs.declared.bit_vec.TheConstants.{MAX_LEN}
 use Rattle.vers_sorted.specs.Sorted.{each_next}
 use Rattle.vers_saved.specs.declared.TheConstants.{MAGIC, VERSION}
 use Rattle.vers_saved.specs.declared.kind.Kind.{Kind}
 use Rattle.vers_saved.specs.declared.kind.Order.{Order}
-use Rattle.vers_saved.specs.declared.kind.Order.TheVariants.{Any, Ascending, Rising}
+use Rattle.vers_saved.specs.declared.kind.Order.TheVariants.{Any, Ascending, Rising, HalfRising}
 use Rattle.vers_saved.specs.declared.fault.LoadError.{LoadError}
 use Rattle.vers_saved.specs.declared.fault.LoadError.TheVariants.{TooShort, NotOurs, OtherVersion, OtherKind, BadLength, BadSum, BadPadding, NotAscending}
 use Rattle.vers_saved.specs.Format.{words_of, saved_size, check_sum}
@@ -45,10 +45,18 @@ abbrev pub stands : Order → (ℕ → ℕ → Bool)
 stands Any = λ before next. true
 stands Ascending = nat_le
 stands Rising = nat_lt
+stands HalfRising = nat_lt
 
--- whether words stand in an order, each to the next one
+-- the words that have to stand in an order: all of them, or the first half
+abbrev pub ordered_words : Order → List ℕ → List ℕ
+ordered_words Any words = words
+ordered_words Ascending words = words
+ordered_words Rising words = words
+ordered_words HalfRising words = take (length words / 2) words
+
+-- whether words stand in an order, each of them to the next one
 abbrev pub in_order : Order → List ℕ → Bool
-in_order order words = each_next (stands order) words
+in_order order words = each_next (stands order) (ordered_words order words)
 
 -- how many bits the items have, as the head of these words says
 abbrev pub bits_said : Kind → List ℕ → ℕ

@@ -4,7 +4,8 @@ use Rattle.std.specs.Prelude.{ℕ, ◌+◌, ◌*◌, ◌/◌, ◌%◌, ◌^◌, 
 use Rattle.std.specs.Int.{w64, to_le_bytes, from_le_bytes, rotate_left}
 use Rattle.std.specs.Simd.{first_chunks}
 use Rattle.vers_bits.specs.Bits.{limbs, limb_count, pack, places}
-use Rattle.vers_saved.specs.declared.kind.TheConstants.{BITS, SORTED, SYMBOLS, SPARSE, VALUES, PARENTHESES}
+use Rattle.vers_saved.specs.declared.kind.TheConstants.{BITS, SORTED, SYMBOLS, SPARSE, VALUES, PARENTHESES, POSTINGS}
+use Rattle.postings.specs.Posted.{Posted}
 use Rattle.vers_saved.specs.declared.TheConstants.{MAGIC, VERSION, START, FACTOR, TURN}
 
 -- the eight bytes of a word, the lowest first
@@ -74,3 +75,11 @@ saved_values items = saved VALUES (length items) 64 items
 -- the saved form of parentheses, of which a tree has blocks of `size` bits: their limbs
 abbrev pub saved_parentheses : ℕ → List Bool → List ℕ
 saved_parentheses size bits = saved PARENTHESES (length bits) size (limbs bits)
+
+-- the words of documents with costs: the documents, and then the cost of each
+abbrev pub posting_words : Posted → List ℕ
+posting_words posted = posted.documents ++ posted.costs
+
+-- the saved form of documents with costs
+abbrev pub saved_postings : Posted → List ℕ
+saved_postings posted = saved POSTINGS (length posted.documents) 128 (posting_words posted)

@@ -14,6 +14,8 @@ pub enum Order {
     Ascending,
     /// Each word is above the one before it.
     Rising,
+    /// Each word of the first half is above the one before it.
+    HalfRising,
 }
 
 /// A kind of lists: what its saved forms have to meet.
@@ -52,6 +54,9 @@ pub const VALUES: u64 = 5;
 
 /// The number of lists of parentheses.
 pub const PARENTHESES: u64 = 6;
+
+/// The number of lists of documents with costs.
+pub const POSTINGS: u64 = 7;
 
 impl Kind {
     // Whether a list of this kind may have that width.
@@ -136,6 +141,17 @@ pub const BLOCK_VALUES: Kind = Kind {
     least_count: 0,
     greatest_count: fast_rmq::MAX_LEN as u64,
     order: Order::Any,
+};
+
+/// Documents with costs: the documents, and then the cost of each.
+pub const POSTING_LISTS: Kind = Kind {
+    number: POSTINGS,
+    least_width: 128,
+    greatest_width: 128,
+    item_bits: 128,
+    least_count: 0,
+    greatest_count: fast_rmq::MAX_LEN as u64,
+    order: Order::HalfRising,
 };
 
 /// Lists of symbols of 1 to 64 bits.

@@ -3,6 +3,7 @@
 #![tactic(auto)]
 
 pub mod bits;
+pub mod documents;
 pub mod fault;
 pub mod form;
 pub mod kind;

@@ -24,7 +24,7 @@ pub(crate) fn words_shape(kind: u64, count: usize) -> Shape
 }
 
 // All items of a slice are words.
-fn are_words(items: &[u64])
+pub(crate) fn are_words(items: &[u64])
     ensures { (k : ℕ) → slice_index items.now k < 2 ^ 64 }
 {}
 

@@ -1,7 +1,7 @@
 //! Words of 64 bits, as bytes, and their sum.
 ghost use Rattle.std.specs.Prelude.{◌≡◌, ℕ, List, ◌+◌, ◌*◌, ◌<◌, ◌≤◌, ◌++◌, length, map, take, slice_index, vec_len, vec_capacity, IfOk, ◌^◌};
 ghost use Rattle.vers_saved.specs.Format.{word_bytes, bytes_word, mix, check_sum};
-ghost use Rattle.vers_saved.specs.Faults.{is_padded, is_summed, in_order, stands, words_among};
+ghost use Rattle.vers_saved.specs.Faults.{is_padded, is_summed, in_order, ordered_words, stands, words_among};
 ghost use Rattle.vers_bits.specs.Bits.{limb_count};
 
 use crate::kind::Order;
@@ -125,7 +125,20 @@ fn stands(order: Order, before: u64, next: u64) -> bool
     match order {
         Order::Any => true,
         Order::Ascending => before <= next,
-        Order::Rising => before < next,
+        Order::Rising | Order::HalfRising => before < next,
+    }
+}
+
+// How many of so many words have to stand in an order.
+#[tactic(auto, using(crate::proofs::Orders::ordering))]
+fn count_ordered(order: Order, count: usize) -> usize
+    ensures within { result ≤ count }
+    ensures first { (words : List ℕ) → length words ≡ count
+        → take result words ≡ ordered_words order words }
+{
+    match order {
+        Order::Any | Order::Ascending | Order::Rising => count,
+        Order::HalfRising => count / 2,
     }
 }
 
@@ -134,8 +147,9 @@ pub(crate) fn is_in_order<W: Words>(order: Order, n: usize, words: &W) -> bool
     requires { length (W.words words.now) ≡ limb_count n + FRAME }
     ensures { result ≡ in_order order (words_among n (W.words words.now)) }
 {
+    let end = count_ordered(order, n.div_ceil(64));
     let mut holds = true;
-    for k in 1..n.div_ceil(64) {
+    for k in 1..end.max(1) {
         holds = holds & stands(order, words.word(k + 4), words.word(k + 5));
     }
     holds

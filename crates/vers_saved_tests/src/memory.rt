@@ -1,5 +1,6 @@
 //! Each request for memory refused, and heads that say more than there is.
-use crate::stored::{BITS, HOSTILE, SORTED, SPARSE, SYMBOLS, VALUES};
+use crate::stored::{BITS, HOSTILE, POSTINGS, SORTED, SPARSE, SYMBOLS, VALUES};
+use postings::Postings;
 use std::alloc::{Allocator, Global};
 use test_alloc::{Ending, Refusing, done_if, out_of_memory_if};
 use vers_bits::bit_vec::BitVec;
@@ -52,6 +53,10 @@ fn tried_symbols<'a>(heap: &'a Heap) -> Ending {
     tried::<WaveletMatrix<&'a Heap>>(heap, &SYMBOLS)
 }
 
+fn tried_documents<'a>(heap: &'a Heap) -> Ending {
+    tried::<Postings<&'a Heap>>(heap, &POSTINGS)
+}
+
 // Whether a load ends as out of memory or right, whichever request is refused, and right where none is.
 // Each gives all memory back.
 fn ends_well<F: Fn(&Heap) -> Ending>(alloc: Global, tried: F) -> bool
@@ -79,6 +84,7 @@ fn each_request_refused(rt: HostRuntime) {
     assert!(rt; ends_well(rt.alloc(), |heap: &Heap| tried_table(heap)));
     assert!(rt; ends_well(rt.alloc(), |heap: &Heap| tried_blocks(heap)));
     assert!(rt; ends_well(rt.alloc(), |heap: &Heap| tried_symbols(heap)));
+    assert!(rt; ends_well(rt.alloc(), |heap: &Heap| tried_documents(heap)));
 }
 
 // Whether bytes are too short, and no memory was asked for to tell it.

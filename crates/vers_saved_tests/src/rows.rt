@@ -1,8 +1,9 @@
 //! Stored forms, loaded and saved again, with each byte flipped and each cut.
 use crate::stored::{
-    BITS, DESCENDING, HOSTILE, NO_BITS, NO_LENGTH, NOT_OURS, OTHER_VERSION, PADDING, SORTED,
-    SPARSE, SYMBOLS, TOO_LONG, VALUES, WIDE_SYMBOLS,
+    BITS, DESCENDING, EQUAL_DOCUMENTS, HOSTILE, NO_BITS, NO_LENGTH, NOT_OURS, OTHER_VERSION,
+    PADDING, POSTINGS, SORTED, SPARSE, SYMBOLS, TOO_LONG, VALUES, WIDE_SYMBOLS,
 };
+use postings::Postings;
 use std::alloc::{Allocator, Global};
 use vers_bits::bit_vec::BitVec;
 use vers_rank::fast_rs_vec::RsVec;
@@ -115,6 +116,11 @@ fn sparse_bits(rt: HostRuntime) {
 }
 
 #[test]
+fn documents(rt: HostRuntime) {
+    assert!(rt; is_kept::<Postings<Global>, Global>(rt.alloc(), &POSTINGS));
+}
+
+#[test]
 fn symbols(rt: HostRuntime) {
     assert!(rt; is_kept::<WaveletMatrix<Global>, Global>(rt.alloc(), &SYMBOLS));
     assert!(rt; is_kept::<WaveletMatrix<Global>, Global>(rt.alloc(), &WIDE_SYMBOLS));
@@ -139,5 +145,9 @@ fn faults(rt: HostRuntime) {
     );
     assert!(rt;
         fault_of::<SparseRSVec<Global>, Global>(alloc, &NO_LENGTH) == Some(LoadError::NotAscending)
+    );
+    assert!(rt;
+        fault_of::<Postings<Global>, Global>(alloc, &EQUAL_DOCUMENTS)
+            == Some(LoadError::NotAscending)
     );
 }

@@ -11,7 +11,8 @@ use Rattle.vers_bits.proofs.PublicLaws.{equal_limbs, length-packed, length-low_b
 use Rattle.vers_sorted.specs.Ones.{ones_at}
 use Rattle.vers_sorted.proofs.PublicLaws.{ones_at-places}
 use Rattle.vers_wavelet.specs.Symbols.{Symbols}
-use Rattle.vers_saved.specs.Format.{sparse_words}
+use Rattle.postings.specs.Posted.{Posted, ArePaired}
+use Rattle.vers_saved.specs.Format.{sparse_words, posting_words}
 
 -- lists of bits with the same limbs
 pub bits_tell : (w : ℕ) (x y : List Bool) → ⊤ → ⊤ → length x ≡ length y → w ≡ w → limbs x ≡ limbs y → x ≡ y
@@ -31,6 +32,15 @@ pub sparse_tell : (x y : List Bool) → ⊤ → ⊤ → length (sparse_words x) 
 sparse_tell x y t u long one same =
     let p = same_from_push (places true x) (places true y) (length x) (length y) same in
     sym (ones_at-places true x ∙ same_bits x) ∙ ap (λ l. ones_at l (length x)) p.0 ∙ ap (ones_at (places true y)) p.1 ∙ ones_at-places true y ∙ same_bits y
+
+-- documents with costs, as many, by the documents and then the costs
+pub postings_tell : (x y : Posted) → ArePaired x → ArePaired y → length x.documents ≡ length y.documents → ◌≡◌ {A = ℕ} 128 128 → posting_words x ≡ posting_words y → x ≡ y
+postings_tell x y paired_x paired_y long one same =
+    let documents : x.documents ≡ y.documents =
+    sym (take_at x.documents x.costs (length y.documents) long) ∙ ap (take (length y.documents)) same ∙ take_at y.documents y.costs (length y.documents) refl in
+    let costs : x.costs ≡ y.costs =
+    sym (drop_at x.documents x.costs (length y.documents) long) ∙ ap (drop (length y.documents)) same ∙ drop_at y.documents y.costs (length y.documents) refl in
+    ap (λ l. record { documents = l; costs = x.costs }) documents ∙ ap (λ l. record { documents = y.documents; costs = l }) costs
 
 -- packed symbols tell
 abbrev AreSymbols : ℕ → List ℕ → Type 0

@@ -1,0 +1,72 @@
+-- Saved forms of documents with costs.
+use Rattle.std.proofs.Common.{◌≡◌, ℕ, ◌+◌, ◌-◌, ◌*◌, ◌/◌, ◌%◌, ◌^◌, ◌<◌, ◌≤◌, true, List, ◌++◌, length, get_or, take, drop, refl, sym, ap, subst, ◌∙◌, inl, inr, arith}
+use Rattle.std.specs.Prelude.{All}
+use Rattle.std.specs.List.Sorted.{IsStrictlyIncreasing}
+use Rattle.std.proofs.lemmas.Bool.{cases_lt}
+use Rattle.std.proofs.lemmas.Bool.Decides.{nat_tests}
+use Rattle.std.proofs.lemmas.List.{get_or_append_left, get_or-append_right, get_or_past, take_at, take-append-drop, length-append, length-take}
+use Rattle.std.proofs.lemmas.List.Elements.{All-get_or}
+use Rattle.vers_sorted.proofs.PublicLaws.{each_next-rising}
+use Rattle.postings.specs.Posted.{Posted, ArePaired}
+use Rattle.vers_saved.specs.declared.kind.TheConstants.{POSTING_LISTS}
+use Rattle.vers_saved.specs.declared.kind.Order.TheVariants.{HalfRising}
+use Rattle.vers_saved.specs.Format.{posting_words}
+use Rattle.vers_saved.specs.Faults.{in_order}
+use Rattle.vers_saved.specs.Kinds.{IsWhole}
+use Rattle.vers_saved.proofs.WordBytes.{AreWords, fit_append}
+use Rattle.vers_saved.proofs.BitLists.{within}
+
+-- word k is a document, or the cost of one
+pub document_word : (posted : Posted) (k : ℕ) → k < length posted.documents → get_or posted.documents k 0 ≡ get_or (posting_words posted) k 0
+document_word posted k h = sym (get_or_append_left posted.documents posted.costs 0 k h)
+
+pub cost_word : (posted : Posted) (k n : ℕ) → n ≡ length posted.documents → n ≤ k → get_or posted.costs (k - n) 0 ≡ get_or (posting_words posted) k 0
+cost_word posted k n is past = sym (get_or-append_right posted.documents posted.costs n k 0 (sym is) past)
+
+pub length-posting : (posted : Posted) → ArePaired posted → length (posting_words posted) ≡ 2 * length posted.documents
+length-posting posted paired = length-append posted.documents posted.costs ∙ omega (arith, paired.paired)
+
+-- documents are words
+documents_fit : (documents : List ℕ) → All (λ d. d ≤ 18446744073709551615) documents → AreWords documents
+documents_fit documents all k = elim (cases_lt k (length documents)) [
+  | inl inside ↦ omega (arith, All-get_or (λ d. d ≤ 18446744073709551615) documents k 0 inside all)
+  | inr past ↦ rw (get_or_past documents k 0 past) (omega arith)
+]
+
+-- the first half of the words are the documents
+first_half : (posted : Posted) → ArePaired posted → take (length (posting_words posted) / 2) (posting_words posted) ≡ posted.documents
+first_half posted paired = take_at posted.documents posted.costs (length (posting_words posted) / 2) (omega (arith, length-posting posted paired))
+
+pub whole_postings : (posted : Posted) → length posted.documents ≤ 549755813760 → ArePaired posted → AreWords posted.costs
+    → IsWhole POSTING_LISTS (length posted.documents) 128 (posting_words posted)
+whole_postings posted few paired fit =
+    let long : length (posting_words posted) ≡ 2 * length posted.documents = length-posting posted paired in
+    record {
+      wide = refl;
+      many = within 0 549755813760 (length posted.documents) (omega arith) few;
+      small = omega arith;
+      counted = omega (arith, long);
+      fit = fit_append posted.documents posted.costs (documents_fit posted.documents paired.numbers) fit;
+      padded = inl (omega arith);
+      ordered = (each_next-rising (take (length (posting_words posted) / 2) (posting_words posted))).1
+          (subst IsStrictlyIncreasing (sym (first_half posted paired)) paired.ascending);
+    }
+
+pub postings_shape : (c w : ℕ) (words : List ℕ) → IsWhole POSTING_LISTS c w words → (length words ≡ 2 * c) × (c ≤ 549755813760) × (128 ≡ w)
+postings_shape c w words whole =
+    let wide : 128 ≡ w = grind (arith, nat_tests, whole.wide) in
+    let few : c ≤ 549755813760 = grind (arith, nat_tests, whole.many) in
+    (omega (arith, whole.counted), few, wide)
+
+pub too_many_documents : (c w : ℕ) (words : List ℕ) → 549755813760 < c → IsWhole POSTING_LISTS c w words → ⊥
+too_many_documents c w words many whole = omega (arith, (postings_shape c w words whole).1)
+
+-- what was saved of documents is loaded as their two lists
+pub postings_again : (c w : ℕ) (words documents costs : List ℕ) → IsWhole POSTING_LISTS c w words → documents ≡ take c words → costs ≡ drop c words
+    → (length documents ≡ c) × (documents ++ costs ≡ words)
+postings_again c w words documents costs whole are_documents are_costs = (
+  ap length are_documents ∙ length-take c words ∙ omega (arith, (postings_shape c w words whole).0),
+  ap (λ l. l ++ costs) are_documents ∙ ap (λ l. take c words ++ l) are_costs ∙ take-append-drop c words,
+)
+
+pub ruleset postings = (document_word, cost_word, whole_postings, postings_shape, too_many_documents, postings_again)
