@@ -13,5 +13,7 @@ pub mod SparseLists
 pub mod PostingLists
 pub mod SymbolLists
 pub mod Streams
+pub mod ReadForms
 pub mod Sources
 pub mod BitLists
+pub mod PublicLaws

@@ -1,5 +1,5 @@
 -- Saved forms of documents with costs.
-use Rattle.std.proofs.Common.{◌≡◌, ℕ, ◌+◌, ◌-◌, ◌*◌, ◌/◌, ◌%◌, ◌^◌, ◌<◌, ◌≤◌, true, List, ◌++◌, length, get_or, take, drop, refl, sym, ap, subst, ◌∙◌, inl, inr, arith}
+use Rattle.std.proofs.Common.{◌≡◌, ℕ, ◌-◌, ◌*◌, ◌/◌, ◌<◌, ◌≤◌, List, ◌++◌, length, get_or, take, drop, refl, sym, ap, subst, ◌∙◌, inl, inr, arith}
 use Rattle.std.specs.Prelude.{All}
 use Rattle.std.specs.List.Sorted.{IsStrictlyIncreasing}
 use Rattle.std.proofs.lemmas.Bool.{cases_lt}
@@ -9,9 +9,7 @@ use Rattle.std.proofs.lemmas.List.Elements.{All-get_or}
 use Rattle.vers_sorted.proofs.PublicLaws.{each_next-rising}
 use Rattle.postings.specs.Posted.{Posted, ArePaired}
 use Rattle.vers_saved.specs.declared.kind.TheConstants.{POSTING_LISTS}
-use Rattle.vers_saved.specs.declared.kind.Order.TheVariants.{HalfRising}
 use Rattle.vers_saved.specs.Format.{posting_words}
-use Rattle.vers_saved.specs.Faults.{in_order}
 use Rattle.vers_saved.specs.Kinds.{IsWhole}
 use Rattle.vers_saved.proofs.WordBytes.{AreWords, fit_append}
 use Rattle.vers_saved.proofs.BitLists.{within}

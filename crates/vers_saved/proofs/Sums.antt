@@ -40,9 +40,11 @@ words_of-part bytes n m =
     sym (take-map bytes_word n (drop m (first_chunks 8 (length bytes / 8) bytes)))
     ∙ ap (take n) (sym (drop-map bytes_word m (first_chunks 8 (length bytes / 8) bytes)))
 
-one_more : (front ls : List ℕ) (k : ℕ) (x : ℕ) → k < length ls → x ≡ get_or ls k 0 → (front ++ take k ls) ++ x ∷ [] ≡ front ++ take (k + 1) ls
+pub one_more : (front ls : List ℕ) (k : ℕ) (x : ℕ) → k < length ls → x ≡ get_or ls k 0 → (front ++ take k ls) ++ x ∷ [] ≡ front ++ take (k + 1) ls
 one_more front ls k x h e =
     append_assoc front (take k ls) (x ∷ []) ∙ ap (λ y. front ++ (take k ls ++ y ∷ [])) e ∙ ap (λ l. front ++ l) (sym (take_more ls k 0 h))
+
+pub ruleset appending = (one_more)
 
 -- a word more is written and summed
 pub written_more : (out front ls : List ℕ) (k : ℕ) (x : ℕ) → k < length ls → x ≡ get_or ls k 0

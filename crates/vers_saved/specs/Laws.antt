@@ -1,8 +1,57 @@
--- What holds of sums of words.
-use Rattle.std.specs.Prelude.{◌≡◌, ℕ, ◌^◌, ◌<◌, ◌++◌, ◌∷◌, List, slice_index}
-use Rattle.vers_saved.specs.Format.{check_sum}
+-- What holds of sums of words, and of saved forms.
+use Rattle.std.specs.Prelude.{◌≡◌, ℕ, ◌*◌, ◌^◌, ◌<◌, ◌≤◌, ◌++◌, ◌∷◌, true, All, List, length, None}
+use Rattle.std.specs.List.Sorted.{IsNonDecreasing}
+use Rattle.vers_bits.specs.Bits.{count}
+use Rattle.vers_bits.specs.declared.bit_vec.TheConstants.{MAX_LEN}
+use Rattle.vers_trees.specs.declared.trees.bp.TheConstants.{MAX_BLOCK_SIZE}
+use Rattle.postings.specs.Posted.{ArePaired}
+use Rattle.vers_saved.specs.declared.kind.Kind.{Kind}
+use Rattle.vers_saved.specs.declared.kind.TheConstants.{GREATEST_WORDS, BIT_LISTS, SORTED_LISTS, SYMBOL_LISTS, SPARSE_LISTS, TABLE_VALUES, BLOCK_VALUES, POSTING_LISTS}
+use Rattle.vers_saved.specs.Format.{check_sum, saved_bits, saved_sorted, saved_symbols, saved_sparse, saved_values, saved_parentheses, saved_postings}
+use Rattle.vers_saved.specs.Faults.{fault_of}
+use Rattle.vers_saved.specs.Kinds.{AreWords, tree_kind}
 
 -- where two lists of words differ in one word alone, their sums differ
 abbrev pub SumTellsOneWord : Type 0
-SumTellsOneWord = (us vs : List ℕ) (x y : ℕ) → x < 2 ^ 64 → y < 2 ^ 64 → ((k : ℕ) → slice_index vs k < 2 ^ 64)
+SumTellsOneWord = (us vs : List ℕ) (x y : ℕ) → x < 2 ^ 64 → y < 2 ^ 64 → AreWords vs
     → check_sum (us ++ x ∷ vs) ≡ check_sum (us ++ y ∷ vs) → x ≡ y
+
+-- the saved form of each list that may have one has no fault, and is that of no other list
+abbrev pub GoesRound : {T : Type 0} → Kind → (T → Type 0) → (T → List ℕ) → Type 0
+GoesRound {T} kind MayBeSaved form = (x : T) → MayBeSaved x → (fault_of kind (form x) ≡ None) × ((y : T) → MayBeSaved y → form x ≡ form y → x ≡ y)
+
+-- lists of bits
+abbrev pub BitsGoRound : Type 0
+BitsGoRound = GoesRound BIT_LISTS (λ bits. length bits ≤ BIT_LISTS.greatest_count) saved_bits
+
+-- ascending lists of numbers of 64 bits
+abbrev pub SortedGoRound : Type 0
+SortedGoRound = GoesRound SORTED_LISTS (λ members. (length members ≤ SORTED_LISTS.greatest_count) × AreWords members × IsNonDecreasing members) saved_sorted
+
+-- lists of symbols of 1 to 64 bits
+abbrev pub SymbolsGoRound : Type 0
+SymbolsGoRound =
+    (width : ℕ) → 1 ≤ width → width ≤ 64
+    → GoesRound SYMBOL_LISTS (λ items. (length items * width ≤ MAX_LEN) × All (λ y. y < 2 ^ width) items) (saved_symbols width)
+
+-- lists of bits with few ones
+abbrev pub SparseGoRound : Type 0
+SparseGoRound = GoesRound SPARSE_LISTS (λ bits. (length bits < 2 ^ 64) × (count true bits (length bits) < GREATEST_WORDS)) saved_sparse
+
+-- numbers of 64 bits, as many as a table holds
+abbrev pub TableValuesGoRound : Type 0
+TableValuesGoRound = GoesRound TABLE_VALUES (λ items. (length items ≤ TABLE_VALUES.greatest_count) × AreWords items) saved_values
+
+-- numbers of 64 bits, as many as blocks hold
+abbrev pub BlockValuesGoRound : Type 0
+BlockValuesGoRound = GoesRound BLOCK_VALUES (λ items. (length items ≤ BLOCK_VALUES.greatest_count) × AreWords items) saved_values
+
+-- parentheses of trees with blocks of each size
+abbrev pub ParenthesesGoRound : Type 0
+ParenthesesGoRound =
+    (size : ℕ) → 1 ≤ size → size ≤ MAX_BLOCK_SIZE
+    → GoesRound (tree_kind size) (λ bits. length bits ≤ (tree_kind size).greatest_count) (saved_parentheses size)
+
+-- documents with costs of 64 bits
+abbrev pub PostingsGoRound : Type 0
+PostingsGoRound = GoesRound POSTING_LISTS (λ posted. (length posted.documents ≤ POSTING_LISTS.greatest_count) × ArePaired posted × AreWords posted.costs) saved_postings

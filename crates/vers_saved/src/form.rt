@@ -15,7 +15,7 @@ use std::alloc::{AllocError, Allocator};
 use vers_bits::bit_vec::{BitVec, MAX_LEN};
 
 /// How many words a head has.
-const HEAD: usize = 5;
+pub(crate) const HEAD: usize = 5;
 
 /// What a list is, beside its words: of what kind, how many items it has, and of what width.
 #[derive(Clone, Copy, Drop)]

@@ -1,9 +1,21 @@
 //! Laws of saved forms. Each function does nothing: its contract is the law, and its proof is
 //! checked with the crate.
-ghost use Rattle.vers_saved.specs.Laws.{SumTellsOneWord};
+ghost use Rattle.vers_saved.specs.Laws.{SumTellsOneWord, BitsGoRound, SortedGoRound, SymbolsGoRound, SparseGoRound, TableValuesGoRound, BlockValuesGoRound, ParenthesesGoRound, PostingsGoRound};
 
 /// Where two lists of words differ in one word alone, their sums differ.
 #[tactic(auto, using(crate::proofs::SumTells::laws))]
 pub fn sum_tells_one_word()
     ensures { SumTellsOneWord }
+{}
+
+/// The form of each list that may be saved has no fault, and no other list has that form.
+pub fn forms_go_round()
+    ensures bits { BitsGoRound }
+    ensures sorted { SortedGoRound }
+    ensures symbols { SymbolsGoRound }
+    ensures sparse { SparseGoRound }
+    ensures table_values { TableValuesGoRound }
+    ensures block_values { BlockValuesGoRound }
+    ensures parentheses { ParenthesesGoRound }
+    ensures postings { PostingsGoRound }
 {}

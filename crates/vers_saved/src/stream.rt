@@ -1,28 +1,27 @@
 //! Saved forms, written to any writer and read from any reader.
-ghost use Rattle.std.specs.Prelude.{◌≡◌, ◌≢◌, ℕ, ◌+◌, ◌≤◌, ◌++◌, List, vec_len, vec_capacity, OnOk, IfOk, IfErr, IfSome, Some, MatchResult, ◌⊎◌};
+ghost use Rattle.std.specs.Prelude.{◌≡◌, ◌≢◌, ℕ, ◌+◌, ◌≤◌, ◌++◌, List, vec_len, vec_capacity, OnOk, IfOk, IfErr, IfSome, Some, Err, OnErr, MatchResult, ◌⊎◌};
 ghost use Rattle.std.specs.Io.KnownBytes.{Appends, IsAtEnd, Keeps};
 ghost use Rattle.vers_saved.specs.Format.{saved};
 ghost use Rattle.vers_saved.specs.Kinds.{IsWhole};
-ghost use Rattle.vers_saved.specs.Streams.{Writes, IsRefused};
+ghost use Rattle.vers_saved.specs.Streams.{Writes, IsRefused, FollowsReadFault, FollowsWriteFault};
 
 use crate::fault::{LoadError, SaveError};
-use crate::form::{Shape, count_words, put_head, put_summed};
-use crate::saved::{Loaded, Saved, load_from_slice};
+use crate::form::{Form, Shape, count_words, put_head, put_summed};
+use crate::gather::{BLOCK, form_from};
+use crate::once::{Sink, Source};
+use crate::saved::{Loaded, Saved};
 use crate::words::put_word;
 use std::alloc::Allocator;
-use std::io::{Read, Write};
-
-/// How many bytes are gathered before they are written.
-const BLOCK: usize = 65536;
 
 // Writes a whole piece, or as much of it as the writer takes before a fault.
-fn write_piece<W: Write>(writer: &mut W, piece: &[u8]) -> Result<(), SaveError>
+fn write_piece<W: Sink>(writer: &mut W, piece: &[u8]) -> Result<(), SaveError>
     ensures written { Writes result (W.contents writer.old) (W.contents writer.new) piece.now }
     ensures kind { IfErr result (λ e. e ≡ SaveError.Write) }
+    ensures cause { OnErr result (FollowsWriteFault W.write_gives writer.new) }
 {
     let mut rest = piece;
     while !rest.is_empty() {
-        match writer.write(rest) {
+        match writer.write_once(rest) {
             Ok(0) => return Err(SaveError::Write),
             Ok(taken) => rest = &rest[taken..],
             Err(_) => return Err(SaveError::Write),
@@ -32,7 +31,7 @@ fn write_piece<W: Write>(writer: &mut W, piece: &[u8]) -> Result<(), SaveError>
 }
 
 // Writes what a buffer holds, where it has no room for two words.
-fn make_room<W: Write, A: Allocator>(
+fn make_room<W: Sink, A: Allocator>(
     writer: &mut W,
     buffer: &mut Vec<u8, A>,
 ) -> Result<(), SaveError>
@@ -43,6 +42,7 @@ fn make_room<W: Write, A: Allocator>(
     ensures room { OnOk result (vec_len buffer.new + 16 ≤ vec_capacity buffer.new) }
     ensures capacity { 65536 ≤ vec_capacity buffer.new }
     ensures kind { IfErr result (λ e. e ≡ SaveError.Write) }
+    ensures cause { OnErr result (FollowsWriteFault W.write_gives writer.new) }
 {
     if buffer.len() <= buffer.capacity() - 16 {
         return Ok(());
@@ -54,7 +54,7 @@ fn make_room<W: Write, A: Allocator>(
 
 // Writes the saved form of a list with that shape, by a buffer.
 #[tactic(auto, using(crate::proofs::RoundTrips::counts))]
-fn write_words<S: Saved, W: Write, A: Allocator>(
+fn write_words<S: Saved, W: Sink, A: Allocator>(
     writer: &mut W,
     mut buffer: Vec<u8, A>,
     shape: Shape,
@@ -68,6 +68,7 @@ fn write_words<S: Saved, W: Write, A: Allocator>(
     ensures written { Writes result (W.contents writer.old) (W.contents writer.new)
         (saved shape.kind shape.count shape.width (S.words list.now)) }
     ensures kind { IfErr result (λ e. e ≡ SaveError.Write) }
+    ensures cause { OnErr result (FollowsWriteFault W.write_gives writer.new) }
 {
     let count = count_words(&S::kind(), shape);
     let mut sum = put_head(&mut buffer, shape);
@@ -83,7 +84,7 @@ fn write_words<S: Saved, W: Write, A: Allocator>(
 
 /// Writes the saved form of a list, by blocks of 64 KiB. After a fault of the writer a beginning of
 /// it was written, and after another one nothing.
-pub fn save<S: Saved, A: Allocator, W: Write>(
+pub fn save<S: Saved, A: Allocator, W: Sink>(
     alloc: A,
     list: &S,
     writer: &mut W,
@@ -97,6 +98,7 @@ pub fn save<S: Saved, A: Allocator, W: Write>(
         (IsWhole S.kind (S.count list.now) (S.width list.now) (S.words list.now) × S.Fits list.now) }
     ensures none { IfErr result (λ e. e ≡ SaveError.NoForm
         → ¬ IsWhole S.kind (S.count list.now) (S.width list.now) (S.words list.now)) }
+    ensures cause { result ≡ Err SaveError.Write → FollowsWriteFault W.write_gives writer.new }
 {
     let Some(shape) = list.shape() else {
         return Err(SaveError::NoForm);
@@ -107,23 +109,22 @@ pub fn save<S: Saved, A: Allocator, W: Write>(
     write_words(writer, buffer, shape, list)
 }
 
-/// The list that the bytes up to the end of a reader are the saved form of.
-pub fn load<S: Loaded<A>, A: Allocator + Copy, R: Read>(
+/// The list that the bytes up to the end of a reader are the saved form of. They are read by blocks of
+/// 64 KiB, and kept as words. Memory is asked for as bytes come, and no length in a head asks for more.
+pub fn load<S: Loaded<A>, A: Allocator + Copy, R: Source>(
     alloc: A,
     reader: &mut R,
 ) -> Result<S, LoadError>
     ensures loaded { IfOk result (λ v. IfSome (R.remaining reader.old) (λ bytes.
         bytes ≡ saved S.kind.number (S.count v) (S.width v) (S.words v))) }
     ensures whole { IfOk result (λ v. IsWhole S.kind (S.count v) (S.width v) (S.words v) × S.Fits v) }
-    ensures refused { IfErr result (λ e. IsRefused S.kind (R.remaining reader.old) e) }
+    ensures end { OnOk result (IsAtEnd (R.remaining reader.new)) }
+    ensures refused { IfErr result (IsRefused S.kind (R.remaining reader.old)) }
+    ensures cause { result ≡ Err LoadError.Read → FollowsReadFault R.read_gives reader.new }
     ensures back { (x : S) → IsWhole S.kind (S.count x) (S.width x) (S.words x) → S.Fits x
         → R.remaining reader.old ≡ Some (saved S.kind.number (S.count x) (S.width x) (S.words x))
         → MatchResult result (λ v. v ≡ x) (λ e. (e ≡ LoadError.Read) ⊎ (e ≡ LoadError.Memory)) }
-    ensures end { OnOk result (IsAtEnd (R.remaining reader.new)) }
 {
-    let mut bytes = Vec::new(alloc);
-    if reader.read_to_end(&mut bytes).is_err() {
-        return Err(LoadError::Read);
-    }
-    load_from_slice(alloc, bytes.as_slice())
+    let Form { shape, mut words } = form_from(alloc, &S::kind(), reader)?;
+    Ok(S::make(shape, &mut words)?)
 }

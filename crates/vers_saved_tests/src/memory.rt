@@ -1,14 +1,15 @@
 //! Each request for memory refused, and heads that say more than there is.
 use crate::stored::{BITS, HOSTILE, POSTINGS, SORTED, SPARSE, SYMBOLS, VALUES};
 use postings::Postings;
-use std::alloc::{Allocator, Global};
+use std::alloc::{AllocError, Allocator, Global};
 use test_alloc::{Ending, Refusing, done_if, out_of_memory_if};
 use vers_bits::bit_vec::BitVec;
 use vers_rank::fast_rs_vec::RsVec;
 use vers_rmq::rmq::binary_rmq::BinaryRmq;
 use vers_rmq::rmq::fast_rmq::FastRmq;
-use vers_saved::fault::LoadError;
-use vers_saved::saved::{Loaded, load_from_slice, saved_size};
+use vers_saved::fault::{LoadError, SaveError};
+use vers_saved::saved::{Loaded, load_from_slice, save_to_vec, saved_size};
+use vers_saved::stream::load;
 use vers_sorted::elias_fano::EliasFanoVec;
 use vers_sorted::sparse::SparseRSVec;
 use vers_wavelet::wavelet::WaveletMatrix;
@@ -87,6 +88,22 @@ fn each_request_refused(rt: HostRuntime) {
     assert!(rt; ends_well(rt.alloc(), |heap: &Heap| tried_documents(heap)));
 }
 
+// How a load from a reader ends where a request is refused.
+fn tried_reading<'a>(heap: &'a Heap) -> Ending {
+    heap.start();
+    let mut rest: &[u8] = &POSTINGS;
+    let loaded: Result<Postings<&'a Heap>, LoadError> = load(heap, &mut rest);
+    match loaded.err() {
+        None => Ending::Done,
+        Some(fault) => out_of_memory_if(fault == LoadError::Memory),
+    }
+}
+
+#[test]
+fn each_request_of_a_reader_refused(rt: HostRuntime) {
+    assert!(rt; ends_well(rt.alloc(), |heap: &Heap| tried_reading(heap)));
+}
+
 // Whether bytes are too short, and no memory was asked for to tell it.
 fn is_told_without_memory<'a, S: Loaded<&'a Heap> + Drop>(heap: &'a Heap, bytes: &[u8]) -> bool {
     let loaded: Result<S, LoadError> = load_from_slice(heap, bytes);
@@ -101,4 +118,64 @@ fn hostile_bits<'a>(heap: &'a Heap) -> bool {
 fn a_hostile_length_takes_no_memory(rt: HostRuntime) {
     let heap = Refusing::none(rt.alloc());
     assert!(rt; hostile_bits(&heap));
+}
+
+/// How many bytes are read at once.
+const BLOCK: usize = 65536;
+
+// A head that says 2 ^ 62 bits, and zeros after it, so many bytes in all.
+fn hostile(alloc: Global, len: usize) -> Result<Vec<u8>, AllocError> {
+    let mut bytes = Vec::from_slice(alloc, &HOSTILE[..40])?;
+    bytes.resize(len, 0)?;
+    Ok(bytes)
+}
+
+// Whether a reader of so many bytes, whose head says more, is too short, and no more was held at once to tell
+// it than three times these bytes and a block.
+fn is_told_by_what_came(alloc: Global, len: usize) -> bool {
+    let Ok(bytes) = hostile(alloc, len) else {
+        return false;
+    };
+    let heap = Refusing::none(alloc);
+    let mut rest = bytes.as_slice();
+    let loaded: Result<BitVec<&Heap>, LoadError> = load(&heap, &mut rest);
+    let most = len.saturating_mul(3).saturating_add(BLOCK);
+    loaded.err() == Some(LoadError::TooShort) && heap.most_held_bytes() <= most
+}
+
+#[test]
+fn a_hostile_length_takes_no_more_memory_than_comes(rt: HostRuntime) {
+    for len in [56, 1000, 65_584, 300_000, 1_000_000] {
+        assert!(rt; is_told_by_what_came(rt.alloc(), len));
+    }
+}
+
+// Whether a list of zeros, so many words of them, is read with no more held at once than twice its form and a
+// block.
+fn is_held_twice_at_most(alloc: Global, words: usize) -> bool {
+    let Ok(bytes) = zeros_saved(alloc, words) else {
+        return false;
+    };
+    let heap = Refusing::none(alloc);
+    let mut rest = bytes.as_slice();
+    let loaded: Result<BitVec<&Heap>, LoadError> = load(&heap, &mut rest);
+    let most = bytes.len().saturating_mul(2).saturating_add(BLOCK);
+    loaded.is_ok() && heap.most_held_bytes() <= most
+}
+
+// The saved form of so many words of zeros.
+fn zeros_saved(alloc: Global, words: usize) -> Result<Vec<u8>, SaveError> {
+    let limbs = Vec::from_elem(alloc, 0u64, words)?;
+    let mut bytes = Vec::new(alloc);
+    if let Ok(bits) = BitVec::from_vec(limbs) {
+        save_to_vec(&bits, &mut bytes)?;
+    }
+    Ok(bytes)
+}
+
+#[test]
+fn a_list_is_read_with_no_second_copy_of_its_bytes(rt: HostRuntime) {
+    for words in [0, 1, 8_185, 8_186, 8_187, 20_000, 100_000] {
+        assert!(rt; is_held_twice_at_most(rt.alloc(), words));
+    }
 }

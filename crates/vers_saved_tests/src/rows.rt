@@ -11,6 +11,7 @@ use vers_rmq::rmq::binary_rmq::BinaryRmq;
 use vers_rmq::rmq::fast_rmq::FastRmq;
 use vers_saved::fault::LoadError;
 use vers_saved::saved::{Loaded, Saved, load_from_slice, save_to_vec, saved_size};
+use vers_saved::stream::load;
 use vers_sorted::elias_fano::EliasFanoVec;
 use vers_sorted::sparse::SparseRSVec;
 use vers_wavelet::wavelet::WaveletMatrix;
@@ -34,9 +35,32 @@ fn is_loaded<S: Loaded<A> + Drop, A: Allocator + Copy>(alloc: A, bytes: &[u8]) -
 }
 
 // The fault of bytes, or None where they are loaded.
-fn fault_of<S: Loaded<A> + Drop, A: Allocator + Copy>(alloc: A, bytes: &[u8]) -> Option<LoadError> {
+fn slice_fault<S: Loaded<A> + Drop, A: Allocator + Copy>(
+    alloc: A,
+    bytes: &[u8],
+) -> Option<LoadError> {
     let loaded: Result<S, LoadError> = load_from_slice(alloc, bytes);
     loaded.err()
+}
+
+// The fault of a reader of these bytes, or None where they are loaded.
+fn reader_fault<S: Loaded<A> + Drop, A: Allocator + Copy>(
+    alloc: A,
+    bytes: &[u8],
+) -> Option<LoadError> {
+    let mut rest = bytes;
+    let loaded: Result<S, LoadError> = load(alloc, &mut rest);
+    loaded.err()
+}
+
+// The fault of bytes, from a slice and from a reader, or None where both load them. Read where these differ.
+fn fault_of<S: Loaded<A> + Drop, A: Allocator + Copy>(alloc: A, bytes: &[u8]) -> Option<LoadError> {
+    let fault = slice_fault::<S, A>(alloc, bytes);
+    if reader_fault::<S, A>(alloc, bytes) == fault {
+        fault
+    } else {
+        Some(LoadError::Read)
+    }
 }
 
 // Whether a form with one bit changed is refused, and not for memory.

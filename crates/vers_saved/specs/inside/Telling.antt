@@ -67,7 +67,7 @@ pack_tells k (x ∷ xs) (y ∷ ys) hx hy e p =
     ap (λ z. z ∷ xs) (same_symbol k x y (hx 0) (hy 0) first) ∙ ap (λ l. y ∷ l) (pack_tells k xs ys (λ i. hx (suc i)) (λ i. hy (suc i)) (omega arith) rest)
 
 -- symbols of one width, as many and with the same bits
-same_symbols : (j k : ℕ) (xs ys : List ℕ) → All (λ y. y < 2 ^ j) xs → All (λ y. y < 2 ^ k) ys → length xs ≡ length ys → j ≡ k → limbs (pack xs j) ≡ limbs (pack ys k) → xs ≡ ys
+pub same_symbols : (j k : ℕ) (xs ys : List ℕ) → All (λ y. y < 2 ^ j) xs → All (λ y. y < 2 ^ k) ys → length xs ≡ length ys → j ≡ k → limbs (pack xs j) ≡ limbs (pack ys k) → xs ≡ ys
 same_symbols j k xs ys hx hy long wide same =
     let alike : limbs (pack xs k) ≡ limbs (pack ys k) = ap (λ w. limbs (pack xs w)) (sym wide) ∙ same in
     let many : length (pack xs k) ≡ length (pack ys k) = length-packed (λ v. v) k xs ∙ ap (λ n. n * k) long ∙ sym (length-packed (λ v. v) k ys) in

@@ -1,5 +1,4 @@
-use Rattle.std.proofs.Common.{◌≡◌, ◌≤◌, ◌∙◌, ◌&&◌, max, ap, arith}
-use Rattle.vers_bits.specs.Bits.{limb_count}
+use Rattle.std.proofs.Common.{◌∙◌, ◌&&◌, ap, arith}
 use Rattle.vers_saved.specs.Faults.{stands, words_among}
 use Rattle.vers_saved.proofs.Orders.{length-words_among, ordered_end, ordered_more}
 use Rattle.vers_saved.proofs.words.is_in_order.Goals as goal

@@ -1,0 +1,288 @@
+//! Words of a saved form, gathered from any reader a block at a time.
+ghost use Rattle.std.specs.Prelude.{◌≡◌, ℕ, ◌+◌, ◌-◌, ◌*◌, ◌%◌, ◌<◌, ◌≤◌, ◌++◌, ◌⊎◌, [], List, length, take, drop, slice_index, OnOk, OnErr, IfOk, IfErr, IfSome, Some, None};
+ghost use Rattle.std.specs.Io.KnownBytes.{Consumes, IsAtEnd, prepend_known};
+ghost use Rattle.vers_bits.specs.Bits.{limb_count};
+ghost use Rattle.vers_saved.specs.Format.{bytes_of, saved};
+ghost use Rattle.vers_saved.specs.Faults.{first_failing, fault_of, head_tests, bits_said, item_bits, words_among};
+ghost use Rattle.vers_saved.specs.Kinds.{AreWords, IsWhole};
+ghost use Rattle.vers_saved.specs.Streams.{FollowsReadFault, IsRefused};
+
+use crate::fault::LoadError;
+use crate::form::{Form, HEAD, Head, Shape, head_of, test_body};
+use crate::kind::Kind;
+use crate::numbers::are_words;
+use crate::once::Source;
+use crate::words::{Chunks, FRAME, Words};
+use std::alloc::{AllocError, Allocator};
+use std::io;
+use vers_bits::bit_vec::MAX_LEN;
+
+/// How many bytes are read or written at once at most.
+pub(crate) const BLOCK: usize = 65536;
+
+// One read into a block, behind the bytes that were read before.
+fn read_behind<R: Source>(reader: &mut R, block: &mut [u8], filled: usize) -> io::Result<usize>
+    requires { filled < length block.old }
+    ensures front { take filled block.new ≡ take filled block.old }
+    ensures fits { IfOk result (λ n. filled + n ≤ length block.new) }
+    ensures read { IfOk result (λ n. Consumes (R.remaining reader.old) (R.remaining reader.new)
+        (take n (drop filled block.new))) }
+    ensures end { IfOk result (λ n. n ≡ 0 → IsAtEnd (R.remaining reader.new)) }
+    ensures cause { OnErr result (FollowsReadFault R.read_gives reader.new) }
+{
+    reader.read_once(&mut block[filled..])
+}
+
+// Reads until a block is full, or the reader ends. Answers how many bytes were read.
+fn fill<R: Source>(reader: &mut R, block: &mut [u8]) -> Result<usize, LoadError>
+    ensures within { IfOk result (λ n. n ≤ length block.new) }
+    ensures read { IfOk result (λ n. Consumes (R.remaining reader.old) (R.remaining reader.new)
+        (take n block.new)) }
+    ensures end { IfOk result (λ n. n < length block.new → IsAtEnd (R.remaining reader.new)) }
+    ensures kind { IfErr result (λ e. e ≡ LoadError.Read) }
+    ensures cause { OnErr result (FollowsReadFault R.read_gives reader.new) }
+{
+    let mut filled = 0;
+    while filled < block.len() {
+        match read_behind(reader, block, filled) {
+            Ok(0) => return Ok(filled),
+            Ok(given) => filled += given,
+            Err(_) => return Err(LoadError::Read),
+        }
+    }
+    Ok(filled)
+}
+
+// Makes room for so many words more, and for as many as there are, but for no more than are missing. So
+// words are moved few times, and all of them take no more memory than they need.
+fn make_room<A: Allocator>(
+    words: &mut Vec<u64, A>,
+    more: usize,
+    missing: usize,
+) -> Result<(), AllocError>
+    ensures { words.new.items ≡ words.old.items }
+{
+    if words.capacity() - words.len() >= more {
+        return Ok(());
+    }
+    words.reserve_exact(words.len().max(more).min(missing))
+}
+
+// Appends so many words.
+#[tactic(auto, using(crate::proofs::Sums::appending))]
+fn append_words<W: Words, A: Allocator>(
+    words: &mut Vec<u64, A>,
+    more: &W,
+    count: usize,
+) -> Result<(), AllocError>
+    requires { count ≡ length (W.words more.now) }
+    ensures { OnOk result (words.new.items ≡ words.old.items ++ W.words more.now) }
+{
+    for k in 0..count {
+        if words.push(more.word(k)).is_err() {
+            return Err(AllocError);
+        }
+    }
+    Ok(())
+}
+
+// All items of a slice are bytes.
+fn are_bytes(items: &[u8])
+    ensures { (k : ℕ) → slice_index items.now k < 256 }
+{}
+
+// Appends the words of a piece of so many bytes, which a reader fills. TooShort where it ends before.
+fn gather_piece<R: Source, A: Allocator>(
+    reader: &mut R,
+    piece: &mut [u8],
+    size: usize,
+    words: &mut Vec<u64, A>,
+    missing: usize,
+) -> Result<(), LoadError>
+    requires size { length piece.old ≡ size }
+    requires whole { size % 8 ≡ 0 }
+    ensures gathered { OnOk result ((more : List ℕ)
+        × Consumes (R.remaining reader.old) (R.remaining reader.new) (bytes_of more)
+        × (words.new.items ≡ words.old.items ++ more) × (8 * length more ≡ size)) }
+    ensures short { IfErr result (λ e. e ≡ LoadError.TooShort → (text : List ℕ)
+        × Consumes (R.remaining reader.old) (R.remaining reader.new) text
+        × IsAtEnd (R.remaining reader.new) × (length text < size)) }
+    ensures kind { IfErr result (λ e. (e ≡ LoadError.TooShort) ⊎ ((e ≡ LoadError.Memory) ⊎ (e ≡ LoadError.Read))) }
+    ensures cause { IfErr result (λ e. e ≡ LoadError.Read → FollowsReadFault R.read_gives reader.new) }
+{
+    let filled = fill(reader, piece)?;
+    if filled < size {
+        return Err(LoadError::TooShort);
+    }
+    are_bytes(piece);
+    make_room(words, size / 8, missing)?;
+    let (chunks, _) = piece.as_chunks::<8>();
+    append_words(words, &Chunks { chunks }, size / 8)?;
+    Ok(())
+}
+
+// Appends words until there are so many. TooShort where the reader ends before.
+fn gather<R: Source, A: Allocator>(
+    reader: &mut R,
+    block: &mut [u8],
+    words: &mut Vec<u64, A>,
+    count: usize,
+) -> Result<(), LoadError>
+    requires block { length block.old ≡ 65536 }
+    requires few { length words.old.items ≤ count }
+    requires small { 8 * count < 18446744073709551616 }
+    ensures gathered { OnOk result ((more : List ℕ)
+        × Consumes (R.remaining reader.old) (R.remaining reader.new) (bytes_of more)
+        × (words.new.items ≡ words.old.items ++ more)) }
+    ensures len { OnOk result (length words.new.items ≡ count) }
+    ensures short { IfErr result (λ e. e ≡ LoadError.TooShort → (text : List ℕ)
+        × Consumes (R.remaining reader.old) (R.remaining reader.new) text
+        × IsAtEnd (R.remaining reader.new)
+        × (8 * length words.old.items + length text < 8 * count)) }
+    ensures kind { IfErr result (λ e. (e ≡ LoadError.TooShort) ⊎ ((e ≡ LoadError.Memory) ⊎ (e ≡ LoadError.Read))) }
+    ensures cause { IfErr result (λ e. e ≡ LoadError.Read → FollowsReadFault R.read_gives reader.new) }
+{
+    while words.len() < count {
+        let missing = count - words.len();
+        let most = (8 * missing).min(BLOCK);
+        if let Err(fault) = gather_piece(reader, &mut block[..most], most, words, missing) {
+            return Err(fault);
+        }
+    }
+    Ok(())
+}
+
+// BadLength where a reader has more bytes.
+fn test_end<R: Source>(reader: &mut R, block: &mut [u8]) -> Result<(), LoadError>
+    requires { 0 < length block.old }
+    ensures end { OnOk result (IsAtEnd (R.remaining reader.new)
+        × Consumes (R.remaining reader.old) (R.remaining reader.new) []) }
+    ensures more { IfErr result (λ e. e ≡ LoadError.BadLength → (text : List ℕ)
+        × Consumes (R.remaining reader.old) (R.remaining reader.new) text × (0 < length text)) }
+    ensures kind { IfErr result (λ e. (e ≡ LoadError.BadLength) ⊎ (e ≡ LoadError.Read)) }
+    ensures cause { IfErr result (λ e. e ≡ LoadError.Read → FollowsReadFault R.read_gives reader.new) }
+{
+    match reader.read_once(block) {
+        Ok(0) => Ok(()),
+        Ok(_) => Err(LoadError::BadLength),
+        Err(_) => Err(LoadError::Read),
+    }
+}
+
+// The head of the form that a reader has. No word was gathered before.
+fn gather_head<R: Source, A: Allocator>(
+    kind: &Kind,
+    reader: &mut R,
+    block: &mut [u8],
+    words: &mut Vec<u64, A>,
+) -> Result<Head, LoadError>
+    requires block { length block.old ≡ 65536 }
+    requires none { words.old.items ≡ [] }
+    ensures gathered { OnOk result (Consumes (R.remaining reader.old) (R.remaining reader.new)
+        (bytes_of words.new.items) × (length words.new.items ≡ 6)) }
+    ensures fit { OnOk result (AreWords words.new.items) }
+    ensures none { OnOk result (first_failing (head_tests kind.now words.new.items) ≡ None) }
+    ensures said { IfOk result (λ h. (h.shape.kind ≡ kind.now.number)
+        × (h.shape.count ≡ slice_index words.new.items 4)
+        × (h.shape.width ≡ slice_index words.new.items 3)
+        × (h.bits ≡ h.shape.count * item_bits kind.now h.shape.width) × (h.bits ≤ MAX_LEN)) }
+    ensures refused { IfErr result (IsRefused kind.now (R.remaining reader.old)) }
+    ensures cause { IfErr result (λ e. e ≡ LoadError.Read → FollowsReadFault R.read_gives reader.new) }
+{
+    if let Err(fault) = gather(reader, block, words, FRAME) {
+        return Err(fault);
+    }
+    are_words(words.as_slice());
+    head_of(kind, words)
+}
+
+// The words after those of a head, up to the sum, of the form that a reader has.
+fn gather_body<R: Source, A: Allocator>(
+    kind: &Kind,
+    n: usize,
+    reader: &mut R,
+    block: &mut [u8],
+    words: &mut Vec<u64, A>,
+) -> Result<(), LoadError>
+    requires block { length block.old ≡ 65536 }
+    requires begun { length words.old.items ≡ 6 }
+    requires fit { AreWords words.old.items }
+    requires head { first_failing (head_tests kind.now words.old.items) ≡ None }
+    requires said { n ≡ bits_said kind.now words.old.items }
+    requires small { n ≤ MAX_LEN }
+    ensures gathered { OnOk result ((more : List ℕ)
+        × Consumes (R.remaining reader.old) (R.remaining reader.new) (bytes_of more)
+        × (words.new.items ≡ words.old.items ++ more) × IsAtEnd (R.remaining reader.new)) }
+    ensures len { OnOk result (length words.new.items ≡ limb_count n + 6) }
+    ensures fit { OnOk result (AreWords words.new.items) }
+    ensures none { OnOk result (fault_of kind.now (bytes_of words.new.items) ≡ None) }
+    ensures refused { IfErr result (IsRefused kind.now
+        (prepend_known (bytes_of words.old.items) (R.remaining reader.old))) }
+    ensures cause { IfErr result (λ e. e ≡ LoadError.Read → FollowsReadFault R.read_gives reader.new) }
+{
+    if let Err(fault) = gather(reader, block, words, n.div_ceil(64) + FRAME) {
+        return Err(fault);
+    }
+    if let Err(fault) = test_end(reader, block) {
+        return Err(fault);
+    }
+    are_words(words.as_slice());
+    test_body(kind.order, n, words)
+}
+
+// Takes the head and the sum off the words of a form of `n` bits.
+fn cut_frame<A: Allocator>(n: usize, words: &mut Vec<u64, A>)
+    requires { length words.old.items ≡ limb_count n + 6 }
+    ensures { words.new.items ≡ words_among n words.old.items }
+{
+    let end = words.len() - 1;
+    words.as_mut_slice().copy_within(HEAD..end, 0);
+    words.truncate(end - HEAD);
+}
+
+// The shape of the list that the bytes up to the end of a reader are the saved form of, of a list of that
+// kind. Its words are gathered, and none was before.
+fn gather_form<R: Source, A: Allocator>(
+    kind: &Kind,
+    reader: &mut R,
+    block: &mut [u8],
+    words: &mut Vec<u64, A>,
+) -> Result<Shape, LoadError>
+    requires block { length block.old ≡ 65536 }
+    requires none { words.old.items ≡ [] }
+    ensures ok { IfOk result (λ s. IfSome (R.remaining reader.old) (λ bytes.
+        bytes ≡ saved kind.now.number s.count s.width words.new.items)) }
+    ensures whole { IfOk result (λ s. IsWhole kind.now s.count s.width words.new.items
+        × (s.kind ≡ kind.now.number)) }
+    ensures end { OnOk result (IsAtEnd (R.remaining reader.new)) }
+    ensures refused { IfErr result (IsRefused kind.now (R.remaining reader.old)) }
+    ensures cause { IfErr result (λ e. e ≡ LoadError.Read → FollowsReadFault R.read_gives reader.new) }
+{
+    let head = gather_head(kind, reader, block, words)?;
+    if let Err(fault) = gather_body(kind, head.bits, reader, block, words) {
+        return Err(fault);
+    }
+    cut_frame(head.bits, words);
+    Ok(head.shape)
+}
+
+// The shape and the words that the bytes up to the end of a reader are the saved form of, of a list
+// of that kind.
+pub(crate) fn form_from<R: Source, A: Allocator + Copy>(
+    alloc: A,
+    kind: &Kind,
+    reader: &mut R,
+) -> Result<Form<A>, LoadError>
+    ensures ok { IfOk result (λ r. IfSome (R.remaining reader.old) (λ bytes.
+        bytes ≡ saved kind.now.number r.shape.count r.shape.width r.words.items)) }
+    ensures whole { IfOk result (λ r. IsWhole kind.now r.shape.count r.shape.width r.words.items
+        × (r.shape.kind ≡ kind.now.number)) }
+    ensures end { OnOk result (IsAtEnd (R.remaining reader.new)) }
+    ensures refused { IfErr result (IsRefused kind.now (R.remaining reader.old)) }
+    ensures cause { IfErr result (λ e. e ≡ LoadError.Read → FollowsReadFault R.read_gives reader.new) }
+{
+    let mut block = Vec::from_elem(alloc, 0u8, BLOCK)?;
+    let mut words = Vec::new(alloc);
+    let shape = gather_form(kind, reader, block.as_mut_slice(), &mut words)?;
+    Ok(Form { shape, words })
+}
