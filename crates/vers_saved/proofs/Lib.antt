@@ -9,6 +9,7 @@ pub mod RoundTrips
 pub mod SumTells
 pub mod WordLists
 pub mod Parentheses
+pub mod TreeForms
 pub mod SparseLists
 pub mod PostingLists
 pub mod SymbolLists

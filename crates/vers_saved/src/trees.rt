@@ -1,10 +1,17 @@
 //! Lists of parentheses, saved by their limbs.
-ghost use Rattle.std.specs.Prelude.{◌≡◌, ◌<◌, ⊤, false, length, slice_index, slice_index_or};
+ghost use Rattle.std.specs.Prelude.{◌≡◌, ◌<◌, ◌⊎◌, ⊤, false, length, slice_index, slice_index_or, Bool, List, OnOk, IfOk, IfErr, IfSome, MatchResult, Some, None};
+ghost use Rattle.std.specs.Io.KnownBytes.{IsAtEnd};
 ghost use Rattle.vers_bits.specs.Bits.{bit_value, limbs};
-ghost use Rattle.vers_saved.specs.Kinds.{tree_kind};
+ghost use Rattle.vers_saved.specs.Faults.{fault_of};
+ghost use Rattle.vers_saved.specs.Format.{saved_parentheses};
+ghost use Rattle.vers_saved.specs.Kinds.{IsWhole, tree_kind};
+ghost use Rattle.vers_saved.specs.Streams.{FollowsReadFault, IsRefused};
 
-use crate::form::{Shape, bits_of, taken};
+use crate::fault::LoadError;
+use crate::form::{Form, Shape, bits_of, form_of, taken};
+use crate::gather::form_from;
 use crate::kind::{Kind, Order, PARENTHESES};
+use crate::once::Source;
 use crate::saved::{Loaded, Saved};
 use std::alloc::{AllocError, Allocator};
 use vers_trees::trees::bp::{BpTree, MAX_BLOCK_SIZE, MAX_LEN};
@@ -87,17 +94,66 @@ impl<const BLOCK_SIZE: usize, A: Allocator + Copy> Saved for BpTree<BLOCK_SIZE, 
     }
 }
 
-// The size of a tree with any allocator isn't known, but that of one with a reference to it is.
+// The tree of the parentheses that words hold. The words are taken out of the vector.
 #[tactic(auto, using(crate::proofs::Parentheses::trees))]
+fn tree_of<'a, const BLOCK_SIZE: usize, A: Allocator>(
+    of: Shape,
+    held: &mut Vec<u64, &'a A>,
+) -> Result<BpTree<BLOCK_SIZE, &'a A>, AllocError>
+    requires { IsWhole (tree_kind BLOCK_SIZE) of.count of.width held.old.items }
+    ensures { IfOk result (λ v. (length v ≡ of.count) × (BLOCK_SIZE ≡ of.width)
+        × (limbs v ≡ held.old.items)) }
+{
+    match BpTree::from_bit_vector(bits_of(of.count, taken(held))) {
+        Ok(tree) => Ok(tree),
+        Err(_) => Err(AllocError),
+    }
+}
+
+// The size of a tree with any allocator isn't known, but that of one with a reference to it is.
 impl<'a, const BLOCK_SIZE: usize, A: Allocator> Loaded<&'a A> for BpTree<BLOCK_SIZE, &'a A> {
     ghost use Rattle.vers_saved.specs.inside.Telling.{bits_tell};
 
     fn make(of: Shape, held: &mut Vec<u64, &'a A>) -> Result<Self, AllocError> {
-        match BpTree::from_bit_vector(bits_of(of.count, taken(held))) {
-            Ok(tree) => Ok(tree),
-            Err(_) => Err(AllocError),
-        }
+        tree_of(of, held)
     }
 
     ghost tells = { bits_tell BLOCK_SIZE };
+}
+
+/// The tree that the bytes are the saved form of, as `load_from_slice` of it. A fault is that of the first
+/// test that fails, and Memory comes only where all of them hold.
+pub fn load_tree_from_slice<'a, const BLOCK_SIZE: usize, A: Allocator>(
+    alloc: &'a A,
+    bytes: &[u8],
+) -> Result<BpTree<BLOCK_SIZE, &'a A>, LoadError>
+    ensures loaded { IfOk result (λ v. bytes.now ≡ saved_parentheses BLOCK_SIZE v) }
+    ensures whole { IfOk result (λ v. IsWhole (tree_kind BLOCK_SIZE) (length v) BLOCK_SIZE (limbs v)) }
+    ensures refused { IfErr result (λ e. (fault_of (tree_kind BLOCK_SIZE) bytes.now ≡ Some e)
+        ⊎ ((e ≡ LoadError.Memory) × (fault_of (tree_kind BLOCK_SIZE) bytes.now ≡ None))) }
+    ensures back { (x : List Bool) → IsWhole (tree_kind BLOCK_SIZE) (length x) BLOCK_SIZE (limbs x)
+        → bytes.now ≡ saved_parentheses BLOCK_SIZE x
+        → MatchResult result (λ v. v ≡ x) (λ e. e ≡ LoadError.Memory) }
+{
+    let Form { shape, mut words } = form_of(alloc, &tree_kind(BLOCK_SIZE), bytes)?;
+    Ok(tree_of(shape, &mut words)?)
+}
+
+/// The tree that the bytes up to the end of a reader are the saved form of, as `load` of it.
+pub fn load_tree<'a, const BLOCK_SIZE: usize, A: Allocator, R: Source>(
+    alloc: &'a A,
+    reader: &mut R,
+) -> Result<BpTree<BLOCK_SIZE, &'a A>, LoadError>
+    ensures loaded { IfOk result (λ v. IfSome (R.remaining reader.old) (λ bytes.
+        bytes ≡ saved_parentheses BLOCK_SIZE v)) }
+    ensures whole { IfOk result (λ v. IsWhole (tree_kind BLOCK_SIZE) (length v) BLOCK_SIZE (limbs v)) }
+    ensures end { OnOk result (IsAtEnd (R.remaining reader.new)) }
+    ensures refused { IfErr result (IsRefused (tree_kind BLOCK_SIZE) (R.remaining reader.old)) }
+    ensures cause { IfErr result (λ e. e ≡ LoadError.Read → FollowsReadFault R.read_gives reader.new) }
+    ensures back { (x : List Bool) → IsWhole (tree_kind BLOCK_SIZE) (length x) BLOCK_SIZE (limbs x)
+        → R.remaining reader.old ≡ Some (saved_parentheses BLOCK_SIZE x)
+        → MatchResult result (λ v. v ≡ x) (λ e. (e ≡ LoadError.Read) ⊎ (e ≡ LoadError.Memory)) }
+{
+    let Form { shape, mut words } = form_from(alloc, &tree_kind(BLOCK_SIZE), reader)?;
+    Ok(tree_of(shape, &mut words)?)
 }
