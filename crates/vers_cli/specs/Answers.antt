@@ -35,7 +35,11 @@ by_the_rules = record { answer_to = answer_to; holding_after = holding_after }
 abbrev pub answers_to : Holding → List (List ℕ) → List ℕ
 answers_to held lines = answers_of by_the_rules held lines
 
--- what was written of the answers of the lines that were read, with nothing held before them, by how
--- a run ends
+-- what was written of the answers of the lines that were read, with this held before them, by how a
+-- run ends
+abbrev pub WrittenFrom : Holding → Result (Unit {0}) RunError → List (List ℕ) → List ℕ → Type 0
+WrittenFrom held result lines text = WrittenOf (answers_to held) result lines text
+
+-- the same, with nothing held before them
 abbrev pub WrittenAt : Result (Unit {0}) RunError → List (List ℕ) → List ℕ → Type 0
-WrittenAt result lines text = WrittenOf (answers_to Nothing) result lines text
+WrittenAt result lines text = WrittenFrom Nothing result lines text

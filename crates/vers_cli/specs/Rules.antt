@@ -5,12 +5,13 @@
 -- 4. a query with malformed arguments, or another number of them: bad line;
 -- 5. a load line whose arguments are not admitted, or a query whose condition is not met: refused;
 -- 6. the answer.
-use Rattle.std.specs.Prelude.{ℕ, List, Option, Some, None}
+use Rattle.std.specs.Prelude.{ℕ, List, [], ◌∷◌, Option, Some, None}
 use Rattle.vers_words.specs.declared.loading.Loading.{Loading}
 use Rattle.vers_words.specs.declared.loading.Loading.TheVariants.{Malformed, Inadmissible, Accepted}
 use Rattle.vers_words.specs.Reply.{PlainReply, BadLine, Refused, Number}
 use Rattle.vers_cli.specs.declared.name.Name.{Name}
 use Rattle.vers_cli.specs.declared.name.Name.TheVariants as name
+use Rattle.vers_cli.specs.Name.{name_of}
 use Rattle.vers_cli.specs.Holding.{Holding, length_of, loaded, query_reply, held_after}
 
 -- the reply of a load line: the length where it is accepted
@@ -30,3 +31,14 @@ abbrev pub holding_after_name : Holding → Option Name → List (List ℕ) → 
 holding_after_name held None arguments = held
 holding_after_name held (Some (name.Load line)) arguments = held_after held (loaded line arguments)
 holding_after_name held (Some (name.Query line)) arguments = held
+
+-- what a line gives whose first word is this name, or none, where it is to be a load line
+abbrev pub named_loaded : Option Name → List (List ℕ) → Loading Holding
+named_loaded None arguments = Malformed
+named_loaded (Some (name.Load line)) arguments = loaded line arguments
+named_loaded (Some (name.Query line)) arguments = Malformed
+
+-- what a line of these words gives, where it is to be a load line
+unfoldable pub line_loaded : List (List ℕ) → Loading Holding
+line_loaded [] = Malformed
+line_loaded (word ∷ arguments) = named_loaded (name_of word) arguments

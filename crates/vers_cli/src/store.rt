@@ -1,10 +1,10 @@
 //! How a line is answered, and what is held after it.
 ghost use Rattle.std.specs.Prelude.{◌≡◌, ◌++◌, ◌∷◌, [], length, take, IfOk, OnOk, IsErr, MatchResult};
-ghost use Rattle.vers_words.specs.Text.{words_in};
+ghost use Rattle.vers_words.specs.Text.{words_in, words_of};
 ghost use Rattle.vers_words.specs.Reply.{plain_reply, reply_text};
 ghost use Rattle.vers_cli.specs.Name.{name_of};
-ghost use Rattle.vers_cli.specs.Holding.{Nothing, loaded, kind_of, held_after};
-ghost use Rattle.vers_cli.specs.Rules.{load_reply, reply_to, holding_after_name};
+ghost use Rattle.vers_cli.specs.Holding.{Nothing, holding_of, loaded, kind_of, held_after};
+ghost use Rattle.vers_cli.specs.Rules.{load_reply, reply_to, holding_after_name, line_loaded};
 ghost use Rattle.vers_cli.specs.Answers.{answer_to, holding_after, by_the_rules};
 
 use crate::held;
@@ -38,10 +38,21 @@ impl<'a, A: Allocator + Copy> Store<'a, A> {
     pub fn new(alloc: &'a A) -> Store<'a, A>
         ensures { result ≡ Nothing }
     {
-        Store {
-            alloc,
-            held: Held::Nothing,
-        }
+        Store::of(alloc, Held::Nothing)
+    }
+
+    /// This is held.
+    pub fn of(alloc: &'a A, held: Held<'a, A>) -> Store<'a, A>
+        ensures { result ≡ holding_of held.entry }
+    {
+        Store { alloc, held }
+    }
+
+    /// What is held.
+    pub fn held(&self) -> &Held<'a, A>
+        ensures { holding_of result.now ≡ self.now }
+    {
+        &self.held
     }
 
     // The reply of a load line. What was held is kept, unless the line is accepted.
@@ -96,6 +107,39 @@ impl<'a, A: Allocator + Copy> Store<'a, A> {
             return Ok(());
         };
         append_line(self.reply(word, arguments)?, answers)
+    }
+}
+
+/// What a line gives that is to be a load line: a store that holds the list that it writes.
+pub fn load_line<'a, A: Allocator + Copy>(
+    alloc: &'a A,
+    line: &[u8],
+) -> Result<Loading<Store<'a, A>>, AllocError>
+    ensures { IfOk result (λ loading. loading ≡ line_loaded (words_of line.now)) }
+{
+    let Some((word, arguments)) = split_first_word(without_return(line)) else {
+        return Ok(Loading::Malformed);
+    };
+    match Name::of(word) {
+        None => Ok(Loading::Malformed),
+        Some(Name::Query(_)) => Ok(Loading::Malformed),
+        Some(Name::Load(load)) => store_loaded(alloc, load, arguments),
+    }
+}
+
+// What a load line gives, as a store that holds it.
+fn store_loaded<'a, A: Allocator + Copy>(
+    alloc: &'a A,
+    load: Load,
+    arguments: &[u8],
+) -> Result<Loading<Store<'a, A>>, AllocError>
+    ensures { IfOk result (λ loading. loading ≡ loaded load (words_in arguments.now)) }
+{
+    match held::load(alloc, load, arguments) {
+        Ok(Loading::Malformed) => Ok(Loading::Malformed),
+        Ok(Loading::Inadmissible) => Ok(Loading::Inadmissible),
+        Ok(Loading::Accepted(held)) => Ok(Loading::Accepted(Store::of(alloc, held))),
+        Err(error) => Err(error),
     }
 }
 
