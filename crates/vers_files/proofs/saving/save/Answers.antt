@@ -1,0 +1,4 @@
+use Rattle.vers_files.proofs.saving.save.Goals as goal
+
+pub returns-in-Sparse-clause-none : goal.returns-in-Sparse-clause-none
+returns-in-Sparse-clause-none g c = rw c.in-Sparse.is c.save-in-Sparse.ensures.none

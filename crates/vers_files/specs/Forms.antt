@@ -1,0 +1,72 @@
+-- The saved form of what the program holds, and the fault of a file that is none. A further structure adds a clause to each of
+-- these definitions.
+use Rattle.std.specs.Prelude.{ℕ, ◌==◌, ◌≡◌, List, [], length, codes, slice_index, Option, Some, IfSome, ◌⊎◌, if◌then◌else◌}
+use Rattle.vers_bits.specs.Bits.{limbs, pack}
+use Rattle.vers_saved.specs.declared.kind.Kind.{Kind}
+use Rattle.vers_saved.specs.declared.kind.TheConstants.{SORTED, SYMBOLS, SPARSE, VALUES, BIT_LISTS, SORTED_LISTS, SYMBOL_LISTS, SPARSE_LISTS, BLOCK_VALUES}
+use Rattle.vers_saved.specs.declared.fault.LoadError.{LoadError}
+use Rattle.vers_saved.specs.declared.fault.LoadError.TheVariants.{TooShort, NotOurs, OtherVersion, OtherKind, BadLength, BadSum, BadPadding, NotAscending, Memory, Read}
+use Rattle.vers_saved.specs.Format.{words_of, sparse_words, saved_bits, saved_sorted, saved_symbols, saved_sparse, saved_values}
+use Rattle.vers_saved.specs.Faults.{fault_of}
+use Rattle.vers_saved.specs.Kinds.{IsWhole}
+use Rattle.vers_cli.specs.Holding.{Holding, Nothing, BitsHeld, SortedHeld, SparseHeld, ValuesHeld, TreeHeld, SymbolsHeld, PostingsHeld}
+
+-- the saved form of what is held, or no bytes where it has none
+abbrev pub saved_form : Holding → List ℕ
+saved_form Nothing = []
+saved_form (BitsHeld bits) = saved_bits bits
+saved_form (SortedHeld members) = saved_sorted members
+saved_form (SparseHeld bits) = saved_sparse bits
+saved_form (ValuesHeld values) = saved_values values
+saved_form (TreeHeld bits) = []
+saved_form (SymbolsHeld symbols) = saved_symbols symbols.width symbols.items
+saved_form (PostingsHeld posted) = []
+
+-- what is held has a saved form
+abbrev pub HasForm : Holding → Type 0
+HasForm Nothing = ⊥
+HasForm (BitsHeld bits) = IsWhole BIT_LISTS (length bits) 1 (limbs bits)
+HasForm (SortedHeld members) = IsWhole SORTED_LISTS (length members) 64 members
+HasForm (SparseHeld bits) = IsWhole SPARSE_LISTS (length (sparse_words bits)) 64 (sparse_words bits)
+HasForm (ValuesHeld values) = IsWhole BLOCK_VALUES (length values) 64 values
+HasForm (TreeHeld bits) = ⊥
+HasForm (SymbolsHeld symbols) = IsWhole SYMBOL_LISTS (length symbols.items) symbols.width (limbs (pack symbols.items symbols.width))
+HasForm (PostingsHeld posted) = ⊥
+
+-- the kind of lists that has this number, or that of bits where none has
+abbrev pub kind_numbered : ℕ → Kind
+kind_numbered number =
+    if number == SORTED then SORTED_LISTS
+    else if number == SYMBOLS then SYMBOL_LISTS
+    else if number == SPARSE then SPARSE_LISTS
+    else if number == VALUES then BLOCK_VALUES
+    else BIT_LISTS
+
+-- the number of the kind that bytes name: their third word
+abbrev pub number_of_kind : List ℕ → ℕ
+number_of_kind bytes = slice_index (words_of bytes) 2
+
+-- the fault of bytes as a saved form of the kind that they name, or None where they are one
+abbrev pub form_fault : List ℕ → Option LoadError
+form_fault bytes = fault_of (kind_numbered (number_of_kind bytes)) bytes
+
+-- the bytes that a reader had left are the saved form of what is held
+abbrev pub IsFormOf : Option (List ℕ) → Holding → Type 0
+IsFormOf left held = HasForm held × IfSome left (λ bytes. bytes ≡ saved_form held)
+
+-- the reader failed, memory ran out, or what the reader had left has the fault
+abbrev pub IsNoForm : Option (List ℕ) → LoadError → Type 0
+IsNoForm left fault = (fault ≡ Read) ⊎ ((fault ≡ Memory) ⊎ IfSome left (λ bytes. form_fault bytes ≡ Some fault))
+
+-- what is said of a fault: its name, and what it means
+abbrev pub fault_text : LoadError → List ℕ
+fault_text TooShort = codes "TooShort: the file is cut off"
+fault_text NotOurs = codes "NotOurs: the file does not begin as a saved list does"
+fault_text OtherVersion = codes "OtherVersion: the list was saved by another version"
+fault_text OtherKind = codes "OtherKind: there is no such kind of list, or none of this width"
+fault_text BadLength = codes "BadLength: no list of this kind is as long, or the file goes on after it"
+fault_text BadSum = codes "BadSum: the sum is not that of what stands before it"
+fault_text BadPadding = codes "BadPadding: a bit is set past the end of the list"
+fault_text NotAscending = codes "NotAscending: the numbers do not ascend"
+fault_text Memory = codes "Memory: out of memory"
+fault_text Read = codes "Read: the file can't be read"

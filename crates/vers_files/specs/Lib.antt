@@ -1,0 +1,4 @@
+pub mod Forms
+pub mod Asked
+pub mod SavedLines
+pub mod Shown

@@ -1,0 +1,30 @@
+-- What is written of a load line.
+use Rattle.std.specs.Prelude.{◌≡◌, ⊤, Result, Ok, Err}
+use Rattle.vers_words.specs.declared.loading.Loading.{Loading}
+use Rattle.vers_words.specs.declared.loading.Loading.TheVariants.{Malformed, Inadmissible, Accepted}
+use Rattle.vers_saved.specs.declared.fault.SaveError.{SaveError}
+use Rattle.vers_saved.specs.declared.fault.SaveError.TheVariants as error
+use Rattle.vers_cli.specs.Holding.{Holding}
+use Rattle.vers_files.specs.declared.saving.SaveFault.{SaveFault}
+use Rattle.vers_files.specs.declared.saving.SaveFault.TheVariants.{BadLine, Refused, NoForm, OutOfMemory, Write}
+use Rattle.vers_files.specs.Forms.{HasForm}
+
+-- what holds of what a load line writes, where it is accepted
+abbrev pub IfAccepted : {H : Type 0} → Loading H → (H → Type 0) → Type 0
+IfAccepted Malformed P = ⊤
+IfAccepted Inadmissible P = ⊤
+IfAccepted (Accepted held) P = P held
+
+-- why a line that gives this is not saved
+abbrev pub SaysWhy : SaveFault → Loading Holding → Type 0
+SaysWhy BadLine loading = loading ≡ Malformed
+SaysWhy Refused loading = loading ≡ Inadmissible
+SaysWhy NoForm loading = (held : Holding) × (loading ≡ Accepted held) × ¬ HasForm held
+SaysWhy _ loading = ⊤
+
+-- how a save of a line ends, where that of its list ends like this
+abbrev pub line_saved : Result (Unit {0}) SaveError → Result (Unit {0}) SaveFault
+line_saved (Ok u) = Ok u
+line_saved (Err error.NoForm) = Err NoForm
+line_saved (Err error.Memory) = Err OutOfMemory
+line_saved (Err error.Write) = Err Write

@@ -1,0 +1,102 @@
+//! What a file holds, as what the line program holds.
+ghost use Rattle.std.specs.Prelude.{◌≡◌, List, ℕ, ◌⊎◌, IfOk, IfErr, IfSome, Some, None};
+ghost use Rattle.vers_saved.specs.Format.{bytes_word};
+ghost use Rattle.vers_files.specs.Forms.{saved_form, HasForm, form_fault, number_of_kind, IsFormOf, IsNoForm, fault_text};
+
+use std::alloc::Allocator;
+use std::io::{ErrorKind, Read};
+use vers_cli::{Held, Store};
+use vers_saved::fault::LoadError;
+use vers_saved::kind::{SORTED, SPARSE, SYMBOLS, VALUES};
+use vers_saved::saved::load_from_slice;
+
+// The word of eight bytes.
+#[tactic(auto, unfolding(vers_saved::specs::Format::bytes_word))]
+fn word_of(bytes: [u8; 8]) -> u64
+    ensures { result ≡ bytes_word bytes }
+{
+    u64::from_le_bytes(bytes)
+}
+
+// The number of the kind that bytes name: their third word, and 0 where they have none.
+#[tactic(auto, unfolding(vers_saved::specs::Format::words_of))]
+fn number_of_kind(bytes: &[u8]) -> u64
+    ensures { result ≡ number_of_kind bytes.now }
+{
+    let (words, _) = bytes.as_chunks::<8>();
+    if words.len() <= 2 {
+        return 0;
+    }
+    word_of(words[2])
+}
+
+// What a load of a structure gives, as a store that holds it.
+macro_rules! stored {
+    ($alloc:expr, $loaded:expr, $held:path) => {
+        match $loaded {
+            Ok(list) => Ok(Store::of($alloc, $held(list))),
+            Err(fault) => Err(fault),
+        }
+    };
+}
+
+/// A store that holds the list that the bytes are the saved form of. A fault is that of the bytes as a form of the
+/// kind that they name.
+#[tactic(auto, using(crate::proofs::Numbered::kinds))]
+pub fn load<'a, A: Allocator + Copy>(alloc: &'a A, bytes: &[u8]) -> Result<Store<'a, A>, LoadError>
+    ensures loaded { IfOk result (λ held. (bytes.now ≡ saved_form held) × HasForm held) }
+    ensures refused { IfErr result (λ e. (form_fault bytes.now ≡ Some e)
+        ⊎ ((e ≡ LoadError.Memory) × (form_fault bytes.now ≡ None))) }
+{
+    match number_of_kind(bytes) {
+        SORTED => stored!(alloc, load_from_slice(*alloc, bytes), Held::Sorted),
+        SYMBOLS => stored!(alloc, load_from_slice(*alloc, bytes), Held::Symbols),
+        SPARSE => stored!(alloc, load_from_slice(*alloc, bytes), Held::Sparse),
+        VALUES => stored!(alloc, load_from_slice(*alloc, bytes), Held::Values),
+        _ => stored!(alloc, load_from_slice(*alloc, bytes), Held::Bits),
+    }
+}
+
+/// All bytes that a reader has left.
+pub fn read<A: Allocator, F: Read>(alloc: A, file: &mut F) -> Result<Vec<u8, A>, LoadError>
+    ensures bytes { IfOk result (λ bytes. IfSome (F.remaining file.old) (λ left. left ≡ bytes.items)) }
+    ensures refused { IfErr result (λ e. (e ≡ LoadError.Read) ⊎ (e ≡ LoadError.Memory)) }
+{
+    let mut bytes = Vec::new(alloc);
+    match file.read_to_end(&mut bytes) {
+        Ok(_) => Ok(bytes),
+        Err(error) if error.kind() == ErrorKind::OutOfMemory => Err(LoadError::Memory),
+        Err(_) => Err(LoadError::Read),
+    }
+}
+
+/// A store that holds the list that all bytes of a reader are the saved form of.
+pub fn load_file<'a, A: Allocator + Copy, F: Read>(
+    alloc: &'a A,
+    file: &mut F,
+) -> Result<Store<'a, A>, LoadError>
+    ensures loaded { IfOk result (λ held. IsFormOf (F.remaining file.old) held) }
+    ensures refused { IfErr result (λ e. IsNoForm (F.remaining file.old) e) }
+{
+    let bytes = read(*alloc, file)?;
+    load(alloc, bytes.as_slice())
+}
+
+/// What is to be said of a fault: its name, and what it means.
+pub fn fault_line(fault: &LoadError) -> &'static str
+    ensures { result.now ≡ fault_text fault.now }
+{
+    match fault {
+        LoadError::TooShort => "TooShort: the file is cut off",
+        LoadError::NotOurs => "NotOurs: the file does not begin as a saved list does",
+        LoadError::OtherVersion => "OtherVersion: the list was saved by another version",
+        LoadError::OtherKind => "OtherKind: there is no such kind of list, or none of this width",
+        LoadError::BadLength =>
+            "BadLength: no list of this kind is as long, or the file goes on after it",
+        LoadError::BadSum => "BadSum: the sum is not that of what stands before it",
+        LoadError::BadPadding => "BadPadding: a bit is set past the end of the list",
+        LoadError::NotAscending => "NotAscending: the numbers do not ascend",
+        LoadError::Memory => "Memory: out of memory",
+        LoadError::Read => "Read: the file can't be read",
+    }
+}

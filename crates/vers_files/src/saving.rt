@@ -1,0 +1,144 @@
+//! What a load line says, saved.
+ghost use Rattle.std.specs.Prelude.{◌≡◌, ◌≢◌, true, OnOk, OnErr, IfErr, ◌⊎◌};
+ghost use Rattle.std.specs.Io.KnownBytes.{Appends, Keeps};
+ghost use Rattle.vers_words.specs.Text.{words_of};
+ghost use Rattle.vers_saved.specs.Streams.{Writes};
+ghost use Rattle.vers_cli.specs.Holding.{holding_of, is_accepted};
+ghost use Rattle.vers_cli.specs.Rules.{line_loaded};
+ghost use Rattle.vers_files.specs.Forms.{saved_form, HasForm};
+ghost use Rattle.vers_files.specs.SavedLines.{IfAccepted, SaysWhy, line_saved};
+
+use crate::place::Place;
+use std::alloc::Allocator;
+use std::io::Write;
+use vers_cli::{Held, load_line};
+use vers_saved::fault::SaveError;
+use vers_saved::stream::save as save_list;
+use vers_words::loading::Loading;
+
+/// Why a line was not saved.
+#[derive(Clone, Copy, PartialEq, Eq, Debug, Drop)]
+pub enum SaveFault {
+    /// It is no load line, or its arguments are malformed.
+    BadLine,
+    /// Its arguments are outside the limits of the list.
+    Refused,
+    /// Lists of this kind have no saved form, or the list has too many items.
+    NoForm,
+    /// The allocator has no memory.
+    OutOfMemory,
+    /// What is written to answered an error, or took no byte of a piece that has some.
+    Write,
+    /// The place could not be written beside: another save has begun there, or one was cut off.
+    Begin,
+    /// What was written could not be made sure of.
+    Sync,
+    /// What was written could not be put in the place.
+    Put,
+}
+
+// What a save of a list gives, as that of its line.
+fn line_saved(saved: Result<(), SaveError>) -> Result<(), SaveFault>
+    ensures { result ≡ line_saved saved }
+{
+    match saved {
+        Ok(()) => Ok(()),
+        Err(SaveError::NoForm) => Err(SaveFault::NoForm),
+        Err(SaveError::Memory) => Err(SaveFault::OutOfMemory),
+        Err(SaveError::Write) => Err(SaveFault::Write),
+    }
+}
+
+/// Writes the saved form of what is held. After a fault of the writer a beginning of it was written, and after
+/// another one nothing.
+pub fn save<A: Allocator + Copy, W: Write>(
+    alloc: A,
+    held: &Held<'_, A>,
+    writer: &mut W,
+) -> Result<(), SaveError>
+    ensures written { result ≢ Err SaveError.NoForm
+        → Writes result (W.contents writer.old) (W.contents writer.new) (saved_form (holding_of held.now)) }
+    ensures kept { IfErr result (λ e. (e ≡ SaveError.Write)
+        ⊎ Keeps (W.contents writer.old) (W.contents writer.new)) }
+    ensures form { OnOk result (HasForm (holding_of held.now)) }
+    ensures none { IfErr result (λ e. e ≡ SaveError.NoForm → ¬ HasForm (holding_of held.now)) }
+{
+    match held {
+        Held::Bits(bits) => save_list(alloc, bits, writer),
+        Held::Sorted(members) => save_list(alloc, members, writer),
+        Held::Sparse(bits) => save_list(alloc, bits, writer),
+        Held::Values(values) => save_list(alloc, values, writer),
+        Held::Symbols(symbols) => save_list(alloc, symbols, writer),
+        Held::Nothing | Held::Tree(_) | Held::Postings(_) => Err(SaveError::NoForm),
+    }
+}
+
+/// Writes the saved form of the list that a load line says. After a fault of the writer a beginning of it was
+/// written, and after another one nothing.
+pub fn save_line<A: Allocator + Copy, W: Write>(
+    alloc: A,
+    line: &[u8],
+    writer: &mut W,
+) -> Result<(), SaveFault>
+    ensures written { IfAccepted (line_loaded (words_of line.now)) (λ held. result ≢ Err SaveFault.NoForm
+        → Writes result (W.contents writer.old) (W.contents writer.new) (saved_form held)) }
+    ensures accepted { OnOk result (is_accepted (line_loaded (words_of line.now)) ≡ true) }
+    ensures form { OnOk result (IfAccepted (line_loaded (words_of line.now)) HasForm) }
+    ensures refused { IfErr result (λ e. SaysWhy e (line_loaded (words_of line.now))) }
+    ensures kept { IfErr result (λ e. (e ≡ SaveFault.Write)
+        ⊎ Keeps (W.contents writer.old) (W.contents writer.new)) }
+{
+    match load_line(&alloc, line) {
+        Ok(Loading::Malformed) => Err(SaveFault::BadLine),
+        Ok(Loading::Inadmissible) => Err(SaveFault::Refused),
+        Ok(Loading::Accepted(store)) => line_saved(save(alloc, store.held(), writer)),
+        Err(_) => Err(SaveFault::OutOfMemory),
+    }
+}
+
+/// Puts the saved form of the list that a load line says in a place, whole or not at all.
+pub fn save_to<A: Allocator + Copy, P: Place>(
+    alloc: A,
+    line: &[u8],
+    place: &mut P,
+) -> Result<(), SaveFault>
+    ensures whole { OnOk result (IfAccepted (line_loaded (words_of line.now)) (λ held.
+        Appends P.nothing (P.bytes place.new) (saved_form held))) }
+    ensures accepted { OnOk result (is_accepted (line_loaded (words_of line.now)) ≡ true) }
+    ensures form { OnOk result (IfAccepted (line_loaded (words_of line.now)) HasForm) }
+    ensures refused { IfErr result (λ e. SaysWhy e (line_loaded (words_of line.now))) }
+    ensures kept { OnErr result (P.bytes place.new ≡ P.bytes place.old) }
+{
+    let Ok(mut beside) = place.begin() else {
+        return Err(SaveFault::Begin);
+    };
+    let result = put_line(alloc, line, place, &mut beside);
+    if result.is_err() {
+        place.leave();
+    }
+    result
+}
+
+// Writes the saved form of the list that a load line says beside a place, and puts it there.
+fn put_line<A: Allocator + Copy, P: Place>(
+    alloc: A,
+    line: &[u8],
+    place: &mut P,
+    beside: &mut P::Beside,
+) -> Result<(), SaveFault>
+    ensures whole { OnOk result (IfAccepted (line_loaded (words_of line.now)) (λ held.
+        Appends (P.Beside.contents beside.old) (P.bytes place.new) (saved_form held))) }
+    ensures accepted { OnOk result (is_accepted (line_loaded (words_of line.now)) ≡ true) }
+    ensures form { OnOk result (IfAccepted (line_loaded (words_of line.now)) HasForm) }
+    ensures refused { IfErr result (λ e. SaysWhy e (line_loaded (words_of line.now))) }
+    ensures kept { OnErr result (P.bytes place.new ≡ P.bytes place.old) }
+{
+    save_line(alloc, line, beside)?;
+    if place.sync(beside).is_err() {
+        return Err(SaveFault::Sync);
+    }
+    if place.put().is_err() {
+        return Err(SaveFault::Put);
+    }
+    Ok(())
+}

@@ -1,0 +1,81 @@
+//! What is told of a list that a file holds.
+ghost use Rattle.std.specs.Prelude.{◌≡◌, length, IfOk, IfErr, ◌⊎◌, Some, None};
+ghost use Rattle.vers_cli.specs.Holding.{Holding, holding_of, length_of};
+ghost use Rattle.vers_files.specs.Forms.{saved_form, HasForm, form_fault};
+ghost use Rattle.vers_files.specs.Shown.{kind_text, width_of};
+
+use crate::loading::load;
+use std::alloc::Allocator;
+use vers_cli::Held;
+use vers_saved::fault::LoadError;
+
+/// What is told of a list that a file holds.
+#[derive(Clone, Copy, Drop)]
+pub struct Shown {
+    /// The first word of the load line of such lists.
+    pub kind: &'static str,
+    /// The length of the list.
+    pub len: u64,
+    /// How many bits an item has in the file, and of a tree its blocks.
+    pub width: u64,
+    /// How many bytes the file has.
+    pub bytes: u64,
+}
+
+// The kind of what is held.
+fn kind_of<A: Allocator + Copy>(held: &Held<'_, A>) -> &'static str
+    ensures { result.now ≡ kind_text (holding_of held.now) }
+{
+    match held {
+        Held::Nothing => "nothing",
+        Held::Bits(_) => "bits",
+        Held::Sorted(_) => "sorted",
+        Held::Sparse(_) => "sparse",
+        Held::Values(_) => "values",
+        Held::Tree(_) => "tree",
+        Held::Symbols(_) => "symbols",
+        Held::Postings(_) => "postings",
+    }
+}
+
+// How many bits an item has in a file, and of a tree its blocks.
+fn width_of<A: Allocator + Copy>(held: &Held<'_, A>) -> u64
+    ensures { result ≡ width_of (holding_of held.now) }
+{
+    match held {
+        Held::Nothing => 0,
+        Held::Bits(_) => 1,
+        Held::Tree(_) => 512,
+        Held::Symbols(symbols) => symbols.bits_per_element() as u64,
+        Held::Sorted(_) | Held::Sparse(_) | Held::Values(_) | Held::Postings(_) => 64,
+    }
+}
+
+/// What is told of the list that the bytes are the saved form of.
+pub fn show<A: Allocator + Copy>(alloc: A, bytes: &[u8]) -> Result<Shown, LoadError>
+    ensures shown { IfOk result (λ shown. (held : Holding) × (bytes.now ≡ saved_form held) × HasForm held
+        × (shown.kind.now ≡ kind_text held) × (shown.len ≡ length_of held)
+        × (shown.width ≡ width_of held) × (shown.bytes ≡ length bytes.now)) }
+    ensures refused { IfErr result (λ e. (form_fault bytes.now ≡ Some e)
+        ⊎ ((e ≡ LoadError.Memory) × (form_fault bytes.now ≡ None))) }
+{
+    match load(&alloc, bytes) {
+        Ok(store) => Ok(told_of(store.held(), bytes.len() as u64)),
+        Err(fault) => Err(fault),
+    }
+}
+
+// What is told of what is held, where its saved form has so many bytes.
+fn told_of<A: Allocator + Copy>(held: &Held<'_, A>, bytes: u64) -> Shown
+    ensures kind { result.kind.now ≡ kind_text (holding_of held.now) }
+    ensures len { result.len ≡ length_of (holding_of held.now) }
+    ensures width { result.width ≡ width_of (holding_of held.now) }
+    ensures bytes { result.bytes ≡ bytes }
+{
+    Shown {
+        kind: kind_of(held),
+        len: held.len(),
+        width: width_of(held),
+        bytes,
+    }
+}
