@@ -3,5 +3,11 @@ pub mod Dictionary
 pub mod Suffixes
 pub mod Building
 pub mod Patterns
+pub mod Orders
 pub mod Spelling
 pub mod Making
+pub mod Stepping
+pub mod Packing
+pub mod Sampling
+pub mod Ascending
+pub mod Bounds

@@ -9,6 +9,8 @@ use std::alloc::AllocError;
 pub enum TextError {
     /// Symbols have no bits, or more than 16.
     WidthOutOfRange,
+    /// One place is to be kept for each 0 places.
+    NoStep,
     /// There are more than `MAX_LEN` symbols.
     TooLong,
     /// A symbol has more bits than were told.
