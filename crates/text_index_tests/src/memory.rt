@@ -1,7 +1,8 @@
-//! A text that is made, each of its requests for memory refused in turn, and the queries, which take none.
-use crate::shared::{are_counted, periodic};
-use std::alloc::{Allocator, Global};
-use test_alloc::{Ending, Making, Refusing, Trial, first_wrong_trial, try_making};
+//! A text that is made and the queries that take memory, each of their requests refused in turn, and the other queries,
+//! which take none.
+use crate::shared::{are_counted, are_first, are_plain, periodic};
+use std::alloc::{AllocError, Allocator, Global};
+use test_alloc::{Ending, Making, Refusing, Trial, Tried, first_wrong_trial, tried_on, try_making};
 use text_index::{TextError, TextIndex};
 
 type Heap = Refusing<Global>;
@@ -26,7 +27,7 @@ impl<A: Allocator + Copy> Making for Indexing<'_, A> {
     }
 
     fn make(&self) -> Result<TextIndex<A>, TextError> {
-        TextIndex::from_slice(self.alloc, self.symbols, 2)
+        TextIndex::with_step(self.alloc, self.symbols, 2, 4)
     }
 
     fn is_right(&self, text: &TextIndex<A>) -> bool {
@@ -42,24 +43,93 @@ fn tried(heap: &Heap, symbols: &[u64]) -> Ending {
     try_making(heap, &indexing)
 }
 
-// The maker of a text.
+// The maker of a text, and the calls that list places.
 #[derive(Clone, Copy, Drop)]
-struct Maker;
+enum Call {
+    Make,
+    First,
+    Ascending,
+}
 
-impl Trial<Global> for Maker {
-    fn run(self, heap: &Heap, len: usize) -> Ending {
-        match periodic(heap, len, 3) {
-            Ok(symbols) => tried(heap, symbols.as_slice()),
-            Err(_) => Ending::Wrong,
-        }
+// A call that lists the places of a symbol in a text.
+#[derive(Drop)]
+struct Listing<'a, A: Allocator + Copy> {
+    call: Call,
+    text: &'a TextIndex<A>,
+    symbols: &'a [u64],
+}
+
+impl<A: Allocator + Copy> Making for Listing<'_, A> {
+    type Made = Vec<usize, A>;
+
+    type Fault = AllocError;
+
+    fn out_of_memory(&self) -> AllocError {
+        AllocError
     }
 
-    fn takes_memory(self, _len: usize) -> bool {
-        true
+    fn make(&self) -> Result<Vec<usize, A>, AllocError> {
+        if matches!(self.call, Call::First) {
+            return self.text.first_places(&[1], 5);
+        }
+        self.text.places_ascending(&[1])
+    }
+
+    fn is_right(&self, found: &Vec<usize, A>) -> bool {
+        if matches!(self.call, Call::First) {
+            return are_first(self.text, &[1], 5, found.as_slice());
+        }
+        are_plain(self.symbols, &[1], found.as_slice())
+    }
+}
+
+// The same, of a text that is told later.
+#[derive(Drop)]
+struct Listed<'a, B: Allocator> {
+    heap: &'a Refusing<B>,
+    call: Call,
+    symbols: &'a [u64],
+}
+
+impl<B: Allocator, A: Allocator + Copy> Tried<TextIndex<A>> for Listed<'_, B> {
+    fn tried(&self, text: &TextIndex<A>) -> Ending {
+        let listing = Listing {
+            call: self.call,
+            text,
+            symbols: self.symbols,
+        };
+        try_making(self.heap, &listing)
+    }
+}
+
+fn tried_listing(heap: &Heap, call: Call, symbols: &[u64]) -> Ending {
+    let listed = Listed {
+        heap,
+        call,
+        symbols,
+    };
+    tried_on(TextIndex::from_slice(heap, symbols, 2), &listed)
+}
+
+impl Trial<Global> for Call {
+    fn run(self, heap: &Heap, len: usize) -> Ending {
+        let Ok(symbols) = periodic(heap, len, 3) else {
+            return Ending::Wrong;
+        };
+        if matches!(self, Call::Make) {
+            return tried(heap, symbols.as_slice());
+        }
+        tried_listing(heap, self, symbols.as_slice())
+    }
+
+    // A text without the symbol has no places to list.
+    fn takes_memory(self, len: usize) -> bool {
+        matches!(self, Call::Make) || len > 1
     }
 }
 
 #[test]
 fn each_request_is_refused_in_turn(rt: HostRuntime) {
-    assert!(rt; first_wrong_trial(rt.alloc(), &LENGTHS, &[Maker]).is_none());
+    let calls = [Call::Make, Call::First, Call::Ascending];
+    assert!(rt; first_wrong_trial(rt.alloc(), &LENGTHS, &calls).is_none());
 }

@@ -46,21 +46,61 @@ fn patterns_have_their_places(rt: HostRuntime) {
     assert!(rt; wrong_row(rt.alloc(), &ROWS).is_none());
 }
 
-// Symbols, their width, and the fault that a maker tells of them.
-type Fault<'a> = (&'a [u64], u16, Option<TextError>);
+// Symbols of two bits, a pattern, and its places in the order of what the text goes on with from them.
+type Places<'a> = (&'a [u64], &'a [u64], &'a [usize]);
 
-const FAULTS: [Fault; 5] = [
-    (&[0], 0, Some(TextError::WidthOutOfRange)),
-    (&[u64::MAX], 17, Some(TextError::WidthOutOfRange)),
-    (&[0, 3, 4], 2, Some(TextError::WideSymbol)),
-    (&[65536], 16, Some(TextError::WideSymbol)),
-    (&[0, 3], 2, None),
+const PLACES: [Places; 6] = [
+    (&[2, 1, 2, 1, 2], &[2], &[4, 2, 0]),
+    (&[2, 1, 2, 1, 2], &[], &[5, 3, 1, 4, 2, 0]),
+    (&[2, 1, 2, 1, 2], &[2, 2], &[]),
+    (
+        &[0, 1, 2, 3, 0, 1, 2, 0, 1, 2, 3, 3],
+        &[0, 1, 2],
+        &[4, 0, 7],
+    ),
+    (&[0, 0, 0, 0], &[0, 0], &[2, 1, 0]),
+    (&[], &[], &[0]),
+];
+
+// The number of the first row whose pattern has other places.
+fn wrong_places(alloc: Global, rows: &[Places]) -> Option<usize> {
+    for (row, (symbols, pattern, wanted)) in rows.iter().enumerate() {
+        let is_right = asked(
+            TextIndex::from_slice(alloc, symbols, 2),
+            |text: &TextIndex<Global>| match text.first_places(pattern, 6) {
+                Ok(found) => found.as_slice() == *wanted,
+                Err(_) => false,
+            },
+        );
+        if is_right != Ok(true) {
+            return Some(row);
+        }
+    }
+    None
+}
+
+#[test]
+fn places_in_their_order(rt: HostRuntime) {
+    assert!(rt; wrong_places(rt.alloc(), &PLACES).is_none());
+}
+
+// Symbols, their width, the step, and the fault that a maker tells of them.
+type Fault<'a> = (&'a [u64], u16, usize, Option<TextError>);
+
+const FAULTS: [Fault; 7] = [
+    (&[0], 0, 0, Some(TextError::WidthOutOfRange)),
+    (&[u64::MAX], 17, 1, Some(TextError::WidthOutOfRange)),
+    (&[0, 3, 4], 2, 0, Some(TextError::NoStep)),
+    (&[0, 3, 4], 2, 1, Some(TextError::WideSymbol)),
+    (&[65536], 16, 32, Some(TextError::WideSymbol)),
+    (&[0, 3], 2, 1, None),
+    (&[0, 3], 2, usize::MAX, None),
 ];
 
 // The number of the first row of which a maker tells another one.
 fn wrong_fault(alloc: Global, rows: &[Fault]) -> Option<usize> {
-    for (row, (symbols, width, wanted)) in rows.iter().enumerate() {
-        let made = TextIndex::from_slice(alloc, symbols, *width);
+    for (row, (symbols, width, step, wanted)) in rows.iter().enumerate() {
+        let made = TextIndex::with_step(alloc, symbols, *width, *step);
         let fault = asked(made, |_: &TextIndex<Global>| ()).err();
         if fault != *wanted {
             return Some(row);
