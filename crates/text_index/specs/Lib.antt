@@ -1,4 +1,5 @@
 pub mod Texts
 pub mod Makers
+pub mod Sizes
 pub mod Rows
 pub mod inside
