@@ -1,0 +1,583 @@
+/* Compares each call of vers.h with a plain loop over the list. Exits with 0 where all agree. */
+#include "vers.h"
+
+#include <pthread.h>
+#include <stdio.h>
+#include <stdlib.h>
+#include <string.h>
+
+static unsigned long passed, failed;
+
+static void compare(const char *what, uint64_t at, vers_answer got, uint32_t status, uint64_t value) {
+    if (got.status == status && got.value == value) {
+        passed++;
+        return;
+    }
+    if (failed++ < 20)
+        fprintf(stderr, "%s at %llu: status %u value %llu, wanted %u %llu\n", what, (unsigned long long)at, got.status,
+                (unsigned long long)got.value, status, (unsigned long long)value);
+}
+
+static void found(const char *what, uint64_t at, vers_answer got, uint64_t value) {
+    compare(what, at, got, VERS_DONE, value);
+}
+
+static void found_if(const char *what, uint64_t at, vers_answer got, bool is_there, uint64_t value) {
+    compare(what, at, got, is_there ? VERS_DONE : VERS_ABSENT, is_there ? value : 0);
+}
+
+static void is(const char *what, uint64_t got, uint64_t wanted) {
+    vers_answer answer = {VERS_DONE, got};
+    compare(what, 0, answer, VERS_DONE, wanted);
+}
+
+static uint64_t next(void) {
+    static uint64_t seed = 88172645463325252u;
+    seed ^= seed << 13;
+    seed ^= seed >> 7;
+    seed ^= seed << 17;
+    return seed;
+}
+
+static void *room(size_t count, size_t size) {
+    void *made = calloc(count + 1, size);
+    if (!made) abort();
+    return made;
+}
+
+/* Which of `from` to `to` of the values is the given one for time number `number`; `none` where there is none. */
+static size_t place_of(const uint64_t *values, size_t from, size_t to, uint64_t value, uint64_t number, size_t none) {
+    for (size_t i = from; i < to; i++)
+        if (values[i] == value && number-- == 0) return i;
+    return none;
+}
+
+static int by_size(const void *one, const void *other) {
+    uint64_t x = *(const uint64_t *)one, y = *(const uint64_t *)other;
+    return (x > y) - (x < y);
+}
+
+/* Random bits, a third of them ones, also as words. */
+static uint64_t *random_bits(size_t n, uint64_t *words) {
+    uint64_t *bits = room(n, sizeof *bits);
+    for (size_t i = 0; i < n; i++) {
+        bits[i] = next() % 3 == 0;
+        words[i / 64] |= bits[i] << (i % 64);
+    }
+    return bits;
+}
+
+static void test_bits(size_t n) {
+    uint64_t *words = room(n / 64 + 1, sizeof *words), *bits = random_bits(n, words), counts[2] = {0, 0};
+    vers_bits list = {0};
+    is("bits of", vers_bits_of(&list, words, n / 64 + 1, n), VERS_DONE);
+    is("bits twice", vers_bits_of(&list, words, n / 64 + 1, n), VERS_OCCUPIED);
+    found("len", 0, vers_bits_len(&list), n);
+    for (size_t i = 0; i <= n; i++) {
+        found("rank0", i, vers_bits_rank0(&list, i), counts[0]);
+        found("rank1", i, vers_bits_rank1(&list, i), counts[1]);
+        found_if("get", i, vers_bits_get(&list, i), i < n, bits[i]);
+        if (i == n) break;
+        found("select", i, bits[i] ? vers_bits_select1(&list, counts[1]) : vers_bits_select0(&list, counts[0]), i);
+        counts[bits[i]]++;
+    }
+    found("select1 past", 0, vers_bits_select1(&list, counts[1]), n);
+    found("select0 past", 0, vers_bits_select0(&list, counts[0]), n);
+    found("rank1 past", 0, vers_bits_rank1(&list, UINT64_MAX), counts[1]);
+    for (int k = 0; k < 200; k++) {
+        uint64_t place = next() % (n + 2), count = next() % 67, number = 0;
+        bool has = count <= 64 && place + count <= n;
+        for (uint64_t i = 0; has && i < count; i++) number |= bits[place + i] << i;
+        found_if("get_bits", place, vers_bits_get_bits(&list, place, count), has, number);
+    }
+    is("heap_size", vers_bits_heap_size(&list).value >= n / 8, 1);
+    vers_bits_free(&list);
+    free(words);
+    free(bits);
+}
+
+static void test_batches(size_t n) {
+    uint64_t *words = room(n / 64 + 1, sizeof *words), *bits = random_bits(n, words), *each = room(n + 2, sizeof *each);
+    vers_bits list = {0};
+    is("bits of", vers_bits_of(&list, words, n / 64 + 1, n), VERS_DONE);
+    enum vers_query queries[] = {VERS_GET, VERS_RANK0, VERS_RANK1, VERS_SELECT0, VERS_SELECT1};
+    for (size_t k = 0; k < sizeof queries / sizeof *queries; k++) {
+        for (size_t i = 0; i < n + 2; i++) each[i] = i;
+        is("each", vers_bits_each(&list, queries[k], each, n + 2, 7), VERS_DONE);
+        for (size_t i = 0; i < n + 2; i++)
+            is("each item", each[i], vers_value_or(vers_ask(&list.handle, queries[k], i, 0, 0), 7));
+    }
+    is("none", vers_bits_each(&list, VERS_GET, NULL, 0, 0), VERS_DONE);
+    each[0] = 5;
+    is("unknown", vers_bits_each(&list, VERS_PARENT, each, 1, 7), VERS_UNKNOWN);
+    is("left", each[0], 5);
+    vers_bits_free(&list);
+    is("vacant", vers_bits_each(&list, VERS_GET, each, 1, 0), VERS_VACANT);
+    is("left", each[0], 5);
+    free(words);
+    free(bits);
+    free(each);
+}
+
+/* Calls on handles that hold nothing, or another list. */
+static void test_statuses(void) {
+    uint64_t word = 11;
+    vers_bits list = {0}, other = {0};
+    vers_growing growing = {0};
+    compare("vacant", 0, vers_bits_rank1(&list, 0), VERS_VACANT, 0);
+    is("clone vacant", vers_bits_clone(&list, &other), VERS_VACANT);
+    is("change vacant", vers_growing_append(&growing, true), VERS_VACANT);
+    vers_bits_free(&list);
+    is("bits of", vers_bits_of(&list, &word, 1, 4), VERS_DONE);
+    compare("unknown", 0, vers_ask(&list.handle, VERS_PREDECESSOR, 0, 0, 0), VERS_UNKNOWN, 0);
+    compare("past the codes", 0, vers_ask(&list.handle, 1000, 0, 0, 0), VERS_UNKNOWN, 0);
+    is("change of bits", vers_change(&list.handle, VERS_PUSH, 1, 0), VERS_UNKNOWN);
+    found("as it was", 0, vers_bits_rank1(&list, 4), 3);
+    vers_bits_free(&list);
+    vers_bits_free(&list);
+    compare("freed", 0, vers_bits_len(&list), VERS_VACANT, 0);
+    is("built again", vers_bits_of(&list, NULL, 0, 9), VERS_DONE);
+    found("empty", 0, vers_bits_len(&list), 0);
+    vers_bits_free(&list);
+    is("text", strcmp(vers_status_text(VERS_DONE), "done") == 0, 1);
+    is("text of none", strcmp(vers_status_text(1000), "no status of this library") == 0, 1);
+}
+
+static void test_growing(void) {
+    uint64_t bits[4000];
+    size_t n = 0;
+    vers_growing list = {0};
+    is("growing of", vers_growing_of(&list, NULL, 0, 0), VERS_DONE);
+    for (int i = 0; i < 1000; i++) {
+        bits[n++] = next() % 2;
+        is("append", vers_growing_append(&list, bits[n - 1] == 1), VERS_DONE);
+    }
+    for (uint64_t count = 0; count <= 64; count += 4) {
+        uint64_t number = next();
+        is("append_bits", vers_growing_append_bits(&list, number, count), VERS_DONE);
+        for (uint64_t j = 0; j < count; j++) bits[n++] = number >> j & 1;
+    }
+    is("append_bits of 65", vers_growing_append_bits(&list, 0, 65), VERS_REFUSED);
+    for (int i = 0; i < 500; i++) {
+        size_t place = next() % n;
+        bits[place] = next() % 2;
+        is("set", vers_growing_set(&list, place, bits[place] == 1), VERS_DONE);
+    }
+    is("set past", vers_growing_set(&list, n, true), VERS_REFUSED);
+    is("drop_last", vers_growing_drop_last(&list, 13), VERS_DONE);
+    n -= 13;
+    found("len", 0, vers_growing_len(&list), n);
+    for (size_t i = 0; i < n; i++) found("get", i, vers_growing_get(&list, i), bits[i]);
+    found_if("get past", n, vers_growing_get(&list, n), false, 0);
+    found("get_bits", 0, vers_growing_get_bits(&list, 0, 2), bits[0] + 2 * bits[1]);
+    found_if("get_bits of none", 0, vers_growing_get_bits(&list, 0, 0), false, 0);
+    found_if("get_bits of 65", 0, vers_growing_get_bits(&list, 0, 65), false, 0);
+    is("change past the codes", vers_change(&list.handle, 1000, 0, 0), VERS_UNKNOWN);
+    is("drop all", vers_growing_drop_last(&list, UINT64_MAX), VERS_DONE);
+    found("empty", 0, vers_growing_len(&list), 0);
+    vers_growing_free(&list);
+}
+
+static void test_shared(void) {
+    uint64_t word = 5;
+    vers_growing one = {0}, two = {0};
+    is("growing of", vers_growing_of(&one, &word, 1, 3), VERS_DONE);
+    is("clone", vers_growing_clone(&one, &two), VERS_DONE);
+    is("clone into a full one", vers_growing_clone(&one, &two), VERS_OCCUPIED);
+    is("append shared", vers_growing_append(&one, true), VERS_SHARED);
+    is("set shared", vers_growing_set(&two, 0, false), VERS_SHARED);
+    found("as it was", 0, vers_growing_len(&two), 3);
+    vers_growing_free(&two);
+    is("append alone", vers_growing_append(&one, true), VERS_DONE);
+    found("changed", 0, vers_growing_len(&one), 4);
+    vers_growing_free(&one);
+}
+
+static void test_sparse(size_t n, uint64_t step) {
+    uint64_t *ones = room(n, sizeof *ones), length = 0, k = 0;
+    for (size_t i = 0; i < n; i++, length++) ones[i] = length += next() % step;
+    length += next() % step;
+    vers_sparse list = {0};
+    is("sparse of", vers_sparse_of(&list, ones, n, length), VERS_DONE);
+    found("len", 0, vers_sparse_len(&list), length);
+    for (uint64_t place = 0; place <= length; place++) {
+        bool is_one = k < n && ones[k] == place;
+        found_if("get", place, vers_sparse_get(&list, place), place < length, is_one);
+        found("rank1", place, vers_sparse_rank1(&list, place), k);
+        found("rank0", place, vers_sparse_rank0(&list, place), place - k);
+        k += is_one;
+    }
+    for (size_t i = 0; i <= n; i++) found("select1", i, vers_sparse_select1(&list, i), i < n ? ones[i] : length);
+    vers_sparse_free(&list);
+    if (n > 1) {
+        is("a one past the length", vers_sparse_of(&list, ones, n, ones[n - 1]), VERS_REFUSED);
+        ones[1] = ones[0];
+        is("equal ones", vers_sparse_of(&list, ones, n, length), VERS_REFUSED);
+    }
+    free(ones);
+}
+
+static void test_sorted(size_t n, uint64_t most) {
+    uint64_t *v = room(n, sizeof *v);
+    for (size_t i = 0; i < n; i++) v[i] = next() % most;
+    qsort(v, n, sizeof *v, by_size);
+    vers_sorted list = {0};
+    is("sorted of", vers_sorted_of(&list, v, n), VERS_DONE);
+    found("len", 0, vers_sorted_len(&list), n);
+    for (size_t i = 0; i <= n; i++) {
+        found_if("get", i, vers_sorted_get(&list, i), i < n, v[i]);
+        found_if("delta", i, vers_sorted_delta(&list, i), i < n, i ? v[i] - v[i - 1] : v[i]);
+    }
+    for (int k = 0; k < 400; k++) {
+        uint64_t x = next() % (most + 3);
+        size_t below = 0, past = 0;
+        while (below < n && v[below] < x) below++;
+        while (past < n && v[past] <= x) past++;
+        found("rank", x, vers_sorted_rank(&list, x), below);
+        found("has", x, vers_sorted_has(&list, x), past > below);
+        found_if("predecessor", x, vers_sorted_predecessor(&list, x), past > 0, v[past ? past - 1 : 0]);
+        found_if("successor", x, vers_sorted_successor(&list, x), below < n, v[below]);
+    }
+    vers_sorted_free(&list);
+    if (n > 1) {
+        v[0] = most + 1;
+        is("not ascending", vers_sorted_of(&list, v, n), VERS_REFUSED);
+        compare("not made", 0, vers_sorted_len(&list), VERS_VACANT, 0);
+    }
+    free(v);
+}
+
+/* The queries of one range, against the symbols of the range in ascending order. */
+static void test_range(const vers_symbols *list, const uint64_t *v, size_t n, size_t a, size_t b, uint64_t c) {
+    bool is_range = a <= b && b <= n;
+    size_t m = is_range ? b - a : 0, q = next() % (n + 1), not_above = 0, below = 0, hits = 0;
+    uint64_t *r = room(m, sizeof *r);
+    memcpy(r, v + (is_range ? a : 0), m * sizeof *r);
+    for (size_t i = 0; i < m; i++) hits += r[i] == c;
+    qsort(r, m, sizeof *r, by_size);
+    while (not_above < m && r[not_above] <= c) not_above++;
+    while (below < m && r[below] < c) below++;
+    found_if("rank_range", a, vers_symbols_rank_range(list, a, b, c), is_range && a < n, hits);
+    found_if("range_min", a, vers_symbols_range_min(list, a, b), m > 0, r[0]);
+    found_if("range_max", a, vers_symbols_range_max(list, a, b), m > 0, r[m ? m - 1 : 0]);
+    found_if("range_median", a, vers_symbols_range_median(list, a, b), m > 0, r[m ? (m - 1) / 2 : 0]);
+    found_if("quantile", q, vers_symbols_quantile(list, a, b, q), q < m, r[q < m ? q : 0]);
+    size_t last = not_above ? not_above - 1 : 0;
+    found_if("predecessor", c, vers_symbols_predecessor(list, a, b, c), not_above > 0, r[last]);
+    found_if("successor", c, vers_symbols_successor(list, a, b, c), below < m, r[below]);
+    free(r);
+}
+
+static void test_symbols(size_t n, uint32_t width) {
+    uint64_t *v = room(n, sizeof *v), mask = width == 64 ? UINT64_MAX : ((uint64_t)1 << width) - 1;
+    for (size_t i = 0; i < n; i++) v[i] = next() % 5 ? next() & 7 & mask : next() & mask;
+    vers_symbols list = {0};
+    is("symbols of", vers_symbols_of(&list, v, n, width), VERS_DONE);
+    found("len", 0, vers_symbols_len(&list), n);
+    found("bits_per_element", 0, vers_symbols_bits_per_element(&list), width);
+    for (size_t i = 0; i <= n; i++) found_if("get", i, vers_symbols_get(&list, i), i < n, v[i]);
+    for (int k = 0; k < 500; k++) {
+        size_t a = next() % (n + 2), b = next() % (n + 2), t = next() % 4, before = 0;
+        uint64_t c = next() % 2 && n ? v[next() % n] : next() & mask;
+        test_range(&list, v, n, a, b, c);
+        for (size_t i = 0; i < a && i < n; i++) before += v[i] == c;
+        found_if("rank", a, vers_symbols_rank(&list, a, c), a <= n, before);
+        size_t at = place_of(v, 0, n, c, t, n), on = place_of(v, a, n, c, t, n);
+        found_if("select", t, vers_symbols_select(&list, t, c), at < n, at);
+        found_if("select_offset", a, vers_symbols_select_offset(&list, a, t, c), on < n, on);
+    }
+    vers_row rows[64];
+    for (uint64_t k = 0; k < 64; k++) rows[k] = (vers_row){0, n, k};
+    is("rows", vers_symbols_rows(&list, VERS_QUANTILE, rows, 64, 99), VERS_DONE);
+    for (uint64_t k = 0; k < 64; k++) is("row", rows[k].a, vers_value_or(vers_symbols_quantile(&list, 0, n, k), 99));
+    vers_symbols_free(&list);
+    is("too wide", vers_symbols_of(&list, v, n, 65), VERS_REFUSED);
+    is("of no bits", vers_symbols_of(&list, v, n, 0), VERS_DONE);
+    found("len of no bits", 0, vers_symbols_len(&list), 0);
+    vers_symbols_free(&list);
+    free(v);
+}
+
+/* A random forest: the parentheses, and where each node opens and closes, its parent and its depth. */
+struct forest {
+    size_t nodes;
+    uint64_t *words;
+    size_t *place, *close, *parent, *depth;
+};
+
+static struct forest random_forest(size_t m) {
+    const size_t size = sizeof(size_t);
+    struct forest f = {m, room(m / 32 + 1, 8), room(m, size), room(m, size), room(m, size), room(m, size)};
+    size_t *stack = room(m, sizeof *stack), depth = 0, opened = 0;
+    for (size_t k = 0; k < 2 * m; k++) {
+        if (opened == m || (depth > 0 && next() % 2)) {
+            f.close[stack[--depth]] = k;
+            continue;
+        }
+        f.words[k / 64] |= (uint64_t)1 << (k % 64);
+        f.place[opened] = k;
+        f.parent[opened] = depth ? stack[depth - 1] : m;
+        f.depth[opened] = depth;
+        stack[depth++] = opened++;
+    }
+    free(stack);
+    return f;
+}
+
+static void found_node(const char *what, const struct forest *f, size_t i, vers_answer got, size_t j) {
+    found_if(what, f->place[i], got, j < f->nodes, f->place[j]);
+}
+
+/* The nodes round node i, against all others. */
+static void test_kin(const vers_tree *tree, const struct forest *f, size_t i) {
+    size_t m = f->nodes, v = f->place[i], first = m, last = m, after = m, before = m, ahead = m, behind = m, under = 0;
+    for (size_t j = 0; j < m; j++) {
+        if (f->parent[j] == i) last = j;
+        if (f->parent[j] == i && first == m) first = j;
+        if (j > i && f->parent[j] == f->parent[i] && after == m) after = j;
+        if (j < i && f->parent[j] == f->parent[i]) before = j;
+        if (j > i && f->depth[j] == f->depth[i] && ahead == m) ahead = j;
+        if (j < i && f->depth[j] == f->depth[i]) behind = j;
+        under += f->place[j] >= v && f->place[j] < f->close[i];
+    }
+    found_node("parent", f, i, vers_tree_parent(tree, v), f->parent[i]);
+    found_node("first_child", f, i, vers_tree_first_child(tree, v), first);
+    found_node("last_child", f, i, vers_tree_last_child(tree, v), last);
+    found_node("next_sibling", f, i, vers_tree_next_sibling(tree, v), after);
+    found_node("previous_sibling", f, i, vers_tree_previous_sibling(tree, v), before);
+    found_node("level_next", f, i, vers_tree_level_next(tree, v), ahead);
+    found_node("level_prev", f, i, vers_tree_level_prev(tree, v), behind);
+    found_node("enclose", f, i, vers_tree_enclose(tree, v), f->parent[i]);
+    found("is_leaf", v, vers_tree_is_leaf(tree, v), first == m);
+    found("subtree_size", v, vers_tree_subtree_size(tree, v), under);
+    for (size_t levels = 0, up = i; levels < 4; levels++) {
+        found_node("level_ancestor", f, i, vers_tree_level_ancestor(tree, v, levels), up);
+        if (up < m) up = f->parent[up];
+    }
+}
+
+static void test_tree(size_t m) {
+    struct forest f = random_forest(m);
+    vers_tree tree = {0};
+    is("tree of", vers_tree_of(&tree, f.words, m / 32 + 1, 2 * m), VERS_DONE);
+    found("len", 0, vers_tree_len(&tree), 2 * m);
+    found("size", 0, vers_tree_size(&tree), m);
+    found("is_balanced", 0, vers_tree_is_balanced(&tree), 1);
+    for (size_t i = 0; i < m; i++) {
+        size_t v = f.place[i], j = next() % m;
+        test_kin(&tree, &f, i);
+        found("node_index", v, vers_tree_node_index(&tree, v), i);
+        found("node_handle", v, vers_tree_node_handle(&tree, i), v);
+        found("depth", v, vers_tree_depth(&tree, v), f.depth[i]);
+        found("close", v, vers_tree_close(&tree, v), f.close[i]);
+        found("open", v, vers_tree_open(&tree, f.close[i]), v);
+        found("excess", v, vers_tree_excess(&tree, v), f.depth[i] + 1);
+        found("fwd_search", v, vers_tree_fwd_search(&tree, v, -1), f.close[i]);
+        found("bwd_search", v, vers_tree_bwd_search(&tree, f.close[i], -1), v);
+        bool is_above = f.place[j] >= v && f.place[j] < f.close[i];
+        found("is_ancestor", v, vers_tree_is_ancestor(&tree, v, f.place[j]), is_above);
+        compare("no node", v, vers_tree_depth(&tree, f.close[i]), VERS_REFUSED, 0);
+    }
+    for (size_t k = 0; k <= 2 * m; k++)
+        found_if("is_open", k, vers_tree_is_open(&tree, k), k < 2 * m, f.words[k / 64] >> (k % 64) & 1);
+    compare("excess past", 2 * m, vers_tree_excess(&tree, 2 * m), VERS_REFUSED, 0);
+    found("node_handle past", m, vers_tree_node_handle(&tree, m), 2 * m);
+    for (size_t depth = 0; depth < 5; depth++) {
+        size_t first = m, last = m;
+        for (size_t i = m; i-- > 0;)
+            if (f.depth[i] == depth) first = i;
+        for (size_t i = 0; i < m; i++)
+            if (f.depth[i] == depth) last = i;
+        found_if("level_leftmost", depth, vers_tree_level_leftmost(&tree, depth), first < m, f.place[first]);
+        found_if("level_rightmost", depth, vers_tree_level_rightmost(&tree, depth), last < m, f.place[last]);
+    }
+    vers_tree_free(&tree);
+    free(f.words);
+    free(f.place);
+    free(f.close);
+    free(f.parent);
+    free(f.depth);
+}
+
+/* A zero, and then a one. */
+static void test_unbalanced(void) {
+    uint64_t word = 2;
+    vers_tree tree = {0};
+    is("tree of", vers_tree_of(&tree, &word, 1, 2), VERS_DONE);
+    found("is_balanced", 0, vers_tree_is_balanced(&tree), 0);
+    is("excess below 0", vers_signed(vers_tree_excess(&tree, 0).value) == -1, 1);
+    found("fwd_search", 0, vers_tree_fwd_search(&tree, 0, 1), 1);
+    compare("node", 1, vers_tree_parent(&tree, 1), VERS_REFUSED, 0);
+    compare("level", 0, vers_tree_level_leftmost(&tree, 0), VERS_REFUSED, 0);
+    vers_tree_free(&tree);
+}
+
+static void test_minima(size_t n) {
+    uint64_t *v = room(n, sizeof *v);
+    for (size_t i = 0; i < n; i++) v[i] = next() % 50;
+    vers_fast_rmq fast = {0};
+    vers_binary_rmq binary = {0};
+    is("minima of", vers_fast_rmq_of(&fast, v, n), VERS_DONE);
+    is("binary_minima of", vers_binary_rmq_of(&binary, v, n), VERS_DONE);
+    found("len", 0, vers_fast_rmq_len(&fast), n);
+    found("binary len", 0, vers_binary_rmq_len(&binary), n);
+    for (int k = 0; k < 500; k++) {
+        size_t a = next() % (n + 1), b = next() % (n + 1), least = a;
+        bool is_range = a <= b && b < n;
+        for (size_t i = a; is_range && i <= b; i++)
+            if (v[i] < v[least]) least = i;
+        found_if("range_min", a, vers_fast_rmq_range_min(&fast, a, b), is_range, least);
+        found_if("binary range_min", a, vers_binary_rmq_range_min(&binary, a, b), is_range, least);
+        found_if("get", a, vers_fast_rmq_get(&fast, a), a < n, v[a]);
+        found_if("binary get", a, vers_binary_rmq_get(&binary, a), a < n, v[a]);
+    }
+    vers_fast_rmq_free(&fast);
+    vers_binary_rmq_free(&binary);
+    free(v);
+}
+
+static void test_postings(size_t n) {
+    uint64_t *documents = room(n, 8), *costs = room(n, 8), last = 0;
+    for (size_t i = 0; i < n; i++) {
+        documents[i] = last += 1 + next() % 6;
+        costs[i] = next() % 30;
+    }
+    vers_postings list = {0};
+    is("postings of", vers_postings_of(&list, documents, costs, n), VERS_DONE);
+    found("len", 0, vers_postings_len(&list), n);
+    for (int k = 0; k < 500; k++) {
+        uint64_t a = next() % (last + 3), b = next() % (last + 3);
+        size_t below = 0, best = n;
+        while (below < n && documents[below] < a) below++;
+        for (size_t i = below; i < n && documents[i] <= b; i++)
+            if (best == n || costs[i] < costs[best]) best = i;
+        found("rank", a, vers_postings_rank(&list, a), below);
+        found("contains", a, vers_postings_contains(&list, a), below < n && documents[below] == a);
+        found_if("next_at_least", a, vers_postings_next_at_least(&list, a), below < n, documents[below]);
+        found_if("cheapest", a, vers_postings_cheapest(&list, a, b), best < n, documents[best]);
+    }
+    vers_postings_free(&list);
+    if (n > 1) {
+        is("fewer costs", vers_postings_build(documents, n, costs, n - 1, &list.handle), VERS_REFUSED);
+        documents[1] = documents[0];
+        is("equal documents", vers_postings_of(&list, documents, costs, n), VERS_REFUSED);
+    }
+    free(documents);
+    free(costs);
+}
+
+static void test_intersect(size_t n) {
+    uint64_t *one = room(n, 8), *two = room(n, 8), x = 0, y = 0, word = 0;
+    for (size_t i = 0; i < n; i++) {
+        one[i] = x += 1 + next() % 4;
+        two[i] = y += 1 + next() % 4;
+    }
+    vers_postings first = {0}, second = {0};
+    vers_numbers both = {0};
+    is("intersect vacant", vers_postings_intersect(&first, &second, &both), VERS_REFUSED);
+    is("first", vers_postings_of(&first, one, one, n), VERS_DONE);
+    is("second", vers_postings_of(&second, two, two, n), VERS_DONE);
+    is("intersect", vers_postings_intersect(&first, &second, &both), VERS_DONE);
+    uint64_t k = 0;
+    for (size_t i = 0, j = 0; i < n && j < n;) {
+        if (one[i] == two[j]) found("common", k, vers_numbers_get(&both, k), one[i]), k++;
+        if (one[i] <= two[j]) i++;
+        else j++;
+    }
+    found("common len", 0, vers_numbers_len(&both), k);
+    is("intersect into a full one", vers_postings_intersect(&first, &second, &both), VERS_OCCUPIED);
+    vers_numbers_free(&both);
+    vers_postings_free(&second);
+    vers_bits bits = {0};
+    is("bits of", vers_bits_of(&bits, &word, 1, 5), VERS_DONE);
+    is("intersect bits", vers_intersect(&first.handle, &bits.handle, &both.handle), VERS_REFUSED);
+    found("as it was", 0, vers_postings_len(&first), n);
+    vers_bits_free(&bits);
+    vers_postings_free(&first);
+    free(one);
+    free(two);
+}
+
+struct reader {
+    vers_bits bits;
+    int faults;
+};
+
+/* Asks bits of which each second one is a one, the first among them, and frees its handle. */
+static void *reads(void *data) {
+    struct reader *r = data;
+    for (uint64_t i = 0; i < 5000; i++) r->faults += vers_bits_rank1(&r->bits, i).value != (i + 1) / 2;
+    uint64_t each[1000];
+    for (uint64_t i = 0; i < 1000; i++) each[i] = i;
+    r->faults += vers_bits_each(&r->bits, VERS_SELECT1, each, 1000, 0) != VERS_DONE;
+    for (uint64_t i = 0; i < 1000; i++) r->faults += each[i] != 2 * i;
+    for (int i = 0; i < 300; i++) {
+        vers_bits more = {0};
+        r->faults += vers_bits_clone(&r->bits, &more) != VERS_DONE;
+        r->faults += vers_bits_len(&more).value != 25600;
+        vers_bits_free(&more);
+    }
+    vers_bits_free(&r->bits);
+    return NULL;
+}
+
+static void test_threads(void) {
+    enum { THREADS = 4 };
+    uint64_t words[400];
+    memset(words, 0x55, sizeof words);
+    vers_bits list = {0};
+    struct reader readers[THREADS];
+    memset(readers, 0, sizeof readers);
+    pthread_t threads[THREADS];
+    is("bits of", vers_bits_of(&list, words, 400, 25600), VERS_DONE);
+    for (int i = 0; i < THREADS; i++) {
+        is("clone", vers_bits_clone(&list, &readers[i].bits), VERS_DONE);
+        is("thread", (uint64_t)pthread_create(&threads[i], NULL, reads, &readers[i]), 0);
+    }
+    vers_bits_free(&list);
+    for (int i = 0; i < THREADS; i++) {
+        pthread_join(threads[i], NULL);
+        is("reader", (uint64_t)readers[i].faults, 0);
+    }
+}
+
+int main(void) {
+    static const size_t lengths[] = {0, 1, 63, 64, 65, 500, 5000};
+    for (size_t i = 0; i < sizeof lengths / sizeof *lengths; i++) {
+        test_bits(lengths[i]);
+        test_batches(lengths[i]);
+    }
+    test_statuses();
+    test_growing();
+    test_shared();
+    test_sparse(0, 9);
+    test_sparse(1, 9);
+    test_sparse(300, 2);
+    test_sparse(400, 50);
+    test_sorted(0, 5);
+    test_sorted(1, 5);
+    test_sorted(300, 50);
+    test_sorted(1000, (uint64_t)1 << 40);
+    test_symbols(0, 3);
+    test_symbols(1, 1);
+    test_symbols(300, 3);
+    test_symbols(400, 8);
+    test_symbols(200, 64);
+    test_tree(0);
+    test_tree(1);
+    test_tree(40);
+    test_tree(300);
+    test_unbalanced();
+    test_minima(1);
+    test_minima(10);
+    test_minima(700);
+    test_postings(0);
+    test_postings(1);
+    test_postings(500);
+    test_intersect(0);
+    test_intersect(1);
+    test_intersect(800);
+    test_threads();
+    printf("%lu passed, %lu failed\n", passed, failed);
+    return failed != 0;
+}

@@ -1,0 +1,120 @@
+/* Refuses each request for memory of each call in turn: the call answers VERS_NO_MEMORY, leaves its handles as they
+ * were, and keeps no memory. Link with -Wl,--wrap=malloc,--wrap=realloc,--wrap=free. */
+#include "vers.h"
+
+#include <stdio.h>
+#include <stdlib.h>
+
+void *__real_malloc(size_t size);
+void *__real_realloc(void *at, size_t size);
+void __real_free(void *at);
+void *__wrap_malloc(size_t size);
+void *__wrap_realloc(void *at, size_t size);
+void __wrap_free(void *at);
+
+static unsigned long passed, failed, given, taken_back;
+static long until_refusal = -1; /* how many requests are granted before one is refused; none is refused below 0 */
+
+static bool is_refused(void) { return until_refusal >= 0 && until_refusal-- == 0; }
+
+void *__wrap_malloc(size_t size) {
+    if (is_refused()) return NULL;
+    given++;
+    return __real_malloc(size);
+}
+
+void *__wrap_realloc(void *at, size_t size) {
+    if (is_refused()) return NULL;
+    if (!at) given++;
+    return __real_realloc(at, size);
+}
+
+void __wrap_free(void *at) {
+    if (at) taken_back++;
+    __real_free(at);
+}
+
+static void check(const char *what, bool holds) {
+    if (holds) passed++;
+    else if (failed++ < 20) fprintf(stderr, "%s\n", what);
+}
+
+enum { COUNT = 3000 };
+static uint64_t numbers[COUNT];
+static vers_handle one, two;
+
+static uint32_t growing(vers_handle *handle) { return vers_growing_build(numbers, 20, 1280, handle); }
+static uint32_t bits(vers_handle *handle) { return vers_bits_build(numbers, COUNT, COUNT * 64, handle); }
+static uint32_t sparse(vers_handle *handle) { return vers_sparse_build(numbers, COUNT, COUNT * 3, handle); }
+static uint32_t tree(vers_handle *handle) { return vers_tree_build(numbers, COUNT, COUNT * 64, handle); }
+static uint32_t sorted(vers_handle *handle) { return vers_sorted_build(numbers, COUNT, handle); }
+static uint32_t symbols(vers_handle *handle) { return vers_symbols_build(numbers, COUNT, 5, handle); }
+static uint32_t fast_rmq(vers_handle *handle) { return vers_fast_rmq_build(numbers, COUNT, handle); }
+static uint32_t binary_rmq(vers_handle *handle) { return vers_binary_rmq_build(numbers, COUNT, handle); }
+static uint32_t postings(vers_handle *handle) { return vers_postings_build(numbers, COUNT, numbers, COUNT, handle); }
+static uint32_t clone(vers_handle *handle) { return vers_clone(&one, handle); }
+static uint32_t intersect(vers_handle *handle) { return vers_intersect(&one, &two, handle); }
+
+/* A call that fills an empty handle. */
+static void test_fill(const char *what, uint32_t (*fill)(vers_handle *)) {
+    vers_handle handle = {0};
+    uint32_t status = VERS_NO_MEMORY;
+    for (long k = 0; status == VERS_NO_MEMORY && k < 10000; k++) {
+        unsigned long held = given - taken_back;
+        until_refusal = k;
+        status = fill(&handle);
+        until_refusal = -1;
+        if (status == VERS_DONE) break;
+        check(what, status == VERS_NO_MEMORY);
+        check(what, vers_ask(&handle, VERS_LEN, 0, 0, 0).status == VERS_VACANT);
+        check(what, given - taken_back == held);
+    }
+    check(what, status == VERS_DONE);
+    vers_free(&handle);
+}
+
+/* A change that has to take memory once in a while. */
+static void test_append(void) {
+    vers_growing list = {0};
+    check("growing", vers_growing_of(&list, NULL, 0, 0) == VERS_DONE);
+    unsigned long refusals = 0;
+    for (uint64_t n = 0; n < 5000;) {
+        until_refusal = 0;
+        uint32_t status = vers_growing_append(&list, n % 3 == 0);
+        until_refusal = -1;
+        if (status == VERS_NO_MEMORY) {
+            refusals++;
+            check("len after a refusal", vers_growing_len(&list).value == n);
+            status = vers_growing_append(&list, n % 3 == 0);
+        }
+        check("append", status == VERS_DONE);
+        n++;
+    }
+    check("refusals", refusals > 0);
+    for (uint64_t n = 0; n < 5000; n++) check("bit", vers_growing_get(&list, n).value == (n % 3 == 0));
+    vers_growing_free(&list);
+}
+
+int main(void) {
+    setvbuf(stdout, NULL, _IONBF, 0);
+    for (uint64_t i = 0; i < COUNT; i++) numbers[i] = 3 * i;
+    check("one", postings(&one) == VERS_DONE);
+    check("two", postings(&two) == VERS_DONE);
+    test_fill("growing", growing);
+    test_fill("bits", bits);
+    test_fill("sparse", sparse);
+    test_fill("tree", tree);
+    test_fill("sorted", sorted);
+    test_fill("symbols", symbols);
+    test_fill("fast_rmq", fast_rmq);
+    test_fill("binary_rmq", binary_rmq);
+    test_fill("postings", postings);
+    test_fill("clone", clone);
+    test_fill("intersect", intersect);
+    test_append();
+    vers_free(&one);
+    vers_free(&two);
+    check("all memory came back", given == taken_back);
+    printf("%lu passed, %lu failed\n", passed, failed);
+    return failed != 0;
+}

@@ -1,0 +1,1026 @@
+/** @file vers.h
+ *  Succinct lists whose every call is proved: bits with rank and select, ascending numbers, sparse bits, symbols,
+ *  range minima, trees of parentheses, documents with costs.
+ *
+ *  A list is made of a caller's array and held by a handle, which is all zeros while it holds nothing:
+ *
+ *      vers_bits bits = {0};
+ *      if (vers_bits_of(&bits, words, word_count, length) != VERS_DONE) ..
+ *      vers_answer ones = vers_bits_rank1(&bits, 1000);   // ones.value, where ones.status is VERS_DONE
+ *      vers_bits_free(&bits);                             // all zeros again
+ *
+ *  Memory. A list copies what it is made of, so the caller's array is his own again when the call returns. What a
+ *  call `_of`, `_clone` or `_intersect` has put into a handle is freed by `_free`, and by nothing else.
+ *  Answers are numbers, never pointers. Where memory is out a call answers VERS_NO_MEMORY and changes nothing.
+ *
+ *  Threads. A handle is used by one thread at a time, also for queries. Each thread asks through a handle of its
+ *  own, which `_clone` makes in constant time: handles of one list may be asked and freed by many threads at once,
+ *  and the last `_free` frees the list. A handle is handed over as data is: by a thread's start or end, or under a
+ *  lock. A list of bits that changes (vers_growing) is changed only while it has one handle.
+ *
+ *  `const`. A call that takes a handle by a pointer to const leaves handle and list as they were. During the call
+ *  the library writes to the handle, so this too is for one thread at a time.
+ *
+ *  What a caller owes, since no call can test it:
+ *  - a handle is all zeros, or as the last call has left it; it is copied by `_clone` alone;
+ *  - pointers to handles aren't null, and are of different handles where a call takes two;
+ *  - an array has as many items as its count says; it may be null where the count is 0;
+ *  - no call from a signal handler, nor from the forked child of a process with threads.
+ *  All else is tested, and told by the status: places past the end, numbers that don't ascend, queries of another
+ *  list, handles that hold nothing or are full, memory that is refused.
+ *
+ *  Places count from 0. A range from `start` to `end` is without `end`; one from `first` to `last` is with `last`.
+ *  C99; also C++, for which vers.hpp is more at home. Link with `pkg-config --libs vers`. */
+#ifndef VERS_H
+#define VERS_H
+
+#include <stdbool.h>
+#include <stddef.h>
+#include <stdint.h>
+
+#ifdef __cplusplus
+extern "C" {
+#endif
+
+/** How a call went. */
+enum vers_status {
+    VERS_DONE = 0,      /**< It was done, or something was found. */
+    VERS_ABSENT = 1,    /**< There is no such thing. */
+    VERS_UNKNOWN = 2,   /**< The list has no such query or change. */
+    VERS_VACANT = 3,    /**< The handle holds nothing. */
+    VERS_REFUSED = 4,   /**< The numbers that were passed are refused. */
+    VERS_OCCUPIED = 5,  /**< The handle that is to be filled holds a list already. */
+    VERS_NO_MEMORY = 6, /**< There is no memory, or the list would be too long. */
+    VERS_SHARED = 7     /**< The list has another handle, so it can't change. */
+};
+
+/** The queries by their codes. They matter to `_each` and `_rows`; for single queries there are the names below. */
+enum vers_query {
+    VERS_LEN = 0,                  /**< How many items. */
+    VERS_GET = 1,                  /**< Item a; of a tree, whether a parenthesis opens. */
+    VERS_GET_BITS = 2,             /**< Growing, bits: the number of the b bits from place a on. */
+    VERS_HEAP_SIZE = 3,            /**< How many bytes of the heap the list takes. */
+    VERS_RANK0 = 4,                /**< Bits, sparse: zeros before place a. */
+    VERS_RANK1 = 5,                /**< Bits, sparse: ones before place a. */
+    VERS_SELECT0 = 6,              /**< Bits: the place of zero number a. */
+    VERS_SELECT1 = 7,              /**< Bits, sparse: the place of one number a. */
+    VERS_RANK = 8,                 /**< Sorted, postings: members below a. */
+    VERS_HAS = 9,                  /**< Sorted, postings: whether a is a member, 1 or 0. */
+    VERS_PREDECESSOR = 10,         /**< Sorted: the greatest member not above a. */
+    VERS_SUCCESSOR = 11,           /**< Sorted, postings: the least member not below a. */
+    VERS_DELTA = 12,               /**< Sorted: member a less the one before it. */
+    VERS_WIDTH = 13,               /**< Symbols: how many bits a symbol has. */
+    VERS_RANK_OF = 14,             /**< Symbols: how many of the first a are symbol b. */
+    VERS_SELECT_OF = 15,           /**< Symbols: the place of occurrence a of symbol b. */
+    VERS_RANK_RANGE = 16,          /**< Symbols: how many of a..b are symbol c. */
+    VERS_SELECT_FROM = 17,         /**< Symbols: the place of occurrence b of symbol c from place a on. */
+    VERS_QUANTILE = 18,            /**< Symbols: number c of a..b in ascending order. */
+    VERS_LEAST = 19,               /**< Symbols: the least of a..b. */
+    VERS_GREATEST = 20,            /**< Symbols: the greatest of a..b. */
+    VERS_MEDIAN = 21,              /**< Symbols: the middle one of a..b. */
+    VERS_SYMBOLS_PREDECESSOR = 22, /**< Symbols: the greatest of a..b not above c. */
+    VERS_SYMBOLS_SUCCESSOR = 23,   /**< Symbols: the least of a..b not below c. */
+    VERS_SIZE = 24,                /**< Tree: how many ones. */
+    VERS_IS_BALANCED = 25,         /**< Tree: whether the parentheses are balanced, 1 or 0. */
+    VERS_EXCESS = 26,              /**< Tree: ones less zeros up to place a, signed. */
+    VERS_CLOSE = 27,               /**< Tree: where what opens at a is closed. */
+    VERS_OPEN = 28,                /**< Tree: where what closes at a opens. */
+    VERS_ENCLOSE = 29,             /**< Tree: where the nearest pair round a opens. */
+    VERS_NODE_HANDLE = 30,         /**< Tree: node number a in preorder. */
+    VERS_FWD_SEARCH = 31,          /**< Tree: the first place past a with the excess b more, b signed. */
+    VERS_BWD_SEARCH = 32,          /**< Tree: the last place before a with the excess b more, b signed. */
+    VERS_PARENT = 33,              /**< Tree: of node a. */
+    VERS_FIRST_CHILD = 34,         /**< Tree: of node a. */
+    VERS_LAST_CHILD = 35,          /**< Tree: of node a. */
+    VERS_NEXT_SIBLING = 36,        /**< Tree: of node a. */
+    VERS_PREVIOUS_SIBLING = 37,    /**< Tree: of node a. */
+    VERS_LEVEL_NEXT = 38,          /**< Tree: of node a. */
+    VERS_LEVEL_PREV = 39,          /**< Tree: of node a. */
+    VERS_LEVEL_ANCESTOR = 40,      /**< Tree: of node a, b levels up. */
+    VERS_NODE_INDEX = 41,          /**< Tree: the number of node a in preorder. */
+    VERS_IS_LEAF = 42,             /**< Tree: of node a, 1 or 0. */
+    VERS_DEPTH = 43,               /**< Tree: of node a. */
+    VERS_SUBTREE_SIZE = 44,        /**< Tree: of node a. */
+    VERS_LEVEL_LEFTMOST = 45,      /**< Tree: the first node of depth a. */
+    VERS_LEVEL_RIGHTMOST = 46,     /**< Tree: the last node of depth a. */
+    VERS_IS_ANCESTOR = 47,         /**< Tree: whether a is above b or is b, 1 or 0. */
+    VERS_RANGE_MIN = 48,           /**< Minima: the first place of a least value from a to b. */
+    VERS_CHEAPEST = 49             /**< Postings: the first document of least cost from a to b. */
+};
+
+/** The codes of changes of a vers_growing. */
+enum vers_change_code {
+    VERS_PUSH = 0,     /**< Appends the lowest bit of a. */
+    VERS_APPEND = 1,   /**< Appends the b low bits of a. */
+    VERS_SET = 2,      /**< Makes bit a the lowest bit of b. */
+    VERS_DROP_LAST = 3 /**< Drops the last a bits. */
+};
+
+/** The answer of a query: `value` counts where `status` is VERS_DONE, and is 0 else. */
+typedef struct vers_answer {
+    uint32_t status;
+    uint64_t value;
+} vers_answer;
+
+/** The three numbers of a query that is asked among many. */
+typedef struct vers_row {
+    uint64_t a, b, c;
+} vers_row;
+
+/** What holds a list. Only the library reads and writes its fields; all zeros hold nothing. */
+typedef struct vers_handle {
+    bool is_built;
+    void *at;
+} vers_handle;
+
+/* The exports of the library, one for all lists. The names further below are the same with a type for each list. */
+
+/** Asks one query. VERS_UNKNOWN, VERS_VACANT, and what the query has. */
+vers_answer vers_ask(vers_handle *handle, uint32_t query, uint64_t a, uint64_t b, uint64_t c);
+
+/** Puts in the place of each number what is answered to it as a, with these b and c; `other` where the status isn't
+ *  VERS_DONE. VERS_UNKNOWN and VERS_VACANT leave the numbers as they were. */
+uint32_t vers_ask_each(vers_handle *handle, uint32_t query, uint64_t *numbers, size_t count, uint64_t b, uint64_t c,
+                       uint64_t other);
+
+/** The same with an a, b and c for each: the answer takes the place of a. */
+uint32_t vers_ask_rows(vers_handle *handle, uint32_t query, vers_row *rows, size_t count, uint64_t other);
+
+/** Changes a vers_growing. */
+uint32_t vers_change(vers_handle *handle, uint32_t change, uint64_t a, uint64_t b);
+
+/** Makes an empty handle one more handle of a list, for another thread. VERS_VACANT, VERS_OCCUPIED, VERS_NO_MEMORY. */
+uint32_t vers_clone(vers_handle *handle, vers_handle *other);
+
+/** Puts the documents that two vers_postings share into an empty third handle, as vers_numbers. VERS_REFUSED where one
+ *  of the two holds no such list, VERS_OCCUPIED, VERS_NO_MEMORY. */
+uint32_t vers_intersect(vers_handle *one, vers_handle *other, vers_handle *into);
+
+/** Empties a handle, and frees the list if no other handle holds it. An empty handle stays empty. */
+void vers_free(vers_handle *handle);
+
+uint32_t vers_growing_build(const uint64_t *words, size_t count, size_t length, vers_handle *handle);
+uint32_t vers_bits_build(const uint64_t *words, size_t count, size_t length, vers_handle *handle);
+uint32_t vers_tree_build(const uint64_t *words, size_t count, size_t length, vers_handle *handle);
+uint32_t vers_sparse_build(const uint64_t *ones, size_t count, uint64_t length, vers_handle *handle);
+uint32_t vers_sorted_build(const uint64_t *numbers, size_t count, vers_handle *handle);
+uint32_t vers_symbols_build(const uint64_t *numbers, size_t count, uint32_t width, vers_handle *handle);
+uint32_t vers_fast_rmq_build(const uint64_t *values, size_t count, vers_handle *handle);
+uint32_t vers_binary_rmq_build(const uint64_t *values, size_t count, vers_handle *handle);
+uint32_t vers_postings_build(const uint64_t *documents, size_t count, const uint64_t *costs, size_t cost_count,
+                             vers_handle *handle);
+
+#ifdef __cplusplus
+}
+#endif
+
+/* Helpers. */
+
+/** The signed number that the value of an excess stands for. */
+static inline int64_t vers_signed(uint64_t value) {
+    return value <= INT64_MAX ? (int64_t)value : -(int64_t)~value - 1;
+}
+
+/** The value of an answer, or another number where its status isn't VERS_DONE. */
+static inline uint64_t vers_value_or(vers_answer answer, uint64_t other) {
+    return answer.status == VERS_DONE ? answer.value : other;
+}
+
+/** What a status says, in words. */
+static inline const char *vers_status_text(uint32_t status) {
+    static const char *const texts[] = {
+        "done", "there is no such thing", "the list has no such query or change", "the handle holds nothing",
+        "the numbers are refused", "the handle holds a list already",
+        "there is no memory, or the list would be too long", "the list has another handle, so it can't change",
+    };
+    return status < sizeof texts / sizeof *texts ? texts[status] : "no status of this library";
+}
+
+/** An array that may be null where it is empty, as one that isn't null. */
+static inline const uint64_t *vers_array(const uint64_t *array) {
+    static const uint64_t none = 0;
+    return array ? array : &none;
+}
+
+/** Asks one query of a list, which stays as it is. */
+static inline vers_answer vers_asked(const vers_handle *handle, enum vers_query query, uint64_t a, uint64_t b,
+                                     uint64_t c) {
+    return vers_ask((vers_handle *)(uintptr_t)handle, (uint32_t)query, a, b, c);
+}
+
+/** Asks many queries of a list, which stays as it is. */
+static inline uint32_t vers_asked_each(const vers_handle *handle, enum vers_query query, uint64_t *numbers,
+                                       size_t count, uint64_t b, uint64_t c, uint64_t other) {
+    uint64_t none = 0;
+    if (count == 0) numbers = &none;
+    return vers_ask_each((vers_handle *)(uintptr_t)handle, (uint32_t)query, numbers, count, b, c, other);
+}
+
+/** Asks many queries of a list, with three numbers each. The list stays as it is. */
+static inline uint32_t vers_asked_rows(const vers_handle *handle, enum vers_query query, vers_row *rows, size_t count,
+                                       uint64_t other) {
+    vers_row none = {0, 0, 0};
+    if (count == 0) rows = &none;
+    return vers_ask_rows((vers_handle *)(uintptr_t)handle, (uint32_t)query, rows, count, other);
+}
+
+/* A list of bits that can change. */
+
+/** A list of bits that can change. Changes answer VERS_DONE, or leave the list as it was: VERS_REFUSED for the
+ * reasons named at each, VERS_NO_MEMORY, VERS_SHARED while the list has another handle. */
+typedef struct vers_growing {
+    vers_handle handle;
+} vers_growing;
+
+/** Makes the list of the first `length` bits of `count` words, of all if they have fewer; the lowest bit of a word
+ * comes first. VERS_OCCUPIED, VERS_NO_MEMORY. */
+static inline uint32_t vers_growing_of(vers_growing *list, const uint64_t *words, size_t count, size_t length) {
+    return vers_growing_build(vers_array(words), count, length, &list->handle);
+}
+
+/** Empties a handle, and frees the list if no other handle holds it. */
+static inline void vers_growing_free(vers_growing *list) {
+    vers_free(&list->handle);
+}
+
+/** Makes an empty handle one more handle of the list, for another thread. VERS_VACANT, VERS_OCCUPIED,
+ * VERS_NO_MEMORY. */
+static inline uint32_t vers_growing_clone(const vers_growing *list, vers_growing *other) {
+    return vers_clone((vers_handle *)(uintptr_t)&list->handle, &other->handle);
+}
+
+/** How many bits. */
+static inline vers_answer vers_growing_len(const vers_growing *list) {
+    return vers_asked(&list->handle, VERS_LEN, 0, 0, 0);
+}
+
+/** How many bytes of the heap the list takes. */
+static inline vers_answer vers_growing_heap_size(const vers_growing *list) {
+    return vers_asked(&list->handle, VERS_HEAP_SIZE, 0, 0, 0);
+}
+
+/** The bit at a place, 1 or 0. VERS_ABSENT past the end. */
+static inline vers_answer vers_growing_get(const vers_growing *list, uint64_t place) {
+    return vers_asked(&list->handle, VERS_GET, place, 0, 0);
+}
+
+/** The number of the `count` bits from a place on, the lowest first. VERS_ABSENT where there are not so many, or they
+ * are none or more than 64. */
+static inline vers_answer vers_growing_get_bits(const vers_growing *list, uint64_t place, uint64_t count) {
+    return vers_asked(&list->handle, VERS_GET_BITS, place, count, 0);
+}
+
+/** Appends a bit. */
+static inline uint32_t vers_growing_append(vers_growing *list, bool bit) {
+    return vers_change(&list->handle, VERS_PUSH, bit, 0);
+}
+
+/** Appends the `count` low bits of a number, the lowest first. VERS_REFUSED where `count` is above 64. */
+static inline uint32_t vers_growing_append_bits(vers_growing *list, uint64_t bits, uint64_t count) {
+    return vers_change(&list->handle, VERS_APPEND, bits, count);
+}
+
+/** Makes the bit at a place this one. VERS_REFUSED past the end. */
+static inline uint32_t vers_growing_set(vers_growing *list, uint64_t place, bool bit) {
+    return vers_change(&list->handle, VERS_SET, place, bit);
+}
+
+/** Drops the last `count` bits, or all. */
+static inline uint32_t vers_growing_drop_last(vers_growing *list, uint64_t count) {
+    return vers_change(&list->handle, VERS_DROP_LAST, count, 0);
+}
+
+/** Puts in the place of each number what a query of one number answers to it, `other` where there is no answer.
+ * VERS_UNKNOWN and VERS_VACANT leave the numbers as they were. */
+static inline uint32_t vers_growing_each(const vers_growing *list, enum vers_query query, uint64_t *numbers,
+                                         size_t count, uint64_t other) {
+    return vers_asked_each(&list->handle, query, numbers, count, 0, 0, other);
+}
+
+/** The same for queries of up to three numbers, a, b and c: the answer takes the place of a. */
+static inline uint32_t vers_growing_rows(const vers_growing *list, enum vers_query query, vers_row *rows,
+                                         size_t count, uint64_t other) {
+    return vers_asked_rows(&list->handle, query, rows, count, other);
+}
+
+/* A list of bits with rank and select. */
+
+/** A list of bits with rank and select. */
+typedef struct vers_bits {
+    vers_handle handle;
+} vers_bits;
+
+/** Makes the list of the first `length` bits of `count` words, of all if they have fewer; the lowest bit of a word
+ * comes first. VERS_OCCUPIED, VERS_NO_MEMORY. */
+static inline uint32_t vers_bits_of(vers_bits *list, const uint64_t *words, size_t count, size_t length) {
+    return vers_bits_build(vers_array(words), count, length, &list->handle);
+}
+
+/** Empties a handle, and frees the list if no other handle holds it. */
+static inline void vers_bits_free(vers_bits *list) {
+    vers_free(&list->handle);
+}
+
+/** Makes an empty handle one more handle of the list, for another thread. VERS_VACANT, VERS_OCCUPIED,
+ * VERS_NO_MEMORY. */
+static inline uint32_t vers_bits_clone(const vers_bits *list, vers_bits *other) {
+    return vers_clone((vers_handle *)(uintptr_t)&list->handle, &other->handle);
+}
+
+/** How many bits. */
+static inline vers_answer vers_bits_len(const vers_bits *list) {
+    return vers_asked(&list->handle, VERS_LEN, 0, 0, 0);
+}
+
+/** How many bytes of the heap the list takes. */
+static inline vers_answer vers_bits_heap_size(const vers_bits *list) {
+    return vers_asked(&list->handle, VERS_HEAP_SIZE, 0, 0, 0);
+}
+
+/** The bit at a place, 1 or 0. VERS_ABSENT past the end. */
+static inline vers_answer vers_bits_get(const vers_bits *list, uint64_t place) {
+    return vers_asked(&list->handle, VERS_GET, place, 0, 0);
+}
+
+/** The number of the `count` bits from a place on, the lowest first; 0 for none. VERS_ABSENT where there are not so
+ * many, or they are more than 64. */
+static inline vers_answer vers_bits_get_bits(const vers_bits *list, uint64_t place, uint64_t count) {
+    return vers_asked(&list->handle, VERS_GET_BITS, place, count, 0);
+}
+
+/** How many ones stand before a place; all of them past the end. */
+static inline vers_answer vers_bits_rank1(const vers_bits *list, uint64_t place) {
+    return vers_asked(&list->handle, VERS_RANK1, place, 0, 0);
+}
+
+/** How many zeros stand before a place; all of them past the end. */
+static inline vers_answer vers_bits_rank0(const vers_bits *list, uint64_t place) {
+    return vers_asked(&list->handle, VERS_RANK0, place, 0, 0);
+}
+
+/** The place of one number `number`, counted from 0; the length where there are no more. */
+static inline vers_answer vers_bits_select1(const vers_bits *list, uint64_t number) {
+    return vers_asked(&list->handle, VERS_SELECT1, number, 0, 0);
+}
+
+/** The place of zero number `number`, counted from 0; the length where there are no more. */
+static inline vers_answer vers_bits_select0(const vers_bits *list, uint64_t number) {
+    return vers_asked(&list->handle, VERS_SELECT0, number, 0, 0);
+}
+
+/** Puts in the place of each number what a query of one number answers to it, `other` where there is no answer.
+ * VERS_UNKNOWN and VERS_VACANT leave the numbers as they were. */
+static inline uint32_t vers_bits_each(const vers_bits *list, enum vers_query query, uint64_t *numbers, size_t count,
+                                      uint64_t other) {
+    return vers_asked_each(&list->handle, query, numbers, count, 0, 0, other);
+}
+
+/** The same for queries of up to three numbers, a, b and c: the answer takes the place of a. */
+static inline uint32_t vers_bits_rows(const vers_bits *list, enum vers_query query, vers_row *rows, size_t count,
+                                      uint64_t other) {
+    return vers_asked_rows(&list->handle, query, rows, count, other);
+}
+
+/* Numbers that ascend, equal ones allowed. */
+
+/** Numbers that ascend, equal ones allowed. */
+typedef struct vers_sorted {
+    vers_handle handle;
+} vers_sorted;
+
+/** Makes the list of `count` numbers. VERS_REFUSED where one is below the one before it. VERS_OCCUPIED,
+ * VERS_NO_MEMORY. */
+static inline uint32_t vers_sorted_of(vers_sorted *list, const uint64_t *numbers, size_t count) {
+    return vers_sorted_build(vers_array(numbers), count, &list->handle);
+}
+
+/** Empties a handle, and frees the list if no other handle holds it. */
+static inline void vers_sorted_free(vers_sorted *list) {
+    vers_free(&list->handle);
+}
+
+/** Makes an empty handle one more handle of the list, for another thread. VERS_VACANT, VERS_OCCUPIED,
+ * VERS_NO_MEMORY. */
+static inline uint32_t vers_sorted_clone(const vers_sorted *list, vers_sorted *other) {
+    return vers_clone((vers_handle *)(uintptr_t)&list->handle, &other->handle);
+}
+
+/** How many members. */
+static inline vers_answer vers_sorted_len(const vers_sorted *list) {
+    return vers_asked(&list->handle, VERS_LEN, 0, 0, 0);
+}
+
+/** How many bytes of the heap the list takes. */
+static inline vers_answer vers_sorted_heap_size(const vers_sorted *list) {
+    return vers_asked(&list->handle, VERS_HEAP_SIZE, 0, 0, 0);
+}
+
+/** The member at a place. VERS_ABSENT past the end. */
+static inline vers_answer vers_sorted_get(const vers_sorted *list, uint64_t place) {
+    return vers_asked(&list->handle, VERS_GET, place, 0, 0);
+}
+
+/** How many members are below a number. */
+static inline vers_answer vers_sorted_rank(const vers_sorted *list, uint64_t number) {
+    return vers_asked(&list->handle, VERS_RANK, number, 0, 0);
+}
+
+/** Whether a number is a member, 1 or 0. */
+static inline vers_answer vers_sorted_has(const vers_sorted *list, uint64_t number) {
+    return vers_asked(&list->handle, VERS_HAS, number, 0, 0);
+}
+
+/** The greatest member not above a number. VERS_ABSENT where there is none. */
+static inline vers_answer vers_sorted_predecessor(const vers_sorted *list, uint64_t number) {
+    return vers_asked(&list->handle, VERS_PREDECESSOR, number, 0, 0);
+}
+
+/** The least member not below a number. VERS_ABSENT where there is none. */
+static inline vers_answer vers_sorted_successor(const vers_sorted *list, uint64_t number) {
+    return vers_asked(&list->handle, VERS_SUCCESSOR, number, 0, 0);
+}
+
+/** The member at a place less the one before it, the first member itself. VERS_ABSENT past the end. */
+static inline vers_answer vers_sorted_delta(const vers_sorted *list, uint64_t place) {
+    return vers_asked(&list->handle, VERS_DELTA, place, 0, 0);
+}
+
+/** Puts in the place of each number what a query of one number answers to it, `other` where there is no answer.
+ * VERS_UNKNOWN and VERS_VACANT leave the numbers as they were. */
+static inline uint32_t vers_sorted_each(const vers_sorted *list, enum vers_query query, uint64_t *numbers,
+                                        size_t count, uint64_t other) {
+    return vers_asked_each(&list->handle, query, numbers, count, 0, 0, other);
+}
+
+/* A list of bits with few ones, kept by their places. */
+
+/** A list of bits with few ones, kept by their places. */
+typedef struct vers_sparse {
+    vers_handle handle;
+} vers_sparse;
+
+/** Makes the list of `length` bits whose ones stand at `count` places. VERS_REFUSED where the places don't ascend
+ * strictly, or one isn't below `length`. VERS_OCCUPIED, VERS_NO_MEMORY. */
+static inline uint32_t vers_sparse_of(vers_sparse *list, const uint64_t *ones, size_t count, uint64_t length) {
+    return vers_sparse_build(vers_array(ones), count, length, &list->handle);
+}
+
+/** Empties a handle, and frees the list if no other handle holds it. */
+static inline void vers_sparse_free(vers_sparse *list) {
+    vers_free(&list->handle);
+}
+
+/** Makes an empty handle one more handle of the list, for another thread. VERS_VACANT, VERS_OCCUPIED,
+ * VERS_NO_MEMORY. */
+static inline uint32_t vers_sparse_clone(const vers_sparse *list, vers_sparse *other) {
+    return vers_clone((vers_handle *)(uintptr_t)&list->handle, &other->handle);
+}
+
+/** How many bits. */
+static inline vers_answer vers_sparse_len(const vers_sparse *list) {
+    return vers_asked(&list->handle, VERS_LEN, 0, 0, 0);
+}
+
+/** How many bytes of the heap the list takes. */
+static inline vers_answer vers_sparse_heap_size(const vers_sparse *list) {
+    return vers_asked(&list->handle, VERS_HEAP_SIZE, 0, 0, 0);
+}
+
+/** The bit at a place, 1 or 0. VERS_ABSENT past the end. */
+static inline vers_answer vers_sparse_get(const vers_sparse *list, uint64_t place) {
+    return vers_asked(&list->handle, VERS_GET, place, 0, 0);
+}
+
+/** How many ones stand before a place; all of them past the end. */
+static inline vers_answer vers_sparse_rank1(const vers_sparse *list, uint64_t place) {
+    return vers_asked(&list->handle, VERS_RANK1, place, 0, 0);
+}
+
+/** How many zeros stand before a place; all of them past the end. */
+static inline vers_answer vers_sparse_rank0(const vers_sparse *list, uint64_t place) {
+    return vers_asked(&list->handle, VERS_RANK0, place, 0, 0);
+}
+
+/** The place of one number `number`, counted from 0; the length where there are no more. */
+static inline vers_answer vers_sparse_select1(const vers_sparse *list, uint64_t number) {
+    return vers_asked(&list->handle, VERS_SELECT1, number, 0, 0);
+}
+
+/** Puts in the place of each number what a query of one number answers to it, `other` where there is no answer.
+ * VERS_UNKNOWN and VERS_VACANT leave the numbers as they were. */
+static inline uint32_t vers_sparse_each(const vers_sparse *list, enum vers_query query, uint64_t *numbers,
+                                        size_t count, uint64_t other) {
+    return vers_asked_each(&list->handle, query, numbers, count, 0, 0, other);
+}
+
+/* A list of symbols, which are numbers of up to 64 bits. */
+
+/** A list of symbols, which are numbers of up to 64 bits. Of a symbol that is passed the low bits count, as many as a
+ * symbol has. Ranges end at the length at most, else the answer is VERS_ABSENT. */
+typedef struct vers_symbols {
+    vers_handle handle;
+} vers_symbols;
+
+/** Makes the list of the `width` low bits of `count` numbers; of no bits there are no symbols. VERS_REFUSED where
+ * `width` is above 64. VERS_OCCUPIED, VERS_NO_MEMORY. */
+static inline uint32_t vers_symbols_of(vers_symbols *list, const uint64_t *numbers, size_t count, uint32_t width) {
+    return vers_symbols_build(vers_array(numbers), count, width, &list->handle);
+}
+
+/** Empties a handle, and frees the list if no other handle holds it. */
+static inline void vers_symbols_free(vers_symbols *list) {
+    vers_free(&list->handle);
+}
+
+/** Makes an empty handle one more handle of the list, for another thread. VERS_VACANT, VERS_OCCUPIED,
+ * VERS_NO_MEMORY. */
+static inline uint32_t vers_symbols_clone(const vers_symbols *list, vers_symbols *other) {
+    return vers_clone((vers_handle *)(uintptr_t)&list->handle, &other->handle);
+}
+
+/** How many symbols. */
+static inline vers_answer vers_symbols_len(const vers_symbols *list) {
+    return vers_asked(&list->handle, VERS_LEN, 0, 0, 0);
+}
+
+/** How many bits a symbol has. */
+static inline vers_answer vers_symbols_bits_per_element(const vers_symbols *list) {
+    return vers_asked(&list->handle, VERS_WIDTH, 0, 0, 0);
+}
+
+/** How many bytes of the heap the list takes. */
+static inline vers_answer vers_symbols_heap_size(const vers_symbols *list) {
+    return vers_asked(&list->handle, VERS_HEAP_SIZE, 0, 0, 0);
+}
+
+/** The symbol at a place. VERS_ABSENT past the end. */
+static inline vers_answer vers_symbols_get(const vers_symbols *list, uint64_t place) {
+    return vers_asked(&list->handle, VERS_GET, place, 0, 0);
+}
+
+/** How many of the first `end` places hold a symbol. VERS_ABSENT where there are not so many places. */
+static inline vers_answer vers_symbols_rank(const vers_symbols *list, uint64_t end, uint64_t symbol) {
+    return vers_asked(&list->handle, VERS_RANK_OF, end, symbol, 0);
+}
+
+/** How many places of a range hold a symbol. VERS_ABSENT where it starts past the last place, or ends before it
+ * starts. */
+static inline vers_answer vers_symbols_rank_range(const vers_symbols *list, uint64_t start, uint64_t end,
+                                                  uint64_t symbol) {
+    return vers_asked(&list->handle, VERS_RANK_RANGE, start, end, symbol);
+}
+
+/** The place of occurrence `number` of a symbol. VERS_ABSENT where there are not so many. */
+static inline vers_answer vers_symbols_select(const vers_symbols *list, uint64_t number, uint64_t symbol) {
+    return vers_asked(&list->handle, VERS_SELECT_OF, number, symbol, 0);
+}
+
+/** The place of occurrence `number` of a symbol among the places from `offset` on. VERS_ABSENT where there are not so
+ * many. */
+static inline vers_answer vers_symbols_select_offset(const vers_symbols *list, uint64_t offset, uint64_t number,
+                                                     uint64_t symbol) {
+    return vers_asked(&list->handle, VERS_SELECT_FROM, offset, number, symbol);
+}
+
+/** Symbol `number` of a range in ascending order. VERS_ABSENT where it hasn't so many. */
+static inline vers_answer vers_symbols_quantile(const vers_symbols *list, uint64_t start, uint64_t end,
+                                                uint64_t number) {
+    return vers_asked(&list->handle, VERS_QUANTILE, start, end, number);
+}
+
+/** The least symbol of a range. VERS_ABSENT where it is empty. */
+static inline vers_answer vers_symbols_range_min(const vers_symbols *list, uint64_t start, uint64_t end) {
+    return vers_asked(&list->handle, VERS_LEAST, start, end, 0);
+}
+
+/** The greatest symbol of a range. VERS_ABSENT where it is empty. */
+static inline vers_answer vers_symbols_range_max(const vers_symbols *list, uint64_t start, uint64_t end) {
+    return vers_asked(&list->handle, VERS_GREATEST, start, end, 0);
+}
+
+/** The middle one of a range in ascending order, the lower one of two. VERS_ABSENT where it is empty. */
+static inline vers_answer vers_symbols_range_median(const vers_symbols *list, uint64_t start, uint64_t end) {
+    return vers_asked(&list->handle, VERS_MEDIAN, start, end, 0);
+}
+
+/** The greatest symbol of a range not above a symbol. VERS_ABSENT where there is none. */
+static inline vers_answer vers_symbols_predecessor(const vers_symbols *list, uint64_t start, uint64_t end,
+                                                   uint64_t symbol) {
+    return vers_asked(&list->handle, VERS_SYMBOLS_PREDECESSOR, start, end, symbol);
+}
+
+/** The least symbol of a range not below a symbol. VERS_ABSENT where there is none. */
+static inline vers_answer vers_symbols_successor(const vers_symbols *list, uint64_t start, uint64_t end,
+                                                 uint64_t symbol) {
+    return vers_asked(&list->handle, VERS_SYMBOLS_SUCCESSOR, start, end, symbol);
+}
+
+/** Puts in the place of each number what a query of one number answers to it, `other` where there is no answer.
+ * VERS_UNKNOWN and VERS_VACANT leave the numbers as they were. */
+static inline uint32_t vers_symbols_each(const vers_symbols *list, enum vers_query query, uint64_t *numbers,
+                                         size_t count, uint64_t other) {
+    return vers_asked_each(&list->handle, query, numbers, count, 0, 0, other);
+}
+
+/** The same for queries of up to three numbers, a, b and c: the answer takes the place of a. */
+static inline uint32_t vers_symbols_rows(const vers_symbols *list, enum vers_query query, vers_row *rows,
+                                         size_t count, uint64_t other) {
+    return vers_asked_rows(&list->handle, query, rows, count, other);
+}
+
+/* A list of values that finds the least of a range, in few bits more. */
+
+/** A list of values that finds the least of a range, in few bits more. */
+typedef struct vers_fast_rmq {
+    vers_handle handle;
+} vers_fast_rmq;
+
+/** Makes the list of `count` values. VERS_OCCUPIED, VERS_NO_MEMORY. */
+static inline uint32_t vers_fast_rmq_of(vers_fast_rmq *list, const uint64_t *numbers, size_t count) {
+    return vers_fast_rmq_build(vers_array(numbers), count, &list->handle);
+}
+
+/** Empties a handle, and frees the list if no other handle holds it. */
+static inline void vers_fast_rmq_free(vers_fast_rmq *list) {
+    vers_free(&list->handle);
+}
+
+/** Makes an empty handle one more handle of the list, for another thread. VERS_VACANT, VERS_OCCUPIED,
+ * VERS_NO_MEMORY. */
+static inline uint32_t vers_fast_rmq_clone(const vers_fast_rmq *list, vers_fast_rmq *other) {
+    return vers_clone((vers_handle *)(uintptr_t)&list->handle, &other->handle);
+}
+
+/** How many values. */
+static inline vers_answer vers_fast_rmq_len(const vers_fast_rmq *list) {
+    return vers_asked(&list->handle, VERS_LEN, 0, 0, 0);
+}
+
+/** How many bytes of the heap the list takes. */
+static inline vers_answer vers_fast_rmq_heap_size(const vers_fast_rmq *list) {
+    return vers_asked(&list->handle, VERS_HEAP_SIZE, 0, 0, 0);
+}
+
+/** The value at a place. VERS_ABSENT past the end. */
+static inline vers_answer vers_fast_rmq_get(const vers_fast_rmq *list, uint64_t place) {
+    return vers_asked(&list->handle, VERS_GET, place, 0, 0);
+}
+
+/** The first place of a least value from `first` to `last`, both included. VERS_ABSENT where `last` is before `first`
+ * or past the end. */
+static inline vers_answer vers_fast_rmq_range_min(const vers_fast_rmq *list, uint64_t first, uint64_t last) {
+    return vers_asked(&list->handle, VERS_RANGE_MIN, first, last, 0);
+}
+
+/** Puts in the place of each number what a query of one number answers to it, `other` where there is no answer.
+ * VERS_UNKNOWN and VERS_VACANT leave the numbers as they were. */
+static inline uint32_t vers_fast_rmq_each(const vers_fast_rmq *list, enum vers_query query, uint64_t *numbers,
+                                          size_t count, uint64_t other) {
+    return vers_asked_each(&list->handle, query, numbers, count, 0, 0, other);
+}
+
+/** The same for queries of up to three numbers, a, b and c: the answer takes the place of a. */
+static inline uint32_t vers_fast_rmq_rows(const vers_fast_rmq *list, enum vers_query query, vers_row *rows,
+                                          size_t count, uint64_t other) {
+    return vers_asked_rows(&list->handle, query, rows, count, other);
+}
+
+/* The same by a table of 4 bytes for each value and power of two. */
+
+/** The same by a table of 4 bytes for each value and power of two. */
+typedef struct vers_binary_rmq {
+    vers_handle handle;
+} vers_binary_rmq;
+
+/** Makes the list of `count` values. VERS_OCCUPIED, VERS_NO_MEMORY. */
+static inline uint32_t vers_binary_rmq_of(vers_binary_rmq *list, const uint64_t *numbers, size_t count) {
+    return vers_binary_rmq_build(vers_array(numbers), count, &list->handle);
+}
+
+/** Empties a handle, and frees the list if no other handle holds it. */
+static inline void vers_binary_rmq_free(vers_binary_rmq *list) {
+    vers_free(&list->handle);
+}
+
+/** Makes an empty handle one more handle of the list, for another thread. VERS_VACANT, VERS_OCCUPIED,
+ * VERS_NO_MEMORY. */
+static inline uint32_t vers_binary_rmq_clone(const vers_binary_rmq *list, vers_binary_rmq *other) {
+    return vers_clone((vers_handle *)(uintptr_t)&list->handle, &other->handle);
+}
+
+/** How many values. */
+static inline vers_answer vers_binary_rmq_len(const vers_binary_rmq *list) {
+    return vers_asked(&list->handle, VERS_LEN, 0, 0, 0);
+}
+
+/** How many bytes of the heap the list takes. */
+static inline vers_answer vers_binary_rmq_heap_size(const vers_binary_rmq *list) {
+    return vers_asked(&list->handle, VERS_HEAP_SIZE, 0, 0, 0);
+}
+
+/** The value at a place. VERS_ABSENT past the end. */
+static inline vers_answer vers_binary_rmq_get(const vers_binary_rmq *list, uint64_t place) {
+    return vers_asked(&list->handle, VERS_GET, place, 0, 0);
+}
+
+/** The first place of a least value from `first` to `last`, both included. VERS_ABSENT where `last` is before `first`
+ * or past the end. */
+static inline vers_answer vers_binary_rmq_range_min(const vers_binary_rmq *list, uint64_t first, uint64_t last) {
+    return vers_asked(&list->handle, VERS_RANGE_MIN, first, last, 0);
+}
+
+/** Puts in the place of each number what a query of one number answers to it, `other` where there is no answer.
+ * VERS_UNKNOWN and VERS_VACANT leave the numbers as they were. */
+static inline uint32_t vers_binary_rmq_each(const vers_binary_rmq *list, enum vers_query query, uint64_t *numbers,
+                                            size_t count, uint64_t other) {
+    return vers_asked_each(&list->handle, query, numbers, count, 0, 0, other);
+}
+
+/** The same for queries of up to three numbers, a, b and c: the answer takes the place of a. */
+static inline uint32_t vers_binary_rmq_rows(const vers_binary_rmq *list, enum vers_query query, vers_row *rows,
+                                            size_t count, uint64_t other) {
+    return vers_asked_rows(&list->handle, query, rows, count, other);
+}
+
+/* Trees as parentheses, of which a one opens and a zero closes. */
+
+/** Trees as parentheses, of which a one opens and a zero closes. A node is the place where it opens. Queries of nodes
+ * answer VERS_REFUSED where the parentheses aren't balanced or no node opens at a place that is passed. The other
+ * queries answer of any list of bits. */
+typedef struct vers_tree {
+    vers_handle handle;
+} vers_tree;
+
+/** Makes the list of the first `length` bits of `count` words, of all if they have fewer; the lowest bit of a word
+ * comes first. VERS_OCCUPIED, VERS_NO_MEMORY. */
+static inline uint32_t vers_tree_of(vers_tree *list, const uint64_t *words, size_t count, size_t length) {
+    return vers_tree_build(vers_array(words), count, length, &list->handle);
+}
+
+/** Empties a handle, and frees the list if no other handle holds it. */
+static inline void vers_tree_free(vers_tree *list) {
+    vers_free(&list->handle);
+}
+
+/** Makes an empty handle one more handle of the list, for another thread. VERS_VACANT, VERS_OCCUPIED,
+ * VERS_NO_MEMORY. */
+static inline uint32_t vers_tree_clone(const vers_tree *list, vers_tree *other) {
+    return vers_clone((vers_handle *)(uintptr_t)&list->handle, &other->handle);
+}
+
+/** How many parentheses. */
+static inline vers_answer vers_tree_len(const vers_tree *list) {
+    return vers_asked(&list->handle, VERS_LEN, 0, 0, 0);
+}
+
+/** Whether the parenthesis at a place opens, 1 or 0. VERS_ABSENT past the end. */
+static inline vers_answer vers_tree_is_open(const vers_tree *list, uint64_t place) {
+    return vers_asked(&list->handle, VERS_GET, place, 0, 0);
+}
+
+/** How many bytes of the heap the list takes. */
+static inline vers_answer vers_tree_heap_size(const vers_tree *list) {
+    return vers_asked(&list->handle, VERS_HEAP_SIZE, 0, 0, 0);
+}
+
+/** How many ones: of balanced parentheses, how many nodes. */
+static inline vers_answer vers_tree_size(const vers_tree *list) {
+    return vers_asked(&list->handle, VERS_SIZE, 0, 0, 0);
+}
+
+/** Whether the parentheses are balanced, 1 or 0. */
+static inline vers_answer vers_tree_is_balanced(const vers_tree *list) {
+    return vers_asked(&list->handle, VERS_IS_BALANCED, 0, 0, 0);
+}
+
+/** The ones less the zeros up to a place and at it: read `value` by vers_signed. VERS_REFUSED past the end. */
+static inline vers_answer vers_tree_excess(const vers_tree *list, uint64_t place) {
+    return vers_asked(&list->handle, VERS_EXCESS, place, 0, 0);
+}
+
+/** The place that closes what opens at a place. VERS_ABSENT where there is none. */
+static inline vers_answer vers_tree_close(const vers_tree *list, uint64_t place) {
+    return vers_asked(&list->handle, VERS_CLOSE, place, 0, 0);
+}
+
+/** The place that opens what closes at a place. VERS_ABSENT where there is none. */
+static inline vers_answer vers_tree_open(const vers_tree *list, uint64_t place) {
+    return vers_asked(&list->handle, VERS_OPEN, place, 0, 0);
+}
+
+/** Where the nearest pair round a place opens. VERS_ABSENT where there is none. */
+static inline vers_answer vers_tree_enclose(const vers_tree *list, uint64_t place) {
+    return vers_asked(&list->handle, VERS_ENCLOSE, place, 0, 0);
+}
+
+/** The place of one number `number`: of balanced parentheses, that node in preorder. The length where there are no
+ * more. */
+static inline vers_answer vers_tree_node_handle(const vers_tree *list, uint64_t number) {
+    return vers_asked(&list->handle, VERS_NODE_HANDLE, number, 0, 0);
+}
+
+/** The first place past `place` where the excess has risen by `rise`. VERS_ABSENT where there is none. */
+static inline vers_answer vers_tree_fwd_search(const vers_tree *list, uint64_t place, int64_t rise) {
+    return vers_asked(&list->handle, VERS_FWD_SEARCH, place, (uint64_t)rise, 0);
+}
+
+/** The last place before `place` before which the excess is `rise` more. VERS_ABSENT where there is none. */
+static inline vers_answer vers_tree_bwd_search(const vers_tree *list, uint64_t place, int64_t rise) {
+    return vers_asked(&list->handle, VERS_BWD_SEARCH, place, (uint64_t)rise, 0);
+}
+
+/** The parent of a node. VERS_ABSENT for a root. */
+static inline vers_answer vers_tree_parent(const vers_tree *list, uint64_t node) {
+    return vers_asked(&list->handle, VERS_PARENT, node, 0, 0);
+}
+
+/** The first child of a node. VERS_ABSENT for a leaf. */
+static inline vers_answer vers_tree_first_child(const vers_tree *list, uint64_t node) {
+    return vers_asked(&list->handle, VERS_FIRST_CHILD, node, 0, 0);
+}
+
+/** The last child of a node. VERS_ABSENT for a leaf. */
+static inline vers_answer vers_tree_last_child(const vers_tree *list, uint64_t node) {
+    return vers_asked(&list->handle, VERS_LAST_CHILD, node, 0, 0);
+}
+
+/** The sibling behind a node. VERS_ABSENT for the last one. */
+static inline vers_answer vers_tree_next_sibling(const vers_tree *list, uint64_t node) {
+    return vers_asked(&list->handle, VERS_NEXT_SIBLING, node, 0, 0);
+}
+
+/** The sibling before a node. VERS_ABSENT for the first one. */
+static inline vers_answer vers_tree_previous_sibling(const vers_tree *list, uint64_t node) {
+    return vers_asked(&list->handle, VERS_PREVIOUS_SIBLING, node, 0, 0);
+}
+
+/** The next node of the same depth. VERS_ABSENT where there is none. */
+static inline vers_answer vers_tree_level_next(const vers_tree *list, uint64_t node) {
+    return vers_asked(&list->handle, VERS_LEVEL_NEXT, node, 0, 0);
+}
+
+/** The node of the same depth before. VERS_ABSENT where there is none. */
+static inline vers_answer vers_tree_level_prev(const vers_tree *list, uint64_t node) {
+    return vers_asked(&list->handle, VERS_LEVEL_PREV, node, 0, 0);
+}
+
+/** The ancestor of a node that is `levels` levels up, itself at 0. VERS_ABSENT where there is none. */
+static inline vers_answer vers_tree_level_ancestor(const vers_tree *list, uint64_t node, uint64_t levels) {
+    return vers_asked(&list->handle, VERS_LEVEL_ANCESTOR, node, levels, 0);
+}
+
+/** The number of a node in preorder. */
+static inline vers_answer vers_tree_node_index(const vers_tree *list, uint64_t node) {
+    return vers_asked(&list->handle, VERS_NODE_INDEX, node, 0, 0);
+}
+
+/** Whether a node has no children, 1 or 0. */
+static inline vers_answer vers_tree_is_leaf(const vers_tree *list, uint64_t node) {
+    return vers_asked(&list->handle, VERS_IS_LEAF, node, 0, 0);
+}
+
+/** How many ancestors a node has. */
+static inline vers_answer vers_tree_depth(const vers_tree *list, uint64_t node) {
+    return vers_asked(&list->handle, VERS_DEPTH, node, 0, 0);
+}
+
+/** How many nodes a node and those below it are. */
+static inline vers_answer vers_tree_subtree_size(const vers_tree *list, uint64_t node) {
+    return vers_asked(&list->handle, VERS_SUBTREE_SIZE, node, 0, 0);
+}
+
+/** Whether one node is above another, or is that node, 1 or 0. */
+static inline vers_answer vers_tree_is_ancestor(const vers_tree *list, uint64_t ancestor, uint64_t node) {
+    return vers_asked(&list->handle, VERS_IS_ANCESTOR, ancestor, node, 0);
+}
+
+/** The first node of a depth, roots having 0. VERS_ABSENT where no node is so deep. */
+static inline vers_answer vers_tree_level_leftmost(const vers_tree *list, uint64_t depth) {
+    return vers_asked(&list->handle, VERS_LEVEL_LEFTMOST, depth, 0, 0);
+}
+
+/** The last node of a depth, roots having 0. VERS_ABSENT where no node is so deep. */
+static inline vers_answer vers_tree_level_rightmost(const vers_tree *list, uint64_t depth) {
+    return vers_asked(&list->handle, VERS_LEVEL_RIGHTMOST, depth, 0, 0);
+}
+
+/** Puts in the place of each number what a query of one number answers to it, `other` where there is no answer.
+ * VERS_UNKNOWN and VERS_VACANT leave the numbers as they were. */
+static inline uint32_t vers_tree_each(const vers_tree *list, enum vers_query query, uint64_t *numbers, size_t count,
+                                      uint64_t other) {
+    return vers_asked_each(&list->handle, query, numbers, count, 0, 0, other);
+}
+
+/** The same for queries of up to three numbers, a, b and c: the answer takes the place of a. */
+static inline uint32_t vers_tree_rows(const vers_tree *list, enum vers_query query, vers_row *rows, size_t count,
+                                      uint64_t other) {
+    return vers_asked_rows(&list->handle, query, rows, count, other);
+}
+
+/* Documents, which ascend strictly, each with a cost. */
+
+/** Documents, which ascend strictly, each with a cost. */
+typedef struct vers_postings {
+    vers_handle handle;
+} vers_postings;
+
+/** Makes the list of `count` documents and as many costs. VERS_REFUSED where the documents don't ascend strictly.
+ * VERS_OCCUPIED, VERS_NO_MEMORY. */
+static inline uint32_t vers_postings_of(vers_postings *list, const uint64_t *documents, const uint64_t *costs,
+                                        size_t count) {
+    return vers_postings_build(vers_array(documents), count, vers_array(costs), count, &list->handle);
+}
+
+/** Empties a handle, and frees the list if no other handle holds it. */
+static inline void vers_postings_free(vers_postings *list) {
+    vers_free(&list->handle);
+}
+
+/** Makes an empty handle one more handle of the list, for another thread. VERS_VACANT, VERS_OCCUPIED,
+ * VERS_NO_MEMORY. */
+static inline uint32_t vers_postings_clone(const vers_postings *list, vers_postings *other) {
+    return vers_clone((vers_handle *)(uintptr_t)&list->handle, &other->handle);
+}
+
+/** How many documents. */
+static inline vers_answer vers_postings_len(const vers_postings *list) {
+    return vers_asked(&list->handle, VERS_LEN, 0, 0, 0);
+}
+
+/** How many documents are below a number. */
+static inline vers_answer vers_postings_rank(const vers_postings *list, uint64_t number) {
+    return vers_asked(&list->handle, VERS_RANK, number, 0, 0);
+}
+
+/** Whether a document is in the list, 1 or 0. */
+static inline vers_answer vers_postings_contains(const vers_postings *list, uint64_t document) {
+    return vers_asked(&list->handle, VERS_HAS, document, 0, 0);
+}
+
+/** The first document not below a number. VERS_ABSENT where there is none. */
+static inline vers_answer vers_postings_next_at_least(const vers_postings *list, uint64_t number) {
+    return vers_asked(&list->handle, VERS_SUCCESSOR, number, 0, 0);
+}
+
+/** The first document of least cost from one number to another, both included. VERS_ABSENT where there is none. */
+static inline vers_answer vers_postings_cheapest(const vers_postings *list, uint64_t first, uint64_t last) {
+    return vers_asked(&list->handle, VERS_CHEAPEST, first, last, 0);
+}
+
+/** Puts in the place of each number what a query of one number answers to it, `other` where there is no answer.
+ * VERS_UNKNOWN and VERS_VACANT leave the numbers as they were. */
+static inline uint32_t vers_postings_each(const vers_postings *list, enum vers_query query, uint64_t *numbers,
+                                          size_t count, uint64_t other) {
+    return vers_asked_each(&list->handle, query, numbers, count, 0, 0, other);
+}
+
+/** The same for queries of up to three numbers, a, b and c: the answer takes the place of a. */
+static inline uint32_t vers_postings_rows(const vers_postings *list, enum vers_query query, vers_row *rows,
+                                          size_t count, uint64_t other) {
+    return vers_asked_rows(&list->handle, query, rows, count, other);
+}
+
+/* Plain numbers, which some calls answer. */
+
+/** Plain numbers, which some calls answer. */
+typedef struct vers_numbers {
+    vers_handle handle;
+} vers_numbers;
+
+/** Empties a handle, and frees the list if no other handle holds it. */
+static inline void vers_numbers_free(vers_numbers *list) {
+    vers_free(&list->handle);
+}
+
+/** Makes an empty handle one more handle of the list, for another thread. VERS_VACANT, VERS_OCCUPIED,
+ * VERS_NO_MEMORY. */
+static inline uint32_t vers_numbers_clone(const vers_numbers *list, vers_numbers *other) {
+    return vers_clone((vers_handle *)(uintptr_t)&list->handle, &other->handle);
+}
+
+/** How many numbers. */
+static inline vers_answer vers_numbers_len(const vers_numbers *list) {
+    return vers_asked(&list->handle, VERS_LEN, 0, 0, 0);
+}
+
+/** The number at a place. VERS_ABSENT past the end. */
+static inline vers_answer vers_numbers_get(const vers_numbers *list, uint64_t place) {
+    return vers_asked(&list->handle, VERS_GET, place, 0, 0);
+}
+
+/** Puts the documents that two lists share, ascending, into an empty third handle. VERS_REFUSED where one of the two
+ * holds nothing, VERS_OCCUPIED, VERS_NO_MEMORY. */
+static inline uint32_t vers_postings_intersect(const vers_postings *one, const vers_postings *two,
+                                               vers_numbers *into) {
+    vers_handle *first = (vers_handle *)(uintptr_t)&one->handle, *second = (vers_handle *)(uintptr_t)&two->handle;
+    return vers_intersect(first, second, &into->handle);
+}
+
+/** Puts in the place of each number what a query of one number answers to it, `other` where there is no answer.
+ * VERS_UNKNOWN and VERS_VACANT leave the numbers as they were. */
+static inline uint32_t vers_numbers_each(const vers_numbers *list, enum vers_query query, uint64_t *numbers,
+                                         size_t count, uint64_t other) {
+    return vers_asked_each(&list->handle, query, numbers, count, 0, 0, other);
+}
+
+#endif

@@ -1,0 +1,277 @@
+#!/usr/bin/env python3
+"""Checks the bindings: python3 bindings/check.py [ARCHIVE], by default with that of crates/vers_c, which `rt lib` builds
+there first if it is missing.
+
+- The codes of statuses, queries and changes in vers.h and in the Python package are those of crates/vers_c, one after another.
+  `--write` writes them anew, and checks nothing else.
+- C and C++ are compiled without a warning; their tests pass, also under memcheck and helgrind.
+- The package for pkg-config leads to header and library.
+- Python's tests pass, with each Python that is there, also from an installed wheel.
+- Rust's tests pass.
+- Each program of each page README.md was run, and printed what the page says.
+
+What can't be checked here, for want of a tool, is named. The last line is "N passed, M failed".
+"""
+import glob
+import os
+import re
+import shutil
+import subprocess
+import sys
+import tempfile
+
+HERE = os.path.dirname(os.path.abspath(__file__))
+TOP = os.path.dirname(HERE)
+C, CPP, PY, RUST = (os.path.join(HERE, it) for it in ("c", "cpp", "python", "rust"))
+STRICT = ["-O1", "-g", "-pedantic", "-Wall", "-Wextra", "-Werror", f"-I{C}"]
+REFUSING = "-Wl,--wrap=malloc,--wrap=realloc,--wrap=free"
+# the table of crates/vers_c, the enum of vers.h with its codes, and a row of that table
+TABLES = (
+    ("status.rt", "vers_status", r"()pub const (\w+): u32 = \d+;"),
+    ("query.rt", "vers_query", r"(?m)^    Query::(?:(\w+)\(\w+::)?(\w+)\)?,$"),
+    ("change.rt", "vers_change_code", r"()Change::(\w+)(?=[,\]])"),
+)
+FENCE = re.compile(r"(?ms)^```(\w+)\n(.*?)^```\n(?:(?:[^`\n]*\n)*?^```text\n(.*?)^```\n)?")
+
+
+class Checks:
+    """What passed, what failed, and what was left out."""
+
+    def __init__(self, archive):
+        self.archive, self.passed, self.failed, self.left_out = archive, 0, 0, []
+        self.folder = tempfile.mkdtemp(prefix="vers")
+
+    def run(self, what, command, wanted=None, **more):
+        """Runs a command, which has to end with status 0 and to print what is wanted."""
+        pipes = {"stdin": subprocess.DEVNULL, "stdout": subprocess.PIPE, "stderr": subprocess.STDOUT}
+        done = subprocess.run(command, text=True, **pipes, **more)
+        if done.returncode == 0 and wanted in (None, done.stdout):
+            self.passed += 1
+            return True
+        self.failed += 1
+        print(f"failed: {what}: {' '.join(command)}\n{done.stdout[-3000:]}")
+        if wanted is not None:
+            print(f"wanted:\n{wanted}")
+        return False
+
+    def has(self, tool, what):
+        """Whether a tool is there; what is left out for want of it is noted."""
+        if not shutil.which(tool):
+            self.left_out.append(f"{what} (no {tool})")
+        return shutil.which(tool)
+
+    def path(self, name):
+        """A path in the scratch folder."""
+        return os.path.join(self.folder, name)
+
+
+def heap_archive(archive):
+    """The archive of the C heap's calls: beside the library's, or in the toolchain."""
+    places = [os.path.dirname(archive)]
+    if shutil.which("rt"):
+        places.append(os.path.join(os.path.dirname(os.path.dirname(os.path.realpath(shutil.which("rt")))), "c"))
+    return next(it for it in (os.path.join(place, "liblibc_c.a") for place in places) if os.path.exists(it))
+
+
+def read(path):
+    """The text of a file."""
+    with open(path, encoding="utf-8") as file:
+        return file.read()
+
+
+def word(name):
+    """A name as vers.h writes it."""
+    return re.sub(r"(?<=[a-z0-9])(?=[A-Z])", "_", name).upper()
+
+
+def code_tables(source):
+    """The names of the codes in the crate's tables, by the enums of vers.h. A name that stands twice has its group before it."""
+    tables = {}
+    for file, enum, row in TABLES:
+        text = read(os.path.join(source, file))
+        body = text[text.rfind("= [") if "= [" in text else 0:]
+        rows = [[word(it) for it in found] for found in re.findall(row, body)]
+        names = [name for _, name in rows]
+        tables[enum] = [f"{group}_{name}" if name in names[:k] else name for k, (group, name) in enumerate(rows)]
+    return tables
+
+
+def written_header(text, tables):
+    """The header with the codes of the tables. A code whose comment it hasn't yet gets an empty one."""
+    for enum, names in tables.items():
+        head, body, tail = re.split(rf"(?s)(?<=enum {enum} {{\n)(.*?)(?=^}};)", text, maxsplit=1, flags=re.M)
+        about = dict(re.findall(r"VERS_(\w+) = \d+,? +(/\*\*<.*\*/)", body))
+        rows = [f"    VERS_{name} = {k}{',' if k < len(names) - 1 else ''}" for k, name in enumerate(names)]
+        width = max(map(len, rows))
+        text = head + "".join(f"{row:<{width}} {about.get(name, '/**< . */')}\n" for row, name in zip(rows, names)) + tail
+    return text
+
+
+def written_codes(tables):
+    """The Python module of the codes."""
+    text = '"""The codes of statuses, queries and changes, as crates/vers_c has them. Written by bindings/check.py --write."""\n'
+    for names in tables.values():
+        text += "\n" + "".join(f"{name} = {k}\n" for k, name in enumerate(names))
+    return text
+
+
+def check_codes(checks, write):
+    """Compares the codes with the crate's tables, or writes them."""
+    source = os.path.join(TOP, "crates", "vers_c", "src")
+    if not os.path.exists(source):
+        checks.left_out.append("codes (no crates/vers_c)")
+        return
+    tables = code_tables(source)
+    files = {os.path.join(C, "vers.h"): lambda text: written_header(text, tables),
+             os.path.join(PY, "vers", "_codes.py"): lambda _: written_codes(tables)}
+    for path, written in files.items():
+        text, wanted = read(path), written(read(path))
+        if write:
+            with open(path, "w", encoding="utf-8") as file:
+                file.write(wanted)
+        elif text == wanted and "/**< . */" not in text:
+            checks.passed += 1
+        else:
+            checks.failed += 1
+            print(f"failed: the codes of {path} aren't those of crates/vers_c (--write writes them)")
+
+
+def check_c(checks, link):
+    """C: the header in both languages, tests, and tests under valgrind."""
+    for compiler in ("gcc", "clang"):
+        if not checks.has(compiler, f"C by {compiler}"):
+            continue
+        for name, more in (("test", ["-lpthread"]), ("test_memory", [REFUSING])):
+            made = checks.path(f"{name}_{compiler}")
+            strict = ["-std=c99", "-Wconversion", "-Wcast-qual", *STRICT]
+            command = [compiler, *strict, os.path.join(C, f"{name}.c"), "-o", made, *link, *more]
+            if checks.run(f"C by {compiler}", command) and checks.run(f"C by {compiler}", [made]):
+                valgrind(checks, f"C by {compiler}", made, name == "test" and compiler == "gcc")
+
+
+def valgrind(checks, what, program, has_threads):
+    """Runs a program under memcheck, and one with threads under helgrind."""
+    if checks.has("valgrind", f"{what} under memcheck and helgrind"):
+        checks.run(f"{what}, memcheck", ["valgrind", "-q", "--leak-check=full", "--error-exitcode=9", program])
+        if has_threads:
+            checks.run(f"{what}, helgrind", ["valgrind", "-q", "--tool=helgrind", "--error-exitcode=9", program])
+
+
+def check_cpp(checks, link):
+    """C++: tests, and the header without exceptions."""
+    for compiler in ("g++", "clang++"):
+        if not checks.has(compiler, f"C++ by {compiler}"):
+            continue
+        made, test = checks.path(f"test_{compiler}"), os.path.join(CPP, "test.cpp")
+        command = [compiler, "-std=c++17", *STRICT, f"-I{CPP}", test, "-o", made, *link, "-lpthread"]
+        if checks.run(f"C++ by {compiler}", command) and checks.run(f"C++ by {compiler}", [made]):
+            valgrind(checks, f"C++ by {compiler}", made, compiler == "g++")
+        bare = ["-fno-exceptions", "-fno-rtti", "-fsyntax-only", os.path.join(CPP, "example.cpp")]
+        checks.run(f"C++ by {compiler} without exceptions", [compiler, "-std=c++17", *STRICT, f"-I{CPP}", *bare])
+
+
+def check_pkg_config(checks):
+    """An installed header and library, as pkg-config finds them."""
+    prefix = checks.path("prefix")
+    for folder in ("include", "lib/pkgconfig"):
+        os.makedirs(os.path.join(prefix, folder))
+    for path in (os.path.join(C, "vers.h"), os.path.join(CPP, "vers.hpp")):
+        shutil.copy(path, os.path.join(prefix, "include"))
+    shutil.copy(checks.archive, os.path.join(prefix, "lib", "libvers_c.a"))
+    shutil.copy(heap_archive(checks.archive), os.path.join(prefix, "lib", "liblibc_c.a"))
+    with open(os.path.join(prefix, "lib/pkgconfig/vers.pc"), "w", encoding="utf-8") as file:
+        file.write(read(os.path.join(C, "vers.pc.in")).replace("@PREFIX@", prefix).replace("@VERSION@", "0"))
+    if not checks.has("pkg-config", "the examples by pkg-config"):
+        return
+    environment = {**os.environ, "PKG_CONFIG_PATH": os.path.join(prefix, "lib/pkgconfig")}
+    for compiler, source in (("gcc", os.path.join(C, "example.c")), ("g++", os.path.join(CPP, "example.cpp"))):
+        line = f"{compiler} {source} -o {checks.path('example')} $(pkg-config --cflags --libs vers)"
+        if checks.has(compiler, "an example") and checks.run("pkg-config", ["sh", "-c", line], env=environment):
+            checks.run("example by pkg-config", [checks.path("example")])
+
+
+def check_python(checks):
+    """Python: tests, and the installed wheel."""
+    environment = {**os.environ, "VERS_C": checks.archive, "PYTHONPATH": PY, "VERS_LIBRARY": checks.path("libvers.so"),
+                   "PIP_NO_INDEX": "1", "PYTHONDONTWRITEBYTECODE": "1", "TMPDIR": checks.folder}
+    link = f"import build_wheel; build_wheel.link({checks.path('libvers.so')!r})"
+    if not checks.run("shared library", [sys.executable, "-c", link], env=environment):
+        return
+    pythons = {os.path.realpath(it): it for it in [sys.executable, "/usr/bin/python3"] if os.path.exists(it)}
+    modules = {}
+    for python in pythons.values():
+        tried = "import importlib.util as u; print(*(it for it in ('numpy', 'pip') if u.find_spec(it)))"
+        modules[python] = subprocess.check_output([python, "-c", tried], text=True).split()
+        checks.run(f"Python by {python}", [python, os.path.join(PY, "tests", "test_vers.py")], env=environment)
+    for module, what in (("numpy", "numpy arrays"), ("pip", "an installed wheel")):
+        python = next((it for it in modules if module in modules[it]), None)
+        if python is None:
+            checks.left_out.append(f"{what} (no {module})")
+        elif module == "pip":
+            wheel = [python, "-m", "pip", "install", "-q", "--no-cache-dir", "--target", checks.path("site"), PY]
+            test = [python, "-c", "import vers; print(vers.RsVec([1, 0, 1]).rank1(3), vers.__file__)"]
+            if checks.run("wheel", wheel, env=environment):
+                installed = {**environment, "PYTHONPATH": checks.path("site"), "VERS_LIBRARY": ""}
+                checks.run("wheel", test, f"2 {checks.path('site/vers/__init__.py')}\n", env=installed, cwd=checks.folder)
+
+
+def check_rust(checks):
+    """Rust: the tests of the crate."""
+    if os.path.exists(RUST) and checks.has("cargo", "Rust"):
+        environment = {**os.environ, "VERS_C": checks.archive, "CARGO_TARGET_DIR": checks.path("target")}
+        checks.run("Rust", ["cargo", "test", "--offline", "--quiet"], cwd=RUST, env=environment)
+
+
+def check_pages(checks, link):
+    """Runs the programs of the pages, and compares what they print."""
+    for page in sorted(glob.glob(os.path.join(HERE, "*", "README.md"))):
+        for k, (language, program, printed) in enumerate(FENCE.findall(read(page))):
+            suffix = {"c": ".c", "cpp": ".cpp", "python": ".py"}.get(language)
+            if suffix is None:
+                continue
+            source, made = checks.path(f"page{k}{suffix}"), checks.path(f"page{k}")
+            with open(source, "w", encoding="utf-8") as file:
+                file.write(program)
+            command = [sys.executable, source]
+            if suffix != ".py":
+                compiler = {".c": ["gcc", "-std=c99"], ".cpp": ["g++", "-std=c++17"]}[suffix]
+                command = [made]
+                compiling = [*compiler, *STRICT, f"-I{CPP}", source, "-o", made, *link]
+                if not checks.has(compiler[0], page) or not checks.run(page, compiling):
+                    continue
+            environment = {**os.environ, "PYTHONPATH": PY, "VERS_LIBRARY": checks.path("libvers.so")}
+            checks.run(os.path.relpath(page, TOP), command, printed, env=environment)
+
+
+def check_all(checks):
+    """Runs all checks that want the archive."""
+    link = [checks.archive, heap_archive(checks.archive)]
+    check_c(checks, link)
+    check_cpp(checks, link)
+    check_pkg_config(checks)
+    check_python(checks)
+    check_rust(checks)
+    check_pages(checks, link)
+
+
+def main(arguments):
+    """Runs all checks."""
+    archives = [it for it in arguments if it != "--write"] or [os.path.join(TOP, "crates", "vers_c", "out", "libvers_c.a")]
+    checks = Checks(os.path.abspath(archives[0]))
+    try:
+        check_codes(checks, "--write" in arguments)
+        if "--write" in arguments:
+            return 0
+        crate = os.path.join(TOP, "crates", "vers_c")
+        if os.path.exists(checks.archive) or checks.run("the archive", ["rt", "lib"], cwd=crate):
+            check_all(checks)
+    finally:
+        shutil.rmtree(checks.folder)
+    for what in dict.fromkeys(checks.left_out):
+        print(f"left out: {what}")
+    print(f"{checks.passed} passed, {checks.failed} failed")
+    return int(checks.failed > 0)
+
+
+if __name__ == "__main__":
+    sys.exit(main(sys.argv[1:]))

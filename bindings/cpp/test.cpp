@@ -1,0 +1,261 @@
+// Compares the classes of vers.hpp with plain loops. Exits with 0 where all agree.
+#include "vers.hpp"
+
+#include <algorithm>
+#include <cstdio>
+#include <list>
+#include <string>
+#include <thread>
+#include <type_traits>
+
+using Numbers = std::vector<std::uint64_t>;
+using Found = std::optional<std::uint64_t>;
+using vers::Status;
+
+static unsigned long passed, failed;
+
+static void check(const char *what, bool holds) {
+    ++(holds ? passed : failed);
+    if (!holds && failed < 20) std::fprintf(stderr, "%s\n", what);
+}
+
+static std::uint64_t next() {
+    static std::uint64_t seed = 88172645463325252u;
+    seed ^= seed << 13;
+    seed ^= seed >> 7;
+    seed ^= seed << 17;
+    return seed;
+}
+
+static Numbers random_numbers(std::size_t count, std::uint64_t most) {
+    Numbers numbers(count);
+    for (auto &number : numbers) number = next() % most;
+    return numbers;
+}
+
+static Found at(const Numbers &numbers, std::size_t place) {
+    return place < numbers.size() ? Found(numbers[place]) : std::nullopt;
+}
+
+template <class List>
+static void test_owner(List list) {
+    static_assert(!std::is_copy_constructible_v<List> && !std::is_copy_assignable_v<List>);
+    static_assert(std::is_nothrow_move_constructible_v<List> && std::is_nothrow_move_assignable_v<List>);
+    const std::uint64_t length = list.len();
+    List other = list.clone(), moved = std::move(list);
+    check("moved", moved.len() == length);
+    check("moved from", list.len() == 0);
+    moved = std::move(other);
+    check("assigned", moved.len() == length);
+    Status status;
+    check("clone", moved.clone(status)->len() == length && status == Status::done);
+    check("clone of none", !list.clone(status) && status == Status::vacant);
+}
+
+static void test_bits() {
+    const Numbers bits = random_numbers(3000, 2);
+    const vers::RsVec list = vers::RsVec::from_bits(bits.begin(), bits.end());
+    check("items", Numbers(list.begin(), list.end()) == bits);
+    std::uint64_t ones = 0;
+    for (std::size_t i = 0; i < bits.size(); i++) {
+        check("rank1", list.rank1(i) == ones);
+        check("rank0", list.rank0(i) == i - ones);
+        check("select", (bits[i] ? list.select1(ones) : list.select0(i - ones)) == i);
+        ones += bits[i];
+    }
+    check("select1 past", list.select1(ones) == bits.size());
+    check("get past", !list.get(bits.size()));
+    check("get_bits", list.get_bits(5, 3) == Found(bits[5] + 2 * bits[6] + 4 * bits[7]) && !list.get_bits(2999, 2));
+    check("heap_size", list.heap_size() >= bits.size() / 8 && !list.is_empty());
+    Numbers places = {0, 1, 2999, 3000};
+    check("each", list.each(VERS_GET, places.data(), places.size(), 7) == Status::done);
+    check("each item", places == Numbers({bits[0], bits[1], bits[2999], 7}));
+    check("unknown", list.each(VERS_PARENT, places.data(), places.size()) == Status::unknown);
+    test_owner(list.clone());
+}
+
+static void test_bit_vec() {
+    vers::BitVec list;
+    const Numbers bits = {1, 0, 0, 1, 1};
+    for (auto bit : bits) check("append", list.append(bit == 1) == Status::done);
+    check("append_bits", list.append_bits(6, 3) == Status::done);
+    check("append_bits of 65", list.append_bits(0, 65) == Status::refused);
+    check("set", list.set(1, true) == Status::done && list.set(8, true) == Status::refused);
+    check("items", Numbers(list.begin(), list.end()) == Numbers({1, 1, 0, 1, 1, 0, 1, 1}));
+    check("drop_last", list.drop_last(2) == Status::done && list.len() == 6);
+    {
+        vers::BitVec other = list.clone();
+        check("shared", list.append(true) == Status::shared);
+    }
+    check("alone", list.append(true) == Status::done && list.get(6) == Found(1));
+    const bool truths[] = {true, false};
+    check("from_bits", vers::BitVec::from_bits(truths, truths + 2).get(0) == Found(1));
+    test_owner(std::move(list));
+}
+
+static void test_sparse() {
+    Numbers ones;
+    for (std::uint64_t place = 0; place < 3000; place += 1 + next() % 20) ones.push_back(place);
+    const auto list = vers::SparseRSVec::from(ones.begin(), ones.end(), 3000);
+    check("made", list && list->len() == 3000);
+    check("refused", !vers::SparseRSVec::from(ones.data(), ones.size(), ones.back()));
+    std::uint64_t count = 0;
+    for (std::uint64_t place = 0; place < 3000; place++) {
+        const bool is_one = count < ones.size() && ones[count] == place;
+        check("get", list->get(place) == Found(is_one));
+        check("ranks", list->rank1(place) == count && list->rank0(place) == place - count);
+        if (is_one) check("select1", list->select1(count++) == place);
+    }
+    check("past", !list->get(3000) && list->select1(ones.size()) == 3000);
+    test_owner(list->clone());
+}
+
+static void test_sorted() {
+    Numbers numbers = random_numbers(500, 3000);
+    check("refused", !vers::EliasFanoVec::from(numbers.data(), numbers.size()));
+    std::sort(numbers.begin(), numbers.end());
+    const std::list<std::uint32_t> narrow(numbers.begin(), numbers.end());
+    const auto list = vers::EliasFanoVec::from(narrow.begin(), narrow.end());
+    check("items", list && Numbers(list->begin(), list->end()) == numbers);
+    for (std::uint64_t v = 0; v < 3002; v++) {
+        const std::size_t low = std::lower_bound(numbers.begin(), numbers.end(), v) - numbers.begin();
+        const std::size_t high = std::upper_bound(numbers.begin(), numbers.end(), v) - numbers.begin();
+        check("rank", list->rank(v) == low);
+        check("has", list->has(v) == (high > low));
+        check("successor", list->successor(v) == at(numbers, low));
+        check("predecessor", list->predecessor(v) == (high ? at(numbers, high - 1) : std::nullopt));
+    }
+    for (std::size_t i = 0; i <= numbers.size(); i++) {
+        check("get", list->get(i) == at(numbers, i));
+        const Found delta = i == 0 || i == numbers.size() ? at(numbers, i) : numbers[i] - numbers[i - 1];
+        check("delta", list->delta(i) == delta);
+    }
+    Status status;
+    check("status", !vers::EliasFanoVec::from(Numbers({2, 1}).data(), 2, status) && status == Status::refused);
+    check("text", std::string(vers::text(status)) == "the numbers are refused");
+    test_owner(list->clone());
+}
+
+static void test_symbols() {
+    const Numbers symbols = random_numbers(300, 32);
+    const auto list = vers::WaveletMatrix::from(symbols.begin(), symbols.end(), 5);
+    check("items", list && Numbers(list->begin(), list->end()) == symbols);
+    check("bits_per_element", list->bits_per_element() == 5);
+    check("too wide", !vers::WaveletMatrix::from(symbols.data(), symbols.size(), 65));
+    for (int k = 0; k < 500; k++) {
+        std::uint64_t a = next() % 301, b = next() % 301, c = next() % 32, q = next() % 300;
+        if (a > b) std::swap(a, b);
+        Numbers range(symbols.begin() + static_cast<long>(a), symbols.begin() + static_cast<long>(b)), places;
+        std::sort(range.begin(), range.end());
+        for (std::size_t i = 0; i < symbols.size(); i++)
+            if (symbols[i] == c) places.push_back(i);
+        auto before = [&](std::uint64_t end) {
+            return std::lower_bound(places.begin(), places.end(), end) - places.begin();
+        };
+        auto low = std::lower_bound(range.begin(), range.end(), c);
+        auto high = std::upper_bound(range.begin(), range.end(), c);
+        const std::size_t first = static_cast<std::size_t>(before(a));
+        check("rank", list->rank(a, c) == Found(before(a)));
+        check("rank_range", list->rank_range(a, b, c) == (a < 300 ? Found(before(b) - before(a)) : std::nullopt));
+        check("select", list->select(q % 12, c) == at(places, q % 12));
+        check("select_offset", list->select_offset(a, q % 12, c) == at(places, first + q % 12));
+        check("quantile", list->quantile(a, b, q) == at(range, q));
+        check("range_min", list->range_min(a, b) == at(range, 0));
+        check("range_max", list->range_max(a, b) == at(range, range.size() - 1));
+        const Found median = range.empty() ? std::nullopt : at(range, (range.size() - 1) / 2);
+        check("range_median", list->range_median(a, b) == median);
+        check("successor", list->successor(a, b, c) == (low == range.end() ? std::nullopt : Found(*low)));
+        check("predecessor", list->predecessor(a, b, c) == (high == range.begin() ? std::nullopt : Found(high[-1])));
+    }
+    vers::Row rows[] = {{0, 300, 0}, {5, 5, 0}};
+    check("rows", list->rows(VERS_QUANTILE, rows, 2, 99) == Status::done && rows[1].a == 99);
+    check("row", Found(rows[0].a) == list->range_min(0, 300));
+    test_owner(list->clone());
+}
+
+static void test_minima() {
+    const Numbers values = random_numbers(700, 50);
+    const vers::FastRmq fast = vers::FastRmq::from(values.data(), values.size());
+    const vers::BinaryRmq binary = vers::BinaryRmq::from(values.begin(), values.end());
+    check("items", Numbers(fast.begin(), fast.end()) == values && Numbers(binary.begin(), binary.end()) == values);
+    for (int k = 0; k < 500; k++) {
+        const std::uint64_t a = next() % 701, b = next() % 701;
+        Found least;
+        for (std::uint64_t i = a; b < 700 && i <= b; i++)
+            if (!least || values[i] < values[*least]) least = i;
+        check("range_min", fast.range_min(a, b) == least && binary.range_min(a, b) == least);
+    }
+    test_owner(fast.clone());
+    test_owner(binary.clone());
+}
+
+static void test_tree() {
+    const std::string text = "((()())(()))()";
+    Numbers bits;
+    for (char c : text) bits.push_back(c == '(');
+    const vers::BpTree tree = vers::BpTree::from_bits(bits.begin(), bits.end());
+    check("counts", tree.len() == 14 && tree.size() == 7 && tree.is_balanced());
+    check("is_open", tree.is_open(0) == std::optional(true) && tree.is_open(3) == std::optional(false));
+    check("is_open past", !tree.is_open(14));
+    check("parent", tree.parent(4) == Found(1) && !tree.parent(0) && !tree.parent(3));
+    check("children", tree.first_child(0) == Found(1) && tree.last_child(0) == Found(7) && !tree.first_child(2));
+    check("siblings", tree.next_sibling(1) == Found(7) && tree.previous_sibling(7) == Found(1));
+    check("levels", tree.level_next(4) == Found(8) && tree.level_prev(8) == Found(4));
+    check("level ends", tree.level_leftmost(2) == Found(2) && tree.level_rightmost(2) == Found(8));
+    check("ancestor", tree.level_ancestor(8, 2) == Found(0) && !tree.level_ancestor(8, 3));
+    check("measures", tree.depth(8) == Found(2) && tree.subtree_size(0) == Found(6) && tree.node_index(8) == Found(5));
+    check("truths", tree.is_leaf(2) == std::optional(true) && tree.is_ancestor(0, 8) == std::optional(true));
+    check("none", !tree.is_leaf(3) && !tree.is_ancestor(3, 8));
+    check("pairs", tree.close(0) == Found(11) && tree.open(11) == Found(0) && tree.enclose(4) == Found(1));
+    check("searches", tree.fwd_search(0, -1) == Found(11) && tree.bwd_search(11, -1) == Found(0));
+    check("node_handle", tree.node_handle(5) == 8 && tree.node_handle(7) == 14);
+    check("excess", tree.excess(2) == std::optional<std::int64_t>(3) && !tree.excess(14));
+    const std::uint64_t wrong = 2;
+    const vers::BpTree other = vers::BpTree::from_words(&wrong, 1, 2);
+    check("unbalanced", !other.is_balanced() && other.excess(0) == std::optional<std::int64_t>(-1));
+    test_owner(tree.clone());
+}
+
+static void test_postings() {
+    const Numbers documents = {2, 3, 5, 8}, costs = {4, 1, 1, 0}, others = {3, 4, 8, 9};
+    const auto list = vers::Postings::from(documents.data(), costs.data(), 4);
+    const auto other = vers::Postings::from(others.data(), costs.data(), 4);
+    check("made", list && other && list->len() == 4);
+    check("refused", !vers::Postings::from(costs.data(), costs.data(), 4));
+    check("rank", list->rank(5) == 2 && list->contains(5) && !list->contains(4));
+    check("next", list->next_at_least(6) == Found(8) && !list->next_at_least(9));
+    check("cheapest", list->cheapest(2, 6) == Found(3) && !list->cheapest(6, 7));
+    const vers::Numbers both = list->intersect(*other), same = list->intersect(*list);
+    check("intersect", Numbers(both.begin(), both.end()) == Numbers({3, 8}));
+    check("with itself", Numbers(same.begin(), same.end()) == documents && same.get(1) == Found(3));
+    test_owner(list->clone());
+}
+
+static void test_threads() {
+    const Numbers bits = random_numbers(2000, 2);
+    const vers::RsVec list = vers::RsVec::from_bits(bits.begin(), bits.end());
+    std::vector<std::thread> threads;
+    std::vector<char> agrees(4, 0);
+    for (std::size_t k = 0; k < agrees.size(); k++)
+        threads.emplace_back([&bits, &agree = agrees[k], own = list.clone()] {
+            std::uint64_t ones = 0, wrong = 0;
+            for (std::size_t i = 0; i < bits.size(); ones += bits[i++]) wrong += own.rank1(i) != ones;
+            agree = wrong == 0;
+        });
+    for (auto &thread : threads) thread.join();
+    for (char agree : agrees) check("thread", agree == 1);
+}
+
+int main() {
+    test_bits();
+    test_bit_vec();
+    test_sparse();
+    test_sorted();
+    test_symbols();
+    test_minima();
+    test_tree();
+    test_postings();
+    test_threads();
+    std::printf("%lu passed, %lu failed\n", passed, failed);
+    return failed != 0;
+}

@@ -1,0 +1,315 @@
+"""Compares the classes of vers with plain Python. VERS_LIBRARY names the shared library, where it isn't in the package."""
+
+import bisect
+import copy
+import random
+import threading
+import unittest
+from array import array
+
+import vers
+
+try:
+    import numpy
+except ImportError:
+    numpy = None
+
+RANDOM = random.Random(5)
+
+
+def random_bits(count):
+    return [RANDOM.randrange(2) for _ in range(count)]
+
+
+def words_of(bits):
+    return array("Q", [sum(b << k for k, b in enumerate(bits[i:i + 64])) for i in range(0, len(bits), 64)])
+
+
+class Lists(unittest.TestCase):
+    def test_bits(self):
+        for count in (0, 1, 63, 64, 65, 1000):
+            bits = random_bits(count)
+            ones = [i for i, b in enumerate(bits) if b]
+            zeros = [i for i, b in enumerate(bits) if not b]
+            for made in (vers.RsVec(bits), vers.RsVec(tuple(bits)), vers.RsVec.from_words(words_of(bits), count)):
+                self.assertEqual((len(made), list(made)), (count, bits))
+                self.assertEqual([made.rank1(i) for i in range(count + 2)], [sum(bits[:i]) for i in range(count + 2)])
+                self.assertEqual([made.select1(k) for k in range(len(ones) + 1)], [*ones, count])
+                self.assertEqual([made.select0(k) for k in range(len(zeros) + 1)], [*zeros, count])
+                self.assertEqual(made.rank0(count), len(zeros))
+                self.assertEqual(made.get_bits(0, 3), bits[0] + 2 * bits[1] + 4 * bits[2] if count > 2 else None)
+                self.assertGreaterEqual(made.heap_size(), count // 8)
+
+    def test_places(self):
+        bits = random_bits(100)
+        made = vers.RsVec(bits)
+        self.assertEqual((made[0], made[-1], made[-100]), (bits[0], bits[-1], bits[0]))
+        for part in (slice(None), slice(10, 20), slice(-5, None), slice(None, None, -3), slice(50, 10)):
+            self.assertEqual(made[part].tolist(), bits[part])
+        for place in (100, -101, 1 << 64):
+            with self.assertRaises(IndexError):
+                made[place]
+        self.assertIsNone(made.get(100))
+        self.assertEqual(1 in made, True)
+        with self.assertRaises(OverflowError):
+            made.rank1(-1)
+        with self.assertRaises(OverflowError):
+            made.rank1(1 << 64)
+        with self.assertRaises(TypeError):
+            made.rank1(1.5)
+
+    def test_bit_vec(self):
+        made, plain = vers.BitVec(), []
+        for k in range(200):
+            made.append(k % 3 == 0)
+            plain.append(int(k % 3 == 0))
+        made.append_bits(5, 3)
+        made.extend([1, 1, 0] * 30)
+        made[1] = True
+        made[-2] = 0
+        made.drop_last(1)
+        plain += [1, 0, 1] + [1, 1, 0] * 30
+        plain[1], plain[-2] = 1, 0
+        plain.pop()
+        self.assertEqual(list(made), plain)
+        self.assertEqual(list(vers.BitVec.from_words([5], 3)), [1, 0, 1])
+        with self.assertRaises(vers.Refused):
+            made.append_bits(0, 65)
+        with self.assertRaises(IndexError):
+            made[len(made)] = True
+        other = copy.copy(made)
+        other.append(1)
+        self.assertEqual((list(made), list(other)), (plain, plain + [1]))
+
+    def test_sparse(self):
+        for count in (0, 1, 100):
+            ones = sorted(RANDOM.sample(range(2000), count))
+            bits = [int(i in ones) for i in range(2000)]
+            made = vers.SparseRSVec(ones, 2000)
+            self.assertEqual(list(made), bits)
+            self.assertEqual([made.select1(k) for k in range(count + 1)], [*ones, 2000])
+            self.assertEqual([made.rank1(i) for i in range(0, 2001, 7)], [sum(bits[:i]) for i in range(0, 2001, 7)])
+            self.assertEqual(made.rank0(2000), 2000 - count)
+        for ones, length in (([3, 3], 10), ([2, 10], 10)):
+            with self.assertRaises(vers.Refused):
+                vers.SparseRSVec(ones, length)
+
+    def test_sorted(self):
+        for most, count in ((1 << 40, 500), (300, 500), (1, 0)):
+            numbers = sorted(RANDOM.randrange(most) for _ in range(count))
+            made = vers.EliasFanoVec(numbers)
+            self.assertEqual(list(made), numbers)
+            for v in [RANDOM.randrange(most) for _ in range(300)] + numbers[:100]:
+                low, high = bisect.bisect_left(numbers, v), bisect.bisect_right(numbers, v)
+                self.assertEqual(made.rank(v), low)
+                self.assertEqual(made.successor(v), numbers[low] if low < count else None)
+                self.assertEqual(made.predecessor(v), numbers[high - 1] if high else None)
+                self.assertEqual(v in made, v in numbers)
+            self.assertEqual([made.delta(i) for i in range(count)], [b - a for a, b in zip([0, *numbers], numbers)])
+        self.assertFalse(-1 in made or "text" in made)
+        with self.assertRaises(vers.Refused) as caught:
+            vers.EliasFanoVec([2, 1])
+        self.assertIsInstance(caught.exception, ValueError)
+        self.assertIsInstance(caught.exception, vers.VersError)
+
+    def test_symbols(self):
+        symbols = [RANDOM.randrange(16) for _ in range(300)]
+        made = vers.WaveletMatrix(symbols, 4)
+        self.assertEqual((list(made), made.bits_per_element()), (symbols, 4))
+        for _ in range(300):
+            a, b = sorted(RANDOM.randrange(301) for _ in range(2))
+            c, k = RANDOM.randrange(16), RANDOM.randrange(40)
+            part = sorted(symbols[a:b])
+            places = [i for i, s in enumerate(symbols) if s == c]
+            late = [i for i in places if i >= a]
+            self.assertEqual(made.rank(a, c), symbols[:a].count(c))
+            self.assertEqual(made.rank_range(a, b, c), part.count(c) if a < 300 else None)
+            self.assertEqual(made.select(k, c), places[k] if k < len(places) else None)
+            self.assertEqual(made.select_offset(a, k, c), late[k] if k < len(late) else None)
+            self.assertEqual(made.quantile(a, b, k), part[k] if k < len(part) else None)
+            self.assertEqual(made.range_min(a, b), min(part, default=None))
+            self.assertEqual(made.range_max(a, b), max(part, default=None))
+            self.assertEqual(made.range_median(a, b), part[(len(part) - 1) // 2] if part else None)
+            self.assertEqual(made.predecessor(a, b, c), max((n for n in part if n <= c), default=None))
+            self.assertEqual(made.successor(a, b, c), min((n for n in part if n >= c), default=None))
+        for width in (65, 1 << 40):
+            with self.assertRaises(vers.Refused):
+                vers.WaveletMatrix(symbols, width)
+
+    def test_minima(self):
+        values = [RANDOM.randrange(40) for _ in range(300)]
+        for kind in (vers.FastRmq, vers.BinaryRmq):
+            made = kind(values)
+            self.assertEqual(list(made), values)
+            for _ in range(200):
+                a, b = sorted(RANDOM.randrange(300) for _ in range(2))
+                self.assertEqual(made.range_min(a, b), min(range(a, b + 1), key=lambda place: values[place]))
+            self.assertIsNone(made.range_min(3, 300))
+            self.assertIsNone(made.range_min(3, 2))
+
+    def test_tree(self):
+        made = vers.BpTree("((()())(()))()")
+        self.assertTrue(made.is_balanced())
+        self.assertEqual((len(made), made.size()), (14, 7))
+        self.assertEqual((made.is_open(0), made.is_open(13), made.is_open(14)), (True, False, None))
+        self.assertEqual([made.parent(n) for n in (0, 1, 2, 4, 7, 8, 12)], [None, 0, 1, 1, 0, 7, None])
+        self.assertEqual([made.subtree_size(n) for n in (0, 1, 12)], [6, 3, 1])
+        self.assertEqual([made.excess(i) for i in range(5)], [1, 2, 3, 2, 3])
+        self.assertEqual(list(made.children(0)), [1, 7])
+        self.assertEqual((made.last_child(0), made.previous_sibling(7), made.first_child(2)), (7, 1, None))
+        self.assertEqual((made.close(0), made.open(11), made.enclose(4)), (11, 0, 1))
+        self.assertEqual((made.fwd_search(0, -1), made.bwd_search(11, -1)), (11, 0))
+        self.assertEqual((made.depth(8), made.node_index(8), made.node_handle(5)), (2, 5, 8))
+        self.assertEqual((made.level_next(4), made.level_prev(8), made.level_ancestor(8, 2)), (8, 4, 0))
+        self.assertEqual((made.level_leftmost(2), made.level_rightmost(2), made.level_leftmost(3)), (2, 8, None))
+        self.assertEqual((made.is_leaf(2), made.is_leaf(1), made.is_ancestor(0, 8)), (True, False, True))
+        with self.assertRaises(vers.Refused):
+            made.parent(3)
+        other = vers.BpTree([0, 1])
+        self.assertEqual((other.excess(0), other.is_balanced()), (-1, False))
+        self.assertEqual(len(vers.BpTree.from_words([1], 2)), 2)
+        with self.assertRaises(ValueError):
+            vers.BpTree("(x)")
+
+    def test_postings(self):
+        documents = sorted(RANDOM.sample(range(1000), 300))
+        costs = [RANDOM.randrange(40) for _ in range(300)]
+        made = vers.Postings(documents, costs)
+        for _ in range(200):
+            a, b = sorted(RANDOM.randrange(1000) for _ in range(2))
+            inside = [k for k, d in enumerate(documents) if a <= d <= b]
+            best = min(inside, key=lambda k: costs[k], default=None)
+            low = bisect.bisect_left(documents, a)
+            self.assertEqual(made.cheapest(a, b), None if best is None else documents[best])
+            self.assertEqual((a in made, made.rank(a)), (a in documents, low))
+            self.assertEqual(made.next_at_least(a), documents[low] if low < 300 else None)
+        others = sorted(RANDOM.sample(range(1000), 300))
+        other = vers.Postings(others, others)
+        self.assertEqual(list(made.intersect(other)), sorted(set(documents) & set(others)))
+        self.assertEqual(list(made.intersect(made)), documents)
+        with self.assertRaises(vers.Refused):
+            vers.Postings([1, 1], [0, 0])
+        with self.assertRaises(vers.Refused):
+            vers.Postings([1, 2], [0])
+
+
+class Batches(unittest.TestCase):
+    def test_kinds_of_buffers(self):
+        bits = random_bits(1000)
+        made, wanted = vers.RsVec(bits), [sum(bits[:i]) for i in range(200)]
+        places = range(200)
+        kinds = [list(places), tuple(places), places, bytes(places), memoryview(array("I", places)), array("q", places)]
+        for numbers in [*kinds, array("Q", places), memoryview(array("Q", places))[::1]]:
+            got = made.each("rank1", numbers)
+            self.assertEqual((got.typecode, got.tolist()), ("Q", wanted))
+        self.assertEqual(made.each("rank1", memoryview(array("Q", places))[::2]).tolist(), wanted[::2])
+        self.assertEqual(made.each("rank1", []).tolist(), [])
+
+    def test_left_as_it_was(self):
+        made, places = vers.RsVec([1, 0, 1]), array("Q", [0, 1, 2])
+        self.assertEqual(made.each("select1", places).tolist(), [0, 2, 3])
+        self.assertEqual(places.tolist(), [0, 1, 2])
+
+    def test_no_answer(self):
+        made = vers.EliasFanoVec([3, 5])
+        self.assertEqual(made.each("predecessor", [2, 4], other=7).tolist(), [7, 3])
+        self.assertEqual(made.each("get", [2]).tolist(), [vers.NONE])
+
+    def test_rows(self):
+        symbols = [RANDOM.randrange(16) for _ in range(300)]
+        made = vers.WaveletMatrix(symbols, 4)
+        ends = list(range(300))
+        self.assertEqual(made.each("rank", ends, 3).tolist(), [made.rank(end, 3) for end in ends])
+        self.assertEqual(made.each("rank", ends, symbols).tolist(), [made.rank(end, s) for end, s in zip(ends, symbols)])
+        self.assertEqual(made.each("quantile", 0, 300, ends).tolist(), sorted(symbols))
+        self.assertEqual(made.each("rank", 300, range(16)).tolist(), [symbols.count(s) for s in range(16)])
+        with self.assertRaises(ValueError):
+            made.each("rank", [1, 2], [3])
+
+    def test_tree(self):
+        made = vers.BpTree([0, 1, 1])
+        answers = made.each("excess", [0, 1, 2])
+        self.assertEqual((answers.typecode, answers.tolist()), ("q", [-1, 0, 1]))
+
+    def test_faults(self):
+        made = vers.RsVec([1])
+        with self.assertRaises(vers.Unknown):
+            made.each("quantile", [1])
+        with self.assertRaises(TypeError):
+            made.each("rank1", 1)
+        with self.assertRaises(TypeError):
+            made.each("rank1", [1], 2)
+        with self.assertRaises(OverflowError):
+            made.each("rank1", [-1])
+        with self.assertRaises(TypeError):
+            made.each("rank1", ["text"])
+
+    @unittest.skipIf(numpy is None, "numpy isn't there")
+    def test_numpy(self):
+        bits = numpy.array(random_bits(1000))
+        sums = numpy.concatenate([[0], numpy.cumsum(bits)]).astype(numpy.uint64)
+        words = numpy.array(words_of(bits.tolist()))
+        for made in (vers.RsVec(bits), vers.RsVec(bits.astype(bool)), vers.RsVec.from_words(words, 1000)):
+            got = made.each("rank1", numpy.arange(1001))
+            self.assertEqual(got.dtype, numpy.uint64)
+            self.assertTrue((got == sums).all())
+        self.assertEqual((made.rank1(numpy.int64(1000)), made[numpy.uint8(3)]), (sums[1000], bits[3]))
+        self.assertIn(numpy.int32(5), vers.EliasFanoVec([5]))
+        places = numpy.arange(1000, dtype=numpy.uint16).reshape(10, 100)
+        self.assertTrue((made.each("get", places) == bits.reshape(10, 100)).all())
+        self.assertTrue((made.each("get", places[:, ::7]) == bits.reshape(10, 100)[:, ::7]).all())
+        symbols = numpy.array([3, 1, 3, 2])
+        matrix = vers.WaveletMatrix(symbols, 2)
+        self.assertEqual(matrix.each("rank", 4, numpy.arange(4)).tolist(), [0, 1, 1, 2])
+        self.assertEqual(matrix.each("quantile", numpy.array([0, 1]), 4, numpy.array([0, 2])).tolist(), [1, 3])
+        self.assertEqual(vers.BpTree("()").each("excess", numpy.array([0, 1])).tolist(), [1, 0])
+        self.assertEqual(made.each("get", numpy.array([], dtype=numpy.uint64)).shape, (0,))
+        with self.assertRaises(OverflowError):
+            made.each("get", numpy.array([-1]))
+        with self.assertRaises(TypeError):
+            made.each("get", numpy.array([1.5]))
+
+
+class Owners(unittest.TestCase):
+    def test_copies(self):
+        lists = [
+            vers.RsVec([1, 0]), vers.SparseRSVec([1], 2), vers.EliasFanoVec([1]), vers.WaveletMatrix([1], 1),
+            vers.FastRmq([4]), vers.BinaryRmq([4]), vers.BpTree("()"), vers.Postings([1], [2]), vers.BitVec([1]),
+        ]
+        for made in lists:
+            for other in (copy.copy(made), copy.deepcopy(made)):
+                self.assertEqual((type(other), len(other)), (type(made), len(made)))
+            length = len(made)
+            del made
+            self.assertEqual(len(other), length)
+
+    def test_texts(self):
+        self.assertEqual(repr(vers.RsVec([1, 0])), "<vers.RsVec of 2 bits>")
+        self.assertEqual(repr(vers.BpTree("()")), "<vers.BpTree of 2 parentheses>")
+        with self.assertRaises(TypeError):
+            vers.PlainNumbers()
+
+    def test_threads(self):
+        made, faults = vers.RsVec.from_words([0x5555555555555555] * 1000), []
+        growing = vers.BitVec([1] * 100)
+
+        def read():
+            for _ in range(5):
+                got = made.each("rank1", range(64001))
+                if got != array("Q", [(i + 1) // 2 for i in range(64001)]) or made.rank1(10) != 5:
+                    faults.append("rank1")
+                if growing.each("get", range(100)).tolist() != [1] * 100:
+                    faults.append("get")
+
+        threads = [threading.Thread(target=read) for _ in range(4)]
+        for thread in threads:
+            thread.start()
+        for thread in threads:
+            thread.join()
+        self.assertEqual(faults, [])
+        growing.append(1)
+        self.assertEqual(len(growing), 101)
+
+
+if __name__ == "__main__":
+    unittest.main()

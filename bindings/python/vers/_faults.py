@@ -1,0 +1,39 @@
+"""The faults that calls of the library answer, as exceptions with their names."""
+
+
+class VersError(Exception):
+    """A fault of the library. Each one is also of a kind that Python has."""
+
+
+class Unknown(VersError, TypeError):
+    """The list has no such query or change."""
+
+
+class Vacant(VersError, ValueError):
+    """The object holds no list: its maker has failed."""
+
+
+class Refused(VersError, ValueError):
+    """The numbers that were passed are refused."""
+
+
+class Occupied(VersError, ValueError):
+    """The object holds a list already."""
+
+
+class NoMemory(VersError, MemoryError):
+    """There is no memory, or the list would be too long."""
+
+
+class Shared(VersError, ValueError):
+    """The list is being read by another thread, so it can't change."""
+
+
+# by the library's statuses from 2 on
+FAULTS = (Unknown, Vacant, Refused, Occupied, NoMemory, Shared)
+
+
+def fault(status: int) -> VersError:
+    """The exception of a status that is neither done nor absent."""
+    kind = FAULTS[status - 2]
+    return kind(kind.__doc__)

@@ -1,0 +1,61 @@
+"""The calls of the library vers_c, by ctypes.
+
+Single calls hold Python's lock, so that no two threads are inside one handle. Calls of many queries let go of it,
+and ask through a handle of their own.
+"""
+
+import ctypes
+import os
+
+from ._faults import fault
+
+_U32, _U64, _SIZE, _POINTER = ctypes.c_uint32, ctypes.c_uint64, ctypes.c_size_t, ctypes.c_void_p
+
+
+class Handle(ctypes.Structure):
+    """What holds a list: all zeros for nothing."""
+
+    _fields_ = [("is_built", ctypes.c_bool), ("at", ctypes.c_void_p)]
+
+
+class Answer(ctypes.Structure):
+    """A status, and a number where it is 0."""
+
+    _fields_ = [("status", _U32), ("value", _U64)]
+
+
+PATH = os.environ.get("VERS_LIBRARY") or os.path.join(os.path.dirname(os.path.abspath(__file__)), "libvers.so")
+_locked = ctypes.PyDLL(PATH)
+_unlocked = ctypes.CDLL(PATH)
+_AT = ctypes.POINTER(Handle)
+
+
+def _call(library, name, result, *arguments):
+    function = getattr(library, name)
+    function.restype, function.argtypes = result, arguments
+    return function
+
+
+ask = _call(_locked, "vers_ask", Answer, _AT, _U32, _U64, _U64, _U64)
+ask_each = _call(_unlocked, "vers_ask_each", _U32, _AT, _U32, _POINTER, _SIZE, _U64, _U64, _U64)
+ask_rows = _call(_unlocked, "vers_ask_rows", _U32, _AT, _U32, _POINTER, _SIZE, _U64)
+change = _call(_locked, "vers_change", _U32, _AT, _U32, _U64, _U64)
+clone = _call(_locked, "vers_clone", _U32, _AT, _AT)
+intersect = _call(_locked, "vers_intersect", _U32, _AT, _AT, _AT)
+free = _call(_locked, "vers_free", None, _AT)
+
+growing_build = _call(_unlocked, "vers_growing_build", _U32, _POINTER, _SIZE, _SIZE, _AT)
+bits_build = _call(_unlocked, "vers_bits_build", _U32, _POINTER, _SIZE, _SIZE, _AT)
+tree_build = _call(_unlocked, "vers_tree_build", _U32, _POINTER, _SIZE, _SIZE, _AT)
+sparse_build = _call(_unlocked, "vers_sparse_build", _U32, _POINTER, _SIZE, _U64, _AT)
+sorted_build = _call(_unlocked, "vers_sorted_build", _U32, _POINTER, _SIZE, _AT)
+symbols_build = _call(_unlocked, "vers_symbols_build", _U32, _POINTER, _SIZE, _U32, _AT)
+fast_rmq_build = _call(_unlocked, "vers_fast_rmq_build", _U32, _POINTER, _SIZE, _AT)
+binary_rmq_build = _call(_unlocked, "vers_binary_rmq_build", _U32, _POINTER, _SIZE, _AT)
+postings_build = _call(_unlocked, "vers_postings_build", _U32, _POINTER, _SIZE, _POINTER, _SIZE, _AT)
+
+
+def done(status):
+    """Raises the fault of a status that isn't done."""
+    if status:
+        raise fault(status)
