@@ -243,6 +243,17 @@ def check_pages(checks, link):
             checks.run(os.path.relpath(page, TOP), command, printed, env=environment)
 
 
+def has_archive(checks):
+    """Whether the archive is there, or was built."""
+    crate = os.path.join(TOP, "crates", "vers_c")
+    if os.path.exists(checks.archive):
+        return True
+    if not os.path.exists(crate):
+        checks.left_out.append("all else (no archive, and no crates/vers_c)")
+        return False
+    return checks.has("rt", "all else, without an archive") and checks.run("the archive", ["rt", "lib"], cwd=crate)
+
+
 def check_all(checks):
     """Runs all checks that want the archive."""
     link = [checks.archive, heap_archive(checks.archive)]
@@ -262,8 +273,7 @@ def main(arguments):
         check_codes(checks, "--write" in arguments)
         if "--write" in arguments:
             return 0
-        crate = os.path.join(TOP, "crates", "vers_c")
-        if os.path.exists(checks.archive) or checks.run("the archive", ["rt", "lib"], cwd=crate):
+        if has_archive(checks):
             check_all(checks)
     finally:
         shutil.rmtree(checks.folder)

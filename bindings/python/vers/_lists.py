@@ -13,6 +13,7 @@ from ._faults import Unknown, fault
 
 #: What `each` writes where there is no answer, unless another number is named: 2**64 - 1.
 NONE = _buffers.MOST
+_NO_OTHERS = 0, 0
 
 
 class List:
@@ -35,16 +36,19 @@ class List:
         if hasattr(self, "_at"):
             free(self._at)
 
-    def _find(self, code: int, a: int = 0, b: int = 0, c: int = 0) -> Optional[int]:
-        answer = library.ask(self._at, code, number(a), number(b), number(c))
-        if answer.status == codes.DONE:
+    def _find(self, code: int, first: int = 0, *others: int) -> Optional[int]:
+        b, c = [*map(number, others), 0][:2] if others else _NO_OTHERS
+        answer = library.ask(self._at, code, number(first), b, c)
+        status = answer.status
+        if status == codes.DONE:
             return answer.value
-        if answer.status == codes.ABSENT:
+        if status == codes.ABSENT:
             return None
-        raise fault(answer.status)
+        raise fault(status)
 
-    def _number(self, code: int, a: int = 0, b: int = 0, c: int = 0) -> int:
-        answer = library.ask(self._at, code, number(a), number(b), number(c))
+    def _number(self, code: int, first: int = 0, *others: int) -> int:
+        b, c = [*map(number, others), 0][:2] if others else _NO_OTHERS
+        answer = library.ask(self._at, code, number(first), b, c)
         if answer.status == codes.DONE:
             return answer.value
         raise fault(answer.status)
