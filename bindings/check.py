@@ -200,13 +200,16 @@ def check_python(checks):
     pythons = {os.path.realpath(it): it for it in [sys.executable, "/usr/bin/python3"] if os.path.exists(it)}
     modules = {}
     for python in pythons.values():
-        tried = "import importlib.util as u; print(*(it for it in ('numpy', 'pip') if u.find_spec(it)))"
+        tried = "import importlib.util as u; print(*(it for it in ('numpy', 'mypy', 'pip') if u.find_spec(it)))"
         modules[python] = subprocess.check_output([python, "-c", tried], text=True).split()
         checks.run(f"Python by {python}", [python, os.path.join(PY, "tests", "test_vers.py")], env=environment)
-    for module, what in (("numpy", "numpy arrays"), ("pip", "an installed wheel")):
+    for module, what in (("numpy", "numpy arrays"), ("mypy", "types"), ("pip", "an installed wheel")):
         python = next((it for it in modules if module in modules[it]), None)
         if python is None:
             checks.left_out.append(f"{what} (no {module})")
+        elif module == "mypy":
+            types = ["--strict", "--cache-dir", checks.path("mypy"), os.path.join(PY, "vers")]
+            checks.run("types", [python, "-m", "mypy", *types], env={**environment, "PYTHONPATH": ""})
         elif module == "pip":
             wheel = [python, "-m", "pip", "install", "-q", "--no-cache-dir", "--target", checks.path("site"), PY]
             test = [python, "-c", "import vers; print(vers.RsVec([1, 0, 1]).rank1(3), vers.__file__)"]

@@ -5,10 +5,10 @@ import operator
 import sys
 from array import array
 from numbers import Integral
-from typing import Any, Iterable, NamedTuple, Tuple, Union
+from typing import Any, Iterable, NamedTuple, Tuple
 
 #: Anything that holds whole numbers: a list, an array, a numpy array, another object with a buffer.
-Numbers = Union[Iterable[int], Any]
+Numbers = Iterable[int]
 
 MOST = (1 << 64) - 1
 _NOWHERE = ctypes.c_uint64(0)
@@ -19,15 +19,15 @@ class Held(NamedTuple):
     """Numbers in memory: where they are, how many, and the object that keeps them there."""
 
     address: int
-    count: int
+    size: int
     keeper: Any
 
 
-def number(value: int) -> int:
+def number(value: Any) -> int:
     """A number that fits into 64 bits."""
-    value = operator.index(value)
-    if 0 <= value <= MOST:
-        return value
+    whole: int = operator.index(value)
+    if 0 <= whole <= MOST:
+        return whole
     raise OverflowError("a number is from 0 to 2**64 - 1")
 
 
@@ -37,7 +37,7 @@ def _numpy_of(numbers: Any) -> Any:
     return numpy if numpy is not None and isinstance(numbers, numpy.ndarray) else None
 
 
-def copied(numbers: Numbers) -> Any:
+def copied(numbers: Any) -> Any:
     """The numbers in an array of their own: a numpy array of the same shape for one, else an array('Q')."""
     numpy = _numpy_of(numbers)
     if numpy is not None:
@@ -55,7 +55,7 @@ def copied(numbers: Numbers) -> Any:
     return array("Q", view.tolist())
 
 
-def _array(kind: str, content: bytes) -> array:
+def _array(kind: str, content: bytes) -> Any:
     made = array(kind)
     made.frombytes(content)
     return made
@@ -64,15 +64,15 @@ def _array(kind: str, content: bytes) -> array:
 def address_of(made: Any) -> int:
     """Where the numbers of an array of `copied` are, and somewhere for those of an empty one."""
     at = made.ctypes.data if _numpy_of(made) is not None else made.buffer_info()[0]
-    return at or ctypes.addressof(_NOWHERE)
+    return int(at) or ctypes.addressof(_NOWHERE)
 
 
 def size_of(made: Any) -> int:
     """How many numbers an array of `copied` has."""
-    return made.size if _numpy_of(made) is not None else len(made)
+    return int(made.size) if _numpy_of(made) is not None else len(made)
 
 
-def held(numbers: Numbers) -> Held:
+def held(numbers: Any) -> Held:
     """The numbers where they are, if they are of 64 bits without gaps and may be written, else copied."""
     numpy = _numpy_of(numbers)
     if numpy is not None and numbers.dtype == numpy.uint64 and numbers.flags.c_contiguous:
@@ -84,7 +84,7 @@ def held(numbers: Numbers) -> Held:
     return Held(address_of(made), size_of(made), made)
 
 
-def words_of(bits: Iterable[Any]) -> Tuple[array, int]:
+def words_of(bits: Any) -> Tuple[Any, int]:
     """Truth values as words of 64 bits, the first as the lowest bit, and their number."""
     numpy = _numpy_of(bits)
     if numpy is not None:
@@ -117,7 +117,7 @@ def rows_of(columns: Tuple[Any, ...]) -> Tuple[Any, Any]:
     return rows, shape
 
 
-def shaped(answers: array, shape: Any) -> Any:
+def shaped(answers: Any, shape: Any) -> Any:
     """Answers as the array that they are of."""
     numpy = _numpy_of(shape)
     return answers if numpy is None else numpy.frombuffer(answers, dtype=numpy.uint64).reshape(shape.shape)

@@ -6,6 +6,7 @@ and ask through a handle of their own.
 
 import ctypes
 import os
+from typing import Any
 
 from ._faults import fault
 
@@ -30,7 +31,7 @@ _unlocked = ctypes.CDLL(PATH)
 _AT = ctypes.POINTER(Handle)
 
 
-def _call(library, name, result, *arguments):
+def _call(library: Any, name: str, result: Any, *arguments: Any) -> Any:
     function = getattr(library, name)
     function.restype, function.argtypes = result, arguments
     return function
@@ -55,7 +56,7 @@ binary_rmq_build = _call(_unlocked, "vers_binary_rmq_build", _U32, _POINTER, _SI
 postings_build = _call(_unlocked, "vers_postings_build", _U32, _POINTER, _SIZE, _POINTER, _SIZE, _AT)
 
 
-def done(status):
+def done(status: int) -> None:
     """Raises the fault of a status that isn't done."""
     if status:
         raise fault(status)

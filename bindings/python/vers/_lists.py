@@ -41,7 +41,8 @@ class List:
         answer = library.ask(self._at, code, number(first), b, c)
         status = answer.status
         if status == codes.DONE:
-            return answer.value
+            value: int = answer.value
+            return value
         if status == codes.ABSENT:
             return None
         raise fault(status)
@@ -50,7 +51,8 @@ class List:
         b, c = [*map(number, others), 0][:2] if others else _NO_OTHERS
         answer = library.ask(self._at, code, number(first), b, c)
         if answer.status == codes.DONE:
-            return answer.value
+            value: int = answer.value
+            return value
         raise fault(answer.status)
 
     def __len__(self) -> int:
@@ -147,7 +149,7 @@ class _Fixed(_Items):
 
 def _words(numbers: Numbers, length: Optional[int]) -> Tuple[_buffers.Held, int]:
     held = _buffers.held(numbers)
-    return held, 64 * held.count if length is None else number(length)
+    return held, 64 * held.size if length is None else number(length)
 
 
 class BitVec(_Items):
@@ -165,7 +167,7 @@ class BitVec(_Items):
         """The first `length` bits of words of 64 bits, or all of them. The lowest bit of a word comes first."""
         made = cls.__new__(cls)
         held, length = _words(words, length)
-        made._make(library.growing_build, held.address, held.count, length)
+        made._make(library.growing_build, held.address, held.size, length)
         return made
 
     def get_bits(self, place: int, count: int) -> Optional[int]:
@@ -225,7 +227,7 @@ class RsVec(_Fixed):
         """The first `length` bits of words of 64 bits, or all of them. The lowest bit of a word comes first."""
         made = cls.__new__(cls)
         held, length = _words(words, length)
-        made._make(library.bits_build, held.address, held.count, length)
+        made._make(library.bits_build, held.address, held.size, length)
         return made
 
     def get_bits(self, place: int, count: int) -> Optional[int]:
@@ -261,7 +263,7 @@ class SparseRSVec(_Fixed):
 
     def __init__(self, ones: Numbers, length: int) -> None:
         held = _buffers.held(ones)
-        self._make(library.sparse_build, held.address, held.count, number(length))
+        self._make(library.sparse_build, held.address, held.size, number(length))
 
     def rank1(self, place: int) -> int:
         """How many ones stand before a place; all of them past the end."""
@@ -287,7 +289,7 @@ class EliasFanoVec(_Fixed):
 
     def __init__(self, numbers: Numbers) -> None:
         held = _buffers.held(numbers)
-        self._make(library.sorted_build, held.address, held.count)
+        self._make(library.sorted_build, held.address, held.size)
 
     def rank(self, number: int) -> int:
         """How many members are below a number."""
@@ -298,7 +300,7 @@ class EliasFanoVec(_Fixed):
         return self._number(codes.HAS, number) == 1
 
     def __contains__(self, item: Any) -> bool:
-        return isinstance(item, Integral) and 0 <= item <= NONE and self.has(item)
+        return isinstance(item, Integral) and 0 <= int(item) <= NONE and self.has(int(item))
 
     def predecessor(self, number: int) -> Optional[int]:
         """The greatest member not above a number. None where there is none."""
@@ -328,7 +330,7 @@ class WaveletMatrix(_Fixed):
     def __init__(self, symbols: Numbers, bits_per_symbol: int) -> None:
         held = _buffers.held(symbols)
         width = min(number(bits_per_symbol), (1 << 32) - 1)
-        self._make(library.symbols_build, held.address, held.count, width)
+        self._make(library.symbols_build, held.address, held.size, width)
 
     def bits_per_element(self) -> int:
         """How many bits a symbol has."""
@@ -384,7 +386,7 @@ class FastRmq(_Fixed):
 
     def __init__(self, values: Numbers) -> None:
         held = _buffers.held(values)
-        self._make(self._build, held.address, held.count)
+        self._make(self._build, held.address, held.size)
 
     def range_min(self, first: int, last: int) -> Optional[int]:
         """The first place of a least value from one place to another, both included. None where that is no range of the list."""
@@ -434,7 +436,7 @@ class BpTree(List):
         """The first `length` bits of words of 64 bits, or all of them. The lowest bit of a word comes first."""
         made = cls.__new__(cls)
         held, length = _words(words, length)
-        made._make(library.tree_build, held.address, held.count, length)
+        made._make(library.tree_build, held.address, held.size, length)
         return made
 
     def __copy__(self) -> BpTree:
@@ -573,7 +575,7 @@ class Postings(List):
 
     def __init__(self, documents: Numbers, costs: Numbers) -> None:
         held, costs_held = _buffers.held(documents), _buffers.held(costs)
-        self._make(library.postings_build, held.address, held.count, costs_held.address, costs_held.count)
+        self._make(library.postings_build, held.address, held.size, costs_held.address, costs_held.size)
 
     def __copy__(self) -> Postings:
         made = Postings.__new__(Postings)
@@ -592,7 +594,7 @@ class Postings(List):
         return self._number(codes.HAS, document) == 1
 
     def __contains__(self, item: Any) -> bool:
-        return isinstance(item, Integral) and 0 <= item <= NONE and self.contains(item)
+        return isinstance(item, Integral) and 0 <= int(item) <= NONE and self.contains(int(item))
 
     def next_at_least(self, number: int) -> Optional[int]:
         """The first document not below a number. None where there is none."""
