@@ -498,6 +498,92 @@ static void test_intersect(size_t n) {
     free(two);
 }
 
+/* What each type has: another handle answers alike, also many queries at once, when the first one is freed. */
+#define TEST_TYPE(type, query, ...)                                                        \
+    do {                                                                                   \
+        vers_##type list = {0}, other = {0};                                               \
+        uint64_t asked[] = {0, 3, 9}, each[] = {0, 3, 9};                                  \
+        is(#type " of", vers_##type##_of(&list, __VA_ARGS__), VERS_DONE);                  \
+        is(#type " clone", vers_##type##_clone(&list, &other), VERS_DONE);                 \
+        found(#type " len", 0, vers_##type##_len(&other), vers_##type##_len(&list).value); \
+        vers_##type##_free(&list);                                                         \
+        is(#type " each", vers_##type##_each(&other, query, each, 3, 77), VERS_DONE);      \
+        for (size_t i = 0; i < 3; i++) {                                                   \
+            vers_answer one = vers_ask(&other.handle, query, asked[i], 0, 0);              \
+            is(#type " answer", each[i], vers_value_or(one, 77));                          \
+        }                                                                                  \
+        vers_##type##_free(&other);                                                        \
+    } while (0)
+
+/* The same for queries of two numbers. */
+#define TEST_ROWS(type, query, ...)                                                        \
+    do {                                                                                   \
+        vers_##type list = {0};                                                            \
+        vers_row asked[] = {{0, 2, 0}, {1, 1, 0}, {3, 90, 0}}, rows[3];                    \
+        memcpy(rows, asked, sizeof rows);                                                  \
+        is(#type " of", vers_##type##_of(&list, __VA_ARGS__), VERS_DONE);                  \
+        is(#type " rows", vers_##type##_rows(&list, query, rows, 3, 77), VERS_DONE);       \
+        for (size_t i = 0; i < 3; i++) {                                                   \
+            vers_answer one = vers_ask(&list.handle, query, asked[i].a, asked[i].b, 0);    \
+            is(#type " answer", rows[i].a, vers_value_or(one, 77));                        \
+        }                                                                                  \
+        vers_##type##_free(&list);                                                         \
+    } while (0)
+
+static void test_types(void) {
+    static const uint64_t numbers[] = {1, 2, 5, 9}, word = 0xb; /* (()() */
+    TEST_TYPE(growing, VERS_GET, &word, 1, 5);
+    TEST_TYPE(bits, VERS_SELECT1, &word, 1, 5);
+    TEST_TYPE(sparse, VERS_RANK1, numbers, 4, 10);
+    TEST_TYPE(sorted, VERS_SUCCESSOR, numbers, 4);
+    TEST_TYPE(symbols, VERS_GET, numbers, 4, 4);
+    TEST_TYPE(fast_rmq, VERS_GET, numbers, 4);
+    TEST_TYPE(binary_rmq, VERS_GET, numbers, 4);
+    TEST_TYPE(tree, VERS_CLOSE, &word, 1, 5);
+    TEST_TYPE(postings, VERS_SUCCESSOR, numbers, numbers, 4);
+    TEST_ROWS(growing, VERS_GET_BITS, &word, 1, 5);
+    TEST_ROWS(bits, VERS_GET_BITS, &word, 1, 5);
+    TEST_ROWS(symbols, VERS_LEAST, numbers, 4, 4);
+    TEST_ROWS(fast_rmq, VERS_RANGE_MIN, numbers, 4);
+    TEST_ROWS(binary_rmq, VERS_RANGE_MIN, numbers, 4);
+    TEST_ROWS(tree, VERS_FWD_SEARCH, &word, 1, 5);
+    TEST_ROWS(postings, VERS_CHEAPEST, numbers, numbers, 4);
+}
+
+/* How many bytes some 64,000 bits or 1000 numbers take: not fewer than they have, and few more. */
+static void test_sizes(void) {
+    uint64_t numbers[1000];
+    for (uint64_t i = 0; i < 1000; i++) numbers[i] = 9 * i;
+    vers_growing growing = {0};
+    vers_bits bits = {0};
+    vers_sparse sparse = {0};
+    vers_sorted sorted = {0};
+    vers_symbols symbols = {0};
+    vers_fast_rmq fast = {0};
+    vers_binary_rmq binary = {0};
+    vers_tree tree = {0};
+    is("made", vers_growing_of(&growing, numbers, 1000, 64000) | vers_bits_of(&bits, numbers, 1000, 64000), VERS_DONE);
+    is("made", vers_sparse_of(&sparse, numbers, 1000, 9000) | vers_sorted_of(&sorted, numbers, 1000), VERS_DONE);
+    is("made", vers_symbols_of(&symbols, numbers, 1000, 14) | vers_tree_of(&tree, numbers, 1000, 64000), VERS_DONE);
+    is("made", vers_fast_rmq_of(&fast, numbers, 1000) | vers_binary_rmq_of(&binary, numbers, 1000), VERS_DONE);
+    vers_answer sizes[] = {vers_growing_heap_size(&growing), vers_bits_heap_size(&bits), vers_fast_rmq_heap_size(&fast),
+                           vers_tree_heap_size(&tree), vers_binary_rmq_heap_size(&binary)};
+    for (size_t i = 0; i < sizeof sizes / sizeof *sizes; i++)
+        is("size", sizes[i].status == VERS_DONE && sizes[i].value >= 8000 && sizes[i].value < 60000, 1);
+    vers_answer small[] = {vers_sparse_heap_size(&sparse), vers_sorted_heap_size(&sorted),
+                           vers_symbols_heap_size(&symbols)};
+    for (size_t i = 0; i < sizeof small / sizeof *small; i++)
+        is("small size", small[i].status == VERS_DONE && small[i].value >= 500 && small[i].value < 8000, 1);
+    vers_growing_free(&growing);
+    vers_bits_free(&bits);
+    vers_sparse_free(&sparse);
+    vers_sorted_free(&sorted);
+    vers_symbols_free(&symbols);
+    vers_fast_rmq_free(&fast);
+    vers_binary_rmq_free(&binary);
+    vers_tree_free(&tree);
+}
+
 struct reader {
     vers_bits bits;
     int faults;
@@ -577,6 +663,8 @@ int main(void) {
     test_intersect(0);
     test_intersect(1);
     test_intersect(800);
+    test_types();
+    test_sizes();
     test_threads();
     printf("%lu passed, %lu failed\n", passed, failed);
     return failed != 0;
