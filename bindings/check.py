@@ -6,7 +6,7 @@ there first if it is missing.
   `--write` writes them anew, and checks nothing else.
 - C and C++ are compiled without a warning; their tests pass, also under memcheck and helgrind.
 - The package for pkg-config leads to header and library.
-- Python's tests pass, with each Python that is there, also from an installed wheel.
+- Python's tests pass, with each Python that is there, also from an installed wheel; the example on Dask's workers too.
 - Rust's tests pass.
 - Each program of each page README.md was run, and printed what the page says.
 
@@ -191,7 +191,7 @@ def check_pkg_config(checks):
 
 
 def check_python(checks):
-    """Python: tests, and the installed wheel."""
+    """Python: tests, types, the installed wheel, and Dask."""
     environment = {**os.environ, "VERS_C": checks.archive, "PYTHONPATH": PY, "VERS_LIBRARY": checks.path("libvers.so"),
                    "PIP_NO_INDEX": "1", "PYTHONDONTWRITEBYTECODE": "1", "TMPDIR": checks.folder}
     link = f"import build_wheel; build_wheel.link({checks.path('libvers.so')!r})"
@@ -200,13 +200,16 @@ def check_python(checks):
     pythons = {os.path.realpath(it): it for it in [sys.executable, "/usr/bin/python3"] if os.path.exists(it)}
     modules = {}
     for python in pythons.values():
-        tried = "import importlib.util as u; print(*(it for it in ('numpy', 'mypy', 'pip') if u.find_spec(it)))"
+        tried = "import importlib.util as u; print(*(it for it in ('numpy', 'mypy', 'pip', 'distributed') if u.find_spec(it)))"
         modules[python] = subprocess.check_output([python, "-c", tried], text=True).split()
         checks.run(f"Python by {python}", [python, os.path.join(PY, "tests", "test_vers.py")], env=environment)
-    for module, what in (("numpy", "numpy arrays"), ("mypy", "types"), ("pip", "an installed wheel")):
+    for module, what in (("numpy", "numpy arrays"), ("mypy", "types"), ("pip", "an installed wheel"),
+                         ("distributed", "parts on Dask's workers")):
         python = next((it for it in modules if module in modules[it]), None)
         if python is None:
             checks.left_out.append(f"{what} (no {module})")
+        elif module == "distributed":
+            checks.run("Dask", [python, os.path.join(PY, "tests", "test_dask.py")], env=environment)
         elif module == "mypy":
             types = ["--strict", "--cache-dir", checks.path("mypy"), os.path.join(PY, "vers")]
             checks.run("types", [python, "-m", "mypy", *types], env={**environment, "PYTHONPATH": ""})

@@ -2,6 +2,7 @@
 
 import bisect
 import copy
+import pickle
 import random
 import threading
 import unittest
@@ -282,6 +283,38 @@ class Owners(unittest.TestCase):
             length = len(made)
             del made
             self.assertEqual(len(other), length)
+
+    def test_saved_forms(self):
+        lists = [
+            vers.RsVec([1, 0, 1]), vers.SparseRSVec([1], 2), vers.EliasFanoVec([1, 1, 9]), vers.WaveletMatrix([1, 0, 5], 3),
+            vers.FastRmq([4, 2]), vers.BinaryRmq([4, 2]), vers.BitVec([1, 0]),
+        ]
+        for made in lists:
+            for other in (pickle.loads(pickle.dumps(made)), type(made).from_bytes(memoryview(made.to_bytes()))):
+                self.assertEqual((type(other), list(other)), (type(made), list(made)))
+            with self.assertRaises(vers.Refused):
+                type(made).from_bytes(made.to_bytes()[:-1])
+        tree = vers.BpTree("(()())")
+        self.assertEqual(list(pickle.loads(pickle.dumps(tree)).children(0)), [1, 3])
+        with self.assertRaises(vers.Refused):
+            vers.EliasFanoVec.from_bytes(vers.RsVec([1]).to_bytes())
+        for made in (vers.Postings([1], [2]), vers.Postings([1], [2]).intersect(vers.Postings([1], [2]))):
+            with self.assertRaises(TypeError):
+                pickle.dumps(made)
+        with self.assertRaises(TypeError):
+            vers.Postings.from_bytes(b"")
+
+    def test_worked_form(self):
+        # the worked file of docs/FORMAT.md
+        words = [0x6D656A73746C6F77, 1, 1, 1, 4, 6, 0xF51457DEABF505E5]
+        saved = b"".join(word.to_bytes(8, "little") for word in words)
+        self.assertEqual(vers.RsVec([0, 1, 1, 0]).to_bytes(), saved)
+        self.assertEqual(list(vers.RsVec.from_bytes(saved)), [0, 1, 1, 0])
+        for bit in range(8 * len(saved)):
+            wrong = bytearray(saved)
+            wrong[bit // 8] ^= 1 << bit % 8
+            with self.assertRaises(vers.Refused):
+                vers.RsVec.from_bytes(wrong)
 
     def test_texts(self):
         self.assertEqual(repr(vers.RsVec([1, 0])), "<vers.RsVec of 2 bits>")

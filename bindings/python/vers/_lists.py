@@ -7,9 +7,9 @@ from array import array
 from numbers import Integral
 from typing import Any, Dict, FrozenSet, Iterable, Iterator, Optional, Tuple, Union
 
-from . import _buffers, _codes as codes, _library as library
+from . import _buffers, _codes as codes, _library as library, _saved
 from ._buffers import Numbers, number
-from ._faults import Unknown, fault
+from ._faults import Refused, Unknown, fault
 
 #: What `each` writes where there is no answer, unless another number is named: 2**64 - 1.
 NONE = _buffers.MOST
@@ -23,6 +23,8 @@ class List:
     _queries: Dict[str, Tuple[int, int]] = {}
     _signed: FrozenSet[str] = frozenset()
     _items = "items"
+    # the kind of its saved form, if it has one
+    _kind = 0
 
     def __init__(self) -> None:
         raise TypeError("this list is made by calls alone")
@@ -58,8 +60,26 @@ class List:
     def __len__(self) -> int:
         return self._number(codes.LEN)
 
+    def _form(self) -> _saved.Form:
+        raise TypeError(f"there is no saved form of a {type(self).__name__}")
+
+    @classmethod
+    def _of_form(cls, form: _saved.Form) -> Any:
+        raise NotImplementedError
+
+    def to_bytes(self) -> bytes:
+        """The saved form, of which `from_bytes` makes the list again. Raises TypeError where there is none."""
+        return _saved.written(self._form())
+
+    @classmethod
+    def from_bytes(cls, saved: Any) -> Any:
+        """The list of which some bytes are the saved form. Raises Refused where they are of no such list."""
+        if not cls._kind:
+            raise TypeError(f"there is no saved form of a {cls.__name__}")
+        return cls._of_form(_saved.read(saved, cls._kind))
+
     def __reduce__(self) -> Any:
-        raise TypeError(f"a {type(self).__name__} isn't pickled")
+        return type(self).from_bytes, (self.to_bytes(),)
 
     def heap_size(self) -> int:
         """How many bytes of the heap the list takes. Raises Unknown for Postings and PlainNumbers."""
@@ -156,6 +176,7 @@ class BitVec(_Items):
     """A list of bits that can change: `BitVec([1, 0, 1])`. A change while another thread asks `each` raises Shared."""
 
     _items = "bits"
+    _kind = _saved.BITS
     _queries = {"get": (codes.GET, 1), "get_bits": (codes.GET_BITS, 2)}
 
     def __init__(self, bits: Iterable[Any] = ()) -> None:
@@ -169,6 +190,13 @@ class BitVec(_Items):
         held, length = _words(words, length)
         made._make(library.growing_build, held.address, held.size, length)
         return made
+
+    def _form(self) -> _saved.Form:
+        return _saved.Form(self._kind, 1, len(self), _saved.packed(self, 1))
+
+    @classmethod
+    def _of_form(cls, form: _saved.Form) -> Any:
+        return cls.from_words(form.words, form.items)
 
     def get_bits(self, place: int, count: int) -> Optional[int]:
         """The number of the bits from a place on, the lowest first. None where there are not so many, or they are none or more
@@ -213,6 +241,7 @@ class RsVec(_Fixed):
     """A list of bits with rank and select: `RsVec([1, 0, 1])`, or `RsVec.from_words`."""
 
     _items = "bits"
+    _kind = _saved.BITS
     _queries = {
         "get": (codes.GET, 1), "get_bits": (codes.GET_BITS, 2), "rank1": (codes.RANK1, 1), "rank0": (codes.RANK0, 1),
         "select1": (codes.SELECT1, 1), "select0": (codes.SELECT0, 1),
@@ -229,6 +258,13 @@ class RsVec(_Fixed):
         held, length = _words(words, length)
         made._make(library.bits_build, held.address, held.size, length)
         return made
+
+    def _form(self) -> _saved.Form:
+        return _saved.Form(self._kind, 1, len(self), _saved.packed(self, 1))
+
+    @classmethod
+    def _of_form(cls, form: _saved.Form) -> Any:
+        return cls.from_words(form.words, form.items)
 
     def get_bits(self, place: int, count: int) -> Optional[int]:
         """The number of the bits from a place on, the lowest first; 0 for no bits. None where there are not so many, or they
@@ -257,6 +293,7 @@ class SparseRSVec(_Fixed):
     or one isn't below the length."""
 
     _items = "bits"
+    _kind = _saved.SPARSE
     _queries = {
         "get": (codes.GET, 1), "rank1": (codes.RANK1, 1), "rank0": (codes.RANK0, 1), "select1": (codes.SELECT1, 1),
     }
@@ -264,6 +301,16 @@ class SparseRSVec(_Fixed):
     def __init__(self, ones: Numbers, length: int) -> None:
         held = _buffers.held(ones)
         self._make(library.sparse_build, held.address, held.size, number(length))
+
+    def _form(self) -> _saved.Form:
+        ones = self.each("select1", range(self.rank1(len(self))))
+        return _saved.Form(self._kind, 64, len(ones) + 1, [*ones, len(self)])
+
+    @classmethod
+    def _of_form(cls, form: _saved.Form) -> Any:
+        if not form.items:
+            raise Refused("the saved form of sparse bits has no length")
+        return cls(form.words[:-1], form.words[-1])
 
     def rank1(self, place: int) -> int:
         """How many ones stand before a place; all of them past the end."""
@@ -282,6 +329,7 @@ class EliasFanoVec(_Fixed):
     """Numbers that ascend, equal ones allowed; Refused where they don't. `x in numbers` asks whether x is a member."""
 
     _items = "members"
+    _kind = _saved.SORTED
     _queries = {
         "get": (codes.GET, 1), "rank": (codes.RANK, 1), "has": (codes.HAS, 1), "predecessor": (codes.PREDECESSOR, 1),
         "successor": (codes.SUCCESSOR, 1), "delta": (codes.DELTA, 1),
@@ -290,6 +338,13 @@ class EliasFanoVec(_Fixed):
     def __init__(self, numbers: Numbers) -> None:
         held = _buffers.held(numbers)
         self._make(library.sorted_build, held.address, held.size)
+
+    def _form(self) -> _saved.Form:
+        return _saved.Form(self._kind, 64, len(self), self[:])
+
+    @classmethod
+    def _of_form(cls, form: _saved.Form) -> Any:
+        return cls(form.words)
 
     def rank(self, number: int) -> int:
         """How many members are below a number."""
@@ -320,6 +375,7 @@ class WaveletMatrix(_Fixed):
     their end. Of a symbol that is passed the low bits count, as many as a symbol has."""
 
     _items = "symbols"
+    _kind = _saved.SYMBOLS
     _queries = {
         "get": (codes.GET, 1), "rank": (codes.RANK_OF, 2), "rank_range": (codes.RANK_RANGE, 3),
         "select": (codes.SELECT_OF, 2), "select_offset": (codes.SELECT_FROM, 3), "quantile": (codes.QUANTILE, 3),
@@ -331,6 +387,16 @@ class WaveletMatrix(_Fixed):
         held = _buffers.held(symbols)
         width = min(number(bits_per_symbol), (1 << 32) - 1)
         self._make(library.symbols_build, held.address, held.size, width)
+
+    def _form(self) -> _saved.Form:
+        width = self.bits_per_element()
+        if not width:
+            return super()._form()
+        return _saved.Form(self._kind, width, len(self), _saved.packed(self, width))
+
+    @classmethod
+    def _of_form(cls, form: _saved.Form) -> Any:
+        return cls(_saved.unpacked(form), form.width)
 
     def bits_per_element(self) -> int:
         """How many bits a symbol has."""
@@ -381,12 +447,20 @@ class FastRmq(_Fixed):
     """A list of values that finds the least of a range, in few bits more."""
 
     _items = "values"
+    _kind = _saved.VALUES
     _queries = {"get": (codes.GET, 1), "range_min": (codes.RANGE_MIN, 2)}
     _build = staticmethod(library.fast_rmq_build)
 
     def __init__(self, values: Numbers) -> None:
         held = _buffers.held(values)
         self._make(self._build, held.address, held.size)
+
+    def _form(self) -> _saved.Form:
+        return _saved.Form(self._kind, 64, len(self), self[:])
+
+    @classmethod
+    def _of_form(cls, form: _saved.Form) -> Any:
+        return cls(form.words)
 
     def range_min(self, first: int, last: int) -> Optional[int]:
         """The first place of a least value from one place to another, both included. None where that is no range of the list."""
@@ -410,6 +484,7 @@ class BpTree(List):
     of nodes raise Refused where the parentheses aren't balanced, or no node opens at a place that is passed."""
 
     _items = "parentheses"
+    _kind = _saved.TREE
     _signed = frozenset(["excess"])
     _queries = {
         "is_open": (codes.GET, 1), "excess": (codes.EXCESS, 1), "close": (codes.CLOSE, 1), "open": (codes.OPEN, 1),
@@ -438,6 +513,13 @@ class BpTree(List):
         held, length = _words(words, length)
         made._make(library.tree_build, held.address, held.size, length)
         return made
+
+    def _form(self) -> _saved.Form:
+        return _saved.Form(self._kind, 512, len(self), _saved.packed(self.each("is_open", range(len(self))), 1))
+
+    @classmethod
+    def _of_form(cls, form: _saved.Form) -> Any:
+        return cls.from_words(form.words, form.items)
 
     def __copy__(self) -> BpTree:
         made = BpTree.__new__(BpTree)
