@@ -270,8 +270,8 @@ public:
 
     /** The bit at a place, 1 or 0. */
     std::optional<std::uint64_t> get(std::uint64_t place) const noexcept { return find(VERS_GET, place); }
-    /** The number of the `count` bits from a place on, the lowest first; 0 for none. nullopt where there are not so many,
-     *  or they are more than 64. */
+    /** The number of the `count` bits from a place on, the lowest first; 0 for none. nullopt where there are not so
+     *  many, or they are more than 64. */
     std::optional<std::uint64_t> get_bits(std::uint64_t place, std::uint64_t count) const noexcept {
         return find(VERS_GET_BITS, place, count);
     }
