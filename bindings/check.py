@@ -24,7 +24,8 @@ HERE = os.path.dirname(os.path.abspath(__file__))
 TOP = os.path.dirname(HERE)
 C, CPP, PY, RUST = (os.path.join(HERE, it) for it in ("c", "cpp", "python", "rust"))
 STRICT = ["-O1", "-g", "-pedantic", "-Wall", "-Wextra", "-Werror", f"-I{C}"]
-REFUSING = "-Wl,--wrap=malloc,--wrap=realloc,--wrap=free"
+# by which tests refuse the library memory
+REFUSING = "-Wl,--wrap=malloc,--wrap=realloc"
 # the table of crates/vers_c, the enum of vers.h with its codes, and a row of that table
 TABLES = (
     ("status.rt", "vers_status", r"()pub const (\w+): u32 = \d+;"),
@@ -141,7 +142,7 @@ def check_c(checks, link):
     for compiler in ("gcc", "clang"):
         if not checks.has(compiler, f"C by {compiler}"):
             continue
-        for name, more in (("test", ["-lpthread"]), ("test_memory", [REFUSING])):
+        for name, more in (("test", ["-lpthread"]), ("test_memory", [REFUSING, "-Wl,--wrap=free"])):
             made = checks.path(f"{name}_{compiler}")
             strict = ["-std=c99", "-Wconversion", "-Wcast-qual", *STRICT]
             command = [compiler, *strict, os.path.join(C, f"{name}.c"), "-o", made, *link, *more]
@@ -163,7 +164,7 @@ def check_cpp(checks, link):
         if not checks.has(compiler, f"C++ by {compiler}"):
             continue
         made, test = checks.path(f"test_{compiler}"), os.path.join(CPP, "test.cpp")
-        command = [compiler, "-std=c++17", *STRICT, f"-I{CPP}", test, "-o", made, *link, "-lpthread"]
+        command = [compiler, "-std=c++17", *STRICT, f"-I{CPP}", test, "-o", made, *link, "-lpthread", REFUSING]
         if checks.run(f"C++ by {compiler}", command) and checks.run(f"C++ by {compiler}", [made]):
             valgrind(checks, f"C++ by {compiler}", made, compiler == "g++")
         bare = ["-fno-exceptions", "-fno-rtti", "-fsyntax-only", os.path.join(CPP, "example.cpp")]

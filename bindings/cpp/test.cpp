@@ -1,4 +1,5 @@
 // Compares the classes of vers.hpp with plain loops. Exits with 0 where all agree.
+// Link with -Wl,--wrap=malloc,--wrap=realloc, by which the library is refused memory.
 #include "vers.hpp"
 
 #include <algorithm>
@@ -231,6 +232,49 @@ static void test_postings() {
     test_owner(list->clone());
 }
 
+static bool is_refused = false;
+extern "C" {
+void *__real_malloc(std::size_t size);
+void *__real_realloc(void *at, std::size_t size);
+void *__wrap_malloc(std::size_t size);
+void *__wrap_realloc(void *at, std::size_t size);
+void *__wrap_malloc(std::size_t size) { return is_refused ? nullptr : __real_malloc(size); }
+void *__wrap_realloc(void *at, std::size_t size) { return is_refused ? nullptr : __real_realloc(at, size); }
+}
+
+// Whether a call throws std::bad_alloc while the library is refused memory.
+template <class Call>
+static bool is_thrown(Call call) {
+    is_refused = true;
+    bool is_caught = false;
+    try {
+        call();
+    } catch (const std::bad_alloc &) {
+        is_caught = true;
+    }
+    is_refused = false;
+    return is_caught;
+}
+
+static void test_memory() {
+    const Numbers numbers = {1, 2, 3};
+    const vers::RsVec bits = vers::RsVec::from_words(numbers.data(), 3, 192);
+    vers::BitVec growing;
+    Status status = Status::done;
+    check("from_words", is_thrown([&] { vers::RsVec::from_words(numbers.data(), 3, 192); }));
+    check("from", is_thrown([&] { vers::EliasFanoVec::from(numbers.data(), 3); }));
+    check("clone", is_thrown([&] { bits.clone(); }));
+    check("append", is_thrown([&] {
+              for (int i = 0; i < 10000; i++) (void)growing.append(true);
+          }));
+    check("as it was", Numbers(growing.begin(), growing.end()) == Numbers(growing.len(), 1));
+    is_refused = true;
+    check("status", !vers::RsVec::from_words(numbers.data(), 3, 192, status) && status == Status::no_memory);
+    check("status of clone", !bits.clone(status) && status == Status::no_memory);
+    is_refused = false;
+    check("still there", bits.len() == 192);
+}
+
 static void test_threads() {
     const Numbers bits = random_numbers(2000, 2);
     const vers::RsVec list = vers::RsVec::from_bits(bits.begin(), bits.end());
@@ -255,6 +299,7 @@ int main() {
     test_minima();
     test_tree();
     test_postings();
+    test_memory();
     test_threads();
     std::printf("%lu passed, %lu failed\n", passed, failed);
     return failed != 0;
