@@ -26,11 +26,12 @@ C, CPP, PY, RUST = (os.path.join(HERE, it) for it in ("c", "cpp", "python", "rus
 STRICT = ["-O1", "-g", "-pedantic", "-Wall", "-Wextra", "-Werror", f"-I{C}"]
 # by which tests refuse the library memory
 REFUSING = "-Wl,--wrap=malloc,--wrap=realloc"
-# the table of crates/vers_c, the enum of vers.h with its codes, and a row of that table
+# the table of crates/vers_c, the enum of vers.h with its codes, what its names begin with, and a row of that table
 TABLES = (
-    ("status.rt", "vers_status", r"()pub const (\w+): u32 = \d+;"),
-    ("query.rt", "vers_query", r"(?m)^    Query::(?:(\w+)\(\w+::)?(\w+)\)?,$"),
-    ("change.rt", "vers_change_code", r"()Change::(\w+)(?=[,\]])"),
+    ("status.rt", "vers_status", "", r"()pub const (\w+): u32 = \d+;"),
+    ("query.rt", "vers_query", "", r"(?m)^    Query::(?:(\w+)\(\w+::)?(\w+)\)?,$"),
+    ("kind.rt", "vers_kind", "KIND_", r"(?m)^    ()Kind::(\w+),$"),
+    ("change.rt", "vers_change_code", "", r"()Change::(\w+)(?=[,\]])"),
 )
 FENCE = re.compile(r"(?ms)^```(\w+)\n(.*?)^```\n(?:(?:[^`\n]*\n)*?^```text\n(.*?)^```\n)?")
 
@@ -88,12 +89,12 @@ def word(name):
 def code_tables(source):
     """The names of the codes in the crate's tables, by the enums of vers.h. A name that stands twice has its group before it."""
     tables = {}
-    for file, enum, row in TABLES:
+    for file, enum, start, row in TABLES:
         text = read(os.path.join(source, file))
         body = text[text.rfind("= [") if "= [" in text else 0:]
         rows = [[word(it) for it in found] for found in re.findall(row, body)]
         names = [name for _, name in rows]
-        tables[enum] = [f"{group}_{name}" if name in names[:k] else name for k, (group, name) in enumerate(rows)]
+        tables[enum] = [start + (f"{group}_{name}" if name in names[:k] else name) for k, (group, name) in enumerate(rows)]
     return tables
 
 

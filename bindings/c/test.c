@@ -498,6 +498,102 @@ static void test_intersect(size_t n) {
     free(two);
 }
 
+/* The worked file of docs/FORMAT.md: the bits 0, 1, 1, 0. */
+static const uint8_t worked[] = {
+    0x77, 0x6f, 0x6c, 0x74, 0x73, 0x6a, 0x65, 0x6d, 1, 0, 0, 0, 0, 0, 0, 0, 1, 0, 0, 0, 0, 0, 0, 0, 1, 0, 0, 0,
+    0, 0, 0, 0, 4, 0, 0, 0, 0, 0, 0, 0, 6, 0, 0, 0, 0, 0, 0, 0, 0xe5, 0x05, 0xf5, 0xab, 0xde, 0x57, 0x14, 0xf5,
+};
+
+static void test_worked_form(void) {
+    uint64_t word = 6;
+    uint8_t bytes[sizeof worked] = {0};
+    vers_bits list = {0}, loaded = {0};
+    vers_growing growing = {0};
+    is("bits of", vers_bits_of(&list, &word, 1, 4), VERS_DONE);
+    found("saved_size", 0, vers_bits_saved_size(&list), sizeof worked);
+    is("save", vers_bits_save(&list, bytes, sizeof bytes), VERS_DONE);
+    is("saved", memcmp(bytes, worked, sizeof worked) == 0, 1);
+    is("save over fewer", vers_bits_save(&list, bytes, sizeof bytes - 1), VERS_REFUSED);
+    is("load", vers_bits_load(&loaded, worked, sizeof worked), VERS_DONE);
+    for (uint64_t i = 0; i < 4; i++) found("loaded", i, vers_bits_get(&loaded, i), i == 1 || i == 2);
+    is("load again", vers_bits_load(&loaded, worked, sizeof worked), VERS_OCCUPIED);
+    is("load growing", vers_growing_load(&growing, worked, sizeof worked), VERS_DONE);
+    is("append", vers_growing_append(&growing, true), VERS_DONE);
+    vers_growing_free(&growing);
+    vers_bits_free(&loaded);
+    for (size_t i = 0; i < 8 * sizeof bytes; i++) {
+        bytes[i / 8] ^= (uint8_t)(1 << i % 8);
+        is("load of a flipped bit", vers_bits_load(&loaded, bytes, sizeof bytes), VERS_REFUSED);
+        bytes[i / 8] ^= (uint8_t)(1 << i % 8);
+    }
+    for (size_t i = 0; i < sizeof bytes; i++) is("load of less", vers_bits_load(&loaded, bytes, i), VERS_REFUSED);
+    is("load of nothing", vers_bits_load(&loaded, NULL, 0), VERS_REFUSED);
+    is("save over nothing", vers_bits_save(&list, NULL, 0), VERS_REFUSED);
+    is("load of no kind", vers_load(1000, worked, sizeof worked, &loaded.handle), VERS_UNKNOWN);
+    vers_bits_free(&list);
+    compare("saved_size vacant", 0, vers_bits_saved_size(&list), VERS_VACANT, 0);
+    is("save vacant", vers_bits_save(&list, bytes, sizeof bytes), VERS_VACANT);
+}
+
+/* Saves a list and loads it: the other list answers like the first. As another kind it is refused. */
+static void test_form(vers_handle *list, uint32_t kind, enum vers_query query) {
+    uint64_t length = vers_ask(list, VERS_LEN, 0, 0, 0).value;
+    vers_answer size = vers_saved_size(list);
+    is("saved_size", size.status, VERS_DONE);
+    uint8_t *bytes = room(size.value, 1);
+    is("save", vers_save(list, bytes, size.value), VERS_DONE);
+    vers_handle other = {0};
+    uint32_t wrong = kind == VERS_KIND_SORTED ? VERS_KIND_FAST : VERS_KIND_SORTED;
+    is("load as another", vers_load(wrong, bytes, size.value, &other), VERS_REFUSED);
+    is("load", vers_load(kind, bytes, size.value, &other), VERS_DONE);
+    found("loaded len", 0, vers_ask(&other, VERS_LEN, 0, 0, 0), length);
+    for (uint64_t i = 0; i <= length; i++) {
+        vers_answer wanted = vers_ask(list, query, i, i, 0);
+        compare("loaded", i, vers_ask(&other, query, i, i, 0), wanted.status, wanted.value);
+    }
+    vers_free(&other);
+    vers_free(list);
+    free(bytes);
+}
+
+/* A tree has a saved form, of which none is made. */
+static void test_tree_form(void) {
+    uint64_t word = 0xb;
+    vers_tree tree = {0}, other = {0};
+    is("tree of", vers_tree_of(&tree, &word, 1, 6), VERS_DONE);
+    found("saved_size", 0, vers_tree_saved_size(&tree), sizeof worked);
+    uint8_t bytes[sizeof worked];
+    is("save", vers_tree_save(&tree, bytes, sizeof bytes), VERS_DONE);
+    is("kind", bytes[16], 6);
+    is("parentheses", bytes[40], word);
+    is("load of a tree", vers_load(VERS_KIND_TREE, bytes, sizeof bytes, &other.handle), VERS_UNKNOWN);
+    vers_tree_free(&tree);
+}
+
+static void test_forms(size_t n) {
+    uint64_t *ones = room(n, 8), last = 0;
+    for (size_t i = 0; i < n; i++) ones[i] = last += 1 + next() % 5;
+    vers_handle list = {0};
+    is("growing", vers_growing_build(ones, n, 9 * n, &list), VERS_DONE);
+    test_form(&list, VERS_KIND_GROWING, VERS_GET);
+    is("bits", vers_bits_build(ones, n, 9 * n, &list), VERS_DONE);
+    test_form(&list, VERS_KIND_BITS, VERS_RANK1);
+    is("sparse", vers_sparse_build(ones, n, last + 9, &list), VERS_DONE);
+    test_form(&list, VERS_KIND_SPARSE, VERS_RANK1);
+    is("sorted", vers_sorted_build(ones, n, &list), VERS_DONE);
+    test_form(&list, VERS_KIND_SORTED, VERS_SUCCESSOR);
+    is("symbols", vers_symbols_build(ones, n, 7, &list), VERS_DONE);
+    test_form(&list, VERS_KIND_SYMBOLS, VERS_RANK_OF);
+    is("fast_rmq", vers_fast_rmq_build(ones, n, &list), VERS_DONE);
+    test_form(&list, VERS_KIND_FAST, VERS_RANGE_MIN);
+    is("binary_rmq", vers_binary_rmq_build(ones, n, &list), VERS_DONE);
+    test_form(&list, VERS_KIND_BINARY, VERS_GET);
+    is("postings", vers_postings_build(ones, n, ones, n, &list), VERS_DONE);
+    compare("saved_size of postings", 0, vers_saved_size(&list), VERS_ABSENT, 0);
+    vers_free(&list);
+    free(ones);
+}
+
 /* What each type has: another handle answers alike, also many queries at once, when the first one is freed. */
 #define TEST_TYPE(type, query, ...)                                                        \
     do {                                                                                   \
@@ -663,6 +759,11 @@ int main(void) {
     test_intersect(0);
     test_intersect(1);
     test_intersect(800);
+    test_worked_form();
+    test_tree_form();
+    test_forms(0);
+    test_forms(1);
+    test_forms(300);
     test_types();
     test_sizes();
     test_threads();

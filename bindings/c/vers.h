@@ -10,7 +10,7 @@
  *      vers_bits_free(&bits);                             // all zeros again
  *
  *  Memory. A list copies what it is made of, so the caller's array is his own again when the call returns. What a
- *  call `_of`, `_clone` or `_intersect` has put into a handle is freed by `_free`, and by nothing else.
+ *  call `_of`, `_load`, `_clone` or `_intersect` has put into a handle is freed by `_free`, and by nothing else.
  *  Answers are numbers, never pointers. Where memory is out a call answers VERS_NO_MEMORY and changes nothing.
  *
  *  Threads. A handle is used by one thread at a time, also for queries. Each thread asks through a handle of its
@@ -116,6 +116,18 @@ enum vers_change_code {
     VERS_DROP_LAST = 3 /**< Drops the last a bits. */
 };
 
+/** The kinds of lists that have a saved form. */
+enum vers_kind {
+    VERS_KIND_GROWING = 0, /**< A vers_growing. */
+    VERS_KIND_BITS = 1,    /**< A vers_bits. */
+    VERS_KIND_SPARSE = 2,  /**< A vers_sparse. */
+    VERS_KIND_SORTED = 3,  /**< A vers_sorted. */
+    VERS_KIND_SYMBOLS = 4, /**< A vers_symbols. */
+    VERS_KIND_TREE = 5,    /**< A vers_tree. */
+    VERS_KIND_FAST = 6,    /**< A vers_fast_rmq. */
+    VERS_KIND_BINARY = 7   /**< A vers_binary_rmq. */
+};
+
 /** The answer of a query: `value` counts where `status` is VERS_DONE, and is 0 else. */
 typedef struct vers_answer {
     uint32_t status;
@@ -158,6 +170,17 @@ uint32_t vers_intersect(vers_handle *one, vers_handle *other, vers_handle *into)
 
 /** Empties a handle, and frees the list if no other handle holds it. An empty handle stays empty. */
 void vers_free(vers_handle *handle);
+
+/** How many bytes the saved form of a list has. VERS_VACANT, VERS_ABSENT where there is none. */
+vers_answer vers_saved_size(vers_handle *handle);
+
+/** Writes the saved form of a list over `count` bytes, which are as many as vers_saved_size says. VERS_VACANT,
+ *  VERS_ABSENT where there is none, VERS_REFUSED for another count, VERS_NO_MEMORY. */
+uint32_t vers_save(vers_handle *handle, uint8_t *bytes, size_t count);
+
+/** Makes the list of a kind of which bytes are the saved form. VERS_REFUSED where they are none, VERS_UNKNOWN for no
+ *  kind and for trees, VERS_OCCUPIED, VERS_NO_MEMORY. */
+uint32_t vers_load(uint32_t kind, const uint8_t *bytes, size_t count, vers_handle *handle);
 
 uint32_t vers_growing_build(const uint64_t *words, size_t count, size_t length, vers_handle *handle);
 uint32_t vers_bits_build(const uint64_t *words, size_t count, size_t length, vers_handle *handle);
@@ -224,6 +247,20 @@ static inline uint32_t vers_asked_rows(const vers_handle *handle, enum vers_quer
     return vers_ask_rows((vers_handle *)(uintptr_t)handle, (uint32_t)query, rows, count, other);
 }
 
+/** Writes the saved form of a list, which stays as it is. */
+static inline uint32_t vers_saved(const vers_handle *handle, uint8_t *bytes, size_t count) {
+    uint8_t none = 0;
+    if (count == 0) bytes = &none;
+    return vers_save((vers_handle *)(uintptr_t)handle, bytes, count);
+}
+
+/** Makes the list of a kind of which bytes are the saved form. */
+static inline uint32_t vers_loaded(enum vers_kind kind, const uint8_t *bytes, size_t count, vers_handle *handle) {
+    const uint8_t none = 0;
+    if (count == 0) bytes = &none;
+    return vers_load((uint32_t)kind, bytes, count, handle);
+}
+
 /* A list of bits that can change. */
 
 /** A list of bits that can change. Changes answer VERS_DONE, or leave the list as it was: VERS_REFUSED for the
@@ -247,6 +284,23 @@ static inline void vers_growing_free(vers_growing *list) {
  * VERS_NO_MEMORY. */
 static inline uint32_t vers_growing_clone(const vers_growing *list, vers_growing *other) {
     return vers_clone((vers_handle *)(uintptr_t)&list->handle, &other->handle);
+}
+
+/** How many bytes the saved form of the list has. */
+static inline vers_answer vers_growing_saved_size(const vers_growing *list) {
+    return vers_saved_size((vers_handle *)(uintptr_t)&list->handle);
+}
+
+/** Writes the saved form over `count` bytes, as many as `_saved_size` says. VERS_REFUSED for another count,
+ * VERS_NO_MEMORY. */
+static inline uint32_t vers_growing_save(const vers_growing *list, uint8_t *bytes, size_t count) {
+    return vers_saved(&list->handle, bytes, count);
+}
+
+/** Makes the list of which bytes are the saved form. VERS_REFUSED where they are of no such list. VERS_OCCUPIED,
+ * VERS_NO_MEMORY. */
+static inline uint32_t vers_growing_load(vers_growing *list, const uint8_t *bytes, size_t count) {
+    return vers_loaded(VERS_KIND_GROWING, bytes, count, &list->handle);
 }
 
 /** How many bits. */
@@ -327,6 +381,23 @@ static inline uint32_t vers_bits_clone(const vers_bits *list, vers_bits *other) 
     return vers_clone((vers_handle *)(uintptr_t)&list->handle, &other->handle);
 }
 
+/** How many bytes the saved form of the list has. */
+static inline vers_answer vers_bits_saved_size(const vers_bits *list) {
+    return vers_saved_size((vers_handle *)(uintptr_t)&list->handle);
+}
+
+/** Writes the saved form over `count` bytes, as many as `_saved_size` says. VERS_REFUSED for another count,
+ * VERS_NO_MEMORY. */
+static inline uint32_t vers_bits_save(const vers_bits *list, uint8_t *bytes, size_t count) {
+    return vers_saved(&list->handle, bytes, count);
+}
+
+/** Makes the list of which bytes are the saved form. VERS_REFUSED where they are of no such list. VERS_OCCUPIED,
+ * VERS_NO_MEMORY. */
+static inline uint32_t vers_bits_load(vers_bits *list, const uint8_t *bytes, size_t count) {
+    return vers_loaded(VERS_KIND_BITS, bytes, count, &list->handle);
+}
+
 /** How many bits. */
 static inline vers_answer vers_bits_len(const vers_bits *list) {
     return vers_asked(&list->handle, VERS_LEN, 0, 0, 0);
@@ -405,6 +476,23 @@ static inline uint32_t vers_sorted_clone(const vers_sorted *list, vers_sorted *o
     return vers_clone((vers_handle *)(uintptr_t)&list->handle, &other->handle);
 }
 
+/** How many bytes the saved form of the list has. */
+static inline vers_answer vers_sorted_saved_size(const vers_sorted *list) {
+    return vers_saved_size((vers_handle *)(uintptr_t)&list->handle);
+}
+
+/** Writes the saved form over `count` bytes, as many as `_saved_size` says. VERS_REFUSED for another count,
+ * VERS_NO_MEMORY. */
+static inline uint32_t vers_sorted_save(const vers_sorted *list, uint8_t *bytes, size_t count) {
+    return vers_saved(&list->handle, bytes, count);
+}
+
+/** Makes the list of which bytes are the saved form. VERS_REFUSED where they are of no such list. VERS_OCCUPIED,
+ * VERS_NO_MEMORY. */
+static inline uint32_t vers_sorted_load(vers_sorted *list, const uint8_t *bytes, size_t count) {
+    return vers_loaded(VERS_KIND_SORTED, bytes, count, &list->handle);
+}
+
 /** How many members. */
 static inline vers_answer vers_sorted_len(const vers_sorted *list) {
     return vers_asked(&list->handle, VERS_LEN, 0, 0, 0);
@@ -476,6 +564,23 @@ static inline uint32_t vers_sparse_clone(const vers_sparse *list, vers_sparse *o
     return vers_clone((vers_handle *)(uintptr_t)&list->handle, &other->handle);
 }
 
+/** How many bytes the saved form of the list has. */
+static inline vers_answer vers_sparse_saved_size(const vers_sparse *list) {
+    return vers_saved_size((vers_handle *)(uintptr_t)&list->handle);
+}
+
+/** Writes the saved form over `count` bytes, as many as `_saved_size` says. VERS_REFUSED for another count,
+ * VERS_NO_MEMORY. */
+static inline uint32_t vers_sparse_save(const vers_sparse *list, uint8_t *bytes, size_t count) {
+    return vers_saved(&list->handle, bytes, count);
+}
+
+/** Makes the list of which bytes are the saved form. VERS_REFUSED where they are of no such list. VERS_OCCUPIED,
+ * VERS_NO_MEMORY. */
+static inline uint32_t vers_sparse_load(vers_sparse *list, const uint8_t *bytes, size_t count) {
+    return vers_loaded(VERS_KIND_SPARSE, bytes, count, &list->handle);
+}
+
 /** How many bits. */
 static inline vers_answer vers_sparse_len(const vers_sparse *list) {
     return vers_asked(&list->handle, VERS_LEN, 0, 0, 0);
@@ -536,6 +641,23 @@ static inline void vers_symbols_free(vers_symbols *list) {
  * VERS_NO_MEMORY. */
 static inline uint32_t vers_symbols_clone(const vers_symbols *list, vers_symbols *other) {
     return vers_clone((vers_handle *)(uintptr_t)&list->handle, &other->handle);
+}
+
+/** How many bytes the saved form of the list has. VERS_ABSENT where a symbol has no bits. */
+static inline vers_answer vers_symbols_saved_size(const vers_symbols *list) {
+    return vers_saved_size((vers_handle *)(uintptr_t)&list->handle);
+}
+
+/** Writes the saved form over `count` bytes, as many as `_saved_size` says. VERS_REFUSED for another count,
+ * VERS_NO_MEMORY. VERS_ABSENT where a symbol has no bits. */
+static inline uint32_t vers_symbols_save(const vers_symbols *list, uint8_t *bytes, size_t count) {
+    return vers_saved(&list->handle, bytes, count);
+}
+
+/** Makes the list of which bytes are the saved form. VERS_REFUSED where they are of no such list. VERS_OCCUPIED,
+ * VERS_NO_MEMORY. */
+static inline uint32_t vers_symbols_load(vers_symbols *list, const uint8_t *bytes, size_t count) {
+    return vers_loaded(VERS_KIND_SYMBOLS, bytes, count, &list->handle);
 }
 
 /** How many symbols. */
@@ -651,6 +773,23 @@ static inline uint32_t vers_fast_rmq_clone(const vers_fast_rmq *list, vers_fast_
     return vers_clone((vers_handle *)(uintptr_t)&list->handle, &other->handle);
 }
 
+/** How many bytes the saved form of the list has. */
+static inline vers_answer vers_fast_rmq_saved_size(const vers_fast_rmq *list) {
+    return vers_saved_size((vers_handle *)(uintptr_t)&list->handle);
+}
+
+/** Writes the saved form over `count` bytes, as many as `_saved_size` says. VERS_REFUSED for another count,
+ * VERS_NO_MEMORY. */
+static inline uint32_t vers_fast_rmq_save(const vers_fast_rmq *list, uint8_t *bytes, size_t count) {
+    return vers_saved(&list->handle, bytes, count);
+}
+
+/** Makes the list of which bytes are the saved form. VERS_REFUSED where they are of no such list. VERS_OCCUPIED,
+ * VERS_NO_MEMORY. */
+static inline uint32_t vers_fast_rmq_load(vers_fast_rmq *list, const uint8_t *bytes, size_t count) {
+    return vers_loaded(VERS_KIND_FAST, bytes, count, &list->handle);
+}
+
 /** How many values. */
 static inline vers_answer vers_fast_rmq_len(const vers_fast_rmq *list) {
     return vers_asked(&list->handle, VERS_LEN, 0, 0, 0);
@@ -706,6 +845,23 @@ static inline void vers_binary_rmq_free(vers_binary_rmq *list) {
  * VERS_NO_MEMORY. */
 static inline uint32_t vers_binary_rmq_clone(const vers_binary_rmq *list, vers_binary_rmq *other) {
     return vers_clone((vers_handle *)(uintptr_t)&list->handle, &other->handle);
+}
+
+/** How many bytes the saved form of the list has. */
+static inline vers_answer vers_binary_rmq_saved_size(const vers_binary_rmq *list) {
+    return vers_saved_size((vers_handle *)(uintptr_t)&list->handle);
+}
+
+/** Writes the saved form over `count` bytes, as many as `_saved_size` says. VERS_REFUSED for another count,
+ * VERS_NO_MEMORY. */
+static inline uint32_t vers_binary_rmq_save(const vers_binary_rmq *list, uint8_t *bytes, size_t count) {
+    return vers_saved(&list->handle, bytes, count);
+}
+
+/** Makes the list of which bytes are the saved form. VERS_REFUSED where they are of no such list. VERS_OCCUPIED,
+ * VERS_NO_MEMORY. */
+static inline uint32_t vers_binary_rmq_load(vers_binary_rmq *list, const uint8_t *bytes, size_t count) {
+    return vers_loaded(VERS_KIND_BINARY, bytes, count, &list->handle);
 }
 
 /** How many values. */
@@ -766,6 +922,17 @@ static inline void vers_tree_free(vers_tree *list) {
  * VERS_NO_MEMORY. */
 static inline uint32_t vers_tree_clone(const vers_tree *list, vers_tree *other) {
     return vers_clone((vers_handle *)(uintptr_t)&list->handle, &other->handle);
+}
+
+/** How many bytes the saved form of the list has. */
+static inline vers_answer vers_tree_saved_size(const vers_tree *list) {
+    return vers_saved_size((vers_handle *)(uintptr_t)&list->handle);
+}
+
+/** Writes the saved form over `count` bytes, as many as `_saved_size` says. VERS_REFUSED for another count,
+ * VERS_NO_MEMORY. */
+static inline uint32_t vers_tree_save(const vers_tree *list, uint8_t *bytes, size_t count) {
+    return vers_saved(&list->handle, bytes, count);
 }
 
 /** How many parentheses. */

@@ -53,6 +53,19 @@ static void test_owner(List list) {
     check("clone of none", !list.clone(status) && status == Status::vacant);
 }
 
+// A list is what its saved form is loaded as, and no saved form with another first byte.
+template <class List>
+static void test_form(const List &list) {
+    std::vector<std::uint8_t> bytes(*list.saved_size());
+    check("save", list.save(bytes.data(), bytes.size()) == Status::done);
+    check("save over more", list.save(bytes.data(), bytes.size() + 1) == Status::refused);
+    const auto loaded = List::load(bytes.data(), bytes.size());
+    check("load", loaded && Numbers(loaded->begin(), loaded->end()) == Numbers(list.begin(), list.end()));
+    bytes[0] ^= 1;
+    Status status;
+    check("load of others", !List::load(bytes.data(), bytes.size(), status) && status == Status::refused);
+}
+
 static void test_bits() {
     const Numbers bits = random_numbers(3000, 2);
     const vers::RsVec list = vers::RsVec::from_bits(bits.begin(), bits.end());
@@ -72,6 +85,7 @@ static void test_bits() {
     check("each", list.each(VERS_GET, places.data(), places.size(), 7) == Status::done);
     check("each item", places == Numbers({bits[0], bits[1], bits[2999], 7}));
     check("unknown", list.each(VERS_PARENT, places.data(), places.size()) == Status::unknown);
+    test_form(list);
     test_owner(list.clone());
 }
 
@@ -91,6 +105,7 @@ static void test_bit_vec() {
     check("alone", list.append(true) == Status::done && list.get(6) == Found(1));
     const bool truths[] = {true, false};
     check("from_bits", vers::BitVec::from_bits(truths, truths + 2).get(0) == Found(1));
+    test_form(list);
     test_owner(std::move(list));
 }
 
@@ -108,6 +123,7 @@ static void test_sparse() {
         if (is_one) check("select1", list->select1(count++) == place);
     }
     check("past", !list->get(3000) && list->select1(ones.size()) == 3000);
+    test_form(*list);
     test_owner(list->clone());
 }
 
@@ -134,6 +150,7 @@ static void test_sorted() {
     Status status;
     check("status", !vers::EliasFanoVec::from(Numbers({2, 1}).data(), 2, status) && status == Status::refused);
     check("text", std::string(vers::text(status)) == "the numbers are refused");
+    test_form(*list);
     test_owner(list->clone());
 }
 
@@ -171,6 +188,7 @@ static void test_symbols() {
     vers::Row rows[] = {{0, 300, 0}, {5, 5, 0}};
     check("rows", list->rows(VERS_QUANTILE, rows, 2, 99) == Status::done && rows[1].a == 99);
     check("row", Found(rows[0].a) == list->range_min(0, 300));
+    test_form(*list);
     test_owner(list->clone());
 }
 
@@ -186,6 +204,8 @@ static void test_minima() {
             if (!least || values[i] < values[*least]) least = i;
         check("range_min", fast.range_min(a, b) == least && binary.range_min(a, b) == least);
     }
+    test_form(fast);
+    test_form(binary);
     test_owner(fast.clone());
     test_owner(binary.clone());
 }
@@ -214,6 +234,8 @@ static void test_tree() {
     const std::uint64_t wrong = 2;
     const vers::BpTree other = vers::BpTree::from_words(&wrong, 1, 2);
     check("unbalanced", !other.is_balanced() && other.excess(0) == std::optional<std::int64_t>(-1));
+    std::vector<std::uint8_t> bytes(*tree.saved_size());
+    check("save", tree.save(bytes.data(), bytes.size()) == Status::done);
     test_owner(tree.clone());
 }
 

@@ -109,8 +109,8 @@ private:
     std::uint64_t place_;
 };
 
-/** What all lists have: their owner, and queries by code. */
-template <class List, class Raw>
+/** What all lists have: their owner, queries by code, and a saved form, if there is a kind of it. */
+template <class List, class Raw, int Kind = -1>
 class Owner {
 public:
     Owner(const Owner &) = delete;
@@ -150,6 +150,24 @@ public:
     /** The same for queries of up to three numbers, a, b and c: the answer takes the place of a. */
     Status rows(vers_query query, Row *rows, std::size_t count, std::uint64_t other = none) const noexcept {
         return static_cast<Status>(vers_asked_rows(&raw_.handle, query, rows, count, other));
+    }
+
+    /** How many bytes the saved form has. nullopt where there is none: of symbols without bits, Postings, Numbers. */
+    std::optional<std::uint64_t> saved_size() const noexcept { return found(vers_saved_size(handle())); }
+
+    /** Writes the saved form over `count` bytes, as many as `saved_size` says; Status::refused for another count. */
+    Status save(std::uint8_t *bytes, std::size_t count) const { return thrown(vers_saved(handle(), bytes, count)); }
+
+    /** The list of which bytes are the saved form. nullopt where they are of no such list. Trees aren't loaded. */
+    static std::optional<List> load(const std::uint8_t *bytes, std::size_t count) {
+        Status status;
+        return wanted(load(bytes, count, status), status);
+    }
+    static std::optional<List> load(const std::uint8_t *bytes, std::size_t count, Status &status) noexcept {
+        static_assert(Kind >= 0, "this list isn't loaded");
+        return made(status, [&](Raw *raw) {
+            return vers_loaded(static_cast<vers_kind>(Kind), bytes, count, &raw->handle);
+        });
     }
 
     /** The list as one of vers.h, which stays this object's. */
@@ -204,7 +222,7 @@ protected:
 
 /** A list of bits that can change. A change answers Status::done, or leaves the list as it was: Status::shared while
  *  the list has another owner. */
-class BitVec : public detail::Owner<BitVec, vers_growing> {
+class BitVec : public detail::Owner<BitVec, vers_growing, VERS_KIND_GROWING> {
 public:
     /** No bits. */
     BitVec() : BitVec(from_words(nullptr, 0, 0)) {}
@@ -250,7 +268,7 @@ private:
 };
 
 /** A list of bits with rank and select. */
-class RsVec : public detail::Owner<RsVec, vers_bits> {
+class RsVec : public detail::Owner<RsVec, vers_bits, VERS_KIND_BITS> {
 public:
     /** The first `length` bits of `count` words, or all of them; the lowest bit of a word comes first. */
     static RsVec from_words(const std::uint64_t *words, std::size_t count, std::size_t length) {
@@ -291,7 +309,7 @@ private:
 };
 
 /** A list of bits with few ones, kept by their places. */
-class SparseRSVec : public detail::Owner<SparseRSVec, vers_sparse> {
+class SparseRSVec : public detail::Owner<SparseRSVec, vers_sparse, VERS_KIND_SPARSE> {
 public:
     /** `length` bits with ones at the places of an array. nullopt where the places don't ascend strictly, or one isn't
      *  below `length`. */
@@ -326,7 +344,7 @@ private:
 };
 
 /** Numbers that ascend, equal ones allowed. */
-class EliasFanoVec : public detail::Owner<EliasFanoVec, vers_sorted> {
+class EliasFanoVec : public detail::Owner<EliasFanoVec, vers_sorted, VERS_KIND_SORTED> {
 public:
     /** The numbers of an array. nullopt where one is below the one before it. */
     static std::optional<EliasFanoVec> from(const std::uint64_t *numbers, std::size_t count) {
@@ -366,7 +384,7 @@ private:
 
 /** A list of symbols, which are numbers of up to 64 bits. A range is without its end. Of a symbol that is passed the
  *  low bits count, as many as a symbol has. */
-class WaveletMatrix : public detail::Owner<WaveletMatrix, vers_symbols> {
+class WaveletMatrix : public detail::Owner<WaveletMatrix, vers_symbols, VERS_KIND_SYMBOLS> {
 public:
     using Found = std::optional<std::uint64_t>;
 
@@ -430,7 +448,7 @@ private:
 };
 
 /** A list of values that finds the least of a range, in few bits more. */
-class FastRmq : public detail::Owner<FastRmq, vers_fast_rmq> {
+class FastRmq : public detail::Owner<FastRmq, vers_fast_rmq, VERS_KIND_FAST> {
 public:
     static FastRmq from(const std::uint64_t *values, std::size_t count) {
         Status status;
@@ -460,7 +478,7 @@ private:
 };
 
 /** The same by a table of 4 bytes for each value and power of two. */
-class BinaryRmq : public detail::Owner<BinaryRmq, vers_binary_rmq> {
+class BinaryRmq : public detail::Owner<BinaryRmq, vers_binary_rmq, VERS_KIND_BINARY> {
 public:
     static BinaryRmq from(const std::uint64_t *values, std::size_t count) {
         Status status;

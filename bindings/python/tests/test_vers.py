@@ -301,8 +301,10 @@ class Owners(unittest.TestCase):
         for made in (vers.Postings([1], [2]), vers.Postings([1], [2]).intersect(vers.Postings([1], [2]))):
             with self.assertRaises(TypeError):
                 pickle.dumps(made)
-        with self.assertRaises(TypeError):
-            vers.Postings.from_bytes(b"")
+        for kind in (vers.Postings, vers.BpTree):
+            with self.assertRaises(TypeError):
+                kind.from_bytes(b"")
+        self.assertEqual(len(tree.to_bytes()), 56)
 
     def test_worked_form(self):
         # the worked file of docs/FORMAT.md

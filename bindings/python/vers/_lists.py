@@ -3,13 +3,14 @@
 from __future__ import annotations
 
 import ctypes
+import functools
 from array import array
 from numbers import Integral
 from typing import Any, Dict, FrozenSet, Iterable, Iterator, Optional, Tuple, Union
 
-from . import _buffers, _codes as codes, _library as library, _saved
+from . import _buffers, _codes as codes, _library as library
 from ._buffers import Numbers, number
-from ._faults import Refused, Unknown, fault
+from ._faults import Unknown, fault
 
 #: What `each` writes where there is no answer, unless another number is named: 2**64 - 1.
 NONE = _buffers.MOST
@@ -23,8 +24,8 @@ class List:
     _queries: Dict[str, Tuple[int, int]] = {}
     _signed: FrozenSet[str] = frozenset()
     _items = "items"
-    # the kind of its saved form, if it has one
-    _kind = 0
+    # the kind of which it is loaded, if it is
+    _kind: Optional[int] = None
 
     def __init__(self) -> None:
         raise TypeError("this list is made by calls alone")
@@ -60,23 +61,24 @@ class List:
     def __len__(self) -> int:
         return self._number(codes.LEN)
 
-    def _form(self) -> _saved.Form:
-        raise TypeError(f"there is no saved form of a {type(self).__name__}")
-
-    @classmethod
-    def _of_form(cls, form: _saved.Form) -> Any:
-        raise NotImplementedError
-
     def to_bytes(self) -> bytes:
         """The saved form, of which `from_bytes` makes the list again. Raises TypeError where there is none."""
-        return _saved.written(self._form())
+        size = library.saved_size(self._at)
+        if size.status:
+            raise TypeError(f"there is no saved form of {self!r}")
+        saved = ctypes.create_string_buffer(size.value)
+        library.done(library.save(self._at, saved, size.value))
+        return saved.raw
 
     @classmethod
     def from_bytes(cls, saved: Any) -> Any:
         """The list of which some bytes are the saved form. Raises Refused where they are of no such list."""
-        if not cls._kind:
-            raise TypeError(f"there is no saved form of a {cls.__name__}")
-        return cls._of_form(_saved.read(saved, cls._kind))
+        if cls._kind is None:
+            raise TypeError(f"a {cls.__name__} isn't made of a saved form")
+        content = bytes(saved)
+        made = cls.__new__(cls)
+        made._make(functools.partial(library.load, cls._kind), content, len(content))
+        return made
 
     def __reduce__(self) -> Any:
         return type(self).from_bytes, (self.to_bytes(),)
@@ -176,7 +178,7 @@ class BitVec(_Items):
     """A list of bits that can change: `BitVec([1, 0, 1])`. A change while another thread asks `each` raises Shared."""
 
     _items = "bits"
-    _kind = _saved.BITS
+    _kind = codes.KIND_GROWING
     _queries = {"get": (codes.GET, 1), "get_bits": (codes.GET_BITS, 2)}
 
     def __init__(self, bits: Iterable[Any] = ()) -> None:
@@ -190,13 +192,6 @@ class BitVec(_Items):
         held, length = _words(words, length)
         made._make(library.growing_build, held.address, held.size, length)
         return made
-
-    def _form(self) -> _saved.Form:
-        return _saved.Form(self._kind, 1, len(self), _saved.packed(self, 1))
-
-    @classmethod
-    def _of_form(cls, form: _saved.Form) -> Any:
-        return cls.from_words(form.words, form.items)
 
     def get_bits(self, place: int, count: int) -> Optional[int]:
         """The number of the bits from a place on, the lowest first. None where there are not so many, or they are none or more
@@ -241,7 +236,7 @@ class RsVec(_Fixed):
     """A list of bits with rank and select: `RsVec([1, 0, 1])`, or `RsVec.from_words`."""
 
     _items = "bits"
-    _kind = _saved.BITS
+    _kind = codes.KIND_BITS
     _queries = {
         "get": (codes.GET, 1), "get_bits": (codes.GET_BITS, 2), "rank1": (codes.RANK1, 1), "rank0": (codes.RANK0, 1),
         "select1": (codes.SELECT1, 1), "select0": (codes.SELECT0, 1),
@@ -258,13 +253,6 @@ class RsVec(_Fixed):
         held, length = _words(words, length)
         made._make(library.bits_build, held.address, held.size, length)
         return made
-
-    def _form(self) -> _saved.Form:
-        return _saved.Form(self._kind, 1, len(self), _saved.packed(self, 1))
-
-    @classmethod
-    def _of_form(cls, form: _saved.Form) -> Any:
-        return cls.from_words(form.words, form.items)
 
     def get_bits(self, place: int, count: int) -> Optional[int]:
         """The number of the bits from a place on, the lowest first; 0 for no bits. None where there are not so many, or they
@@ -293,7 +281,7 @@ class SparseRSVec(_Fixed):
     or one isn't below the length."""
 
     _items = "bits"
-    _kind = _saved.SPARSE
+    _kind = codes.KIND_SPARSE
     _queries = {
         "get": (codes.GET, 1), "rank1": (codes.RANK1, 1), "rank0": (codes.RANK0, 1), "select1": (codes.SELECT1, 1),
     }
@@ -301,16 +289,6 @@ class SparseRSVec(_Fixed):
     def __init__(self, ones: Numbers, length: int) -> None:
         held = _buffers.held(ones)
         self._make(library.sparse_build, held.address, held.size, number(length))
-
-    def _form(self) -> _saved.Form:
-        ones = self.each("select1", range(self.rank1(len(self))))
-        return _saved.Form(self._kind, 64, len(ones) + 1, [*ones, len(self)])
-
-    @classmethod
-    def _of_form(cls, form: _saved.Form) -> Any:
-        if not form.items:
-            raise Refused("the saved form of sparse bits has no length")
-        return cls(form.words[:-1], form.words[-1])
 
     def rank1(self, place: int) -> int:
         """How many ones stand before a place; all of them past the end."""
@@ -329,7 +307,7 @@ class EliasFanoVec(_Fixed):
     """Numbers that ascend, equal ones allowed; Refused where they don't. `x in numbers` asks whether x is a member."""
 
     _items = "members"
-    _kind = _saved.SORTED
+    _kind = codes.KIND_SORTED
     _queries = {
         "get": (codes.GET, 1), "rank": (codes.RANK, 1), "has": (codes.HAS, 1), "predecessor": (codes.PREDECESSOR, 1),
         "successor": (codes.SUCCESSOR, 1), "delta": (codes.DELTA, 1),
@@ -338,13 +316,6 @@ class EliasFanoVec(_Fixed):
     def __init__(self, numbers: Numbers) -> None:
         held = _buffers.held(numbers)
         self._make(library.sorted_build, held.address, held.size)
-
-    def _form(self) -> _saved.Form:
-        return _saved.Form(self._kind, 64, len(self), self[:])
-
-    @classmethod
-    def _of_form(cls, form: _saved.Form) -> Any:
-        return cls(form.words)
 
     def rank(self, number: int) -> int:
         """How many members are below a number."""
@@ -375,7 +346,7 @@ class WaveletMatrix(_Fixed):
     their end. Of a symbol that is passed the low bits count, as many as a symbol has."""
 
     _items = "symbols"
-    _kind = _saved.SYMBOLS
+    _kind = codes.KIND_SYMBOLS
     _queries = {
         "get": (codes.GET, 1), "rank": (codes.RANK_OF, 2), "rank_range": (codes.RANK_RANGE, 3),
         "select": (codes.SELECT_OF, 2), "select_offset": (codes.SELECT_FROM, 3), "quantile": (codes.QUANTILE, 3),
@@ -387,16 +358,6 @@ class WaveletMatrix(_Fixed):
         held = _buffers.held(symbols)
         width = min(number(bits_per_symbol), (1 << 32) - 1)
         self._make(library.symbols_build, held.address, held.size, width)
-
-    def _form(self) -> _saved.Form:
-        width = self.bits_per_element()
-        if not width:
-            return super()._form()
-        return _saved.Form(self._kind, width, len(self), _saved.packed(self, width))
-
-    @classmethod
-    def _of_form(cls, form: _saved.Form) -> Any:
-        return cls(_saved.unpacked(form), form.width)
 
     def bits_per_element(self) -> int:
         """How many bits a symbol has."""
@@ -447,20 +408,13 @@ class FastRmq(_Fixed):
     """A list of values that finds the least of a range, in few bits more."""
 
     _items = "values"
-    _kind = _saved.VALUES
+    _kind = codes.KIND_FAST
     _queries = {"get": (codes.GET, 1), "range_min": (codes.RANGE_MIN, 2)}
     _build = staticmethod(library.fast_rmq_build)
 
     def __init__(self, values: Numbers) -> None:
         held = _buffers.held(values)
         self._make(self._build, held.address, held.size)
-
-    def _form(self) -> _saved.Form:
-        return _saved.Form(self._kind, 64, len(self), self[:])
-
-    @classmethod
-    def _of_form(cls, form: _saved.Form) -> Any:
-        return cls(form.words)
 
     def range_min(self, first: int, last: int) -> Optional[int]:
         """The first place of a least value from one place to another, both included. None where that is no range of the list."""
@@ -470,6 +424,7 @@ class FastRmq(_Fixed):
 class BinaryRmq(FastRmq):
     """The same by a table of 4 bytes for each value and power of two."""
 
+    _kind = codes.KIND_BINARY
     _build = staticmethod(library.binary_rmq_build)
 
 
@@ -484,7 +439,6 @@ class BpTree(List):
     of nodes raise Refused where the parentheses aren't balanced, or no node opens at a place that is passed."""
 
     _items = "parentheses"
-    _kind = _saved.TREE
     _signed = frozenset(["excess"])
     _queries = {
         "is_open": (codes.GET, 1), "excess": (codes.EXCESS, 1), "close": (codes.CLOSE, 1), "open": (codes.OPEN, 1),
@@ -514,12 +468,9 @@ class BpTree(List):
         made._make(library.tree_build, held.address, held.size, length)
         return made
 
-    def _form(self) -> _saved.Form:
-        return _saved.Form(self._kind, 512, len(self), _saved.packed(self.each("is_open", range(len(self))), 1))
-
-    @classmethod
-    def _of_form(cls, form: _saved.Form) -> Any:
-        return cls.from_words(form.words, form.items)
+    def __reduce__(self) -> Any:
+        words, length = _buffers.words_of(self.each("is_open", range(len(self))))
+        return BpTree.from_words, (words, length)
 
     def __copy__(self) -> BpTree:
         made = BpTree.__new__(BpTree)
