@@ -4,6 +4,7 @@
 
 #include <stdio.h>
 #include <stdlib.h>
+#include <string.h>
 
 void *__real_malloc(size_t size);
 void *__real_realloc(void *at, size_t size);
@@ -55,6 +56,12 @@ static uint32_t postings(vers_handle *handle) { return vers_postings_build(numbe
 static uint32_t clone(vers_handle *handle) { return vers_clone(&one, handle); }
 static uint32_t intersect(vers_handle *handle) { return vers_intersect(&one, &two, handle); }
 
+/* The saved form of a list, and the kind that it is loaded as. */
+static uint8_t form[64 + 8 * COUNT];
+static size_t form_size;
+static enum vers_kind kind;
+static uint32_t load(vers_handle *handle) { return vers_load(kind, form, form_size, handle); }
+
 /* A call that fills an empty handle. */
 static void test_fill(const char *what, uint32_t (*fill)(vers_handle *)) {
     vers_handle handle = {0};
@@ -95,6 +102,28 @@ static void test_append(void) {
     vers_growing_free(&list);
 }
 
+/* Saving a list takes memory too, and where there is none the bytes stay as they were. Then the list is loaded. */
+static void test_form(const char *what, uint32_t (*fill)(vers_handle *), enum vers_kind loaded) {
+    vers_handle list = {0};
+    check(what, fill(&list) == VERS_DONE);
+    form_size = vers_saved_size(&list).value;
+    check(what, form_size <= sizeof form);
+    uint32_t status = VERS_NO_MEMORY;
+    for (long k = 0; status == VERS_NO_MEMORY && k < 100; k++) {
+        memset(form, 0x5a, form_size);
+        unsigned long held = given - taken_back;
+        until_refusal = k;
+        status = vers_save(&list, form, form_size);
+        until_refusal = -1;
+        check(what, given - taken_back == held);
+        for (size_t i = 0; status == VERS_NO_MEMORY && i < form_size; i++) check(what, form[i] == 0x5a);
+    }
+    check(what, status == VERS_DONE);
+    vers_free(&list);
+    kind = loaded;
+    test_fill(what, load);
+}
+
 int main(void) {
     setvbuf(stdout, NULL, _IONBF, 0);
     for (uint64_t i = 0; i < COUNT; i++) numbers[i] = 3 * i;
@@ -112,6 +141,13 @@ int main(void) {
     test_fill("clone", clone);
     test_fill("intersect", intersect);
     test_append();
+    test_form("form of growing", growing, VERS_KIND_GROWING);
+    test_form("form of bits", growing, VERS_KIND_BITS);
+    test_form("form of sparse", sparse, VERS_KIND_SPARSE);
+    test_form("form of sorted", sorted, VERS_KIND_SORTED);
+    test_form("form of symbols", symbols, VERS_KIND_SYMBOLS);
+    test_form("form of fast_rmq", fast_rmq, VERS_KIND_FAST);
+    test_form("form of binary_rmq", binary_rmq, VERS_KIND_BINARY);
     vers_free(&one);
     vers_free(&two);
     check("all memory came back", given == taken_back);
