@@ -51,7 +51,7 @@ def metadata():
     with open(os.path.join(HERE, "README.md"), encoding="utf-8") as file:
         readme = file.read()
     head = f"Metadata-Version: 2.1\nName: {name}\nVersion: {version}\nSummary: {summary}\nRequires-Python: >=3.8\n"
-    return name, version, head + f"Description-Content-Type: text/markdown\n\n{readme}"
+    return name, version, head + f"License: MIT OR Apache-2.0\nDescription-Content-Type: text/markdown\n\n{readme}"
 
 
 def build_wheel(wheel_directory, config_settings=None, metadata_directory=None):
