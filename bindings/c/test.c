@@ -67,6 +67,23 @@ static uint64_t *random_bits(size_t n, uint64_t *words) {
     return bits;
 }
 
+/* The next and the previous one, and zero, of each place and of places past the end. */
+static void test_neighbours(const vers_bits *list, const uint64_t *bits, size_t n) {
+    for (size_t k = 0; k < 600; k++) {
+        size_t place = next() % (n + 3), after[2] = {n, n}, before[2] = {n, n};
+        for (size_t i = n; i-- > 0;)
+            if (i > place) after[bits[i]] = i;
+        for (size_t i = 0; i < n && i < place; i++) before[bits[i]] = i;
+        found_if("successor1", place, vers_bits_successor1(list, place), after[1] < n, after[1]);
+        found_if("successor0", place, vers_bits_successor0(list, place), after[0] < n, after[0]);
+        found_if("predecessor1", place, vers_bits_predecessor1(list, place), before[1] < n, before[1]);
+        found_if("predecessor0", place, vers_bits_predecessor0(list, place), before[0] < n, before[0]);
+    }
+    found_if("successor1 past", 0, vers_bits_successor1(list, UINT64_MAX), false, 0);
+    uint64_t ones = vers_bits_ones(list).value, last = ones ? vers_bits_select1(list, ones - 1).value : 0;
+    found_if("predecessor1 past", 0, vers_bits_predecessor1(list, UINT64_MAX), ones > 0, last);
+}
+
 static void test_bits(size_t n) {
     uint64_t *words = room(n / 64 + 1, sizeof *words), *bits = random_bits(n, words), counts[2] = {0, 0};
     vers_bits list = {0};
@@ -84,6 +101,9 @@ static void test_bits(size_t n) {
     found("select1 past", 0, vers_bits_select1(&list, counts[1]), n);
     found("select0 past", 0, vers_bits_select0(&list, counts[0]), n);
     found("rank1 past", 0, vers_bits_rank1(&list, UINT64_MAX), counts[1]);
+    found("ones", 0, vers_bits_ones(&list), counts[1]);
+    found("zeros", 0, vers_bits_zeros(&list), counts[0]);
+    test_neighbours(&list, bits, n);
     for (int k = 0; k < 200; k++) {
         uint64_t place = next() % (n + 2), count = next() % 67, number = 0;
         bool has = count <= 64 && place + count <= n;
@@ -125,6 +145,8 @@ static void test_statuses(void) {
     vers_bits list = {0}, other = {0};
     vers_growing growing = {0};
     compare("vacant", 0, vers_bits_rank1(&list, 0), VERS_VACANT, 0);
+    compare("vacant", 0, vers_bits_successor1(&list, 0), VERS_VACANT, 0);
+    compare("vacant", 0, vers_bits_predecessor0(&list, 0), VERS_VACANT, 0);
     is("clone vacant", vers_bits_clone(&list, &other), VERS_VACANT);
     is("change vacant", vers_growing_append(&growing, true), VERS_VACANT);
     vers_bits_free(&list);
@@ -362,6 +384,7 @@ static void test_tree(size_t m) {
     is("tree of", vers_tree_of(&tree, f.words, m / 32 + 1, 2 * m), VERS_DONE);
     found("len", 0, vers_tree_len(&tree), 2 * m);
     found("size", 0, vers_tree_size(&tree), m);
+    found_if("root", 0, vers_tree_root(&tree), m > 0, 0);
     found("is_balanced", 0, vers_tree_is_balanced(&tree), 1);
     for (size_t i = 0; i < m; i++) {
         size_t v = f.place[i], j = next() % m;

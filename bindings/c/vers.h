@@ -231,6 +231,22 @@ static inline vers_answer vers_asked(const vers_handle *handle, enum vers_query 
     return vers_ask((vers_handle *)(uintptr_t)handle, (uint32_t)query, a, b, c);
 }
 
+/** The least place above another one with a bit of a kind, which `rank` counts and `select` finds. */
+static inline vers_answer vers_next_bit(const vers_handle *handle, enum vers_query rank, enum vers_query select,
+                                        uint64_t place) {
+    vers_answer before = vers_asked(handle, rank, place < UINT64_MAX ? place + 1 : place, 0, 0);
+    vers_answer found = vers_asked(handle, select, before.value, 0, 0), none = {VERS_ABSENT, 0};
+    return found.status == VERS_DONE && found.value == vers_asked(handle, VERS_LEN, 0, 0, 0).value ? none : found;
+}
+
+/** The greatest place below another one with a bit of a kind, which `rank` counts and `select` finds. */
+static inline vers_answer vers_previous_bit(const vers_handle *handle, enum vers_query rank, enum vers_query select,
+                                            uint64_t place) {
+    vers_answer before = vers_asked(handle, rank, place, 0, 0), none = {VERS_ABSENT, 0};
+    if (before.status != VERS_DONE) return before;
+    return before.value == 0 ? none : vers_asked(handle, select, before.value - 1, 0, 0);
+}
+
 /** Asks many queries of a list, which stays as it is. */
 static inline uint32_t vers_asked_each(const vers_handle *handle, enum vers_query query, uint64_t *numbers,
                                        size_t count, uint64_t b, uint64_t c, uint64_t other) {
@@ -437,6 +453,38 @@ static inline vers_answer vers_bits_select1(const vers_bits *list, uint64_t numb
 /** The place of zero number `number`, counted from 0; the length where there are no more. */
 static inline vers_answer vers_bits_select0(const vers_bits *list, uint64_t number) {
     return vers_asked(&list->handle, VERS_SELECT0, number, 0, 0);
+}
+
+/** How many ones. */
+static inline vers_answer vers_bits_ones(const vers_bits *list) {
+    return vers_bits_rank1(list, UINT64_MAX);
+}
+
+/** How many zeros. */
+static inline vers_answer vers_bits_zeros(const vers_bits *list) {
+    return vers_bits_rank0(list, UINT64_MAX);
+}
+
+/** The least place of a one above a place. VERS_ABSENT where there is none. Takes a rank and a select. */
+static inline vers_answer vers_bits_successor1(const vers_bits *list, uint64_t place) {
+    return vers_next_bit(&list->handle, VERS_RANK1, VERS_SELECT1, place);
+}
+
+/** The greatest place of a one below a place, which may lie past the end. VERS_ABSENT where there is none. Takes a
+ * rank and a select. */
+static inline vers_answer vers_bits_predecessor1(const vers_bits *list, uint64_t place) {
+    return vers_previous_bit(&list->handle, VERS_RANK1, VERS_SELECT1, place);
+}
+
+/** The least place of a zero above a place. VERS_ABSENT where there is none. Takes a rank and a select. */
+static inline vers_answer vers_bits_successor0(const vers_bits *list, uint64_t place) {
+    return vers_next_bit(&list->handle, VERS_RANK0, VERS_SELECT0, place);
+}
+
+/** The greatest place of a zero below a place, which may lie past the end. VERS_ABSENT where there is none. Takes a
+ * rank and a select. */
+static inline vers_answer vers_bits_predecessor0(const vers_bits *list, uint64_t place) {
+    return vers_previous_bit(&list->handle, VERS_RANK0, VERS_SELECT0, place);
 }
 
 /** Puts in the place of each number what a query of one number answers to it, `other` where there is no answer.
@@ -1069,6 +1117,13 @@ static inline vers_answer vers_tree_level_leftmost(const vers_tree *list, uint64
 /** The last node of a depth, roots having 0. VERS_ABSENT where no node is so deep. */
 static inline vers_answer vers_tree_level_rightmost(const vers_tree *list, uint64_t depth) {
     return vers_asked(&list->handle, VERS_LEVEL_RIGHTMOST, depth, 0, 0);
+}
+
+/** The first root, which is place 0. VERS_ABSENT where the list is empty. */
+static inline vers_answer vers_tree_root(const vers_tree *list) {
+    vers_answer first = vers_tree_is_open(list, 0);
+    first.value = 0;
+    return first;
 }
 
 /** Puts in the place of each number what a query of one number answers to it, `other` where there is no answer.

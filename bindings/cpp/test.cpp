@@ -78,6 +78,12 @@ static void test_bits() {
         ones += bits[i];
     }
     check("select1 past", list.select1(ones) == bits.size());
+    check("counts", list.ones() == ones && list.zeros() == bits.size() - ones);
+    for (std::size_t i = 0; i < 2999; i++) {
+        check("successor", (bits[i + 1] ? list.successor1(i) : list.successor0(i)) == Found(i + 1));
+        check("predecessor", (bits[i] ? list.predecessor1(i + 1) : list.predecessor0(i + 1)) == Found(i));
+    }
+    check("no neighbours", !list.successor1(2999) && !list.successor0(2999) && !list.predecessor1(0));
     check("get past", !list.get(bits.size()));
     check("get_bits", list.get_bits(5, 3) == Found(bits[5] + 2 * bits[6] + 4 * bits[7]) && !list.get_bits(2999, 2));
     check("heap_size", list.heap_size() >= bits.size() / 8 && !list.is_empty());
@@ -218,6 +224,7 @@ static void test_tree() {
     check("counts", tree.len() == 14 && tree.size() == 7 && tree.is_balanced());
     check("is_open", tree.is_open(0) == std::optional(true) && tree.is_open(3) == std::optional(false));
     check("is_open past", !tree.is_open(14));
+    check("root", tree.root() == Found(0) && !vers::BpTree::from_words(nullptr, 0, 0).root());
     check("parent", tree.parent(4) == Found(1) && !tree.parent(0) && !tree.parent(3));
     check("children", tree.first_child(0) == Found(1) && tree.last_child(0) == Found(7) && !tree.first_child(2));
     check("siblings", tree.next_sibling(1) == Found(7) && tree.previous_sibling(7) == Found(1));

@@ -300,6 +300,24 @@ public:
     std::uint64_t select1(std::uint64_t number) const noexcept { return ask(VERS_SELECT1, number).value; }
     std::uint64_t select0(std::uint64_t number) const noexcept { return ask(VERS_SELECT0, number).value; }
 
+    /** How many ones, or zeros, there are. */
+    std::uint64_t ones() const noexcept { return vers_bits_ones(&raw_).value; }
+    std::uint64_t zeros() const noexcept { return vers_bits_zeros(&raw_).value; }
+    /** The least place of a one, or zero, above a place. */
+    std::optional<std::uint64_t> successor1(std::uint64_t place) const noexcept {
+        return detail::found(vers_bits_successor1(&raw_, place));
+    }
+    std::optional<std::uint64_t> successor0(std::uint64_t place) const noexcept {
+        return detail::found(vers_bits_successor0(&raw_, place));
+    }
+    /** The greatest place of a one, or zero, below a place, which may lie past the end. */
+    std::optional<std::uint64_t> predecessor1(std::uint64_t place) const noexcept {
+        return detail::found(vers_bits_predecessor1(&raw_, place));
+    }
+    std::optional<std::uint64_t> predecessor0(std::uint64_t place) const noexcept {
+        return detail::found(vers_bits_predecessor0(&raw_, place));
+    }
+
     detail::Items<RsVec> begin() const noexcept { return {this, 0}; }
     detail::Items<RsVec> end() const noexcept { return {this, len()}; }
 
@@ -531,6 +549,8 @@ public:
 
     /** Whether the parenthesis at a place opens. nullopt past the end. */
     std::optional<bool> is_open(std::uint64_t place) const noexcept { return truth(find(VERS_GET, place)); }
+    /** The first root. nullopt where there are no parentheses. */
+    Found root() const noexcept { return detail::found(vers_tree_root(&raw_)); }
     /** How many ones: of balanced parentheses, how many nodes. */
     std::uint64_t size() const noexcept { return ask(VERS_SIZE).value; }
     bool is_balanced() const noexcept { return ask(VERS_IS_BALANCED).value == 1; }

@@ -37,7 +37,12 @@ class Lists(unittest.TestCase):
                 self.assertEqual([made.rank1(i) for i in range(count + 2)], [sum(bits[:i]) for i in range(count + 2)])
                 self.assertEqual([made.select1(k) for k in range(len(ones) + 1)], [*ones, count])
                 self.assertEqual([made.select0(k) for k in range(len(zeros) + 1)], [*zeros, count])
-                self.assertEqual(made.rank0(count), len(zeros))
+                self.assertEqual((made.rank0(count), made.zeros(), made.ones()), (len(zeros), len(zeros), len(ones)))
+                for place in (0, 1, count // 2, count, vers.NONE):
+                    self.assertEqual(made.successor1(place), next((it for it in ones if it > place), None))
+                    self.assertEqual(made.successor0(place), next((it for it in zeros if it > place), None))
+                    self.assertEqual(made.predecessor1(place), max((it for it in ones if it < place), default=None))
+                    self.assertEqual(made.predecessor0(place), max((it for it in zeros if it < place), default=None))
                 self.assertEqual(made.get_bits(0, 3), bits[0] + 2 * bits[1] + 4 * bits[2] if count > 2 else None)
                 self.assertGreaterEqual(made.heap_size(), count // 8)
 
@@ -151,7 +156,7 @@ class Lists(unittest.TestCase):
     def test_tree(self):
         made = vers.BpTree("((()())(()))()")
         self.assertTrue(made.is_balanced())
-        self.assertEqual((len(made), made.size()), (14, 7))
+        self.assertEqual((len(made), made.size(), made.root()), (14, 7, 0))
         self.assertEqual((made.is_open(0), made.is_open(13), made.is_open(14)), (True, False, None))
         self.assertEqual([made.parent(n) for n in (0, 1, 2, 4, 7, 8, 12)], [None, 0, 1, 1, 0, 7, None])
         self.assertEqual([made.subtree_size(n) for n in (0, 1, 12)], [6, 3, 1])

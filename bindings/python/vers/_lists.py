@@ -275,6 +275,34 @@ class RsVec(_Fixed):
         """The place of a zero by its number from 0 on; the length where there are no more."""
         return self._number(codes.SELECT0, number)
 
+    def ones(self) -> int:
+        """How many ones there are."""
+        return self.rank1(NONE)
+
+    def zeros(self) -> int:
+        """How many zeros there are."""
+        return self.rank0(NONE)
+
+    def successor1(self, place: int) -> Optional[int]:
+        """The least place of a one above a place. None where there is none."""
+        found = self.select1(self.rank1(min(place + 1, NONE)))
+        return found if found < len(self) else None
+
+    def successor0(self, place: int) -> Optional[int]:
+        """The least place of a zero above a place. None where there is none."""
+        found = self.select0(self.rank0(min(place + 1, NONE)))
+        return found if found < len(self) else None
+
+    def predecessor1(self, place: int) -> Optional[int]:
+        """The greatest place of a one below a place, which may lie past the end. None where there is none."""
+        before = self.rank1(place)
+        return self.select1(before - 1) if before else None
+
+    def predecessor0(self, place: int) -> Optional[int]:
+        """The greatest place of a zero below a place, which may lie past the end. None where there is none."""
+        before = self.rank0(place)
+        return self.select0(before - 1) if before else None
+
 
 class SparseRSVec(_Fixed):
     """A list of bits with few ones, by their places: `SparseRSVec([3, 17], 100)`. Refused where the places don't ascend strictly,
@@ -484,6 +512,10 @@ class BpTree(List):
         """Whether the parenthesis at a place opens. None past the end."""
         bit = self._find(codes.GET, place)
         return None if bit is None else bit == 1
+
+    def root(self) -> Optional[int]:
+        """The first root, which is place 0. None where there are no parentheses."""
+        return 0 if len(self) else None
 
     def size(self) -> int:
         """How many ones: of balanced parentheses, how many nodes."""
