@@ -872,9 +872,9 @@ static inline uint32_t vers_fast_rmq_rows(const vers_fast_rmq *list, enum vers_q
     return vers_asked_rows(&list->handle, query, rows, count, other);
 }
 
-/* The same by a table of 4 bytes for each value and power of two. */
+/* A list of values that finds the least of a range by a table, of 4 bytes for each value and power of two. */
 
-/** The same by a table of 4 bytes for each value and power of two. */
+/** A list of values that finds the least of a range by a table, of 4 bytes for each value and power of two. */
 typedef struct vers_binary_rmq {
     vers_handle handle;
 } vers_binary_rmq;

@@ -495,7 +495,7 @@ private:
     explicit FastRmq(Nothing) noexcept {}
 };
 
-/** The same by a table of 4 bytes for each value and power of two. */
+/** A list of values that finds the least of a range by a table, of 4 bytes for each value and power of two. */
 class BinaryRmq : public detail::Owner<BinaryRmq, vers_binary_rmq, VERS_KIND_BINARY> {
 public:
     static BinaryRmq from(const std::uint64_t *values, std::size_t count) {

@@ -450,7 +450,7 @@ class FastRmq(_Fixed):
 
 
 class BinaryRmq(FastRmq):
-    """The same by a table of 4 bytes for each value and power of two."""
+    """A list of values that finds the least of a range by a table, of 4 bytes for each value and power of two."""
 
     _kind = codes.KIND_BINARY
     _build = staticmethod(library.binary_rmq_build)
