@@ -1,0 +1,271 @@
+//! Lists of bits with ranks and selects.
+
+use super::{BitVec, WORD_SIZE};
+use crate::items::{iterators, Items, List};
+use crate::library::{Owner, Query, Row};
+use std::borrow::Borrow;
+
+/// A list of bits, which finds how many ones or zeros stand before a place, and the place of each one and zero.
+///
+/// ```
+/// use vers_vecs::{BitVec, RsVec};
+///
+/// let bits = RsVec::from_bit_vec(BitVec::from_bits(&[0, 1, 1, 0, 1]));
+/// assert_eq!(bits.rank1(3), 2);
+/// assert_eq!(bits.select1(2), 4);
+/// assert_eq!(bits.successor0(0), Some(3));
+/// assert_eq!(bits.iter1().collect::<Vec<_>>(), [1, 2, 4]);
+/// ```
+#[derive(Clone, Debug)]
+pub struct RsVec {
+    owner: Owner,
+    len: usize,
+}
+
+impl RsVec {
+    /// The bits of a list.
+    #[must_use]
+    pub fn from_bit_vec(vec: BitVec) -> RsVec {
+        RsVec { owner: Owner::of_bits(vec.words(), vec.len()), len: vec.len() }
+    }
+
+    /// How many zeros stand before a place, or before the end where that is less.
+    #[must_use]
+    #[inline]
+    pub fn rank0(&self, pos: usize) -> usize {
+        self.owner.told(Query::Rank0, pos)
+    }
+
+    /// How many ones stand before a place, or before the end where that is less.
+    #[must_use]
+    #[inline]
+    pub fn rank1(&self, pos: usize) -> usize {
+        self.owner.told(Query::Rank1, pos)
+    }
+
+    /// The place of zero number `rank`, from 0 on; the length where there are not so many.
+    #[must_use]
+    #[inline]
+    pub fn select0(&self, rank: usize) -> usize {
+        self.owner.told(Query::Select0, rank)
+    }
+
+    /// The place of one number `rank`, from 0 on; the length where there are not so many.
+    #[must_use]
+    #[inline]
+    pub fn select1(&self, rank: usize) -> usize {
+        self.owner.told(Query::Select1, rank)
+    }
+
+    fn count<const ZERO: bool>(&self) -> usize {
+        if ZERO {
+            self.rank0(self.len)
+        } else {
+            self.rank1(self.len)
+        }
+    }
+
+    fn found(&self, place: usize) -> Option<u64> {
+        (place < self.len).then_some(place as u64)
+    }
+
+    /// The first zero past a place. None where there is none, and for a place that the list doesn't have.
+    #[must_use]
+    #[inline]
+    pub fn successor0(&self, pos: usize) -> Option<u64> {
+        (pos < self.len).then(|| self.select0(self.rank0(pos + 1))).and_then(|place| self.found(place))
+    }
+
+    /// The first one past a place. None where there is none, and for a place that the list doesn't have.
+    #[must_use]
+    #[inline]
+    pub fn successor1(&self, pos: usize) -> Option<u64> {
+        (pos < self.len).then(|| self.select1(self.rank1(pos + 1))).and_then(|place| self.found(place))
+    }
+
+    /// The last zero before a place. None where there is none.
+    #[must_use]
+    #[inline]
+    pub fn predecessor0(&self, pos: usize) -> Option<u64> {
+        self.rank0(pos).checked_sub(1).map(|last| self.select0(last) as u64)
+    }
+
+    /// The last one before a place. None where there is none.
+    #[must_use]
+    #[inline]
+    pub fn predecessor1(&self, pos: usize) -> Option<u64> {
+        self.rank1(pos).checked_sub(1).map(|last| self.select1(last) as u64)
+    }
+
+    /// How many bits there are.
+    #[must_use]
+    pub fn len(&self) -> usize {
+        self.len
+    }
+
+    /// Whether there are no bits.
+    #[must_use]
+    pub fn is_empty(&self) -> bool {
+        self.len == 0
+    }
+
+    /// The bit at a place. None past the end.
+    #[must_use]
+    #[inline]
+    pub fn get(&self, pos: usize) -> Option<u64> {
+        self.owner.ask(Query::Get, pos, 0, 0)
+    }
+
+    /// The bit at a place.
+    ///
+    /// # Panics
+    /// Past the end.
+    #[must_use]
+    #[inline]
+    pub fn get_unchecked(&self, pos: usize) -> u64 {
+        self.get(pos).unwrap_or_else(|| panic!("the list has no bit at {pos}"))
+    }
+
+    /// The number of `len` bits from a place on: 0 for no bits. None where there are not so many, or `len` is above 64.
+    #[must_use]
+    #[inline]
+    pub fn get_bits(&self, pos: usize, len: usize) -> Option<u64> {
+        self.owner.ask(Query::GetBits, pos, len as u64, 0)
+    }
+
+    /// The number of `len` bits from a place on: 0 for no bits.
+    ///
+    /// # Panics
+    /// Where there are not so many, or `len` is above 64.
+    #[must_use]
+    pub fn get_bits_unchecked(&self, pos: usize, len: usize) -> u64 {
+        self.get_bits(pos, len).unwrap_or_else(|| panic!("the list has no {len} bits from {pos} on"))
+    }
+
+    /// The bits as a list that can change.
+    #[must_use]
+    pub fn into_bit_vec(self) -> BitVec {
+        let whole = self.len / WORD_SIZE;
+        let mut rows: Vec<Row> = (0..whole as u64).map(|word| Row { a: word * 64, b: 64, c: 0 }).collect();
+        self.owner.ask_rows(Query::GetBits, &mut rows);
+        let mut bits: BitVec = rows.iter().map(|row| row.a).collect();
+        bits.append_bits(self.get_bits_unchecked(whole * WORD_SIZE, self.len % WORD_SIZE), self.len % WORD_SIZE);
+        bits
+    }
+
+    /// Whether the other list has the same length, and its ones (its zeros, for `ZERO`) at the same places. Fast where
+    /// these are few.
+    #[must_use]
+    pub fn sparse_equals<const ZERO: bool>(&self, other: &Self) -> bool {
+        self.len == other.len && self.select_iter::<ZERO>().eq(other.select_iter::<ZERO>())
+    }
+
+    /// Whether the other list has the same bits.
+    #[must_use]
+    pub fn full_equals(&self, other: &Self) -> bool {
+        self.len == other.len && self.iter().eq(other)
+    }
+
+    /// The places of the zeros for `ZERO`, else of the ones.
+    pub fn select_iter<const ZERO: bool>(&self) -> SelectIter<'_, ZERO> {
+        Items::new(Places(self))
+    }
+
+    /// The places of the zeros for `ZERO`, else of the ones.
+    pub fn into_select_iter<const ZERO: bool>(self) -> SelectIntoIter<ZERO> {
+        Items::new(Places(self))
+    }
+
+    /// The places of the zeros.
+    pub fn iter0(&self) -> SelectIter<'_, true> {
+        self.select_iter()
+    }
+
+    /// The places of the ones.
+    pub fn iter1(&self) -> SelectIter<'_, false> {
+        self.select_iter()
+    }
+
+    /// The places of the zeros.
+    pub fn into_iter0(self) -> SelectIntoIter<true> {
+        self.into_select_iter()
+    }
+
+    /// The places of the ones.
+    pub fn into_iter1(self) -> SelectIntoIter<false> {
+        self.into_select_iter()
+    }
+
+    /// How many bytes the library keeps.
+    #[must_use]
+    pub fn heap_size(&self) -> usize {
+        self.owner.heap_size()
+    }
+}
+
+impl List for RsVec {
+    type Item = u64;
+
+    fn length(&self) -> usize {
+        self.len
+    }
+
+    fn numbers(&self, places: &mut [u64]) {
+        self.owner.ask_each(Query::Get, places);
+    }
+
+    fn item(&self, number: u64) -> u64 {
+        number
+    }
+}
+
+iterators! { RsVec, u64, RsVecIter, RsVecRefIter }
+
+/// The places of the zeros of a list of bits for `ZERO`, else of the ones.
+#[derive(Clone, Debug)]
+pub struct Places<V, const ZERO: bool>(V);
+
+impl<V: Borrow<RsVec>, const ZERO: bool> List for Places<V, ZERO> {
+    type Item = usize;
+    const ASCENDING: bool = true;
+
+    fn length(&self) -> usize {
+        self.0.borrow().count::<ZERO>()
+    }
+
+    fn numbers(&self, places: &mut [u64]) {
+        self.0.borrow().owner.ask_each(if ZERO { Query::Select0 } else { Query::Select1 }, places);
+    }
+
+    fn item(&self, number: u64) -> usize {
+        number as usize
+    }
+}
+
+/// The places of the zeros of a list for `ZERO`, else of the ones.
+pub type SelectIter<'a, const ZERO: bool> = Items<Places<&'a RsVec, ZERO>>;
+
+/// The places of the zeros of a list for `ZERO`, else of the ones. The list is owned.
+pub type SelectIntoIter<const ZERO: bool> = Items<Places<RsVec, ZERO>>;
+
+impl PartialEq for RsVec {
+    fn eq(&self, other: &Self) -> bool {
+        if self.count::<false>() > self.count::<true>() {
+            self.sparse_equals::<true>(other)
+        } else {
+            self.sparse_equals::<false>(other)
+        }
+    }
+}
+
+impl From<BitVec> for RsVec {
+    fn from(vec: BitVec) -> Self {
+        RsVec::from_bit_vec(vec)
+    }
+}
+
+impl From<RsVec> for BitVec {
+    fn from(value: RsVec) -> Self {
+        value.into_bit_vec()
+    }
+}

@@ -1,0 +1,402 @@
+//! The calls of the static library, and which thread may use which handle.
+
+use std::cell::{Cell, UnsafeCell};
+use std::ffi::c_void;
+use std::fmt;
+use std::panic::RefUnwindSafe;
+use std::sync::atomic::{AtomicUsize, Ordering};
+use std::sync::{Mutex, MutexGuard, OnceLock, PoisonError};
+
+/// What the library is asked: a place in its one table of queries. Those that no call of this crate asks stand here for
+/// their place.
+#[derive(Clone, Copy, Debug)]
+#[allow(dead_code)]
+#[repr(u32)]
+pub(crate) enum Query {
+    Len,
+    Get,
+    GetBits,
+    HeapSize,
+    Rank0,
+    Rank1,
+    Select0,
+    Select1,
+    Rank,
+    Has,
+    Predecessor,
+    Successor,
+    Delta,
+    Width,
+    RankOf,
+    SelectOf,
+    RankRange,
+    SelectFrom,
+    Quantile,
+    Least,
+    Greatest,
+    Median,
+    SymbolsPredecessor,
+    SymbolsSuccessor,
+    Size,
+    IsBalanced,
+    Excess,
+    Close,
+    Open,
+    Enclose,
+    NodeHandle,
+    FwdSearch,
+    BwdSearch,
+    Parent,
+    FirstChild,
+    LastChild,
+    NextSibling,
+    PreviousSibling,
+    LevelNext,
+    LevelPrev,
+    LevelAncestor,
+    NodeIndex,
+    IsLeaf,
+    Depth,
+    SubtreeSize,
+    LevelLeftmost,
+    LevelRightmost,
+    IsAncestor,
+    RangeMin,
+    Cheapest,
+}
+
+const DONE: u32 = 0;
+const ABSENT: u32 = 1;
+const REFUSED: u32 = 4;
+const NO_MEMORY: u32 = 6;
+
+/// The three numbers of a query that is asked among many. The first is its answer afterwards.
+#[derive(Clone, Copy)]
+#[repr(C)]
+pub(crate) struct Row {
+    pub a: u64,
+    pub b: u64,
+    pub c: u64,
+}
+
+/// What the library keeps of a structure: it is freed where this is dropped.
+#[repr(C)]
+struct Handle {
+    is_built: bool,
+    at: *mut c_void,
+}
+
+#[repr(C)]
+struct Answer {
+    status: u32,
+    value: u64,
+}
+
+extern "C" {
+    fn vers_ask(handle: *mut Handle, query: u32, a: u64, b: u64, c: u64) -> Answer;
+    fn vers_ask_each(
+        handle: *mut Handle,
+        query: u32,
+        numbers: *mut u64,
+        count: usize,
+        b: u64,
+        c: u64,
+        other: u64,
+    ) -> u32;
+    fn vers_ask_rows(handle: *mut Handle, query: u32, rows: *mut Row, count: usize, other: u64) -> u32;
+    fn vers_clone(handle: *mut Handle, other: *mut Handle) -> u32;
+    fn vers_free(handle: *mut Handle);
+    fn vers_bits_build(words: *const u64, count: usize, length: usize, handle: *mut Handle) -> u32;
+    fn vers_tree_build(words: *const u64, count: usize, length: usize, handle: *mut Handle) -> u32;
+    fn vers_sorted_build(numbers: *const u64, count: usize, handle: *mut Handle) -> u32;
+    fn vers_sparse_build(ones: *const u64, count: usize, length: u64, handle: *mut Handle) -> u32;
+    fn vers_symbols_build(numbers: *const u64, count: usize, width: u32, handle: *mut Handle) -> u32;
+    fn vers_fast_rmq_build(values: *const u64, count: usize, handle: *mut Handle) -> u32;
+    fn vers_binary_rmq_build(values: *const u64, count: usize, handle: *mut Handle) -> u32;
+}
+
+impl Handle {
+    const VACANT: Handle = Handle { is_built: false, at: std::ptr::null_mut() };
+
+    /// One more handle of the same structure.
+    fn another(&mut self) -> Handle {
+        let mut other = Handle::VACANT;
+        // SAFETY: these are two handles, and this thread alone uses them.
+        done(unsafe { vers_clone(self, &mut other) });
+        other
+    }
+}
+
+impl Drop for Handle {
+    fn drop(&mut self) {
+        // SAFETY: this thread alone uses the handle, for the last time.
+        unsafe { vers_free(self) }
+    }
+}
+
+// SAFETY: the library's condition is that no two threads use one handle at a time; any one may.
+unsafe impl Send for Handle {}
+
+/// How many handles the threads share that didn't make a structure.
+const SHARED: usize = 16;
+
+/// What has cache lines of its own, so that threads don't wait for each other's.
+#[repr(align(64))]
+struct Apart<T>(T);
+
+/// A structure of the library, which many threads may ask at once.
+///
+/// The library wants each handle used by one thread at a time. So there is one for the thread that made the structure,
+/// used without a lock by that thread alone. Other threads take one of some handles behind locks, by their number.
+pub(crate) struct Owner {
+    home: usize,
+    own: UnsafeCell<Handle>,
+    /// What the handles of other threads are made from.
+    spare: Mutex<Handle>,
+    others: OnceLock<Box<[Apart<Mutex<Handle>>; SHARED]>>,
+}
+
+// SAFETY: `own` is used by thread number `home` alone, and the numbers of threads are never used again.
+// All other handles stand behind locks.
+unsafe impl Sync for Owner {}
+
+impl RefUnwindSafe for Owner {}
+
+impl Owner {
+    /// The structure that a call of the library builds; none where it refuses what it was given.
+    fn of(build: impl FnOnce(*mut Handle) -> u32) -> Option<Owner> {
+        let mut own = Handle::VACANT;
+        match build(&mut own) {
+            REFUSED => None,
+            status => {
+                done(status);
+                let spare = Mutex::new(own.another());
+                Some(Owner { home: this_thread(), own: UnsafeCell::new(own), spare, others: OnceLock::new() })
+            }
+        }
+    }
+
+    /// A list of bits: the first `length` of some words.
+    pub fn of_bits(words: &[u64], length: usize) -> Owner {
+        // SAFETY: the array has so many words.
+        accepted(Owner::of(|handle| unsafe { vers_bits_build(words.as_ptr(), words.len(), length, handle) }))
+    }
+
+    /// A list of parentheses: the first `length` bits of some words.
+    pub fn of_tree(words: &[u64], length: usize) -> Owner {
+        // SAFETY: the array has so many words.
+        accepted(Owner::of(|handle| unsafe { vers_tree_build(words.as_ptr(), words.len(), length, handle) }))
+    }
+
+    /// An ascending list; none where the numbers don't ascend.
+    pub fn of_sorted(numbers: &[u64]) -> Option<Owner> {
+        // SAFETY: the array has so many numbers.
+        Owner::of(|handle| unsafe { vers_sorted_build(numbers.as_ptr(), numbers.len(), handle) })
+    }
+
+    /// A list of bits by the places of its ones; none where these don't ascend strictly, or one is past the end.
+    pub fn of_sparse(ones: &[u64], length: u64) -> Option<Owner> {
+        // SAFETY: the array has so many places.
+        Owner::of(|handle| unsafe { vers_sparse_build(ones.as_ptr(), ones.len(), length, handle) })
+    }
+
+    /// A list of symbols: the low bits of some numbers, at most 64.
+    pub fn of_symbols(numbers: &[u64], width: u32) -> Owner {
+        // SAFETY: the array has so many numbers.
+        accepted(Owner::of(|handle| unsafe { vers_symbols_build(numbers.as_ptr(), numbers.len(), width, handle) }))
+    }
+
+    /// A list of values that finds the least of a range, in few bits more.
+    pub fn of_fast_rmq(values: &[u64]) -> Owner {
+        // SAFETY: the array has so many values.
+        accepted(Owner::of(|handle| unsafe { vers_fast_rmq_build(values.as_ptr(), values.len(), handle) }))
+    }
+
+    /// A list of values that finds the least of a range, by a table.
+    pub fn of_binary_rmq(values: &[u64]) -> Owner {
+        // SAFETY: the array has so many values.
+        accepted(Owner::of(|handle| unsafe { vers_binary_rmq_build(values.as_ptr(), values.len(), handle) }))
+    }
+
+    /// The answer to a query; none where there is no such thing.
+    #[inline]
+    pub fn ask(&self, query: Query, a: usize, b: u64, c: u64) -> Option<u64> {
+        match self.answer(query, a as u64, b, c) {
+            Answer { status: DONE, value } => Some(value),
+            Answer { status: ABSENT, .. } => None,
+            answer => fail(answer.status),
+        }
+    }
+
+    /// The answer to a query that has one for all numbers.
+    #[inline]
+    pub fn told(&self, query: Query, a: usize) -> usize {
+        let answer = self.answer(query, a as u64, 0, 0);
+        done(answer.status);
+        answer.value as usize
+    }
+
+    /// The answer to a query; a fault where the library refuses the numbers.
+    #[inline]
+    pub fn ask_or_refuse(&self, query: Query, a: usize, b: u64) -> Result<Option<u64>, Refused> {
+        match self.answer(query, a as u64, b, 0) {
+            Answer { status: DONE, value } => Ok(Some(value)),
+            Answer { status: ABSENT, .. } => Ok(None),
+            Answer { status: REFUSED, .. } => Err(Refused),
+            answer => fail(answer.status),
+        }
+    }
+
+    /// Puts in the place of each number what is answered to it, which there must be.
+    pub fn ask_each(&self, query: Query, numbers: &mut [u64]) {
+        // SAFETY: the array has so many numbers.
+        done(self.with(|handle| unsafe {
+            vers_ask_each(handle, query as u32, numbers.as_mut_ptr(), numbers.len(), 0, 0, 0)
+        }));
+    }
+
+    /// Puts in the first place of each row what is answered to it, which there must be.
+    pub fn ask_rows(&self, query: Query, rows: &mut [Row]) {
+        // SAFETY: the array has so many rows.
+        done(self.with(|handle| unsafe { vers_ask_rows(handle, query as u32, rows.as_mut_ptr(), rows.len(), 0) }));
+    }
+
+    /// How many bytes the structure takes.
+    pub fn heap_size(&self) -> usize {
+        self.told(Query::HeapSize, 0)
+    }
+
+    #[inline]
+    fn answer(&self, query: Query, a: u64, b: u64, c: u64) -> Answer {
+        if self.is_home() {
+            // SAFETY: this thread alone uses the handle.
+            unsafe { vers_ask(self.own.get(), query as u32, a, b, c) }
+        } else {
+            self.answer_elsewhere(query, a, b, c)
+        }
+    }
+
+    #[cold]
+    fn answer_elsewhere(&self, query: Query, a: u64, b: u64, c: u64) -> Answer {
+        // SAFETY: this thread alone uses the handle.
+        unsafe { vers_ask(&mut *self.elsewhere(), query as u32, a, b, c) }
+    }
+
+    /// Does some work with a handle that this thread alone uses.
+    fn with<T>(&self, work: impl FnOnce(*mut Handle) -> T) -> T {
+        if self.is_home() {
+            work(self.own.get())
+        } else {
+            work(&mut *self.elsewhere())
+        }
+    }
+
+    /// Whether the thread at hand made the structure.
+    #[inline]
+    fn is_home(&self) -> bool {
+        // a thread without a number is no home
+        NUMBER.get() == self.home
+    }
+
+    /// A handle for a thread that didn't make the structure.
+    fn elsewhere(&self) -> MutexGuard<'_, Handle> {
+        let others = self.others.get_or_init(|| Box::new([const { Apart(Mutex::new(Handle::VACANT)) }; SHARED]));
+        let mut handle = locked(&others[this_thread() % SHARED].0);
+        if !handle.is_built {
+            *handle = locked(&self.spare).another();
+        }
+        handle
+    }
+}
+
+impl Clone for Owner {
+    /// One more owner of the same structure, which the thread at hand asks without a lock.
+    fn clone(&self) -> Owner {
+        // SAFETY: `with` hands out a handle that this thread alone uses.
+        accepted(Owner::of(|other| self.with(|handle| unsafe { vers_clone(handle, other) })))
+    }
+}
+
+impl fmt::Debug for Owner {
+    fn fmt(&self, f: &mut fmt::Formatter<'_>) -> fmt::Result {
+        f.write_str("..")
+    }
+}
+
+/// The library refuses the numbers that it was asked with.
+#[derive(Debug)]
+pub(crate) struct Refused;
+
+fn accepted(owner: Option<Owner>) -> Owner {
+    owner.unwrap_or_else(|| fail(REFUSED))
+}
+
+fn locked(handle: &Mutex<Handle>) -> MutexGuard<'_, Handle> {
+    handle.lock().unwrap_or_else(PoisonError::into_inner)
+}
+
+#[inline]
+fn done(status: u32) {
+    if status != DONE {
+        fail(status)
+    }
+}
+
+#[cold]
+fn fail(status: u32) -> ! {
+    match status {
+        NO_MEMORY => panic!("out of memory, or the list would be too long"),
+        _ => panic!("the library answers the status {status}"),
+    }
+}
+
+thread_local! {
+    /// The number of the thread; 0 before it has one.
+    static NUMBER: Cell<usize> = const { Cell::new(0) };
+}
+
+/// The number of the thread at hand, from 1 on.
+fn this_thread() -> usize {
+    static LAST: AtomicUsize = AtomicUsize::new(0);
+    if NUMBER.get() == 0 {
+        NUMBER.set(LAST.fetch_add(1, Ordering::Relaxed) + 1);
+    }
+    NUMBER.get()
+}
+
+#[cfg(test)]
+mod tests {
+    /// The lines of the first block after a text.
+    fn lines_after<'a>(source: &'a str, head: &str) -> impl Iterator<Item = &'a str> {
+        source
+            .split_once(head)
+            .unwrap()
+            .1
+            .split_once('}')
+            .unwrap()
+            .0
+            .lines()
+            .map(str::trim)
+            .filter(|line| !line.is_empty())
+    }
+
+    /// The queries stand in the order of the header's.
+    #[test]
+    fn queries_are_those_of_the_header() {
+        let here = env!("CARGO_MANIFEST_DIR");
+        // in the repository, and in an unpacked package
+        let headers =
+            ["../c/vers.h", "../../include/vers.h"].map(|header| std::fs::read_to_string(format!("{here}/{header}")));
+        let Some(header) = headers.into_iter().find_map(Result::ok) else {
+            println!("left out: there is no header");
+            return;
+        };
+        let ours =
+            lines_after(include_str!("library.rs"), "enum Query {").map(|line| line.trim_end_matches(',').to_owned());
+        let known = lines_after(&header, "enum vers_query {").map(|line| {
+            let name = line.trim_start_matches("VERS_").split(' ').next().unwrap().trim_end_matches(',');
+            name.split('_').map(|word| word[..1].to_owned() + &word[1..].to_lowercase()).collect::<String>()
+        });
+        assert_eq!(ours.collect::<Vec<_>>(), known.collect::<Vec<_>>());
+    }
+}
