@@ -15,8 +15,8 @@ pub trait List {
     /// How many items there are.
     fn length(&self) -> usize;
 
-    /// Puts in the place of each place the number of the item there.
-    fn numbers(&self, places: &mut [u64]);
+    /// Writes the numbers of the items from a place on, as many as there is room for.
+    fn numbers(&self, start: usize, into: &mut [u64]);
 
     /// The item that a number tells.
     fn item(&self, number: u64) -> Self::Item;
@@ -30,8 +30,8 @@ impl<L: List> List for &L {
         L::length(self)
     }
 
-    fn numbers(&self, places: &mut [u64]) {
-        L::numbers(self, places);
+    fn numbers(&self, start: usize, into: &mut [u64]) {
+        L::numbers(self, start, into);
     }
 
     fn item(&self, number: u64) -> L::Item {
@@ -65,11 +65,7 @@ impl Window {
     }
 
     fn fill<L: List>(&mut self, list: &L, start: usize, end: usize) {
-        let asked = &mut self.numbers[..end - start];
-        for (place, number) in (start..end).zip(asked.iter_mut()) {
-            *number = place as u64;
-        }
-        list.numbers(asked);
+        list.numbers(start, &mut self.numbers[..end - start]);
         (self.start, self.count) = (start, end - start);
     }
 }

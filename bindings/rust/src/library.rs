@@ -65,6 +65,9 @@ pub(crate) enum Query {
     Cheapest,
 }
 
+// The library's numbers are places.
+const _: () = assert!(usize::BITS == 64, "the library is for processors of 64 bits");
+
 const DONE: u32 = 0;
 const ABSENT: u32 = 1;
 const REFUSED: u32 = 4;
@@ -247,12 +250,23 @@ impl Owner {
         }
     }
 
-    /// Puts in the place of each number what is answered to it, which there must be.
-    pub fn ask_each(&self, query: Query, numbers: &mut [u64]) {
+    /// Puts in the stead of each number what is answered to it, which there must be.
+    pub fn ask_each(&self, query: Query, numbers: &mut [usize]) {
         // SAFETY: the array has so many numbers.
         done(self.with(|handle| unsafe {
-            vers_ask_each(handle, query as u32, numbers.as_mut_ptr(), numbers.len(), 0, 0, 0)
+            vers_ask_each(handle, query as u32, numbers.as_mut_ptr().cast(), numbers.len(), 0, 0, 0)
         }));
+    }
+
+    /// Writes what is answered to a number and those after it, of which each must have an answer.
+    pub fn ask_from(&self, query: Query, start: usize, into: &mut [u64]) {
+        for (number, asked) in (start as u64..).zip(into.iter_mut()) {
+            *asked = number;
+        }
+        // SAFETY: the array has so many numbers.
+        done(
+            self.with(|handle| unsafe { vers_ask_each(handle, query as u32, into.as_mut_ptr(), into.len(), 0, 0, 0) }),
+        );
     }
 
     /// Puts in the first place of each row what is answered to it, which there must be.

@@ -47,6 +47,19 @@ fn bits_are_ranked_and_selected() {
             assert!(list.iter().eq(plain.iter().copied()) && list.iter().rev().eq(plain.iter().rev().copied()));
             assert!(list.iter0().eq(zeros.iter().copied()) && list.iter1().eq(ones.iter().copied()));
             assert!(list.clone().into_iter1().rev().eq(ones.iter().rev().copied()));
+            assert_eq!((list.zeros(), list.ones()), (zeros.len(), ones.len()));
+            let each: Vec<usize> = (0..length + 3).rev().collect();
+            let answers = |query: fn(&RsVec, &mut [usize])| {
+                let mut numbers = each.clone();
+                query(&list, &mut numbers);
+                numbers
+            };
+            let single =
+                |query: fn(&RsVec, usize) -> usize| each.iter().map(|&it| query(&list, it)).collect::<Vec<_>>();
+            assert_eq!(answers(RsVec::rank0_each), single(RsVec::rank0));
+            assert_eq!(answers(RsVec::rank1_each), single(RsVec::rank1));
+            assert_eq!(answers(RsVec::select0_each), single(RsVec::select0));
+            assert_eq!(answers(RsVec::select1_each), single(RsVec::select1));
             assert_eq!(list.into_bit_vec(), BitVec::from_bits_u64(&plain));
         }
     }

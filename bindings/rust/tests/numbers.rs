@@ -24,6 +24,7 @@ fn members_are_found() {
         for number in near.chain(random.numbers(50, bound)).chain([0, u64::MAX]) {
             let below = members.partition_point(|&it| it < number);
             assert_eq!(list.rank(number), below as u64);
+            assert_eq!(list.has(number), members.contains(&number));
             assert_eq!(list.successor(number), members.get(below).copied());
             assert_eq!(list.predecessor(number), members.iter().rev().find(|&&it| it <= number).copied());
         }

@@ -64,7 +64,7 @@ fn nodes_are_found() {
     for (nodes, down) in [(1, 1), (2, 0), (9, 1), (80, 0), (300, 2), (1000, 1), (700, 100)] {
         let bits = walk(&mut random, nodes, down);
         let (plain, tree) = (Plain::of(&bits), BpTree::<64>::from(bits.clone()));
-        assert_eq!((tree.size(), tree.root()), (nodes, Some(0)));
+        assert_eq!((tree.size(), tree.root(), tree.is_balanced()), (nodes, Some(0), true));
         assert!(tree.iter().eq(plain.places.iter().copied()));
         assert!(tree.dfs_post_iter().eq(plain.postorder.iter().copied()));
         for node in 0..nodes {
@@ -129,6 +129,8 @@ fn parentheses_that_are_not_balanced_are_searched() {
             excess.push(excess[excess.len() - 1] + if bit == 1 { 1 } else { -1 });
         }
         assert_eq!(tree.size(), bits.count_ones() as usize);
+        assert_eq!(tree.is_balanced(), excess.iter().all(|&it| it >= 0) && excess[length] == 0);
+        assert_eq!(tree.is_open(length), None);
         for place in 0..length {
             assert_eq!(tree.excess(place), excess[place + 1]);
             for rise in -3..=3 {

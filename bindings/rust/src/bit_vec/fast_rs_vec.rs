@@ -1,6 +1,6 @@
 //! Lists of bits with ranks and selects.
 
-use super::{BitVec, WORD_SIZE};
+use super::{low_ones, spread, BitVec, WORD_SIZE};
 use crate::items::{iterators, Items, List};
 use crate::library::{Owner, Query, Row};
 use std::borrow::Borrow;
@@ -57,11 +57,49 @@ impl RsVec {
         self.owner.told(Query::Select1, rank)
     }
 
-    fn count<const ZERO: bool>(&self) -> usize {
+    /// How many zeros there are.
+    #[must_use]
+    pub fn zeros(&self) -> usize {
+        self.rank0(self.len)
+    }
+
+    /// How many ones there are.
+    #[must_use]
+    pub fn ones(&self) -> usize {
+        self.rank1(self.len)
+    }
+
+    /// Puts in the stead of each place its `rank0`, by one call of the library.
+    pub fn rank0_each(&self, places: &mut [usize]) {
+        self.owner.ask_each(Query::Rank0, places);
+    }
+
+    /// Puts in the stead of each place its `rank1`, by one call of the library.
+    pub fn rank1_each(&self, places: &mut [usize]) {
+        self.owner.ask_each(Query::Rank1, places);
+    }
+
+    /// Puts in the stead of each rank its `select0`, by one call of the library.
+    pub fn select0_each(&self, ranks: &mut [usize]) {
+        self.owner.ask_each(Query::Select0, ranks);
+    }
+
+    /// Puts in the stead of each rank its `select1`, by one call of the library.
+    pub fn select1_each(&self, ranks: &mut [usize]) {
+        self.owner.ask_each(Query::Select1, ranks);
+    }
+
+    /// The bits from a place on, at most 64, where zeros are told as ones for `ZERO`.
+    fn marks<const ZERO: bool>(&self, start: usize) -> u64 {
+        let count = self.len.saturating_sub(start).min(WORD_SIZE);
+        if count == 0 {
+            return 0;
+        }
+        let bits = self.get_bits_unchecked(start, count);
         if ZERO {
-            self.rank0(self.len)
+            !bits & low_ones(count)
         } else {
-            self.rank1(self.len)
+            bits
         }
     }
 
@@ -210,8 +248,8 @@ impl List for RsVec {
         self.len
     }
 
-    fn numbers(&self, places: &mut [u64]) {
-        self.owner.ask_each(Query::Get, places);
+    fn numbers(&self, start: usize, into: &mut [u64]) {
+        spread(self.get_bits_unchecked(start, into.len()), into);
     }
 
     fn item(&self, number: u64) -> u64 {
@@ -230,11 +268,30 @@ impl<V: Borrow<RsVec>, const ZERO: bool> List for Places<V, ZERO> {
     const ASCENDING: bool = true;
 
     fn length(&self) -> usize {
-        self.0.borrow().count::<ZERO>()
+        let list = self.0.borrow();
+        if ZERO {
+            list.zeros()
+        } else {
+            list.ones()
+        }
     }
 
-    fn numbers(&self, places: &mut [u64]) {
-        self.0.borrow().owner.ask_each(if ZERO { Query::Select0 } else { Query::Select1 }, places);
+    // The first is selected, and those after it are read off words as long as each word has one.
+    fn numbers(&self, start: usize, into: &mut [u64]) {
+        let list = self.0.borrow();
+        let (mut at, mut word) = (list.len, 0);
+        for (rank, place) in (start..).zip(into) {
+            if word == 0 {
+                at = at.saturating_add(WORD_SIZE);
+                word = list.marks::<ZERO>(at);
+            }
+            if word == 0 {
+                at = if ZERO { list.select0(rank) } else { list.select1(rank) };
+                word = list.marks::<ZERO>(at);
+            }
+            *place = (at + word.trailing_zeros() as usize) as u64;
+            word &= word - 1;
+        }
     }
 
     fn item(&self, number: u64) -> usize {
@@ -250,7 +307,7 @@ pub type SelectIntoIter<const ZERO: bool> = Items<Places<RsVec, ZERO>>;
 
 impl PartialEq for RsVec {
     fn eq(&self, other: &Self) -> bool {
-        if self.count::<false>() > self.count::<true>() {
+        if self.ones() > self.zeros() {
             self.sparse_equals::<true>(other)
         } else {
             self.sparse_equals::<false>(other)

@@ -39,6 +39,13 @@ fn low_ones(n: usize) -> u64 {
     u64::MAX.checked_shl(n as u32).map_or(u64::MAX, |high| !high)
 }
 
+/// Writes the lowest bits of a word, one for each number.
+fn spread(bits: u64, into: &mut [u64]) {
+    for (offset, bit) in into.iter_mut().enumerate() {
+        *bit = bits >> offset & 1;
+    }
+}
+
 impl BitVec {
     /// No bits.
     #[must_use]
@@ -530,10 +537,8 @@ impl List for BitVec {
         self.len
     }
 
-    fn numbers(&self, places: &mut [u64]) {
-        for place in places {
-            *place = self.get_unchecked(*place as usize);
-        }
+    fn numbers(&self, start: usize, into: &mut [u64]) {
+        spread(self.get_bits_unchecked(start, into.len()), into);
     }
 
     fn item(&self, number: u64) -> u64 {

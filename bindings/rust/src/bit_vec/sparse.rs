@@ -140,8 +140,8 @@ impl List for Ones<'_> {
         self.0.rank1(self.0.len) as usize
     }
 
-    fn numbers(&self, places: &mut [u64]) {
-        self.0.owner.ask_each(Query::Select1, places);
+    fn numbers(&self, start: usize, into: &mut [u64]) {
+        self.0.owner.ask_from(Query::Select1, start, into);
     }
 
     fn item(&self, number: u64) -> u64 {

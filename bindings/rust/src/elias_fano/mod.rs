@@ -113,6 +113,13 @@ impl EliasFanoVec {
         self.owner.told(Query::Rank, value as usize) as u64
     }
 
+    /// Whether a number is in the list.
+    #[must_use]
+    #[inline]
+    pub fn has(&self, value: u64) -> bool {
+        self.owner.told(Query::Has, value as usize) == 1
+    }
+
     /// How many bytes the library keeps.
     #[must_use]
     pub fn heap_size(&self) -> usize {
@@ -128,8 +135,8 @@ impl List for EliasFanoVec {
         self.len
     }
 
-    fn numbers(&self, places: &mut [u64]) {
-        self.owner.ask_each(Query::Get, places);
+    fn numbers(&self, start: usize, into: &mut [u64]) {
+        self.owner.ask_from(Query::Get, start, into);
     }
 
     fn item(&self, number: u64) -> u64 {

@@ -97,9 +97,16 @@ impl<const BLOCK_SIZE: usize> BpTree<BLOCK_SIZE> {
         (place as i64 + self.excess_before(place)) as usize / 2
     }
 
+    /// Whether the parentheses are balanced: whether they write a tree, or trees one after another.
+    #[must_use]
+    pub fn is_balanced(&self) -> bool {
+        self.owner.told(Query::IsBalanced, 0) == 1
+    }
+
     /// Whether a one stands at a place. None past the end.
+    #[must_use]
     #[inline]
-    fn is_open(&self, place: usize) -> Option<bool> {
+    pub fn is_open(&self, place: usize) -> Option<bool> {
         self.owner.ask(Query::Get, place, 0, 0).map(|bit| bit == 1)
     }
 
@@ -329,8 +336,8 @@ impl<const BLOCK_SIZE: usize> List for Preorder<'_, BLOCK_SIZE> {
         self.0.size()
     }
 
-    fn numbers(&self, places: &mut [u64]) {
-        self.0.owner.ask_each(Query::NodeHandle, places);
+    fn numbers(&self, start: usize, into: &mut [u64]) {
+        self.0.owner.ask_from(Query::NodeHandle, start, into);
     }
 
     fn item(&self, number: u64) -> usize {

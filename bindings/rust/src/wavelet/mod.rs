@@ -536,9 +536,11 @@ impl List for WaveletMatrix {
         self.len()
     }
 
-    fn numbers(&self, places: &mut [u64]) {
-        if let Symbols::Narrow { owner, .. } = &self.symbols {
-            owner.ask_each(Query::Get, places);
+    // Of a wide symbol the number is its place.
+    fn numbers(&self, start: usize, into: &mut [u64]) {
+        match &self.symbols {
+            Symbols::Narrow { owner, .. } => owner.ask_from(Query::Get, start, into),
+            Symbols::Wide(_) => into.iter_mut().zip(start as u64..).for_each(|(number, place)| *number = place),
         }
     }
 
@@ -563,8 +565,8 @@ impl<W: Borrow<WaveletMatrix>> List for Numbers<W> {
         self.0.borrow().len()
     }
 
-    fn numbers(&self, places: &mut [u64]) {
-        self.0.borrow().numbers(places);
+    fn numbers(&self, start: usize, into: &mut [u64]) {
+        self.0.borrow().numbers(start, into);
     }
 
     fn item(&self, number: u64) -> u64 {
@@ -583,8 +585,8 @@ impl<W: Borrow<WaveletMatrix>> List for Sorted<W> {
         self.0.borrow().len()
     }
 
-    fn numbers(&self, places: &mut [u64]) {
-        self.0.borrow().sort(places);
+    fn numbers(&self, start: usize, into: &mut [u64]) {
+        self.0.borrow().sorted(start, into);
     }
 
     fn item(&self, number: u64) -> BitVec {
@@ -608,8 +610,8 @@ impl<W: Borrow<WaveletMatrix>> List for SortedNumbers<W> {
         self.0.borrow().len()
     }
 
-    fn numbers(&self, places: &mut [u64]) {
-        self.0.borrow().sort(places);
+    fn numbers(&self, start: usize, into: &mut [u64]) {
+        self.0.borrow().sorted(start, into);
     }
 
     fn item(&self, number: u64) -> u64 {
@@ -632,12 +634,16 @@ pub type WaveletSortedNumRefIter<'a> = Items<SortedNumbers<&'a WaveletMatrix>>;
 
 /// Iterators.
 impl WaveletMatrix {
-    /// Puts in the place of each number the member of that number by size, where symbols have at most 64 bits.
-    fn sort(&self, numbers: &mut [u64]) {
-        if let Symbols::Narrow { owner, len, .. } = &self.symbols {
-            let mut rows: Vec<Row> = numbers.iter().map(|&c| Row { a: 0, b: *len as u64, c }).collect();
-            owner.ask_rows(Query::Quantile, &mut rows);
-            numbers.iter_mut().zip(rows).for_each(|(number, row)| *number = row.a);
+    /// Writes the symbols by size from a number on; of wide symbols the numbers.
+    fn sorted(&self, start: usize, into: &mut [u64]) {
+        let numbers = start as u64..start as u64 + into.len() as u64;
+        match &self.symbols {
+            Symbols::Narrow { owner, len, .. } => {
+                let mut rows: Vec<Row> = numbers.map(|c| Row { a: 0, b: *len as u64, c }).collect();
+                owner.ask_rows(Query::Quantile, &mut rows);
+                into.iter_mut().zip(rows).for_each(|(symbol, row)| *symbol = row.a);
+            }
+            Symbols::Wide(_) => into.iter_mut().zip(numbers).for_each(|(symbol, number)| *symbol = number),
         }
     }
 
