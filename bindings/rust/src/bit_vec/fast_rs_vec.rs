@@ -2,7 +2,7 @@
 
 use super::{low_ones, spread, BitVec, WORD_SIZE};
 use crate::items::{iterators, Items, List};
-use crate::library::{Owner, Query, Row};
+use crate::library::{Owner, Query};
 use std::borrow::Borrow;
 
 /// A list of bits, which finds how many ones or zeros stand before a place, and the place of each one and zero.
@@ -183,11 +183,11 @@ impl RsVec {
     /// The bits as a list that can change.
     #[must_use]
     pub fn into_bit_vec(self) -> BitVec {
-        let whole = self.len / WORD_SIZE;
-        let mut rows: Vec<Row> = (0..whole as u64).map(|word| Row { a: word * 64, b: 64, c: 0 }).collect();
-        self.owner.ask_rows(Query::GetBits, &mut rows);
-        let mut bits: BitVec = rows.iter().map(|row| row.a).collect();
-        bits.append_bits(self.get_bits_unchecked(whole * WORD_SIZE, self.len % WORD_SIZE), self.len % WORD_SIZE);
+        let mut bits = BitVec::with_capacity(self.len);
+        for start in (0..self.len).step_by(WORD_SIZE) {
+            let count = WORD_SIZE.min(self.len - start);
+            bits.append_bits(self.get_bits_unchecked(start, count), count);
+        }
         bits
     }
 

@@ -81,7 +81,7 @@ impl<const BLOCK_SIZE: usize> BpTree<BLOCK_SIZE> {
     #[must_use]
     pub fn excess(&self, index: usize) -> i64 {
         debug_assert!(index < self.len, "the tree has no place {index}");
-        index.min(self.len.wrapping_sub(1)).checked_add(1).map_or(0, |end| self.excess_before(end))
+        self.excess_before(index.saturating_add(1).min(self.len))
     }
 
     /// The ones less the zeros before a place of the list, or its end.
@@ -111,6 +111,7 @@ impl<const BLOCK_SIZE: usize> BpTree<BLOCK_SIZE> {
     }
 
     /// What the library answers of a node, or something else where it refuses the node.
+    #[inline]
     fn of_node(&self, query: Query, node: usize, b: u64, otherwise: impl FnOnce() -> Option<u64>) -> Option<u64> {
         self.owner.ask_or_refuse(query, node, b).unwrap_or_else(|Refused| {
             debug_assert_eq!(self.is_open(node), Some(true), "no node opens at {node}");
