@@ -32,6 +32,7 @@ pub mod elias_fano;
 mod items;
 mod library;
 pub mod rmq;
+pub mod saved;
 pub mod trees;
 pub mod wavelet;
 

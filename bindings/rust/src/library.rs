@@ -65,6 +65,21 @@ pub(crate) enum Query {
     Cheapest,
 }
 
+/// What a saved form is loaded as: a place in the library's one table of kinds. Two stand here for their place.
+#[derive(Clone, Copy)]
+#[allow(dead_code)]
+#[repr(u32)]
+pub(crate) enum Kind {
+    Growing,
+    Bits,
+    Sparse,
+    Sorted,
+    Symbols,
+    Tree,
+    Fast,
+    Binary,
+}
+
 // The library's numbers are places.
 const _: () = assert!(usize::BITS == 64, "the library is for processors of 64 bits");
 
@@ -107,6 +122,9 @@ extern "C" {
         other: u64,
     ) -> u32;
     fn vers_ask_rows(handle: *mut Handle, query: u32, rows: *mut Row, count: usize, other: u64) -> u32;
+    fn vers_saved_size(handle: *mut Handle) -> Answer;
+    fn vers_save(handle: *mut Handle, bytes: *mut u8, count: usize) -> u32;
+    fn vers_load(kind: u32, bytes: *const u8, count: usize, handle: *mut Handle) -> u32;
     fn vers_clone(handle: *mut Handle, other: *mut Handle) -> u32;
     fn vers_free(handle: *mut Handle);
     fn vers_bits_build(words: *const u64, count: usize, length: usize, handle: *mut Handle) -> u32;
@@ -219,6 +237,30 @@ impl Owner {
     pub fn of_binary_rmq(values: &[u64]) -> Owner {
         // SAFETY: the array has so many values.
         accepted(Owner::of(|handle| unsafe { vers_binary_rmq_build(values.as_ptr(), values.len(), handle) }))
+    }
+
+    /// The structure of a saved form; none where the bytes are no form of that kind.
+    pub fn loaded(kind: Kind, bytes: &[u8]) -> Option<Owner> {
+        // SAFETY: the array has so many bytes.
+        Owner::of(|handle| unsafe { vers_load(kind as u32, bytes.as_ptr(), bytes.len(), handle) })
+    }
+
+    /// The saved form; none where the structure has none.
+    pub fn saved(&self) -> Option<Vec<u8>> {
+        // SAFETY: this thread alone uses the handle.
+        let mut bytes = match self.with(|handle| unsafe { vers_saved_size(handle) }) {
+            Answer { status: DONE, value } => vec![0; value as usize],
+            Answer { status: ABSENT, .. } => return None,
+            answer => fail(answer.status),
+        };
+        // SAFETY: the array has so many bytes.
+        done(self.with(|handle| unsafe { vers_save(handle, bytes.as_mut_ptr(), bytes.len()) }));
+        Some(bytes)
+    }
+
+    /// How many items the structure has.
+    pub fn length(&self) -> usize {
+        self.told(Query::Len, 0)
     }
 
     /// The answer to a query; none where there is no such thing.

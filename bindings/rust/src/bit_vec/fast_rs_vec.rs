@@ -2,7 +2,8 @@
 
 use super::{low_ones, spread, BitVec, WORD_SIZE};
 use crate::items::{iterators, Items, List};
-use crate::library::{Owner, Query};
+use crate::library::{Kind, Owner, Query};
+use crate::saved::Saved;
 use std::borrow::Borrow;
 
 /// A list of bits, which finds how many ones or zeros stand before a place, and the place of each one and zero.
@@ -324,5 +325,16 @@ impl From<BitVec> for RsVec {
 impl From<RsVec> for BitVec {
     fn from(value: RsVec) -> Self {
         value.into_bit_vec()
+    }
+}
+
+impl Saved for RsVec {
+    fn save(&self) -> Option<Vec<u8>> {
+        self.owner.saved()
+    }
+
+    fn load(bytes: &[u8]) -> Option<Self> {
+        let owner = Owner::loaded(Kind::Bits, bytes)?;
+        Some(RsVec { len: owner.length(), owner })
     }
 }

@@ -1,6 +1,8 @@
 //! Lists of bits: [`BitVec`], which can change, and what is made of it.
 
 use crate::items::{iterators, List};
+use crate::saved::Saved;
+use crate::RsVec;
 use mask::MaskedBitVec;
 
 pub mod fast_rs_vec;
@@ -575,5 +577,15 @@ impl<'t> Extend<&'t BitVec> for BitVec {
 impl FromIterator<u64> for BitVec {
     fn from_iter<T: IntoIterator<Item = u64>>(iter: T) -> Self {
         BitVec::from_limbs_iter(iter)
+    }
+}
+
+impl Saved for BitVec {
+    fn save(&self) -> Option<Vec<u8>> {
+        RsVec::from_bit_vec(self.clone()).save()
+    }
+
+    fn load(bytes: &[u8]) -> Option<Self> {
+        RsVec::load(bytes).map(RsVec::into_bit_vec)
     }
 }

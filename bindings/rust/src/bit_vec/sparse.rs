@@ -1,7 +1,8 @@
 //! The few ones of a long list of bits.
 
 use crate::items::{Items, List};
-use crate::library::{Owner, Query};
+use crate::library::{Kind, Owner, Query};
+use crate::saved::Saved;
 use crate::BitVec;
 
 /// A list of bits, held by the places of its ones.
@@ -160,5 +161,16 @@ impl<'a> From<&'a BitVec> for SparseRSVec {
     /// The bits of a list, each made the other one.
     fn from(input: &'a BitVec) -> Self {
         Self::from_bitvec_inverted(input)
+    }
+}
+
+impl Saved for SparseRSVec {
+    fn save(&self) -> Option<Vec<u8>> {
+        self.owner.saved()
+    }
+
+    fn load(bytes: &[u8]) -> Option<Self> {
+        let owner = Owner::loaded(Kind::Sparse, bytes)?;
+        Some(SparseRSVec { len: owner.length() as u64, owner })
     }
 }

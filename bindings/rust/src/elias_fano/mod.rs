@@ -1,7 +1,8 @@
 //! Ascending lists of numbers.
 
 use crate::items::{iterators, List};
-use crate::library::{Owner, Query};
+use crate::library::{Kind, Owner, Query};
+use crate::saved::Saved;
 
 /// A list of numbers that ascend, where some may be equal.
 ///
@@ -145,3 +146,14 @@ impl List for EliasFanoVec {
 }
 
 iterators! { EliasFanoVec, u64, EliasFanoIter, EliasFanoRefIter }
+
+impl Saved for EliasFanoVec {
+    fn save(&self) -> Option<Vec<u8>> {
+        self.owner.saved()
+    }
+
+    fn load(bytes: &[u8]) -> Option<Self> {
+        let owner = Owner::loaded(Kind::Sorted, bytes)?;
+        Some(EliasFanoVec { len: owner.length(), owner })
+    }
+}

@@ -1,7 +1,8 @@
 //! Range minima by a table.
 
 use super::{minima, places};
-use crate::library::{Owner, Query};
+use crate::library::{Kind, Owner, Query};
+use crate::saved::Saved;
 use std::ops::{Deref, RangeBounds};
 use std::sync::Arc;
 
@@ -16,5 +17,5 @@ minima! {
     /// assert_eq!(values.range_min(0, 3), 1);
     /// assert_eq!(values.range_min_with_range(2..), 3);
     /// ```
-    BinaryRmq, of_binary_rmq, 1 << 32
+    BinaryRmq, of_binary_rmq, Binary, 1 << 32
 }

@@ -1,7 +1,8 @@
 //! Range minima by blocks.
 
 use super::{minima, places};
-use crate::library::{Owner, Query};
+use crate::library::{Kind, Owner, Query};
+use crate::saved::Saved;
 use std::ops::{Deref, RangeBounds};
 use std::sync::Arc;
 
@@ -16,7 +17,7 @@ minima! {
     /// assert_eq!(values.range_min(0, 999), 16);
     /// assert_eq!(values[16], 984);
     /// ```
-    FastRmq, of_fast_rmq, 1 << 40
+    FastRmq, of_fast_rmq, Fast, 1 << 40
 }
 
 impl FastRmq {

@@ -22,7 +22,7 @@ fn places(range: impl RangeBounds<usize>, len: usize) -> (usize, usize) {
 
 /// The type of a list of values with its calls, which differ by the build alone.
 macro_rules! minima {
-    ($(#[$doc:meta])* $name:ident, $build:ident, $bound:expr) => {
+    ($(#[$doc:meta])* $name:ident, $build:ident, $kind:ident, $bound:expr) => {
         $(#[$doc])*
         #[derive(Clone, Debug)]
         pub struct $name {
@@ -67,6 +67,19 @@ macro_rules! minima {
             #[must_use]
             pub fn heap_size(&self) -> usize {
                 self.owner.heap_size() + self.data.len() * size_of::<u64>()
+            }
+        }
+
+        impl Saved for $name {
+            fn save(&self) -> Option<Vec<u8>> {
+                self.owner.saved()
+            }
+
+            fn load(bytes: &[u8]) -> Option<Self> {
+                let owner = Owner::loaded(Kind::$kind, bytes)?;
+                let mut data = vec![0; owner.length()];
+                owner.ask_from(Query::Get, 0, &mut data);
+                Some($name { owner, data: Arc::new(data) })
             }
         }
 

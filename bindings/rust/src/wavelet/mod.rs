@@ -1,7 +1,8 @@
 //! Lists of symbols of one width.
 
 use crate::items::{iterators, Items, List};
-use crate::library::{Owner, Query, Row};
+use crate::library::{Kind, Owner, Query, Row};
+use crate::saved::Saved;
 use crate::BitVec;
 use std::borrow::Borrow;
 use std::ops::Range;
@@ -683,5 +684,20 @@ impl WaveletMatrix {
     #[must_use]
     pub fn into_iter_sorted_u64(self) -> Option<WaveletSortedNumIter> {
         self.has_numbers().then(|| Items::new(SortedNumbers(self)))
+    }
+}
+
+impl Saved for WaveletMatrix {
+    fn save(&self) -> Option<Vec<u8>> {
+        match &self.symbols {
+            Symbols::Narrow { owner, .. } => owner.saved(),
+            Symbols::Wide(_) => None,
+        }
+    }
+
+    fn load(bytes: &[u8]) -> Option<Self> {
+        let owner = Owner::loaded(Kind::Symbols, bytes)?;
+        let (width, len) = (owner.told(Query::Width, 0), owner.length());
+        Some(WaveletMatrix { symbols: Symbols::Narrow { owner, width, len } })
     }
 }
