@@ -11,3 +11,5 @@ mod rows;
 mod stored;
 #[cfg(test)]
 mod streams;
+#[cfg(test)]
+mod trees;

@@ -14,7 +14,8 @@ use vers_sorted::elias_fano::EliasFanoVec;
 use vers_sorted::sparse::SparseRSVec;
 use vers_wavelet::wavelet::WaveletMatrix;
 
-type Heap = Refusing<Global>;
+/// An allocator of which requests are refused.
+pub type Heap = Refusing<Global>;
 
 // How a load from a slice ends where a request is refused.
 fn tried<'a, S: Loaded<&'a Heap> + Drop>(heap: &'a Heap, bytes: &[u8]) -> Ending {
@@ -58,9 +59,9 @@ fn tried_documents<'a>(heap: &'a Heap) -> Ending {
     tried::<Postings<&'a Heap>>(heap, &POSTINGS)
 }
 
-// Whether a load ends as out of memory or right, whichever request is refused, and right where none is.
-// Each gives all memory back.
-fn ends_well<F: Fn(&Heap) -> Ending>(alloc: Global, tried: F) -> bool
+/// Whether a load ends as out of memory or right, whichever request is refused, and right where none is.
+/// Each gives all memory back.
+pub fn ends_well<F: Fn(&Heap) -> Ending>(alloc: Global, tried: F) -> bool
     requires { F.IsAlwaysCallable tried }
 {
     for n in 1..100 {

@@ -4,7 +4,7 @@ use crate::stored::{
     PADDING, POSTINGS, SORTED, SPARSE, SYMBOLS, TOO_LONG, VALUES, WIDE_SYMBOLS,
 };
 use postings::Postings;
-use std::alloc::{Allocator, Global};
+use std::alloc::{AllocError, Allocator, Global};
 use vers_bits::bit_vec::BitVec;
 use vers_rank::fast_rs_vec::RsVec;
 use vers_rmq::rmq::binary_rmq::BinaryRmq;
@@ -63,31 +63,32 @@ fn fault_of<S: Loaded<A> + Drop, A: Allocator + Copy>(alloc: A, bytes: &[u8]) ->
     }
 }
 
-// Whether a form with one bit changed is refused, and not for memory.
-fn flip_is_told<S: Loaded<A> + Drop, A: Allocator + Copy>(
+// Bytes with one bit changed.
+fn flipped<A: Allocator>(
     alloc: A,
     bytes: &[u8],
     i: usize,
     bit: u32,
-) -> bool {
-    let Ok(mut other) = Vec::from_slice(alloc, bytes) else {
-        return false;
-    };
+) -> Result<Vec<u8, A>, AllocError> {
+    let mut other = Vec::from_slice(alloc, bytes)?;
     if let Some(byte) = other.get_mut(i) {
         *byte ^= 1u8.wrapping_shl(bit);
     }
-    match fault_of::<S, A>(alloc, other.as_slice()) {
-        None | Some(LoadError::Memory | LoadError::Read) => false,
-        Some(_) => true,
-    }
+    Ok(other)
 }
 
-// Whether no form with one bit changed is loaded.
-fn flips_are_told<S: Loaded<A> + Drop, A: Allocator + Copy>(alloc: A, bytes: &[u8]) -> bool {
+// Whether no form with one bit changed is loaded, and none is refused for memory or the reader.
+fn flips_are_told<F: Fn(&[u8]) -> Option<LoadError>>(alloc: Global, bytes: &[u8], fault: F) -> bool
+    requires { F.IsAlwaysCallable fault }
+{
     for i in 0..bytes.len() {
         for bit in 0..8 {
-            if !flip_is_told::<S, A>(alloc, bytes, i, bit) {
+            let Ok(other) = flipped(alloc, bytes, i, bit) else {
                 return false;
+            };
+            match fault(other.as_slice()) {
+                None | Some(LoadError::Memory | LoadError::Read) => return false,
+                Some(_) => {}
             }
         }
     }
@@ -95,9 +96,11 @@ fn flips_are_told<S: Loaded<A> + Drop, A: Allocator + Copy>(alloc: A, bytes: &[u
 }
 
 // Whether each beginning of a form is too short.
-fn cuts_are_told<S: Loaded<A> + Drop, A: Allocator + Copy>(alloc: A, bytes: &[u8]) -> bool {
+fn cuts_are_told<F: Fn(&[u8]) -> Option<LoadError>>(bytes: &[u8], fault: F) -> bool
+    requires { F.IsAlwaysCallable fault }
+{
     for i in 0..bytes.len() {
-        if fault_of::<S, A>(alloc, &bytes[..i]) != Some(LoadError::TooShort) {
+        if fault(&bytes[..i]) != Some(LoadError::TooShort) {
             return false;
         }
     }
@@ -105,49 +108,67 @@ fn cuts_are_told<S: Loaded<A> + Drop, A: Allocator + Copy>(alloc: A, bytes: &[u8
 }
 
 // Whether a form with a byte more has a wrong length.
-fn more_is_told<S: Loaded<A> + Drop, A: Allocator + Copy>(alloc: A, bytes: &[u8]) -> bool {
+fn more_is_told<F: Fn(&[u8]) -> Option<LoadError>>(alloc: Global, bytes: &[u8], fault: F) -> bool
+    requires { F.IsAlwaysCallable fault }
+{
     let Ok(mut longer) = Vec::from_slice(alloc, bytes) else {
         return false;
     };
-    longer.push(0).is_ok()
-        && fault_of::<S, A>(alloc, longer.as_slice()) == Some(LoadError::BadLength)
+    longer.push(0).is_ok() && fault(longer.as_slice()) == Some(LoadError::BadLength)
 }
 
-fn is_kept<S: Loaded<A> + Drop, A: Allocator + Copy>(alloc: A, bytes: &[u8]) -> bool {
-    is_loaded::<S, A>(alloc, bytes)
-        && flips_are_told::<S, A>(alloc, bytes)
-        && cuts_are_told::<S, A>(alloc, bytes)
-        && more_is_told::<S, A>(alloc, bytes)
+/// Whether a form has no fault, and each change of it has one.
+pub fn changes_are_told<F: Fn(&[u8]) -> Option<LoadError>>(
+    alloc: Global,
+    bytes: &[u8],
+    fault: F,
+) -> bool
+    requires { F.IsAlwaysCallable fault }
+{
+    fault(bytes).is_none()
+        && flips_are_told(alloc, bytes, &fault)
+        && cuts_are_told(bytes, &fault)
+        && more_is_told(alloc, bytes, &fault)
+}
+
+// Whether a form is that of the list that it is loaded as, and each change of it has a fault.
+fn is_kept<S: Loaded<Global> + Drop>(alloc: Global, bytes: &[u8]) -> bool {
+    is_loaded::<S, Global>(alloc, bytes)
+        && changes_are_told(
+            alloc,
+            bytes,
+            |bytes: &[u8]| fault_of::<S, Global>(alloc, bytes),
+        )
 }
 
 #[test]
 fn lists_of_bits(rt: HostRuntime) {
-    assert!(rt; is_kept::<BitVec<Global>, Global>(rt.alloc(), &BITS));
-    assert!(rt; is_kept::<BitVec<Global>, Global>(rt.alloc(), &NO_BITS));
-    assert!(rt; is_kept::<RsVec<Global>, Global>(rt.alloc(), &BITS));
+    assert!(rt; is_kept::<BitVec<Global>>(rt.alloc(), &BITS));
+    assert!(rt; is_kept::<BitVec<Global>>(rt.alloc(), &NO_BITS));
+    assert!(rt; is_kept::<RsVec<Global>>(rt.alloc(), &BITS));
 }
 
 #[test]
 fn lists_of_numbers(rt: HostRuntime) {
-    assert!(rt; is_kept::<EliasFanoVec<Global>, Global>(rt.alloc(), &SORTED));
-    assert!(rt; is_kept::<BinaryRmq<Global>, Global>(rt.alloc(), &VALUES));
-    assert!(rt; is_kept::<FastRmq<Global>, Global>(rt.alloc(), &VALUES));
+    assert!(rt; is_kept::<EliasFanoVec<Global>>(rt.alloc(), &SORTED));
+    assert!(rt; is_kept::<BinaryRmq<Global>>(rt.alloc(), &VALUES));
+    assert!(rt; is_kept::<FastRmq<Global>>(rt.alloc(), &VALUES));
 }
 
 #[test]
 fn sparse_bits(rt: HostRuntime) {
-    assert!(rt; is_kept::<SparseRSVec<Global>, Global>(rt.alloc(), &SPARSE));
+    assert!(rt; is_kept::<SparseRSVec<Global>>(rt.alloc(), &SPARSE));
 }
 
 #[test]
 fn documents(rt: HostRuntime) {
-    assert!(rt; is_kept::<Postings<Global>, Global>(rt.alloc(), &POSTINGS));
+    assert!(rt; is_kept::<Postings<Global>>(rt.alloc(), &POSTINGS));
 }
 
 #[test]
 fn symbols(rt: HostRuntime) {
-    assert!(rt; is_kept::<WaveletMatrix<Global>, Global>(rt.alloc(), &SYMBOLS));
-    assert!(rt; is_kept::<WaveletMatrix<Global>, Global>(rt.alloc(), &WIDE_SYMBOLS));
+    assert!(rt; is_kept::<WaveletMatrix<Global>>(rt.alloc(), &SYMBOLS));
+    assert!(rt; is_kept::<WaveletMatrix<Global>>(rt.alloc(), &WIDE_SYMBOLS));
 }
 
 #[test]
