@@ -9,5 +9,6 @@ pub mod Making
 pub mod Stepping
 pub mod Packing
 pub mod Sampling
+pub mod Keeping
 pub mod Ascending
 pub mod Bounds
