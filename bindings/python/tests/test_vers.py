@@ -9,6 +9,7 @@ import unittest
 from array import array
 
 import vers
+from vers import _codes, _faults, _library
 
 try:
     import numpy
@@ -288,6 +289,26 @@ class Owners(unittest.TestCase):
             length = len(made)
             del made
             self.assertEqual(len(other), length)
+
+    def test_shared(self):
+        made = vers.BitVec([1, 0, 1])
+        other = _library.Handle()
+        _library.done(_library.clone(made._at, other))
+        with self.assertRaises(vers.Shared):
+            made.append(1)
+        with self.assertRaises(vers.Occupied):
+            _library.done(_library.clone(made._at, other))
+        _library.free(other)
+        with self.assertRaises(vers.Vacant):
+            _library.done(_library.clone(other, _library.Handle()))
+        made.append(1)
+        self.assertEqual(list(made), [1, 0, 1, 1])
+
+    def test_names_of_faults(self):
+        kinds = [vers.Unknown, vers.Vacant, vers.Refused, vers.Occupied, vers.NoMemory, vers.Shared]
+        names = [_codes.UNKNOWN, _codes.VACANT, _codes.REFUSED, _codes.OCCUPIED, _codes.NO_MEMORY, _codes.SHARED]
+        self.assertEqual([type(_faults.fault(status)) for status in names], kinds)
+        self.assertTrue(issubclass(vers.NoMemory, MemoryError) and issubclass(vers.NoMemory, vers.VersError))
 
     def test_saved_forms(self):
         lists = [
