@@ -31,6 +31,7 @@ pub mod bit_vec;
 pub mod elias_fano;
 mod items;
 mod library;
+pub mod postings;
 pub mod rmq;
 pub mod saved;
 pub mod trees;

@@ -133,6 +133,14 @@ extern "C" {
     fn vers_sparse_build(ones: *const u64, count: usize, length: u64, handle: *mut Handle) -> u32;
     fn vers_symbols_build(numbers: *const u64, count: usize, width: u32, handle: *mut Handle) -> u32;
     fn vers_fast_rmq_build(values: *const u64, count: usize, handle: *mut Handle) -> u32;
+    fn vers_postings_build(
+        documents: *const u64,
+        count: usize,
+        costs: *const u64,
+        cost_count: usize,
+        handle: *mut Handle,
+    ) -> u32;
+    fn vers_intersect(one: *mut Handle, other: *mut Handle, into: *mut Handle) -> u32;
     fn vers_binary_rmq_build(values: *const u64, count: usize, handle: *mut Handle) -> u32;
 }
 
@@ -237,6 +245,22 @@ impl Owner {
     pub fn of_binary_rmq(values: &[u64]) -> Owner {
         // SAFETY: the array has so many values.
         accepted(Owner::of(|handle| unsafe { vers_binary_rmq_build(values.as_ptr(), values.len(), handle) }))
+    }
+
+    /// Documents with costs; none where documents don't ascend strictly, or there are not as many costs.
+    pub fn of_postings(documents: &[u64], costs: &[u64]) -> Option<Owner> {
+        // SAFETY: the arrays have so many numbers.
+        Owner::of(|handle| unsafe {
+            vers_postings_build(documents.as_ptr(), documents.len(), costs.as_ptr(), costs.len(), handle)
+        })
+    }
+
+    /// The documents that two lists of documents share, as plain numbers.
+    pub fn common(&self, other: &Owner) -> Owner {
+        // one more handle, since the other list may be the same
+        let other = other.clone();
+        // SAFETY: these are three handles, and this thread alone uses them.
+        accepted(Owner::of(|into| self.with(|one| other.with(|two| unsafe { vers_intersect(one, two, into) }))))
     }
 
     /// The structure of a saved form; none where the bytes are no form of that kind.

@@ -159,6 +159,15 @@ fn bits_change() {
 }
 
 #[test]
+fn nothing_is_done_past_the_end() {
+    let mut list = BitVec::from_zeros(70);
+    list.set_unchecked(100, 1);
+    assert_eq!(list, BitVec::from_zeros(70));
+    list.flip_bit_unchecked(127);
+    assert_eq!(list, BitVec::from_zeros(70));
+}
+
+#[test]
 fn equal_bits_have_equal_hashes() {
     let mut list = BitVec::from_ones(64);
     list.append_bits(u64::MAX, 10);
