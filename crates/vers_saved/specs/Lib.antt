@@ -3,4 +3,5 @@ pub mod Faults
 pub mod Kinds
 pub mod Streams
 pub mod Laws
+pub mod Rows
 pub mod inside

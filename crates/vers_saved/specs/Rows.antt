@@ -1,0 +1,69 @@
+-- Worked rows of the definitions, which compute.
+use Rattle.std.specs.Prelude.{◌≡◌, ℕ, List, [], ◌∷◌, ◌++◌, true, false, None, Some, refl}
+use Rattle.vers_bits.specs.Bits.{limbs, limb, places}
+use Rattle.vers_saved.specs.declared.kind.Order.TheVariants.{Ascending, Rising, HalfRising}
+use Rattle.vers_saved.specs.declared.kind.TheConstants.{BIT_LISTS, SORTED_LISTS}
+use Rattle.vers_saved.specs.declared.fault.LoadError.TheVariants.{TooShort, OtherKind, BadLength}
+use Rattle.vers_saved.specs.Format.{word_bytes, bytes_word, words_of, mix, check_sum, head, with_sum, saved, saved_bits, sparse_words, posting_words}
+use Rattle.vers_saved.specs.Faults.{in_order, is_padded, is_summed, fault_of}
+
+pub word_bytes-258 : word_bytes 258 ≡ 2 ∷ 1 ∷ 0 ∷ 0 ∷ 0 ∷ 0 ∷ 0 ∷ 0 ∷ []
+unfolding word_bytes
+word_bytes-258 = refl
+
+pub bytes_word-258 : bytes_word (2 ∷ 1 ∷ 0 ∷ 0 ∷ 0 ∷ 0 ∷ 0 ∷ 0 ∷ []) ≡ 258
+unfolding bytes_word
+bytes_word-258 = refl
+
+-- the sum of the head and the word of the bits 0110
+pub check_sum-0110 : check_sum (head 1 4 1 ++ 6 ∷ []) ≡ 17659836652705875429
+unfolding check_sum mix
+check_sum-0110 = refl
+
+-- the bits 0110, in 56 bytes
+abbrev four_bits : List ℕ
+four_bits =
+    119 ∷ 111 ∷ 108 ∷ 116 ∷ 115 ∷ 106 ∷ 101 ∷ 109 ∷ 1 ∷ 0 ∷ 0 ∷ 0 ∷ 0 ∷ 0 ∷ 0 ∷ 0 ∷ 1 ∷ 0 ∷ 0 ∷ 0 ∷ 0 ∷ 0 ∷ 0 ∷ 0 ∷ 1 ∷ 0 ∷ 0 ∷ 0 ∷ 0 ∷ 0 ∷ 0 ∷ 0 ∷ 4 ∷ 0 ∷ 0 ∷ 0 ∷ 0 ∷ 0 ∷ 0 ∷ 0 ∷ 6 ∷ 0 ∷ 0 ∷ 0 ∷ 0 ∷ 0 ∷ 0 ∷ 0 ∷ 229 ∷ 5 ∷ 245 ∷ 171 ∷ 222 ∷ 87 ∷ 20 ∷ 245 ∷ []
+
+pub saved-0110 : saved_bits (false ∷ true ∷ true ∷ false ∷ []) ≡ four_bits
+unfolding saved with_sum check_sum mix word_bytes limbs limb
+saved-0110 = refl
+
+pub fault_of-0110 : fault_of BIT_LISTS four_bits ≡ None
+unfolding fault_of words_of bytes_word is_summed is_padded check_sum mix
+fault_of-0110 = refl
+
+pub fault_of-none : fault_of BIT_LISTS [] ≡ Some TooShort
+unfolding fault_of words_of
+fault_of-none = refl
+
+pub fault_of-other : fault_of SORTED_LISTS four_bits ≡ Some OtherKind
+unfolding fault_of words_of bytes_word
+fault_of-other = refl
+
+pub fault_of-more : fault_of BIT_LISTS (four_bits ++ 0 ∷ []) ≡ Some BadLength
+unfolding fault_of words_of bytes_word
+fault_of-more = refl
+
+-- twelve bits with ones at 1 and 3
+pub sparse_words-1-3 :
+    sparse_words (false ∷ true ∷ false ∷ true ∷ false ∷ false ∷ false ∷ false ∷ false ∷ false ∷ false ∷ false ∷ [])
+    ≡ 1 ∷ 3 ∷ 12 ∷ []
+unfolding places
+sparse_words-1-3 = refl
+
+-- two documents and their costs, which need not ascend
+pub posting_words-2-5 : posting_words (record { documents = 2 ∷ 5 ∷ []; costs = 7 ∷ 3 ∷ [] }) ≡ 2 ∷ 5 ∷ 7 ∷ 3 ∷ []
+posting_words-2-5 = refl
+
+pub in_order-documents : in_order HalfRising (2 ∷ 5 ∷ 7 ∷ 3 ∷ []) ≡ true
+in_order-documents = refl
+
+pub in_order-equal : in_order HalfRising (5 ∷ 5 ∷ 7 ∷ 3 ∷ []) ≡ false
+in_order-equal = refl
+
+pub in_order-rising : in_order Rising (1 ∷ 3 ∷ 3 ∷ []) ≡ false
+in_order-rising = refl
+
+pub in_order-ascending : in_order Ascending (1 ∷ 3 ∷ 3 ∷ []) ≡ true
+in_order-ascending = refl
