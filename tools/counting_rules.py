@@ -72,10 +72,10 @@ SHOWN = re.compile(
     rf"|.*(?:\blen\(\)?$|[\w)\]] (?:[-+*/%|^]|>>|<<|&) [\w(]|\bas {NUMBER})"
 )
 SIDES = re.compile(r"(?:^|[({;,&|!]|= )([^={};,]*?)(?<![=!<>])(?:==|!=)(?!=)([^={};,]*?)(?=[){;,]|&&|\|\||$)", re.M)
-# Calls of the standard library that counted bodies make: on numbers, options and lanes. Others may walk a list.
+# Calls of the standard library that counted bodies make: on numbers, options, lanes and lists made there. Others may walk a list.
 KNOWN = re.compile(
     r"(?:saturating|checked|wrapping)_\w+|(?:leading|trailing|count)_(?:zeros|ones)|div_ceil|unwrap(?:_or)?|ok|is_none|is_some"
-    r"|map_err|push|splat|to_array|to_bitmask|copy_to_slice|simd_\w+"
+    r"|map_err|push|reverse|splat|to_array|to_bitmask|copy_to_slice|simd_\w+"
 )
 STANDARD = {"Some", "Ok", "Err", "Vec", "Option", "Result", "PhantomData"}
 TRAITS = {"Clone", "DoubleEndedIterator", "From", "IntoIterator", "Iterator", "PartialEq"}

@@ -5,8 +5,12 @@
 #[cfg(test)]
 mod memory;
 #[cfg(test)]
+mod pieces;
+#[cfg(test)]
 mod plain;
 #[cfg(test)]
 mod rows;
 #[cfg(test)]
 mod shared;
+#[cfg(test)]
+mod sizes;

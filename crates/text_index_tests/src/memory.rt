@@ -2,7 +2,10 @@
 //! which take none.
 use crate::shared::{are_counted, are_first, are_plain, periodic};
 use std::alloc::{AllocError, Allocator, Global};
-use test_alloc::{Ending, Making, Refusing, Trial, Tried, first_wrong_trial, tried_on, try_making};
+use test_alloc::{
+    Check, Ending, Making, Refusing, Trial, Tried, first_wrong_trial, tried_on, try_clone_checked,
+    try_making,
+};
 use text_index::{TextError, TextIndex};
 
 type Heap = Refusing<Global>;
@@ -43,12 +46,59 @@ fn tried(heap: &Heap, symbols: &[u64]) -> Ending {
     try_making(heap, &indexing)
 }
 
-// The maker of a text, and the calls that list places.
+// The maker of a text, and the calls that take memory.
 #[derive(Clone, Copy, Drop)]
 enum Call {
     Make,
+    Clone,
     First,
     Ascending,
+    Extract,
+}
+
+// The symbols of a text that was made.
+#[derive(Clone, Copy, Drop)]
+struct SymbolsOf<'a> {
+    symbols: &'a [u64],
+}
+
+impl<A: Allocator + Copy> Check<TextIndex<A>> for SymbolsOf<'_> {
+    fn is_right(&self, text: &mut TextIndex<A>) -> bool {
+        are_counted(text, self.symbols)
+    }
+}
+
+fn cloned(heap: &Heap, symbols: &[u64]) -> Ending {
+    let check = SymbolsOf { symbols };
+    try_clone_checked(heap, TextIndex::from_slice(heap, symbols, 2), &check)
+}
+
+// The call that gives back all symbols of a text.
+#[derive(Drop)]
+struct Extracting<'a, A: Allocator + Copy> {
+    text: &'a TextIndex<A>,
+    symbols: &'a [u64],
+}
+
+impl<A: Allocator + Copy> Making for Extracting<'_, A> {
+    type Made = Option<Vec<u64, A>>;
+
+    type Fault = AllocError;
+
+    fn out_of_memory(&self) -> AllocError {
+        AllocError
+    }
+
+    fn make(&self) -> Result<Option<Vec<u64, A>>, AllocError> {
+        self.text.extract(0..self.symbols.len())
+    }
+
+    fn is_right(&self, found: &Option<Vec<u64, A>>) -> bool {
+        match found {
+            Some(piece) => piece.as_slice() == self.symbols,
+            None => false,
+        }
+    }
 }
 
 // A call that lists the places of a symbol in a text.
@@ -93,6 +143,13 @@ struct Listed<'a, B: Allocator> {
 
 impl<B: Allocator, A: Allocator + Copy> Tried<TextIndex<A>> for Listed<'_, B> {
     fn tried(&self, text: &TextIndex<A>) -> Ending {
+        if matches!(self.call, Call::Extract) {
+            let extracting = Extracting {
+                text,
+                symbols: self.symbols,
+            };
+            return try_making(self.heap, &extracting);
+        }
         let listing = Listing {
             call: self.call,
             text,
@@ -116,20 +173,31 @@ impl Trial<Global> for Call {
         let Ok(symbols) = periodic(heap, len, 3) else {
             return Ending::Wrong;
         };
-        if matches!(self, Call::Make) {
-            return tried(heap, symbols.as_slice());
+        match self {
+            Call::Make => tried(heap, symbols.as_slice()),
+            Call::Clone => cloned(heap, symbols.as_slice()),
+            _ => tried_listing(heap, self, symbols.as_slice()),
         }
-        tried_listing(heap, self, symbols.as_slice())
     }
 
-    // A text without the symbol has no places to list.
+    // A text without the symbol has no places to list, and the empty text no symbols.
     fn takes_memory(self, len: usize) -> bool {
-        matches!(self, Call::Make) || len > 1
+        match self {
+            Call::Make | Call::Clone => true,
+            Call::First | Call::Ascending => len > 1,
+            Call::Extract => len > 0,
+        }
     }
 }
 
 #[test]
 fn each_request_is_refused_in_turn(rt: HostRuntime) {
-    let calls = [Call::Make, Call::First, Call::Ascending];
+    let calls = [
+        Call::Make,
+        Call::Clone,
+        Call::First,
+        Call::Ascending,
+        Call::Extract,
+    ];
     assert!(rt; first_wrong_trial(rt.alloc(), &LENGTHS, &calls).is_none());
 }
