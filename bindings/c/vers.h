@@ -24,7 +24,8 @@
  *  What a caller owes, since no call can test it:
  *  - a handle is all zeros, or as the last call has left it; it is copied by `_clone` alone;
  *  - pointers to handles aren't null, and are of different handles where a call takes two;
- *  - an array has as many items as its count says; it may be null where the count is 0;
+ *  - an array has as many items as its count says, and no other thread writes it during the call; it may be null
+ *    where the count is 0;
  *  - no call from a signal handler, nor from the forked child of a process with threads.
  *  All else is tested, and told by the status: places past the end, numbers that don't ascend, queries of another
  *  list, handles that hold nothing or are full, memory that is refused.

@@ -73,14 +73,8 @@ def size_of(made: Any) -> int:
 
 
 def held(numbers: Any) -> Held:
-    """The numbers where they are, if they are of 64 bits without gaps and may be written, else copied."""
-    numpy = _numpy_of(numbers)
-    if numpy is not None and numbers.dtype == numpy.uint64 and numbers.flags.c_contiguous:
-        made = numbers
-    elif isinstance(numbers, array) and numbers.typecode == "Q":
-        made = numbers
-    else:
-        made = copied(numbers)
+    """The numbers in an array of their own, so that no other thread writes them while the library reads."""
+    made = copied(numbers)
     return Held(address_of(made), size_of(made), made)
 
 
