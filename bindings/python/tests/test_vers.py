@@ -38,6 +38,7 @@ class Lists(unittest.TestCase):
                 self.assertEqual([made.rank1(i) for i in range(count + 2)], [sum(bits[:i]) for i in range(count + 2)])
                 self.assertEqual([made.select1(k) for k in range(len(ones) + 1)], [*ones, count])
                 self.assertEqual([made.select0(k) for k in range(len(zeros) + 1)], [*zeros, count])
+                self.assertEqual((list(made.iter1()), list(made.iter0())), (ones, zeros))
                 self.assertEqual((made.rank0(count), made.zeros(), made.ones()), (len(zeros), len(zeros), len(ones)))
                 for place in (0, 1, count // 2, count, vers.NONE):
                     self.assertEqual(made.successor1(place), next((it for it in ones if it > place), None))
@@ -96,7 +97,7 @@ class Lists(unittest.TestCase):
             self.assertEqual(list(made), bits)
             self.assertEqual([made.select1(k) for k in range(count + 1)], [*ones, 2000])
             self.assertEqual([made.rank1(i) for i in range(0, 2001, 7)], [sum(bits[:i]) for i in range(0, 2001, 7)])
-            self.assertEqual(made.rank0(2000), 2000 - count)
+            self.assertEqual((made.rank0(2000), list(made.iter1())), (2000 - count, ones))
         for ones, length in (([3, 3], 10), ([2, 10], 10)):
             with self.assertRaises(vers.Refused):
                 vers.SparseRSVec(ones, length)
@@ -162,7 +163,7 @@ class Lists(unittest.TestCase):
         self.assertEqual([made.parent(n) for n in (0, 1, 2, 4, 7, 8, 12)], [None, 0, 1, 1, 0, 7, None])
         self.assertEqual([made.subtree_size(n) for n in (0, 1, 12)], [6, 3, 1])
         self.assertEqual([made.excess(i) for i in range(5)], [1, 2, 3, 2, 3])
-        self.assertEqual(list(made.children(0)), [1, 7])
+        self.assertEqual((list(made.children(0)), list(made.dfs_iter())), ([1, 7], [0, 1, 2, 4, 7, 8, 12]))
         self.assertEqual((made.last_child(0), made.previous_sibling(7), made.first_child(2)), (7, 1, None))
         self.assertEqual((made.close(0), made.open(11), made.enclose(4)), (11, 0, 1))
         self.assertEqual((made.fwd_search(0, -1), made.bwd_search(11, -1)), (11, 0))

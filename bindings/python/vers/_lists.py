@@ -116,6 +116,11 @@ class List:
             answers = _buffers.shaped(rows[::3], shape)
         return _buffers.signed(answers) if query in self._signed else answers
 
+    def _answers(self, query: str, count: int) -> Iterator[int]:
+        """The answers of a query to each number below a count."""
+        for start in range(0, count, 4096):
+            yield from self.each(query, range(start, min(start + 4096, count)))
+
     def _batch(self, ask: Any, *arguments: Any) -> None:
         own = library.Handle()
         library.done(library.clone(self._at, own))
@@ -275,6 +280,14 @@ class RsVec(_Fixed):
         """The place of a zero by its number from 0 on; the length where there are no more."""
         return self._number(codes.SELECT0, number)
 
+    def iter1(self) -> Iterator[int]:
+        """The places of the ones, in order."""
+        return self._answers("select1", self.ones())
+
+    def iter0(self) -> Iterator[int]:
+        """The places of the zeros, in order."""
+        return self._answers("select0", self.zeros())
+
     def ones(self) -> int:
         """How many ones there are."""
         return self.rank1(NONE)
@@ -329,6 +342,10 @@ class SparseRSVec(_Fixed):
     def select1(self, number: int) -> int:
         """The place of a one by its number from 0 on; the length where there are no more."""
         return self._number(codes.SELECT1, number)
+
+    def iter1(self) -> Iterator[int]:
+        """The places of the ones, in order."""
+        return self._answers("select1", self.rank1(NONE))
 
 
 class EliasFanoVec(_Fixed):
@@ -581,6 +598,10 @@ class BpTree(List):
         while child is not None:
             yield child
             child = self.next_sibling(child)
+
+    def dfs_iter(self) -> Iterator[int]:
+        """The nodes in preorder: the places of the ones."""
+        return self._answers("node_handle", self.size())
 
     def level_next(self, node: int) -> Optional[int]:
         """The next node of the same depth. None where there is none."""
