@@ -171,3 +171,11 @@ fn a_walk_builds_a_tree() {
     let tree = BpBuilder::<512>::new().build().unwrap();
     assert_eq!((tree.size(), tree.root(), tree.level_leftmost(0), tree.is_empty()), (0, None, None, true));
 }
+
+#[test]
+#[cfg(debug_assertions)]
+#[should_panic(expected = "no node opens at 1")]
+fn places_where_no_node_opens_stop() {
+    let tree: BpTree = BpTree::from(BitVec::from_bits(&[1, 0]));
+    let _ = tree.is_ancestor(0, 1);
+}

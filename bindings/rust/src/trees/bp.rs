@@ -110,11 +110,16 @@ impl<const BLOCK_SIZE: usize> BpTree<BLOCK_SIZE> {
         self.owner.ask(Query::Get, place, 0, 0).map(|bit| bit == 1)
     }
 
+    /// Stops a program with debug assertions where no node opens.
+    fn assert_node(&self, node: usize) {
+        debug_assert_eq!(self.is_open(node), Some(true), "no node opens at {node}");
+    }
+
     /// What the library answers of a node, or something else where it refuses the node.
     #[inline]
     fn of_node(&self, query: Query, node: usize, b: u64, otherwise: impl FnOnce() -> Option<u64>) -> Option<u64> {
         self.owner.ask_or_refuse(query, node, b).unwrap_or_else(|Refused| {
-            debug_assert_eq!(self.is_open(node), Some(true), "no node opens at {node}");
+            self.assert_node(node);
             otherwise()
         })
     }
@@ -153,7 +158,7 @@ impl<const BLOCK_SIZE: usize> BpTree<BLOCK_SIZE> {
 
     /// A node and all below it, in postorder.
     pub fn subtree_post_iter(&self, node: usize) -> impl Iterator<Item = usize> + use<'_, BLOCK_SIZE> {
-        debug_assert_eq!(self.is_open(node), Some(true), "no node opens at {node}");
+        self.assert_node(node);
         self.closed(node, self.close(node).unwrap_or(node) + 1)
     }
 
@@ -266,6 +271,7 @@ impl<const BLOCK_SIZE: usize> Tree for BpTree<BLOCK_SIZE> {
 impl<const BLOCK_SIZE: usize> IsAncestor for BpTree<BLOCK_SIZE> {
     fn is_ancestor(&self, ancestor: usize, descendant: usize) -> Option<bool> {
         let answer = self.of_node(Query::IsAncestor, ancestor, descendant as u64, || {
+            self.assert_node(descendant);
             let close = self.close(ancestor)?;
             Some((ancestor <= descendant && descendant < close).into())
         });
