@@ -13,7 +13,7 @@ from pathlib import Path
 
 TOP = os.path.dirname(os.path.dirname(os.path.abspath(__file__)))
 PUB = r"(?:pub(?:\([a-z]+\))? )?"
-HEAD = re.compile(rf"(?: {{4}})?{PUB}(?:const |unsafe )*fn (\w+)")
+HEAD = re.compile(rf"(?: {{4}})?{PUB}(?:const |unsafe |extern \"C\" )*fn (\w+)")
 OWNER = re.compile(rf"{PUB}(?:unsafe )?(?:impl|trait)\b")
 CLAUSE = re.compile(r"(?ms)^\s*(requires|ensures) (?:[a-z_]\w* )?\{ (.*?)\s\}\s*(?=^\s*(?:requires|ensures)\b|\Z)")
 STRUCT = re.compile(rf"(?ms)^{PUB}(struct|enum) (\w+)([^;{{(]*)(\{{.*?^\}}|\{{[^\n]*\}}|\([^;]*\);|;)")

@@ -43,6 +43,11 @@ abbrev pub contents_answer : Option Structure → ℕ → ℕ → ℕ → ℕ �
 contents_answer None code a b c = vacant
 contents_answer (Some held) code a b c = coded_answer held code a b c
 
+-- a query of what a handle holds
+abbrev pub contents_asked : Option Structure → Query → ℕ → ℕ → ℕ → Answer
+contents_asked None query a b c = vacant
+contents_asked (Some held) query a b c = structure_answer held query a b c
+
 -- the status of a batch: whether the structure has such a query
 abbrev pub batch_status : Structure → ℕ → ℕ
 batch_status held code = if (coded_answer held code 0 0 0).status == 2 then 2 else 0

@@ -7,9 +7,10 @@ ghost use Rattle.vers_c.specs.Lists.{common_of};
 ghost use Rattle.vers_c.specs.Structures.{structure_of};
 
 use crate::answer::Answer;
-use crate::asked::{Ask, answer_each, answer_once, answer_rows};
+use crate::asked::{Ask, Asked, answer_each, answer_once, answer_rows};
 use crate::bits::each_of_bits;
 use crate::change::Change;
+use crate::kind::Kind;
 use crate::minima::{each_of_values, rows_of_values};
 use crate::query::Query;
 use crate::sorted::each_of_sorted;
@@ -71,6 +72,36 @@ impl Kept {
             Kept::Binary(values) => answer_once(values, query, a, b, c),
             Kept::Posted(posted) => answer_once(posted, query, a, b, c),
             Kept::Numbers(numbers) => answer_once(numbers, query, a, b, c),
+        }
+    }
+
+    /// The same as `answer`, at the least cost where the structure is of a kind.
+    #[inline(always)]
+    pub fn answer_as(&self, kind: Kind, query: Query, a: u64, b: u64, c: u64) -> Answer
+        ensures { result ≡ structure_answer (structure_of self.now) query a b c }
+    {
+        match kind {
+            Kind::Bits => match self {
+                Kept::Bits(bits) => bits.answer(query, a, b, c),
+                _ => self.answer(query, a, b, c),
+            },
+            Kind::Sorted => match self {
+                Kept::Sorted(members) => members.answer(query, a, b, c),
+                _ => self.answer(query, a, b, c),
+            },
+            Kind::Symbols => match self {
+                Kept::Symbols(symbols) => symbols.answer(query, a, b, c),
+                _ => self.answer(query, a, b, c),
+            },
+            Kind::Tree => match self {
+                Kept::Tree(tree) => (**tree).answer(query, a, b, c),
+                _ => self.answer(query, a, b, c),
+            },
+            Kind::Fast => match self {
+                Kept::Fast(values) => values.answer(query, a, b, c),
+                _ => self.answer(query, a, b, c),
+            },
+            _ => self.answer(query, a, b, c),
         }
     }
 

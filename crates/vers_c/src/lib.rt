@@ -20,6 +20,7 @@ mod minima;
 mod owners;
 mod posted;
 mod query;
+mod quick;
 mod saves;
 mod shares;
 mod sorted;

@@ -1,0 +1,196 @@
+//! Exports that ask one query each: of any structure what `vers_ask` answers, at the least cost of one kind.
+ghost use Rattle.std.specs.Prelude.{◌≡◌};
+ghost use Rattle.vers_c.specs.Queries.{contents_asked};
+ghost use Rattle.vers_c.specs.Structures.{contents};
+ghost use Rattle.vers_c.specs.declared.query.Query.TheVariants as query;
+
+use crate::answer::Answer;
+use crate::handle::VersHandle;
+use crate::kind::Kind;
+use crate::owners::{put, taken};
+use crate::query::Query;
+use std::alloc::Global;
+
+// Asks what is held, at the least cost where it is of a kind.
+#[inline(always)]
+fn ask_as(
+    alloc: Global,
+    handle: &mut VersHandle,
+    kind: Kind,
+    query: Query,
+    a: u64,
+    b: u64,
+) -> Answer
+    ensures value { result ≡ contents_asked (contents handle.old) query a b 0 }
+    ensures kept { contents handle.new ≡ contents handle.old }
+{
+    if !handle.is_built {
+        return Answer::vacant();
+    }
+    let owner = taken(alloc, handle);
+    let answer = owner.answer_as(kind, query, a, b, 0);
+    put(handle, owner);
+    answer
+}
+
+/// The bit at a place, at the least cost of bits with ranks.
+#[unsafe(no_mangle)]
+pub extern "C" fn vers_quick_bits_get(alloc: Global, handle: &mut VersHandle, place: u64) -> Answer
+    ensures value { result ≡ contents_asked (contents handle.old) query.Get place 0 0 }
+    ensures kept { contents handle.new ≡ contents handle.old }
+{
+    ask_as(alloc, handle, Kind::Bits, Query::Get, place, 0)
+}
+
+/// How many zeros stand before a place, at the least cost of bits with ranks.
+#[unsafe(no_mangle)]
+pub extern "C" fn vers_quick_bits_rank0(
+    alloc: Global,
+    handle: &mut VersHandle,
+    place: u64,
+) -> Answer
+    ensures value { result ≡ contents_asked (contents handle.old) query.Rank0 place 0 0 }
+    ensures kept { contents handle.new ≡ contents handle.old }
+{
+    ask_as(alloc, handle, Kind::Bits, Query::Rank0, place, 0)
+}
+
+/// How many ones stand before a place, at the least cost of bits with ranks.
+#[unsafe(no_mangle)]
+pub extern "C" fn vers_quick_bits_rank1(
+    alloc: Global,
+    handle: &mut VersHandle,
+    place: u64,
+) -> Answer
+    ensures value { result ≡ contents_asked (contents handle.old) query.Rank1 place 0 0 }
+    ensures kept { contents handle.new ≡ contents handle.old }
+{
+    ask_as(alloc, handle, Kind::Bits, Query::Rank1, place, 0)
+}
+
+/// The place of a zero by its number, at the least cost of bits with ranks.
+#[unsafe(no_mangle)]
+pub extern "C" fn vers_quick_bits_select0(
+    alloc: Global,
+    handle: &mut VersHandle,
+    number: u64,
+) -> Answer
+    ensures value { result ≡ contents_asked (contents handle.old) query.Select0 number 0 0 }
+    ensures kept { contents handle.new ≡ contents handle.old }
+{
+    ask_as(alloc, handle, Kind::Bits, Query::Select0, number, 0)
+}
+
+/// The place of a one by its number, at the least cost of bits with ranks.
+#[unsafe(no_mangle)]
+pub extern "C" fn vers_quick_bits_select1(
+    alloc: Global,
+    handle: &mut VersHandle,
+    number: u64,
+) -> Answer
+    ensures value { result ≡ contents_asked (contents handle.old) query.Select1 number 0 0 }
+    ensures kept { contents handle.new ≡ contents handle.old }
+{
+    ask_as(alloc, handle, Kind::Bits, Query::Select1, number, 0)
+}
+
+/// The member at a place, at the least cost of ascending lists.
+#[unsafe(no_mangle)]
+pub extern "C" fn vers_quick_sorted_get(
+    alloc: Global,
+    handle: &mut VersHandle,
+    place: u64,
+) -> Answer
+    ensures value { result ≡ contents_asked (contents handle.old) query.Get place 0 0 }
+    ensures kept { contents handle.new ≡ contents handle.old }
+{
+    ask_as(alloc, handle, Kind::Sorted, Query::Get, place, 0)
+}
+
+/// How many members are below a number, at the least cost of ascending lists.
+#[unsafe(no_mangle)]
+pub extern "C" fn vers_quick_sorted_rank(
+    alloc: Global,
+    handle: &mut VersHandle,
+    number: u64,
+) -> Answer
+    ensures value { result ≡ contents_asked (contents handle.old) query.Rank number 0 0 }
+    ensures kept { contents handle.new ≡ contents handle.old }
+{
+    ask_as(alloc, handle, Kind::Sorted, Query::Rank, number, 0)
+}
+
+/// The greatest member that is not above a number, at the least cost of ascending lists.
+#[unsafe(no_mangle)]
+pub extern "C" fn vers_quick_sorted_predecessor(
+    alloc: Global,
+    handle: &mut VersHandle,
+    number: u64,
+) -> Answer
+    ensures value { result ≡ contents_asked (contents handle.old) query.Predecessor number 0 0 }
+    ensures kept { contents handle.new ≡ contents handle.old }
+{
+    ask_as(alloc, handle, Kind::Sorted, Query::Predecessor, number, 0)
+}
+
+/// The least member that is not below a number, at the least cost of ascending lists.
+#[unsafe(no_mangle)]
+pub extern "C" fn vers_quick_sorted_successor(
+    alloc: Global,
+    handle: &mut VersHandle,
+    number: u64,
+) -> Answer
+    ensures value { result ≡ contents_asked (contents handle.old) query.Successor number 0 0 }
+    ensures kept { contents handle.new ≡ contents handle.old }
+{
+    ask_as(alloc, handle, Kind::Sorted, Query::Successor, number, 0)
+}
+
+/// The symbol at a place, at the least cost of lists of symbols.
+#[unsafe(no_mangle)]
+pub extern "C" fn vers_quick_symbols_get(
+    alloc: Global,
+    handle: &mut VersHandle,
+    place: u64,
+) -> Answer
+    ensures value { result ≡ contents_asked (contents handle.old) query.Get place 0 0 }
+    ensures kept { contents handle.new ≡ contents handle.old }
+{
+    ask_as(alloc, handle, Kind::Symbols, Query::Get, place, 0)
+}
+
+/// Whether a parenthesis opens, as 1 or 0, at the least cost of parentheses.
+#[unsafe(no_mangle)]
+pub extern "C" fn vers_quick_tree_get(alloc: Global, handle: &mut VersHandle, place: u64) -> Answer
+    ensures value { result ≡ contents_asked (contents handle.old) query.Get place 0 0 }
+    ensures kept { contents handle.new ≡ contents handle.old }
+{
+    ask_as(alloc, handle, Kind::Tree, Query::Get, place, 0)
+}
+
+/// The value at a place, at the least cost of values by blocks.
+#[unsafe(no_mangle)]
+pub extern "C" fn vers_quick_values_get(
+    alloc: Global,
+    handle: &mut VersHandle,
+    place: u64,
+) -> Answer
+    ensures value { result ≡ contents_asked (contents handle.old) query.Get place 0 0 }
+    ensures kept { contents handle.new ≡ contents handle.old }
+{
+    ask_as(alloc, handle, Kind::Fast, Query::Get, place, 0)
+}
+
+/// The first place of a least value from one place to another, both included, at the least cost of values by blocks.
+#[unsafe(no_mangle)]
+pub extern "C" fn vers_quick_values_range_min(
+    alloc: Global,
+    handle: &mut VersHandle,
+    from: u64,
+    to: u64,
+) -> Answer
+    ensures value { result ≡ contents_asked (contents handle.old) query.RangeMin from to 0 }
+    ensures kept { contents handle.new ≡ contents handle.old }
+{
+    ask_as(alloc, handle, Kind::Fast, Query::RangeMin, from, to)
+}
