@@ -172,6 +172,22 @@ uint32_t vers_intersect(vers_handle *one, vers_handle *other, vers_handle *into)
 /** Empties a handle, and frees the list if no other handle holds it. An empty handle stays empty. */
 void vers_free(vers_handle *handle);
 
+/* Queries that are asked often, each by a call of its own: the answers of vers_ask, in fewer instructions where the
+ * list is of that kind. Values are those of a vers_fast_rmq. */
+vers_answer vers_quick_bits_get(vers_handle *handle, uint64_t place);
+vers_answer vers_quick_bits_rank0(vers_handle *handle, uint64_t place);
+vers_answer vers_quick_bits_rank1(vers_handle *handle, uint64_t place);
+vers_answer vers_quick_bits_select0(vers_handle *handle, uint64_t number);
+vers_answer vers_quick_bits_select1(vers_handle *handle, uint64_t number);
+vers_answer vers_quick_sorted_get(vers_handle *handle, uint64_t place);
+vers_answer vers_quick_sorted_rank(vers_handle *handle, uint64_t number);
+vers_answer vers_quick_sorted_predecessor(vers_handle *handle, uint64_t number);
+vers_answer vers_quick_sorted_successor(vers_handle *handle, uint64_t number);
+vers_answer vers_quick_symbols_get(vers_handle *handle, uint64_t place);
+vers_answer vers_quick_tree_get(vers_handle *handle, uint64_t place);
+vers_answer vers_quick_values_get(vers_handle *handle, uint64_t place);
+vers_answer vers_quick_values_range_min(vers_handle *handle, uint64_t first, uint64_t last);
+
 /** How many bytes the saved form of a list has. VERS_VACANT, VERS_ABSENT where there is none. */
 vers_answer vers_saved_size(vers_handle *handle);
 
@@ -226,10 +242,15 @@ static inline const uint64_t *vers_array(const uint64_t *array) {
     return array ? array : &none;
 }
 
+/** A handle that a query writes to and leaves as it was. */
+static inline vers_handle *vers_held(const vers_handle *handle) {
+    return (vers_handle *)(uintptr_t)handle;
+}
+
 /** Asks one query of a list, which stays as it is. */
 static inline vers_answer vers_asked(const vers_handle *handle, enum vers_query query, uint64_t a, uint64_t b,
                                      uint64_t c) {
-    return vers_ask((vers_handle *)(uintptr_t)handle, (uint32_t)query, a, b, c);
+    return vers_ask(vers_held(handle), (uint32_t)query, a, b, c);
 }
 
 /** The least place above another one with a bit of a kind, which `rank` counts and `select` finds. */
@@ -253,7 +274,7 @@ static inline uint32_t vers_asked_each(const vers_handle *handle, enum vers_quer
                                        size_t count, uint64_t b, uint64_t c, uint64_t other) {
     uint64_t none = 0;
     if (count == 0) numbers = &none;
-    return vers_ask_each((vers_handle *)(uintptr_t)handle, (uint32_t)query, numbers, count, b, c, other);
+    return vers_ask_each(vers_held(handle), (uint32_t)query, numbers, count, b, c, other);
 }
 
 /** Asks many queries of a list, with three numbers each. The list stays as it is. */
@@ -261,14 +282,14 @@ static inline uint32_t vers_asked_rows(const vers_handle *handle, enum vers_quer
                                        uint64_t other) {
     vers_row none = {0, 0, 0};
     if (count == 0) rows = &none;
-    return vers_ask_rows((vers_handle *)(uintptr_t)handle, (uint32_t)query, rows, count, other);
+    return vers_ask_rows(vers_held(handle), (uint32_t)query, rows, count, other);
 }
 
 /** Writes the saved form of a list, which stays as it is. */
 static inline uint32_t vers_saved(const vers_handle *handle, uint8_t *bytes, size_t count) {
     uint8_t none = 0;
     if (count == 0) bytes = &none;
-    return vers_save((vers_handle *)(uintptr_t)handle, bytes, count);
+    return vers_save(vers_held(handle), bytes, count);
 }
 
 /** Makes the list of a kind of which bytes are the saved form. */
@@ -300,12 +321,12 @@ static inline void vers_growing_free(vers_growing *list) {
 /** Makes an empty handle one more handle of the list, for another thread. VERS_VACANT, VERS_OCCUPIED,
  * VERS_NO_MEMORY. */
 static inline uint32_t vers_growing_clone(const vers_growing *list, vers_growing *other) {
-    return vers_clone((vers_handle *)(uintptr_t)&list->handle, &other->handle);
+    return vers_clone(vers_held(&list->handle), &other->handle);
 }
 
 /** How many bytes the saved form of the list has. */
 static inline vers_answer vers_growing_saved_size(const vers_growing *list) {
-    return vers_saved_size((vers_handle *)(uintptr_t)&list->handle);
+    return vers_saved_size(vers_held(&list->handle));
 }
 
 /** Writes the saved form over `count` bytes, as many as `_saved_size` says. VERS_REFUSED for another count,
@@ -395,12 +416,12 @@ static inline void vers_bits_free(vers_bits *list) {
 /** Makes an empty handle one more handle of the list, for another thread. VERS_VACANT, VERS_OCCUPIED,
  * VERS_NO_MEMORY. */
 static inline uint32_t vers_bits_clone(const vers_bits *list, vers_bits *other) {
-    return vers_clone((vers_handle *)(uintptr_t)&list->handle, &other->handle);
+    return vers_clone(vers_held(&list->handle), &other->handle);
 }
 
 /** How many bytes the saved form of the list has. */
 static inline vers_answer vers_bits_saved_size(const vers_bits *list) {
-    return vers_saved_size((vers_handle *)(uintptr_t)&list->handle);
+    return vers_saved_size(vers_held(&list->handle));
 }
 
 /** Writes the saved form over `count` bytes, as many as `_saved_size` says. VERS_REFUSED for another count,
@@ -427,7 +448,7 @@ static inline vers_answer vers_bits_heap_size(const vers_bits *list) {
 
 /** The bit at a place, 1 or 0. VERS_ABSENT past the end. */
 static inline vers_answer vers_bits_get(const vers_bits *list, uint64_t place) {
-    return vers_asked(&list->handle, VERS_GET, place, 0, 0);
+    return vers_quick_bits_get(vers_held(&list->handle), place);
 }
 
 /** The number of the `count` bits from a place on, the lowest first; 0 for none. VERS_ABSENT where there are not so
@@ -438,22 +459,22 @@ static inline vers_answer vers_bits_get_bits(const vers_bits *list, uint64_t pla
 
 /** How many ones stand before a place; all of them past the end. */
 static inline vers_answer vers_bits_rank1(const vers_bits *list, uint64_t place) {
-    return vers_asked(&list->handle, VERS_RANK1, place, 0, 0);
+    return vers_quick_bits_rank1(vers_held(&list->handle), place);
 }
 
 /** How many zeros stand before a place; all of them past the end. */
 static inline vers_answer vers_bits_rank0(const vers_bits *list, uint64_t place) {
-    return vers_asked(&list->handle, VERS_RANK0, place, 0, 0);
+    return vers_quick_bits_rank0(vers_held(&list->handle), place);
 }
 
 /** The place of one number `number`, counted from 0; the length where there are no more. */
 static inline vers_answer vers_bits_select1(const vers_bits *list, uint64_t number) {
-    return vers_asked(&list->handle, VERS_SELECT1, number, 0, 0);
+    return vers_quick_bits_select1(vers_held(&list->handle), number);
 }
 
 /** The place of zero number `number`, counted from 0; the length where there are no more. */
 static inline vers_answer vers_bits_select0(const vers_bits *list, uint64_t number) {
-    return vers_asked(&list->handle, VERS_SELECT0, number, 0, 0);
+    return vers_quick_bits_select0(vers_held(&list->handle), number);
 }
 
 /** How many ones. */
@@ -522,12 +543,12 @@ static inline void vers_sorted_free(vers_sorted *list) {
 /** Makes an empty handle one more handle of the list, for another thread. VERS_VACANT, VERS_OCCUPIED,
  * VERS_NO_MEMORY. */
 static inline uint32_t vers_sorted_clone(const vers_sorted *list, vers_sorted *other) {
-    return vers_clone((vers_handle *)(uintptr_t)&list->handle, &other->handle);
+    return vers_clone(vers_held(&list->handle), &other->handle);
 }
 
 /** How many bytes the saved form of the list has. */
 static inline vers_answer vers_sorted_saved_size(const vers_sorted *list) {
-    return vers_saved_size((vers_handle *)(uintptr_t)&list->handle);
+    return vers_saved_size(vers_held(&list->handle));
 }
 
 /** Writes the saved form over `count` bytes, as many as `_saved_size` says. VERS_REFUSED for another count,
@@ -554,12 +575,12 @@ static inline vers_answer vers_sorted_heap_size(const vers_sorted *list) {
 
 /** The member at a place. VERS_ABSENT past the end. */
 static inline vers_answer vers_sorted_get(const vers_sorted *list, uint64_t place) {
-    return vers_asked(&list->handle, VERS_GET, place, 0, 0);
+    return vers_quick_sorted_get(vers_held(&list->handle), place);
 }
 
 /** How many members are below a number. */
 static inline vers_answer vers_sorted_rank(const vers_sorted *list, uint64_t number) {
-    return vers_asked(&list->handle, VERS_RANK, number, 0, 0);
+    return vers_quick_sorted_rank(vers_held(&list->handle), number);
 }
 
 /** Whether a number is a member, 1 or 0. */
@@ -569,12 +590,12 @@ static inline vers_answer vers_sorted_has(const vers_sorted *list, uint64_t numb
 
 /** The greatest member not above a number. VERS_ABSENT where there is none. */
 static inline vers_answer vers_sorted_predecessor(const vers_sorted *list, uint64_t number) {
-    return vers_asked(&list->handle, VERS_PREDECESSOR, number, 0, 0);
+    return vers_quick_sorted_predecessor(vers_held(&list->handle), number);
 }
 
 /** The least member not below a number. VERS_ABSENT where there is none. */
 static inline vers_answer vers_sorted_successor(const vers_sorted *list, uint64_t number) {
-    return vers_asked(&list->handle, VERS_SUCCESSOR, number, 0, 0);
+    return vers_quick_sorted_successor(vers_held(&list->handle), number);
 }
 
 /** The member at a place less the one before it, the first member itself. VERS_ABSENT past the end. */
@@ -610,12 +631,12 @@ static inline void vers_sparse_free(vers_sparse *list) {
 /** Makes an empty handle one more handle of the list, for another thread. VERS_VACANT, VERS_OCCUPIED,
  * VERS_NO_MEMORY. */
 static inline uint32_t vers_sparse_clone(const vers_sparse *list, vers_sparse *other) {
-    return vers_clone((vers_handle *)(uintptr_t)&list->handle, &other->handle);
+    return vers_clone(vers_held(&list->handle), &other->handle);
 }
 
 /** How many bytes the saved form of the list has. */
 static inline vers_answer vers_sparse_saved_size(const vers_sparse *list) {
-    return vers_saved_size((vers_handle *)(uintptr_t)&list->handle);
+    return vers_saved_size(vers_held(&list->handle));
 }
 
 /** Writes the saved form over `count` bytes, as many as `_saved_size` says. VERS_REFUSED for another count,
@@ -689,12 +710,12 @@ static inline void vers_symbols_free(vers_symbols *list) {
 /** Makes an empty handle one more handle of the list, for another thread. VERS_VACANT, VERS_OCCUPIED,
  * VERS_NO_MEMORY. */
 static inline uint32_t vers_symbols_clone(const vers_symbols *list, vers_symbols *other) {
-    return vers_clone((vers_handle *)(uintptr_t)&list->handle, &other->handle);
+    return vers_clone(vers_held(&list->handle), &other->handle);
 }
 
 /** How many bytes the saved form of the list has. VERS_ABSENT where a symbol has no bits. */
 static inline vers_answer vers_symbols_saved_size(const vers_symbols *list) {
-    return vers_saved_size((vers_handle *)(uintptr_t)&list->handle);
+    return vers_saved_size(vers_held(&list->handle));
 }
 
 /** Writes the saved form over `count` bytes, as many as `_saved_size` says. VERS_REFUSED for another count,
@@ -726,7 +747,7 @@ static inline vers_answer vers_symbols_heap_size(const vers_symbols *list) {
 
 /** The symbol at a place. VERS_ABSENT past the end. */
 static inline vers_answer vers_symbols_get(const vers_symbols *list, uint64_t place) {
-    return vers_asked(&list->handle, VERS_GET, place, 0, 0);
+    return vers_quick_symbols_get(vers_held(&list->handle), place);
 }
 
 /** How many of the first `end` places hold a symbol. VERS_ABSENT where there are not so many places. */
@@ -819,12 +840,12 @@ static inline void vers_fast_rmq_free(vers_fast_rmq *list) {
 /** Makes an empty handle one more handle of the list, for another thread. VERS_VACANT, VERS_OCCUPIED,
  * VERS_NO_MEMORY. */
 static inline uint32_t vers_fast_rmq_clone(const vers_fast_rmq *list, vers_fast_rmq *other) {
-    return vers_clone((vers_handle *)(uintptr_t)&list->handle, &other->handle);
+    return vers_clone(vers_held(&list->handle), &other->handle);
 }
 
 /** How many bytes the saved form of the list has. */
 static inline vers_answer vers_fast_rmq_saved_size(const vers_fast_rmq *list) {
-    return vers_saved_size((vers_handle *)(uintptr_t)&list->handle);
+    return vers_saved_size(vers_held(&list->handle));
 }
 
 /** Writes the saved form over `count` bytes, as many as `_saved_size` says. VERS_REFUSED for another count,
@@ -851,13 +872,13 @@ static inline vers_answer vers_fast_rmq_heap_size(const vers_fast_rmq *list) {
 
 /** The value at a place. VERS_ABSENT past the end. */
 static inline vers_answer vers_fast_rmq_get(const vers_fast_rmq *list, uint64_t place) {
-    return vers_asked(&list->handle, VERS_GET, place, 0, 0);
+    return vers_quick_values_get(vers_held(&list->handle), place);
 }
 
 /** The first place of a least value from `first` to `last`, both included. VERS_ABSENT where `last` is before `first`
  * or past the end. */
 static inline vers_answer vers_fast_rmq_range_min(const vers_fast_rmq *list, uint64_t first, uint64_t last) {
-    return vers_asked(&list->handle, VERS_RANGE_MIN, first, last, 0);
+    return vers_quick_values_range_min(vers_held(&list->handle), first, last);
 }
 
 /** Puts in the place of each number what a query of one number answers to it, `other` where there is no answer.
@@ -893,12 +914,12 @@ static inline void vers_binary_rmq_free(vers_binary_rmq *list) {
 /** Makes an empty handle one more handle of the list, for another thread. VERS_VACANT, VERS_OCCUPIED,
  * VERS_NO_MEMORY. */
 static inline uint32_t vers_binary_rmq_clone(const vers_binary_rmq *list, vers_binary_rmq *other) {
-    return vers_clone((vers_handle *)(uintptr_t)&list->handle, &other->handle);
+    return vers_clone(vers_held(&list->handle), &other->handle);
 }
 
 /** How many bytes the saved form of the list has. */
 static inline vers_answer vers_binary_rmq_saved_size(const vers_binary_rmq *list) {
-    return vers_saved_size((vers_handle *)(uintptr_t)&list->handle);
+    return vers_saved_size(vers_held(&list->handle));
 }
 
 /** Writes the saved form over `count` bytes, as many as `_saved_size` says. VERS_REFUSED for another count,
@@ -970,12 +991,12 @@ static inline void vers_tree_free(vers_tree *list) {
 /** Makes an empty handle one more handle of the list, for another thread. VERS_VACANT, VERS_OCCUPIED,
  * VERS_NO_MEMORY. */
 static inline uint32_t vers_tree_clone(const vers_tree *list, vers_tree *other) {
-    return vers_clone((vers_handle *)(uintptr_t)&list->handle, &other->handle);
+    return vers_clone(vers_held(&list->handle), &other->handle);
 }
 
 /** How many bytes the saved form of the list has. */
 static inline vers_answer vers_tree_saved_size(const vers_tree *list) {
-    return vers_saved_size((vers_handle *)(uintptr_t)&list->handle);
+    return vers_saved_size(vers_held(&list->handle));
 }
 
 /** Writes the saved form over `count` bytes, as many as `_saved_size` says. VERS_REFUSED for another count,
@@ -991,7 +1012,7 @@ static inline vers_answer vers_tree_len(const vers_tree *list) {
 
 /** Whether the parenthesis at a place opens, 1 or 0. VERS_ABSENT past the end. */
 static inline vers_answer vers_tree_is_open(const vers_tree *list, uint64_t place) {
-    return vers_asked(&list->handle, VERS_GET, place, 0, 0);
+    return vers_quick_tree_get(vers_held(&list->handle), place);
 }
 
 /** How many bytes of the heap the list takes. */
@@ -1162,7 +1183,7 @@ static inline void vers_postings_free(vers_postings *list) {
 /** Makes an empty handle one more handle of the list, for another thread. VERS_VACANT, VERS_OCCUPIED,
  * VERS_NO_MEMORY. */
 static inline uint32_t vers_postings_clone(const vers_postings *list, vers_postings *other) {
-    return vers_clone((vers_handle *)(uintptr_t)&list->handle, &other->handle);
+    return vers_clone(vers_held(&list->handle), &other->handle);
 }
 
 /** How many documents. */
@@ -1218,7 +1239,7 @@ static inline void vers_numbers_free(vers_numbers *list) {
 /** Makes an empty handle one more handle of the list, for another thread. VERS_VACANT, VERS_OCCUPIED,
  * VERS_NO_MEMORY. */
 static inline uint32_t vers_numbers_clone(const vers_numbers *list, vers_numbers *other) {
-    return vers_clone((vers_handle *)(uintptr_t)&list->handle, &other->handle);
+    return vers_clone(vers_held(&list->handle), &other->handle);
 }
 
 /** How many numbers. */
@@ -1235,7 +1256,7 @@ static inline vers_answer vers_numbers_get(const vers_numbers *list, uint64_t pl
  * holds nothing, VERS_OCCUPIED, VERS_NO_MEMORY. */
 static inline uint32_t vers_postings_intersect(const vers_postings *one, const vers_postings *two,
                                                vers_numbers *into) {
-    vers_handle *first = (vers_handle *)(uintptr_t)&one->handle, *second = (vers_handle *)(uintptr_t)&two->handle;
+    vers_handle *first = vers_held(&one->handle), *second = vers_held(&two->handle);
     return vers_intersect(first, second, &into->handle);
 }
 

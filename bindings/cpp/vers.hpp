@@ -287,18 +287,20 @@ public:
     }
 
     /** The bit at a place, 1 or 0. */
-    std::optional<std::uint64_t> get(std::uint64_t place) const noexcept { return find(VERS_GET, place); }
+    std::optional<std::uint64_t> get(std::uint64_t place) const noexcept {
+        return detail::found(vers_bits_get(&raw_, place));
+    }
     /** The number of the `count` bits from a place on, the lowest first; 0 for none. nullopt where there are not so
      *  many, or they are more than 64. */
     std::optional<std::uint64_t> get_bits(std::uint64_t place, std::uint64_t count) const noexcept {
         return find(VERS_GET_BITS, place, count);
     }
     /** How many ones, or zeros, stand before a place; all of them past the end. */
-    std::uint64_t rank1(std::uint64_t place) const noexcept { return ask(VERS_RANK1, place).value; }
-    std::uint64_t rank0(std::uint64_t place) const noexcept { return ask(VERS_RANK0, place).value; }
+    std::uint64_t rank1(std::uint64_t place) const noexcept { return vers_bits_rank1(&raw_, place).value; }
+    std::uint64_t rank0(std::uint64_t place) const noexcept { return vers_bits_rank0(&raw_, place).value; }
     /** The place of a one, or zero, by its number from 0 on; the length where there are no more. */
-    std::uint64_t select1(std::uint64_t number) const noexcept { return ask(VERS_SELECT1, number).value; }
-    std::uint64_t select0(std::uint64_t number) const noexcept { return ask(VERS_SELECT0, number).value; }
+    std::uint64_t select1(std::uint64_t number) const noexcept { return vers_bits_select1(&raw_, number).value; }
+    std::uint64_t select0(std::uint64_t number) const noexcept { return vers_bits_select0(&raw_, number).value; }
 
     /** How many ones, or zeros, there are. */
     std::uint64_t ones() const noexcept { return vers_bits_ones(&raw_).value; }
@@ -378,17 +380,21 @@ public:
         return from(numbers.data(), numbers.size());
     }
 
-    std::optional<std::uint64_t> get(std::uint64_t place) const noexcept { return find(VERS_GET, place); }
+    std::optional<std::uint64_t> get(std::uint64_t place) const noexcept {
+        return detail::found(vers_sorted_get(&raw_, place));
+    }
     /** How many members are below a number. */
-    std::uint64_t rank(std::uint64_t number) const noexcept { return ask(VERS_RANK, number).value; }
+    std::uint64_t rank(std::uint64_t number) const noexcept { return vers_sorted_rank(&raw_, number).value; }
     /** Whether a number is a member. */
     bool has(std::uint64_t number) const noexcept { return ask(VERS_HAS, number).value == 1; }
     /** The greatest member not above a number. */
     std::optional<std::uint64_t> predecessor(std::uint64_t number) const noexcept {
-        return find(VERS_PREDECESSOR, number);
+        return detail::found(vers_sorted_predecessor(&raw_, number));
     }
     /** The least member not below a number. */
-    std::optional<std::uint64_t> successor(std::uint64_t number) const noexcept { return find(VERS_SUCCESSOR, number); }
+    std::optional<std::uint64_t> successor(std::uint64_t number) const noexcept {
+        return detail::found(vers_sorted_successor(&raw_, number));
+    }
     /** The member at a place less the one before it; the first member itself. */
     std::optional<std::uint64_t> delta(std::uint64_t place) const noexcept { return find(VERS_DELTA, place); }
 
@@ -421,7 +427,7 @@ public:
         return from(numbers.data(), numbers.size(), width);
     }
 
-    Found get(std::uint64_t place) const noexcept { return find(VERS_GET, place); }
+    Found get(std::uint64_t place) const noexcept { return detail::found(vers_symbols_get(&raw_, place)); }
     /** How many bits a symbol has. */
     std::uint64_t bits_per_element() const noexcept { return ask(VERS_WIDTH).value; }
     /** How many of the first `end` places hold a symbol. nullopt where there are not so many places. */
@@ -481,10 +487,12 @@ public:
         return from(values.data(), values.size());
     }
 
-    std::optional<std::uint64_t> get(std::uint64_t place) const noexcept { return find(VERS_GET, place); }
+    std::optional<std::uint64_t> get(std::uint64_t place) const noexcept {
+        return detail::found(vers_fast_rmq_get(&raw_, place));
+    }
     /** The first place of a least value from one place to another, both included; nullopt for no such range. */
     std::optional<std::uint64_t> range_min(std::uint64_t first, std::uint64_t last) const noexcept {
-        return find(VERS_RANGE_MIN, first, last);
+        return detail::found(vers_fast_rmq_range_min(&raw_, first, last));
     }
 
     detail::Items<FastRmq> begin() const noexcept { return {this, 0}; }
@@ -548,7 +556,9 @@ public:
     }
 
     /** Whether the parenthesis at a place opens. nullopt past the end. */
-    std::optional<bool> is_open(std::uint64_t place) const noexcept { return truth(find(VERS_GET, place)); }
+    std::optional<bool> is_open(std::uint64_t place) const noexcept {
+        return truth(detail::found(vers_tree_is_open(&raw_, place)));
+    }
     /** The first root. nullopt where there are no parentheses. */
     Found root() const noexcept { return detail::found(vers_tree_root(&raw_)); }
     /** How many ones: of balanced parentheses, how many nodes. */
