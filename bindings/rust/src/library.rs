@@ -88,6 +88,41 @@ const ABSENT: u32 = 1;
 const REFUSED: u32 = 4;
 const NO_MEMORY: u32 = 6;
 
+/// A call of the library that asks one query, at the least cost of one kind of structure.
+#[derive(Clone, Copy)]
+pub(crate) enum Quick {
+    BitsGet,
+    BitsRank0,
+    BitsRank1,
+    BitsSelect0,
+    BitsSelect1,
+    SortedGet,
+    SortedRank,
+    SortedPredecessor,
+    SortedSuccessor,
+    SymbolsGet,
+    TreeGet,
+}
+
+impl Quick {
+    #[inline]
+    fn call(self) -> unsafe extern "C" fn(*mut Handle, u64) -> Answer {
+        match self {
+            Quick::BitsGet => vers_quick_bits_get,
+            Quick::BitsRank0 => vers_quick_bits_rank0,
+            Quick::BitsRank1 => vers_quick_bits_rank1,
+            Quick::BitsSelect0 => vers_quick_bits_select0,
+            Quick::BitsSelect1 => vers_quick_bits_select1,
+            Quick::SortedGet => vers_quick_sorted_get,
+            Quick::SortedRank => vers_quick_sorted_rank,
+            Quick::SortedPredecessor => vers_quick_sorted_predecessor,
+            Quick::SortedSuccessor => vers_quick_sorted_successor,
+            Quick::SymbolsGet => vers_quick_symbols_get,
+            Quick::TreeGet => vers_quick_tree_get,
+        }
+    }
+}
+
 /// The three numbers of a query that is asked among many. The first is its answer afterwards.
 #[derive(Clone, Copy)]
 #[repr(C)]
@@ -112,6 +147,18 @@ struct Answer {
 
 extern "C" {
     fn vers_ask(handle: *mut Handle, query: u32, a: u64, b: u64, c: u64) -> Answer;
+    fn vers_quick_bits_get(handle: *mut Handle, place: u64) -> Answer;
+    fn vers_quick_bits_rank0(handle: *mut Handle, place: u64) -> Answer;
+    fn vers_quick_bits_rank1(handle: *mut Handle, place: u64) -> Answer;
+    fn vers_quick_bits_select0(handle: *mut Handle, number: u64) -> Answer;
+    fn vers_quick_bits_select1(handle: *mut Handle, number: u64) -> Answer;
+    fn vers_quick_sorted_get(handle: *mut Handle, place: u64) -> Answer;
+    fn vers_quick_sorted_rank(handle: *mut Handle, number: u64) -> Answer;
+    fn vers_quick_sorted_predecessor(handle: *mut Handle, number: u64) -> Answer;
+    fn vers_quick_sorted_successor(handle: *mut Handle, number: u64) -> Answer;
+    fn vers_quick_symbols_get(handle: *mut Handle, place: u64) -> Answer;
+    fn vers_quick_tree_get(handle: *mut Handle, place: u64) -> Answer;
+    fn vers_quick_values_range_min(handle: *mut Handle, first: u64, last: u64) -> Answer;
     fn vers_ask_each(
         handle: *mut Handle,
         query: u32,
@@ -290,11 +337,28 @@ impl Owner {
     /// The answer to a query; none where there is no such thing.
     #[inline]
     pub fn ask(&self, query: Query, a: usize, b: u64, c: u64) -> Option<u64> {
-        match self.answer(query, a as u64, b, c) {
-            Answer { status: DONE, value } => Some(value),
-            Answer { status: ABSENT, .. } => None,
-            answer => fail(answer.status),
-        }
+        found(self.answer(query, a as u64, b, c))
+    }
+
+    /// The answer of a quick call; none where there is no such thing.
+    #[inline]
+    pub fn ask_quickly(&self, quick: Quick, a: usize) -> Option<u64> {
+        found(self.answer_quickly(quick, a as u64))
+    }
+
+    /// The answer of a quick call that has one for all numbers.
+    #[inline]
+    pub fn told_quickly(&self, quick: Quick, a: usize) -> usize {
+        let answer = self.answer_quickly(quick, a as u64);
+        done(answer.status);
+        answer.value as usize
+    }
+
+    /// The first place of a least value from one place to another, both included; none where there is no such range.
+    #[inline]
+    pub fn range_min(&self, first: usize, last: usize) -> Option<u64> {
+        // SAFETY: `with` hands out a handle that this thread alone uses.
+        found(self.with(move |handle| unsafe { vers_quick_values_range_min(handle, first as u64, last as u64) }))
     }
 
     /// The answer to a query that has one for all numbers.
@@ -362,7 +426,24 @@ impl Owner {
         unsafe { vers_ask(&mut *self.elsewhere(), query as u32, a, b, c) }
     }
 
+    #[inline]
+    fn answer_quickly(&self, quick: Quick, a: u64) -> Answer {
+        if self.is_home() {
+            // SAFETY: this thread alone uses the handle.
+            unsafe { quick.call()(self.own.get(), a) }
+        } else {
+            self.answer_quickly_elsewhere(quick, a)
+        }
+    }
+
+    #[cold]
+    fn answer_quickly_elsewhere(&self, quick: Quick, a: u64) -> Answer {
+        // SAFETY: this thread alone uses the handle.
+        unsafe { quick.call()(&mut *self.elsewhere(), a) }
+    }
+
     /// Does some work with a handle that this thread alone uses.
+    #[inline]
     fn with<T>(&self, work: impl FnOnce(*mut Handle) -> T) -> T {
         if self.is_home() {
             work(self.own.get())
@@ -400,6 +481,15 @@ impl Clone for Owner {
 impl fmt::Debug for Owner {
     fn fmt(&self, f: &mut fmt::Formatter<'_>) -> fmt::Result {
         f.write_str("..")
+    }
+}
+
+#[inline]
+fn found(answer: Answer) -> Option<u64> {
+    match answer {
+        Answer { status: DONE, value } => Some(value),
+        Answer { status: ABSENT, .. } => None,
+        answer => fail(answer.status),
     }
 }
 

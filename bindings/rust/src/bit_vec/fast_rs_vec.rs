@@ -2,7 +2,7 @@
 
 use super::{low_ones, spread, BitVec, WORD_SIZE};
 use crate::items::{iterators, Items, List};
-use crate::library::{Kind, Owner, Query};
+use crate::library::{Kind, Owner, Query, Quick};
 use crate::saved::Saved;
 use std::borrow::Borrow;
 
@@ -34,28 +34,28 @@ impl RsVec {
     #[must_use]
     #[inline]
     pub fn rank0(&self, pos: usize) -> usize {
-        self.owner.told(Query::Rank0, pos)
+        self.owner.told_quickly(Quick::BitsRank0, pos)
     }
 
     /// How many ones stand before a place, or before the end where that is less.
     #[must_use]
     #[inline]
     pub fn rank1(&self, pos: usize) -> usize {
-        self.owner.told(Query::Rank1, pos)
+        self.owner.told_quickly(Quick::BitsRank1, pos)
     }
 
     /// The place of zero number `rank`, from 0 on; the length where there are not so many.
     #[must_use]
     #[inline]
     pub fn select0(&self, rank: usize) -> usize {
-        self.owner.told(Query::Select0, rank)
+        self.owner.told_quickly(Quick::BitsSelect0, rank)
     }
 
     /// The place of one number `rank`, from 0 on; the length where there are not so many.
     #[must_use]
     #[inline]
     pub fn select1(&self, rank: usize) -> usize {
-        self.owner.told(Query::Select1, rank)
+        self.owner.told_quickly(Quick::BitsSelect1, rank)
     }
 
     /// How many zeros there are.
@@ -152,7 +152,7 @@ impl RsVec {
     #[must_use]
     #[inline]
     pub fn get(&self, pos: usize) -> Option<u64> {
-        self.owner.ask(Query::Get, pos, 0, 0)
+        self.owner.ask_quickly(Quick::BitsGet, pos)
     }
 
     /// The bit at a place.

@@ -1,7 +1,7 @@
 //! Ascending lists of numbers.
 
 use crate::items::{iterators, List};
-use crate::library::{Kind, Owner, Query};
+use crate::library::{Kind, Owner, Query, Quick};
 use crate::saved::Saved;
 
 /// A list of numbers that ascend, where some may be equal.
@@ -48,7 +48,7 @@ impl EliasFanoVec {
     #[must_use]
     #[inline]
     pub fn get(&self, index: usize) -> Option<u64> {
-        self.owner.ask(Query::Get, index, 0, 0)
+        self.owner.ask_quickly(Quick::SortedGet, index)
     }
 
     /// The same as [`get`](Self::get).
@@ -72,7 +72,7 @@ impl EliasFanoVec {
     #[must_use]
     #[inline]
     pub fn predecessor(&self, n: u64) -> Option<u64> {
-        self.owner.ask(Query::Predecessor, n as usize, 0, 0)
+        self.owner.ask_quickly(Quick::SortedPredecessor, n as usize)
     }
 
     /// The greatest number that is not above `n`.
@@ -88,7 +88,7 @@ impl EliasFanoVec {
     #[must_use]
     #[inline]
     pub fn successor(&self, n: u64) -> Option<u64> {
-        self.owner.ask(Query::Successor, n as usize, 0, 0)
+        self.owner.ask_quickly(Quick::SortedSuccessor, n as usize)
     }
 
     /// The least number that is not below `n`.
@@ -111,7 +111,7 @@ impl EliasFanoVec {
     #[must_use]
     #[inline]
     pub fn rank(&self, value: u64) -> u64 {
-        self.owner.told(Query::Rank, value as usize) as u64
+        self.owner.told_quickly(Quick::SortedRank, value as usize) as u64
     }
 
     /// Whether a number is in the list.

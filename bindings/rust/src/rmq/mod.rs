@@ -59,7 +59,7 @@ macro_rules! minima {
             #[must_use]
             #[inline]
             pub fn range_min(&self, i: usize, j: usize) -> usize {
-                let place = self.owner.ask(Query::RangeMin, i, j as u64, 0);
+                let place = self.owner.range_min(i, j);
                 place.unwrap_or_else(|| panic!("the list has no range from {i} to {j}")) as usize
             }
 

@@ -3,7 +3,7 @@
 use super::{IsAncestor, LevelTree, SubtreeSize, Tree, TreeBuilder};
 use crate::bit_vec::fast_rs_vec::SelectIntoIter;
 use crate::items::{Items, List};
-use crate::library::{Owner, Query, Refused};
+use crate::library::{Owner, Query, Quick, Refused};
 use crate::{BitVec, RsVec};
 
 const DEFAULT_BLOCK_SIZE: usize = 512;
@@ -107,7 +107,7 @@ impl<const BLOCK_SIZE: usize> BpTree<BLOCK_SIZE> {
     #[must_use]
     #[inline]
     pub fn is_open(&self, place: usize) -> Option<bool> {
-        self.owner.ask(Query::Get, place, 0, 0).map(|bit| bit == 1)
+        self.owner.ask_quickly(Quick::TreeGet, place).map(|bit| bit == 1)
     }
 
     /// Stops a program with debug assertions where no node opens.

@@ -1,7 +1,7 @@
 //! Lists of symbols of one width.
 
 use crate::items::{iterators, Items, List};
-use crate::library::{Kind, Owner, Query, Row};
+use crate::library::{Kind, Owner, Query, Quick, Row};
 use crate::saved::Saved;
 use crate::BitVec;
 use std::borrow::Borrow;
@@ -181,7 +181,10 @@ impl WaveletMatrix {
     #[must_use]
     #[inline]
     pub fn get_u64(&self, i: usize) -> Option<u64> {
-        self.ask(Query::Get, i, 0, 0)
+        match &self.symbols {
+            Symbols::Narrow { owner, .. } => owner.ask_quickly(Quick::SymbolsGet, i),
+            Symbols::Wide(_) => None,
+        }
     }
 
     /// The symbol at a place.
