@@ -98,7 +98,12 @@ impl<A: Allocator + Copy> Held<'_, A> {
     }
 
     /// The reply of a query line.
-    pub(crate) fn reply(&self, alloc: A, query: Query, arguments: &[u8]) -> Result<Reply<A>, AllocError>
+    pub(crate) fn reply(
+        &self,
+        alloc: A,
+        query: Query,
+        arguments: &[u8],
+    ) -> Result<Reply<A>, AllocError>
         ensures { IfOk result (λ reply.
             plain_reply reply ≡ query_reply (holding_of self.now) query (words_in arguments.now)) }
     {

@@ -82,9 +82,10 @@ low_next s i h =
 pub low_length : (s : List ℕ) (i w : ℕ) → w ≡ low_width s → i ≤ length s → (length (first_low_parts s i) ≡ w * i) × (w * i ≤ length s * w)
 unfolding first_low_parts
 low_length s i w e h =
-    let some : length (map (λ m. m - first_of s) (take i s)) ≡ i = length-map (take i s) (λ m. m - first_of s) ∙ omega (arith, length-take i s) in
-    (length-pack (map (λ m. m - first_of s) (take i s)) (low_width s) ∙ ap (λ n. low_width s * n) some ∙ ap (λ k. k * i) (sym e),
-    omega (arith, mul-le-mul_left {m = i} {n = length s} w h, mul_comm w (length s)))
+    let some : length (map (λ m. m - first_of s) (take i s)) ≡ i = length-map (take i s) (λ m. m - first_of s) ∙ omega (arith, length-take i s) in (
+      length-pack (map (λ m. m - first_of s) (take i s)) (low_width s) ∙ ap (λ n. low_width s * n) some ∙ ap (λ k. k * i) (sym e),
+      omega (arith, mul-le-mul_left {m = i} {n = length s} w h, mul_comm w (length s)),
+    )
 
 pub low_all : (s : List ℕ) → first_low_parts s (length s) ≡ low_parts s
 unfolding first_low_parts low_parts

@@ -19,21 +19,16 @@ returns-then-not-admits-clause-none c =
     not_told (in_order c.args.strictly) (all_numbers (words_in c.args.arguments.now)) numbers
     (c.loop-word.invariant.after ∙ rw (c.in-Some.ensures.words, some) (rise_after-none (in_order c.args.strictly) c.loop-word.rise.len c.loop-word.rise.last c.in_ok-last.last (all_numbers (words_in c.in-Some.others.now)) (sym c.if-not-admits.ensures))) at
 
-pub returns-clause-all : goal.returns-clause-all
-returns-clause-all c =
-    (told (in_order c.args.strictly) (words_in c.args.arguments.now) (c.loop-word.rise.len, c.loop-word.rise.last) (c.loop-word.invariant.after ∙ rw c.in_default.ensures.words refl)).0
-
-pub returns-clause-order : goal.returns-clause-order
-returns-clause-order c =
-    (told (in_order c.args.strictly) (words_in c.args.arguments.now) (c.loop-word.rise.len, c.loop-word.rise.last) (c.loop-word.invariant.after ∙ rw c.in_default.ensures.words refl)).1.0
-
-pub returns-clause-len : goal.returns-clause-len
-returns-clause-len c =
-    (told (in_order c.args.strictly) (words_in c.args.arguments.now) (c.loop-word.rise.len, c.loop-word.rise.last) (c.loop-word.invariant.after ∙ rw c.in_default.ensures.words refl)).1.1
-
-pub returns-clause-last : goal.returns-clause-last
-returns-clause-last c =
-    (told (in_order c.args.strictly) (words_in c.args.arguments.now) (c.loop-word.rise.len, c.loop-word.rise.last) (c.loop-word.invariant.after ∙ rw c.in_default.ensures.words refl)).1.2
+pub returns : goal.returns
+returns c =
+    let rise = told (in_order c.args.strictly) (words_in c.args.arguments.now) (c.loop-word.rise.len, c.loop-word.rise.last) (c.loop-word.invariant.after ∙ rw c.in_default.ensures.words refl) in
+    record {
+      none = λ none numbers at. cc;
+      all = rise.0;
+      order = rise.1.0;
+      len = rise.1.1;
+      last = rise.1.2;
+    }
 
 pub loop-word-preserved : goal.loop-word-preserved
 loop-word-preserved c =
