@@ -29,9 +29,6 @@ last_limb bits k end h is =
 pub none_yet : (bits : List Bool) (p : ℕ) → number (take (p - p) (drop p bits)) ≡ 0
 none_yet bits p = let none : p - p ≡ 0 = omega arith in ap (λ m. number (take m (drop p bits))) none
 
-pub begins_inside : (bits : List Bool) (k : ℕ) → k < length (limbs bits) → 64 * k < length bits
-begins_inside bits k h = omega (arith, length-limbs bits)
-
 -- one bit more in front of those whose number is known
 pub number_before : (bits : List Bool) (place end word bit : ℕ) → 0 < place → place ≤ end → end ≤ length bits → word ≡ number (take (end - place) (drop place bits))
     → bit ≡ bit_value (get_or bits (place - 1) false) → 2 * word + bit ≡ number (take (end - (place - 1)) (drop (place - 1) bits))

@@ -1,12 +1,10 @@
 -- What a reader had at first, by what was read of it.
-use Rattle.std.proofs.Common.{◌≡◌, ℕ, suc, ◌+◌, ◌-◌, ◌*◌, ◌/◌, ◌^◌, ◌<◌, ◌≤◌, List, [], ◌∷◌, ◌++◌, length, get_or, take, drop, Option, Some, None, refl, sym, ap, subst, ◌∙◌, inl, inr, append_assoc, arith}
+use Rattle.std.proofs.Common.{◌≡◌, ℕ, suc, ◌+◌, ◌*◌, ◌/◌, ◌^◌, ◌<◌, ◌≤◌, List, [], ◌∷◌, ◌++◌, length, get_or, take, drop, Option, Some, None, refl, sym, ap, subst, ◌∙◌, inl, inr, append_assoc, arith}
 use Rattle.std.specs.Prelude.{IfSome, OnOk, IfErr, Result, Ok, Err, map, ◌⊎◌}
-use Rattle.std.specs.List.{copy_within}
 use Rattle.std.specs.Simd.{first_chunks}
 use Rattle.std.specs.Io.KnownBytes.{Consumes, IsAtEnd, prepend_known}
 use Rattle.std.proofs.Math.Seq.{take-add}
-use Rattle.std.proofs.lemmas.List.{append-nil, take_at, drop_at, length-append, length-drop, get_or_append_left}
-use Rattle.std.proofs.lemmas.List.Edits.{take-paste}
+use Rattle.std.proofs.lemmas.List.{append-nil, take_at, drop_at, length-append, get_or_append_left}
 use Rattle.vers_bits.specs.Bits.{limb_count}
 use Rattle.vers_saved.specs.declared.kind.Kind.{Kind}
 use Rattle.vers_saved.specs.declared.fault.LoadError.{LoadError}
@@ -233,11 +231,3 @@ form_gathered kind count width n old mid new ws more all words c long d end is f
           (sym (bytes_of-append ws more) ∙ ap bytes_of (sym is) ∙ p.0),
       p.1,
     )
-
--- the words of a form without its head and its sum
-pub cut_is : (n end : ℕ) (words : List ℕ) → length words ≡ limb_count n + 6 → end ≡ length words - 1 → take (end - 5) (copy_within words 5 end 0) ≡ words_among n words
-cut_is n end words long is =
-    let none : 0 + (end - 5) ≡ end - 5 = omega arith in
-    let many : end - 5 ≡ limb_count n = omega arith in
-    ap (λ k. take k (copy_within words 5 end 0)) (sym none)
-    ∙ take-paste words 0 (drop 5 words) (end - 5) (omega arith) (omega (arith, length-drop 5 words)) ∙ ap (λ k. take k (drop 5 words)) many
