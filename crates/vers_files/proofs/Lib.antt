@@ -1,2 +1,3 @@
 pub mod OfLines
 pub mod Numbered
+pub mod TreeFiles

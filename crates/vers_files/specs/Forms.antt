@@ -3,12 +3,12 @@
 use Rattle.std.specs.Prelude.{ℕ, ◌==◌, ◌≡◌, List, [], length, codes, slice_index, Option, Some, IfSome, ◌⊎◌, if◌then◌else◌}
 use Rattle.vers_bits.specs.Bits.{limbs, pack}
 use Rattle.vers_saved.specs.declared.kind.Kind.{Kind}
-use Rattle.vers_saved.specs.declared.kind.TheConstants.{SORTED, SYMBOLS, SPARSE, VALUES, BIT_LISTS, SORTED_LISTS, SYMBOL_LISTS, SPARSE_LISTS, BLOCK_VALUES}
+use Rattle.vers_saved.specs.declared.kind.TheConstants.{SORTED, SYMBOLS, SPARSE, VALUES, PARENTHESES, POSTINGS, BIT_LISTS, SORTED_LISTS, SYMBOL_LISTS, SPARSE_LISTS, BLOCK_VALUES, POSTING_LISTS}
 use Rattle.vers_saved.specs.declared.fault.LoadError.{LoadError}
 use Rattle.vers_saved.specs.declared.fault.LoadError.TheVariants.{TooShort, NotOurs, OtherVersion, OtherKind, BadLength, BadSum, BadPadding, NotAscending, Memory, Read}
-use Rattle.vers_saved.specs.Format.{words_of, sparse_words, saved_bits, saved_sorted, saved_symbols, saved_sparse, saved_values}
+use Rattle.vers_saved.specs.Format.{words_of, sparse_words, posting_words, saved_bits, saved_sorted, saved_symbols, saved_sparse, saved_values, saved_parentheses, saved_postings}
 use Rattle.vers_saved.specs.Faults.{fault_of}
-use Rattle.vers_saved.specs.Kinds.{IsWhole}
+use Rattle.vers_saved.specs.Kinds.{IsWhole, tree_kind}
 use Rattle.vers_cli.specs.Holding.{Holding, Nothing, BitsHeld, SortedHeld, SparseHeld, ValuesHeld, TreeHeld, SymbolsHeld, PostingsHeld}
 
 -- the saved form of what is held, or no bytes where it has none
@@ -18,9 +18,9 @@ saved_form (BitsHeld bits) = saved_bits bits
 saved_form (SortedHeld members) = saved_sorted members
 saved_form (SparseHeld bits) = saved_sparse bits
 saved_form (ValuesHeld values) = saved_values values
-saved_form (TreeHeld bits) = []
+saved_form (TreeHeld bits) = saved_parentheses 512 bits
 saved_form (SymbolsHeld symbols) = saved_symbols symbols.width symbols.items
-saved_form (PostingsHeld posted) = []
+saved_form (PostingsHeld posted) = saved_postings posted
 
 -- what is held has a saved form
 abbrev pub HasForm : Holding → Type 0
@@ -29,9 +29,9 @@ HasForm (BitsHeld bits) = IsWhole BIT_LISTS (length bits) 1 (limbs bits)
 HasForm (SortedHeld members) = IsWhole SORTED_LISTS (length members) 64 members
 HasForm (SparseHeld bits) = IsWhole SPARSE_LISTS (length (sparse_words bits)) 64 (sparse_words bits)
 HasForm (ValuesHeld values) = IsWhole BLOCK_VALUES (length values) 64 values
-HasForm (TreeHeld bits) = ⊥
+HasForm (TreeHeld bits) = IsWhole (tree_kind 512) (length bits) 512 (limbs bits)
 HasForm (SymbolsHeld symbols) = IsWhole SYMBOL_LISTS (length symbols.items) symbols.width (limbs (pack symbols.items symbols.width))
-HasForm (PostingsHeld posted) = ⊥
+HasForm (PostingsHeld posted) = IsWhole POSTING_LISTS (length posted.documents) 128 (posting_words posted)
 
 -- the kind of lists that has this number, or that of bits where none has
 abbrev pub kind_numbered : ℕ → Kind
@@ -40,6 +40,8 @@ kind_numbered number =
     else if number == SYMBOLS then SYMBOL_LISTS
     else if number == SPARSE then SPARSE_LISTS
     else if number == VALUES then BLOCK_VALUES
+    else if number == PARENTHESES then tree_kind 512
+    else if number == POSTINGS then POSTING_LISTS
     else BIT_LISTS
 
 -- the number of the kind that bytes name: their third word

@@ -22,4 +22,4 @@ width_of (SparseHeld bits) = 64
 width_of (ValuesHeld values) = 64
 width_of (TreeHeld bits) = 512
 width_of (SymbolsHeld symbols) = symbols.width
-width_of (PostingsHeld posted) = 64
+width_of (PostingsHeld posted) = 128

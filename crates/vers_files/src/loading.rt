@@ -1,14 +1,17 @@
 //! What a file holds, as what the line program holds.
 ghost use Rattle.std.specs.Prelude.{◌≡◌, List, ℕ, ◌⊎◌, IfOk, IfErr, IfSome, Some, None};
 ghost use Rattle.vers_saved.specs.Format.{bytes_word};
+ghost use Rattle.vers_saved.specs.Faults.{fault_of};
+ghost use Rattle.vers_saved.specs.Kinds.{tree_kind};
 ghost use Rattle.vers_files.specs.Forms.{saved_form, HasForm, form_fault, number_of_kind, IsFormOf, IsNoForm, fault_text};
 
 use std::alloc::Allocator;
 use std::io::{ErrorKind, Read};
 use vers_cli::{Held, Store};
 use vers_saved::fault::LoadError;
-use vers_saved::kind::{SORTED, SPARSE, SYMBOLS, VALUES};
+use vers_saved::kind::{PARENTHESES, POSTINGS, SORTED, SPARSE, SYMBOLS, VALUES};
 use vers_saved::saved::load_from_slice;
+use vers_saved::trees::load_tree_from_slice;
 
 // The word of eight bytes.
 #[tactic(auto, unfolding(vers_saved::specs::Format::bytes_word))]
@@ -40,6 +43,21 @@ macro_rules! stored {
     };
 }
 
+// A store that holds the tree that the bytes are the saved form of.
+fn load_tree<'a, A: Allocator + Copy>(alloc: &'a A, bytes: &[u8]) -> Result<Store<'a, A>, LoadError>
+    ensures loaded { IfOk result (λ held. (bytes.now ≡ saved_form held) × HasForm held) }
+    ensures refused { IfErr result (λ e. (fault_of (tree_kind 512) bytes.now ≡ Some e)
+        ⊎ ((e ≡ LoadError.Memory) × (fault_of (tree_kind 512) bytes.now ≡ None))) }
+{
+    match load_tree_from_slice(alloc, bytes) {
+        Ok(tree) => match Box::new(alloc, tree) {
+            Ok(tree) => Ok(Store::of(alloc, Held::Tree(tree))),
+            Err(_) => Err(LoadError::Memory),
+        },
+        Err(fault) => Err(fault),
+    }
+}
+
 /// A store that holds the list that the bytes are the saved form of. A fault is that of the bytes as a form of the
 /// kind that they name.
 #[tactic(auto, using(crate::proofs::Numbered::kinds))]
@@ -53,6 +71,8 @@ pub fn load<'a, A: Allocator + Copy>(alloc: &'a A, bytes: &[u8]) -> Result<Store
         SYMBOLS => stored!(alloc, load_from_slice(*alloc, bytes), Held::Symbols),
         SPARSE => stored!(alloc, load_from_slice(*alloc, bytes), Held::Sparse),
         VALUES => stored!(alloc, load_from_slice(*alloc, bytes), Held::Values),
+        PARENTHESES => load_tree(alloc, bytes),
+        POSTINGS => stored!(alloc, load_from_slice(*alloc, bytes), Held::Postings),
         _ => stored!(alloc, load_from_slice(*alloc, bytes), Held::Bits),
     }
 }

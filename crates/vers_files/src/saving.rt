@@ -23,7 +23,7 @@ pub enum SaveFault {
     BadLine,
     /// Its arguments are outside the limits of the list.
     Refused,
-    /// Lists of this kind have no saved form, or the list has too many items.
+    /// The list has too many items for a saved form.
     NoForm,
     /// The allocator has no memory.
     OutOfMemory,
@@ -69,7 +69,9 @@ pub fn save<A: Allocator + Copy, W: Write>(
         Held::Sparse(bits) => save_list(alloc, bits, writer),
         Held::Values(values) => save_list(alloc, values, writer),
         Held::Symbols(symbols) => save_list(alloc, symbols, writer),
-        Held::Nothing | Held::Tree(_) | Held::Postings(_) => Err(SaveError::NoForm),
+        Held::Tree(tree) => save_list(alloc, &**tree, writer),
+        Held::Postings(postings) => save_list(alloc, postings, writer),
+        Held::Nothing => Err(SaveError::NoForm),
     }
 }
 

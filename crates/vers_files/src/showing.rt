@@ -47,7 +47,8 @@ fn width_of<A: Allocator + Copy>(held: &Held<'_, A>) -> u64
         Held::Bits(_) => 1,
         Held::Tree(_) => 512,
         Held::Symbols(symbols) => symbols.bits_per_element() as u64,
-        Held::Sorted(_) | Held::Sparse(_) | Held::Values(_) | Held::Postings(_) => 64,
+        Held::Sorted(_) | Held::Sparse(_) | Held::Values(_) => 64,
+        Held::Postings(_) => 128,
     }
 }
 
