@@ -18,7 +18,8 @@ const HELP: &str = "Usage: vers_file save FILE < LINE
 
 save reads one load line, as \"bits 0110\", and puts its list into FILE, in the place of what stood there.
 ask answers query lines, as \"rank1 3\", where the list of FILE is held, and load lines.
-show tells which list FILE holds: its kind, its length, the bits of an item, and the bytes of FILE.
+show tells which list FILE holds: its kind, its length, the bits of an item or of a tree's blocks, and the
+bytes of FILE.
 
 vers_file --help prints this, and vers_file --version the version of the library.";
 
@@ -101,7 +102,12 @@ fn print_shown(rt: &HostRuntime, list: &Shown) -> ExitCode {
         width,
         bytes,
     } = *list;
-    match println!(rt; "kind: {kind}\nlength: {len}\nwidth: {width}\nbytes: {bytes}") {
+    let name = if kind == "tree" {
+        "block size"
+    } else {
+        "width"
+    };
+    match println!(rt; "kind: {kind}\nlength: {len}\n{name}: {width}\nbytes: {bytes}") {
         Ok(()) => ExitCode::SUCCESS,
         Err(_) => fail(rt, "write failed"),
     }
@@ -111,7 +117,7 @@ fn why_not_saved(fault: SaveFault) -> &'static str {
     match fault {
         SaveFault::BadLine => "bad line",
         SaveFault::Refused => "refused",
-        SaveFault::NoForm => "lists of this kind have no saved form, or none of this length",
+        SaveFault::NoForm => "the list has too many items",
         SaveFault::OutOfMemory => "out of memory",
         SaveFault::Write => "write failed",
         SaveFault::Begin =>
