@@ -1,0 +1,11 @@
+//! Tests of lists in files, over memory.
+#![tactic(auto)]
+
+#[cfg(test)]
+mod asked;
+#[cfg(test)]
+mod files;
+#[cfg(test)]
+mod places;
+#[cfg(test)]
+mod shown;

@@ -1,0 +1,188 @@
+//! Load lines that are saved to a writer, and to a place of which each call fails in turn.
+ghost use Rattle.std.specs.Prelude.{[], IsErr, Some};
+
+use crate::files::{BITS, POSTINGS, SORTED, SPARSE, SYMBOLS, TREE, VALUES};
+use std::alloc::Global;
+use std::io;
+use std::io::Write;
+use vers_files::{Place, SaveFault, save_line, save_to};
+
+// Whether a line is saved as these bytes.
+fn is_saved_as(alloc: Global, line: &[u8], file: &[u8]) -> bool {
+    let mut out: Vec<u8> = Vec::new(alloc);
+    save_line(alloc, line, &mut out) == Ok(()) && out.as_slice() == file
+}
+
+#[test]
+fn load_lines_are_saved(rt: HostRuntime) {
+    let alloc = rt.alloc();
+    assert!(rt; is_saved_as(alloc, b"bits 0110", &BITS));
+    assert!(rt; is_saved_as(alloc, b"sorted 4 4 9\r", &SORTED));
+    assert!(rt; is_saved_as(alloc, b"sparse 12 1 3 5", &SPARSE));
+    assert!(rt; is_saved_as(alloc, b" values 9 6 10 ", &VALUES));
+    assert!(rt; is_saved_as(alloc, b"symbols 3 1 5 3", &SYMBOLS));
+    assert!(rt; is_saved_as(alloc, b"tree 110100", &TREE));
+    assert!(rt; is_saved_as(alloc, b"postings 2 7 5 3 9 3", &POSTINGS));
+}
+
+// Whether a line has this fault, and nothing is written.
+fn is_fault(alloc: Global, line: &[u8], fault: SaveFault) -> bool {
+    let mut out: Vec<u8> = Vec::new(alloc);
+    save_line(alloc, line, &mut out) == Err(fault) && out.is_empty()
+}
+
+#[test]
+fn other_lines_are_not_saved(rt: HostRuntime) {
+    let alloc = rt.alloc();
+    assert!(rt; is_fault(alloc, b"", SaveFault::BadLine));
+    assert!(rt; is_fault(alloc, b"rank1 3", SaveFault::BadLine));
+    assert!(rt; is_fault(alloc, b"bits 012", SaveFault::BadLine));
+    assert!(rt; is_fault(alloc, b"bits 01\nbits 10", SaveFault::BadLine));
+    assert!(rt; is_fault(alloc, b"sorted 3 1", SaveFault::Refused));
+    assert!(rt; is_fault(alloc, b"postings 2", SaveFault::BadLine));
+}
+
+/// A place in memory, of which the call of number `fails_at` fails, a write too.
+#[derive(Drop)]
+struct Memory {
+    alloc: Global,
+    bytes: Vec<u8>,
+    synced: Vec<u8>,
+    is_begun: bool,
+    fails_at: u64,
+    calls: u64,
+}
+
+/// What is written beside it, whose write of number `fails_at` fails.
+#[derive(Drop)]
+struct Beside {
+    bytes: Vec<u8>,
+    fails_at: u64,
+    writes: u64,
+}
+
+// Counts a call, and tells whether it is that of a number.
+fn is_call(calls: &mut u64, number: u64) -> bool {
+    *calls = calls.saturating_add(1);
+    *calls == number
+}
+
+// What a call that fails answers.
+fn failure<T>() -> io::Result<T>
+    ensures { IsErr result }
+{
+    Err(io::Error::from(io::ErrorKind::Other))
+}
+
+impl Write for Beside {
+    ghost contents = { λ b. Some b.bytes.items };
+
+    fn write(&mut self, buf: &[u8]) -> io::Result<usize> {
+        if is_call(&mut self.writes, self.fails_at) {
+            return failure();
+        }
+        let most = buf.len().min(9);
+        self.bytes.write(&buf[..most])
+    }
+
+    fn flush(&mut self) -> io::Result<()> {
+        Ok(())
+    }
+}
+
+impl Place for Memory {
+    type Beside = Beside;
+
+    ghost nothing = { Some [] };
+
+    ghost bytes = { λ m. Some m.bytes.items };
+
+    ghost synced = { λ m. Some m.synced.items };
+
+    fn begin(&mut self) -> io::Result<Beside> {
+        if is_call(&mut self.calls, self.fails_at) {
+            return failure();
+        }
+        self.is_begun = true;
+        Ok(Beside {
+            bytes: Vec::new(self.alloc),
+            fails_at: self.fails_at.saturating_sub(3),
+            writes: 0,
+        })
+    }
+
+    fn sync(&mut self, beside: &Beside) -> io::Result<()> {
+        if is_call(&mut self.calls, self.fails_at) {
+            return failure();
+        }
+        match Vec::from_slice(self.alloc, beside.bytes.as_slice()) {
+            Ok(bytes) => {
+                self.synced = bytes;
+                Ok(())
+            }
+            Err(_) => failure(),
+        }
+    }
+
+    fn put(&mut self) -> io::Result<()> {
+        if is_call(&mut self.calls, self.fails_at) {
+            return failure();
+        }
+        let none = Vec::new(self.alloc);
+        self.bytes = std::mem::replace(&mut self.synced, none);
+        self.is_begun = false;
+        Ok(())
+    }
+
+    fn leave(&mut self) {
+        self.is_begun = false;
+    }
+}
+
+// Whether a save whose call of this number fails, if it comes so far, leaves the place as it was or fills it
+// whole, and leaves nothing beside it.
+fn is_whole_or_not_at_all(alloc: Global, fails_at: u64) -> bool {
+    let Ok(bytes) = Vec::from_slice(alloc, b"old") else {
+        return false;
+    };
+    let mut place = Memory {
+        alloc,
+        bytes,
+        synced: Vec::new(alloc),
+        is_begun: false,
+        fails_at,
+        calls: 0,
+    };
+    let result = save_to(alloc, b"symbols 3 1 5 3", &mut place);
+    let expected = match fails_at {
+        1 => Err(SaveFault::Begin),
+        2 => Err(SaveFault::Sync),
+        3 => Err(SaveFault::Put),
+        4..=10 => Err(SaveFault::Write),
+        _ => Ok(()),
+    };
+    let file: &[u8] = if result.is_ok() { &SYMBOLS } else { b"old" };
+    result == expected && place.bytes.as_slice() == file && !place.is_begun
+}
+
+#[test]
+fn a_place_is_filled_whole_or_not_at_all(rt: HostRuntime) {
+    for fails_at in 1..13u64 {
+        assert!(rt; is_whole_or_not_at_all(rt.alloc(), fails_at));
+    }
+}
+
+#[test]
+fn a_bad_line_leaves_the_place(rt: HostRuntime) {
+    let alloc = rt.alloc();
+    let mut place = Memory {
+        alloc,
+        bytes: Vec::new(alloc),
+        synced: Vec::new(alloc),
+        is_begun: false,
+        fails_at: 0,
+        calls: 0,
+    };
+    assert!(rt; save_to(alloc, b"sorted 2 1", &mut place) == Err(SaveFault::Refused));
+    assert!(rt; place.bytes.is_empty() && !place.is_begun);
+}

@@ -1,0 +1,31 @@
+//! What is told of files.
+use crate::files::{BITS, OTHER_KIND, POSTINGS, SORTED, SPARSE, SYMBOLS, TREE, VALUES};
+use std::alloc::Global;
+use vers_files::show;
+use vers_saved::fault::LoadError;
+
+// Whether this is told of a file: its kind, length and width.
+fn is_shown(alloc: Global, file: &[u8], kind: &str, len: u64, width: u64) -> bool {
+    match show(alloc, file) {
+        Ok(list) => {
+            list.kind == kind
+                && list.len == len
+                && list.width == width
+                && list.bytes == file.len() as u64
+        }
+        Err(_) => false,
+    }
+}
+
+#[test]
+fn files_are_shown(rt: HostRuntime) {
+    let alloc = rt.alloc();
+    assert!(rt; is_shown(alloc, &BITS, "bits", 4, 1));
+    assert!(rt; is_shown(alloc, &SORTED, "sorted", 3, 64));
+    assert!(rt; is_shown(alloc, &SPARSE, "sparse", 12, 64));
+    assert!(rt; is_shown(alloc, &VALUES, "values", 3, 64));
+    assert!(rt; is_shown(alloc, &SYMBOLS, "symbols", 3, 3));
+    assert!(rt; is_shown(alloc, &TREE, "tree", 6, 512));
+    assert!(rt; is_shown(alloc, &POSTINGS, "postings", 3, 128));
+    assert!(rt; show(alloc, &OTHER_KIND).err() == Some(LoadError::OtherKind));
+}
