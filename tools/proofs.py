@@ -133,10 +133,11 @@ def prove_all(crates, names, commands, tell=lambda text: None):
 
 
 def prove(crates, name, jobs, commands):
-    """Proves a crate in a repository of its own: a library is built for the crates above it, a program is built and run."""
+    """Proves a crate in a repository of its own: a library is built for those above it, a program is built and asked its version."""
     with tempfile.TemporaryDirectory(prefix="proof-") as room:
         crates.copy_to(room, name, "out")
         command = ["rt", "run" if crates.is_program(name) else "lib", "--jobs", str(jobs)]
+        command += ["--", "--version"] if crates.is_program(name) else []
         said, status = commands.run((name, "proof"), command, f"{room}/crates/{name}")
         if status:
             commands.fail(f"{name} is not proved:\n{said[-4000:]}")
