@@ -1,8 +1,8 @@
 #!/usr/bin/env python3
 """Proves crates with those below them, as many side by side as there are processors: proofs.py CRATE..
 
-Each crate begins once those below it are proved, those first on which most stand. It is proved in a repository of its own, since a
-check locks the folders of all crates below. Standard error tells of each. A program is built besides, and its file `out/NAME.built`
+Each crate begins once those below it are proved, those first from which the longest way leads up. It is proved in a repository of its own,
+since a check locks the folders of all crates below. Standard error tells of each. A program is built besides, and its file `out/NAME.built`
 is then as old as the beginning of the run. An interrupt ends what was begun.
 """
 import contextlib
@@ -114,15 +114,25 @@ class Commands:
             signal.signal(it, lambda number, frame: self.end("interrupted"))
 
 
+def longest_ways(crates, asked):
+    """Returns of each crate how long the longest way is that leads up from it, in bytes of all that is proved on it."""
+    ways = {}
+    for name in reversed(list(TopologicalSorter({it: crates.uses(it) for it in asked}).static_order())):
+        files = (f"{folder}/{file}" for part in PARTS for folder, _, files in os.walk(f"{crates.folder(name)}/{part}") for file in files)
+        ways[name] = sum(map(os.path.getsize, files)) + max((ways[it] for it in asked if name in crates.uses(it)), default=0)
+    return ways
+
+
 def prove_all(crates, names, commands, tell=lambda text: None):
-    """Proves crates with those below them. Of those that become ready at once, the one on which most stand has as many jobs as there are
+    """Proves crates with those below them. Of those that become ready at once, the one with the longest way up has as many jobs as there are
     processors, and the others have two each, so that no processor is idle while the last of them is proved."""
-    order = TopologicalSorter({it: crates.uses(it) for name in names for it in [*crates.below(name), name]})
+    asked = {it for name in names for it in [*crates.below(name), name]}
+    ways, order = longest_ways(crates, asked), TopologicalSorter({it: crates.uses(it) for it in asked})
     order.prepare()
     running = {}
     with ThreadPoolExecutor(commands.count) as pool:
         while order.is_active():
-            ready = sorted(order.get_ready(), key=lambda it: -sum(it in crates.below(other) for other in crates.lines))
+            ready = sorted(order.get_ready(), key=ways.get, reverse=True)
             for at, name in enumerate(ready):
                 running[pool.submit(prove, crates, name, 2 if at else commands.count, commands)] = name
             for done in wait(running, return_when=FIRST_COMPLETED).done:
