@@ -83,7 +83,7 @@ class Commands:
             with self.lock:
                 if self.ended:
                     raise Failure(self.ended)
-                child = subprocess.Popen(command, cwd=folder, start_new_session=True, **streams)
+                child = subprocess.Popen(command, cwd=folder, process_group=0, **streams)
                 self.running.add(child.pid)
             _, status, used = os.wait4(child.pid, 0)
             child.returncode = os.waitstatus_to_exitcode(status)
@@ -124,17 +124,17 @@ def longest_ways(crates, asked):
 
 
 def prove_all(crates, names, commands, tell=lambda text: None):
-    """Proves crates with those below them. Of those that become ready at once, the one with the longest way up has as many jobs as there are
-    processors, and the others have two each, so that no processor is idle while the last of them is proved."""
+    """Proves crates with those below them. The one with the longest way up of those that are being proved has as many jobs as there are
+    processors, and goes first; the others have two each, and use what it leaves idle."""
     asked = {it for name in names for it in [*crates.below(name), name]}
     ways, order = longest_ways(crates, asked), TopologicalSorter({it: crates.uses(it) for it in asked})
     order.prepare()
     running = {}
     with ThreadPoolExecutor(commands.count) as pool:
         while order.is_active():
-            ready = sorted(order.get_ready(), key=ways.get, reverse=True)
-            for at, name in enumerate(ready):
-                running[pool.submit(prove, crates, name, 2 if at else commands.count, commands)] = name
+            for name in sorted(order.get_ready(), key=ways.get, reverse=True):
+                ahead = sum(ways[it] > ways[name] for it in running.values())
+                running[pool.submit(prove, crates, name, ahead, commands)] = name
             for done in wait(running, return_when=FIRST_COMPLETED).done:
                 done.result()
                 name = running.pop(done)
@@ -142,11 +142,12 @@ def prove_all(crates, names, commands, tell=lambda text: None):
                 tell(f"{name} is proved")
 
 
-def prove(crates, name, jobs, commands):
-    """Proves a crate in a repository of its own: a library is built for those above it, a program is built and asked its version."""
+def prove(crates, name, ahead, commands):
+    """Proves a crate in a repository of its own, after some that go ahead: a library is built for those above it, a program is built and asked
+    its version."""
     with tempfile.TemporaryDirectory(prefix="proof-") as room:
         crates.copy_to(room, name, "out")
-        command = ["rt", "run" if crates.is_program(name) else "lib", "--jobs", str(jobs)]
+        command = ["nice", "-n", str(5 * ahead), "rt", "run" if crates.is_program(name) else "lib", "--jobs", str(2 if ahead else commands.count)]
         command += ["--", "--version"] if crates.is_program(name) else []
         said, status = commands.run((name, "proof"), command, f"{room}/crates/{name}")
         if status:
