@@ -1,8 +1,8 @@
 -- The ones of all bytes of a word at once.
-use Rattle.std.proofs.Common.{zero, suc, ap, sym, subst, ◌∙◌, ◌+◌, ◌/◌, inl, inr, ◌≡◌, ℕ, ◌-◌, ◌*◌, ◌%◌, ◌^◌, ◌<◌, ◌≤◌, true, refl, arith, eqb, leb}
+use Rattle.std.proofs.Common.{zero, suc, ap, sym, ◌∙◌, ◌+◌, ◌/◌, inl, inr, ◌≡◌, ℕ, ◌-◌, ◌*◌, ◌%◌, ◌^◌, ◌<◌, ◌≤◌, true, refl, arith, eqb, leb}
 use Rattle.std.specs.Prelude.{count_ones, bit_and}
-use Rattle.std.proofs.lemmas.Nat.{and_mask, and_block, and_le_l, and_le_r, ones_cat, mod-mul-add}
-use Rattle.std.proofs.lemmas.Nat.Bits.{and_pow}
+use Rattle.std.proofs.lemmas.Nat.{and_mask, and_block, and_le_l, and_le_r, ones_cat, mod-mul-add, pow-add}
+use Rattle.std.proofs.Math.Nat.{div-div-eq-div-mul}
 use Rattle.std.proofs.lemmas.Bool.{cases_lt, agree_below_at, eqb-true, leb-true}
 use lib.Count.{ones}
 use Rattle.vers_rank.specs.inside.ByteOnes.{byte_ones, ones_below_byte, ones_through_bytes}
@@ -156,146 +156,88 @@ pub ruleset sums = (spread_sums)
 
 top_bit : (d : ℕ) → d < 256 → count_ones (bit_and d 128) ≡ d / 128
 unfolding ones
-top_bit d h = elim (cases_lt d 128) [
-  | inl low ↦ let e : d / 128 ≡ 0 = omega arith in let z : d / 128 % 2 * 128 ≡ 0 = omega arith in ap count_ones (and_pow d 7 ∙ z) ∙ sym e
-  | inr high ↦ let e : d / 128 ≡ 1 = omega arith in let z : d / 128 % 2 * 128 ≡ 128 = omega arith in ap count_ones (and_pow d 7 ∙ z) ∙ sym e
-]
+top_bit d h = eqb-true _ _ (agree_below_at (λ d. eqb (count_ones (bit_and d 128)) (d / 128)) (λ _. true) 256 d refl h)
 
-top_bits_next : (m a d : ℕ) → d < 256 → count_ones (bit_and (a * 256 + d) (m * 256 + 128)) ≡ count_ones (bit_and a m) + d / 128
-top_bits_next m a d h =
-    ap count_ones (and_bytes a m d 128 h (omega arith)) ∙ ones_cat 8 (bit_and a m) (bit_and d 128) (omega (arith, and_le_r d 128)) ∙ ap (λ n. count_ones (bit_and a m) + n) (top_bit d h)
+-- n bytes, the lowest of them number a
+packed : (ℕ → ℕ) → ℕ → ℕ → ℕ
+packed f a zero = 0
+packed f a (suc n) = packed f (a + 1) n * 256 + f a
 
-top_bits : (d1 d2 d3 d4 d5 d6 d7 d8 : ℕ) → d1 < 256 → d2 < 256 → d3 < 256 → d4 < 256 → d5 < 256 → d6 < 256 → d7 < 256 → d8 < 256
-    → count_ones (bit_and (((((((d8 * 256 + d7) * 256 + d6) * 256 + d5) * 256 + d4) * 256 + d3) * 256 + d2) * 256 + d1) 9259542123273814144)
-    ≡ d8 / 128 + d7 / 128 + d6 / 128 + d5 / 128 + d4 / 128 + d3 / 128 + d2 / 128 + d1 / 128
-top_bits d1 d2 d3 d4 d5 d6 d7 d8 h1 h2 h3 h4 h5 h6 h7 h8 =
-    top_bits_next 36170086419038336 _ d1 h1 ∙ ap (λ n. n + d1 / 128) (
-    top_bits_next 141289400074368 _ d2 h2 ∙ ap (λ n. n + d2 / 128) (
-    top_bits_next 551911719040 _ d3 h3 ∙ ap (λ n. n + d3 / 128) (
-    top_bits_next 2155905152 _ d4 h4 ∙ ap (λ n. n + d4 / 128) (
-    top_bits_next 8421504 _ d5 h5 ∙ ap (λ n. n + d5 / 128) (
-    top_bits_next 32896 _ d6 h6 ∙ ap (λ n. n + d6 / 128) (
-    top_bits_next 128 d8 d7 h7 ∙ ap (λ n. n + d7 / 128) (top_bit d8 h8)))))))
+-- sums that don't fall, and a number r
+module _ (p : ℕ → ℕ) (r : ℕ) (small : r < 64) (few : (i : ℕ) → i ≤ 8 → p i ≤ 64) (up : (i : ℕ) → p i ≤ p (i + 1)) where
+  abbrev below : ℕ → ℕ
+  below i = 128 + r - p i
+
+  -- how many of n sums from number a on the number reaches
+  reaching : ℕ → ℕ → ℕ
+  reaching a zero = 0
+  reaching a (suc n) = reaching (a + 1) n + below a / 128
+
+  minus_sums : (a n : ℕ) → a + n ≤ 9 → packed below a n + packed p a n ≡ bytes_of n (128 + r)
+  unfolding packed bytes_of
+  minus_sums a zero h = refl
+  minus_sums a (suc n) h = omega (arith, minus_sums (a + 1) n (omega arith), few a (omega arith))
+
+  top_bits : (a n : ℕ) → count_ones (bit_and (packed below a n) (bytes_of n 128)) ≡ reaching a n
+  unfolding packed bytes_of reaching ones
+  top_bits a zero = refl
+  top_bits a (suc n) =
+      ap count_ones (and_bytes (packed below (a + 1) n) (bytes_of n 128) (below a) 128 (omega arith) (omega arith))
+      ∙ ones_cat 8 (bit_and (packed below (a + 1) n) (bytes_of n 128)) (bit_and (below a) 128) (omega (arith, and_le_r (below a) 128))
+      ∙ omega (arith, top_bits (a + 1) n, top_bit (below a) (omega arith))
+
+  none_reached : (a n : ℕ) → a + n ≤ 9 → r < p a → reaching a n ≡ 0
+  unfolding reaching
+  none_reached a zero h high = refl
+  none_reached a (suc n) h high = omega (arith, none_reached (a + 1) n (omega arith) (omega (arith, up a)), few a (omega arith))
+
+  -- after number a as many are reached as there are up to s, and the next one is not
+  reached_up_to : (a n s : ℕ) → a + n ≤ 8 → p a ≤ r → a + reaching (a + 1) n ≡ s → (p s ≤ r) × (r < p (a + n) → (s < a + n) × (r < p (s + 1)))
+  unfolding reaching
+  reached_up_to a zero s h low is =
+      let e : s ≡ a + 0 = omega arith in
+      let f : a ≡ a + 0 = omega arith in
+      (omega (arith, ap p e, ap p f), λ high. absurd (omega (arith, ap p f)))
+  reached_up_to a (suc n) s h low is = elim (cases_lt r (p (a + 1))) [
+    | inl high ↦ (let e : s ≡ a = omega (arith, none_reached (a + 1) (suc n) (omega arith) high) in rw e (low, λ _. (omega arith, high)))
+    | inr next ↦
+        let rest = reached_up_to (a + 1) n s (omega arith) next (omega arith) in
+        let e : a + 1 + n ≡ a + suc n = omega arith in
+        (rest.0, λ high. rw (← e) (rest.1 (omega (arith, ap p e))))
+  ]
 
 -- byte number s has one number r of a word
 abbrev pub IsByteWith : ℕ → ℕ → ℕ → Type 0
 IsByteWith w r s = (s < 8) × (count_ones (w % 2 ^ (8 * s)) ≤ r) × (r < count_ones (w % 2 ^ (8 * s + 8)))
 
-reached_of : (r p d : ℕ) → d + p ≡ 128 + r → r < 64 → p ≤ 64 → d < 256
-reached_of r p d e h k = omega arith
+-- the ones below each byte
+few_below : (w i : ℕ) → i ≤ 8 → ones_below_byte w i ≤ 64
+few_below w i h = omega (arith, ones_few w (8 * i))
 
-minus_sums : (r p1 p2 p3 p4 p5 p6 p7 p8 d1 d2 d3 d4 d5 d6 d7 d8 : ℕ) → d1 + p1 ≡ 128 + r → d2 + p2 ≡ 128 + r → d3 + p3 ≡ 128 + r → d4 + p4 ≡ 128 + r → d5 + p5 ≡ 128 + r → d6 + p6 ≡ 128 + r → d7 + p7 ≡ 128 + r → d8 + p8 ≡ 128 + r
-    → r * 72340172838076673 + 9259542123273814144 - (((((((p8 * 256 + p7) * 256 + p6) * 256 + p5) * 256 + p4) * 256 + p3) * 256 + p2) * 256 + p1) ≡ ((((((d8 * 256 + d7) * 256 + d6) * 256 + d5) * 256 + d4) * 256 + d3) * 256 + d2) * 256 + d1
-minus_sums r p1 p2 p3 p4 p5 p6 p7 p8 d1 d2 d3 d4 d5 d6 d7 d8 e1 e2 e3 e4 e5 e6 e7 e8 =
-    let all : (((((((d8 * 256 + d7) * 256 + d6) * 256 + d5) * 256 + d4) * 256 + d3) * 256 + d2) * 256 + d1) + (((((((p8 * 256 + p7) * 256 + p6) * 256 + p5) * 256 + p4) * 256 + p3) * 256 + p2) * 256 + p1) ≡ r * 72340172838076673 + 9259542123273814144 = omega arith in omega arith
+more_below : (w i : ℕ) → ones_below_byte w i ≤ ones_below_byte w (i + 1)
+more_below w i = let e : 8 * (i + 1) ≡ 8 * i + 8 = omega arith in omega (arith, ap (λ n. count_ones (w % 2 ^ n)) e, ones_split w (8 * i) 8)
 
-is_reached : (r p d : ℕ) → d + p ≡ 128 + r → r < 64 → p ≤ r → d / 128 ≡ 1
-is_reached r p d e h k = omega arith
-
-is_passed : (r p d : ℕ) → d + p ≡ 128 + r → p ≤ 64 → r < p → d / 128 ≡ 0
-is_passed r p d e h k = omega arith
-
-sums_back : (r p : ℕ) → p ≤ 64 → 128 + r - p + p ≡ 128 + r
-sums_back r p h = omega arith
-
-grown : (w i : ℕ) → count_ones (w % 2 ^ i) ≤ count_ones (w % 2 ^ (i + 8))
-grown w i = omega (arith, next_sum w i (w / 2 ^ i) refl)
-
-pick_0 : (r p1 p2 p3 p4 p5 p6 p7 p8 d1 d2 d3 d4 d5 d6 d7 d8 : ℕ) → d1 + p1 ≡ 128 + r → d2 + p2 ≡ 128 + r → d3 + p3 ≡ 128 + r → d4 + p4 ≡ 128 + r → d5 + p5 ≡ 128 + r → d6 + p6 ≡ 128 + r → d7 + p7 ≡ 128 + r → d8 + p8 ≡ 128 + r → p1 ≤ p2 → p2 ≤ p3 → p3 ≤ p4 → p4 ≤ p5 → p5 ≤ p6 → p6 ≤ p7 → p7 ≤ p8 → p8 ≤ 64 → r < 64 → r < p1 → d8 / 128 + d7 / 128 + d6 / 128 + d5 / 128 + d4 / 128 + d3 / 128 + d2 / 128 + d1 / 128 ≡ 0
-pick_0 r p1 p2 p3 p4 p5 p6 p7 p8 d1 d2 d3 d4 d5 d6 d7 d8 e1 e2 e3 e4 e5 e6 e7 e8 u1 u2 u3 u4 u5 u6 u7 few small high =
-    omega (arith, is_passed r p1 d1 e1 (omega arith) (omega arith), is_passed r p2 d2 e2 (omega arith) (omega arith), is_passed r p3 d3 e3 (omega arith) (omega arith), is_passed r p4 d4 e4 (omega arith) (omega arith), is_passed r p5 d5 e5 (omega arith) (omega arith), is_passed r p6 d6 e6 (omega arith) (omega arith), is_passed r p7 d7 e7 (omega arith) (omega arith), is_passed r p8 d8 e8 (omega arith) (omega arith))
-
-pick_1 : (r p1 p2 p3 p4 p5 p6 p7 p8 d1 d2 d3 d4 d5 d6 d7 d8 : ℕ) → d1 + p1 ≡ 128 + r → d2 + p2 ≡ 128 + r → d3 + p3 ≡ 128 + r → d4 + p4 ≡ 128 + r → d5 + p5 ≡ 128 + r → d6 + p6 ≡ 128 + r → d7 + p7 ≡ 128 + r → d8 + p8 ≡ 128 + r → p1 ≤ p2 → p2 ≤ p3 → p3 ≤ p4 → p4 ≤ p5 → p5 ≤ p6 → p6 ≤ p7 → p7 ≤ p8 → p8 ≤ 64 → r < 64 → p1 ≤ r → r < p2 → d8 / 128 + d7 / 128 + d6 / 128 + d5 / 128 + d4 / 128 + d3 / 128 + d2 / 128 + d1 / 128 ≡ 1
-pick_1 r p1 p2 p3 p4 p5 p6 p7 p8 d1 d2 d3 d4 d5 d6 d7 d8 e1 e2 e3 e4 e5 e6 e7 e8 u1 u2 u3 u4 u5 u6 u7 few small low high =
-    omega (arith, is_reached r p1 d1 e1 small (omega arith), is_passed r p2 d2 e2 (omega arith) (omega arith), is_passed r p3 d3 e3 (omega arith) (omega arith), is_passed r p4 d4 e4 (omega arith) (omega arith), is_passed r p5 d5 e5 (omega arith) (omega arith), is_passed r p6 d6 e6 (omega arith) (omega arith), is_passed r p7 d7 e7 (omega arith) (omega arith), is_passed r p8 d8 e8 (omega arith) (omega arith))
-
-pick_2 : (r p1 p2 p3 p4 p5 p6 p7 p8 d1 d2 d3 d4 d5 d6 d7 d8 : ℕ) → d1 + p1 ≡ 128 + r → d2 + p2 ≡ 128 + r → d3 + p3 ≡ 128 + r → d4 + p4 ≡ 128 + r → d5 + p5 ≡ 128 + r → d6 + p6 ≡ 128 + r → d7 + p7 ≡ 128 + r → d8 + p8 ≡ 128 + r → p1 ≤ p2 → p2 ≤ p3 → p3 ≤ p4 → p4 ≤ p5 → p5 ≤ p6 → p6 ≤ p7 → p7 ≤ p8 → p8 ≤ 64 → r < 64 → p2 ≤ r → r < p3 → d8 / 128 + d7 / 128 + d6 / 128 + d5 / 128 + d4 / 128 + d3 / 128 + d2 / 128 + d1 / 128 ≡ 2
-pick_2 r p1 p2 p3 p4 p5 p6 p7 p8 d1 d2 d3 d4 d5 d6 d7 d8 e1 e2 e3 e4 e5 e6 e7 e8 u1 u2 u3 u4 u5 u6 u7 few small low high =
-    omega (arith, is_reached r p1 d1 e1 small (omega arith), is_reached r p2 d2 e2 small (omega arith), is_passed r p3 d3 e3 (omega arith) (omega arith), is_passed r p4 d4 e4 (omega arith) (omega arith), is_passed r p5 d5 e5 (omega arith) (omega arith), is_passed r p6 d6 e6 (omega arith) (omega arith), is_passed r p7 d7 e7 (omega arith) (omega arith), is_passed r p8 d8 e8 (omega arith) (omega arith))
-
-pick_3 : (r p1 p2 p3 p4 p5 p6 p7 p8 d1 d2 d3 d4 d5 d6 d7 d8 : ℕ) → d1 + p1 ≡ 128 + r → d2 + p2 ≡ 128 + r → d3 + p3 ≡ 128 + r → d4 + p4 ≡ 128 + r → d5 + p5 ≡ 128 + r → d6 + p6 ≡ 128 + r → d7 + p7 ≡ 128 + r → d8 + p8 ≡ 128 + r → p1 ≤ p2 → p2 ≤ p3 → p3 ≤ p4 → p4 ≤ p5 → p5 ≤ p6 → p6 ≤ p7 → p7 ≤ p8 → p8 ≤ 64 → r < 64 → p3 ≤ r → r < p4 → d8 / 128 + d7 / 128 + d6 / 128 + d5 / 128 + d4 / 128 + d3 / 128 + d2 / 128 + d1 / 128 ≡ 3
-pick_3 r p1 p2 p3 p4 p5 p6 p7 p8 d1 d2 d3 d4 d5 d6 d7 d8 e1 e2 e3 e4 e5 e6 e7 e8 u1 u2 u3 u4 u5 u6 u7 few small low high =
-    omega (arith, is_reached r p1 d1 e1 small (omega arith), is_reached r p2 d2 e2 small (omega arith), is_reached r p3 d3 e3 small (omega arith), is_passed r p4 d4 e4 (omega arith) (omega arith), is_passed r p5 d5 e5 (omega arith) (omega arith), is_passed r p6 d6 e6 (omega arith) (omega arith), is_passed r p7 d7 e7 (omega arith) (omega arith), is_passed r p8 d8 e8 (omega arith) (omega arith))
-
-pick_4 : (r p1 p2 p3 p4 p5 p6 p7 p8 d1 d2 d3 d4 d5 d6 d7 d8 : ℕ) → d1 + p1 ≡ 128 + r → d2 + p2 ≡ 128 + r → d3 + p3 ≡ 128 + r → d4 + p4 ≡ 128 + r → d5 + p5 ≡ 128 + r → d6 + p6 ≡ 128 + r → d7 + p7 ≡ 128 + r → d8 + p8 ≡ 128 + r → p1 ≤ p2 → p2 ≤ p3 → p3 ≤ p4 → p4 ≤ p5 → p5 ≤ p6 → p6 ≤ p7 → p7 ≤ p8 → p8 ≤ 64 → r < 64 → p4 ≤ r → r < p5 → d8 / 128 + d7 / 128 + d6 / 128 + d5 / 128 + d4 / 128 + d3 / 128 + d2 / 128 + d1 / 128 ≡ 4
-pick_4 r p1 p2 p3 p4 p5 p6 p7 p8 d1 d2 d3 d4 d5 d6 d7 d8 e1 e2 e3 e4 e5 e6 e7 e8 u1 u2 u3 u4 u5 u6 u7 few small low high =
-    omega (arith, is_reached r p1 d1 e1 small (omega arith), is_reached r p2 d2 e2 small (omega arith), is_reached r p3 d3 e3 small (omega arith), is_reached r p4 d4 e4 small (omega arith), is_passed r p5 d5 e5 (omega arith) (omega arith), is_passed r p6 d6 e6 (omega arith) (omega arith), is_passed r p7 d7 e7 (omega arith) (omega arith), is_passed r p8 d8 e8 (omega arith) (omega arith))
-
-pick_5 : (r p1 p2 p3 p4 p5 p6 p7 p8 d1 d2 d3 d4 d5 d6 d7 d8 : ℕ) → d1 + p1 ≡ 128 + r → d2 + p2 ≡ 128 + r → d3 + p3 ≡ 128 + r → d4 + p4 ≡ 128 + r → d5 + p5 ≡ 128 + r → d6 + p6 ≡ 128 + r → d7 + p7 ≡ 128 + r → d8 + p8 ≡ 128 + r → p1 ≤ p2 → p2 ≤ p3 → p3 ≤ p4 → p4 ≤ p5 → p5 ≤ p6 → p6 ≤ p7 → p7 ≤ p8 → p8 ≤ 64 → r < 64 → p5 ≤ r → r < p6 → d8 / 128 + d7 / 128 + d6 / 128 + d5 / 128 + d4 / 128 + d3 / 128 + d2 / 128 + d1 / 128 ≡ 5
-pick_5 r p1 p2 p3 p4 p5 p6 p7 p8 d1 d2 d3 d4 d5 d6 d7 d8 e1 e2 e3 e4 e5 e6 e7 e8 u1 u2 u3 u4 u5 u6 u7 few small low high =
-    omega (arith, is_reached r p1 d1 e1 small (omega arith), is_reached r p2 d2 e2 small (omega arith), is_reached r p3 d3 e3 small (omega arith), is_reached r p4 d4 e4 small (omega arith), is_reached r p5 d5 e5 small (omega arith), is_passed r p6 d6 e6 (omega arith) (omega arith), is_passed r p7 d7 e7 (omega arith) (omega arith), is_passed r p8 d8 e8 (omega arith) (omega arith))
-
-pick_6 : (r p1 p2 p3 p4 p5 p6 p7 p8 d1 d2 d3 d4 d5 d6 d7 d8 : ℕ) → d1 + p1 ≡ 128 + r → d2 + p2 ≡ 128 + r → d3 + p3 ≡ 128 + r → d4 + p4 ≡ 128 + r → d5 + p5 ≡ 128 + r → d6 + p6 ≡ 128 + r → d7 + p7 ≡ 128 + r → d8 + p8 ≡ 128 + r → p1 ≤ p2 → p2 ≤ p3 → p3 ≤ p4 → p4 ≤ p5 → p5 ≤ p6 → p6 ≤ p7 → p7 ≤ p8 → p8 ≤ 64 → r < 64 → p6 ≤ r → r < p7 → d8 / 128 + d7 / 128 + d6 / 128 + d5 / 128 + d4 / 128 + d3 / 128 + d2 / 128 + d1 / 128 ≡ 6
-pick_6 r p1 p2 p3 p4 p5 p6 p7 p8 d1 d2 d3 d4 d5 d6 d7 d8 e1 e2 e3 e4 e5 e6 e7 e8 u1 u2 u3 u4 u5 u6 u7 few small low high =
-    omega (arith, is_reached r p1 d1 e1 small (omega arith), is_reached r p2 d2 e2 small (omega arith), is_reached r p3 d3 e3 small (omega arith), is_reached r p4 d4 e4 small (omega arith), is_reached r p5 d5 e5 small (omega arith), is_reached r p6 d6 e6 small (omega arith), is_passed r p7 d7 e7 (omega arith) (omega arith), is_passed r p8 d8 e8 (omega arith) (omega arith))
-
-pick_7 : (r p1 p2 p3 p4 p5 p6 p7 p8 d1 d2 d3 d4 d5 d6 d7 d8 : ℕ) → d1 + p1 ≡ 128 + r → d2 + p2 ≡ 128 + r → d3 + p3 ≡ 128 + r → d4 + p4 ≡ 128 + r → d5 + p5 ≡ 128 + r → d6 + p6 ≡ 128 + r → d7 + p7 ≡ 128 + r → d8 + p8 ≡ 128 + r → p1 ≤ p2 → p2 ≤ p3 → p3 ≤ p4 → p4 ≤ p5 → p5 ≤ p6 → p6 ≤ p7 → p7 ≤ p8 → p8 ≤ 64 → r < 64 → p7 ≤ r → r < p8 → d8 / 128 + d7 / 128 + d6 / 128 + d5 / 128 + d4 / 128 + d3 / 128 + d2 / 128 + d1 / 128 ≡ 7
-pick_7 r p1 p2 p3 p4 p5 p6 p7 p8 d1 d2 d3 d4 d5 d6 d7 d8 e1 e2 e3 e4 e5 e6 e7 e8 u1 u2 u3 u4 u5 u6 u7 few small low high =
-    omega (arith, is_reached r p1 d1 e1 small (omega arith), is_reached r p2 d2 e2 small (omega arith), is_reached r p3 d3 e3 small (omega arith), is_reached r p4 d4 e4 small (omega arith), is_reached r p5 d5 e5 small (omega arith), is_reached r p6 d6 e6 small (omega arith), is_reached r p7 d7 e7 small (omega arith), is_passed r p8 d8 e8 (omega arith) (omega arith))
+through_packed : (w : ℕ) → ones_through_bytes w ≡ packed (ones_below_byte w) 1 8
+unfolding ones_through_bytes packed
+through_packed w = omega arith
 
 pub reached : (w r : ℕ) → r < count_ones (w % 2 ^ 64) → IsByteWith w r (count_ones (bit_and (r * 72340172838076673 + 9259542123273814144 - ones_through_bytes w) 9259542123273814144))
-unfolding ones_through_bytes
+unfolding bytes_of
 reached w r h =
-    let p1 = ones_below_byte w 1 in let d1 = 128 + r - p1 in
-    let p2 = ones_below_byte w 2 in let d2 = 128 + r - p2 in
-    let p3 = ones_below_byte w 3 in let d3 = 128 + r - p3 in
-    let p4 = ones_below_byte w 4 in let d4 = 128 + r - p4 in
-    let p5 = ones_below_byte w 5 in let d5 = 128 + r - p5 in
-    let p6 = ones_below_byte w 6 in let d6 = 128 + r - p6 in
-    let p7 = ones_below_byte w 7 in let d7 = 128 + r - p7 in
-    let p8 = ones_below_byte w 8 in let d8 = 128 + r - p8 in
-    let few1 : p1 ≤ 8 = ones_few w 8 in
-    let few2 : p2 ≤ 16 = ones_few w 16 in
-    let few3 : p3 ≤ 24 = ones_few w 24 in
-    let few4 : p4 ≤ 32 = ones_few w 32 in
-    let few5 : p5 ≤ 40 = ones_few w 40 in
-    let few6 : p6 ≤ 48 = ones_few w 48 in
-    let few7 : p7 ≤ 56 = ones_few w 56 in
-    let few8 : p8 ≤ 64 = ones_few w 64 in
-    let small : r < 64 = omega arith in
-    let u1 : p1 ≤ p2 = grown w 8 in
-    let u2 : p2 ≤ p3 = grown w 16 in
-    let u3 : p3 ≤ p4 = grown w 24 in
-    let u4 : p4 ≤ p5 = grown w 32 in
-    let u5 : p5 ≤ p6 = grown w 40 in
-    let u6 : p6 ≤ p7 = grown w 48 in
-    let u7 : p7 ≤ p8 = grown w 56 in
-    let e1 : d1 + p1 ≡ 128 + r = sums_back r p1 (omega arith) in let f1 : d1 < 256 = reached_of r p1 d1 e1 small (omega arith) in
-    let e2 : d2 + p2 ≡ 128 + r = sums_back r p2 (omega arith) in let f2 : d2 < 256 = reached_of r p2 d2 e2 small (omega arith) in
-    let e3 : d3 + p3 ≡ 128 + r = sums_back r p3 (omega arith) in let f3 : d3 < 256 = reached_of r p3 d3 e3 small (omega arith) in
-    let e4 : d4 + p4 ≡ 128 + r = sums_back r p4 (omega arith) in let f4 : d4 < 256 = reached_of r p4 d4 e4 small (omega arith) in
-    let e5 : d5 + p5 ≡ 128 + r = sums_back r p5 (omega arith) in let f5 : d5 < 256 = reached_of r p5 d5 e5 small (omega arith) in
-    let e6 : d6 + p6 ≡ 128 + r = sums_back r p6 (omega arith) in let f6 : d6 < 256 = reached_of r p6 d6 e6 small (omega arith) in
-    let e7 : d7 + p7 ≡ 128 + r = sums_back r p7 (omega arith) in let f7 : d7 < 256 = reached_of r p7 d7 e7 small (omega arith) in
-    let e8 : d8 + p8 ≡ 128 + r = sums_back r p8 (omega arith) in let f8 : d8 < 256 = reached_of r p8 d8 e8 small (omega arith) in
-    let all = ap (λ n. count_ones (bit_and n 9259542123273814144)) (minus_sums r p1 p2 p3 p4 p5 p6 p7 p8 d1 d2 d3 d4 d5 d6 d7 d8 e1 e2 e3 e4 e5 e6 e7 e8) ∙ top_bits d1 d2 d3 d4 d5 d6 d7 d8 f1 f2 f3 f4 f5 f6 f7 f8 in
-    let by = λ (j : ℕ) (e : d8 / 128 + d7 / 128 + d6 / 128 + d5 / 128 + d4 / 128 + d3 / 128 + d2 / 128 + d1 / 128 ≡ j) (is : IsByteWith w r j). subst (IsByteWith w r) (sym (all ∙ e)) is in
-    elim (cases_lt r p1) [
-      | inl high ↦ by 0 (pick_0 r p1 p2 p3 p4 p5 p6 p7 p8 d1 d2 d3 d4 d5 d6 d7 d8 e1 e2 e3 e4 e5 e6 e7 e8 u1 u2 u3 u4 u5 u6 u7 few8 small high) (omega arith, omega (arith, ones_few w 0), high)
-      | inr low ↦ elim (cases_lt r p2) [
-        | inl high ↦ by 1 (pick_1 r p1 p2 p3 p4 p5 p6 p7 p8 d1 d2 d3 d4 d5 d6 d7 d8 e1 e2 e3 e4 e5 e6 e7 e8 u1 u2 u3 u4 u5 u6 u7 few8 small low high) (omega arith, low, high)
-        | inr low ↦ elim (cases_lt r p3) [
-          | inl high ↦ by 2 (pick_2 r p1 p2 p3 p4 p5 p6 p7 p8 d1 d2 d3 d4 d5 d6 d7 d8 e1 e2 e3 e4 e5 e6 e7 e8 u1 u2 u3 u4 u5 u6 u7 few8 small low high) (omega arith, low, high)
-          | inr low ↦ elim (cases_lt r p4) [
-            | inl high ↦ by 3 (pick_3 r p1 p2 p3 p4 p5 p6 p7 p8 d1 d2 d3 d4 d5 d6 d7 d8 e1 e2 e3 e4 e5 e6 e7 e8 u1 u2 u3 u4 u5 u6 u7 few8 small low high) (omega arith, low, high)
-            | inr low ↦ elim (cases_lt r p5) [
-              | inl high ↦ by 4 (pick_4 r p1 p2 p3 p4 p5 p6 p7 p8 d1 d2 d3 d4 d5 d6 d7 d8 e1 e2 e3 e4 e5 e6 e7 e8 u1 u2 u3 u4 u5 u6 u7 few8 small low high) (omega arith, low, high)
-              | inr low ↦ elim (cases_lt r p6) [
-                | inl high ↦ by 5 (pick_5 r p1 p2 p3 p4 p5 p6 p7 p8 d1 d2 d3 d4 d5 d6 d7 d8 e1 e2 e3 e4 e5 e6 e7 e8 u1 u2 u3 u4 u5 u6 u7 few8 small low high) (omega arith, low, high)
-                | inr low ↦ elim (cases_lt r p7) [
-                  | inl high ↦ by 6 (pick_6 r p1 p2 p3 p4 p5 p6 p7 p8 d1 d2 d3 d4 d5 d6 d7 d8 e1 e2 e3 e4 e5 e6 e7 e8 u1 u2 u3 u4 u5 u6 u7 few8 small low high) (omega arith, low, high)
-                  | inr low ↦ let high = h in by 7 (pick_7 r p1 p2 p3 p4 p5 p6 p7 p8 d1 d2 d3 d4 d5 d6 d7 d8 e1 e2 e3 e4 e5 e6 e7 e8 u1 u2 u3 u4 u5 u6 u7 few8 small low high) (omega arith, low, high)
-                ]
-              ]
-            ]
-          ]
-        ]
-      ]
-    ]
+    let p = ones_below_byte w in
+    let small : r < 64 = omega (arith, ones_few w 64) in
+    let s = reaching p r small (few_below w) (more_below w) 1 8 in
+    let minus : r * 72340172838076673 + 9259542123273814144 - ones_through_bytes w ≡ packed (λ i. 128 + r - p i) 1 8 =
+    omega (arith, minus_sums p r small (few_below w) (more_below w) 1 8 (omega arith), through_packed w) in
+    let is : count_ones (bit_and (r * 72340172838076673 + 9259542123273814144 - ones_through_bytes w) 9259542123273814144) ≡ s =
+    ap (λ n. count_ones (bit_and n 9259542123273814144)) minus ∙ top_bits p r small (few_below w) (more_below w) 1 8 in
+    let found = reached_up_to p r small (few_below w) (more_below w) 0 8 s (omega arith) (omega (arith, ones_few w 0)) (omega arith) in
+    let next : 8 * (s + 1) ≡ 8 * s + 8 = omega arith in
+    rw is ((found.1 h).0, found.0, rw (← next) (found.1 h).1)
 
 pub through_few : (w : ℕ) → ones_through_bytes w ≤ 4629771061636907072
 unfolding ones_through_bytes
-through_few w = omega (arith, ones_few w 8, ones_few w 16, ones_few w 24, ones_few w 32, ones_few w 40, ones_few w 48, ones_few w 56, ones_few w 64)
+through_few w = omega (arith, few_below w)
 
 pub small_number : (w r : ℕ) → r < count_ones (w % 2 ^ 64) → r < 64
 small_number w r h = omega (arith, ones_few w 64)
@@ -304,71 +246,26 @@ pub ruleset bytes = (reached, through_few, small_number)
 
 -- ---- one of the sums
 
-abbrev pub HasPart : ℕ → ℕ → Type 0
-HasPart w k = ones_through_bytes w * 256 % 18446744073709551616 / 2 ^ (8 * k) % 256 ≡ count_ones (w % 2 ^ (8 * k))
+-- byte number k of packed numbers
+byte_at : (f : ℕ → ℕ) (a n k : ℕ) → ((i : ℕ) → i ≤ 8 → f i ≤ 64) → k < n → a + n ≤ 9 → packed f a n / 2 ^ (8 * k) % 256 ≡ f (a + k)
+unfolding packed
+byte_at f a zero k few h within = absurd (omega arith)
+byte_at f a (suc n) zero few h within =
+    let place : a + 0 ≡ a = omega arith in
+    let whole : (packed f (a + 1) n * 256 + f a) / 1 % 256 ≡ f a = omega (arith, few a (omega arith)) in whole ∙ ap f (sym place)
+byte_at f a (suc n) (suc k) few h within =
+    let e : 8 * suc k ≡ 8 + 8 * k = omega arith in
+    let power : 2 ^ (8 * suc k) ≡ 256 * 2 ^ (8 * k) = ap (λ m. 2 ^ m) e ∙ pow-add 2 8 (8 * k) in
+    let rest : (packed f (a + 1) n * 256 + f a) / 256 ≡ packed f (a + 1) n = omega (arith, few a (omega arith)) in
+    let next : a + 1 + k ≡ a + suc k = omega arith in
+    ap (λ m. (packed f (a + 1) n * 256 + f a) / m % 256) power ∙ ap (λ m. m % 256) (sym (div-div-eq-div-mul (packed f (a + 1) n * 256 + f a) 256 (2 ^ (8 * k))))
+    ∙ ap (λ m. m / 2 ^ (8 * k) % 256) rest ∙ byte_at f (a + 1) n k few (omega arith) (omega arith) ∙ ap f next
 
-part_0 : (w : ℕ) → HasPart w 0
-unfolding ones_through_bytes
-part_0 w = omega (arith, ones_few w 0, ones_few w 8, ones_few w 16, ones_few w 24, ones_few w 32, ones_few w 40, ones_few w 48, ones_few w 56, ones_few w 64)
-
-part_1 : (w : ℕ) → HasPart w 1
-unfolding ones_through_bytes
-part_1 w = omega (arith, ones_few w 0, ones_few w 8, ones_few w 16, ones_few w 24, ones_few w 32, ones_few w 40, ones_few w 48, ones_few w 56, ones_few w 64)
-
-part_2 : (w : ℕ) → HasPart w 2
-unfolding ones_through_bytes
-part_2 w = omega (arith, ones_few w 0, ones_few w 8, ones_few w 16, ones_few w 24, ones_few w 32, ones_few w 40, ones_few w 48, ones_few w 56, ones_few w 64)
-
-part_3 : (w : ℕ) → HasPart w 3
-unfolding ones_through_bytes
-part_3 w = omega (arith, ones_few w 0, ones_few w 8, ones_few w 16, ones_few w 24, ones_few w 32, ones_few w 40, ones_few w 48, ones_few w 56, ones_few w 64)
-
-part_4 : (w : ℕ) → HasPart w 4
-unfolding ones_through_bytes
-part_4 w = omega (arith, ones_few w 0, ones_few w 8, ones_few w 16, ones_few w 24, ones_few w 32, ones_few w 40, ones_few w 48, ones_few w 56, ones_few w 64)
-
-part_5 : (w : ℕ) → HasPart w 5
-unfolding ones_through_bytes
-part_5 w = omega (arith, ones_few w 0, ones_few w 8, ones_few w 16, ones_few w 24, ones_few w 32, ones_few w 40, ones_few w 48, ones_few w 56, ones_few w 64)
-
-part_6 : (w : ℕ) → HasPart w 6
-unfolding ones_through_bytes
-part_6 w = omega (arith, ones_few w 0, ones_few w 8, ones_few w 16, ones_few w 24, ones_few w 32, ones_few w 40, ones_few w 48, ones_few w 56, ones_few w 64)
-
-part_7 : (w : ℕ) → HasPart w 7
-unfolding ones_through_bytes
-part_7 w = omega (arith, ones_few w 0, ones_few w 8, ones_few w 16, ones_few w 24, ones_few w 32, ones_few w 40, ones_few w 48, ones_few w 56, ones_few w 64)
-
-between : (k j : ℕ) → j ≤ k → k < j + 1 → k ≡ j
-between k j low high = omega arith
-
-only_7 : (k : ℕ) → k < 8 → 7 ≤ k → k ≡ 7
-only_7 k h low = omega arith
-
-pub part_of : (w k : ℕ) → k < 8 → HasPart w k
+pub part_of : (w k : ℕ) → k < 8 → ones_through_bytes w * 256 % 18446744073709551616 / 2 ^ (8 * k) % 256 ≡ count_ones (w % 2 ^ (8 * k))
+unfolding ones_through_bytes packed
 part_of w k h =
-    elim (cases_lt k 1) [
-      | inl high ↦ subst (HasPart w) (sym (between k 0 (omega arith) high)) (part_0 w)
-      | inr low ↦ elim (cases_lt k 2) [
-        | inl high ↦ subst (HasPart w) (sym (between k 1 low high)) (part_1 w)
-        | inr low ↦ elim (cases_lt k 3) [
-          | inl high ↦ subst (HasPart w) (sym (between k 2 low high)) (part_2 w)
-          | inr low ↦ elim (cases_lt k 4) [
-            | inl high ↦ subst (HasPart w) (sym (between k 3 low high)) (part_3 w)
-            | inr low ↦ elim (cases_lt k 5) [
-              | inl high ↦ subst (HasPart w) (sym (between k 4 low high)) (part_4 w)
-              | inr low ↦ elim (cases_lt k 6) [
-                | inl high ↦ subst (HasPart w) (sym (between k 5 low high)) (part_5 w)
-                | inr low ↦ elim (cases_lt k 7) [
-                  | inl high ↦ subst (HasPart w) (sym (between k 6 low high)) (part_6 w)
-                  | inr low ↦ subst (HasPart w) (sym (only_7 k h low)) (part_7 w)
-                ]
-              ]
-            ]
-          ]
-        ]
-      ]
-    ]
+    let shifted : ones_through_bytes w * 256 % 18446744073709551616 ≡ packed (ones_below_byte w) 0 8 = omega (arith, few_below w, ones_few w 0) in
+    ap (λ n. n / 2 ^ (8 * k) % 256) shifted ∙ byte_at (ones_below_byte w) 0 8 k (few_below w) h (omega arith) ∙ ap (ones_below_byte w) (let e : 0 + k ≡ k = omega arith in e)
 
 pub masked_byte : (n : ℕ) → bit_and n 255 ≡ n % 256
 masked_byte n = and_mask n 8

@@ -1,15 +1,15 @@
 -- Walks by chunks of bits.
-use Rattle.std.proofs.Common.{zero, suc, ◌≡◌, ℕ, ◌+◌, ◌-◌, ◌*◌, ◌/◌, ◌%◌, ◌^◌, ◌<◌, ◌≤◌, Bool, true, false, List, [], ◌∷◌, ◌++◌, map, filter, eqb, replicate, Some, None, length, get_or, take, drop, pow_mono, refl, sym, ap, ◌∙◌, arith, inl, inr}
+use Rattle.std.proofs.Common.{zero, suc, ◌≡◌, ℕ, ◌+◌, ◌-◌, ◌*◌, ◌/◌, ◌%◌, ◌^◌, ◌<◌, ◌≤◌, Bool, true, false, List, [], ◌∷◌, ◌++◌, map, filter, eqb, replicate, Some, None, length, get_or, drop, refl, sym, ap, ◌∙◌, arith, inl, inr}
 use Rattle.std.specs.Prelude.{bit_and}
 use Rattle.std.specs.Int.{bit_at}
 use Rattle.std.specs.List.{range_with_len}
 use Rattle.std.proofs.lemmas.Bool.{cases_Bool}
-use Rattle.std.proofs.lemmas.List.{drop_more, drop_all, length-take}
+use Rattle.std.proofs.lemmas.List.{drop_more, drop_all}
 use Rattle.std.proofs.lemmas.Nat.{and_mask}
 use Rattle.std.proofs.lemmas.Nat.Bits.{bit_at_cat_low}
 use Rattle.vers_bits.specs.Bits.{bit_value, is_bit, count, limb, places, select}
 use Rattle.vers_bits.specs.Walk.{TakesFirst}
-use Rattle.vers_bits.proofs.PublicLaws.{number-lt, count_past, count_none, count_le_all, length-places, select_at, count_more_yes, count_more_no}
+use Rattle.vers_bits.proofs.PublicLaws.{count_past, count_none, count_le_all, length-places, select_at, count_more_yes, count_more_no}
 use Rattle.vers_tally.specs.Reads.{Reads, AddsAtMost}
 use Rattle.vers_tally.proofs.PublicLaws.{adds_then}
 use Rattle.vers_rank.specs.declared.fast_rs_vec.bit_set_iter.ChunkWalk.{ChunkWalk}
@@ -18,7 +18,7 @@ use Rattle.vers_rank.specs.inside.Offsets.{last_first, ones_below}
 use Rattle.vers_rank.specs.inside.Walks.{chunk_places_left, places_from, marked, IsChunkWalkOf}
 use Rattle.vers_rank.proofs.OffsetLanes.{last_first_from, offset_below}
 use Rattle.vers_rank.proofs.Pairs.{digit_after}
-use Rattle.vers_rank.proofs.Reading.{marked_bit}
+use Rattle.vers_rank.proofs.Marks.{marked_bit}
 
 -- ---- the places that are left
 pub places_from_start : (b : Bool) (bits : List Bool) → places_from b bits 0 ≡ places b bits
@@ -95,20 +95,12 @@ module _ (bits : List Bool) (walk : ChunkWalk) (is : IsChunkWalkOf bits walk) wh
       rw (← left, none) (record { given = refl; left = refl })
 
 -- ---- a chunk anew
-limb_fits : (bits : List Bool) (k : ℕ) → limb bits k < 18446744073709551616
-unfolding limb
-limb_fits bits k =
-    let part = take 64 (drop (64 * k) bits) in
-    let short : length part ≤ 64 = omega (arith, length-take 64 (drop (64 * k) bits)) in
-    let few : 2 ^ length part ≤ 2 ^ 64 = pow_mono short in
-    omega (arith, number-lt part, few)
-
 -- a digit of the limb of place p, without the digits before that place
 word_bit : (b : Bool) (bits : List Bool) (p i w : ℕ) → w ≡ marked b (limb bits (p / 64)) → p % 64 + i < 64 → bit_at (w / 2 ^ (p % 64)) i ≡ bit_value (is_bit b (get_or bits (p + i) false))
 word_bit b bits p i w word small =
     let e : 64 * (p / 64) + (p % 64 + i) ≡ p + i = omega arith in
     ap (λ v. bit_at (v / 2 ^ (p % 64)) i) word ∙ digit_after (marked b (limb bits (p / 64))) (p % 64) i
-    ∙ marked_bit b bits (p / 64) (p % 64 + i) (limb_fits bits (p / 64)) small ∙ ap (λ q. bit_value (is_bit b (get_or bits q false))) e
+    ∙ marked_bit b bits (p / 64) (p % 64 + i) small ∙ ap (λ q. bit_value (is_bit b (get_or bits q false))) e
 
 module _ (bits : List Bool) (walk : ChunkWalk) (n count : ℕ) (buffer : List ℕ) (w : ℕ) (is : IsChunkWalkOf bits walk) (done : walk.left ≡ 0) (within : walk.end + n ≤ length bits) (room : length buffer ≡ 16) (few : count ≤ 16) (listed : last_first 0 buffer count ≡ ones_below n w) (holds : (i : ℕ) → i < n → bit_at w i ≡ bit_value (is_bit walk.bit (get_or bits (walk.end + i) false))) (whole : walk.end + n < length bits → (walk.end + n) % 16 ≡ 0) where
   abbrev loaded : ChunkWalk

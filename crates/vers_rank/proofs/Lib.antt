@@ -16,4 +16,4 @@ pub mod Neighbours
 pub mod Equal
 pub mod Reading
 pub mod ReadingBack
-pub mod LimbByLimb
+pub mod Marks

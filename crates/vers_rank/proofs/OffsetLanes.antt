@@ -3,8 +3,8 @@ use Rattle.std.proofs.Common.{zero, suc, ◌≡◌, ℕ, ◌+◌, ◌-◌, ◌*�
 use Rattle.std.specs.Prelude.{count_ones, bit_and}
 use Rattle.std.specs.Int.{bit_at}
 use Rattle.std.specs.List.{range_with_len}
-use Rattle.std.proofs.lemmas.Bool.{cases_lt, cases_eq, cases_Bool, agree_below, agree_below_at}
-use Rattle.std.proofs.lemmas.List.{length-set, get_or-set_same, get_or-set_other}
+use Rattle.std.proofs.lemmas.Bool.{cases_eq, cases_Bool, agree_below_at}
+use Rattle.std.proofs.lemmas.List.{map-id, length-set, get_or-set_same, get_or-set_other}
 use Rattle.std.proofs.lemmas.List.Elements.{All-filter, All-from_get_or, All-head, All-tail, filter-append}
 use Rattle.std.specs.List.{All}
 use Rattle.std.proofs.lemmas.List.FromFn.{length-range_with_len, get_or-range_with_len}
@@ -43,7 +43,7 @@ each_last_first : (P : ℕ → Type 0) (xs : List ℕ) (n : ℕ) → All P (last
 each_last_first P xs zero all j h = absurd (omega (arith, h))
 each_last_first P xs (suc n) all j h = elim (cases_eq j n) [
   | inl same ↦ rw same (All-head P (0 + get_or xs n 0) (last_first 0 xs n) all)
-  | inr other ↦ each_last_first P xs n (All-tail P (0 + get_or xs n 0) (last_first 0 xs n) all) j (elim (cases_lt j n) [ inl less ↦ less | inr more ↦ absurd (other (omega (arith, h, more))) ])
+  | inr other ↦ each_last_first P xs n (All-tail P (0 + get_or xs n 0) (last_first 0 xs n) all) j (omega (arith, other, h))
 ]
 
 -- ---- places of ones
@@ -56,27 +56,16 @@ offset_below xs count n w listed j h =
     let all : All (λ i. i < n) (last_first 0 xs count) = rw listed (All-filter (λ i. eqb (bit_at w i) 1) (λ i. i < n) (range_with_len 0 n) (range_below n)) in
     omega (arith, each_last_first (λ i. i < n) xs count all j h)
 
--- the places that pass a test, by those that pass it from place d on
-passing_from : (p q : ℕ → Bool) (d a n : ℕ) → ((i : ℕ) → a ≤ i → i < a + n → p (d + i) ≡ q i) → filter p (range_with_len (d + a) n) ≡ map (λ i. d + i) (filter q (range_with_len a n))
-passing_from p q d a zero same = refl
-passing_from p q d a (suc n) same =
+-- the places that pass a test, by those d places before that pass another
+passing_from : (p q : ℕ → Bool) (f : ℕ → ℕ) (d a n : ℕ) → ((i : ℕ) → f i ≡ d + i) → ((i : ℕ) → a ≤ i → i < a + n → p (d + i) ≡ q i) → filter p (range_with_len (d + a) n) ≡ map f (filter q (range_with_len a n))
+passing_from p q f d a zero shift same = refl
+passing_from p q f d a (suc n) shift same =
     let next : d + a + 1 ≡ d + (a + 1) = omega arith in
-    let rest : filter p (range_with_len (d + a + 1) n) ≡ map (λ i. d + i) (filter q (range_with_len (a + 1) n)) =
-    ap (λ k. filter p (range_with_len k n)) next ∙ passing_from p q d (a + 1) n (λ i low high. same i (omega (arith, low)) (omega (arith, high))) in
+    let rest : filter p (range_with_len (d + a + 1) n) ≡ map f (filter q (range_with_len (a + 1) n)) =
+    ap (λ k. filter p (range_with_len k n)) next ∙ passing_from p q f d (a + 1) n shift (λ i low high. same i (omega (arith, low)) (omega (arith, high))) in
     let here = same a (omega arith) (omega arith) in
     elim (cases_Bool (q a)) [
-      | inl on ↦ rw (here, on) (ap (λ l. (d + a) ∷ l) rest)
-      | inr off ↦ rw (here, off) rest
-    ]
-
--- the places that pass either of two tests which agree on them
-passing_both : (p q : ℕ → Bool) (a n : ℕ) → ((i : ℕ) → a ≤ i → i < a + n → p i ≡ q i) → filter p (range_with_len a n) ≡ filter q (range_with_len a n)
-passing_both p q a zero same = refl
-passing_both p q a (suc n) same =
-    let rest = passing_both p q (a + 1) n (λ i low high. same i (omega (arith, low)) (omega (arith, high))) in
-    let here = same a (omega arith) (omega arith) in
-    elim (cases_Bool (q a)) [
-      | inl on ↦ rw (here, on) (ap (λ l. a ∷ l) rest)
+      | inl on ↦ rw (here, on) (ap (λ x. x ∷ filter p (range_with_len (d + a + 1) n)) (sym (shift a)) ∙ ap (λ l. f a ∷ l) rest)
       | inr off ↦ rw (here, off) rest
     ]
 
@@ -103,10 +92,10 @@ two_bytes : (c : ℕ) → ones_below 16 c ≡ ones_below 8 (c % 256) ++ map (λ 
 two_bytes c =
     let p : ℕ → Bool = λ i. eqb (bit_at c i) 1 in
     filter-append p (range_with_len 0 8) (range_with_len 8 8)
-    ∙ ap (λ l. l ++ filter p (range_with_len 8 8)) (passing_both p (λ i. eqb (bit_at (c % 256) i) 1) 0 8 (λ i low high. ap (λ d. eqb d 1) (sym (low_digit c i (omega (arith, high))))))
-    ∙ ap (λ l. ones_below 8 (c % 256) ++ l) (passing_from p (λ i. eqb (bit_at (c / 256) i) 1) 8 0 8 (λ i low high. ap (λ d. eqb d 1) (high_digit c i)))
+    ∙ ap (λ l. l ++ filter p (range_with_len 8 8)) (passing_from p (λ i. eqb (bit_at (c % 256) i) 1) (λ i. i) 0 0 8 (λ i. omega arith) (λ i low high. ap (λ d. eqb d 1) (ap (bit_at c) (let e : 0 + i ≡ i = omega arith in e) ∙ sym (low_digit c i (omega (arith, high))))) ∙ map-id (ones_below 8 (c % 256)))
+    ∙ ap (λ l. ones_below 8 (c % 256) ++ l) (passing_from p (λ i. eqb (bit_at (c / 256) i) 1) (λ i. 8 + i) 8 0 8 (λ i. refl) (λ i low high. ap (λ d. eqb d 1) (high_digit c i)))
 
--- ---- the table
+-- ---- the table, of which each entry is tried
 -- what the table holds for the byte v
 abbrev entry : ℕ → List ℕ
 entry v = chunk (8 * v) 8 OFFSETS
@@ -114,28 +103,15 @@ entry v = chunk (8 * v) 8 OFFSETS
 lists_ones : ℕ → Bool
 lists_ones v = bytes_eq (last_first 0 (entry v) (count_ones v)) (ones_below 8 v)
 
--- each entry is tried
-all_list : agree_below lists_ones (λ _. true) 256 ≡ true
-unfolding lists_ones ones
-all_list = refl
-
-is_small : ℕ → Bool
-is_small i = ltb (get_or OFFSETS i 0) 8
-
-all_small : agree_below is_small (λ _. true) 2048 ≡ true
-unfolding is_small
-all_small = refl
-
 pub entry_listed : (v : ℕ) → v < 256 → last_first 0 (entry v) (count_ones v) ≡ ones_below 8 v
-unfolding lists_ones
-entry_listed v h = (bytes_eq-Decides (last_first 0 (entry v) (count_ones v)) (ones_below 8 v)).0 (agree_below_at lists_ones (λ _. true) 256 v all_list h)
+unfolding lists_ones ones
+entry_listed v h = (bytes_eq-Decides (last_first 0 (entry v) (count_ones v)) (ones_below 8 v)).0 (agree_below_at lists_ones (λ _. true) 256 v refl h)
 
 pub entry_long : (v : ℕ) → v < 256 → length (entry v) ≡ 8
 entry_long v h = length-chunk (8 * v) 8 OFFSETS (let size : length OFFSETS ≡ 2048 = refl in omega (arith, size))
 
 pub entry_small : (v : ℕ) → v < 256 → (j : ℕ) → j < 8 → get_or (entry v) j 0 < 8
-unfolding is_small
-entry_small v h j small = omega (arith, get_or-chunk (8 * v) 8 OFFSETS j 0 small, ltb-true _ _ (agree_below_at is_small (λ _. true) 2048 (8 * v + j) all_small (omega (arith, small))))
+entry_small v h j small = omega (arith, get_or-chunk (8 * v) 8 OFFSETS j 0 small, ltb-true _ _ (agree_below_at (λ i. ltb (get_or OFFSETS i 0) 8) (λ _. true) 2048 (8 * v + j) refl (omega (arith, small))))
 
 -- ---- both bytes in one buffer
 pub raised_long : (highs : List ℕ) → length highs ≡ 8 → length (zip2 (λ a b. (a + b) % 256) highs (replicate 8 8)) ≡ 8

@@ -7,7 +7,7 @@ use Rattle.std.proofs.lemmas.Nat.Bits.{bit_at-suc, bit_at-zero, bit_at_cat_high,
 use Rattle.std.proofs.lemmas.Nat.{mod_below, pow_pos}
 use Rattle.vers_bits.specs.Bits.{bit_value, count, limb, select}
 use Rattle.vers_bits.proofs.PublicLaws.{count_more_no, select_at, count_at_select, select_past, select_up, select_holds, value_one, value_none}
-use Rattle.vers_rank.proofs.Reading.{marked_bit}
+use Rattle.vers_rank.proofs.Marks.{limb_fits, marked_bit}
 
 -- a digit of a number without its lowest q digits
 pub digit_after : (n q i : ℕ) → bit_at (n / 2 ^ q) i ≡ bit_at n (q + i)
@@ -28,7 +28,7 @@ ones_stay l p (suc d) h off =
     let e : p + suc d ≡ p + d + 1 = omega arith in
     ap (count true l) e ∙ count_more_no true l (p + d) (omega arith) (off d (omega arith)) ∙ ones_stay l p d (omega arith) (λ i small. off i (omega arith))
 
-module _ (l : List Bool) (k q : ℕ) (fits : limb l k < 18446744073709551616) (after : 0 < limb l k / 2 ^ q / 2) where
+module _ (l : List Bool) (k q : ℕ) (after : 0 < limb l k / 2 ^ q / 2) where
   abbrev rest : ℕ
   rest = limb l k / 2 ^ q / 2
 
@@ -36,18 +36,18 @@ module _ (l : List Bool) (k q : ℕ) (fits : limb l k < 18446744073709551616) (a
   far = trailing_zeros w64 rest
 
   far_is : (far < 64) × (bit_at rest far ≡ 1) × ((i : ℕ) → i < far → bit_at rest i ≡ 0)
-  far_is = bit_at-trailing_zeros w64 rest after (omega (arith, fits))
+  far_is = bit_at-trailing_zeros w64 rest after (omega (arith, limb_fits l k))
 
   in_word : q + 1 + far < 64
   in_word = elim (cases_lt (q + 1 + far) 64) [
     | inl h ↦ h
-    | inr h ↦ absurd (omega (arith, far_is.1, digit_past (limb l k) q far, bit_at_above (limb l k) 64 (q + 1 + far) fits h))
+    | inr h ↦ absurd (omega (arith, far_is.1, digit_past (limb l k) q far, bit_at_above (limb l k) 64 (q + 1 + far) (limb_fits l k) h))
   ]
 
   bit_after : (i : ℕ) → i < 64 - (q + 1) → bit_at rest i ≡ bit_value (get_or l (64 * k + q + 1 + i) false)
   bit_after i h =
       let e : 64 * k + (q + 1 + i) ≡ 64 * k + q + 1 + i = omega arith in
-      digit_past (limb l k) q i ∙ marked_bit true l k (q + 1 + i) fits (omega arith) ∙ ap (λ p. bit_value (get_or l p false)) e
+      digit_past (limb l k) q i ∙ marked_bit true l k (q + 1 + i) (omega arith) ∙ ap (λ p. bit_value (get_or l p false)) e
 
   on : get_or l (64 * k + q + 1 + far) false ≡ true
   on = value_one (get_or l (64 * k + q + 1 + far) false) (sym (bit_after far (omega (arith, in_word))) ∙ far_is.1)
@@ -68,14 +68,14 @@ module _ (l : List Bool) (k q : ℕ) (fits : limb l k < 18446744073709551616) (a
       sym (select_at true l (r + 1) (64 * k + q + 1 + far) inside on (ones_stay l (64 * k + q + 1) far (omega (arith, inside)) off ∙ before))
 
 -- the one after number r, where the word of number r holds another past it
-pub one_after : (l : List Bool) (r k q : ℕ) → limb l k < 18446744073709551616 → r < count true l (length l) → 64 * k + q ≡ select true l r → 0 < limb l k / 2 ^ q / 2
+pub one_after : (l : List Bool) (r k q : ℕ) → r < count true l (length l) → 64 * k + q ≡ select true l r → 0 < limb l k / 2 ^ q / 2
     → (64 * k + q + 1 + trailing_zeros w64 (limb l k / 2 ^ q / 2) ≡ select true l (r + 1)) × (64 * k + q + 1 + trailing_zeros w64 (limb l k / 2 ^ q / 2) < length l)
-one_after l r k q fits some place after = (next_is l k q fits after r some place, inside l k q fits after)
+one_after l r k q some place after = (next_is l k q after r some place, inside l k q after)
 
 -- where the word of number r holds no other past it, the one after number r stands in another word
-pub none_after : (l : List Bool) (r k q : ℕ) → limb l k < 18446744073709551616 → q < 64 → r < count true l (length l) → 64 * k + q ≡ select true l r → limb l k / 2 ^ q / 2 ≡ 0
+pub none_after : (l : List Bool) (r k q : ℕ) → q < 64 → r < count true l (length l) → 64 * k + q ≡ select true l r → limb l k / 2 ^ q / 2 ≡ 0
     → select true l (r + 1) < length l → (64 * k + q) / 64 ≢ select true l (r + 1) / 64
-none_after l r k q fits small some place none within same =
+none_after l r k q small some place none within same =
     let p = select true l (r + 1) in
     let more : r + 1 < count true l (length l) = elim (cases_lt (r + 1) (count true l (length l))) [
       | inl h ↦ h
@@ -86,7 +86,7 @@ none_after l r k q fits small some place none within same =
     let i = p - (64 * k + q + 1) in
     let there : 64 * k + (q + 1 + i) ≡ p = omega (arith, past) in
     let inside : q + 1 + i < 64 = omega (arith, there, same, small) in
-    let one : bit_at (limb l k) (q + 1 + i) ≡ 1 = marked_bit true l k (q + 1 + i) fits inside ∙ ap (λ n. bit_value (get_or l n false)) there ∙ ap bit_value holds in
+    let one : bit_at (limb l k) (q + 1 + i) ≡ 1 = marked_bit true l k (q + 1 + i) inside ∙ ap (λ n. bit_value (get_or l n false)) there ∙ ap bit_value holds in
     absurd (omega (arith, one, digit_past (limb l k) q i, ap (λ n. bit_at n i) none, bit_at-zero i))
 
 pub no_ones : (l : List Bool) (r : ℕ) → count true l (length l) ≤ r → (select true l r ≡ length l) × (select true l (r + 1) ≡ length l)

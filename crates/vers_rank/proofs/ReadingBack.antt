@@ -1,169 +1,121 @@
 -- The word that a walk over places from the back is reading.
-use Rattle.std.proofs.Common.{◌≡◌, ℕ, ◌+◌, ◌-◌, ◌*◌, ◌/◌, ◌%◌, ◌^◌, ◌<◌, ◌≤◌, min, Bool, false, List, length, get_or, sym, ap, ◌∙◌, arith, inl, inr, w64}
-use Rattle.std.specs.Prelude.{bit_and}
+use Rattle.std.proofs.Common.{◌≡◌, ℕ, ◌+◌, ◌-◌, ◌*◌, ◌/◌, ◌%◌, ◌^◌, ◌<◌, ◌≤◌, Bool, true, List, length, sym, ap, arith, inl, inr, w64}
+use Rattle.std.specs.Prelude.{count_ones, bit_and}
 use Rattle.std.specs.Int.{bit_at, bit_not}
 use Rattle.std.specs.Int.Count.{count_leading_zeros}
-use Rattle.std.proofs.lemmas.Bool.{cases_lt, cases_eq}
-use Rattle.std.proofs.lemmas.Nat.{and_le_l}
-use Rattle.std.proofs.lemmas.Nat.Bits.{bit_at-zero, bit_at-lt, bit_at_and, bit_at_clear_same, bit_at_clear_other, bit_at_ones, bit_at_ones_above, ones_shr}
-use Rattle.vers_bits.specs.Bits.{bit_value, is_bit, count, limb, select}
-use Rattle.vers_bits.proofs.PublicLaws.{highest_bit, count_up, count_none, select_at, count_at_select, select_below, select_holds, value_one}
+use Rattle.std.proofs.lemmas.Bool.{cases_lt}
+use Rattle.std.proofs.lemmas.Nat.Bits.{bit_at-zero}
+use Rattle.vers_bits.specs.Bits.{count, limb, select}
+use Rattle.vers_bits.proofs.PublicLaws.{highest_bit, count_up, count_none, count_le_all, select_at, select_is_place, count_more_yes}
 use Rattle.vers_rank.specs.declared.fast_rs_vec.reader.Reader.{Reader}
-use Rattle.vers_rank.specs.inside.Walks.{IsBelow, IsReadingBack, marked}
-use Rattle.vers_rank.proofs.Reading.{marked_bit, marked_fits}
+use Rattle.vers_rank.specs.inside.Index.{held_in}
+use Rattle.vers_rank.specs.inside.Walks.{IsWithin, IsReadingBack, marked}
+use Rattle.vers_rank.proofs.Marks.{IsCut, one_more, ones_stay, one_between, some_word, cut_to, cut_highest, whole_marked, marked_to, ones_within, place_of}
 
--- number r is a place below number r + 1
-select_is_below : (b : Bool) (l : List Bool) (r : ℕ) → r < count b l (length l) → IsBelow b l (r + 1) (select b l r)
-select_is_below b l r some =
-    let at = count_at_select b l r some in
-    record { inside = at.0; holds = (select_holds b l r (length l) (omega arith) some).1; number = omega (arith, at.1) }
+module _ (b : Bool) (l : List Bool) (reader : Reader) (is : IsReadingBack b l reader) where
+  ones_back : count b l (64 * reader.limb) + count_ones reader.word ≡ reader.next
+  ones_back = let e : reader.word % 2 ^ 64 ≡ reader.word = omega (arith, is.marks.fits) in omega (arith, ones_within is.marks (omega arith) 64 (omega arith) (λ i h. is.within i h), ap count_ones e, is.after, is.before)
 
+  -- the ones up to one of the word's places
+  reading_to : (v t r : ℕ) → IsCut reader.word v 0 t → count b l (64 * reader.limb + t) ≡ r → r ≤ reader.next → IsReadingBack b l (record reader { word = v; next = r })
+  reading_to v t r cut end down = record {
+    inside = is.inside;
+    before = omega (arith, count_up b l (64 * reader.limb) (64 * reader.limb + t) (omega arith));
+    after = omega (arith, is.after);
+    marks = marked_to is.marks v t r cut end down;
+    within = λ i h on. is.within i h (cut.only i h on).0;
+    in_block = is.in_block;
+  }
+
+  place_at : (q r : ℕ) → q < 64 → bit_at reader.word q ≡ 1 → count b l (64 * reader.limb) + count_ones (reader.word % 2 ^ q) ≡ r → r < reader.next → (IsWithin b l 0 reader.next (64 * reader.limb + q)) × (count b l (64 * reader.limb + q) ≡ r)
+  place_at q r small on number some = place_of is.marks (omega arith) q r small (omega (arith, is.after, count_le_all b l (64 * reader.limb + 64))) is.inside on (omega (arith, is.before)) some
+
+  module _ (end : ℕ) (from : reader.edge < end) (to : end ≤ reader.next) where
+    pub passed_back : count_ones reader.word ≤ reader.next - end → (0 < reader.limb) × (64 * (reader.limb - 1) < length l) × ((reader.limb - 1) / 8 ≡ reader.limb / 8)
+    passed_back few = elim (cases_lt (512 * (reader.limb / 8)) (64 * reader.limb)) [
+      | inl h ↦ (omega arith, omega (arith, is.inside), omega arith)
+      | inr start ↦ (let e : 512 * (reader.limb / 8) ≡ 64 * reader.limb = omega arith in absurd (omega (arith, ones_back, is.in_block, ap (count b l) e)))
+    ]
+
+    pub limb_before : (v ones : ℕ) → ones ≡ count_ones reader.word → ones ≤ reader.next - end → v ≡ marked b (limb l (reader.limb - 1)) → IsReadingBack b l (record reader { word = v; limb = reader.limb - 1; next = reader.next - ones })
+    limb_before v ones all few word =
+        let k = reader.limb - 1 in
+        let back = passed_back (omega arith) in
+        let start : 64 * k + 64 ≡ 64 * reader.limb = omega (arith, back.0) in
+        let same : count b l (64 * k + 64) ≡ reader.next - ones = omega (arith, ap (count b l) start, ones_back) in
+        let block : 512 * (k / 8) ≡ 512 * (reader.limb / 8) = omega (arith, back.2) in
+        record {
+          inside = omega (arith, is.inside);
+          before = omega (arith, same, count_up b l (64 * k) (64 * k + 64) (omega arith));
+          after = omega (arith, same);
+          marks = rw word (whole_marked b l k 0 _ (omega arith) (omega (arith, same)));
+          within = λ i h _. omega (arith, is.inside, start);
+          in_block = omega (arith, is.in_block, ap (count b l) block);
+        }
+
+    pub backward : (q : ℕ) → q < 64 → held_in true reader.word q ≤ count_ones reader.word - 1 - (reader.next - end) → count_ones reader.word - 1 - (reader.next - end) < held_in true reader.word (q + 1) → reader.next - end < count_ones reader.word
+        → (IsReadingBack b l (record reader { word = bit_and reader.word (18446744073709551615 / 2 ^ (63 - q)); next = end })) × (0 < bit_and reader.word (18446744073709551615 / 2 ^ (63 - q)))
+    unfolding held_in
+    backward q small low high some =
+        let cut = cut_to reader.word q small in
+        let on = one_between reader.word q (count_ones reader.word - 1 - (reader.next - end)) low high in
+        let at = place_at q (end - 1) small on.0 (omega (arith, on.1, ones_back)) (omega arith) in
+        let e : 64 * reader.limb + (q + 1) ≡ 64 * reader.limb + q + 1 = omega arith in
+        (reading_to _ (q + 1) end cut (omega (arith, ap (count b l) e, count_more_yes b l (64 * reader.limb + q) at.0.inside at.0.holds, at.1)) to, some_word _ q (cut.all q small (omega arith) (omega arith) on.0))
+
+pub ruleset backwards = (passed_back)
+
+-- ---- the highest one of the word
 module _ (b : Bool) (l : List Bool) (reader : Reader) (r : ℕ) (here : reader.next ≡ r + 1) (some : r < count b l (length l)) (is : IsReadingBack b l reader) (left : 0 < reader.word) where
   abbrev highest : ℕ
   highest = 63 - count_leading_zeros 64 reader.word
 
-  highest_is : (highest < 64) × (bit_at reader.word highest ≡ 1) × ((i : ℕ) → highest < i → bit_at reader.word i ≡ 0)
-  highest_is = let found = highest_bit reader.word left is.fits in (omega (arith, found.0), found.1, found.2)
-
-  -- the highest one of the word stands at the place of number r, or before it
-  highest_le : 64 * reader.limb + highest ≤ select b l r
-  highest_le = elim (cases_lt (select b l r) (64 * reader.limb + highest)) [
-    | inl past ↦ absurd (omega (
-      arith,
-      (count_at_select b l r some).2,
-      (is.sound highest highest_is.0 highest_is.1).number,
-      here,
-      count_up b l (select b l r + 1) (64 * reader.limb + highest) (omega arith),
-    ))
-    | inr h ↦ h
-  ]
+  at_highest : (IsWithin b l 0 reader.next (64 * reader.limb + highest)) × (count b l (64 * reader.limb + highest) ≡ r)
+  at_highest =
+      let top = highest_bit reader.word left is.marks.fits in
+      let e : highest + 1 + (63 - highest) ≡ 64 = omega (arith, top.0) in
+      let whole : reader.word % 2 ^ 64 ≡ reader.word = omega (arith, is.marks.fits) in
+      let all = ap (λ n. count_ones (reader.word % 2 ^ n)) e in
+      place_at b l reader is highest r (omega (arith, top.0)) top.1 (omega (arith, ones_back b l reader is, ones_stay reader.word (highest + 1) (63 - highest) (λ i low _. top.2 i (omega arith)), all, ap count_ones whole, one_more reader.word highest, top.1)) (omega arith)
 
   pub highest_at : 64 * reader.limb + highest ≡ select b l r
-  highest_at =
-      let s = select b l r in
-      let below : s < 64 * reader.limb + 64 = select_below b l r (64 * reader.limb + 64) (omega (arith, is.after, here)) in
-      let rest : 64 * reader.limb + (s - 64 * reader.limb) ≡ s = omega (arith, highest_le) in
-      let from : IsBelow b l reader.next (64 * reader.limb + (s - 64 * reader.limb)) = rw (rest, here) (select_is_below b l r some) in
-      let on : bit_at reader.word (s - 64 * reader.limb) ≡ 1 = is.complete (s - 64 * reader.limb) (omega arith) from in
-      elim (cases_lt highest (s - 64 * reader.limb)) [
-        | inl above ↦ absurd (omega (arith, on, highest_is.2 (s - 64 * reader.limb) above))
-        | inr low ↦ omega (arith, highest_le)
-      ]
+  highest_at = sym (select_at b l r (64 * reader.limb + highest) at_highest.0.inside at_highest.0.holds at_highest.1)
 
   -- the word without its highest one
   pub rest_back_at : IsReadingBack b l (record reader { word = bit_and reader.word (bit_not w64 (1 * 2 ^ (63 - count_leading_zeros 64 reader.word) % 18446744073709551616)); next = r })
-  rest_back_at = record {
-    fits = omega (arith, and_le_l reader.word (bit_not w64 (1 * 2 ^ highest % 18446744073709551616)), is.fits);
-    inside = is.inside;
-    before = omega (arith, count_up b l (64 * reader.limb) (64 * reader.limb + highest) (omega arith), ap (count b l) highest_at, (count_at_select b l r some).1);
-    after = omega (arith, is.after, here);
-    in_block = is.in_block;
-    sound = λ i h on. elim (cases_eq i highest) [
-      | inl same ↦ absurd (omega (arith, on, ap (bit_at (bit_and reader.word (bit_not w64 (1 * 2 ^ highest % 18446744073709551616)))) same, bit_at_clear_same w64 reader.word highest highest_is.0))
-      | inr other ↦
-          let was : bit_at reader.word i ≡ 1 = sym (bit_at_clear_other w64 reader.word highest highest_is.0 i h other) ∙ on in
-          let before = is.sound i h was in
-          record {
-            inside = before.inside;
-            holds = before.holds;
-            number = elim (cases_lt (count b l (64 * reader.limb + i)) r) [
-              | inl less ↦ less
-              | inr most ↦
-                  let e : select b l r ≡ 64 * reader.limb + i = select_at b l r (64 * reader.limb + i) before.inside before.holds (omega (arith, before.number, here)) in
-                  absurd (other (omega (arith, e, highest_at)))
-            ];
-          }
-    ];
-    complete = λ i h from. elim (cases_eq i highest) [
-      | inl same ↦ absurd (omega (arith, from.number, ap (λ k. count b l (64 * reader.limb + k)) same, ap (count b l) highest_at, (count_at_select b l r some).1))
-      | inr other ↦ bit_at_clear_other w64 reader.word highest highest_is.0 i h other
-          ∙ is.complete i h (record { inside = from.inside; holds = from.holds; number = omega (arith, from.number, here) })
-    ];
-  }
+  rest_back_at = reading_to b l reader is _ highest r (cut_highest reader.word left is.marks.fits) at_highest.1 (omega arith)
 
   -- the place lies in a list, and a list is not as long as a word can count
   pub highest_fits : length l ≤ 18446744073709551552 → 64 * reader.limb + highest < 18446744073709551552
-  highest_fits bounded = omega (arith, highest_at, (count_at_select b l r some).0)
+  highest_fits bounded = omega (arith, at_highest.0.inside)
 
 -- ---- a limb anew
-mask_up_to : (q : ℕ) → q < 64 → 18446744073709551615 / 2 ^ (63 - q) ≡ 2 ^ (q + 1) - 1
-mask_up_to q h = ones_shr 64 (63 - q) (omega arith) ∙ (let e : 64 - (63 - q) ≡ q + 1 = omega arith in ap (λ n. 2 ^ n - 1) e)
-
-module _ (b : Bool) (l : List Bool) (r k q : ℕ) (some : r < count b l (length l)) (place : 64 * k + q ≡ select b l r) (small : q < 64) (fits : limb l k < 18446744073709551616) where
-  mask : ℕ
-  mask = 18446744073709551615 / 2 ^ (63 - q)
-
-  new_word : ℕ
-  new_word = bit_and (marked b (limb l k)) mask
-
-  new_bit : (i : ℕ) → bit_at new_word i ≡ min (bit_at (marked b (limb l k)) i) (bit_at mask i)
-  unfolding new_word
-  new_bit i = bit_at_and (marked b (limb l k)) mask i
-
-  in_mask : (i : ℕ) → i ≤ q → bit_at mask i ≡ 1
-  unfolding mask
-  in_mask i low = ap (λ m. bit_at m i) (mask_up_to q small) ∙ bit_at_ones (q + 1) i (omega arith)
-
-  above_mask : (i : ℕ) → q < i → bit_at mask i ≡ 0
-  unfolding mask
-  above_mask i high = ap (λ m. bit_at m i) (mask_up_to q small) ∙ bit_at_ones_above (q + 1) i (omega arith)
-
-  start : count b l (64 * k + q) ≡ r
-  start = ap (count b l) place ∙ (count_at_select b l r some).1
-
-  more : count b l (64 * k + q + 1) ≡ r + 1
-  more = ap (λ p. count b l (p + 1)) place ∙ (count_at_select b l r some).2
-
-  on_below : (i : ℕ) → i < 64 → IsBelow b l (r + 1) (64 * k + i) → bit_at new_word i ≡ 1
-  on_below i h below =
-      let low : i ≤ q = elim (cases_lt q i) [
-        | inl past ↦ absurd (omega (arith, below.number, more, count_up b l (64 * k + q + 1) (64 * k + i) (omega arith)))
-        | inr low ↦ low
-      ] in
-      let on : bit_at (marked b (limb l k)) i ≡ 1 = marked_bit b l k i fits h ∙ ap bit_value below.holds in
-      omega (arith, new_bit i, on, in_mask i low)
-
-  below_on : (i : ℕ) → i < 64 → bit_at new_word i ≡ 1 → IsBelow b l (r + 1) (64 * k + i)
-  below_on i h on =
-      let low : i ≤ q = elim (cases_lt q i) [ inl past ↦ absurd (omega (arith, on, new_bit i, above_mask i past)) | inr low ↦ low ] in
-      let one : bit_at (marked b (limb l k)) i ≡ 1 = omega (arith, on, new_bit i, in_mask i low, bit_at-lt (marked b (limb l k)) i) in
+pub new_back : (b : Bool) (l : List Bool) (r k q edge : ℕ) → r < count b l (length l) → 64 * k + q ≡ select b l r → q < 64 → edge ≡ count b l (512 * (k / 8))
+    → (IsReadingBack b l (record { word = bit_and (marked b (limb l k)) (18446744073709551615 / 2 ^ (63 - q)); limb = k; next = r + 1; edge = edge })) × (0 < bit_and (marked b (limb l k)) (18446744073709551615 / 2 ^ (63 - q)))
+new_back b l r k q edge some place small begin =
+    let at = rw (← place) at (select_is_place b l r some) in
+    let e : 64 * k + (q + 1) ≡ 64 * k + q + 1 = omega arith in
+    let more : count b l (64 * k + (q + 1)) ≡ r + 1 = omega (arith, ap (count b l) e, count_more_yes b l (64 * k + q) at.within at.holds, at.before) in
+    let whole = whole_marked b l k 0 (count b l (length l)) (omega arith) (count_le_all b l (64 * k + 64)) in
+    let cut = cut_to (marked b (limb l k)) q small in
+    let on = whole.complete q small (record { inside = at.within; holds = at.holds; low = omega arith; high = omega (arith, at.before) }) in (
       record {
-        inside = omega (arith, place, (count_at_select b l r some).0);
-        holds = value_one (is_bit b (get_or l (64 * k + i) false)) (sym (marked_bit b l k i fits h) ∙ one);
-        number = omega (arith, start, count_up b l (64 * k + i) (64 * k + q) (omega arith));
-      }
-
-  new_left : 0 < new_word
-  new_left =
-      let on : bit_at new_word q ≡ 1 = on_below q small (rw place (select_is_below b l r some)) in
-      elim (cases_lt 0 new_word) [
-        | inl h ↦ h
-        | inr none ↦ (let zero : new_word ≡ 0 = omega arith in absurd (omega (arith, on, ap (λ w. bit_at w q) zero, bit_at-zero q)))
-      ]
-
-  pub new_back : (edge : ℕ) → edge ≡ count b l (512 * (k / 8)) → IsReadingBack b l (record { word = bit_and (marked b (limb l k)) (18446744073709551615 / 2 ^ (63 - q)); limb = k; next = r + 1; edge = edge })
-  unfolding new_word mask
-  new_back edge begin = record {
-    fits = omega (arith, and_le_l (marked b (limb l k)) mask, marked_fits b (limb l k) fits);
-    inside = omega (arith, place, (count_at_select b l r some).0);
-    before = omega (arith, start, count_up b l (64 * k) (64 * k + q) (omega arith));
-    after = omega (arith, more, count_up b l (64 * k + q + 1) (64 * k + 64) (omega arith));
-    sound = below_on;
-    complete = on_below;
-    in_block = omega (arith, begin);
-  }
-
-  pub new_back_some : 0 < bit_and (marked b (limb l k)) (18446744073709551615 / 2 ^ (63 - q))
-  unfolding new_word mask
-  new_back_some = new_left
+        inside = omega (arith, at.within);
+        before = omega (arith, at.before, count_up b l (64 * k) (64 * k + q) (omega arith));
+        after = omega (arith, more, count_up b l (64 * k + (q + 1)) (64 * k + 64) (omega arith));
+        marks = marked_to whole _ (q + 1) (r + 1) cut more (omega arith);
+        within = λ i h one. omega (arith, at.within, (cut.only i h one).2);
+        in_block = omega (arith, begin);
+      },
+      some_word _ q (cut.all q small (omega arith) (omega arith) on),
+    )
 
 pub no_reading_back : (b : Bool) (l : List Bool) → IsReadingBack b l (record { word = 0; limb = 0; next = 0; edge = 0 })
 no_reading_back b l = record {
-  fits = omega arith;
   inside = omega arith;
   before = omega (arith, count_none b l);
   after = omega arith;
-  sound = λ i h on. absurd (omega (arith, on, bit_at-zero i));
-  complete = λ i h below. absurd (omega (arith, below.number));
+  marks = record { fits = omega arith; sound = λ i h on. absurd (omega (arith, on, bit_at-zero i)); complete = λ i h at. absurd (omega (arith, at.high)) };
+  within = λ i h on. absurd (omega (arith, on, bit_at-zero i));
   in_block = omega (arith, count_none b l);
 }

@@ -13,36 +13,34 @@ pub record PlacesOf : Type 0 where
   pub bits : List Bool
   pub bit : Bool
 
--- place p holds the bit, and at least n places before it do
-pub record IsFrom (bit : Bool) (bits : List Bool) (n p : ℕ) : Type 0 where
+-- place p holds the bit, and at least lo and fewer than hi places before it do
+pub record IsWithin (bit : Bool) (bits : List Bool) (lo hi p : ℕ) : Type 0 where
   pub inside : p < length bits
   pub holds : is_bit bit (slice_index_or bits p false) ≡ true
-  pub number : n ≤ count bit bits p
+  pub low : lo ≤ count bit bits p
+  pub high : count bit bits p < hi
+
+-- inside the list, the ones of the word are the places of limb k from number lo on and below number hi
+pub record IsMarked (bit : Bool) (bits : List Bool) (k word lo hi : ℕ) : Type 0 where
+  pub fits : word < 18446744073709551616
+  pub sound : (i : ℕ) → i < 64 → bit_at word i ≡ 1 → 64 * k + i < length bits → IsWithin bit bits lo hi (64 * k + i)
+  pub complete : (i : ℕ) → i < 64 → IsWithin bit bits lo hi (64 * k + i) → bit_at word i ≡ 1
 
 -- the ones of the word are the places of the limb from number next on, and those up to number edge stand in the limb's block; a reader of which the edge is 0 has read nothing
 pub record IsReading (bit : Bool) (bits : List Bool) (reader : Reader) : Type 0 where
-  pub fits : reader.word < 18446744073709551616
   pub before : count bit bits (64 * reader.limb) ≤ reader.next
   pub after : reader.next ≤ count bit bits (64 * reader.limb + 64)
-  pub sound : (i : ℕ) → i < 64 → bit_at reader.word i ≡ 1 → 64 * reader.limb + i < length bits → IsFrom bit bits reader.next (64 * reader.limb + i)
   pub begun : 0 < reader.word → 0 < reader.edge
-  pub complete : 0 < reader.edge → (i : ℕ) → i < 64 → IsFrom bit bits reader.next (64 * reader.limb + i) → bit_at reader.word i ≡ 1
+  pub marks : 0 < reader.edge → IsMarked bit bits reader.limb reader.word reader.next (count bit bits (length bits))
   pub in_block : reader.edge ≤ count bit bits (BLOCK * (reader.limb / 8) + BLOCK)
-
--- place p holds the bit, and fewer than n places before it do
-pub record IsBelow (bit : Bool) (bits : List Bool) (n p : ℕ) : Type 0 where
-  pub inside : p < length bits
-  pub holds : is_bit bit (slice_index_or bits p false) ≡ true
-  pub number : count bit bits p < n
 
 -- the ones of the word are the places of the limb below number next, and those from number edge on stand in the limb's block
 pub record IsReadingBack (bit : Bool) (bits : List Bool) (reader : Reader) : Type 0 where
-  pub fits : reader.word < 18446744073709551616
   pub inside : 64 * reader.limb ≤ length bits
   pub before : count bit bits (64 * reader.limb) ≤ reader.next
   pub after : reader.next ≤ count bit bits (64 * reader.limb + 64)
-  pub sound : (i : ℕ) → i < 64 → bit_at reader.word i ≡ 1 → IsBelow bit bits reader.next (64 * reader.limb + i)
-  pub complete : (i : ℕ) → i < 64 → IsBelow bit bits reader.next (64 * reader.limb + i) → bit_at reader.word i ≡ 1
+  pub marks : IsMarked bit bits reader.limb reader.word 0 reader.next
+  pub within : (i : ℕ) → i < 64 → bit_at reader.word i ≡ 1 → 64 * reader.limb + i < length bits
   pub in_block : count bit bits (BLOCK * (reader.limb / 8)) ≤ reader.edge
 
 -- a word, or its complement where zeros are asked for

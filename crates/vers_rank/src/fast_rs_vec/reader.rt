@@ -84,7 +84,6 @@ impl Reader {
 
     // Reads on at number `r` of the block at hand: limb by limb, by their ones, and then in a word.
     #[inline(always)]
-    #[tactic(auto, using(crate::proofs::LimbByLimb::onward))]
     fn seek_in_block<A: Allocator + Copy>(
         &mut self,
         bit: bool,
@@ -197,7 +196,7 @@ impl Reader {
     // Reads on at the last number below `end`, in the block at hand: limb by limb, by their ones, and
     // then in a word.
     #[inline(always)]
-    #[tactic(auto, using(crate::proofs::LimbByLimb::backward))]
+    #[tactic(auto, using(crate::proofs::ReadingBack::backwards))]
     fn seek_back_in_block<A: Allocator + Copy>(
         &mut self,
         bit: bool,

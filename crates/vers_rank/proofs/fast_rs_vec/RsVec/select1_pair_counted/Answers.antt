@@ -1,4 +1,4 @@
-use Rattle.std.proofs.Common.{◌≡◌, ◌<◌, ◌/◌, ◌^◌, true, arith, w64, ap}
+use Rattle.std.proofs.Common.{◌≡◌, ◌/◌, ◌^◌, true, arith, w64, ap}
 use Rattle.std.specs.Int.{trailing_zeros}
 use Rattle.vers_bits.specs.Bits.{limb}
 use Rattle.vers_bits.proofs.PublicLaws.{count_at_select}
@@ -13,20 +13,15 @@ returns-then-r-ones-clause-second g c = omega (arith, c.len-len.ensures.value, (
 
 pub returns-then-after-ne0-clause-second : goal.returns-then-after-ne0-clause-second
 returns-then-after-ne0-clause-second g c =
-    let at = c.locate-at.result in
-    let fits : limb c.args.self.now at.limb < 18446744073709551616 = omega (arith, c.locate-at.ensures.word) in
-    rw (c.locate-at.ensures.word)
-    (one_after c.args.self.now c.args.r at.limb at.place fits (omega (arith, c.ones.ensures.value, c.if-r-ones.false)) c.locate-at.ensures.value
-    (omega (arith, c.if-after-ne0.true, ap (λ w. w / 2 ^ at.place / 2) c.locate-at.ensures.word))).0
+    let at = c.locate-at.ensures in
+    rw at.word (one_after c.args.self.now c.args.r _ _ (omega (arith, c.ones.ensures.value, c.if-r-ones.false)) at.value (omega (arith, c.if-after-ne0.true, ap (λ w. w / 2 ^ c.locate-at.result.place / 2) at.word))).0
 
 pub returns-then-after-ne0-clause-within : goal.returns-then-after-ne0-clause-within
 returns-then-after-ne0-clause-within g c =
-    let at = c.locate-at.result in
-    let fits : limb c.args.self.now at.limb < 18446744073709551616 = omega (arith, c.locate-at.ensures.word) in
-    let far = (one_after c.args.self.now c.args.r at.limb at.place fits (omega (arith, c.ones.ensures.value, c.if-r-ones.false)) c.locate-at.ensures.value
-    (omega (arith, c.if-after-ne0.true, ap (λ w. w / 2 ^ at.place / 2) c.locate-at.ensures.word))).1 in
-    let same = ap (λ w. trailing_zeros w64 (w / 2 ^ at.place / 2)) c.locate-at.ensures.word in
-    (omega (arith, far), omega (arith, far, same))
+    let at = c.locate-at.ensures in
+    let q = c.locate-at.result.place in
+    let far = (one_after c.args.self.now c.args.r _ _ (omega (arith, c.ones.ensures.value, c.if-r-ones.false)) at.value (omega (arith, c.if-after-ne0.true, ap (λ w. w / 2 ^ q / 2) at.word))).1 in
+    (omega (arith, far), omega (arith, far, ap (λ w. trailing_zeros w64 (w / 2 ^ q / 2)) at.word))
 
 pub returns-else-after-ne0-clause-within : goal.returns-else-after-ne0-clause-within
 returns-else-after-ne0-clause-within g c =
@@ -34,9 +29,7 @@ returns-else-after-ne0-clause-within g c =
 
 pub returns-else-after-ne0-clause-near : goal.returns-else-after-ne0-clause-near
 returns-else-after-ne0-clause-near g c within same =
-    let at = c.locate-at.result in
+    let at = c.locate-at.ensures in
     let there = c.place_of-second.ensures.value in
-    let fits : limb c.args.self.now at.limb < 18446744073709551616 = omega (arith, c.locate-at.ensures.word) in
-    let none : limb c.args.self.now at.limb / 2 ^ at.place / 2 ≡ 0 = omega (arith, c.if-after-ne0.false, ap (λ w. w / 2 ^ at.place / 2) c.locate-at.ensures.word) in
-    absurd (none_after c.args.self.now c.args.r at.limb at.place fits c.locate-at.ensures.within.1 (omega (arith, c.ones.ensures.value, c.if-r-ones.false)) c.locate-at.ensures.value none
-    (omega (arith, within, there)) (omega (arith, same, there)))
+    let none : limb c.args.self.now c.locate-at.result.limb / 2 ^ c.locate-at.result.place / 2 ≡ 0 = omega (arith, c.if-after-ne0.false, ap (λ w. w / 2 ^ c.locate-at.result.place / 2) at.word) in
+    absurd (none_after c.args.self.now c.args.r _ _ at.within.1 (omega (arith, c.ones.ensures.value, c.if-r-ones.false)) at.value none (omega (arith, within, there)) (omega (arith, same, there)))

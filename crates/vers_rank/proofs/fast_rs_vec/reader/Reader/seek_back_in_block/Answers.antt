@@ -1,16 +1,36 @@
-use Rattle.std.proofs.Common.{arith}
-use Rattle.vers_rank.proofs.LimbByLimb.{whole_word, place_backward}
+use Rattle.std.proofs.Common.{◌-◌, ◌∙◌, ap, arith, rules}
+use Rattle.vers_bits.specs.Bits.{limb}
+use Rattle.vers_rank.specs.inside.Walks.{marked}
+use Rattle.vers_rank.proofs.Reading.{whole_word}
+use Rattle.vers_rank.proofs.ReadingBack.{passed_back, limb_before, backward}
 use Rattle.vers_rank.proofs.fast_rs_vec.reader.Reader.seek_back_in_block.Goals as goal
 
 pub place_in_word-place-requires : goal.place_in_word-place-requires
-place_in_word-place-requires g c = whole_word c.loop-ones.self.word _ c.loop-ones.invariant.reading.fits (omega (arith, c.loop-ones.invariant.ones))
+place_in_word-place-requires g c = whole_word c.loop-ones.self.word _ c.loop-ones.invariant.reading.marks.fits (omega (arith, c.loop-ones.invariant.ones))
 
 pub returns-then-end-self-clause-reading : goal.returns-then-end-self-clause-reading
 returns-then-end-self-clause-reading g c =
-    (place_backward c.args.bit c.args.bits.now c.loop-ones.self c.loop-ones.invariant.reading c.args.end (omega (arith, c.requires.from, c.loop-ones.invariant.edge)) c.loop-ones.invariant.to (omega (arith, c.loop-ones.invariant.ones))
-    c.place_in_word-place.result c.place_in_word-place.ensures.within (omega (arith, c.place_in_word-place.ensures.from, c.loop-ones.invariant.ones)) (omega (arith, c.place_in_word-place.ensures.to, c.loop-ones.invariant.ones))).0
+    let known = c.loop-ones.invariant in
+    let place = c.place_in_word-place.ensures in
+    (backward c.args.bit c.args.bits.now c.loop-ones.self known.reading c.args.end (omega (arith, c.requires.from, known.edge)) known.to _ place.within (omega (arith, place.from, known.ones)) (omega (arith, place.to, known.ones)) (omega (arith, known.ones))).0
 
 pub returns-then-end-self-clause-some : goal.returns-then-end-self-clause-some
 returns-then-end-self-clause-some g c =
-    (place_backward c.args.bit c.args.bits.now c.loop-ones.self c.loop-ones.invariant.reading c.args.end (omega (arith, c.requires.from, c.loop-ones.invariant.edge)) c.loop-ones.invariant.to (omega (arith, c.loop-ones.invariant.ones))
-    c.place_in_word-place.result c.place_in_word-place.ensures.within (omega (arith, c.place_in_word-place.ensures.from, c.loop-ones.invariant.ones)) (omega (arith, c.place_in_word-place.ensures.to, c.loop-ones.invariant.ones))).1
+    let known = c.loop-ones.invariant in
+    let place = c.place_in_word-place.ensures in
+    (backward c.args.bit c.args.bits.now c.loop-ones.self known.reading c.args.end (omega (arith, c.requires.from, known.edge)) known.to _ place.within (omega (arith, place.from, known.ones)) (omega (arith, place.to, known.ones)) (omega (arith, known.ones))).1
+
+pub loop-ones-preserved : goal.loop-ones-preserved
+loop-ones-preserved g c =
+    let known = c.loop-ones.invariant in
+    let word = c.marks-self.ensures ∙ ap (marked c.args.bit) (c.limb-word.ensures.value ∙ ap (λ l. limb l (c.loop-ones.self.limb - 1)) c.bits.view_is) in
+    let back = passed_back c.args.bit c.args.bits.now c.loop-ones.self known.reading c.args.end (omega (arith, c.requires.from, known.edge)) known.to (omega (arith, known.ones)) in
+    record {
+      reading = limb_before c.args.bit c.args.bits.now c.loop-ones.self known.reading c.args.end (omega (arith, c.requires.from, known.edge)) known.to _ _ known.ones (omega arith) word;
+      to = omega arith;
+      edge = known.edge;
+      ones = search rules;
+      down = omega arith;
+      block = omega (arith, back.2);
+      adds = search rules;
+    }
