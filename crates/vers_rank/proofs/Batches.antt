@@ -1,5 +1,5 @@
 -- Numbers that are looked for level by level.
-use Rattle.std.proofs.Common.{◌≡◌, ℕ, ◌+◌, ◌*◌, ◌/◌, ◌%◌, ◌<◌, ◌≤◌, Bool, List, length, sym, ◌∙◌, inl, inr, arith}
+use Rattle.std.proofs.Common.{◌≡◌, ℕ, ◌+◌, ◌*◌, ◌/◌, ◌%◌, ◌<◌, ◌≤◌, Bool, List, length, sym, ◌∙◌, inl, inr, arith, rules}
 use Rattle.std.proofs.lemmas.Bool.{cases_lt}
 use Rattle.vers_bits.specs.Bits.{count, limb, select}
 use Rattle.vers_bits.proofs.PublicLaws.{count_le_all, count_near, count_past, select_past}
@@ -80,14 +80,4 @@ few_in_limb b l k rest inside near =
 -- ---- reads
 
 pub four_levels : (n m : ℕ) → IsWithin (plus (plus (plus (times n (superblock_reads m)) (times n (only_block_entries 16))) (times n (only_data_words 7))) (times n (only_data_words 1))) (times n (select_reads m))
-four_levels n m = record {
-  data_words = omega arith;
-  block_entries = omega arith;
-  superblock_entries = omega arith;
-  low_parts = omega arith;
-  rank_calls = omega arith;
-  items = omega arith;
-  blocks = omega arith;
-  nodes = omega arith;
-  chunks = omega arith;
-}
+four_levels n m = search rules

@@ -1,10 +1,10 @@
 -- The entries of 16 blocks, looked at by lanes.
-use Rattle.std.proofs.Common.{◌≡◌, ℕ, zero, suc, ◌+◌, ◌-◌, ◌*◌, ◌%◌, ◌<◌, ◌≤◌, Bool, true, false, cond, List, [], ◌∷◌, length, get_or, take, drop, replicate, leb, refl, sym, ap, ◌∙◌, inl, inr, arith}
+use Rattle.std.proofs.Common.{◌≡◌, ℕ, zero, suc, ◌+◌, ◌-◌, ◌*◌, ◌%◌, ◌<◌, ◌≤◌, Bool, true, false, cond, List, [], ◌∷◌, length, get_or, take, drop, replicate, eqb, leb, refl, sym, ap, ◌∙◌, inl, inr, arith}
 use Rattle.std.specs.Prelude.{count_by}
 use lib.Lanes.{zip2}
-use Rattle.std.proofs.lemmas.Bool.{cases_lt, cases_Bool, leb-true, leb-false, le-leb}
+use Rattle.std.proofs.lemmas.Bool.{agree_below_at, eqb-true, cases_lt, cases_Bool, leb-true, leb-false, le-leb}
 use Rattle.std.proofs.lemmas.List.Sums.{sum_by-cons, count_by-le-length}
-use Rattle.std.proofs.lemmas.Simd.{get_or-zip2, get_or-replicate, get_or-chunk, length-chunk, length-zip2}
+use Rattle.std.proofs.lemmas.Simd.{get_or-zip2, get_or-replicate, get_or-chunk, length-zip2}
 use Rattle.vers_bits.specs.Bits.{count}
 use Rattle.vers_bits.proofs.PublicLaws.{count_up}
 use Rattle.vers_rank.specs.inside.Index.{IsIndexed, held_before}
@@ -20,18 +20,8 @@ minus a b = (a + (65536 - b)) % 65536
 abbrev starts : List ℕ
 starts = 0 ∷ 512 ∷ 1024 ∷ 1536 ∷ 2048 ∷ 2560 ∷ 3072 ∷ 3584 ∷ 4096 ∷ 4608 ∷ 5120 ∷ 5632 ∷ 6144 ∷ 6656 ∷ 7168 ∷ 7680 ∷ []
 
--- the starts of blocks from number k on
-abbrev are_starts : ℕ → List ℕ → Type 0
-are_starts k [] = Unit {0}
-are_starts k (x ∷ xs) = (x ≡ 512 * k) × are_starts (k + 1) xs
-
-start_is : (k : ℕ) (xs : List ℕ) → are_starts k xs → (j : ℕ) → j < length xs → get_or xs j 0 ≡ 512 * (k + j)
-start_is k [] are j h = absurd (omega (arith, h))
-start_is k (x ∷ xs) are zero h = omega (arith, are.0)
-start_is k (x ∷ xs) are (suc j) h = omega (arith, start_is (k + 1) xs are.1 j (omega (arith, h)))
-
-starts_are : are_starts 0 starts
-starts_are = (refl, (refl, (refl, (refl, (refl, (refl, (refl, (refl, (refl, (refl, (refl, (refl, (refl, (refl, (refl, (refl, tt))))))))))))))))
+start_is : (j : ℕ) → j < 16 → get_or starts j 0 ≡ 512 * j
+start_is j h = eqb-true _ _ (agree_below_at (λ j. eqb (get_or starts j 0) (512 * j)) (λ _. true) 16 j refl h)
 
 pub zeros_lane : (r : ℕ) (zeros : List ℕ) (j : ℕ) → length zeros ≡ 16 → j < 16 → get_or (zip2 minus (replicate 16 r) zeros) j 0 ≡ minus r (get_or zeros j 0)
 zeros_lane r zeros j long h =
@@ -43,8 +33,7 @@ ones_lane r zeros j long h =
     let whole : length sums ≡ 16 = length-zip2 added (replicate 16 r) zeros (sym long) in
     let sum : get_or sums j 0 ≡ added r (get_or zeros j 0) =
     get_or-zip2 added (replicate 16 r) zeros j 0 0 0 h (omega (arith, long)) ∙ ap (λ x. added x (get_or zeros j 0)) (get_or-replicate 16 j r 0 h) in
-    let start : get_or starts j 0 ≡ 512 * j = omega (arith, start_is 0 starts starts_are j h) in
-    get_or-zip2 minus sums starts j 0 0 0 (omega (arith, whole, h)) h ∙ ap (λ x. minus x (get_or starts j 0)) sum ∙ ap (minus (added r (get_or zeros j 0))) start
+    get_or-zip2 minus sums starts j 0 0 0 (omega (arith, whole, h)) h ∙ ap (λ x. minus x (get_or starts j 0)) sum ∙ ap (minus (added r (get_or zeros j 0))) (start_is j h)
 
 -- nothing stands before the first block
 first_none : (b : Bool) (z : ℕ) → z ≤ 512 * 0 → held_before b 0 z ≡ 0
@@ -139,28 +128,15 @@ last_block zeros ds b r long small within rising up_to past =
 
 -- ---- the entries of a whole superblock
 module _ {l : List Bool} {blocks superblocks zero_samples one_samples : List ℕ} {all : ℕ} (index : IsIndexed l blocks superblocks zero_samples one_samples all) (s : ℕ) (whole : 8192 * s + 8192 ≤ length l) (zeros : List ℕ) (read : zeros ≡ take 16 (drop (16 * s) blocks)) where
-  -- so many entries there are
-  pub has_entries : 16 * s + 16 ≤ length blocks
-  has_entries = omega (arith, index.blocks_counted, whole)
-
-  pub entries_long : length zeros ≡ 16
-  entries_long = ap length read ∙ length-chunk (16 * s) 16 blocks has_entries
-
   entry_at : (j : ℕ) → j < 16 → get_or zeros j 0 ≡ get_or blocks (16 * s + j) 0
   entry_at j h = ap (λ xs. get_or xs j 0) read ∙ get_or-chunk (16 * s) 16 blocks j 0 h
 
   pub entry_within : (j : ℕ) → j < 16 → get_or zeros j 0 ≤ 512 * j
-  entry_within j h =
-      let entry = block_entry (16 * s + j) s index (omega (arith, whole)) (omega arith) in
-      omega (arith, entry_at j h, entry.0, entry.1, entry.2, entry.3)
+  entry_within j h = omega (arith, entry_at j h, block_entry (16 * s + j) s index (omega (arith, whole)) (omega arith))
 
   pub held_counts : (b : Bool) (j : ℕ) → j < 16 → count b l (8192 * s) + held_before b j (get_or zeros j 0) ≡ count b l (512 * (16 * s + j))
-  held_counts true j h =
-      let entry = block_entry (16 * s + j) s index (omega (arith, whole)) (omega arith) in
-      omega (arith, entry_at j h, entry.0, entry.1, entry.2, entry.3)
-  held_counts false j h =
-      let entry = block_entry (16 * s + j) s index (omega (arith, whole)) (omega arith) in
-      omega (arith, entry_at j h, entry.0)
+  held_counts true j h = omega (arith, entry_at j h, block_entry (16 * s + j) s index (omega (arith, whole)) (omega arith))
+  held_counts false j h = omega (arith, entry_at j h, block_entry (16 * s + j) s index (omega (arith, whole)) (omega arith))
 
   pub held_rising : (b : Bool) (i j : ℕ) → i ≤ j → j < 16 → held_before b i (get_or zeros i 0) ≤ held_before b j (get_or zeros j 0)
   held_rising b i j order h =

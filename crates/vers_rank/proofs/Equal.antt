@@ -14,27 +14,21 @@ module _ (b : Bool) (l m : List Bool) (long : length l ≡ length m) (many : cou
       let at : IsPlace b m (count b l p) (select b m (count b l p)) = select_is_place b m (count b l p) (omega arith) in
       ap (λ q. is_bit b (get_or m q false)) (sym here) ∙ at.holds
 
--- a bit is known by whether it is a one, or by whether it is a zero
-bit_known : (b x y : Bool) → is_bit b x ≡ is_bit b y → x ≡ y
-bit_known true x y e = e
-bit_known false true true e = refl
-bit_known false false false e = refl
-bit_known false true false e = absurd (cc)
-bit_known false false true e = absurd (cc)
-
-same_place : (x y : Bool) → (x ≡ true → y ≡ true) → (y ≡ true → x ≡ true) → x ≡ y
-same_place true y f g = sym (f refl)
-same_place false true f g = g refl
-same_place false false f g = refl
+same_bit : (b x y : Bool) → (is_bit b x ≡ true → is_bit b y ≡ true) → (is_bit b y ≡ true → is_bit b x ≡ true) → x ≡ y
+same_bit b true true f g = refl
+same_bit b false false f g = refl
+same_bit true true false f g = sym (f refl)
+same_bit true false true f g = g refl
+same_bit false true false f g = sym (g refl)
+same_bit false false true f g = f refl
 
 -- lists of one length with the same places of a bit
 pub same_places : (b : Bool) (l m : List Bool) → length l ≡ length m → count b l (length l) ≡ count b m (length m)
     → ((r : ℕ) → r < count b l (length l) → select b l r ≡ select b m r) → l ≡ m
 same_places b l m long many each =
     same_lists l m long (λ k d h.
-    let same : get_or l k false ≡ get_or m k false = bit_known b (get_or l k false) (get_or m k false)
-    (same_place (is_bit b (get_or l k false)) (is_bit b (get_or m k false)) (place_of_both b l m long many each k h)
-    (place_of_both b m l (sym long) (sym many) (λ r few. sym (each r (omega arith))) k (omega arith))) in
+    let same : get_or l k false ≡ get_or m k false = same_bit b (get_or l k false) (get_or m k false) (place_of_both b l m long many each k h)
+    (place_of_both b m l (sym long) (sym many) (λ r few. sym (each r (omega arith))) k (omega arith)) in
     any_default l k d false h ∙ same ∙ any_default m k false d (omega arith))
 
 pub ruleset equality = (same_places)

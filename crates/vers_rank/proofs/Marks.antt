@@ -109,6 +109,10 @@ pub marked_bit : (b : Bool) (l : List Bool) (k i : ℕ) → i < 64 → bit_at (m
 marked_bit true l k i h = limb_bit l k i h
 marked_bit false l k i h = bit_at_not w64 (limb l k) i (limb_fits l k) h ∙ ap (λ x. 1 - x) (limb_bit l k i h) ∙ not_value (get_or l (64 * k + i) false)
 
+-- the word that a limb's marks are read from
+pub marks_are : (b : Bool) (l m : List Bool) (k v w : ℕ) → w ≡ marked b v → v ≡ limb m k → m ≡ l → w ≡ marked b (limb l k)
+marks_are b l m k v w word value view = rw (← view, ← value) word
+
 -- a limb whole
 pub whole_marked : (b : Bool) (l : List Bool) (k lo hi : ℕ) → lo ≤ count b l (64 * k) → count b l (64 * k + 64) ≤ hi → IsMarked b l k (marked b (limb l k)) lo hi
 whole_marked b l k lo hi low high = record {

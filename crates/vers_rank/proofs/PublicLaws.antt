@@ -1,5 +1,5 @@
 -- The laws that proofs of other crates may cite. A crate above imports this file and no other of this folder.
-use Rattle.std.proofs.Common.{◌≡◌, ℕ, ◌+◌, ◌-◌, ◌<◌, ◌≤◌, List, length, map, get_or, sym, subst, ◌∙◌, inl, inr, arith}
+use Rattle.std.proofs.Common.{◌≡◌, ℕ, ◌+◌, ◌-◌, ◌<◌, ◌≤◌, List, length, map, get_or, sym, subst, ◌∙◌, inl, inr, arith, rules}
 use Rattle.std.proofs.lemmas.Bool.{cases_lt}
 use Rattle.std.proofs.lemmas.List.{length-map, get_or-map, ext_get_or}
 use Rattle.vers_tally.specs.Reads.{Reads, AddsAtMost, IsWithin, plus, times}
@@ -47,17 +47,7 @@ module _ {X : Type 0} {d : X} where
 -- ---- reads
 
 within_times : (m n : ℕ) (p : Reads) → IsWithin (plus (times m p) (times n p)) (times (m + n) p)
-within_times m n p = record {
-  data_words = omega arith;
-  block_entries = omega arith;
-  superblock_entries = omega arith;
-  low_parts = omega arith;
-  rank_calls = omega arith;
-  items = omega arith;
-  blocks = omega arith;
-  nodes = omega arith;
-  chunks = omega arith;
-}
+within_times m n p = search rules
 
 -- a bound m times, and then n times
 pub adds_times : {a b c : Reads} (m n : ℕ) (p : Reads) → AddsAtMost a b (times m p) → AddsAtMost b c (times n p) → AddsAtMost a c (times (m + n) p)

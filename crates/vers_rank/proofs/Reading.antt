@@ -108,8 +108,10 @@ module _ (b : Bool) (l : List Bool) (reader : Reader) (r : ℕ) (here : reader.n
       (omega (arith, ap (count b l) e, count_more_yes b l (64 * reader.limb + lowest) at_lowest.0.inside at_lowest.0.holds, at_lowest.1)) (omega arith)
 
   -- the place lies in a list, and a list is not as long as a word can count
-  pub lowest_fits : length l ≤ 18446744073709551552 → (64 * reader.limb + trailing_zeros w64 reader.word < 18446744073709551552) × (reader.next < 18446744073709551552)
-  lowest_fits bounded = (omega (arith, at_lowest.0.inside), omega (arith, (count_le b l (length l)).1))
+  pub lowest_fits : {m : List Bool} → length m ≤ 18446744073709551552 → m ≡ l → (64 * reader.limb + trailing_zeros w64 reader.word < 18446744073709551552) × (reader.next < 18446744073709551552)
+  lowest_fits bounded view = (omega (arith, ap length view, at_lowest.0.inside), omega (arith, ap length view, (count_le b l (length l)).1))
+
+pub ruleset lowests = (lowest_at, lowest_fits, rest_at)
 
 -- ---- a limb anew
 pub new_reading : (b : Bool) (l : List Bool) (r k q edge : ℕ) → r < count b l (length l) → 64 * k + q ≡ select b l r → q < 64 → edge ≡ count b l (512 * (k / 8 + 1))

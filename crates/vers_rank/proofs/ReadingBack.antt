@@ -86,8 +86,10 @@ module _ (b : Bool) (l : List Bool) (reader : Reader) (r : ℕ) (here : reader.n
   rest_back_at = reading_to b l reader is _ highest r (cut_highest reader.word left is.marks.fits) at_highest.1 (omega arith)
 
   -- the place lies in a list, and a list is not as long as a word can count
-  pub highest_fits : length l ≤ 18446744073709551552 → 64 * reader.limb + highest < 18446744073709551552
-  highest_fits bounded = omega (arith, at_highest.0.inside)
+  pub highest_fits : {m : List Bool} → length m ≤ 18446744073709551552 → m ≡ l → 64 * reader.limb + highest < 18446744073709551552
+  highest_fits bounded view = omega (arith, ap length view, at_highest.0.inside)
+
+pub ruleset highests = (highest_at, highest_fits)
 
 -- ---- a limb anew
 pub new_back : (b : Bool) (l : List Bool) (r k q edge : ℕ) → r < count b l (length l) → 64 * k + q ≡ select b l r → q < 64 → edge ≡ count b l (512 * (k / 8))

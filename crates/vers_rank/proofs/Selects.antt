@@ -102,8 +102,6 @@ samples_bound b l r first last some before after =
       to = high;
     }
 
-pub ruleset in_block = (held_more, held_is)
-
 -- a superblock has at most 8192 places
 pub superblock_few : (b : Bool) (l : List Bool) (s r : ℕ) → r < count b l (8192 * (s + 1)) → r < count b l (8192 * s) + 8192
 superblock_few b l s r h = omega (arith, count_near b l (8192 * s) (8192 * (s + 1)) (omega arith))
@@ -118,35 +116,26 @@ pub ruleset block_search = (count_up, count_le)
 
 pub ruleset limb_search = (held_more, held_up)
 
--- half of the limbs, after those whose places don't pass number r, or else the first half
-pub passed_half : (b : Bool) (l : List Bool) (block r n limb before there : ℕ) → IsAmongLimbs b l block r (n + n) limb before → held b l (64 * limb) + there ≡ held b l (64 * (limb + n)) → there ≤ 64 * n
-    → before + there ≤ r → IsAmongLimbs b l block r n (limb + n) (before + there)
-passed_half b l block r n limb before there is counts small low = record {
-  start = omega (arith, is.start);
-  inside = omega (arith, is.inside);
-  counted = omega (arith, is.counted, counts);
-  from = low;
-  few = omega (arith, is.few, is.start);
-  to = λ h. let e : 64 * (limb + n + n) ≡ 64 * (limb + (n + n)) = omega arith in omega (arith, is.to (omega arith), ap (held b l) e);
-}
-
-pub kept_half : (b : Bool) (l : List Bool) (block r n limb before there : ℕ) → IsAmongLimbs b l block r (n + n) limb before → held b l (64 * limb) + there ≡ held b l (64 * (limb + n))
-    → r < before + there → IsAmongLimbs b l block r n limb before
-kept_half b l block r n limb before there is counts high = record {
-  start = is.start;
-  inside = omega (arith, is.inside);
-  counted = is.counted;
-  from = is.from;
-  few = is.few;
-  to = λ _. omega (arith, is.counted, counts);
-}
-
--- the part that a choice by halves takes
+-- half of the limbs: those after the ones whose places don't pass number r, or else the first ones
 pub half_of : (b : Bool) (l : List Bool) (block r n limb before there more_limb more_before : ℕ) → IsAmongLimbs b l block r (n + n) limb before → held b l (64 * limb) + there ≡ held b l (64 * (limb + n)) → there ≤ 64 * n
     → (before + there ≤ r → (more_limb ≡ limb + n) × (more_before ≡ before + there)) → (r < before + there → (more_limb ≡ limb) × (more_before ≡ before)) → IsAmongLimbs b l block r n more_limb more_before
 half_of b l block r n limb before there more_limb more_before is counts small on off = elim (cases_lt r (before + there)) [
-  | inl high ↦ rw ((off high).0, (off high).1) (kept_half b l block r n limb before there is counts high)
-  | inr low ↦ rw ((on low).0, (on low).1) (passed_half b l block r n limb before there is counts small low)
+  | inl high ↦ rw ((off high).0, (off high).1) (record {
+    start = is.start;
+    inside = omega (arith, is.inside);
+    counted = is.counted;
+    from = is.from;
+    few = is.few;
+    to = λ _. omega (arith, is.counted, counts);
+  })
+  | inr low ↦ rw ((on low).0, (on low).1) (record {
+    start = omega (arith, is.start);
+    inside = omega (arith, is.inside);
+    counted = omega (arith, is.counted, counts);
+    from = low;
+    few = omega (arith, is.few, is.start);
+    to = λ h. let e : 64 * (limb + n + n) ≡ 64 * (limb + (n + n)) = omega arith in omega (arith, is.to (omega arith), ap (held b l) e);
+  })
 ]
 
 -- the limb that is left

@@ -13,11 +13,6 @@ ones_few w j = ones-le j (w % 2 ^ j) (mod_below w (2 ^ j) (pow_pos j))
 pub masked : (w j : ℕ) → j < 64 → bit_and w (1 * 2 ^ j % 18446744073709551616 - 1) ≡ w % 2 ^ j
 masked w j h = rw (one_shl j 64 h, and_mask) refl
 
-pub held_in_none : (b : Bool) (w : ℕ) → held_in b w 0 ≡ 0
-unfolding held_in
-held_in_none true w = let few : count_ones (w % 2 ^ 0) ≤ 0 = ones_few w 0 in omega arith
-held_in_none false w = omega arith
-
 pub ruleset masks = (masked, ones_few)
 
 -- the low bits of a word, in two parts
@@ -33,11 +28,6 @@ held_in_split false w i d = omega (arith, ones_split w i d, ones_few w i, ones_f
 
 pub held_in_split_next : (b : Bool) (w i d : ℕ) → held_in b w (i + d + 1) ≡ held_in b w i + held_in b (w / 2 ^ i) (d + 1)
 held_in_split_next b w i d = ap (held_in b w) (omega arith) ∙ held_in_split b w i (d + 1)
-
-pub held_in_up : (b : Bool) (w i j : ℕ) → i ≤ j → held_in b w i ≤ held_in b w j
-held_in_up b w i j h = let e : i + (j - i) ≡ j = omega arith in omega (arith, ap (held_in b w) e, held_in_split b w i (j - i))
-
-pub ruleset starts = (held_in_none, held_in_up)
 
 pub ruleset splits = (held_in_split, held_in_split_next)
 

@@ -39,6 +39,7 @@ impl Reader {
     // The place of number `r`: mostly from the word at hand, else from a word of the same block, and
     // else by a select.
     #[inline(always)]
+    #[tactic(auto, using(crate::proofs::Reading::lowests))]
     pub(super) fn place<A: Allocator + Copy>(
         &mut self,
         bit: bool,
@@ -143,6 +144,7 @@ impl Reader {
 
     // The place of number `r`, in a walk from the back.
     #[inline(always)]
+    #[tactic(auto, using(crate::proofs::ReadingBack::highests))]
     pub(super) fn place_back<A: Allocator + Copy>(
         &mut self,
         bit: bool,

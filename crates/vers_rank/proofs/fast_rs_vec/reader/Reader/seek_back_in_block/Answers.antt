@@ -1,6 +1,5 @@
-use Rattle.std.proofs.Common.{◌-◌, ◌∙◌, ap, arith, rules}
-use Rattle.vers_bits.specs.Bits.{limb}
-use Rattle.vers_rank.specs.inside.Walks.{marked}
+use Rattle.std.proofs.Common.{arith, rules}
+use Rattle.vers_rank.proofs.Marks.{marks_are}
 use Rattle.vers_rank.proofs.Reading.{whole_word}
 use Rattle.vers_rank.proofs.ReadingBack.{passed_back, limb_before, backward}
 use Rattle.vers_rank.proofs.fast_rs_vec.reader.Reader.seek_back_in_block.Goals as goal
@@ -23,10 +22,9 @@ returns-then-end-self-clause-some g c =
 pub loop-ones-preserved : goal.loop-ones-preserved
 loop-ones-preserved g c =
     let known = c.loop-ones.invariant in
-    let word = c.marks-self.ensures ∙ ap (marked c.args.bit) (c.limb-word.ensures.value ∙ ap (λ l. limb l (c.loop-ones.self.limb - 1)) c.bits.view_is) in
     let back = passed_back c.args.bit c.args.bits.now c.loop-ones.self known.reading c.args.end (omega (arith, c.requires.from, known.edge)) known.to (omega (arith, known.ones)) in
     record {
-      reading = limb_before c.args.bit c.args.bits.now c.loop-ones.self known.reading c.args.end (omega (arith, c.requires.from, known.edge)) known.to _ _ known.ones (omega arith) word;
+      reading = limb_before c.args.bit c.args.bits.now c.loop-ones.self known.reading c.args.end (omega (arith, c.requires.from, known.edge)) known.to _ _ known.ones (omega arith) (marks_are _ _ _ _ _ _ c.marks-self.ensures c.limb-word.ensures.value c.bits.view_is);
       to = omega arith;
       edge = known.edge;
       ones = search rules;

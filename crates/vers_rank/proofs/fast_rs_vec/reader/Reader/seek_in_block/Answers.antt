@@ -1,6 +1,5 @@
-use Rattle.std.proofs.Common.{◌+◌, ◌∙◌, length, ap, arith, rules}
-use Rattle.vers_bits.specs.Bits.{limb}
-use Rattle.vers_rank.specs.inside.Walks.{marked}
+use Rattle.std.proofs.Common.{length, ap, arith, rules}
+use Rattle.vers_rank.proofs.Marks.{marks_are}
 use Rattle.vers_rank.proofs.Reading.{passed_inside, next_limb, whole_word, onward}
 use Rattle.vers_rank.proofs.fast_rs_vec.reader.Reader.seek_in_block.Goals as goal
 
@@ -34,10 +33,9 @@ returns-then-self-r-clause-some g c =
 pub loop-ones-preserved : goal.loop-ones-preserved
 loop-ones-preserved g c =
     let known = c.loop-ones.invariant in
-    let word = c.marks-self.ensures ∙ ap (marked c.args.bit) (c.limb-word.ensures.value ∙ ap (λ l. limb l (c.loop-ones.self.limb + 1)) c.bits.view_is) in
     let inside = passed_inside c.args.bit c.args.bits.now c.loop-ones.self known.reading (omega (arith, c.requires.to, known.edge)) c.args.r known.from c.requires.some (omega (arith, c.requires.to, known.edge)) (omega (arith, known.ones)) in
     record {
-      reading = next_limb c.args.bit c.args.bits.now c.loop-ones.self known.reading (omega (arith, c.requires.to, known.edge)) c.args.r known.from c.requires.some (omega (arith, c.requires.to, known.edge)) _ _ known.ones (omega arith) word;
+      reading = next_limb c.args.bit c.args.bits.now c.loop-ones.self known.reading (omega (arith, c.requires.to, known.edge)) c.args.r known.from c.requires.some (omega (arith, c.requires.to, known.edge)) _ _ known.ones (omega arith) (marks_are _ _ _ _ _ _ c.marks-self.ensures c.limb-word.ensures.value c.bits.view_is);
       from = omega arith;
       edge = known.edge;
       ones = search rules;
