@@ -1,9 +1,6 @@
 -- The ones of all bytes of a word at once.
-use Rattle.std.proofs.Common.{zero, suc, ap, sym, ◌∙◌, ◌+◌, ◌/◌, inl, inr, ◌≡◌, ℕ, ◌-◌, ◌*◌, ◌%◌, ◌^◌, ◌<◌, ◌≤◌, true, refl, arith, eqb, leb}
-use Rattle.std.specs.Prelude.{count_ones, bit_and}
-use Rattle.std.proofs.lemmas.Nat.{and_mask, and_block, and_le_l, and_le_r, ones_cat, mod-mul-add, pow-add}
+use Rattle.vers_rank.proofs.Names.{zero, suc, ap, sym, ◌∙◌, ◌+◌, ◌/◌, inl, inr, ◌≡◌, ℕ, ◌-◌, ◌*◌, ◌%◌, ◌^◌, ◌<◌, ◌≤◌, true, refl, arith, eqb, leb, count_ones, bit_and, and_mask, and_block, and_le_l, and_le_r, ones_cat, mod-mul-add, pow-add, cases_lt, agree_below_at, eqb-true, leb-true}
 use Rattle.std.proofs.Math.Nat.{div-div-eq-div-mul}
-use Rattle.std.proofs.lemmas.Bool.{cases_lt, agree_below_at, eqb-true, leb-true}
 use lib.Count.{ones}
 use Rattle.vers_rank.specs.inside.ByteOnes.{byte_ones, ones_below_byte, ones_through_bytes}
 use Rattle.vers_rank.proofs.Words.{ones_few, ones_split}

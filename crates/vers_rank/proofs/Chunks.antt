@@ -1,21 +1,10 @@
 -- Walks by chunks of bits.
-use Rattle.std.proofs.Common.{zero, suc, ◌≡◌, ℕ, ◌+◌, ◌-◌, ◌*◌, ◌/◌, ◌%◌, ◌^◌, ◌<◌, ◌≤◌, Bool, true, false, List, [], ◌∷◌, ◌++◌, map, filter, eqb, replicate, Some, None, length, get_or, drop, refl, sym, ap, ◌∙◌, arith, inl, inr}
-use Rattle.std.specs.Prelude.{bit_and}
-use Rattle.std.specs.Int.{bit_at}
-use Rattle.std.specs.List.{range_with_len}
-use Rattle.std.proofs.lemmas.Bool.{cases_Bool}
-use Rattle.std.proofs.lemmas.List.{drop_more, drop_all}
-use Rattle.std.proofs.lemmas.Nat.{and_mask}
-use Rattle.std.proofs.lemmas.Nat.Bits.{bit_at_cat_low}
-use Rattle.vers_bits.specs.Bits.{bit_value, is_bit, count, limb, places, select}
+use Rattle.vers_rank.proofs.Names.{zero, suc, ◌≡◌, ℕ, ◌+◌, ◌-◌, ◌*◌, ◌/◌, ◌%◌, ◌^◌, ◌<◌, ◌≤◌, Bool, true, false, List, [], ◌∷◌, ◌++◌, map, filter, eqb, replicate, Some, None, length, get_or, drop, refl, sym, ap, ◌∙◌, arith, inl, inr, bit_and, bit_at, range_with_len, cases_Bool, drop_more, drop_all, and_mask, bit_at_cat_low, bit_value, is_bit, count, limb, places, count_past, count_none, count_le_all, length-places, select_at, count_more_yes, count_more_no, Reads, AddsAtMost, adds_then, last_first, ones_below, chunk_places_left, marked, IsChunkWalkOf}
+use Rattle.vers_bits.specs.Bits.{select}
 use Rattle.vers_bits.specs.Walk.{TakesFirst}
-use Rattle.vers_bits.proofs.PublicLaws.{count_past, count_none, count_le_all, length-places, select_at, count_more_yes, count_more_no}
-use Rattle.vers_tally.specs.Reads.{Reads, AddsAtMost}
-use Rattle.vers_tally.proofs.PublicLaws.{adds_then}
 use Rattle.vers_rank.specs.declared.fast_rs_vec.bit_set_iter.ChunkWalk.{ChunkWalk}
 use Rattle.vers_rank.specs.Walks.{chunk_reads}
-use Rattle.vers_rank.specs.inside.Offsets.{last_first, ones_below}
-use Rattle.vers_rank.specs.inside.Walks.{chunk_places_left, places_from, marked, IsChunkWalkOf}
+use Rattle.vers_rank.specs.inside.Walks.{places_from}
 use Rattle.vers_rank.proofs.OffsetLanes.{last_first_from, offset_below}
 use Rattle.vers_rank.proofs.Pairs.{digit_after}
 use Rattle.vers_rank.proofs.Marks.{marked_bit}

@@ -1,8 +1,6 @@
 -- Lists of bits with the same places are equal.
-use Rattle.std.proofs.Common.{◌≡◌, ℕ, ◌+◌, ◌<◌, Bool, true, false, List, length, get_or, refl, sym, ap, ◌∙◌, arith}
-use Rattle.std.proofs.lemmas.List.{same_lists}
-use Rattle.vers_bits.specs.Bits.{is_bit, count, select}
-use Rattle.vers_bits.proofs.PublicLaws.{count_le_all, any_default, IsPlace, select_at, select_is_place, count_more_yes}
+use Rattle.vers_rank.proofs.Names.{◌≡◌, ℕ, ◌+◌, ◌<◌, Bool, true, false, List, length, get_or, refl, sym, ap, ◌∙◌, arith, same_lists, is_bit, count, select, count_le_all, any_default, select_at, select_is_place, count_more_yes}
+use Rattle.vers_bits.proofs.PublicLaws.{IsPlace}
 
 -- each place of l is one of m
 module _ (b : Bool) (l m : List Bool) (long : length l ≡ length m) (many : count b l (length l) ≡ count b m (length m))

@@ -1,3 +1,4 @@
+pub mod Names
 pub mod PublicLaws
 pub mod Batches
 pub mod Words

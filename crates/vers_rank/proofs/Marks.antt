@@ -1,16 +1,9 @@
 -- Words whose ones are places of a limb.
-use Rattle.std.proofs.Common.{zero, suc, ◌≡◌, ℕ, ◌+◌, ◌-◌, ◌*◌, ◌/◌, ◌%◌, ◌^◌, ◌<◌, ◌≤◌, min, max, Bool, true, false, List, length, get_or, take, drop, pow_mono, refl, sym, ap, ◌∙◌, arith, inl, inr, eqb, w64}
-use Rattle.std.specs.Prelude.{count_ones, bit_and}
-use Rattle.std.specs.Int.{bit_at, bit_not, trailing_zeros}
+use Rattle.vers_rank.proofs.Names.{zero, suc, ◌≡◌, ℕ, ◌+◌, ◌-◌, ◌*◌, ◌/◌, ◌%◌, ◌^◌, ◌<◌, ◌≤◌, min, max, Bool, true, false, List, length, get_or, take, drop, pow_mono, refl, sym, ap, ◌∙◌, arith, inl, inr, eqb, w64, count_ones, bit_and, bit_at, bit_not, trailing_zeros, cases_lt, cases_eq, cases_Bool, agree_below_at, eqb-true, length-take, and_le_l, bit_at-zero, bit_at-lt, bit_at_and, bit_at_not, bit_at-trailing_zeros, bit_at_clear_same, bit_at_clear_other, ones_shl, ones_shr, bit_at_ones, bit_at_ones_above, bit_at_mask_inside, bit_at_mask_below, bit_value, is_bit, count, count_up, count_past, count_more_yes, count_more_no, highest_bit, limb_bit, number-lt, value_one, IsMarked, marked}
 use Rattle.std.specs.Int.Count.{count_leading_zeros}
-use Rattle.std.proofs.lemmas.Bool.{cases_lt, cases_eq, cases_Bool, agree_below_at, eqb-true}
-use Rattle.std.proofs.lemmas.List.{length-take}
-use Rattle.std.proofs.lemmas.Nat.{and_le_l}
-use Rattle.std.proofs.lemmas.Nat.Bits.{bit_at-zero, bit_at-lt, bit_at_and, bit_at_not, bit_at-trailing_zeros, bit_at_clear_same, bit_at_clear_other, ones_shl, ones_shr, bit_at_ones, bit_at_ones_above, bit_at_mask_inside, bit_at_mask_below}
 use lib.Count.{ones}
-use Rattle.vers_bits.specs.Bits.{bit_value, is_bit, count, limb}
-use Rattle.vers_bits.proofs.PublicLaws.{count_up, count_past, count_more_yes, count_more_no, highest_bit, limb_bit, number-lt, value_one}
-use Rattle.vers_rank.specs.inside.Walks.{IsWithin, IsMarked, marked}
+use Rattle.vers_bits.specs.Bits.{limb}
+use Rattle.vers_rank.specs.inside.Walks.{IsWithin}
 use Rattle.vers_rank.proofs.Words.{ones_few, ones_split}
 
 -- ---- the ones of a word, bit by bit

@@ -1,21 +1,10 @@
 -- Offsets of the ones of a few bits, in a buffer that is read from its end.
-use Rattle.std.proofs.Common.{zero, suc, ◌≡◌, ℕ, ◌+◌, ◌-◌, ◌*◌, ◌/◌, ◌%◌, ◌^◌, ◌<◌, ◌≤◌, Bool, true, false, cond, List, [], ◌∷◌, ◌++◌, map, filter, bytes_eq, ltb, ltb-true, set, replicate, length, get_or, eqb, ne_eqb, refl, sym, ap, ◌∙◌, inl, inr, arith}
-use Rattle.std.specs.Prelude.{count_ones, bit_and}
-use Rattle.std.specs.Int.{bit_at}
-use Rattle.std.specs.List.{range_with_len}
-use Rattle.std.proofs.lemmas.Bool.{cases_eq, cases_Bool, agree_below_at}
-use Rattle.std.proofs.lemmas.List.{map-id, length-set, get_or-set_same, get_or-set_other}
+use Rattle.vers_rank.proofs.Names.{zero, suc, ◌≡◌, ℕ, ◌+◌, ◌-◌, ◌*◌, ◌/◌, ◌%◌, ◌^◌, ◌<◌, ◌≤◌, Bool, true, false, cond, List, [], ◌∷◌, ◌++◌, map, filter, range_with_len, bytes_eq, ltb, set, replicate, length, get_or, eqb, ne_eqb, refl, sym, ap, ◌∙◌, inl, inr, arith, count_ones, bit_and, bit_at, All, ltb-true, cases_eq, cases_Bool, agree_below_at, map-id, length-set, get_or-set_same, get_or-set_other, mod_below, pow_pos, bit_at-zero, bit_at_cat_low, bit_at_cat_high, shr_and_one, length-zip2, length-put_chunk, length-chunk, get_or-chunk, get_or-zip2, get_or-replicate, get_or-put_chunk_at, get_or-put_chunk_below, chunk, put_chunk, zip2, last_first, ones_below}
 use Rattle.std.proofs.lemmas.List.Elements.{All-filter, All-from_get_or, All-head, All-tail, filter-append}
-use Rattle.std.specs.List.{All}
 use Rattle.std.proofs.lemmas.List.FromFn.{length-range_with_len, get_or-range_with_len}
-use Rattle.std.proofs.lemmas.Nat.{mod_below, pow_pos}
 use Rattle.std.proofs.lemmas.Slice.Eq.{bytes_eq-Decides}
-use Rattle.std.proofs.lemmas.Nat.Bits.{bit_at-zero, bit_at_cat_low, bit_at_cat_high, shr_and_one}
-use Rattle.std.proofs.lemmas.Simd.{length-zip2, length-put_chunk, length-chunk, get_or-chunk, get_or-zip2, get_or-replicate, get_or-put_chunk_at, get_or-put_chunk_below}
 use lib.Count.{ones}
-use lib.Lanes.{chunk, put_chunk, zip2}
 use Rattle.vers_rank.specs.declared.offsets.TheConstants.{OFFSETS}
-use Rattle.vers_rank.specs.inside.Offsets.{last_first, ones_below}
 
 -- ---- numbers that are read from the end
 -- m numbers more, which are those of another list
@@ -112,6 +101,8 @@ entry_long v h = length-chunk (8 * v) 8 OFFSETS (let size : length OFFSETS ≡ 2
 
 pub entry_small : (v : ℕ) → v < 256 → (j : ℕ) → j < 8 → get_or (entry v) j 0 < 8
 entry_small v h j small = omega (arith, get_or-chunk (8 * v) 8 OFFSETS j 0 small, ltb-true _ _ (agree_below_at (λ i. ltb (get_or OFFSETS i 0) 8) (λ _. true) 2048 (8 * v + j) refl (omega (arith, small))))
+
+pub ruleset table = (entry_listed, entry_long)
 
 -- ---- both bytes in one buffer
 pub raised_long : (highs : List ℕ) → length highs ≡ 8 → length (zip2 (λ a b. (a + b) % 256) highs (replicate 8 8)) ≡ 8

@@ -1,12 +1,5 @@
 -- The one after a one, in the same limb.
-use Rattle.std.proofs.Common.{◌≡◌, ◌≢◌, ℕ, zero, suc, ◌+◌, ◌-◌, ◌*◌, ◌/◌, ◌%◌, ◌^◌, ◌<◌, ◌≤◌, Bool, true, false, List, length, get_or, sym, ap, ◌∙◌, arith, inl, inr, w64}
-use Rattle.std.specs.Int.{bit_at, trailing_zeros}
-use Rattle.std.proofs.lemmas.Bool.{cases_lt}
-use Rattle.std.proofs.lemmas.List.{get_or_past}
-use Rattle.std.proofs.lemmas.Nat.Bits.{bit_at-suc, bit_at-zero, bit_at_cat_high, bit_at_above, bit_at-trailing_zeros}
-use Rattle.std.proofs.lemmas.Nat.{mod_below, pow_pos}
-use Rattle.vers_bits.specs.Bits.{bit_value, count, limb, select}
-use Rattle.vers_bits.proofs.PublicLaws.{count_more_no, select_at, count_at_select, select_past, select_up, select_holds, value_one, value_none}
+use Rattle.vers_rank.proofs.Names.{◌≡◌, ◌≢◌, ℕ, zero, suc, ◌+◌, ◌-◌, ◌*◌, ◌/◌, ◌%◌, ◌^◌, ◌<◌, ◌≤◌, Bool, true, false, List, length, get_or, sym, ap, ◌∙◌, arith, inl, inr, w64, bit_at, trailing_zeros, cases_lt, get_or_past, bit_at-suc, bit_at-zero, bit_at_cat_high, bit_at_above, bit_at-trailing_zeros, mod_below, pow_pos, bit_value, count, limb, select, count_more_no, select_at, count_at_select, select_past, select_up, select_holds, value_one, value_none}
 use Rattle.vers_rank.proofs.Marks.{limb_fits, marked_bit}
 
 -- a digit of a number without its lowest q digits

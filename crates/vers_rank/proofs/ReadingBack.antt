@@ -1,15 +1,9 @@
 -- The word that a walk over places from the back is reading.
-use Rattle.std.proofs.Common.{◌≡◌, ℕ, ◌+◌, ◌-◌, ◌*◌, ◌/◌, ◌%◌, ◌^◌, ◌<◌, ◌≤◌, Bool, true, List, length, sym, ap, arith, inl, inr, w64}
-use Rattle.std.specs.Prelude.{count_ones, bit_and}
-use Rattle.std.specs.Int.{bit_at, bit_not}
+use Rattle.vers_rank.proofs.Names.{◌≡◌, ℕ, ◌+◌, ◌-◌, ◌*◌, ◌/◌, ◌%◌, ◌^◌, ◌<◌, ◌≤◌, Bool, true, List, length, sym, ap, arith, inl, inr, w64, count_ones, bit_and, bit_at, bit_not, cases_lt, bit_at-zero, count, limb, select, highest_bit, count_up, count_none, count_le_all, select_at, select_is_place, count_more_yes, IsReadingBack, marked}
 use Rattle.std.specs.Int.Count.{count_leading_zeros}
-use Rattle.std.proofs.lemmas.Bool.{cases_lt}
-use Rattle.std.proofs.lemmas.Nat.Bits.{bit_at-zero}
-use Rattle.vers_bits.specs.Bits.{count, limb, select}
-use Rattle.vers_bits.proofs.PublicLaws.{highest_bit, count_up, count_none, count_le_all, select_at, select_is_place, count_more_yes}
 use Rattle.vers_rank.specs.declared.fast_rs_vec.reader.Reader.{Reader}
 use Rattle.vers_rank.specs.inside.Index.{held_in}
-use Rattle.vers_rank.specs.inside.Walks.{IsWithin, IsReadingBack, marked}
+use Rattle.vers_rank.specs.inside.Walks.{IsWithin}
 use Rattle.vers_rank.proofs.Marks.{IsCut, one_more, ones_stay, one_between, some_word, cut_to, cut_highest, whole_marked, marked_to, ones_within, place_of}
 
 module _ (b : Bool) (l : List Bool) (reader : Reader) (is : IsReadingBack b l reader) where

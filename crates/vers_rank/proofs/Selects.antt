@@ -1,11 +1,6 @@
 -- From counts to places.
-use Rattle.std.proofs.Common.{◌≡◌, ℕ, ◌+◌, ◌-◌, ◌*◌, ◌/◌, ◌<◌, ◌≤◌, Bool, true, false, List, length, get_or, ap, ◌∙◌, refl, inl, inr, arith, min}
-use Rattle.std.proofs.lemmas.Bool.{cases_lt, cases_Bool}
-use Rattle.vers_bits.specs.Bits.{is_bit, count, limb, limb_count, select}
-use Rattle.vers_bits.proofs.PublicLaws.{count_le_all, count_le, count_up, count_near, count_limb, count_both, count_past, select_at, select_past, count_at_select, count_more_yes, count_more_no}
-use Rattle.vers_tally.specs.Reads.{digits}
-use Rattle.vers_tally.proofs.PublicLaws.{digits_up, digits_halved}
-use Rattle.vers_rank.specs.inside.Index.{held, held_in, IsSample, IsLimbWith, IsAmongLimbs}
+use Rattle.vers_rank.proofs.Names.{◌≡◌, ℕ, ◌+◌, ◌-◌, ◌*◌, ◌/◌, ◌<◌, ◌≤◌, Bool, true, false, List, length, get_or, ap, ◌∙◌, refl, inl, inr, arith, min, cases_lt, cases_Bool, is_bit, count, limb, limb_count, select, count_le_all, count_le, count_up, count_near, count_limb, count_both, count_past, select_at, select_past, count_at_select, count_more_yes, count_more_no, digits, digits_up, digits_halved, IsSample, IsLimbWith, IsAmongLimbs}
+use Rattle.vers_rank.specs.inside.Index.{held, held_in}
 use Rattle.vers_rank.proofs.Words.{ones_few}
 
 -- inside the list it is the count

@@ -39,6 +39,7 @@ fn put_lanes(offsets: &mut [u8; CHUNK], from: usize, lanes: u8x8)
 
 // The offsets of the ones of a byte, the highest first, as lanes.
 #[inline(always)]
+#[tactic(auto, using(crate::proofs::OffsetLanes::table))]
 fn offsets_in_byte(byte: usize) -> u8x8
     requires { byte < 256 }
     ensures long { length result ≡ 8 }

@@ -1,8 +1,5 @@
-use Rattle.std.proofs.Common.{leb, map, replicate, ap, ◌∙◌, ◌%◌, ◌^◌, arith, w16}
-use Rattle.std.proofs.lemmas.Simd.{tops_compared, zip2_splat_left, mask_l-mod, ones-mask_l}
-use Rattle.std.proofs.lemmas.List.{length-map}
+use Rattle.vers_rank.proofs.Names.{leb, map, replicate, ap, ◌∙◌, ◌%◌, ◌^◌, arith, w16, tops_compared, zip2_splat_left, mask_l-mod, ones-mask_l, length-map, mask_l}
 use lib.Count.{ones}
-use lib.Lanes.{mask_l}
 use Rattle.vers_rank.proofs.lanes.far_below.Goals as goal
 
 pub returns : goal.returns

@@ -1,6 +1,4 @@
-use Rattle.std.proofs.Common.{◌≡◌, ◌/◌, ◌%◌, bit_and, count_ones, sym, arith}
-use Rattle.std.proofs.lemmas.Nat.{and_mask, ones-le}
-use Rattle.vers_rank.specs.inside.Offsets.{last_first, ones_below}
+use Rattle.vers_rank.proofs.Names.{◌≡◌, ◌/◌, ◌%◌, sym, arith, bit_and, count_ones, and_mask, ones-le, last_first, ones_below}
 use Rattle.vers_rank.proofs.OffsetLanes.{both_listed, raised_long}
 use Rattle.vers_rank.proofs.Words.{ones_few}
 use Rattle.vers_rank.proofs.offsets.put_offsets.Goals as goal

@@ -1,8 +1,4 @@
-use Rattle.std.proofs.Common.{◌≡◌, ◌+◌, ◌*◌, ◌/◌, ◌%◌, ◌<◌, arith, length, ap, ◌∙◌, inl, inr}
-use Rattle.std.proofs.lemmas.Bool.{cases_lt}
-use Rattle.vers_bits.specs.Bits.{count, select}
-use Rattle.vers_bits.proofs.PublicLaws.{count_le_all}
-use Rattle.vers_rank.specs.inside.Index.{held}
+use Rattle.vers_rank.proofs.Names.{◌≡◌, ◌+◌, ◌*◌, ◌/◌, ◌%◌, ◌<◌, arith, length, ap, ◌∙◌, inl, inr, cases_lt, count, select, count_le_all, held}
 use Rattle.vers_rank.proofs.Batches.{ends, few_in_limb}
 use Rattle.vers_rank.proofs.fast_rs_vec.RsVec.at_place.Goals as goal
 

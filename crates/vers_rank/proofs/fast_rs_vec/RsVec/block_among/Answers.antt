@@ -1,5 +1,4 @@
-use Rattle.std.proofs.Common.{◌≡◌, ◌+◌, ◌*◌, ap, arith}
-use Rattle.vers_bits.specs.Bits.{count}
+use Rattle.vers_rank.proofs.Names.{◌≡◌, ◌+◌, ◌*◌, ap, arith, count}
 use Rattle.vers_rank.proofs.BlockLanes.{entry_within, held_counts, held_rising}
 use Rattle.vers_rank.proofs.fast_rs_vec.RsVec.block_among.Goals as goal
 

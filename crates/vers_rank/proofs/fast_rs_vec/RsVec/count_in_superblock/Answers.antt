@@ -1,5 +1,4 @@
-use Rattle.std.proofs.Common.{◌+◌, ◌*◌, arith, false}
-use Rattle.vers_bits.proofs.PublicLaws.{count_near}
+use Rattle.vers_rank.proofs.Names.{◌+◌, ◌*◌, arith, false, count_near}
 use Rattle.vers_rank.proofs.Ranks.{block_entry}
 use Rattle.vers_rank.proofs.fast_rs_vec.RsVec.count_in_superblock.Goals as goal
 

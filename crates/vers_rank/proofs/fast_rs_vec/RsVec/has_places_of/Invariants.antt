@@ -1,6 +1,4 @@
-use Rattle.std.proofs.Common.{◌≡◌, ℕ, ◌<◌}
-use Rattle.vers_bits.specs.Bits.{select}
-use Rattle.vers_rank.specs.inside.Walks.{IsReading}
+use Rattle.vers_rank.proofs.Names.{◌≡◌, ℕ, ◌<◌, select, IsReading}
 use Rattle.vers_rank.proofs.fast_rs_vec.RsVec.has_places_of.Given as goal
 
 abbrev pub invariant-loop-r : goal.invariant-loop-r

@@ -1,5 +1,4 @@
-use Rattle.std.proofs.Common.{ℕ, ◌+◌, ◌*◌, ◌/◌, ◌<◌, refl, arith}
-use Rattle.vers_bits.proofs.PublicLaws.{count_near}
+use Rattle.vers_rank.proofs.Names.{ℕ, ◌+◌, ◌*◌, ◌/◌, ◌<◌, refl, arith, count_near}
 use Rattle.vers_rank.proofs.Batches.{inside_by, narrows}
 use Rattle.vers_rank.proofs.fast_rs_vec.RsVec.in_block.Goals as goal
 

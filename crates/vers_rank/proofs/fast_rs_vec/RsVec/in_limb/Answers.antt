@@ -1,6 +1,4 @@
-use Rattle.std.proofs.Common.{ℕ, ◌+◌, ◌*◌, ◌/◌, ◌<◌, refl, arith, length}
-use Rattle.vers_bits.proofs.PublicLaws.{count_near}
-use Rattle.vers_rank.specs.inside.Batches.{number_of}
+use Rattle.vers_rank.proofs.Names.{ℕ, ◌+◌, ◌*◌, ◌/◌, ◌<◌, refl, arith, length, count_near, number_of}
 use Rattle.vers_rank.proofs.Batches.{inside_by, narrows, near_limb}
 use Rattle.vers_rank.proofs.fast_rs_vec.RsVec.in_limb.Goals as goal
 

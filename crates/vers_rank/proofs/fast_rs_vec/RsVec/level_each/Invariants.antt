@@ -1,8 +1,5 @@
-use Rattle.vers_tally.specs.Reads.{AddsAtMost, times}
-use Rattle.vers_rank.specs.Queries.{superblock_count}
+use Rattle.vers_rank.proofs.Names.{AddsAtMost, times, superblock_count, Gives, level_reads, length}
 use Rattle.vers_rank.specs.Batches.{Changed}
-use Rattle.vers_rank.specs.inside.Batches.{Gives, level_reads}
-use Rattle.std.proofs.Common.{length}
 use Rattle.vers_rank.proofs.fast_rs_vec.RsVec.level_each.Given as goal
 
 abbrev pub invariant-loop-j : goal.invariant-loop-j

@@ -1,7 +1,5 @@
-use Rattle.std.proofs.Common.{length}
-use Rattle.vers_tally.proofs.PublicLaws.{adds_then, within_itself}
-use Rattle.vers_rank.specs.Queries.{superblock_count}
-use Rattle.vers_rank.specs.inside.Batches.{StandsFor, Needs, Gives, level_reads}
+use Rattle.vers_rank.proofs.Names.{length, adds_then, within_itself, superblock_count, StandsFor}
+use Rattle.vers_rank.specs.inside.Batches.{Needs, Gives, level_reads}
 use Rattle.vers_rank.proofs.PublicLaws.{changed_then}
 use Rattle.vers_rank.proofs.Batches.{takes, four_levels}
 use Rattle.vers_rank.proofs.fast_rs_vec.RsVec.levels_each.Goals as goal

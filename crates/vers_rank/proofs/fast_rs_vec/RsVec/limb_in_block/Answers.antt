@@ -1,6 +1,4 @@
-use Rattle.std.proofs.Common.{◌≡◌, ◌*◌, arith}
-use Rattle.vers_bits.specs.Bits.{count}
-use Rattle.vers_rank.specs.inside.Index.{held}
+use Rattle.vers_rank.proofs.Names.{◌≡◌, ◌*◌, arith, count, held}
 use Rattle.vers_rank.proofs.Selects.{rest_in_limb, held_is}
 use Rattle.vers_rank.proofs.fast_rs_vec.RsVec.limb_in_block.Goals as goal
 

@@ -1,6 +1,4 @@
-use Rattle.std.proofs.Common.{◌≡◌, ◌+◌, ◌-◌, ◌*◌, ◌≤◌}
-use Rattle.vers_rank.specs.inside.Index.{held}
-use Rattle.vers_tally.specs.Reads.{only_data_words, AddsAtMost}
+use Rattle.vers_rank.proofs.Names.{◌≡◌, ◌+◌, ◌-◌, ◌*◌, ◌≤◌, held, only_data_words, AddsAtMost}
 use Rattle.vers_rank.proofs.fast_rs_vec.RsVec.limb_up_to.Given as goal
 
 abbrev pub invariant-loop-k : goal.invariant-loop-k

@@ -1,6 +1,4 @@
-use Rattle.std.proofs.Common.{◌≡◌, ◌+◌, ◌-◌, ◌*◌, refl, arith, sym, ap, ◌∙◌}
-use Rattle.vers_bits.specs.Bits.{limb}
-use Rattle.vers_rank.specs.inside.Index.{held}
+use Rattle.vers_rank.proofs.Names.{◌≡◌, ◌+◌, ◌-◌, ◌*◌, refl, arith, sym, ap, ◌∙◌, limb, held}
 use Rattle.vers_rank.proofs.Selects.{place_found}
 use Rattle.vers_rank.proofs.fast_rs_vec.RsVec.place_in_limb.Goals as goal
 

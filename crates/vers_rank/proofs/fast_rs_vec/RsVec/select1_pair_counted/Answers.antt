@@ -1,7 +1,4 @@
-use Rattle.std.proofs.Common.{◌≡◌, ◌/◌, ◌^◌, true, arith, w64, ap}
-use Rattle.std.specs.Int.{trailing_zeros}
-use Rattle.vers_bits.specs.Bits.{limb}
-use Rattle.vers_bits.proofs.PublicLaws.{count_at_select}
+use Rattle.vers_rank.proofs.Names.{◌≡◌, ◌/◌, ◌^◌, true, arith, w64, ap, trailing_zeros, limb, count_at_select}
 use Rattle.vers_rank.proofs.Pairs.{one_after, none_after, no_ones}
 use Rattle.vers_rank.proofs.fast_rs_vec.RsVec.select1_pair_counted.Goals as goal
 

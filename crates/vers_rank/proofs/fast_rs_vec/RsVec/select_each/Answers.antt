@@ -1,5 +1,4 @@
-use Rattle.std.proofs.Common.{arith, length}
-use Rattle.vers_rank.specs.Queries.{superblock_count, select_reads}
+use Rattle.vers_rank.proofs.Names.{arith, length, superblock_count, select_reads}
 use Rattle.vers_rank.proofs.PublicLaws.{changed_on, changed_all, adds_times}
 use Rattle.vers_rank.proofs.fast_rs_vec.RsVec.select_each.Goals as goal
 

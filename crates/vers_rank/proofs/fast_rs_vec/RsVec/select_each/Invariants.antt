@@ -1,7 +1,4 @@
-use Rattle.std.proofs.Common.{◌≡◌, ◌-◌, ◌≤◌, length}
-use Rattle.vers_bits.specs.Bits.{select}
-use Rattle.vers_tally.specs.Reads.{AddsAtMost, times}
-use Rattle.vers_rank.specs.Queries.{superblock_count, select_reads}
+use Rattle.vers_rank.proofs.Names.{◌≡◌, ◌-◌, ◌≤◌, length, select, AddsAtMost, times, superblock_count, select_reads}
 use Rattle.vers_rank.specs.Batches.{Changed}
 use Rattle.vers_rank.proofs.fast_rs_vec.RsVec.select_each.Given as goal
 

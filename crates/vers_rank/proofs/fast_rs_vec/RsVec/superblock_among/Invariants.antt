@@ -1,6 +1,4 @@
-use Rattle.std.proofs.Common.{◌+◌, ◌-◌, ◌*◌, ◌<◌, ◌≤◌, length}
-use Rattle.vers_bits.specs.Bits.{count}
-use Rattle.vers_tally.specs.Reads.{only_superblock_entries, digits, AddsAtMost}
+use Rattle.vers_rank.proofs.Names.{◌+◌, ◌-◌, ◌*◌, ◌<◌, ◌≤◌, length, count, only_superblock_entries, digits, AddsAtMost}
 use Rattle.vers_rank.proofs.fast_rs_vec.RsVec.superblock_among.Given as goal
 
 abbrev pub invariant-loop-left : goal.invariant-loop-left

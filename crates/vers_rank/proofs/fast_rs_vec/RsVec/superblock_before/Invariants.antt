@@ -1,6 +1,4 @@
-use Rattle.std.proofs.Common.{◌+◌, ◌-◌, ◌*◌, ◌<◌, ◌≤◌}
-use Rattle.vers_bits.specs.Bits.{count}
-use Rattle.vers_tally.specs.Reads.{only_superblock_entries, AddsAtMost}
+use Rattle.vers_rank.proofs.Names.{◌+◌, ◌-◌, ◌*◌, ◌<◌, ◌≤◌, count, only_superblock_entries, AddsAtMost}
 use Rattle.vers_rank.proofs.fast_rs_vec.RsVec.superblock_before.Given as goal
 
 abbrev pub invariant-loop-step : goal.invariant-loop-step

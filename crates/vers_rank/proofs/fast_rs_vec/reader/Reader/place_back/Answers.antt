@@ -1,5 +1,4 @@
-use Rattle.std.proofs.Common.{length, ap, arith}
-use Rattle.vers_bits.proofs.PublicLaws.{count_le}
+use Rattle.vers_rank.proofs.Names.{length, ap, arith, count_le}
 use Rattle.vers_rank.proofs.ReadingBack.{rest_back_at}
 use Rattle.vers_rank.proofs.fast_rs_vec.reader.Reader.place_back.Goals as goal
 

@@ -1,7 +1,4 @@
-use Rattle.std.proofs.Common.{◌≡◌, ◌+◌, ◌-◌, ◌*◌, ◌/◌, ◌≤◌}
-use Rattle.std.specs.Prelude.{count_ones}
-use Rattle.vers_tally.specs.Reads.{only_data_words, AddsAtMost}
-use Rattle.vers_rank.specs.inside.Walks.{IsReading}
+use Rattle.vers_rank.proofs.Names.{◌≡◌, ◌+◌, ◌-◌, ◌*◌, ◌/◌, ◌≤◌, count_ones, only_data_words, AddsAtMost, IsReading}
 use Rattle.vers_rank.proofs.fast_rs_vec.reader.Reader.seek_in_block.Given as goal
 
 abbrev pub invariant-loop-ones : goal.invariant-loop-ones
