@@ -113,9 +113,6 @@ module _ (s : List ℕ) (i : ℕ) (a : Ahead) (up : IsNonDecreasing s) (read : H
             ∙ ap (λ q. number (take b.len (drop q (high_parts s)))) (sym place_is);
       }
 
-  pub step_read_by : (t : ℕ) (b : Ahead) → t ≡ trailing_zeros w64 a.word → b.place ≡ a.place + (t + 1) → b.len ≡ a.len - (t + 1) → b.word ≡ a.word / 2 ^ t / 2 ^ 1 → HasRead s (i + 1) b
-  step_read_by t b e place len word = step_read b (omega (arith, place, e)) (omega (arith, len, e)) (word ∙ ap (λ k. a.word / 2 ^ k / 2 ^ 1) e)
-
 -- ---- the bits after a member's one
 
 pub read_after : {s : List ℕ} {high low : List Bool} {first last width : ℕ} (i p n w : ℕ) → IsPacked s high low first last width → i < length s → p ≡ select true high i

@@ -18,6 +18,9 @@ use Rattle.vers_sorted.proofs.Split.{parts_sum, high_up, member_from, high_zeros
 use Rattle.vers_sorted.proofs.Packed.{high_counted}
 
 module _ {s : List ℕ} {high low : List Bool} {first last width : ℕ} (packed : IsPacked s high low first last width) where
+  pub zeros_counted : 0 < length s → count false high (length high) ≡ 2 + high_of s (last_of s)
+  zeros_counted some = omega (arith, count_both high (length high), packed.high_parts.ones, high_counted packed, high_zeros s some)
+
   -- the zeros and ones up to the place of a member
   zeros_at_member : (i : ℕ) → i < length s → count false high (high_of s (slice_index s i) + i + 1) ≡ high_of s (slice_index s i) + 1
   zeros_at_member i h =
@@ -29,9 +32,7 @@ module _ {s : List ℕ} {high low : List Bool} {first last width : ℕ} (packed 
   pub start_at : (h : ℕ) → 0 < length s → h ≤ high_of s (last_of s) + 1 → (h ≤ select false high h) × IsStart s h (select false high h - h)
   start_at h some within =
       let q : ℕ = select false high h in
-      let all : count false high (length high) ≡ 2 + high_of s (last_of s) =
-      omega (arith, count_both high (length high), packed.high_parts.ones, high_counted packed, high_zeros s some) in
-      let at = count_at_select false high h (omega arith) in
+      let at = count_at_select false high h (omega (arith, zeros_counted some)) in
       let ones : count true high q + h ≡ q = omega (arith, count_both high q, at.0, at.1) in
       let ones_past : count true high (q + 1) + h ≡ q = omega (arith, count_both high (q + 1), at.0, at.2) in (
         omega arith,
@@ -46,12 +47,6 @@ module _ {s : List ℕ} {high low : List Bool} {first last width : ℕ} (packed 
               omega (arith, zeros_at_member i short, packed.high_parts.place i short, at.2, count_up false high (q + 1) (high_of s (slice_index s i) + i + 1) (omega (arith, packed.high_parts.place i short)));
         },
       )
-
-  pub start_is : (h : ℕ) → 0 < length s → h ≤ high_of s (last_of s) + 1 → IsStart s h (select false high h - h)
-  start_is h some within = (start_at h some within).1
-
-  pub start_after : (h : ℕ) → 0 < length s → h ≤ high_of s (last_of s) + 1 → h ≤ select false high h
-  start_after h some within = (start_at h some within).0
 
 -- ---- from high parts to the members themselves
 
@@ -127,17 +122,11 @@ all_below {s} v packed h =
       | inr none ↦ omega (arith, below_le s v)
     ]
 
-pub ends_are : {s : List ℕ} {high low : List Bool} {first last width : ℕ} → IsPacked s high low first last width → (first_of s ≡ first) × (last_of s ≡ last)
-ends_are packed = (sym packed.first_is, sym packed.last_is)
-
 -- ---- buckets
 
 module _ {s : List ℕ} {high low : List Bool} {first last width : ℕ} (packed : IsPacked s high low first last width) where
-  pub zeros_counted : 0 < length s → count false high (length high) ≡ 2 + high_of s (last_of s)
-  zeros_counted some = omega (arith, count_both high (length high), packed.high_parts.ones, high_counted packed, high_zeros s some)
-
   pub high_below : (v : ℕ) → 0 < length s → first_of s ≤ v → v ≤ last_of s → (v - first) / 2 ^ width + 1 < count false high (length high)
-  high_below v some from to = omega (arith, zeros_counted some, high_up s v (last_of s) to from, high_is v packed)
+  high_below v some from to = omega (arith, zeros_counted packed some, high_up s v (last_of s) to from, high_is v packed)
 
   -- the bucket of v, by two zeros
   pub bucket_is : (v this next : ℕ) → 0 < length s → first_of s ≤ v → v ≤ last_of s

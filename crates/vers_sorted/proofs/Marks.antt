@@ -9,7 +9,7 @@ use Rattle.std.proofs.lemmas.Nat.Bits.{bit_at-zero, bit_at-trailing_zeros, bit_a
 use Rattle.vers_bits.specs.Bits.{bit_value, is_bit, count, places, limb}
 use Rattle.vers_sorted.specs.Ones.{AreMarked}
 use Rattle.vers_sorted.proofs.Scans.{count_stays}
-use Rattle.vers_sorted.proofs.SparseBits.{first_places_none, first_places_more, first_places_limb, first_places_end}
+use Rattle.vers_sorted.proofs.SparseBits.{first_places_more, first_places_limb}
 use Rattle.vers_bits.proofs.PublicLaws.{value_none, value_one, limb_bit}
 
 -- ---- a limb
@@ -94,5 +94,3 @@ limb_done b l k p e w some from to is fits marked past =
     ∙ ap (λ q. take (count b l q) (places b l)) whole ∙ sym (first_places_limb b l k e is some)
 
 pub ruleset limbs = (ones_marked, zeros_marked)
-
-pub ruleset collecting = (first_places_none, first_places_end)

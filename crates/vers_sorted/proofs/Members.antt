@@ -40,9 +40,6 @@ none_above s v up h = no_member s v (λ j short same. absurd (omega (arith, same
 pub all_less : (s : List ℕ) (v : ℕ) → IsNonDecreasing s → last_of s < v → list_any (λ q. eqb q v) s ≡ false
 all_less s v up h = no_member s v (λ j short same. absurd (omega (arith, same, up j (length s - 1) 0 (omega arith) (omega arith))))
 
-pub none_of_none : (s : List ℕ) (v : ℕ) → length s ≡ 0 → list_any (λ q. eqb q v) s ≡ false
-none_of_none s v e = no_member s v (λ j short same. absurd (omega arith))
-
 -- ---- the neighbours of a member
 
 pub least_held : (s : List ℕ) (v : ℕ) → IsNonDecreasing s → list_any (λ q. eqb q v) s ≡ true → least_not_below s v ≡ Some v

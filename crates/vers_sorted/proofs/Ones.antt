@@ -16,7 +16,7 @@ use Rattle.vers_bits.specs.Bits.{is_bit, count, places, select}
 use Rattle.vers_bits.proofs.PublicLaws.{count_none, count_up, count_more_yes, count_more_no, select_at, length-places, select_is_place, select_up, IsPlace}
 use Rattle.vers_sorted.specs.Sorted.{below}
 use Rattle.vers_sorted.specs.Ones.{ones_at}
-use Rattle.vers_sorted.proofs.Below.{below_le, below_from, below_to}
+use Rattle.vers_sorted.proofs.Below.{below_le, below_up, below_from, below_to}
 use Rattle.vers_sorted.proofs.Neighbours.{below_before, below_after}
 
 pub length-ones_at : (s : List ℕ) (n : ℕ) → length (ones_at s n) ≡ n
@@ -81,15 +81,6 @@ module _ (s : List ℕ) (up : IsStrictlyIncreasing s) where
         | inr none ↦ omega (arith, below_to s (slice_index s r) r ascends h (omega arith))
       ]
 
-  below_up : (v : ℕ) → below s v ≤ below s (v + 1)
-  below_up v =
-      elim (cases_lt 0 (below s v)) [
-        | inl some ↦
-            let before : slice_index s (below s v - 1) < v = below_before s v (below s v - 1) ascends (omega arith) in
-            omega (arith, below_from s (v + 1) (below s v - 1) ascends (omega (arith, below_le s v)) (omega arith))
-        | inr none ↦ omega arith
-      ]
-
   -- a number that is a member
   below_held : (v : ℕ) → below s v < length s → slice_index s (below s v) ≡ v → below s (v + 1) ≡ below s v + 1
   below_held v h e =
@@ -108,9 +99,9 @@ module _ (s : List ℕ) (up : IsStrictlyIncreasing s) where
             let after : v ≤ slice_index s (below s v) = below_after s v (below s v) ascends (omega arith) h in
             elim (cases_eq (slice_index s (below s v)) v) [
               | inl e ↦ absurd (none h e)
-              | inr ne ↦ omega (arith, below_up v, below_to s (v + 1) (below s v) ascends h (omega arith))
+              | inr ne ↦ omega (arith, below_up s v (v + 1) (omega arith), below_to s (v + 1) (below s v) ascends h (omega arith))
             ]
-        | inr all ↦ omega (arith, below_up v, below_le s (v + 1), below_le s v)
+        | inr all ↦ omega (arith, below_up s v (v + 1) (omega arith), below_le s (v + 1), below_le s v)
       ]
 
   -- whether v is a member, by the member that `below` names

@@ -15,9 +15,6 @@ pub low_below : (s : List ℕ) (v : ℕ) → low_of s v < 2 ^ low_width s
 unfolding low_of
 low_below s v = mod_below (v - first_of s) (2 ^ low_width s) (pow_pos (low_width s))
 
-scaled : (m a b : ℕ) → a ≤ b → m * a ≤ m * b
-scaled m a b h = mul-le-mul_left {m = a} {n = b} m h
-
 -- a greater number has no lower high part
 pub high_up : (s : List ℕ) (a b : ℕ) → a ≤ b → first_of s ≤ a → high_of s a ≤ high_of s b
 high_up s a b h from =
@@ -28,7 +25,7 @@ high_up s a b h from =
         parts_sum s a from,
         parts_sum s b (omega arith),
         low_below s b,
-        scaled (2 ^ low_width s) (high_of s b + 1) (high_of s a) (omega arith),
+        mul-le-mul_left {m = high_of s b + 1} {n = high_of s a} (2 ^ low_width s) (omega arith),
         mul_comm (2 ^ low_width s) (high_of s b + 1),
         mul_comm (2 ^ low_width s) (high_of s a),
       ))

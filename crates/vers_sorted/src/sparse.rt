@@ -284,7 +284,7 @@ fn places_of<A: Allocator + Copy>(bits: &BitVec<A>, bit: bool) -> Result<Vec<u64
 
 // Adds the places of the ones or the zeros of one limb to those of the limbs before it, from the
 // lowest up.
-#[tactic(auto, using(crate::proofs::Marks::collecting))]
+#[tactic(auto, using(crate::proofs::SparseBits::collecting))]
 fn push_places<A: Allocator + Copy>(
     found: &mut Vec<u64, A>,
     bits: &BitVec<A>,
