@@ -6,6 +6,8 @@ pub mod Ones
 pub mod Holds
 pub mod Packed
 pub mod Buckets
+pub mod Begins
+pub mod Batches
 pub mod Makes
 pub mod Gathers
 pub mod Widths

@@ -7,6 +7,7 @@ ghost use Rattle.vers_sorted.specs.Layout.{heap_size_of};
 
 mod ahead;
 mod batch;
+mod begin;
 mod iter;
 mod low;
 mod make;

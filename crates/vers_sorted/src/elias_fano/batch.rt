@@ -1,9 +1,11 @@
 //! The members at many places at once.
 ghost use Rattle.std.specs.Prelude.{◌≡◌, ℕ, ◌+◌, ◌<◌, ◌≤◌, length, map, slice_get, slice_index, slice_index_or, unwrap_or, option_and_then, Some, None};
 ghost use Rattle.std.specs.List.Sorted.{IsNonDecreasing};
-ghost use Rattle.vers_tally.specs.Reads.{only_low_parts, times, AddsAtMost};
+ghost use Rattle.vers_tally.specs.Reads.{digits, only_low_parts, times, AddsAtMost};
 ghost use Rattle.vers_rank.specs.Batches.{Changed};
-ghost use Rattle.vers_sorted.specs.Layout.{high_place, member_reads};
+ghost use Rattle.vers_sorted.specs.Sorted.{below};
+ghost use Rattle.vers_sorted.specs.Layout.{high_place, member_reads, search_reads};
+ghost use Rattle.vers_sorted.specs.inside.Begun.{IsBegun, IsInside};
 
 use super::EliasFanoVec;
 use std::alloc::Allocator;
@@ -11,7 +13,7 @@ use vers_tally::tally::Tally;
 
 /// How many members are looked for together: so many that the processor has their reads in flight at
 /// once, and so few that what they read stays near.
-const GROUP: usize = 64;
+pub(super) const GROUP: usize = 64;
 
 // The numbers of the ones of the members at `n` places, past all ones where there is no place.
 #[inline(always)]
@@ -111,5 +113,102 @@ impl<A: Allocator + Copy> EliasFanoVec<A> {
             return None;
         }
         Some(self.with_low_part((one - i - 1) as u64, i, tally))
+    }
+
+    /// Puts in the stead of each number how many members are below it: the answers of `rank`. Takes
+    /// no memory.
+    pub fn rank_each(&self, numbers: &mut [u64])
+        ensures value { numbers.new ≡ map (below self.now) numbers.old }
+        ensures ascending { IsNonDecreasing self.now }
+    {
+        let mut tally = Tally::new();
+        self.rank_each_counted(numbers, &mut tally)
+    }
+
+    /// The same as `rank_each`, by at most the reads of as many calls of `rank`.
+    #[inline(always)]
+    pub fn rank_each_counted(&self, numbers: &mut [u64], tally: &mut Tally)
+        ensures value { numbers.new ≡ map (below self.now) numbers.old }
+        ensures ascending { IsNonDecreasing self.now }
+        ensures adds { AddsAtMost tally.old tally.new
+            (times (length numbers.old) (search_reads self.now)) }
+    {
+        let _ = self.len();
+        let len = numbers.len();
+        let mut from = 0;
+        while from < len {
+            let n = GROUP.min(len - from);
+            self.rank_group(numbers, from, n, tally);
+            from += n;
+        }
+    }
+
+    // Puts in the stead of each of `n` numbers how many members are below it.
+    #[inline(always)]
+    fn rank_group(&self, numbers: &mut [u64], from: usize, n: usize, tally: &mut Tally)
+        requires within { from + n ≤ length numbers.old }
+        requires few { n ≤ 64 }
+        ensures value { Changed 0 (λ v r. r ≡ below self.now v) from n numbers.old numbers.new }
+        ensures adds { AddsAtMost tally.old tally.new (times n (search_reads self.now)) }
+    {
+        let mut before = [0; GROUP];
+        let mut after = [0; GROUP];
+        let mut parts = [0; GROUP];
+        self.begin_each(
+            &numbers[from..from + n],
+            &mut before,
+            &mut after,
+            &mut parts,
+            tally,
+        );
+        self.ranks_each(numbers, from, n, &before, &after, &parts, tally);
+    }
+
+    // The same by what the searches began with.
+    #[inline(always)]
+    fn ranks_each(
+        &self,
+        numbers: &mut [u64],
+        from: usize,
+        n: usize,
+        before: &[usize; GROUP],
+        after: &[usize; GROUP],
+        parts: &[u64; GROUP],
+        tally: &mut Tally,
+    )
+        requires within { from + n ≤ length numbers.old }
+        requires few { n ≤ 64 }
+        requires begun { (j : ℕ) → j < n → IsInside self.now (slice_index numbers.old (from + j))
+            → IsBegun self.now (slice_index numbers.old (from + j)) (slice_index before.now j)
+            (slice_index after.now j) (slice_index parts.now j) }
+        ensures value { Changed 0 (λ v r. r ≡ below self.now v) from n numbers.old numbers.new }
+        ensures adds { AddsAtMost tally.old tally.new
+            (times n (only_low_parts (digits (length self.now) + 4))) }
+    {
+        for j in 0..n {
+            numbers[from + j] = self.rank_begun(
+                numbers[from + j],
+                before[j],
+                after[j],
+                parts[j],
+                tally,
+            );
+        }
+    }
+
+    // How many members are below a number, by what the search began with.
+    #[inline(always)]
+    fn rank_begun(&self, v: u64, before: usize, after: usize, part: u64, tally: &mut Tally) -> u64
+        requires { IsInside self.now v → IsBegun self.now v before after part }
+        ensures value { result ≡ below self.now v }
+        ensures adds { AddsAtMost tally.old tally.new
+            (only_low_parts (digits (length self.now) + 4)) }
+    {
+        let _ = &self.len;
+        if !self.is_inside(v) {
+            return self.rank_outside(v);
+        }
+        let bucket = self.bucket_between(v, before, after);
+        self.below_from(bucket, part, v, tally) as u64
     }
 }

@@ -1,12 +1,14 @@
 //! What is asked of an ascending list.
-ghost use Rattle.std.specs.Prelude.{◌≡◌, ℕ, ◌+◌, ◌-◌, ◌*◌, ◌<◌, ◌≤◌, ◌==◌, List, length, slice_index, slice_get, IsTrue};
+ghost use Rattle.std.specs.Prelude.{◌≡◌, ℕ, ◌+◌, ◌-◌, ◌*◌, ◌<◌, ◌≤◌, ◌==◌, List, false, length, slice_index, slice_get, IsTrue, IsFalse};
+ghost use Rattle.vers_bits.specs.Bits.{select};
 ghost use Rattle.std.specs.List.{list_any};
 ghost use Rattle.std.specs.List.Sorted.{IsNonDecreasing};
 ghost use Rattle.vers_tally.specs.Reads.{only_low_parts, digits, AddsAtMost};
 ghost use Rattle.vers_sorted.specs.Sorted.{below, greatest_not_above, least_not_below, delta};
-ghost use Rattle.vers_sorted.specs.Layout.{first_of, last_of, high_of, low_of, high_length, member_reads, search_reads};
+ghost use Rattle.vers_sorted.specs.Layout.{first_of, last_of, high_of, low_of, high_length, high_parts, member_reads, search_reads};
 ghost use Rattle.vers_sorted.specs.inside.Parts.{reads};
 ghost use Rattle.vers_sorted.specs.inside.Buckets.{IsBucket};
+ghost use Rattle.vers_sorted.specs.inside.Begun.{IsInside};
 
 use crate::elias_fano::EliasFanoVec;
 use crate::elias_fano::narrow::MANY;
@@ -86,17 +88,34 @@ impl<A: Allocator + Copy> EliasFanoVec<A> {
         let _ = &self.len;
         let high = ((v - self.first) >> self.width) as usize;
         let zeros = zero_pair(&self.high, high, tally);
+        self.bucket_between(v, zeros.first, zeros.second)
+    }
+
+    // The members with the high part of `v`, by the places of the zeros before and after them.
+    #[inline(always)]
+    #[tactic(auto, using(crate::proofs::Buckets::bucket))]
+    pub(super) fn bucket_between(&self, v: u64, before: usize, after: usize) -> Bucket
+        requires some { 0 < length self.now }
+        requires from { first_of self.now ≤ v }
+        requires to { v ≤ last_of self.now }
+        requires before { before ≡ select false (high_parts self.now) (high_of self.now v) }
+        requires after { after ≡ select false (high_parts self.now) (high_of self.now v + 1) }
+        ensures bucket { IsBucket self.now v result }
+        ensures start { result.start ≡ before - high_of self.now v }
+    {
+        let _ = &self.len;
+        let high = ((v - self.first) >> self.width) as usize;
         Bucket {
             high: high as u64,
-            start: zeros.first - high,
-            end: zeros.second - high - 1,
+            start: before - high,
+            end: after - high - 1,
         }
     }
 
     // How many members are below `v`, where those with its high part are known.
     #[inline(always)]
     #[tactic(auto, using(crate::proofs::Buckets::search_steps))]
-    fn below_in(&self, bucket: Bucket, v: u64, tally: &mut Tally) -> usize
+    pub(super) fn below_in(&self, bucket: Bucket, v: u64, tally: &mut Tally) -> usize
         requires above { first_of self.now ≤ v }
         requires bucket { IsBucket self.now v bucket }
         ensures value { result ≡ below self.now v }
@@ -117,6 +136,28 @@ impl<A: Allocator + Copy> EliasFanoVec<A> {
             }
         }
         from
+    }
+
+    // The same where the low part of the first of those members is known too.
+    #[inline(always)]
+    #[tactic(auto, using(crate::proofs::Buckets::search_steps))]
+    pub(super) fn below_from(&self, bucket: Bucket, part: u64, v: u64, tally: &mut Tally) -> usize
+        requires above { first_of self.now ≤ v }
+        requires bucket { IsBucket self.now v bucket }
+        requires part { part ≡ low_of self.now (slice_index self.now bucket.start) }
+        ensures value { result ≡ below self.now v }
+        ensures adds { AddsAtMost tally.old tally.new
+            (only_low_parts (digits (length self.now) + 4)) }
+    {
+        let _ = &self.len;
+        let low = (v - self.first) & ((1 << self.width) - 1);
+        if bucket.start >= bucket.end {
+            return bucket.start;
+        }
+        if part >= low {
+            return bucket.start;
+        }
+        self.below_in(bucket, v, tally)
     }
 
     // Whether a bucket of many members has `v` in its middle, as most of those have in which many are
@@ -254,18 +295,35 @@ impl<A: Allocator + Copy> EliasFanoVec<A> {
         ensures ascending { IsNonDecreasing self.now }
         ensures adds { AddsAtMost tally.old tally.new (search_reads self.now) }
     {
-        let _ = &self.first;
-        if self.len() == 0 {
-            return 0;
-        }
-        if v <= self.first {
-            return 0;
-        }
-        if v > self.last {
-            return self.len() as u64;
+        let _ = &self.len;
+        if !self.is_inside(v) {
+            return self.rank_outside(v);
         }
         let bucket = self.bucket_of(v, tally);
         self.below_in(bucket, v, tally) as u64
+    }
+
+    // Whether a number lies above the first member and not above the last.
+    #[inline(always)]
+    #[tactic(auto, using(crate::proofs::Begins::insides))]
+    pub(super) fn is_inside(&self, v: u64) -> bool
+        ensures inside { IsTrue result → IsInside self.now v }
+        ensures outside { IsFalse result → first_of self.now < v → last_of self.now < v }
+    {
+        let _ = &self.len;
+        self.first < v && v <= self.last
+    }
+
+    // How many members are below a number that doesn't lie so.
+    #[inline(always)]
+    pub(super) fn rank_outside(&self, v: u64) -> u64
+        requires { first_of self.now < v → last_of self.now < v }
+        ensures { result ≡ below self.now v }
+    {
+        if v <= self.first {
+            return 0;
+        }
+        self.len() as u64
     }
 
     /// The same as `predecessor`, by at most as many low parts and queries of the high parts as the
