@@ -1,6 +1,6 @@
 -- The bounds of batches.
 use Rattle.std.proofs.Common.{◌≡◌, ℕ, ◌+◌, List, length, arith}
-use Rattle.std.proofs.Math.Nat.{mul-le-mul_left}
+use Rattle.std.proofs.Math.Nat.{mul-le-mul_left, mul_comm}
 use Rattle.vers_tally.specs.Reads.{Reads, IsWithin, plus, times, only_low_parts, digits}
 use Rattle.vers_rank.specs.Queries.{select_reads, superblock_count}
 use Rattle.vers_sorted.specs.Layout.{high_length, search_reads}
@@ -48,3 +48,19 @@ rank_reads k n s e = rw e (times_both n _ _ _ (record {
   nodes = omega arith;
   chunks = omega arith;
 }))
+
+pub neighbour_reads : (k n : ℕ) (s : List ℕ) → k ≡ n → IsWithin (plus (times k (reads 1 3 (high_length s))) (times n (reads (digits (length s) + 5) 2 (high_length s)))) (times n (search_reads s))
+neighbour_reads k n s e =
+    let d : ℕ = digits (length s) in
+    let x : ℕ = digits (superblock_count (high_length s)) + 12 in
+    rw e (times_both n _ _ _ (record {
+      data_words = omega arith;
+      block_entries = omega arith;
+      superblock_entries = omega (arith, mul-le-mul_left {m = 5} {n = d + 8} x (omega arith), mul_comm x 5, mul_comm x (d + 8));
+      low_parts = omega arith;
+      rank_calls = omega arith;
+      items = omega arith;
+      blocks = omega arith;
+      nodes = omega arith;
+      chunks = omega arith;
+    }))

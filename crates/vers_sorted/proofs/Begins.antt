@@ -1,6 +1,11 @@
 -- What searches begin with.
-use Rattle.std.proofs.Common.{◌≡◌, ℕ, ◌+◌, ◌-◌, ◌/◌, ◌^◌, ◌<◌, ◌≤◌, Bool, false, List, ◌++◌, length, take, ap, ◌∙◌, arith, inl, inr}
-use Rattle.std.specs.Prelude.{map, slice_index}
+use Rattle.std.proofs.Common.{◌≡◌, ℕ, ◌+◌, ◌-◌, ◌/◌, ◌^◌, ◌<◌, ◌≤◌, Bool, false, List, ◌++◌, length, take, sym, ap, ◌∙◌, arith, inl, inr}
+use Rattle.std.specs.Prelude.{map, slice_get, slice_index}
+use Rattle.std.specs.List.Sorted.{IsNonDecreasing}
+use Rattle.std.proofs.lemmas.Option.{slice_get_past}
+use Rattle.vers_sorted.specs.Sorted.{below, greatest_not_above, least_not_below}
+use Rattle.vers_sorted.proofs.Below.{below_le, below_from, below_to}
+use Rattle.vers_sorted.proofs.Neighbours.{pred_none, pred_some, succ_is}
 use Rattle.std.proofs.lemmas.List.{get_or_append_left, get_or-map, get_or-take, length-map, length-take}
 use Rattle.std.proofs.lemmas.Bool.{cases_lt}
 use Rattle.vers_bits.specs.Bits.{count, select}
@@ -60,5 +65,23 @@ module _ {s : List ℕ} {high low : List Bool} {first last width : ℕ} where
           | inr past ↦ absurd (omega (arith, up, start.1.before (length s - 1) (omega (arith, place, is.some))))
         ],
       )
+
+-- ---- the neighbours of a number that lies outside
+
+pub pred_all : (s : List ℕ) (v : ℕ) → IsNonDecreasing s → last_of s ≤ v → greatest_not_above s v ≡ slice_get s (length s - 1)
+pred_all s v up past = elim (cases_lt 0 (length s)) [
+  | inl some ↦
+      let all : below s (v + 1) ≡ length s = omega (arith, below_le s (v + 1), below_from s (v + 1) (length s - 1) up (omega arith) (omega arith)) in
+      pred_some s v up (omega arith) ∙ ap (λ k. slice_get s (k - 1)) all
+  | inr none ↦ pred_none s v up (omega (arith, below_le s (v + 1))) ∙ sym (slice_get_past s (length s - 1) (omega arith))
+]
+
+pub succ_all : (s : List ℕ) (v : ℕ) → IsNonDecreasing s → v ≤ first_of s → least_not_below s v ≡ slice_get s 0
+succ_all s v up before =
+    let none : below s v ≡ 0 = elim (cases_lt 0 (length s)) [
+      | inl some ↦ omega (arith, below_to s v 0 up some before)
+      | inr none ↦ omega (arith, below_le s v)
+    ] in
+    succ_is s v up ∙ ap (slice_get s) none
 
 pub ruleset insides = (inside)

@@ -12,6 +12,7 @@ mod iter;
 mod low;
 mod make;
 mod narrow;
+mod neighbours;
 mod scan;
 mod search;
 

@@ -335,25 +335,48 @@ impl<A: Allocator + Copy> EliasFanoVec<A> {
         ensures ascending { IsNonDecreasing self.now }
         ensures adds { AddsAtMost tally.old tally.new (search_reads self.now) }
     {
-        let _ = &self.first;
-        if self.len() == 0 {
-            return None;
+        let _ = &self.len;
+        if v >= self.last {
+            return self.last_member();
         }
         if v < self.first {
             return None;
-        }
-        if v >= self.last {
-            return Some(self.last);
         }
         let bucket = self.bucket_of(v + 1, tally);
         if self.is_amid(bucket, v + 1, v, tally) {
             return Some(v);
         }
         let k = self.below_in(bucket, v + 1, tally);
+        Some(self.last_below(bucket, v + 1, k, tally))
+    }
+
+    // The last of the `k` members below `v`.
+    #[inline(always)]
+    pub(super) fn last_below(&self, bucket: Bucket, v: u64, k: usize, tally: &mut Tally) -> u64
+        requires from { first_of self.now ≤ v }
+        requires to { v ≤ last_of self.now }
+        requires bucket { IsBucket self.now v bucket }
+        requires below { k ≡ below self.now v }
+        requires some { 0 < k }
+        ensures value { result ≡ slice_index self.now (k - 1) }
+        ensures adds { AddsAtMost tally.old tally.new (reads 1 2 (high_length self.now)) }
+    {
+        let _ = &self.len;
         if k <= bucket.start {
-            return Some(self.member_before(bucket, v + 1, tally));
+            return self.member_before(bucket, v, tally);
         }
-        Some(self.with_low_part(bucket.high, k - 1, tally))
+        self.with_low_part(bucket.high, k - 1, tally)
+    }
+
+    // The last member. None where there are none.
+    #[inline(always)]
+    pub(super) fn last_member(&self) -> Option<u64>
+        ensures { result ≡ slice_get self.now (length self.now - 1) }
+    {
+        if self.len() == 0 {
+            return None;
+        }
+        Some(self.last)
     }
 
     /// The same as `successor`, by at most as many low parts and queries of the high parts as the
@@ -365,24 +388,47 @@ impl<A: Allocator + Copy> EliasFanoVec<A> {
         ensures ascending { IsNonDecreasing self.now }
         ensures adds { AddsAtMost tally.old tally.new (search_reads self.now) }
     {
-        let _ = &self.first;
-        if self.len() == 0 {
-            return None;
+        let _ = &self.len;
+        if v <= self.first {
+            return self.first_member();
         }
         if v > self.last {
             return None;
-        }
-        if v <= self.first {
-            return Some(self.first);
         }
         let bucket = self.bucket_of(v, tally);
         if self.is_amid(bucket, v, v, tally) {
             return Some(v);
         }
         let k = self.below_in(bucket, v, tally);
+        Some(self.first_from(bucket, v, k, tally))
+    }
+
+    // The member after the `k` members below `v`.
+    #[inline(always)]
+    pub(super) fn first_from(&self, bucket: Bucket, v: u64, k: usize, tally: &mut Tally) -> u64
+        requires from { first_of self.now ≤ v }
+        requires to { v ≤ last_of self.now }
+        requires bucket { IsBucket self.now v bucket }
+        requires below { k ≡ below self.now v }
+        requires more { k < length self.now }
+        ensures value { result ≡ slice_index self.now k }
+        ensures adds { AddsAtMost tally.old tally.new (reads 1 2 (high_length self.now)) }
+    {
+        let _ = &self.len;
         if bucket.end <= k {
-            return Some(self.member_past(bucket, v, tally));
+            return self.member_past(bucket, v, tally);
         }
-        Some(self.with_low_part(bucket.high, k, tally))
+        self.with_low_part(bucket.high, k, tally)
+    }
+
+    // The first member. None where there are none.
+    #[inline(always)]
+    pub(super) fn first_member(&self) -> Option<u64>
+        ensures { result ≡ slice_get self.now 0 }
+    {
+        if self.len() == 0 {
+            return None;
+        }
+        Some(self.first)
     }
 }

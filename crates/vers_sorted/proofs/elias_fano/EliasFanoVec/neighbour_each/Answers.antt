@@ -1,0 +1,16 @@
+use Rattle.std.proofs.Common.{arith}
+use Rattle.vers_rank.proofs.PublicLaws.{changed_on, changed_all, adds_times}
+use Rattle.vers_sorted.specs.Layout.{search_reads}
+use Rattle.vers_sorted.proofs.elias_fano.EliasFanoVec.neighbour_each.Goals as goal
+
+pub loop-from-preserved : goal.loop-from-preserved
+loop-from-preserved g c =
+    record {
+      within = omega arith;
+      changed = changed_on c.loop-from.invariant.changed c.neighbour_group.ensures.value;
+      adds = adds_times _ _ (search_reads c.args.self.now) c.loop-from.invariant.adds c.neighbour_group.ensures.adds;
+    }
+
+pub returns-clause-value : goal.returns-clause-value
+returns-clause-value g c =
+    changed_all c.loop-from.invariant.changed (omega arith)

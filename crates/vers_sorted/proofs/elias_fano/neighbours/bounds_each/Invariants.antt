@@ -1,0 +1,7 @@
+use Rattle.std.proofs.Common.{◌≡◌, ℕ, ◌+◌, ◌<◌, Some, None}
+use Rattle.std.specs.Prelude.{◌^◌, slice_index, slice_index_or}
+use Rattle.vers_sorted.specs.inside.Sides.{bound}
+use Rattle.vers_sorted.proofs.elias_fano.neighbours.bounds_each.Given as goal
+
+abbrev pub invariant-loop-j : goal.invariant-loop-j
+invariant-loop-j l = (k : ℕ) → k < l.j → (v : ℕ) → slice_index_or l.values (l.from + k) None ≡ Some v → bound l.side v < 2 ^ 64 → slice_index l.asked k ≡ bound l.side v
