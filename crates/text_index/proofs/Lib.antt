@@ -1,10 +1,10 @@
 pub mod Counts
 pub mod Dictionary
+pub mod Ranks
+pub mod Orders
 pub mod Suffixes
 pub mod Building
 pub mod Patterns
-pub mod Orders
-pub mod Spelling
 pub mod Making
 pub mod Stepping
 pub mod Packing

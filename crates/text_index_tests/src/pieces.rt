@@ -94,7 +94,7 @@ fn a_piece_reads_within_its_bound(rt: HostRuntime) {
     match reads_of_pieces(rt.alloc()) {
         Ok((rank_calls, items, low_parts)) => {
             assert!(rt;
-                rank_calls <= (32 + 10) * (2 * 4 * 3) && items <= 32 + 10 && low_parts == 1
+                rank_calls <= (32 + 10) * (4 * 3) && items <= 32 + 10 && low_parts == 1
             );
         }
         Err(_) => assert!(rt; false),

@@ -123,8 +123,8 @@ fn reads_of_one_symbol(
 fn counts_and_places_read_within_their_bounds(rt: HostRuntime) {
     match reads_of_one_symbol(rt.alloc(), 20000) {
         Ok((count, place)) => {
-            assert!(rt; count.0 <= 2 * 5 * 4 * 2 && count.1 <= 2 * 5);
-            assert!(rt; place.0 <= 32 * (1 + 2 * 4 * 2) + 2 && place.1 <= 32 && place.2 == 1);
+            assert!(rt; count.0 <= 5 * 4 * 2 && count.1 <= 2 * 5);
+            assert!(rt; place.0 <= 32 * (1 + 4 * 2) + 2 && place.1 <= 32 && place.2 == 1);
         }
         Err(_) => assert!(rt; false),
     }

@@ -3,7 +3,7 @@ ghost use Rattle.std.specs.Prelude.{◌≡◌, ◌%◌, ◌^◌, ◌<◌, ◌≤
 ghost use Rattle.vers_bits.specs.Bits.{number};
 ghost use Rattle.vers_tally.specs.Reads.{AddsAtMost};
 ghost use Rattle.vers_wavelet.specs.Symbols.{occurrences, BeginsInside};
-ghost use Rattle.vers_wavelet.specs.Reads.{query_reads};
+ghost use Rattle.vers_wavelet.specs.Reads.{walk_reads};
 
 use crate::wavelet::WaveletMatrix;
 use std::alloc::Allocator;
@@ -25,8 +25,8 @@ impl<A: Allocator + Copy> WaveletMatrix<A> {
         self.rank_range_counted(range, symbol, &mut tally)
     }
 
-    /// The same as `rank_range`, by at most `4k` rank calls for symbols of `k` bits, each within
-    /// the reads of one select of a level.
+    /// The same as `rank_range`, by at most two ranks of each level: `2k` rank calls for symbols of `k`
+    /// bits.
     #[inline(always)]
     pub fn rank_range_counted(
         &self,
@@ -38,7 +38,7 @@ impl<A: Allocator + Copy> WaveletMatrix<A> {
             ≡ length (occurrences self.now.items range.start range.end (number symbol.now))) }
         ensures answered { IsSome result ↔ (length symbol.now ≡ self.now.width)
             × BeginsInside range.start range.end self.now.items }
-        ensures adds { AddsAtMost tally.old tally.new (query_reads self.now) }
+        ensures adds { AddsAtMost tally.old tally.new (walk_reads self.now) }
     {
         let len = self.len();
         if symbol.len() != self.bits_per_element()
@@ -77,8 +77,8 @@ impl<A: Allocator + Copy> WaveletMatrix<A> {
         self.rank_offset_counted(offset, end, symbol, &mut tally)
     }
 
-    /// The same as `rank_offset`, by at most `4k` rank calls for symbols of `k` bits, each within
-    /// the reads of one select of a level.
+    /// The same as `rank_offset`, by at most two ranks of each level: `2k` rank calls for symbols of
+    /// `k` bits.
     #[inline(always)]
     pub fn rank_offset_counted(
         &self,
@@ -91,7 +91,7 @@ impl<A: Allocator + Copy> WaveletMatrix<A> {
             ≡ length (occurrences self.now.items offset end (number symbol.now))) }
         ensures answered { IsSome result ↔ (length symbol.now ≡ self.now.width)
             × BeginsInside offset end self.now.items }
-        ensures adds { AddsAtMost tally.old tally.new (query_reads self.now) }
+        ensures adds { AddsAtMost tally.old tally.new (walk_reads self.now) }
     {
         self.rank_range_counted(offset..end, symbol, tally)
     }
@@ -119,15 +119,14 @@ impl<A: Allocator + Copy> WaveletMatrix<A> {
         self.rank_counted(end, symbol, &mut tally)
     }
 
-    /// The same as `rank`, by at most `4k` rank calls for symbols of `k` bits, each within the
-    /// reads of one select of a level.
+    /// The same as `rank`, by at most two ranks of each level: `2k` rank calls for symbols of `k` bits.
     #[inline(always)]
     pub fn rank_counted(&self, end: usize, symbol: &BitVec<A>, tally: &mut Tally) -> Option<usize>
         ensures value { IfSome result (λ n. n
             ≡ length (occurrences self.now.items 0 end (number symbol.now))) }
         ensures answered { IsSome result ↔ (length symbol.now ≡ self.now.width)
             × (end ≤ length self.now.items) }
-        ensures adds { AddsAtMost tally.old tally.new (query_reads self.now) }
+        ensures adds { AddsAtMost tally.old tally.new (walk_reads self.now) }
     {
         if symbol.len() != self.bits_per_element() || end > self.len() {
             return None;
@@ -159,8 +158,8 @@ impl<A: Allocator + Copy> WaveletMatrix<A> {
         self.rank_range_u64_counted(range, symbol, &mut tally)
     }
 
-    /// The same as `rank_range_u64`, by at most `4k` rank calls for symbols of `k` bits, each
-    /// within the reads of one select of a level.
+    /// The same as `rank_range_u64`, by at most two ranks of each level: `2k` rank calls for symbols of
+    /// `k` bits.
     #[inline(always)]
     pub fn rank_range_u64_counted(
         &self,
@@ -173,7 +172,7 @@ impl<A: Allocator + Copy> WaveletMatrix<A> {
             (symbol % 2 ^ self.now.width))) }
         ensures answered { IsSome result ↔ (self.now.width ≤ 64)
             × BeginsInside range.start range.end self.now.items }
-        ensures adds { AddsAtMost tally.old tally.new (query_reads self.now) }
+        ensures adds { AddsAtMost tally.old tally.new (walk_reads self.now) }
     {
         let len = self.len();
         if !self.fits_word() || range.start >= len || range.end > len || range.start > range.end {
@@ -207,8 +206,8 @@ impl<A: Allocator + Copy> WaveletMatrix<A> {
         self.rank_offset_u64_counted(offset, end, symbol, &mut tally)
     }
 
-    /// The same as `rank_offset_u64`, by at most `4k` rank calls for symbols of `k` bits, each
-    /// within the reads of one select of a level.
+    /// The same as `rank_offset_u64`, by at most two ranks of each level: `2k` rank calls for symbols
+    /// of `k` bits.
     #[inline(always)]
     pub fn rank_offset_u64_counted(
         &self,
@@ -220,7 +219,7 @@ impl<A: Allocator + Copy> WaveletMatrix<A> {
         ensures value { IfSome result (λ n. n
             ≡ length (occurrences self.now.items offset end (symbol % 2 ^ self.now.width))) }
         ensures answered { IsSome result ↔ (self.now.width ≤ 64) × BeginsInside offset end self.now.items }
-        ensures adds { AddsAtMost tally.old tally.new (query_reads self.now) }
+        ensures adds { AddsAtMost tally.old tally.new (walk_reads self.now) }
     {
         self.rank_range_u64_counted(offset..end, symbol, tally)
     }
@@ -248,14 +247,14 @@ impl<A: Allocator + Copy> WaveletMatrix<A> {
         self.rank_u64_counted(end, symbol, &mut tally)
     }
 
-    /// The same as `rank_u64`, by at most `4k` rank calls for symbols of `k` bits, each within the
-    /// reads of one select of a level.
+    /// The same as `rank_u64`, by at most two ranks of each level: `2k` rank calls for symbols of `k`
+    /// bits.
     #[inline(always)]
     pub fn rank_u64_counted(&self, end: usize, symbol: u64, tally: &mut Tally) -> Option<usize>
         ensures value { IfSome result (λ n. n
             ≡ length (occurrences self.now.items 0 end (symbol % 2 ^ self.now.width))) }
         ensures answered { IsSome result ↔ (self.now.width ≤ 64) × (end ≤ length self.now.items) }
-        ensures adds { AddsAtMost tally.old tally.new (query_reads self.now) }
+        ensures adds { AddsAtMost tally.old tally.new (walk_reads self.now) }
     {
         if !self.fits_word() || end > self.len() {
             return None;

@@ -1,7 +1,7 @@
 //! The iterators over the symbols: in their order or by size, as numbers or as lists of their bits.
 ghost use Rattle.std.specs.Prelude.{◌≡◌, ◌≤◌, ◌↔◌, Bool, true, false, List, length, IsSome, IfSome};
 ghost use Rattle.vers_wavelet.specs.Symbols.{Symbols, by_size, in_bits, ordered};
-ghost use Rattle.vers_wavelet.specs.Reads.{query_reads};
+ghost use Rattle.vers_wavelet.specs.Reads.{walk_reads};
 
 use crate::wavelet::WaveletMatrix;
 use crate::wavelet::walk::Equals;
@@ -130,7 +130,7 @@ impl<O: Order, M: Matrix> Source for SymbolNumbers<O, M> {
 
     ghost items = { λ symbols. ordered O.by_size symbols.items };
 
-    ghost step = { λ symbols. query_reads symbols };
+    ghost step = { λ symbols. walk_reads symbols };
 
     #[inline]
     fn count_items(&self) -> usize {
@@ -202,7 +202,7 @@ impl<O: Order, M: Matrix> Maker for SymbolLists<O, M> {
 
     ghost items = { λ symbols. in_bits symbols.width (ordered O.by_size symbols.items) };
 
-    ghost step = { λ symbols. query_reads symbols };
+    ghost step = { λ symbols. walk_reads symbols };
 
     #[inline]
     fn count_items(&self) -> usize {
@@ -231,36 +231,36 @@ impl<O: Order, A: Allocator + Copy> OwningMaker for SymbolLists<O, WaveletMatrix
 }
 
 /// An iterator over the symbols as lists of their bits. Each item takes memory, and reads at most
-/// what one query does: `4k` rank calls for symbols of `k` bits.
+/// what one query does: `2k` rank calls for symbols of `k` bits.
 pub type WaveletRefIter<'a, A> = MadeEnds<Lists<&'a WaveletMatrix<A>>>;
 
 /// An iterator over the symbols of a matrix that it owns, as lists of their bits. Each item takes
-/// memory, and reads at most what one query does: `4k` rank calls for symbols of `k` bits.
+/// memory, and reads at most what one query does: `2k` rank calls for symbols of `k` bits.
 pub type WaveletIter<A> = MadeEnds<Lists<WaveletMatrix<A>>>;
 
 /// An iterator over the symbols by size, as lists of their bits. Each item takes memory, and reads
-/// at most what one query does: `4k` rank calls for symbols of `k` bits.
+/// at most what one query does: `2k` rank calls for symbols of `k` bits.
 pub type WaveletSortedRefIter<'a, A> = MadeEnds<SortedLists<&'a WaveletMatrix<A>>>;
 
 /// An iterator over the symbols of a matrix that it owns, by size, as lists of their bits. Each
-/// item takes memory, and reads at most what one query does: `4k` rank calls for symbols of `k`
+/// item takes memory, and reads at most what one query does: `2k` rank calls for symbols of `k`
 /// bits.
 pub type WaveletSortedIter<A> = MadeEnds<SortedLists<WaveletMatrix<A>>>;
 
-/// An iterator over the symbols as numbers. Each step reads at most what one query does: `4k` rank
+/// An iterator over the symbols as numbers. Each step reads at most what one query does: `2k` rank
 /// calls for symbols of `k` bits.
 pub type WaveletNumRefIter<'a, A> = BothEnds<Numbers<&'a WaveletMatrix<A>>>;
 
 /// An iterator over the symbols of a matrix that it owns, as numbers. Each step reads at most what
-/// one query does: `4k` rank calls for symbols of `k` bits.
+/// one query does: `2k` rank calls for symbols of `k` bits.
 pub type WaveletNumIter<A> = BothEnds<Numbers<WaveletMatrix<A>>>;
 
 /// An iterator over the symbols by size, as numbers. Each step reads at most what one query does:
-/// `4k` rank calls for symbols of `k` bits.
+/// `2k` rank calls for symbols of `k` bits.
 pub type WaveletSortedNumRefIter<'a, A> = BothEnds<SortedNumbers<&'a WaveletMatrix<A>>>;
 
 /// An iterator over the symbols of a matrix that it owns, by size, as numbers. Each step reads at
-/// most what one query does: `4k` rank calls for symbols of `k` bits.
+/// most what one query does: `2k` rank calls for symbols of `k` bits.
 pub type WaveletSortedNumIter<A> = BothEnds<SortedNumbers<WaveletMatrix<A>>>;
 
 impl<A: Allocator + Copy> WaveletMatrix<A> {
@@ -268,7 +268,7 @@ impl<A: Allocator + Copy> WaveletMatrix<A> {
     pub fn iter(&self) -> WaveletRefIter<'_, A>
         ensures { result ≡ record {
           left = in_bits self.now.width self.now.items;
-          step = query_reads self.now;
+          step = walk_reads self.now;
         } }
     {
         MadeEnds::new(SymbolLists::new(self))
@@ -278,7 +278,7 @@ impl<A: Allocator + Copy> WaveletMatrix<A> {
     pub fn iter_sorted(&self) -> WaveletSortedRefIter<'_, A>
         ensures { result ≡ record {
           left = in_bits self.now.width (by_size self.now.items);
-          step = query_reads self.now;
+          step = walk_reads self.now;
         } }
     {
         MadeEnds::new(SymbolLists::new(self))
@@ -288,7 +288,7 @@ impl<A: Allocator + Copy> WaveletMatrix<A> {
     pub fn into_iter_sorted(self) -> WaveletSortedIter<A>
         ensures { result ≡ record {
           left = in_bits self.width (by_size self.items);
-          step = query_reads self;
+          step = walk_reads self;
         } }
     {
         MadeEnds::new(SymbolLists::new(self))
@@ -297,7 +297,7 @@ impl<A: Allocator + Copy> WaveletMatrix<A> {
     /// An iterator over the symbols, as numbers. None where they have more than 64 bits.
     pub fn iter_u64(&self) -> Option<WaveletNumRefIter<'_, A>>
         ensures value { IfSome result (λ walk.
-            walk ≡ record { left = self.now.items; step = query_reads self.now }) }
+            walk ≡ record { left = self.now.items; step = walk_reads self.now }) }
         ensures answered { IsSome result ↔ (self.now.width ≤ 64) }
     {
         if !self.fits_word() {
@@ -310,7 +310,7 @@ impl<A: Allocator + Copy> WaveletMatrix<A> {
     /// 64 bits.
     pub fn into_iter_u64(self) -> Option<WaveletNumIter<A>>
         ensures value { IfSome result (λ walk.
-            walk ≡ record { left = self.items; step = query_reads self }) }
+            walk ≡ record { left = self.items; step = walk_reads self }) }
         ensures answered { IsSome result ↔ (self.width ≤ 64) }
     {
         if !self.fits_word() {
@@ -322,7 +322,7 @@ impl<A: Allocator + Copy> WaveletMatrix<A> {
     /// An iterator over the symbols by size, as numbers. None where they have more than 64 bits.
     pub fn iter_sorted_u64(&self) -> Option<WaveletSortedNumRefIter<'_, A>>
         ensures value { IfSome result (λ walk.
-            walk ≡ record { left = by_size self.now.items; step = query_reads self.now }) }
+            walk ≡ record { left = by_size self.now.items; step = walk_reads self.now }) }
         ensures answered { IsSome result ↔ (self.now.width ≤ 64) }
     {
         if !self.fits_word() {
@@ -335,7 +335,7 @@ impl<A: Allocator + Copy> WaveletMatrix<A> {
     /// more than 64 bits.
     pub fn into_iter_sorted_u64(self) -> Option<WaveletSortedNumIter<A>>
         ensures value { IfSome result (λ walk.
-            walk ≡ record { left = by_size self.items; step = query_reads self }) }
+            walk ≡ record { left = by_size self.items; step = walk_reads self }) }
         ensures answered { IsSome result ↔ (self.width ≤ 64) }
     {
         if !self.fits_word() {
@@ -352,7 +352,7 @@ impl<'a, A: Allocator + Copy> IntoIterator for &'a WaveletMatrix<A> {
 
     ghost into_iter_gives = { λ matrix items. items ≡ record {
       left = in_bits matrix.now.width matrix.now.items;
-      step = query_reads matrix.now;
+      step = walk_reads matrix.now;
     } };
 
     fn into_iter(self) -> WaveletRefIter<'a, A> {
@@ -367,7 +367,7 @@ impl<'a, A: Allocator + Copy> IntoIterator for &'a mut WaveletMatrix<A> {
 
     ghost into_iter_gives = { λ matrix items. items ≡ record {
       left = in_bits matrix.now.width matrix.now.items;
-      step = query_reads matrix.now;
+      step = walk_reads matrix.now;
     } };
 
     fn into_iter(self) -> WaveletRefIter<'a, A> {
@@ -382,7 +382,7 @@ impl<A: Allocator + Copy> IntoIterator for WaveletMatrix<A> {
 
     ghost into_iter_gives = { λ matrix items. items ≡ record {
       left = in_bits matrix.width matrix.items;
-      step = query_reads matrix;
+      step = walk_reads matrix;
     } };
 
     /// An iterator over the symbols, as lists of their bits, which owns the matrix.

@@ -1,9 +1,9 @@
 //! The nearest symbols of a range on either side of a symbol.
 ghost use Rattle.std.specs.Prelude.{◌≡◌, ◌≢◌, ◌%◌, ◌^◌, ◌<◌, ◌≤◌, length, option_map, Ok, None, IfSome, IfOk};
 ghost use Rattle.vers_bits.specs.Bits.{number};
-ghost use Rattle.vers_tally.specs.Reads.{AddsAtMost};
+ghost use Rattle.vers_tally.specs.Reads.{AddsAtMost, times};
 ghost use Rattle.vers_wavelet.specs.Symbols.{range_members, greatest_up_to, least_from, as_word};
-ghost use Rattle.vers_wavelet.specs.Reads.{query_reads};
+ghost use Rattle.vers_wavelet.specs.Reads.{walk_reads};
 
 use crate::wavelet::WaveletMatrix;
 use std::alloc::{AllocError, Allocator};
@@ -32,8 +32,8 @@ impl<A: Allocator + Copy> WaveletMatrix<A> {
         self.predecessor_counted(range, symbol, &mut tally)
     }
 
-    /// The same as `predecessor`, by at most `4k` rank calls for symbols of `k` bits, each within
-    /// the reads of one select of a level.
+    /// The same as `predecessor`, by at most four ranks of each level: `4k` rank calls for symbols of
+    /// `k` bits.
     #[inline(always)]
     pub fn predecessor_counted(
         &self,
@@ -48,7 +48,7 @@ impl<A: Allocator + Copy> WaveletMatrix<A> {
         ensures other_width { length symbol.now ≢ self.now.width → result ≡ Ok None }
         ensures past { length self.now.items < range.end → result ≡ Ok None }
         ensures empty { range.end ≤ range.start → result ≡ Ok None }
-        ensures adds { AddsAtMost tally.old tally.new (query_reads self.now) }
+        ensures adds { AddsAtMost tally.old tally.new (times 2 (walk_reads self.now)) }
     {
         if symbol.len() != self.bits_per_element()
             || range.start >= range.end
@@ -82,8 +82,8 @@ impl<A: Allocator + Copy> WaveletMatrix<A> {
         self.successor_counted(range, symbol, &mut tally)
     }
 
-    /// The same as `successor`, by at most `4k` rank calls for symbols of `k` bits, each within the
-    /// reads of one select of a level.
+    /// The same as `successor`, by at most four ranks of each level: `4k` rank calls for symbols of `k`
+    /// bits.
     #[inline(always)]
     pub fn successor_counted(
         &self,
@@ -98,7 +98,7 @@ impl<A: Allocator + Copy> WaveletMatrix<A> {
         ensures other_width { length symbol.now ≢ self.now.width → result ≡ Ok None }
         ensures past { length self.now.items < range.end → result ≡ Ok None }
         ensures empty { range.end ≤ range.start → result ≡ Ok None }
-        ensures adds { AddsAtMost tally.old tally.new (query_reads self.now) }
+        ensures adds { AddsAtMost tally.old tally.new (times 2 (walk_reads self.now)) }
     {
         if symbol.len() != self.bits_per_element()
             || range.start >= range.end
@@ -125,8 +125,8 @@ impl<A: Allocator + Copy> WaveletMatrix<A> {
         self.predecessor_u64_counted(range, symbol, &mut tally)
     }
 
-    /// The same as `predecessor_u64`, by at most `4k` rank calls for symbols of `k` bits, each
-    /// within the reads of one select of a level.
+    /// The same as `predecessor_u64`, by at most four ranks of each level: `4k` rank calls for symbols
+    /// of `k` bits.
     #[inline(always)]
     pub fn predecessor_u64_counted(
         &self,
@@ -137,7 +137,7 @@ impl<A: Allocator + Copy> WaveletMatrix<A> {
         ensures value { result ≡ as_word self.now.width
             (greatest_up_to (range_members self.now.items range.start range.end)
             (symbol % 2 ^ self.now.width)) }
-        ensures adds { AddsAtMost tally.old tally.new (query_reads self.now) }
+        ensures adds { AddsAtMost tally.old tally.new (times 2 (walk_reads self.now)) }
     {
         if !self.fits_word() || range.start > range.end || range.end > self.len() {
             return None;
@@ -161,8 +161,8 @@ impl<A: Allocator + Copy> WaveletMatrix<A> {
         self.successor_u64_counted(range, symbol, &mut tally)
     }
 
-    /// The same as `successor_u64`, by at most `4k` rank calls for symbols of `k` bits, each within
-    /// the reads of one select of a level.
+    /// The same as `successor_u64`, by at most four ranks of each level: `4k` rank calls for symbols of
+    /// `k` bits.
     #[inline(always)]
     pub fn successor_u64_counted(
         &self,
@@ -173,7 +173,7 @@ impl<A: Allocator + Copy> WaveletMatrix<A> {
         ensures value { result ≡ as_word self.now.width
             (least_from (range_members self.now.items range.start range.end)
             (symbol % 2 ^ self.now.width)) }
-        ensures adds { AddsAtMost tally.old tally.new (query_reads self.now) }
+        ensures adds { AddsAtMost tally.old tally.new (times 2 (walk_reads self.now)) }
     {
         if !self.fits_word() || range.start > range.end || range.end > self.len() {
             return None;

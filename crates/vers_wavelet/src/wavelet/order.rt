@@ -3,7 +3,7 @@ ghost use Rattle.std.specs.Prelude.{◌≡◌, ℕ, ◌+◌, ◌-◌, ◌/◌, �
 ghost use Rattle.vers_bits.specs.Bits.{number};
 ghost use Rattle.vers_tally.specs.Reads.{AddsAtMost};
 ghost use Rattle.vers_wavelet.specs.Symbols.{by_size, range_members, kth_by_size, as_word};
-ghost use Rattle.vers_wavelet.specs.Reads.{query_reads};
+ghost use Rattle.vers_wavelet.specs.Reads.{walk_reads};
 
 use crate::wavelet::WaveletMatrix;
 use std::alloc::{AllocError, Allocator};
@@ -26,8 +26,8 @@ impl<A: Allocator + Copy> WaveletMatrix<A> {
         self.quantile_counted(range, i, &mut tally)
     }
 
-    /// The same as `quantile`, by at most `4k` rank calls for symbols of `k` bits, each within the
-    /// reads of one select of a level.
+    /// The same as `quantile`, by at most two ranks of each level: `2k` rank calls for symbols of `k`
+    /// bits.
     #[inline(always)]
     pub fn quantile_counted(
         &self,
@@ -40,7 +40,7 @@ impl<A: Allocator + Copy> WaveletMatrix<A> {
         ensures width { IfOk result (λ o. IfSome o (λ v. length v ≡ self.now.width)) }
         ensures past { length self.now.items < range.end → result ≡ Ok None }
         ensures few { range.end ≤ range.start + i → result ≡ Ok None }
-        ensures adds { AddsAtMost tally.old tally.new (query_reads self.now) }
+        ensures adds { AddsAtMost tally.old tally.new (walk_reads self.now) }
     {
         if range.end > self.len() || range.start >= range.end || i >= range.end - range.start {
             return Ok(None);
@@ -75,8 +75,8 @@ impl<A: Allocator + Copy> WaveletMatrix<A> {
         self.get_sorted_counted(i, &mut tally)
     }
 
-    /// The same as `get_sorted`, by at most `4k` rank calls for symbols of `k` bits, each within
-    /// the reads of one select of a level.
+    /// The same as `get_sorted`, by at most two ranks of each level: `2k` rank calls for symbols of `k`
+    /// bits.
     #[inline(always)]
     pub fn get_sorted_counted(
         &self,
@@ -86,7 +86,7 @@ impl<A: Allocator + Copy> WaveletMatrix<A> {
         ensures value { IfOk result (λ o. option_map number o ≡ kth_by_size self.now.items i) }
         ensures width { IfOk result (λ o. IfSome o (λ v. length v ≡ self.now.width)) }
         ensures past { length self.now.items ≤ i → result ≡ Ok None }
-        ensures adds { AddsAtMost tally.old tally.new (query_reads self.now) }
+        ensures adds { AddsAtMost tally.old tally.new (walk_reads self.now) }
     {
         self.quantile_counted(0..self.len(), i, tally)
     }
@@ -112,8 +112,8 @@ impl<A: Allocator + Copy> WaveletMatrix<A> {
         self.range_min_counted(range, &mut tally)
     }
 
-    /// The same as `range_min`, by at most `4k` rank calls for symbols of `k` bits, each within the
-    /// reads of one select of a level.
+    /// The same as `range_min`, by at most two ranks of each level: `2k` rank calls for symbols of `k`
+    /// bits.
     #[inline(always)]
     pub fn range_min_counted(
         &self,
@@ -125,7 +125,7 @@ impl<A: Allocator + Copy> WaveletMatrix<A> {
         ensures width { IfOk result (λ o. IfSome o (λ v. length v ≡ self.now.width)) }
         ensures past { length self.now.items < range.end → result ≡ Ok None }
         ensures empty { range.end ≤ range.start → result ≡ Ok None }
-        ensures adds { AddsAtMost tally.old tally.new (query_reads self.now) }
+        ensures adds { AddsAtMost tally.old tally.new (walk_reads self.now) }
     {
         self.quantile_counted(range, 0, tally)
     }
@@ -154,8 +154,8 @@ impl<A: Allocator + Copy> WaveletMatrix<A> {
         self.range_max_counted(range, &mut tally)
     }
 
-    /// The same as `range_max`, by at most `4k` rank calls for symbols of `k` bits, each within the
-    /// reads of one select of a level.
+    /// The same as `range_max`, by at most two ranks of each level: `2k` rank calls for symbols of `k`
+    /// bits.
     #[inline(always)]
     pub fn range_max_counted(
         &self,
@@ -168,7 +168,7 @@ impl<A: Allocator + Copy> WaveletMatrix<A> {
         ensures width { IfOk result (λ o. IfSome o (λ v. length v ≡ self.now.width)) }
         ensures past { length self.now.items < range.end → result ≡ Ok None }
         ensures empty { range.end ≤ range.start → result ≡ Ok None }
-        ensures adds { AddsAtMost tally.old tally.new (query_reads self.now) }
+        ensures adds { AddsAtMost tally.old tally.new (walk_reads self.now) }
     {
         if range.start >= range.end {
             return Ok(None);
@@ -204,8 +204,8 @@ impl<A: Allocator + Copy> WaveletMatrix<A> {
         self.range_median_counted(range, &mut tally)
     }
 
-    /// The same as `range_median`, by at most `4k` rank calls for symbols of `k` bits, each within
-    /// the reads of one select of a level.
+    /// The same as `range_median`, by at most two ranks of each level: `2k` rank calls for symbols of
+    /// `k` bits.
     #[inline(always)]
     pub fn range_median_counted(
         &self,
@@ -218,7 +218,7 @@ impl<A: Allocator + Copy> WaveletMatrix<A> {
         ensures width { IfOk result (λ o. IfSome o (λ v. length v ≡ self.now.width)) }
         ensures past { length self.now.items < range.end → result ≡ Ok None }
         ensures empty { range.end ≤ range.start → result ≡ Ok None }
-        ensures adds { AddsAtMost tally.old tally.new (query_reads self.now) }
+        ensures adds { AddsAtMost tally.old tally.new (walk_reads self.now) }
     {
         if range.start >= range.end {
             return Ok(None);
@@ -251,8 +251,8 @@ impl<A: Allocator + Copy> WaveletMatrix<A> {
         self.quantile_u64_counted(range, i, &mut tally)
     }
 
-    /// The same as `quantile_u64`, by at most `4k` rank calls for symbols of `k` bits, each within
-    /// the reads of one select of a level.
+    /// The same as `quantile_u64`, by at most two ranks of each level: `2k` rank calls for symbols of
+    /// `k` bits.
     #[inline(always)]
     pub fn quantile_u64_counted(
         &self,
@@ -262,7 +262,7 @@ impl<A: Allocator + Copy> WaveletMatrix<A> {
     ) -> Option<u64>
         ensures value { result ≡ as_word self.now.width
             (kth_by_size (range_members self.now.items range.start range.end) i) }
-        ensures adds { AddsAtMost tally.old tally.new (query_reads self.now) }
+        ensures adds { AddsAtMost tally.old tally.new (walk_reads self.now) }
     {
         if !self.fits_word()
             || range.end > self.len()
@@ -300,12 +300,12 @@ impl<A: Allocator + Copy> WaveletMatrix<A> {
         self.get_sorted_u64_counted(i, &mut tally)
     }
 
-    /// The same as `get_sorted_u64`, by at most `4k` rank calls for symbols of `k` bits, each
-    /// within the reads of one select of a level.
+    /// The same as `get_sorted_u64`, by at most two ranks of each level: `2k` rank calls for symbols of
+    /// `k` bits.
     #[inline(always)]
     pub fn get_sorted_u64_counted(&self, i: usize, tally: &mut Tally) -> Option<u64>
         ensures value { result ≡ as_word self.now.width (kth_by_size self.now.items i) }
-        ensures adds { AddsAtMost tally.old tally.new (query_reads self.now) }
+        ensures adds { AddsAtMost tally.old tally.new (walk_reads self.now) }
     {
         self.quantile_u64_counted(0..self.len(), i, tally)
     }
@@ -330,13 +330,13 @@ impl<A: Allocator + Copy> WaveletMatrix<A> {
         self.range_min_u64_counted(range, &mut tally)
     }
 
-    /// The same as `range_min_u64`, by at most `4k` rank calls for symbols of `k` bits, each within
-    /// the reads of one select of a level.
+    /// The same as `range_min_u64`, by at most two ranks of each level: `2k` rank calls for symbols of
+    /// `k` bits.
     #[inline(always)]
     pub fn range_min_u64_counted(&self, range: Range<usize>, tally: &mut Tally) -> Option<u64>
         ensures value { result ≡ as_word self.now.width
             (kth_by_size (range_members self.now.items range.start range.end) 0) }
-        ensures adds { AddsAtMost tally.old tally.new (query_reads self.now) }
+        ensures adds { AddsAtMost tally.old tally.new (walk_reads self.now) }
     {
         self.quantile_u64_counted(range, 0, tally)
     }
@@ -363,14 +363,14 @@ impl<A: Allocator + Copy> WaveletMatrix<A> {
         self.range_max_u64_counted(range, &mut tally)
     }
 
-    /// The same as `range_max_u64`, by at most `4k` rank calls for symbols of `k` bits, each within
-    /// the reads of one select of a level.
+    /// The same as `range_max_u64`, by at most two ranks of each level: `2k` rank calls for symbols of
+    /// `k` bits.
     #[inline(always)]
     pub fn range_max_u64_counted(&self, range: Range<usize>, tally: &mut Tally) -> Option<u64>
         ensures value { result ≡ as_word self.now.width
             (kth_by_size (range_members self.now.items range.start range.end)
             (range.end - range.start - 1)) }
-        ensures adds { AddsAtMost tally.old tally.new (query_reads self.now) }
+        ensures adds { AddsAtMost tally.old tally.new (walk_reads self.now) }
     {
         if range.start >= range.end {
             return None;
@@ -403,14 +403,14 @@ impl<A: Allocator + Copy> WaveletMatrix<A> {
         self.range_median_u64_counted(range, &mut tally)
     }
 
-    /// The same as `range_median_u64`, by at most `4k` rank calls for symbols of `k` bits, each
-    /// within the reads of one select of a level.
+    /// The same as `range_median_u64`, by at most two ranks of each level: `2k` rank calls for symbols
+    /// of `k` bits.
     #[inline(always)]
     pub fn range_median_u64_counted(&self, range: Range<usize>, tally: &mut Tally) -> Option<u64>
         ensures value { result ≡ as_word self.now.width
             (kth_by_size (range_members self.now.items range.start range.end)
             ((range.end - 1 - range.start) / 2)) }
-        ensures adds { AddsAtMost tally.old tally.new (query_reads self.now) }
+        ensures adds { AddsAtMost tally.old tally.new (walk_reads self.now) }
     {
         if range.start >= range.end {
             return None;

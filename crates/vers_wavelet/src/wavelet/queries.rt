@@ -1,10 +1,9 @@
 //! Queries of a wavelet matrix for symbols of both kinds.
 ghost use Rattle.std.specs.Prelude.{◌≡◌, ℕ, ◌+◌, ◌-◌, ◌*◌, ◌%◌, ◌^◌, ◌<◌, ◌≤◌, ◌↔◌, length, slice_get, slice_index, slice_index_or, slice_range, count_by, nat_lt, nat_le, Some, None, false, IsTrue, IfOk};
 ghost use Rattle.vers_bits.specs.Bits.{number};
-ghost use Rattle.vers_tally.specs.Reads.{AddsAtMost, no_reads, times};
-ghost use Rattle.vers_rank.specs.Queries.{rank_reads};
+ghost use Rattle.vers_tally.specs.Reads.{AddsAtMost, times};
 ghost use Rattle.vers_wavelet.specs.Symbols.{occurrences, ordered, by_size, range_members, nearest};
-ghost use Rattle.vers_wavelet.specs.Reads.{query_reads};
+ghost use Rattle.vers_wavelet.specs.Reads.{query_reads, walk_reads};
 
 use crate::wavelet::WaveletMatrix;
 use crate::wavelet::digits::{Digits, copy_digits};
@@ -46,7 +45,7 @@ impl<A: Allocator + Copy> WaveletMatrix<A> {
         requires wide { self.now.width ≤ D.width symbol.now }
         ensures value { result ≡ length (occurrences self.now.items start end
             (D.number symbol.now % 2 ^ self.now.width)) }
-        ensures adds { AddsAtMost tally.old tally.new (query_reads self.now) }
+        ensures adds { AddsAtMost tally.old tally.new (walk_reads self.now) }
     {
         let part = narrow(&self.levels, self.len, start, end, symbol, tally);
         part.end - part.start
@@ -98,7 +97,7 @@ impl<A: Allocator + Copy> WaveletMatrix<A> {
         requires wide { self.now.width ≤ D.width answer.old }
         ensures value { D.number answer.new ≡ slice_index self.now.items place }
         ensures same { D.width answer.new ≡ D.width answer.old }
-        ensures adds { AddsAtMost tally.old tally.new (query_reads self.now) }
+        ensures adds { AddsAtMost tally.old tally.new (walk_reads self.now) }
     {
         read_symbol(&self.levels, self.len, place, answer, tally);
     }
@@ -123,7 +122,7 @@ impl<A: Allocator + Copy> WaveletMatrix<A> {
         ensures equals { (j : ℕ) → j < result.count → D.number answer.new
             ≡ slice_index (by_size (slice_range self.now.items start end)) (result.from + j) }
         ensures same { D.width answer.new ≡ D.width answer.old }
-        ensures adds { AddsAtMost tally.old tally.new (times (2 * self.now.width) rank_reads) }
+        ensures adds { AddsAtMost tally.old tally.new (walk_reads self.now) }
     {
         find_kth(&self.levels, self.len, start, end, i, answer, tally)
     }
@@ -145,7 +144,7 @@ impl<A: Allocator + Copy> WaveletMatrix<A> {
         ensures equals { (j : ℕ) → j < result.count → D.number answer.new
             ≡ slice_index (ordered by_size self.now.items) (result.from + j) }
         ensures same { D.width answer.new ≡ D.width answer.old }
-        ensures adds { AddsAtMost tally.old tally.new (query_reads self.now) }
+        ensures adds { AddsAtMost tally.old tally.new (walk_reads self.now) }
     {
         if by_size {
             return self.kth_in(0, self.len(), i, answer, tally);
@@ -173,7 +172,7 @@ impl<A: Allocator + Copy> WaveletMatrix<A> {
             ≡ count_by (λ y. nat_le y (D.number symbol.now % 2 ^ self.now.width))
             (slice_range self.now.items start end) }
         ensures few { result.below + result.equal ≤ end - start }
-        ensures adds { AddsAtMost tally.old tally.new (times (2 * self.now.width) rank_reads) }
+        ensures adds { AddsAtMost tally.old tally.new (walk_reads self.now) }
     {
         let part = narrow(&self.levels, self.len, start, end, symbol, tally);
         Around {
@@ -205,7 +204,7 @@ impl<A: Allocator + Copy> WaveletMatrix<A> {
         ensures none { result ≡ false → nearest is_up (range_members self.now.items start end)
             (D.number symbol.now % 2 ^ self.now.width) ≡ None }
         ensures same { D.width answer.new ≡ D.width answer.old }
-        ensures adds { AddsAtMost tally.old tally.new (query_reads self.now) }
+        ensures adds { AddsAtMost tally.old tally.new (times 2 (walk_reads self.now)) }
     {
         let around = self.count_around(symbol, start, end, tally);
         if around.equal > 0 {

@@ -2,7 +2,7 @@
 ghost use Rattle.std.specs.Prelude.{◌≡◌, ◌<◌, ◌≤◌, ◌↔◌, length, slice_get, slice_index, Some, None, Ok, IsSome, IfSome, IfOk};
 ghost use Rattle.vers_bits.specs.Bits.{number};
 ghost use Rattle.vers_tally.specs.Reads.{AddsAtMost};
-ghost use Rattle.vers_wavelet.specs.Reads.{query_reads};
+ghost use Rattle.vers_wavelet.specs.Reads.{walk_reads};
 
 use crate::wavelet::WaveletMatrix;
 use std::alloc::{AllocError, Allocator};
@@ -22,8 +22,8 @@ impl<A: Allocator + Copy> WaveletMatrix<A> {
         self.get_value_counted(place, &mut tally)
     }
 
-    /// The same as `get_value`, by at most `4k` rank calls for symbols of `k` bits, each within the
-    /// reads of one select of a level.
+    /// The same as `get_value`, by at most two ranks of each level: `2k` rank calls for symbols of `k`
+    /// bits.
     #[inline(always)]
     pub fn get_value_counted(
         &self,
@@ -34,7 +34,7 @@ impl<A: Allocator + Copy> WaveletMatrix<A> {
             (slice_get self.now.items place ≡ Some (number v)) × (length v ≡ self.now.width))) }
         ensures answered { IfOk result (λ o. IsSome o ↔ (place < length self.now.items)) }
         ensures past { length self.now.items ≤ place → result ≡ Ok None }
-        ensures adds { AddsAtMost tally.old tally.new (query_reads self.now) }
+        ensures adds { AddsAtMost tally.old tally.new (walk_reads self.now) }
     {
         if place >= self.len() {
             return Ok(None);
@@ -66,13 +66,13 @@ impl<A: Allocator + Copy> WaveletMatrix<A> {
         self.get_u64_counted(place, &mut tally)
     }
 
-    /// The same as `get_u64`, by at most `4k` rank calls for symbols of `k` bits, each within the
-    /// reads of one select of a level.
+    /// The same as `get_u64`, by at most two ranks of each level: `2k` rank calls for symbols of `k`
+    /// bits.
     #[inline(always)]
     pub fn get_u64_counted(&self, place: usize, tally: &mut Tally) -> Option<u64>
         ensures value { IfSome result (λ x. slice_get self.now.items place ≡ Some x) }
         ensures answered { IsSome result ↔ (self.now.width ≤ 64) × (place < length self.now.items) }
-        ensures adds { AddsAtMost tally.old tally.new (query_reads self.now) }
+        ensures adds { AddsAtMost tally.old tally.new (walk_reads self.now) }
     {
         if !self.fits_word() || place >= self.len() {
             return None;

@@ -2,7 +2,7 @@
 ghost use Rattle.std.specs.Prelude.{◌≡◌, ℕ, ◌+◌, ◌<◌, ◌≤◌, List, Bool, Option, Some, None, length, map, nat_le, slice_get, option_map, IfSome, if◌then◌else◌};
 ghost use Rattle.vers_tally.specs.Reads.{AddsAtMost, times};
 ghost use Rattle.vers_wavelet.specs.Levels.{value, values, HasRoom};
-ghost use Rattle.vers_wavelet.specs.Reads.{query_reads};
+ghost use Rattle.vers_wavelet.specs.Reads.{walk_reads};
 
 use crate::wavelet::WaveletMatrix;
 use crate::wavelet::batch::{Query, ask_each};
@@ -87,7 +87,7 @@ impl<A: Allocator + Copy> WaveletMatrix<A> {
             if nat_le self.now.width 64 then slice_get self.now.items q.place else None)
             queries.old }
         ensures adds { AddsAtMost tally.old tally.new
-            (times (length queries.old) (query_reads self.now)) }
+            (times (length queries.old) (walk_reads self.now)) }
     {
         ask_each(&self.levels, self.len, queries, tally);
     }

@@ -4,7 +4,7 @@ ghost use Rattle.vers_tally.specs.Reads.{AddsAtMost, times};
 ghost use Rattle.vers_wavelet.specs.Batches.{member};
 ghost use Rattle.vers_wavelet.specs.Levels.{values, HasRoom};
 ghost use Rattle.vers_wavelet.specs.Symbols.{by_size};
-ghost use Rattle.vers_wavelet.specs.Reads.{query_reads};
+ghost use Rattle.vers_wavelet.specs.Reads.{walk_reads};
 
 use crate::wavelet::WaveletMatrix;
 use crate::wavelet::batch::{Query, ask_each};
@@ -124,7 +124,7 @@ impl<A: Allocator + Copy> WaveletMatrix<A> {
             then slice_get (by_size (slice_range self.now.items q.start q.end)) q.i
             else None) queries.old }
         ensures adds { AddsAtMost tally.old tally.new
-            (times (length queries.old) (query_reads self.now)) }
+            (times (length queries.old) (walk_reads self.now)) }
     {
         ask_each(&self.levels, self.len, queries, tally);
     }

@@ -3,7 +3,7 @@ ghost use Rattle.std.specs.Prelude.{◌≡◌, ℕ, ◌-◌, ◌%◌, ◌^◌, �
 ghost use Rattle.vers_tally.specs.Reads.{AddsAtMost, times};
 ghost use Rattle.vers_wavelet.specs.Levels.{values, way};
 ghost use Rattle.vers_wavelet.specs.Symbols.{occurrences};
-ghost use Rattle.vers_wavelet.specs.Reads.{query_reads};
+ghost use Rattle.vers_wavelet.specs.Reads.{walk_reads};
 
 use crate::wavelet::WaveletMatrix;
 use crate::wavelet::batch::{Query, ask_each};
@@ -106,7 +106,7 @@ impl<A: Allocator + Copy> WaveletMatrix<A> {
             then Some (length (occurrences self.now.items 0 q.end (q.symbol % 2 ^ self.now.width)))
             else None) queries.old }
         ensures adds { AddsAtMost tally.old tally.new
-            (times (length queries.old) (query_reads self.now)) }
+            (times (length queries.old) (walk_reads self.now)) }
     {
         ask_each(&self.levels, self.len, queries, tally);
     }
