@@ -12,3 +12,4 @@ pub mod Sampling
 pub mod Keeping
 pub mod Ascending
 pub mod Bounds
+pub mod PublicLaws

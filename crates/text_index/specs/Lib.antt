@@ -2,4 +2,5 @@ pub mod Texts
 pub mod Makers
 pub mod Sizes
 pub mod Rows
+pub mod Laws
 pub mod inside
