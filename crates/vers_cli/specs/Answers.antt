@@ -1,35 +1,30 @@
 -- Answer texts: what the program writes for the lines of an input.
-use Rattle.std.specs.Prelude.{ℕ, ◌++◌, List, [], ◌∷◌, Result}
-use Rattle.vers_words.specs.Text.{words_of}
-use Rattle.vers_words.specs.Reply.{reply_text}
+use Rattle.std.specs.Prelude.{ℕ, List, Result}
 use Rattle.vers_engine.specs.declared.engine.RunError.{RunError}
 use Rattle.vers_engine.specs.Answers.{Answering, answers_of, WrittenOf}
+use Rattle.vers_engine.specs.Replies.{Replying, answering_by}
 use Rattle.vers_cli.specs.Name.{name_of}
 use Rattle.vers_cli.specs.Holding.{Holding, Nothing}
 use Rattle.vers_cli.specs.Rules.{reply_to, holding_after_name}
 
--- the answer of a line of these words: nothing where there are no words, else the reply and the end
--- of its line
-unfoldable pub answer_to_words : Holding → List (List ℕ) → List ℕ
-answer_to_words held [] = []
-answer_to_words held (word ∷ arguments) = reply_text (reply_to held (name_of word) arguments) ++ 10 ∷ []
+-- the reply of a line, and what is held after it, by its words
+abbrev pub replies_by_the_rules : Replying Holding
+replies_by_the_rules = record {
+  reply_to = λ held word arguments. reply_to held (name_of word) arguments;
+  holding_after = λ held word arguments. holding_after_name held (name_of word) arguments;
+}
 
--- what is held after a line of these words
-unfoldable pub holding_after_words : Holding → List (List ℕ) → Holding
-holding_after_words held [] = held
-holding_after_words held (word ∷ arguments) = holding_after_name held (name_of word) arguments
+-- the answer of a line, and what is held after it, as the engine takes them
+abbrev pub by_the_rules : Answering Holding
+by_the_rules = answering_by replies_by_the_rules
 
 -- the answer of a line
 abbrev pub answer_to : Holding → List ℕ → List ℕ
-answer_to held line = answer_to_words held (words_of line)
+answer_to held line = by_the_rules.answer_to held line
 
 -- what is held after a line
 abbrev pub holding_after : Holding → List ℕ → Holding
-holding_after held line = holding_after_words held (words_of line)
-
--- both, as the engine takes them
-abbrev pub by_the_rules : Answering Holding
-by_the_rules = record { answer_to = answer_to; holding_after = holding_after }
+holding_after held line = by_the_rules.holding_after held line
 
 -- the answers of the lines in their order, where this is held before them
 abbrev pub answers_to : Holding → List (List ℕ) → List ℕ

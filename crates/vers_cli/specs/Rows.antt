@@ -14,6 +14,7 @@ use Rattle.vers_rmq.specs.Minima.{is_least as costs_least, first_least_of, least
 use Rattle.postings.specs.Posted.{is_among, places_between as places_of_range, cheapest, common}
 use Rattle.vers_words.specs.Text.{number_of, signed_number_of}
 use Rattle.vers_engine.specs.Lines.{lines_of}
+use Rattle.vers_engine.specs.Replies.{answer_to_words, holding_after_words}
 use Rattle.vers_cli.specs.declared.name.Name.TheVariants.{Query}
 use Rattle.vers_cli.specs.declared.name.Query.TheVariants.{Rank1, Tree, Symbols, Forest}
 use Rattle.vers_cli.specs.declared.name.TreeQuery.TheVariants.{Place, Search}
@@ -27,7 +28,7 @@ use Rattle.vers_cli.specs.Name.{name_of}
 use Rattle.vers_cli.specs.Holding.{Holding, Nothing, BitsHeld, SortedHeld, SparseHeld, ValuesHeld, TreeHeld, SymbolsHeld, PostingsHeld}
 use Rattle.vers_cli.specs.ValuesLines.{first_least}
 use Rattle.vers_cli.specs.PostingsLines.{posted_of}
-use Rattle.vers_cli.specs.Answers.{answer_to_words, answer_to, holding_after_words, holding_after, answers_to}
+use Rattle.vers_cli.specs.Answers.{answer_to, holding_after, answers_to}
 
 -- a text with the end of a line
 abbrev ended : List ℕ → List ℕ

@@ -1,5 +1,5 @@
 //! The names of lines.
-ghost use Rattle.std.specs.Prelude.{◌≡◌, map, find, bytes_eq, option_map};
+ghost use Rattle.std.specs.Prelude.{◌≡◌};
 
 use AllQuery::{IterSortedU64, IterU64};
 use ForestQuery::{DfsPostIter, IsAncestor, Level, LevelAncestor, Measure, Relative, Walk};
@@ -18,6 +18,7 @@ use TreeQuery::{Place, Search, Whole};
 use WalkQuery::{Children, RevChildren, SubtreeIter, SubtreePostIter};
 use WholeQuery::{DfsIter, IsBalanced, Root, Size};
 use WithinQuery::{PredecessorU64, QuantileU64, RankRangeU64, SelectOffsetU64, SuccessorU64};
+use vers_words::names::named;
 
 /// The first word of a load line.
 #[derive(Clone, Copy, Drop)]
@@ -299,31 +300,12 @@ pub const NAMES: [(&[u8], Name); 68] = [
 ];
 
 impl Name {
-    ghost use Rattle.vers_cli.specs.Name.{named, name_of};
-
-    // The entry of a table that is written so.
-    fn entry_of<'a>(
-        table: &'a [(&'static [u8], Name)],
-        word: &[u8],
-    ) -> Option<&'a (&'static [u8], Name)>
-        ensures { option_map (λ entry. entry.now) result
-            ≡ find (λ entry. bytes_eq entry.0.now word.now) table.now }
-    {
-        table.iter().find(|entry| entry.0 == word)
-    }
-
-    // The name that a word is in a table of names.
-    fn named(table: &[(&'static [u8], Name)], word: &[u8]) -> Option<Name>
-        ensures { result ≡ named (map (λ entry. (entry.0.now, entry.1)) table.now) word.now }
-    {
-        let (_, name) = Name::entry_of(table, word)?;
-        Some(*name)
-    }
+    ghost use Rattle.vers_cli.specs.Name.{name_of};
 
     /// The name that a word is, unless it is none.
     pub fn of(word: &[u8]) -> Option<Name>
         ensures { result ≡ name_of word.now }
     {
-        Name::named(&NAMES, word)
+        named(&NAMES, word)
     }
 }

@@ -1,18 +1,17 @@
-//! How a line is answered, and what is held after it.
-ghost use Rattle.std.specs.Prelude.{◌≡◌, ◌++◌, ◌∷◌, [], length, take, IfOk, OnOk, IsErr, MatchResult};
+//! How a line is replied to, and what is held after it.
+ghost use Rattle.std.specs.Prelude.{◌≡◌, IfOk, OnOk, IsErr, MatchResult};
 ghost use Rattle.vers_words.specs.Text.{words_in, words_of};
-ghost use Rattle.vers_words.specs.Reply.{plain_reply, reply_text};
-ghost use Rattle.vers_cli.specs.Name.{name_of};
+ghost use Rattle.vers_words.specs.Reply.{plain_reply};
 ghost use Rattle.vers_cli.specs.Holding.{Nothing, holding_of, loaded, kind_of, held_after};
-ghost use Rattle.vers_cli.specs.Rules.{load_reply, reply_to, holding_after_name, line_loaded};
-ghost use Rattle.vers_cli.specs.Answers.{answer_to, holding_after, by_the_rules};
+ghost use Rattle.vers_cli.specs.Rules.{load_reply, line_loaded};
+ghost use Rattle.vers_cli.specs.Answers.{replies_by_the_rules};
 
 use crate::held;
 use crate::held::Held;
 use crate::name::{Load, Name};
 use std::alloc::{AllocError, Allocator};
 use std::marker::Model;
-use vers_engine::Answerer;
+use vers_engine::Replier;
 use vers_words::loading::Loading;
 use vers_words::reply::Reply;
 use vers_words::text::{split_first_word, without_return};
@@ -80,34 +79,6 @@ impl<'a, A: Allocator + Copy> Store<'a, A> {
             put(&mut self.held, Held::Nothing);
         }
     }
-
-    // The reply of a line, by its first word and what stands after it.
-    fn reply(&mut self, word: &[u8], arguments: &[u8]) -> Result<Reply<A>, AllocError>
-        ensures reply { IfOk result (λ reply.
-            plain_reply reply ≡ reply_to self.old (name_of word.now) (words_in arguments.now)) }
-        ensures holds { OnOk result (self.new
-            ≡ holding_after_name self.old (name_of word.now) (words_in arguments.now)) }
-    {
-        match Name::of(word) {
-            None => Ok(Reply::BadLine),
-            Some(Name::Load(load)) => self.load(load, arguments),
-            Some(Name::Query(query)) => self.held.reply(*self.alloc, query, arguments),
-        }
-    }
-
-    // Appends the answer of a line, with its end. A line without words has none. Where memory is
-    // refused a part of it may stand appended.
-    fn append_answer(&mut self, line: &[u8], answers: &mut Vec<u8, A>) -> Result<(), AllocError>
-        ensures answer { OnOk result (answers.new.items
-            ≡ answers.old.items ++ answer_to self.old line.now) }
-        ensures holds { OnOk result (self.new ≡ holding_after self.old line.now) }
-        ensures kept { take (length answers.old.items) answers.new.items ≡ answers.old.items }
-    {
-        let Some((word, arguments)) = split_first_word(without_return(line)) else {
-            return Ok(());
-        };
-        append_line(self.reply(word, arguments)?, answers)
-    }
 }
 
 /// What a line gives that is to be a load line: a store that holds the list that it writes.
@@ -171,29 +142,14 @@ fn accept<H: Drop>(
     }
 }
 
-// Appends a reply with the end of its line. Where memory is refused a part of it may stand appended.
-fn append_line<A: Allocator + Copy>(
-    reply: Reply<A>,
-    answers: &mut Vec<u8, A>,
-) -> Result<(), AllocError>
-    ensures text { OnOk result (answers.new.items
-        ≡ answers.old.items ++ (reply_text (plain_reply reply) ++ 10 ∷ [])) }
-    ensures kept { take (length answers.old.items) answers.new.items ≡ answers.old.items }
-{
-    reply.append_to(answers)?;
-    answers.push(b'\n')?;
-    Ok(())
-}
+impl<A: Allocator + Copy> Replier<A> for Store<'_, A> {
+    ghost replying = { replies_by_the_rules };
 
-impl<A: Allocator + Copy> Answerer<A> for Store<'_, A> {
-    ghost answering = { by_the_rules };
-
-    fn answer(&mut self, line: &[u8], answers: &mut Vec<u8, A>) -> Result<(), AllocError> {
-        let len = answers.len();
-        let result = self.append_answer(line, answers);
-        if result.is_err() {
-            answers.truncate(len);
+    fn reply(&mut self, word: &[u8], arguments: &[u8]) -> Result<Reply<A>, AllocError> {
+        match Name::of(word) {
+            None => Ok(Reply::BadLine),
+            Some(Name::Load(load)) => self.load(load, arguments),
+            Some(Name::Query(query)) => self.held.reply(*self.alloc, query, arguments),
         }
-        result
     }
 }

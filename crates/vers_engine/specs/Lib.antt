@@ -1,5 +1,6 @@
 pub mod Device
 pub mod Lines
 pub mod Answers
+pub mod Replies
 pub mod Rows
 pub mod inside

@@ -1,7 +1,10 @@
 -- Worked rows of the definitions, which compute.
 use Rattle.std.specs.Prelude.{◌≡◌, ℕ, ◌+◌, List, ◌++◌, [], ◌∷◌, codes, length, refl}
+use Rattle.std.specs.Fmt.{digits}
+use Rattle.vers_words.specs.Reply.{Number}
 use Rattle.vers_engine.specs.Lines.{whole_lines, last_part, lines_of}
 use Rattle.vers_engine.specs.Answers.{Answering, answers_of, held_after}
+use Rattle.vers_engine.specs.Replies.{Replying, answer_to_words, holding_after_words, answering_by}
 
 -- a text with the end of a line
 abbrev ended : List ℕ → List ℕ
@@ -29,3 +32,12 @@ answers_of-counting = refl
 
 pub held_after-counting : held_after counting 3 (codes "ab" ∷ [] ∷ codes "c" ∷ []) ≡ 6
 held_after-counting = refl
+
+-- the same as replies: by how many words came before, where the first word of a line counts for none
+abbrev replying : Replying ℕ
+replying = record { reply_to = λ held word arguments. Number held; holding_after = λ held word arguments. held + length arguments }
+
+-- a line without words has no answer
+pub answers_of-replying : answers_of (answering_by replying) 3 (codes "a b c" ∷ codes " " ∷ codes "d" ∷ []) ≡ ended (codes "3") ++ ended (codes "5")
+unfolding answer_to_words holding_after_words digits
+answers_of-replying = refl

@@ -1,5 +1,6 @@
 pub mod Text
 pub mod Arguments
 pub mod Loading
+pub mod Names
 pub mod Reply
 pub mod Rows

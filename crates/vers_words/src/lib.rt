@@ -4,5 +4,6 @@
 
 pub mod arguments;
 pub mod loading;
+pub mod names;
 pub mod reply;
 pub mod text;

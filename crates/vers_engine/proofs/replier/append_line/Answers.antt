@@ -1,6 +1,6 @@
 use Rattle.std.proofs.Common.{◌++◌, ◌∷◌, [], ap, ◌∙◌, append_assoc}
 use Rattle.vers_words.specs.Reply.{plain_reply, reply_text}
-use Rattle.vers_cli.proofs.store.append_line.Goals as goal
+use Rattle.vers_engine.proofs.replier.append_line.Goals as goal
 
 pub returns-clause-text : goal.returns-clause-text
 returns-clause-text g c =

@@ -1,8 +1,7 @@
 -- The names of a table.
 use Rattle.std.proofs.Common.{◌≡◌, ℕ, Bool, true, false, List, [], ◌∷◌, Option, Some, map, find, bytes_eq, option_map, Bor, refl}
 use Rattle.std.specs.Prelude.{if◌then◌else◌}
-use Rattle.vers_cli.specs.declared.name.Name.{Name}
-use Rattle.vers_cli.specs.Name.{named}
+use Rattle.vers_words.specs.Names.{named}
 
 -- one choice, seen in two ways
 chosen : {X Y Z : Type 0} (f : X → Z) (g : Y → Z) (b : Bool) (x : X) (y : Y) (xs : Option X) (ys : Option Y) → f x ≡ g y → option_map f xs ≡ option_map g ys
@@ -10,8 +9,8 @@ chosen : {X Y Z : Type 0} (f : X → Z) (g : Y → Z) (b : Bool) (x : X) (y : Y)
 chosen f g true x y xs ys here there = rw here refl
 chosen f g false x y xs ys here there = there
 
--- the name of the entry that is found
-pub named-entry : (table : List (Bor (List ℕ) × Name)) (word : List ℕ)
+-- what the entry names that is found
+pub named-entry : {N : Type 0} (table : List (Bor (List ℕ) × N)) (word : List ℕ)
     → option_map (λ entry. entry.1) (find (λ entry. bytes_eq entry.0.now word) table) ≡ named (map (λ entry. (entry.0.now, entry.1)) table) word
 named-entry [] word = refl
 named-entry (entry ∷ table) word = chosen (λ e. e.1) (λ e. e.1) (bytes_eq entry.0.now word) entry (entry.0.now, entry.1) _ _ refl (named-entry table word)

@@ -1,8 +1,8 @@
 use Rattle.std.proofs.Common.{◌≡◌, ◌∷◌, [], Result, Ok, Err, OnOk, sym, ap, ◌∙◌, refl}
 use Rattle.std.proofs.lemmas.List.{append-nil}
 use Rattle.vers_words.specs.Text.{words_in, words_of}
-use Rattle.vers_cli.specs.Answers.{answer_to_words, holding_after_words}
-use Rattle.vers_cli.proofs.store.Store.append_answer.Goals as goal
+use Rattle.vers_engine.specs.Replies.{answer_to_words, holding_after_words}
+use Rattle.vers_engine.proofs.replier.append_answer.Goals as goal
 
 -- what holds whatever a call gives
 on_ok : {T E : Type 0} (r : Result T E) (P : Type 0) → P → OnOk r P

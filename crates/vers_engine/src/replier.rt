@@ -1,0 +1,71 @@
+//! What replies to lines, which is asked for the first word of each.
+ghost use Rattle.std.specs.Prelude.{◌≡◌, ◌++◌, ◌∷◌, [], length, take, IfOk, OnOk};
+ghost use Rattle.vers_words.specs.Text.{words_in};
+ghost use Rattle.vers_words.specs.Reply.{plain_reply, reply_text};
+ghost use Rattle.vers_engine.specs.Replies.{Replying, answering_by};
+
+use crate::answerer::Answerer;
+use std::alloc::{AllocError, Allocator};
+use vers_words::reply::Reply;
+use vers_words::text::{split_first_word, without_return};
+
+/// What replies to lines, one after the other. The reply of a line and what replies after it follow from
+/// the line's words and from what replies before it. It answers a line by the text of its reply, and a line
+/// without words by nothing; no impl of `Answerer` is to be written.
+pub trait Replier<A: Allocator + Copy> {
+    // How a line is replied to.
+    ghost replying: { Replying Self };
+
+    /// The reply of a line, by its first word and what stands after it.
+    fn reply(&mut self, word: &[u8], arguments: &[u8]) -> Result<Reply<A>, AllocError>
+        ensures reply { IfOk result (λ reply. plain_reply reply
+            ≡ replying.reply_to self.old word.now (words_in arguments.now)) }
+        ensures holds { OnOk result (self.new
+            ≡ replying.holding_after self.old word.now (words_in arguments.now)) };
+}
+
+impl<A: Allocator + Copy, S: Replier<A>> Answerer<A> for S {
+    ghost answering = { answering_by S.replying };
+
+    fn answer(&mut self, line: &[u8], answers: &mut Vec<u8, A>) -> Result<(), AllocError> {
+        let len = answers.len();
+        let result = append_answer(self, line, answers);
+        if result.is_err() {
+            answers.truncate(len);
+        }
+        result
+    }
+}
+
+// Appends the answer of a line, with its end. A line without words has none. Where memory is refused a
+// part of it may stand appended.
+fn append_answer<A: Allocator + Copy, S: Replier<A>>(
+    replier: &mut S,
+    line: &[u8],
+    answers: &mut Vec<u8, A>,
+) -> Result<(), AllocError>
+    ensures answer { OnOk result (answers.new.items
+        ≡ answers.old.items ++ (answering_by S.replying).answer_to replier.old line.now) }
+    ensures holds { OnOk result (replier.new
+        ≡ (answering_by S.replying).holding_after replier.old line.now) }
+    ensures kept { take (length answers.old.items) answers.new.items ≡ answers.old.items }
+{
+    let Some((word, arguments)) = split_first_word(without_return(line)) else {
+        return Ok(());
+    };
+    append_line(replier.reply(word, arguments)?, answers)
+}
+
+// Appends a reply with the end of its line. Where memory is refused a part of it may stand appended.
+fn append_line<A: Allocator + Copy>(
+    reply: Reply<A>,
+    answers: &mut Vec<u8, A>,
+) -> Result<(), AllocError>
+    ensures text { OnOk result (answers.new.items
+        ≡ answers.old.items ++ (reply_text (plain_reply reply) ++ 10 ∷ [])) }
+    ensures kept { take (length answers.old.items) answers.new.items ≡ answers.old.items }
+{
+    reply.append_to(answers)?;
+    answers.push(b'\n')?;
+    Ok(())
+}
