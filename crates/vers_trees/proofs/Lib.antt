@@ -1,3 +1,4 @@
+pub mod Words
 pub mod grammar
 pub mod kin
 pub mod levels

@@ -1,13 +1,5 @@
 -- The laws that proofs of other crates may cite. A crate above imports this file and no other of this folder.
-use Rattle.std.proofs.Common.{◌≡◌, ℕ, ◌+◌, ◌-◌, ◌*◌, ◌<◌, ◌≤◌, ◌↔◌, Decides, Bool, true, false, List, [], ◌∷◌, ◌++◌, map, length, get_or, Option, Some, None}
-use Rattle.std.specs.Prelude.{slice_get, option_map, Contains}
-use Rattle.vers_bits.specs.Bits.{bit_value}
-use Rattle.vers_trees.specs.Balance.{are_balanced}
-use Rattle.vers_trees.specs.Excess.{enclosing}
-use Rattle.vers_trees.specs.Forest.{Forest, text, pairs, IsBalanced, forest_of}
-use Rattle.vers_trees.specs.Layout.{block_count, node_count}
-use Rattle.vers_trees.specs.Nodes.{nodes, IsNode, parent, depth, level, first_of, last_of, next_of, previous_of}
-use Rattle.vers_trees.specs.LevelWalks.{IsAlongLevel}
+use Rattle.vers_trees.proofs.Words.{◌≡◌, ℕ, ◌+◌, ◌-◌, ◌*◌, ◌<◌, ◌≤◌, ◌↔◌, Decides, Bool, true, false, List, [], ◌∷◌, ◌++◌, map, length, get_or, Option, Some, None, slice_get, option_map, Contains, bit_value, are_balanced, enclosing, Forest, text, pairs, IsBalanced, forest_of, block_count, node_count, nodes, IsNode, parent, depth, level, first_of, last_of, next_of, previous_of, IsAlongLevel, arith, refl, sym, ap, ◌∙◌, take, slice_get_within, length_push, map-append, take_all}
 use Rattle.vers_trees.proofs.kin.Matching as Matching
 use Rattle.vers_trees.proofs.grammar.Balance as Balance
 use Rattle.vers_trees.proofs.grammar.Grammar as Grammar
@@ -75,22 +67,33 @@ levels_are_parts = NodeLaws.levels_are_parts
 
 -- from the first node of the level
 pub walk_begins : {H : Type 0} {place : H → ℕ} {F : Forest} {d : ℕ} {next : Option H} → option_map place next ≡ first_of (level F d) → IsAlongLevel place F d [] next
-walk_begins e = NodeLaws.walk_begins e
+walk_begins e = record { first = refl; then = e }
 
 -- the handle that comes next names a node
 pub walk_meets_nodes : {H : Type 0} {place : H → ℕ} {F : Forest} {d : ℕ} {met : List H} {next : Option H} {v : H} → IsAlongLevel place F d met next → next ≡ Some v → IsNode F (place v)
-walk_meets_nodes h e = NodeLaws.walk_meets_nodes h e
+walk_meets_nodes {place = place} {F = F} {d = d} {met = met} {v = v} h e = (NodeLaws.levels_go_on F d (length met) (place v) (NodeLaws.member_met h e)).0
 
 -- it is met, and the next node of its depth comes next
 pub walk_goes_on : {H : Type 0} {place : H → ℕ} {F : Forest} {d : ℕ} {met all : List H} {next after : Option H} {v : H} → IsAlongLevel place F d met next → next ≡ Some v
     → all ≡ met ++ v ∷ [] → option_map place after ≡ next_of (level F (depth F (place v))) (place v) → IsAlongLevel place F d all after
-walk_goes_on h e a n = NodeLaws.walk_goes_on h e a n
+walk_goes_on {place = place} {F = F} {d = d} {met = met} {all = all} {v = v} h e a n =
+    let m = NodeLaws.member_met h e in
+    let g = NodeLaws.levels_go_on F d (length met) (place v) m in
+    let long : length all ≡ length met + 1 = ap (λ (vs : List _). length vs) a ∙ length_push met v in
+    record {
+      first = ap (map place) a ∙ map-append place met (v ∷ []) ∙ ap (λ (vs : List ℕ). vs ++ place v ∷ []) h.first ∙ sym (NodeLaws.take_next (level F d) (length met) (place v) m) ∙ ap (λ (k : ℕ). take k (level F d)) (sym long);
+      then = n ∙ ap (λ (k : ℕ). next_of (level F k) (place v)) g.1 ∙ g.2 ∙ ap (slice_get (level F d)) (sym long);
+    }
 
 -- fewer are still to be met
 pub walk_comes_nearer : {H : Type 0} {place : H → ℕ} {F : Forest} {d : ℕ} {met all : List H} {next : Option H} {v : H} → IsAlongLevel place F d met next → next ≡ Some v
     → all ≡ met ++ v ∷ [] → length (level F d) - length all < length (level F d) - length met
-walk_comes_nearer h e a = NodeLaws.walk_comes_nearer h e a
+walk_comes_nearer {place = place} {F = F} {d = d} {met = met} {all = all} {v = v} h e a =
+    let inside = slice_get_within (level F d) (length met) (place v) (NodeLaws.member_met h e) in
+    let long : length all ≡ length met + 1 = ap (λ (vs : List _). length vs) a ∙ length_push met v in
+    omega arith
 
 -- where none comes next, all of the level were met
 pub walk_ends : {H : Type 0} {place : H → ℕ} {F : Forest} {d : ℕ} {met : List H} {next : Option H} → IsAlongLevel place F d met next → next ≡ None → map place met ≡ level F d
-walk_ends h e = NodeLaws.walk_ends h e
+walk_ends {place = place} {F = F} {d = d} {met = met} h e =
+    h.first ∙ take_all (length met) (level F d) (NodeLaws.none_past (level F d) (length met) (sym h.then ∙ ap (option_map place) e))

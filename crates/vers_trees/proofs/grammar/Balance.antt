@@ -1,9 +1,5 @@
 -- Parentheses that are balanced, read from the left, and where their nodes open.
-use Rattle.std.proofs.Common.{◌≡◌, ℕ, zero, suc, Bool, true, false, List, [], ◌∷◌, ◌++◌, Decides, Option, Some, None, refl, ap, ◌∙◌, append_assoc}
-use Rattle.std.specs.Option.{unwrap_or}
-use Rattle.std.proofs.lemmas.List.{append-nil}
-use Rattle.vers_trees.specs.Balance.{are_balanced, closes}
-use Rattle.vers_trees.specs.Forest.{Forest, none, tree, text, IsBalanced}
+use Rattle.vers_trees.proofs.Words.{◌≡◌, ℕ, zero, suc, Bool, true, false, List, [], ◌∷◌, ◌++◌, Decides, Option, Some, None, refl, ap, ◌∙◌, append_assoc, unwrap_or, append-nil, are_balanced, closes, Forest, none, tree, text, IsBalanced}
 
 -- a forest written down closes what it opens
 closes-text : (F : Forest) (n : ℕ) (rest : List Bool) → closes n (text F ++ rest) ≡ closes n rest

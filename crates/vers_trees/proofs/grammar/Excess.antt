@@ -1,9 +1,5 @@
 -- Functions to the integers that change by at most one at each step.
-use Rattle.std.proofs.Common.{ℕ, zero, suc, ◌+◌, ◌-◌, ◌<◌, ◌≤◌, ◌≢◌, ℤ, pos, ◌+ℤ◌, ◌-ℤ◌, ◌≤ℤ◌, ◌<ℤ◌, arith, subst, ◌≡◌, Bool, true, false, cond, List, [], ◌∷◌, ◌++◌, length, take, get_or, count_by, negsuc, add-one, zero-add, suc-add, sym, refl, ◌∙◌}
-use Rattle.std.proofs.lemmas.Int.{ints}
-use Rattle.std.proofs.lemmas.List.Sums.{sum_by-cons}
-use Rattle.vers_bits.specs.Bits.{count, is_bit}
-use Rattle.vers_trees.specs.Excess.{excess, bit_step}
+use Rattle.vers_trees.proofs.Words.{ℕ, zero, suc, ◌+◌, ◌-◌, ◌<◌, ◌≤◌, ◌≢◌, ℤ, pos, ◌+ℤ◌, ◌-ℤ◌, ◌≤ℤ◌, ◌<ℤ◌, arith, subst, ◌≡◌, Bool, true, false, cond, List, [], ◌∷◌, ◌++◌, length, take, get_or, count_by, negsuc, add-one, zero-add, suc-add, sym, refl, ◌∙◌, ints, sum_by-cons, count, is_bit, excess, bit_step}
 
 pub record IsWalk (f : ℕ → ℤ) : Type 0 where
   pub up : (i : ℕ) → f (i + 1) ≤ℤ (f i +ℤ pos 1)
@@ -95,8 +91,8 @@ excess-is_walk l = record { up = λ i. (near l i).0; down = λ i. (near l i).1 }
 
     near : (l : List Bool) (i : ℕ) → (excess l (i + 1) ≤ℤ (excess l i +ℤ pos 1)) × (excess l i ≤ℤ (excess l (i + 1) +ℤ pos 1))
     near [] i = let a = excess-nil i in let b = excess-nil (i + 1) in (omega (arith, ints), omega (arith, ints))
-    near (b ∷ l) zero = let e = first_step b l in let s = small b in let s0 = s.0 in let s1 = s.1 in (omega (arith, ints), omega (arith, ints))
-    near (b ∷ l) (suc i) = let e = excess-cons b l i in let r = excess-cons b l (suc i) in let h = rw add-one at (near l i) in let h0 = h.0 in let h1 = h.1 in rw add-one (omega (arith, ints), omega (arith, ints))
+    near (b ∷ l) zero = let e = first_step b l in let s = small b in (omega (arith, ints), omega (arith, ints))
+    near (b ∷ l) (suc i) = let e = excess-cons b l i in let r = excess-cons b l (suc i) in let h = rw add-one at (near l i) in rw add-one (omega (arith, ints), omega (arith, ints))
 
 -- past a one the excess is one more, past a zero one less
 pub excess_after_bit : (l : List Bool) (i : ℕ) (d : Bool) → i < length l → excess l (i + 1) ≡ excess l i +ℤ bit_step (get_or l i d)

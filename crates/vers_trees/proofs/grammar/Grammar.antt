@@ -1,11 +1,7 @@
 -- A list is balanced exactly if its excess is nowhere negative and zero at the end.
-use Rattle.std.proofs.Common.{◌≡◌, ℕ, zero, suc, ◌+◌, ◌≤◌, Bool, true, false, List, [], ◌∷◌, ◌++◌, length, pos, ◌+ℤ◌, ◌≤ℤ◌, arith, append_assoc, subst, sym, refl, ap, ◌∙◌}
-use Rattle.std.proofs.lemmas.Int.{ints}
-use Rattle.std.proofs.lemmas.List.{append-nil}
+use Rattle.vers_trees.proofs.Words.{◌≡◌, ℕ, zero, suc, ◌+◌, ◌≤◌, Bool, true, false, List, [], ◌∷◌, ◌++◌, length, pos, ◌+ℤ◌, ◌≤ℤ◌, arith, append_assoc, subst, sym, refl, ap, ◌∙◌, ints, append-nil, excess, Forest, none, tree, text, IsBalanced, closed, parse, forest_of}
 use Rattle.vers_trees.proofs.grammar.Excess.{excess-zero, excess-open, excess-close}
 use Rattle.vers_trees.proofs.grammar.Paired.{never_negative, total_is_zero}
-use Rattle.vers_trees.specs.Excess.{excess}
-use Rattle.vers_trees.specs.Forest.{Forest, none, tree, text, IsBalanced, closed, parse, forest_of}
 
 -- one forest after another
 abbrev joined : Forest → Forest → Forest
@@ -57,17 +53,17 @@ record Ends (l : List Bool) (d : ℕ) : Type 0 where
 ends_open : (l : List Bool) (d : ℕ) → Ends (true ∷ l) d → Ends l (d + 1)
 ends_open l d h = record {
   above = λ i x. let a = h.above (suc i) (omega arith) in let e = excess-open l i in omega (arith, ints);
-  total = let t = h.total in let e = excess-open l (length l) in omega (arith, ints);
+  total = let e = excess-open l (length l) in omega (arith, ints);
 }
 
 ends_close : (l : List Bool) (d : ℕ) → Ends (false ∷ l) (suc d) → Ends l d
 ends_close l d h = record {
   above = λ i x. let a = h.above (suc i) (omega arith) in let e = excess-close l i in omega (arith, ints);
-  total = let t = h.total in let e = excess-close l (length l) in omega (arith, ints);
+  total = let e = excess-close l (length l) in omega (arith, ints);
 }
 
 parse_reads : (l : List Bool) (d : ℕ) → Ends l d → Reads l d (parse l).0 (parse l).1
-parse_reads [] d h = let t = h.total in let z = excess-zero [] in record { count = omega (arith, ints); back = refl }
+parse_reads [] d h = let z = excess-zero [] in record { count = omega (arith, ints); back = refl }
 parse_reads (true ∷ l) d h = open_reads l d (parse l).0 (parse l).1 (parse_reads l (d + 1) (ends_open l d h))
 parse_reads (false ∷ l) zero h =
     let a = h.above 1 (omega arith) in let e = excess-close l 0 in let z = excess-zero l in absurd (omega (arith, ints))
@@ -75,7 +71,7 @@ parse_reads (false ∷ l) (suc d) h = close_reads l d (parse l).0 (parse l).1 (p
 
 only_forest : (l : List Bool) (F : Forest) (Gs : List Forest) → Reads l 0 F Gs → text F ≡ l
 only_forest l F [] r = sym (append-nil (text F)) ∙ r.back
-only_forest l F (G ∷ Gs) r = let c = r.count in absurd (omega arith)
+only_forest l F (G ∷ Gs) r = absurd (omega arith)
 
 pub balanced_from_excess : (l : List Bool) → excess l (length l) ≡ pos 0 → ((i : ℕ) → i ≤ length l → pos 0 ≤ℤ excess l i) → IsBalanced l
 unfolding forest_of

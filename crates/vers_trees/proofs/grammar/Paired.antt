@@ -1,11 +1,6 @@
 -- The pairs of a forest are the places between which the excess stays above where it began.
-use Rattle.std.proofs.Common.{◌≡◌, ℕ, zero, suc, ◌+◌, ◌-◌, ◌<◌, ◌≤◌, ◌⊎◌, inl, inr, Bool, true, false, List, ◌∷◌, ◌++◌, length, get_or, pos, ◌+ℤ◌, ◌≤ℤ◌, ◌<ℤ◌, arith, add-one, length-append, ⊎_elim, subst, sym, refl, ap, ◌∙◌}
-use Rattle.std.proofs.lemmas.Int.{ints}
-use Rattle.std.proofs.lemmas.Bool.{cases_lt, cases_order}
-use Rattle.std.proofs.lemmas.List.{get_or_append_left, get_or_at, get_or-append-add}
+use Rattle.vers_trees.proofs.Words.{◌≡◌, ℕ, zero, suc, ◌+◌, ◌-◌, ◌<◌, ◌≤◌, ◌⊎◌, inl, inr, Bool, true, false, List, ◌∷◌, ◌++◌, length, get_or, pos, ◌+ℤ◌, ◌≤ℤ◌, ◌<ℤ◌, arith, add-one, length-append, ⊎_elim, subst, sym, refl, ap, ◌∙◌, ints, cases_lt, cases_order, get_or_append_left, get_or_at, get_or-append-add, excess, Forest, none, tree, text}
 use Rattle.vers_trees.proofs.grammar.Excess.{excess-zero, excess-nil, excess-open, excess-close, excess-append_left, excess-append_right, open_from_rise, close_from_fall}
-use Rattle.vers_trees.specs.Excess.{excess}
-use Rattle.vers_trees.specs.Forest.{Forest, none, tree, text}
 
 -- v opens and c closes one tree of the forest
 abbrev pub Paired : Forest → ℕ → ℕ → Type 0
@@ -93,7 +88,6 @@ closes_root X Y = record { after = omega arith; inside = let len = length-tree X
 -- what closes in a list closes where that stands in another, along which the excess goes on as along it
 pub closes_moved : (l m : List Bool) (p x y : ℕ) → p + length m ≤ length l → ((j : ℕ) → j ≤ length m → excess l (p + j) ≡ excess l p +ℤ excess m j) → Closes m x y → Closes l (p + x) (p + y)
 closes_moved l m p x y h at c =
-    let a = c.after in let i = c.inside in let b = c.back in
     let ax = at x (omega arith) in let ay = at (y + 1) (omega arith) in
     record {
       after = omega arith;
@@ -150,7 +144,7 @@ bit_is_paired (tree X Y) bit (suc i) d h b = ⊎_elim
     let r = bit_is_paired X bit i d a (sym (open_in_first X Y i d a) ∙ b) in let m = end_moved bit 1 r.0 r.1 in let e = r.3 in
     (1 + r.0, 1 + r.1, inr (inl (r.0, r.1, omega arith, omega arith, r.2)), omega arith))
     (λ (a : length (text X) < i).
-    let len = length-tree X Y in let k = i - length (text X) - 1 in
+    let len = length-tree X Y in
     let g : length (text X) + suc (i - length (text X) - 1) ≡ i = omega arith in
     let r = bit_is_paired Y bit (i - length (text X) - 1) d (omega arith) (sym (bit_in_rest X Y (i - length (text X) - 1) d) ∙ ap (λ (m : ℕ). get_or (text (tree X Y)) (suc m) d) g ∙ b) in
     let m = end_moved bit (length (text X) + 2) r.0 r.1 in let e = r.3 in
@@ -170,27 +164,17 @@ close_is_paired F c d h b = let r = bit_is_paired F false c d h b in (r.0, subst
 
 -- what closes at v does so at one place, and opens at one place
 pub closes_once : (l : List Bool) (v c d : ℕ) → Closes l v c → Closes l v d → c ≡ d
-closes_once l v c d p q = go (cases_order c d)
-  where
-    go : ((c ≡ d) ⊎ ((c < d) ⊎ (d < c))) → c ≡ d
-    go (inl e) = e
-    go (inr (inl a)) = let x = q.above (c + 1) (let m = p.after in omega arith) (omega arith) in let y = p.back in absurd (omega (arith, ints))
-    go (inr (inr a)) = let x = p.above (d + 1) (let m = q.after in omega arith) (omega arith) in let y = q.back in absurd (omega (arith, ints))
+closes_once l v c d p q = grind (arith, ints)
 
 pub opens_once : (l : List Bool) (v w c : ℕ) → Closes l v c → Closes l w c → v ≡ w
-opens_once l v w c p q = go (cases_order v w)
-  where
-    go : ((v ≡ w) ⊎ ((v < w) ⊎ (w < v))) → v ≡ w
-    go (inl e) = e
-    go (inr (inl a)) = let x = p.above w a (let m = q.after in omega arith) in let y = p.back in let z = q.back in absurd (omega (arith, ints))
-    go (inr (inr a)) = let x = q.above v a (let m = p.after in omega arith) in let y = p.back in let z = q.back in absurd (omega (arith, ints))
+opens_once l v w c p q = grind (arith, ints)
 
 -- an opening place rises, and a closing place falls
 pub closes_rises : (l : List Bool) (v c : ℕ) (d : Bool) → Closes l v c → get_or l v d ≡ true
-closes_rises l v c d p = let a = p.after in let i = p.inside in open_from_rise l v d (omega arith) (p.above (v + 1) (omega arith) (omega arith))
+closes_rises l v c d p = open_from_rise l v d (omega arith) (p.above (v + 1) (omega arith) (omega arith))
 
 pub closes_falls : (l : List Bool) (v c : ℕ) (d : Bool) → Closes l v c → get_or l c d ≡ false
-closes_falls l v c d p = let a = p.after in let i = p.inside in let x = p.above c a (omega arith) in let b = p.back in close_from_fall l c d i (omega (arith, ints))
+closes_falls l v c d p = let a = p.after in let i = p.inside in let x = p.above c a (omega arith) in close_from_fall l c d i (omega (arith, ints))
 
 pub closes_paired : (F : Forest) (v c : ℕ) → Closes (text F) v c → Paired F v c
 closes_paired F v c p =

@@ -1,32 +1,19 @@
 -- The list of a forest's pairs has just the places that open and close a tree.
-use Rattle.std.proofs.Common.{◌≡◌, ℕ, zero, suc, ◌+◌, ◌<◌, ◌⊎◌, inl, inr, List, ◌∷◌, ◌++◌, map, length, get_or, arith, ⊎_elim, sym, refl, ap, ◌∙◌, ◌≤◌, Bool, false, ◌&&◌, cond, [], ltb, count_by, pos, ◌+ℤ◌}
-use Rattle.std.specs.List.{Contains}
-use Rattle.std.proofs.lemmas.List.{get_or-map, length-map}
-use Rattle.std.proofs.lemmas.List.Elements.{Contains-get_or, Contains-append_left, Contains-append_right, Contains-append_cases}
+use Rattle.vers_trees.proofs.Words.{◌≡◌, ℕ, suc, ◌+◌, ◌<◌, ◌⊎◌, inl, inr, List, ◌∷◌, ◌++◌, map, length, get_or, arith, ⊎_elim, sym, refl, ap, ◌∙◌, ◌≤◌, Bool, false, ◌&&◌, cond, [], ltb, count_by, pos, ◌+ℤ◌, Contains, get_or-map, length-map, Contains-get_or, Contains-append_left, Contains-append_right, Contains-append_cases, Forest, none, tree, text, moved, pairs, ints, nat_tests, lt-ltb, le-ltb, and_from, and_left, and_right, sum_by-cons, sum_by-append, excess}
 use Rattle.vers_trees.proofs.grammar.Paired.{Paired, paired_closes, excess_in_first, excess_in_rest}
-use Rattle.vers_trees.specs.Forest.{Forest, none, tree, text, moved, pairs}
-use Rattle.std.proofs.lemmas.Int.{ints}
-use Rattle.std.proofs.lemmas.Bool.Decides.{nat_tests}
-use Rattle.std.proofs.lemmas.Bool.{lt-ltb, le-ltb, and_from, and_left, and_right}
-use Rattle.std.proofs.lemmas.List.Sums.{sum_by-cons, sum_by-append}
 use Rattle.vers_trees.proofs.grammar.Excess.{excess-zero}
-use Rattle.vers_trees.specs.Excess.{excess}
 
 pub contains_first : {X : Type 0} → (x : X) (xs : List X) → Contains (x ∷ xs) x
 contains_first x xs = (0, omega arith, refl)
 
 pub contains_later : {X : Type 0} → (y : X) (xs : List X) (x : X) → Contains xs x → Contains (y ∷ xs) x
-contains_later y xs x c = (suc c.0, let h = c.1 in omega arith, c.2)
+contains_later y xs x c = (suc c.0, omega arith, c.2)
 
 pub contains_cons_cases : {X : Type 0} → (y : X) (xs : List X) (x : X) → Contains (y ∷ xs) x → (y ≡ x) ⊎ Contains xs x
-contains_cons_cases y xs x c = go c.0 c.1 c.2
-  where
-    go : (k : ℕ) → k < length (y ∷ xs) → get_or (y ∷ xs) k x ≡ x → (y ≡ x) ⊎ Contains xs x
-    go zero h e = inl e
-    go (suc k) h e = inr (k, omega arith, e)
+contains_cons_cases y xs x c = grind (arith, ints)
 
 pub contains_map : {X Y : Type 0} → (f : X → Y) (xs : List X) (x : X) → Contains xs x → Contains (map f xs) (f x)
-contains_map f xs x c = (c.0, (let l = length-map xs f in let h = c.1 in omega arith), get_or-map f xs c.0 x (f x) c.1 ∙ ap f c.2)
+contains_map f xs x c = (c.0, (let l = length-map xs f in omega arith), get_or-map f xs c.0 x (f x) c.1 ∙ ap f c.2)
 
 pub contains_map_cases : {X Y : Type 0} → (f : X → Y) (xs : List X) (d : X) (y : Y) → Contains (map f xs) y → (x : X) × Contains xs x × (f x ≡ y)
 contains_map_cases f xs d y c =
@@ -52,7 +39,7 @@ contains_from_paired (tree X Y) v c (inr (inr p)) =
     rw (p.2, p.3) (contains_later (0, length (text X) + 1) (second X Y) (length (text X) + 2 + p.0, length (text X) + 2 + p.1) a)
 
 pub paired_from_contains : (F : Forest) (q : ℕ × ℕ) → Contains (pairs F) q → Paired F q.0 q.1
-paired_from_contains none q h = let l = h.1 in absurd (omega arith)
+paired_from_contains none q h = absurd (omega arith)
 paired_from_contains (tree X Y) q h = go (paired_from_contains X) (paired_from_contains Y) (contains_cons_cases (0, length (text X) + 1) (second X Y) q h)
   where
     first : ((q : ℕ × ℕ) → Contains (pairs X) q → Paired X q.0 q.1) → Contains (map (moved 1) (pairs X)) q → Paired (tree X Y) q.0 q.1
@@ -91,26 +78,15 @@ count_by-map p f (x ∷ xs) =
 -- tests that agree at each element count the same
 pub count_agree : {X : Type 0} → (p q : X → Bool) (xs : List X) → ((x : X) → Contains xs x → p x ≡ q x) → count_by p xs ≡ count_by q xs
 count_agree p q [] h = refl
-count_agree p q (x ∷ xs) h =
-    let ih = count_agree p q xs (λ y c. h y (contains_later x xs y c)) in
-    let e : p x ≡ q x = h x (contains_first x xs) in
-    count_by-cons p x xs ∙ ap (λ (b : Bool). one_if b + count_by p xs) e ∙ ap (λ (n : ℕ). one_if (q x) + n) ih ∙ sym (count_by-cons q x xs)
+count_agree p q (x ∷ xs) h = let ih = count_agree p q xs (λ y c. h y (contains_later x xs y c)) in grind (arith, ints, contains_later, contains_first, count_by-cons)
 
 pub count_none : {X : Type 0} → (p : X → Bool) (xs : List X) → ((x : X) → Contains xs x → p x ≡ false) → count_by p xs ≡ 0
 count_none p [] h = refl
-count_none p (x ∷ xs) h =
-    let ih = count_none p xs (λ y c. h y (contains_later x xs y c)) in
-    let e : one_if (p x) ≡ 0 = ap (λ (b : Bool). one_if b) (h x (contains_first x xs)) in
-    let r = count_by-cons p x xs in omega arith
+count_none p (x ∷ xs) h = let ih = count_none p xs (λ y c. h y (contains_later x xs y c)) in grind (arith, ints, contains_later, contains_first, count_by-cons)
 
 -- a count over the pairs of a tree and what follows it
 pub count_tree : (p : ℕ × ℕ → Bool) (X Y : Forest) → count_by p (pairs (tree X Y)) ≡ one_if (p (0, length (text X) + 1)) + (count_by (λ q. p (moved 1 q)) (pairs X) + count_by (λ q. p (moved (length (text X) + 2) q)) (pairs Y))
-count_tree p X Y =
-    let a = count_by-cons p (0, length (text X) + 1) (second X Y) in
-    let b = count_by-append p (map (moved 1) (pairs X)) (map (moved (length (text X) + 2)) (pairs Y)) in
-    let c = count_by-map p (moved 1) (pairs X) in
-    let d = count_by-map p (moved (length (text X) + 2)) (pairs Y) in
-    omega arith
+count_tree p X Y = grind (arith, ints, count_by-cons, count_by-append, count_by-map)
 
 pub inside_pair : (F : Forest) (q : ℕ × ℕ) → Contains (pairs F) q → (q.0 < q.1) × (q.1 < length (text F))
 inside_pair F q c = let p = paired_closes F q.0 q.1 (paired_from_contains F q c) in (p.after, p.inside)
@@ -134,8 +110,7 @@ abbrev around : ℕ → Forest → ℕ → ℕ → ℕ
 around n F v c = count_by (λ q. strictly_contains (moved n q) (v, c)) (pairs F)
 
 around_moved : (n : ℕ) (F : Forest) (x y v c : ℕ) → v ≡ n + x → c ≡ n + y → around n F v c ≡ count_by (λ q. strictly_contains q (x, y)) (pairs F)
-around_moved n F x y v c e f =
-    count_agree (λ q. strictly_contains (moved n q) (v, c)) (λ q. strictly_contains q (x, y)) (pairs F) (λ q _. both _ _ _ _ (moved_lt n q.0 x v e) (moved_gt n q.1 y c f))
+around_moved n F x y v c e f = grind (arith, ints, count_agree, both, moved_lt, moved_gt)
 
 -- none of the pairs that open at or after v, or close at or before c, is around (v, c)
 around_none : (n : ℕ) (F : Forest) (v c : ℕ) → (v ≤ n) ⊎ (n + length (text F) ≤ c + 1) → around n F v c ≡ 0

@@ -1,14 +1,6 @@
 -- The nodes around a node: its parent, its depth, how many nodes are in its tree, and how many come before it.
-use Rattle.std.proofs.Common.{◌≡◌, ℕ, zero, suc, ◌+◌, ◌<◌, ◌≤◌, Bool, true, false, cond, ◌&&◌, List, [], ◌∷◌, take, ltb, leb, count_by, pos, negsuc, Option, Some, None, arith, ⊎_elim, sym, refl, ap, ◌∙◌, Decides}
-use Rattle.std.specs.List.{last_or}
-use Rattle.std.proofs.lemmas.Bool.{lt-ltb, le-ltb, le-leb}
-use Rattle.std.proofs.lemmas.Bool.Decides.{Decides-ltb, Decides-and, leb_tells}
-use Rattle.std.proofs.lemmas.List.Sums.{length-filter}
-use Rattle.vers_bits.specs.Bits.{count, is_bit, places}
+use Rattle.vers_trees.proofs.Words.{◌≡◌, ℕ, zero, suc, ◌+◌, ◌<◌, ◌≤◌, Bool, true, false, cond, ◌&&◌, List, [], ◌∷◌, take, ltb, leb, count_by, pos, negsuc, Option, Some, None, arith, ⊎_elim, sym, refl, ap, ◌∙◌, Decides, last_or, lt-ltb, le-ltb, le-leb, Decides-ltb, Decides-and, leb_tells, length-filter, count, is_bit, places, excess, last_rise_before, Forest, text, pairs, nodes, closing, is_ancestor, is_proper_ancestor, proper_ancestors, depth, parent, node_index}
 use Rattle.vers_trees.proofs.walks.Lists.{shifted, places-cons}
-use Rattle.vers_trees.specs.Excess.{excess, last_rise_before}
-use Rattle.vers_trees.specs.Forest.{Forest, text, pairs}
-use Rattle.vers_trees.specs.Nodes.{nodes, closing, is_ancestor, is_proper_ancestor, proper_ancestors, depth, parent, node_index}
 use Rattle.vers_trees.proofs.searches.Searches.{before_some, before_none}
 use Rattle.vers_trees.proofs.grammar.Paired.{closes_rises, closes_paired}
 use Rattle.vers_trees.proofs.grammar.Pairs.{paired_from_contains, one_if, count_by-cons, count_by-append, count_by-map, count_agree, count_none, moved_lt, strictly_contains, pairs_around}
@@ -21,7 +13,7 @@ refuted true d n = absurd (n (d.0 refl))
 refuted false d n = refl
 
 pub Decides-leb : (a b : ℕ) → Decides (leb a b) (a ≤ b)
-Decides-leb a b = (λ e. ⊎_elim (λ (h : (leb a b ≡ true) × (a ≤ b)). h.1) (λ (h : (leb a b ≡ false) × (b < a)). let f = h.0 in absurd (cc)) (leb_tells a b), λ h. le-leb a b h)
+Decides-leb a b = (λ e. ⊎_elim (λ (h : (leb a b ≡ true) × (a ≤ b)). h.1) (λ (h : (leb a b ≡ false) × (b < a)). absurd (cc)) (leb_tells a b), λ h. le-leb a b h)
 
 pub proper_decides : (F : Forest) (a v : ℕ) → Decides (is_proper_ancestor F a v) ((a < v) × (closing F v < closing F a))
 unfolding is_proper_ancestor
@@ -36,7 +28,7 @@ ancestor_decides F a v = Decides-and (leb a v) (leb (closing F v) (closing F a))
 pub above_is_around : (F : Forest) (v t a : ℕ) → HasPair F v → IsAbove (text F) v t a → (a < v) × (closing F v < closing F a) × HasPair F a
 above_is_around F v t a h p =
     let q = p.pair in
-    let b = p.before in let r = p.around in let qa = q.after in let qi = q.inside in
+    let b = p.before in
     let e = closes_to F a p.close q in
     let n = nested (text F) a p.close v (closing F v) q h.closes b (omega arith) in
     (b, omega arith, one_pair F a (omega arith) (closes_rises (text F) a p.close false q))
@@ -74,7 +66,7 @@ has_parent F v q h k x y = go (last_rise_before (text F) v (negsuc 0)) refl
   where
     go : (o : Option ℕ) → last_rise_before (text F) v (negsuc 0) ≡ o → (p : ℕ) × (parent F v ≡ Some p) × (q ≤ p)
     go None e =
-        let ha = h.closes.after in let hi = h.closes.inside in
+        let ha = h.closes.after in
         absurd (no_parent (text F) v q (closing F q) (before_none (text F) v (negsuc 0) (omega arith) e) k.closes x (omega arith))
     go (Some p) e =
         let ha = h.closes.after in

@@ -1,13 +1,5 @@
 -- What a tree of balanced parentheses answers, in the words of any tree.
-use Rattle.std.proofs.Common.{◌≡◌, ◌≢◌, ◌↔◌, ℕ, suc, ◌<◌, ◌≤◌, Bool, true, false, List, [], ◌∷◌, length, eqb, Option, Some, None, arith, subst, sym, refl, ap, ◌∙◌}
-use Rattle.std.specs.Prelude.{IsTrue, slice_get, option_map, ◌==◌}
-use Rattle.std.proofs.lemmas.Bool.Decides.{Decides-eqb}
-use Rattle.std.proofs.lemmas.Option.{slice_get-get_or}
-use Rattle.std.proofs.lemmas.List.{get_or_past}
-use Rattle.vers_bits.specs.Bits.{count, places, select}
-use Rattle.vers_bits.proofs.PublicLaws.{length-places}
-use Rattle.vers_trees.specs.Forest.{Forest, none, tree, text, IsBalanced, forest_of}
-use Rattle.vers_trees.specs.Nodes.{nodes, first_of}
+use Rattle.vers_trees.proofs.Words.{◌≡◌, ◌≢◌, ◌↔◌, ℕ, suc, ◌<◌, ◌≤◌, Bool, true, false, List, [], ◌∷◌, length, eqb, Option, Some, None, arith, subst, sym, refl, ap, ◌∙◌, IsTrue, slice_get, option_map, ◌==◌, Decides-eqb, slice_get-get_or, get_or_past, count, places, select, length-places, Forest, none, tree, text, IsBalanced, forest_of, nodes, first_of}
 use Rattle.vers_trees.proofs.grammar.Grammar.{text-forest_of}
 use Rattle.vers_trees.proofs.kin.NodeList.{nodes_are_ones}
 use Rattle.vers_trees.proofs.kin.Around.{refuted}

@@ -1,20 +1,10 @@
 -- Children and siblings: where the nearest of them open.
-use Rattle.std.proofs.Common.{◌≡◌, ℕ, zero, suc, ◌+◌, ◌-◌, ◌<◌, ◌≤◌, ◌≢◌, ◌⊎◌, Bool, true, false, cond, List, [], ◌∷◌, length, get_or, eqb, negsuc, Option, Some, None, arith, ⊎_elim, subst, sym, refl, ap, ◌∙◌, filter, Decides}
-use Rattle.std.specs.List.{Contains, last_or}
-use Rattle.std.specs.Option.{option_eq}
-use Rattle.std.proofs.lemmas.Int.{ints}
-use Rattle.std.proofs.lemmas.Bool.{cases_lt, cases_order}
-use Rattle.std.proofs.lemmas.Bool.Decides.{Decides-like, same_from_decides}
-use Rattle.std.proofs.lemmas.List.{get_or_past}
-use Rattle.std.proofs.Math.Nat.{eq-or-lt_of_le}
-use Rattle.vers_trees.specs.Excess.{last_rise_before}
-use Rattle.vers_trees.specs.Forest.{Forest, text}
-use Rattle.vers_trees.specs.Nodes.{nodes, closing, is_proper_ancestor, parent, nodes_under, children, siblings, first_of, last_of, next_of, previous_of}
+use Rattle.vers_trees.proofs.Words.{◌≡◌, ℕ, zero, suc, ◌+◌, ◌-◌, ◌<◌, ◌≤◌, ◌⊎◌, Bool, true, false, cond, List, [], ◌∷◌, length, get_or, eqb, negsuc, Option, Some, None, arith, ⊎_elim, subst, sym, refl, ap, ◌∙◌, filter, Decides, Contains, last_or, option_eq, ints, cases_lt, Decides-like, same_from_decides, get_or_past, eq-or-lt_of_le, last_rise_before, Forest, text, nodes, closing, is_proper_ancestor, parent, nodes_under, children, siblings, first_of, last_of, next_of, previous_of}
 use Rattle.vers_trees.proofs.searches.Searches.{before_is}
 use Rattle.vers_trees.proofs.grammar.Excess.{excess_after_open, excess_after_close}
-use Rattle.vers_trees.proofs.grammar.Paired.{Closes, paired_closes, close_is_paired, closes_rises, closes_falls, closes_once}
+use Rattle.vers_trees.proofs.grammar.Paired.{Closes, paired_closes, close_is_paired, closes_rises, closes_falls}
 use Rattle.vers_trees.proofs.grammar.Pairs.{contains_first, contains_later}
-use Rattle.vers_trees.proofs.kin.Partners.{before_from_closes, nested, same_around, last_of_siblings, first_of_siblings, first_child_above, last_child_closes, last_child_above}
+use Rattle.vers_trees.proofs.kin.Partners.{before_from_closes, nested, opens_around, same_around, last_of_siblings, first_of_siblings, first_child_above, last_child_closes, last_child_above}
 use Rattle.vers_trees.proofs.kin.NodeList.{HasPair, one_pair, node_pair, closes_to, opens, inside, first_in, no_first_in, last_node, no_last_node, next_in, no_next_in, previous_in, no_previous_in, option_decides}
 use Rattle.vers_trees.proofs.kin.Around.{proper_decides, parent_around, above_parent, has_parent}
 
@@ -28,10 +18,7 @@ under_decides F p w = option_decides (parent F w) p
 -- tests that agree at each element keep the same elements
 pub filter_agree : {X : Type 0} → (p q : X → Bool) (xs : List X) → ((x : X) → Contains xs x → p x ≡ q x) → filter p xs ≡ filter q xs
 filter_agree {X = X} p q [] h = refl
-filter_agree {X = X} p q (x ∷ xs) h =
-    let ih = filter_agree p q xs (λ y c. h y (contains_later x xs y c)) in
-    let e : p x ≡ q x = h x (contains_first x xs) in
-    rw e (ap (λ (ys : List X). cond (q x) (x ∷ ys) ys) ih)
+filter_agree {X = X} p q (x ∷ xs) h = let ih = filter_agree p q xs (λ y c. h y (contains_later x xs y c)) in grind (arith, ints, contains_later, contains_first)
 
 -- a node inside the tree of v has its parent at v or after it, so not the parent of v
 not_beside : (F : Forest) (v w : ℕ) → HasPair F v → HasPair F w → v < w → w ≤ closing F v → parent F w ≡ parent F v → ⊥
@@ -39,7 +26,7 @@ not_beside F v w h k x y e =
     let n = nested (text F) v (closing F v) w (closing F w) h.closes k.closes x y in
     let p = has_parent F w v k h x n in
     let r = parent_around F v p.0 h (sym e ∙ p.1) in
-    let a = p.2 in let b = r.0 in omega arith
+    omega arith
 
 -- the tree that opens right after that of v has the same parent
 same_parent : (F : Forest) (v : ℕ) → HasPair F v → HasPair F (closing F v + 1) → parent F (closing F v + 1) ≡ parent F v
@@ -61,7 +48,7 @@ no_child : (F : Forest) (v w : ℕ) → HasPair F v → get_or (text F) (v + 1) 
 no_child F v w h b k e =
     let up = excess_after_open (text F) v false (omega arith) (opens F v h) in
     let down = excess_after_close (text F) (v + 1) false (omega arith) b in
-    let r = parent_around F w v k e in let r0 = r.0 in let r1 = r.1 in let ka = k.closes.after in
+    let r = parent_around F w v k e in
     let s = h.closes.above (v + 1 + 1) (omega arith) (omega arith) in
     omega (arith, ints)
 
@@ -79,19 +66,16 @@ unfolding nodes_under
 last_child_is_search F v c h s x =
     let m : Closes (text F) v (c + 1) = rw s at h.closes in
     let p = close_is_paired F c false (omega arith) (last_child_closes (text F) v c m x) in
-    let q = paired_closes F p.0 c p.1 in let qa = q.after in
-    let after : v < p.0 = ⊎_elim
-    (λ (e : p.0 ≡ v). let t = closes_once (text F) v c (c + 1) (subst (λ (k : ℕ). Closes (text F) k c) e q) m in absurd (omega arith))
-    (λ (z : (p.0 < v) ⊎ (v < p.0)). ⊎_elim (λ (z : p.0 < v). let t = nested (text F) p.0 c v (c + 1) q m z (omega arith) in absurd (omega arith)) (λ (z : v < p.0). z) z)
-    (cases_order p.0 v) in
+    let q = paired_closes F p.0 c p.1 in
+    let after = opens_around (text F) p.0 c v (c + 1) q m (omega arith) (omega arith) in
     let k = one_pair F p.0 (omega arith) (closes_rises (text F) p.0 c false q) in
     let pc = closes_to F p.0 c q in
     before_is (text F) c (negsuc 0) p.0 (before_from_closes (text F) p.0 c q)
     ∙ sym (last_node F _ _ (under_decides F (Some v)) p.0 k (above_parent F p.0 v k (last_child_above (text F) v c p.0 m q after)) (λ w y kw e.
-    let r = parent_around F w v kw e in let r1 = r.1 in let wa = kw.closes.after in
+    let r = parent_around F w v kw e in
     let n = nested (text F) p.0 (closing F p.0) w (closing F w) k.closes kw.closes y (omega arith) in
-    let g = has_parent F w p.0 kw k y n in let g2 = g.2 in
-    let same : Some g.0 ≡ Some v = sym g.1 ∙ e in let at : g.0 ≡ v = cc in
+    let g = has_parent F w p.0 kw k y n in
+    let at : g.0 ≡ v = cc in
     omega arith))
 
 -- ---- siblings
@@ -103,20 +87,19 @@ next_sibling_found F v h i b =
 
 next_sibling_end : (F : Forest) (v : ℕ) → HasPair F v → length (text F) ≤ closing F v + 1 → next_of (siblings F v) v ≡ None
 unfolding nodes_under
-next_sibling_end F v h i = no_next_in F _ _ (under_decides F (parent F v)) v (λ w y k e. not_beside F v w h k y (let n = inside F w k in omega arith) e)
+next_sibling_end F v h i = no_next_in F _ _ (under_decides F (parent F v)) v (λ w y k e. not_beside F v w h k y (omega arith) e)
 
 -- what a tree's parent closes right after it has no later child
 last_beside : (F : Forest) (v w : ℕ) → HasPair F v → closing F v + 1 < length (text F) → get_or (text F) (closing F v + 1) false ≡ false → HasPair F w → closing F v < w → parent F w ≡ parent F v → ⊥
 last_beside F v w h i b k x e =
     let s = last_of_siblings F v (closing F v) h.closes i b in
     let m = s.1 in let z = s.2 in
-    let q = one_pair F s.0 (let ma = m.after in omega arith) (closes_rises (text F) s.0 (closing F v + 1) false m) in
+    let q = one_pair F s.0 (omega arith) (closes_rises (text F) s.0 (closing F v + 1) false m) in
     let qc = closes_to F s.0 (closing F v + 1) m in
     let g = has_parent F v s.0 h q z (omega arith) in
     let r = parent_around F w g.0 k (e ∙ g.1) in
-    let r1 = r.1 in let ka = k.closes.after in let g2 = g.2 in
-    let p = parent_around F v g.0 h g.1 in let p0 = p.0 in let ha = h.closes.after in
-    let not_one : w ≢ closing F v + 1 = λ t. let o = subst (λ (n : ℕ). get_or (text F) n false ≡ true) t (closes_rises (text F) w (closing F w) false k.closes) in cc in
+    let g2 = g.2 in
+    let p = parent_around F v g.0 h g.1 in
     ⊎_elim
     (λ (t : s.0 ≡ g.0). let c : closing F s.0 ≡ closing F g.0 = ap (closing F) t in omega arith)
     (λ (t : s.0 < g.0). let n = nested (text F) s.0 (closing F v + 1) g.0 (closing F g.0) m r.2.closes t (omega arith) in omega arith)
@@ -141,9 +124,8 @@ previous_sibling_none F v h some b =
 pub previous_sibling_is_search : (F : Forest) (v : ℕ) → HasPair F v → 0 < v → get_or (text F) (v - 1) false ≡ false → last_rise_before (text F) (v - 1) (negsuc 0) ≡ previous_of (siblings F v) v
 unfolding nodes_under
 previous_sibling_is_search F v h some b =
-    let i = inside F v h in
     let p = close_is_paired F (v - 1) false (omega arith) b in
-    let q = paired_closes F p.0 (v - 1) p.1 in let qa = q.after in
+    let q = paired_closes F p.0 (v - 1) p.1 in
     let k = one_pair F p.0 (omega arith) (closes_rises (text F) p.0 (v - 1) false q) in
     let pc = closes_to F p.0 (v - 1) q in
     let at : closing F p.0 + 1 ≡ v = omega arith in
@@ -165,42 +147,14 @@ same_bit (b ∷ l) zero h = refl
 same_bit (b ∷ l) (suc i) h = same_bit l i (omega arith)
 
 pub first_child_is : (F : Forest) (v : ℕ) → HasPair F v → opened_here (text F) (v + 1) ≡ first_of (children F v)
-first_child_is F v h = go (get_or (text F) (v + 1) false) refl
-  where
-    go : (b : Bool) → get_or (text F) (v + 1) false ≡ b → cond b (Some (v + 1)) None ≡ first_of (children F v)
-    go true e = sym (first_child_found F v h e)
-    go false e = sym (first_child_none F v h e)
+first_child_is F v h = grind (arith, ints, first_child_found, first_child_none)
 
 pub next_sibling_is : (F : Forest) (v : ℕ) → HasPair F v → opened_here (text F) (closing F v + 1) ≡ next_of (siblings F v) v
-next_sibling_is F v h = ⊎_elim
-    (λ (i : closing F v + 1 < length (text F)). go i (get_or (text F) (closing F v + 1) false) refl)
-    (λ (i : length (text F) ≤ closing F v + 1). rw (get_or_past (text F) (closing F v + 1) false i) (sym (next_sibling_end F v h i)))
-    (cases_lt (closing F v + 1) (length (text F)))
-  where
-    go : closing F v + 1 < length (text F) → (b : Bool) → get_or (text F) (closing F v + 1) false ≡ b → cond b (Some (closing F v + 1)) None ≡ next_of (siblings F v) v
-    go i true e = sym (next_sibling_found F v h i e)
-    go i false e = sym (next_sibling_none F v h i e)
+next_sibling_is F v h = grind (arith, ints, get_or_past, next_sibling_end, next_sibling_found, next_sibling_none)
 
 pub last_child_is : (F : Forest) (v : ℕ) → HasPair F v → closed_before (text F) (closing F v) ≡ last_of (children F v)
-last_child_is F v h = go (closing F v) refl
-  where
-    go : (k : ℕ) → closing F v ≡ k → closed_before (text F) k ≡ last_of (children F v)
-    go zero e = let a = h.closes.after in absurd (omega arith)
-    go (suc c) e =
-        let a = h.closes.after in let i = h.closes.inside in
-        let m : closing F v ≡ c + 1 = omega arith in
-        ⊎_elim
-        (λ (z : v < c). rw (same_bit (text F) c (omega arith), last_child_closes (text F) v c (rw m at h.closes) z) (last_child_is_search F v c h m z))
-        (λ (z : c ≤ v). let at : v ≡ c = omega arith in let o : get_or (text F) c true ≡ true = rw at at (closes_rises (text F) v (closing F v) true h.closes) in rw o (sym (last_child_none F v h (omega arith))))
-        (cases_lt v c)
+last_child_is F v h = grind (arith, ints, same_bit, last_child_closes, last_child_is_search, closes_rises, last_child_none)
 
 pub previous_sibling_is : (F : Forest) (v : ℕ) → HasPair F v → closed_before (text F) v ≡ previous_of (siblings F v) v
 previous_sibling_is F zero h = sym (previous_sibling_first F)
-previous_sibling_is F (suc u) h = go (get_or (text F) u true) refl
-  where
-    at : suc u - 1 ≡ u
-    at = omega arith
-
-    go : (b : Bool) → get_or (text F) u true ≡ b → cond b None (last_rise_before (text F) u (negsuc 0)) ≡ previous_of (siblings F (suc u)) (suc u)
-    go true e = let i = inside F (suc u) h in sym (previous_sibling_none F (suc u) h (omega arith) (rw at (sym (same_bit (text F) u (omega arith)) ∙ e)))
-    go false e = let i = inside F (suc u) h in ap (λ (k : ℕ). last_rise_before (text F) k (negsuc 0)) (sym at) ∙ previous_sibling_is_search F (suc u) h (omega arith) (rw at (sym (same_bit (text F) u (omega arith)) ∙ e))
+previous_sibling_is F (suc u) h = grind (arith, ints, inside, previous_sibling_none, same_bit, previous_sibling_is_search)

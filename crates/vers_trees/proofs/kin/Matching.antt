@@ -1,15 +1,10 @@
 -- The laws of parentheses.
-use Rattle.std.proofs.Common.{◌≡◌, ℕ, zero, suc, ◌<◌, ◌↔◌, Bool, true, false, List, [], ◌∷◌, length, get_or, ℤ, negsuc, Some, arith, Option, None, sym, ◌∙◌, slice_get}
-use Rattle.std.specs.List.{Contains}
-use Rattle.vers_trees.specs.Excess.{first_rise_after, last_rise_before, enclosing}
-use Rattle.vers_trees.specs.Forest.{Forest, text, pairs}
-use Rattle.vers_trees.specs.Laws.{IsFirstRiseAfter, IsLastRiseBefore}
+use Rattle.vers_trees.proofs.Words.{◌≡◌, ℕ, zero, suc, ◌<◌, ◌↔◌, Bool, true, false, List, [], ◌∷◌, length, get_or, ℤ, negsuc, Some, arith, Option, None, sym, ◌∙◌, slice_get, Contains, first_rise_after, last_rise_before, enclosing, Forest, text, pairs, IsFirstRiseAfter, IsLastRiseBefore, parent}
 use Rattle.vers_trees.proofs.searches.Searches.{after_some, after_is, before_some, before_is, before_none, none_before}
 use Rattle.vers_trees.proofs.grammar.Paired.{paired_closes, closes_paired, open_is_paired, close_is_paired, Closes, closes_rises, closes_falls}
 use Rattle.vers_trees.proofs.grammar.Pairs.{contains_from_paired, paired_from_contains}
 use Rattle.vers_trees.proofs.kin.Partners.{after_from_closes, closes_from_after, before_from_closes, closes_from_before, before_pair, enclose_at_close}
 use Rattle.vers_trees.proofs.grammar.Grammar.{one_forest, text-forest_of}
-use Rattle.vers_trees.specs.Nodes.{parent}
 use Rattle.vers_trees.proofs.kin.Around.{parent_is_search}
 use Rattle.vers_trees.proofs.kin.NodeList.{one_pair}
 use Rattle.vers_trees.proofs.searches.Beside.{enclosing_open, enclosing_close}
@@ -29,7 +24,7 @@ same_bit a b e = cc
 has_bit : (l : List Bool) (i : ℕ) (b : Bool) → slice_get l i ≡ Some b → (i < length l) × (get_or l i false ≡ b)
 has_bit [] i b e = absurd (cc)
 has_bit (x ∷ l) zero b e = (omega arith, same_bit x b e)
-has_bit (x ∷ l) (suc i) b e = let h = has_bit l i b e in let h0 = h.0 in (omega arith, h.1)
+has_bit (x ∷ l) (suc i) b e = let h = has_bit l i b e in (omega arith, h.1)
 
 pub close_pair : (F : Forest) (v c : ℕ) → slice_get (text F) v ≡ Some true → (first_rise_after (text F) v (negsuc 0) ≡ Some c) ↔ Contains (pairs F) (v, c)
 close_pair F v c h = (
@@ -62,7 +57,7 @@ pub ruleset partners = (one_forest, close_pair, open_pair, open_of_close, close_
 -- ---- what encloses a pair of a forest written down, and what the forest of a balanced list writes down
 -- where nothing is found from the opening bracket, nothing is from the closing one
 none_at_close : (l : List Bool) (v c : ℕ) → Closes l v c → last_rise_before l v (negsuc 0) ≡ None → last_rise_before l c (negsuc 1) ≡ None
-none_at_close l v c q n = none_before l c (negsuc 1) (λ k x e. let b = before_pair l v c q k x e in before_none l v (negsuc 0) (let a = q.after in let i = q.inside in omega arith) n k b.0 b.1)
+none_at_close l v c q n = none_before l c (negsuc 1) (λ k x e. let b = before_pair l v c q k x e in before_none l v (negsuc 0) (omega arith) n k b.0 b.1)
 
 found_at_close : (l : List Bool) (v c : ℕ) → Closes l v c → (o : Option ℕ) → last_rise_before l v (negsuc 0) ≡ o → last_rise_before l c (negsuc 1) ≡ o
 found_at_close l v c q None e = none_at_close l v c q e

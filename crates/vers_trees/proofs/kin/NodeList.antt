@@ -1,13 +1,6 @@
 -- The nodes of a forest are the places of the ones that it is written down with.
-use Rattle.std.proofs.Common.{◌≡◌, ℕ, zero, suc, ◌+◌, ◌<◌, Bool, true, false, cond, ◌&&◌, List, [], ◌∷◌, ◌++◌, map, length, get_or, Option, Some, None, eqb, ltb, arith, subst, sym, refl, ap, ◌∙◌, find, filter, slice_get, unwrap_or, option_map, Decides}
-use Rattle.std.specs.Option.{option_eq}
-use Rattle.std.specs.List.{Contains, range_with_len, last_or}
-use Rattle.std.proofs.lemmas.Bool.Decides.{Decides-eqb, Decides-ltb, Decides-and}
-use Rattle.vers_bits.specs.Bits.{is_bit, places}
-use Rattle.vers_trees.specs.Forest.{Forest, none, tree, text, moved, pairs}
-use Rattle.vers_trees.specs.Nodes.{nodes, IsNode, closing, first_of, next_of, previous_of}
-use Rattle.std.proofs.lemmas.List.{map-append}
-use Rattle.vers_trees.proofs.walks.Lists.{shifted, opening_places, opening_moved, places-tree}
+use Rattle.vers_trees.proofs.Words.{◌≡◌, ℕ, zero, suc, ◌+◌, ◌<◌, Bool, true, false, cond, ◌&&◌, List, [], ◌∷◌, map, length, get_or, Option, Some, None, eqb, ltb, arith, subst, sym, refl, ap, ◌∙◌, find, filter, slice_get, unwrap_or, option_map, Decides, option_eq, Contains, range_with_len, last_or, Decides-eqb, Decides-ltb, Decides-and, is_bit, places, Forest, none, tree, text, moved, pairs, nodes, IsNode, closing, first_of, next_of, previous_of, map-append}
+use Rattle.vers_trees.proofs.walks.Lists.{opening_moved, places-tree}
 use Rattle.vers_trees.proofs.searches.Searches.{find_is, none_find, last_is, none_last}
 use Rattle.vers_trees.proofs.grammar.Paired.{Closes, Paired, paired_closes, closes_paired, open_is_paired, closes_once, closes_rises}
 use Rattle.vers_trees.proofs.grammar.Pairs.{contains_first, contains_later, contains_map, contains_map_cases, contains_from_paired, paired_from_contains}
@@ -19,11 +12,7 @@ nodes_are_ones none = refl
 nodes_are_ones (tree X Y) =
     let n = length (text X) + 2 in
     let e : length (text X) + 2 ≡ 1 + length (text X) + 1 = omega arith in
-    ap (λ (xs : List ℕ). 0 ∷ xs) (
-    map-append (λ (p : ℕ × ℕ). p.0) (map (moved 1) (pairs X)) (map (moved n) (pairs Y))
-    ∙ ap (λ (xs : List ℕ). xs ++ opening_places (map (moved n) (pairs Y))) (opening_moved 1 (pairs X) ∙ ap (shifted 1) (nodes_are_ones X))
-    ∙ ap (λ (xs : List ℕ). shifted 1 (places true (text X)) ++ xs) (opening_moved n (pairs Y) ∙ ap (shifted n) (nodes_are_ones Y) ∙ ap (λ (k : ℕ). shifted k (places true (text Y))) e))
-    ∙ sym (places-tree true (text X) (text Y))
+    rw (map-append (λ (p : ℕ × ℕ). p.0) (map (moved 1) (pairs X)) (map (moved n) (pairs Y)), opening_moved 1 (pairs X), opening_moved n (pairs Y), nodes_are_ones X, nodes_are_ones Y, e) (sym (places-tree true (text X) (text Y)))
 
 -- ---- a node and its pair
 pub record HasPair (F : Forest) (v : ℕ) : Type 0 where
@@ -121,7 +110,7 @@ pub opens : (F : Forest) (v : ℕ) → HasPair F v → get_or (text F) v false �
 opens F v h = closes_rises (text F) v (closing F v) false h.closes
 
 pub inside : (F : Forest) (v : ℕ) → HasPair F v → v < length (text F)
-inside F v h = let a = h.closes.after in let i = h.closes.inside in omega arith
+inside F v h = omega arith
 
 -- v is the first, and the last, of the nodes that have P, by a test that decides it
 module _ (F : Forest) (t : ℕ → Bool) (P : ℕ → Type 0) (d : (w : ℕ) → Decides (t w) (P w)) where

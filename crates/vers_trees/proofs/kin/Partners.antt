@@ -1,17 +1,11 @@
 -- From one place of a pair a search for an excess that is one less finds the other.
-use Rattle.std.proofs.Common.{◌≡◌, ℕ, ◌+◌, ◌-◌, ◌<◌, ◌≤◌, ◌≢◌, Bool, true, false, List, get_or, pos, negsuc, ◌+ℤ◌, arith, subst, ◌⊎◌, inl, inr, length, neg_ℤ, ◌<ℤ◌, ⊎_elim, sym, ap, ◌↔◌}
-use Rattle.std.proofs.lemmas.Int.{ints}
+use Rattle.vers_trees.proofs.Words.{◌≡◌, ℕ, ◌+◌, ◌-◌, ◌<◌, ◌≤◌, ◌≢◌, Bool, true, false, List, get_or, pos, negsuc, ◌+ℤ◌, arith, ◌⊎◌, length, neg_ℤ, ◌<ℤ◌, ⊎_elim, sym, ap, ◌↔◌, ints, excess, IsFirstRiseAfter, IsLastRiseBefore, cases_lt, cases_Bool, eq-or-lt_of_le, Forest, text}
 use Rattle.vers_trees.proofs.grammar.Excess.{above_until, above_since, excess-is_walk, excess_after_open, excess_after_close, open_from_rise}
 use Rattle.vers_trees.proofs.grammar.Paired.{Closes, closes_rises, closes_falls, paired_closes, open_is_paired, opens_once, close_is_paired, closes_once}
-use Rattle.vers_trees.specs.Excess.{excess}
-use Rattle.vers_trees.specs.Laws.{IsFirstRiseAfter, IsLastRiseBefore}
-use Rattle.std.proofs.lemmas.Bool.{cases_lt, cases_order, cases_Bool}
-use Rattle.std.proofs.Math.Nat.{eq-or-lt_of_le}
-use Rattle.vers_trees.specs.Forest.{Forest, text}
 
 pub after_from_closes : (l : List Bool) (v c : ℕ) → Closes l v c → IsFirstRiseAfter l v (negsuc 0) c
 after_from_closes l v c p =
-    let a = p.after in let i = p.inside in let b = p.back in
+    let a = p.after in let i = p.inside in
     let r = excess_after_open l v false (omega arith) (closes_rises l v c false p) in
     record {
       after = a;
@@ -22,7 +16,7 @@ after_from_closes l v c p =
 
 pub closes_from_after : (l : List Bool) (v c : ℕ) (d : Bool) → get_or l v d ≡ true → IsFirstRiseAfter l v (negsuc 0) c → Closes l v c
 closes_from_after l v c d o p =
-    let a = p.after in let i = p.inside in let s = p.sum in
+    let a = p.after in let i = p.inside in
     let r = excess_after_open l v d (omega arith) o in
     record {
       after = a;
@@ -33,7 +27,7 @@ closes_from_after l v c d o p =
 
 pub before_from_closes : (l : List Bool) (v c : ℕ) → Closes l v c → IsLastRiseBefore l c (negsuc 0) v
 before_from_closes l v c p =
-    let a = p.after in let i = p.inside in let b = p.back in
+    let a = p.after in let i = p.inside in
     let r = excess_after_close l c true i (closes_falls l v c true p) in
     record {
       before = a;
@@ -44,7 +38,7 @@ before_from_closes l v c p =
 
 pub closes_from_before : (l : List Bool) (v c : ℕ) (d : Bool) → get_or l c d ≡ false → IsLastRiseBefore l c (negsuc 0) v → Closes l v c
 closes_from_before l v c d o p =
-    let a = p.before in let i = p.inside in let s = p.sum in
+    let a = p.before in let i = p.inside in
     let r = excess_after_close l c d i o in
     record {
       after = a;
@@ -56,15 +50,15 @@ closes_from_before l v c d o p =
 -- ---- the pairs around a node, and what a search backwards from it finds
 -- two pairs that overlap are one inside the other
 pub nested : (l : List Bool) (v c w d : ℕ) → Closes l v c → Closes l w d → v < w → w ≤ c → d < c
-nested l v c w d p q a b = go (cases_order d c)
-  where
-    go : ((d ≡ c) ⊎ ((d < c) ⊎ (c < d))) → d < c
-    go (inl e) = let s = opens_once l v w c p (subst (λ (m : ℕ). Closes l w m) e q) in absurd (omega arith)
-    go (inr (inl h)) = h
-    go (inr (inr h)) =
-        let x = q.above (c + 1) (omega arith) (omega arith) in
-        let y = p.above w a b in
-        absurd (omega (arith, ints))
+nested l v c w d p q a b = grind (arith, ints, opens_once, Closes)
+
+-- a pair that opens at or before the end of another and closes past it opens before it
+pub opens_around : (l : List Bool) (v c q e : ℕ) → Closes l v c → Closes l q e → q ≤ c → c < e → q < v
+opens_around l v c q e p m h x = grind (arith, ints, closes_once, Closes, nested)
+
+-- a one at or before the place where a pair closes stands before it
+one_before : (l : List Bool) (v c w : ℕ) → Closes l v c → get_or l w false ≡ true → w ≤ c → w < c
+one_before l v c w p b h = grind (arith, ints, closes_falls, eq-or-lt_of_le)
 
 -- t levels up: what the backward search from a node finds is a pair around it
 pub record IsAbove (l : List Bool) (v t a : ℕ) : Type 0 where
@@ -76,26 +70,19 @@ pub record IsAbove (l : List Bool) (v t a : ℕ) : Type 0 where
 
 pub above_from_before : (F : Forest) (v t a : ℕ) → 0 < t → get_or (text F) v false ≡ true → IsLastRiseBefore (text F) v (neg_ℤ (pos t)) a → IsAbove (text F) v t a
 above_from_before F v t a h o p =
-    let b = p.before in let i = p.inside in let s = p.sum in
+    let b = p.before in
     let sum : excess (text F) a +ℤ pos t ≡ excess (text F) v = omega (arith, ints) in
     let high : (j : ℕ) → a < j → j ≤ v → excess (text F) a <ℤ excess (text F) j =
     λ j x y. above_since (excess (text F)) (excess-is_walk (text F)) (excess (text F) a) j v y (omega (arith, ints)) (λ k g m e. p.last k (omega arith) m (omega (arith, ints))) in
     let bit = open_from_rise (text F) a false (omega arith) (high (a + 1) (omega arith) (omega arith)) in
     let r = open_is_paired F a false (omega arith) bit in
     let q = paired_closes F a r.0 r.1 in
-    let later : v ≤ r.0 = ⊎_elim (λ (x : r.0 < v). let af = q.after in let g = high (r.0 + 1) (omega arith) (omega arith) in let bk = q.back in absurd (omega (arith, ints))) (λ (x : v ≤ r.0). x) (cases_lt r.0 v) in
-    record { before = b; shallower = sum; close = r.0; pair = q; around = ⊎_elim (λ (x : v ≡ r.0). let f = closes_falls (text F) a r.0 false q in let g = subst (λ (m : ℕ). get_or (text F) m false ≡ true) x o in absurd (cc)) (λ (x : v < r.0). x) (eq-or-lt_of_le later) }
+    let later : v ≤ r.0 = ⊎_elim (λ (x : r.0 < v). let g = high (r.0 + 1) (omega arith) (omega arith) in absurd (omega (arith, ints))) (λ (x : v ≤ r.0). x) (cases_lt r.0 v) in
+    record { before = b; shallower = sum; close = r.0; pair = q; around = one_before (text F) a r.0 v q o later }
 
 -- a pair around v opens at or before the parent of v, and where the search finds nothing there is none
 pub parent_is_nearest : (l : List Bool) (v p q e : ℕ) → IsAbove l v 1 p → Closes l q e → q < v → v ≤ e → q ≤ p
-parent_is_nearest l v p q e a c x y = ⊎_elim near (λ (z : q ≤ p). z) (cases_lt p q)
-  where
-    near : p < q → q ≤ p
-    near z =
-        let g = c.above v x y in
-        let s = a.shallower in let m = a.pair in let r = a.around in
-        let h = m.above q z (omega arith) in
-        absurd (omega (arith, ints))
+parent_is_nearest l v p q e a c x y = grind (arith, ints)
 
 pub no_parent : (l : List Bool) (v q e : ℕ) → ((k : ℕ) → k < v → excess l k ≢ excess l v +ℤ negsuc 0) → Closes l q e → q < v → v ≤ e → ⊥
 no_parent l v q e n c x y =
@@ -106,8 +93,7 @@ no_parent l v q e n c x y =
 -- what is two less than before the closing bracket is one less than before the opening one, and before it
 pub before_pair : (l : List Bool) (v c : ℕ) → Closes l v c → (k : ℕ) → k < c → excess l k ≡ excess l c +ℤ negsuc 1 → (k < v) × (excess l k ≡ excess l v +ℤ negsuc 0)
 before_pair l v c q k x e =
-    let r = excess_after_close l c true q.inside (closes_falls l v c true q) in let bk = q.back in
-    let low : excess l k <ℤ excess l v = omega (arith, ints) in (
+    let r = excess_after_close l c true q.inside (closes_falls l v c true q) in (
       ⊎_elim
           (λ (z : k < v). z)
           (λ (z : v ≤ k). ⊎_elim
@@ -121,7 +107,7 @@ before_pair l v c q k x e =
 -- so from the closing bracket two less is found where from the opening one is
 pub enclose_at_close : (l : List Bool) (v c p : ℕ) → Closes l v c → IsLastRiseBefore l v (negsuc 0) p → IsLastRiseBefore l c (negsuc 1) p
 enclose_at_close l v c p q b =
-    let r = excess_after_close l c true q.inside (closes_falls l v c true q) in let bk = q.back in let s = b.sum in let a = q.after in
+    let r = excess_after_close l c true q.inside (closes_falls l v c true q) in
     record { before = omega arith; inside = q.inside; sum = omega (arith, ints); last = λ k x y e. let o = before_pair l v c q k y e in b.last k x o.0 o.1 }
 
 -- ---- what stands beside a tree, and the first and the last tree inside another
@@ -130,31 +116,17 @@ pub same_around : (l : List Bool) (v c d q e : ℕ) → Closes l v c → Closes 
 same_around l v c d q e p n m = (there, back)
   where
     there : (q < v) × (c < e) → (q < c + 1) × (d < e)
-    there h = let x = h.0 in let y = h.1 in let a = p.after in (omega arith, nested l q e (c + 1) d m n (omega arith) (omega arith))
+    there h = let x = h.0 in let y = h.1 in (omega arith, nested l q e (c + 1) d m n (omega arith) (omega arith))
 
     back : (q < c + 1) × (d < e) → (q < v) × (c < e)
-    back h =
-        let x = h.0 in let y = h.1 in let a = p.after in let b = n.after in (
-          ⊎_elim
-              (λ (s : q ≡ v). let t = closes_once l v c e p (subst (λ (k : ℕ). Closes l k e) s m) in absurd (omega arith))
-              (λ (s : (q < v) ⊎ (v < q)). ⊎_elim (λ (z : q < v). z) (λ (z : v < q). let t = nested l v c q e p m z (omega arith) in absurd (omega arith)) s)
-              (cases_order q v),
-          omega arith,
-        )
+    back h = let x = h.0 in let y = h.1 in (opens_around l v c q e p m (omega arith) (omega arith), omega arith)
 
 -- where what follows a tree is a closing bracket, its pair is around the tree and around nothing later
 pub last_of_siblings : (F : Forest) (v c : ℕ) → Closes (text F) v c → c + 1 < length (text F) → get_or (text F) (c + 1) false ≡ false → (q : ℕ) × Closes (text F) q (c + 1) × (q < v)
 last_of_siblings F v c p i b =
     let r = close_is_paired F (c + 1) false i b in
     let m = paired_closes F r.0 (c + 1) r.1 in
-    let a = p.after in let ma = m.after in (
-      r.0,
-      m,
-      ⊎_elim
-          (λ (s : r.0 ≡ v). let t = closes_once (text F) v c (c + 1) p (subst (λ (k : ℕ). Closes (text F) k (c + 1)) s m) in absurd (omega arith))
-          (λ (s : (r.0 < v) ⊎ (v < r.0)). ⊎_elim (λ (z : r.0 < v). z) (λ (z : v < r.0). let t = nested (text F) v c r.0 (c + 1) p m z (omega arith) in absurd (omega arith)) s)
-          (cases_order r.0 v),
-    )
+    (r.0, m, opens_around (text F) v c r.0 (c + 1) p m (omega arith) (omega arith))
 
 -- likewise where what stands before it is an opening one
 pub first_of_siblings : (F : Forest) (v c : ℕ) → Closes (text F) (v + 1) c → get_or (text F) v false ≡ true → IsAbove (text F) (v + 1) 1 v
@@ -167,10 +139,7 @@ first_of_siblings F v c p b =
       shallower = omega (arith, ints);
       close = r.0;
       pair = m;
-      around = ⊎_elim
-          (λ (e : v + 1 ≡ r.0). let f = closes_falls (text F) v r.0 false m in let g = closes_rises (text F) (v + 1) c false p in let h = subst (λ (k : ℕ). get_or (text F) k false ≡ true) e g in absurd (cc))
-          (λ (x : v + 1 < r.0). x)
-          (eq-or-lt_of_le (let g : v + 1 ≤ r.0 = omega arith in g));
+      around = one_before (text F) v r.0 (v + 1) m (closes_rises (text F) (v + 1) c false p) (omega arith);
     }
 
 -- the first child opens right after the node
@@ -182,10 +151,7 @@ first_child_above l v c p b =
       shallower = omega (arith, ints);
       close = c;
       pair = p;
-      around = ⊎_elim
-          (λ (e : v + 1 ≡ c). let f = closes_falls l v c false p in let g = subst (λ (k : ℕ). get_or l k false ≡ true) e b in absurd (cc))
-          (λ (x : v + 1 < c). x)
-          (eq-or-lt_of_le (let g : v + 1 ≤ c = omega arith in g));
+      around = one_before l v c (v + 1) p b (omega arith);
     }
 
 -- a node with a child has a closing bracket before its own, that of its last child

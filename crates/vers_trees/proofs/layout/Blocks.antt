@@ -1,30 +1,21 @@
 -- A block reaches a sum exactly where one of its places has it.
-use Rattle.std.proofs.Common.{◌≡◌, ℕ, zero, suc, ◌+◌, ◌-◌, ◌*◌, ◌<◌, ◌≤◌, ◌↔◌, min, Bool, List, [], ◌∷◌, length, get_or, ℤ, pos, ◌+ℤ◌, ◌-ℤ◌, ◌≤ℤ◌, arith, add-one, ⊎_elim, subst, sym, refl, ap, ◌∙◌, ◌/◌, ◌^◌, inl, inr, drop, FitsSigned, w64}
-use Rattle.std.proofs.lemmas.Int.{ints, by_lt_z}
-use Rattle.std.proofs.lemmas.Bool.{cases_lt}
-use Rattle.vers_trees.specs.declared.trees.bp.min_max.Node.{Node}
-use Rattle.vers_trees.specs.Excess.{excess}
-use Rattle.vers_trees.specs.Forest.{IsBalanced}
-use Rattle.vers_trees.specs.inside.MinMax.{total_before, empty_node, Reaches, IsPart, AreBlocks, IsRange, Meets, AreLeaves, CoveredFrom, IsMinMax}
+use Rattle.vers_trees.proofs.Words.{◌≡◌, ℕ, zero, suc, ◌+◌, ◌-◌, ◌*◌, ◌<◌, ◌≤◌, ◌↔◌, min, Bool, List, [], ◌∷◌, length, get_or, ℤ, pos, ◌+ℤ◌, ◌-ℤ◌, ◌≤ℤ◌, arith, add-one, ⊎_elim, subst, sym, refl, ap, ◌∙◌, ◌/◌, ◌^◌, inl, inr, drop, FitsSigned, w64, ints, by_lt_z, cases_lt, Node, excess, IsBalanced, total_before, empty_node, Reaches, IsPart, AreBlocks, IsRange, Meets, AreLeaves, CoveredFrom, IsMinMax, div-lt_iff_lt-mul, mul-le-mul_right}
 use Rattle.vers_trees.proofs.grammar.Excess.{IsWalk, turned, excess-zero, excess-is_walk}
 use Rattle.vers_trees.proofs.grammar.Grammar.{balanced_from_excess, balanced_total, balanced_above}
-use Rattle.std.proofs.Math.Nat.{div-lt_iff_lt-mul, mul-le-mul_right}
 use Rattle.vers_trees.proofs.searches.Scans.{rise_fits}
 
 -- a walk takes each value between two of its values
 met_upward : (f : ℕ → ℤ) → IsWalk f → (t : ℤ) (a d : ℕ) → f a ≤ℤ t → t ≤ℤ f (a + d) → (j : ℕ) × (a ≤ j) × (j ≤ a + d) × (f j ≡ t)
-met_upward f w t a zero lo hi =
-    let e : f (a + 0) ≡ f a = ap f (let g : a + 0 ≡ a = omega arith in g) in
-    (a, omega arith, omega arith, omega (arith, ints))
+met_upward f w t a zero lo hi = grind (arith, ints)
 met_upward f w t a (suc d) lo hi =
     let s : f (a + suc d) ≤ℤ (f (a + d) +ℤ pos 1) = subst (λ (n : ℕ). f n ≤ℤ (f (a + d) +ℤ pos 1)) (let g : a + d + 1 ≡ a + suc d = omega arith in g) (w.up (a + d)) in
     by_lt_z (f (a + d)) t
     (λ x. (a + suc d, omega arith, omega arith, omega (arith, ints)))
-    (λ x. let r = met_upward f w t a d lo x in let r2 = r.2 in (r.0, r.1, omega arith, r.3))
+    (λ x. let r = met_upward f w t a d lo x in (r.0, r.1, omega arith, r.3))
 
 met_downward : (f : ℕ → ℤ) → IsWalk f → (t : ℤ) (a d : ℕ) → t ≤ℤ f a → f (a + d) ≤ℤ t → (j : ℕ) × (a ≤ j) × (j ≤ a + d) × (f j ≡ t)
 met_downward f w t a d lo hi =
-    let r = met_upward (λ i. pos 0 -ℤ f i) (turned f w) (pos 0 -ℤ t) a d (omega (arith, ints)) (omega (arith, ints)) in let e = r.3 in
+    let r = met_upward (λ i. pos 0 -ℤ f i) (turned f w) (pos 0 -ℤ t) a d (omega (arith, ints)) (omega (arith, ints)) in
     (r.0, r.1, r.2, omega (arith, ints))
 
 part_meets : (l : List Bool) (a b : ℕ) (x : Node) (t : ℤ) → IsPart l a b x → (excess l a +ℤ x.least) ≤ℤ t → t ≤ℤ (excess l a +ℤ x.greatest) → (j : ℕ) × (a < j) × (j ≤ b) × (excess l j ≡ t)
@@ -90,14 +81,14 @@ reaches_iff l size blocks b k t h = (there, back)
   where
     start : total_before blocks k ≡ excess l (k * size)
     start =
-        let p = b.part k h in let i = p.least in let i1 = i.1 in let i2 = i.2 in
+        let p = b.part k h in let i = p.least in
         sum_before_block l size blocks b k (omega arith) ∙ ap (excess l) (omega arith)
 
     there : Reaches blocks k t → (j : ℕ) × (k * size < j) × (j ≤ min (k * size + size) (length l)) × (excess l j ≡ t)
     there r = let lo = r.low in let hi = r.high in part_meets l (k * size) (min (k * size + size) (length l)) (get_or blocks k empty_node) t (b.part k h) (omega (arith, ints, start)) (omega (arith, ints, start))
 
     back : (j : ℕ) × (k * size < j) × (j ≤ min (k * size + size) (length l)) × (excess l j ≡ t) → Reaches blocks k t
-    back j = let p = b.part k h in let lo = p.low j.0 j.1 j.2 in let hi = p.high j.0 j.1 j.2 in let e = j.3 in record { inside = h; low = omega (arith, ints, start); high = omega (arith, ints, start) }
+    back j = let p = b.part k h in let lo = p.low j.0 j.1 j.2 in let hi = p.high j.0 j.1 j.2 in record { inside = h; low = omega (arith, ints, start); high = omega (arith, ints, start) }
 
 -- the node over the whole list tells whether it is balanced
 pub balanced_iff_root : (l : List Bool) (x : Node) → IsPart l 0 (length l) x → IsBalanced l ↔ ((x.total ≡ pos 0) × (pos 0 ≤ℤ x.least))
@@ -106,12 +97,12 @@ balanced_iff_root l x p = (there, back)
     there : IsBalanced l → (x.total ≡ pos 0) × (pos 0 ≤ℤ x.least)
     there b =
         let z = excess-zero l in let t = p.total in let s = balanced_total l b in
-        let i = p.least in let a = balanced_above l b i.0 i.2 in let e = i.3 in
+        let i = p.least in let a = balanced_above l b i.0 i.2 in
         (omega (arith, ints), omega (arith, ints))
 
     back : (x.total ≡ pos 0) × (pos 0 ≤ℤ x.least) → IsBalanced l
     back h =
-        let z = excess-zero l in let t = p.total in let h0 = h.0 in let h1 = h.1 in
+        let z = excess-zero l in let t = p.total in let h1 = h.1 in
         balanced_from_excess l (omega (arith, ints)) (λ i b. above i b)
       where
         above : (i : ℕ) → i ≤ length l → pos 0 ≤ℤ excess l i
@@ -133,7 +124,7 @@ sum_place l size blocks b s = ⊎_elim
 met_place : (l : List Bool) (size : ℕ) (blocks : List Node) → AreBlocks l size blocks → (k : ℕ) (t : ℤ) → k < length blocks → Meets blocks k t → (i : ℕ) × (i ≤ length l) × (excess l i ≡ t)
 met_place l size blocks b k t h (inl z) = let p = sum_place l size blocks b k in (p.0, p.1, sym p.2 ∙ z)
 met_place l size blocks b k t h (inr w) =
-    let j = (reaches_iff l size blocks b k t h).0 w in let j2 = j.2 in
+    let j = (reaches_iff l size blocks b k t h).0 w in
     (j.0, omega arith, j.3)
 
 near_sum : (l : List Bool) (size : ℕ) (blocks : List Node) → AreBlocks l size blocks → length l < 2 ^ 63 → (s k : ℕ) (t : ℤ) → k < length blocks → Meets blocks k t → FitsSigned w64 (t -ℤ total_before blocks s)
@@ -143,7 +134,7 @@ near_sum l size blocks b short s k t h m =
 
 block_range : (l : List Bool) (size : ℕ) (blocks : List Node) → AreBlocks l size blocks → (k : ℕ) → k < length blocks → IsRange (get_or blocks k empty_node)
 block_range l size blocks b k h =
-    let p = b.part k h in let i = p.least in let i1 = i.1 in let i2 = i.2 in
+    let p = b.part k h in let i = p.least in
     part_range l (k * size) (min (k * size + size) (length l)) _ (omega arith) p
 
 pub leaves_of : (l : List Bool) (size : ℕ) (blocks : List Node) → AreBlocks l size blocks → length l < 2 ^ 63 → AreLeaves blocks
@@ -167,34 +158,29 @@ pub block_of : (p size : ℕ) → 0 < size → (p / size * size ≤ p) × (p < p
 block_of p size so = (omega arith, omega arith)
 
 pub block_inside : (l : List Bool) (size : ℕ) (blocks : List Node) → AreBlocks l size blocks → (p : ℕ) → p < length l → p / size < length blocks
-block_inside l size blocks b p h = let so = b.some in let en = b.enough in (div-lt_iff_lt-mul so).1 (omega arith)
+block_inside l size blocks b p h = let so = b.some in (div-lt_iff_lt-mul so).1 (omega arith)
 
 pub div_up : (a p size : ℕ) → 0 < size → a * size ≤ p → a ≤ p / size
-div_up a p size so h = ⊎_elim
-    (λ (x : p / size < a).
-    let m : (p / size + 1) * size ≤ a * size = mul-le-mul_right size (omega arith) in
-    let o = (block_of p size so).1 in absurd (omega arith))
-    (λ (x : a ≤ p / size). x)
-    (cases_lt (p / size) a)
+div_up a p size so h = grind (arith, ints, mul-le-mul_right, block_of)
 
 pub div_below : (a p size : ℕ) → 0 < size → p < a * size → p / size < a
 div_below a p size so h = (div-lt_iff_lt-mul so).1 h
 
 pub start_is : (l : List Bool) (size : ℕ) (blocks : List Node) → AreBlocks l size blocks → (k : ℕ) → k < length blocks → (total_before blocks k ≡ excess l (k * size)) × (k * size < length l)
 start_is l size blocks b k h =
-    let p = b.part k h in let i = p.least in let i1 = i.1 in let i2 = i.2 in
+    let p = b.part k h in let i = p.least in
     (sum_before_block l size blocks b k (omega arith) ∙ ap (excess l) (omega arith), omega arith)
 
 -- the block of a place reaches the sum after it
 pub reached_at : (l : List Bool) (size : ℕ) (blocks : List Node) → AreBlocks l size blocks → (p : ℕ) → p < length l → Reaches blocks (p / size) (excess l (p + 1))
 reached_at l size blocks b p h =
-    let o = block_of p size b.some in let o0 = o.0 in let o1 = o.1 in
+    let o = block_of p size b.some in
     (reaches_iff l size blocks b (p / size) (excess l (p + 1)) (block_inside l size blocks b p h)).1 (p + 1, omega arith, omega arith, refl)
 
 -- and meets the sum before it
 pub met_at : (l : List Bool) (size : ℕ) (blocks : List Node) → AreBlocks l size blocks → (p : ℕ) → p < length l → Meets blocks (p / size) (excess l p)
 met_at l size blocks b p h =
-    let o = block_of p size b.some in let o0 = o.0 in let o1 = o.1 in
+    let o = block_of p size b.some in
     let s = start_is l size blocks b (p / size) (block_inside l size blocks b p h) in
     ⊎_elim
     (λ (x : p / size * size < p). inr ((reaches_iff l size blocks b (p / size) (excess l p) (block_inside l size blocks b p h)).1 (p, x, omega arith, refl)))

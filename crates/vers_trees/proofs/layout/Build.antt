@@ -1,17 +1,8 @@
 -- Building a tree of excesses from its leaves up to its root.
-use Rattle.std.proofs.Common.{◌≡◌, ℕ, ◌+◌, ◌-◌, ◌*◌, ◌/◌, ◌^◌, ◌<◌, ◌≤◌, ◌≢◌, ◌⊎◌, inl, inr, Bool, List, [], ◌∷◌, length, get_or, set, drop, ℤ, ◌+ℤ◌, ◌-ℤ◌, ◌≤ℤ◌, ◌<ℤ◌, arith, ⊎_elim, subst, sym, refl, ap, ◌∙◌, FitsSigned, ◌↔◌, w64}
-use Rattle.std.proofs.lemmas.Int.{ints, clamps}
-use Rattle.std.proofs.lemmas.Bool.{cases_lt}
-use Rattle.std.proofs.lemmas.List.{get_or_past, get_or-set_same, get_or-set_other, get_or-drop, drop-set-lt}
-use Rattle.std.proofs.Math.Nat.{eq-or-lt_of_le, div-lt_iff_lt-mul}
+use Rattle.vers_trees.proofs.Words.{◌≡◌, ℕ, ◌+◌, ◌-◌, ◌*◌, ◌/◌, ◌^◌, ◌<◌, ◌≤◌, ◌≢◌, ◌⊎◌, inl, inr, Bool, List, [], ◌∷◌, length, get_or, set, drop, ℤ, ◌+ℤ◌, ◌-ℤ◌, ◌≤ℤ◌, ◌<ℤ◌, arith, ⊎_elim, subst, sym, refl, ap, ◌∙◌, FitsSigned, ◌↔◌, w64, ints, clamps, cases_lt, get_or_past, get_or-set_same, get_or-set_other, get_or-drop, drop-set-lt, eq-or-lt_of_le, div-lt_iff_lt-mul, Node, excess, combined, CoveredFrom, AreLeaves, JoinFits, total_before, empty_node, Reaches, Covers, StandsOver, IsPart, AreBlocks, IsRange, IsLevel, IsBalanced, IsIndexed}
 use Rattle.vers_trees.proofs.grammar.Excess.{excess-zero}
-use Rattle.vers_trees.specs.declared.trees.bp.min_max.Node.{Node}
-use Rattle.vers_trees.specs.Excess.{excess}
-use Rattle.vers_trees.specs.inside.MinMax.{combined, CoveredFrom, AreLeaves, JoinFits, total_before, empty_node, Reaches, Covers, StandsOver, IsPart, AreBlocks, IsRange, IsLevel}
 use Rattle.vers_trees.proofs.layout.MinMax.{covers_combined, HasChildren, stands_children, stands_every, leaf_stands, root}
 use Rattle.vers_trees.proofs.layout.Blocks.{total_more, total_past, total_all, total_start, reaches_iff, sum_before_block, balanced_iff_root}
-use Rattle.vers_trees.specs.Forest.{IsBalanced}
-use Rattle.vers_trees.specs.inside.Index.{IsIndexed}
 
 -- a leaf covers its block, and one past the blocks nothing
 covers_leaf : (blocks : List Node) → ((k : ℕ) → k < length blocks → IsRange (get_or blocks k empty_node)) → (s : ℕ) → Covers blocks s (s + 1) (get_or blocks s empty_node)
@@ -41,7 +32,7 @@ covers_leaf blocks r s = ⊎_elim inside outside (cases_lt s (length blocks))
 pub covered_leaves : (first : ℕ) (nodes : List Node) → ((k : ℕ) → k < length (drop first nodes) → IsRange (get_or (drop first nodes) k empty_node)) → CoveredFrom first nodes first
 covered_leaves first nodes r m s e h p =
     let l = leaf_stands first m s e p h in
-    let s0 = l.0 in let e0 = l.1 in
+    let e0 = l.1 in
     let place : first + s ≡ m = omega arith in
     let same : get_or (drop first nodes) s empty_node ≡ get_or nodes m empty_node = get_or-drop first nodes s empty_node ∙ ap (λ (n : ℕ). get_or nodes n empty_node) place in
     subst (λ (x : Node). Covers (drop first nodes) s e x) same (subst (λ (n : ℕ). Covers (drop first nodes) s n (get_or (drop first nodes) s empty_node)) (sym e0) (covers_leaf (drop first nodes) r s))
@@ -82,7 +73,7 @@ root_is_part l size blocks e x b some le c = record {
 
     place : (j : ℕ) → 0 < j → j ≤ length l → (k : ℕ) × (k < length blocks) × Reaches blocks k (excess l j)
     place j u v =
-        let so = b.some in let en = b.enough in
+        let so = b.some in
         let k : ℕ = (j - 1) / size in
         let in' : (j - 1) / size < length blocks = (div-lt_iff_lt-mul so).1 (omega arith) in
         ((j - 1) / size, in', (reaches_iff l size blocks b ((j - 1) / size) (excess l j) in').1 (j, below j u size so, omega (arith, above j u size so), refl))
@@ -113,7 +104,7 @@ children_fit blocks s m e x y a sm p q = record { total = λ h. fit y.total (low
     fit : (z : ℤ) → y.least ≤ℤ z → z ≤ℤ y.greatest → FitsSigned w64 (x.total +ℤ z)
     fit z lo hi =
         let f = q.found (total_before blocks m +ℤ z) (omega (arith, ints)) (omega (arith, ints)) in
-        let g = a.small s f.0 (total_before blocks m +ℤ z) (let f1 = f.1 in omega arith) f.3 in
+        let g = a.small s f.0 (total_before blocks m +ℤ z) (omega arith) f.3 in
         let e : total_before blocks m +ℤ z -ℤ total_before blocks s ≡ x.total +ℤ z = omega (arith, ints) in
         subst (FitsSigned w64) e g
 
@@ -159,7 +150,7 @@ code_step first h nodes i x y r lv a b n c ex ey both alone =
     let c' = subst (CoveredFrom first nodes) (let g : i ≡ i - 1 + 1 = omega arith in g) c in
     let p = pair_at first h nodes (i - 1) x y lv (omega arith) c' ex ey in
     let e : r ≡ combined x y = ⊎_elim
-    (λ (s : IsRange y). let u = s.low in let v = s.high in both (omega (arith, ints)))
+    (λ (s : IsRange y). both (omega (arith, ints)))
     (λ (n : y ≡ empty_node). alone (rw n (omega (arith, ints))) ∙ sym (alone_shape x p.left.shape) ∙ ap (combined x) (sym n))
     p.right.shape in
     rw (e, ex, ey) (covered_step first nodes (i - 1) (omega arith) (omega arith) c')

@@ -1,10 +1,5 @@
 -- The excess of a list of parentheses that is built.
-use Rattle.std.proofs.Common.{◌≡◌, ℕ, ◌+◌, ◌<◌, ◌≤◌, Bool, List, [], ◌∷◌, ◌++◌, length, get_or, ℤ, pos, ◌+ℤ◌, FitsSigned, to_z, of_z, false, arith, length-append, sym, refl, ap, ◌∙◌, w64}
-use Rattle.std.proofs.lemmas.Int.{ints, to_z-of_z}
-use Rattle.std.proofs.lemmas.List.{get_or_at}
-use Rattle.vers_trees.specs.Excess.{excess, bit_step}
-use Rattle.vers_trees.specs.Forest.{Forest, text, IsBalanced, forest_of}
-use Rattle.vers_trees.specs.inside.Index.{IsBuilding}
+use Rattle.vers_trees.proofs.Words.{◌≡◌, ℕ, ◌+◌, ◌<◌, ◌≤◌, Bool, List, [], ◌∷◌, ◌++◌, length, get_or, ℤ, pos, ◌+ℤ◌, FitsSigned, to_z, of_z, false, arith, length-append, sym, refl, ap, ◌∙◌, w64, ints, to_z-of_z, get_or_at, excess, bit_step, Forest, text, IsBalanced, forest_of, IsBuilding}
 use Rattle.vers_trees.proofs.grammar.Excess.{excess-zero, excess-append_left, excess_after_bit}
 use Rattle.vers_trees.proofs.grammar.Grammar.{forest_of-text}
 use Rattle.vers_trees.proofs.searches.Scans.{rise_fits, step_fits}
@@ -20,20 +15,13 @@ pub nothing_built : (size : ℕ) (l : List Bool) → l ≡ [] → 0 < size → s
 nothing_built size l e so b = rw e (record { short = omega arith; some = so; bounded = b; sum = excess-zero [] })
 
 pub one_more_built : (size : ℕ) (l : List Bool) (b : Bool) (total : ℤ) → IsBuilding size l total → length l < 9223372036854775807 → IsBuilding size (l ++ b ∷ []) (total +ℤ bit_step b)
-one_more_built size l b total h room =
-    let long = length-append l (b ∷ []) in
-    record {
-      short = omega arith;
-      some = h.some;
-      bounded = h.bounded;
-      sum = ap (excess (l ++ b ∷ [])) (let g : length (l ++ b ∷ []) ≡ length l + 1 = omega arith in g) ∙ excess_more l b ∙ ap (λ (z : ℤ). z +ℤ bit_step b) h.sum;
-    }
+one_more_built size l b total h room = grind (arith, ints, length-append, excess_more)
 
 -- the excess of a list that is not too long fits
 pub built_fits : (size : ℕ) (l : List Bool) (total : ℤ) → IsBuilding size l total → FitsSigned w64 total
 built_fits size l total h =
     let z = excess-zero l in
-    rise_fits l 0 (length l) total h.short (omega arith) (omega arith) (let s = h.sum in omega (arith, ints))
+    rise_fits l 0 (length l) total h.short (omega arith) (omega arith) (omega (arith, ints))
 
 -- the excess with one more bit, as the machine has it
 pub stored_sum : (size : ℕ) (l : List Bool) (b : Bool) (total d : ℤ) → IsBuilding size l total → length l < 9223372036854775807 → d ≡ bit_step b → FitsSigned w64 (to_z w64 (of_z w64 total) +ℤ to_z w64 (of_z w64 d)) × (to_z w64 (of_z w64 (to_z w64 (of_z w64 total) +ℤ to_z w64 (of_z w64 d))) ≡ total +ℤ bit_step b)

@@ -1,11 +1,5 @@
 -- The steps of a search in a tree of excesses.
-use Rattle.std.proofs.Common.{◌≡◌, ℕ, zero, suc, ◌+◌, ◌-◌, ◌*◌, ◌/◌, ◌%◌, ◌^◌, ◌<◌, ◌≤◌, List, length, get_or, drop, ℤ, ◌+ℤ◌, ◌-ℤ◌, arith, ⊎_elim, subst, refl, ap, FitsSigned, to_z, of_z, ◌⊎◌, inl, inr, pos, ◌<ℤ◌, w64}
-use Rattle.std.proofs.lemmas.Int.{ints, to_z-of_z, clamps, by_lt_z}
-use Rattle.std.proofs.lemmas.Bool.{cases_lt}
-use Rattle.std.proofs.Math.Nat.{pow-succ', le-mul_of_pos_right, eq-or-lt_of_le}
-use Rattle.std.proofs.lemmas.Nat.{pow_pos}
-use Rattle.vers_trees.specs.declared.trees.bp.min_max.Node.{Node}
-use Rattle.vers_trees.specs.inside.MinMax.{IsInRange, total_before, empty_node, Reaches, Covers, StandsOver, IsMinMax, IsNextFrom, IsOddPart, LeadsTo, PassedTo, ComesTo, IsInRangeOrStart, Meets, IsRange, LeadsBack, PassedBack, ComesBack, IsPreviousBefore}
+use Rattle.vers_trees.proofs.Words.{◌≡◌, ℕ, zero, suc, ◌+◌, ◌-◌, ◌*◌, ◌/◌, ◌%◌, ◌^◌, ◌<◌, ◌≤◌, List, length, get_or, drop, ℤ, ◌+ℤ◌, ◌-ℤ◌, arith, ⊎_elim, subst, refl, ap, FitsSigned, to_z, of_z, ◌⊎◌, inl, inr, pos, ◌<ℤ◌, w64, ints, to_z-of_z, clamps, by_lt_z, cases_lt, pow-succ', le-mul_of_pos_right, eq-or-lt_of_le, pow_pos, Node, IsInRange, total_before, empty_node, Reaches, Covers, StandsOver, IsMinMax, IsNextFrom, IsOddPart, LeadsTo, PassedTo, ComesTo, IsInRangeOrStart, Meets, IsRange, LeadsBack, PassedBack, ComesBack, IsPreviousBefore}
 use Rattle.vers_trees.proofs.layout.MinMax.{stands_children, parent_of_left, parent_of_right, stands_leaf, leaf_stands, root_stands, covers_at, stands_some}
 use Rattle.vers_trees.proofs.searches.Scans.{as_stored}
 use Rattle.vers_trees.proofs.layout.Blocks.{total_more}
@@ -22,22 +16,22 @@ none_in blocks s e x t r c q o k a b w =
     let lo = c.low k t a b w in let hi = c.high k t a b w in
     o (record { low = omega (arith, ints); high = omega (arith, ints) })
 
-pub step_left : (first : ℕ) (nodes : List Node) (from : ℕ) (t : ℤ) (place : ℕ) (left : ℤ) (x : Node) → IsMinMax first nodes → LeadsTo first nodes from t place left → place < first → x ≡ get_or nodes (2 * place + 1) empty_node → IsInRange x left → LeadsTo first nodes from t (2 * place + 1) left
-step_left first nodes from t place left x m p h e i =
+pub step_left : (first : ℕ) (nodes : List Node) (from : ℕ) (t : ℤ) (place child : ℕ) (left : ℤ) (x : Node) → LeadsTo first nodes from t place left → place < first → x ≡ get_or nodes (2 * place + 1) empty_node → child ≡ 2 * place + 1 → IsInRange x left → LeadsTo first nodes from t child left
+step_left first nodes from t place child left x p h e n i =
     let c = stands_children first place p.start p.stop p.stands h in
-    record { start = p.start; stop = c.middle; stands = c.left; after = p.after; remains = p.remains; none = p.none; range = rw e at i }
+    rw n (record { start = p.start; stop = c.middle; stands = c.left; after = p.after; remains = p.remains; none = p.none; range = rw e at i })
 
-pub step_right : (first : ℕ) (nodes : List Node) (from : ℕ) (t : ℤ) (place : ℕ) (left : ℤ) (x : Node) → IsMinMax first nodes → LeadsTo first nodes from t place left → place < first → x ≡ get_or nodes (2 * place + 1) empty_node → (IsInRange x left → ⊥) → FitsSigned w64 x.total → FitsSigned w64 (left -ℤ to_z w64 (of_z w64 x.total)) × LeadsTo first nodes from t (2 * place + 2) (to_z w64 (of_z w64 (left -ℤ to_z w64 (of_z w64 x.total))))
-step_right first nodes from t place left x m p h e o fx =
+pub step_right : (first : ℕ) (nodes : List Node) (from : ℕ) (t : ℤ) (place child : ℕ) (left : ℤ) (x : Node) → IsMinMax first nodes → LeadsTo first nodes from t place left → place < first → x ≡ get_or nodes (2 * place + 1) empty_node → child ≡ 2 * place + 2 → (IsInRange x left → ⊥) → FitsSigned w64 x.total → FitsSigned w64 (left -ℤ to_z w64 (of_z w64 x.total)) × LeadsTo first nodes from t child (to_z w64 (of_z w64 (left -ℤ to_z w64 (of_z w64 x.total))))
+step_right first nodes from t place child left x m p h e n o fx =
     let c = stands_children first place p.start p.stop p.stands h in
     let y = covers_at first nodes (2 * place + 1) p.start c.middle x m e c.left in
     let z = m.covers (2 * place + 2) c.middle p.stop c.right in
-    let f = leads_found first nodes from t place left m p in let f1 = f.1 in
+    let f = leads_found first nodes from t place left m p in
     let no = none_in (drop first nodes) p.start c.middle x t left y p.remains o in
     let far : c.middle ≤ f.0 = ⊎_elim (λ (u : f.0 < c.middle). absurd (no f.0 f.1 u f.3)) (λ (u : c.middle ≤ f.0). u) (cases_lt f.0 c.middle) in
     let s : t -ℤ total_before (drop first nodes) c.middle ≡ left -ℤ x.total = omega (arith, ints) in
     let lo = z.low f.0 t far f.2 f.3 in let hi = z.high f.0 t far f.2 f.3 in
-    as_stored (λ r. LeadsTo first nodes from t (2 * place + 2) r) _ (left -ℤ x.total) (ap (λ (r : ℤ). left -ℤ r) (to_z-of_z w64 x.total fx)) (rw s at (m.small c.middle f.0 t far f.3)) (record {
+    rw n (as_stored (λ r. LeadsTo first nodes from t (2 * place + 2) r) _ (left -ℤ x.total) (ap (λ (r : ℤ). left -ℤ r) (to_z-of_z w64 x.total fx)) (rw s at (m.small c.middle f.0 t far f.3)) (record {
       start = c.middle;
       stop = p.stop;
       stands = c.right;
@@ -45,12 +39,12 @@ step_right first nodes from t place left x m p h e o fx =
       remains = omega (arith, ints);
       none = λ k a b w. ⊎_elim (λ (u : k < p.start). p.none k a u w) (λ (u : p.start ≤ k). no k u b w) (cases_lt k p.start);
       range = record { low = omega (arith, ints); high = omega (arith, ints) };
-    })
+    }))
 
 pub leads_leaf : (first : ℕ) (nodes : List Node) (from : ℕ) (t : ℤ) (place : ℕ) (left : ℤ) → IsMinMax first nodes → LeadsTo first nodes from t place left → first ≤ place → IsNextFrom (drop first nodes) from t (place - first) left
 leads_leaf first nodes from t place left m p h =
-    let f = leads_found first nodes from t place left m p in let f1 = f.1 in let f2 = f.2 in
-    let s = leaf_stands first place p.start p.stop p.stands h in let s0 = s.0 in let s1 = s.1 in let pa = p.after in
+    let f = leads_found first nodes from t place left m p in
+    let s = leaf_stands first place p.start p.stop p.stands h in let s0 = s.0 in
     let here : f.0 ≡ place - first = omega arith in
     record { after = omega arith; remains = rw s0 at p.remains; reaches = subst (λ (n : ℕ). Reaches (drop first nodes) n t) here f.3; first = λ k x y w. p.none k x (omega arith) w }
 
@@ -97,7 +91,7 @@ record Right (first : ℕ) (nodes : List Node) (from : ℕ) (t : ℤ) (place : �
 
 right_of : (first : ℕ) (nodes : List Node) (from : ℕ) (t : ℤ) (place : ℕ) (left : ℤ) (x : Node) → IsMinMax first nodes → ComesTo first nodes from t place left → 0 < place → x ≡ get_or nodes place empty_node → Right first nodes from t place left x
 right_of first nodes from t place left x m c some e =
-    let v = c.even in let p = c.passed some in
+    let p = c.passed some in
     let here : place - 1 ≡ 2 * ((place - 1) / 2) + 1 = omega arith in
     let at : 2 * ((place - 1) / 2) + 2 ≡ place = omega arith in
     let u = parent_of_left first ((place - 1) / 2) p.start p.stop (subst (λ (n : ℕ). StandsOver first n p.start p.stop) here p.stands) in
@@ -138,7 +132,7 @@ split_start x r shape i = by_lt_z r (pos 0) (λ below. inr (inside (inl below)))
     inside : (r <ℤ pos 0) ⊎ (pos 0 <ℤ r) → IsInRange x r
     inside o = ⊎_elim
         (λ (s : IsRange x).
-        let lo = i.low in let hi = i.high in let a = s.first_low in let b = s.first_high in
+        let lo = i.low in let hi = i.high in
         record { low = omega (arith, ints, clamps, o); high = omega (arith, ints, clamps, o) })
         (λ (s : x ≡ empty_node).
         let lo = rw s at i.low in let hi = rw s at i.high in
@@ -164,7 +158,7 @@ range_meets blocks s e x t r c g q k a b n (inl z) = ⊎_elim
     (λ (y : s < k).
     let m = total_more blocks (k - 1) (omega arith) in
     let here : total_before blocks (k - 1 + 1) ≡ total_before blocks k = ap (total_before blocks) (let h : k - 1 + 1 ≡ k = omega arith in h) in
-    let ra = g (k - 1) (omega arith) in let rl = ra.low in let rh = ra.high in
+    let ra = g (k - 1) (omega arith) in
     let w : Reaches blocks (k - 1) t = record { inside = omega arith; low = omega (arith, ints); high = omega (arith, ints) } in
     let lo = c.low (k - 1) t (omega arith) (omega arith) w in let hi = c.high (k - 1) t (omega arith) (omega arith) w in
     record { low = omega (arith, ints, clamps); high = omega (arith, ints, clamps) })
@@ -178,26 +172,26 @@ back_fits first nodes to t place left x m p h e =
     let same : t -ℤ total_before (drop first nodes) c.middle ≡ left +ℤ x.total = omega (arith, ints) in
     rw same at (m.near c.middle p.found t (omega arith) p.meets)
 
-pub back_right : (first : ℕ) (nodes : List Node) (to : ℕ) (t : ℤ) (place : ℕ) (left : ℤ) (x : Node) → IsMinMax first nodes → LeadsBack first nodes to t place left → place < first → x ≡ get_or nodes (2 * place + 2) empty_node → IsInRangeOrStart x (left +ℤ x.total) → LeadsBack first nodes to t (2 * place + 2) left
-back_right first nodes to t place left x m p h e i =
+pub back_right : (first : ℕ) (nodes : List Node) (to : ℕ) (t : ℤ) (place child : ℕ) (left : ℤ) (x : Node) → IsMinMax first nodes → LeadsBack first nodes to t place left → place < first → x ≡ get_or nodes (2 * place + 2) empty_node → child ≡ 2 * place + 2 → IsInRangeOrStart x (left +ℤ x.total) → LeadsBack first nodes to t child left
+back_right first nodes to t place child left x m p h e n i =
     let c = stands_children first place p.start p.stop p.stands h in
     let y = covers_at first nodes (2 * place + 2) c.middle p.stop x m e c.right in
     let f = range_found (drop first nodes) c.middle p.stop x t (left +ℤ x.total) (stands_some first _ _ _ c.right) y (omega (arith, ints)) i in
-    record { start = c.middle; stop = p.stop; stands = c.right; before = p.before; within = p.within; remains = p.remains; none = p.none; found = f.0; from = f.1; below = f.2; meets = f.3 }
+    rw n (record { start = c.middle; stop = p.stop; stands = c.right; before = p.before; within = p.within; remains = p.remains; none = p.none; found = f.0; from = f.1; below = f.2; meets = f.3 })
 
 -- no block of a node out of range meets the sum, and none past it
 none_back : (first : ℕ) (nodes : List Node) (s e to : ℕ) (t left : ℤ) (x : Node) → IsMinMax first nodes → Covers (drop first nodes) s e x → e ≤ to → to ≤ length (drop first nodes) → total_before (drop first nodes) e +ℤ left ≡ t → ((k : ℕ) → e ≤ k → k < to → Meets (drop first nodes) k t → ⊥) → (IsInRangeOrStart x (left +ℤ x.total) → ⊥) → (k : ℕ) → s ≤ k → k < to → Meets (drop first nodes) k t → ⊥
 none_back first nodes s e to t left x m y be wi rem none o k a b w = ⊎_elim
-    (λ (u : k < e). let tot = y.total in o (range_meets (drop first nodes) s e x t (left +ℤ x.total) y m.range (omega (arith, ints)) k a u (omega arith) w))
+    (λ (u : k < e). o (range_meets (drop first nodes) s e x t (left +ℤ x.total) y m.range (omega (arith, ints)) k a u (omega arith) w))
     (λ (u : e ≤ k). none k u b w)
     (cases_lt k e)
 
-pub back_left : (first : ℕ) (nodes : List Node) (to : ℕ) (t : ℤ) (place : ℕ) (left : ℤ) (x : Node) → IsMinMax first nodes → LeadsBack first nodes to t place left → place < first → x ≡ get_or nodes (2 * place + 2) empty_node → (IsInRangeOrStart x (left +ℤ x.total) → ⊥) → LeadsBack first nodes to t (2 * place + 1) (left +ℤ x.total)
-back_left first nodes to t place left x m p h e o =
+pub back_left : (first : ℕ) (nodes : List Node) (to : ℕ) (t : ℤ) (place child : ℕ) (left : ℤ) (x : Node) → IsMinMax first nodes → LeadsBack first nodes to t place left → place < first → x ≡ get_or nodes (2 * place + 2) empty_node → child ≡ 2 * place + 1 → (IsInRangeOrStart x (left +ℤ x.total) → ⊥) → LeadsBack first nodes to t child (left +ℤ x.total)
+back_left first nodes to t place child left x m p h e n o =
     let c = stands_children first place p.start p.stop p.stands h in
     let y = covers_at first nodes (2 * place + 2) c.middle p.stop x m e c.right in
     let no = none_back first nodes c.middle p.stop to t left x m y p.before p.within p.remains p.none o in
-    record {
+    rw n (record {
       start = p.start;
       stop = c.middle;
       stands = c.left;
@@ -209,7 +203,7 @@ back_left first nodes to t place left x m p h e o =
       from = p.from;
       below = ⊎_elim (λ (u : p.found < c.middle). u) (λ (u : c.middle ≤ p.found). absurd (no p.found u (omega arith) p.meets)) (cases_lt p.found c.middle);
       meets = p.meets;
-    }
+    })
 
 pub back_leaf : (first : ℕ) (nodes : List Node) (to : ℕ) (t : ℤ) (place : ℕ) (left : ℤ) → IsMinMax first nodes → LeadsBack first nodes to t place left → first ≤ place → IsPreviousBefore (drop first nodes) to t (place - first) left
 back_leaf first nodes to t place left m p h =
@@ -275,7 +269,6 @@ meets_before first nodes to t place left x m c some e i =
 pub goes_on_before : (first : ℕ) (nodes : List Node) (to : ℕ) (t : ℤ) (place : ℕ) (left : ℤ) (x : Node) (odd : ℕ) → IsMinMax first nodes → ComesBack first nodes to t place left → 0 < place → x ≡ get_or nodes place empty_node → (IsInRangeOrStart x (left +ℤ x.total) → ⊥) → IsOddPart ((place - 1) / 2 + 1) odd → ComesBack first nodes to t (odd - 2) (left +ℤ x.total)
 goes_on_before first nodes to t place left x odd m c some e misses o =
     let b = left_of first nodes to t place left x m c some e in let p = b.passed in
-    let tot = b.covers.total in let rem = p.remains in let be = p.before in let so = stands_some first _ _ _ b.stands in
     comes_back first nodes to t ((place - 1) / 2) (left +ℤ x.total) odd (record { start = b.start; stop = p.stop; stands = b.parent; before = omega arith; within = p.within; remains = omega (arith, ints); none = none_back first nodes b.start p.start to t left x m b.covers p.before p.within p.remains p.none misses }) o
 
 pub too_far_before : (first : ℕ) (nodes : List Node) (to : ℕ) (t : ℤ) (place : ℕ) (left : ℤ) (x : Node) → IsMinMax first nodes → ComesBack first nodes to t place left → 0 < place → x ≡ get_or nodes place empty_node → (FitsSigned w64 (left +ℤ x.total) → ⊥) → (k : ℕ) → k < to → Meets (drop first nodes) k t → ⊥

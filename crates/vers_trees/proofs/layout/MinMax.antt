@@ -1,11 +1,5 @@
 -- The parts of the nodes of a tree, and what a node made of two says.
-use Rattle.std.proofs.Common.{◌≡◌, ℕ, zero, suc, ◌+◌, ◌-◌, ◌*◌, ◌/◌, ◌%◌, ◌^◌, ◌<◌, ◌≤◌, ◌⊎◌, inl, inr, List, length, get_or, drop, ℤ, pos, negsuc, ◌+ℤ◌, ◌≤ℤ◌, arith, ⊎_elim, subst, refl, ap, ◌∙◌}
-use Rattle.std.proofs.Math.Nat.{pow-succ', pow-le-pow_right}
-use Rattle.std.proofs.lemmas.Int.{ints, clamps, by_lt_z}
-use Rattle.std.proofs.lemmas.Bool.{cases_lt}
-use Rattle.std.proofs.lemmas.Nat.{pow_pos}
-use Rattle.vers_trees.specs.declared.trees.bp.min_max.Node.{Node}
-use Rattle.vers_trees.specs.inside.MinMax.{combined, total_before, empty_node, IsRange, Covers, StandsOver, IsMinMax}
+use Rattle.vers_trees.proofs.Words.{◌≡◌, ℕ, zero, suc, ◌+◌, ◌-◌, ◌*◌, ◌/◌, ◌%◌, ◌^◌, ◌<◌, ◌≤◌, ◌⊎◌, inl, inr, List, length, get_or, drop, ℤ, pos, negsuc, ◌+ℤ◌, ◌≤ℤ◌, arith, ⊎_elim, subst, refl, ap, ◌∙◌, pow-succ', pow-le-pow_right, ints, clamps, by_lt_z, cases_lt, pow_pos, Node, combined, total_before, empty_node, IsRange, Covers, StandsOver, IsMinMax}
 
 pow_suc : (k : ℕ) → 2 ^ suc k ≡ 2 * 2 ^ k
 pow_suc k = pow-succ' 2 k
@@ -40,7 +34,7 @@ covers_combined blocks s m e x y sm me p q = record {
   found = λ t lo hi. ⊎_elim
       (λ (r : ((total_before blocks s +ℤ x.least) ≤ℤ t) × (t ≤ℤ (total_before blocks s +ℤ x.greatest))). let f = p.found t r.0 r.1 in let b = f.2 in (f.0, f.1, omega arith, f.3))
       (λ (r : ((total_before blocks s +ℤ x.total +ℤ y.least) ≤ℤ t) × (t ≤ℤ (total_before blocks s +ℤ x.total +ℤ y.greatest))).
-      let a = p.total in let r0 = r.0 in let r1 = r.1 in
+      let a = p.total in
       let f = q.found t (omega (arith, ints)) (omega (arith, ints)) in let b = f.1 in (f.0, omega arith, f.2, f.3))
       (split_range (total_before blocks s) x y (numbers x p.shape) (numbers y q.shape) t lo hi);
   low = λ k t a b r. ⊎_elim
@@ -104,9 +98,7 @@ stands_every first h lv (suc fuel) (suc i) a b =
 
 -- a node stands among the nodes of a tree with first + 1 leaves
 pub stands_within : (first i s e : ℕ) → StandsOver first i s e → i ≤ 2 * first
-stands_within first i s e p =
-    let le : 2 ^ p.level ≤ 2 ^ (p.level + p.height) = pow-le-pow_right (omega arith) (let g : p.level ≤ p.level + p.height = omega arith in g) in
-    omega arith
+stands_within first i s e p = grind (arith, ints, pow-le-pow_right)
 
 -- a node has one part
 order : (a b : ℕ) → 2 ^ a < 2 ^ (b + 1) → a ≤ b
@@ -146,11 +138,11 @@ leaf : (first h i : ℕ) → 2 ^ h ≡ first + 1 → first ≤ i → i ≤ 2 * f
 leaf first h i lv a b = record { level = h; height = 0; offset = i - first; levels = ap (λ (n : ℕ). 2 ^ n) (let g : h + 0 ≡ h = omega arith in g) ∙ lv; inside = omega arith; place = omega arith; from = omega arith; upto = omega arith }
 
 pub stands_leaf : (first : ℕ) (nodes : List Node) → IsMinMax first nodes → (k : ℕ) → k < length (drop first nodes) → StandsOver first (first + k) k (k + 1)
-stands_leaf first nodes t k h = let f = t.fits in let e : first + k - first ≡ k = omega arith in rw e at (leaf first t.height (first + k) t.levels (omega arith) (omega arith))
+stands_leaf first nodes t k h = let e : first + k - first ≡ k = omega arith in rw e at (leaf first t.height (first + k) t.levels (omega arith) (omega arith))
 
 pub leaf_stands : (first i s e : ℕ) → StandsOver first i s e → first ≤ i → (s ≡ i - first) × (e ≡ s + 1)
 leaf_stands first i s e p h =
-    let o = one_part first i _ _ _ _ p (leaf first (p.level + p.height) i p.levels h (stands_within first i s e p)) in let o0 = o.0 in let o1 = o.1 in
+    let o = one_part first i _ _ _ _ p (leaf first (p.level + p.height) i p.levels h (stands_within first i s e p)) in
     (omega arith, omega arith)
 
 -- a node's part has a block

@@ -1,10 +1,5 @@
 -- The laws of what calls on a tree read.
-use Rattle.std.proofs.Common.{ℕ, ◌+◌, ◌*◌, ◌≤◌, arith}
-use Rattle.vers_tally.specs.Reads.{Reads, AddsAtMost, IsWithin}
-use Rattle.vers_rank.specs.Queries.{superblock_count, get_reads, rank_reads, select_reads}
-use Rattle.vers_trees.specs.Layout.{levels, search_reads, enclose_reads, two_searches_reads}
-use Rattle.vers_trees.specs.WalkReads.{post_reads}
-use Rattle.vers_trees.specs.ReadLaws.{tree_reads}
+use Rattle.vers_trees.proofs.Words.{ℕ, ◌+◌, ◌*◌, ◌≤◌, arith, Reads, AddsAtMost, IsWithin, superblock_count, get_reads, rank_reads, select_reads, levels, search_reads, enclose_reads, two_searches_reads, post_reads, tree_reads}
 
 module _ (size n : ℕ) where
   pub calls_within :

@@ -1,13 +1,5 @@
 -- A number without the zeros at its end, and how many digits it has.
-use Rattle.std.proofs.Common.{◌≡◌, ℕ, zero, suc, ◌+◌, ◌-◌, ◌*◌, ◌/◌, ◌%◌, ◌^◌, ◌<◌, ◌≤◌, arith, ⊎_elim, sym, ap, ◌∙◌}
-use Rattle.std.specs.Int.{bit_at}
-use Rattle.std.proofs.Math.Nat.{pow-succ', le-mul_of_pos_right}
-use Rattle.std.proofs.lemmas.Nat.{pow_pos, shr-shr}
-use Rattle.std.proofs.lemmas.Nat.Bits.{bit_at_lowest, bit_at-suc}
-use Rattle.std.proofs.lemmas.Bool.{cases_lt}
-use Rattle.vers_tally.specs.Reads.{digits, Reads, AddsAtMost, only_nodes, IsWithin, plus}
-use Rattle.vers_tally.proofs.PublicLaws.{digits_half, digits_up, adds_then, adds_weaker, adds_nothing}
-use Rattle.vers_trees.specs.inside.MinMax.{IsOddPart}
+use Rattle.vers_trees.proofs.Words.{◌≡◌, ℕ, zero, suc, Bool, true, false, bool_byte, ◌+◌, ◌-◌, ◌*◌, ◌/◌, ◌%◌, ◌^◌, ◌<◌, ◌≤◌, arith, ⊎_elim, sym, ap, ◌∙◌, bit_at, pow-succ', le-mul_of_pos_right, pow_pos, shr-shr, bit_at_lowest, bit_at-suc, cases_lt, digits, Reads, AddsAtMost, only_nodes, IsWithin, plus, digits_half, digits_up, adds_then, adds_weaker, adds_nothing, IsOddPart}
 
 -- a number whose lowest digits are zeros is what stands above them, with as many zeros behind it
 zeros_below : (i n : ℕ) → ((j : ℕ) → j < i → bit_at n j ≡ 0) → n / 2 ^ i * 2 ^ i ≡ n
@@ -25,7 +17,7 @@ pub from_lowest_one : (i n : ℕ) → bit_at n i ≡ 1 → ((j : ℕ) → j < i 
 from_lowest_one i n one h = record { zeros = i; splits = sym (zeros_below i n h); ends = one }
 
 pub odd_most : (n odd : ℕ) → IsOddPart n odd → odd ≤ n
-odd_most n odd p = let a = le-mul_of_pos_right odd (pow_pos p.zeros) in let s = p.splits in omega arith
+odd_most n odd p = let a = le-mul_of_pos_right odd (pow_pos p.zeros) in omega arith
 
 -- an odd number above 1 has as many digits as the number before it
 digits_odd : (n : ℕ) → 1 < n → n % 2 ≡ 1 → digits n ≡ digits (n - 1)
@@ -74,7 +66,11 @@ digit_some n h = omega (arith, digits_half n h)
 digits_child : (m n : ℕ) → n / 2 ≡ m → 0 < n → digits n ≡ digits m + 1
 digits_child m n e h = omega (arith, digits_half n h, ap digits e)
 
--- going down: a node read at each level
+-- going down: a node read at each level, which is one of two
+pub one_of_two : (b : Bool) → bool_byte b ≤ 1
+one_of_two true = omega arith
+one_of_two false = omega arith
+
 pub read_down : (a b c : Reads) (node child : ℕ) → (child + 1) / 2 ≡ node + 1 → AddsAtMost a b (only_nodes (digits (node + 1) - 1)) → AddsAtMost b c (only_nodes 1) → AddsAtMost a c (only_nodes (digits (child + 1) - 1))
 read_down a b c node child e p q =
     let d = digits_child (node + 1) (child + 1) e (omega arith) in

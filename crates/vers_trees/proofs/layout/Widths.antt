@@ -1,17 +1,6 @@
 -- The width of a tree, and its nodes put together.
-use Rattle.std.proofs.Common.{◌≡◌, ℕ, zero, suc, ◌+◌, ◌-◌, ◌*◌, ◌^◌, ◌<◌, ◌≤◌, ◌⊎◌, inl, inr, min, max, Bool, List, [], ◌∷◌, ◌++◌, length, get_or, take, drop, arith, ⊎_elim, subst, sym, refl, ap, ◌∙◌, length-append, length-drop}
-use Rattle.std.proofs.lemmas.Bool.{cases_lt}
-use Rattle.std.proofs.lemmas.Grind.{div_ceil_times}
-use Rattle.std.proofs.lemmas.List.{get_or_append_left, get_or_at, get_or-drop}
-use Rattle.std.proofs.Math.Seq.{take-append_seam}
-use Rattle.std.proofs.Math.Nat.{pow-succ', pow-le-pow_right}
-use Rattle.vers_tally.specs.Reads.{digits}
-use Rattle.vers_tally.proofs.PublicLaws.{digits-le, digits_up, digits_pow, digits_below_pow, clog_least, pow_next}
-use Rattle.vers_trees.specs.declared.trees.bp.min_max.Node.{Node}
-use Rattle.vers_trees.specs.inside.MinMax.{IsPart, AreBlocks, CoveredFrom, AreLeaves, empty_node}
-use Rattle.vers_trees.specs.Layout.{block_count, clog, levels, node_count}
+use Rattle.vers_trees.proofs.Words.{◌≡◌, ℕ, zero, suc, ◌+◌, ◌-◌, ◌*◌, ◌^◌, ◌<◌, ◌≤◌, ◌⊎◌, inl, inr, min, max, Bool, List, [], ◌∷◌, ◌++◌, length, get_or, take, drop, arith, ⊎_elim, subst, sym, refl, ap, ◌∙◌, length-append, length-drop, cases_lt, div_ceil_times, get_or_append_left, get_or_at, get_or-drop, take-append_seam, pow-le-pow_right, digits, digits-le, digits_up, digits_pow, digits_below_pow, clog_least, pow_next, Node, IsPart, AreBlocks, CoveredFrom, AreLeaves, empty_node, block_count, clog, levels, node_count, IsWidth, IsGrowing, AreFirstBlocks, IsTreeOf, IsIndexed}
 use Rattle.vers_trees.proofs.layout.Steps.{digit_some}
-use Rattle.vers_trees.specs.inside.Index.{IsWidth, IsGrowing, AreFirstBlocks, IsTreeOf, IsIndexed}
 use Rattle.vers_trees.proofs.layout.Blocks.{minmax_of, leaves_of}
 
 pub grow_start : (leaves : ℕ) → IsGrowing leaves 2
@@ -19,7 +8,6 @@ grow_start leaves = record { exponent = 0; power = refl; short = inl refl }
 
 pub grow_more : (leaves w : ℕ) → IsGrowing leaves w → w < leaves → IsGrowing leaves (w * 2)
 grow_more leaves w g h =
-    let p = pow-succ' 2 g.exponent in let q = g.power in
     record { exponent = suc g.exponent; power = omega arith; short = inr (omega arith) }
 
 grown_bounded : (leaves e : ℕ) → leaves < 2 ^ 63 → (e ≡ 0) ⊎ (2 ^ e < leaves) → e < 63
@@ -34,7 +22,6 @@ grown_least leaves e w p (inl z) =
     let one : 2 ^ e ≡ 1 = ap (λ (n : ℕ). 2 ^ n) z in
     let d = digits-le 1 (w - 1) (omega arith) in omega arith
 grown_least leaves e w p (inr s) =
-    let q = pow-succ' 2 e in
     let some = pow-le-pow_right {n = 2} (omega arith) {i = 0} {j = e} (omega arith) in
     let d = digits-le (e + 1) (w - 1) (omega (arith, ap (λ (n : ℕ). 2 ^ n) (let g : e + 1 ≡ suc e = omega arith in g))) in
     let u = digits_up (2 ^ e) (leaves - 1) (omega arith) in
@@ -43,7 +30,7 @@ grown_least leaves e w p (inr s) =
 
 pub grown : (leaves w : ℕ) → leaves < 2 ^ 63 → IsGrowing leaves w → leaves ≤ w → IsWidth leaves w
 grown leaves w h g enough =
-    let p = pow-succ' 2 g.exponent in let q = g.power in
+    let q = g.power in
     let small = grown_bounded leaves g.exponent h g.short in
     let m = pow-le-pow_right {n = 2} (omega arith) {i = suc g.exponent} {j = 63} (omega arith) in
     let some = pow-le-pow_right {n = 2} (omega arith) {i = 0} {j = g.exponent} (omega arith) in
@@ -54,7 +41,7 @@ pub ruleset widths = (grow_start, grow_more, grown)
 -- ---- how many nodes there are
 width_is : (leaves w : ℕ) → IsWidth leaves w → w - 1 ≡ max 1 (2 ^ clog leaves - 1)
 width_is leaves w h =
-    let p = h.power in let s = h.some in let en = h.enough in let le = h.least in
+    let p = h.power in
     let same : digits (w - 1) ≡ h.exponent = ap (λ (n : ℕ). digits (n - 1)) (sym p) ∙ digits_below_pow h.exponent in
     let up = digits-le h.exponent (leaves - 1) (omega arith) in
     let one = digit_some (w - 1) (omega arith) in

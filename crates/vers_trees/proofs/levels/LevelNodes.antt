@@ -1,13 +1,5 @@
 -- The nodes of one depth: which of them the searches find.
-use Rattle.std.proofs.Common.{◌≡◌, ℕ, ◌+◌, ◌-◌, ◌<◌, ◌≤◌, ◌≢◌, Bool, true, false, ◌&&◌, List, length, get_or, eqb, ℤ, pos, negsuc, neg_ℤ, ◌+ℤ◌, ◌≤ℤ◌, ◌<ℤ◌, Option, Some, None, arith, ⊎_elim, sym, refl, ap, ◌∙◌, find, Decides}
-use Rattle.std.proofs.lemmas.Int.{ints}
-use Rattle.std.proofs.lemmas.Bool.{cases_lt}
-use Rattle.std.proofs.lemmas.Bool.Decides.{Decides-eqb, Decides-and}
-use Rattle.std.proofs.Math.Nat.{eq-or-lt_of_le}
-use Rattle.vers_bits.proofs.PublicLaws.{count_le}
-use Rattle.vers_trees.specs.Excess.{excess, first_rise_after, last_rise_before}
-use Rattle.vers_trees.specs.Forest.{Forest, none, tree, text}
-use Rattle.vers_trees.specs.Nodes.{nodes, closing, is_ancestor, depth, level, level_ancestor, first_of, last_of, next_of, previous_of}
+use Rattle.vers_trees.proofs.Words.{◌≡◌, ℕ, ◌+◌, ◌-◌, ◌<◌, ◌≤◌, ◌≢◌, Bool, true, false, ◌&&◌, List, length, get_or, eqb, ℤ, pos, negsuc, neg_ℤ, ◌+ℤ◌, ◌≤ℤ◌, ◌<ℤ◌, Option, Some, None, arith, ⊎_elim, sym, refl, ap, ◌∙◌, find, Decides, ints, cases_lt, Decides-eqb, Decides-and, eq-or-lt_of_le, count_le, excess, first_rise_after, last_rise_before, Forest, none, tree, text, nodes, closing, is_ancestor, depth, level, level_ancestor, first_of, last_of, next_of, previous_of}
 use Rattle.vers_trees.proofs.searches.Searches.{after_some, after_none, before_some, before_is, before_none}
 use Rattle.vers_trees.proofs.grammar.Excess.{below_until, below_since, excess-zero, excess-is_walk, excess_after_open, excess_after_close, open_from_rise, close_from_fall}
 use Rattle.vers_trees.proofs.grammar.Paired.{paired_closes, close_is_paired, closes_rises, total_is_zero, never_negative}
@@ -31,12 +23,7 @@ closes_at l c v x h a i s n =
 
 -- and right past no one between
 not_between : (l : List Bool) (c v u : ℕ) (x : ℤ) → ((k : ℕ) → c < k → k < v → excess l k ≢ x) → excess l v ≢ x → c ≤ u → u < v → v ≤ length l → get_or l u false ≡ true → excess l u +ℤ pos 1 ≢ x
-not_between l c v u x n ne a b i o e =
-    let r = excess_after_open l u false (omega arith) o in
-    ⊎_elim
-    (λ (t : u + 1 ≡ v). let g : excess l (u + 1) ≡ excess l v = ap (excess l) t in ne (omega (arith, ints)))
-    (λ (t : u + 1 < v). n (u + 1) (omega arith) t (omega (arith, ints)))
-    (eq-or-lt_of_le (let g : u + 1 ≤ v = omega arith in g))
+not_between l c v u x n ne a b i o e = grind (arith, ints, excess_after_open, eq-or-lt_of_le)
 
 -- the tree that closes there
 record Opened (F : Forest) (v c : ℕ) (r : ℤ) : Type 0 where
@@ -52,7 +39,7 @@ opened_before F v c r some e =
     let q = before_some (text F) v r c e in let qb = q.before in let qi = q.inside in let s = q.sum in
     let f = closes_at (text F) c v (excess (text F) v +ℤ r) (omega (arith, ints)) qb qi s q.last in
     let p = close_is_paired F c false (omega arith) f in
-    let m = paired_closes F p.0 c p.1 in let ma = m.after in let back = m.back in
+    let m = paired_closes F p.0 c p.1 in
     let fall = excess_after_close (text F) c false (omega arith) f in
     record {
       place = p.0;
@@ -76,7 +63,7 @@ at_depth_decides F v t a = Decides-and (is_ancestor F a v) (eqb (depth F a + t) 
 pub no_steps_up : (F : Forest) (v : ℕ) → HasPair F v → level_ancestor F v 0 ≡ Some v
 unfolding level_ancestor
 no_steps_up F v h = first_node F _ _ (at_depth_decides F v 0) v h ((omega arith, omega arith), omega arith) (λ w x k g.
-    let dw = depth_is_excess F w k in let dv = depth_is_excess F v h in let e = g.1 in let g1 = g.0.1 in let ha = h.closes.after in
+    let dw = depth_is_excess F w k in let dv = depth_is_excess F v h in
     let s = k.closes.above v x (omega arith) in
     omega (arith, ints))
 
@@ -94,25 +81,21 @@ level_ancestor_is_search F v t h some = go (last_rise_before (text F) v (neg_ℤ
     go (Some a) e =
         let m = above_from_before F v t a some (opens F v h) (before_some (text F) v (neg_ℤ (pos t)) a e) in
         let r = above_is_around F v t a h m in
-        let k = r.2 in let r0 = r.0 in let r1 = r.1 in let sh = m.shallower in
+        let k = r.2 in
         let da = depth_is_excess F a k in let dv = depth_is_excess F v h in
         sym (first_node F _ _ (at_depth_decides F v t) a k ((omega arith, omega arith), omega (arith, ints)) (λ w x kw g.
-        let dw = depth_is_excess F w kw in let d = g.1 in let g1 = g.0.1 in let ha = h.closes.after in
+        let dw = depth_is_excess F w kw in let d = g.1 in
         let u = kw.closes.above a x (omega arith) in
         omega (arith, ints)))
 
 -- no node is so deep
 depth_small : (F : Forest) (v : ℕ) → HasPair F v → depth F v < length (text F)
 unfolding excess
-depth_small F v h =
-    let d = depth_is_excess F v h in
-    let i = inside F v h in
-    let c = (count_le true (text F) v).0 in
-    omega (arith, ints)
+depth_small F v h = grind (arith, ints, depth_is_excess, inside, count_le)
 
 pub too_far_up : (F : Forest) (v t : ℕ) → HasPair F v → length (text F) ≤ t → level_ancestor F v t ≡ None
 unfolding level_ancestor
-too_far_up F v t h far = no_first_node F _ _ (at_depth_decides F v t) (λ w k g. let s = depth_small F v h in let d = g.1 in omega arith)
+too_far_up F v t h far = no_first_node F _ _ (at_depth_decides F v t) (λ w k g. let s = depth_small F v h in omega arith)
 
 -- ---- the neighbours on a level
 level_decides : (F : Forest) (d w : ℕ) → Decides (eqb (depth F w) d) (depth F w ≡ d)
@@ -125,7 +108,7 @@ same_excess F v w h k e = sym (depth_is_excess F w k) ∙ ap pos e ∙ depth_is_
 -- what opens after v at its depth opens past its tree
 past_tree : (F : Forest) (v w : ℕ) → HasPair F v → HasPair F w → depth F w ≡ depth F v → v < w → (closing F v < w → excess (text F) (w + 1) ≢ excess (text F) (closing F v + 1) +ℤ pos 1) → ⊥
 past_tree F v w h k g x n =
-    let s = same_excess F v w h k g in let b = h.closes.back in
+    let s = same_excess F v w h k g in
     let r = excess_after_open (text F) w false (inside F w k) (opens F w k) in
     ⊎_elim (λ (z : closing F v < w). n z (omega (arith, ints))) (λ (z : w ≤ closing F v). let r = h.closes.above w x z in omega (arith, ints)) (cases_lt (closing F v) w)
 
@@ -136,10 +119,10 @@ level_next_is_search F v h = go (first_rise_after (text F) (closing F v) (pos 1)
     go : (o : Option ℕ) → first_rise_after (text F) (closing F v) (pos 1) ≡ o → o ≡ next_of (level F (depth F v)) v
     go None e = sym (no_next_in F _ _ (level_decides F (depth F v)) v (λ w x k g. past_tree F v w h k g x (λ z. after_none (text F) (closing F v) (pos 1) e w z (inside F w k))))
     go (Some u) e =
-        let q = after_some (text F) (closing F v) (pos 1) u e in let qa = q.after in
-        let r = opens_at (text F) (closing F v) u (excess (text F) (closing F v + 1) +ℤ pos 1) (omega (arith, ints)) q.after q.inside q.sum q.first in let r1 = r.1 in
+        let q = after_some (text F) (closing F v) (pos 1) u e in
+        let r = opens_at (text F) (closing F v) u (excess (text F) (closing F v + 1) +ℤ pos 1) (omega (arith, ints)) q.after q.inside q.sum q.first in
         let k = one_pair F u q.inside r.0 in
-        let du = depth_is_excess F u k in let dv = depth_is_excess F v h in let b = h.closes.back in let a = h.closes.after in
+        let du = depth_is_excess F u k in let dv = depth_is_excess F v h in
         sym (next_in F _ _ (level_decides F (depth F v)) v u k (omega (arith, ints)) (omega arith) (λ w x y kw g. past_tree F v w h kw g x (λ z. q.first w z y)))
 
 pub no_level_prev_found : (F : Forest) (v : ℕ) → HasPair F v → last_rise_before (text F) v (pos 1) ≡ None → previous_of (level F (depth F v)) v ≡ None
@@ -152,7 +135,7 @@ pub level_prev_is_search : (F : Forest) (v c : ℕ) → HasPair F v → last_ris
 unfolding level
 level_prev_is_search F v c h e =
     let o = opened_before F v c (pos 1) (omega (arith, ints)) e in
-    let du = depth_is_excess F o.place o.pair in let dv = depth_is_excess F v h in let l = o.level in
+    let du = depth_is_excess F o.place o.pair in let dv = depth_is_excess F v h in
     o.found ∙ sym (previous_in F _ _ (level_decides F (depth F v)) v o.place o.pair (omega (arith, ints)) o.before (λ w x y k g. let s = same_excess F v w h k g in o.last w x y k (omega (arith, ints))))
 
 -- ---- the ends of a level
@@ -197,8 +180,8 @@ level_leftmost_is_search F t some = go (first_rise_after (text F) 0 (pos t)) ref
     go : (o : Option ℕ) → first_rise_after (text F) 0 (pos t) ≡ o → o ≡ first_of (level F t)
     go None e = sym (no_first_in F _ _ (level_decides F t) (λ w k g. let b = below_first F t w some k g in after_none (text F) 0 (pos t) e w b.0 (inside F w k) b.1))
     go (Some u) e =
-        let q = after_some (text F) 0 (pos t) u e in let qa = q.after in let qi = q.inside in
-        let r = opens_at (text F) 0 u (excess (text F) (0 + 1) +ℤ pos t) (omega (arith, ints)) q.after q.inside q.sum q.first in let r1 = r.1 in
+        let q = after_some (text F) 0 (pos t) u e in
+        let r = opens_at (text F) 0 u (excess (text F) (0 + 1) +ℤ pos t) (omega (arith, ints)) q.after q.inside q.sum q.first in
         let k = one_pair F u q.inside r.0 in let d = depth_is_excess F u k in let z = excess-zero (text F) in
         let one = excess_after_open (text F) 0 false (omega arith) (opens F 0 (opens_first F (omega arith))) in
         sym (first_in F _ _ (level_decides F t) u k (omega (arith, ints)) (λ w x kw g. let b = below_first F t w some kw g in q.first w b.0 x b.1))
@@ -208,11 +191,11 @@ pub last_root_is_search : (F : Forest) (n : ℕ) → length (text F) ≡ n + 1 �
 unfolding level
 last_root_is_search F n e =
     let p = close_is_paired F n false (omega arith) (closes_last F n e) in
-    let q = paired_closes F p.0 n p.1 in let qa = q.after in let b = q.back in
+    let q = paired_closes F p.0 n p.1 in
     let t : excess (text F) (n + 1) ≡ pos 0 = ap (excess (text F)) (sym e) ∙ total_is_zero F in
     let k = one_pair F p.0 (omega arith) (closes_rises (text F) p.0 n false q) in let d = depth_is_excess F p.0 k in
     before_is (text F) n (negsuc 0) p.0 (before_from_closes (text F) p.0 n q)
-    ∙ sym (last_node F _ _ (level_decides F 0) p.0 k (omega (arith, ints)) (λ w x k g. let u = q.above w x (let i = inside F w k in omega arith) in let d = depth_is_excess F w k in omega (arith, ints)))
+    ∙ sym (last_node F _ _ (level_decides F 0) p.0 k (omega (arith, ints)) (λ w x k g. let u = q.above w x (omega arith) in let d = depth_is_excess F w k in omega (arith, ints)))
 
 end_is_one : (F : Forest) (n : ℕ) → length (text F) ≡ n + 1 → excess (text F) n ≡ pos 1
 end_is_one F n e =
@@ -223,12 +206,12 @@ end_is_one F n e =
 pub no_level_rightmost : (F : Forest) (n t : ℕ) → length (text F) ≡ n + 1 → 0 < t → last_rise_before (text F) n (pos t) ≡ None → last_of (level F t) ≡ None
 unfolding level
 no_level_rightmost F n t e some missing = no_last_node F _ _ (level_decides F t) (λ w k g.
-    let one = end_is_one F n e in let d = depth_is_excess F w k in let a = k.closes.after in let i = k.closes.inside in
+    let one = end_is_one F n e in let d = depth_is_excess F w k in
     not_between (text F) 0 n w (excess (text F) n +ℤ pos t) (λ k y z. before_none (text F) n (pos t) (omega arith) missing k z) (omega (arith, ints)) (omega arith) (omega arith) (omega arith) (opens F w k) (omega (arith, ints)))
 
 pub level_rightmost_is_search : (F : Forest) (n t j : ℕ) → length (text F) ≡ n + 1 → 0 < t → last_rise_before (text F) n (pos t) ≡ Some j → last_rise_before (text F) j (negsuc 0) ≡ last_of (level F t)
 unfolding level
 level_rightmost_is_search F n t j e some found =
     let o = opened_before F n j (pos t) (omega (arith, ints)) found in
-    let one = end_is_one F n e in let d = depth_is_excess F o.place o.pair in let l = o.level in
-    o.found ∙ sym (last_node F _ _ (level_decides F t) o.place o.pair (omega (arith, ints)) (λ w x k g. let d = depth_is_excess F w k in let a = k.closes.after in let i = k.closes.inside in o.last w x (omega arith) k (omega (arith, ints))))
+    let one = end_is_one F n e in let d = depth_is_excess F o.place o.pair in
+    o.found ∙ sym (last_node F _ _ (level_decides F t) o.place o.pair (omega (arith, ints)) (λ w x k g. let d = depth_is_excess F w k in o.last w x (omega arith) k (omega (arith, ints))))

@@ -1,20 +1,10 @@
 -- The laws of the nodes of a forest.
-use Rattle.std.proofs.Common.{◌≡◌, ℕ, zero, suc, ◌+◌, ◌-◌, ◌<◌, ◌≤◌, ◌↔◌, Bool, true, false, cond, not, List, [], ◌∷◌, length, get_or, ltb, eqb, Option, None, Some, arith, ⊎_elim, subst, sym, refl, ap, ◌∙◌, ◌++◌, map, take, slice_get, option_map, find, filter}
-use Rattle.std.specs.List.{Contains, last_or, range_with_len}
-use Rattle.std.proofs.lemmas.Option.{get_or_from_slice_get, slice_get-get_or, slice_get_within}
-use Rattle.std.proofs.lemmas.List.{get_or_past, map-append, length_push, take_more, take_all}
-use Rattle.std.proofs.lemmas.Bool.{cases_lt}
-use Rattle.std.proofs.lemmas.Bool.Decides.{Decides-ltb, Decides-eqb}
-use Rattle.std.proofs.lemmas.List.Filters.{length-filter_both}
-use Rattle.vers_bits.specs.Bits.{bit_value, places}
-use Rattle.vers_trees.specs.Forest.{Forest, text, IsBalanced, forest_of}
-use Rattle.vers_trees.specs.Nodes.{nodes, IsNode, closing, depth, level, last_of, next_of, previous_of, first_of}
+use Rattle.vers_trees.proofs.Words.{◌≡◌, ℕ, zero, suc, ◌+◌, ◌-◌, ◌<◌, ◌≤◌, ◌↔◌, Bool, true, false, cond, not, List, [], ◌∷◌, length, get_or, ltb, eqb, Option, None, Some, arith, ⊎_elim, subst, sym, refl, ap, ◌∙◌, ◌++◌, take, slice_get, option_map, find, filter, Contains, last_or, range_with_len, get_or_from_slice_get, slice_get-get_or, slice_get_within, get_or_past, take_more, cases_lt, Decides-ltb, Decides-eqb, length-filter_both, bit_value, places, Forest, text, IsBalanced, forest_of, nodes, IsNode, closing, depth, level, last_of, next_of, previous_of, IsAlongLevel}
 use Rattle.vers_trees.proofs.grammar.Grammar.{text-forest_of}
 use Rattle.vers_trees.proofs.grammar.Paired.{closes_rises}
 use Rattle.vers_trees.proofs.grammar.Pairs.{contains_first, contains_later}
 use Rattle.vers_trees.proofs.kin.NodeList.{nodes_are_ones, one_pair, node_pair, pair_node}
 use Rattle.vers_trees.proofs.kin.Around.{refuted}
-use Rattle.vers_trees.specs.LevelWalks.{IsAlongLevel}
 
 -- ---- nodes and ones
 bit_inside : (l : List Bool) (v : ℕ) → get_or l v false ≡ true → v < length l
@@ -59,7 +49,7 @@ AscendsFrom n (x ∷ xs) = (n ≤ x) × AscendsFrom (x + 1) xs
 
 ascends_lower : (m n : ℕ) (xs : List ℕ) → m ≤ n → AscendsFrom n xs → AscendsFrom m xs
 ascends_lower m n [] h a = tt
-ascends_lower m n (x ∷ xs) h a = let a0 = a.0 in (omega arith, a.1)
+ascends_lower m n (x ∷ xs) h a = (omega arith, a.1)
 
 range_ascends : (a n : ℕ) → AscendsFrom a (range_with_len a n)
 range_ascends a zero = tt
@@ -71,7 +61,7 @@ filter_ascends p n (x ∷ xs) a = go (p x) (filter_ascends p (x + 1) xs a.1)
   where
     go : (b : Bool) → AscendsFrom (x + 1) (filter p xs) → AscendsFrom n (cond b (x ∷ filter p xs) (filter p xs))
     go true r = (a.0, r)
-    go false r = let a0 = a.0 in ascends_lower n (x + 1) (filter p xs) (omega arith) r
+    go false r = ascends_lower n (x + 1) (filter p xs) (omega arith) r
 
 above : (v w : ℕ) → v < w → ltb v w ≡ true
 above v w h = (Decides-ltb v w).1 h
@@ -86,7 +76,7 @@ member_from n (suc i) v (x ∷ xs) a e = let r = member_from (x + 1) i v xs a.1 
 
 first_above : (v : ℕ) (xs : List ℕ) → AscendsFrom (v + 1) xs → find (λ w. ltb v w) xs ≡ slice_get xs 0
 first_above v [] a = refl
-first_above v (x ∷ xs) a = let a0 = a.0 in let t : ltb v x ≡ true = above v x (omega arith) in rw t refl
+first_above v (x ∷ xs) a = let t : ltb v x ≡ true = above v x (omega arith) in rw t refl
 
 pub next_member : (n i v : ℕ) (xs : List ℕ) → AscendsFrom n xs → slice_get xs i ≡ Some v → find (λ w. ltb v w) xs ≡ slice_get xs (suc i)
 next_member n i v [] a e = absurd (cc)
@@ -208,39 +198,11 @@ levels_are_parts F d =
 pub ruleset node_laws = (node_iff_one, level_iff_depth, levels_go_on, levels_go_back, levels_are_parts)
 
 -- ---- a walk along a level, by any handles of nodes
-take_next : (xs : List ℕ) (n x : ℕ) → slice_get xs n ≡ Some x → take (n + 1) xs ≡ take n xs ++ x ∷ []
+pub take_next : (xs : List ℕ) (n x : ℕ) → slice_get xs n ≡ Some x → take (n + 1) xs ≡ take n xs ++ x ∷ []
 take_next xs n x e = take_more xs n 0 (slice_get_within xs n x e) ∙ ap (λ (y : ℕ). take n xs ++ y ∷ []) (get_or_from_slice_get xs n x 0 e)
 
-none_past : (xs : List ℕ) (n : ℕ) → slice_get xs n ≡ None → length xs ≤ n
+pub none_past : (xs : List ℕ) (n : ℕ) → slice_get xs n ≡ None → length xs ≤ n
 none_past xs n e = ⊎_elim (λ (h : n < length xs). let f = sym (slice_get-get_or xs n 0 h) ∙ e in absurd (cc)) (λ (h : length xs ≤ n). h) (cases_lt n (length xs))
 
-member_met : {H : Type 0} {place : H → ℕ} {F : Forest} {d : ℕ} {met : List H} {next : Option H} {v : H} → IsAlongLevel place F d met next → next ≡ Some v → slice_get (level F d) (length met) ≡ Some (place v)
+pub member_met : {H : Type 0} {place : H → ℕ} {F : Forest} {d : ℕ} {met : List H} {next : Option H} {v : H} → IsAlongLevel place F d met next → next ≡ Some v → slice_get (level F d) (length met) ≡ Some (place v)
 member_met {place = place} h e = sym h.then ∙ ap (option_map place) e
-
-pub walk_begins : {H : Type 0} {place : H → ℕ} {F : Forest} {d : ℕ} {next : Option H} → option_map place next ≡ first_of (level F d) → IsAlongLevel place F d [] next
-walk_begins e = record { first = refl; then = e }
-
-pub walk_meets_nodes : {H : Type 0} {place : H → ℕ} {F : Forest} {d : ℕ} {met : List H} {next : Option H} {v : H} → IsAlongLevel place F d met next → next ≡ Some v → IsNode F (place v)
-walk_meets_nodes {place = place} {F = F} {d = d} {met = met} {v = v} h e = (levels_go_on F d (length met) (place v) (member_met h e)).0
-
-pub walk_goes_on : {H : Type 0} {place : H → ℕ} {F : Forest} {d : ℕ} {met all : List H} {next after : Option H} {v : H} → IsAlongLevel place F d met next → next ≡ Some v
-    → all ≡ met ++ v ∷ [] → option_map place after ≡ next_of (level F (depth F (place v))) (place v) → IsAlongLevel place F d all after
-walk_goes_on {place = place} {F = F} {d = d} {met = met} {all = all} {v = v} h e a n =
-    let m = member_met h e in
-    let g = levels_go_on F d (length met) (place v) m in
-    let long : length all ≡ length met + 1 = ap (λ (vs : List _). length vs) a ∙ length_push met v in
-    record {
-      first = ap (map place) a ∙ map-append place met (v ∷ []) ∙ ap (λ (vs : List ℕ). vs ++ place v ∷ []) h.first ∙ sym (take_next (level F d) (length met) (place v) m) ∙ ap (λ (k : ℕ). take k (level F d)) (sym long);
-      then = n ∙ ap (λ (k : ℕ). next_of (level F k) (place v)) g.1 ∙ g.2 ∙ ap (slice_get (level F d)) (sym long);
-    }
-
-pub walk_comes_nearer : {H : Type 0} {place : H → ℕ} {F : Forest} {d : ℕ} {met all : List H} {next : Option H} {v : H} → IsAlongLevel place F d met next → next ≡ Some v
-    → all ≡ met ++ v ∷ [] → length (level F d) - length all < length (level F d) - length met
-walk_comes_nearer {place = place} {F = F} {d = d} {met = met} {all = all} {v = v} h e a =
-    let inside = slice_get_within (level F d) (length met) (place v) (member_met h e) in
-    let long : length all ≡ length met + 1 = ap (λ (vs : List _). length vs) a ∙ length_push met v in
-    omega arith
-
-pub walk_ends : {H : Type 0} {place : H → ℕ} {F : Forest} {d : ℕ} {met : List H} {next : Option H} → IsAlongLevel place F d met next → next ≡ None → map place met ≡ level F d
-walk_ends {place = place} {F = F} {d = d} {met = met} h e =
-    h.first ∙ take_all (length met) (level F d) (none_past (level F d) (length met) (sym h.then ∙ ap (option_map place) e))

@@ -1,15 +1,7 @@
 -- The places right beside one, which a search finds by their bits alone.
-use Rattle.std.proofs.Common.{◌≡◌, ◌↔◌, ℕ, ◌+◌, ◌-◌, ◌<◌, ◌≤◌, Bool, true, false, List, length, get_or, not, nat_eq, ℤ, ◌+ℤ◌, FitsSigned, to_z, of_z, Some, arith, sym, ap, ◌∙◌, neg_ℤ, pos, negsuc, ◌-ℤ◌, None, refl, w64}
-use Rattle.std.specs.Bool.{IsTrue}
-use Rattle.std.proofs.lemmas.Int.{ints, to_z-of_z}
-use Rattle.std.proofs.lemmas.Bool.{eq-eqb, eqb-true}
-use Rattle.vers_trees.specs.Excess.{excess, first_rise_after, last_rise_before, bit_step, enclosing}
+use Rattle.vers_trees.proofs.Words.{◌≡◌, ◌↔◌, ℕ, ◌+◌, ◌-◌, ◌<◌, ◌≤◌, Bool, true, false, List, length, get_or, not, nat_eq, ℤ, ◌+ℤ◌, FitsSigned, to_z, of_z, Some, arith, sym, ap, ◌∙◌, neg_ℤ, pos, negsuc, ◌-ℤ◌, None, refl, w64, IsTrue, ints, to_z-of_z, eq-eqb, eqb-true, excess, first_rise_after, last_rise_before, bit_step, enclosing, get_or_past, count, count_both, opened_after}
 use Rattle.vers_trees.proofs.searches.Searches.{after_some, after_is, before_some, before_is, before_past}
 use Rattle.vers_trees.proofs.searches.Scans.{step_fits, bit_is, fits_small}
-use Rattle.std.proofs.lemmas.List.{get_or_past}
-use Rattle.vers_bits.specs.Bits.{count}
-use Rattle.vers_bits.proofs.PublicLaws.{count_both}
-use Rattle.vers_trees.specs.inside.Scans.{opened_after}
 
 -- two numbers as the machine has them are the same just where they are
 same_stored : (d r : ℤ) → FitsSigned w64 d → FitsSigned w64 r → IsTrue (nat_eq (of_z w64 d) (of_z w64 r)) → d ≡ r
@@ -74,16 +66,11 @@ with_sign n h = to_z-of_z w64 (pos n) (small_number n h)
 
 -- the ones less the rest are the excess
 pub difference_is : (l : List Bool) (i n : ℕ) → length l < 9223372036854775808 → i ≤ length l → n ≡ count true l i → FitsSigned w64 (to_z w64 n -ℤ to_z w64 (i - n)) × (to_z w64 n -ℤ to_z w64 (i - n) ≡ excess l i)
-difference_is l i n short h e =
-    let few = few_ones l i n e in
-    rw (with_sign n (omega arith), with_sign (i - n) (omega arith)) (fits_small (pos n -ℤ pos (i - n)) (omega (arith, ints)) (omega (arith, ints)), excess_by_ones l i n h e)
+difference_is l i n short h e = grind (arith, ints, few_ones, with_sign, fits_small, excess_by_ones)
 
 -- its negative
 pub negated : (n : ℕ) → n < 9223372036854775808 → FitsSigned w64 (pos 0 -ℤ to_z w64 n) × (to_z w64 (of_z w64 (pos 0 -ℤ to_z w64 n)) ≡ neg_ℤ (pos n))
-negated n h =
-    let f : FitsSigned w64 (pos 0 -ℤ pos n) = fits_small (pos 0 -ℤ pos n) (omega (arith, ints)) (omega (arith, ints)) in
-    let e : pos 0 -ℤ pos n ≡ neg_ℤ (pos n) = omega (arith, ints) in
-    rw (with_sign n h) (f, to_z-of_z w64 (pos 0 -ℤ pos n) f ∙ e)
+negated n h = grind (arith, ints, fits_small, with_sign, to_z-of_z)
 
 -- the place after another
 pub opens_there : (l : List Bool) (p : ℕ) → get_or l (p + 1) false ≡ true → Some (p + 1) ≡ opened_after l p

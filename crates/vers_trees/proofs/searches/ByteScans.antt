@@ -1,17 +1,5 @@
 -- Whole bytes of a scan, by the entries of their tables.
-use Rattle.std.proofs.Common.{◌≡◌, ◌≢◌, ℕ, zero, suc, ◌+◌, ◌-◌, ◌*◌, ◌/◌, ◌%◌, ◌^◌, ◌<◌, ◌≤◌, Bool, true, false, List, [], ◌∷◌, length, take, drop, ℤ, pos, negsuc, ◌+ℤ◌, ◌-ℤ◌, ◌≤ℤ◌, arith, sym, ap, subst, refl, Option, Some, FitsSigned, to_z, of_z, ◌∙◌, w64, count_ones}
-use Rattle.std.specs.Option.{is_some}
-use Rattle.std.proofs.lemmas.Int.{ints}
-use Rattle.std.proofs.lemmas.Bool.Decides.{nat_tests}
-use Rattle.std.proofs.lemmas.Nat.{mod-pow-add}
-use Rattle.std.proofs.lemmas.List.{take-append-drop, length-take-le, length-drop, drop-take, take_all, drop_all}
-use Rattle.std.proofs.Math.Nat.{mod-eq_of_lt}
-use Rattle.vers_bits.specs.Bits.{number, part, count, limb}
-use Rattle.vers_bits.proofs.PublicLaws.{number_below, number-drop, count_limb, count_both, count_none, number-take}
-use Rattle.vers_rank.specs.Queries.{part_number_or_zero}
-use Rattle.vers_trees.specs.Excess.{excess}
-use Rattle.vers_trees.specs.Bytes.{IsByte, IsEntry, sum_along, place_along, place_in, least_in, greatest_in}
-use Rattle.vers_trees.specs.inside.Scans.{IsFirstRise, HasNoRise, IsLastRise, HasNoRiseBefore}
+use Rattle.vers_trees.proofs.Words.{◌≡◌, ◌≢◌, ℕ, zero, suc, ◌+◌, ◌-◌, ◌*◌, ◌/◌, ◌%◌, ◌^◌, ◌<◌, ◌≤◌, Bool, true, false, List, [], ◌∷◌, length, take, drop, ℤ, pos, negsuc, ◌+ℤ◌, ◌-ℤ◌, ◌≤ℤ◌, arith, sym, ap, subst, refl, Option, Some, FitsSigned, to_z, of_z, ◌∙◌, w64, count_ones, is_some, ints, nat_tests, mod-pow-add, take-append-drop, length-take-le, length-drop, drop-take, take_all, drop_all, mod-eq_of_lt, number, part, count, limb, number_below, number-drop, count_limb, count_both, count_none, number-take, part_number_or_zero, excess, IsByte, IsEntry, sum_along, place_along, place_in, least_in, greatest_in, IsFirstRise, HasNoRise, IsLastRise, HasNoRiseBefore}
 use Rattle.vers_trees.proofs.searches.Scans.{Misses, forward_found, forward_more, backward_found, backward_more}
 use Rattle.vers_trees.proofs.grammar.Excess.{excess-append_left, excess-append_right}
 
@@ -32,7 +20,6 @@ excess-drop l p j h =
 
 pub excess-part : (l : List Bool) (p n j : ℕ) → p + n ≤ length l → j ≤ n → excess l (p + j) ≡ excess l p +ℤ excess (part l p n) j
 excess-part l p n j h i =
-    let e = length-drop p l in
     let m = length-part l p n h in
     let t = ap (λ (m : List Bool). excess m j) (take-append-drop n (drop p l)) in
     let s = excess-append_left (part l p n) (drop n (drop p l)) j (omega arith) in
@@ -134,7 +121,7 @@ missed from_end l p entry t a e none k y z q =
     let s = along from_end l p n a m.0 in
     let here : sum_past from_end l (p + place_along from_end n) ≡ sum_past from_end l k = ap (sum_past from_end l) (omega arith) in
     let lo = e.low n m.0 in let hi = e.high n m.0 in
-    let x = natural (least_in entry) (sum_along from_end (part l p 8) (n + 1) +ℤ pos 8) lo in let x1 = x.1 in
+    let x = natural (least_in entry) (sum_along from_end (part l p 8) (n + 1) +ℤ pos 8) lo in
     none x.0 (omega (arith, ints)) (omega (arith, ints)) (omega (arith, ints))
 
 -- where one of them is, at the place that the entry has for it
@@ -142,14 +129,14 @@ met : (from_end : Bool) (l : List Bool) (p entry x : ℕ) (t : ℤ) → p + 8 �
     → (place_in entry x < 8) × (sum_past from_end l (p + place_in entry x) ≡ t) × ((k : ℕ) → p ≤ k → k < p + 8 → place_along from_end (k - p) < place_along from_end (place_in entry x) → sum_past from_end l k ≢ t)
 met from_end l p entry x t a e u v z =
     let m = e.met x u v in
-    let w = turned from_end m.step m.within in let w0 = w.0 in let place = m.place in
+    let w = turned from_end m.step m.within in
     let back : place_along from_end (place_in entry x) ≡ m.step = ap (place_along from_end) m.place ∙ w.1 in
-    let s = along from_end l p m.step a m.within in let sum = m.sum in
+    let s = along from_end l p m.step a m.within in
     let here : sum_past from_end l (p + place_along from_end m.step) ≡ sum_past from_end l (p + place_in entry x) = ap (λ (n : ℕ). sum_past from_end l (p + n)) (sym m.place) in (
       omega arith,
       omega (arith, ints),
       λ k b c i q.
-          let v = turned from_end (k - p) (omega arith) in let v1 = v.1 in
+          let v = turned from_end (k - p) (omega arith) in
           let f = along from_end l p (place_along from_end (k - p)) a v.0 in
           let at : sum_past from_end l (p + place_along from_end (place_along from_end (k - p))) ≡ sum_past from_end l k = ap (sum_past from_end l) (omega arith) in
           m.first (place_along from_end (k - p)) (omega arith) (omega (arith, ints)),
@@ -161,21 +148,22 @@ entry_ordered from_end bits entry e = let a = e.low 0 (omega arith) in let b = e
 -- ---- forwards
 pub forward_byte_found : (l : List Bool) (from p end : ℕ) (r rise : ℤ) (entry x : ℕ) → HasNoRise l from p r rise → from ≤ p → p + 8 ≤ end → end ≤ length l → IsEntry false (part l p 8) entry → least_in entry ≤ x → x ≤ greatest_in entry → rise +ℤ (pos x -ℤ pos 8) ≡ r → IsFirstRise l from end r (p + place_in entry x)
 forward_byte_found l from p end r rise entry x h o a b e u v z =
-    let m = met false l p entry x (excess l from +ℤ r) (omega arith) e u v (omega (arith, ints)) in let m0 = m.0 in let m1 = m.1 in
+    let m = met false l p entry x (excess l from +ℤ r) (omega arith) e u v (omega (arith, ints)) in
     forward_found l from p (p + place_in entry x) end r rise (pos x -ℤ pos 8) h (omega arith) (omega arith) (λ k y w. m.2 k y (omega arith) (omega arith)) (omega (arith, ints)) z
 
-pub forward_byte : (l : List Bool) (from p : ℕ) (r rise d : ℤ) (entry byte : ℕ) → HasNoRise l from p r rise → length l < 2 ^ 63 → from ≤ p → p + 8 ≤ length l → IsByte (part l p 8) byte → IsEntry false (part l p 8) entry
-    → ((x : ℕ) → least_in entry ≤ x → x ≤ greatest_in entry → rise +ℤ (pos x -ℤ pos 8) ≢ r) → d ≡ pos (2 * count_ones byte) -ℤ pos 8 → FitsSigned w64 (rise +ℤ to_z w64 (of_z w64 d)) × HasNoRise l from (p + 8) r (to_z w64 (of_z w64 (rise +ℤ to_z w64 (of_z w64 d))))
-forward_byte l from p r rise d entry byte h short o a is e none q =
-    forward_more l from p (p + 8) r rise d h short o (omega arith) a (total_of l p 8 byte d (omega arith) a (sym is.valued) q) (missed false l p entry _ a e (λ x u v w. none x u v (omega (arith, ints))))
+pub forward_byte : (l : List Bool) (from p q : ℕ) (r rise d : ℤ) (entry byte : ℕ) → HasNoRise l from p r rise → length l < 2 ^ 63 → from ≤ p → q ≡ p + 8 → q ≤ length l → IsByte (part l p 8) byte → ((bits : List Bool) → IsByte bits byte → IsEntry false bits entry)
+    → ((x : ℕ) → least_in entry ≤ x → x ≤ greatest_in entry → rise +ℤ (pos x -ℤ pos 8) ≢ r) → d ≡ pos (2 * count_ones byte) -ℤ pos 8 → FitsSigned w64 (rise +ℤ to_z w64 (of_z w64 d)) × HasNoRise l from q r (to_z w64 (of_z w64 (rise +ℤ to_z w64 (of_z w64 d))))
+forward_byte l from p q r rise d entry byte h short o n a is e none k =
+    rw n (forward_more l from p (p + 8) r rise d h short o (omega arith) (omega arith) (total_of l p 8 byte d (omega arith) (omega arith) (sym is.valued) k) (missed false l p entry _ (omega arith) (e _ is) (λ x u v w. none x u v (omega (arith, ints)))))
 
 -- ---- backwards
-pub backward_byte_found : (l : List Bool) (from p end : ℕ) (r rise : ℤ) (entry x : ℕ) → HasNoRiseBefore l (p + 8) end r rise → from ≤ p → p + 8 ≤ end → end ≤ length l → IsEntry true (part l p 8) entry → least_in entry ≤ x → x ≤ greatest_in entry → rise +ℤ (pos x -ℤ pos 8) ≡ r → IsLastRise l from end r (p + place_in entry x)
-backward_byte_found l from p end r rise entry x h o a b e u v z =
-    let m = met true l p entry x (excess l end +ℤ r) (omega arith) e u v (omega (arith, ints)) in let m0 = m.0 in let m1 = m.1 in
-    backward_found l from (p + place_in entry x) (p + 8) end r rise (pos x -ℤ pos 8) h (omega arith) (omega arith) (λ k y w. m.2 k (omega arith) w (omega arith)) (omega (arith, ints)) z
+pub backward_byte_found : (l : List Bool) (from p q end : ℕ) (r rise : ℤ) (entry x : ℕ) → HasNoRiseBefore l q end r rise → q ≡ p + 8 → from ≤ p → q ≤ end → end ≤ length l → IsEntry true (part l p 8) entry → least_in entry ≤ x → x ≤ greatest_in entry → rise +ℤ (pos x -ℤ pos 8) ≡ r → IsLastRise l from end r (p + place_in entry x)
+backward_byte_found l from p q end r rise entry x h n o a b e u v z =
+    let k = rw n at h in let m = met true l p entry x (excess l end +ℤ r) (omega arith) e u v (omega (arith, ints)) in
+    backward_found l from (p + place_in entry x) (p + 8) end r rise (pos x -ℤ pos 8) k (omega arith) (omega arith) (λ k y w. m.2 k (omega arith) w (omega arith)) (omega (arith, ints)) z
 
-pub backward_byte : (l : List Bool) (p end : ℕ) (r rise d : ℤ) (entry byte : ℕ) → HasNoRiseBefore l (p + 8) end r rise → length l < 2 ^ 63 → p + 8 ≤ end → end ≤ length l → IsByte (part l p 8) byte → IsEntry true (part l p 8) entry
+pub backward_byte : (l : List Bool) (p q end : ℕ) (r rise d : ℤ) (entry byte : ℕ) → HasNoRiseBefore l q end r rise → length l < 2 ^ 63 → q ≡ p + 8 → q ≤ end → end ≤ length l → IsByte (part l p 8) byte → ((bits : List Bool) → IsByte bits byte → IsEntry true bits entry)
     → ((x : ℕ) → least_in entry ≤ x → x ≤ greatest_in entry → rise +ℤ (pos x -ℤ pos 8) ≢ r) → d ≡ pos (2 * count_ones byte) -ℤ pos 8 → FitsSigned w64 (rise -ℤ to_z w64 (of_z w64 d)) × HasNoRiseBefore l p end r (to_z w64 (of_z w64 (rise -ℤ to_z w64 (of_z w64 d))))
-backward_byte l p end r rise d entry byte h short o a is e none q =
-    backward_more l p (p + 8) end r rise d h short (omega arith) o a (total_of l p 8 byte d (omega arith) (omega arith) (sym is.valued) q) (missed true l p entry _ (omega arith) e (λ x u v w. none x u v (omega (arith, ints))))
+backward_byte l p q end r rise d entry byte h short n o a is e none k =
+    let g = rw n at h in
+    backward_more l p (p + 8) end r rise d g short (omega arith) (omega arith) a (total_of l p 8 byte d (omega arith) (omega arith) (sym is.valued) k) (missed true l p entry _ (omega arith) (e _ is) (λ x u v w. none x u v (omega (arith, ints))))

@@ -1,17 +1,5 @@
 -- Numbers by their octal digits, and what an entry of a table of bytes is packed of.
-use Rattle.std.proofs.Common.{◌≡◌, ℕ, zero, suc, ◌+◌, ◌-◌, ◌*◌, ◌/◌, ◌%◌, ◌^◌, ◌<◌, ◌≤◌, List, [], ◌∷◌, length, drop, get_or, arith, ap, sym, ◌∙◌, ◌≢◌, ◌⊎◌, inl, inr, Bool, true, false, pos, negsuc, ◌+ℤ◌, ◌-ℤ◌, cond, min, max, ⊎_elim, subst, refl, replicate, nat_eq, set}
-use Rattle.std.proofs.Math.Nat.{pow-suc, pow-le-pow_right}
-use Rattle.std.proofs.Math.Seq.{drop-cons}
-use Rattle.std.proofs.lemmas.List.{length-drop, get_or-drop, get_or-set_same, get_or-set_other, length-set}
-use Rattle.std.proofs.lemmas.Nat.{shr-shr}
-use Rattle.vers_trees.specs.Bytes.{place_in, IsByte, IsEntry, IsFirstMet, sum_along, place_along}
-use Rattle.vers_trees.specs.inside.Bytes.{octal, AreEntries, HasMet, step_along}
-use Rattle.std.specs.Int.{bit_at}
-use Rattle.std.proofs.lemmas.Int.{ints}
-use Rattle.std.proofs.lemmas.Bool.{cases_lt, cases_order}
-use Rattle.vers_bits.specs.Bits.{bit_value}
-use Rattle.vers_bits.proofs.PublicLaws.{bit_at-number}
-use Rattle.vers_trees.specs.Excess.{excess, bit_step}
+use Rattle.vers_trees.proofs.Words.{◌≡◌, ℕ, zero, suc, ◌+◌, ◌-◌, ◌*◌, ◌/◌, ◌%◌, ◌^◌, ◌<◌, ◌≤◌, List, [], ◌∷◌, length, drop, get_or, arith, ap, sym, ◌∙◌, ◌≢◌, ◌⊎◌, inl, inr, Bool, true, false, pos, negsuc, ◌+ℤ◌, ◌-ℤ◌, cond, min, max, ⊎_elim, subst, refl, replicate, nat_eq, set, pow-suc, pow-le-pow_right, drop-cons, length-drop, get_or-drop, get_or-set_same, get_or-set_other, length-set, shr-shr, place_in, IsByte, IsEntry, IsFirstMet, sum_along, place_along, octal, AreEntries, HasMet, step_along, bit_at, ints, cases_lt, bit_value, bit_at-number, excess, bit_step}
 use Rattle.vers_trees.proofs.grammar.Excess.{excess-zero, excess_after_bit}
 
 -- each of the digits is below 8
@@ -64,16 +52,7 @@ no_sum true bits = omega (arith, ints)
 
 -- before the first step
 pub met_nothing : (from_end : Bool) (bits : List Bool) (places : List ℕ) → ((x : ℕ) → get_or places x 7 ≡ 7) → HasMet from_end bits 0 8 9 7 places
-met_nothing from_end bits places all =
-    let z = no_sum from_end bits in
-    record {
-      sum = omega (arith, ints);
-      around = inl (omega arith, omega arith, omega arith, omega arith);
-      high = λ k h. absurd (omega arith);
-      low = λ k h. absurd (omega arith);
-      met = λ x a b. absurd (omega arith);
-      absent = λ x o. all x;
-    }
+met_nothing from_end bits places all = grind (arith, ints, no_sum)
 
 -- a step at a bit adds to the sum
 step_by : (from_end b : Bool) → step_along from_end b ≡ cond from_end (pos 0 -ℤ bit_step b) (bit_step b)
@@ -92,13 +71,7 @@ next_sum true bits n e h =
 
 -- the bit that the code takes
 pub bit_taken : (bits : List Bool) (byte place : ℕ) (b : Bool) → IsByte bits byte → bit_at byte place ≡ bit_value b → get_or bits place false ≡ b
-bit_taken bits byte place b is e = go (get_or bits place false) b (sym (bit_at-number bits place) ∙ ap (λ (n : ℕ). bit_at n place) is.valued ∙ e)
-  where
-    go : (a b : Bool) → bit_value a ≡ bit_value b → a ≡ b
-    go true true e = refl
-    go false false e = refl
-    go true false e = absurd (omega arith)
-    go false true e = absurd (omega arith)
+bit_taken bits byte place b is e = grind (arith, ints, bit_at-number)
 
 by_one : (from_end b : Bool) → (step_along from_end b ≡ pos 1) ⊎ (step_along from_end b ≡ negsuc 0)
 by_one true true = inr refl
@@ -108,13 +81,10 @@ by_one false false = inr refl
 
 -- what was met before stays so
 later : (from_end : Bool) (bits : List Bool) (n x p : ℕ) → IsFirstMet from_end bits n x p → IsFirstMet from_end bits (n + 1) x p
-later from_end bits n x p m = let w = m.within in record { step = m.step; within = omega arith; sum = m.sum; first = m.first; place = m.place }
+later from_end bits n x p m = record { step = m.step; within = omega arith; sum = m.sum; first = m.first; place = m.place }
 
 pub up_or_down : (from_end b : Bool) (value next : ℕ) → pos next ≡ pos value +ℤ step_along from_end b → (next ≡ value + 1) ⊎ (next + 1 ≡ value)
-up_or_down from_end b value next u = ⊎_elim
-    (λ (e : step_along from_end b ≡ pos 1). inl (omega (arith, ints)))
-    (λ (e : step_along from_end b ≡ negsuc 0). inr (omega (arith, ints)))
-    (by_one from_end b)
+up_or_down from_end b value next u = grind (arith, ints, by_one)
 
 -- a bit as the code tests it
 bit_at-is : (n i : ℕ) → bit_at n i ≡ n / 2 ^ i % 2
@@ -139,16 +109,7 @@ pub record IsNoted (least greatest next p : ℕ) (places : List ℕ) (least' gre
 -- the place of a sum after a step: that of the step, where the sum is met for the first time, and else what it was
 noted_at : (least greatest next p : ℕ) (places : List ℕ) (least' greatest' : ℕ) (places' : List ℕ) → IsNoted least greatest next p places least' greatest' places' → next < length places → (x : ℕ)
     → (((next < least) ⊎ (greatest < next)) × (next ≡ x) × (get_or places' x 7 ≡ p)) ⊎ ((((least ≤ next) × (next ≤ greatest)) ⊎ (next ≢ x)) × (get_or places' x 7 ≡ get_or places x 7))
-noted_at least greatest next p places least' greatest' places' w inside x = ⊎_elim
-    (λ (a : next < least). first (inl a))
-    (λ (a : least ≤ next). ⊎_elim (λ (b : greatest < next). first (inr b)) (λ (b : next ≤ greatest). inr (inl (a, b), rw (w.again a b) refl)) (cases_lt greatest next))
-    (cases_lt next least)
-  where
-    first : (next < least) ⊎ (greatest < next) → (((next < least) ⊎ (greatest < next)) × (next ≡ x) × (get_or places' x 7 ≡ p)) ⊎ ((((least ≤ next) × (next ≤ greatest)) ⊎ (next ≢ x)) × (get_or places' x 7 ≡ get_or places x 7))
-    first o = ⊎_elim
-        (λ (e : next ≡ x). inl (o, e, rw (w.first o) (subst (λ (z : ℕ). get_or (set places next p) z 7 ≡ p) e (get_or-set_same places next p 7 inside))))
-        (λ (u : (next < x) ⊎ (x < next)). let ne : next ≢ x = λ e. omega (arith, u) in inr (inr ne, rw (w.first o) (get_or-set_other places next x p 7 (λ e. ne (sym e)))))
-        (cases_order next x)
+noted_at least greatest next p places least' greatest' places' w inside x = grind (arith, ints, get_or-set_same, get_or-set_other)
 
 pub met_more : (from_end : Bool) (bits : List Bool) (byte n value least greatest next place : ℕ) (places : List ℕ) (least' greatest' : ℕ) (places' : List ℕ) → IsByte bits byte → n < 8 → HasMet from_end bits n value least greatest places
     → place ≡ place_along from_end n → pos next ≡ pos value +ℤ step_along from_end (nat_eq (byte / 2 ^ place % 2) 1) → next < length places → IsNoted least greatest next place places least' greatest' places'
@@ -180,16 +141,13 @@ met_more from_end bits byte n value least greatest next place places least' grea
 
 -- the places stay digits
 pub few_more : (least greatest next p : ℕ) (places : List ℕ) (least' greatest' : ℕ) (places' : List ℕ) → IsNoted least greatest next p places least' greatest' places' → next < length places → p < 8 → ((x : ℕ) → get_or places x 7 < 8) → (x : ℕ) → get_or places' x 7 < 8
-few_more least greatest next p places least' greatest' places' w inside small old x = let o = old x in ⊎_elim
+few_more least greatest next p places least' greatest' places' w inside small old x = ⊎_elim
     (λ (q : ((next < least) ⊎ (greatest < next)) × (next ≡ x) × (get_or places' x 7 ≡ p)). let e = q.2 in omega arith)
     (λ (q : (((least ≤ next) × (next ≤ greatest)) ⊎ (next ≢ x)) × (get_or places' x 7 ≡ get_or places x 7)). let e = q.1 in omega arith)
     (noted_at least greatest next p places least' greatest' places' w inside x)
 
 pub as_many : (least greatest next p : ℕ) (places : List ℕ) (least' greatest' : ℕ) (places' : List ℕ) → IsNoted least greatest next p places least' greatest' places' → length places' ≡ length places
-as_many least greatest next p places least' greatest' places' w = ⊎_elim
-    (λ (a : next < least). ap length (w.first (inl a)) ∙ length-set places next p)
-    (λ (a : least ≤ next). ⊎_elim (λ (b : greatest < next). ap length (w.first (inr b)) ∙ length-set places next p) (λ (b : next ≤ greatest). ap length (w.again a b)) (cases_lt greatest next))
-    (cases_lt next least)
+as_many least greatest next p places least' greatest' places' w = grind (arith, ints, length-set)
 
 -- no place met
 abbrev pub all_seven : ℕ → List ℕ
@@ -202,9 +160,4 @@ sevens (suc n) (suc x) = sevens n x
 
 -- ---- tables
 pub entries_more : (from_end : Bool) (n : ℕ) (entries : List ℕ) (entry : ℕ) → n < length entries → AreEntries from_end n entries → ((bits : List Bool) → IsByte bits n → IsEntry from_end bits entry) → AreEntries from_end (n + 1) (set entries n entry)
-entries_more from_end n entries entry inside old new byte h bits is = ⊎_elim
-    (λ (w : byte < n). subst (IsEntry from_end bits) (sym (get_or-set_other entries n byte entry 0 (λ e. omega arith))) (old byte w bits is))
-    (λ (w : n ≤ byte).
-    let e : n ≡ byte = omega arith in
-    subst (λ (b : ℕ). IsEntry from_end bits (get_or (set entries n entry) b 0)) e (subst (IsEntry from_end bits) (sym (get_or-set_same entries n entry 0 inside)) (new bits (subst (IsByte bits) (sym e) is))))
-    (cases_lt byte n)
+entries_more from_end n entries entry inside old new byte h bits is = grind (arith, ints, get_or-set_other, get_or-set_same)

@@ -1,14 +1,5 @@
 -- The searches forwards and backwards: the scan of a block, what the tree answers, and the scan of that block.
-use Rattle.std.proofs.Common.{◌≡◌, ℕ, ◌+◌, ◌-◌, ◌*◌, ◌/◌, ◌<◌, ◌≤◌, ◌≢◌, inl, min, Bool, List, length, drop, ℤ, ◌+ℤ◌, ◌-ℤ◌, FitsSigned, to_z, of_z, Some, None, Result, Ok, Err, MatchResult, arith, ⊎_elim, subst, sym, ap, ◌∙◌, w64}
-use Rattle.std.specs.Result.{result_ok}
-use Rattle.std.proofs.lemmas.Int.{ints, to_z-of_z}
-use Rattle.std.proofs.lemmas.Bool.{cases_lt}
-use Rattle.std.proofs.Math.Nat.{div-mul-le_self, mul-le-mul_right}
-use Rattle.vers_trees.specs.declared.trees.bp.min_max.Node.{Node}
-use Rattle.vers_trees.specs.Excess.{excess, first_rise_after, last_rise_before}
-use Rattle.vers_trees.specs.inside.Scans.{IsFirstRise, HasNoRise, IsLastRise, HasNoRiseBefore}
-use Rattle.vers_trees.specs.inside.MinMax.{total_before, Reaches, Meets, IsNextFrom, IsPreviousBefore}
-use Rattle.vers_trees.specs.inside.Index.{IsTreeOf, IsIndexed}
+use Rattle.vers_trees.proofs.Words.{◌≡◌, ℕ, ◌+◌, ◌-◌, ◌*◌, ◌/◌, ◌<◌, ◌≤◌, ◌≢◌, inl, min, Bool, List, length, drop, ℤ, ◌+ℤ◌, ◌-ℤ◌, FitsSigned, to_z, of_z, Some, None, Result, Ok, Err, MatchResult, arith, ⊎_elim, subst, sym, ap, ◌∙◌, w64, result_ok, ints, to_z-of_z, cases_lt, div-mul-le_self, mul-le-mul_right, Node, excess, first_rise_after, last_rise_before, IsFirstRise, HasNoRise, IsLastRise, HasNoRiseBefore, total_before, Reaches, Meets, IsNextFrom, IsPreviousBefore, IsTreeOf, IsIndexed}
 use Rattle.vers_trees.proofs.searches.Searches.{after_is, none_after, before_is, none_before, before_past}
 use Rattle.vers_trees.proofs.searches.Scans.{rise_fits}
 use Rattle.vers_trees.proofs.layout.Blocks.{reaches_iff, sum_before_block, block_inside, block_of, div_up, div_below, start_is, reached_at, met_at}
@@ -34,21 +25,17 @@ pub none_past_back : (l : List Bool) (i : ℕ) (r : ℤ) → length l ≤ i → 
 none_past_back l i r h = sym (before_past l i r h)
 
 pub found_first : (l : List Bool) (i end : ℕ) (r : ℤ) (place : ℕ) → end ≤ length l → IsFirstRise l (i + 1) end r place → Some place ≡ first_rise_after l i r
-found_first l i end r place h p =
-    sym (after_is l i r place (record { after = omega arith; inside = omega arith; sum = p.sum; first = λ k x y. p.first k (omega arith) y }))
+found_first l i end r place h p = grind (arith, ints, after_is)
 
 pub found_last : (l : List Bool) (from i : ℕ) (r : ℤ) (place : ℕ) → i < length l → IsLastRise l from i r place → Some place ≡ last_rise_before l i r
 found_last l from i r place h p = sym (before_is l i r place (record { before = p.inside; inside = h; sum = p.sum; last = p.last }))
 
 pub first_end : (l : List Bool) (size i : ℕ) → 0 < size → i < length l → i + 1 ≤ min (i / size * size + size) (length l)
-first_end l size i so h = let o = (block_of i size so).1 in omega arith
+first_end l size i so h = omega arith
 
 -- the block before that of a place ends no later than the place
 pub previous_ends : (blocks : List Node) (size p : ℕ) (t : ℤ) (j : ℕ) (rest : ℤ) → IsPreviousBefore blocks (p / size) t j rest → j * size + size ≤ p
-previous_ends blocks size p t j rest n =
-    let m : (j + 1) * size ≤ p / size * size = mul-le-mul_right size (omega arith) in
-    let d = div-mul-le_self p size in
-    omega arith
+previous_ends blocks size p t j rest n = grind (arith, ints, mul-le-mul_right, div-mul-le_self)
 
 -- in a list with its tree
 module _ (l : List Bool) (size first : ℕ) (nodes : List Node) (x : IsIndexed l size first nodes) where

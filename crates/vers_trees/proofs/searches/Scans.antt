@@ -1,24 +1,12 @@
 -- Scans over the bits of a part, by stretches: a bit, a byte or a word at a time.
-use Rattle.std.proofs.Common.{◌≡◌, ◌≢◌, ℕ, zero, suc, ◌+◌, ◌-◌, ◌^◌, ◌<◌, ◌≤◌, Bool, true, false, List, length, get_or, ℤ, pos, negsuc, ◌+ℤ◌, ◌-ℤ◌, ◌≤ℤ◌, FitsSigned, to_z, of_z, arith, ⊎_elim, sym, ap, ◌∙◌, w64}
-use Rattle.std.specs.Int.{int_min, int_max}
-use Rattle.std.proofs.lemmas.Int.{ints, clamps, by_lt_z, to_z-of_z}
-use Rattle.std.proofs.lemmas.Bool.{cases_lt}
-use Rattle.vers_tally.specs.Reads.{Reads, AddsAtMost}
-use Rattle.vers_tally.proofs.PublicLaws.{adds_then}
-use Rattle.vers_rank.specs.Queries.{get_reads}
-use Rattle.vers_trees.specs.declared.trees.bp.min_max.Node.{Node}
-use Rattle.vers_trees.specs.Excess.{excess, bit_step}
-use Rattle.vers_trees.specs.inside.MinMax.{IsPart}
-use Rattle.vers_trees.specs.inside.Scans.{IsFirstRise, HasNoRise, IsLastRise, HasNoRiseBefore, scan_reads}
+use Rattle.vers_trees.proofs.Words.{◌≡◌, ◌≢◌, ℕ, zero, suc, ◌+◌, ◌-◌, ◌^◌, ◌<◌, ◌≤◌, Bool, true, false, List, length, get_or, ℤ, pos, negsuc, ◌+ℤ◌, ◌-ℤ◌, ◌≤ℤ◌, FitsSigned, to_z, of_z, arith, ⊎_elim, sym, ap, ◌∙◌, w64, int_min, int_max, ints, clamps, by_lt_z, to_z-of_z, cases_lt, Reads, AddsAtMost, adds_then, get_reads, Node, excess, bit_step, IsPart, IsFirstRise, HasNoRise, IsLastRise, HasNoRiseBefore, scan_reads}
 use Rattle.vers_trees.proofs.grammar.Excess.{excess-is_walk, excess_after_bit}
 
 -- the excess changes by at most as much as there are places between
 near_by : (l : List Bool) (i d : ℕ) → (excess l (i + d) ≤ℤ (excess l i +ℤ pos d)) × (excess l i ≤ℤ (excess l (i + d) +ℤ pos d))
-near_by l i zero =
-    let e : excess l (i + 0) ≡ excess l i = ap (excess l) (omega arith) in
-    (omega (arith, ints), omega (arith, ints))
+near_by l i zero = grind (arith, ints)
 near_by l i (suc d) =
-    let h = near_by l i d in let a = h.0 in let b = h.1 in
+    let h = near_by l i d in
     let e : excess l (i + suc d) ≡ excess l (i + d + 1) = ap (excess l) (omega arith) in
     let u = (excess-is_walk l).up (i + d) in
     let v = (excess-is_walk l).down (i + d) in
@@ -36,9 +24,7 @@ fits_small (negsuc n) a b = record { sfits = omega (arith, ints) }
 
 -- between two places of a list of fewer than 2^63 bits the excess rises by a number that fits
 pub rise_fits : (l : List Bool) (i j : ℕ) (z : ℤ) → length l < 2 ^ 63 → i ≤ length l → j ≤ length l → excess l j ≡ excess l i +ℤ z → FitsSigned w64 z
-rise_fits l i j z short a b e =
-    let w = rise_within l i j (length l) z e (omega arith) (omega arith) in let w0 = w.0 in let w1 = w.1 in
-    fits_small z (omega (arith, ints)) (omega (arith, ints))
+rise_fits l i j z short a b e = grind (arith, ints, rise_within, fits_small)
 
 pub rise_is : (l : List Bool) (i j : ℕ) (z : ℤ) → length l < 2 ^ 63 → i ≤ length l → j ≤ length l → excess l j ≡ excess l i +ℤ z → to_z w64 (of_z w64 z) ≡ z
 rise_is l i j z short a b e = to_z-of_z w64 z (rise_fits l i j z short a b e)
@@ -61,13 +47,6 @@ Misses sum a b t = (k : ℕ) → a ≤ k → k < b → sum k ≢ t
 
 joined : (sum : ℕ → ℤ) (a b c : ℕ) (t : ℤ) → Misses sum a b t → Misses sum b c t → Misses sum a c t
 joined sum a b c t p q k x y = ⊎_elim (λ (w : k < b). p k x w) (λ (w : b ≤ k). q k w y) (cases_lt k b)
-
--- before the first bit
-pub not_begun : (l : List Bool) (from : ℕ) (r : ℤ) → HasNoRise l from from r (pos 0)
-not_begun l from r = record { risen = omega (arith, ints); none = λ k a b. absurd (omega arith) }
-
-pub not_begun_back : (l : List Bool) (end : ℕ) (r : ℤ) → HasNoRiseBefore l end end r (pos 0)
-not_begun_back l end r = record { risen = omega (arith, ints); none = λ k a b. absurd (omega arith) }
 
 -- past a stretch on which the excess rises by d
 pub forward_found : (l : List Bool) (from p place end : ℕ) (r rise x : ℤ) → HasNoRise l from p r rise → from ≤ place → place < end → Misses (λ k. excess l (k + 1)) p place (excess l from +ℤ r) → excess l (place + 1) ≡ excess l p +ℤ x → rise +ℤ x ≡ r → IsFirstRise l from end r place
@@ -108,13 +87,7 @@ one_more_read a b c n m e p q = adds_then p q (record { data_words = omega arith
 
 -- ---- the node of a part
 pub part_start : (l : List Bool) (a : ℕ) (d : ℤ) → excess l (a + 1) ≡ excess l a +ℤ d → IsPart l a (a + 1) (record { total = d; least = d; greatest = d })
-part_start l a d s = record {
-  total = s;
-  low = λ j x y. let same : excess l j ≡ excess l (a + 1) = ap (excess l) (omega arith) in omega (arith, ints);
-  high = λ j x y. let same : excess l j ≡ excess l (a + 1) = ap (excess l) (omega arith) in omega (arith, ints);
-  least = (a + 1, omega arith, omega arith, s);
-  greatest = (a + 1, omega arith, omega arith, s);
-}
+part_start l a d s = grind (arith, ints)
 
 pub part_more : (l : List Bool) (a p : ℕ) (x : Node) (d : ℤ) → IsPart l a p x → a < p → excess l (p + 1) ≡ excess l a +ℤ (x.total +ℤ d) → IsPart l a (p + 1) (record { total = x.total +ℤ d; least = int_min x.least (x.total +ℤ d); greatest = int_max x.greatest (x.total +ℤ d) })
 part_more l a p x d h o s = record {
@@ -136,6 +109,4 @@ part_more l a p x d h o s = record {
 }
 
 pub part_fits : (l : List Bool) (a p : ℕ) (x : Node) → IsPart l a p x → length l < 2 ^ 63 → a ≤ p → p ≤ length l → FitsSigned w64 x.total × FitsSigned w64 x.least × FitsSigned w64 x.greatest
-part_fits l a p x h short o i =
-    let m = h.least in let g = h.greatest in let m2 = m.2 in let g2 = g.2 in
-    (rise_fits l a p x.total short (omega arith) i h.total, rise_fits l a m.0 x.least short (omega arith) (omega arith) m.3, rise_fits l a g.0 x.greatest short (omega arith) (omega arith) g.3)
+part_fits l a p x h short o i = grind (arith, ints, rise_fits)

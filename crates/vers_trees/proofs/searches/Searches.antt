@@ -1,13 +1,5 @@
 -- The searches for a rise of the excess find the places that their facts describe.
-use Rattle.std.proofs.Common.{◌≡◌, ℕ, zero, suc, ◌+◌, ◌-◌, ◌<◌, ◌≤◌, ◌≢◌, ◌⊎◌, Bool, true, false, cond, List, [], ◌∷◌, ◌++◌, length, ℤ, ◌+ℤ◌, Option, Some, None, MatchOption, arith, ⊎_elim, subst, sym, refl, ap, ◌∙◌, find, filter, Decides}
-use Rattle.std.specs.List.{range_with_len, last_or}
-use Rattle.std.proofs.lemmas.List.{map-id}
-use Rattle.std.proofs.lemmas.List.FromFn.{filter_of_map_range_with_len_more}
-use Rattle.std.proofs.Math.Nat.{eq-or-lt_of_le}
-use Rattle.std.proofs.lemmas.Bool.{cases_lt, cases_order, lt-ltb, le-ltb}
-use Rattle.std.proofs.lemmas.Bool.Decides.{Decides-int_eq}
-use Rattle.vers_trees.specs.Excess.{excess, first_rise_after, last_rise_before}
-use Rattle.vers_trees.specs.Laws.{IsFirstRiseAfter, IsLastRiseBefore}
+use Rattle.vers_trees.proofs.Words.{◌≡◌, ℕ, zero, suc, ◌+◌, ◌-◌, ◌<◌, ◌≤◌, ◌≢◌, ◌⊎◌, Bool, true, false, cond, List, [], ◌∷◌, ◌++◌, length, ℤ, ◌+ℤ◌, Option, Some, None, MatchOption, arith, ⊎_elim, subst, sym, refl, ap, ◌∙◌, find, filter, Decides, range_with_len, last_or, map-id, filter_of_map_range_with_len_more, eq-or-lt_of_le, cases_lt, cases_order, lt-ltb, le-ltb, Decides-int_eq, excess, first_rise_after, last_rise_before, IsFirstRiseAfter, IsLastRiseBefore}
 
 -- j is the first number from a on and below b that has P, and the last below n
 pub record IsFirst (P : ℕ → Type 0) (a b j : ℕ) : Type 0 where
@@ -30,7 +22,7 @@ find_first test P d a (suc n) = go (test a) refl (find test (range_with_len (a +
     go true e o h = record { from = omega arith; below = omega arith; holds = (d a).0 e; first = λ k x y p. omega arith }
     go false e None h = λ k x y p. ⊎_elim (λ (s : a ≡ k). let t = (d a).1 (subst P (sym s) p) in cc) (λ (s : a < k). h k (omega arith) (omega arith) p) (eq-or-lt_of_le x)
     go false e (Some j) h =
-        let f = h.from in let b = h.below in
+        let b = h.below in
         record { from = omega arith; below = omega arith; holds = h.holds; first = λ k x y p. ⊎_elim (λ (s : a ≡ k). let t = (d a).1 (subst P (sym s) p) in cc) (λ (s : a < k). h.first k (omega arith) y p) (eq-or-lt_of_le x) }
 
 pub find_is : (test : ℕ → Bool) (P : ℕ → Type 0) → ((k : ℕ) → Decides (test k) (P k)) → (a n j : ℕ) → IsFirst P a (a + n) j → find test (range_with_len a n) ≡ Some j

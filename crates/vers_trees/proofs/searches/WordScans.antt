@@ -1,20 +1,8 @@
 -- Whole words of a scan: how far a sum falls along one at most, by its zeros that no one stands right before, and by its ones that no zero stands right after.
-use Rattle.std.proofs.Common.{◌≡◌, ℕ, zero, suc, ◌+◌, ◌-◌, ◌*◌, ◌/◌, ◌%◌, ◌^◌, ◌<◌, ◌≤◌, Bool, true, false, ◌||◌, ◌&&◌, List, [], ◌∷◌, length, take, ℤ, pos, negsuc, ◌+ℤ◌, ◌-ℤ◌, ◌≤ℤ◌, ◌<ℤ◌, arith, sym, ap, refl, FitsSigned, to_z, of_z, ◌∙◌, w64, pow-suc}
-use Rattle.std.specs.Prelude.{bit_or, bit_and, count_ones, IsTrue}
-use Rattle.std.specs.Int.Signed.{lt_z}
-use Rattle.std.proofs.lemmas.Int.{ints, to_z-of_z, to_z_pos}
-use Rattle.std.proofs.lemmas.Nat.{or_block, and_block, or_lt}
-use Rattle.vers_bits.specs.Bits.{number, part, bit_value}
-use Rattle.vers_bits.proofs.PublicLaws.{number-take}
-use Rattle.vers_trees.specs.Excess.{excess}
-use Rattle.vers_tally.specs.Reads.{Reads, AddsAtMost}
-use Rattle.vers_tally.proofs.PublicLaws.{adds_then}
-use Rattle.vers_rank.specs.Queries.{get_bits_reads}
-use Rattle.vers_trees.specs.inside.Scans.{HasNoRise, HasNoRiseBefore, falls, is_not_closed, rises, scan_reads}
+use Rattle.vers_trees.proofs.Words.{◌≡◌, ℕ, zero, suc, ◌+◌, ◌-◌, ◌*◌, ◌/◌, ◌%◌, ◌^◌, ◌<◌, ◌≤◌, Bool, true, false, ◌||◌, ◌&&◌, List, [], ◌∷◌, length, take, ℤ, pos, negsuc, ◌+ℤ◌, ◌-ℤ◌, ◌≤ℤ◌, ◌<ℤ◌, Option, Some, arith, sym, ap, refl, FitsSigned, to_z, of_z, ◌∙◌, w64, pow-suc, ones-le, part_number_or_zero, bit_or, bit_and, count_ones, IsTrue, lt_z, ints, to_z-of_z, to_z_pos, or_block, and_block, or_lt, number, part, bit_value, number-take, excess, Reads, AddsAtMost, adds_then, get_bits_reads, HasNoRise, HasNoRiseBefore, falls, is_not_closed, rises, scan_reads, ones_step, ones-ones}
 use Rattle.vers_trees.proofs.searches.Scans.{fits_small, forward_more, backward_more}
 use Rattle.vers_trees.proofs.grammar.Excess.{excess-zero, excess-nil, excess-open, excess-close}
-use Rattle.vers_trees.proofs.searches.ByteScans.{length-part, excess-part, total_of}
-use lib.Count.{ones_step, ones-ones}
+use Rattle.vers_trees.proofs.searches.ByteScans.{length-part, excess-part, total_of, whole_word}
 
 -- ---- the number of a list and its first bit
 number_next : (b : Bool) (l : List Bool) → number (b ∷ l) ≡ number l * 2 ^ 1 + bit_value b
@@ -32,14 +20,6 @@ ones_next n b =
 
 zero_ones : count_ones 0 ≡ 0
 zero_ones = ones-ones 0
-
--- a number of k digits has at most k ones
-ones_le : (k n : ℕ) → n < 2 ^ k → count_ones n ≤ k
-ones_le zero n h = let e : n ≡ 0 = omega arith in let z = ap count_ones e in let o = zero_ones in omega arith
-ones_le (suc k) n h =
-    let s : count_ones n ≡ n % 2 + count_ones (n / 2) = ones_step n in
-    let i = ones_le k (n / 2) (omega (arith, pow-suc 2 k)) in
-    omega arith
 
 -- ---- forwards: the zeros that no one stands right before
 abbrev before : Bool → List Bool → List Bool
@@ -89,7 +69,7 @@ above true (false ∷ l) (suc j) = let h = above false l j in let e = excess-clo
 above false (false ∷ l) (suc j) = let h = above false l j in let e = excess-close l j in omega (arith, ints)
 
 pub covered_few : (word : ℕ) → word < 18446744073709551616 → count_ones (bit_or word (word * 2 % 18446744073709551616)) ≤ 64
-covered_few word h = ones_le 64 (bit_or word (word * 2 % 18446744073709551616)) (or_lt 64 word (word * 2 % 18446744073709551616) h (omega arith))
+covered_few word h = ones-le 64 (bit_or word (word * 2 % 18446744073709551616)) (or_lt 64 word (word * 2 % 18446744073709551616) h (omega arith))
 
 -- ---- backwards: the ones that no zero stands right after
 abbrev after : List Bool → List Bool
@@ -163,11 +143,11 @@ pub ones_is : (n : ℕ) → n ≤ 64 → to_z w64 n ≡ pos n
 ones_is = count_is
 
 fits_high : (z : ℤ) → FitsSigned w64 z → z ≤ℤ pos (2 ^ 63 - 1)
-fits_high (pos n) f = let s = f.sfits in omega (arith, ints)
+fits_high (pos n) f = omega (arith, ints)
 fits_high (negsuc n) f = omega (arith, ints)
 
 pub less_fits : (rise d : ℤ) → FitsSigned w64 rise → negsuc 9223372036854775743 ≤ℤ rise → pos 0 ≤ℤ d → d ≤ℤ pos 64 → FitsSigned w64 (to_z w64 (of_z w64 rise) -ℤ d)
-less_fits rise d f low a b = let g = fits_high rise f in rw (to_z-of_z w64 rise f) (fits_small (rise -ℤ d) (omega (arith, ints)) (omega (arith, ints)))
+less_fits rise d f low a b = rw (to_z-of_z w64 rise f) (fits_small (rise -ℤ d) (omega (arith, ints)) (omega (arith, ints)))
 
 pub less_is : (target rise d : ℤ) → FitsSigned w64 target → FitsSigned w64 rise → negsuc 9223372036854775743 ≤ℤ rise → pos 0 ≤ℤ d → d ≤ℤ pos 64
     → IsTrue (lt_z (to_z w64 (of_z w64 target)) (to_z w64 (of_z w64 (to_z w64 (of_z w64 rise) -ℤ d)))) → target <ℤ (rise -ℤ d)
@@ -180,22 +160,26 @@ less_is target rise d f g low a b t =
 pub word_counted : (a b c : Reads) (n m : ℕ) → n + 2 ≤ m → AddsAtMost a b (scan_reads n) → AddsAtMost b c get_bits_reads → AddsAtMost a c (scan_reads m)
 word_counted a b c n m e p q = adds_then p q (record { data_words = omega arith; block_entries = omega arith; superblock_entries = omega arith; low_parts = omega arith; rank_calls = omega arith; items = omega arith; blocks = omega arith; nodes = omega arith; chunks = omega arith })
 
--- ---- past a word
-pub forward_word : (l : List Bool) (from p : ℕ) (r rise d : ℤ) (word : ℕ) → HasNoRise l from p r rise → length l < 2 ^ 63 → from ≤ p → p + 64 ≤ length l → word ≡ number (part l p 64) → r <ℤ (rise -ℤ pos (falls false (part l p 64))) → d ≡ pos (2 * count_ones word) -ℤ pos 64
-    → FitsSigned w64 (rise +ℤ to_z w64 (of_z w64 d)) × HasNoRise l from (p + 64) r (to_z w64 (of_z w64 (rise +ℤ to_z w64 (of_z w64 d))))
-forward_word l from p r rise d word h short o a e f q = forward_more l from p (p + 64) r rise d h short o (omega arith) a (total_of l p 64 word d (omega arith) a e q) (λ k y z w.
-    let g = excess-part l p 64 (k - p + 1) a (omega arith) in
+-- ---- past a word that is read whole, where no sum along it comes down to r
+pub forward_word : (l : List Bool) (from p q n : ℕ) (r rise d : ℤ) (o : Option ℕ) (word : ℕ) → HasNoRise l from p r rise → length l < 2 ^ 63 → from ≤ p → q ≡ p + n → q ≤ length l → n ≡ 64 → o ≡ part_number_or_zero l p n → o ≡ Some word
+    → ((bits : List Bool) → length bits ≡ 64 → word ≡ number bits → r <ℤ (rise -ℤ pos (falls false bits))) → d ≡ pos (2 * count_ones word) -ℤ pos 64 → FitsSigned w64 (rise +ℤ to_z w64 (of_z w64 d)) × HasNoRise l from q r (to_z w64 (of_z w64 (rise +ℤ to_z w64 (of_z w64 d))))
+forward_word l from p q n r rise d o word h short s e a long read some over k =
+    let b : p + 64 ≤ length l = omega arith in let is = whole_word l p n o word read some long (omega arith) in let f = over (part l p 64) (length-part l p 64 b) is in
+    rw (e, long) (forward_more l from p (p + 64) r rise d h short s (omega arith) b (total_of l p 64 word d (omega arith) b is k) (λ k y z w.
+    let g = excess-part l p 64 (k - p + 1) b (omega arith) in
     let here : excess l (p + (k - p + 1)) ≡ excess l (k + 1) = ap (excess l) (omega arith) in
     let u = above false (part l p 64) (k - p + 1) in
-    absurd (omega (arith, ints)))
+    absurd (omega (arith, ints))))
 
-pub backward_word : (l : List Bool) (p end : ℕ) (r rise d : ℤ) (word : ℕ) → HasNoRiseBefore l (p + 64) end r rise → length l < 2 ^ 63 → p + 64 ≤ end → end ≤ length l → word ≡ number (part l p 64) → r <ℤ (rise -ℤ pos (rises (part l p 64))) → d ≡ pos (2 * count_ones word) -ℤ pos 64
-    → FitsSigned w64 (rise -ℤ to_z w64 (of_z w64 d)) × HasNoRiseBefore l p end r (to_z w64 (of_z w64 (rise -ℤ to_z w64 (of_z w64 d))))
-backward_word l p end r rise d word h short o a e f q = backward_more l p (p + 64) end r rise d h short (omega arith) o a (total_of l p 64 word d (omega arith) (omega arith) e q) (λ k y z w.
-    let n = length-part l p 64 (omega arith) in
-    let same = ap (excess (part l p 64)) n in
-    let g64 = excess-part l p 64 64 (omega arith) (omega arith) in
-    let g = excess-part l p 64 (k - p) (omega arith) (omega arith) in
+pub backward_word : (l : List Bool) (p q n end : ℕ) (r rise d : ℤ) (o : Option ℕ) (word : ℕ) → HasNoRiseBefore l q end r rise → length l < 2 ^ 63 → q ≡ p + n → q ≤ end → end ≤ length l → n ≡ 64 → o ≡ part_number_or_zero l p n → o ≡ Some word
+    → ((bits : List Bool) → length bits ≡ 64 → word ≡ number bits → r <ℤ (rise -ℤ pos (rises bits))) → d ≡ pos (2 * count_ones word) -ℤ pos 64 → FitsSigned w64 (rise -ℤ to_z w64 (of_z w64 d)) × HasNoRiseBefore l p end r (to_z w64 (of_z w64 (rise -ℤ to_z w64 (of_z w64 d))))
+backward_word l p q n end r rise d o word h short e s a long read some over k =
+    let t = rw (e, long) at h in let b : p + 64 ≤ length l = omega arith in let is = whole_word l p n o word read some long (omega arith) in let f = over (part l p 64) (length-part l p 64 b) is in
+    backward_more l p (p + 64) end r rise d t short (omega arith) (omega arith) a (total_of l p 64 word d (omega arith) b is k) (λ k y z w.
+    let m = length-part l p 64 b in
+    let same = ap (excess (part l p 64)) m in
+    let g64 = excess-part l p 64 64 b (omega arith) in
+    let g = excess-part l p 64 (k - p) b (omega arith) in
     let here : excess l (p + (k - p)) ≡ excess l k = ap (excess l) (omega arith) in
     let u = below (part l p 64) (k - p) (omega arith) in
     absurd (omega (arith, ints)))

@@ -1,16 +1,8 @@
 -- Lists of places: moved to the right, and those of a list that follows another.
-use Rattle.std.proofs.Common.{◌≡◌, ℕ, zero, suc, ◌+◌, ◌<◌, Bool, true, false, cond, List, [], ◌∷◌, ◌++◌, map, length, get_or, arith, subst, sym, refl, ap, ◌∙◌, negsuc, Option, Some, inl, inr, filter, All, unwrap_or}
-use Rattle.std.specs.List.{range_with_len}
-use Rattle.std.proofs.lemmas.List.{map-append, append_assoc}
-use Rattle.std.proofs.lemmas.List.Elements.{All-nil, All-cons, All-head, All-tail, All-append, All-map, All-weaker}
-use Rattle.vers_bits.specs.Bits.{is_bit, places}
-use Rattle.vers_trees.specs.Forest.{moved, Forest, none, tree, text}
+use Rattle.vers_trees.proofs.Words.{◌≡◌, ℕ, zero, suc, ◌+◌, ◌<◌, Bool, true, false, cond, List, [], ◌∷◌, ◌++◌, map, length, get_or, arith, subst, sym, refl, ap, ◌∙◌, negsuc, Some, inl, inr, filter, All, range_with_len, map-append, append_assoc, All-nil, All-cons, All-head, All-tail, All-append, All-map, All-weaker, is_bit, places, moved, Forest, none, tree, text, last_rise_before, opening_of, pairs_by_closing, postorder}
 use Rattle.vers_trees.proofs.grammar.Paired.{Paired, paired_closes}
 use Rattle.vers_trees.proofs.kin.Partners.{before_from_closes}
 use Rattle.vers_trees.proofs.searches.Searches.{before_is}
-use Rattle.vers_trees.specs.Excess.{last_rise_before}
-use Rattle.vers_trees.specs.Siblings.{opening_of}
-use Rattle.vers_trees.specs.Traversals.{pairs_by_closing, postorder}
 
 -- places moved to the right by n
 abbrev pub shifted : ℕ → List ℕ → List ℕ
@@ -34,8 +26,7 @@ closing_moved n (q ∷ qs) = ap (λ (xs : List ℕ). (n + q.1) ∷ xs) (closing_
 pub shifted-shifted : (m n : ℕ) (xs : List ℕ) → shifted m (shifted n xs) ≡ shifted (m + n) xs
 shifted-shifted m n [] = refl
 shifted-shifted m n (x ∷ xs) =
-    let e : m + (n + x) ≡ m + n + x = omega arith in
-    ap (λ (y : ℕ). y ∷ shifted m (shifted n xs)) e ∙ ap (λ (ys : List ℕ). (m + n + x) ∷ ys) (shifted-shifted m n xs)
+    let e : m + (n + x) ≡ m + n + x = omega arith in rw (e, shifted-shifted m n xs) refl
 
 pub shifted-append : (n : ℕ) (xs ys : List ℕ) → shifted n (xs ++ ys) ≡ shifted n xs ++ shifted n ys
 shifted-append n xs ys = map-append (λ v. n + v) xs ys
@@ -67,37 +58,21 @@ places-cons bit b l = go (is_bit bit b) refl
 
 shifted-zero : (xs : List ℕ) → shifted 0 xs ≡ xs
 shifted-zero [] = refl
-shifted-zero (x ∷ xs) = let e : 0 + x ≡ x = omega arith in ap (λ (y : ℕ). y ∷ shifted 0 xs) e ∙ ap (λ (ys : List ℕ). x ∷ ys) (shifted-zero xs)
+shifted-zero (x ∷ xs) = let e : 0 + x ≡ x = omega arith in rw (e, shifted-zero xs) refl
 
 pub places-append : (bit : Bool) (k l : List Bool) → places bit (k ++ l) ≡ places bit k ++ shifted (length k) (places bit l)
 unfolding places
 places-append bit [] l = sym (shifted-zero (places bit l))
 places-append bit (b ∷ k) l =
     let e : 1 + length k ≡ suc (length k) = omega arith in
-    let first = cond (is_bit bit b) (0 ∷ []) [] in
-    places-cons bit b (k ++ l)
-    ∙ ap (λ (xs : List ℕ). first ++ shifted 1 xs) (places-append bit k l)
-    ∙ ap (λ (xs : List ℕ). first ++ xs) (shifted-append 1 (places bit k) (shifted (length k) (places bit l)) ∙ ap (λ (xs : List ℕ). shifted 1 (places bit k) ++ xs) (shifted-shifted 1 (length k) (places bit l)))
-    ∙ sym (append_assoc first (shifted 1 (places bit k)) (shifted (1 + length k) (places bit l)))
-    ∙ ap (λ (xs : List ℕ). xs ++ shifted (1 + length k) (places bit l)) (sym (places-cons bit b k))
-    ∙ ap (λ (n : ℕ). places bit (b ∷ k) ++ shifted n (places bit l)) e
+    rw (places-cons bit b (k ++ l), places-append bit k l, places-cons bit b k, ← e) (simp (shifted-append, shifted-shifted, append_assoc))
 
 -- the places of a tree written down, and of what follows it
 pub places-tree : (bit : Bool) (k l : List Bool) → places bit (true ∷ (k ++ false ∷ l))
     ≡ cond (is_bit bit true) (0 ∷ []) [] ++ (shifted 1 (places bit k) ++ (shifted (1 + length k) (cond (is_bit bit false) (0 ∷ []) []) ++ shifted (1 + length k + 1) (places bit l)))
 places-tree bit k l =
-    let n = 1 + length k in
-    let first = cond (is_bit bit true) (0 ∷ []) [] in
-    let last = cond (is_bit bit false) (0 ∷ []) [] in
-    let rest = last ++ shifted 1 (places bit l) in
-    places-cons bit true (k ++ false ∷ l)
-    ∙ ap (λ (xs : List ℕ). first ++ shifted 1 xs) (places-append bit k (false ∷ l) ∙ ap (λ (xs : List ℕ). places bit k ++ shifted (length k) xs) (places-cons bit false l))
-    ∙ ap (λ (xs : List ℕ). first ++ xs) (
-    shifted-append 1 (places bit k) (shifted (length k) rest)
-    ∙ ap (λ (xs : List ℕ). shifted 1 (places bit k) ++ xs) (
-    shifted-shifted 1 (length k) rest
-    ∙ shifted-append n last (shifted 1 (places bit l))
-    ∙ ap (λ (xs : List ℕ). shifted n last ++ xs) (shifted-shifted n 1 (places bit l))))
+    let e : 1 + (length k + 1) ≡ 1 + length k + 1 = omega arith in
+    rw (places-cons bit true (k ++ false ∷ l), places-append bit k (false ∷ l), places-cons bit false l) (simp (shifted-append, shifted-shifted, e))
 
 -- ---- what a test keeps
 -- tests of a thing and of what it is made into
@@ -119,7 +94,7 @@ pub all_places : (bit : Bool) (l : List Bool) → All (HasBitAt bit l) (places b
 unfolding places
 all_places bit [] = All-nil (HasBitAt bit [])
 all_places bit (b ∷ l) =
-    let later = All-map (HasBitAt bit (b ∷ l)) (λ v. 1 + v) (places bit l) (All-weaker (HasBitAt bit l) (λ v. HasBitAt bit (b ∷ l) (1 + v)) (λ v h. record { inside = (let i = h.inside in omega arith); holds = subst (λ (m : ℕ). is_bit bit (get_or (b ∷ l) m false) ≡ true) (let e : suc v ≡ 1 + v = omega arith in e) h.holds }) (places bit l) (all_places bit l)) in
+    let later = All-map (HasBitAt bit (b ∷ l)) (λ v. 1 + v) (places bit l) (All-weaker (HasBitAt bit l) (λ v. HasBitAt bit (b ∷ l) (1 + v)) (λ v h. record { inside = (omega arith); holds = subst (λ (m : ℕ). is_bit bit (get_or (b ∷ l) m false) ≡ true) (let e : suc v ≡ 1 + v = omega arith in e) h.holds }) (places bit l) (all_places bit l)) in
     subst (All (HasBitAt bit (b ∷ l))) (sym (places-cons bit b l)) (All-append (HasBitAt bit (b ∷ l)) (cond (is_bit bit b) (0 ∷ []) []) (shifted 1 (places bit l)) (go (is_bit bit b) refl) later)
   where
     go : (t : Bool) → is_bit bit b ≡ t → All (HasBitAt bit (b ∷ l)) (cond (is_bit bit b) (0 ∷ []) [])
@@ -129,10 +104,7 @@ all_places bit (b ∷ l) =
 -- ---- the nodes of a forest in postorder open what the zeros of its text close, in their order
 closing-tree : (X Y : Forest) → closing_places (pairs_by_closing (tree X Y)) ≡ shifted 1 (closing_places (pairs_by_closing X)) ++ ((length (text X) + 1) ∷ shifted (length (text X) + 2) (closing_places (pairs_by_closing Y)))
 closing-tree X Y =
-    let n = length (text X) + 2 in
-    map-append (λ q. q.1) (map (moved 1) (pairs_by_closing X)) ((0, length (text X) + 1) ∷ map (moved n) (pairs_by_closing Y))
-    ∙ ap (λ (xs : List ℕ). xs ++ ((length (text X) + 1) ∷ closing_places (map (moved n) (pairs_by_closing Y)))) (closing_moved 1 (pairs_by_closing X))
-    ∙ ap (λ (xs : List ℕ). shifted 1 (closing_places (pairs_by_closing X)) ++ ((length (text X) + 1) ∷ xs)) (closing_moved n (pairs_by_closing Y))
+    simp (map-append, closing_moved)
 
 -- the zeros are where the pairs close, in this order
 pub closing_is_zeros : (F : Forest) → closing_places (pairs_by_closing F) ≡ places false (text F)
@@ -141,12 +113,7 @@ closing_is_zeros none = refl
 closing_is_zeros (tree X Y) =
     let n : length (text X) + 2 ≡ 1 + length (text X) + 1 = omega arith in
     let c : length (text X) + 1 ≡ 1 + length (text X) + 0 = omega arith in
-    closing-tree X Y
-    ∙ ap (λ (xs : List ℕ). shifted 1 xs ++ ((length (text X) + 1) ∷ shifted (length (text X) + 2) (closing_places (pairs_by_closing Y)))) (closing_is_zeros X)
-    ∙ ap (λ (xs : List ℕ). shifted 1 (places false (text X)) ++ ((length (text X) + 1) ∷ shifted (length (text X) + 2) xs)) (closing_is_zeros Y)
-    ∙ ap (λ (m : ℕ). shifted 1 (places false (text X)) ++ ((length (text X) + 1) ∷ shifted m (places false (text Y)))) n
-    ∙ ap (λ (m : ℕ). shifted 1 (places false (text X)) ++ (m ∷ shifted (1 + length (text X) + 1) (places false (text Y)))) c
-    ∙ sym (places-tree false (text X) (text Y))
+    rw (closing-tree X Y, closing_is_zeros X, closing_is_zeros Y, n, c) (sym (places-tree false (text X) (text Y)))
 
 abbrev PairedIn : Forest → ℕ × ℕ → Type 0
 PairedIn F q = Paired F q.0 q.1
@@ -169,8 +136,7 @@ FindsOpening l q = last_rise_before l q.1 (negsuc 0) ≡ Some q.0
 pub all_opened : (l : List Bool) (qs : List (ℕ × ℕ)) → All (FindsOpening l) qs → map (opening_of l) (closing_places qs) ≡ opening_places qs
 all_opened l [] h = refl
 all_opened l (q ∷ qs) h =
-    let e : opening_of l q.1 ≡ q.0 = ap (λ (o : Option ℕ). unwrap_or o 0) (All-head (FindsOpening l) q qs h) in
-    ap (λ (v : ℕ). v ∷ map (opening_of l) (closing_places qs)) e ∙ ap (λ (xs : List ℕ). q.0 ∷ xs) (all_opened l qs (All-tail (FindsOpening l) q qs h))
+    rw (All-head (FindsOpening l) q qs h, all_opened l qs (All-tail (FindsOpening l) q qs h)) refl
 
 pub all_find : (F : Forest) → All (FindsOpening (text F)) (pairs_by_closing F)
 all_find F = All-weaker (PairedIn F) (FindsOpening (text F)) (λ q h. before_is (text F) q.1 (negsuc 0) q.0 (before_from_closes (text F) q.0 q.1 (paired_closes F q.0 q.1 h))) (pairs_by_closing F) (closing_paired F)

@@ -1,22 +1,9 @@
 -- The nodes of a node's tree are a part of all nodes, in preorder and in postorder.
-use Rattle.std.proofs.Common.{◌≡◌, ℕ, suc, ◌+◌, ◌*◌, ◌<◌, ◌≤◌, ◌⊎◌, inl, inr, Bool, true, false, ◌&&◌, List, [], ◌∷◌, map, length, take, drop, ltb, leb, count_by, min, negsuc, Option, arith, ⊎_elim, subst, sym, refl, ap, ◌∙◌, filter, All, Decides, unwrap_or}
-use Rattle.std.proofs.lemmas.Int.{ints}
-use Rattle.std.proofs.lemmas.Bool.{cases_lt, lt-ltb, le-ltb}
-use Rattle.std.proofs.lemmas.Bool.Decides.{nat_tests, Decides-and, Decides-like, same_from_decides}
-use Rattle.std.proofs.lemmas.List.Elements.{All-head, All-tail, All-weaker}
-use Rattle.std.proofs.lemmas.List.Sums.{length-filter, count_by-le-length}
-use Rattle.std.proofs.Math.Nat.{eq-or-lt_of_le}
-use Rattle.vers_bits.specs.Bits.{is_bit, count, places}
-use Rattle.vers_bits.proofs.PublicLaws.{count_both}
-use Rattle.vers_trees.specs.Excess.{excess}
-use Rattle.vers_trees.specs.Forest.{Forest, text}
-use Rattle.vers_trees.specs.Nodes.{nodes, closing, is_ancestor, subtree}
-use Rattle.vers_trees.specs.Siblings.{opening_of}
-use Rattle.vers_trees.specs.Traversals.{pairs_by_closing, postorder, subtree_post}
+use Rattle.vers_trees.proofs.Words.{◌≡◌, ℕ, suc, ◌+◌, ◌*◌, ◌<◌, ◌≤◌, ◌⊎◌, inl, inr, Bool, true, false, ◌&&◌, List, [], ◌∷◌, map, length, take, drop, ltb, leb, count_by, negsuc, Option, arith, ⊎_elim, subst, sym, refl, ap, ◌∙◌, filter, All, Decides, unwrap_or, ints, cases_lt, lt-ltb, le-ltb, nat_tests, Decides-and, Decides-like, same_from_decides, All-head, All-tail, All-weaker, length-filter, count_by-le-length, eq-or-lt_of_le, is_bit, count, places, count_both, excess, Forest, text, nodes, closing, is_ancestor, subtree, opening_of, pairs_by_closing, postorder, subtree_post}
 use Rattle.vers_trees.proofs.grammar.Paired.{Paired, paired_closes, close_is_paired}
 use Rattle.vers_trees.proofs.kin.Partners.{before_from_closes, nested}
 use Rattle.vers_trees.proofs.searches.Searches.{before_is}
-use Rattle.vers_trees.proofs.kin.NodeList.{HasPair, nodes_are_ones, node_pair, one_pair, closing_is, inside}
+use Rattle.vers_trees.proofs.kin.NodeList.{HasPair, nodes_are_ones, node_pair, closing_is, inside}
 use Rattle.vers_trees.proofs.kin.Around.{refuted, Decides-leb, ancestor_decides, below_counted}
 use Rattle.vers_trees.proofs.grammar.Pairs.{one_if, count_by-cons}
 use Rattle.vers_trees.proofs.kin.Kin.{filter_agree}
@@ -31,7 +18,7 @@ between_decides : (v c w : ℕ) → Decides (between v c w) ((v ≤ w) × (w ≤
 between_decides v c w = Decides-and (leb v w) (leb w c) (Decides-leb v w) (Decides-leb w c)
 
 outside : (v c w : ℕ) → (w < v) ⊎ (c < w) → between v c w ≡ false
-outside v c w o = refuted (between v c w) (between_decides v c w) (λ g. let a = g.0 in let b = g.1 in omega (arith, o))
+outside v c w o = refuted (between v c w) (between_decides v c w) (λ g. omega (arith, o))
 
 -- with those before v they are those before c + 1
 count_between : (v c : ℕ) (xs : List ℕ) → v ≤ c + 1 → count_by (between v c) xs + count_by (λ w. ltb w v) xs ≡ count_by (λ w. ltb w (c + 1)) xs
@@ -48,7 +35,7 @@ count_between v c (x ∷ xs) h =
 -- of numbers that ascend they are a part
 past_part : (v c n : ℕ) (xs : List ℕ) → AscendsFrom n xs → c < n → filter (between v c) xs ≡ []
 past_part v c n [] a h = refl
-past_part v c n (x ∷ xs) a h = let a0 = a.0 in rw (outside v c x (inr (omega arith))) (past_part v c (x + 1) xs a.1 (omega arith))
+past_part v c n (x ∷ xs) a h = rw (outside v c x (inr (omega arith))) (past_part v c (x + 1) xs a.1 (omega arith))
 
 first_part : (v c n : ℕ) (xs : List ℕ) → AscendsFrom n xs → v ≤ n → filter (between v c) xs ≡ take (length (filter (between v c) xs)) xs
 first_part v c n [] a h = refl
@@ -60,15 +47,12 @@ first_part v c n (x ∷ xs) a h =
 
 none_below : (v n : ℕ) (xs : List ℕ) → AscendsFrom n xs → v ≤ n → count_by (λ w. ltb w v) xs ≡ 0
 none_below v n [] a h = refl
-none_below v n (x ∷ xs) a h =
-    let a0 = a.0 in let c = count_by-cons (λ w. ltb w v) x xs in let ih = none_below v (x + 1) xs a.1 (omega arith) in
-    let e : one_if (ltb x v) ≡ 0 = ap one_if (le-ltb x v (omega arith)) in
-    omega arith
+none_below v n (x ∷ xs) a h = let ih = none_below v (x + 1) xs a.1 (omega arith) in grind (arith, ints, count_by-cons, one_if, le-ltb)
 
 between_is_part : (v c n : ℕ) (xs : List ℕ) → AscendsFrom n xs → filter (between v c) xs ≡ take (length (filter (between v c) xs)) (drop (count_by (λ w. ltb w v) xs) xs)
 between_is_part v c n [] a = refl
 between_is_part v c n (x ∷ xs) a =
-    let a0 = a.0 in let k = count_by-cons (λ w. ltb w v) x xs in
+    let k = count_by-cons (λ w. ltb w v) x xs in
     ⊎_elim
     (λ (z : x < v).
     let one : one_if (ltb x v) ≡ 1 = ap one_if (lt-ltb x v z) in
@@ -98,22 +82,12 @@ part_counted bit F v h =
     omega arith
 
 pub part_inside : (bit : Bool) (F : Forest) (v : ℕ) → HasPair F v → count bit (text F) v + length (places_in bit F v) ≤ length (places bit (text F))
-part_inside bit F v h =
-    let k = part_counted bit F v h in let y = below_counted bit (text F) (closing F v + 1) in
-    let m = count_by-le-length (λ w. ltb w (closing F v + 1)) (places bit (text F)) in
-    omega arith
+part_inside bit F v h = grind (arith, ints, part_counted, below_counted, count_by-le-length)
 
 -- twice as many are the places from the opening bracket to the closing one
 pub part_size : (bit : Bool) (F : Forest) (v : ℕ) → HasPair F v → 2 * length (places_in bit F v) + v ≡ closing F v + 1
 unfolding excess
-part_size bit F v h =
-    let a = h.closes.after in let i = h.closes.inside in let e = h.closes.back in
-    let m = count_both (text F) v in let n = count_both (text F) (closing F v + 1) in
-    go bit (part_counted bit F v h) e m n
-  where
-    go : (bit : Bool) → length (places_in bit F v) + count bit (text F) v ≡ count bit (text F) (closing F v + 1) → excess (text F) (closing F v + 1) ≡ excess (text F) v → count false (text F) v + count true (text F) v ≡ min v (length (text F)) → count false (text F) (closing F v + 1) + count true (text F) (closing F v + 1) ≡ min (closing F v + 1) (length (text F)) → 2 * length (places_in bit F v) + v ≡ closing F v + 1
-    go true k e m n = let a = h.closes.after in let i = h.closes.inside in omega (arith, ints)
-    go false k e m n = let a = h.closes.after in let i = h.closes.inside in omega (arith, ints)
+part_size bit F v h = grind (arith, ints, count_both, part_counted, places_in)
 
 -- the nodes of the tree of v, in preorder
 pub subtree_is : (F : Forest) (v : ℕ) → HasPair F v → subtree F v ≡ places_in true F v

@@ -1,31 +1,14 @@
 -- A walk from tree to tree below a node meets its children, forwards and backwards.
-use Rattle.std.proofs.Common.{◌≡◌, ℕ, zero, suc, ◌+◌, ◌-◌, ◌<◌, ◌≤◌, Bool, true, false, cond, List, [], ◌∷◌, length, reverse, get_or, eqb, negsuc, Option, Some, None, arith, sym, refl, ap, ◌∙◌, ◌/◌, map, take, drop, subst, slice_get}
-use Rattle.std.specs.Prelude.{slice_get, unwrap_or, Contains}
-use Rattle.std.specs.Option.{option_eq}
-use Rattle.std.proofs.lemmas.Option.{slice_get_within, slice_get_past, slice_get-get_or, get_or_from_slice_get}
-use Rattle.std.proofs.lemmas.List.{get_or-reverse, length-reverse, length-map, length-take, length-drop, get_or-map, get_or-take, get_or-drop, take_all}
-use Rattle.std.proofs.lemmas.List.Sums.{length-filter, count_by-le-length}
-use Rattle.vers_bits.specs.Bits.{count, places, select}
-use Rattle.vers_bits.proofs.PublicLaws.{length-places, count_le}
-use Rattle.vers_trees.specs.Excess.{first_rise_after, last_rise_before}
-use Rattle.vers_trees.specs.Forest.{Forest, text, IsBalanced, forest_of}
-use Rattle.vers_trees.specs.Nodes.{nodes, closing, parent, nodes_under, children, siblings, last_of, next_of, previous_of, IsNode, subtree}
-use Rattle.vers_trees.specs.Siblings.{tree_to, opened, tree_from, tree_before, met, walked, MeetsJust, opening_of, tree_beside, siblings_left, IsWalkOfSiblings}
+use Rattle.vers_trees.proofs.Words.{◌≡◌, ℕ, zero, suc, ◌+◌, ◌-◌, ◌<◌, ◌≤◌, Bool, true, false, cond, List, [], ◌∷◌, length, reverse, get_or, eqb, negsuc, Option, Some, None, arith, sym, refl, ap, ◌∙◌, ◌/◌, map, take, drop, subst, slice_get, unwrap_or, Contains, option_eq, slice_get_within, slice_get_past, slice_get-get_or, get_or_from_slice_get, get_or-reverse, length-reverse, length-map, length-take, length-drop, get_or-map, get_or-take, get_or-drop, take_all, length-filter, count_by-le-length, count, places, select, length-places, count_le, first_rise_after, last_rise_before, Forest, text, IsBalanced, forest_of, nodes, closing, parent, nodes_under, children, siblings, last_of, next_of, previous_of, IsNode, subtree, tree_to, opened, tree_from, tree_before, met, walked, MeetsJust, opening_of, tree_beside, siblings_left, IsWalkOfSiblings, Contains-get_or, TakesFirst, postorder, subtree_post, closed_by}
 use Rattle.vers_trees.proofs.searches.Searches.{after_is}
 use Rattle.vers_trees.proofs.kin.Partners.{after_from_closes}
 use Rattle.vers_trees.proofs.kin.Handles.{closing_by}
 use Rattle.vers_trees.proofs.kin.NodeList.{HasPair, node_pair, nodes_are_ones, opens, option_decides}
 use Rattle.vers_trees.proofs.levels.NodeLaws.{AscendsFrom, nodes_ascend, filter_ascends, next_member, member_before, first_member_before, last_by_number, member_passes}
 use Rattle.vers_trees.proofs.kin.Kin.{opened_here, closed_before, first_child_is, last_child_is, next_sibling_is, previous_sibling_is}
-use Rattle.std.proofs.lemmas.List.Elements.{Contains-get_or}
-use Rattle.vers_bits.specs.Walk.{TakesFirst}
-use Rattle.vers_tally.specs.Reads.{Reads}
-use Rattle.vers_tally.specs.Ends.{Walking}
-use Rattle.vers_trees.specs.Traversals.{postorder, subtree_post}
 use Rattle.vers_trees.proofs.grammar.Grammar.{text-forest_of}
 use Rattle.vers_trees.proofs.walks.Lists.{postorder_opens}
 use Rattle.vers_trees.proofs.walks.ListsOfNodes.{places_in, as_part, part_inside, part_size, subtree_is, subtree_size_is, subtree_post_is}
-use Rattle.vers_trees.specs.inside.Closed.{closed_by}
 
 -- a walk that ends meets what `walked` says, if it is given enough steps
 pub walk_is : (step : ℕ → Option (ℕ × ℕ)) (n p : ℕ) (vs : List ℕ) → MeetsJust step p vs → length vs ≤ n → walked step n p ≡ vs
@@ -42,7 +25,7 @@ walk_short step (suc n) p = go (λ (q : ℕ). walk_short step n q) (step p)
   where
     go : ((q : ℕ) → length (walked step n q) ≤ n) → (o : Option (ℕ × ℕ)) → length (met o (walked step n)) ≤ suc n
     go ih None = omega arith
-    go ih (Some q) = let r = ih q.1 in omega arith
+    go ih (Some q) = omega arith
 
 -- a walk meets a list whose members its steps find one after another
 steps_meet : (step : ℕ → Option (ℕ × ℕ)) (xs : List ℕ) (At : ℕ → ℕ → Type 0) → ((p i : ℕ) → At p i → slice_get xs i ≡ None → step p ≡ None) → ((p i v : ℕ) → At p i → slice_get xs i ≡ Some v → (q : ℕ) × (step p ≡ Some (v, q)) × At q (suc i)) → (p : ℕ) → At p 0 → MeetsJust step p xs
@@ -146,7 +129,7 @@ walk_ends l forward p w e = go (siblings_left l forward p) w
   where
     go : (vs : List ℕ) → MeetsJust (tree_beside l forward) p vs → TakesFirst vs None vs
     go [] m = record { given = refl; left = refl }
-    go (v ∷ vs) m = absurd (let f = m.1 in cc)
+    go (v ∷ vs) m = absurd (cc)
 
 pub walk_goes_on : (l : List Bool) (forward : Bool) (p v q : ℕ) → IsWalkOfSiblings l forward p → tree_beside l forward p ≡ Some (v, q) → TakesFirst (siblings_left l forward p) (Some v) (siblings_left l forward q) × IsWalkOfSiblings l forward q
 unfolding siblings_left
@@ -155,7 +138,7 @@ walk_goes_on l forward p v q w e = go (siblings_left l forward p) w (walk_short 
     go : (vs : List ℕ) → MeetsJust (tree_beside l forward) p vs → length vs ≤ length l → TakesFirst vs (Some v) (siblings_left l forward q) × MeetsJust (tree_beside l forward) q (siblings_left l forward q)
     go [] m h = absurd (cc)
     go (u ∷ vs) m h =
-        let f : Some (v, q) ≡ Some (u, m.0) = sym e ∙ m.1 in let s : (v, q) ≡ (u, m.0) = cc in
+        let s : (v, q) ≡ (u, m.0) = cc in
         let a : v ≡ u = ap (λ (x : ℕ × ℕ). x.0) s in
         let b : m.0 ≡ q = sym (ap (λ (x : ℕ × ℕ). x.1) s) in
         let rest = subst (λ (x : ℕ). MeetsJust (tree_beside l forward) x vs) b m.2 in
@@ -174,10 +157,6 @@ forwards_in F v n = walk_from (text F) true (v + 1) (children F v) (meets_forwar
 backwards_in : (F : Forest) (v : ℕ) → IsNode F v → (siblings_left (text F) false (closing F v) ≡ reverse (children F v)) × IsWalkOfSiblings (text F) false (closing F v)
 backwards_in F v n = walk_from (text F) false (closing F v) (reverse (children F v)) (meets_backwards F v (node_pair F v n)) (let a = length-reverse (children F v) in let b = children_few F v in omega arith)
 
--- what a walk with these nodes left is seen as
-abbrev pub walking : List ℕ → Reads → Walking ℕ
-walking vs step = record { left = vs; step = step }
-
 pub end_in : (l : List Bool) (v : ℕ) (o : Option ℕ) (c : ℕ) → IsBalanced l → IsNode (forest_of l) v → o ≡ first_rise_after l v (negsuc 0) → c ≡ unwrap_or o v → c ≡ closing (forest_of l) v
 end_in l v o c b n e d = d ∙ ap (λ (x : Option ℕ). unwrap_or x v) (e ∙ closing_by l b v n)
 
@@ -194,7 +173,6 @@ pub within_is : (l : List Bool) (v c : ℕ) → IsBalanced l → IsNode (forest_
 within_is l v c b n e =
     let h = node_pair (forest_of l) v n in
     let s = subtree_size_is (forest_of l) v h in
-    let a = h.closes.after in
     (omega arith, omega arith)
 
 pub subtree_inside : (bit : Bool) (l : List Bool) (v : ℕ) → IsBalanced l → IsNode (forest_of l) v → count bit l v + length (subtree (forest_of l) v) ≤ length (places bit l)

@@ -90,7 +90,7 @@ fn bits_forward<A: Allocator + Copy>(
     Err(rise)
 }
 
-// Goes on with such a scan, by whole bytes: a word is read once, and passed over where all its sums
+// Begins such a scan at `begin`, by whole bytes: a word is read once, and passed over where all its sums
 // are above the target, or else each of its bytes is looked up.
 #[inline(always)]
 fn bytes_forward<A: Allocator + Copy>(
@@ -98,7 +98,6 @@ fn bytes_forward<A: Allocator + Copy>(
     tables: &ByteTables,
     begin: usize,
     end: usize,
-    mut rise: i64,
     target: i64,
     tally: &mut Tally,
 ) -> Result<usize, i64>
@@ -106,13 +105,13 @@ fn bytes_forward<A: Allocator + Copy>(
     requires whole { (end - begin) % 8 ≡ 0 }
     requires inside { end ≤ length bits.now }
     requires short { length bits.now < 2 ^ 63 }
-    requires passed { (from : ℕ) × (from ≤ begin) × HasNoRise bits.now from begin target rise }
-    ensures value { (from : ℕ) → from ≤ begin → HasNoRise bits.now from begin target rise → MatchResult
+    ensures value { MatchResult
         result
-        (λ place. IsFirstRise bits.now from end target place)
-        (λ rise. HasNoRise bits.now from end target rise) }
+        (λ place. IsFirstRise bits.now begin end target place)
+        (λ rise. HasNoRise bits.now begin end target rise) }
     ensures adds { AddsAtMost tally.old tally.new (scan_reads (end - begin)) }
 {
+    let mut rise = 0;
     let mut start = begin;
     while start < end {
         let size = (end - start).min(64);
@@ -160,7 +159,7 @@ pub(super) fn scan_forward<A: Allocator + Copy>(
 {
     let tail = from + (end - from) / 8 * 8;
     tally.add_block();
-    let rise = match bytes_forward(bits, tables, from, tail, 0, target, tally) {
+    let rise = match bytes_forward(bits, tables, from, tail, target, tally) {
         Ok(place) => return Ok(place),
         Err(rise) => rise,
     };
@@ -200,7 +199,7 @@ fn bits_backward<A: Allocator + Copy>(
     Err(rise)
 }
 
-// Goes on with such a scan, by whole bytes: a word is read once, and passed over where all its sums
+// Begins such a scan at `end`, by whole bytes: a word is read once, and passed over where all its sums
 // are above the target, or else each of its bytes is looked up.
 #[inline(always)]
 fn bytes_backward<A: Allocator + Copy>(
@@ -208,22 +207,20 @@ fn bytes_backward<A: Allocator + Copy>(
     tables: &ByteTables,
     begin: usize,
     end: usize,
-    mut rise: i64,
     target: i64,
     tally: &mut Tally,
 ) -> Result<usize, i64>
     requires order { begin ≤ end }
     requires whole { (end - begin) % 8 ≡ 0 }
+    requires inside { end ≤ length bits.now }
     requires short { length bits.now < 2 ^ 63 }
-    requires passed { (to : ℕ) × (end ≤ to) × (to ≤ length bits.now)
-        × HasNoRiseBefore bits.now end to target rise }
-    ensures value { (to : ℕ) → end ≤ to → to ≤ length bits.now
-        → HasNoRiseBefore bits.now end to target rise → MatchResult
+    ensures value { MatchResult
         result
-        (λ place. IsLastRise bits.now begin to target place)
-        (λ rise. HasNoRiseBefore bits.now begin to target rise) }
+        (λ place. IsLastRise bits.now begin end target place)
+        (λ rise. HasNoRiseBefore bits.now begin end target rise) }
     ensures adds { AddsAtMost tally.old tally.new (scan_reads (end - begin)) }
 {
+    let mut rise = 0;
     let mut stop = end;
     while stop > begin {
         let size = (stop - begin).min(64);
@@ -273,7 +270,7 @@ pub(super) fn scan_backward<A: Allocator + Copy>(
 {
     let head = end - (end - from) / 8 * 8;
     tally.add_block();
-    let rise = match bytes_backward(bits, tables, head, end, 0, target, tally) {
+    let rise = match bytes_backward(bits, tables, head, end, target, tally) {
         Ok(place) => return Ok(place),
         Err(rise) => rise,
     };

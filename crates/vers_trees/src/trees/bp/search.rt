@@ -74,16 +74,9 @@ impl<'a, const BLOCK_SIZE: usize, A: Allocator + Copy> Searched<'a, BLOCK_SIZE, 
         };
         let left = r.checked_sub(rise)?;
         let (next, rest) = self.tree.next_block_counted(block, left, tally)?;
-        let next_end = (next * BLOCK_SIZE + BLOCK_SIZE).min(len);
-        scan_forward(
-            self.bits,
-            &self.tree.tables,
-            next * BLOCK_SIZE,
-            next_end,
-            rest,
-            tally,
-        )
-        .ok()
+        let start = next * BLOCK_SIZE;
+        let stop = (start + BLOCK_SIZE).min(len);
+        scan_forward(self.bits, &self.tree.tables, start, stop, rest, tally).ok()
     }
 
     // The last place before `i` before which the excess is `r` more than before `i`. A place right

@@ -1,8 +1,6 @@
-use Rattle.std.proofs.Common.{◌≡◌, ◌+◌, true, Bool, ℕ, List, length, arith, sym, ap, subst, ◌∙◌}
-use Rattle.vers_trees.specs.Layout.{enclose_reads}
-use Rattle.vers_trees.specs.Siblings.{siblings_left, IsWalkOfSiblings}
+use Rattle.vers_trees.proofs.Words.{◌≡◌, ◌+◌, true, Bool, List, length, arith, sym, ap, subst, IsWalkOfSiblings}
 use Rattle.vers_trees.proofs.kin.Handles.{node_inside}
-use Rattle.vers_trees.proofs.walks.WalksOfNodes.{forwards, walking}
+use Rattle.vers_trees.proofs.walks.WalksOfNodes.{forwards}
 use Rattle.vers_trees.proofs.trees.bp.BpTree.children.Goals as goal
 
 pub overflow_add-node : goal.overflow_add-node
@@ -19,6 +17,4 @@ new-requires g c =
 pub returns : goal.returns
 returns g c =
     let w = forwards c.args.self.now c.args.node c.requires.balanced c.requires.is_node in
-    c.new.ensures
-    ∙ ap (λ (l : List Bool). walking (siblings_left l true (c.args.node + 1)) (enclose_reads g.row.BLOCK_SIZE (length l))) c.searched.ensures.bits
-    ∙ ap (λ (vs : List ℕ). walking vs (enclose_reads g.row.BLOCK_SIZE (length c.args.self.now))) w.0
+    rw (c.searched.ensures.bits, w.0) at c.new.ensures

@@ -1,5 +1,4 @@
-use Rattle.std.proofs.Common.{Bool, true, List, arith, ap, ◌∙◌}
-use Rattle.vers_bits.specs.Bits.{count}
+use Rattle.vers_trees.proofs.Words.{Bool, true, List, arith, ap, ◌∙◌, count}
 use Rattle.vers_trees.proofs.kin.Handles.{depth_by_ones}
 use Rattle.vers_trees.proofs.trees.bp.BpTree.depth_counted.Goals as goal
 

@@ -1,8 +1,5 @@
-use Rattle.std.proofs.Common.{false, Bool, ℕ, List, length, arith, sym, ap, ◌∙◌}
-use Rattle.vers_bits.specs.Bits.{count}
-use Rattle.vers_bits.proofs.PublicLaws.{length-places}
-use Rattle.vers_trees.specs.WalkReads.{post_reads}
-use Rattle.vers_trees.proofs.walks.WalksOfNodes.{closed_by_all, walking}
+use Rattle.vers_trees.proofs.Words.{false, Bool, List, length, arith, sym, ap, ◌∙◌, count, length-places}
+use Rattle.vers_trees.proofs.walks.WalksOfNodes.{closed_by_all}
 use Rattle.vers_trees.proofs.trees.bp.BpTree.dfs_post_iter.Goals as goal
 
 pub closed_by-requires : goal.closed_by-requires
@@ -15,5 +12,4 @@ pub returns : goal.returns
 returns g c =
     let now = c.args.self.now in
     let all = c.zeros.ensures.value ∙ ap (λ (l : List Bool). count false l (length l)) c.self.view_is ∙ sym (length-places false now) in
-    c.closed_by.ensures
-    ∙ ap (λ (vs : List ℕ). walking vs (post_reads g.row.BLOCK_SIZE (length now))) (closed_by_all now c.zeros.result c.requires.balanced all)
+    rw (closed_by_all now c.zeros.result c.requires.balanced all) at c.closed_by.ensures

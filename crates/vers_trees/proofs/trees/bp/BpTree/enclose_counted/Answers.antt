@@ -1,6 +1,5 @@
-use Rattle.std.proofs.Common.{false, Bool, List, length, get_or, arith, sym, ap, ◌∙◌}
+use Rattle.vers_trees.proofs.Words.{false, Bool, List, length, get_or, arith, sym, ap, ◌∙◌, last_rise_before}
 use Rattle.vers_trees.proofs.searches.Beside.{enclosing_open, enclosing_close, enclosing_past}
-use Rattle.vers_trees.specs.Excess.{last_rise_before}
 use Rattle.vers_trees.proofs.trees.bp.BpTree.enclose_counted.Goals as goal
 use Rattle.vers_trees.proofs.trees.bp.BpTree.enclose_counted.Goals.{then-is_one_counted, else-is_one_counted}
 

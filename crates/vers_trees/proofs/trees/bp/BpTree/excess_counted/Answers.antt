@@ -1,6 +1,4 @@
-use Rattle.std.proofs.Common.{◌+◌, ◌<◌, Bool, List, length, arith, w64, subst, sym, ap, ◌∙◌}
-use Rattle.std.proofs.lemmas.Int.{to_z-of_z}
-use Rattle.vers_trees.specs.Excess.{excess}
+use Rattle.vers_trees.proofs.Words.{◌+◌, ◌<◌, Bool, List, length, arith, w64, subst, sym, ap, ◌∙◌, to_z-of_z, excess}
 use Rattle.vers_trees.proofs.searches.Beside.{few_ones, small_number, difference_is}
 use Rattle.vers_trees.proofs.trees.bp.BpTree.excess_counted.Goals as goal
 

@@ -1,5 +1,4 @@
-use Rattle.std.proofs.Common.{Bool, List, length, arith, sym, ap, ◌∙◌}
-use Rattle.vers_trees.specs.inside.Scans.{opened_after}
+use Rattle.vers_trees.proofs.Words.{Bool, List, length, arith, sym, ap, ◌∙◌, opened_after}
 use Rattle.vers_trees.proofs.kin.Handles.{node_inside, first_child_by}
 use Rattle.vers_trees.proofs.trees.bp.BpTree.first_child_counted.Goals as goal
 

@@ -1,6 +1,4 @@
-use Rattle.std.proofs.Common.{w64, ap, ◌∙◌}
-use Rattle.std.proofs.lemmas.Int.{to_z-of_z}
-use Rattle.vers_trees.specs.Excess.{first_rise_after}
+use Rattle.vers_trees.proofs.Words.{w64, ap, ◌∙◌, to_z-of_z, first_rise_after}
 use Rattle.vers_trees.proofs.trees.bp.BpTree.fwd_search.Goals as goal
 
 pub returns : goal.returns

@@ -1,5 +1,4 @@
-use Rattle.std.proofs.Common.{Some, arith, ap}
-use Rattle.vers_trees.specs.Forest.{forest_of}
+use Rattle.vers_trees.proofs.Words.{Some, arith, ap, forest_of}
 use Rattle.vers_trees.proofs.kin.Handles.{always_closes, closing_found, closes_within, opens_before}
 use Rattle.vers_trees.proofs.trees.bp.BpTree.is_ancestor_counted.Goals as goal
 

@@ -1,7 +1,4 @@
-use Rattle.std.proofs.Common.{◌≡◌, true, Bool, List, Decides, subst, sym, ◌∙◌}
-use Rattle.std.proofs.lemmas.Bool.Decides.{same_from_decides}
-use Rattle.vers_trees.specs.Balance.{are_balanced}
-use Rattle.vers_trees.specs.Forest.{IsBalanced}
+use Rattle.vers_trees.proofs.Words.{◌≡◌, true, Bool, List, subst, sym, ◌∙◌, same_from_decides, are_balanced, IsBalanced}
 use Rattle.vers_trees.proofs.grammar.Balance.{balance_decides}
 use Rattle.vers_trees.proofs.layout.Build.{balanced_iff_level, some_bits}
 use Rattle.vers_trees.proofs.trees.bp.BpTree.is_balanced_counted.Goals as goal

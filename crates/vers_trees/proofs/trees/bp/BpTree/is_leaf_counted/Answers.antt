@@ -1,5 +1,4 @@
-use Rattle.vers_trees.specs.Forest.{forest_of}
-use Rattle.vers_trees.specs.Nodes.{children}
+use Rattle.vers_trees.proofs.Words.{forest_of, children}
 use Rattle.vers_trees.proofs.kin.Handles.{leaf_by}
 use Rattle.vers_trees.proofs.trees.bp.BpTree.is_leaf_counted.Goals as goal
 

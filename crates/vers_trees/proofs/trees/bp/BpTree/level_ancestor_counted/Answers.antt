@@ -1,7 +1,4 @@
-use Rattle.std.proofs.Common.{◌≡◌, ℕ, Some, arith, sym, ap, subst, ◌∙◌}
-use Rattle.vers_trees.specs.Forest.{forest_of}
-use Rattle.vers_trees.specs.Excess.{last_rise_before}
-use Rattle.vers_trees.specs.Nodes.{level_ancestor}
+use Rattle.vers_trees.proofs.Words.{◌≡◌, ℕ, Some, arith, sym, ap, subst, ◌∙◌, forest_of, last_rise_before, level_ancestor}
 use Rattle.vers_trees.proofs.searches.Beside.{negated}
 use Rattle.vers_trees.proofs.kin.Handles.{itself_by_no_step, no_level_ancestor, level_ancestor_by}
 use Rattle.vers_trees.proofs.trees.bp.BpTree.level_ancestor_counted.Goals as goal

@@ -1,7 +1,4 @@
-use Rattle.std.proofs.Common.{ℕ, arith, sym, ap, ◌∙◌}
-use Rattle.vers_trees.specs.Forest.{forest_of}
-use Rattle.vers_trees.specs.Excess.{first_rise_after}
-use Rattle.vers_trees.specs.Nodes.{level, first_of}
+use Rattle.vers_trees.proofs.Words.{ℕ, arith, sym, ap, ◌∙◌, forest_of, first_rise_after, level, first_of}
 use Rattle.vers_trees.proofs.searches.Beside.{with_sign}
 use Rattle.vers_trees.proofs.kin.Handles.{leftmost_root, no_level_so_deep, level_leftmost_by}
 use Rattle.vers_trees.proofs.trees.bp.BpTree.level_leftmost_counted.Goals as goal

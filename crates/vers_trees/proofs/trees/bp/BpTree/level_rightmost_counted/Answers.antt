@@ -1,7 +1,4 @@
-use Rattle.std.proofs.Common.{ℕ, ◌-◌, length, negsuc, to_z, arith, sym, ap, ◌∙◌, w64}
-use Rattle.vers_trees.specs.Forest.{forest_of}
-use Rattle.vers_trees.specs.Excess.{last_rise_before}
-use Rattle.vers_trees.specs.Nodes.{level, last_of}
+use Rattle.vers_trees.proofs.Words.{ℕ, ◌-◌, length, negsuc, to_z, arith, sym, ap, ◌∙◌, w64, forest_of, last_rise_before, level, last_of}
 use Rattle.vers_trees.proofs.searches.Beside.{with_sign}
 use Rattle.vers_trees.proofs.kin.Handles.{last_root_by, no_level_so_deep, no_level_rightmost, level_rightmost_by}
 use Rattle.vers_trees.proofs.trees.bp.BpTree.level_rightmost_counted.Goals as goal

@@ -1,5 +1,4 @@
-use Rattle.std.proofs.Common.{Bool, true, List, ap, ◌∙◌}
-use Rattle.vers_bits.specs.Bits.{count}
+use Rattle.vers_trees.proofs.Words.{Bool, true, List, ap, ◌∙◌, count}
 use Rattle.vers_trees.proofs.kin.Handles.{index_by}
 use Rattle.vers_trees.proofs.trees.bp.BpTree.node_index_counted.Goals as goal
 

@@ -1,7 +1,5 @@
-use Rattle.std.proofs.Common.{false, Bool, ℕ, List, length, arith, sym, ap, subst, ◌∙◌}
-use Rattle.vers_trees.specs.Layout.{enclose_reads}
-use Rattle.vers_trees.specs.Siblings.{siblings_left, IsWalkOfSiblings}
-use Rattle.vers_trees.proofs.walks.WalksOfNodes.{backwards, end_in, walking}
+use Rattle.vers_trees.proofs.Words.{false, Bool, List, arith, sym, subst, IsWalkOfSiblings}
+use Rattle.vers_trees.proofs.walks.WalksOfNodes.{backwards, end_in}
 use Rattle.vers_trees.proofs.trees.bp.BpTree.rev_children.Goals as goal
 
 pub new-requires : goal.new-requires
@@ -14,6 +12,4 @@ pub returns : goal.returns
 returns g c =
     let e = end_in c.args.self.now c.args.node c.close.result c.unwrap_or-end.result c.requires.balanced c.requires.is_node c.close.ensures c.unwrap_or-end.ensures in
     let w = backwards c.args.self.now c.args.node c.unwrap_or-end.result c.requires.balanced c.requires.is_node e in
-    c.new.ensures
-    ∙ ap (λ (l : List Bool). walking (siblings_left l false c.unwrap_or-end.result) (enclose_reads g.row.BLOCK_SIZE (length l))) c.searched.ensures.bits
-    ∙ ap (λ (vs : List ℕ). walking vs (enclose_reads g.row.BLOCK_SIZE (length c.args.self.now))) w.0
+    rw (c.searched.ensures.bits, w.0) at c.new.ensures

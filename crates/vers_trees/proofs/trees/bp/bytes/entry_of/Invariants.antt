@@ -1,6 +1,4 @@
-use Rattle.std.proofs.Common.{◌+◌, ◌<◌, ◌≤◌, ◌≡◌, ℕ, Bool, List, length, slice_index_or}
-use Rattle.vers_trees.specs.Bytes.{IsByte}
-use Rattle.vers_trees.specs.inside.Bytes.{HasMet}
+use Rattle.vers_trees.proofs.Words.{◌+◌, ◌<◌, ◌≤◌, ◌≡◌, ℕ, Bool, List, length, slice_index_or, IsByte, HasMet}
 use Rattle.vers_trees.proofs.trees.bp.bytes.entry_of.Given as goal
 
 abbrev pub invariant-loop-step : goal.invariant-loop-step

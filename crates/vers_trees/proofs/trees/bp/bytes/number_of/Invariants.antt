@@ -1,5 +1,4 @@
-use Rattle.std.proofs.Common.{◌≡◌, ◌≤◌, drop}
-use Rattle.vers_trees.specs.inside.Bytes.{octal}
+use Rattle.vers_trees.proofs.Words.{◌≡◌, ◌≤◌, drop, octal}
 use Rattle.vers_trees.proofs.trees.bp.bytes.number_of.Given as goal
 
 abbrev pub invariant-loop-x : goal.invariant-loop-x

@@ -1,5 +1,4 @@
-use Rattle.std.proofs.Common.{w64}
-use Rattle.std.proofs.lemmas.Nat.Bits.{bit_at-trailing_zeros}
+use Rattle.vers_trees.proofs.Words.{w64, bit_at-trailing_zeros}
 use Rattle.vers_trees.proofs.layout.Steps.{from_lowest_one}
 use Rattle.vers_trees.proofs.trees.bp.min_max.odd_part.Goals as goal
 

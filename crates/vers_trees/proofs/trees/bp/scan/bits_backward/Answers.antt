@@ -1,6 +1,4 @@
-use Rattle.std.proofs.Common.{ℤ, pos, ◌-◌, ◌-ℤ◌, arith, w64, to_z, of_z, subst, sym, ap, ◌∙◌}
-use Rattle.std.proofs.lemmas.Int.{ints, to_z-of_z}
-use Rattle.vers_trees.specs.inside.Scans.{HasNoRiseBefore}
+use Rattle.vers_trees.proofs.Words.{ℤ, pos, ◌-◌, ◌-ℤ◌, arith, w64, to_z, of_z, subst, sym, ap, ◌∙◌, ints, to_z-of_z, HasNoRiseBefore}
 use Rattle.vers_trees.proofs.searches.Scans.{step_fits, rise_fits, bit_is, backward_found, backward_bit, one_more_read}
 use Rattle.vers_trees.proofs.trees.bp.scan.bits_backward.Goals as goal
 

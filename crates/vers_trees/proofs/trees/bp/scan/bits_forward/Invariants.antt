@@ -1,6 +1,4 @@
-use Rattle.std.proofs.Common.{ℕ, ◌-◌, ◌≤◌}
-use Rattle.vers_tally.specs.Reads.{AddsAtMost}
-use Rattle.vers_trees.specs.inside.Scans.{HasNoRise, scan_reads}
+use Rattle.vers_trees.proofs.Words.{ℕ, ◌-◌, ◌≤◌, AddsAtMost, HasNoRise, scan_reads}
 use Rattle.vers_trees.proofs.trees.bp.scan.bits_forward.Given as goal
 
 abbrev pub invariant-loop-place : goal.invariant-loop-place

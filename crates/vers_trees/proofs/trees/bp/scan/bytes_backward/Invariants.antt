@@ -1,6 +1,4 @@
-use Rattle.std.proofs.Common.{◌≡◌, ℕ, ◌+◌, ◌-◌, ◌%◌, ◌≤◌, length}
-use Rattle.vers_tally.specs.Reads.{AddsAtMost}
-use Rattle.vers_trees.specs.inside.Scans.{HasNoRiseBefore, scan_reads}
+use Rattle.vers_trees.proofs.Words.{◌≡◌, ◌+◌, ◌-◌, ◌%◌, ◌≤◌, AddsAtMost, HasNoRiseBefore, scan_reads}
 use Rattle.vers_trees.proofs.trees.bp.scan.bytes_backward.Given as goal
 
 abbrev pub invariant-loop-stop : goal.invariant-loop-stop
@@ -8,7 +6,7 @@ invariant-loop-stop g l = record {
   low : l.begin ≤ l.stop;
   high : l.stop ≤ l.end;
   whole : (l.stop - l.begin) % 8 ≡ 0;
-  passed : (to : ℕ) → l.end ≤ to → to ≤ length l.bits → HasNoRiseBefore l.bits l.end to l.target l.fn.rise → HasNoRiseBefore l.bits l.stop to l.target l.rise;
+  passed : HasNoRiseBefore l.bits l.stop l.end l.target l.rise;
   reads : AddsAtMost l.fn.tally l.tally (scan_reads (l.end - l.stop));
 }
 
@@ -19,7 +17,7 @@ abbrev pub invariant-loop-within : goal.invariant-loop-within
 invariant-loop-within g l = record {
   high : l.within ≤ l.size;
   whole : l.within % 8 ≡ 0;
-  passed : (to : ℕ) → l.end ≤ to → to ≤ length l.bits → HasNoRiseBefore l.bits l.end to l.target l.fn.rise → HasNoRiseBefore l.bits (l.start + l.within) to l.target l.rise;
+  passed : HasNoRiseBefore l.bits (l.start + l.within) l.end l.target l.rise;
 }
 
 abbrev pub decreases-loop-within : goal.decreases-loop-within

@@ -1,6 +1,4 @@
-use Rattle.std.proofs.Common.{◌≡◌, ℕ, ◌+◌, ◌-◌, ◌%◌, ◌≤◌}
-use Rattle.vers_tally.specs.Reads.{AddsAtMost}
-use Rattle.vers_trees.specs.inside.Scans.{HasNoRise, scan_reads}
+use Rattle.vers_trees.proofs.Words.{◌≡◌, ◌+◌, ◌-◌, ◌%◌, ◌≤◌, AddsAtMost, HasNoRise, scan_reads}
 use Rattle.vers_trees.proofs.trees.bp.scan.bytes_forward.Given as goal
 
 abbrev pub invariant-loop-start : goal.invariant-loop-start
@@ -8,7 +6,7 @@ invariant-loop-start g l = record {
   low : l.begin ≤ l.start;
   high : l.start ≤ l.end;
   whole : (l.end - l.start) % 8 ≡ 0;
-  passed : (from : ℕ) → from ≤ l.begin → HasNoRise l.bits from l.begin l.target l.fn.rise → HasNoRise l.bits from l.start l.target l.rise;
+  passed : HasNoRise l.bits l.begin l.start l.target l.rise;
   reads : AddsAtMost l.fn.tally l.tally (scan_reads (l.start - l.begin));
 }
 
@@ -19,7 +17,7 @@ abbrev pub invariant-loop-within : goal.invariant-loop-within
 invariant-loop-within g l = record {
   high : l.within ≤ l.size;
   whole : l.within % 8 ≡ 0;
-  passed : (from : ℕ) → from ≤ l.begin → HasNoRise l.bits from l.begin l.target l.fn.rise → HasNoRise l.bits from (l.start + l.within) l.target l.rise;
+  passed : HasNoRise l.bits l.begin (l.start + l.within) l.target l.rise;
 }
 
 abbrev pub decreases-loop-within : goal.decreases-loop-within

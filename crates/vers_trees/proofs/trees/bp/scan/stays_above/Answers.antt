@@ -1,5 +1,4 @@
-use Rattle.std.proofs.Common.{◌*◌, ◌%◌, pos, ◌-ℤ◌, count_ones, bit_or, w64, to_z, of_z, arith}
-use Rattle.std.proofs.lemmas.Int.{ints}
+use Rattle.vers_trees.proofs.Words.{◌*◌, ◌%◌, pos, ◌-ℤ◌, count_ones, bit_or, w64, to_z, of_z, arith, ints}
 use Rattle.vers_trees.proofs.searches.WordScans.{covered_few, count_fits, zeros_fit, zeros_is, less_fits, less_is, falls_counted}
 use Rattle.vers_trees.proofs.trees.bp.scan.stays_above.Goals as goal
 

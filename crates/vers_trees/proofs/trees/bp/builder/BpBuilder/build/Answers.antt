@@ -1,6 +1,4 @@
-use Rattle.std.proofs.Common.{◌≡◌, Bool, List, length, pos, w64, to_z, sym, ap, ◌∙◌}
-use Rattle.std.proofs.lemmas.Int.{to_z-of_z}
-use Rattle.vers_trees.specs.Excess.{excess}
+use Rattle.vers_trees.proofs.Words.{◌≡◌, Bool, List, length, pos, w64, to_z, sym, ap, ◌∙◌, to_z-of_z, excess}
 use Rattle.vers_trees.proofs.layout.Building.{built_fits}
 use Rattle.vers_trees.proofs.trees.bp.builder.BpBuilder.build.Goals as goal
 

@@ -1,5 +1,4 @@
-use Rattle.std.proofs.Common.{true, false, refl, arith, ◌∙◌}
-use Rattle.std.proofs.lemmas.List.{length-set}
+use Rattle.vers_trees.proofs.Words.{true, false, refl, arith, ◌∙◌, length-set}
 use Rattle.vers_trees.proofs.searches.Bytes.{entries_more}
 use Rattle.vers_trees.proofs.trees.bp.bytes.ByteTables.new.Goals as goal
 

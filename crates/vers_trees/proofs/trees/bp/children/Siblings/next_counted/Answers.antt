@@ -1,7 +1,4 @@
-use Rattle.std.proofs.Common.{ℕ, List, Option, Some, None, sym, ap, subst}
-use Rattle.vers_bits.specs.Walk.{TakesFirst}
-use Rattle.vers_tally.specs.Ends.{Walking}
-use Rattle.vers_trees.specs.Siblings.{siblings_left}
+use Rattle.vers_trees.proofs.Words.{ℕ, List, Option, Some, None, sym, ap, subst, TakesFirst, Walking, siblings_left}
 use Rattle.vers_trees.proofs.walks.WalksOfNodes.{walk_ends, walk_goes_on}
 use Rattle.vers_trees.proofs.trees.bp.children.Siblings.next_counted.Goals as goal
 

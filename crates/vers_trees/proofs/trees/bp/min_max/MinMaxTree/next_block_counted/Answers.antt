@@ -1,5 +1,4 @@
-use Rattle.std.proofs.Common.{rules, ◌-ℤ◌, w64, FitsSigned, to_z, arith}
-use Rattle.std.proofs.lemmas.Int.{to_z-of_z}
+use Rattle.vers_trees.proofs.Words.{rules, ◌-ℤ◌, w64, FitsSigned, to_z, arith, to_z-of_z}
 use Rattle.vers_trees.proofs.layout.Climbs.{passed_start, comes_to, reaches_after, goes_on_after, too_far_after}
 use Rattle.vers_trees.proofs.searches.Scans.{rest_is}
 use Rattle.vers_trees.proofs.layout.Steps.{odd_most, digits_after, no_nodes, read_up, up_ends, up_then_down, up_then_none}

@@ -1,6 +1,4 @@
-use Rattle.std.proofs.Common.{◌-◌, ◌*◌, ◌≤◌, ◌+◌, ◌+ℤ◌, drop}
-use Rattle.vers_tally.specs.Reads.{AddsAtMost, only_nodes, digits}
-use Rattle.vers_trees.specs.inside.MinMax.{ComesTo, total_before}
+use Rattle.vers_trees.proofs.Words.{◌-◌, ◌*◌, ◌≤◌, ◌+◌, ◌+ℤ◌, drop, AddsAtMost, only_nodes, digits, ComesTo, total_before}
 use Rattle.vers_trees.proofs.trees.bp.min_max.MinMaxTree.next_block_counted.Given as goal
 
 abbrev pub invariant-loop-node : goal.invariant-loop-node

@@ -1,5 +1,4 @@
-use Rattle.std.proofs.Common.{rules, ◌+ℤ◌, w64, FitsSigned, to_z, arith}
-use Rattle.std.proofs.lemmas.Int.{to_z-of_z}
+use Rattle.vers_trees.proofs.Words.{rules, ◌+ℤ◌, w64, FitsSigned, to_z, arith, to_z-of_z}
 use Rattle.vers_trees.proofs.layout.Climbs.{rise_start, comes_back, meets_before, goes_on_before, too_far_before}
 use Rattle.vers_trees.proofs.searches.Scans.{rest_is}
 use Rattle.vers_trees.proofs.layout.Steps.{odd_most, digits_before, no_nodes, read_up, up_ends, up_then_down, up_then_none}

@@ -1,6 +1,4 @@
-use Rattle.std.proofs.Common.{◌-◌, arith, refl, sym, subst, ◌∙◌}
-use Rattle.std.proofs.lemmas.List.{drop-set-lt}
-use Rattle.vers_trees.specs.inside.MinMax.{AreLeaves}
+use Rattle.vers_trees.proofs.Words.{◌-◌, arith, refl, sym, subst, ◌∙◌, drop-set-lt, AreLeaves}
 use Rattle.vers_trees.proofs.layout.Build.{covered_leaves, code_fits, code_step}
 use Rattle.vers_trees.proofs.trees.bp.min_max.build.fill.Goals as goal
 

@@ -1,5 +1,4 @@
-use Rattle.std.proofs.Common.{◌≡◌, ◌≤◌, drop}
-use Rattle.vers_trees.specs.inside.MinMax.{CoveredFrom}
+use Rattle.vers_trees.proofs.Words.{◌≡◌, ◌≤◌, drop, CoveredFrom}
 use Rattle.vers_trees.proofs.trees.bp.min_max.build.fill.Given as goal
 
 abbrev pub invariant-loop-i : goal.invariant-loop-i

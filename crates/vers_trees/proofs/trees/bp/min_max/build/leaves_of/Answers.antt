@@ -1,8 +1,4 @@
-use Rattle.std.proofs.Common.{◌≡◌, ℕ, List, [], ◌∷◌, ◌++◌, ◌+◌, ◌*◌, min, length, arith, sym, subst, ap, ◌∙◌}
-use Rattle.vers_trees.specs.declared.trees.bp.min_max.Node.{Node}
-use Rattle.vers_trees.specs.inside.MinMax.{IsPart}
-use Rattle.vers_trees.specs.Layout.{block_count}
-use Rattle.vers_trees.specs.inside.Index.{AreFirstBlocks}
+use Rattle.vers_trees.proofs.Words.{◌≡◌, ℕ, List, [], ◌∷◌, ◌++◌, ◌+◌, ◌*◌, min, length, arith, sym, subst, ap, ◌∙◌, Node, IsPart, block_count, AreFirstBlocks}
 use Rattle.vers_trees.proofs.layout.Widths.{block_added}
 use Rattle.vers_trees.proofs.trees.bp.min_max.build.leaves_of.Goals as goal
 

@@ -1,8 +1,4 @@
-use Rattle.std.proofs.Common.{rules, ◌≡◌, List, drop, length, sym, subst, ap, ◌∙◌}
-use Rattle.vers_trees.specs.declared.trees.bp.min_max.Node.{Node}
-use Rattle.vers_trees.specs.Layout.{node_count}
-use Rattle.vers_trees.specs.inside.Index.{IsTreeOf}
-use Rattle.vers_trees.specs.inside.MinMax.{AreLeaves}
+use Rattle.vers_trees.proofs.Words.{rules, ◌≡◌, List, drop, length, sym, subst, ap, ◌∙◌, Node, node_count, IsTreeOf, AreLeaves}
 use Rattle.vers_trees.proofs.layout.Widths.{blocks_are_leaves, tree_made, nodes_counted, written_back}
 use Rattle.vers_trees.proofs.trees.bp.min_max.build.nodes_over.Goals as goal
 

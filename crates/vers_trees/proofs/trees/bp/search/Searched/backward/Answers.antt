@@ -1,5 +1,4 @@
-use Rattle.std.proofs.Common.{arith, w64, ◌-◌, ◌∙◌}
-use Rattle.std.proofs.lemmas.Int.{to_z-of_z}
+use Rattle.vers_trees.proofs.Words.{arith, w64, ◌-◌, ◌∙◌, to_z-of_z}
 use Rattle.vers_trees.proofs.searches.Finds.{found_last, previous_ends, previous_answer, none_previous, none_far_back, none_first, none_past_back}
 use Rattle.vers_trees.proofs.trees.bp.search.Searched.backward.Goals as goal
 use Rattle.vers_trees.proofs.trees.bp.search.Searched.backward.Goals.{then-i-eq0-via-then-i-eq0, then-i-eq0-via-else-i-eq0+then-i-len}

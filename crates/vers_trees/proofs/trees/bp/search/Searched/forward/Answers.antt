@@ -1,5 +1,4 @@
-use Rattle.std.proofs.Common.{◌+◌, ◌*◌, ◌/◌, min, arith, w64, ap, ◌∙◌}
-use Rattle.std.proofs.lemmas.Int.{to_z-of_z}
+use Rattle.vers_trees.proofs.Words.{arith, w64, ◌∙◌, to_z-of_z}
 use Rattle.vers_trees.proofs.searches.Finds.{first_end, next_inside, found_first, next_answer, none_next, none_far, none_past}
 use Rattle.vers_trees.proofs.trees.bp.search.Searched.forward.Goals as goal
 
@@ -16,26 +15,19 @@ returns-in-Ok-clause-value g c = found_first _ _ _ _ _ (omega arith) (rw (to_z-o
 
 pub returns-in_err-left-clause-value : goal.returns-in_err-left-clause-value
 returns-in_err-left-clause-value g c =
-    let end = c.min-end.ensures ∙ ap (min (c.args.i / g.row.BLOCK_SIZE * g.row.BLOCK_SIZE + g.row.BLOCK_SIZE)) c.len-len.ensures.value in
-    c.from_residual.ensures ∙ none_far c.args.self.bits.now g.row.BLOCK_SIZE c.args.self.tree.now.first c.args.self.tree.now.nodes c.requires _ _ _ c.in-Err.rise (omega arith) end c.ranges.r (rw (to_z-of_z w64 c.args.r c.ranges.r) at c.in-Err.ensures.value) c.in_err-left.ensures
+    c.from_residual.ensures ∙ none_far c.args.self.bits.now g.row.BLOCK_SIZE c.args.self.tree.now.first c.args.self.tree.now.nodes c.requires _ _ _ c.in-Err.rise (omega arith) (omega arith) c.ranges.r (rw (to_z-of_z w64 c.args.r c.ranges.r) at c.in-Err.ensures.value) c.in_err-left.ensures
 
 pub returns-in_err-next-clause-value : goal.returns-in_err-next-clause-value
 returns-in_err-next-clause-value g c =
-    let end = c.min-end.ensures ∙ ap (min (c.args.i / g.row.BLOCK_SIZE * g.row.BLOCK_SIZE + g.row.BLOCK_SIZE)) c.len-len.ensures.value in
-    c.from_residual-in_err-next.ensures ∙ none_next c.args.self.bits.now g.row.BLOCK_SIZE c.args.self.tree.now.first c.args.self.tree.now.nodes c.requires _ _ _ c.in-Err.rise (omega arith) end c.ranges.r (rw (to_z-of_z w64 c.args.r c.ranges.r) at c.in-Err.ensures.value) c.in_ok-left.left c.in_ok-left.ensures (let a = c.in_err-next.ensures in a.value)
+    c.from_residual-in_err-next.ensures ∙ none_next c.args.self.bits.now g.row.BLOCK_SIZE c.args.self.tree.now.first c.args.self.tree.now.nodes c.requires _ _ _ c.in-Err.rise (omega arith) (omega arith) c.ranges.r (rw (to_z-of_z w64 c.args.r c.ranges.r) at c.in-Err.ensures.value) c.in_ok-left.left c.in_ok-left.ensures (let a = c.in_err-next.ensures in a.value)
 
-pub overflow_mul-next : goal.overflow_mul-next
-overflow_mul-next g c =
+pub overflow_mul-start : goal.overflow_mul-start
+overflow_mul-start g c =
     let n = next_inside c.args.self.bits.now g.row.BLOCK_SIZE c.args.self.tree.now.first c.args.self.tree.now.nodes c.requires _ _ c.in_ok-next.next _ (omega arith) (let a = c.in_ok-next.ensures in a.value) in
     record { fits = omega arith }
 
-pub overflow_add-next : goal.overflow_add-next
-overflow_add-next g c =
-    let n = next_inside c.args.self.bits.now g.row.BLOCK_SIZE c.args.self.tree.now.first c.args.self.tree.now.nodes c.requires _ _ c.in_ok-next.next _ (omega arith) (let a = c.in_ok-next.ensures in a.value) in
-    record { fits = omega arith }
-
-pub overflow_mul-next-2 : goal.overflow_mul-next-2
-overflow_mul-next-2 g c =
+pub overflow_add-start : goal.overflow_add-start
+overflow_add-start g c =
     let n = next_inside c.args.self.bits.now g.row.BLOCK_SIZE c.args.self.tree.now.first c.args.self.tree.now.nodes c.requires _ _ c.in_ok-next.next _ (omega arith) (let a = c.in_ok-next.ensures in a.value) in
     record { fits = omega arith }
 
@@ -46,7 +38,5 @@ scan_forward-requires-2-clause-order g c =
 
 pub returns-clause-value : goal.returns-clause-value
 returns-clause-value g c =
-    let end = c.min-end.ensures ∙ ap (min (c.args.i / g.row.BLOCK_SIZE * g.row.BLOCK_SIZE + g.row.BLOCK_SIZE)) c.len-len.ensures.value in
-    let next_end = c.min-next_end.ensures ∙ ap (min (c.in_ok-next.next * g.row.BLOCK_SIZE + g.row.BLOCK_SIZE)) c.len-len.ensures.value in
     c.ok.ensures.value
-    ∙ next_answer c.args.self.bits.now g.row.BLOCK_SIZE c.args.self.tree.now.first c.args.self.tree.now.nodes c.requires _ _ _ c.in-Err.rise (omega arith) end c.ranges.r (rw (to_z-of_z w64 c.args.r c.ranges.r) at c.in-Err.ensures.value) c.in_ok-left.left c.in_ok-left.ensures c.in_ok-next.next c.in_ok-next.rest _ _ (let a = c.in_ok-next.ensures in a.value) next_end c.scan_forward-2.ensures.value
+    ∙ next_answer c.args.self.bits.now g.row.BLOCK_SIZE c.args.self.tree.now.first c.args.self.tree.now.nodes c.requires _ _ _ c.in-Err.rise (omega arith) (omega arith) c.ranges.r (rw (to_z-of_z w64 c.args.r c.ranges.r) at c.in-Err.ensures.value) c.in_ok-left.left c.in_ok-left.ensures c.in_ok-next.next c.in_ok-next.rest _ _ (let a = c.in_ok-next.ensures in a.value) (omega arith) c.scan_forward-2.ensures.value
