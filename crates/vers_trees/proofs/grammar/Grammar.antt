@@ -18,9 +18,7 @@ parse-text (tree X Y) l =
     let y = parse-text Y l in
     let x = parse-text X (false ∷ (text Y ++ l)) in
     let a = append_assoc (text X) (false ∷ text Y) l in
-    let e : parse ((text X ++ false ∷ text Y) ++ l) ≡ (X, joined Y (parse l).0 ∷ (parse l).1) =
-    ap parse a ∙ x ∙ (rw (joined-none X, y) refl) in
-    ap (λ (p : Forest × List Forest). closed p.0 p.1) e
+    grind (arith, ints, joined-none)
 
 -- a forest is read back from its text, so no list is the text of two
 pub forest_of-text : (F : Forest) → forest_of (text F) ≡ F

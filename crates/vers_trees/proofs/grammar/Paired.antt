@@ -24,17 +24,13 @@ length-tree X Y = let e = length-append (text X) (false ∷ text Y) in omega ari
 pub excess_in_first : (X Y : Forest) (i : ℕ) → i ≤ length (text X) → excess (text (tree X Y)) (i + 1) ≡ excess (text X) i +ℤ pos 1
 excess_in_first X Y i h =
     let e = excess-open (text X ++ false ∷ text Y) i in
-    let r = excess-append_left (text X) (false ∷ text Y) i h in
-    rw add-one (omega (arith, ints))
+    grind (arith, ints, excess-append_left)
 
 rest_from_zero : (X Y : Forest) (i : ℕ) → excess (text X) (length (text X)) ≡ pos 0 → excess (text (tree X Y)) (length (text X) + 2 + i) ≡ excess (text Y) i
 rest_from_zero X Y i z =
     let n = length (text X) in
     let a = excess-open (text X ++ false ∷ text Y) (n + suc i) in
-    let b = excess-append_right (text X) (false ∷ text Y) (suc i) in
-    let c = excess-close (text Y) i in
-    let r : excess (text (tree X Y)) (suc (n + suc i)) ≡ excess (text Y) i = omega (arith, ints) in
-    subst (λ (m : ℕ). excess (text (tree X Y)) m ≡ excess (text Y) i) (omega arith) r
+    grind (arith, ints, excess-append_right, excess-close)
 
 pub total_is_zero : (F : Forest) → excess (text F) (length (text F)) ≡ pos 0
 total_is_zero none = excess-nil 0
@@ -42,9 +38,7 @@ total_is_zero (tree X Y) =
     let zx = total_is_zero X in
     let zy = total_is_zero Y in
     let r = rest_from_zero X Y (length (text Y)) zx in
-    let len = length-tree X Y in
-    let at : length (text X) + 2 + length (text Y) ≡ length (text (tree X Y)) = omega arith in
-    subst (λ (m : ℕ). excess (text (tree X Y)) m ≡ pos 0) at (r ∙ zy)
+    grind (arith, ints, length-tree)
 
 -- past the first tree
 pub excess_in_rest : (X Y : Forest) (i : ℕ) → excess (text (tree X Y)) (length (text X) + 2 + i) ≡ excess (text Y) i
@@ -74,9 +68,7 @@ closes_root X Y = record { after = omega arith; inside = let len = length-tree X
     back : excess (text (tree X Y)) (length (text X) + 1 + 1) ≡ excess (text (tree X Y)) 0
     back =
         let r = excess_in_rest X Y 0 in
-        let z = excess-zero (text Y) in
-        let e : excess (text (tree X Y)) (length (text X) + 1 + 1) ≡ excess (text (tree X Y)) (length (text X) + 2 + 0) = ap (excess (text (tree X Y))) (omega arith) in
-        omega (arith, ints, start)
+        grind (arith, ints, excess-zero)
 
     above : (j : ℕ) → 0 < j → j ≤ length (text X) + 1 → excess (text (tree X Y)) 0 <ℤ excess (text (tree X Y)) j
     above j h k =
@@ -99,14 +91,12 @@ closes_moved l m p x y h at c =
 closes_first : (X Y : Forest) (x y : ℕ) → Closes (text X) x y → Closes (text (tree X Y)) (1 + x) (1 + y)
 closes_first X Y x y = closes_moved (text (tree X Y)) (text X) 1 x y (let len = length-tree X Y in omega arith) (λ j h.
     let r = excess_in_first X Y j h in let s = excess_in_first X Y 0 (omega arith) in let z = excess-zero (text X) in
-    let e : excess (text (tree X Y)) (j + 1) ≡ excess (text (tree X Y)) (1 + j) = ap (excess (text (tree X Y))) (omega arith) in
-    omega (arith, ints))
+    grind (arith, ints))
 
 closes_rest : (X Y : Forest) (x y : ℕ) → Closes (text Y) x y → Closes (text (tree X Y)) (length (text X) + 2 + x) (length (text X) + 2 + y)
 closes_rest X Y x y = closes_moved (text (tree X Y)) (text Y) (length (text X) + 2) x y (let len = length-tree X Y in omega arith) (λ j h.
     let r = excess_in_rest X Y j in let s = excess_in_rest X Y 0 in let z = excess-zero (text Y) in
-    let e : excess (text (tree X Y)) (length (text X) + 2 + 0) ≡ excess (text (tree X Y)) (length (text X) + 2) = ap (excess (text (tree X Y))) (omega arith) in
-    omega (arith, ints))
+    grind (arith, ints))
 
 pub paired_closes : (F : Forest) (v c : ℕ) → Paired F v c → Closes (text F) v c
 paired_closes none v c p = absurd p
@@ -148,7 +138,7 @@ bit_is_paired (tree X Y) bit (suc i) d h b = ⊎_elim
     let g : length (text X) + suc (i - length (text X) - 1) ≡ i = omega arith in
     let r = bit_is_paired Y bit (i - length (text X) - 1) d (omega arith) (sym (bit_in_rest X Y (i - length (text X) - 1) d) ∙ ap (λ (m : ℕ). get_or (text (tree X Y)) (suc m) d) g ∙ b) in
     let m = end_moved bit (length (text X) + 2) r.0 r.1 in let e = r.3 in
-    (length (text X) + 2 + r.0, length (text X) + 2 + r.1, inr (inr (r.0, r.1, refl, refl, r.2)), omega arith))
+    (length (text X) + 2 + r.0, length (text X) + 2 + r.1, inr (inr (r.0, r.1, refl {a = length (text X) + 2 + r.0}, refl {a = length (text X) + 2 + r.1}, r.2)), omega arith))
     o)
     (cases_order i (length (text X)))
   where
@@ -179,5 +169,4 @@ closes_falls l v c d p = let a = p.after in let i = p.inside in let x = p.above 
 pub closes_paired : (F : Forest) (v c : ℕ) → Closes (text F) v c → Paired F v c
 closes_paired F v c p =
     let r = open_is_paired F v false (omega arith) (closes_rises (text F) v c false p) in
-    let e : r.0 ≡ c = closes_once (text F) v r.0 c (paired_closes F v r.0 r.1) p in
-    subst (λ (m : ℕ). Paired F v m) e r.1
+    grind (arith, ints, closes_once, paired_closes)

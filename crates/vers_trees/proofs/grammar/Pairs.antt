@@ -1,5 +1,5 @@
 -- The list of a forest's pairs has just the places that open and close a tree.
-use Rattle.vers_trees.proofs.Words.{◌≡◌, ℕ, suc, ◌+◌, ◌<◌, ◌⊎◌, inl, inr, List, ◌∷◌, ◌++◌, map, length, get_or, arith, ⊎_elim, sym, refl, ap, ◌∙◌, ◌≤◌, Bool, false, ◌&&◌, cond, [], ltb, count_by, pos, ◌+ℤ◌, Contains, get_or-map, length-map, Contains-get_or, Contains-append_left, Contains-append_right, Contains-append_cases, Forest, none, tree, text, moved, pairs, ints, nat_tests, lt-ltb, le-ltb, and_from, and_left, and_right, sum_by-cons, sum_by-append, excess}
+use Rattle.vers_trees.proofs.Words.{◌≡◌, ℕ, suc, ◌+◌, ◌<◌, ◌⊎◌, inl, inr, List, ◌∷◌, ◌++◌, map, length, get_or, arith, ⊎_elim, subst, sym, refl, ap, ◌∙◌, ◌≤◌, Bool, false, ◌&&◌, cond, [], ltb, count_by, pos, ◌+ℤ◌, Contains, get_or-map, length-map, Contains-get_or, Contains-append_left, Contains-append_right, Contains-append_cases, Forest, none, tree, text, moved, pairs, ints, nat_tests, lt-ltb, le-ltb, and_from, and_left, and_right, sum_by-cons, sum_by-append, excess}
 use Rattle.vers_trees.proofs.grammar.Paired.{Paired, paired_closes, excess_in_first, excess_in_rest}
 use Rattle.vers_trees.proofs.grammar.Excess.{excess-zero}
 
@@ -38,26 +38,18 @@ contains_from_paired (tree X Y) v c (inr (inr p)) =
     let a = Contains-append_right (map (moved 1) (pairs X)) (map (moved (length (text X) + 2)) (pairs Y)) (length (text X) + 2 + p.0, length (text X) + 2 + p.1) m in
     rw (p.2, p.3) (contains_later (0, length (text X) + 1) (second X Y) (length (text X) + 2 + p.0, length (text X) + 2 + p.1) a)
 
+abbrev pub PairedIn : Forest → ℕ × ℕ → Type 0
+PairedIn F q = Paired F q.0 q.1
+
 pub paired_from_contains : (F : Forest) (q : ℕ × ℕ) → Contains (pairs F) q → Paired F q.0 q.1
 paired_from_contains none q h = absurd (omega arith)
-paired_from_contains (tree X Y) q h = go (paired_from_contains X) (paired_from_contains Y) (contains_cons_cases (0, length (text X) + 1) (second X Y) q h)
-  where
-    first : ((q : ℕ × ℕ) → Contains (pairs X) q → Paired X q.0 q.1) → Contains (map (moved 1) (pairs X)) q → Paired (tree X Y) q.0 q.1
-    first ix c =
-        let m = contains_map_cases (moved 1) (pairs X) (0, 0) q c in
-        let e = m.2 in
-        let a : q.0 ≡ m.0.0 + 1 = (let g = ap (λ (p : ℕ × ℕ). p.0) e in omega arith) in
-        let b : q.1 ≡ m.0.1 + 1 = (let g = ap (λ (p : ℕ × ℕ). p.1) e in omega arith) in
-        inr (inl (m.0.0, m.0.1, a, b, ix m.0 m.1))
-
-    rest : ((q : ℕ × ℕ) → Contains (pairs Y) q → Paired Y q.0 q.1) → Contains (map (moved (length (text X) + 2)) (pairs Y)) q → Paired (tree X Y) q.0 q.1
-    rest iy c =
-        let m = contains_map_cases (moved (length (text X) + 2)) (pairs Y) (0, 0) q c in
-        inr (inr (m.0.0, m.0.1, sym (ap (λ (p : ℕ × ℕ). p.0) m.2), sym (ap (λ (p : ℕ × ℕ). p.1) m.2), iy m.0 m.1))
-
-    go : ((q : ℕ × ℕ) → Contains (pairs X) q → Paired X q.0 q.1) → ((q : ℕ × ℕ) → Contains (pairs Y) q → Paired Y q.0 q.1) → (((0, length (text X) + 1) ≡ q) ⊎ Contains (second X Y) q) → Paired (tree X Y) q.0 q.1
-    go ix iy (inl e) = inl (sym (ap (λ (p : ℕ × ℕ). p.0) e), sym (ap (λ (p : ℕ × ℕ). p.1) e))
-    go ix iy (inr c) = ⊎_elim (first ix) (rest iy) (Contains-append_cases (map (moved 1) (pairs X)) (map (moved (length (text X) + 2)) (pairs Y)) q c)
+paired_from_contains (tree X Y) q h = ⊎_elim
+    (λ (e : (0, length (text X) + 1) ≡ q). subst (PairedIn (tree X Y)) e (inl (refl, refl)))
+    (λ (c : Contains (second X Y) q). ⊎_elim
+    (λ (c : Contains (map (moved 1) (pairs X)) q). let m = contains_map_cases (moved 1) (pairs X) (0, 0) q c in subst (PairedIn (tree X Y)) m.2 (inr (inl (m.0.0, m.0.1, omega arith, omega arith, paired_from_contains X m.0 m.1))))
+    (λ (c : Contains (map (moved (length (text X) + 2)) (pairs Y)) q). let m = contains_map_cases (moved (length (text X) + 2)) (pairs Y) (0, 0) q c in subst (PairedIn (tree X Y)) m.2 (inr (inr (m.0.0, m.0.1, refl, refl, paired_from_contains Y m.0 m.1))))
+    (Contains-append_cases (map (moved 1) (pairs X)) (map (moved (length (text X) + 2)) (pairs Y)) q c))
+    (contains_cons_cases (0, length (text X) + 1) (second X Y) q h)
 
 -- ---- how many pairs of a forest are around a pair, by its places
 abbrev pub one_if : Bool → ℕ
@@ -136,9 +128,7 @@ pairs_around (tree X Y) v c (inr (inl p)) =
     let a : one_if (strictly_contains (0, length (text X) + 1) (v, c)) ≡ 1 = ap one_if (and_from (ltb 0 v) (ltb c (length (text X) + 1)) (lt-ltb 0 v (omega arith)) (lt-ltb c (length (text X) + 1) (omega arith))) in
     let b = around_moved 1 X p.0 p.1 v c (omega arith) (omega arith) in
     let d = around_none (length (text X) + 2) Y v c (inl (omega arith)) in
-    let s = excess_in_first X Y p.0 (omega arith) in
-    let s' : excess (text (tree X Y)) v ≡ excess (text X) p.0 +ℤ pos 1 = ap (excess (text (tree X Y))) ev ∙ s in
-    omega (arith, ints)
+    grind (arith, ints, excess_in_first)
 pairs_around (tree X Y) v c (inr (inr p)) =
     let k = paired_closes Y p.0 p.1 p.4 in
     let ih = pairs_around Y p.0 p.1 p.4 in

@@ -16,7 +16,7 @@ module _ (l : List Bool) (b : IsBalanced l) where
     node_closes = rw (text-forest_of l b) at (node_pair (forest_of l) v n).closes
 
     pub node_inside : v + 1 < length l
-    node_inside = let p = node_closes in let a = p.after in let i = p.inside in omega arith
+    node_inside = let p = node_closes in let a = p.after in omega arith
 
     pub closing_by : first_rise_after l v (negsuc 0) ≡ Some (closing (forest_of l) v)
     closing_by = after_is l v (negsuc 0) (closing (forest_of l) v) (after_from_closes l v (closing (forest_of l) v) node_closes)
@@ -39,15 +39,10 @@ module _ (l : List Bool) (b : IsBalanced l) where
     -- by the ones before the node
     pub depth_by_ones : (ones : ℕ) → ones ≡ count true l v → (ones ≤ v) × (v - ones ≤ ones) × (ones - (v - ones) ≡ depth (forest_of l) v)
     unfolding excess
-    depth_by_ones ones e =
-        let d = depth_by in let i = node_inside in let c = count_both l v in
-        (omega arith, omega (arith, ints), omega (arith, ints))
+    depth_by_ones ones e = grind (arith, ints, depth_by, node_inside, count_both)
 
     pub subtree_by : (c : ℕ) → closing (forest_of l) v ≡ c → (v < c) × (c < length l) × ((c - v) / 2 + min 1 ((c - v) % 2) ≡ length (subtree (forest_of l) v))
-    subtree_by c e =
-        let s = subtree_size_is (forest_of l) v (node_pair (forest_of l) v n) in
-        let p = node_closes in let a = p.after in let i = p.inside in
-        (omega arith, omega arith, omega arith)
+    subtree_by c e = grind (arith, ints, subtree_size_is, node_pair, node_closes)
 
     pub first_child_by : opened_after l v ≡ first_of (children (forest_of l) v)
     first_child_by = rw (text-forest_of l b) at (Kin.first_child_is (forest_of l) v (node_pair (forest_of l) v n))
@@ -57,7 +52,7 @@ module _ (l : List Bool) (b : IsBalanced l) where
 
     pub last_child_by : (c : ℕ) → closing (forest_of l) v ≡ c → (c ≡ v + 1 → ⊥) → last_rise_before l (c - 1) (negsuc 0) ≡ last_of (children (forest_of l) v)
     last_child_by c e ne =
-        let p = node_closes in let a = p.after in
+        let p = node_closes in
         rw (text-forest_of l b) at (Kin.last_child_is_search (forest_of l) v (c - 1) (node_pair (forest_of l) v n) (omega arith) (omega arith))
 
     pub next_sibling_by : (c : ℕ) → closing (forest_of l) v ≡ c → opened_after l c ≡ next_of (siblings (forest_of l) v) v

@@ -47,10 +47,7 @@ first_child_found F v h b =
 no_child : (F : Forest) (v w : ℕ) → HasPair F v → get_or (text F) (v + 1) false ≡ false → HasPair F w → parent F w ≡ Some v → ⊥
 no_child F v w h b k e =
     let up = excess_after_open (text F) v false (omega arith) (opens F v h) in
-    let down = excess_after_close (text F) (v + 1) false (omega arith) b in
-    let r = parent_around F w v k e in
-    let s = h.closes.above (v + 1 + 1) (omega arith) (omega arith) in
-    omega (arith, ints)
+    grind (arith, ints, excess_after_close, parent_around)
 
 first_child_none : (F : Forest) (v : ℕ) → HasPair F v → get_or (text F) (v + 1) false ≡ false → first_of (children F v) ≡ None
 unfolding nodes_under
@@ -73,10 +70,7 @@ last_child_is_search F v c h s x =
     before_is (text F) c (negsuc 0) p.0 (before_from_closes (text F) p.0 c q)
     ∙ sym (last_node F _ _ (under_decides F (Some v)) p.0 k (above_parent F p.0 v k (last_child_above (text F) v c p.0 m q after)) (λ w y kw e.
     let r = parent_around F w v kw e in
-    let n = nested (text F) p.0 (closing F p.0) w (closing F w) k.closes kw.closes y (omega arith) in
-    let g = has_parent F w p.0 kw k y n in
-    let at : g.0 ≡ v = cc in
-    omega arith))
+    grind (arith, ints, nested, has_parent)))
 
 -- ---- siblings
 next_sibling_found : (F : Forest) (v : ℕ) → HasPair F v → closing F v + 1 < length (text F) → get_or (text F) (closing F v + 1) false ≡ true → next_of (siblings F v) v ≡ Some (closing F v + 1)
@@ -98,12 +92,7 @@ last_beside F v w h i b k x e =
     let qc = closes_to F s.0 (closing F v + 1) m in
     let g = has_parent F v s.0 h q z (omega arith) in
     let r = parent_around F w g.0 k (e ∙ g.1) in
-    let g2 = g.2 in
-    let p = parent_around F v g.0 h g.1 in
-    ⊎_elim
-    (λ (t : s.0 ≡ g.0). let c : closing F s.0 ≡ closing F g.0 = ap (closing F) t in omega arith)
-    (λ (t : s.0 < g.0). let n = nested (text F) s.0 (closing F v + 1) g.0 (closing F g.0) m r.2.closes t (omega arith) in omega arith)
-    (eq-or-lt_of_le g2)
+    grind (arith, ints, parent_around, nested, eq-or-lt_of_le)
 
 next_sibling_none : (F : Forest) (v : ℕ) → HasPair F v → closing F v + 1 < length (text F) → get_or (text F) (closing F v + 1) false ≡ false → next_of (siblings F v) v ≡ None
 unfolding nodes_under

@@ -116,7 +116,6 @@ inside F v h = omega arith
 module _ (F : Forest) (t : ℕ → Bool) (P : ℕ → Type 0) (d : (w : ℕ) → Decides (t w) (P w)) where
   pub first_node : (v : ℕ) → HasPair F v → P v → ((w : ℕ) → w < v → HasPair F w → P w → ⊥) → find t (nodes F) ≡ Some v
   first_node v h p n =
-      let i = inside F v h in
       find_node F t ∙ find_is (node_test F t) _ (at_one F t P d) 0 (length (text F)) v (record { from = omega arith; below = omega arith; holds = (opens F v h, p); first = λ k x y q. n k y (one_pair F k (omega arith) q.0) q.1 })
 
   pub no_first_node : ((w : ℕ) → HasPair F w → P w → ⊥) → find t (nodes F) ≡ None

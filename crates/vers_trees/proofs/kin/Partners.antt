@@ -7,12 +7,7 @@ pub after_from_closes : (l : List Bool) (v c : ℕ) → Closes l v c → IsFirst
 after_from_closes l v c p =
     let a = p.after in let i = p.inside in
     let r = excess_after_open l v false (omega arith) (closes_rises l v c false p) in
-    record {
-      after = a;
-      inside = i;
-      sum = omega (arith, ints);
-      first = λ k x y e. let t = p.above (k + 1) (omega arith) (omega arith) in omega (arith, ints);
-    }
+    grind (arith, ints)
 
 pub closes_from_after : (l : List Bool) (v c : ℕ) (d : Bool) → get_or l v d ≡ true → IsFirstRiseAfter l v (negsuc 0) c → Closes l v c
 closes_from_after l v c d o p =
@@ -29,12 +24,7 @@ pub before_from_closes : (l : List Bool) (v c : ℕ) → Closes l v c → IsLast
 before_from_closes l v c p =
     let a = p.after in let i = p.inside in
     let r = excess_after_close l c true i (closes_falls l v c true p) in
-    record {
-      before = a;
-      inside = i;
-      sum = omega (arith, ints);
-      last = λ k x y e. let t = p.above k x (omega arith) in omega (arith, ints);
-    }
+    grind (arith, ints)
 
 pub closes_from_before : (l : List Bool) (v c : ℕ) (d : Bool) → get_or l c d ≡ false → IsLastRiseBefore l c (negsuc 0) v → Closes l v c
 closes_from_before l v c d o p =
@@ -77,8 +67,7 @@ above_from_before F v t a h o p =
     let bit = open_from_rise (text F) a false (omega arith) (high (a + 1) (omega arith) (omega arith)) in
     let r = open_is_paired F a false (omega arith) bit in
     let q = paired_closes F a r.0 r.1 in
-    let later : v ≤ r.0 = ⊎_elim (λ (x : r.0 < v). let g = high (r.0 + 1) (omega arith) (omega arith) in absurd (omega (arith, ints))) (λ (x : v ≤ r.0). x) (cases_lt r.0 v) in
-    record { before = b; shallower = sum; close = r.0; pair = q; around = one_before (text F) a r.0 v q o later }
+    grind (arith, ints, one_before)
 
 -- a pair around v opens at or before the parent of v, and where the search finds nothing there is none
 pub parent_is_nearest : (l : List Bool) (v p q e : ℕ) → IsAbove l v 1 p → Closes l q e → q < v → v ≤ e → q ≤ p
@@ -94,13 +83,7 @@ no_parent l v q e n c x y =
 pub before_pair : (l : List Bool) (v c : ℕ) → Closes l v c → (k : ℕ) → k < c → excess l k ≡ excess l c +ℤ negsuc 1 → (k < v) × (excess l k ≡ excess l v +ℤ negsuc 0)
 before_pair l v c q k x e =
     let r = excess_after_close l c true q.inside (closes_falls l v c true q) in (
-      ⊎_elim
-          (λ (z : k < v). z)
-          (λ (z : v ≤ k). ⊎_elim
-          (λ (w : v ≡ k). let g : excess l k ≡ excess l v = ap (excess l) (sym w) in absurd (omega (arith, ints)))
-          (λ (w : v < k). let g = q.above k w (omega arith) in absurd (omega (arith, ints)))
-          (eq-or-lt_of_le z))
-          (cases_lt k v),
+      (grind (arith, ints, eq-or-lt_of_le)),
       omega (arith, ints),
     )
 
@@ -133,26 +116,13 @@ pub first_of_siblings : (F : Forest) (v c : ℕ) → Closes (text F) (v + 1) c �
 first_of_siblings F v c p b =
     let r = open_is_paired F v false (omega arith) b in
     let m = paired_closes F v r.0 r.1 in
-    let s = excess_after_open (text F) v false (omega arith) b in
-    record {
-      before = omega arith;
-      shallower = omega (arith, ints);
-      close = r.0;
-      pair = m;
-      around = one_before (text F) v r.0 (v + 1) m (closes_rises (text F) (v + 1) c false p) (omega arith);
-    }
+    grind (arith, ints, excess_after_open, one_before, closes_rises)
 
 -- the first child opens right after the node
 pub first_child_above : (l : List Bool) (v c : ℕ) → Closes l v c → get_or l (v + 1) false ≡ true → IsAbove l (v + 1) 1 v
 first_child_above l v c p b =
     let s = excess_after_open l v false (omega arith) (closes_rises l v c false p) in
-    record {
-      before = omega arith;
-      shallower = omega (arith, ints);
-      close = c;
-      pair = p;
-      around = one_before l v c (v + 1) p b (omega arith);
-    }
+    grind (arith, ints, one_before)
 
 -- a node with a child has a closing bracket before its own, that of its last child
 pub last_child_closes : (l : List Bool) (v c : ℕ) → Closes l v (c + 1) → v < c → get_or l c false ≡ false
@@ -160,10 +130,7 @@ last_child_closes l v c p h =
     let i = p.inside in
     let g = p.above c h (omega arith) in
     let f = excess_after_close l (c + 1) false i (closes_falls l v (c + 1) false p) in
-    ⊎_elim
-    (λ (t : get_or l c false ≡ true). let r = excess_after_open l c false (omega arith) t in absurd (omega (arith, ints)))
-    (λ (t : get_or l c false ≡ false). t)
-    (cases_Bool (get_or l c false))
+    grind (arith, ints, excess_after_open, cases_Bool)
 
 pub last_child_above : (l : List Bool) (v c w : ℕ) → Closes l v (c + 1) → Closes l w c → v < w → IsAbove l w 1 v
 last_child_above l v c w p q h =

@@ -5,35 +5,24 @@ use Rattle.vers_trees.proofs.grammar.Grammar.{balanced_from_excess, balanced_tot
 use Rattle.vers_trees.proofs.searches.Scans.{rise_fits}
 
 -- a walk takes each value between two of its values
-met_upward : (f : ℕ → ℤ) → IsWalk f → (t : ℤ) (a d : ℕ) → f a ≤ℤ t → t ≤ℤ f (a + d) → (j : ℕ) × (a ≤ j) × (j ≤ a + d) × (f j ≡ t)
-met_upward f w t a zero lo hi = grind (arith, ints)
-met_upward f w t a (suc d) lo hi =
-    let s : f (a + suc d) ≤ℤ (f (a + d) +ℤ pos 1) = subst (λ (n : ℕ). f n ≤ℤ (f (a + d) +ℤ pos 1)) (let g : a + d + 1 ≡ a + suc d = omega arith in g) (w.up (a + d)) in
+met_upward : (f : ℕ → ℤ) → IsWalk f → (t : ℤ) (a d b : ℕ) → b ≡ a + d → f a ≤ℤ t → t ≤ℤ f b → (j : ℕ) × (a ≤ j) × (j ≤ b) × (f j ≡ t)
+met_upward f w t a zero b e lo hi = let same : f b ≡ f a = ap f (omega arith) in (b, omega arith, omega arith, omega (arith, ints))
+met_upward f w t a (suc d) b e lo hi =
+    let s = w.up (a + d) in let same : f b ≡ f (a + d + 1) = ap f (omega arith) in
     by_lt_z (f (a + d)) t
-    (λ x. (a + suc d, omega arith, omega arith, omega (arith, ints)))
-    (λ x. let r = met_upward f w t a d lo x in (r.0, r.1, omega arith, r.3))
+    (λ x. (b, omega arith, omega arith, omega (arith, ints)))
+    (λ x. let r = met_upward f w t a d (a + d) refl lo x in (r.0, r.1, omega arith, r.3))
 
-met_downward : (f : ℕ → ℤ) → IsWalk f → (t : ℤ) (a d : ℕ) → t ≤ℤ f a → f (a + d) ≤ℤ t → (j : ℕ) × (a ≤ j) × (j ≤ a + d) × (f j ≡ t)
-met_downward f w t a d lo hi =
-    let r = met_upward (λ i. pos 0 -ℤ f i) (turned f w) (pos 0 -ℤ t) a d (omega (arith, ints)) (omega (arith, ints)) in
+met_downward : (f : ℕ → ℤ) → IsWalk f → (t : ℤ) (a d b : ℕ) → b ≡ a + d → t ≤ℤ f a → f b ≤ℤ t → (j : ℕ) × (a ≤ j) × (j ≤ b) × (f j ≡ t)
+met_downward f w t a d b e lo hi =
+    let r = met_upward (λ i. pos 0 -ℤ f i) (turned f w) (pos 0 -ℤ t) a d b e (omega (arith, ints)) (omega (arith, ints)) in
     (r.0, r.1, r.2, omega (arith, ints))
 
 part_meets : (l : List Bool) (a b : ℕ) (x : Node) (t : ℤ) → IsPart l a b x → (excess l a +ℤ x.least) ≤ℤ t → t ≤ℤ (excess l a +ℤ x.greatest) → (j : ℕ) × (a < j) × (j ≤ b) × (excess l j ≡ t)
-part_meets l a b x t p lo hi = ⊎_elim rising falling (cases_lt p.least.0 p.greatest.0)
-  where
-    rising : p.least.0 < p.greatest.0 → (j : ℕ) × (a < j) × (j ≤ b) × (excess l j ≡ t)
-    rising h =
-        let i = p.least in let j = p.greatest in let i1 = i.1 in let j2 = j.2 in let ie = i.3 in let je = j.3 in
-        let top : t ≤ℤ excess l (i.0 + (j.0 - i.0)) = subst (λ (n : ℕ). t ≤ℤ excess l n) (let g : j.0 ≡ i.0 + (j.0 - i.0) = omega arith in g) (let g : t ≤ℤ excess l j.0 = omega (arith, ints) in g) in
-        let r = met_upward (excess l) (excess-is_walk l) t i.0 (j.0 - i.0) (omega (arith, ints)) top in
-        let r1 = r.1 in let r2 = r.2 in (r.0, omega arith, omega arith, r.3)
-
-    falling : p.greatest.0 ≤ p.least.0 → (j : ℕ) × (a < j) × (j ≤ b) × (excess l j ≡ t)
-    falling h =
-        let i = p.greatest in let j = p.least in let i1 = i.1 in let j2 = j.2 in let ie = i.3 in let je = j.3 in
-        let low : excess l (i.0 + (j.0 - i.0)) ≤ℤ t = subst (λ (n : ℕ). excess l n ≤ℤ t) (let g : j.0 ≡ i.0 + (j.0 - i.0) = omega arith in g) (let g : excess l j.0 ≤ℤ t = omega (arith, ints) in g) in
-        let r = met_downward (excess l) (excess-is_walk l) t i.0 (j.0 - i.0) (omega (arith, ints)) low in
-        let r1 = r.1 in let r2 = r.2 in (r.0, omega arith, omega arith, r.3)
+part_meets l a b x t p lo hi = let i = p.least in let j = p.greatest in let i2 = i.2 in let ie = i.3 in let j1 = j.1 in let j2 = j.2 in let je = j.3 in ⊎_elim
+    (λ (h : i.0 < j.0). let r = met_upward (excess l) (excess-is_walk l) t i.0 (j.0 - i.0) j.0 (omega arith) (omega (arith, ints)) (omega (arith, ints)) in let r1 = r.1 in let r2 = r.2 in (r.0, omega arith, omega arith, r.3))
+    (λ (h : j.0 ≤ i.0). let r = met_downward (excess l) (excess-is_walk l) t j.0 (i.0 - j.0) i.0 (omega arith) (omega (arith, ints)) (omega (arith, ints)) in let r1 = r.1 in let r2 = r.2 in (r.0, omega arith, omega arith, r.3))
+    (cases_lt i.0 j.0)
 
 -- a block's range is one that a node may have
 pub part_range : (l : List Bool) (a b : ℕ) (x : Node) → a < b → IsPart l a b x → IsRange x
@@ -72,16 +61,14 @@ sum_before_block l size blocks b (suc k) h =
     let ih = sum_before_block l size blocks b k (omega arith) in
     let p = b.part k (omega arith) in
     let m = rw add-one at (total_more blocks k (omega arith)) in
-    let e : excess l (min (k * size) (length l)) ≡ excess l (k * size) = ap (excess l) (omega arith) in
-    let f : excess l (min (suc k * size) (length l)) ≡ excess l (min (k * size + size) (length l)) = ap (excess l) (omega arith) in
-    omega (arith, ints)
+    grind (arith, ints)
 
 pub reaches_iff : (l : List Bool) (size : ℕ) (blocks : List Node) → AreBlocks l size blocks → (k : ℕ) (t : ℤ) → k < length blocks → Reaches blocks k t ↔ ((j : ℕ) × (k * size < j) × (j ≤ min (k * size + size) (length l)) × (excess l j ≡ t))
 reaches_iff l size blocks b k t h = (there, back)
   where
     start : total_before blocks k ≡ excess l (k * size)
     start =
-        let p = b.part k h in let i = p.least in
+        let p = b.part k h in
         sum_before_block l size blocks b k (omega arith) ∙ ap (excess l) (omega arith)
 
     there : Reaches blocks k t → (j : ℕ) × (k * size < j) × (j ≤ min (k * size + size) (length l)) × (excess l j ≡ t)
@@ -134,7 +121,7 @@ near_sum l size blocks b short s k t h m =
 
 block_range : (l : List Bool) (size : ℕ) (blocks : List Node) → AreBlocks l size blocks → (k : ℕ) → k < length blocks → IsRange (get_or blocks k empty_node)
 block_range l size blocks b k h =
-    let p = b.part k h in let i = p.least in
+    let p = b.part k h in
     part_range l (k * size) (min (k * size + size) (length l)) _ (omega arith) p
 
 pub leaves_of : (l : List Bool) (size : ℕ) (blocks : List Node) → AreBlocks l size blocks → length l < 2 ^ 63 → AreLeaves blocks
@@ -168,19 +155,17 @@ div_below a p size so h = (div-lt_iff_lt-mul so).1 h
 
 pub start_is : (l : List Bool) (size : ℕ) (blocks : List Node) → AreBlocks l size blocks → (k : ℕ) → k < length blocks → (total_before blocks k ≡ excess l (k * size)) × (k * size < length l)
 start_is l size blocks b k h =
-    let p = b.part k h in let i = p.least in
+    let p = b.part k h in
     (sum_before_block l size blocks b k (omega arith) ∙ ap (excess l) (omega arith), omega arith)
 
 -- the block of a place reaches the sum after it
 pub reached_at : (l : List Bool) (size : ℕ) (blocks : List Node) → AreBlocks l size blocks → (p : ℕ) → p < length l → Reaches blocks (p / size) (excess l (p + 1))
 reached_at l size blocks b p h =
-    let o = block_of p size b.some in
     (reaches_iff l size blocks b (p / size) (excess l (p + 1)) (block_inside l size blocks b p h)).1 (p + 1, omega arith, omega arith, refl)
 
 -- and meets the sum before it
 pub met_at : (l : List Bool) (size : ℕ) (blocks : List Node) → AreBlocks l size blocks → (p : ℕ) → p < length l → Meets blocks (p / size) (excess l p)
 met_at l size blocks b p h =
-    let o = block_of p size b.some in
     let s = start_is l size blocks b (p / size) (block_inside l size blocks b p h) in
     ⊎_elim
     (λ (x : p / size * size < p). inr ((reaches_iff l size blocks b (p / size) (excess l p) (block_inside l size blocks b p h)).1 (p, x, omega arith, refl)))

@@ -1,8 +1,8 @@
 -- Building a tree of excesses from its leaves up to its root.
-use Rattle.vers_trees.proofs.Words.{◌≡◌, ℕ, ◌+◌, ◌-◌, ◌*◌, ◌/◌, ◌^◌, ◌<◌, ◌≤◌, ◌≢◌, ◌⊎◌, inl, inr, Bool, List, [], ◌∷◌, length, get_or, set, drop, ℤ, ◌+ℤ◌, ◌-ℤ◌, ◌≤ℤ◌, ◌<ℤ◌, arith, ⊎_elim, subst, sym, refl, ap, ◌∙◌, FitsSigned, ◌↔◌, w64, ints, clamps, cases_lt, get_or_past, get_or-set_same, get_or-set_other, get_or-drop, drop-set-lt, eq-or-lt_of_le, div-lt_iff_lt-mul, Node, excess, combined, CoveredFrom, AreLeaves, JoinFits, total_before, empty_node, Reaches, Covers, StandsOver, IsPart, AreBlocks, IsRange, IsLevel, IsBalanced, IsIndexed}
+use Rattle.vers_trees.proofs.Words.{◌≡◌, ℕ, ◌+◌, ◌-◌, ◌*◌, ◌/◌, ◌^◌, ◌<◌, ◌≤◌, ◌≢◌, ◌⊎◌, inl, inr, Bool, List, [], ◌∷◌, length, get_or, set, drop, ℤ, ◌+ℤ◌, ◌-ℤ◌, ◌≤ℤ◌, ◌<ℤ◌, arith, ⊎_elim, subst, sym, refl, ap, ◌∙◌, FitsSigned, ◌↔◌, w64, ints, clamps, cases_lt, get_or_past, get_or-set_same, get_or-set_other, get_or-drop, drop-set-lt, eq-or-lt_of_le, Node, excess, combined, CoveredFrom, AreLeaves, JoinFits, total_before, empty_node, Reaches, Covers, StandsOver, IsPart, AreBlocks, IsRange, IsLevel, IsBalanced, IsIndexed}
 use Rattle.vers_trees.proofs.grammar.Excess.{excess-zero}
 use Rattle.vers_trees.proofs.layout.MinMax.{covers_combined, HasChildren, stands_children, stands_every, leaf_stands, root}
-use Rattle.vers_trees.proofs.layout.Blocks.{total_more, total_past, total_all, total_start, reaches_iff, sum_before_block, balanced_iff_root}
+use Rattle.vers_trees.proofs.layout.Blocks.{block_inside, reached_at, total_more, total_past, total_all, total_start, reaches_iff, sum_before_block, balanced_iff_root}
 
 -- a leaf covers its block, and one past the blocks nothing
 covers_leaf : (blocks : List Node) → ((k : ℕ) → k < length blocks → IsRange (get_or blocks k empty_node)) → (s : ℕ) → Covers blocks s (s + 1) (get_or blocks s empty_node)
@@ -20,14 +20,7 @@ covers_leaf blocks r s = ⊎_elim inside outside (cases_lt s (length blocks))
     outside : length blocks ≤ s → Covers blocks s (s + 1) (get_or blocks s empty_node)
     outside h =
         let e : get_or blocks s empty_node ≡ empty_node = get_or_past blocks s empty_node h in
-        let t = total_past blocks s h in
-        rw e (record {
-          total = omega (arith, ints);
-          shape = inr refl;
-          found = λ t lo hi. absurd (omega (arith, ints));
-          low = λ k t a b w. let i = w.inside in absurd (omega arith);
-          high = λ k t a b w. let i = w.inside in absurd (omega arith);
-        })
+        grind (arith, ints, total_past)
 
 pub covered_leaves : (first : ℕ) (nodes : List Node) → ((k : ℕ) → k < length (drop first nodes) → IsRange (get_or (drop first nodes) k empty_node)) → CoveredFrom first nodes first
 covered_leaves first nodes r m s e h p =
@@ -72,17 +65,7 @@ root_is_part l size blocks e x b some le c = record {
         sym c.total ∙ ap (total_before blocks) (let g : e ≡ length blocks + (e - length blocks) = omega arith in g) ∙ total_all blocks (e - length blocks) ∙ sum_before_block l size blocks b (length blocks) (omega arith) ∙ ap (excess l) (omega arith)
 
     place : (j : ℕ) → 0 < j → j ≤ length l → (k : ℕ) × (k < length blocks) × Reaches blocks k (excess l j)
-    place j u v =
-        let so = b.some in
-        let k : ℕ = (j - 1) / size in
-        let in' : (j - 1) / size < length blocks = (div-lt_iff_lt-mul so).1 (omega arith) in
-        ((j - 1) / size, in', (reaches_iff l size blocks b ((j - 1) / size) (excess l j) in').1 (j, below j u size so, omega (arith, above j u size so), refl))
-      where
-        below : (j : ℕ) → 0 < j → (size : ℕ) → 0 < size → (j - 1) / size * size < j
-        below j u size so = omega arith
-
-        above : (j : ℕ) → 0 < j → (size : ℕ) → 0 < size → j ≤ (j - 1) / size * size + size
-        above j u size so = omega arith
+    place j u v = ((j - 1) / size, block_inside l size blocks b (j - 1) (omega arith), subst (λ (n : ℕ). Reaches blocks ((j - 1) / size) (excess l n)) (omega arith) (reached_at l size blocks b (j - 1) (omega arith)))
 
     range : IsRange x
     range = ⊎_elim (λ (r : IsRange x). r) (λ (n : x ≡ empty_node).

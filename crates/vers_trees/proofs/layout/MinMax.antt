@@ -63,8 +63,7 @@ stands_children first i s e p h = go p.height refl
     go : (k : ℕ) → p.height ≡ k → HasChildren first i s e
     go zero z =
         let lv = p.levels in let pl = p.place in
-        let same : 2 ^ (p.level + p.height) ≡ 2 ^ p.level = ap (λ (n : ℕ). 2 ^ n) (let g : p.level + p.height ≡ p.level = omega arith in g) in
-        absurd (omega arith)
+        grind (arith, ints)
     go (suc k) z =
         let lv = p.levels in let ins = p.inside in let pl = p.place in let fr = p.from in let up = p.upto in
         let pw : 2 ^ p.height ≡ 2 * 2 ^ k = ap (λ (n : ℕ). 2 ^ n) z ∙ pow_suc k in
@@ -110,10 +109,7 @@ one_part first i s e s' e' p q =
     let c = pow_more (p.level + p.height) (p.level + p.height + 1) refl in let d = pow_more (q.level + q.height) (q.level + q.height + 1) refl in
     let ab = order p.level q.level (omega arith) in let ba = order q.level p.level (omega arith) in
     let cd = order (p.level + p.height) (q.level + q.height) (omega arith) in let dc = order (q.level + q.height) (p.level + p.height) (omega arith) in
-    let wide : 2 ^ p.height ≡ 2 ^ q.height = ap (λ (n : ℕ). 2 ^ n) (omega arith) in
-    let level : 2 ^ p.level ≡ 2 ^ q.level = ap (λ (n : ℕ). 2 ^ n) (omega arith) in
-    let start : p.offset * 2 ^ p.height ≡ q.offset * 2 ^ q.height = rw wide (ap (λ (n : ℕ). n * 2 ^ q.height) (omega arith)) in
-    (omega arith, omega arith)
+    grind (arith, ints)
 
 -- the parent of a child, with its other child
 parent_of : (first i j s e : ℕ) → StandsOver first i s e → (i ≡ 2 * j + 1) ⊎ (i ≡ 2 * j + 2) → (u : ℕ) × (v : ℕ) × StandsOver first j u v × HasChildren first j u v
@@ -131,8 +127,7 @@ parent_of_left first j s e p =
 pub parent_of_right : (first j s e : ℕ) → StandsOver first (2 * j + 2) s e → (u : ℕ) × StandsOver first j u e × StandsOver first (2 * j + 1) u s
 parent_of_right first j s e p =
     let q = parent_of first (2 * j + 2) j s e p (inr refl) in
-    let o = one_part first (2 * j + 2) _ _ _ _ p q.3.right in
-    (q.0, rw (← o.1) at q.2, rw (← o.0) at q.3.left)
+    grind (arith, ints, one_part)
 
 leaf : (first h i : ℕ) → 2 ^ h ≡ first + 1 → first ≤ i → i ≤ 2 * first → StandsOver first i (i - first) (i - first + 1)
 leaf first h i lv a b = record { level = h; height = 0; offset = i - first; levels = ap (λ (n : ℕ). 2 ^ n) (let g : h + 0 ≡ h = omega arith in g) ∙ lv; inside = omega arith; place = omega arith; from = omega arith; upto = omega arith }

@@ -10,15 +10,7 @@ module _ (size n : ℕ) where
       × IsWithin get_reads (tree_reads size n)
       × IsWithin rank_reads (tree_reads size n)
       × IsWithin (select_reads (superblock_count n)) (tree_reads size n)
-  calls_within = (
-    record { data_words = omega arith; block_entries = omega arith; superblock_entries = omega arith; low_parts = omega arith; rank_calls = omega arith; items = omega arith; blocks = omega arith; nodes = omega arith; chunks = omega arith },
-    record { data_words = omega arith; block_entries = omega arith; superblock_entries = omega arith; low_parts = omega arith; rank_calls = omega arith; items = omega arith; blocks = omega arith; nodes = omega arith; chunks = omega arith },
-    record { data_words = omega arith; block_entries = omega arith; superblock_entries = omega arith; low_parts = omega arith; rank_calls = omega arith; items = omega arith; blocks = omega arith; nodes = omega arith; chunks = omega arith },
-    record { data_words = omega arith; block_entries = omega arith; superblock_entries = omega arith; low_parts = omega arith; rank_calls = omega arith; items = omega arith; blocks = omega arith; nodes = omega arith; chunks = omega arith },
-    record { data_words = omega arith; block_entries = omega arith; superblock_entries = omega arith; low_parts = omega arith; rank_calls = omega arith; items = omega arith; blocks = omega arith; nodes = omega arith; chunks = omega arith },
-    record { data_words = omega arith; block_entries = omega arith; superblock_entries = omega arith; low_parts = omega arith; rank_calls = omega arith; items = omega arith; blocks = omega arith; nodes = omega arith; chunks = omega arith },
-    record { data_words = omega arith; block_entries = omega arith; superblock_entries = omega arith; low_parts = omega arith; rank_calls = omega arith; items = omega arith; blocks = omega arith; nodes = omega arith; chunks = omega arith },
-  )
+  calls_within = grind arith
 
   pub calls_few : (old new : Reads) → AddsAtMost old new (tree_reads size n)
       → (new.blocks ≤ old.blocks + 4) × (new.nodes ≤ old.nodes + 8 * levels size n) × (new.data_words ≤ old.data_words + (4 * size + 32))

@@ -64,8 +64,7 @@ pub no_steps_up : (F : Forest) (v : ℕ) → HasPair F v → level_ancestor F v 
 unfolding level_ancestor
 no_steps_up F v h = first_node F _ _ (at_depth_decides F v 0) v h ((omega arith, omega arith), omega arith) (λ w x k g.
     let dw = depth_is_excess F w k in let dv = depth_is_excess F v h in
-    let s = k.closes.above v x (omega arith) in
-    omega (arith, ints))
+    grind (arith, ints))
 
 pub level_ancestor_is_search : (F : Forest) (v t : ℕ) → HasPair F v → 0 < t → last_rise_before (text F) v (neg_ℤ (pos t)) ≡ level_ancestor F v t
 unfolding level_ancestor
@@ -74,10 +73,7 @@ level_ancestor_is_search F v t h some = go (last_rise_before (text F) v (neg_ℤ
     go : (o : Option ℕ) → last_rise_before (text F) v (neg_ℤ (pos t)) ≡ o → o ≡ find (at_depth F v t) (nodes F)
     go None e = sym (no_first_node F _ _ (at_depth_decides F v t) (λ w k g.
         let dw = depth_is_excess F w k in let dv = depth_is_excess F v h in let d = g.1 in
-        ⊎_elim
-        (λ (z : w ≡ v). let s : depth F w ≡ depth F v = ap (depth F) z in omega arith)
-        (λ (z : w < v). before_none (text F) v (neg_ℤ (pos t)) (inside F v h) e w z (omega (arith, ints)))
-        (eq-or-lt_of_le g.0.0)))
+        grind (arith, ints, before_none, inside, eq-or-lt_of_le)))
     go (Some a) e =
         let m = above_from_before F v t a some (opens F v h) (before_some (text F) v (neg_ℤ (pos t)) a e) in
         let r = above_is_around F v t a h m in

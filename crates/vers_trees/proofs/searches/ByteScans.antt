@@ -11,20 +11,13 @@ excess-drop : (l : List Bool) (p j : ℕ) → p ≤ length l → excess l (p + j
 excess-drop l p j h =
     let e = length-take-le p l h in
     let w = take-append-drop p l in
-    let a = ap (λ (m : List Bool). excess m (length (take p l) + j)) w in
-    let b = excess-append_right (take p l) (drop p l) j in
-    let c = excess-append_left (take p l) (drop p l) (length (take p l)) (omega arith) in
-    let d = ap (λ (m : List Bool). excess m (length (take p l))) w in
-    let f : excess l (length (take p l) + j) ≡ excess l (length (take p l)) +ℤ excess (drop p l) j = omega (arith, ints) in
-    subst (λ (n : ℕ). excess l (n + j) ≡ excess l n +ℤ excess (drop p l) j) e f
+    grind (arith, ints, excess-append_right, excess-append_left)
 
 pub excess-part : (l : List Bool) (p n j : ℕ) → p + n ≤ length l → j ≤ n → excess l (p + j) ≡ excess l p +ℤ excess (part l p n) j
 excess-part l p n j h i =
     let m = length-part l p n h in
     let t = ap (λ (m : List Bool). excess m j) (take-append-drop n (drop p l)) in
-    let s = excess-append_left (part l p n) (drop n (drop p l)) j (omega arith) in
-    let d = excess-drop l p j (omega arith) in
-    omega (arith, ints)
+    grind (arith, ints, excess-append_left, excess-drop)
 
 -- the excess of at most 64 bits, by the ones of their number
 excess-number : (bits : List Bool) (n : ℕ) → n ≤ 64 → length bits ≡ n → excess bits n ≡ pos (2 * count_ones (number bits)) -ℤ pos n
@@ -45,9 +38,7 @@ excess-number bits n few e =
 pub total_of : (l : List Bool) (p n word : ℕ) (d : ℤ) → n ≤ 64 → p + n ≤ length l → word ≡ number (part l p n) → d ≡ pos (2 * count_ones word) -ℤ pos n → excess l (p + n) ≡ excess l p +ℤ d
 total_of l p n word d few h e q =
     let f = excess-part l p n n h (omega arith) in
-    let t = excess-number (part l p n) n few (length-part l p n h) in
-    let o = ap count_ones e in
-    omega (arith, ints)
+    grind (arith, ints, excess-number, length-part)
 
 -- ---- the word at a place, and the byte in a word
 word_is : (l : List Bool) (p n : ℕ) → n ≤ 64 → p + n ≤ length l → part_number_or_zero l p n ≡ Some (number (part l p n))

@@ -37,8 +37,7 @@ octal-digit (d ∷ ds) (suc x) h i =
     let ih = octal-digit ds x (λ y. h (suc y)) (omega arith) in
     let e : 3 * suc x ≡ 3 + 3 * x = omega arith in
     let s = shr-shr (octal (d ∷ ds)) 3 (3 * x) in
-    let t : octal (d ∷ ds) / 2 ^ 3 ≡ octal ds = omega arith in
-    ap (λ (n : ℕ). octal (d ∷ ds) / 2 ^ n % 8) e ∙ ap (λ (n : ℕ). n % 8) (sym s) ∙ ap (λ (n : ℕ). n / 2 ^ (3 * x) % 8) t ∙ ih
+    grind (arith, ints)
 
 pub entry_place : (entry : ℕ) (ds : List ℕ) (least greatest x : ℕ) → entry ≡ 1024 * octal ds + 32 * least + greatest → least < 32 → greatest < 32 → AreOctal ds → x < length ds → place_in entry x ≡ get_or ds x 7
 entry_place entry ds least greatest x e a b h i =

@@ -53,14 +53,14 @@ module _ (l : List Bool) (size first : ℕ) (nodes : List Node) (x : IsIndexed l
     pub none_far : (FitsSigned w64 (stored r -ℤ stored rise) → ⊥) → None ≡ first_rise_after l i r
     none_far long = sym (none_after l i r (λ k a b z. ⊎_elim
         (λ (w : k < end). p.none k (omega arith) w z)
-        (λ (w : end ≤ k). let s = p.risen in long (rw (to_z-of_z w64 r f, to_z-of_z w64 rise risen) (rise_fits l end (k + 1) (r -ℤ rise) x.short (omega arith) (omega arith) (omega (arith, ints)))))
+        (λ (w : end ≤ k). long (rw (to_z-of_z w64 r f, to_z-of_z w64 rise risen) (rise_fits l end (k + 1) (r -ℤ rise) x.short (omega arith) (omega arith) (omega (arith, ints)))))
         (cases_lt k end)))
 
     -- the sum that the tree is asked for
     module _ (left : ℤ) (d : Difference r rise left) where
       asked : total_before (drop first nodes) (i / size + 1) +ℤ stored left ≡ excess l (i + 1) +ℤ r
       asked =
-          let ri = p.risen in let li = left_is r rise left f risen d in
+          let li = left_is r rise left f risen d in
           let s = sum_before_block l size (drop first nodes) tree.blocks (i / size + 1) (let g = block_inside l size (drop first nodes) tree.blocks i h in omega arith) in
           let same : excess l (min ((i / size + 1) * size) (length l)) ≡ excess l end = ap (excess l) (omega arith) in
           omega (arith, ints)
@@ -90,7 +90,6 @@ module _ (l : List Bool) (size first : ℕ) (nodes : List Node) (x : IsIndexed l
               let af = n.after in let re = n.remains in let s0 = start.0 in let s1 = start.1 in let ask = asked in
               let lo = q.low in let hi = q.inside in let su = q.sum in let wh = whole in
               let far : (i / size + 1) * size ≤ j * size = mul-le-mul_right size af in
-              let o1 = (block_of i size tree.blocks.some).1 in
               sym (after_is l i r place (record {
                 after = omega arith;
                 inside = omega arith;
@@ -115,27 +114,24 @@ module _ (l : List Bool) (size first : ℕ) (nodes : List Node) (x : IsIndexed l
     tree_back = x.over (omega arith)
 
     here : (total_before (drop first nodes) ((i - 1) / size) ≡ excess l ((i - 1) / size * size)) × ((i - 1) / size * size < i) × ((i - 1) / size < length (drop first nodes))
-    here =
-        let b = tree_back.blocks in
-        let ins = block_inside l size (drop first nodes) b (i - 1) (omega arith) in let o = (block_of (i - 1) size x.some).0 in
-        ((start_is l size (drop first nodes) b ((i - 1) / size) ins).0, omega arith, ins)
+    here = grind (arith, ints, tree_back, block_inside, block_of, start_is)
 
     fallen : FitsSigned w64 rise
-    fallen = let o = here.1 in rise_fits l i ((i - 1) / size * size) rise x.short (omega arith) (omega arith) p.risen
+    fallen = rise_fits l i ((i - 1) / size * size) rise x.short (omega arith) (omega arith) p.risen
 
     pub none_far_back : (FitsSigned w64 (stored r -ℤ stored rise) → ⊥) → None ≡ last_rise_before l i r
     none_far_back long = sym (none_before l i r (λ k a z. ⊎_elim
-        (λ (w : k < (i - 1) / size * size). let s = p.risen in let o = here.1 in long (rw (to_z-of_z w64 r f, to_z-of_z w64 rise fallen) (rise_fits l ((i - 1) / size * size) k (r -ℤ rise) x.short (omega arith) (omega arith) (omega (arith, ints)))))
+        (λ (w : k < (i - 1) / size * size). let o = here.1 in long (rw (to_z-of_z w64 r f, to_z-of_z w64 rise fallen) (rise_fits l ((i - 1) / size * size) k (r -ℤ rise) x.short (omega arith) (omega arith) (omega (arith, ints)))))
         (λ (w : (i - 1) / size * size ≤ k). p.none k w a z)
         (cases_lt k ((i - 1) / size * size))))
 
     module _ (left : ℤ) (d : Difference r rise left) where
       asked_back : total_before (drop first nodes) ((i - 1) / size) +ℤ stored left ≡ excess l i +ℤ r
-      asked_back = let ri = p.risen in let li = left_is r rise left f fallen d in let s0 = here.0 in omega (arith, ints)
+      asked_back = let li = left_is r rise left f fallen d in let s0 = here.0 in omega (arith, ints)
 
       -- an earlier place of that sum lies in an earlier block that meets it
       earlier : (k : ℕ) → k < (i - 1) / size * size → excess l k ≡ excess l i +ℤ r → (k / size < (i - 1) / size) × Meets (drop first nodes) (k / size) (total_before (drop first nodes) ((i - 1) / size) +ℤ stored left)
-      earlier k w z = (div_below ((i - 1) / size) k size x.some w, subst (Meets (drop first nodes) (k / size)) (z ∙ sym asked_back) (met_at l size (drop first nodes) tree_back.blocks k (let o = here.1 in omega arith)))
+      earlier k w z = (div_below ((i - 1) / size) k size x.some w, subst (Meets (drop first nodes) (k / size)) (z ∙ sym asked_back) (met_at l size (drop first nodes) tree_back.blocks k (omega arith)))
 
       pub none_previous : ((k : ℕ) → k < (i - 1) / size → Meets (drop first nodes) k (total_before (drop first nodes) ((i - 1) / size) +ℤ stored left) → ⊥) → None ≡ last_rise_before l i r
       none_previous nowhere = sym (none_before l i r (λ k a z. ⊎_elim (λ (w : k < (i - 1) / size * size). let q = earlier k w z in nowhere (k / size) q.0 q.1) (λ (w : (i - 1) / size * size ≤ k). p.none k w a z) (cases_lt k ((i - 1) / size * size))))
@@ -181,7 +177,7 @@ module _ (l : List Bool) (size first : ℕ) (nodes : List Node) (x : IsIndexed l
                     (cases_lt k ((i - 1) / size * size));
               }))
           go (Err past) q =
-              let re = n.remains in let be = n.before in let g = here.2 in let e0 = ends.0 in let ask = asked_back in let wh = whole in let so = x.some in
+              let re = n.remains in let g = here.2 in let e0 = ends.0 in let ask = asked_back in let wh = whole in let so = x.some in
               let s0 = (start_is l size (drop first nodes) tree_back.blocks j (omega arith)).0 in
               absurd (⊎_elim
               (λ (z : total_before (drop first nodes) j ≡ total_before (drop first nodes) ((i - 1) / size) +ℤ stored left). q.none (j * size) (omega arith) (omega arith) (omega (arith, ints)))

@@ -13,6 +13,15 @@ pub record IsLast (P : ℕ → Type 0) (n j : ℕ) : Type 0 where
   pub holds : P j
   pub last : (k : ℕ) → j < k → k < n → P k → ⊥
 
+-- what is found where one place alone is right, and where none is
+found_is : (o : Option ℕ) (N : Type 0) (Is : ℕ → Type 0) (j : ℕ) → MatchOption o N Is → (N → ⊥) → ((i : ℕ) → Is i → i ≡ j) → o ≡ Some j
+found_is None N Is j m n u = absurd (n m)
+found_is (Some i) N Is j m n u = ap Some (u i m)
+
+none_is : (o : Option ℕ) (N : Type 0) (Is : ℕ → Type 0) → MatchOption o N Is → ((i : ℕ) → Is i → ⊥) → o ≡ None
+none_is None N Is m n = refl
+none_is (Some i) N Is m n = absurd (n i m)
+
 -- a search by a test that decides P
 pub find_first : (test : ℕ → Bool) (P : ℕ → Type 0) → ((k : ℕ) → Decides (test k) (P k)) → (a n : ℕ) → MatchOption (find test (range_with_len a n)) ((k : ℕ) → a ≤ k → k < a + n → P k → ⊥) (λ j. IsFirst P a (a + n) j)
 find_first test P d a zero = λ k x y p. omega arith
@@ -26,18 +35,11 @@ find_first test P d a (suc n) = go (test a) refl (find test (range_with_len (a +
         record { from = omega arith; below = omega arith; holds = h.holds; first = λ k x y p. ⊎_elim (λ (s : a ≡ k). let t = (d a).1 (subst P (sym s) p) in cc) (λ (s : a < k). h.first k (omega arith) y p) (eq-or-lt_of_le x) }
 
 pub find_is : (test : ℕ → Bool) (P : ℕ → Type 0) → ((k : ℕ) → Decides (test k) (P k)) → (a n j : ℕ) → IsFirst P a (a + n) j → find test (range_with_len a n) ≡ Some j
-find_is test P d a n j r = go (find test (range_with_len a n)) (find_first test P d a n)
-  where
-    go : (o : Option ℕ) → MatchOption o ((k : ℕ) → a ≤ k → k < a + n → P k → ⊥) (λ j. IsFirst P a (a + n) j) → o ≡ Some j
-    go None h = absurd (h j r.from r.below r.holds)
-    go (Some i) h = ⊎_elim (λ (e : i ≡ j). ap Some e) (λ (o : (i < j) ⊎ (j < i)). ⊎_elim (λ (x : i < j). absurd (r.first i h.from x h.holds)) (λ (x : j < i). absurd (h.first j r.from x r.holds)) o) (cases_order i j)
+find_is test P d a n j r = found_is _ ((k : ℕ) → a ≤ k → k < a + n → P k → ⊥) (IsFirst P a (a + n)) j (find_first test P d a n) (λ h. h j r.from r.below r.holds)
+    (λ i h. ⊎_elim (λ (e : i ≡ j). e) (λ (o : (i < j) ⊎ (j < i)). ⊎_elim (λ (x : i < j). absurd (r.first i h.from x h.holds)) (λ (x : j < i). absurd (h.first j r.from x r.holds)) o) (cases_order i j))
 
 pub none_find : (test : ℕ → Bool) (P : ℕ → Type 0) → ((k : ℕ) → Decides (test k) (P k)) → (a n : ℕ) → ((k : ℕ) → a ≤ k → k < a + n → P k → ⊥) → find test (range_with_len a n) ≡ None
-none_find test P d a n none = go (find test (range_with_len a n)) (find_first test P d a n)
-  where
-    go : (o : Option ℕ) → MatchOption o ((k : ℕ) → a ≤ k → k < a + n → P k → ⊥) (λ j. IsFirst P a (a + n) j) → o ≡ None
-    go None h = refl
-    go (Some i) h = absurd (none i h.from h.below h.holds)
+none_find test P d a n none = none_is _ ((k : ℕ) → a ≤ k → k < a + n → P k → ⊥) (IsFirst P a (a + n)) (find_first test P d a n) (λ i h. none i h.from h.below h.holds)
 
 -- the last of the numbers below n that passes the test
 abbrev last_below : (ℕ → Bool) → ℕ → Option ℕ
@@ -81,18 +83,11 @@ pub find_last : (test : ℕ → Bool) (P : ℕ → Type 0) → ((k : ℕ) → De
 find_last test P d n = rw (last_of_range test n) (last_found test P d n)
 
 pub last_is : (test : ℕ → Bool) (P : ℕ → Type 0) → ((k : ℕ) → Decides (test k) (P k)) → (n j : ℕ) → IsLast P n j → last_or None (filter test (range_with_len 0 n)) ≡ Some j
-last_is test P d n j r = go (last_or None (filter test (range_with_len 0 n))) (find_last test P d n)
-  where
-    go : (o : Option ℕ) → MatchOption o ((k : ℕ) → k < n → P k → ⊥) (λ j. IsLast P n j) → o ≡ Some j
-    go None h = absurd (h j r.below r.holds)
-    go (Some i) h = ⊎_elim (λ (e : i ≡ j). ap Some e) (λ (o : (i < j) ⊎ (j < i)). ⊎_elim (λ (x : i < j). absurd (h.last j x r.below r.holds)) (λ (x : j < i). absurd (r.last i x h.below h.holds)) o) (cases_order i j)
+last_is test P d n j r = found_is _ ((k : ℕ) → k < n → P k → ⊥) (IsLast P n) j (find_last test P d n) (λ h. h j r.below r.holds)
+    (λ i h. ⊎_elim (λ (e : i ≡ j). e) (λ (o : (i < j) ⊎ (j < i)). ⊎_elim (λ (x : i < j). absurd (h.last j x r.below r.holds)) (λ (x : j < i). absurd (r.last i x h.below h.holds)) o) (cases_order i j))
 
 pub none_last : (test : ℕ → Bool) (P : ℕ → Type 0) → ((k : ℕ) → Decides (test k) (P k)) → (n : ℕ) → ((k : ℕ) → k < n → P k → ⊥) → last_or None (filter test (range_with_len 0 n)) ≡ None
-none_last test P d n none = go (last_or None (filter test (range_with_len 0 n))) (find_last test P d n)
-  where
-    go : (o : Option ℕ) → MatchOption o ((k : ℕ) → k < n → P k → ⊥) (λ j. IsLast P n j) → o ≡ None
-    go None h = refl
-    go (Some i) h = absurd (none i h.below h.holds)
+none_last test P d n none = none_is _ ((k : ℕ) → k < n → P k → ⊥) (IsLast P n) (find_last test P d n) (λ i h. none i h.below h.holds)
 
 -- ---- where the excess rises by r, after i and before i
 abbrev rises_to : List Bool → ℕ → ℤ → ℕ → Type 0

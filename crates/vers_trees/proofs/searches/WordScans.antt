@@ -15,8 +15,7 @@ bit_small false = omega arith
 ones_next : (n : ℕ) (b : Bool) → count_ones (n * 2 ^ 1 + bit_value b) ≡ bit_value b + count_ones n
 ones_next n b =
     let s = ones_step (n * 2 ^ 1 + bit_value b) in let m = bit_small b in
-    let h = ap count_ones (let g : (n * 2 ^ 1 + bit_value b) / 2 ≡ n = omega arith in g) in
-    omega arith
+    grind (arith, ints)
 
 zero_ones : count_ones 0 ≡ 0
 zero_ones = ones-ones 0
@@ -56,9 +55,7 @@ falls_counted l word h e =
     let o = or_ones false l in
     let b = ap number (before_is false 63 l h) in
     let t = number-take 63 l in
-    let s : number (before false l) ≡ word * 2 % 18446744073709551616 = omega arith in
-    let c : count_ones (bit_or (number l) (number (before false l))) ≡ count_ones (bit_or word (word * 2 % 18446744073709551616)) = rw (← e, s) refl in
-    omega arith
+    grind (arith, ints)
 
 -- no sum along the list falls further
 above : (p : Bool) (l : List Bool) (j : ℕ) → pos 0 ≤ℤ (excess l j +ℤ pos (bit_value p + falls p l))
@@ -97,16 +94,12 @@ after_word : (l : List Bool) → length l ≡ 64 → number (after l) ≡ number
 after_word [] h = absurd (omega arith)
 after_word (b ∷ l) h =
     let e = number-after b l in
-    let p : 2 ^ length l ≡ 9223372036854775808 = ap (λ (n : ℕ). 2 ^ n) (let g : length l ≡ 63 = omega arith in g) in
-    let s = bit_small b in
-    omega arith
+    grind (arith, ints, bit_small)
 
 pub rises_counted : (l : List Bool) (word : ℕ) → length l ≡ 64 → word ≡ number l → rises l ≡ count_ones (bit_and word (word / 2 + 9223372036854775808))
 rises_counted l word h e =
     let a = after_word l h in
-    let s : number (after l) ≡ word / 2 + 9223372036854775808 = omega arith in
-    let c : count_ones (bit_and (number l) (number (after l))) ≡ count_ones (bit_and word (word / 2 + 9223372036854775808)) = rw (← e, s) refl in
-    sym (and_ones l) ∙ c
+    grind (arith, ints, and_ones)
 
 pub rises_few : (l : List Bool) → rises l ≤ length l
 rises_few [] = omega arith

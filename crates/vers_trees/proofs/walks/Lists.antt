@@ -1,6 +1,7 @@
 -- Lists of places: moved to the right, and those of a list that follows another.
 use Rattle.vers_trees.proofs.Words.{◌≡◌, ℕ, zero, suc, ◌+◌, ◌<◌, Bool, true, false, cond, List, [], ◌∷◌, ◌++◌, map, length, get_or, arith, subst, sym, refl, ap, ◌∙◌, negsuc, Some, inl, inr, filter, All, range_with_len, map-append, append_assoc, All-nil, All-cons, All-head, All-tail, All-append, All-map, All-weaker, is_bit, places, moved, Forest, none, tree, text, last_rise_before, opening_of, pairs_by_closing, postorder}
 use Rattle.vers_trees.proofs.grammar.Paired.{Paired, paired_closes}
+use Rattle.vers_trees.proofs.grammar.Pairs.{PairedIn}
 use Rattle.vers_trees.proofs.kin.Partners.{before_from_closes}
 use Rattle.vers_trees.proofs.searches.Searches.{before_is}
 
@@ -114,9 +115,6 @@ closing_is_zeros (tree X Y) =
     let n : length (text X) + 2 ≡ 1 + length (text X) + 1 = omega arith in
     let c : length (text X) + 1 ≡ 1 + length (text X) + 0 = omega arith in
     rw (closing-tree X Y, closing_is_zeros X, closing_is_zeros Y, n, c) (sym (places-tree false (text X) (text Y)))
-
-abbrev PairedIn : Forest → ℕ × ℕ → Type 0
-PairedIn F q = Paired F q.0 q.1
 
 -- each is a pair of the forest
 pub closing_paired : (F : Forest) → All (λ q. Paired F q.0 q.1) (pairs_by_closing F)
