@@ -17,7 +17,7 @@ from sources import TOP, public_functions, read, read_crate, write_or_check
 
 PAGE, DIFFERENCES, FACADE = "docs/CALLS.md", "docs/DIFFERENCES.md", "crates/vers_vecs/src/lib.rt"
 CRATES = """vers_bits vers_tally vers_rank vers_sorted vers_rmq vers_trees vers_wavelet vers_saved postings text_index vers_words
-    vers_engine vers_cli vers_files"""
+    vers_engine vers_cli vers_texts vers_files"""
 ADDS = "AddsAtMost tally.old tally.new "
 
 

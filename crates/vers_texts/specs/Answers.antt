@@ -1,0 +1,18 @@
+-- Answer texts: what the program writes for the lines of an input.
+use Rattle.std.specs.Prelude.{ℕ, List, Option, None, Result}
+use Rattle.vers_engine.specs.declared.engine.RunError.{RunError}
+use Rattle.vers_engine.specs.Answers.{Answering, answers_of, WrittenOf}
+use Rattle.vers_engine.specs.Replies.{answering_by}
+use Rattle.vers_texts.specs.Rules.{replies_by_the_rules}
+
+-- the answer of a line, and the text that is held after it, as the engine takes them
+abbrev pub by_the_rules : Answering (Option (List ℕ))
+by_the_rules = answering_by replies_by_the_rules
+
+-- the answers of the lines in their order, where this text is held before them
+abbrev pub answers_to : Option (List ℕ) → List (List ℕ) → List ℕ
+answers_to held lines = answers_of by_the_rules held lines
+
+-- what was written of the answers of the lines that were read, by how a run ends, where no text is held before them
+abbrev pub WrittenAt : Result (Unit {0}) RunError → List (List ℕ) → List ℕ → Type 0
+WrittenAt result lines text = WrittenOf (answers_to None) result lines text

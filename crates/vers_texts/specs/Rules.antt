@@ -1,0 +1,35 @@
+-- Which reply a line has, and which text is held after it. The first of these rules that applies:
+-- 1. the first word is no name: bad line;
+-- 2. a load line with malformed arguments, or without a width: bad line;
+-- 3. a query where no text is held: wrong structure;
+-- 4. a query with malformed arguments, or another number of them: bad line;
+-- 5. a load line that writes no text: refused;
+-- 6. the answer.
+use Rattle.std.specs.Prelude.{ℕ, List, Option, Some, None}
+use Rattle.vers_words.specs.Arguments.{all_numbers}
+use Rattle.vers_words.specs.Reply.{PlainReply, BadLine, WrongStructure}
+use Rattle.vers_engine.specs.Replies.{Replying}
+use Rattle.vers_texts.specs.declared.name.Name.{Name}
+use Rattle.vers_texts.specs.declared.name.Name.TheVariants as name
+use Rattle.vers_texts.specs.Name.{name_of}
+use Rattle.vers_texts.specs.TextLines.{text_reply, held_after_text, query_reply}
+
+-- the reply of a line whose first word is this name, or none
+abbrev pub reply_to : Option (List ℕ) → Option Name → List (List ℕ) → PlainReply
+reply_to held None arguments = BadLine
+reply_to held (Some name.Text) arguments = text_reply (all_numbers arguments)
+reply_to None (Some (name.Query query)) arguments = WrongStructure
+reply_to (Some text) (Some (name.Query query)) arguments = query_reply text query arguments
+
+-- the text that is held after a line whose first word is this name, or none
+abbrev pub holding_after_name : Option (List ℕ) → Option Name → List (List ℕ) → Option (List ℕ)
+holding_after_name held None arguments = held
+holding_after_name held (Some name.Text) arguments = held_after_text held (all_numbers arguments)
+holding_after_name held (Some (name.Query query)) arguments = held
+
+-- both, by the words of a line
+abbrev pub replies_by_the_rules : Replying (Option (List ℕ))
+replies_by_the_rules = record {
+  reply_to = λ held word arguments. reply_to held (name_of word) arguments;
+  holding_after = λ held word arguments. holding_after_name held (name_of word) arguments;
+}

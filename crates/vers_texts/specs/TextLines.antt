@@ -1,0 +1,37 @@
+-- The lines of a text.
+use Rattle.std.specs.Prelude.{ℕ, ◌^◌, Bool, ◌&&◌, nat_le, nat_lt, List, [], ◌∷◌, length, slice_range, Option, Some, None, if◌then◌else◌}
+use Rattle.std.specs.List.{list_all}
+use Rattle.text_index.specs.Texts.{places_of}
+use Rattle.text_index.specs.declared.index.TheConstants.{MAX_LEN}
+use Rattle.vers_words.specs.Arguments.{no_arguments, two_numbers, all_numbers}
+use Rattle.vers_words.specs.Reply.{PlainReply, BadLine, Refused, Number, Absent, Numbers, if_well_formed}
+use Rattle.vers_texts.specs.declared.name.Query.{Query}
+use Rattle.vers_texts.specs.declared.name.Query.TheVariants.{Len, Count, Places, Extract}
+
+-- whether these are a text whose symbols have so many bits: 1 to 16, not too many symbols, and none that has more bits
+abbrev pub is_text : ℕ → List ℕ → Bool
+is_text width symbols =
+    (nat_le 1 width && nat_le width 16) && (nat_le (length symbols) MAX_LEN && list_all (λ symbol. nat_lt symbol (2 ^ width)) symbols)
+
+-- the reply of the load line `text K S..`, for its numbers: how many symbols the text has
+abbrev pub text_reply : Option (List ℕ) → PlainReply
+text_reply None = BadLine
+text_reply (Some []) = BadLine
+text_reply (Some (width ∷ symbols)) = if is_text width symbols then Number (length symbols) else Refused
+
+-- the text that is held after that line: as before, unless it is accepted
+abbrev pub held_after_text : Option (List ℕ) → Option (List ℕ) → Option (List ℕ)
+held_after_text held None = held
+held_after_text held (Some []) = held
+held_after_text held (Some (width ∷ symbols)) = if is_text width symbols then Some symbols else held
+
+-- the reply of a query of the symbols from one place on, before another
+abbrev pub piece_reply : List ℕ → ℕ → ℕ → PlainReply
+piece_reply text from to = if nat_le from to && nat_le to (length text) then Numbers (slice_range text from to) else Absent
+
+-- the reply of a query line, where this text is held
+abbrev pub query_reply : List ℕ → Query → List (List ℕ) → PlainReply
+query_reply text Len arguments = if_well_formed (no_arguments arguments) (λ nothing. Number (length text))
+query_reply text Count arguments = if_well_formed (all_numbers arguments) (λ pattern. Number (length (places_of text pattern)))
+query_reply text Places arguments = if_well_formed (all_numbers arguments) (λ pattern. Numbers (places_of text pattern))
+query_reply text Extract arguments = if_well_formed (two_numbers arguments) (λ range. piece_reply text range.0 range.1)

@@ -1,0 +1,41 @@
+//! The names of lines.
+ghost use Rattle.std.specs.Prelude.{◌≡◌};
+
+use vers_words::names::named;
+
+/// The first word of a query line.
+#[derive(Clone, Copy, Drop)]
+pub enum Query {
+    Len,
+    Count,
+    Places,
+    Extract,
+}
+
+/// The first word of a line.
+#[derive(Clone, Copy, Drop)]
+pub enum Name {
+    Text,
+    Query(Query),
+}
+
+/// All names, and how they are written. It is the one table of names: the contract of `Name::of`
+/// reads it too.
+pub const NAMES: [(&[u8], Name); 5] = [
+    (b"text", Name::Text),
+    (b"len", Name::Query(Query::Len)),
+    (b"count", Name::Query(Query::Count)),
+    (b"places", Name::Query(Query::Places)),
+    (b"extract", Name::Query(Query::Extract)),
+];
+
+impl Name {
+    ghost use Rattle.vers_texts.specs.Name.{name_of};
+
+    /// The name that a word is, unless it is none.
+    pub fn of(word: &[u8]) -> Option<Name>
+        ensures { result ≡ name_of word.now }
+    {
+        named(&NAMES, word)
+    }
+}

@@ -1,0 +1,53 @@
+//! The line program over texts.
+ghost use Rattle.std.specs.Prelude.{◌≡◌, ◌<◌, ◌↔◌, IsTrue, List, ℕ, false};
+ghost use Rattle.std.specs.Io.KnownBytes.{Appends, Consumes};
+ghost use Rattle.vers_engine.specs.Device.{FollowsReadFault, FollowsWriteFault};
+ghost use Rattle.vers_engine.specs.Answers.{AreLinesRead};
+ghost use Rattle.vers_texts.specs.Answers.{WrittenAt};
+
+use crate::store::Store;
+use std::alloc::Allocator;
+use vers_engine::{Device, RunError, Sink, Source, answer_lines};
+
+/// Reads lines to the end of the input and writes the answer of each, every whole line before the
+/// next read. No text is held before the first line.
+///
+/// A line ends with byte 10 or with the end of the input, and its words are separated by spaces.
+/// A line that is malformed, that asks something where no text is held, or that is refused is answered by `bad
+/// line`, `wrong structure` or `refused`; what is held is not lost by it, and the run goes on. Answers are gathered
+/// and written as `answer_lines` says. Memory is needed for what it names, and for the numbers of a line and the text.
+///
+/// # Errors
+///
+/// - `Read`: the reader answered an error. Every whole line that was read has been answered, and
+///   the line that the fault cut off has no answer.
+/// - `Write`: the writer answered an error or took no byte. What was written is a beginning of the
+///   answers.
+/// - `Memory`: the allocator refused. What was written is the answers of a first part of the lines,
+///   each answer whole.
+///
+/// `Read` and `Write` come exactly where the device has failed when the run returns. `Read` comes
+/// right after a read of the reader inside that answered an error, and `Write` right after a write
+/// to the writer inside that met a fault. A reader that has not come to its end after 2^64 - 1
+/// reads that gave bytes counts as failed too.
+pub fn run<A: Allocator + Copy, R: Source, W: Sink>(
+    alloc: A,
+    reader: &mut Device<R>,
+    writer: &mut Device<W>,
+) -> Result<(), RunError>
+    requires reader { reader.old.has_failed ≡ false }
+    requires writer { writer.old.has_failed ≡ false }
+    ensures answers { (read : List ℕ) × (written : List ℕ) × (lines : List (List ℕ))
+        × Consumes (R.remaining reader.old.inner) (R.remaining reader.new.inner) read
+        × Appends (W.contents writer.old.inner) (W.contents writer.new.inner) written
+        × AreLinesRead result (R.remaining reader.new.inner) read lines
+        × WrittenAt result lines written }
+    ensures read { (result ≡ Err RunError.Read) ↔ IsTrue reader.new.has_failed }
+    ensures write { (result ≡ Err RunError.Write) ↔ IsTrue writer.new.has_failed }
+    ensures read_cause { result ≡ Err RunError.Read → 0 < reader.new.reads_left
+        → FollowsReadFault R.read_gives reader.new.inner }
+    ensures write_cause { result ≡ Err RunError.Write
+        → FollowsWriteFault W.write_gives writer.new.inner }
+{
+    answer_lines(alloc, Store::new(alloc), reader, writer)
+}

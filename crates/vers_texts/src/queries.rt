@@ -1,0 +1,80 @@
+//! The query lines of a text.
+ghost use Rattle.std.specs.Prelude.{◌≡◌, IfOk};
+ghost use Rattle.vers_words.specs.Text.{words_in};
+ghost use Rattle.vers_words.specs.Reply.{plain_reply, Numbers};
+ghost use Rattle.text_index.specs.Texts.{places_of};
+ghost use Rattle.vers_texts.specs.TextLines.{query_reply, piece_reply as reply_of_piece};
+
+use crate::name::Query;
+use std::alloc::{AllocError, Allocator};
+use text_index::TextIndex;
+use vers_words::arguments::{all_numbers, no_arguments, two_numbers};
+use vers_words::reply::Reply;
+
+/// The reply of a query line, where this text is held.
+pub fn reply<A: Allocator + Copy>(
+    alloc: A,
+    text: &TextIndex<A>,
+    query: Query,
+    arguments: &[u8],
+) -> Result<Reply<A>, AllocError>
+    ensures { IfOk result (λ reply.
+        plain_reply reply ≡ query_reply text.now.items query (words_in arguments.now)) }
+{
+    match query {
+        Query::Len => match no_arguments(arguments) {
+            None => Ok(Reply::BadLine),
+            Some(()) => Ok(Reply::Number(text.len() as u64)),
+        },
+        Query::Count => match all_numbers(alloc, arguments)? {
+            None => Ok(Reply::BadLine),
+            Some(pattern) => Ok(Reply::Number(text.count(pattern.as_slice()) as u64)),
+        },
+        Query::Places => match all_numbers(alloc, arguments)? {
+            None => Ok(Reply::BadLine),
+            Some(pattern) => places_reply(alloc, text, pattern.as_slice()),
+        },
+        Query::Extract => match two_numbers(arguments) {
+            None => Ok(Reply::BadLine),
+            Some((from, to)) => piece_reply(text, from as usize, to as usize),
+        },
+    }
+}
+
+// The reply of a query of the places of a pattern, ascending.
+fn places_reply<A: Allocator + Copy>(
+    alloc: A,
+    text: &TextIndex<A>,
+    pattern: &[u64],
+) -> Result<Reply<A>, AllocError>
+    ensures { IfOk result (λ reply.
+        plain_reply reply ≡ Numbers (places_of text.now.items pattern.now)) }
+{
+    let places = text.places_ascending(pattern)?;
+    Ok(Reply::Numbers(numbers_of(alloc, places.as_slice())?))
+}
+
+// Places as numbers of 64 bits.
+fn numbers_of<A: Allocator>(alloc: A, places: &[usize]) -> Result<Vec<u64, A>, AllocError>
+    ensures { IfOk result (λ numbers. numbers.items ≡ places.now) }
+{
+    let mut numbers = Vec::with_capacity(alloc, places.len())?;
+    for place in places {
+        numbers.push(*place as u64)?;
+    }
+    Ok(numbers)
+}
+
+// The reply of a query of the symbols from one place on, before another.
+fn piece_reply<A: Allocator + Copy>(
+    text: &TextIndex<A>,
+    from: usize,
+    to: usize,
+) -> Result<Reply<A>, AllocError>
+    ensures { IfOk result (λ reply. plain_reply reply ≡ reply_of_piece text.now.items from to) }
+{
+    match text.extract(from..to)? {
+        None => Ok(Reply::Absent),
+        Some(symbols) => Ok(Reply::Numbers(symbols)),
+    }
+}

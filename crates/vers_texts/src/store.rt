@@ -1,0 +1,105 @@
+//! How a line is replied to, and what is held after it.
+ghost use Rattle.std.specs.Prelude.{◌≡◌, Some, None, IfOk, OnOk};
+ghost use Rattle.vers_words.specs.Text.{words_in};
+ghost use Rattle.vers_words.specs.Arguments.{all_numbers as numbers_all};
+ghost use Rattle.vers_words.specs.Reply.{plain_reply};
+ghost use Rattle.vers_texts.specs.TextLines.{is_text as are_text, text_reply, held_after_text};
+ghost use Rattle.vers_texts.specs.Rules.{replies_by_the_rules};
+
+use crate::name::Name;
+use crate::queries;
+use std::alloc::{AllocError, Allocator};
+use std::marker::Model;
+use text_index::{MAX_LEN, TextIndex};
+use vers_engine::Replier;
+use vers_sorted::order::are_below;
+use vers_words::arguments::all_numbers;
+use vers_words::reply::Reply;
+
+/// The text that is held, if one is, with the allocator for answers and for what is held next. Contracts see its
+/// symbols.
+#[derive(Drop)]
+pub struct Store<A: Allocator + Copy> {
+    alloc: A,
+    held: Option<TextIndex<A>>,
+}
+
+impl<A: Allocator + Copy> Model for Store<A> {
+    ghost use Rattle.std.specs.Prelude.{ℕ, List, Option, option_map};
+
+    ghost Value = { Option (List ℕ) };
+
+    ghost view = { λ s. option_map (λ text. text.items) s.held };
+}
+
+impl<A: Allocator + Copy> Store<A> {
+    /// No text is held.
+    pub fn new(alloc: A) -> Store<A>
+        ensures { result ≡ None }
+    {
+        Store { alloc, held: None }
+    }
+
+    // The reply of the load line `text K S..`. What was held is kept, unless the line is accepted.
+    fn load(&mut self, arguments: &[u8]) -> Result<Reply<A>, AllocError>
+        ensures reply { IfOk result (λ reply.
+            plain_reply reply ≡ text_reply (numbers_all (words_in arguments.now))) }
+        ensures holds { OnOk result (self.new
+            ≡ held_after_text self.old (numbers_all (words_in arguments.now))) }
+    {
+        let Some(numbers) = all_numbers(self.alloc, arguments)? else {
+            return Ok(Reply::BadLine);
+        };
+        let Some((width, symbols)) = numbers.as_slice().split_first() else {
+            return Ok(Reply::BadLine);
+        };
+        if !is_text(*width, symbols) {
+            return Ok(Reply::Refused);
+        }
+        self.hold(*width as u16, symbols)?;
+        Ok(Reply::Number(symbols.len() as u64))
+    }
+
+    // Holds a text in the place of what was held, which is let go first, so that its room is there. A text that
+    // was tested is refused only where there is no memory.
+    fn hold(&mut self, width: u16, symbols: &[u64]) -> Result<(), AllocError>
+        ensures { OnOk result (self.new ≡ Some symbols.now) }
+    {
+        self.held = None;
+        match TextIndex::from_slice(self.alloc, symbols, width) {
+            Ok(text) => {
+                self.held = Some(text);
+                Ok(())
+            }
+            Err(_) => Err(AllocError),
+        }
+    }
+}
+
+// How many bits a symbol has at most.
+const WIDEST: u64 = 16;
+
+// Whether these are a text whose symbols have so many bits.
+fn is_text(width: u64, symbols: &[u64]) -> bool
+    ensures { result ≡ are_text width symbols.now }
+{
+    if width == 0 || width > WIDEST {
+        return false;
+    }
+    symbols.len() <= MAX_LEN && are_below(symbols, 1 << width)
+}
+
+impl<A: Allocator + Copy> Replier<A> for Store<A> {
+    ghost replying = { replies_by_the_rules };
+
+    fn reply(&mut self, word: &[u8], arguments: &[u8]) -> Result<Reply<A>, AllocError> {
+        match Name::of(word) {
+            None => Ok(Reply::BadLine),
+            Some(Name::Text) => self.load(arguments),
+            Some(Name::Query(query)) => match &self.held {
+                None => Ok(Reply::WrongStructure),
+                Some(text) => queries::reply(self.alloc, text, query, arguments),
+            },
+        }
+    }
+}
