@@ -284,7 +284,7 @@ def faults(sources):
 
 if __name__ == "__main__":
     listed = Crates(TOP)
-    named = [it for it in listed.lines if COUNTERS in [it, *listed.uses(it)] and not re.search(r"_tests$|_cli$|_vecs$", it)]
+    named = [it for it in listed.lines if COUNTERS in [it, *listed.uses(it)] and not re.search(r"_tests$|_cli$|_saved$|_vecs$", it)]
     read = [source for name in [BELOW, *named] for source in read_crate(TOP, name)]
     if "--self-test" in sys.argv:
         from counting_plants import self_test

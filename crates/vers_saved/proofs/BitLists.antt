@@ -1,9 +1,8 @@
 -- Saved forms of lists of bits.
-use Rattle.std.proofs.Common.{◌≡◌, ℕ, ◌-◌, ◌*◌, ◌≤◌, Bool, true, ◌&&◌, List, [], ◌∷◌, length, take, refl, sym, ap, subst, ◌∙◌, arith}
+use Rattle.std.proofs.Common.{◌≡◌, ℕ, ◌-◌, ◌*◌, ◌≤◌, Bool, true, ◌&&◌, List, length, take, refl, sym, ap, subst, ◌∙◌, arith}
 use Rattle.std.specs.Prelude.{nat_le}
 use Rattle.std.proofs.lemmas.Bool.{le-leb}
 use Rattle.std.proofs.lemmas.Bool.Decides.{nat_tests}
-use Rattle.vers_sorted.specs.Sorted.{each_next}
 use Rattle.vers_bits.specs.Bits.{limbs, limb_count, pack}
 use Rattle.vers_bits.proofs.PublicLaws.{length-limbs}
 use Rattle.vers_saved.specs.declared.kind.TheConstants.{BIT_LISTS}
@@ -24,12 +23,6 @@ both b c h i = rw (h, i) refl
 pub within : (a b n : ℕ) → a ≤ n → n ≤ b → (nat_le a n && nat_le n b) ≡ true
 within a b n h i = both (nat_le a n) (nat_le n b) (le-leb a n h) (le-leb n b i)
 
--- words in no order
-pub any_order : (xs : List ℕ) → each_next (λ before next. true) xs ≡ true
-any_order [] = refl
-any_order (x ∷ []) = refl
-any_order (x ∷ y ∷ xs) = any_order (y ∷ xs)
-
 -- the limbs of bits are whole as those of a kind with one bit an item and no order
 pub whole_limbs : (bits : List Bool) → length bits ≤ 18446744073709551552 → IsWhole BIT_LISTS (length bits) 1 (limbs bits)
 whole_limbs bits small =
@@ -41,7 +34,7 @@ whole_limbs bits small =
       counted = length-limbs bits ∙ ap limb_count (sym one);
       fit = limbs_fit bits;
       padded = subst (λ n. EndsPadded n (limbs bits)) (sym one) (limbs_padded bits);
-      ordered = any_order (limbs bits);
+      ordered = refl;
     }
 
 -- whole words are the limbs of the bits that they hold

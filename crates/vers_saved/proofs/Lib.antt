@@ -18,3 +18,4 @@ pub mod ReadForms
 pub mod Sources
 pub mod BitLists
 pub mod PublicLaws
+pub mod Copies

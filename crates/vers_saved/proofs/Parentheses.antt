@@ -1,5 +1,5 @@
 -- Saved forms of parentheses.
-use Rattle.std.proofs.Common.{◌≡◌, ℕ, suc, ◌+◌, ◌-◌, ◌*◌, ◌<◌, ◌≤◌, min, max, Bool, false, List, length, get_or, take, drop, sym, ap, subst, ◌∙◌, arith}
+use Rattle.std.proofs.Common.{◌≡◌, ℕ, suc, ◌+◌, ◌-◌, ◌*◌, ◌<◌, ◌≤◌, min, max, Bool, false, List, length, get_or, take, drop, sym, ap, subst, refl, ◌∙◌, arith}
 use Rattle.std.specs.Prelude.{slice_get, Some}
 use Rattle.std.proofs.lemmas.Bool.Decides.{nat_tests}
 use Rattle.std.proofs.lemmas.List.{drop_more, length-take}
@@ -8,7 +8,7 @@ use Rattle.vers_bits.specs.Bits.{bit_value, number, limbs, limb_count, pack}
 use Rattle.vers_bits.proofs.PublicLaws.{length-limbs, number_below, byte_value}
 use Rattle.vers_saved.specs.Kinds.{EndsPadded, IsWhole, tree_kind}
 use Rattle.vers_saved.proofs.LimbLists.{limbs-first, limbs_fit, limbs_padded}
-use Rattle.vers_saved.proofs.BitLists.{any_order, within}
+use Rattle.vers_saved.proofs.BitLists.{within}
 use Rattle.vers_saved.proofs.Sources.{limb_part}
 
 -- the number of the bits from a place on, by that of the bits after it
@@ -49,7 +49,7 @@ whole_tree size bits some few small =
       counted = length-limbs bits ∙ ap limb_count (sym one);
       fit = limbs_fit bits;
       padded = subst (λ n. EndsPadded n (limbs bits)) (sym one) (limbs_padded bits);
-      ordered = any_order (limbs bits);
+      ordered = refl;
     }
 
 pub tree_size : (size count width : ℕ) (words : List ℕ) → IsWhole (tree_kind size) count width words → (1 ≤ size) × (size ≤ 4294967296) × (size ≡ width)

@@ -16,7 +16,8 @@ use Rattle.vers_saved.specs.Streams.{IsRefused}
 use Rattle.vers_saved.proofs.WordBytes.{AreWords, length-word_bytes, bytes_word-word_bytes, length-bytes_of, words_of-bytes_of, bytes_fit}
 use Rattle.vers_saved.proofs.Forms.{loaded_is}
 use Rattle.vers_saved.proofs.Tests.{fault_is, few_bytes, bad_head, too_short, too_long, by_body}
-use Rattle.vers_saved.proofs.Streams.{Consumes-then, bytes_of-append}
+use Rattle.vers_saved.proofs.Sums.{bytes_of-append}
+use Rattle.vers_saved.proofs.Streams.{Consumes-then}
 
 -- what was read is a beginning of what there was
 pub known : (old new : Option (List ℕ)) (text : List ℕ) (P : List ℕ → Type 0) → Consumes old new text → ((rest : List ℕ) → P (text ++ rest)) → IfSome old P

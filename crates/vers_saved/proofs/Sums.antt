@@ -4,6 +4,7 @@ use Rattle.std.specs.Prelude.{fold, map, bit_xor}
 use Rattle.std.proofs.lemmas.Nat.{or_lt, mod_below, pow_pos, shr_le}
 use Rattle.std.proofs.lemmas.Grind.{fold-append}
 use Rattle.std.proofs.lemmas.List.{take-map, drop-map, append_assoc, append-nil, take_more, take_all, flat_map_more}
+use Rattle.std.proofs.Math.Seq.{take-add}
 use Rattle.vers_saved.specs.declared.TheConstants.{START, MAGIC, VERSION, FACTOR}
 use Rattle.std.specs.Simd.{first_chunks}
 use Rattle.vers_saved.specs.Format.{mix, check_sum, words_of, bytes_word, word_bytes, bytes_of, head, saved, with_sum}
@@ -46,14 +47,38 @@ one_more front ls k x h e =
 
 pub ruleset appending = (one_more)
 
--- a word more is written and summed
-pub written_more : (out front ls : List ℕ) (k : ℕ) (x : ℕ) → k < length ls → x ≡ get_or ls k 0
-    → (out ++ bytes_of (front ++ take k ls)) ++ word_bytes x ≡ out ++ bytes_of (front ++ take (k + 1) ls)
-written_more out front ls k x h e =
-    flat_map_more word_bytes out (front ++ take k ls) x ∙ ap (λ l. out ++ bytes_of l) (one_more front ls k x h e)
+-- words one after another, and their bytes
+pub bytes_of-take_more : (out ws : List ℕ) (k : ℕ) → k < length ws → (out ++ bytes_of (take k ws)) ++ word_bytes (get_or ws k 0) ≡ out ++ bytes_of (take (k + 1) ws)
+bytes_of-take_more out ws k h = flat_map_more word_bytes out (take k ws) (get_or ws k 0) ∙ ap (λ l. out ++ bytes_of l) (sym (take_more ws k 0 h))
 
-pub summed_more : (front ls : List ℕ) (k : ℕ) (x : ℕ) → k < length ls → x ≡ get_or ls k 0 → mix (check_sum (front ++ take k ls)) x ≡ check_sum (front ++ take (k + 1) ls)
-summed_more front ls k x h e = sym (check_sum-push (front ++ take k ls) x) ∙ ap check_sum (one_more front ls k x h e)
+pub fold-take_more : (sum : ℕ) (ws : List ℕ) (k : ℕ) → k < length ws → mix (fold mix sum (take k ws)) (get_or ws k 0) ≡ fold mix sum (take (k + 1) ws)
+fold-take_more sum ws k h = sym (ap (fold mix sum) (take_more ws k 0 h) ∙ fold-append mix sum (take k ws) (get_or ws k 0 ∷ []))
+
+pub bytes_of-take_all : (out ws : List ℕ) (k : ℕ) → length ws ≤ k → out ++ bytes_of (take k ws) ≡ out ++ bytes_of ws
+bytes_of-take_all out ws k h = ap (λ l. out ++ bytes_of l) (take_all k ws h)
+
+pub fold-take_all : (sum : ℕ) (ws : List ℕ) (k : ℕ) → length ws ≤ k → fold mix sum (take k ws) ≡ fold mix sum ws
+fold-take_all sum ws k h = ap (fold mix sum) (take_all k ws h)
+
+pub ruleset words = (bytes_of-take_more, fold-take_more, bytes_of-take_all, fold-take_all)
+
+pub bytes_of-append : (us ws : List ℕ) → bytes_of (us ++ ws) ≡ bytes_of us ++ bytes_of ws
+bytes_of-append [] ws = refl
+bytes_of-append (u ∷ us) ws = ap (λ l. word_bytes u ++ l) (bytes_of-append us ws) ∙ sym (append_assoc (word_bytes u) (bytes_of us) (bytes_of ws))
+
+-- n words more
+more : (front ls : List ℕ) (k n : ℕ) → (front ++ take k ls) ++ take n (drop k ls) ≡ front ++ take (k + n) ls
+more front ls k n = append_assoc front (take k ls) (take n (drop k ls)) ∙ ap (λ l. front ++ l) (sym (take-add k n ls))
+
+-- they are written and summed
+pub written_more : (out front ls : List ℕ) (k n : ℕ) → (out ++ bytes_of (front ++ take k ls)) ++ bytes_of (take n (drop k ls)) ≡ out ++ bytes_of (front ++ take (k + n) ls)
+written_more out front ls k n =
+    append_assoc out (bytes_of (front ++ take k ls)) (bytes_of (take n (drop k ls)))
+    ∙ ap (λ l. out ++ l) (sym (bytes_of-append (front ++ take k ls) (take n (drop k ls))) ∙ ap bytes_of (more front ls k n))
+
+pub summed_more : (front ls : List ℕ) (k n : ℕ) → fold mix (check_sum (front ++ take k ls)) (take n (drop k ls)) ≡ check_sum (front ++ take (k + n) ls)
+unfolding check_sum
+summed_more front ls k n = sym (fold-append mix START (front ++ take k ls) (take n (drop k ls))) ∙ ap (fold mix START) (more front ls k n)
 
 -- all words, and the sum
 pub written_all : (out : List ℕ) (kind count width k sum : ℕ) (words : List ℕ) → length words ≤ k

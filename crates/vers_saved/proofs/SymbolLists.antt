@@ -17,7 +17,7 @@ use Rattle.vers_wavelet.specs.Makers.{packed_symbols}
 use Rattle.vers_saved.specs.declared.kind.TheConstants.{SYMBOL_LISTS}
 use Rattle.vers_saved.specs.Kinds.{EndsPadded, IsWhole}
 use Rattle.vers_saved.proofs.LimbLists.{limbs_fit, limbs_padded, limbs-first, length-first}
-use Rattle.vers_saved.proofs.BitLists.{any_order, within}
+use Rattle.vers_saved.proofs.BitLists.{within}
 
 pub length-packed_items : (items : List ℕ) (k : ℕ) → length (pack items k) ≡ length items * k
 length-packed_items items k = length-packed (λ v. v) k items
@@ -126,7 +126,7 @@ whole_symbols k items some few small =
       counted = length-limbs (pack items k) ∙ ap limb_count long;
       fit = limbs_fit (pack items k);
       padded = subst (λ n. EndsPadded n (limbs (pack items k))) long (limbs_padded (pack items k));
-      ordered = any_order (limbs (pack items k));
+      ordered = refl;
     }
 
 pub symbols_shape : (count k : ℕ) (words : List ℕ) → IsWhole SYMBOL_LISTS count k words

@@ -10,7 +10,7 @@ use Rattle.vers_saved.specs.declared.kind.TheConstants.{SORTED_LISTS, TABLE_VALU
 use Rattle.vers_saved.specs.Faults.{takes_width, takes_count, item_bits, in_order}
 use Rattle.vers_saved.specs.Kinds.{IsWhole}
 use Rattle.vers_saved.proofs.WordBytes.{AreWords}
-use Rattle.vers_saved.proofs.BitLists.{any_order, within}
+use Rattle.vers_saved.proofs.BitLists.{within}
 
 -- numbers of 64 bits, as words of a kind
 pub whole_numbers : (kind : Kind) (numbers : List ℕ) → takes_width kind 64 ≡ true → takes_count kind (length numbers) ≡ true → item_bits kind 64 ≡ 64
@@ -33,11 +33,11 @@ whole_sorted members few fit up =
 
 pub whole_table : (items : List ℕ) → length items ≤ 4294967295 → AreWords items → IsWhole TABLE_VALUES (length items) 64 items
 whole_table items few fit =
-    whole_numbers TABLE_VALUES items refl (within 0 4294967295 (length items) (omega arith) few) refl (omega arith) fit (any_order items)
+    whole_numbers TABLE_VALUES items refl (within 0 4294967295 (length items) (omega arith) few) refl (omega arith) fit refl
 
 pub whole_blocks : (items : List ℕ) → length items ≤ 549755813760 → AreWords items → IsWhole BLOCK_VALUES (length items) 64 items
 whole_blocks items few fit =
-    whole_numbers BLOCK_VALUES items refl (within 0 549755813760 (length items) (omega arith) few) refl (omega arith) fit (any_order items)
+    whole_numbers BLOCK_VALUES items refl (within 0 549755813760 (length items) (omega arith) few) refl (omega arith) fit refl
 
 -- members that ascend to a word are words
 pub words_to_last : (members : List ℕ) (last : ℕ) → IsNonDecreasing members → last ≡ get_or members (length members - 1) 0 → last < 2 ^ 64 → AreWords members

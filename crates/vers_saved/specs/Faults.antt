@@ -47,9 +47,9 @@ stands Ascending = nat_le
 stands Rising = nat_lt
 stands HalfRising = nat_lt
 
--- the words that have to stand in an order: all of them, or the first half
+-- the words that have to stand in an order: none, all of them, or the first half
 abbrev pub ordered_words : Order → List ℕ → List ℕ
-ordered_words Any words = words
+ordered_words Any words = []
 ordered_words Ascending words = words
 ordered_words Rising words = words
 ordered_words HalfRising words = take (length words / 2) words

@@ -6,7 +6,7 @@ ghost use Rattle.vers_saved.specs.declared.kind.TheConstants.{POSTING_LISTS};
 
 use crate::form::Shape;
 use crate::kind::{Kind, POSTING_LISTS, POSTINGS};
-use crate::numbers::are_words;
+use crate::numbers::{are_words, copy_members};
 use crate::saved::{Loaded, Saved};
 use postings::Postings;
 use std::alloc::{AllocError, Allocator};
@@ -49,6 +49,10 @@ impl<A: Allocator + Copy> Saved for Postings<A> {
         } else {
             self.costs()[k - count]
         }
+    }
+
+    fn copy_words(&self, from: usize, out: &mut [u64]) {
+        copy_members(self.documents().iter(), self.costs(), from, out)
     }
 }
 

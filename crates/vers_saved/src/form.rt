@@ -1,5 +1,5 @@
 //! The saved form of any list: a head, words and a sum.
-ghost use Rattle.std.specs.Prelude.{◌≡◌, ℕ, List, ◌+◌, ◌*◌, ◌<◌, ◌≤◌, ◌++◌, ◌⊎◌, length, take, drop, map, slice_index, vec_len, vec_capacity, OnOk, OnErr, IfOk, IfErr, MatchResult, Some, None};
+ghost use Rattle.std.specs.Prelude.{◌≡◌, ℕ, List, ◌+◌, ◌*◌, ◌<◌, ◌≤◌, ◌++◌, ◌⊎◌, length, take, drop, fold, map, slice_index, vec_len, vec_capacity, OnOk, OnErr, IfOk, IfErr, MatchResult, Some, None};
 ghost use Rattle.vers_saved.specs.Format.{word_bytes, bytes_of, bytes_word, check_sum, mix, head, words_of, saved, saved_size};
 ghost use Rattle.vers_bits.specs.Bits.{limb_count, pack};
 ghost use Rattle.vers_saved.specs.Faults.{first_failing, fault_of, item_bits, head_tests, body_tests, words_among};
@@ -39,6 +39,22 @@ pub(crate) fn put_summed<B: Allocator>(out: &mut Vec<u8, B>, sum: u64, word: u64
 {
     put_word(out, word);
     mixed(sum, word)
+}
+
+// Appends words, for which there is room. Returns the sum with them mixed in.
+#[tactic(auto, using(crate::proofs::Sums::words))]
+pub(crate) fn put_words<B: Allocator>(out: &mut Vec<u8, B>, sum: u64, words: &[u64]) -> u64
+    requires { vec_len out.old + 8 * length words.now ≤ vec_capacity out.old }
+    ensures items { out.new.items ≡ out.old.items ++ bytes_of words.now }
+    ensures len { vec_len out.new ≡ vec_len out.old + 8 * length words.now }
+    ensures capacity { vec_capacity out.old ≤ vec_capacity out.new }
+    ensures sum { result ≡ fold mix sum words.now }
+{
+    let mut mixed = sum;
+    for k in 0..words.len() {
+        mixed = put_summed(out, mixed, words[k]);
+    }
+    mixed
 }
 
 // Appends the head of a saved form, for which there is room. Returns its sum.

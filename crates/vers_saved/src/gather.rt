@@ -5,17 +5,18 @@ ghost use Rattle.vers_bits.specs.Bits.{limb_count};
 ghost use Rattle.vers_saved.specs.Format.{bytes_of, saved};
 ghost use Rattle.vers_saved.specs.Faults.{first_failing, fault_of, head_tests, bits_said, item_bits, words_among};
 ghost use Rattle.vers_saved.specs.Kinds.{AreWords, IsWhole};
-ghost use Rattle.vers_saved.specs.Streams.{FollowsReadFault, IsRefused};
+ghost use Rattle.vers_engine.specs.Device.{FollowsReadFault};
+ghost use Rattle.vers_saved.specs.Streams.{IsRefused};
 
 use crate::fault::LoadError;
 use crate::form::{Form, HEAD, Head, Shape, head_of, test_body};
 use crate::kind::Kind;
 use crate::numbers::are_words;
-use crate::once::Source;
 use crate::words::{Chunks, FRAME, Words};
 use std::alloc::{AllocError, Allocator};
 use std::io;
 use vers_bits::bit_vec::MAX_LEN;
+use vers_engine::Source;
 
 /// How many bytes are read or written at once at most.
 pub(crate) const BLOCK: usize = 65536;
@@ -33,8 +34,8 @@ fn read_behind<R: Source>(reader: &mut R, block: &mut [u8], filled: usize) -> io
     reader.read_once(&mut block[filled..])
 }
 
-// Reads until a block is full, or the reader ends. Answers how many bytes were read.
-fn fill<R: Source>(reader: &mut R, block: &mut [u8]) -> Result<usize, LoadError>
+/// Reads until a block is full, or the reader ends. Answers how many bytes were read.
+pub fn fill<R: Source>(reader: &mut R, block: &mut [u8]) -> Result<usize, LoadError>
     ensures within { IfOk result (λ n. n ≤ length block.new) }
     ensures read { IfOk result (λ n. Consumes (R.remaining reader.old) (R.remaining reader.new)
         (take n block.new)) }

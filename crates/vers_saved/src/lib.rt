@@ -10,7 +10,6 @@ mod gather;
 pub mod kind;
 pub mod laws;
 pub mod numbers;
-pub mod once;
 pub mod saved;
 pub mod sparse;
 pub mod stream;

@@ -1,5 +1,5 @@
 //! Lists of numbers, saved as they are, each as a word.
-ghost use Rattle.std.specs.Prelude.{◌≡◌, ◌<◌, ◌^◌, ⊤, ℕ, length, slice_index};
+ghost use Rattle.std.specs.Prelude.{◌≡◌, ◌<◌, ◌≤◌, ◌+◌, ◌++◌, ◌^◌, ⊤, ℕ, None, length, slice_index, unwrap_or};
 ghost use Rattle.vers_saved.specs.declared.kind.TheConstants.{SORTED_LISTS, TABLE_VALUES, BLOCK_VALUES};
 
 use crate::form::{Shape, taken};
@@ -8,7 +8,7 @@ use crate::saved::{Loaded, Saved};
 use std::alloc::{AllocError, Allocator};
 use vers_rmq::rmq::binary_rmq::BinaryRmq;
 use vers_rmq::rmq::fast_rmq::FastRmq;
-use vers_sorted::elias_fano::EliasFanoVec;
+use vers_sorted::elias_fano::{EliasFanoRefIter, EliasFanoVec};
 
 // The shape of so many words of a kind, one for each item.
 pub(crate) fn words_shape(kind: u64, count: usize) -> Shape
@@ -40,6 +40,38 @@ fn read_last<A: Allocator + Copy>(list: &EliasFanoVec<A>)
     let _last = list.get_unchecked(count - 1);
 }
 
+// The number that a walk gave, or where it gave none, that at a place of others.
+fn given_or(given: Option<u64>, others: &[u64], place: usize) -> u64
+    requires { given ≡ None → place < length others.now }
+    ensures { result ≡ unwrap_or given (slice_index others.now place) }
+{
+    match given {
+        Some(number) => number,
+        None => others[place],
+    }
+}
+
+// Copies the members that a walk has left, and then other numbers, from a place on.
+pub(crate) fn copy_members<A: Allocator + Copy>(
+    mut members: EliasFanoRefIter<'_, A>,
+    others: &[u64],
+    from: usize,
+    out: &mut [u64],
+)
+    requires within { from + length out.old ≤ length (members.left ++ others.now) }
+    requires small { from + length out.old < 2 ^ 64 }
+    ensures { (j : ℕ) → j < length out.old
+        → slice_index out.new j ≡ slice_index (members.entry.left ++ others.now) (from + j) }
+{
+    let count = members.len();
+    let mut skip = from;
+    for k in 0..out.len() {
+        let place = (from + k).saturating_sub(count);
+        out[k] = given_or(members.nth(skip), others, place);
+        skip = 0;
+    }
+}
+
 #[tactic(auto, using(crate::proofs::WordLists::numbers))]
 impl<A: Allocator + Copy> Saved for EliasFanoVec<A> {
     ghost kind = { SORTED_LISTS };
@@ -68,6 +100,10 @@ impl<A: Allocator + Copy> Saved for EliasFanoVec<A> {
     #[inline]
     fn word(&self, k: usize) -> u64 {
         self.get_unchecked(k)
+    }
+
+    fn copy_words(&self, from: usize, out: &mut [u64]) {
+        copy_members(self.iter(), &[], from, out)
     }
 }
 

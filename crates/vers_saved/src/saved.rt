@@ -1,12 +1,12 @@
 //! What has a saved form: lists that are saved to bytes and loaded from them.
-ghost use Rattle.std.specs.Prelude.{◌≡◌, ◌<◌, ℕ, List, ◌++◌, ◌⊎◌, length, slice_index, OnOk, OnErr, IfOk, IfErr, IfSome, MatchResult, Some, None, IsErr};
+ghost use Rattle.std.specs.Prelude.{◌≡◌, ◌<◌, ◌≤◌, ◌+◌, ◌*◌, ℕ, List, ◌++◌, ◌⊎◌, length, take, drop, fold, slice_index, vec_len, vec_capacity, OnOk, OnErr, IfOk, IfErr, IfSome, MatchResult, Some, None, IsErr};
 ghost use Rattle.vers_saved.specs.declared.kind.Kind.{Kind};
-ghost use Rattle.vers_saved.specs.Format.{saved};
+ghost use Rattle.vers_saved.specs.Format.{bytes_of, mix, saved};
 ghost use Rattle.vers_saved.specs.Faults.{fault_of};
 ghost use Rattle.vers_saved.specs.Kinds.{IsWhole};
 
 use crate::fault::{LoadError, SaveError};
-use crate::form::{Form, Shape, count_words, form_of, put_head, put_summed};
+use crate::form::{Form, Shape, count_words, form_of, put_head, put_words};
 use crate::kind::Kind;
 use crate::words::{FRAME, put_word};
 use std::alloc::{AllocError, Allocator};
@@ -48,6 +48,18 @@ pub trait Saved {
         requires whole { IsWhole kind (count self.now) (width self.now) (words self.now) }
         requires within { k < length (words self.now) }
         ensures { result ≡ slice_index (words self.now) k };
+
+    /// Copies the words from a place on, as many as the slice has, of a list that has a saved form.
+    fn copy_words(&self, from: usize, out: &mut [u64])
+        requires whole { IsWhole kind (count self.now) (width self.now) (words self.now) }
+        requires within { from + length out.old ≤ length (words self.now) }
+        ensures { (j : ℕ) → j < length out.old
+            → slice_index out.new j ≡ slice_index (words self.now) (from + j) }
+    {
+        for k in 0..out.len() {
+            out[k] = self.word(from + k);
+        }
+    }
 }
 
 /// A list that is made of the words that it was saved by, in memory of an allocator `A`.
@@ -75,6 +87,32 @@ pub fn saved_size<S: Saved>(list: &S) -> Option<usize>
     Some(8 * (count_words(&S::kind(), shape) + FRAME))
 }
 
+// How many words are copied out of a list at once.
+pub(crate) const GROUP: usize = 512;
+
+// Appends `n` words of a list from a place on, for which there is room. Returns the sum with them mixed in.
+pub(crate) fn put_group<S: Saved, B: Allocator>(
+    out: &mut Vec<u8, B>,
+    sum: u64,
+    list: &S,
+    from: usize,
+    n: usize,
+) -> u64
+    requires few { n ≤ 512 }
+    requires within { from + n ≤ length (S.words list.now) }
+    requires whole { IsWhole S.kind (S.count list.now) (S.width list.now) (S.words list.now) }
+    requires room { vec_len out.old + 8 * n ≤ vec_capacity out.old }
+    ensures items { out.new.items ≡ out.old.items ++ bytes_of (take n (drop from (S.words list.now))) }
+    ensures len { vec_len out.new ≡ vec_len out.old + 8 * n }
+    ensures capacity { vec_capacity out.old ≤ vec_capacity out.new }
+    ensures sum { result ≡ fold mix sum (take n (drop from (S.words list.now))) }
+{
+    let mut group = [0; GROUP];
+    let words = &mut group[..n];
+    list.copy_words(from, words);
+    put_words(out, sum, words)
+}
+
 // Appends the saved form of a list with that shape. Out of memory leaves the bytes as they were.
 #[tactic(auto, using(crate::proofs::RoundTrips::counts))]
 fn append_saved<S: Saved, B: Allocator>(
@@ -92,8 +130,11 @@ fn append_saved<S: Saved, B: Allocator>(
     let count = count_words(&S::kind(), shape);
     out.reserve(8 * (count + FRAME))?;
     let mut sum = put_head(out, shape);
-    for k in 0..count {
-        sum = put_summed(out, sum, list.word(k));
+    let mut done = 0;
+    while done < count {
+        let n = GROUP.min(count - done);
+        sum = put_group(out, sum, list, done, n);
+        done += n;
     }
     put_word(out, sum);
     Ok(())

@@ -5,7 +5,7 @@ ghost use Rattle.vers_saved.specs.declared.kind.TheConstants.{SPARSE_LISTS};
 
 use crate::form::Shape;
 use crate::kind::{GREATEST_WORDS, Kind, SPARSE, SPARSE_LISTS};
-use crate::numbers::words_shape;
+use crate::numbers::{copy_members, words_shape};
 use crate::saved::{Loaded, Saved};
 use std::alloc::{AllocError, Allocator};
 use vers_sorted::sparse::SparseRSVec;
@@ -37,6 +37,10 @@ impl<A: Allocator + Copy> Saved for SparseRSVec<A> {
     #[inline]
     fn word(&self, k: usize) -> u64 {
         self.select1(k)
+    }
+
+    fn copy_words(&self, from: usize, out: &mut [u64]) {
+        copy_members(self.iter1(), &[self.len()], from, out)
     }
 }
 

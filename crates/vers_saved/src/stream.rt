@@ -3,15 +3,17 @@ ghost use Rattle.std.specs.Prelude.{◌≡◌, ◌≢◌, ℕ, ◌+◌, ◌≤�
 ghost use Rattle.std.specs.Io.KnownBytes.{Appends, IsAtEnd, Keeps};
 ghost use Rattle.vers_saved.specs.Format.{saved};
 ghost use Rattle.vers_saved.specs.Kinds.{IsWhole};
-ghost use Rattle.vers_saved.specs.Streams.{Writes, IsRefused, FollowsReadFault, FollowsWriteFault};
+ghost use Rattle.vers_engine.specs.Device.{FollowsReadFault, FollowsWriteFault};
+ghost use Rattle.vers_saved.specs.Streams.{Writes, IsRefused};
 
 use crate::fault::{LoadError, SaveError};
-use crate::form::{Form, Shape, count_words, put_head, put_summed};
+use crate::form::{Form, Shape, count_words, put_head};
+pub use crate::gather::fill;
 use crate::gather::{BLOCK, form_from};
-use crate::once::{Sink, Source};
-use crate::saved::{Loaded, Saved};
+use crate::saved::{GROUP, Loaded, Saved, put_group};
 use crate::words::put_word;
 use std::alloc::Allocator;
+use vers_engine::{Sink, Source};
 
 // Writes a whole piece, or as much of it as the writer takes before a fault.
 fn write_piece<W: Sink>(writer: &mut W, piece: &[u8]) -> Result<(), SaveError>
@@ -30,7 +32,7 @@ fn write_piece<W: Sink>(writer: &mut W, piece: &[u8]) -> Result<(), SaveError>
     Ok(())
 }
 
-// Writes what a buffer holds, where it has no room for two words.
+// Writes what a buffer holds, where it has no room for a group of words and one more.
 fn make_room<W: Sink, A: Allocator>(
     writer: &mut W,
     buffer: &mut Vec<u8, A>,
@@ -39,12 +41,12 @@ fn make_room<W: Sink, A: Allocator>(
     ensures written { (text : List ℕ) × (rest : List ℕ)
         × Appends (W.contents writer.old) (W.contents writer.new) text
         × (buffer.old.items ≡ text ++ rest) × OnOk result (rest ≡ buffer.new.items) }
-    ensures room { OnOk result (vec_len buffer.new + 16 ≤ vec_capacity buffer.new) }
+    ensures room { OnOk result (vec_len buffer.new + 4104 ≤ vec_capacity buffer.new) }
     ensures capacity { 65536 ≤ vec_capacity buffer.new }
     ensures kind { IfErr result (λ e. e ≡ SaveError.Write) }
     ensures cause { OnErr result (FollowsWriteFault W.write_gives writer.new) }
 {
-    if buffer.len() <= buffer.capacity() - 16 {
+    if buffer.len() <= buffer.capacity() - 8 * (GROUP + 1) {
         return Ok(());
     }
     write_piece(writer, buffer.as_slice())?;
@@ -72,11 +74,14 @@ fn write_words<S: Saved, W: Sink, A: Allocator>(
 {
     let count = count_words(&S::kind(), shape);
     let mut sum = put_head(&mut buffer, shape);
-    for k in 0..count {
+    let mut done = 0;
+    while done < count {
         if let Err(error) = make_room(writer, &mut buffer) {
             return Err(error);
         }
-        sum = put_summed(&mut buffer, sum, list.word(k));
+        let n = GROUP.min(count - done);
+        sum = put_group(&mut buffer, sum, list, done, n);
+        done += n;
     }
     put_word(&mut buffer, sum);
     write_piece(writer, buffer.as_slice())

@@ -5,15 +5,16 @@ ghost use Rattle.vers_bits.specs.Bits.{bit_value, limbs};
 ghost use Rattle.vers_saved.specs.Faults.{fault_of};
 ghost use Rattle.vers_saved.specs.Format.{saved_parentheses};
 ghost use Rattle.vers_saved.specs.Kinds.{IsWhole, tree_kind};
-ghost use Rattle.vers_saved.specs.Streams.{FollowsReadFault, IsRefused};
+ghost use Rattle.vers_engine.specs.Device.{FollowsReadFault};
+ghost use Rattle.vers_saved.specs.Streams.{IsRefused};
 
 use crate::fault::LoadError;
 use crate::form::{Form, Shape, bits_of, form_of, taken};
 use crate::gather::form_from;
 use crate::kind::{Kind, Order, PARENTHESES};
-use crate::once::Source;
 use crate::saved::{Loaded, Saved};
 use std::alloc::{AllocError, Allocator};
+use vers_engine::Source;
 use vers_trees::trees::bp::{BpTree, MAX_BLOCK_SIZE, MAX_LEN};
 
 /// The kind of the parentheses of trees whose blocks have so many bits.

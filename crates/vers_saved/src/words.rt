@@ -137,7 +137,8 @@ fn count_ordered(order: Order, count: usize) -> usize
         → take result words ≡ ordered_words order words }
 {
     match order {
-        Order::Any | Order::Ascending | Order::Rising => count,
+        Order::Any => 0,
+        Order::Ascending | Order::Rising => count,
         Order::HalfRising => count / 2,
     }
 }

@@ -1,14 +1,18 @@
-use Rattle.std.proofs.Common.{◌≡◌, ◌+◌, ◌≤◌, ◌++◌, List, ℕ, take, vec_len, vec_capacity}
+use Rattle.std.proofs.Common.{◌≡◌, ◌+◌, ◌-◌, ◌≤◌, ◌++◌, List, ℕ, take, vec_len, vec_capacity}
 use Rattle.std.specs.Io.KnownBytes.{Appends}
 use Rattle.vers_saved.specs.Format.{bytes_of, check_sum, head}
 use Rattle.vers_saved.proofs.stream.write_words.Given as goal
 
 -- the head and the words so far are written or gathered, and summed, and there is room for the sum
-abbrev pub invariant-loop-k : goal.invariant-loop-k
-invariant-loop-k g l = record {
+abbrev pub invariant-loop-done : goal.invariant-loop-done
+invariant-loop-done g l = record {
   written : (text : List ℕ) × Appends (g.W.Write.contents l.initial.writer) (g.W.Write.contents l.writer) text
-      × (text ++ l.buffer.items ≡ bytes_of (head l.fn.shape.kind l.fn.shape.count l.fn.shape.width ++ take l.k (g.S.Saved.words l.list)));
-  summed : l.sum ≡ check_sum (head l.fn.shape.kind l.fn.shape.count l.fn.shape.width ++ take l.k (g.S.Saved.words l.list));
+      × (text ++ l.buffer.items ≡ bytes_of (head l.fn.shape.kind l.fn.shape.count l.fn.shape.width ++ take l.done (g.S.Saved.words l.list)));
+  summed : l.sum ≡ check_sum (head l.fn.shape.kind l.fn.shape.count l.fn.shape.width ++ take l.done (g.S.Saved.words l.list));
   capacity : 65536 ≤ vec_capacity l.buffer;
   room : vec_len l.buffer + 8 ≤ vec_capacity l.buffer;
+  within : l.done ≤ l.count;
 }
+
+abbrev pub decreases-loop-done : goal.decreases-loop-done
+decreases-loop-done g l = l.count - l.done

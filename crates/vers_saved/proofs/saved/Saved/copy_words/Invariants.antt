@@ -1,0 +1,10 @@
+use Rattle.std.proofs.Common.{◌≡◌, ◌+◌, ◌<◌, ℕ, length}
+use Rattle.std.specs.Prelude.{slice_index}
+use Rattle.vers_saved.proofs.saved.Saved.copy_words.Given as goal
+
+-- the words so far were copied
+abbrev pub invariant-loop-k : goal.invariant-loop-k
+invariant-loop-k g l = record {
+  len : length l.out ≡ length l.initial.out;
+  copied : (j : ℕ) → j < l.k → slice_index l.out j ≡ slice_index (g.Self.Saved.words l.self) (l.from + j);
+}
