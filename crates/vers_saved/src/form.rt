@@ -202,6 +202,7 @@ pub(crate) fn form_of<A: Allocator>(
 ) -> Result<Form<A>, LoadError>
     ensures ok { IfOk result (λ r. (bytes.now ≡ saved kind.now.number r.shape.count r.shape.width r.words.items)
         × IsWhole kind.now r.shape.count r.shape.width r.words.items × (r.shape.kind ≡ kind.now.number)) }
+    ensures none { OnOk result (fault_of kind.now bytes.now ≡ None) }
     ensures err { IfErr result (λ e. (fault_of kind.now bytes.now ≡ Some e)
         ⊎ ((e ≡ LoadError.Memory) × (fault_of kind.now bytes.now ≡ None))) }
 {

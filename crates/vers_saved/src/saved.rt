@@ -80,6 +80,7 @@ pub trait Loaded<A: Allocator>: Saved + Sized {
 pub fn saved_size<S: Saved>(list: &S) -> Option<usize>
     ensures some { IfSome result (λ size. size
         ≡ length (saved S.kind.number (S.count list.now) (S.width list.now) (S.words list.now))) }
+    ensures whole { IfSome result (λ _. IsWhole S.kind (S.count list.now) (S.width list.now) (S.words list.now)) }
     ensures none { result ≡ None
         → ¬ IsWhole S.kind (S.count list.now) (S.width list.now) (S.words list.now) }
 {
@@ -162,6 +163,7 @@ pub fn save_to_vec<S: Saved, B: Allocator>(list: &S, out: &mut Vec<u8, B>) -> Re
 pub fn load_from_slice<S: Loaded<A>, A: Allocator>(alloc: A, bytes: &[u8]) -> Result<S, LoadError>
     ensures loaded { IfOk result (λ v. bytes.now ≡ saved S.kind.number (S.count v) (S.width v) (S.words v)) }
     ensures whole { IfOk result (λ v. IsWhole S.kind (S.count v) (S.width v) (S.words v) × S.Fits v) }
+    ensures none { OnOk result (fault_of S.kind bytes.now ≡ None) }
     ensures refused { IfErr result (λ e. (fault_of S.kind bytes.now ≡ Some e)
         ⊎ ((e ≡ LoadError.Memory) × (fault_of S.kind bytes.now ≡ None))) }
     ensures back { (x : S) → IsWhole S.kind (S.count x) (S.width x) (S.words x) → S.Fits x

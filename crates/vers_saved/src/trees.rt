@@ -14,6 +14,7 @@ use crate::gather::form_from;
 use crate::kind::{Kind, Order, PARENTHESES};
 use crate::saved::{Loaded, Saved};
 use std::alloc::{AllocError, Allocator};
+use vers_bits::bit_vec::BitVec;
 use vers_engine::Source;
 use vers_trees::trees::bp::{BpTree, MAX_BLOCK_SIZE, MAX_LEN};
 
@@ -95,6 +96,17 @@ impl<const BLOCK_SIZE: usize, A: Allocator + Copy> Saved for BpTree<BLOCK_SIZE, 
     }
 }
 
+// The parentheses that words hold, of a tree whose blocks have `size` bits.
+#[tactic(auto, using(crate::proofs::Parentheses::trees))]
+fn parentheses_of<A: Allocator + Copy>(size: usize, of: Shape, words: Vec<u64, A>) -> BitVec<A>
+    requires { IsWhole (tree_kind size) of.count of.width words.items }
+    ensures length { length result ≡ of.count }
+    ensures width { size ≡ of.width }
+    ensures limbs { limbs result ≡ words.items }
+{
+    bits_of(of.count, words)
+}
+
 // The tree of the parentheses that words hold. The words are taken out of the vector.
 #[tactic(auto, using(crate::proofs::Parentheses::trees))]
 fn tree_of<'a, const BLOCK_SIZE: usize, A: Allocator>(
@@ -105,7 +117,7 @@ fn tree_of<'a, const BLOCK_SIZE: usize, A: Allocator>(
     ensures { IfOk result (λ v. (length v ≡ of.count) × (BLOCK_SIZE ≡ of.width)
         × (limbs v ≡ held.old.items)) }
 {
-    match BpTree::from_bit_vector(bits_of(of.count, taken(held))) {
+    match BpTree::from_bit_vector(parentheses_of(BLOCK_SIZE, of, taken(held))) {
         Ok(tree) => Ok(tree),
         Err(_) => Err(AllocError),
     }
@@ -122,22 +134,47 @@ impl<'a, const BLOCK_SIZE: usize, A: Allocator> Loaded<&'a A> for BpTree<BLOCK_S
     ghost tells = { bits_tell BLOCK_SIZE };
 }
 
+/// The parentheses that the bytes are the saved form of, of a tree whose blocks have `size` bits. A fault is that of
+/// the first test that fails, and Memory comes only where all of them hold.
+pub fn load_parentheses_from_slice<A: Allocator + Copy>(
+    alloc: A,
+    size: usize,
+    bytes: &[u8],
+) -> Result<BitVec<A>, LoadError>
+    ensures loaded { IfOk result (λ v. bytes.now ≡ saved_parentheses size v) }
+    ensures whole { IfOk result (λ v. IsWhole (tree_kind size) (length v) size (limbs v)) }
+    ensures none { OnOk result (fault_of (tree_kind size) bytes.now ≡ None) }
+    ensures refused { IfErr result (λ e. (fault_of (tree_kind size) bytes.now ≡ Some e)
+        ⊎ ((e ≡ LoadError.Memory) × (fault_of (tree_kind size) bytes.now ≡ None))) }
+    ensures back { (x : List Bool) → IsWhole (tree_kind size) (length x) size (limbs x)
+        → bytes.now ≡ saved_parentheses size x
+        → MatchResult result (λ v. v ≡ x) (λ e. e ≡ LoadError.Memory) }
+{
+    let Form { shape, words } = form_of(alloc, &tree_kind(size), bytes)?;
+    Ok(parentheses_of(size, shape, words))
+}
+
 /// The tree that the bytes are the saved form of, as `load_from_slice` of it. A fault is that of the first
 /// test that fails, and Memory comes only where all of them hold.
+#[tactic(auto, using(crate::proofs::Parentheses::tree_size))]
 pub fn load_tree_from_slice<'a, const BLOCK_SIZE: usize, A: Allocator>(
     alloc: &'a A,
     bytes: &[u8],
 ) -> Result<BpTree<BLOCK_SIZE, &'a A>, LoadError>
     ensures loaded { IfOk result (λ v. bytes.now ≡ saved_parentheses BLOCK_SIZE v) }
     ensures whole { IfOk result (λ v. IsWhole (tree_kind BLOCK_SIZE) (length v) BLOCK_SIZE (limbs v)) }
+    ensures none { OnOk result (fault_of (tree_kind BLOCK_SIZE) bytes.now ≡ None) }
     ensures refused { IfErr result (λ e. (fault_of (tree_kind BLOCK_SIZE) bytes.now ≡ Some e)
         ⊎ ((e ≡ LoadError.Memory) × (fault_of (tree_kind BLOCK_SIZE) bytes.now ≡ None))) }
     ensures back { (x : List Bool) → IsWhole (tree_kind BLOCK_SIZE) (length x) BLOCK_SIZE (limbs x)
         → bytes.now ≡ saved_parentheses BLOCK_SIZE x
         → MatchResult result (λ v. v ≡ x) (λ e. e ≡ LoadError.Memory) }
 {
-    let Form { shape, mut words } = form_of(alloc, &tree_kind(BLOCK_SIZE), bytes)?;
-    Ok(tree_of(shape, &mut words)?)
+    let bits = load_parentheses_from_slice(alloc, BLOCK_SIZE, bytes)?;
+    match BpTree::from_bit_vector(bits) {
+        Ok(tree) => Ok(tree),
+        Err(_) => Err(LoadError::Memory),
+    }
 }
 
 /// The tree that the bytes up to the end of a reader are the saved form of, as `load` of it.
