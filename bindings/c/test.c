@@ -521,6 +521,131 @@ static void test_intersect(size_t n) {
     free(two);
 }
 
+/* Whether a text goes on with a pattern from a place on. */
+static bool stands_at(const uint64_t *text, size_t n, const uint64_t *pattern, size_t m, size_t place) {
+    if (place + m > n) return false;
+    for (size_t k = 0; k < m; k++)
+        if (text[place + k] != pattern[k]) return false;
+    return true;
+}
+
+/* A pattern has the places of a plain loop. */
+static void test_pattern(const vers_text *text, const uint64_t *symbols, size_t n, const uint64_t *pattern, size_t m) {
+    vers_numbers places = {0};
+    is("places", vers_text_places(text, pattern, m, &places), VERS_DONE);
+    uint64_t k = 0;
+    for (size_t i = 0; i <= n; i++)
+        if (stands_at(symbols, n, pattern, m, i)) found("place", k, vers_numbers_get(&places, k), i), k++;
+    found("places len", m, vers_numbers_len(&places), k);
+    found("count", m, vers_text_count(text, pattern, m), k);
+    found("contains", m, vers_text_contains(text, pattern, m), k > 0);
+    is("places into a full one", vers_text_places(text, pattern, m, &places), VERS_OCCUPIED);
+    vers_numbers_free(&places);
+}
+
+static void test_text(size_t n, uint32_t width, size_t step) {
+    uint64_t *symbols = room(n, 8), copied[8] = {0};
+    for (size_t i = 0; i < n; i++) symbols[i] = next() % 3 % (1u << width);
+    vers_text text = {0};
+    is("text of", vers_text_of(&text, symbols, n, width, step), VERS_DONE);
+    is("full", vers_text_of(&text, symbols, n, width, step), VERS_OCCUPIED);
+    found("len", n, vers_text_len(&text), n);
+    found("width", n, vers_text_width(&text), width);
+    is("heap_size", vers_text_heap_size(&text).value > n * width / 8, 1);
+    test_pattern(&text, symbols, n, NULL, 0);
+    for (size_t m = 1; m <= 5; m++) {
+        for (size_t i = 0; i + m <= n; i += 1 + n / 20) test_pattern(&text, symbols, n, symbols + i, m);
+        uint64_t others[] = {next() % 3, next() % 3, next() % 3, next() % 70000, UINT64_MAX};
+        test_pattern(&text, symbols, n, others, m);
+    }
+    vers_numbers piece = {0};
+    for (size_t i = 0; i <= n; i += 1 + n / 10)
+        for (size_t j = i; j <= n; j += 1 + n / 10) {
+            is("extract", vers_text_extract(&text, i, j, &piece), VERS_DONE);
+            found("extract len", i, vers_numbers_len(&piece), j - i);
+            for (size_t k = i; k < j; k++) found("symbol", k, vers_numbers_get(&piece, k - i), symbols[k]);
+            is("copy", vers_numbers_copy(&piece, copied, 8), VERS_DONE);
+            for (size_t k = 0; k < 8 && k < j - i; k++) is("copied", copied[k], symbols[i + k]);
+            vers_numbers_free(&piece);
+        }
+    is("past the end", vers_text_extract(&text, 0, n + 1, &piece), VERS_REFUSED);
+    is("backwards", vers_text_extract(&text, 1, 0, &piece), VERS_REFUSED);
+    is("copy of none", vers_numbers_copy(&piece, copied, 8), VERS_VACANT);
+    compare("no item", 0, vers_ask(&text.handle, VERS_GET, 0, 0, 0), VERS_UNKNOWN, 0);
+    compare("no form", 0, vers_saved_size(&text.handle), VERS_ABSENT, 0);
+    vers_text other = {0};
+    is("clone", vers_text_clone(&text, &other), VERS_DONE);
+    vers_text_free(&text);
+    test_pattern(&other, symbols, n, symbols, n < 2 ? n : 2);
+    vers_text_free(&other);
+    compare("vacant", 0, vers_text_count(&other, symbols, 0), VERS_VACANT, 0);
+    is("vacant places", vers_text_places(&other, symbols, 0, &piece), VERS_REFUSED);
+    is("vacant extract", vers_text_extract(&other, 0, 0, &piece), VERS_REFUSED);
+    free(symbols);
+}
+
+static void test_refused_texts(void) {
+    static const uint64_t symbols[] = {3, 0, 65535};
+    vers_text text = {0};
+    is("width 0", vers_text_of(&text, symbols, 0, 0, 1), VERS_REFUSED);
+    is("width 17", vers_text_of(&text, symbols, 2, 17, 1), VERS_REFUSED);
+    is("step 0", vers_text_of(&text, symbols, 2, 2, 0), VERS_REFUSED);
+    is("wide symbol", vers_text_of(&text, symbols, 2, 1, 1), VERS_REFUSED);
+    is("too long", vers_text_of(&text, symbols, 3, 15, 1), VERS_REFUSED);
+    is("widest", vers_text_of(&text, symbols, 3, 16, SIZE_MAX), VERS_DONE);
+    vers_handle list = {0}, into = {0};
+    is("symbols", vers_symbols_build(symbols, 3, 16, &list), VERS_DONE);
+    compare("count in symbols", 0, vers_count(&list, symbols, 1), VERS_UNKNOWN, 0);
+    is("places in symbols", vers_places(&list, symbols, 1, &into), VERS_REFUSED);
+    is("piece of symbols", vers_extract(&list, 0, 1, &into), VERS_REFUSED);
+    vers_free(&list);
+    vers_text_free(&text);
+}
+
+/* Lists as answers, against one answer after another. */
+static void test_listed(size_t n) {
+    uint64_t *numbers = room(n, 8), listed[10], last = 0;
+    for (size_t i = 0; i < n; i++) numbers[i] = last += 1 + next() % 9;
+    vers_bits bits = {0};
+    vers_sparse sparse = {0};
+    vers_sorted sorted = {0};
+    vers_postings postings = {0};
+    is("bits", vers_bits_of(&bits, numbers, n, 64 * n), VERS_DONE);
+    is("sparse", vers_sparse_of(&sparse, numbers, n, last + 5), VERS_DONE);
+    is("sorted", vers_sorted_of(&sorted, numbers, n), VERS_DONE);
+    is("postings", vers_postings_of(&postings, numbers, numbers, n), VERS_DONE);
+    for (uint64_t start = 0; start <= 64 * n; start += 1 + 3 * n)
+        for (uint64_t end = start; end <= 64 * n + 9; end += 1 + n) {
+            uint64_t ones = vers_bits_rank1(&bits, end).value - vers_bits_rank1(&bits, start).value, k = 0;
+            found("places1", start, vers_bits_places1(&bits, start, end, listed, 10), ones);
+            for (uint64_t i = start; i < end && k < 10; i++)
+                if (vers_bits_get(&bits, i).value) is("place1", listed[k++], i);
+            is("places1", k, ones < 10 ? ones : 10);
+            uint64_t zeros = vers_bits_rank0(&bits, end).value - vers_bits_rank0(&bits, start).value;
+            found("places0", start, vers_bits_places0(&bits, start, end, listed, 10), zeros);
+            if (zeros > 0) is("place0", vers_bits_get(&bits, listed[0]).value, 0);
+            uint64_t count = 0;
+            for (size_t i = 0; i < n; i++) count += start <= numbers[i] && numbers[i] < end;
+            found("sparse", start, vers_sparse_places1(&sparse, start, end, listed, 10), count);
+            if (count > 0) is("sparse", listed[0] >= start && vers_sparse_get(&sparse, listed[0]).value, 1);
+            found("members", start, vers_sorted_members(&sorted, start, end, listed, 10), count);
+            if (count > 0) found("member", start, vers_sorted_successor(&sorted, start), listed[0]);
+            found("documents", start, vers_postings_documents(&postings, start, end, listed, 10), count);
+            if (count > 0) found("document", start, vers_postings_next_at_least(&postings, start), listed[0]);
+        }
+    found("backwards", 0, vers_sorted_members(&sorted, 9, 0, listed, 10), 0);
+    for (size_t i = 0; i <= n; i++) {
+        found_if("document at", i, vers_postings_get(&postings, i), i < n, i < n ? numbers[i] : 0);
+        found_if("cost at", i, vers_postings_cost(&postings, i), i < n, i < n ? numbers[i] : 0);
+    }
+    vers_bits_free(&bits);
+    compare("vacant", 0, vers_bits_places1(&bits, 0, 1, listed, 10), VERS_VACANT, 0);
+    vers_sparse_free(&sparse);
+    vers_sorted_free(&sorted);
+    vers_postings_free(&postings);
+    free(numbers);
+}
+
 /* The worked file of docs/FORMAT.md: the bits 0, 1, 1, 0. */
 static const uint8_t worked[] = {
     0x77, 0x6f, 0x6c, 0x74, 0x73, 0x6a, 0x65, 0x6d, 1, 0, 0, 0, 0, 0, 0, 0, 1, 0, 0, 0, 0, 0, 0, 0, 1, 0, 0, 0,
@@ -544,18 +669,60 @@ static void test_worked_form(void) {
     is("append", vers_growing_append(&growing, true), VERS_DONE);
     vers_growing_free(&growing);
     vers_bits_free(&loaded);
-    for (size_t i = 0; i < 8 * sizeof bytes; i++) {
-        bytes[i / 8] ^= (uint8_t)(1 << i % 8);
-        is("load of a flipped bit", vers_bits_load(&loaded, bytes, sizeof bytes), VERS_REFUSED);
-        bytes[i / 8] ^= (uint8_t)(1 << i % 8);
-    }
-    for (size_t i = 0; i < sizeof bytes; i++) is("load of less", vers_bits_load(&loaded, bytes, i), VERS_REFUSED);
-    is("load of nothing", vers_bits_load(&loaded, NULL, 0), VERS_REFUSED);
+    for (size_t i = 0; i < sizeof bytes; i++) is("load of less", vers_bits_load(&loaded, bytes, i), VERS_TOO_SHORT);
+    is("load of nothing", vers_bits_load(&loaded, NULL, 0), VERS_TOO_SHORT);
+    is("load as another", vers_load(VERS_KIND_SORTED, worked, sizeof worked, &loaded.handle), VERS_OTHER_KIND);
     is("save over nothing", vers_bits_save(&list, NULL, 0), VERS_REFUSED);
     is("load of no kind", vers_load(1000, worked, sizeof worked, &loaded.handle), VERS_UNKNOWN);
     vers_bits_free(&list);
     compare("saved_size vacant", 0, vers_bits_saved_size(&list), VERS_VACANT, 0);
     is("save vacant", vers_bits_save(&list, bytes, sizeof bytes), VERS_VACANT);
+}
+
+/* The sum of the words of a form before its last one, as docs/FORMAT.md says it. */
+static uint64_t sum_of(const uint64_t *words, size_t count) {
+    uint64_t sum = 0xcbf29ce484222325;
+    for (size_t k = 0; k + 1 < count; k++) {
+        sum = (sum ^ words[k]) * 0x9e3779b97f4a7c15;
+        sum = sum << 29 | sum >> 35;
+    }
+    return sum;
+}
+
+/* Loads words with one of them changed, and with their sum right or not. */
+static uint32_t load_changed(uint32_t kind, const uint64_t *words, size_t count, size_t k, uint64_t word, bool is_summed) {
+    uint64_t changed[16];
+    memcpy(changed, words, count * 8);
+    changed[k] = word;
+    if (is_summed) changed[count - 1] = sum_of(changed, count);
+    vers_handle handle = {0};
+    uint32_t status = vers_load(kind, (const uint8_t *)changed, count * 8, &handle);
+    is("left vacant", vers_ask(&handle, VERS_LEN, 0, 0, 0).status, status == VERS_DONE ? VERS_DONE : VERS_VACANT);
+    vers_free(&handle);
+    return status;
+}
+
+/* Each fault of a saved form is told by its status. */
+static void test_faults(void) {
+    uint64_t words[8];
+    memcpy(words, worked, sizeof worked);
+    is("right", load_changed(VERS_KIND_BITS, words, 7, 5, 6, true), VERS_DONE);
+    is("other first word", load_changed(VERS_KIND_BITS, words, 7, 0, words[0] + 1, true), VERS_NOT_OURS);
+    is("other version", load_changed(VERS_KIND_BITS, words, 7, 1, 2, true), VERS_OTHER_VERSION);
+    is("other kind", load_changed(VERS_KIND_BITS, words, 7, 2, 6, true), VERS_OTHER_KIND);
+    is("other width", load_changed(VERS_KIND_BITS, words, 7, 3, 2, true), VERS_OTHER_KIND);
+    is("more bits", load_changed(VERS_KIND_BITS, words, 7, 4, 65, true), VERS_TOO_SHORT);
+    is("too many bits", load_changed(VERS_KIND_BITS, words, 7, 4, UINT64_MAX, true), VERS_BAD_LENGTH);
+    is("no bits", load_changed(VERS_KIND_BITS, words, 7, 4, 0, true), VERS_BAD_LENGTH);
+    is("a flipped bit", load_changed(VERS_KIND_BITS, words, 7, 5, 7, false), VERS_BAD_SUM);
+    is("another sum", load_changed(VERS_KIND_BITS, words, 7, 6, 0, false), VERS_BAD_SUM);
+    is("a one past the end", load_changed(VERS_KIND_BITS, words, 7, 5, 22, true), VERS_BAD_PADDING);
+    uint64_t ascending[8] = {words[0], 1, 2, 64, 2, 5, 5, 0};
+    is("equal", load_changed(VERS_KIND_SORTED, ascending, 8, 6, 5, true), VERS_DONE);
+    is("descending", load_changed(VERS_KIND_SORTED, ascending, 8, 6, 4, true), VERS_NOT_ASCENDING);
+    uint64_t posted[8] = {words[0], 1, 7, 128, 1, 5, 2, 0};
+    is("a document", load_changed(VERS_KIND_POSTINGS, posted, 8, 6, 9, true), VERS_DONE);
+    is("less a cost", load_changed(VERS_KIND_POSTINGS, posted, 8, 4, 2, true), VERS_TOO_SHORT);
 }
 
 /* Saves a list and loads it: the other list answers like the first. As another kind it is refused. */
@@ -567,7 +734,7 @@ static void test_form(vers_handle *list, uint32_t kind, enum vers_query query) {
     is("save", vers_save(list, bytes, size.value), VERS_DONE);
     vers_handle other = {0};
     uint32_t wrong = kind == VERS_KIND_SORTED ? VERS_KIND_FAST : VERS_KIND_SORTED;
-    is("load as another", vers_load(wrong, bytes, size.value, &other), VERS_REFUSED);
+    is("load as another", vers_load(wrong, bytes, size.value, &other), VERS_OTHER_KIND);
     is("load", vers_load(kind, bytes, size.value, &other), VERS_DONE);
     found("loaded len", 0, vers_ask(&other, VERS_LEN, 0, 0, 0), length);
     for (uint64_t i = 0; i <= length; i++) {
@@ -579,7 +746,7 @@ static void test_form(vers_handle *list, uint32_t kind, enum vers_query query) {
     free(bytes);
 }
 
-/* A tree has a saved form, of which none is made. */
+/* A tree is loaded as it was, and as no list of bits. */
 static void test_tree_form(void) {
     uint64_t word = 0xb;
     vers_tree tree = {0}, other = {0};
@@ -589,7 +756,11 @@ static void test_tree_form(void) {
     is("save", vers_tree_save(&tree, bytes, sizeof bytes), VERS_DONE);
     is("kind", bytes[16], 6);
     is("parentheses", bytes[40], word);
-    is("load of a tree", vers_load(VERS_KIND_TREE, bytes, sizeof bytes, &other.handle), VERS_UNKNOWN);
+    is("load", vers_tree_load(&other, bytes, sizeof bytes), VERS_DONE);
+    found("first_child", 0, vers_tree_first_child(&other, 0), 1);
+    found("parent", 3, vers_tree_parent(&other, 3), 0);
+    vers_tree_free(&other);
+    is("load as bits", vers_load(VERS_KIND_BITS, bytes, sizeof bytes, &other.handle), VERS_OTHER_KIND);
     vers_tree_free(&tree);
 }
 
@@ -611,8 +782,14 @@ static void test_forms(size_t n) {
     test_form(&list, VERS_KIND_FAST, VERS_RANGE_MIN);
     is("binary_rmq", vers_binary_rmq_build(ones, n, &list), VERS_DONE);
     test_form(&list, VERS_KIND_BINARY, VERS_GET);
+    is("tree", vers_tree_build(ones, n, 9 * n, &list), VERS_DONE);
+    test_form(&list, VERS_KIND_TREE, VERS_CLOSE);
     is("postings", vers_postings_build(ones, n, ones, n, &list), VERS_DONE);
-    compare("saved_size of postings", 0, vers_saved_size(&list), VERS_ABSENT, 0);
+    test_form(&list, VERS_KIND_POSTINGS, VERS_CHEAPEST);
+    is("no symbols", vers_symbols_build(ones, n, 0, &list), VERS_DONE);
+    compare("saved_size of no bits", 0, vers_saved_size(&list), VERS_ABSENT, 0);
+    uint8_t byte = 0;
+    is("save of no bits", vers_save(&list, &byte, 1), VERS_ABSENT);
     vers_free(&list);
     free(ones);
 }
@@ -782,7 +959,17 @@ int main(void) {
     test_intersect(0);
     test_intersect(1);
     test_intersect(800);
+    test_text(0, 1, 1);
+    test_text(1, 1, 32);
+    test_text(50, 2, 1);
+    test_text(300, 16, 7);
+    test_text(300, 1, 1000);
+    test_refused_texts();
+    test_listed(0);
+    test_listed(1);
+    test_listed(40);
     test_worked_form();
+    test_faults();
     test_tree_form();
     test_forms(0);
     test_forms(1);

@@ -42,7 +42,7 @@ static void check(const char *what, bool holds) {
 
 enum { COUNT = 3000 };
 static uint64_t numbers[COUNT];
-static vers_handle one, two;
+static vers_handle one, two, texts;
 
 static uint32_t growing(vers_handle *handle) { return vers_growing_build(numbers, 20, 1280, handle); }
 static uint32_t bits(vers_handle *handle) { return vers_bits_build(numbers, COUNT, COUNT * 64, handle); }
@@ -53,11 +53,14 @@ static uint32_t symbols(vers_handle *handle) { return vers_symbols_build(numbers
 static uint32_t fast_rmq(vers_handle *handle) { return vers_fast_rmq_build(numbers, COUNT, handle); }
 static uint32_t binary_rmq(vers_handle *handle) { return vers_binary_rmq_build(numbers, COUNT, handle); }
 static uint32_t postings(vers_handle *handle) { return vers_postings_build(numbers, COUNT, numbers, COUNT, handle); }
+static uint32_t text(vers_handle *handle) { return vers_text_build(numbers, COUNT, 16, 3, handle); }
+static uint32_t places(vers_handle *handle) { return vers_places(&texts, numbers, 0, handle); }
+static uint32_t extract(vers_handle *handle) { return vers_extract(&texts, 1, COUNT, handle); }
 static uint32_t clone(vers_handle *handle) { return vers_clone(&one, handle); }
 static uint32_t intersect(vers_handle *handle) { return vers_intersect(&one, &two, handle); }
 
 /* The saved form of a list, and the kind that it is loaded as. */
-static uint8_t form[64 + 8 * COUNT];
+static uint8_t form[64 + 16 * COUNT];
 static size_t form_size;
 static enum vers_kind kind;
 static uint32_t load(vers_handle *handle) { return vers_load(kind, form, form_size, handle); }
@@ -138,6 +141,10 @@ int main(void) {
     test_fill("fast_rmq", fast_rmq);
     test_fill("binary_rmq", binary_rmq);
     test_fill("postings", postings);
+    check("texts", text(&texts) == VERS_DONE);
+    test_fill("text", text);
+    test_fill("places", places);
+    test_fill("extract", extract);
     test_fill("clone", clone);
     test_fill("intersect", intersect);
     test_append();
@@ -148,8 +155,11 @@ int main(void) {
     test_form("form of symbols", symbols, VERS_KIND_SYMBOLS);
     test_form("form of fast_rmq", fast_rmq, VERS_KIND_FAST);
     test_form("form of binary_rmq", binary_rmq, VERS_KIND_BINARY);
+    test_form("form of tree", tree, VERS_KIND_TREE);
+    test_form("form of postings", postings, VERS_KIND_POSTINGS);
     vers_free(&one);
     vers_free(&two);
+    vers_free(&texts);
     check("all memory came back", given == taken_back);
     printf("%lu passed, %lu failed\n", passed, failed);
     return failed != 0;

@@ -1,6 +1,6 @@
 /** @file vers.h
  *  Succinct lists whose every call is proved: bits with rank and select, ascending numbers, sparse bits, symbols,
- *  range minima, trees of parentheses, documents with costs.
+ *  range minima, trees of parentheses, documents with costs, texts in which patterns are found.
  *
  *  A list is made of a caller's array and held by a handle, which is all zeros while it holds nothing:
  *
@@ -10,7 +10,8 @@
  *      vers_bits_free(&bits);                             // all zeros again
  *
  *  Memory. A list copies what it is made of, so the caller's array is his own again when the call returns. What a
- *  call `_of`, `_load`, `_clone` or `_intersect` has put into a handle is freed by `_free`, and by nothing else.
+ *  call has put into a handle (`_of`, `_load`, `_clone`, `_intersect`, `_places`, `_extract`) is freed by `_free`, and by
+ *  nothing else.
  *  Answers are numbers, never pointers. Where memory is out a call answers VERS_NO_MEMORY and changes nothing.
  *
  *  Threads. A handle is used by one thread at a time, also for queries. Each thread asks through a handle of its
@@ -45,20 +46,28 @@ extern "C" {
 
 /** How a call went. */
 enum vers_status {
-    VERS_DONE = 0,      /**< It was done, or something was found. */
-    VERS_ABSENT = 1,    /**< There is no such thing. */
-    VERS_UNKNOWN = 2,   /**< The list has no such query or change. */
-    VERS_VACANT = 3,    /**< The handle holds nothing. */
-    VERS_REFUSED = 4,   /**< The numbers that were passed are refused. */
-    VERS_OCCUPIED = 5,  /**< The handle that is to be filled holds a list already. */
-    VERS_NO_MEMORY = 6, /**< There is no memory, or the list would be too long. */
-    VERS_SHARED = 7     /**< The list has another handle, so it can't change. */
+    VERS_DONE = 0,           /**< It was done, or something was found. */
+    VERS_ABSENT = 1,         /**< There is no such thing. */
+    VERS_UNKNOWN = 2,        /**< The list has no such query or change. */
+    VERS_VACANT = 3,         /**< The handle holds nothing. */
+    VERS_REFUSED = 4,        /**< The numbers that were passed are refused. */
+    VERS_OCCUPIED = 5,       /**< The handle that is to be filled holds a list already. */
+    VERS_NO_MEMORY = 6,      /**< There is no memory, or the list would be too long. */
+    VERS_SHARED = 7,         /**< The list has another handle, so it can't change. */
+    VERS_TOO_SHORT = 8,      /**< The bytes are fewer than a saved form has, or than its head says. */
+    VERS_NOT_OURS = 9,       /**< The bytes do not begin as a saved form does. */
+    VERS_OTHER_VERSION = 10, /**< The saved form is of another version. */
+    VERS_OTHER_KIND = 11,    /**< The bytes are the saved form of another kind of list. */
+    VERS_BAD_LENGTH = 12,    /**< No such list is as long, or the bytes go on after it. */
+    VERS_BAD_SUM = 13,       /**< The sum is not that of what stands before it. */
+    VERS_BAD_PADDING = 14,   /**< A bit is set past the end of the list. */
+    VERS_NOT_ASCENDING = 15  /**< The numbers do not ascend as those of the list do. */
 };
 
 /** The queries by their codes. They matter to `_each` and `_rows`; for single queries there are the names below. */
 enum vers_query {
     VERS_LEN = 0,                  /**< How many items. */
-    VERS_GET = 1,                  /**< Item a; of a tree, whether a parenthesis opens. */
+    VERS_GET = 1,                  /**< Item a; of a tree, whether a parenthesis opens; not of a text. */
     VERS_GET_BITS = 2,             /**< Growing, bits: the number of the b bits from place a on. */
     VERS_HEAP_SIZE = 3,            /**< How many bytes of the heap the list takes. */
     VERS_RANK0 = 4,                /**< Bits, sparse: zeros before place a. */
@@ -70,7 +79,7 @@ enum vers_query {
     VERS_PREDECESSOR = 10,         /**< Sorted: the greatest member not above a. */
     VERS_SUCCESSOR = 11,           /**< Sorted, postings: the least member not below a. */
     VERS_DELTA = 12,               /**< Sorted: member a less the one before it. */
-    VERS_WIDTH = 13,               /**< Symbols: how many bits a symbol has. */
+    VERS_WIDTH = 13,               /**< Symbols, text: how many bits a symbol has. */
     VERS_RANK_OF = 14,             /**< Symbols: how many of the first a are symbol b. */
     VERS_SELECT_OF = 15,           /**< Symbols: the place of occurrence a of symbol b. */
     VERS_RANK_RANGE = 16,          /**< Symbols: how many of a..b are symbol c. */
@@ -106,7 +115,8 @@ enum vers_query {
     VERS_LEVEL_RIGHTMOST = 46,     /**< Tree: the last node of depth a. */
     VERS_IS_ANCESTOR = 47,         /**< Tree: whether a is above b or is b, 1 or 0. */
     VERS_RANGE_MIN = 48,           /**< Minima: the first place of a least value from a to b. */
-    VERS_CHEAPEST = 49             /**< Postings: the first document of least cost from a to b. */
+    VERS_CHEAPEST = 49,            /**< Postings: the first document of least cost from a to b. */
+    VERS_COST = 50                 /**< Postings: the cost of the document at place a. */
 };
 
 /** The codes of changes of a vers_growing. */
@@ -126,7 +136,8 @@ enum vers_kind {
     VERS_KIND_SYMBOLS = 4, /**< A vers_symbols. */
     VERS_KIND_TREE = 5,    /**< A vers_tree. */
     VERS_KIND_FAST = 6,    /**< A vers_fast_rmq. */
-    VERS_KIND_BINARY = 7   /**< A vers_binary_rmq. */
+    VERS_KIND_BINARY = 7,  /**< A vers_binary_rmq. */
+    VERS_KIND_POSTINGS = 8 /**< A vers_postings. */
 };
 
 /** The answer of a query: `value` counts where `status` is VERS_DONE, and is 0 else. */
@@ -169,6 +180,17 @@ uint32_t vers_clone(vers_handle *handle, vers_handle *other);
  *  of the two holds no such list, VERS_OCCUPIED, VERS_NO_MEMORY. */
 uint32_t vers_intersect(vers_handle *one, vers_handle *other, vers_handle *into);
 
+/** How many places a pattern of `count` symbols has in a vers_text. VERS_UNKNOWN of another list, VERS_VACANT. */
+vers_answer vers_count(vers_handle *handle, const uint64_t *pattern, size_t count);
+
+/** Puts the places of a pattern in a vers_text, ascending, into an empty other handle, as vers_numbers. VERS_REFUSED
+ *  where the first holds no text, VERS_OCCUPIED, VERS_NO_MEMORY. */
+uint32_t vers_places(vers_handle *handle, const uint64_t *pattern, size_t count, vers_handle *into);
+
+/** Puts the symbols of a vers_text from place `start` up to `end` into an empty other handle, as vers_numbers.
+ *  VERS_REFUSED where the first holds no text with such places, VERS_OCCUPIED, VERS_NO_MEMORY. */
+uint32_t vers_extract(vers_handle *handle, size_t start, size_t end, vers_handle *into);
+
 /** Empties a handle, and frees the list if no other handle holds it. An empty handle stays empty. */
 void vers_free(vers_handle *handle);
 
@@ -184,7 +206,14 @@ vers_answer vers_quick_sorted_rank(vers_handle *handle, uint64_t number);
 vers_answer vers_quick_sorted_predecessor(vers_handle *handle, uint64_t number);
 vers_answer vers_quick_sorted_successor(vers_handle *handle, uint64_t number);
 vers_answer vers_quick_symbols_get(vers_handle *handle, uint64_t place);
+vers_answer vers_quick_symbols_rank(vers_handle *handle, uint64_t end, uint64_t symbol);
+vers_answer vers_quick_symbols_quantile(vers_handle *handle, uint64_t start, uint64_t end, uint64_t number);
 vers_answer vers_quick_tree_get(vers_handle *handle, uint64_t place);
+vers_answer vers_quick_tree_close(vers_handle *handle, uint64_t place);
+vers_answer vers_quick_tree_parent(vers_handle *handle, uint64_t node);
+vers_answer vers_quick_tree_first_child(vers_handle *handle, uint64_t node);
+vers_answer vers_quick_tree_next_sibling(vers_handle *handle, uint64_t node);
+vers_answer vers_quick_tree_depth(vers_handle *handle, uint64_t node);
 vers_answer vers_quick_values_get(vers_handle *handle, uint64_t place);
 vers_answer vers_quick_values_range_min(vers_handle *handle, uint64_t first, uint64_t last);
 
@@ -195,8 +224,9 @@ vers_answer vers_saved_size(vers_handle *handle);
  *  VERS_ABSENT where there is none, VERS_REFUSED for another count, VERS_NO_MEMORY. */
 uint32_t vers_save(vers_handle *handle, uint8_t *bytes, size_t count);
 
-/** Makes the list of a kind of which bytes are the saved form. VERS_REFUSED where they are none, VERS_UNKNOWN for no
- *  kind and for trees, VERS_OCCUPIED, VERS_NO_MEMORY. */
+/** Makes the list of a kind of which bytes are the saved form. Where they are none, the status says which test of them
+ *  fails, by the first one that does: VERS_TOO_SHORT to VERS_NOT_ASCENDING. VERS_UNKNOWN for no kind, VERS_OCCUPIED,
+ *  VERS_NO_MEMORY. */
 uint32_t vers_load(uint32_t kind, const uint8_t *bytes, size_t count, vers_handle *handle);
 
 uint32_t vers_growing_build(const uint64_t *words, size_t count, size_t length, vers_handle *handle);
@@ -209,6 +239,7 @@ uint32_t vers_fast_rmq_build(const uint64_t *values, size_t count, vers_handle *
 uint32_t vers_binary_rmq_build(const uint64_t *values, size_t count, vers_handle *handle);
 uint32_t vers_postings_build(const uint64_t *documents, size_t count, const uint64_t *costs, size_t cost_count,
                              vers_handle *handle);
+uint32_t vers_text_build(const uint64_t *symbols, size_t count, uint32_t width, size_t step, vers_handle *handle);
 
 #ifdef __cplusplus
 }
@@ -232,6 +263,10 @@ static inline const char *vers_status_text(uint32_t status) {
         "done", "there is no such thing", "the list has no such query or change", "the handle holds nothing",
         "the numbers are refused", "the handle holds a list already",
         "there is no memory, or the list would be too long", "the list has another handle, so it can't change",
+        "the bytes are cut off", "the bytes do not begin as a saved form does",
+        "the saved form is of another version", "the saved form is of another kind of list",
+        "no such list is as long, or the bytes go on after it", "the sum is not that of what stands before it",
+        "a bit is set past the end of the list", "the numbers do not ascend",
     };
     return status < sizeof texts / sizeof *texts ? texts[status] : "no status of this library";
 }
@@ -275,6 +310,25 @@ static inline uint32_t vers_asked_each(const vers_handle *handle, enum vers_quer
     uint64_t none = 0;
     if (count == 0) numbers = &none;
     return vers_ask_each(vers_held(handle), (uint32_t)query, numbers, count, b, c, other);
+}
+
+/** Writes what a query answers to the numbers from `start` on, as many as there is room for, at most `most`. */
+static inline uint32_t vers_asked_from(const vers_handle *handle, enum vers_query query, uint64_t start, uint64_t most,
+                                       uint64_t *numbers, size_t count) {
+    if (count > most) count = (size_t)most;
+    for (size_t k = 0; k < count; k++) numbers[k] = start + k;
+    return vers_asked_each(handle, query, numbers, count, 0, 0, 0);
+}
+
+/** Writes the places that `select` finds of what `rank` counts from `start` up to `end`. The answer is how many there
+ *  are, also where there is room for fewer. */
+static inline vers_answer vers_listed(const vers_handle *handle, enum vers_query rank, enum vers_query select,
+                                      uint64_t start, uint64_t end, uint64_t *places, size_t count) {
+    vers_answer first = vers_asked(handle, rank, start, 0, 0), past = vers_asked(handle, rank, end, 0, 0);
+    if (past.status != VERS_DONE) return past;
+    past.value = past.value > first.value ? past.value - first.value : 0;
+    past.status = vers_asked_from(handle, select, first.value, past.value, places, count);
+    return past;
 }
 
 /** Asks many queries of a list, with three numbers each. The list stays as it is. */
@@ -335,8 +389,8 @@ static inline uint32_t vers_growing_save(const vers_growing *list, uint8_t *byte
     return vers_saved(&list->handle, bytes, count);
 }
 
-/** Makes the list of which bytes are the saved form. VERS_REFUSED where they are of no such list. VERS_OCCUPIED,
- * VERS_NO_MEMORY. */
+/** Makes the list of which bytes are the saved form. Where they are of no such list, the status says why, as at
+ * vers_load. VERS_OCCUPIED, VERS_NO_MEMORY. */
 static inline uint32_t vers_growing_load(vers_growing *list, const uint8_t *bytes, size_t count) {
     return vers_loaded(VERS_KIND_GROWING, bytes, count, &list->handle);
 }
@@ -430,8 +484,8 @@ static inline uint32_t vers_bits_save(const vers_bits *list, uint8_t *bytes, siz
     return vers_saved(&list->handle, bytes, count);
 }
 
-/** Makes the list of which bytes are the saved form. VERS_REFUSED where they are of no such list. VERS_OCCUPIED,
- * VERS_NO_MEMORY. */
+/** Makes the list of which bytes are the saved form. Where they are of no such list, the status says why, as at
+ * vers_load. VERS_OCCUPIED, VERS_NO_MEMORY. */
 static inline uint32_t vers_bits_load(vers_bits *list, const uint8_t *bytes, size_t count) {
     return vers_loaded(VERS_KIND_BITS, bytes, count, &list->handle);
 }
@@ -472,9 +526,23 @@ static inline vers_answer vers_bits_select1(const vers_bits *list, uint64_t numb
     return vers_quick_bits_select1(vers_held(&list->handle), number);
 }
 
+/** Writes the places of ones from `start` up to `end` over an array of `count`, ascending, as many as it has room for.
+ * The answer is how many there are. */
+static inline vers_answer vers_bits_places1(const vers_bits *list, uint64_t start, uint64_t end, uint64_t *places,
+                                           size_t count) {
+    return vers_listed(&list->handle, VERS_RANK1, VERS_SELECT1, start, end, places, count);
+}
+
 /** The place of zero number `number`, counted from 0; the length where there are no more. */
 static inline vers_answer vers_bits_select0(const vers_bits *list, uint64_t number) {
     return vers_quick_bits_select0(vers_held(&list->handle), number);
+}
+
+/** Writes the places of zeros from `start` up to `end` over an array of `count`, ascending, as many as it has room for.
+ * The answer is how many there are. */
+static inline vers_answer vers_bits_places0(const vers_bits *list, uint64_t start, uint64_t end, uint64_t *places,
+                                           size_t count) {
+    return vers_listed(&list->handle, VERS_RANK0, VERS_SELECT0, start, end, places, count);
 }
 
 /** How many ones. */
@@ -557,8 +625,8 @@ static inline uint32_t vers_sorted_save(const vers_sorted *list, uint8_t *bytes,
     return vers_saved(&list->handle, bytes, count);
 }
 
-/** Makes the list of which bytes are the saved form. VERS_REFUSED where they are of no such list. VERS_OCCUPIED,
- * VERS_NO_MEMORY. */
+/** Makes the list of which bytes are the saved form. Where they are of no such list, the status says why, as at
+ * vers_load. VERS_OCCUPIED, VERS_NO_MEMORY. */
 static inline uint32_t vers_sorted_load(vers_sorted *list, const uint8_t *bytes, size_t count) {
     return vers_loaded(VERS_KIND_SORTED, bytes, count, &list->handle);
 }
@@ -581,6 +649,13 @@ static inline vers_answer vers_sorted_get(const vers_sorted *list, uint64_t plac
 /** How many members are below a number. */
 static inline vers_answer vers_sorted_rank(const vers_sorted *list, uint64_t number) {
     return vers_quick_sorted_rank(vers_held(&list->handle), number);
+}
+
+/** Writes the members from `least` on that are below `bound` over an array of `count`, ascending, as many as it has room
+ * for. The answer is how many there are. */
+static inline vers_answer vers_sorted_members(const vers_sorted *list, uint64_t least, uint64_t bound,
+                                              uint64_t *members, size_t count) {
+    return vers_listed(&list->handle, VERS_RANK, VERS_GET, least, bound, members, count);
 }
 
 /** Whether a number is a member, 1 or 0. */
@@ -645,8 +720,8 @@ static inline uint32_t vers_sparse_save(const vers_sparse *list, uint8_t *bytes,
     return vers_saved(&list->handle, bytes, count);
 }
 
-/** Makes the list of which bytes are the saved form. VERS_REFUSED where they are of no such list. VERS_OCCUPIED,
- * VERS_NO_MEMORY. */
+/** Makes the list of which bytes are the saved form. Where they are of no such list, the status says why, as at
+ * vers_load. VERS_OCCUPIED, VERS_NO_MEMORY. */
 static inline uint32_t vers_sparse_load(vers_sparse *list, const uint8_t *bytes, size_t count) {
     return vers_loaded(VERS_KIND_SPARSE, bytes, count, &list->handle);
 }
@@ -679,6 +754,13 @@ static inline vers_answer vers_sparse_rank0(const vers_sparse *list, uint64_t pl
 /** The place of one number `number`, counted from 0; the length where there are no more. */
 static inline vers_answer vers_sparse_select1(const vers_sparse *list, uint64_t number) {
     return vers_asked(&list->handle, VERS_SELECT1, number, 0, 0);
+}
+
+/** Writes the places of ones from `start` up to `end` over an array of `count`, ascending, as many as it has room for.
+ * The answer is how many there are. */
+static inline vers_answer vers_sparse_places1(const vers_sparse *list, uint64_t start, uint64_t end, uint64_t *places,
+                                             size_t count) {
+    return vers_listed(&list->handle, VERS_RANK1, VERS_SELECT1, start, end, places, count);
 }
 
 /** Puts in the place of each number what a query of one number answers to it, `other` where there is no answer.
@@ -724,8 +806,8 @@ static inline uint32_t vers_symbols_save(const vers_symbols *list, uint8_t *byte
     return vers_saved(&list->handle, bytes, count);
 }
 
-/** Makes the list of which bytes are the saved form. VERS_REFUSED where they are of no such list. VERS_OCCUPIED,
- * VERS_NO_MEMORY. */
+/** Makes the list of which bytes are the saved form. Where they are of no such list, the status says why, as at
+ * vers_load. VERS_OCCUPIED, VERS_NO_MEMORY. */
 static inline uint32_t vers_symbols_load(vers_symbols *list, const uint8_t *bytes, size_t count) {
     return vers_loaded(VERS_KIND_SYMBOLS, bytes, count, &list->handle);
 }
@@ -752,7 +834,7 @@ static inline vers_answer vers_symbols_get(const vers_symbols *list, uint64_t pl
 
 /** How many of the first `end` places hold a symbol. VERS_ABSENT where there are not so many places. */
 static inline vers_answer vers_symbols_rank(const vers_symbols *list, uint64_t end, uint64_t symbol) {
-    return vers_asked(&list->handle, VERS_RANK_OF, end, symbol, 0);
+    return vers_quick_symbols_rank(vers_held(&list->handle), end, symbol);
 }
 
 /** How many places of a range hold a symbol. VERS_ABSENT where it starts past the last place, or ends before it
@@ -777,7 +859,7 @@ static inline vers_answer vers_symbols_select_offset(const vers_symbols *list, u
 /** Symbol `number` of a range in ascending order. VERS_ABSENT where it hasn't so many. */
 static inline vers_answer vers_symbols_quantile(const vers_symbols *list, uint64_t start, uint64_t end,
                                                 uint64_t number) {
-    return vers_asked(&list->handle, VERS_QUANTILE, start, end, number);
+    return vers_quick_symbols_quantile(vers_held(&list->handle), start, end, number);
 }
 
 /** The least symbol of a range. VERS_ABSENT where it is empty. */
@@ -854,8 +936,8 @@ static inline uint32_t vers_fast_rmq_save(const vers_fast_rmq *list, uint8_t *by
     return vers_saved(&list->handle, bytes, count);
 }
 
-/** Makes the list of which bytes are the saved form. VERS_REFUSED where they are of no such list. VERS_OCCUPIED,
- * VERS_NO_MEMORY. */
+/** Makes the list of which bytes are the saved form. Where they are of no such list, the status says why, as at
+ * vers_load. VERS_OCCUPIED, VERS_NO_MEMORY. */
 static inline uint32_t vers_fast_rmq_load(vers_fast_rmq *list, const uint8_t *bytes, size_t count) {
     return vers_loaded(VERS_KIND_FAST, bytes, count, &list->handle);
 }
@@ -928,8 +1010,8 @@ static inline uint32_t vers_binary_rmq_save(const vers_binary_rmq *list, uint8_t
     return vers_saved(&list->handle, bytes, count);
 }
 
-/** Makes the list of which bytes are the saved form. VERS_REFUSED where they are of no such list. VERS_OCCUPIED,
- * VERS_NO_MEMORY. */
+/** Makes the list of which bytes are the saved form. Where they are of no such list, the status says why, as at
+ * vers_load. VERS_OCCUPIED, VERS_NO_MEMORY. */
 static inline uint32_t vers_binary_rmq_load(vers_binary_rmq *list, const uint8_t *bytes, size_t count) {
     return vers_loaded(VERS_KIND_BINARY, bytes, count, &list->handle);
 }
@@ -1005,6 +1087,12 @@ static inline uint32_t vers_tree_save(const vers_tree *list, uint8_t *bytes, siz
     return vers_saved(&list->handle, bytes, count);
 }
 
+/** Makes the list of which bytes are the saved form. Where they are of no such list, the status says why, as at
+ * vers_load. VERS_OCCUPIED, VERS_NO_MEMORY. */
+static inline uint32_t vers_tree_load(vers_tree *list, const uint8_t *bytes, size_t count) {
+    return vers_loaded(VERS_KIND_TREE, bytes, count, &list->handle);
+}
+
 /** How many parentheses. */
 static inline vers_answer vers_tree_len(const vers_tree *list) {
     return vers_asked(&list->handle, VERS_LEN, 0, 0, 0);
@@ -1037,7 +1125,7 @@ static inline vers_answer vers_tree_excess(const vers_tree *list, uint64_t place
 
 /** The place that closes what opens at a place. VERS_ABSENT where there is none. */
 static inline vers_answer vers_tree_close(const vers_tree *list, uint64_t place) {
-    return vers_asked(&list->handle, VERS_CLOSE, place, 0, 0);
+    return vers_quick_tree_close(vers_held(&list->handle), place);
 }
 
 /** The place that opens what closes at a place. VERS_ABSENT where there is none. */
@@ -1068,12 +1156,12 @@ static inline vers_answer vers_tree_bwd_search(const vers_tree *list, uint64_t p
 
 /** The parent of a node. VERS_ABSENT for a root. */
 static inline vers_answer vers_tree_parent(const vers_tree *list, uint64_t node) {
-    return vers_asked(&list->handle, VERS_PARENT, node, 0, 0);
+    return vers_quick_tree_parent(vers_held(&list->handle), node);
 }
 
 /** The first child of a node. VERS_ABSENT for a leaf. */
 static inline vers_answer vers_tree_first_child(const vers_tree *list, uint64_t node) {
-    return vers_asked(&list->handle, VERS_FIRST_CHILD, node, 0, 0);
+    return vers_quick_tree_first_child(vers_held(&list->handle), node);
 }
 
 /** The last child of a node. VERS_ABSENT for a leaf. */
@@ -1083,7 +1171,7 @@ static inline vers_answer vers_tree_last_child(const vers_tree *list, uint64_t n
 
 /** The sibling behind a node. VERS_ABSENT for the last one. */
 static inline vers_answer vers_tree_next_sibling(const vers_tree *list, uint64_t node) {
-    return vers_asked(&list->handle, VERS_NEXT_SIBLING, node, 0, 0);
+    return vers_quick_tree_next_sibling(vers_held(&list->handle), node);
 }
 
 /** The sibling before a node. VERS_ABSENT for the first one. */
@@ -1118,7 +1206,7 @@ static inline vers_answer vers_tree_is_leaf(const vers_tree *list, uint64_t node
 
 /** How many ancestors a node has. */
 static inline vers_answer vers_tree_depth(const vers_tree *list, uint64_t node) {
-    return vers_asked(&list->handle, VERS_DEPTH, node, 0, 0);
+    return vers_quick_tree_depth(vers_held(&list->handle), node);
 }
 
 /** How many nodes a node and those below it are. */
@@ -1186,9 +1274,43 @@ static inline uint32_t vers_postings_clone(const vers_postings *list, vers_posti
     return vers_clone(vers_held(&list->handle), &other->handle);
 }
 
+/** How many bytes the saved form of the list has. */
+static inline vers_answer vers_postings_saved_size(const vers_postings *list) {
+    return vers_saved_size(vers_held(&list->handle));
+}
+
+/** Writes the saved form over `count` bytes, as many as `_saved_size` says. VERS_REFUSED for another count,
+ * VERS_NO_MEMORY. */
+static inline uint32_t vers_postings_save(const vers_postings *list, uint8_t *bytes, size_t count) {
+    return vers_saved(&list->handle, bytes, count);
+}
+
+/** Makes the list of which bytes are the saved form. Where they are of no such list, the status says why, as at
+ * vers_load. VERS_OCCUPIED, VERS_NO_MEMORY. */
+static inline uint32_t vers_postings_load(vers_postings *list, const uint8_t *bytes, size_t count) {
+    return vers_loaded(VERS_KIND_POSTINGS, bytes, count, &list->handle);
+}
+
 /** How many documents. */
 static inline vers_answer vers_postings_len(const vers_postings *list) {
     return vers_asked(&list->handle, VERS_LEN, 0, 0, 0);
+}
+
+/** The document at a place. VERS_ABSENT past the end. */
+static inline vers_answer vers_postings_get(const vers_postings *list, uint64_t place) {
+    return vers_asked(&list->handle, VERS_GET, place, 0, 0);
+}
+
+/** The cost of the document at a place. VERS_ABSENT past the end. */
+static inline vers_answer vers_postings_cost(const vers_postings *list, uint64_t place) {
+    return vers_asked(&list->handle, VERS_COST, place, 0, 0);
+}
+
+/** Writes the documents from `least` on that are below `bound` over an array of `count`, ascending, as many as it has
+ * room for. The answer is how many there are. */
+static inline vers_answer vers_postings_documents(const vers_postings *list, uint64_t least, uint64_t bound,
+                                                  uint64_t *documents, size_t count) {
+    return vers_listed(&list->handle, VERS_RANK, VERS_GET, least, bound, documents, count);
 }
 
 /** How many documents are below a number. */
@@ -1252,6 +1374,13 @@ static inline vers_answer vers_numbers_get(const vers_numbers *list, uint64_t pl
     return vers_asked(&list->handle, VERS_GET, place, 0, 0);
 }
 
+/** Writes the numbers over an array of `count`, as many as there is room for. VERS_VACANT leaves it as it was. */
+static inline uint32_t vers_numbers_copy(const vers_numbers *list, uint64_t *numbers, size_t count) {
+    vers_answer length = vers_numbers_len(list);
+    if (length.status != VERS_DONE) return length.status;
+    return vers_asked_from(&list->handle, VERS_GET, 0, length.value, numbers, count);
+}
+
 /** Puts the documents that two lists share, ascending, into an empty third handle. VERS_REFUSED where one of the two
  * holds nothing, VERS_OCCUPIED, VERS_NO_MEMORY. */
 static inline uint32_t vers_postings_intersect(const vers_postings *one, const vers_postings *two,
@@ -1265,6 +1394,73 @@ static inline uint32_t vers_postings_intersect(const vers_postings *one, const v
 static inline uint32_t vers_numbers_each(const vers_numbers *list, enum vers_query query, uint64_t *numbers,
                                          size_t count, uint64_t other) {
     return vers_asked_each(&list->handle, query, numbers, count, 0, 0, other);
+}
+
+/* A text of symbols, in which patterns are found. */
+
+/** A text of symbols of at most 16 bits, in which patterns are found. A pattern stands at a place where the text goes
+ * on with its symbols; the one without symbols at each place, and at the end. */
+typedef struct vers_text {
+    vers_handle handle;
+} vers_text;
+
+/** Makes the text of `count` symbols of `width` bits, with one place kept for each `step`: a place of a pattern is found
+ * by fewer than `step` steps. VERS_REFUSED where a symbol has more bits than `width`, `width` is 0 or above 16, `step`
+ * is 0, or the symbols are more than 2^32 - 2. VERS_OCCUPIED, VERS_NO_MEMORY. */
+static inline uint32_t vers_text_of(vers_text *text, const uint64_t *symbols, size_t count, uint32_t width,
+                                    size_t step) {
+    return vers_text_build(vers_array(symbols), count, width, step, &text->handle);
+}
+
+/** Empties a handle, and frees the text if no other handle holds it. */
+static inline void vers_text_free(vers_text *text) {
+    vers_free(&text->handle);
+}
+
+/** Makes an empty handle one more handle of the text, for another thread. VERS_VACANT, VERS_OCCUPIED,
+ * VERS_NO_MEMORY. */
+static inline uint32_t vers_text_clone(const vers_text *text, vers_text *other) {
+    return vers_clone(vers_held(&text->handle), &other->handle);
+}
+
+/** How many symbols. */
+static inline vers_answer vers_text_len(const vers_text *text) {
+    return vers_asked(&text->handle, VERS_LEN, 0, 0, 0);
+}
+
+/** How many bits a symbol has. */
+static inline vers_answer vers_text_width(const vers_text *text) {
+    return vers_asked(&text->handle, VERS_WIDTH, 0, 0, 0);
+}
+
+/** How many bytes of the heap the text takes. */
+static inline vers_answer vers_text_heap_size(const vers_text *text) {
+    return vers_asked(&text->handle, VERS_HEAP_SIZE, 0, 0, 0);
+}
+
+/** How many places a pattern of `count` symbols has. */
+static inline vers_answer vers_text_count(const vers_text *text, const uint64_t *pattern, size_t count) {
+    return vers_count(vers_held(&text->handle), vers_array(pattern), count);
+}
+
+/** Whether a pattern of `count` symbols has a place, 1 or 0. */
+static inline vers_answer vers_text_contains(const vers_text *text, const uint64_t *pattern, size_t count) {
+    vers_answer answer = vers_text_count(text, pattern, count);
+    answer.value = answer.value > 0;
+    return answer;
+}
+
+/** Puts the places of a pattern, ascending, into an empty other handle. VERS_REFUSED where the first holds nothing,
+ * VERS_OCCUPIED, VERS_NO_MEMORY. */
+static inline uint32_t vers_text_places(const vers_text *text, const uint64_t *pattern, size_t count,
+                                        vers_numbers *into) {
+    return vers_places(vers_held(&text->handle), vers_array(pattern), count, &into->handle);
+}
+
+/** Puts the symbols from place `start` up to `end` into an empty other handle. VERS_REFUSED where the text has no such
+ * places, or the handle holds nothing, VERS_OCCUPIED, VERS_NO_MEMORY. */
+static inline uint32_t vers_text_extract(const vers_text *text, size_t start, size_t end, vers_numbers *into) {
+    return vers_extract(vers_held(&text->handle), start, end, &into->handle);
 }
 
 #endif

@@ -53,17 +53,28 @@ static void test_owner(List list) {
     check("clone of none", !list.clone(status) && status == Status::vacant);
 }
 
-// A list is what its saved form is loaded as, and no saved form with another first byte.
+// What the saved form of a list is loaded as. With another first byte it is none, nor with another one in the middle.
 template <class List>
-static void test_form(const List &list) {
+static std::optional<List> loaded_form(const List &list) {
     std::vector<std::uint8_t> bytes(*list.saved_size());
     check("save", list.save(bytes.data(), bytes.size()) == Status::done);
     check("save over more", list.save(bytes.data(), bytes.size() + 1) == Status::refused);
-    const auto loaded = List::load(bytes.data(), bytes.size());
-    check("load", loaded && Numbers(loaded->begin(), loaded->end()) == Numbers(list.begin(), list.end()));
-    bytes[0] ^= 1;
+    auto loaded = List::load(bytes.data(), bytes.size());
+    check("load", loaded && loaded->len() == list.len());
     Status status;
-    check("load of others", !List::load(bytes.data(), bytes.size(), status) && status == Status::refused);
+    bytes[bytes.size() - 9] ^= 1;
+    check("load of another sum", !List::load(bytes.data(), bytes.size(), status) && status == Status::bad_sum);
+    bytes[0] ^= 1;
+    check("load of others", !List::load(bytes.data(), bytes.size(), status) && status == Status::not_ours);
+    check("load of less", !List::load(bytes.data(), 40, status) && status == Status::too_short);
+    return loaded;
+}
+
+// A list is what its saved form is loaded as.
+template <class List>
+static void test_form(const List &list) {
+    const auto loaded = loaded_form(list);
+    check("items", Numbers(loaded->begin(), loaded->end()) == Numbers(list.begin(), list.end()));
 }
 
 static void test_bits() {
@@ -241,8 +252,8 @@ static void test_tree() {
     const std::uint64_t wrong = 2;
     const vers::BpTree other = vers::BpTree::from_words(&wrong, 1, 2);
     check("unbalanced", !other.is_balanced() && other.excess(0) == std::optional<std::int64_t>(-1));
-    std::vector<std::uint8_t> bytes(*tree.saved_size());
-    check("save", tree.save(bytes.data(), bytes.size()) == Status::done);
+    const auto loaded = loaded_form(tree);
+    check("loaded", loaded->is_leaf(2) == std::optional(true) && loaded->close(0) == Found(11));
     test_owner(tree.clone());
 }
 
@@ -258,7 +269,26 @@ static void test_postings() {
     const vers::Numbers both = list->intersect(*other), same = list->intersect(*list);
     check("intersect", Numbers(both.begin(), both.end()) == Numbers({3, 8}));
     check("with itself", Numbers(same.begin(), same.end()) == documents && same.get(1) == Found(3));
+    check("loaded", loaded_form(*list)->cheapest(2, 6) == Found(3));
+    check("items", Numbers(list->begin(), list->end()) == documents && list->cost(1) == Found(1) && !list->cost(4));
     test_owner(list->clone());
+}
+
+static void test_texts() {
+    const Numbers symbols = {2, 1, 2, 1, 2}, pattern = {2, 1}, wide = {70000};
+    const auto text = vers::TextIndex::from(symbols.data(), 5, 2);
+    check("made", text && text->len() == 5 && text->width() == 2);
+    Status status;
+    check("refused", !vers::TextIndex::from(symbols.data(), 5, 1, 1, status) && status == Status::refused);
+    check("count", text->count(pattern.data(), 2) == 2 && text->count(nullptr, 0) == 6);
+    check("contains", text->contains(symbols.data(), 5) && !text->contains(wide.data(), 1));
+    const vers::Numbers places = text->places(pattern.data(), 2);
+    check("places", Numbers(places.begin(), places.end()) == Numbers({0, 2}));
+    const auto piece = text->extract(1, 4);
+    check("extract", piece && Numbers(piece->begin(), piece->end()) == Numbers({1, 2, 1}));
+    check("no piece", !text->extract(1, 6) && !text->extract(3, 2, status) && status == Status::refused);
+    check("no form", !text->saved_size());
+    test_owner(text->clone());
 }
 
 static bool is_refused = false;
@@ -328,6 +358,7 @@ int main() {
     test_minima();
     test_tree();
     test_postings();
+    test_texts();
     test_memory();
     test_threads();
     std::printf("%lu passed, %lu failed\n", passed, failed);

@@ -42,6 +42,14 @@ enum class Status : std::uint32_t {
     occupied = VERS_OCCUPIED,
     no_memory = VERS_NO_MEMORY,
     shared = VERS_SHARED,
+    too_short = VERS_TOO_SHORT,
+    not_ours = VERS_NOT_OURS,
+    other_version = VERS_OTHER_VERSION,
+    other_kind = VERS_OTHER_KIND,
+    bad_length = VERS_BAD_LENGTH,
+    bad_sum = VERS_BAD_SUM,
+    bad_padding = VERS_BAD_PADDING,
+    not_ascending = VERS_NOT_ASCENDING,
 };
 
 /** What a status says, in words. */
@@ -152,13 +160,13 @@ public:
         return static_cast<Status>(vers_asked_rows(&raw_.handle, query, rows, count, other));
     }
 
-    /** How many bytes the saved form has. nullopt where there is none: of symbols without bits, Postings, Numbers. */
+    /** How many bytes the saved form has. nullopt where there is none: of symbols without bits, Numbers, TextIndex. */
     std::optional<std::uint64_t> saved_size() const noexcept { return found(vers_saved_size(handle())); }
 
     /** Writes the saved form over `count` bytes, as many as `saved_size` says; Status::refused for another count. */
     Status save(std::uint8_t *bytes, std::size_t count) const { return thrown(vers_saved(handle(), bytes, count)); }
 
-    /** The list of which bytes are the saved form. nullopt where they are of no such list. Trees aren't loaded. */
+    /** The list of which bytes are the saved form. nullopt where they are of no such list; the status says why. */
     static std::optional<List> load(const std::uint8_t *bytes, std::size_t count) {
         Status status;
         return wanted(load(bytes, count, status), status);
@@ -431,7 +439,9 @@ public:
     /** How many bits a symbol has. */
     std::uint64_t bits_per_element() const noexcept { return ask(VERS_WIDTH).value; }
     /** How many of the first `end` places hold a symbol. nullopt where there are not so many places. */
-    Found rank(std::uint64_t end, std::uint64_t symbol) const noexcept { return find(VERS_RANK_OF, end, symbol); }
+    Found rank(std::uint64_t end, std::uint64_t symbol) const noexcept {
+        return detail::found(vers_symbols_rank(&raw_, end, symbol));
+    }
     /** How many places of a range hold a symbol. */
     Found rank_range(std::uint64_t start, std::uint64_t end, std::uint64_t symbol) const noexcept {
         return find(VERS_RANK_RANGE, start, end, symbol);
@@ -446,7 +456,7 @@ public:
     }
     /** Symbol `number` of a range in ascending order. */
     Found quantile(std::uint64_t start, std::uint64_t end, std::uint64_t number) const noexcept {
-        return find(VERS_QUANTILE, start, end, number);
+        return detail::found(vers_symbols_quantile(&raw_, start, end, number));
     }
     Found range_min(std::uint64_t start, std::uint64_t end) const noexcept { return find(VERS_LEAST, start, end); }
     Found range_max(std::uint64_t start, std::uint64_t end) const noexcept { return find(VERS_GREATEST, start, end); }
@@ -535,7 +545,7 @@ private:
 
 /** Trees as parentheses, of which a one opens and a zero closes. A node is the place where it opens. Queries of nodes
  *  answer nullopt also where the parentheses aren't balanced, or no node opens at a place that is passed. */
-class BpTree : public detail::Owner<BpTree, vers_tree> {
+class BpTree : public detail::Owner<BpTree, vers_tree, VERS_KIND_TREE> {
 public:
     using Found = std::optional<std::uint64_t>;
 
@@ -571,7 +581,7 @@ public:
         return vers_signed(*value);
     }
     /** The place that closes what opens at a place, or opens what closes there. */
-    Found close(std::uint64_t place) const noexcept { return find(VERS_CLOSE, place); }
+    Found close(std::uint64_t place) const noexcept { return detail::found(vers_tree_close(&raw_, place)); }
     Found open(std::uint64_t place) const noexcept { return find(VERS_OPEN, place); }
     /** Where the nearest pair round a place opens. */
     Found enclose(std::uint64_t place) const noexcept { return find(VERS_ENCLOSE, place); }
@@ -585,10 +595,12 @@ public:
     Found bwd_search(std::uint64_t place, std::int64_t rise) const noexcept {
         return find(VERS_BWD_SEARCH, place, static_cast<std::uint64_t>(rise));
     }
-    Found parent(std::uint64_t node) const noexcept { return find(VERS_PARENT, node); }
-    Found first_child(std::uint64_t node) const noexcept { return find(VERS_FIRST_CHILD, node); }
+    Found parent(std::uint64_t node) const noexcept { return detail::found(vers_tree_parent(&raw_, node)); }
+    Found first_child(std::uint64_t node) const noexcept { return detail::found(vers_tree_first_child(&raw_, node)); }
     Found last_child(std::uint64_t node) const noexcept { return find(VERS_LAST_CHILD, node); }
-    Found next_sibling(std::uint64_t node) const noexcept { return find(VERS_NEXT_SIBLING, node); }
+    Found next_sibling(std::uint64_t node) const noexcept {
+        return detail::found(vers_tree_next_sibling(&raw_, node));
+    }
     Found previous_sibling(std::uint64_t node) const noexcept { return find(VERS_PREVIOUS_SIBLING, node); }
     /** The next node of the same depth, or the one before. */
     Found level_next(std::uint64_t node) const noexcept { return find(VERS_LEVEL_NEXT, node); }
@@ -602,7 +614,7 @@ public:
     Found level_rightmost(std::uint64_t depth) const noexcept { return find(VERS_LEVEL_RIGHTMOST, depth); }
     /** The number of a node in preorder. */
     Found node_index(std::uint64_t node) const noexcept { return find(VERS_NODE_INDEX, node); }
-    Found depth(std::uint64_t node) const noexcept { return find(VERS_DEPTH, node); }
+    Found depth(std::uint64_t node) const noexcept { return detail::found(vers_tree_depth(&raw_, node)); }
     /** How many nodes a node and those below it are. */
     Found subtree_size(std::uint64_t node) const noexcept { return find(VERS_SUBTREE_SIZE, node); }
     std::optional<bool> is_leaf(std::uint64_t node) const noexcept { return truth(find(VERS_IS_LEAF, node)); }
@@ -631,11 +643,18 @@ public:
 private:
     friend Owner;
     friend class Postings;
+    friend class TextIndex;
     explicit Numbers(Nothing) noexcept {}
+
+    /** The numbers that a call puts into a handle. */
+    template <class Call>
+    static std::optional<Numbers> of(Status &status, Call &&call) noexcept {
+        return made(status, [&](vers_numbers *raw) { return call(&raw->handle); });
+    }
 };
 
 /** Documents, which ascend strictly, each with a cost. */
-class Postings : public detail::Owner<Postings, vers_postings> {
+class Postings : public detail::Owner<Postings, vers_postings, VERS_KIND_POSTINGS> {
 public:
     /** `count` documents and as many costs. nullopt where the documents don't ascend strictly. */
     static std::optional<Postings> from(const std::uint64_t *documents, const std::uint64_t *costs, std::size_t count) {
@@ -647,6 +666,11 @@ public:
         return made(status, [&](vers_postings *raw) { return vers_postings_of(raw, documents, costs, count); });
     }
 
+    /** The document at a place, and its cost. */
+    std::optional<std::uint64_t> get(std::uint64_t place) const noexcept { return find(VERS_GET, place); }
+    std::optional<std::uint64_t> cost(std::uint64_t place) const noexcept { return find(VERS_COST, place); }
+    detail::Items<Postings> begin() const noexcept { return {this, 0}; }
+    detail::Items<Postings> end() const noexcept { return {this, len()}; }
     /** How many documents are below a number. */
     std::uint64_t rank(std::uint64_t number) const noexcept { return ask(VERS_RANK, number).value; }
     bool contains(std::uint64_t document) const noexcept { return ask(VERS_HAS, document).value == 1; }
@@ -661,23 +685,65 @@ public:
     /** The documents that another list has too, ascending. */
     Numbers intersect(const Postings &other) const {
         Status status;
-        auto numbers = intersect(other, status);
-        detail::thrown(static_cast<std::uint32_t>(status));
-        if (!numbers) std::abort();
-        return std::move(*numbers);
+        return Numbers::needed(intersect(other, status), status);
     }
     std::optional<Numbers> intersect(const Postings &other, Status &status) const noexcept {
-        auto own = other.clone(status);
+        const auto own = other.clone(status);
         if (!own) return std::nullopt;
-        std::optional<Numbers> numbers{Numbers(Numbers::Nothing{})};
-        status = static_cast<Status>(vers_intersect(handle(), &own->raw_.handle, &numbers->raw_.handle));
-        if (status != Status::done) numbers.reset();
-        return numbers;
+        return Numbers::of(status, [&](vers_handle *into) { return vers_intersect(handle(), own->handle(), into); });
     }
 
 private:
     friend Owner;
     explicit Postings(Nothing) noexcept {}
+};
+
+/** A text of symbols of at most 16 bits, in which patterns are found. The pattern without symbols stands at each place, and
+ *  at the end. */
+class TextIndex : public detail::Owner<TextIndex, vers_text> {
+public:
+    /** The text of `count` symbols of `width` bits, with one place kept for each `step`. nullopt where a symbol has more
+     *  bits, `width` is 0 or above 16, `step` is 0, or the symbols are more than 2^32 - 2. */
+    static std::optional<TextIndex> from(const std::uint64_t *symbols, std::size_t count, std::uint32_t width,
+                                         std::size_t step = 32) {
+        Status status;
+        return wanted(from(symbols, count, width, step, status), status);
+    }
+    static std::optional<TextIndex> from(const std::uint64_t *symbols, std::size_t count, std::uint32_t width,
+                                         std::size_t step, Status &status) noexcept {
+        return made(status, [&](vers_text *raw) { return vers_text_of(raw, symbols, count, width, step); });
+    }
+
+    /** How many bits a symbol has. */
+    std::uint64_t width() const noexcept { return ask(VERS_WIDTH).value; }
+    /** How many places a pattern has. */
+    std::uint64_t count(const std::uint64_t *pattern, std::size_t length) const noexcept {
+        return vers_text_count(raw(), pattern, length).value;
+    }
+    bool contains(const std::uint64_t *pattern, std::size_t length) const noexcept {
+        return count(pattern, length) > 0;
+    }
+    /** The places of a pattern, ascending. */
+    Numbers places(const std::uint64_t *pattern, std::size_t length) const {
+        Status status;
+        return Numbers::needed(places(pattern, length, status), status);
+    }
+    std::optional<Numbers> places(const std::uint64_t *pattern, std::size_t length, Status &status) const noexcept {
+        const auto call = [&](vers_handle *into) { return vers_places(handle(), vers_array(pattern), length, into); };
+        return Numbers::of(status, call);
+    }
+    /** The symbols from a place up to another. nullopt where the text has no such places. */
+    std::optional<Numbers> extract(std::size_t start, std::size_t end) const {
+        Status status;
+        return Numbers::wanted(extract(start, end, status), status);
+    }
+    std::optional<Numbers> extract(std::size_t start, std::size_t end, Status &status) const noexcept {
+        return Numbers::of(status, [&](vers_handle *into) { return vers_extract(handle(), start, end, into); });
+    }
+
+private:
+    friend Owner;
+    explicit TextIndex(Nothing) noexcept {}
 };
 
 }  // namespace vers

@@ -4,6 +4,7 @@ import bisect
 import copy
 import pickle
 import random
+import re
 import threading
 import unittest
 from array import array
@@ -306,9 +307,10 @@ class Owners(unittest.TestCase):
         self.assertEqual(list(made), [1, 0, 1, 1])
 
     def test_names_of_faults(self):
-        kinds = [vers.Unknown, vers.Vacant, vers.Refused, vers.Occupied, vers.NoMemory, vers.Shared]
-        names = [_codes.UNKNOWN, _codes.VACANT, _codes.REFUSED, _codes.OCCUPIED, _codes.NO_MEMORY, _codes.SHARED]
-        self.assertEqual([type(_faults.fault(status)) for status in names], kinds)
+        for kind in _faults.FAULTS:
+            status = getattr(_codes, re.sub("(?<=[a-z])(?=[A-Z])", "_", kind.__name__).upper())
+            self.assertEqual((type(_faults.fault(status)), getattr(vers, kind.__name__)), (kind, kind))
+        self.assertEqual(_codes.NOT_ASCENDING, len(_faults.FAULTS) + 1)
         self.assertTrue(issubclass(vers.NoMemory, MemoryError) and issubclass(vers.NoMemory, vers.VersError))
 
     def test_saved_forms(self):
@@ -319,19 +321,50 @@ class Owners(unittest.TestCase):
         for made in lists:
             for other in (pickle.loads(pickle.dumps(made)), type(made).from_bytes(memoryview(made.to_bytes()))):
                 self.assertEqual((type(other), list(other)), (type(made), list(made)))
-            with self.assertRaises(vers.Refused):
+            with self.assertRaises(vers.TooShort):
                 type(made).from_bytes(made.to_bytes()[:-1])
         tree = vers.BpTree("(()())")
-        self.assertEqual(list(pickle.loads(pickle.dumps(tree)).children(0)), [1, 3])
-        with self.assertRaises(vers.Refused):
-            vers.EliasFanoVec.from_bytes(vers.RsVec([1]).to_bytes())
-        for made in (vers.Postings([1], [2]), vers.Postings([1], [2]).intersect(vers.Postings([1], [2]))):
-            with self.assertRaises(TypeError):
-                pickle.dumps(made)
-        for kind in (vers.Postings, vers.BpTree):
-            with self.assertRaises(TypeError):
-                kind.from_bytes(b"")
         self.assertEqual(len(tree.to_bytes()), 56)
+        for other in (pickle.loads(pickle.dumps(tree)), vers.BpTree.from_bytes(tree.to_bytes())):
+            self.assertEqual((list(other.children(0)), len(other)), ([1, 3], 6))
+        postings = vers.Postings([1, 4, 9], [3, 1, 2])
+        for other in (pickle.loads(pickle.dumps(postings)), vers.Postings.from_bytes(postings.to_bytes())):
+            self.assertEqual((list(other.intersect(postings)), other.cheapest(0, 9)), ([1, 4, 9], 4))
+            self.assertEqual((list(other), other[-1], other.cost(2), other.cost(3)), ([1, 4, 9], 9, 2, None))
+        with self.assertRaises(TypeError):
+            pickle.dumps(postings.intersect(postings))
+        with self.assertRaises(TypeError):
+            vers.PlainNumbers.from_bytes(b"")
+
+    def test_texts_of_symbols(self):
+        plain = b"abracadabra" * 5
+        text = vers.TextIndex(plain, 8, 4)
+        self.assertEqual((len(text), text.bits_per_symbol(), repr(text)), (55, 8, "<vers.TextIndex of 55 symbols>"))
+        for pattern in (b"", b"a", b"abra", b"raa", b"x", plain, plain + b"a"):
+            places = [place for place in range(len(plain) + 1) if plain.startswith(pattern, place)]
+            self.assertEqual((text.count(pattern), list(text.places(pattern)), pattern in text),
+                             (len(places), places, bool(places)))
+        self.assertEqual(bytes(text.extract(3, 11)), plain[3:11])
+        self.assertEqual(text.count([ord("a"), 1 << 60]), 0)
+        self.assertGreater(copy.copy(text).heap_size(), 55)
+        for wrong in (lambda: text.extract(5, 56), lambda: text.extract(2, 1), lambda: vers.TextIndex([4], 2),
+                      lambda: vers.TextIndex([], 0), lambda: vers.TextIndex([0], 17), lambda: vers.TextIndex([0], 1, 0)):
+            with self.assertRaises(vers.Refused):
+                wrong()
+        with self.assertRaises(TypeError):
+            pickle.dumps(text)
+
+    def test_faults_of_saved_forms(self):
+        saved = vers.RsVec([0, 1, 1, 0]).to_bytes()
+        faults = {
+            vers.TooShort: saved[:-1], vers.NotOurs: b"x" + saved[1:], vers.OtherVersion: saved[:8] + b"x" + saved[9:],
+            vers.OtherKind: vers.EliasFanoVec([1]).to_bytes(), vers.BadLength: saved + b"x",
+            vers.BadSum: saved[:40] + b"x" + saved[41:],
+        }
+        for kind, wrong in faults.items():
+            with self.assertRaises(kind):
+                vers.RsVec.from_bytes(wrong)
+        self.assertTrue(all(issubclass(kind, vers.Refused) for kind in faults))
 
     def test_worked_form(self):
         # the worked file of docs/FORMAT.md

@@ -5,16 +5,20 @@
     bits.each("rank1", places)                               # many at once, numpy arrays in and out
 
 Answers are numbers, or None where there is no such thing. Faults are exceptions with their names: Refused, Unknown,
-NoMemory, Shared. A number outside 0 to 2**64 - 1 raises OverflowError, and a place outside a list in brackets IndexError.
+NoMemory, Shared; where bytes are no saved form, a kind of Refused that says why. A number outside 0 to 2**64 - 1 raises OverflowError, and a place outside a list in brackets IndexError.
 """
 
-from ._faults import NoMemory, Occupied, Refused, Shared, Unknown, Vacant, VersError
+from ._faults import (
+    BadLength, BadPadding, BadSum, NoMemory, NotAscending, NotOurs, Occupied, OtherKind, OtherVersion, Refused, Shared,
+    TooShort, Unknown, Vacant, VersError,
+)
 from ._lists import (
-    NONE, BinaryRmq, BitVec, BpTree, EliasFanoVec, FastRmq, PlainNumbers, Postings, RsVec, SparseRSVec,
+    NONE, BinaryRmq, BitVec, BpTree, EliasFanoVec, FastRmq, PlainNumbers, Postings, RsVec, SparseRSVec, TextIndex,
     WaveletMatrix,
 )
 
 __all__ = [
-    "BinaryRmq", "BitVec", "BpTree", "EliasFanoVec", "FastRmq", "NONE", "NoMemory", "Occupied", "PlainNumbers", "Postings",
-    "Refused", "RsVec", "Shared", "SparseRSVec", "Unknown", "Vacant", "VersError", "WaveletMatrix",
+    "BadLength", "BadPadding", "BadSum", "BinaryRmq", "BitVec", "BpTree", "EliasFanoVec", "FastRmq", "NONE", "NoMemory",
+    "NotAscending", "NotOurs", "Occupied", "OtherKind", "OtherVersion", "PlainNumbers", "Postings", "Refused", "RsVec",
+    "Shared", "SparseRSVec", "TextIndex", "TooShort", "Unknown", "Vacant", "VersError", "WaveletMatrix",
 ]

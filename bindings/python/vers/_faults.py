@@ -29,8 +29,43 @@ class Shared(VersError, ValueError):
     """The list is being read by another thread, so it can't change."""
 
 
+class TooShort(Refused):
+    """The bytes are fewer than a saved form has, or than its head says."""
+
+
+class NotOurs(Refused):
+    """The bytes do not begin as a saved form does."""
+
+
+class OtherVersion(Refused):
+    """The saved form is of another version."""
+
+
+class OtherKind(Refused):
+    """The bytes are the saved form of another kind of list."""
+
+
+class BadLength(Refused):
+    """No such list is as long, or the bytes go on after it."""
+
+
+class BadSum(Refused):
+    """The sum is not that of what stands before it."""
+
+
+class BadPadding(Refused):
+    """A bit is set past the end of the list."""
+
+
+class NotAscending(Refused):
+    """The numbers do not ascend as those of the list do."""
+
+
 # by the library's statuses from 2 on
-FAULTS = (Unknown, Vacant, Refused, Occupied, NoMemory, Shared)
+FAULTS = (
+    Unknown, Vacant, Refused, Occupied, NoMemory, Shared, TooShort, NotOurs, OtherVersion, OtherKind, BadLength, BadSum,
+    BadPadding, NotAscending,
+)
 
 
 def fault(status: int) -> VersError:

@@ -46,6 +46,9 @@ intersect = _call(_locked, "vers_intersect", _U32, _AT, _AT, _AT)
 saved_size = _call(_locked, "vers_saved_size", Answer, _AT)
 save = _call(_locked, "vers_save", _U32, _AT, _POINTER, _SIZE)
 load = _call(_unlocked, "vers_load", _U32, _U32, _POINTER, _SIZE, _AT)
+count = _call(_locked, "vers_count", Answer, _AT, _POINTER, _SIZE)
+places = _call(_locked, "vers_places", _U32, _AT, _POINTER, _SIZE, _AT)
+extract = _call(_locked, "vers_extract", _U32, _AT, _SIZE, _SIZE, _AT)
 free = _call(_locked, "vers_free", None, _AT)
 
 growing_build = _call(_unlocked, "vers_growing_build", _U32, _POINTER, _SIZE, _SIZE, _AT)
@@ -57,6 +60,7 @@ symbols_build = _call(_unlocked, "vers_symbols_build", _U32, _POINTER, _SIZE, _U
 fast_rmq_build = _call(_unlocked, "vers_fast_rmq_build", _U32, _POINTER, _SIZE, _AT)
 binary_rmq_build = _call(_unlocked, "vers_binary_rmq_build", _U32, _POINTER, _SIZE, _AT)
 postings_build = _call(_unlocked, "vers_postings_build", _U32, _POINTER, _SIZE, _POINTER, _SIZE, _AT)
+text_build = _call(_unlocked, "vers_text_build", _U32, _POINTER, _SIZE, _U32, _SIZE, _AT)
 
 
 def done(status: int) -> None:

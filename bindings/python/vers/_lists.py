@@ -72,7 +72,8 @@ class List:
 
     @classmethod
     def from_bytes(cls, saved: Any) -> Any:
-        """The list of which some bytes are the saved form. Raises Refused where they are of no such list."""
+        """The list of which some bytes are the saved form. Where they are of no such list, raises the kind of Refused that
+        says why: TooShort, NotOurs, OtherVersion, OtherKind, BadLength, BadSum, BadPadding or NotAscending."""
         if cls._kind is None:
             raise TypeError(f"a {cls.__name__} isn't made of a saved form")
         content = bytes(saved)
@@ -130,6 +131,18 @@ class List:
             library.free(own)
 
 
+class _Shared(List):
+    """A list that doesn't change, so that copies are owners of the same list."""
+
+    def __copy__(self) -> Any:
+        made = type(self).__new__(type(self))
+        made._make(library.clone, self._at)
+        return made
+
+    def __deepcopy__(self, _: Any) -> Any:
+        return self.__copy__()
+
+
 class _Items(List):
     """A list of which each item can be asked."""
 
@@ -162,16 +175,8 @@ class _Items(List):
             start += 4096
 
 
-class _Fixed(_Items):
-    """A list of items that doesn't change, so that copies are owners of the same list."""
-
-    def __copy__(self) -> Any:
-        made = type(self).__new__(type(self))
-        made._make(library.clone, self._at)
-        return made
-
-    def __deepcopy__(self, _: Any) -> Any:
-        return self.__copy__()
+class _Fixed(_Shared, _Items):
+    """A list of items that doesn't change."""
 
 
 def _words(numbers: Numbers, length: Optional[int]) -> Tuple[_buffers.Held, int]:
@@ -478,12 +483,19 @@ class PlainNumbers(_Fixed):
 
     _items = "numbers"
 
+    @classmethod
+    def _of(cls, call: Any, *arguments: Any) -> PlainNumbers:
+        made = cls.__new__(cls)
+        made._make(call, *arguments)
+        return made
 
-class BpTree(List):
+
+class BpTree(_Shared):
     """Trees as parentheses: `BpTree("(()())")`, or of bits, of which a one opens. A node is the place where it opens. Queries
     of nodes raise Refused where the parentheses aren't balanced, or no node opens at a place that is passed."""
 
     _items = "parentheses"
+    _kind = codes.KIND_TREE
     _signed = frozenset(["excess"])
     _queries = {
         "is_open": (codes.GET, 1), "excess": (codes.EXCESS, 1), "close": (codes.CLOSE, 1), "open": (codes.OPEN, 1),
@@ -512,18 +524,6 @@ class BpTree(List):
         held, length = _words(words, length)
         made._make(library.tree_build, held.address, held.size, length)
         return made
-
-    def __reduce__(self) -> Any:
-        words, length = _buffers.words_of(self.each("is_open", range(len(self))))
-        return BpTree.from_words, (words, length)
-
-    def __copy__(self) -> BpTree:
-        made = BpTree.__new__(BpTree)
-        made._make(library.clone, self._at)
-        return made
-
-    def __deepcopy__(self, _: Any) -> BpTree:
-        return self.__copy__()
 
     def is_open(self, place: int) -> Optional[bool]:
         """Whether the parenthesis at a place opens. None past the end."""
@@ -650,12 +650,13 @@ def _signed_number(value: int) -> int:
     return value % (1 << 64)
 
 
-class Postings(List):
+class Postings(_Fixed):
     """Documents, which ascend strictly, each with a cost; Refused where they don't. `x in postings` asks whether x is one."""
 
     _items = "documents"
+    _kind = codes.KIND_POSTINGS
     _queries = {
-        "rank": (codes.RANK, 1), "contains": (codes.HAS, 1), "next_at_least": (codes.SUCCESSOR, 1),
+        "get": (codes.GET, 1), "cost": (codes.COST, 1), "rank": (codes.RANK, 1), "contains": (codes.HAS, 1), "next_at_least": (codes.SUCCESSOR, 1),
         "cheapest": (codes.CHEAPEST, 2),
     }
 
@@ -663,17 +664,13 @@ class Postings(List):
         held, costs_held = _buffers.held(documents), _buffers.held(costs)
         self._make(library.postings_build, held.address, held.size, costs_held.address, costs_held.size)
 
-    def __copy__(self) -> Postings:
-        made = Postings.__new__(Postings)
-        made._make(library.clone, self._at)
-        return made
-
-    def __deepcopy__(self, _: Any) -> Postings:
-        return self.__copy__()
-
     def rank(self, number: int) -> int:
         """How many documents are below a number."""
         return self._number(codes.RANK, number)
+
+    def cost(self, place: int) -> Optional[int]:
+        """The cost of the document at a place. None past the end."""
+        return self._find(codes.COST, place)
 
     def contains(self, document: int) -> bool:
         """Whether a document is in the list."""
@@ -692,6 +689,42 @@ class Postings(List):
 
     def intersect(self, other: Postings) -> PlainNumbers:
         """The documents that another list has too, ascending."""
-        own, made = other.__copy__(), PlainNumbers.__new__(PlainNumbers)
-        made._make(library.intersect, self._at, own._at)
-        return made
+        own = other.__copy__()
+        return PlainNumbers._of(library.intersect, self._at, own._at)
+
+
+class TextIndex(_Shared):
+    """A text of symbols of `bits_per_symbol` bits, at most 16, in which patterns are found: `TextIndex(b"abracadabra", 8)`. One
+    place is kept for each `step`. `pattern in text` asks whether a pattern has a place; the one without symbols has each, and
+    the end."""
+
+    _items = "symbols"
+
+    def __init__(self, symbols: Numbers, bits_per_symbol: int, step: int = 32) -> None:
+        held = _buffers.held(symbols)
+        width = min(number(bits_per_symbol), (1 << 32) - 1)
+        self._make(library.text_build, held.address, held.size, width, number(step))
+
+    def bits_per_symbol(self) -> int:
+        """How many bits a symbol has."""
+        return self._number(codes.WIDTH)
+
+    def count(self, pattern: Numbers) -> int:
+        """How many places a pattern has."""
+        held = _buffers.held(pattern)
+        answer = library.count(self._at, held.address, held.size)
+        library.done(answer.status)
+        value: int = answer.value
+        return value
+
+    def __contains__(self, pattern: Any) -> bool:
+        return self.count(pattern) > 0
+
+    def places(self, pattern: Numbers) -> PlainNumbers:
+        """The places of a pattern, ascending."""
+        held = _buffers.held(pattern)
+        return PlainNumbers._of(library.places, self._at, held.address, held.size)
+
+    def extract(self, start: int, end: int) -> PlainNumbers:
+        """The symbols from one place up to another. Refused where the text has no such places."""
+        return PlainNumbers._of(library.extract, self._at, number(start), number(end))

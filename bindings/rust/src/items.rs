@@ -211,6 +211,29 @@ impl<L: fmt::Debug> fmt::Debug for Items<L> {
     }
 }
 
+/// How many items a type has, which keeps their number.
+macro_rules! lengths {
+    ($name:ident, $items:literal, $number:ident) => {
+        impl $name {
+            #[doc = concat!("How many ", $items, " there are.")]
+            #[must_use]
+            #[inline]
+            pub fn len(&self) -> $number {
+                self.len
+            }
+
+            #[doc = concat!("Whether there are no ", $items, ".")]
+            #[must_use]
+            #[inline]
+            pub fn is_empty(&self) -> bool {
+                self.len == 0
+            }
+        }
+    };
+}
+
+pub(crate) use lengths;
+
 /// The iterators of a list over its items, one that owns it and one that borrows it.
 macro_rules! iterators {
     ($list:ident, $item:ty, $own:ident, $borrowed:ident) => {

@@ -3,7 +3,7 @@
 //! Bits are gathered in a [`BitVec`]. What is made of them or of numbers is held by the proved library `vers_c`, and
 //! each query is one call of it: [`RsVec`] ranks and selects bits, [`EliasFanoVec`] holds an ascending list and
 //! [`SparseRSVec`] the few ones of a long list of bits, [`WaveletMatrix`] holds symbols, [`BinaryRmq`] and [`FastRmq`]
-//! find the least of a range, and [`BpTree`] holds a tree.
+//! find the least of a range, and [`BpTree`] holds a tree. [`postings`], [`text`] and [`saved`] are added.
 //!
 //! ```
 //! use vers_vecs::{BitVec, RsVec};
@@ -34,6 +34,7 @@ mod library;
 pub mod postings;
 pub mod rmq;
 pub mod saved;
+pub mod text;
 pub mod trees;
 pub mod wavelet;
 

@@ -1,5 +1,6 @@
 //! The calls of the static library, and which thread may use which handle.
 
+use crate::saved::LoadError;
 use std::cell::{Cell, UnsafeCell};
 use std::ffi::c_void;
 use std::fmt;
@@ -63,9 +64,10 @@ pub(crate) enum Query {
     IsAncestor,
     RangeMin,
     Cheapest,
+    Cost,
 }
 
-/// What a saved form is loaded as: a place in the library's one table of kinds. Two stand here for their place.
+/// What a saved form is loaded as: a place in the library's one table of kinds. One stands here for its place.
 #[derive(Clone, Copy)]
 #[allow(dead_code)]
 #[repr(u32)]
@@ -78,6 +80,7 @@ pub(crate) enum Kind {
     Tree,
     Fast,
     Binary,
+    Postings,
 }
 
 // The library's numbers are places.
@@ -157,7 +160,14 @@ extern "C" {
     fn vers_quick_sorted_predecessor(handle: *mut Handle, number: u64) -> Answer;
     fn vers_quick_sorted_successor(handle: *mut Handle, number: u64) -> Answer;
     fn vers_quick_symbols_get(handle: *mut Handle, place: u64) -> Answer;
+    fn vers_quick_symbols_rank(handle: *mut Handle, end: u64, symbol: u64) -> Answer;
+    fn vers_quick_symbols_quantile(handle: *mut Handle, start: u64, end: u64, number: u64) -> Answer;
     fn vers_quick_tree_get(handle: *mut Handle, place: u64) -> Answer;
+    fn vers_quick_tree_close(handle: *mut Handle, place: u64) -> Answer;
+    fn vers_quick_tree_parent(handle: *mut Handle, node: u64) -> Answer;
+    fn vers_quick_tree_first_child(handle: *mut Handle, node: u64) -> Answer;
+    fn vers_quick_tree_next_sibling(handle: *mut Handle, node: u64) -> Answer;
+    fn vers_quick_tree_depth(handle: *mut Handle, node: u64) -> Answer;
     fn vers_quick_values_range_min(handle: *mut Handle, first: u64, last: u64) -> Answer;
     fn vers_ask_each(
         handle: *mut Handle,
@@ -188,6 +198,10 @@ extern "C" {
         handle: *mut Handle,
     ) -> u32;
     fn vers_intersect(one: *mut Handle, other: *mut Handle, into: *mut Handle) -> u32;
+    fn vers_text_build(symbols: *const u64, count: usize, width: u32, step: usize, handle: *mut Handle) -> u32;
+    fn vers_count(handle: *mut Handle, pattern: *const u64, count: usize) -> Answer;
+    fn vers_places(handle: *mut Handle, pattern: *const u64, count: usize, into: *mut Handle) -> u32;
+    fn vers_extract(handle: *mut Handle, start: usize, end: usize, into: *mut Handle) -> u32;
     fn vers_binary_rmq_build(values: *const u64, count: usize, handle: *mut Handle) -> u32;
 }
 
@@ -239,16 +253,24 @@ unsafe impl Sync for Owner {}
 impl RefUnwindSafe for Owner {}
 
 impl Owner {
-    /// The structure that a call of the library builds; none where it refuses what it was given.
-    fn of(build: impl FnOnce(*mut Handle) -> u32) -> Option<Owner> {
+    /// The structure that a call of the library builds; the status where it builds none.
+    fn built(build: impl FnOnce(*mut Handle) -> u32) -> Result<Owner, u32> {
         let mut own = Handle::VACANT;
         match build(&mut own) {
-            REFUSED => None,
-            status => {
-                done(status);
+            DONE => {
                 let spare = Mutex::new(own.another());
-                Some(Owner { home: this_thread(), own: UnsafeCell::new(own), spare, others: OnceLock::new() })
+                Ok(Owner { home: this_thread(), own: UnsafeCell::new(own), spare, others: OnceLock::new() })
             }
+            status => Err(status),
+        }
+    }
+
+    /// The structure that a call of the library builds; none where it refuses what it was given.
+    fn of(build: impl FnOnce(*mut Handle) -> u32) -> Option<Owner> {
+        match Owner::built(build) {
+            Ok(owner) => Some(owner),
+            Err(REFUSED) => None,
+            Err(status) => fail(status),
         }
     }
 
@@ -310,10 +332,46 @@ impl Owner {
         accepted(Owner::of(|into| self.with(|one| other.with(|two| unsafe { vers_intersect(one, two, into) }))))
     }
 
-    /// The structure of a saved form; none where the bytes are no form of that kind.
-    pub fn loaded(kind: Kind, bytes: &[u8]) -> Option<Owner> {
+    /// A text in which patterns are found; none where its symbols, their width or the step are refused.
+    pub fn of_text(symbols: &[u64], width: u32, step: usize) -> Option<Owner> {
+        // SAFETY: the array has so many symbols.
+        Owner::of(|handle| unsafe { vers_text_build(symbols.as_ptr(), symbols.len(), width, step, handle) })
+    }
+
+    /// How many places of a text a pattern has.
+    pub fn count(&self, pattern: &[u64]) -> usize {
+        // SAFETY: the array has so many symbols.
+        let answer = self.with(|handle| unsafe { vers_count(handle, pattern.as_ptr(), pattern.len()) });
+        done(answer.status);
+        answer.value as usize
+    }
+
+    /// The places of a pattern in a text, as plain numbers.
+    pub fn places(&self, pattern: &[u64]) -> Owner {
+        // SAFETY: these are two handles, this thread alone uses them, and the array has so many symbols.
+        accepted(Owner::of(|into| {
+            self.with(|handle| unsafe { vers_places(handle, pattern.as_ptr(), pattern.len(), into) })
+        }))
+    }
+
+    /// The symbols of a text from one place up to another, as plain numbers; none where there are no such places.
+    pub fn extract(&self, start: usize, end: usize) -> Option<Owner> {
+        // SAFETY: these are two handles, and this thread alone uses them.
+        Owner::of(|into| self.with(|handle| unsafe { vers_extract(handle, start, end, into) }))
+    }
+
+    /// Plain numbers, all of them.
+    pub fn numbers(&self) -> Vec<u64> {
+        let mut numbers = vec![0; self.length()];
+        self.ask_from(Query::Get, 0, &mut numbers);
+        numbers
+    }
+
+    /// The structure of a saved form; an error where the bytes are no form of that kind.
+    pub fn loaded(kind: Kind, bytes: &[u8]) -> Result<Owner, LoadError> {
         // SAFETY: the array has so many bytes.
-        Owner::of(|handle| unsafe { vers_load(kind as u32, bytes.as_ptr(), bytes.len(), handle) })
+        Owner::built(|handle| unsafe { vers_load(kind as u32, bytes.as_ptr(), bytes.len(), handle) })
+            .map_err(|status| LoadError::of(status).unwrap_or_else(|| fail(status)))
     }
 
     /// The saved form; none where the structure has none.
@@ -414,7 +472,7 @@ impl Owner {
     fn answer(&self, query: Query, a: u64, b: u64, c: u64) -> Answer {
         if self.is_home() {
             // SAFETY: this thread alone uses the handle.
-            unsafe { vers_ask(self.own.get(), query as u32, a, b, c) }
+            unsafe { asked(self.own.get(), query, a, b, c) }
         } else {
             self.answer_elsewhere(query, a, b, c)
         }
@@ -484,6 +542,24 @@ impl fmt::Debug for Owner {
     }
 }
 
+/// Asks by the query's own call where it has one. Most callers know the query when they are compiled.
+///
+/// # Safety
+/// The thread at hand alone uses the handle.
+#[inline(always)]
+unsafe fn asked(handle: *mut Handle, query: Query, a: u64, b: u64, c: u64) -> Answer {
+    match query {
+        Query::RankOf => vers_quick_symbols_rank(handle, a, b),
+        Query::Quantile => vers_quick_symbols_quantile(handle, a, b, c),
+        Query::Close => vers_quick_tree_close(handle, a),
+        Query::Parent => vers_quick_tree_parent(handle, a),
+        Query::FirstChild => vers_quick_tree_first_child(handle, a),
+        Query::NextSibling => vers_quick_tree_next_sibling(handle, a),
+        Query::Depth => vers_quick_tree_depth(handle, a),
+        _ => vers_ask(handle, query as u32, a, b, c),
+    }
+}
+
 #[inline]
 fn found(answer: Answer) -> Option<u64> {
     match answer {
@@ -536,6 +612,8 @@ fn this_thread() -> usize {
 
 #[cfg(test)]
 mod tests {
+    use crate::saved::LoadError;
+
     /// The lines of the first block after a text.
     fn lines_after<'a>(source: &'a str, head: &str) -> impl Iterator<Item = &'a str> {
         source
@@ -550,23 +628,39 @@ mod tests {
             .filter(|line| !line.is_empty())
     }
 
-    /// The queries stand in the order of the header's.
-    #[test]
-    fn queries_are_those_of_the_header() {
+    /// The names of an enum of the header, as Rust writes them; none without a header.
+    fn names_of(head: &str) -> Option<Vec<String>> {
         let here = env!("CARGO_MANIFEST_DIR");
         // in the repository, and in an unpacked package
         let headers =
             ["../c/vers.h", "../../include/vers.h"].map(|header| std::fs::read_to_string(format!("{here}/{header}")));
         let Some(header) = headers.into_iter().find_map(Result::ok) else {
             println!("left out: there is no header");
-            return;
+            return None;
         };
+        let names = lines_after(&header, head).map(|line| {
+            let name = line.trim_start_matches("VERS_").split(' ').next().unwrap().trim_end_matches(',');
+            name.split('_').map(|word| word[..1].to_owned() + &word[1..].to_lowercase()).collect()
+        });
+        Some(names.collect())
+    }
+
+    /// The queries stand in the order of the header's.
+    #[test]
+    fn queries_are_those_of_the_header() {
         let ours =
             lines_after(include_str!("library.rs"), "enum Query {").map(|line| line.trim_end_matches(',').to_owned());
-        let known = lines_after(&header, "enum vers_query {").map(|line| {
-            let name = line.trim_start_matches("VERS_").split(' ').next().unwrap().trim_end_matches(',');
-            name.split('_').map(|word| word[..1].to_owned() + &word[1..].to_lowercase()).collect::<String>()
-        });
-        assert_eq!(ours.collect::<Vec<_>>(), known.collect::<Vec<_>>());
+        if let Some(known) = names_of("enum vers_query {") {
+            assert_eq!(ours.collect::<Vec<_>>(), known);
+        }
+    }
+
+    /// The errors of loading have the numbers and names of the header's statuses.
+    #[test]
+    fn errors_are_those_of_the_header() {
+        let errors: Vec<String> = (8..20).filter_map(LoadError::of).map(|error| format!("{error:?}")).collect();
+        if let Some(known) = names_of("enum vers_status {") {
+            assert_eq!(errors, known[8..]);
+        }
     }
 }

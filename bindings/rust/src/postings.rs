@@ -1,6 +1,8 @@
 //! Documents with costs, which the crate vers-vecs doesn't have.
 
+use crate::items::lengths;
 use crate::library::{Owner, Query};
+use crate::saved::saved_by_owner;
 
 /// Documents, which are numbers that ascend, with a cost each.
 ///
@@ -26,16 +28,16 @@ impl Postings {
         Some(Postings { owner: Owner::of_postings(documents, costs)?, len: documents.len() })
     }
 
-    /// How many documents there are.
+    /// The document at a place. None past the end.
     #[must_use]
-    pub fn len(&self) -> usize {
-        self.len
+    pub fn get(&self, place: usize) -> Option<u64> {
+        self.owner.ask(Query::Get, place, 0, 0)
     }
 
-    /// Whether there are no documents.
+    /// The cost of the document at a place. None past the end.
     #[must_use]
-    pub fn is_empty(&self) -> bool {
-        self.len == 0
+    pub fn cost(&self, place: usize) -> Option<u64> {
+        self.owner.ask(Query::Cost, place, 0, 0)
     }
 
     /// Whether a document is in the list.
@@ -69,9 +71,9 @@ impl Postings {
     /// The documents that another list has too, ascending.
     #[must_use]
     pub fn intersect(&self, other: &Postings) -> Vec<u64> {
-        let common = self.owner.common(&other.owner);
-        let mut documents = vec![0; common.length()];
-        common.ask_from(Query::Get, 0, &mut documents);
-        documents
+        self.owner.common(&other.owner).numbers()
     }
 }
+
+lengths!(Postings, "documents", usize);
+saved_by_owner!(Postings, Postings);

@@ -28,6 +28,9 @@ fn documents_are_found() {
             let within = (0..plain.len()).filter(|&place| (number..=to).contains(&plain[place]));
             assert_eq!(list.cheapest(number, to), within.min_by_key(|&place| costs[place]).map(|place| plain[place]));
         }
+        for place in 0..=plain.len() {
+            assert_eq!((list.get(place), list.cost(place)), (plain.get(place).copied(), costs.get(place).copied()));
+        }
         let other = documents(&mut random, count / 2, bound);
         let common: Vec<u64> = plain.iter().copied().filter(|document| other.contains(document)).collect();
         assert_eq!(list.intersect(&Postings::from_sorted(&other, &other).unwrap()), common);

@@ -1,5 +1,5 @@
 -- What a query answers: a status, and a number where something was found.
-use Rattle.std.specs.Prelude.{ℕ, Bool, Option, Some, None, ◌==◌, if◌then◌else◌}
+use Rattle.std.specs.Prelude.{◌≡◌, ◌⊎◌, ℕ, Bool, Option, Some, None, ◌==◌, if◌then◌else◌}
 use Rattle.vers_bits.specs.Bits.{bit_value}
 use Rattle.vers_c.specs.declared.answer.Answer.{Answer}
 
@@ -39,3 +39,7 @@ answer_if condition answer = if condition then answer else refused
 -- the number of an answer, or another one where nothing was found
 abbrev pub value_or : ℕ → Answer → ℕ
 value_or other answer = if answer.status == 0 then answer.value else other
+
+-- the status of a call is this one, or there is no memory for what would be done
+abbrev pub IsToldAs : ℕ → ℕ → Type 0
+IsToldAs wanted status = (status ≡ wanted) ⊎ ((status ≡ 6) × (wanted ≡ 0))

@@ -32,9 +32,26 @@ abbrev pub contents_changed : Option Structure → ℕ → ℕ → ℕ → Optio
 contents_changed None code a b = None
 contents_changed (Some held) code a b = option_map Some (changed_by_code held code a b)
 
--- what is wanted was done where the status is 0, and else nothing was; it is refused or unknown only where there is no such thing
+-- the status of numbers of a change, which are refused or not
+abbrev pub numbers_status : Option (List Bool) → ℕ
+numbers_status None = 4
+numbers_status (Some bits) = 0
+
+-- the status of a change, if there is one: only lists of bits that can change have some
+abbrev pub change_status : Structure → Option Change → ℕ → ℕ → ℕ
+change_status (GrowingBits bits) (Some change) a b = numbers_status (bits_changed bits change a b)
+change_status held change a b = 2
+
+-- the status of the change of a code
+abbrev pub coded_status : Structure → ℕ → ℕ → ℕ → ℕ
+coded_status held code a b = change_status held (slice_get CHANGES code) a b
+
+-- the same of a handle, which may hold nothing
+abbrev pub changed_status : Option Structure → ℕ → ℕ → ℕ → ℕ
+changed_status None code a b = 3
+changed_status (Some held) code a b = coded_status held code a b
+
+-- what is wanted was done where the status is 0, and else nothing was
 pub record IsChanged {X : Type 0} (wanted : Option X) (before after : X) (status : ℕ) : Type 0 where
   pub done : status ≡ 0 → wanted ≡ Some after
   pub left : status ≢ 0 → after ≡ before
-  pub refused : status ≡ 4 → wanted ≡ None
-  pub unknown : status ≡ 2 → wanted ≡ None

@@ -12,4 +12,5 @@ pub mod Saves
 pub mod SortedAnswers
 pub mod Structures
 pub mod SymbolsAnswers
+pub mod TextAnswers
 pub mod TreeAnswers

@@ -1,9 +1,10 @@
 -- What a build leaves in a handle.
-use Rattle.std.specs.Prelude.{◌≡◌, ◌≢◌, ◌↔◌, ◌⊎◌, ℕ, ◌==◌, ◌&&◌, nat_le, nat_lt, List, length, Option, Some, None, IsSome, if◌then◌else◌}
+use Rattle.std.specs.Prelude.{◌≡◌, ◌≢◌, ℕ, ◌==◌, ◌&&◌, nat_le, nat_lt, List, length, Option, Some, None, if◌then◌else◌}
 use Rattle.std.specs.List.{list_all}
 use Rattle.vers_sorted.specs.Ones.{ones_at}
 use Rattle.vers_sorted.specs.Sorted.{each_next}
 use Rattle.vers_wavelet.specs.Makers.{low_symbols}
+use Rattle.vers_c.specs.Answers.{IsToldAs}
 use Rattle.vers_c.specs.Structures.{Structure, SparseBits, SortedMembers, SymbolList, Documents}
 
 -- of numbers, which have to ascend
@@ -26,18 +27,26 @@ posted_made documents costs =
     then Some (Documents (record { documents = documents; costs = costs }))
     else None
 
--- a handle that held nothing holds what is wanted where the status is 0, and else it is as it was: it was refused since there is no such thing, or held something, or there is no memory
-pub record IsMade (wanted before after : Option Structure) (status : ℕ) : Type 0 where
-  pub made : status ≡ 0 → IsSome wanted × (before ≡ None) × (after ≡ wanted)
-  pub left : status ≢ 0 → after ≡ before
-  pub occupied : (status ≡ 5) ↔ IsSome before
-  pub refused : status ≡ 4 → wanted ≡ None
-  pub told : (status ≡ 0) ⊎ (status ≡ 4) ⊎ (status ≡ 5) ⊎ (status ≡ 6)
+-- the status of a build: of a handle that holds something, and of what can't be made
+abbrev pub made_status : Option Structure → Option Structure → ℕ
+made_status (Some held) wanted = 5
+made_status None None = 4
+made_status None (Some made) = 0
 
--- another handle that held nothing holds the same where the status is 0, and else it is as it was
-pub record IsShared (held before after : Option Structure) (status : ℕ) : Type 0 where
-  pub made : status ≡ 0 → (before ≡ None) × (after ≡ held)
+-- the handle holds what is wanted where the status is 0, and else it is as it was
+pub record IsMade (wanted before after : Option Structure) (status : ℕ) : Type 0 where
+  pub made : status ≡ 0 → after ≡ wanted
   pub left : status ≢ 0 → after ≡ before
-  pub vacant : (status ≡ 3) ↔ (held ≡ None)
-  pub occupied : status ≡ 5 → IsSome before
-  pub told : (status ≡ 0) ⊎ (status ≡ 3) ⊎ (status ≡ 5) ⊎ (status ≡ 6)
+  pub told : IsToldAs (made_status before wanted) status
+
+-- the status of one owner more: of what a handle holds, in another handle
+abbrev pub shared_status : Option Structure → Option Structure → ℕ
+shared_status None before = 3
+shared_status (Some held) (Some other) = 5
+shared_status (Some held) None = 0
+
+-- the other handle holds the same where the status is 0, and else it is as it was
+pub record IsShared (held before after : Option Structure) (status : ℕ) : Type 0 where
+  pub made : status ≡ 0 → after ≡ held
+  pub left : status ≢ 0 → after ≡ before
+  pub told : IsToldAs (shared_status held before) status

@@ -4,12 +4,13 @@ use Rattle.vers_c.specs.declared.answer.Answer.{Answer}
 use Rattle.vers_c.specs.declared.query.Query.{Query}
 use Rattle.vers_c.specs.declared.query.TheConstants.{QUERIES}
 use Rattle.vers_c.specs.Answers.{unknown, vacant}
-use Rattle.vers_c.specs.Structures.{Structure, GrowingBits, IndexedBits, SparseBits, SortedMembers, SymbolList, Parentheses, BlockValues, TableValues, Documents, PlainNumbers}
+use Rattle.vers_c.specs.Structures.{Structure, GrowingBits, IndexedBits, SparseBits, SortedMembers, SymbolList, Parentheses, BlockValues, TableValues, Documents, IndexedText, PlainNumbers}
 use Rattle.vers_c.specs.BitsAnswers.{bits_answer, growing_answer, sparse_answer}
 use Rattle.vers_c.specs.MinimaAnswers.{fast_answer, numbers_answer, table_answer}
 use Rattle.vers_c.specs.PostingsAnswers.{posted_answer}
 use Rattle.vers_c.specs.SortedAnswers.{sorted_answer}
 use Rattle.vers_c.specs.SymbolsAnswers.{symbols_answer}
+use Rattle.vers_c.specs.TextAnswers.{text_answer}
 use Rattle.vers_c.specs.TreeAnswers.{tree_answer}
 
 -- the query of a code, which is its place in the table, unless there is none
@@ -27,6 +28,7 @@ structure_answer (Parentheses bits) query a b c = tree_answer bits query a b c
 structure_answer (BlockValues values) query a b c = fast_answer values query a b c
 structure_answer (TableValues values) query a b c = table_answer values query a b c
 structure_answer (Documents posted) query a b c = posted_answer posted query a b c
+structure_answer (IndexedText text) query a b c = text_answer text query a b c
 structure_answer (PlainNumbers numbers) query a b c = numbers_answer numbers query a b c
 
 -- a query, if there is one

@@ -1,13 +1,19 @@
 -- The saved form of what is held.
-use Rattle.std.specs.Prelude.{◌≡◌, ℕ, List, Option, Some, None, IsSome, slice_get}
+use Rattle.std.specs.Prelude.{◌≡◌, ◌≢◌, ◌↔◌, ◌⊎◌, ℕ, ◌==◌, List, length, Option, Some, None, IsSome, slice_get, option_map}
 use Rattle.std.specs.Option.{option_and_then}
-use Rattle.vers_saved.specs.Format.{saved_bits, saved_sorted, saved_sparse, saved_symbols, saved_values, saved_parentheses}
+use Rattle.vers_bits.specs.Bits.{limbs, pack}
+use Rattle.vers_saved.specs.Faults.{fault_of}
+use Rattle.vers_saved.specs.Format.{saved_bits, saved_sorted, saved_sparse, saved_symbols, saved_values, saved_parentheses, saved_postings, sparse_words, posting_words}
+use Rattle.vers_saved.specs.Kinds.{IsWhole, tree_kind}
+use Rattle.vers_saved.specs.declared.kind.Kind.{Kind as SavedKind}
+use Rattle.vers_saved.specs.declared.kind.TheConstants.{BIT_LISTS, SORTED_LISTS, SYMBOL_LISTS, SPARSE_LISTS, TABLE_VALUES, BLOCK_VALUES, POSTING_LISTS}
 use Rattle.vers_saved.specs.declared.fault.LoadError.{LoadError}
-use Rattle.vers_saved.specs.declared.fault.LoadError.TheVariants.{Memory}
+use Rattle.vers_saved.specs.declared.fault.LoadError.TheVariants.{TooShort, NotOurs, OtherVersion, OtherKind, BadLength, BadSum, BadPadding, NotAscending, Memory, Read}
+use Rattle.vers_c.specs.Answers.{IsToldAs}
 use Rattle.vers_c.specs.declared.kind.Kind.{Kind}
 use Rattle.vers_c.specs.declared.kind.Kind.TheVariants as kind
 use Rattle.vers_c.specs.declared.kind.TheConstants.{KINDS}
-use Rattle.vers_c.specs.Structures.{Structure, GrowingBits, IndexedBits, SparseBits, SortedMembers, SymbolList, Parentheses, BlockValues, TableValues, Documents, PlainNumbers}
+use Rattle.vers_c.specs.Structures.{Structure, GrowingBits, IndexedBits, SparseBits, SortedMembers, SymbolList, Parentheses, BlockValues, TableValues, Documents, IndexedText, PlainNumbers}
 
 -- the saved form of a structure, if such have one
 abbrev pub form_of : Structure → Option (List ℕ)
@@ -19,17 +25,32 @@ form_of (SymbolList symbols) = Some (saved_symbols symbols.width symbols.items)
 form_of (Parentheses bits) = Some (saved_parentheses 512 bits)
 form_of (BlockValues values) = Some (saved_values values)
 form_of (TableValues values) = Some (saved_values values)
-form_of (Documents posted) = None
+form_of (Documents posted) = Some (saved_postings posted)
+form_of (IndexedText text) = None
 form_of (PlainNumbers numbers) = None
 
 -- the same of a handle, which may hold nothing
 abbrev pub contents_form : Option Structure → Option (List ℕ)
 contents_form held = option_and_then form_of held
 
--- the status of a fault of loading
-abbrev pub fault_as : LoadError → ℕ
-fault_as Memory = 6
-fault_as fault = 4
+-- a structure has a saved form: it is of a kind that has, its items are neither too many nor too wide, and its words are as the kind wants
+abbrev pub HasForm : Structure → Type 0
+HasForm (GrowingBits bits) = IsWhole BIT_LISTS (length bits) 1 (limbs bits)
+HasForm (IndexedBits bits) = IsWhole BIT_LISTS (length bits) 1 (limbs bits)
+HasForm (SparseBits bits) = IsWhole SPARSE_LISTS (length (sparse_words bits)) 64 (sparse_words bits)
+HasForm (SortedMembers members) = IsWhole SORTED_LISTS (length members) 64 members
+HasForm (SymbolList symbols) = IsWhole SYMBOL_LISTS (length symbols.items) symbols.width (limbs (pack symbols.items symbols.width))
+HasForm (Parentheses bits) = IsWhole (tree_kind 512) (length bits) 512 (limbs bits)
+HasForm (BlockValues values) = IsWhole BLOCK_VALUES (length values) 64 values
+HasForm (TableValues values) = IsWhole TABLE_VALUES (length values) 64 values
+HasForm (Documents posted) = IsWhole POSTING_LISTS (length posted.documents) 128 (posting_words posted)
+HasForm (IndexedText text) = ⊥
+HasForm (PlainNumbers numbers) = ⊥
+
+-- the same of a handle, which may hold nothing
+abbrev pub ContentsHaveForm : Option Structure → Type 0
+ContentsHaveForm None = ⊥
+ContentsHaveForm (Some held) = HasForm held
 
 -- the kind of a structure, if such are loaded
 abbrev pub kind_of : Structure → Option Kind
@@ -41,12 +62,64 @@ kind_of (SymbolList symbols) = Some kind.Symbols
 kind_of (Parentheses bits) = Some kind.Tree
 kind_of (BlockValues values) = Some kind.Fast
 kind_of (TableValues values) = Some kind.Binary
-kind_of (Documents posted) = None
+kind_of (Documents posted) = Some kind.Postings
+kind_of (IndexedText text) = None
 kind_of (PlainNumbers numbers) = None
 
--- a handle that held nothing holds a structure of the kind of that code, of which the bytes are the saved form
-pub record IsLoaded (code : ℕ) (bytes : List ℕ) (before after : Option Structure) : Type 0 where
-  pub vacant : before ≡ None
-  pub held : IsSome after
-  pub kind : option_and_then kind_of after ≡ slice_get KINDS code
-  pub form : contents_form after ≡ Some bytes
+-- what the saved forms of a kind have to meet
+abbrev pub saved_kind : Kind → SavedKind
+saved_kind kind.Growing = BIT_LISTS
+saved_kind kind.Bits = BIT_LISTS
+saved_kind kind.Sparse = SPARSE_LISTS
+saved_kind kind.Sorted = SORTED_LISTS
+saved_kind kind.Symbols = SYMBOL_LISTS
+saved_kind kind.Tree = tree_kind 512
+saved_kind kind.Fast = BLOCK_VALUES
+saved_kind kind.Binary = TABLE_VALUES
+saved_kind kind.Postings = POSTING_LISTS
+
+-- the status of a fault of loading; a reader's never comes, since bytes are read
+abbrev pub fault_as : LoadError → ℕ
+fault_as Memory = 6
+fault_as TooShort = 8
+fault_as NotOurs = 9
+fault_as OtherVersion = 10
+fault_as OtherKind = 11
+fault_as BadLength = 12
+fault_as BadSum = 13
+fault_as BadPadding = 14
+fault_as NotAscending = 15
+fault_as Read = 4
+
+-- the status of bytes by the first test of them that fails, if one does
+abbrev pub tested : Option LoadError → ℕ
+tested None = 0
+tested (Some fault) = fault_as fault
+
+-- the status of bytes as a saved form of a kind, if there is such a kind
+abbrev pub bytes_status : Option Kind → List ℕ → ℕ
+bytes_status None bytes = 2
+bytes_status (Some kind) bytes = tested (fault_of (saved_kind kind) bytes)
+
+-- the status of a load by the code of a kind into a handle, which has to hold nothing
+abbrev pub load_status : Option Structure → ℕ → List ℕ → ℕ
+load_status (Some held) code bytes = 5
+load_status None code bytes = bytes_status (slice_get KINDS code) bytes
+
+-- the handle holds a structure of the kind of that code, of which the bytes are the saved form, where the status is 0, and else it is as it was
+pub record IsLoaded (code : ℕ) (bytes : List ℕ) (before after : Option Structure) (status : ℕ) : Type 0 where
+  pub told : IsToldAs (load_status before code bytes) status
+  pub held : status ≡ 0 → IsSome after
+  pub kind : status ≡ 0 → option_and_then kind_of after ≡ slice_get KINDS code
+  pub form : status ≡ 0 → contents_form after ≡ Some bytes
+  pub left : status ≢ 0 → after ≡ before
+
+-- the saved form of what is held is written over as many bytes where the status is 0, and else they are as they were: nothing is held, there is no form, it has another length, or there is no memory
+pub record IsSaved (held : Option Structure) (before after : List ℕ) (status : ℕ) : Type 0 where
+  pub saved : status ≡ 0 → contents_form held ≡ Some after
+  pub left : status ≢ 0 → after ≡ before
+  pub vacant : (status ≡ 3) ↔ (held ≡ None)
+  pub absent : status ≡ 1 → ¬ ContentsHaveForm held
+  pub refused : status ≡ 4 → option_map length (contents_form held) ≢ Some (length before)
+  pub whole : (status ≡ 0) ⊎ (status ≡ 4) → ContentsHaveForm held
+  pub told : (status ≡ 0) ⊎ (status ≡ 1) ⊎ (status ≡ 3) ⊎ (status ≡ 4) ⊎ (status ≡ 6)

@@ -2,6 +2,7 @@
 use Rattle.std.specs.Prelude.{ℕ, Bool, List, Option, Some, None, if◌then◌else◌}
 use Rattle.vers_wavelet.specs.Symbols.{Symbols}
 use Rattle.postings.specs.Posted.{Posted}
+use Rattle.text_index.specs.Texts.{Text}
 use Rattle.vers_c.specs.declared.handle.VersHandle.{VersHandle}
 use Rattle.vers_c.specs.declared.kept.Kept.{Kept}
 use Rattle.vers_c.specs.declared.kept.Kept.TheVariants as kept
@@ -17,6 +18,7 @@ pub data Structure : Type 0 where
   BlockValues : List ℕ → Structure
   TableValues : List ℕ → Structure
   Documents : Posted → Structure
+  IndexedText : Text → Structure
   PlainNumbers : List ℕ → Structure
 
 -- the plain list of what is kept
@@ -30,6 +32,7 @@ structure_of (kept.Tree tree) = Parentheses tree.value
 structure_of (kept.Fast values) = BlockValues values
 structure_of (kept.Binary values) = TableValues values
 structure_of (kept.Posted posted) = Documents posted
+structure_of (kept.Text text) = IndexedText text
 structure_of (kept.Numbers numbers) = PlainNumbers numbers.items
 
 -- what a handle holds, if anything

@@ -1,7 +1,8 @@
 //! Exports that ask and change what a handle holds.
-ghost use Rattle.std.specs.Prelude.{◌≡◌, ◌≢◌, map};
+ghost use Rattle.std.specs.Prelude.{◌≡◌, ◌≢◌, ◌⊎◌, IsSome, map};
+ghost use Rattle.vers_c.specs.Answers.{IsToldAs};
 ghost use Rattle.vers_c.specs.Batches.{answered, row_answered};
-ghost use Rattle.vers_c.specs.Changes.{IsChanged, contents_changed};
+ghost use Rattle.vers_c.specs.Changes.{IsChanged, changed_status, contents_changed};
 ghost use Rattle.vers_c.specs.Queries.{contents_answer, contents_status};
 ghost use Rattle.vers_c.specs.Structures.{contents};
 
@@ -9,7 +10,7 @@ use crate::answer::Answer;
 use crate::asked::Ask;
 use crate::handle::VersHandle;
 use crate::owners::{changed, put, taken};
-use crate::status::{DONE, VACANT};
+use crate::status::{DONE, SHARED, VACANT};
 use std::alloc::Global;
 
 /// Asks what is held.
@@ -93,8 +94,10 @@ pub extern "C" fn vers_change(
     a: u64,
     b: u64,
 ) -> u32
-    ensures { IsChanged (contents_changed (contents handle.old) code a b) (contents handle.old)
+    ensures changed { IsChanged (contents_changed (contents handle.old) code a b) (contents handle.old)
         (contents handle.new) result }
+    ensures told { ((result ≡ SHARED) × IsSome (contents handle.old))
+        ⊎ IsToldAs (changed_status (contents handle.old) code a b) result }
 {
     if !handle.is_built {
         return VACANT;

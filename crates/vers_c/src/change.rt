@@ -1,6 +1,7 @@
 //! Changes and their codes.
 ghost use Rattle.std.specs.Prelude.{◌≡◌, slice_get};
-ghost use Rattle.vers_c.specs.Changes.{IsChanged, bits_changed};
+ghost use Rattle.vers_c.specs.Answers.{IsToldAs};
+ghost use Rattle.vers_c.specs.Changes.{IsChanged, bits_changed, numbers_status};
 
 use crate::status::{DONE, NO_MEMORY, REFUSED};
 use std::alloc::Global;
@@ -32,7 +33,8 @@ impl Change {
 
     /// Changes a list.
     pub fn make(self, bits: &mut BitVec<Global>, a: u64, b: u64) -> u32
-        ensures { IsChanged (bits_changed bits.old self a b) bits.old bits.new result }
+        ensures changed { IsChanged (bits_changed bits.old self a b) bits.old bits.new result }
+        ensures told { IsToldAs (numbers_status (bits_changed bits.old self a b)) result }
     {
         match self {
             Change::Push => match bits.append_bit(a) {

@@ -1,10 +1,12 @@
 //! The structures that a handle holds.
-ghost use Rattle.std.specs.Prelude.{◌≡◌, ◌≢◌, map, Some, None, IfOk, IfSome, option_map};
+ghost use Rattle.std.specs.Prelude.{◌≡◌, ◌≢◌, map, Some, None, IfOk, IfSome, IsErr, IsSome, option_map};
 ghost use Rattle.vers_c.specs.Batches.{answered, row_answered};
-ghost use Rattle.vers_c.specs.Changes.{IsChanged, changed_by_code};
+ghost use Rattle.vers_c.specs.Answers.{IsToldAs};
+ghost use Rattle.vers_c.specs.Changes.{IsChanged, changed_by_code, coded_status};
 ghost use Rattle.vers_c.specs.Queries.{batch_status, coded_answer, query_of, structure_answer};
 ghost use Rattle.vers_c.specs.Lists.{common_of};
 ghost use Rattle.vers_c.specs.Structures.{structure_of};
+ghost use Rattle.vers_c.specs.TextAnswers.{pattern_count, pattern_places, piece};
 
 use crate::answer::Answer;
 use crate::asked::{Ask, Asked, answer_each, answer_once, answer_rows};
@@ -16,10 +18,12 @@ use crate::query::Query;
 use crate::sorted::each_of_sorted;
 use crate::status::{DONE, UNKNOWN};
 use crate::symbols::each_of_symbols;
+use crate::text::as_numbers;
 use crate::tree::Parentheses;
 use postings::Postings;
 use std::alloc::{AllocError, Global};
 use std::sync::Arc;
+use text_index::TextIndex;
 use vers_bits::bit_vec::BitVec;
 use vers_rank::fast_rs_vec::RsVec;
 use vers_rmq::rmq::binary_rmq::BinaryRmq;
@@ -52,6 +56,8 @@ pub enum Kept {
     Binary(BinaryRmq<Global>),
     /// Documents with costs.
     Posted(Postings<Global>),
+    /// A text, in which patterns are found.
+    Text(TextIndex<Global>),
     /// Plain numbers, which some calls answer.
     Numbers(Vec<u64, Global>),
 }
@@ -71,6 +77,7 @@ impl Kept {
             Kept::Fast(values) => answer_once(values, query, a, b, c),
             Kept::Binary(values) => answer_once(values, query, a, b, c),
             Kept::Posted(posted) => answer_once(posted, query, a, b, c),
+            Kept::Text(text) => answer_once(text, query, a, b, c),
             Kept::Numbers(numbers) => answer_once(numbers, query, a, b, c),
         }
     }
@@ -130,6 +137,7 @@ impl Kept {
             Kept::Fast(values) => each_of_values(values, query, numbers, b, c, other),
             Kept::Binary(values) => answer_each(values, query, numbers, b, c, other),
             Kept::Posted(posted) => answer_each(posted, query, numbers, b, c, other),
+            Kept::Text(text) => answer_each(text, query, numbers, b, c, other),
             Kept::Numbers(held) => answer_each(held, query, numbers, b, c, other),
         }
     }
@@ -148,6 +156,7 @@ impl Kept {
             Kept::Fast(values) => rows_of_values(values, query, asks, other),
             Kept::Binary(values) => answer_rows(values, query, asks, other),
             Kept::Posted(posted) => answer_rows(posted, query, asks, other),
+            Kept::Text(text) => answer_rows(text, query, asks, other),
             Kept::Numbers(held) => answer_rows(held, query, asks, other),
         }
     }
@@ -212,8 +221,9 @@ impl Kept {
 
     /// Changes the structure by the change of a code.
     pub fn change(&mut self, code: u32, a: u64, b: u64) -> u32
-        ensures { IsChanged (changed_by_code (structure_of self.old) code a b) (structure_of self.old)
+        ensures changed { IsChanged (changed_by_code (structure_of self.old) code a b) (structure_of self.old)
             (structure_of self.new) result }
+        ensures told { IsToldAs (coded_status (structure_of self.old) code a b) result }
     {
         let Some(change) = Change::of(code) else {
             return UNKNOWN;
@@ -224,15 +234,57 @@ impl Kept {
         }
     }
 
-    /// The documents that two lists share. None where one is no such list.
-    pub fn common(&self, other: &Kept) -> Result<Option<Vec<u64, Global>>, AllocError>
-        ensures { IfOk result (λ made. option_map (λ numbers. numbers.items) made
+    /// The documents that two lists share, as plain numbers. None where one is no such list.
+    pub fn common(&self, other: &Kept) -> Result<Option<Kept>, AllocError>
+        ensures common { IfOk result (λ made. option_map structure_of made
             ≡ common_of (structure_of self.now) (structure_of other.now)) }
+        ensures both { IsErr result → IsSome (common_of (structure_of self.now) (structure_of other.now)) }
     {
         match self {
             Kept::Posted(one) => match other {
-                Kept::Posted(two) => Ok(Some(one.intersect(two)?)),
+                Kept::Posted(two) => Ok(Some(Kept::Numbers(one.intersect(two)?))),
                 _ => Ok(None),
+            },
+            _ => Ok(None),
+        }
+    }
+
+    /// How many places a pattern has in a text.
+    pub fn count(&self, pattern: &[u64]) -> Answer
+        ensures { result ≡ pattern_count (structure_of self.now) pattern.now }
+    {
+        match self {
+            Kept::Text(text) => Answer::place(text.count(pattern)),
+            _ => Answer::unknown(),
+        }
+    }
+
+    /// The places of a pattern in a text, ascending, as plain numbers. None where this is no text.
+    pub fn places(&self, alloc: Global, pattern: &[u64]) -> Result<Option<Kept>, AllocError>
+        ensures places { IfOk result (λ made. option_map structure_of made
+            ≡ pattern_places (structure_of self.now) pattern.now) }
+        ensures text { IsErr result → IsSome (pattern_places (structure_of self.now) pattern.now) }
+    {
+        match self {
+            Kept::Text(text) => {
+                let places = text.places_ascending(pattern)?;
+                Ok(Some(Kept::Numbers(as_numbers(alloc, &places)?)))
+            }
+            _ => Ok(None),
+        }
+    }
+
+    /// The symbols of a text from one place up to another, as plain numbers. None where this is no text with such
+    /// places.
+    pub fn extract(&self, from: usize, to: usize) -> Result<Option<Kept>, AllocError>
+        ensures piece { IfOk result (λ made. option_map structure_of made
+            ≡ piece (structure_of self.now) from to) }
+        ensures some { IsErr result → IsSome (piece (structure_of self.now) from to) }
+    {
+        match self {
+            Kept::Text(text) => match text.extract(from..to)? {
+                Some(symbols) => Ok(Some(Kept::Numbers(symbols))),
+                None => Ok(None),
             },
             _ => Ok(None),
         }

@@ -20,10 +20,12 @@ pub enum Kind {
     Fast,
     /// Values, by a table.
     Binary,
+    /// Documents with costs.
+    Postings,
 }
 
 /// The kind of each code, which is its place here.
-pub const KINDS: [Kind; 8] = [
+pub const KINDS: [Kind; 9] = [
     Kind::Growing,
     Kind::Bits,
     Kind::Sparse,
@@ -32,6 +34,7 @@ pub const KINDS: [Kind; 8] = [
     Kind::Tree,
     Kind::Fast,
     Kind::Binary,
+    Kind::Postings,
 ];
 
 impl Kind {

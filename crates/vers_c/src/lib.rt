@@ -27,4 +27,6 @@ mod sorted;
 mod sparse;
 mod status;
 mod symbols;
+mod text;
+mod texts;
 mod tree;

@@ -1,6 +1,7 @@
 //! Owners of structures, in handles and out of them.
-ghost use Rattle.std.specs.Prelude.{◌≡◌, Some, None, IfOk, true, false};
-ghost use Rattle.vers_c.specs.Changes.{IsChanged, changed_by_code};
+ghost use Rattle.std.specs.Prelude.{◌≡◌, ◌⊎◌, Some, None, IfOk, IsErr, option_map, true, false};
+ghost use Rattle.vers_c.specs.Answers.{IsToldAs};
+ghost use Rattle.vers_c.specs.Changes.{IsChanged, changed_by_code, coded_status};
 ghost use Rattle.vers_c.specs.Makes.{IsMade};
 ghost use Rattle.vers_c.specs.Structures.{contents, structure_of};
 
@@ -8,7 +9,7 @@ use crate::handle::VersHandle;
 use crate::held::Held;
 use crate::kept::{Kept, Owner};
 use crate::loose::Loose;
-use crate::status::{DONE, NO_MEMORY, SHARED};
+use crate::status::{DONE, NO_MEMORY, REFUSED, SHARED};
 use std::alloc::{AllocError, Global};
 use std::mem;
 use std::sync::Arc;
@@ -60,8 +61,10 @@ pub fn other_owner(alloc: Global, owner: &Owner) -> Result<Box<Owner, Global>, A
 
 /// Changes a structure that has no other owner.
 pub fn changed(owner: &mut Owner, code: u32, a: u64, b: u64) -> u32
-    ensures { IsChanged (changed_by_code (structure_of owner.old.value) code a b)
+    ensures changed { IsChanged (changed_by_code (structure_of owner.old.value) code a b)
         (structure_of owner.old.value) (structure_of owner.new.value) result }
+    ensures told { (result ≡ SHARED)
+        ⊎ IsToldAs (coded_status (structure_of owner.old.value) code a b) result }
 {
     match Arc::get_mut(owner) {
         Some(kept) => kept.change(code, a, b),
@@ -79,6 +82,24 @@ pub fn fill(alloc: Global, handle: &mut VersHandle, kept: Kept) -> u32
             put(handle, owner);
             DONE
         }
+        Err(_) => NO_MEMORY,
+    }
+}
+
+/// Puts a structure into a handle that holds nothing, if there is one and there was memory for it.
+pub fn fill_made(
+    alloc: Global,
+    handle: &mut VersHandle,
+    made: Result<Option<Kept>, AllocError>,
+) -> u32
+    requires { handle.old.is_built ≡ false }
+    ensures ok { IfOk made (λ kept. IsMade (option_map structure_of kept) (contents handle.old)
+        (contents handle.new) result) }
+    ensures err { IsErr made → (result ≡ NO_MEMORY) × (contents handle.new ≡ contents handle.old) }
+{
+    match made {
+        Ok(Some(kept)) => fill(alloc, handle, kept),
+        Ok(None) => REFUSED,
         Err(_) => NO_MEMORY,
     }
 }

@@ -29,6 +29,8 @@ impl Asked for Postings<Global> {
     fn answer(&self, query: Query, a: u64, b: u64, c: u64) -> Answer {
         match query {
             Query::Len => Answer::place(self.len()),
+            Query::Get => Answer::number_or_absent(self.documents().get(a as usize)),
+            Query::Cost => Answer::number_or_absent(self.costs().get(a as usize).copied()),
             Query::Rank => Answer::found(self.rank(a)),
             Query::Has => Answer::truth(self.contains(a)),
             Query::Successor => Answer::number_or_absent(self.next_at_least(a)),

@@ -49,6 +49,8 @@ pub enum Query {
     RangeMin,
     /// The first document of least cost from document `a` to document `b`, both included.
     Cheapest,
+    /// The cost of the document at a place.
+    Cost,
 }
 
 /// What a list of symbols can be asked.
@@ -143,7 +145,7 @@ pub enum LevelQuery {
 }
 
 /// The query of each code, which is its place here.
-pub const QUERIES: [Query; 50] = [
+pub const QUERIES: [Query; 51] = [
     Query::Len,
     Query::Get,
     Query::GetBits,
@@ -194,6 +196,7 @@ pub const QUERIES: [Query; 50] = [
     Query::IsAncestor,
     Query::RangeMin,
     Query::Cheapest,
+    Query::Cost,
 ];
 
 impl Query {

@@ -1,8 +1,10 @@
 //! Saved forms of what a handle holds.
-ghost use Rattle.std.specs.Prelude.{◌≡◌, ◌≢◌, ◌↔◌, ◌⊎◌, Some, None, IfOk, IfErr, OnOk, IsSome, length, option_map};
+ghost use Rattle.std.specs.Prelude.{◌≡◌, ◌≢◌, ◌↔◌, ◌⊎◌, Some, None, IfOk, IfErr, IfSome, OnOk, IsSome, length, option_map};
+ghost use Rattle.vers_saved.specs.Faults.{fault_of};
 ghost use Rattle.vers_saved.specs.Format.{saved};
-ghost use Rattle.vers_c.specs.Answers.{found_or_absent, vacant};
-ghost use Rattle.vers_c.specs.Saves.{IsLoaded, contents_form, fault_as, form_of, kind_of};
+ghost use Rattle.vers_saved.specs.Kinds.{IsWhole};
+ghost use Rattle.vers_c.specs.Answers.{absent, found_or_absent, vacant};
+ghost use Rattle.vers_c.specs.Saves.{ContentsHaveForm, HasForm, IsLoaded, IsSaved, contents_form, fault_as, form_of, kind_of, saved_kind};
 ghost use Rattle.vers_c.specs.Structures.{contents, structure_of};
 
 use crate::answer::Answer;
@@ -10,15 +12,22 @@ use crate::handle::VersHandle;
 use crate::kept::Kept;
 use crate::kind::Kind;
 use crate::owners::{fill, put, taken};
-use crate::status::{ABSENT, DONE, NO_MEMORY, OCCUPIED, REFUSED, UNKNOWN, VACANT};
+use crate::status::{
+    ABSENT, BAD_LENGTH, BAD_PADDING, BAD_SUM, DONE, NO_MEMORY, NOT_ASCENDING, NOT_OURS, OCCUPIED,
+    OTHER_KIND, OTHER_VERSION, REFUSED, TOO_SHORT, UNKNOWN, VACANT,
+};
+use crate::tree::load_parentheses;
 use std::alloc::Global;
 use vers_saved::fault::{LoadError, SaveError};
 use vers_saved::saved::{Loaded, Saved, load_from_slice, save_to_vec, saved_size};
 
 // The saved form of a list.
 fn saved_of<S: Saved>(alloc: Global, list: &S) -> Result<Vec<u8, Global>, SaveError>
-    ensures { IfOk result (λ out. out.items
+    ensures saved { IfOk result (λ out. out.items
         ≡ saved S.kind.number (S.count list.now) (S.width list.now) (S.words list.now)) }
+    ensures whole { OnOk result (IsWhole S.kind (S.count list.now) (S.width list.now) (S.words list.now)) }
+    ensures refused { IfErr result (λ e. (e ≡ SaveError.Memory) ⊎ ((e ≡ SaveError.NoForm)
+        × ¬ IsWhole S.kind (S.count list.now) (S.width list.now) (S.words list.now))) }
 {
     let mut out = Vec::new(alloc);
     save_to_vec(list, &mut out)?;
@@ -28,7 +37,9 @@ fn saved_of<S: Saved>(alloc: Global, list: &S) -> Result<Vec<u8, Global>, SaveEr
 impl Kept {
     /// How many bytes the saved form has. None where there is none.
     pub fn saved_size(&self) -> Option<usize>
-        ensures { IsSome result → result ≡ option_map length (form_of (structure_of self.now)) }
+        ensures size { IsSome result → result ≡ option_map length (form_of (structure_of self.now)) }
+        ensures some { IsSome result → HasForm (structure_of self.now) }
+        ensures none { result ≡ None → ¬ HasForm (structure_of self.now) }
     {
         match self {
             Kept::Growing(bits) => saved_size(bits),
@@ -39,14 +50,17 @@ impl Kept {
             Kept::Tree(tree) => saved_size(&**tree),
             Kept::Fast(values) => saved_size(values),
             Kept::Binary(values) => saved_size(values),
-            Kept::Posted(_) => None,
-            Kept::Numbers(_) => None,
+            Kept::Posted(posted) => saved_size(posted),
+            Kept::Text(_) | Kept::Numbers(_) => None,
         }
     }
 
     /// The saved form.
     pub fn save(&self, alloc: Global) -> Result<Vec<u8, Global>, SaveError>
-        ensures { IfOk result (λ out. form_of (structure_of self.now) ≡ Some out.items) }
+        ensures saved { IfOk result (λ out. form_of (structure_of self.now) ≡ Some out.items) }
+        ensures whole { OnOk result (HasForm (structure_of self.now)) }
+        ensures refused { IfErr result (λ e. (e ≡ SaveError.Memory)
+            ⊎ ((e ≡ SaveError.NoForm) × ¬ HasForm (structure_of self.now))) }
     {
         match self {
             Kept::Growing(bits) => saved_of(alloc, bits),
@@ -57,8 +71,8 @@ impl Kept {
             Kept::Tree(tree) => saved_of(alloc, &**tree),
             Kept::Fast(values) => saved_of(alloc, values),
             Kept::Binary(values) => saved_of(alloc, values),
-            Kept::Posted(_) => Err(SaveError::NoForm),
-            Kept::Numbers(_) => Err(SaveError::NoForm),
+            Kept::Posted(posted) => saved_of(alloc, posted),
+            Kept::Text(_) | Kept::Numbers(_) => Err(SaveError::NoForm),
         }
     }
 }
@@ -68,7 +82,10 @@ impl Kept {
 pub extern "C" fn vers_saved_size(alloc: Global, handle: &mut VersHandle) -> Answer
     ensures value { result.status ≡ DONE
         → result ≡ found_or_absent (option_map length (contents_form (contents handle.old))) }
+    ensures whole { result.status ≡ DONE → ContentsHaveForm (contents handle.old) }
+    ensures absent { result.status ≡ ABSENT → ¬ ContentsHaveForm (contents handle.old) }
     ensures vacant { (result ≡ vacant) ↔ (contents handle.old ≡ None) }
+    ensures told { (result.status ≡ DONE) ⊎ (result ≡ absent) ⊎ (result ≡ vacant) }
     ensures kept { contents handle.new ≡ contents handle.old }
 {
     if !handle.is_built {
@@ -77,15 +94,16 @@ pub extern "C" fn vers_saved_size(alloc: Global, handle: &mut VersHandle) -> Ans
     let owner = taken(alloc, handle);
     let size = owner.saved_size();
     put(handle, owner);
-    Answer::place_or_absent(size)
+    match size {
+        Some(size) => Answer::place(size),
+        None => Answer::absent(),
+    }
 }
 
 /// Writes the saved form of what is held over bytes, which are as many. Bytes of another number are refused.
 #[unsafe(no_mangle)]
 pub extern "C" fn vers_save(alloc: Global, handle: &mut VersHandle, bytes: &mut [u8]) -> u32
-    ensures saved { result ≡ DONE → contents_form (contents handle.old) ≡ Some bytes.new }
-    ensures left { result ≢ DONE → bytes.new ≡ bytes.old }
-    ensures vacant { (result ≡ VACANT) ↔ (contents handle.old ≡ None) }
+    ensures saved { IsSaved (contents handle.old) bytes.old bytes.new result }
     ensures kept { contents handle.new ≡ contents handle.old }
 {
     if !handle.is_built {
@@ -105,6 +123,7 @@ pub extern "C" fn vers_save(alloc: Global, handle: &mut VersHandle, bytes: &mut 
 fn written(from: &[u8], to: &mut [u8]) -> u32
     ensures done { result ≡ DONE → to.new ≡ from.now }
     ensures left { result ≢ DONE → to.new ≡ to.old }
+    ensures refused { result ≡ REFUSED → length from.now ≢ length to.old }
     ensures status { (result ≡ DONE) ⊎ (result ≡ REFUSED) }
 {
     if from.len() != to.len() {
@@ -119,17 +138,19 @@ macro_rules! loaded_as {
     ($loaded:expr, $kept:path) => {
         match $loaded {
             Ok(list) => Ok($kept(list)),
-            Err(error) => Err(fault(error)),
+            Err(error) => Err(error),
         }
     };
 }
 
 impl Kept {
-    /// The structure of a kind that bytes are the saved form of. Trees have none of their own.
-    pub fn load(alloc: Global, kind: Kind, bytes: &[u8]) -> Result<Kept, u32>
-        ensures loaded { IfOk result (λ kept. (kind_of (structure_of kept) ≡ Some kind)
-            × (form_of (structure_of kept) ≡ Some bytes.now)) }
-        ensures told { IfErr result (λ status. (status ≡ REFUSED) ⊎ ((status ≡ UNKNOWN) ⊎ (status ≡ NO_MEMORY))) }
+    /// The structure of a kind that bytes are the saved form of. A fault is that of the first test that fails.
+    pub fn load(alloc: Global, kind: Kind, bytes: &[u8]) -> Result<Kept, LoadError>
+        ensures kind { IfOk result (λ kept. kind_of (structure_of kept) ≡ Some kind) }
+        ensures form { IfOk result (λ kept. form_of (structure_of kept) ≡ Some bytes.now) }
+        ensures none { OnOk result (fault_of (saved_kind kind) bytes.now ≡ None) }
+        ensures refused { IfErr result (λ e. (fault_of (saved_kind kind) bytes.now ≡ Some e)
+            ⊎ ((e ≡ LoadError.Memory) × (fault_of (saved_kind kind) bytes.now ≡ None))) }
     {
         match kind {
             Kind::Growing => loaded_as!(load_from_slice(alloc, bytes), Kept::Growing),
@@ -137,19 +158,19 @@ impl Kept {
             Kind::Sparse => loaded_as!(load_from_slice(alloc, bytes), Kept::Sparse),
             Kind::Sorted => loaded_as!(load_from_slice(alloc, bytes), Kept::Sorted),
             Kind::Symbols => loaded_as!(load_from_slice(alloc, bytes), Kept::Symbols),
-            Kind::Tree => Err(UNKNOWN),
+            Kind::Tree => loaded_as!(load_parentheses(alloc, bytes), Kept::Tree),
             Kind::Fast => loaded_as!(load_from_slice(alloc, bytes), Kept::Fast),
             Kind::Binary => loaded_as!(load_from_slice(alloc, bytes), Kept::Binary),
+            Kind::Postings => loaded_as!(load_from_slice(alloc, bytes), Kept::Posted),
         }
     }
 }
 
-/// Builds the structure of a kind that bytes are the saved form of. Other bytes are refused.
+/// Builds the structure of a kind that bytes are the saved form of. Other bytes are refused, by the first test of
+/// them that fails.
 #[unsafe(no_mangle)]
 pub extern "C" fn vers_load(alloc: Global, code: u32, bytes: &[u8], handle: &mut VersHandle) -> u32
-    ensures loaded { result ≡ DONE → IsLoaded code bytes.now (contents handle.old) (contents handle.new) }
-    ensures left { result ≢ DONE → contents handle.new ≡ contents handle.old }
-    ensures occupied { (result ≡ OCCUPIED) ↔ IsSome (contents handle.old) }
+    ensures { IsLoaded code bytes.now (contents handle.old) (contents handle.new) result }
 {
     if handle.is_built {
         return OCCUPIED;
@@ -159,7 +180,7 @@ pub extern "C" fn vers_load(alloc: Global, code: u32, bytes: &[u8], handle: &mut
     };
     match Kept::load(alloc, kind, bytes) {
         Ok(kept) => fill(alloc, handle, kept),
-        Err(status) => status,
+        Err(error) => fault(error),
     }
 }
 
@@ -169,6 +190,15 @@ fn fault(error: LoadError) -> u32
 {
     match error {
         LoadError::Memory => NO_MEMORY,
-        _ => REFUSED,
+        LoadError::TooShort => TOO_SHORT,
+        LoadError::NotOurs => NOT_OURS,
+        LoadError::OtherVersion => OTHER_VERSION,
+        LoadError::OtherKind => OTHER_KIND,
+        LoadError::BadLength => BAD_LENGTH,
+        LoadError::BadSum => BAD_SUM,
+        LoadError::BadPadding => BAD_PADDING,
+        LoadError::NotAscending => NOT_ASCENDING,
+        // It never comes, since bytes are read.
+        LoadError::Read => REFUSED,
     }
 }

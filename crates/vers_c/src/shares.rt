@@ -1,12 +1,11 @@
 //! Exports on owners: one more, one less, and what two structures share.
 ghost use Rattle.std.specs.Prelude.{◌≡◌, ◌≢◌, ◌↔◌, None, option_map};
-ghost use Rattle.vers_c.specs.Lists.{IsListed, contents_common};
-ghost use Rattle.vers_c.specs.Makes.{IsShared};
+ghost use Rattle.vers_c.specs.Lists.{contents_common};
+ghost use Rattle.vers_c.specs.Makes.{IsMade, IsShared};
 ghost use Rattle.vers_c.specs.Structures.{contents};
 
 use crate::handle::VersHandle;
-use crate::kept::Kept;
-use crate::owners::{fill, other_owner, put, taken};
+use crate::owners::{fill_made, other_owner, put, taken};
 use crate::status::{DONE, NO_MEMORY, OCCUPIED, REFUSED, VACANT};
 use std::alloc::Global;
 
@@ -52,25 +51,21 @@ pub extern "C" fn vers_intersect(
     other: &mut VersHandle,
     into: &mut VersHandle,
 ) -> u32
-    ensures listed { IsListed (contents_common (contents one.old) (contents other.old)) (contents into.old)
+    ensures made { IsMade (contents_common (contents one.old) (contents other.old)) (contents into.old)
         (contents into.new) result }
     ensures one { contents one.new ≡ contents one.old }
     ensures other { contents other.new ≡ contents other.old }
 {
-    if !one.is_built || !other.is_built {
-        return REFUSED;
-    }
     if into.is_built {
         return OCCUPIED;
+    }
+    if !one.is_built || !other.is_built {
+        return REFUSED;
     }
     let first = taken(alloc, one);
     let second = taken(alloc, other);
     let made = first.common(&second);
     put(one, first);
     put(other, second);
-    match made {
-        Ok(Some(numbers)) => fill(alloc, into, Kept::Numbers(numbers)),
-        Ok(None) => REFUSED,
-        Err(_) => NO_MEMORY,
-    }
+    fill_made(alloc, into, made)
 }

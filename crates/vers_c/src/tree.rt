@@ -1,6 +1,9 @@
 //! Lists of parentheses.
-ghost use Rattle.std.specs.Prelude.{◌≡◌, ◌==◌, length, take, IfOk};
+ghost use Rattle.std.specs.Prelude.{◌≡◌, ◌==◌, ◌⊎◌, length, take, Some, None, IfOk, IfErr, OnOk};
 ghost use Rattle.vers_bits.specs.Bits.{pack};
+ghost use Rattle.vers_saved.specs.Faults.{fault_of};
+ghost use Rattle.vers_saved.specs.Format.{saved_parentheses};
+ghost use Rattle.vers_saved.specs.Kinds.{tree_kind};
 ghost use Rattle.vers_trees.specs.Forest.{IsBalanced, forest_of};
 ghost use Rattle.vers_trees.specs.Nodes.{IsNode, children};
 ghost use Rattle.vers_c.specs.TreeAnswers.{any_tree_answer as answer_of_any, level_end_of, measure_of, relative_of, tree_answer};
@@ -10,7 +13,9 @@ use crate::asked::Asked;
 use crate::bits::growing;
 use crate::query::{LevelQuery, MeasureQuery, NodeQuery, Query, TreeQuery};
 use std::alloc::Global;
-use vers_bits::bit_vec::GrowError;
+use vers_bits::bit_vec::{BitVec, GrowError};
+use vers_saved::fault::LoadError;
+use vers_saved::trees::load_parentheses_from_slice;
 use vers_trees::trees::bp::BpTree;
 
 /// A list of parentheses with its index.
@@ -20,9 +25,30 @@ pub type Parentheses = BpTree<512, Global>;
 pub fn tree(alloc: Global, words: &[u64], len: usize) -> Result<Box<Parentheses, Global>, GrowError>
     ensures { IfOk result (λ tree. tree.value ≡ take len (pack words.now 64)) }
 {
-    match BpTree::from_bit_vector(growing(alloc, words, len)?) {
+    boxed(alloc, growing(alloc, words, len)?)
+}
+
+// The tree of a list of bits.
+fn boxed(alloc: Global, bits: BitVec<Global>) -> Result<Box<Parentheses, Global>, GrowError>
+    ensures { IfOk result (λ tree. tree.value ≡ bits) }
+{
+    match BpTree::from_bit_vector(bits) {
         Ok(tree) => in_box(alloc, tree),
         Err(error) => Err(error),
+    }
+}
+
+/// The parentheses that bytes are the saved form of. A fault is that of the first test that fails.
+pub fn load_parentheses(alloc: Global, bytes: &[u8]) -> Result<Box<Parentheses, Global>, LoadError>
+    ensures loaded { IfOk result (λ tree. bytes.now ≡ saved_parentheses 512 tree.value) }
+    ensures none { OnOk result (fault_of (tree_kind 512) bytes.now ≡ None) }
+    ensures refused { IfErr result (λ e. (fault_of (tree_kind 512) bytes.now ≡ Some e)
+        ⊎ ((e ≡ LoadError.Memory) × (fault_of (tree_kind 512) bytes.now ≡ None))) }
+{
+    let bits = load_parentheses_from_slice(alloc, 512, bytes)?;
+    match boxed(alloc, bits) {
+        Ok(tree) => Ok(tree),
+        Err(_) => Err(LoadError::Memory),
     }
 }
 

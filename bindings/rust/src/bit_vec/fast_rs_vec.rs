@@ -1,9 +1,9 @@
 //! Lists of bits with ranks and selects.
 
 use super::{low_ones, spread, BitVec, WORD_SIZE};
-use crate::items::{iterators, Items, List};
-use crate::library::{Kind, Owner, Query, Quick};
-use crate::saved::Saved;
+use crate::items::{iterators, lengths, Items, List};
+use crate::library::{Owner, Query, Quick};
+use crate::saved::saved_by_owner;
 use std::borrow::Borrow;
 
 /// A list of bits, which finds how many ones or zeros stand before a place, and the place of each one and zero.
@@ -134,18 +134,6 @@ impl RsVec {
     #[inline]
     pub fn predecessor1(&self, pos: usize) -> Option<u64> {
         self.rank1(pos).checked_sub(1).map(|last| self.select1(last) as u64)
-    }
-
-    /// How many bits there are.
-    #[must_use]
-    pub fn len(&self) -> usize {
-        self.len
-    }
-
-    /// Whether there are no bits.
-    #[must_use]
-    pub fn is_empty(&self) -> bool {
-        self.len == 0
     }
 
     /// The bit at a place. None past the end.
@@ -328,13 +316,5 @@ impl From<RsVec> for BitVec {
     }
 }
 
-impl Saved for RsVec {
-    fn save(&self) -> Option<Vec<u8>> {
-        self.owner.saved()
-    }
-
-    fn load(bytes: &[u8]) -> Option<Self> {
-        let owner = Owner::loaded(Kind::Bits, bytes)?;
-        Some(RsVec { len: owner.length(), owner })
-    }
-}
+lengths!(RsVec, "bits", usize);
+saved_by_owner!(RsVec, Bits);

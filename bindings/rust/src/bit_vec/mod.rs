@@ -1,7 +1,7 @@
 //! Lists of bits: [`BitVec`], which can change, and what is made of it.
 
-use crate::items::{iterators, List};
-use crate::saved::Saved;
+use crate::items::{iterators, lengths, List};
+use crate::saved::{LoadError, Saved};
 use crate::RsVec;
 use mask::MaskedBitVec;
 
@@ -301,20 +301,6 @@ impl BitVec {
         }
     }
 
-    /// How many bits there are.
-    #[must_use]
-    #[inline]
-    pub fn len(&self) -> usize {
-        self.len
-    }
-
-    /// Whether there are no bits.
-    #[must_use]
-    #[inline]
-    pub fn is_empty(&self) -> bool {
-        self.len == 0
-    }
-
     /// Makes a bit the other one.
     ///
     /// # Panics
@@ -580,12 +566,14 @@ impl FromIterator<u64> for BitVec {
     }
 }
 
+lengths!(BitVec, "bits", usize);
+
 impl Saved for BitVec {
     fn save(&self) -> Option<Vec<u8>> {
         RsVec::from_bit_vec(self.clone()).save()
     }
 
-    fn load(bytes: &[u8]) -> Option<Self> {
+    fn load(bytes: &[u8]) -> Result<Self, LoadError> {
         RsVec::load(bytes).map(RsVec::into_bit_vec)
     }
 }

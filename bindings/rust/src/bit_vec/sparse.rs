@@ -1,8 +1,8 @@
 //! The few ones of a long list of bits.
 
-use crate::items::{Items, List};
-use crate::library::{Kind, Owner, Query};
-use crate::saved::Saved;
+use crate::items::{lengths, Items, List};
+use crate::library::{Owner, Query};
+use crate::saved::saved_by_owner;
 use crate::BitVec;
 
 /// A list of bits, held by the places of its ones.
@@ -111,18 +111,6 @@ impl SparseRSVec {
         Items::new(Ones(self))
     }
 
-    /// How many bits there are.
-    #[must_use]
-    pub fn len(&self) -> u64 {
-        self.len
-    }
-
-    /// Whether there are no bits.
-    #[must_use]
-    pub fn is_empty(&self) -> bool {
-        self.len == 0
-    }
-
     /// How many bytes the library keeps.
     #[must_use]
     pub fn heap_size(&self) -> usize {
@@ -164,13 +152,5 @@ impl<'a> From<&'a BitVec> for SparseRSVec {
     }
 }
 
-impl Saved for SparseRSVec {
-    fn save(&self) -> Option<Vec<u8>> {
-        self.owner.saved()
-    }
-
-    fn load(bytes: &[u8]) -> Option<Self> {
-        let owner = Owner::loaded(Kind::Sparse, bytes)?;
-        Some(SparseRSVec { len: owner.length() as u64, owner })
-    }
-}
+lengths!(SparseRSVec, "bits", u64);
+saved_by_owner!(SparseRSVec, Sparse);

@@ -1,8 +1,8 @@
 //! Ascending lists of numbers.
 
-use crate::items::{iterators, List};
-use crate::library::{Kind, Owner, Query, Quick};
-use crate::saved::Saved;
+use crate::items::{iterators, lengths, List};
+use crate::library::{Owner, Query, Quick};
+use crate::saved::saved_by_owner;
 
 /// A list of numbers that ascend, where some may be equal.
 ///
@@ -30,18 +30,6 @@ impl EliasFanoVec {
     pub fn from_slice(data: &[u64]) -> Self {
         let owner = Owner::of_sorted(data).expect("the numbers must ascend");
         EliasFanoVec { owner, len: data.len() }
-    }
-
-    /// How many numbers there are.
-    #[must_use]
-    pub fn len(&self) -> usize {
-        self.len
-    }
-
-    /// Whether there are no numbers.
-    #[must_use]
-    pub fn is_empty(&self) -> bool {
-        self.len == 0
     }
 
     /// The number at a place. None past the end.
@@ -147,13 +135,5 @@ impl List for EliasFanoVec {
 
 iterators! { EliasFanoVec, u64, EliasFanoIter, EliasFanoRefIter }
 
-impl Saved for EliasFanoVec {
-    fn save(&self) -> Option<Vec<u8>> {
-        self.owner.saved()
-    }
-
-    fn load(bytes: &[u8]) -> Option<Self> {
-        let owner = Owner::loaded(Kind::Sorted, bytes)?;
-        Some(EliasFanoVec { len: owner.length(), owner })
-    }
-}
+lengths!(EliasFanoVec, "numbers", usize);
+saved_by_owner!(EliasFanoVec, Sorted);

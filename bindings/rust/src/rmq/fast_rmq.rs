@@ -1,8 +1,8 @@
 //! Range minima by blocks.
 
 use super::{minima, places};
-use crate::library::{Kind, Owner, Query};
-use crate::saved::Saved;
+use crate::library::{Kind, Owner};
+use crate::saved::{LoadError, Saved};
 use std::ops::{Deref, RangeBounds};
 use std::sync::Arc;
 

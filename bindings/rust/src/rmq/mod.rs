@@ -75,11 +75,10 @@ macro_rules! minima {
                 self.owner.saved()
             }
 
-            fn load(bytes: &[u8]) -> Option<Self> {
+            fn load(bytes: &[u8]) -> Result<Self, LoadError> {
                 let owner = Owner::loaded(Kind::$kind, bytes)?;
-                let mut data = vec![0; owner.length()];
-                owner.ask_from(Query::Get, 0, &mut data);
-                Some($name { owner, data: Arc::new(data) })
+                let data = owner.numbers();
+                Ok($name { owner, data: Arc::new(data) })
             }
         }
 

@@ -4,6 +4,7 @@ use super::{IsAncestor, LevelTree, SubtreeSize, Tree, TreeBuilder};
 use crate::bit_vec::fast_rs_vec::SelectIntoIter;
 use crate::items::{Items, List};
 use crate::library::{Owner, Query, Quick, Refused};
+use crate::saved::saved_by_owner;
 use crate::{BitVec, RsVec};
 
 const DEFAULT_BLOCK_SIZE: usize = 512;
@@ -380,6 +381,8 @@ impl<const BLOCK_SIZE: usize> From<BpTree<BLOCK_SIZE>> for RsVec {
         value.into_parentheses_vec()
     }
 }
+
+saved_by_owner!(BpTree<BLOCK_SIZE>, Tree);
 
 /// Builds a [`BpTree`] from a walk over it.
 ///

@@ -2,7 +2,7 @@
 
 use crate::items::{iterators, Items, List};
 use crate::library::{Kind, Owner, Query, Quick, Row};
-use crate::saved::Saved;
+use crate::saved::{LoadError, Saved};
 use crate::BitVec;
 use std::borrow::Borrow;
 use std::ops::Range;
@@ -698,9 +698,9 @@ impl Saved for WaveletMatrix {
         }
     }
 
-    fn load(bytes: &[u8]) -> Option<Self> {
+    fn load(bytes: &[u8]) -> Result<Self, LoadError> {
         let owner = Owner::loaded(Kind::Symbols, bytes)?;
         let (width, len) = (owner.told(Query::Width, 0), owner.length());
-        Some(WaveletMatrix { symbols: Symbols::Narrow { owner, width, len } })
+        Ok(WaveletMatrix { symbols: Symbols::Narrow { owner, width, len } })
     }
 }

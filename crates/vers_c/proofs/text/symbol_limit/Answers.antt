@@ -1,0 +1,6 @@
+use Rattle.std.proofs.Common.{arith}
+use Rattle.std.proofs.lemmas.Nat.{one_shl}
+use Rattle.vers_c.proofs.text.symbol_limit.Goals as goal
+
+pub returns : goal.returns
+returns c = one_shl c.args.width 64 (omega (arith, c.requires))

@@ -1,0 +1,54 @@
+//! Texts, in which patterns are found.
+ghost use Rattle.std.specs.Prelude.{◌≡◌, ◌^◌, ◌≤◌, IfOk};
+ghost use Rattle.vers_c.specs.TextAnswers.{is_text, text_answer};
+
+use crate::answer::Answer;
+use crate::asked::Asked;
+use crate::query::Query;
+use std::alloc::{AllocError, Global};
+use text_index::{MAX_LEN, TextIndex};
+use vers_sorted::order::are_below;
+
+// The least number that is no symbol of so many bits.
+fn symbol_limit(width: u32) -> u64
+    requires { width ≤ 16 }
+    ensures { result ≡ 2 ^ width }
+{
+    1 << width
+}
+
+/// Whether a text is made of such symbols: they have from 1 to 16 bits, and are not too many, and a step isn't 0.
+pub fn is_text(symbols: &[u64], width: u32, step: usize) -> bool
+    ensures { result ≡ is_text symbols.now width step }
+{
+    1 <= width
+        && width <= 16
+        && step != 0
+        && symbols.len() <= MAX_LEN
+        && are_below(symbols, symbol_limit(width))
+}
+
+/// Places as plain numbers.
+pub fn as_numbers(alloc: Global, places: &[usize]) -> Result<Vec<u64, Global>, AllocError>
+    ensures { IfOk result (λ numbers. numbers.items ≡ places.now) }
+{
+    let mut numbers = Vec::with_capacity(alloc, places.len())?;
+    for place in places {
+        numbers.push(*place as u64)?;
+    }
+    Ok(numbers)
+}
+
+impl Asked for TextIndex<Global> {
+    ghost answers = { text_answer };
+
+    #[inline(always)]
+    fn answer(&self, query: Query, _a: u64, _b: u64, _c: u64) -> Answer {
+        match query {
+            Query::Len => Answer::place(self.len()),
+            Query::Width => Answer::found(u64::from(self.bits_per_symbol())),
+            Query::HeapSize => Answer::place(self.heap_size()),
+            _ => Answer::unknown(),
+        }
+    }
+}

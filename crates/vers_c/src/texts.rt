@@ -1,0 +1,103 @@
+//! Exports on texts: how many places a pattern has, which, and pieces of the text.
+ghost use Rattle.std.specs.Prelude.{◌≡◌};
+ghost use Rattle.std.specs.Option.{option_and_then};
+ghost use Rattle.vers_c.specs.Makes.{IsMade};
+ghost use Rattle.vers_c.specs.TextAnswers.{contents_count, pattern_places, piece, text_made};
+ghost use Rattle.vers_c.specs.Structures.{contents};
+
+use crate::answer::Answer;
+use crate::handle::VersHandle;
+use crate::kept::Kept;
+use crate::owners::{fill, fill_made, put, taken};
+use crate::status::{NO_MEMORY, OCCUPIED, REFUSED};
+use crate::text::is_text;
+use std::alloc::Global;
+use text_index::TextIndex;
+
+/// Builds a text in which patterns are found: of symbols of `width` bits, with one place kept for each `step`. Symbols
+/// of no bits, of more than 16 or of more than told, more of them than 2^32 - 2, and a step of 0 are refused.
+#[unsafe(no_mangle)]
+pub extern "C" fn vers_text_build(
+    alloc: Global,
+    symbols: &[u64],
+    width: u32,
+    step: usize,
+    handle: &mut VersHandle,
+) -> u32
+    ensures { IsMade (text_made symbols.now width step) (contents handle.old) (contents handle.new) result }
+{
+    if handle.is_built {
+        return OCCUPIED;
+    }
+    if !is_text(symbols, width, step) {
+        return REFUSED;
+    }
+    match TextIndex::with_step(alloc, symbols, width as u16, step) {
+        Ok(text) => fill(alloc, handle, Kept::Text(text)),
+        Err(_) => NO_MEMORY,
+    }
+}
+
+/// How many places a pattern has in a text. The pattern without symbols has each place, and the end.
+#[unsafe(no_mangle)]
+pub extern "C" fn vers_count(alloc: Global, handle: &mut VersHandle, pattern: &[u64]) -> Answer
+    ensures value { result ≡ contents_count (contents handle.old) pattern.now }
+    ensures kept { contents handle.new ≡ contents handle.old }
+{
+    if !handle.is_built {
+        return Answer::vacant();
+    }
+    let owner = taken(alloc, handle);
+    let answer = owner.count(pattern);
+    put(handle, owner);
+    answer
+}
+
+/// Puts the places of a pattern in a text, ascending, into another handle, as plain numbers. The handles are two.
+#[unsafe(no_mangle)]
+pub extern "C" fn vers_places(
+    alloc: Global,
+    handle: &mut VersHandle,
+    pattern: &[u64],
+    into: &mut VersHandle,
+) -> u32
+    ensures made { IsMade (option_and_then (λ held. pattern_places held pattern.now) (contents handle.old))
+        (contents into.old) (contents into.new) result }
+    ensures kept { contents handle.new ≡ contents handle.old }
+{
+    if into.is_built {
+        return OCCUPIED;
+    }
+    if !handle.is_built {
+        return REFUSED;
+    }
+    let owner = taken(alloc, handle);
+    let made = owner.places(alloc, pattern);
+    put(handle, owner);
+    fill_made(alloc, into, made)
+}
+
+/// Puts the symbols of a text from one place up to another into another handle, as plain numbers. The handles are two.
+#[unsafe(no_mangle)]
+pub extern "C" fn vers_extract(
+    alloc: Global,
+    handle: &mut VersHandle,
+    from: usize,
+    to: usize,
+    into: &mut VersHandle,
+) -> u32
+    ensures made { IsMade (option_and_then (λ held. piece held from to) (contents handle.old))
+        (contents into.old) (contents into.new) result }
+    ensures kept { contents handle.new ≡ contents handle.old }
+{
+    if into.is_built {
+        return OCCUPIED;
+    }
+    if !handle.is_built {
+        return REFUSED;
+    }
+    let owner = taken(alloc, handle);
+    let made = owner.extract(from, to);
+    put(handle, owner);
+    fill_made(alloc, into, made)
+}
