@@ -174,7 +174,7 @@ BREAKS = {
     "cites /srv/": ("README.md", "# ", "# In /srv/kit "),
     "cites `no_reads`": (DEFINITIONS, "no_reads", "none_read"),
     "cites `less`": (TALLY, "no_reads, one_more", "less as no_reads, one_more"),
-    "imports `proofs.Own` of vers_bits": (f"{RANK}proofs/Ranks.antt", "vers_bits.proofs.PublicLaws", "vers_bits.proofs.Own"),
+    "imports `proofs.Own` of vers_bits": (f"{RANK}proofs/Names.antt", "vers_bits.proofs.PublicLaws", "vers_bits.proofs.Own"),
     "imports `proofs.TreesLaws` of vers_vecs": ("crates/vers_vecs/proofs/Lib.antt", "PublicLaws as Trees", "Own as Trees"),
     "imports `specs.inside` of vers_tally": (f"{RANK}src/fast_rs_vec.rt", "specs.Reads", "specs.inside.Reads"),
     "stands on `specs.inside.Queries`": (f"{RANK}specs/Rows.antt", "rank.specs.Queries", "rank.specs.inside.Queries"),
