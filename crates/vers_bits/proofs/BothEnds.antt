@@ -1,14 +1,9 @@
 -- Steps of iterators from both ends, for items of every type.
-use Rattle.std.proofs.Common.{◌≡◌, ℕ, ◌+◌, ◌-◌, ◌<◌, ◌≤◌, List, [], ◌∷◌, ◌++◌, Bool, false, map, option_map, Option, Some, None, length, get_or, min, take, drop, reverse, refl, sym, ◌∙◌, ap, arith, inl, inr, slice_get, append_assoc}
+use Rattle.vers_bits.proofs.Names.{◌≡◌, ℕ, ◌+◌, ◌-◌, ◌<◌, ◌≤◌, List, [], ◌∷◌, ◌++◌, Bool, false, map, Option, Some, None, length, get_or, min, take, drop, reverse, refl, sym, ◌∙◌, ap, arith, inl, inr, last_or, YieldsFirst, YieldsLast, MakesProgress, item_count, length-map, length-take, length-drop, get_or-take, get_or-drop, get_or-reverse, length-reverse, drop-drop, drop-take, drop_all, take_all, take_more, take_at, take-take, take-append-drop, length_push, reverse-append, reverse-reverse, append-nil, cases_lt, slice_get-map, slice_get_past, slice_get_cases, slice_get-get_or, get_or_from_slice_get, slice_get_within, bit_value, limb, limbs}
+use Rattle.std.proofs.Common.{option_map, slice_get, append_assoc}
 use Rattle.std.specs.Option.{option_to_list}
-use Rattle.std.specs.List.{last_or}
-use Rattle.std.specs.Iterator.{YieldsFirst, YieldsLast, MakesProgress, item_count}
-use Rattle.std.proofs.lemmas.List.{length-map, length-take, length-drop, get_or-take, get_or-drop, get_or-reverse, length-reverse, drop-drop, drop-take, drop_all, take_all, take_more, take_at, take-take, take-append-drop, length_push, reverse-append, reverse-reverse, append-nil}
-use Rattle.std.proofs.lemmas.List.FromFn.{length-map-range_with_len, get_or-map-range_with_len}
 use Rattle.std.proofs.lemmas.Slice.{between_from_start}
-use Rattle.std.proofs.lemmas.Bool.{cases_lt}
-use Rattle.std.proofs.lemmas.Option.{slice_get-map, slice_get_past, slice_get_cases, slice_get-get_or, get_or_from_slice_get, slice_get_within}
-use Rattle.vers_bits.specs.Bits.{bit_value, limb, limbs, limb_count}
+use Rattle.vers_bits.proofs.Equal.{length-limbs, get_or-limbs}
 use Rattle.vers_bits.specs.declared.walk.Span.{Span}
 use Rattle.vers_bits.specs.Walk.{TakesNth, TakesNthBack, TakesFirst, TakesLast, items_in, nth_passes, Step, PassesEachOnce, StaysEnded, NextIsNthOfZero, NextBackIsNthBackOfZero}
 use Rattle.vers_bits.specs.Walk.Step.{next, next_back, nth, nth_back}
@@ -20,13 +15,9 @@ module _ {X : Type 0} where
   unfolding items_in
   length-items_in xs s h = simp (length-take, length-drop) (omega arith)
 
-  pub items_in_all : (xs : List X) (n : ℕ) → n ≡ length xs → items_in xs (record { from = 0; to = n }) ≡ xs
+  items_in_none : (xs : List X) (s : Span) → s.to ≤ s.from → items_in xs s ≡ []
   unfolding items_in
-  items_in_all xs n e = between_from_start xs n ∙ take_all n xs (omega arith)
-
-  pub items_in_none : (xs : List X) (from to : ℕ) → to ≤ from → items_in xs (record { from = from; to = to }) ≡ []
-  unfolding items_in
-  items_in_none xs from to h = let z : to - from ≡ 0 = omega arith in rw z refl
+  items_in_none xs s h = let z : s.to - s.from ≡ 0 = omega arith in rw z refl
 
   items_in_few : (xs : List X) (s : Span) (n : ℕ) → s.to ≤ s.from + n → length (items_in xs s) ≤ n
   unfolding items_in
@@ -36,90 +27,67 @@ module _ {X : Type 0} where
   unfolding items_in
   get_or-items_in xs s k d h = get_or-take (s.to - s.from) (drop s.from xs) k d h ∙ get_or-drop s.from xs k d
 
-  drop-items_in : (xs : List X) (s : Span) (n m : ℕ) → n + m ≡ s.to - s.from → drop n (items_in xs s) ≡ items_in xs (record { from = s.from + n; to = s.to })
+  drop-items_in : (xs : List X) (s t : Span) (n m : ℕ) → n + m ≡ s.to - s.from → t.from ≡ s.from + n → t.to ≡ s.to → drop n (items_in xs s) ≡ items_in xs t
   unfolding items_in
-  drop-items_in xs s n m e =
-      let z : s.to - (s.from + n) ≡ m = omega arith in
-      rw (← e, drop-take n m (drop s.from xs), drop-drop, z) refl
+  drop-items_in xs s t n m e from to =
+      let z : t.to - t.from ≡ m = omega arith in
+      rw (← e, z, from, drop-take n m (drop s.from xs), drop-drop) refl
 
-  take-items_in : (xs : List X) (s : Span) (n : ℕ) → s.from + n ≤ s.to → take n (items_in xs s) ≡ items_in xs (record { from = s.from; to = s.from + n })
+  take-items_in : (xs : List X) (s t : Span) (n : ℕ) → s.from + n ≤ s.to → t.from ≡ s.from → t.to ≡ s.from + n → take n (items_in xs s) ≡ items_in xs t
   unfolding items_in
-  take-items_in xs s n h =
-      let z : s.from + n - s.from ≡ n = omega arith in
-      rw z (take-take n (s.to - s.from) (drop s.from xs) (omega arith))
+  take-items_in xs s t n h from to =
+      let z : t.to - t.from ≡ n = omega arith in
+      rw (z, from) (take-take n (s.to - s.from) (drop s.from xs) (omega arith))
 
-  -- ---- what a span that drops and gives makes of its items
-  pub nth_none : (n : ℕ) (xs : List X) (s : Span) → s.to ≤ s.from + n → TakesNth n (items_in xs s) None (items_in xs (record { from = s.to; to = s.to }))
-  nth_none n xs s h =
-      let few : length (items_in xs s) ≤ n = items_in_few xs s n h in
-      record { given = sym (slice_get_past (items_in xs s) n few); left = items_in_none xs s.to s.to (omega arith) ∙ sym (drop_all (n + 1) (items_in xs s) (omega arith)) }
-
-  pub nth_some : (n : ℕ) (xs : List X) (s : Span) (p : ℕ) (x : X) → s.to ≤ length xs → p ≡ s.from + n → p < s.to → slice_get xs p ≡ Some x
-      → TakesNth n (items_in xs s) (Some x) (items_in xs (record { from = p + 1; to = s.to }))
-  nth_some n xs s p x within here below is =
-      let inside : n < length (items_in xs s) = omega (arith, length-items_in xs s within) in
-      let at : get_or (items_in xs s) n x ≡ x = get_or-items_in xs s n x (omega arith) ∙ ap (λ k. get_or xs k x) (sym here) ∙ get_or_from_slice_get xs p x x is in
-      let from : s.from + (n + 1) ≡ p + 1 = omega arith in
-      record {
-        given = sym (slice_get-get_or (items_in xs s) n x inside ∙ ap Some at);
-        left = sym (drop-items_in xs s (n + 1) (s.to - (p + 1)) (omega arith) ∙ ap (λ k. items_in xs (record { from = k; to = s.to })) from);
-      }
-
-  pub nth_back_none : (n : ℕ) (xs : List X) (s : Span) → s.to ≤ s.from + n → TakesNthBack n (items_in xs s) None (items_in xs (record { from = s.to; to = s.to }))
-  nth_back_none n xs s h =
-      let few : length (items_in xs s) ≤ n = items_in_few xs s n h in
-      let none : length (items_in xs s) - (n + 1) ≡ 0 = omega arith in
-      record {
-        given = sym (slice_get_past (reverse (items_in xs s)) n (omega (arith, length-reverse (items_in xs s))));
-        left = items_in_none xs s.to s.to (omega arith) ∙ sym (ap (λ k. take k (items_in xs s)) none);
-      }
-
-  pub nth_back_some : (n : ℕ) (xs : List X) (s : Span) (p : ℕ) (x : X) → s.to ≤ length xs → p + n + 1 ≡ s.to → s.from ≤ p → slice_get xs p ≡ Some x
-      → TakesNthBack n (items_in xs s) (Some x) (items_in xs (record { from = s.from; to = p }))
-  nth_back_some n xs s p x within here below is =
-      let long : length (items_in xs s) ≡ s.to - s.from = length-items_in xs s within in
-      let inside : n < length (items_in xs s) = omega arith in
-      let number : length (items_in xs s) - 1 - n ≡ p - s.from = omega arith in
-      let place : s.from + (p - s.from) ≡ p = omega arith in
-      let kept : length (items_in xs s) - (n + 1) ≡ p - s.from = omega arith in
-      let at : get_or (reverse (items_in xs s)) n x ≡ x =
-      get_or-reverse (items_in xs s) n x inside
-      ∙ ap (λ k. get_or (items_in xs s) k x) number
-      ∙ get_or-items_in xs s (p - s.from) x (omega arith)
-      ∙ ap (λ k. get_or xs k x) place
-      ∙ get_or_from_slice_get xs p x x is in
-      record {
-        given = sym (slice_get-get_or (reverse (items_in xs s)) n x (omega (arith, length-reverse (items_in xs s))) ∙ ap Some at);
-        left = sym (ap (λ k. take k (items_in xs s)) kept ∙ take-items_in xs s (p - s.from) (omega arith) ∙ ap (λ k. items_in xs (record { from = s.from; to = k })) place);
-      }
-
-  -- ---- the same of an iterator, which is seen as the items in its span
-  items_in_same : (xs : List X) (s t : Span) → t.from ≡ s.from → t.to ≡ s.to → items_in xs t ≡ items_in xs s
-  unfolding items_in
-  items_in_same xs s t from to = rw (from, to) refl
-
+  -- ---- what a span that drops and gives makes of its items, where an iterator is seen as these
   pub all_items : (xs : List X) (s : Span) → s.from ≡ 0 → s.to ≡ length xs → items_in xs s ≡ xs
-  all_items xs s from to = items_in_same xs (record { from = 0; to = s.to }) s from refl ∙ items_in_all xs s.to to
+  unfolding items_in
+  all_items xs s from to = rw (from, to) (between_from_start xs (length xs) ∙ take_all (length xs) xs (omega arith))
 
   pub ended : (n : ℕ) (xs : List X) (s t : Span) {old : List X} {r : Option X} → items_in xs s ≡ old → (s.to ≤ s.from + n) × (t.from ≡ s.to) × (t.to ≡ s.to)
       → r ≡ None → TakesNth n old r (items_in xs t)
   ended n xs s t view none is =
-      rw (is, ← view, items_in_same xs (record { from = s.to; to = s.to }) t none.1 none.2) (nth_none n xs s none.0)
+      let few : length (items_in xs s) ≤ n = items_in_few xs s n none.0 in
+      rw (is, ← view) (record {
+        given = sym (slice_get_past (items_in xs s) n few);
+        left = items_in_none xs t (omega (arith, none.1, none.2)) ∙ sym (drop_all (n + 1) (items_in xs s) (omega arith));
+      })
 
   pub gave : (n : ℕ) (xs : List X) (s t : Span) {old : List X} {p : ℕ} {x : X} → items_in xs s ≡ old → s.to ≤ length xs
       → (p ≡ s.from + n) × (p < s.to) × (t.from ≡ p + 1) × (t.to ≡ s.to) → slice_get xs p ≡ Some x → TakesNth n old (Some x) (items_in xs t)
   gave n xs s t {p = p} {x = x} view within some is =
-      rw (← view, items_in_same xs (record { from = p + 1; to = s.to }) t some.2 some.3) (nth_some n xs s p x within some.0 some.1 is)
+      let at : get_or (items_in xs s) n x ≡ x =
+      get_or-items_in xs s n x (omega (arith, some.0, some.1)) ∙ ap (λ k. get_or xs k x) (sym some.0) ∙ get_or_from_slice_get xs p x x is in
+      rw (← view) (record {
+        given = sym (slice_get-get_or (items_in xs s) n x (omega (arith, some.0, some.1, length-items_in xs s within)) ∙ ap Some at);
+        left = sym (drop-items_in xs s t (n + 1) (s.to - (p + 1)) (omega (arith, some.0, some.1)) (omega (arith, some.0, some.2)) some.3);
+      })
 
   pub ended_back : (n : ℕ) (xs : List X) (s t : Span) {old : List X} {r : Option X} → items_in xs s ≡ old → (s.to ≤ s.from + n) × (t.from ≡ s.to) × (t.to ≡ s.to)
       → r ≡ None → TakesNthBack n old r (items_in xs t)
   ended_back n xs s t view none is =
-      rw (is, ← view, items_in_same xs (record { from = s.to; to = s.to }) t none.1 none.2) (nth_back_none n xs s none.0)
+      let few : length (items_in xs s) ≤ n = items_in_few xs s n none.0 in
+      let all : length (items_in xs s) - (n + 1) ≡ 0 = omega arith in
+      rw (is, ← view) (record {
+        given = sym (slice_get_past (reverse (items_in xs s)) n (omega (arith, length-reverse (items_in xs s))));
+        left = items_in_none xs t (omega (arith, none.1, none.2)) ∙ sym (ap (λ k. take k (items_in xs s)) all);
+      })
 
   pub gave_back : (n : ℕ) (xs : List X) (s t : Span) {old : List X} {p : ℕ} {x : X} → items_in xs s ≡ old → s.to ≤ length xs
       → (p + n + 1 ≡ s.to) × (s.from ≤ p) × (t.from ≡ s.from) × (t.to ≡ p) → slice_get xs p ≡ Some x → TakesNthBack n old (Some x) (items_in xs t)
   gave_back n xs s t {p = p} {x = x} view within some is =
-      rw (← view, items_in_same xs (record { from = s.from; to = p }) t some.2 some.3) (nth_back_some n xs s p x within some.0 some.1 is)
+      let long : length (items_in xs s) ≡ s.to - s.from = length-items_in xs s within in
+      let inside : n < length (items_in xs s) = omega (arith, some.0, some.1) in
+      let number : length (items_in xs s) - 1 - n ≡ p - s.from = omega (arith, some.0, some.1) in
+      let kept : length (items_in xs s) - (n + 1) ≡ p - s.from = omega (arith, some.0, some.1) in
+      let place : s.from + (p - s.from) ≡ p = omega (arith, some.1) in
+      let at : get_or (reverse (items_in xs s)) n x ≡ x =
+      get_or-reverse (items_in xs s) n x inside ∙ ap (λ k. get_or (items_in xs s) k x) number ∙ get_or-items_in xs s (p - s.from) x (omega (arith, some.0, some.1))
+      ∙ ap (λ k. get_or xs k x) place ∙ get_or_from_slice_get xs p x x is in
+      rw (← view) (record {
+        given = sym (slice_get-get_or (reverse (items_in xs s)) n x (omega (arith, length-reverse (items_in xs s))) ∙ ap Some at);
+        left = sym (ap (λ k. take k (items_in xs s)) kept ∙ take-items_in xs s t (p - s.from) (omega (arith, some.0, some.1)) some.2 (omega (arith, some.1, some.3)));
+      })
 
   -- ---- what the traits ask of `next` and `next_back`
   pub yields_first : (old : List X) (r : Option X) (new : List X) → TakesFirst old r new → YieldsFirst (λ (s : List X). s) old r new
@@ -267,15 +235,8 @@ bit_item bits p x h is =
     ∙ ap Some (sym is)
 
 -- ---- items that are the limbs of a list
-pub length-limbs : (bits : List Bool) → length (limbs bits) ≡ limb_count (length bits)
-unfolding limbs
-length-limbs bits = length-map-range_with_len (limb bits) 0 (limb_count (length bits))
-
 pub limb_item : (bits : List Bool) (k x : ℕ) → k < length (limbs bits) → x ≡ limb bits k → slice_get (limbs bits) k ≡ Some x
-unfolding limbs
-limb_item bits k x h is =
-    let inside : k < limb_count (length bits) = omega (arith, length-limbs bits) in
-    slice_get-get_or (limbs bits) k 0 h ∙ ap Some (get_or-map-range_with_len (limb bits) 0 (limb_count (length bits)) k k 0 inside (omega arith) ∙ sym is)
+limb_item bits k x h is = slice_get-get_or (limbs bits) k 0 h ∙ ap Some (get_or-limbs bits k (omega (arith, length-limbs bits)) ∙ sym is)
 
 -- makers, lengths and the last item
 pub ruleset lists = (all_items, length-items_in, last_is)

@@ -1,17 +1,9 @@
 -- Sums over the chunks of a list, and lists whose chunks are the same.
-use Rattle.std.proofs.Common.{◌≡◌, ℕ, zero, suc, map, ◌+◌, ◌*◌, ◌<◌, ◌≤◌, Bool, true, false, List, [], ◌++◌, take, drop, length, get_or, eqb, refl, sym, ap, ◌∙◌, arith, Fits, w64}
-use Rattle.std.specs.Prelude.{sum_by, count_ones}
-use Rattle.std.specs.List.{range_with_len}
-use Rattle.std.specs.Simd.{first_chunks}
-use Rattle.std.specs.Bool.{Decides}
+use Rattle.vers_bits.proofs.Names.{◌≡◌, ℕ, zero, suc, map, ◌+◌, ◌*◌, ◌≤◌, Bool, true, false, List, [], ◌++◌, take, drop, length, get_or, eqb, refl, sym, ap, ◌∙◌, arith, Fits, w64, sum_by, count_ones, range_with_len, first_chunks, Decides, drop-drop, take-append-drop, sum_by-map-range_with_len_more, sum_by-cons, sum_by-take-drop, sum_by-le, ones-le, count, limb, limb_count}
 use Rattle.std.specs.Cmp.Lexicographic.{pointwise}
-use Rattle.std.proofs.lemmas.List.{drop-drop, take-append-drop, same_lists, places}
-use Rattle.std.proofs.lemmas.List.FromFn.{sum_by-map-range_with_len_more}
 use Rattle.std.proofs.lemmas.List.Elements.{All-from_get_or}
-use Rattle.std.proofs.lemmas.List.Sums.{sum_by-cons, sum_by-take-drop, sum_by-le}
-use Rattle.std.proofs.lemmas.Nat.{ones-le}
 use Rattle.std.proofs.lemmas.Slice.Eq.{bytes_eq-Decides}
-use Rattle.vers_bits.specs.Bits.{count, limb, limbs, limb_count}
+use Rattle.vers_bits.specs.Bits.{limbs}
 use Rattle.vers_bits.proofs.Count.{count_limb_whole, count_none, count_past}
 use Rattle.vers_bits.proofs.Equal.{length-limbs}
 
@@ -30,11 +22,6 @@ chunks-sum f n (suc k) xs =
 -- words of 64 bits have no more than 64 ones each
 pub ones-bound : (xs : List ℕ) → ((k : ℕ) → Fits w64 (get_or xs k 0)) → sum_by count_ones xs ≤ length xs * 64
 ones-bound xs fits = sum_by-le count_ones 64 xs (All-from_get_or (λ x. count_ones x ≤ 64) xs 0 (λ i _. ones-le 64 _ (fits i).fits))
-
--- lists of one length whose places hold the same
-pub same_by_places : {X : Type 0} (d : X) (xs ys : List X) → length xs ≡ length ys → ((i : ℕ) → i < length xs → get_or xs i d ≡ get_or ys i d) → xs ≡ ys
-same_by_places d xs ys e each =
-    same_lists xs ys e (λ i o h. let here : get_or xs i d ≡ get_or ys i d = each i h in grind (arith, places))
 
 -- lists with the same chunks and the same rest are the same
 pub same_chunks : (n k : ℕ) (xs ys : List ℕ) → first_chunks n k xs ≡ first_chunks n k ys → drop (k * n) xs ≡ drop (k * n) ys → xs ≡ ys

@@ -1,12 +1,6 @@
 -- How many of the first places hold a bit.
-use Rattle.std.proofs.Common.{◌≡◌, ℕ, ◌+◌, ◌-◌, ◌*◌, ◌%◌, ◌^◌, ◌≤◌, min, Bool, true, false, cond, List, [], ◌∷◌, length, take, drop, refl, sym, ap, ◌∙◌, arith, inl, inr}
-use Rattle.std.specs.List.{count_by}
-use Rattle.std.specs.Prelude.{count_ones}
-use Rattle.std.proofs.lemmas.List.{length-take, take_all, take-take}
-use Rattle.std.proofs.lemmas.List.Sums.{sum_by-cons, sum_by-append, count_by-le-length}
-use Rattle.std.proofs.Math.Seq.{take-add}
-use Rattle.std.proofs.lemmas.Bool.{cases_lt}
-use Rattle.vers_bits.specs.Bits.{number, is_bit, count, limb}
+use Rattle.vers_bits.proofs.Names.{◌≡◌, ℕ, ◌+◌, ◌-◌, ◌*◌, ◌%◌, ◌^◌, ◌≤◌, min, Bool, true, false, cond, List, [], ◌∷◌, length, take, drop, refl, sym, ap, ◌∙◌, arith, inl, inr, count_by, count_ones, length-take, take_all, take-take, sum_by-cons, sum_by-append, count_by-le-length, take-add, cases_lt, number, is_bit}
+use Rattle.vers_bits.specs.Bits.{count, limb}
 use Rattle.vers_bits.proofs.Num.{number-take, ones-number}
 
 pub count_none : (b : Bool) (l : List Bool) → count b l 0 ≡ 0

@@ -1,15 +1,9 @@
 -- Counts and numbers of parts of a list, by its limbs.
-use Rattle.std.proofs.Common.{◌≡◌, ℕ, ◌+◌, ◌-◌, ◌*◌, ◌/◌, ◌%◌, ◌^◌, ◌<◌, ◌≤◌, Bool, List, [], ◌∷◌, ◌++◌, length, take, drop, refl, sym, ap, ◌∙◌, inl, inr, arith, Some, None}
+use Rattle.vers_bits.proofs.Names.{◌≡◌, ℕ, ◌+◌, ◌-◌, ◌*◌, ◌/◌, ◌%◌, ◌^◌, ◌<◌, ◌≤◌, Bool, List, [], ◌∷◌, ◌++◌, length, take, drop, refl, sym, ap, ◌∙◌, inl, inr, arith, Some, None, bit_and, bit_or, cases_lt, div-mul-add, mod-mul-add, mod-pow-add, mod_below, mul-mod_first, or_comm, or_shifted, pow_pos, pow-add, shl_whole, mod-eq_of_lt, mul-add-mod_self_right, mul-div_cancel, mul-mod_left, mul_assoc, mul_comm, pow-suc, take-add, length-take, length-drop, take-take, drop-drop, drop-take, number}
 use Rattle.std.specs.Int.Bits.{or_shifted_r}
-use Rattle.std.specs.Prelude.{bit_and, bit_or}
-use Rattle.std.proofs.lemmas.Bool.{cases_lt}
 use Rattle.std.proofs.lemmas.Bool.Decides.{nat_tests}
-use Rattle.std.proofs.lemmas.Nat.{div-mul-add, mod-mul-add, mod-pow-add, mod_below, mul-mod_first, or_comm, or_shifted, pow_pos, pow-add, shl_whole}
-use Rattle.std.proofs.Math.Nat.{mod-eq_of_lt, mul-add-mod_self_right, mul-div_cancel, mul-mod_left, mul_assoc, mul_comm, pow-suc}
 use Rattle.std.proofs.Math.Pow.{mod-mod-pow, shr_lt}
-use Rattle.std.proofs.Math.Seq.{take-add}
-use Rattle.std.proofs.lemmas.List.{length-take, length-drop, take-take, drop-drop, drop-take}
-use Rattle.vers_bits.specs.Bits.{number, limb, part_number}
+use Rattle.vers_bits.specs.Bits.{limb, part_number}
 use Rattle.vers_bits.proofs.Words.{length-word_bits, limb-lt}
 use Rattle.vers_bits.proofs.LowBits.{low_mask}
 use Rattle.vers_bits.proofs.Num.{number-take, number-drop}

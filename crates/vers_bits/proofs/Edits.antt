@@ -1,14 +1,6 @@
 -- What an edit of the words does to the list that they hold.
-use Rattle.std.proofs.Common.{◌≡◌, ℕ, zero, suc, ◌+◌, ◌*◌, ◌/◌, ◌%◌, ◌^◌, ◌<◌, ◌≤◌, Bool, true, false, not, eqb, List, length, get_or, set, take, refl, sym, ap, ◌∙◌, inl, inr, arith, w64}
-use Rattle.std.specs.Int.{bit_at, bit_not}
-use Rattle.std.specs.Prelude.{bit_and, bit_or, bit_xor}
-use Rattle.std.proofs.lemmas.Bool.{cases_eq}
-use Rattle.std.proofs.lemmas.Nat.{one_shl}
-use Rattle.std.proofs.lemmas.Nat.Bits.{bit_at-lt, bit_at_xor, bit_at-pow_same, bit_at-pow_other, bit_at_set_same, bit_at_set_other, bit_at_clear_same, bit_at_clear_other}
-use Rattle.std.proofs.lemmas.List.{get_or-take, get_or-set_same, get_or-set_other, length-take, length-set}
-use Rattle.vers_bits.specs.Bits.{limb_count}
-use Rattle.vers_bits.specs.inside.Words.{word_bit, word_bits, HoldsBits, CutsTo, Puts}
-use Rattle.vers_bits.proofs.Words.{length-word_bits, get_or-word_bits, word_bits_are, take-word_bits, past_words}
+use Rattle.vers_bits.proofs.Names.{◌≡◌, ℕ, ◌+◌, ◌*◌, ◌/◌, ◌%◌, ◌^◌, ◌<◌, ◌≤◌, Bool, true, false, not, eqb, List, length, get_or, set, take, refl, sym, ap, ◌∙◌, inl, inr, arith, w64, bit_at, bit_not, bit_and, bit_or, bit_xor, cases_eq, get_or_default_zero, one_shl, bit_at-lt, bit_at_xor, bit_at-pow_same, bit_at-pow_other, bit_at_set_same, bit_at_set_other, bit_at_clear_same, bit_at_clear_other, get_or-take, get_or-set_same, get_or-set_other, length-take, length-set, limb_count, word_bit, word_bits, HoldsBits, AddsBit, CutsTo, Puts, agree_below_at}
+use Rattle.vers_bits.proofs.Words.{length-word_bits, get_or-word_bits, word_bits_are, take-word_bits, past_words, set_here, set_apart}
 use Rattle.vers_bits.proofs.LowBits.{bit_at_mod, bit_at_mod_above}
 
 -- ---- a cut
@@ -47,17 +39,15 @@ module _ (ws : List ℕ) (n : ℕ) (enough : limb_count n ≤ length ws) where
       let w : ℕ = get_or front (n / 64) 0 in
       let v : ℕ = w % 2 ^ (n % 64) in
       let within : n / 64 < length front = omega (arith, length-front) in
-      let at_last = λ (i : ℕ) (e : i / 64 ≡ n / 64). ap (λ q. eqb (bit_at (get_or (set front (n / 64) v) q 0) (i % 64)) 1) e ∙ ap (λ x. eqb (bit_at x (i % 64)) 1) (get_or-set_same front (n / 64) v 0 within) in
-      let at_other = λ (i : ℕ) (e : i / 64 ≡ n / 64 → ⊥). ap (λ x. eqb (bit_at x (i % 64)) 1) (get_or-set_other front (n / 64) (i / 64) v 0 e) in
       record {
         counted = length-set front (n / 64) v ∙ length-front;
         below = λ i h. elim (cases_eq (i / 64) (n / 64)) [
-          | inl e ↦ at_last i e ∙ ap (λ m. eqb m 1) (bit_at_mod w (n % 64) (i % 64) (omega arith)) ∙ ap (λ q. eqb (bit_at (get_or front q 0) (i % 64)) 1) (sym e) ∙ front_bit i h
-          | inr e ↦ at_other i e ∙ front_bit i h
+          | inl e ↦ set_here front (n / 64) v i within e ∙ ap (λ m. eqb m 1) (bit_at_mod w (n % 64) (i % 64) (omega arith)) ∙ ap (λ q. eqb (bit_at (get_or front q 0) (i % 64)) 1) (sym e) ∙ front_bit i h
+          | inr e ↦ set_apart front (n / 64) v i e ∙ front_bit i h
         ];
         padded = λ i h. elim (cases_eq (i / 64) (n / 64)) [
-          | inl e ↦ at_last i e ∙ ap (λ m. eqb m 1) (bit_at_mod_above w (n % 64) (i % 64) (omega arith))
-          | inr e ↦ at_other i e ∙ past_words front i (omega (arith, length-front))
+          | inl e ↦ set_here front (n / 64) v i within e ∙ ap (λ m. eqb m 1) (bit_at_mod_above w (n % 64) (i % 64) (omega arith))
+          | inr e ↦ set_apart front (n / 64) v i e ∙ past_words front i (omega (arith, length-front))
         ];
       }
 
@@ -84,20 +74,15 @@ module _ (ws : List ℕ) (p x : ℕ) (b : Bool) (within : p / 64 < length ws) wh
       → Puts ws (set ws (p / 64) x) p b
   puts_by on off = record {
     counted = length-set ws (p / 64) x;
-    here = ap (λ w. eqb (bit_at w (p % 64)) 1) (get_or-set_same ws (p / 64) x 0 within) ∙ on;
+    here = set_here ws (p / 64) x p within refl ∙ on;
     others = λ i other. elim (cases_eq (i / 64) (p / 64)) [
-      | inl e ↦ ap (λ q. eqb (bit_at (get_or (set ws (p / 64) x) q 0) (i % 64)) 1) e
-          ∙ ap (λ w. eqb (bit_at w (i % 64)) 1) (get_or-set_same ws (p / 64) x 0 within)
-          ∙ ap (λ m. eqb m 1) (off (i % 64) (omega arith) (omega arith))
-          ∙ ap (λ q. eqb (bit_at (get_or ws q 0) (i % 64)) 1) (sym e)
-      | inr e ↦ ap (λ w. eqb (bit_at w (i % 64)) 1) (get_or-set_other ws (p / 64) (i / 64) x 0 e)
+      | inl e ↦ set_here ws (p / 64) x i within e ∙ ap (λ m. eqb m 1) (off (i % 64) (omega arith) (omega arith)) ∙ ap (λ q. eqb (bit_at (get_or ws q 0) (i % 64)) 1) (sym e)
+      | inr e ↦ set_apart ws (p / 64) x i e
     ];
   }
 
 flipped_bit : (m : ℕ) → m < 2 → eqb ((m + 1) % 2) 1 ≡ not (eqb m 1)
-flipped_bit zero h = refl
-flipped_bit (suc zero) h = refl
-flipped_bit (suc (suc m)) h = absurd (omega arith)
+flipped_bit m h = agree_below_at (λ m. eqb ((m + 1) % 2) 1) (λ m. not (eqb m 1)) 2 m refl h
 
 module _ (ws : List ℕ) (p : ℕ) (within : p / 64 < length ws) where
   abbrev word : ℕ
@@ -120,5 +105,20 @@ module _ (ws : List ℕ) (p : ℕ) (within : p / 64 < length ws) where
       puts_by ws p (bit_xor word (1 * 2 ^ (p % 64) % 2 ^ 64)) (not (word_bit ws p)) within
       (ap (λ m. eqb m 1) (digit (p % 64) ∙ ap (λ m. (bit_at word (p % 64) + m) % 2) (bit_at-pow_same (p % 64))) ∙ flipped_bit (bit_at word (p % 64)) (bit_at-lt word (p % 64)))
       (λ i h e. digit i ∙ ap (λ m. (bit_at word i + m) % 2) (bit_at-pow_other (p % 64) i e) ∙ omega (arith, bit_at-lt word i))
+
+-- ---- one bit more, in the last word
+
+pub adds_by_set : (ws : List ℕ) (n w : ℕ) (b : Bool) → HoldsBits ws n → 0 < n % 64 → w ≡ get_or ws (n / 64) w → b ≡ true
+    → AddsBit ws (set ws (n / 64) (bit_or w (1 * 2 ^ (n % 64) % 2 ^ 64))) n b
+adds_by_set ws n w b holds part read on =
+    let within : n / 64 < length ws = omega (arith, holds.counted) in
+    let one = puts_one ws n within in
+    rw (read ∙ get_or_default_zero ws (n / 64) w within, on) (record { counted = omega (arith, one.counted, holds.counted); here = one.here; others = one.others })
+
+-- a false bit is there already
+pub adds_by_none : (ws : List ℕ) (n : ℕ) (b : Bool) → HoldsBits ws n → 0 < n % 64 → b ≡ false → AddsBit ws ws n b
+adds_by_none ws n b holds part off = rw off (record { counted = omega (arith, holds.counted); here = holds.padded n (omega arith); others = λ i other. refl })
+
+pub ruleset steps = (adds_by_set, adds_by_none)
 
 pub ruleset edits = (cut_bits, cut_holds, put_bits, put_holds, get_or-word_bits)

@@ -1,18 +1,11 @@
 -- The words follow from the bits that they hold.
-use Rattle.std.proofs.Common.{◌≡◌, ℕ, ◌+◌, ◌*◌, ◌/◌, ◌%◌, ◌^◌, ◌<◌, Bool, true, false, eqb, List, length, get_or, take, drop, refl, sym, ◌∙◌, ap, arith}
-use Rattle.std.proofs.lemmas.List.FromFn.{fill_by_all, length-map-range_with_len, get_or-map-range_with_len}
-use Rattle.std.proofs.lemmas.List.{same_lists, places, get_or-take, get_or-drop}
-use Rattle.std.proofs.lemmas.Bool.{false≢true}
-use Rattle.std.specs.Int.{bit_at}
-use Rattle.std.specs.Bool.{Decides}
+use Rattle.vers_bits.proofs.Names.{◌≡◌, ℕ, ◌+◌, ◌*◌, ◌/◌, ◌%◌, ◌^◌, ◌<◌, Bool, true, false, eqb, List, length, get_or, refl, sym, ◌∙◌, ap, arith, fill_by_all, length-map-range_with_len, get_or-map-range_with_len, ext_get_or, false≢true, bit_at, Decides, bit_value, limb, limb_count, word_bits, HoldsBits}
 use Rattle.std.specs.Cmp.Lexicographic.{pointwise}
 use Rattle.std.proofs.lemmas.Slice.Eq.{bytes_eq-Decides}
-use Rattle.vers_bits.specs.Equality.{same_bits-Decides}
-use Rattle.vers_bits.specs.Bits.{bit_value, limb, limbs, limb_count}
-use Rattle.vers_bits.specs.inside.Words.{word_bits, HoldsBits}
-use Rattle.vers_bits.specs.Equality.{same_bits}
+use Rattle.vers_bits.specs.Bits.{limbs}
+use Rattle.vers_bits.specs.Equality.{same_bits, same_bits-Decides}
 use Rattle.vers_bits.proofs.Words.{length-word_bits, limb-word_bits}
-use Rattle.vers_bits.proofs.Num.{bit_at-number}
+use Rattle.vers_bits.proofs.Num.{limb_bit}
 
 pub limbs-word_bits : (words : List ℕ) (n : ℕ) → HoldsBits words n → ((k : ℕ) → get_or words k 0 < 2 ^ 64) → words ≡ limbs (word_bits words n)
 unfolding limbs
@@ -22,11 +15,7 @@ limbs-word_bits words n h fits =
 
 -- place i of a list is a digit of its limb
 pub bit_at-limb : (l : List Bool) (i : ℕ) → bit_at (limb l (i / 64)) (i % 64) ≡ bit_value (get_or l i false)
-unfolding limb
-bit_at-limb l i =
-    let place : 64 * (i / 64) + i % 64 ≡ i = omega arith in
-    bit_at-number (take 64 (drop (64 * (i / 64)) l)) (i % 64)
-    ∙ ap bit_value (get_or-take 64 (drop (64 * (i / 64)) l) (i % 64) false (omega arith) ∙ get_or-drop (64 * (i / 64)) l (i % 64) false ∙ ap (λ p. get_or l p false) place)
+bit_at-limb l i = let place : 64 * (i / 64) + i % 64 ≡ i = omega arith in limb_bit l (i / 64) (i % 64) (omega arith) ∙ ap (λ p. bit_value (get_or l p false)) place
 
 pub length-limbs : (l : List Bool) → length (limbs l) ≡ limb_count (length l)
 unfolding limbs
@@ -35,9 +24,6 @@ length-limbs l = length-map-range_with_len (limb l) 0 (limb_count (length l))
 pub get_or-limbs : (l : List Bool) (k : ℕ) → k < limb_count (length l) → get_or (limbs l) k 0 ≡ limb l k
 unfolding limbs
 get_or-limbs l k h = get_or-map-range_with_len (limb l) 0 (limb_count (length l)) k k 0 h (omega arith)
-
-limb-limbs : (l : List Bool) (i : ℕ) → i < length l → get_or (limbs l) (i / 64) 0 ≡ limb l (i / 64)
-limb-limbs l i h = get_or-limbs l (i / 64) (omega arith)
 
 same_value : (x y : Bool) → bit_value x ≡ bit_value y → x ≡ y
 same_value true true e = refl
@@ -48,12 +34,10 @@ same_value false false e = refl
 -- lists of one length with equal limbs are equal
 pub equal_limbs : (xs ys : List Bool) → length xs ≡ length ys → limbs xs ≡ limbs ys → xs ≡ ys
 equal_limbs xs ys e same =
-    same_lists xs ys e (λ i d h.
+    ext_get_or false xs ys e (λ i h.
     let held : limb xs (i / 64) ≡ limb ys (i / 64) =
-    sym (limb-limbs xs i h) ∙ ap (λ l. get_or l (i / 64) 0) same ∙ limb-limbs ys i (omega arith) in
-    let here : get_or xs i false ≡ get_or ys i false =
-    same_value _ _ (sym (bit_at-limb xs i) ∙ ap (λ w. bit_at w (i % 64)) held ∙ bit_at-limb ys i) in
-    grind (arith, places))
+    sym (get_or-limbs xs (i / 64) (omega arith)) ∙ ap (λ l. get_or l (i / 64) 0) same ∙ get_or-limbs ys (i / 64) (omega arith) in
+    same_value _ _ (sym (bit_at-limb xs i) ∙ ap (λ w. bit_at w (i % 64)) held ∙ bit_at-limb ys i))
 
 -- two tests of facts that imply each other
 decides_same : (r s : Bool) (P Q : Type 0) → Decides r P → Decides s Q → (P → Q) → (Q → P) → r ≡ s

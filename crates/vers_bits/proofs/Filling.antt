@@ -1,10 +1,5 @@
 -- Words that are all alike.
-use Rattle.std.proofs.Common.{◌≡◌, ℕ, ◌/◌, ◌%◌, ◌<◌, Bool, true, false, cond, eqb, List, get_or, replicate, sym, ap, ◌∙◌, arith}
-use Rattle.std.specs.Int.{bit_at}
-use Rattle.std.proofs.lemmas.Nat.Bits.{bit_at_ones, bit_at-zero}
-use Rattle.std.proofs.lemmas.List.{get_or-replicate, length-replicate}
-use Rattle.vers_bits.specs.Bits.{limb_count}
-use Rattle.vers_bits.specs.inside.Words.{word_bits, CutsTo}
+use Rattle.vers_bits.proofs.Names.{◌≡◌, ℕ, ◌/◌, ◌%◌, ◌<◌, Bool, true, false, cond, eqb, List, get_or, replicate, sym, ap, ◌∙◌, arith, bit_at, bit_at_ones, bit_at-zero, get_or-replicate, length-replicate, limb_count, word_bits, CutsTo}
 use Rattle.vers_bits.proofs.Words.{word_bits_are}
 use Rattle.vers_bits.proofs.Edits.{cut_holds}
 

@@ -1,13 +1,8 @@
 -- Bits that are gathered in a word.
-use Rattle.std.proofs.Common.{◌≡◌, ℕ, suc, ◌+◌, ◌-◌, ◌*◌, ◌/◌, ◌%◌, ◌^◌, ◌<◌, ◌≤◌, Bool, true, false, List, [], ◌∷◌, ◌++◌, length, map, take, drop, get_or, refl, sym, ap, ◌∙◌, append_assoc, arith}
-use Rattle.std.specs.Prelude.{bit_or}
+use Rattle.vers_bits.proofs.Names.{◌≡◌, ℕ, suc, ◌+◌, ◌-◌, ◌*◌, ◌/◌, ◌%◌, ◌^◌, ◌<◌, ◌≤◌, Bool, true, false, List, [], ◌∷◌, ◌++◌, length, map, take, drop, get_or, refl, sym, ap, ◌∙◌, arith, bit_or, pow-le-pow_right, drop-cons, length-append, length-map, length_push, map-append, take-append-drop, div-mul-add, mod-mul-add, pow-add, shl_whole, bool_byte, bit_value, number}
+use Rattle.std.proofs.Common.{append_assoc}
 use Rattle.std.specs.Int.Bits.{or_shifted_r}
-use Rattle.std.proofs.Math.Nat.{pow-le-pow_right}
-use Rattle.std.proofs.Math.Seq.{drop-cons}
-use Rattle.std.proofs.lemmas.List.{length-append, length-map, length_push, map-append, take-append-drop}
-use Rattle.std.proofs.lemmas.Nat.{div-mul-add, mod-mul-add, pow-add, shl_whole}
-use mir.Val.{bool_byte}
-use Rattle.vers_bits.specs.Bits.{bit_value, number, low_bits}
+use Rattle.vers_bits.specs.Bits.{low_bits}
 use Rattle.vers_bits.proofs.Num.{number-lt, bit_value_le}
 use Rattle.vers_bits.proofs.LowBits.{length-low_bits, low_bits-add, low_bits_of_number, low_bits_of_rest}
 

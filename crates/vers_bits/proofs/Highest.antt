@@ -1,10 +1,6 @@
 -- The highest bit of a number.
-use Rattle.std.proofs.Common.{◌≡◌, ℕ, suc, ◌-◌, ◌/◌, ◌^◌, ◌<◌, ◌≤◌, ap, ◌∙◌, arith}
-use Rattle.std.specs.Int.{bit_at}
+use Rattle.vers_bits.proofs.Names.{◌≡◌, ℕ, suc, ◌-◌, ◌/◌, ◌^◌, ◌<◌, ◌≤◌, ap, ◌∙◌, arith, bit_at, pow-suc, pow_pos, leading_top, le-div, div_below, bit_at_above}
 use Rattle.std.specs.Int.Count.{count_leading_zeros}
-use Rattle.std.proofs.Math.Nat.{pow-suc}
-use Rattle.std.proofs.lemmas.Nat.{pow_pos, leading_top, le-div, div_below}
-use Rattle.std.proofs.lemmas.Nat.Bits.{bit_at_above}
 
 pub top_bit : (n m : ℕ) → 2 ^ m ≤ n → n < 2 ^ suc m → bit_at n m ≡ 1
 top_bit n m low high =

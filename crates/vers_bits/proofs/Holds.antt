@@ -1,14 +1,6 @@
 -- Words that hold a list of bits: what an edit of the words does to the list.
-use Rattle.std.proofs.Common.{◌≡◌, ℕ, ◌+◌, ◌-◌, ◌*◌, ◌/◌, ◌%◌, ◌^◌, ◌<◌, ◌≤◌, max, Bool, false, eqb, List, [], ◌∷◌, ◌++◌, length, get_or, set, take, replicate, refl, sym, ap, ◌∙◌, inl, inr, arith}
-use Rattle.std.specs.Int.{bit_at}
-use Rattle.std.specs.Prelude.{bit_or}
-use Rattle.std.proofs.lemmas.Bool.{cases_lt, cases_eq}
-use Rattle.std.proofs.lemmas.Nat.{shr-shr, pow_pos}
-use Rattle.std.proofs.lemmas.Nat.Bits.{bit_at-lt, bit_at_or, bit_at_above, bit_at_cat_low, bit_at_cat_high, bit_at-zero}
-use Rattle.std.proofs.lemmas.List.{get_or_past, get_or_push, get_or_append_left, get_or-append_right, get_or-set_same, get_or-set_other, length-append, length-replicate, get_or-replicate, length_push, length-set, take_all}
-use Rattle.vers_bits.specs.Bits.{bit_value, low_bits, limb_count}
-use Rattle.vers_bits.specs.inside.Words.{word_bit, word_bits, HoldsBits, Holds}
-use Rattle.vers_bits.proofs.Words.{length-word_bits, get_or-word_bits, word_bits_are, past_words}
+use Rattle.vers_bits.proofs.Names.{◌≡◌, ℕ, ◌+◌, ◌-◌, ◌*◌, ◌/◌, ◌%◌, ◌^◌, ◌<◌, ◌≤◌, max, Bool, false, eqb, List, [], ◌∷◌, ◌++◌, length, get_or, set, take, replicate, refl, sym, ap, ◌∙◌, inl, inr, arith, bit_at, bit_or, cases_lt, cases_eq, shr-shr, pow_pos, bit_at-lt, bit_at_or, bit_at_above, bit_at_cat_low, bit_at_cat_high, bit_at-zero, get_or_past, get_or_push, get_or_append_left, get_or-append_right, length-append, length-replicate, get_or-replicate, length_push, length-set, take_all, bit_value, low_bits, limb_count, word_bit, word_bits, HoldsBits, Holds}
+use Rattle.vers_bits.proofs.Words.{length-word_bits, get_or-word_bits, word_bits_are, past_words, set_here, set_apart}
 use Rattle.vers_bits.proofs.LowBits.{length-low_bits, get_or-low_bits, bit_at_mod, bit_value_test}
 
 pub held_bits : {ws : List ℕ} {n : ℕ} {l : List Bool} → Holds ws n l → word_bits ws n ≡ l
@@ -123,19 +115,16 @@ module _ (ws : List ℕ) (n v k : ℕ) (holds : HoldsBits ws n) (small : v < 2 ^
   set_early zs part within same i h =
       elim (cases_eq (i / 64) (n / 64)) [
         | inl here ↦
-            ap (λ q. eqb (bit_at (get_or (set zs (n / 64) last_word) q 0) (i % 64)) 1) here
-            ∙ ap (λ w. eqb (bit_at w (i % 64)) 1) (get_or-set_same zs (n / 64) last_word 0 within)
-            ∙ ap (λ m. eqb m 1) (last_word_low (i % 64) (omega arith) (omega arith))
-            ∙ ap (λ q. eqb (bit_at (get_or ws q 0) (i % 64)) 1) (sym here)
-        | inr apart ↦ ap (λ w. eqb (bit_at w (i % 64)) 1) (get_or-set_other zs (n / 64) (i / 64) last_word 0 apart ∙ same (i / 64) (omega (arith, holds.counted)))
+            set_here zs (n / 64) last_word i within here
+            ∙ ap (λ m. eqb m 1) (last_word_low (i % 64) (omega arith) (omega arith)) ∙ ap (λ q. eqb (bit_at (get_or ws q 0) (i % 64)) 1) (sym here)
+        | inr apart ↦ set_apart zs (n / 64) last_word i apart ∙ ap (λ w. eqb (bit_at w (i % 64)) 1) (same (i / 64) (omega (arith, holds.counted)))
       ]
 
   set_late : (zs : List ℕ) → n / 64 < length zs → (i : ℕ) → n ≤ i → i / 64 ≡ n / 64
       → word_bit (set zs (n / 64) last_word) i ≡ eqb (bit_at v (i - n)) 1
   set_late zs within i h here =
       let place : i % 64 - n % 64 ≡ i - n = omega arith in
-      ap (λ q. eqb (bit_at (get_or (set zs (n / 64) last_word) q 0) (i % 64)) 1) here
-      ∙ ap (λ w. eqb (bit_at w (i % 64)) 1) (get_or-set_same zs (n / 64) last_word 0 within)
+      set_here zs (n / 64) last_word i within here
       ∙ ap (λ m. eqb m 1) (last_word_high (i % 64) (omega arith) (omega arith))
       ∙ ap (λ p. eqb (bit_at v p) 1) place
 
@@ -171,7 +160,7 @@ module _ (ws : List ℕ) (n v k : ℕ) (holds : HoldsBits ws n) (small : v < 2 ^
           | inl next ↦
               let word : length ws ≡ i / 64 = omega (arith, holds.counted) in
               let place : 64 - n % 64 + i % 64 ≡ i - n = omega arith in
-              ap (λ w. eqb (bit_at w (i % 64)) 1) (get_or-set_other zs (n / 64) (i / 64) last_word 0 apart ∙ get_or_push ws high 0 (i / 64) word)
+              set_apart zs (n / 64) last_word i apart ∙ ap (λ w. eqb (bit_at w (i % 64)) 1) (get_or_push ws high 0 (i / 64) word)
               ∙ ap (λ m. eqb m 1) (ap (λ m. m % 2) (shr-shr v (64 - n % 64) (i % 64))) ∙ ap (λ p. eqb (bit_at v p) 1) place
           | inr past ↦ past_number vs i h (omega arith) (omega (arith, holds.counted))
         ]

@@ -1,9 +1,6 @@
 -- Words compared by lanes.
-use Rattle.std.proofs.Common.{◌≡◌, ℕ, ◌-◌, ◌%◌, ◌^◌, ◌≤◌, Bool, true, false, cond, not, List, [], ◌∷◌, length, eqb, map, refl, sym, ap, ap₂, ◌∙◌, inl, inr, arith, w64}
+use Rattle.vers_bits.proofs.Names.{◌≡◌, ℕ, ◌-◌, ◌%◌, ◌^◌, ◌≤◌, Bool, cond, not, List, [], ◌∷◌, length, eqb, map, refl, sym, ap, ap₂, ◌∙◌, inl, inr, arith, w64, Decides, bit_value, cases_eq, eq-eqb, eqb-true, ne_eqb}
 use lib.Lanes.{mask_l, top, zip2}
-use Rattle.std.specs.Bool.{Decides}
-use Rattle.vers_bits.specs.Bits.{bit_value}
-use Rattle.std.proofs.lemmas.Bool.{cases_eq, eq-eqb, eqb-true, ne_eqb}
 use Rattle.std.proofs.lemmas.Simd.{tops_compared, mask_l-mod, length-zip2}
 
 abbrev pub is_other : ℕ → ℕ → Bool
@@ -43,7 +40,3 @@ pub compared : (xs ys : List ℕ) → length xs ≡ length ys → length xs ≤ 
 compared xs ys e few =
     ap (λ l. mask_l l % 2 ^ 64) (tops_compared w64 is_other xs ys)
     ∙ mask_l-mod (zip2 is_other xs ys) 64 (omega (arith, length-zip2 is_other xs ys e, few))
-
-pub not_not : (b : Bool) → not (not b) ≡ b
-not_not true = refl
-not_not false = refl

@@ -1,3 +1,4 @@
+pub mod Names
 pub mod Num
 pub mod Words
 pub mod Count
@@ -17,6 +18,7 @@ pub mod Edits
 pub mod Filling
 pub mod Masks
 pub mod Zips
+pub mod Statements
 pub mod Packed
 pub mod BothEnds
 pub mod PublicLaws

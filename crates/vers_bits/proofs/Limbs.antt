@@ -1,11 +1,6 @@
 -- A list of bits made of limbs.
-use Rattle.std.proofs.Common.{◌≡◌, ℕ, suc, ◌-◌, ◌*◌, ◌/◌, ◌%◌, ◌<◌, ◌≤◌, false, List, [], ◌∷◌, ◌++◌, length, get_or, sym, ap, ◌∙◌, refl, inl, inr, arith, eqb}
+use Rattle.vers_bits.proofs.Names.{◌≡◌, ℕ, suc, ◌-◌, ◌*◌, ◌/◌, ◌%◌, ◌<◌, ◌≤◌, false, List, [], ◌∷◌, ◌++◌, length, get_or, sym, ap, ◌∙◌, refl, inl, inr, arith, eqb, bit_at, cases_lt, get_or_append_left, get_or-append_right, length-append, low_bits, word_bit, word_bits, HoldsBits}
 use Rattle.std.specs.Prelude.{flat_map}
-use Rattle.std.specs.Int.{bit_at}
-use Rattle.std.proofs.lemmas.Bool.{cases_lt}
-use Rattle.std.proofs.lemmas.List.{get_or_append_left, get_or-append_right, length-append}
-use Rattle.vers_bits.specs.Bits.{low_bits}
-use Rattle.vers_bits.specs.inside.Words.{word_bit, word_bits, HoldsBits}
 use Rattle.vers_bits.proofs.LowBits.{length-low_bits, get_or-low_bits}
 use Rattle.vers_bits.proofs.Words.{word_bits_are, length-word_bits, get_or-word_bits, past_words}
 

@@ -1,13 +1,6 @@
 -- The low digits of a number as a list of bits.
-use Rattle.std.proofs.Common.{◌≡◌, ℕ, ◌+◌, ◌-◌, ◌/◌, ◌%◌, ◌^◌, ◌<◌, ◌≤◌, min, Bool, true, false, eqb, List, [], ◌++◌, length, get_or, replicate, refl, sym, ap, ◌∙◌, inl, inr, arith}
-use Rattle.std.specs.Int.{bit_at}
-use Rattle.std.specs.Prelude.{bit_and}
-use Rattle.std.proofs.lemmas.Bool.{cases_lt, cases_eq}
-use Rattle.std.proofs.lemmas.Nat.{and_mask, mod_below, pow_pos, shr-shr}
-use Rattle.std.proofs.lemmas.Nat.Bits.{ones_shr, bit_at-lt, bit_at_and, bit_at_ones, bit_at_above, same_from_bits}
-use Rattle.std.proofs.lemmas.List.{same_lists, places, get_or_past, get_or_append_left, get_or-append_right, get_or-replicate, length-append, length-replicate}
-use Rattle.std.proofs.lemmas.List.FromFn.{length-map-range_with_len, get_or-map-range_with_len}
-use Rattle.vers_bits.specs.Bits.{bit_value, number, low_bits}
+use Rattle.vers_bits.proofs.Names.{◌≡◌, ℕ, ◌+◌, ◌-◌, ◌/◌, ◌%◌, ◌^◌, ◌<◌, ◌≤◌, min, Bool, true, false, eqb, List, [], ◌++◌, length, get_or, replicate, refl, sym, ap, ◌∙◌, inl, inr, arith, bit_at, bit_and, cases_lt, cases_eq, and_mask, mod_below, pow_pos, shr-shr, ones_shr, bit_at-lt, bit_at_and, bit_at_ones, bit_at_above, same_from_bits, ext_get_or, get_or_past, get_or_append_left, get_or-append_right, get_or-replicate, length-append, length-replicate, length-map-range_with_len, get_or-map-range_with_len, bit_value, number}
+use Rattle.vers_bits.specs.Bits.{low_bits}
 use Rattle.vers_bits.proofs.Num.{bit_at-number}
 
 pub length-low_bits : (v n : ℕ) → length (low_bits v n) ≡ n
@@ -40,11 +33,8 @@ bit_at_mod_above x w i h = bit_at_above (x % 2 ^ w) w i (mod_below x (2 ^ w) (po
 -- a list that agrees with the low digits of a number, place by place
 pub low_bits_are : (v n : ℕ) (l : List Bool) → length l ≡ n → ((i : ℕ) → i < n → eqb (bit_at v i) 1 ≡ get_or l i false) → low_bits v n ≡ l
 low_bits_are v n l e each =
-    same_lists _ _ (length-low_bits v n ∙ sym e)
-    (λ k d h.
-    let small : k < n = omega (arith, length-low_bits v n) in
-    let here : get_or (low_bits v n) k false ≡ get_or l k false = get_or-low_bits v n k small ∙ each k small in
-    grind (arith, places))
+    ext_get_or false (low_bits v n) l (length-low_bits v n ∙ sym e)
+    (λ i h. let small : i < n = omega (arith, length-low_bits v n) in get_or-low_bits v n i small ∙ each i small)
 
 pub low_bits_of_number : (l : List Bool) → low_bits (number l) (length l) ≡ l
 low_bits_of_number l =
@@ -66,28 +56,21 @@ number-low_bits v n =
 bit_at_shr : (v j i : ℕ) → bit_at (v / 2 ^ j) i ≡ bit_at v (j + i)
 bit_at_shr v j i = ap (λ m. m % 2) (shr-shr v j i)
 
-pub low_bits-add : (v j k : ℕ) → low_bits v (j + k) ≡ low_bits v j ++ low_bits (v / 2 ^ j) k
-low_bits-add v j k =
-    low_bits_are v (j + k) (low_bits v j ++ low_bits (v / 2 ^ j) k)
-    (length-append (low_bits v j) (low_bits (v / 2 ^ j) k) ∙ omega (arith, length-low_bits v j, length-low_bits (v / 2 ^ j) k))
-    (λ i h. elim (cases_lt i j) [
-      | inl small ↦ sym (get_or_append_left (low_bits v j) (low_bits (v / 2 ^ j) k) false i (omega (arith, length-low_bits v j)) ∙ get_or-low_bits v j i small)
+low_bits_two : (v j k : ℕ) (high : List Bool) → length high ≡ k → ((i : ℕ) → i < k → eqb (bit_at v (j + i)) 1 ≡ get_or high i false) → low_bits v (j + k) ≡ low_bits v j ++ high
+low_bits_two v j k high long each =
+    low_bits_are v (j + k) (low_bits v j ++ high) (length-append (low_bits v j) high ∙ omega (arith, length-low_bits v j, long)) (λ i h. elim (cases_lt i j) [
+      | inl small ↦ sym (get_or_append_left (low_bits v j) high false i (omega (arith, length-low_bits v j)) ∙ get_or-low_bits v j i small)
       | inr large ↦
-          let place : j + (i - j) ≡ i = omega arith in
-          sym (get_or-append_right (low_bits v j) (low_bits (v / 2 ^ j) k) j i false (length-low_bits v j) large
-          ∙ get_or-low_bits (v / 2 ^ j) k (i - j) (omega arith) ∙ ap (λ m. eqb m 1) (bit_at_shr v j (i - j)) ∙ ap (λ p. eqb (bit_at v p) 1) place)
+          let place : i ≡ j + (i - j) = omega arith in
+          ap (λ p. eqb (bit_at v p) 1) place ∙ each (i - j) (omega arith) ∙ sym (get_or-append_right (low_bits v j) high j i false (length-low_bits v j) large)
     ])
+
+pub low_bits-add : (v j k : ℕ) → low_bits v (j + k) ≡ low_bits v j ++ low_bits (v / 2 ^ j) k
+low_bits-add v j k = low_bits_two v j k (low_bits (v / 2 ^ j) k) (length-low_bits (v / 2 ^ j) k) (λ i h. ap (λ m. eqb m 1) (sym (bit_at_shr v j i)) ∙ sym (get_or-low_bits (v / 2 ^ j) k i h))
 
 -- past the number's own digits there are zeros
 pub low_bits_past : (v j k : ℕ) → v < 2 ^ j → low_bits v (j + k) ≡ low_bits v j ++ replicate k false
-low_bits_past v j k small =
-    low_bits_are v (j + k) (low_bits v j ++ replicate k false)
-    (length-append (low_bits v j) (replicate k false) ∙ omega (arith, length-low_bits v j, length-replicate k false))
-    (λ i h. elim (cases_lt i j) [
-      | inl low ↦ sym (get_or_append_left (low_bits v j) (replicate k false) false i (omega (arith, length-low_bits v j)) ∙ get_or-low_bits v j i low)
-      | inr high ↦ ap (λ m. eqb m 1) (bit_at_above v j i small high)
-          ∙ sym (get_or-append_right (low_bits v j) (replicate k false) j i false (length-low_bits v j) high ∙ get_or-replicate k (i - j) false false (omega arith))
-    ])
+low_bits_past v j k small = low_bits_two v j k (replicate k false) (length-replicate k false) (λ i h. ap (λ m. eqb m 1) (bit_at_above v j (j + i) small (omega arith)) ∙ sym (get_or-replicate k i false false h))
 
 pub low_bits_none : (v : ℕ) → low_bits v 0 ≡ []
 unfolding low_bits

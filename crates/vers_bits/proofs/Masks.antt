@@ -1,15 +1,7 @@
 -- Masked lists, place by place and limb by limb.
-use Rattle.std.proofs.Common.{◌≡◌, ℕ, ◌+◌, ◌-◌, ◌*◌, ◌/◌, ◌%◌, ◌^◌, ◌<◌, ◌≤◌, Bool, false, eqb, List, Some, None, min, length, get_or, set, take, drop, sym, ◌∙◌, ap, inl, inr, arith}
-use Rattle.std.specs.Int.{bit_at}
-use Rattle.std.specs.Prelude.{bit_and, count_ones, slice_get}
-use Rattle.std.proofs.lemmas.Bool.{cases_lt, cases_eq}
-use Rattle.std.proofs.lemmas.Nat.{ones-le}
-use Rattle.std.proofs.lemmas.Nat.Bits.{bit_at-lt, shr_and_one, same_from_bits}
-use Rattle.std.proofs.lemmas.Option.{slice_get-get_or, slice_get_past}
-use Rattle.std.proofs.lemmas.List.{get_or-take, get_or-drop, get_or_past, get_or-set_same, get_or-set_other, length-take, length-drop}
-use Rattle.std.proofs.lemmas.List.FromFn.{length-map-range_with_len, get_or-map-range_with_len}
-use Rattle.vers_bits.specs.Bits.{bit_value, limb, masked}
-use Rattle.vers_bits.specs.inside.Words.{word_bits, CutsTo}
+use Rattle.vers_bits.proofs.Names.{◌≡◌, ℕ, ◌+◌, ◌-◌, ◌*◌, ◌/◌, ◌%◌, ◌^◌, ◌<◌, ◌≤◌, Bool, false, eqb, List, Some, None, min, length, get_or, set, take, drop, sym, ◌∙◌, ap, inl, inr, arith, bit_at, bit_and, count_ones, cases_lt, cases_eq, ones-le, bit_at-lt, shr_and_one, same_from_bits, slice_get-get_or, slice_get_past, get_or-take, get_or-drop, get_or_past, get_or-set_same, get_or-set_other, length-take, length-drop, length-map-range_with_len, get_or-map-range_with_len, bit_value, word_bits, CutsTo}
+use Rattle.std.specs.Prelude.{slice_get}
+use Rattle.vers_bits.specs.Bits.{limb, masked}
 use Rattle.vers_bits.proofs.Words.{word_bits_are}
 use Rattle.vers_bits.proofs.Edits.{cut_holds}
 use Rattle.vers_bits.proofs.Num.{bit_at-number}

@@ -1,11 +1,8 @@
 -- The places next to a place, by counts and selects.
-use Rattle.std.proofs.Common.{◌≡◌, ℕ, zero, suc, ◌+◌, ◌-◌, ◌<◌, ◌≤◌, Bool, true, false, cond, List, [], ◌∷◌, length, get_or, refl, ap, ◌∙◌, arith, inl, inr, Option, Some, None}
-use Rattle.std.specs.Prelude.{nat_lt, slice_get, filter, find}
-use Rattle.std.specs.List.{last_or}
-use Rattle.std.proofs.lemmas.Bool.{cases_lt, cases_Bool, lt-ltb, le-ltb}
-use Rattle.std.proofs.lemmas.Option.{slice_get-get_or, slice_get_past}
-use Rattle.vers_bits.specs.Bits.{is_bit, count, places, select, place_after, place_before}
-use Rattle.vers_bits.proofs.Count.{count_both, count_le_all, count_up, count_past}
+use Rattle.vers_bits.proofs.Names.{◌≡◌, ℕ, zero, suc, ◌+◌, ◌-◌, ◌<◌, ◌≤◌, Bool, true, false, cond, List, [], ◌∷◌, length, get_or, refl, ap, ◌∙◌, arith, inl, inr, Option, Some, None, nat_lt, filter, find, last_or, cases_lt, cases_Bool, lt-ltb, le-ltb, get_or_default, slice_get-get_or, slice_get_past, is_bit, count, places}
+use Rattle.std.specs.Prelude.{slice_get}
+use Rattle.vers_bits.specs.Bits.{select, place_after, place_before}
+use Rattle.vers_bits.proofs.Count.{count_le_all, count_up, count_past}
 use Rattle.vers_bits.specs.Laws.{IsNextPlace, NoneUpToNeighbour, NoneDownToNeighbour}
 use Rattle.vers_bits.proofs.Places.{length-places, IsPlace, select_is_place, select_past, select_below, select_not_below, count_more_yes}
 
@@ -32,16 +29,10 @@ last_passing_is o p (x ∷ s) (suc k) h on off =
     ap (λ b. last_or o (cond b (x ∷ filter p s) (filter p s))) (on 0 (omega arith))
     ∙ last_passing_is (Some x) p s k (omega arith) (λ i small. on (suc i) (omega arith)) (λ i large small. off (suc i) (omega arith) (omega arith))
 
--- inside a list no default is taken
-pub any_default : {X : Type 0} (s : List X) (i : ℕ) (d e : X) → i < length s → get_or s i d ≡ get_or s i e
-any_default [] i d e h = absurd (omega arith)
-any_default (x ∷ s) zero d e h = refl
-any_default (x ∷ s) (suc i) d e h = any_default s i d e (omega arith)
-
 module _ (b : Bool) (l : List Bool) where
   place_number : (i : ℕ) → i < length (places b l) → get_or (places b l) i 0 ≡ select b l i
   unfolding select
-  place_number i h = any_default (places b l) i 0 (length l) h
+  place_number i h = get_or_default (places b l) i 0 (length l) h
 
   get_place : (i : ℕ) → i < count b l (length l) → slice_get (places b l) i ≡ Some (select b l i)
   unfolding select
@@ -78,7 +69,9 @@ module _ (b : Bool) (l : List Bool) where
       none_passing None (λ q. nat_lt q p) (places b l)
       (λ i small. ap (λ q. nat_lt q p) (place_number i small) ∙ le-ltb (select b l i) p (select_not_below b l i p (omega (arith, length-places b l)) (omega arith)))
 
-pub ruleset neighbours = (place_after_some, place_after_none, place_before_some, place_before_none)
+-- a place holds the bit or does not
+not_held : (b : Bool) (l : List Bool) (q : ℕ) → (is_bit b (get_or l q false) ≡ true → ⊥) → is_bit b (get_or l q false) ≡ false
+not_held b l q none = elim (cases_Bool (is_bit b (get_or l q false))) [ inl on ↦ absurd (none on) | inr off ↦ off ]
 
 -- the first place at or after a place that holds the bit, or the length
 pub next_place : (b : Bool) (l : List Bool) (i : ℕ) → i ≤ length l → IsNextPlace b l i (select b l (count b l i))
@@ -88,10 +81,7 @@ next_place b l i within = elim (cases_lt (count b l i) (count b l (length l))) [
       record {
         from = select_not_below b l (count b l i) i some (omega arith);
         within = omega (arith, at.within);
-        none_between = λ q h k. elim (cases_Bool (is_bit b (get_or l q false))) [
-          | inl on ↦ absurd (omega (arith, count_more_yes b l q (omega (arith, at.within)) on, count_up b l i q h, count_up b l (q + 1) (select b l (count b l i)) (omega arith), at.before))
-          | inr off ↦ off
-        ];
+        none_between = λ q h k. not_held b l q (λ on. absurd (omega (arith, count_more_yes b l q (omega (arith, at.within)) on, count_up b l i q h, count_up b l (q + 1) (select b l (count b l i)) (omega arith), at.before)));
         holds = λ h. at.holds;
       }
   | inr none ↦
@@ -99,10 +89,7 @@ next_place b l i within = elim (cases_lt (count b l i) (count b l (length l))) [
       record {
         from = omega arith;
         within = omega arith;
-        none_between = λ q h k. elim (cases_Bool (is_bit b (get_or l q false))) [
-          | inl on ↦ absurd (omega (arith, count_more_yes b l q (omega arith) on, count_up b l i q h, count_le_all b l (q + 1)))
-          | inr off ↦ off
-        ];
+        none_between = λ q h k. not_held b l q (λ on. absurd (omega (arith, count_more_yes b l q (omega arith) on, count_up b l i q h, count_le_all b l (q + 1))));
         holds = λ h. absurd (omega arith);
       }
 ]
@@ -116,10 +103,7 @@ none_up b l p = elim (cases_lt (count b l (p + 1)) (count b l (length l))) [
       let next : IsNextPlace b l (p + 1) (select b l (count b l (p + 1))) = next_place b l (p + 1) inside in
       rw (place_after_some b l p some) (omega (arith, next.from), (at.within, at.holds), next.none_between)
   | inr none ↦
-      rw (place_after_none b l p none) (λ q h k. elim (cases_Bool (is_bit b (get_or l q false))) [
-        | inl on ↦ absurd (omega (arith, count_more_yes b l q k on, count_up b l (p + 1) q h, count_le_all b l (q + 1)))
-        | inr off ↦ off
-      ])
+      rw (place_after_none b l p none) (λ q h k. not_held b l q (λ on. absurd (omega (arith, count_more_yes b l q k on, count_up b l (p + 1) q h, count_le_all b l (q + 1)))))
 ]
 
 pub none_down : NoneDownToNeighbour
@@ -130,17 +114,8 @@ none_down b l p = elim (cases_lt 0 (count b l p)) [
       rw (place_before_some b l p some) (
         select_below b l (count b l p - 1) p (omega arith),
         (at.within, at.holds),
-        (λ q h k. elim (cases_Bool (is_bit b (get_or l q false))) [
-          | inl on ↦ absurd (omega (arith, at.before, count_more_yes b l (select b l (count b l p - 1)) at.within at.holds, count_up b l (select b l (count b l p - 1) + 1) q h, count_more_yes b l q (omega arith) on, count_up b l (q + 1) p (omega arith)))
-          | inr off ↦ off
-        ]),
+        (λ q h k. not_held b l q (λ on. absurd (omega (arith, at.before, count_more_yes b l (select b l (count b l p - 1)) at.within at.holds, count_up b l (select b l (count b l p - 1) + 1) q h, count_more_yes b l q (omega arith) on, count_up b l (q + 1) p (omega arith))))),
       )
   | inr none ↦
-      rw (place_before_none b l p (omega arith)) (λ q h k. elim (cases_Bool (is_bit b (get_or l q false))) [
-        | inl on ↦ absurd (omega (arith, count_more_yes b l q (omega arith) on, count_up b l (q + 1) p (omega arith)))
-        | inr off ↦ off
-      ])
+      rw (place_before_none b l p (omega arith)) (λ q h k. not_held b l q (λ on. absurd (omega (arith, count_more_yes b l q (omega arith) on, count_up b l (q + 1) p (omega arith)))))
 ]
-
--- what the laws of counts and places say
-pub ruleset laws = (count_both, next_place)

@@ -1,15 +1,7 @@
 -- Lists of bits as numbers, and counts of their bits.
-use Rattle.std.proofs.Common.{◌≡◌, ℕ, zero, suc, ◌/◌, ◌%◌, ◌^◌, ◌<◌, ◌≤◌, Bool, true, false, cond, List, [], ◌∷◌, length, take, drop, get_or, refl, sym, ap, ◌+◌, ◌*◌, ◌∙◌, arith}
-use Rattle.std.specs.List.{count_by}
-use Rattle.std.specs.Int.{bit_at}
-use Rattle.std.specs.Prelude.{count_ones}
-use Rattle.std.proofs.lemmas.Nat.{shr-shr, mod-pow-add}
-use Rattle.std.proofs.lemmas.Nat.Bits.{bit_at_lowest, bit_at-suc, bit_at-zero}
-use Rattle.std.proofs.lemmas.List.Sums.{sum_by-cons}
-use Rattle.std.proofs.Math.Nat.{pow-suc}
+use Rattle.vers_bits.proofs.Names.{◌≡◌, ℕ, zero, suc, ◌/◌, ◌%◌, ◌^◌, ◌<◌, ◌≤◌, Bool, true, false, cond, List, [], ◌∷◌, length, take, drop, get_or, refl, sym, ap, ◌+◌, ◌*◌, ◌∙◌, arith, count_by, bit_at, count_ones, shr-shr, mod-pow-add, bit_at_lowest, bit_at-suc, bit_at-zero, sum_by-cons, pow-suc, get_or-take, get_or-drop, bit_value, number, is_bit}
 use lib.Count.{ones_step, ones-ones}
-use Rattle.std.proofs.lemmas.List.{get_or-take, get_or-drop}
-use Rattle.vers_bits.specs.Bits.{bit_value, number, is_bit, limb}
+use Rattle.vers_bits.specs.Bits.{limb}
 
 -- the lowest digit, and the others
 pub number_odd : (b : Bool) (l : List Bool) → number (b ∷ l) % 2 ≡ bit_value b

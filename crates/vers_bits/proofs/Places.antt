@@ -1,12 +1,6 @@
 -- The places of a bit.
-use Rattle.std.proofs.Common.{◌≡◌, ℕ, zero, suc, ◌+◌, ◌<◌, ◌≤◌, Bool, true, false, cond, ◌⊎◌, List, [], ◌∷◌, ◌++◌, length, get_or, refl, sym, ap, subst, ◌∙◌, arith, add-one, inl, inr}
-use Rattle.std.specs.Prelude.{filter}
-use Rattle.std.specs.List.{range_with_len}
-use Rattle.std.proofs.lemmas.Bool.{cases_lt, cases_Bool}
-use Rattle.std.proofs.lemmas.List.{get_or_append_left, get_or_push, get_or_past, length-append, map-id}
-use Rattle.std.proofs.lemmas.List.Sums.{count_by_more_yes, count_by_more_no}
-use Rattle.std.proofs.lemmas.List.FromFn.{filter_of_map_range_with_len_more}
-use Rattle.vers_bits.specs.Bits.{is_bit, count, places, select}
+use Rattle.vers_bits.proofs.Names.{◌≡◌, ℕ, zero, suc, ◌+◌, ◌<◌, ◌≤◌, Bool, true, false, cond, List, [], ◌∷◌, ◌++◌, length, get_or, refl, sym, ap, subst, ◌∙◌, arith, add-one, inl, inr, filter, range_with_len, cases_lt, cases_Bool, get_or_append_left, get_or_push, get_or_past, length-append, map-id, count_by_more_yes, count_by_more_no, filter_of_map_range_with_len_more, is_bit}
+use Rattle.vers_bits.specs.Bits.{count, places, select}
 use Rattle.vers_bits.proofs.Count.{count_up, count_none, count_le_all}
 
 module _ (b : Bool) (l : List Bool) where
@@ -33,23 +27,13 @@ module _ (b : Bool) (l : List Bool) where
   unfolding below
   length-below_none = refl
 
-  -- by whether place n holds the bit
-  below_step : (n : ℕ) → n < length l
-      → ((is_bit b (get_or l n false) ≡ true) × (below (n + 1) ≡ below n ++ n ∷ []) × (count b l (n + 1) ≡ count b l n + 1))
-      ⊎ ((is_bit b (get_or l n false) ≡ false) × (below (n + 1) ≡ below n ++ []) × (count b l (n + 1) ≡ count b l n))
-  below_step n h =
-      elim (cases_Bool (is_bit b (get_or l n false))) [
-        | inl on ↦ inl (on, below_more n ∙ ap (λ v. below n ++ cond v (n ∷ []) []) on, count_more_yes n h on)
-        | inr off ↦ inr (off, below_more n ∙ ap (λ v. below n ++ cond v (n ∷ []) []) off, count_more_no n h off)
-      ]
-
   length-below : (n : ℕ) → n ≤ length l → length (below n) ≡ count b l n
   length-below zero h = length-below_none ∙ sym (count_none b l)
   length-below (suc n) h =
       let here : length (below n) ≡ count b l n = length-below n (omega arith) in
-      rw (← add-one) (elim (below_step n h) [
-        | inl (on, more, counted) ↦ ap length more ∙ length-append (below n) (n ∷ []) ∙ omega (arith, here, counted)
-        | inr (off, more, counted) ↦ ap length more ∙ length-append (below n) [] ∙ omega (arith, here, counted)
+      rw (← add-one) (ap length (below_more n) ∙ elim (cases_Bool (is_bit b (get_or l n false))) [
+        | inl on ↦ ap (λ v. length (below n ++ cond v (n ∷ []) [])) on ∙ length-append (below n) (n ∷ []) ∙ omega (arith, here, count_more_yes n h on)
+        | inr off ↦ ap (λ v. length (below n ++ cond v (n ∷ []) [])) off ∙ length-append (below n) [] ∙ omega (arith, here, count_more_no n h off)
       ])
 
   below_at : (n p d : ℕ) → n ≤ length l → p < n → is_bit b (get_or l p false) ≡ true → get_or (below n) (count b l p) d ≡ p

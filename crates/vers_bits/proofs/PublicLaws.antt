@@ -1,11 +1,12 @@
 -- The laws that proofs of other crates may cite. A crate above imports this file and no other of this folder.
-use Rattle.std.proofs.Common.{◌≡◌, ℕ, ◌+◌, ◌-◌, ◌*◌, ◌%◌, ◌/◌, ◌^◌, ◌<◌, ◌≤◌, min, suc, Bool, true, false, eqb, List, ◌∷◌, ◌++◌, length, map, take, drop, get_or, slice_get, Option, None, Some}
+use Rattle.std.proofs.Common.{◌≡◌, ℕ, ◌+◌, ◌-◌, ◌*◌, ◌%◌, ◌/◌, ◌^◌, ◌<◌, ◌≤◌, min, suc, Bool, true, false, eqb, List, ◌++◌, length, map, take, drop, get_or, slice_get, Option, None, Some}
 use mir.Val.{bool_byte}
 use Rattle.std.specs.Prelude.{count_ones, filter, find, flat_map}
 use Rattle.std.specs.Iterator.{YieldsFirst, YieldsLast, MakesProgress, item_count}
 use Rattle.std.specs.Int.{bit_at}
 use Rattle.std.specs.Int.Count.{count_leading_zeros}
 use Rattle.std.specs.List.{last_or}
+use Rattle.std.proofs.lemmas.List.{get_or_default}
 use Rattle.vers_bits.specs.Bits.{bit_value, number, low_bits, is_bit, count, places, select, place_after, place_before, limb, limbs, limb_count}
 use Rattle.vers_bits.specs.declared.walk.Span.{Span}
 use Rattle.vers_bits.specs.Walk.{TakesNth, TakesNthBack, TakesFirst, TakesLast, items_in}
@@ -43,10 +44,6 @@ count_past = Count.count_past
 -- a count never falls from a place to a later one
 pub count_up : (bit : Bool) (bits : List Bool) (i j : ℕ) → i ≤ j → count bit bits i ≤ count bit bits j
 count_up = Count.count_up
-
--- the count up to a later place is that up to an earlier one, and that of the places between them
-pub count_to : (bit : Bool) (bits : List Bool) (i j : ℕ) → i ≤ j → count bit bits j ≡ count bit bits i + count bit (drop i bits) (j - i)
-count_to = Count.count_to
 
 -- between two places a count rises by at most the places between them
 pub count_near : (bit : Bool) (bits : List Bool) (i j : ℕ) → i ≤ j → count bit bits j ≤ count bit bits i + (j - i)
@@ -166,7 +163,7 @@ low_bits-add = LowBits.low_bits-add
 
 -- inside a list no default is taken
 pub any_default : {X : Type 0} (xs : List X) (i : ℕ) (d e : X) → i < length xs → get_or xs i d ≡ get_or xs i e
-any_default = Neighbours.any_default
+any_default = get_or_default
 
 -- the first item that passes a test, where none before number k does; no item passes; the last item that passes, where those up to number k do and no other does
 pub find_is : (p : ℕ → Bool) (s : List ℕ) (k : ℕ) → k ≤ length s → ((i : ℕ) → i < k → p (get_or s i 0) ≡ false) → (k < length s → p (get_or s k 0) ≡ true) → find p s ≡ slice_get s k
@@ -232,13 +229,6 @@ pub bit_item : (bits : List Bool) (p : ℕ) (x : ℕ) → p < length (map bit_va
 bit_item = BothEnds.bit_item
 
 -- ---- numbers of bits
-
--- the lowest digit of a list's number, and the others
-pub number_odd : (b : Bool) (l : List Bool) → number (b ∷ l) % 2 ≡ bit_value b
-number_odd = Num.number_odd
-
-pub number_half : (b : Bool) (l : List Bool) → number (b ∷ l) / 2 ≡ number l
-number_half = Num.number_half
 
 -- the number of the first k bits
 pub number-take : (k : ℕ) (l : List Bool) → number (take k l) ≡ number l % 2 ^ k

@@ -1,18 +1,9 @@
 -- The bits that words hold.
-use Rattle.std.proofs.Common.{◌≡◌, ℕ, ◌+◌, ◌*◌, ◌/◌, ◌%◌, ◌^◌, ◌<◌, ◌≤◌, Bool, true, false, List, [], ◌∷◌, ◌++◌, length, take, drop, get_or, set, refl, sym, ap, ◌∙◌, arith, eqb, Some, None, inl, inr, w64}
+use Rattle.vers_bits.proofs.Names.{◌≡◌, ℕ, ◌+◌, ◌*◌, ◌/◌, ◌%◌, ◌^◌, ◌<◌, ◌≤◌, Bool, true, false, List, [], ◌∷◌, ◌++◌, length, take, drop, get_or, set, refl, sym, ap, ◌∙◌, arith, eqb, Some, None, inl, inr, bit_at, bit_and, cases_lt, bool_byte, pow-le-pow_right, bit_at-lt, bit_at-zero, bit_at_lowest, shr_and_one, same_from_bits_below, bit_at_above, ext_get_or, get_or-take, get_or-drop, get_or_past, get_or_push, get_or_append_left, get_or-set_same, get_or-set_other, length_push, length-take, length-map-range_with_len, get_or-map-range_with_len, take-map-range_with_len, map-range_with_len_more, slice_get-get_or, slice_get_past, bit_value, word_bit, HoldsBits, AddsBit}
 use Rattle.std.specs.List.{slice_get}
-use Rattle.std.specs.Int.{bit_at}
-use Rattle.std.specs.Prelude.{bit_and, bit_or, option_map}
-use Rattle.std.proofs.lemmas.Bool.{cases_eq, cases_lt}
-use mir.Val.{bool_byte}
-use Rattle.std.proofs.lemmas.Grind.{get_or_default_zero}
-use Rattle.std.proofs.Math.Nat.{pow-le-pow_right}
-use Rattle.std.proofs.lemmas.Nat.Bits.{bit_at-lt, bit_at-zero, bit_at_lowest, bit_at_set_same, bit_at_set_other, shr_and_one, same_from_bits_below, bit_at_above}
-use Rattle.std.proofs.lemmas.List.{same_lists, places, get_or-take, get_or-drop, get_or_past, get_or_push, get_or_append_left, get_or-set_same, get_or-set_other, length-set, length_push, length-take}
-use Rattle.std.proofs.lemmas.List.FromFn.{length-map-range_with_len, get_or-map-range_with_len, take-map-range_with_len, map-range_with_len_more}
-use Rattle.std.proofs.lemmas.Option.{slice_get-get_or, slice_get_past}
-use Rattle.vers_bits.specs.Bits.{bit_value, limb}
-use Rattle.vers_bits.specs.inside.Words.{word_bit, word_bits, HoldsBits, AddsBit}
+use Rattle.std.specs.Prelude.{option_map}
+use Rattle.vers_bits.specs.Bits.{limb}
+use Rattle.vers_bits.specs.inside.Words.{word_bits}
 use Rattle.vers_bits.proofs.Num.{number-lt, bit_at-number, bit_value_le}
 use Rattle.vers_bits.proofs.LowBits.{bit_value_test}
 use Rattle.vers_bits.proofs.Gather.{le_trans_lt}
@@ -36,8 +27,8 @@ word_bits_more ws n = map-range_with_len_more (word_bit ws) 0 n n (omega arith)
 -- the words hold the list that they hold place by place
 pub word_bits_are : (ws : List ℕ) (n : ℕ) (l : List Bool) → length l ≡ n → ((i : ℕ) → i < n → word_bit ws i ≡ get_or l i false) → word_bits ws n ≡ l
 word_bits_are ws n l e each =
-    same_lists _ _ (length-word_bits ws n ∙ sym e)
-    (λ k d h. let small : k < n = omega (arith, length-word_bits ws n) in get_or-word_bits ws n k d small ∙ each k small ∙ grind (arith, places))
+    ext_get_or false (word_bits ws n) l (length-word_bits ws n ∙ sym e)
+    (λ i h. let small : i < n = omega (arith, length-word_bits ws n) in get_or-word_bits ws n i false small ∙ each i small)
 
 pub slice_get-word_bits : (ws : List ℕ) (n i : ℕ) → i < n
     → slice_get (word_bits ws n) i ≡ Some (eqb (bit_and (get_or ws (i / 64) 0 / 2 ^ (i % 64)) 1) 1)
@@ -68,6 +59,13 @@ word_bit_at ws k i small =
     let word : (64 * k + i) / 64 ≡ k = omega arith in
     let place : (64 * k + i) % 64 ≡ i = omega arith in
     rw (word, place) refl
+
+-- where one word was changed
+pub set_here : (ws : List ℕ) (k x i : ℕ) → k < length ws → i / 64 ≡ k → word_bit (set ws k x) i ≡ eqb (bit_at x (i % 64)) 1
+set_here ws k x i within same = rw (same, get_or-set_same ws k x 0 within) refl
+
+pub set_apart : (ws : List ℕ) (k x i : ℕ) → (i / 64 ≡ k → ⊥) → word_bit (set ws k x) i ≡ word_bit ws i
+set_apart ws k x i apart = ap (λ w. eqb (bit_at w (i % 64)) 1) (get_or-set_other ws k (i / 64) x 0 apart)
 
 -- limb k is word k
 bit_of_limb : (ws : List ℕ) (n k i : ℕ) → HoldsBits ws n → i < 64
@@ -145,33 +143,4 @@ pub adds_by_push : (ws vs : List ℕ) (n : ℕ) (b : Bool) → HoldsBits ws n �
 adds_by_push ws vs n true holds whole e = rw e (adds_by_number ws n true holds whole)
 adds_by_push ws vs n false holds whole e = rw e (adds_by_number ws n false holds whole)
 
-adds_by_bit : (ws : List ℕ) (n : ℕ) → HoldsBits ws n → 0 < n % 64
-    → AddsBit ws (set ws (n / 64) (bit_or (get_or ws (n / 64) 0) (1 * 2 ^ (n % 64) % 2 ^ 64))) n true
-adds_by_bit ws n holds part =
-    let w : ℕ = get_or ws (n / 64) 0 in
-    let v : ℕ = bit_or w (1 * 2 ^ (n % 64) % 2 ^ 64) in
-    let within : n / 64 < length ws = omega (arith, holds.counted) in
-    record {
-      counted = omega (arith, holds.counted, length-set ws (n / 64) v);
-      here = rw (get_or-set_same ws (n / 64) v 0 within, bit_at_set_same w64 w (n % 64) (omega arith)) refl;
-      others = λ i other. elim (cases_eq (i / 64) (n / 64)) [
-        | inl same ↦ ap (λ x. eqb x 1) (rw (same, get_or-set_same ws (n / 64) v 0 within) (bit_at_set_other w64 w (n % 64) (omega arith) (i % 64) (omega arith)))
-        | inr apart ↦ ap (λ x. eqb (bit_at x (i % 64)) 1) (get_or-set_other ws (n / 64) (i / 64) v 0 apart)
-      ];
-    }
-
--- by a bit of the last word
-pub adds_by_set : (ws : List ℕ) (n w : ℕ) (b : Bool) → HoldsBits ws n → 0 < n % 64 → w ≡ get_or ws (n / 64) w → b ≡ true
-    → AddsBit ws (set ws (n / 64) (bit_or w (1 * 2 ^ (n % 64) % 2 ^ 64))) n b
-adds_by_set ws n w b holds part read on =
-    let within : n / 64 < length ws = omega (arith, holds.counted) in
-    let first : w ≡ get_or ws (n / 64) 0 = read ∙ get_or_default_zero ws (n / 64) w within in
-    rw (first, on) (adds_by_bit ws n holds part)
-
--- a false bit is there already
-pub adds_by_none : (ws : List ℕ) (n : ℕ) (b : Bool) → HoldsBits ws n → 0 < n % 64 → b ≡ false → AddsBit ws ws n b
-adds_by_none ws n b holds part off = rw off (record { counted = omega (arith, holds.counted); here = holds.padded n (omega arith); others = λ i other. refl })
-
 pub ruleset words = (length-word_bits, slice_get-word_bits, slice_get_past-word_bits, bit_value_at-word_bits, slice_index-word_bits, bit_value_of-word_bits, limb-word_bits, added_bits, added_holds)
-
-pub ruleset steps = (adds_by_set, adds_by_none)

@@ -1,5 +1,7 @@
 //! Laws over the definitions, which hold of every list of bits. Each function does nothing:
 //! its contract is the law, and its proof is checked with the crate.
+#![tactic(auto, using(crate::proofs::Statements::laws))]
+
 ghost use Rattle.vers_bits.specs.Laws.{EqualListsHashEqually, SplitListsJoin, LowBitsAreAsMany, LowBitsAreTheRest, LowBitsOfRest, LowBitsGoOn, BitsFollowFromNumber, PackedElementsAreItems, ZippedBitsAreCombined, MaskOfOrIsOr, MaskOfAndIsAnd, MaskOfXorIsXor, ZerosAndOnesAddUp, SelectFindsNumber, SelectOfCountIsNext, CountsGrow, CountsOfSpansAddUp, CountsAreFew, SelectPastLastIsLength, NoneUpToNeighbour, NoneDownToNeighbour};
 ghost use Rattle.vers_bits.specs.Walk.{PassesEachOnce, StaysEnded, NextIsNthOfZero, NextBackIsNthBackOfZero};
 
@@ -66,7 +68,6 @@ pub fn mask_of_xor_is_xor()
 
 /// Each of the first places holds a zero or a one: the counts of both add up to the number of
 /// places, or to the length.
-#[tactic(auto, using(crate::proofs::Neighbours::laws))]
 pub fn zeros_and_ones_add_up()
     ensures { ZerosAndOnesAddUp }
 {}
@@ -78,7 +79,6 @@ pub fn select_finds_number()
 
 /// To select what the count up to a place gave is to go on to the first one (or zero) at or after
 /// the place, or to the length.
-#[tactic(auto, using(crate::proofs::Neighbours::laws))]
 pub fn select_of_count_is_next()
     ensures { SelectOfCountIsNext }
 {}

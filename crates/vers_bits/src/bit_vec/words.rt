@@ -102,7 +102,7 @@ pub(super) fn add_zeros<A: Allocator + Copy>(
 }
 
 // Makes the words hold one bit more.
-#[tactic(auto, using(crate::proofs::Words::steps))]
+#[tactic(auto, using(crate::proofs::Edits::steps))]
 pub(super) fn add_bit<A: Allocator + Copy>(
     words: &mut Vec<u64, A>,
     len: usize,

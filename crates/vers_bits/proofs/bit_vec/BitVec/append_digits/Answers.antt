@@ -1,6 +1,4 @@
-use Rattle.std.proofs.Common.{◌++◌, ◌-◌, ◌∙◌, false, length, replicate, ap, arith}
-use Rattle.std.proofs.lemmas.List.{length-append}
-use Rattle.vers_bits.specs.Bits.{low_bits}
+use Rattle.vers_bits.proofs.Names.{◌++◌, ◌-◌, ◌∙◌, false, length, replicate, ap, arith, length-append, low_bits}
 use Rattle.vers_bits.proofs.LowBits.{length-low_bits}
 use Rattle.vers_bits.proofs.Growing.{long_digits}
 use Rattle.vers_bits.proofs.bit_vec.BitVec.append_digits.Goals as goal

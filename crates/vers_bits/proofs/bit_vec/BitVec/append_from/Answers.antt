@@ -1,7 +1,5 @@
-use Rattle.std.proofs.Common.{◌≡◌, ◌++◌, ◌+◌, ◌-◌, ◌*◌, ◌%◌, ◌≤◌, ◌∙◌, ℕ, length, take, drop, ap, arith}
+use Rattle.vers_bits.proofs.Names.{◌≡◌, ◌++◌, ◌+◌, ◌-◌, ◌*◌, ◌%◌, ◌≤◌, ◌∙◌, ℕ, length, take, drop, ap, arith, IfOk-equal, number, low_bits}
 use Rattle.std.proofs.lemmas.List.{append_assoc}
-use Rattle.std.proofs.lemmas.Result.{IfOk-equal}
-use Rattle.vers_bits.specs.Bits.{number, low_bits}
 use Rattle.vers_bits.proofs.Growing.{next_limb, last_bits}
 use Rattle.vers_bits.proofs.bit_vec.BitVec.append_from.Goals as goal
 

@@ -1,5 +1,4 @@
-use Rattle.std.proofs.Common.{◌≡◌, ◌<◌, ◌∙◌, length, get_or, sym, ap, arith}
-use Rattle.vers_bits.specs.Bits.{limb}
+use Rattle.vers_bits.proofs.Names.{◌≡◌, ◌<◌, ◌∙◌, length, get_or, sym, ap, arith, limb}
 use Rattle.vers_bits.proofs.Words.{length-word_bits, limb-word_bits}
 use Rattle.vers_bits.proofs.Equal.{get_or-limbs, length-limbs}
 use Rattle.vers_bits.proofs.Masks.{combined}

@@ -1,5 +1,4 @@
-use Rattle.std.proofs.Common.{◌≡◌, ◌++◌}
-use Rattle.std.specs.Iterator.{IsFinite}
+use Rattle.vers_bits.proofs.Names.{◌≡◌, ◌++◌, IsFinite}
 use Rattle.std.specs.List.{flat_map}
 use Rattle.vers_bits.proofs.bit_vec.BitVec.extend_by.Given as goal
 

@@ -1,6 +1,4 @@
-use Rattle.std.proofs.Common.{◌≡◌, replicate, arith}
-use Rattle.std.proofs.lemmas.Grind.{common_steps}
-use Rattle.vers_bits.specs.Bits.{limb_count}
+use Rattle.vers_bits.proofs.Names.{◌≡◌, replicate, arith, common_steps, limb_count}
 use Rattle.vers_bits.proofs.Filling.{filled_bits}
 use Rattle.vers_bits.proofs.bit_vec.BitVec.from_equal.Goals as goal
 

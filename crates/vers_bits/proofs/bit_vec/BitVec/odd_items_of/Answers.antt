@@ -1,7 +1,4 @@
-use Rattle.std.proofs.Common.{rules, ◌≡◌, ◌++◌, ◌∷◌, ◌≤◌, [], length, map, Err, ap, sym, ◌∙◌, arith}
-use Rattle.std.proofs.lemmas.Result.{err_from_is_err_and}
-use Rattle.std.proofs.lemmas.List.{length-map, append-nil, map-append}
-use Rattle.vers_bits.specs.Bits.{low_bits}
+use Rattle.vers_bits.proofs.Names.{rules, ◌≡◌, ◌++◌, ◌∷◌, ◌≤◌, [], length, map, Err, ap, sym, ◌∙◌, arith, err_from_is_err_and, length-map, append-nil, map-append, low_bits}
 use Rattle.vers_bits.specs.declared.bit_vec.fault.GrowError.TheVariants.{TooLong}
 use Rattle.vers_bits.specs.declared.bit_vec.TheConstants.{MAX_LEN}
 use Rattle.vers_bits.proofs.Words.{length-word_bits}

@@ -1,6 +1,4 @@
-use Rattle.std.proofs.Common.{◌≡◌, ◌++◌, ◌-◌, ◌%◌, ◌^◌, ◌<◌, ◌≤◌, map, length}
-use Rattle.std.specs.Iterator.{IsFinite}
-use Rattle.vers_bits.specs.Bits.{low_bits}
+use Rattle.vers_bits.proofs.Names.{◌≡◌, ◌++◌, ◌-◌, ◌%◌, ◌^◌, ◌<◌, ◌≤◌, map, length, IsFinite, low_bits}
 use Rattle.vers_bits.proofs.bit_vec.BitVec.odd_items_of.Given as goal
 
 abbrev pub invariant-loop-item : goal.invariant-loop-item

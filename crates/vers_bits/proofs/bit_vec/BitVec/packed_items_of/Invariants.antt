@@ -1,7 +1,5 @@
-use Rattle.std.proofs.Common.{◌≡◌}
-use Rattle.std.specs.Iterator.{IsFinite}
+use Rattle.vers_bits.proofs.Names.{◌≡◌, IsFinite, low_bits}
 use Rattle.std.specs.List.{flat_map}
-use Rattle.vers_bits.specs.Bits.{low_bits}
 use Rattle.vers_bits.proofs.bit_vec.BitVec.packed_items_of.Given as goal
 
 abbrev pub invariant-loop-item : goal.invariant-loop-item

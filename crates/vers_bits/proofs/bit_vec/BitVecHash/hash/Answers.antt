@@ -1,8 +1,6 @@
-use Rattle.std.proofs.Common.{◌≡◌, ◌∙◌, ap, length}
-use Rattle.std.proofs.lemmas.List.{take_all}
-use Rattle.std.specs.List.{fold, flat_map}
+use Rattle.vers_bits.proofs.Names.{◌≡◌, ◌∙◌, ap, length, take_all, fold, limbs}
+use Rattle.std.specs.List.{flat_map}
 use Rattle.std.specs.Hash as fed
-use Rattle.vers_bits.specs.Bits.{limbs}
 use Rattle.vers_bits.specs.Equality.{hash_input}
 use Rattle.vers_bits.proofs.bit_vec.BitVecHash.hash.Goals as goal
 

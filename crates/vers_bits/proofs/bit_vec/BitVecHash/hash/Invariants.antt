@@ -1,7 +1,6 @@
-use Rattle.std.proofs.Common.{◌≡◌, take}
-use Rattle.std.specs.List.{fold, flat_map}
+use Rattle.vers_bits.proofs.Names.{◌≡◌, take, fold, limbs}
+use Rattle.std.specs.List.{flat_map}
 use Rattle.std.specs.Hash as fed
-use Rattle.vers_bits.specs.Bits.{limbs}
 use Rattle.vers_bits.proofs.bit_vec.BitVecHash.hash.Given as goal
 
 abbrev pub invariant-loop-limb : goal.invariant-loop-limb

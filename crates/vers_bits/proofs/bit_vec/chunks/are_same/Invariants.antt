@@ -1,5 +1,4 @@
-use Rattle.std.proofs.Common.{◌≡◌, ◌/◌, ◌<◌, ℕ, [], get_or, length}
-use Rattle.std.specs.Simd.{first_chunks}
+use Rattle.vers_bits.proofs.Names.{◌≡◌, ◌/◌, ◌<◌, ℕ, [], get_or, length, first_chunks}
 use Rattle.vers_bits.proofs.bit_vec.chunks.are_same.Given as goal
 
 abbrev pub invariant-loop-k : goal.invariant-loop-k

@@ -1,7 +1,4 @@
-use Rattle.std.proofs.Common.{◌≡◌, arith, ap, take, ◌/◌, length, []}
-use Rattle.std.specs.Prelude.{sum_by, count_ones}
-use Rattle.std.proofs.lemmas.List.Sums.{sum_by_more_le, sum_by-drop_more}
-use Rattle.std.proofs.Math.Seq.{take-length}
+use Rattle.vers_bits.proofs.Names.{◌≡◌, arith, ap, take, ◌/◌, length, [], sum_by, count_ones, sum_by_more_le, sum_by-drop_more, take-length}
 use Rattle.vers_bits.proofs.Chunks.{chunks-sum, ones-bound}
 use Rattle.vers_bits.proofs.bit_vec.chunks.ones_of.Goals as goal
 

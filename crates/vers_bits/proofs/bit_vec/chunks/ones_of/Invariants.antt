@@ -1,5 +1,4 @@
-use Rattle.std.proofs.Common.{◌≡◌, ◌+◌, take, drop}
-use Rattle.std.specs.Prelude.{sum_by, count_ones}
+use Rattle.vers_bits.proofs.Names.{◌≡◌, ◌+◌, take, drop, sum_by, count_ones}
 use Rattle.vers_bits.proofs.bit_vec.chunks.ones_of.Given as goal
 
 abbrev pub invariant-loop-chunk : goal.invariant-loop-chunk

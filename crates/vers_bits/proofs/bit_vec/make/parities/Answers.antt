@@ -1,6 +1,4 @@
-use Rattle.std.proofs.Common.{◌≡◌, ◌+◌, ◌*◌, ◌<◌, ◌^◌, ◌∙◌, ◌-◌, map, drop, ap, arith}
-use Rattle.std.proofs.lemmas.List.{length-map, length-drop}
-use Rattle.vers_bits.specs.Bits.{bit_value, number}
+use Rattle.vers_bits.proofs.Names.{◌≡◌, ◌+◌, ◌*◌, ◌<◌, ◌^◌, ◌∙◌, ◌-◌, map, drop, ap, arith, length-map, length-drop, bit_value, number}
 use Rattle.vers_bits.proofs.Num.{bit_value_le}
 use Rattle.vers_bits.proofs.Gather.{byte_value, number_below, number_from}
 use Rattle.vers_bits.proofs.bit_vec.make.parities.Goals as goal

@@ -1,5 +1,4 @@
-use Rattle.std.proofs.Common.{◌≡◌, map, drop}
-use Rattle.vers_bits.specs.Bits.{number}
+use Rattle.vers_bits.proofs.Names.{◌≡◌, map, drop, number}
 use Rattle.vers_bits.proofs.bit_vec.make.parities.Given as goal
 
 abbrev pub invariant-loop-place : goal.invariant-loop-place

@@ -1,5 +1,4 @@
-use Rattle.std.proofs.Common.{rules, ◌≡◌, ◌≢◌, ◌<◌, ◌^◌, ◌∙◌, length, get_or, ap, arith}
-use Rattle.std.proofs.lemmas.List.{get_or-set_other, get_or_read, length-set}
+use Rattle.vers_bits.proofs.Names.{rules, ◌≡◌, ◌≢◌, ◌<◌, ◌^◌, ◌∙◌, length, get_or, ap, arith, get_or-set_other, get_or_read, length-set}
 use Rattle.vers_bits.proofs.Masks.{combined_more}
 use Rattle.vers_bits.proofs.bit_vec.mask.combine_words.Goals as goal
 

@@ -1,5 +1,4 @@
-use Rattle.std.proofs.Common.{◌≡◌, ◌<◌, ◌≤◌, ℕ, length, get_or}
-use Rattle.vers_bits.specs.Masks.{AnswersAs}
+use Rattle.vers_bits.proofs.Names.{◌≡◌, ◌<◌, ◌≤◌, ℕ, length, get_or, AnswersAs}
 use Rattle.vers_bits.proofs.bit_vec.mask.combine_words.Given as goal
 
 abbrev pub invariant-loop-k : goal.invariant-loop-k

@@ -1,7 +1,6 @@
-use Rattle.std.proofs.Common.{◌≡◌, ◌++◌, ◌∷◌, [], arith}
-use Rattle.std.proofs.lemmas.Grind.{common_steps}
-use mir.Val.{bool_byte}
-use Rattle.vers_bits.proofs.Words.{adds_by_push, adds_by_set}
+use Rattle.vers_bits.proofs.Names.{◌≡◌, ◌++◌, ◌∷◌, [], arith, common_steps, bool_byte}
+use Rattle.vers_bits.proofs.Words.{adds_by_push}
+use Rattle.vers_bits.proofs.Edits.{adds_by_set}
 use Rattle.vers_bits.proofs.bit_vec.words.add_bit.Goals as goal
 
 pub returns-then-used-eq0-clause-grown : goal.returns-then-used-eq0-clause-grown

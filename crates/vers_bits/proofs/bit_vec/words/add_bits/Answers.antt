@@ -1,5 +1,4 @@
-use Rattle.std.proofs.Common.{◌∷◌, [], ◌<◌, ◌-◌, ◌/◌, ◌%◌, ◌^◌, length, arith}
-use Rattle.std.proofs.lemmas.List.{get_or_append_left}
+use Rattle.vers_bits.proofs.Names.{◌∷◌, [], ◌<◌, ◌-◌, ◌/◌, ◌%◌, ◌^◌, length, arith, get_or_append_left}
 use Rattle.vers_bits.proofs.Holds.{added_across}
 use Rattle.vers_bits.proofs.bit_vec.words.add_bits.Goals as goal
 

@@ -1,6 +1,4 @@
-use Rattle.std.proofs.Common.{◌≡◌, ◌∙◌, ◌<◌, ◌/◌, ◌%◌, ◌^◌, length, get_or, take, ap, arith}
-use Rattle.std.proofs.lemmas.List.{get_or_read, length-take}
-use Rattle.vers_bits.specs.Bits.{limb_count}
+use Rattle.vers_bits.proofs.Names.{◌≡◌, ◌∙◌, ◌<◌, ◌/◌, ◌%◌, ◌^◌, length, get_or, take, ap, arith, get_or_read, length-take, limb_count}
 use Rattle.vers_bits.proofs.Edits.{cut_whole, cut_part}
 use Rattle.vers_bits.proofs.bit_vec.words.cut.Goals as goal
 

@@ -1,6 +1,4 @@
-use Rattle.std.proofs.Common.{◌≡◌, ◌*◌, ◌≤◌, ℕ, true, length}
-use Rattle.vers_bits.specs.Bits.{count, masked}
-use Rattle.vers_bits.specs.Masks.{AnswersAs}
+use Rattle.vers_bits.proofs.Names.{◌≡◌, ◌*◌, ◌≤◌, ℕ, true, length, count, masked, AnswersAs}
 use Rattle.vers_bits.proofs.bit_vec.mask.MaskedBitVec.count_ones.Given as goal
 
 abbrev pub invariant-loop-k : goal.invariant-loop-k
