@@ -58,6 +58,7 @@ FOREIGN = re.compile(r"\b(\w+)(?:\.|::)(proofs|specs)(?:\.|::)(\w+)(?:(?:\.|::)(
 ON_CONTRACTS = {
     "crates/vers_sorted/proofs/SparseBits.antt": {"Holds", "Packed", "Buckets", "Makes", "Split", "Scans", "Aheads", "inside"},
     "crates/vers_rmq/proofs/Blocks.antt": {"Tables"},
+    "crates/vers_rmq/proofs/Names.antt": {"Tables"},
 }
 
 
@@ -180,7 +181,7 @@ BREAKS = {
     "stands on `specs.inside.Queries`": (f"{RANK}specs/Rows.antt", "rank.specs.Queries", "rank.specs.inside.Queries"),
     "cites `no_reads` of `specs/inside`": (TALLY, "vers_tally.specs.Reads", "vers_tally.specs.inside.Reads"),
     "drops `self.chunks()`": (TALLY, "        self.chunks\n", "        let _ = self.chunks();\n        self.chunks\n"),
-    "imports `Tables`": (MINIMA, "lemmas.Bool", "lemmas.Bool.{no}\nuse Rattle.vers_rmq.specs.inside.Tables"),
+    "imports `Tables`": (MINIMA, "rmq.proofs.Minima", "rmq.specs.inside.Tables"),
     "its end isn't": (DRAWN[1], "bits", "bit"),
     "leads nowhere": ("README.md", "docs/PROVED.md", "docs/NONE.md"),
     "says `at the most`": ("README.md", "# ", "# At\nthe most "),

@@ -1,18 +1,10 @@
 -- Blocks of 128 items.
-use Rattle.std.proofs.Common.{◌≡◌, ℕ, ◌+◌, ◌-◌, ◌*◌, ◌/◌, ◌%◌, ◌^◌, ◌<◌, ◌≤◌, min, List, [], ◌∷◌, ◌++◌, length, get_or, sym, ap, ◌∙◌, refl, subst, inl, inr, arith}
-use Rattle.std.specs.Int.{bit_at}
-use Rattle.std.proofs.lemmas.Bool.{cases_lt}
-use Rattle.std.proofs.lemmas.List.{length_push, get_or_push, get_or_append_left}
+use Rattle.vers_rmq.proofs.Names.{◌≡◌, ℕ, ◌+◌, ◌-◌, ◌*◌, ◌/◌, ◌%◌, ◌^◌, ◌<◌, ◌≤◌, min, List, [], ◌∷◌, ◌++◌, length, get_or, sym, ap, ◌∙◌, refl, subst, inl, inr, arith, bit_at, cases_lt, length_push, get_or_push, get_or_append_left, PlacedItem, IsFirstLeast, IsLeastItem, lesser_item, IsLastSet, IsFirstSet, AreMasks, part_end, binary_heap_size}
 use Rattle.vers_rmq.specs.declared.rmq.fast_rmq.TheConstants.{MAX_LEN}
-use Rattle.vers_rmq.specs.declared.rmq.least.PlacedItem.{PlacedItem}
 use Rattle.vers_rmq.specs.declared.rmq.fast_rmq.mask.Masks.{Masks}
 use Rattle.vers_rmq.specs.declared.rmq.fast_rmq.block.BlockMasks.{BlockMasks}
-use Rattle.vers_rmq.specs.Minima.{IsFirstLeast}
-use Rattle.vers_rmq.specs.inside.Candidates.{IsLeastItem, lesser_item}
-use Rattle.vers_rmq.specs.inside.Masks.{IsLastSet, IsFirstSet, AreMasks, part_end}
 use Rattle.vers_rmq.specs.inside.Blocks.{IsBlock, AreBlocks, AreAllBlocks, block_end, no_masks}
 use Rattle.vers_bits.specs.Bits.{block_count}
-use Rattle.vers_rmq.specs.Layout.{binary_heap_size}
 use Rattle.vers_rmq.proofs.Minima.{least_ends, item_at, item_join, item_ends}
 use Rattle.vers_rmq.proofs.Masks.{some_from}
 use Rattle.vers_rmq.proofs.Logs.{size_bounded}
@@ -78,13 +70,8 @@ block_of xs mi pl ms b h inside = h.blocks.block b (omega arith)
 pub block_inside : (xs ys mi pl : List ℕ) (ms t : List BlockMasks) (j : ℕ) → AreAllBlocks xs mi pl ms → xs ≡ ys → t ≡ ms → j < length ys → j / 128 < length t
 block_inside xs ys mi pl ms t j h e et inside = rw et (omega (arith, h.blocks.masks_counted, ap length e))
 
-pub whole_at : (xs ys mi pl : List ℕ) (ms t : List BlockMasks) (j : ℕ) → AreAllBlocks xs mi pl ms → xs ≡ ys → t ≡ ms → j < length ys
-    → AreMasks xs 128 (128 * (j / 128)) (block_end (length xs) (j / 128)) (get_or t (j / 128) no_masks).whole
-whole_at xs ys mi pl ms t j h e et inside = rw et (block_of xs mi pl ms (j / 128) h (omega (arith, ap length e))).whole
-
-pub parts_at : (xs ys mi pl : List ℕ) (ms t : List BlockMasks) (j : ℕ) → AreAllBlocks xs mi pl ms → xs ≡ ys → t ≡ ms → j < length ys
-    → AreMasks xs 16 (128 * (j / 128)) (block_end (length xs) (j / 128)) (get_or t (j / 128) no_masks).parts
-parts_at xs ys mi pl ms t j h e et inside = rw et (block_of xs mi pl ms (j / 128) h (omega (arith, ap length e))).parts
+pub block_at : (xs ys mi pl : List ℕ) (ms t : List BlockMasks) (j : ℕ) → AreAllBlocks xs mi pl ms → xs ≡ ys → t ≡ ms → j < length ys → IsBlock xs (j / 128) (get_or pl (j / 128) 0) (get_or mi (j / 128) 0) (get_or t (j / 128) no_masks)
+block_at xs ys mi pl ms t j h e et inside = rw et (block_of xs mi pl ms (j / 128) h (omega (arith, ap length e)))
 
 -- each prefix mask has its first place
 pub prefix_some : (xs ys : List ℕ) (w j : ℕ) (masks : Masks) → xs ≡ ys → j < length ys → w * (0 / w) ≡ 0 → AreMasks xs w (128 * (j / 128)) (block_end (length xs) (j / 128)) masks → bit_at masks.prefixes 0 ≡ 1

@@ -1,3 +1,4 @@
+pub mod Names
 pub mod Logs
 pub mod Minima
 pub mod Tables

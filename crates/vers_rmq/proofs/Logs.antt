@@ -1,10 +1,7 @@
 -- Binary logarithms.
-use Rattle.std.proofs.Common.{◌≡◌, ℕ, ◌+◌, ◌-◌, ◌*◌, ◌%◌, ◌^◌, ◌<◌, ◌≤◌, arith}
+use Rattle.vers_rmq.proofs.Names.{◌≡◌, ℕ, ◌+◌, ◌-◌, ◌*◌, ◌%◌, ◌^◌, ◌<◌, ◌≤◌, arith, pow-suc, mul-le-mul_left, leading_top, one_shl, clog, binary_heap_size}
 use Rattle.std.specs.Int.Count.{count_leading_zeros}
-use Rattle.std.proofs.Math.Nat.{pow-suc, mul-le-mul_left}
-use Rattle.std.proofs.lemmas.Nat.{leading_top, one_shl}
 use Rattle.vers_tally.proofs.PublicLaws.{clog_is, digits-le, pow_next}
-use Rattle.vers_rmq.specs.Layout.{clog, binary_heap_size}
 
 pub top_is : (a : ℕ) → 0 < a → a < 2 ^ 64 → (2 ^ (63 - count_leading_zeros 64 a) ≤ a) × (a < 2 * 2 ^ (63 - count_leading_zeros 64 a)) × (count_leading_zeros 64 a ≤ 63)
 top_is a some few =

@@ -1,15 +1,8 @@
 -- Masks of least places.
-use Rattle.std.proofs.Common.{◌≡◌, ◌≢◌, ℕ, suc, ◌+◌, ◌-◌, ◌*◌, ◌/◌, ◌%◌, ◌^◌, ◌<◌, ◌≤◌, List, get_or, sym, ap, ◌∙◌, subst, inl, inr, arith, max, bit_and, bit_or}
-use Rattle.std.specs.Int.{bit_at, w64, w128, trailing_zeros}
+use Rattle.vers_rmq.proofs.Names.{◌≡◌, ◌≢◌, ℕ, suc, ◌+◌, ◌-◌, ◌*◌, ◌/◌, ◌%◌, ◌^◌, ◌<◌, ◌≤◌, List, get_or, sym, ap, ◌∙◌, subst, inl, inr, arith, max, bit_and, bit_or, bit_at, w64, w128, trailing_zeros, pow-le-pow_right, pow_pos, shr-shr, leading_top, div_below, and_le_l, one_shl, shl_below, bit_at_and, bit_at_or, bit_at_ones, bit_at_ones_above, bit_at_above, bit_at-lt, bit_at_set_same, bit_at_set_other, bit_at-trailing_zeros, bit_at-zero, bit_at-pow_same, bit_at-pow_other, bit_at_cat_low, bit_at_cat_high, ones_shr, same_from_bits, cases_lt, IsFirstLeast, IsLastSet, IsFirstSet, AddsOne, PrefixUpTo, SuffixFrom, IsPrefixMask, IsSuffixMask, part_end}
 use Rattle.std.specs.Int.Bits.{or_zero_r}
 use Rattle.std.specs.Int.Count.{count_leading_zeros}
-use Rattle.std.proofs.Math.Nat.{pow-le-pow_right}
-use Rattle.std.proofs.lemmas.Nat.{pow_pos, leading_top, div_below, and_le_l, one_shl, shl_below}
-use Rattle.std.proofs.lemmas.Nat.Bits.{bit_at_and, bit_at_or, bit_at_ones, bit_at_ones_above, bit_at_above, bit_at-lt, bit_at_set_same, bit_at_set_other, bit_at-trailing_zeros, bit_at-zero, bit_at-pow_same, bit_at-pow_other, bit_at_cat_low, bit_at_cat_high, ones_shr, same_from_bits}
-use Rattle.std.proofs.lemmas.Bool.{cases_lt}
-use Rattle.vers_rmq.specs.Minima.{IsFirstLeast}
-use Rattle.vers_rmq.specs.inside.Masks.{IsLastSet, IsFirstSet, AddsOne, PrefixUpTo, SuffixFrom, IsPrefixMask, IsSuffixMask, part_end}
-use Rattle.vers_rmq.proofs.Minima.{least_at, least_longer, least_earlier, least_left, least_right, least_ends}
+use Rattle.vers_rmq.proofs.Minima.{least_at, least_longer, least_earlier, least_ends}
 use Rattle.vers_bits.proofs.PublicLaws.{top_bit}
 
 -- the items at two least places are the same
@@ -35,11 +28,9 @@ prefix_start xs s f mask sf a = record {
 pub prefix_more : (xs : List ℕ) (s f k mask more least : ℕ) → PrefixUpTo xs s f k mask least → get_or xs k 0 < get_or xs least 0 → AddsOne mask more (k - s)
     → PrefixUpTo xs s f (k + 1) more k
 prefix_more xs s f k mask more least u lt a =
-    let base : s ≤ f = u.base in
-    let some : f < k = u.some in
-    let here : IsFirstLeast xs f k k = least_right xs f (k - 1) k k least k u.best (least_at xs k) (omega arith) (omega arith) (omega arith) lt in
+    let here : IsFirstLeast xs f k k = least_earlier xs f f (k - 1) k k least k u.best (least_at xs k) (omega arith) (omega arith) (omega arith) (omega arith) lt in
     record {
-      base = base;
+      base = u.base;
       some = omega arith;
       first = let ne : f - s ≢ k - s = omega arith in a.others (f - s) ne ∙ u.first;
       places = λ j p g h t. elim (cases_lt (s + j) k) [
@@ -62,10 +53,8 @@ prefix_more xs s f k mask more least u lt a =
 pub prefix_skip : (xs : List ℕ) (s f k e mask least m : ℕ) → k < e → PrefixUpTo xs s f k mask least → IsFirstLeast xs k (e - 1) m → get_or xs least 0 ≤ get_or xs m 0
     → PrefixUpTo xs s f e mask least
 prefix_skip xs s f k e mask least m ke u b le =
-    let base : s ≤ f = u.base in
-    let some : f < k = u.some in
     record {
-      base = base;
+      base = u.base;
       some = omega arith;
       first = u.first;
       places = λ j p g h t. elim (cases_lt (s + j) k) [
@@ -78,7 +67,7 @@ prefix_skip xs s f k e mask least m ke u b le =
           | inr off ↦ absurd (omega (arith, t.set_at, u.above p (omega arith)))
         ]
       ];
-      best = least_left xs f (k - 1) k (e - 1) least m u.best b (omega arith) (omega arith) (omega arith) le;
+      best = least_longer xs f (k - 1) k (e - 1) (e - 1) least m u.best b (omega arith) (omega arith) (omega arith) (omega arith) le;
       above = λ q h. u.above q (omega arith);
       below = u.below;
     }
@@ -106,8 +95,7 @@ suffix_start xs s k mask sk a = record {
 pub suffix_more : (xs : List ℕ) (s k n e mask more least : ℕ) → s ≤ k → n ≡ k + 1 → SuffixFrom xs s n e mask least → get_or xs k 0 ≤ get_or xs least 0 → AddsOne mask more (k - s)
     → SuffixFrom xs s k e more k
 suffix_more xs s k n e mask more least sk en u le a =
-    let some : n < e = u.some in
-    let here : IsFirstLeast xs k (e - 1) k = least_left xs k k n (e - 1) k least (least_at xs k) u.best (omega arith) (omega arith) (omega arith) le in
+    let here : IsFirstLeast xs k (e - 1) k = least_longer xs k k n (e - 1) (e - 1) k least (least_at xs k) u.best (omega arith) (omega arith) (omega arith) (omega arith) le in
     record {
       base = sk;
       some = omega arith;
@@ -132,7 +120,6 @@ suffix_more xs s k n e mask more least sk en u le a =
 pub suffix_skip : (xs : List ℕ) (s c k e mask least m : ℕ) → s ≤ c → c < k → SuffixFrom xs s k e mask least → IsFirstLeast xs c (k - 1) m → get_or xs least 0 < get_or xs m 0
     → SuffixFrom xs s c e mask least
 suffix_skip xs s c k e mask least m sc ck u b lt =
-    let some : k < e = u.some in
     record {
       base = sc;
       some = omega arith;
@@ -148,7 +135,7 @@ suffix_skip xs s c k e mask least m sc ck u b lt =
         ]
         | inr old ↦ u.places i p old f t
       ];
-      best = least_right xs c (k - 1) k (e - 1) m least b u.best (omega arith) (omega arith) (omega arith) lt;
+      best = least_earlier xs c c (k - 1) k (e - 1) m least b u.best (omega arith) (omega arith) (omega arith) (omega arith) lt;
       above = u.above;
       below = λ q h. u.below q (omega arith);
     }
@@ -194,10 +181,7 @@ some_bit : (n i : ℕ) → bit_at n i ≡ 1 → 0 < n
 some_bit n i h = elim (cases_lt 0 n) [ inl y ↦ y | inr z ↦ let e : n ≡ 0 = omega arith in absurd (omega (arith, h, ap (λ v. bit_at v i) e, bit_at-zero i)) ]
 
 shifted_bit : (n i d : ℕ) → bit_at n (i + d) ≡ bit_at (n / 2 ^ i) d
-shifted_bit n i d =
-    let whole : n ≡ (n / 2 ^ i) * 2 ^ i + n % 2 ^ i = omega (arith, pow_pos i) in
-    let back : i + d - i ≡ d = omega arith in
-    ap (λ v. bit_at v (i + d)) whole ∙ bit_at_cat_high (n / 2 ^ i) i (n % 2 ^ i) (i + d) (omega (arith, pow_pos i)) (omega arith) ∙ ap (bit_at (n / 2 ^ i)) back
+shifted_bit n i d = sym (ap (λ m. m % 2) (shr-shr n i d))
 
 last_from : (mask low j : ℕ) → 0 < low → low < 2 ^ 128 → ((q : ℕ) → q ≤ j → bit_at low q ≡ bit_at mask q) → ((q : ℕ) → j < q → bit_at low q ≡ 0) → IsLastSet mask j (127 - count_leading_zeros 128 low)
 last_from mask low j some few same over =
@@ -304,14 +288,12 @@ pub prefix_first : (xs : List ℕ) (s k mask least : ℕ) → k ≤ s + 16 → P
 prefix_first xs s k mask least few u = prefix_alone xs 16 s k mask least (λ j h. omega arith) u
 
 pub suffix_last : (xs : List ℕ) (s k e mask least : ℕ) → 16 * ((k - s) / 16) ≡ k - s → e ≤ k + 16 → SuffixFrom xs s k e mask least → IsSuffixMask xs 16 s k e mask
-suffix_last xs s k e mask least aligned few u = let base : s ≤ k = u.base in suffix_alone xs 16 s k e mask least (λ i h f. omega arith) u
+suffix_last xs s k e mask least aligned few u = suffix_alone xs 16 s k e mask least (λ i h f. omega arith) u
 
 -- a part more
 pub prefix_part : (xs : List ℕ) (s k e mask part least : ℕ) → 16 * ((k - s) / 16) ≡ k - s → e ≤ k + 16 → IsPrefixMask xs 16 s k mask → PrefixUpTo xs s k e part least
     → IsPrefixMask xs 16 s e (bit_or mask part)
 prefix_part xs s k e mask part least aligned few m u =
-    let base : s ≤ k = u.base in
-    let some : k < e = u.some in
     let on : bit_at (bit_or mask part) (k - s) ≡ 1 = or_second mask part (k - s) u.first in
     record {
       starts = λ j h. elim (cases_lt (s + j) k) [
@@ -336,7 +318,6 @@ prefix_part xs s k e mask part least aligned few m u =
 pub suffix_part : (xs : List ℕ) (s c k e mask part least : ℕ) → 16 * ((c - s) / 16) ≡ c - s → k ≡ c + 16 → k ≤ e → IsSuffixMask xs 16 s k e mask → SuffixFrom xs s c k part least
     → IsSuffixMask xs 16 s c e (bit_or mask part)
 suffix_part xs s c k e mask part least aligned next ke m u =
-    let base : s ≤ c = u.base in
     let on : bit_at (bit_or mask part) (k - 1 - s) ≡ 1 = or_second mask part (k - 1 - s) u.last in
     record {
       ends = λ i h f. elim (cases_lt (s + i) k) [

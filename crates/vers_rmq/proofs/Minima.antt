@@ -1,10 +1,7 @@
 -- How first places of least items join.
-use Rattle.std.proofs.Common.{◌≡◌, ℕ, ◌+◌, ◌-◌, ◌<◌, ◌≤◌, List, leb, get_or, sym, ap, ◌∙◌, subst, inl, inr, arith}
-use Rattle.std.proofs.lemmas.Bool.{cases_lt, cond-true, cond-false, le-leb, lt-leb}
+use Rattle.vers_rmq.proofs.Names.{◌≡◌, ℕ, ◌+◌, ◌-◌, ◌<◌, ◌≤◌, List, leb, get_or, sym, ap, ◌∙◌, subst, inl, inr, arith, cases_lt, cond-true, cond-false, le-leb, lt-leb, PlacedItem, IsFirstLeast, IsLeastItem, lesser_item}
 use Rattle.std.proofs.lemmas.Bool.Decides.{nat_tests}
-use Rattle.vers_rmq.specs.declared.rmq.least.PlacedItem.{PlacedItem}
-use Rattle.vers_rmq.specs.Minima.{IsFirstLeast, lesser}
-use Rattle.vers_rmq.specs.inside.Candidates.{IsLeastItem, lesser_item}
+use Rattle.vers_rmq.specs.Minima.{lesser}
 
 -- a range of one place
 pub least_at : (xs : List ℕ) (i : ℕ) → IsFirstLeast xs i i i
@@ -48,21 +45,11 @@ least_earlier xs c i k h j m n a b ci ih hk kj lt = record {
   leftmost = λ p f t. elim (cases_lt k p) [ inl right ↦ b.leftmost p (omega arith) t | inr left ↦ omega (arith, a.least p (omega arith) left) ];
 }
 
--- the place of the left part
-pub least_left : (xs : List ℕ) (i k h j m n : ℕ) → IsFirstLeast xs i k m → IsFirstLeast xs h j n → i ≤ h → h ≤ k + 1 → k ≤ j
-    → get_or xs m 0 ≤ get_or xs n 0 → IsFirstLeast xs i j m
-least_left xs i k h j m n a b ih hk kj le = least_longer xs i k h j j m n a b ih hk kj (omega arith) le
-
--- the place of the right part
-pub least_right : (xs : List ℕ) (i k h j m n : ℕ) → IsFirstLeast xs i k m → IsFirstLeast xs h j n → i ≤ h → h ≤ k + 1 → k ≤ j
-    → get_or xs n 0 < get_or xs m 0 → IsFirstLeast xs i j n
-least_right xs i k h j m n a b ih hk kj lt = least_earlier xs i i k h j m n a b (omega arith) ih hk kj lt
-
 -- two ranges that meet or overlap
 pub least_join : (xs : List ℕ) (i k h j m n : ℕ) → IsFirstLeast xs i k m → IsFirstLeast xs h j n → i ≤ h → h ≤ k + 1 → k ≤ j → IsFirstLeast xs i j (lesser xs m n)
 least_join xs i k h j m n a b ih hk kj = elim (cases_lt (get_or xs n 0) (get_or xs m 0)) [
-  | inl lt ↦ rw (lesser_second xs m n lt) (least_right xs i k h j m n a b ih hk kj lt)
-  | inr le ↦ rw (lesser_first xs m n le) (least_left xs i k h j m n a b ih hk kj le)
+  | inl lt ↦ rw (lesser_second xs m n lt) (least_earlier xs i i k h j m n a b (omega arith) ih hk kj lt)
+  | inr le ↦ rw (lesser_first xs m n le) (least_longer xs i k h j j m n a b ih hk kj (omega arith) le)
 ]
 
 -- the ends of a range may be spelled otherwise
@@ -88,11 +75,11 @@ pub item_join : (xs : List ℕ) (i k h j : ℕ) (a b r : PlacedItem) → IsLeast
 item_join xs i k h j a b r left right ih hk kj e = elim (cases_lt b.value a.value) [
   | inl lt ↦
       let lower : get_or xs b.place 0 < get_or xs a.place 0 = omega (arith, left.item, right.item) in
-      item_at xs i j b.place r (least_right xs i k h j a.place b.place left.place right.place ih hk kj lower)
+      item_at xs i j b.place r (least_earlier xs i i k h j a.place b.place left.place right.place (omega arith) ih hk kj lower)
       (ap (λ c. c.place) (e ∙ candidate_second a b lt)) (ap (λ c. c.value) (e ∙ candidate_second a b lt) ∙ right.item)
   | inr le ↦
       let lower : get_or xs a.place 0 ≤ get_or xs b.place 0 = omega (arith, left.item, right.item) in
-      item_at xs i j a.place r (least_left xs i k h j a.place b.place left.place right.place ih hk kj lower)
+      item_at xs i j a.place r (least_longer xs i k h j j a.place b.place left.place right.place ih hk kj (omega arith) lower)
       (ap (λ c. c.place) (e ∙ candidate_first a b le)) (ap (λ c. c.value) (e ∙ candidate_first a b le) ∙ left.item)
 ]
 

@@ -1,13 +1,5 @@
 -- The table of places.
-use Rattle.std.proofs.Common.{◌≡◌, ℕ, ◌+◌, ◌-◌, ◌*◌, ◌^◌, ◌<◌, ◌≤◌, ◌∙◌, List, [], ◌∷◌, ◌++◌, length, get_or, ap, subst, inl, inr, arith}
-use Rattle.std.proofs.Math.Nat.{mul-le-mul_left}
-use Rattle.std.proofs.lemmas.Nat.{pow_pos}
-use Rattle.std.proofs.lemmas.Bool.{cases_lt}
-use Rattle.std.proofs.lemmas.List.{length_push, get_or_push, get_or_append_left}
-use Rattle.vers_rmq.specs.Layout.{clog}
-use Rattle.vers_rmq.specs.declared.rmq.least.PlacedItem.{PlacedItem}
-use Rattle.vers_rmq.specs.Minima.{IsFirstLeast, lesser}
-use Rattle.vers_rmq.specs.inside.Candidates.{IsLeastItem, lesser_item}
+use Rattle.vers_rmq.proofs.Names.{◌≡◌, ℕ, ◌+◌, ◌-◌, ◌*◌, ◌^◌, ◌<◌, ◌≤◌, ◌∙◌, List, [], ◌∷◌, ◌++◌, length, get_or, ap, subst, inl, inr, arith, mul-le-mul_left, pow_pos, cases_lt, length_push, get_or_push, get_or_append_left, clog, PlacedItem, IsFirstLeast, lesser, IsLeastItem, lesser_item}
 use Rattle.vers_rmq.specs.inside.Tables.{HoldsPlaces, IsTable, reach}
 use Rattle.vers_tally.proofs.PublicLaws.{clog_is, clog_up, pow_next, digits-le}
 use Rattle.vers_rmq.proofs.Minima.{least_at, least_join, least_ends, item_at, item_join, item_ends}

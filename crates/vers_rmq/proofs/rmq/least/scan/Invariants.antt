@@ -1,6 +1,5 @@
-use Rattle.std.proofs.Common.{◌-◌}
+use Rattle.vers_rmq.proofs.Names.{◌-◌, IsLeastItem}
 use Rattle.vers_tally.specs.Reads.{AddsAtMost, only_items}
-use Rattle.vers_rmq.specs.inside.Candidates.{IsLeastItem}
 use Rattle.vers_rmq.proofs.rmq.least.scan.Given as goal
 
 abbrev pub invariant-loop-k : goal.invariant-loop-k

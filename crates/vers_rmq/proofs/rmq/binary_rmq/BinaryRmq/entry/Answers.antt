@@ -1,5 +1,4 @@
-use Rattle.std.proofs.Common.{length, arith, ap}
-use Rattle.std.proofs.lemmas.Nat.{pow_pos}
+use Rattle.vers_rmq.proofs.Names.{length, arith, ap, pow_pos}
 use Rattle.vers_rmq.proofs.Tables.{entry_is, room_is}
 use Rattle.vers_rmq.proofs.rmq.binary_rmq.BinaryRmq.entry.Goals as goal
 

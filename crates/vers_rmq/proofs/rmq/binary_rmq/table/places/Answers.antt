@@ -1,5 +1,4 @@
-use Rattle.std.proofs.Common.{length, arith, ap}
-use Rattle.std.proofs.lemmas.List.{length_push}
+use Rattle.vers_rmq.proofs.Names.{length, arith, ap, length_push}
 use Rattle.vers_rmq.proofs.Tables.{add_place, level_zero, table_is}
 use Rattle.vers_rmq.proofs.rmq.binary_rmq.table.places.Goals as goal
 

@@ -1,6 +1,5 @@
-use Rattle.std.proofs.Common.{◌-◌, ◌*◌, ◌/◌}
+use Rattle.vers_rmq.proofs.Names.{◌-◌, ◌*◌, ◌/◌, IsLeastItem}
 use Rattle.vers_tally.specs.Reads.{AddsAtMost, only_items}
-use Rattle.vers_rmq.specs.inside.Candidates.{IsLeastItem}
 use Rattle.vers_rmq.proofs.rmq.fast_rmq.FastRmq.least_in_block.Given as goal
 
 abbrev pub invariant-loop-part : goal.invariant-loop-part

@@ -1,6 +1,4 @@
-use Rattle.std.proofs.Common.{◌≡◌, ℕ, ◌+◌, ◌-◌, ◌*◌, ◌^◌, ◌<◌, ◌≤◌, length, get_or, bit_or}
-use Rattle.std.specs.Int.{bit_at}
-use Rattle.vers_rmq.specs.inside.Masks.{PrefixUpTo}
+use Rattle.vers_rmq.proofs.Names.{◌≡◌, ℕ, ◌+◌, ◌-◌, ◌*◌, ◌^◌, ◌<◌, ◌≤◌, length, get_or, bit_or, bit_at, PrefixUpTo}
 use Rattle.vers_rmq.proofs.rmq.fast_rmq.mask.more_prefixes.Given as goal
 
 abbrev pub invariant-loop-k : goal.invariant-loop-k

@@ -1,5 +1,4 @@
-use Rattle.std.proofs.Common.{◌-◌, ◌*◌, ◌^◌, refl, bit_or, arith}
-use Rattle.std.proofs.lemmas.Nat.Bits.{bit_at-zero}
+use Rattle.vers_rmq.proofs.Names.{◌-◌, ◌*◌, ◌^◌, refl, bit_or, arith, bit_at-zero}
 use Rattle.vers_rmq.proofs.Masks.{suffix_same, suffixes_none, suffixes_more, suffixes_to, none_above, few_bits}
 use Rattle.vers_rmq.proofs.rmq.fast_rmq.mask.more_suffixes.Goals as goal
 

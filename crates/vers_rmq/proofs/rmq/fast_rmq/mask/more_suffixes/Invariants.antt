@@ -1,6 +1,4 @@
-use Rattle.std.proofs.Common.{◌≡◌, ℕ, ◌+◌, ◌-◌, ◌*◌, ◌^◌, ◌<◌, ◌≤◌, length, get_or, bit_or}
-use Rattle.std.specs.Int.{bit_at}
-use Rattle.vers_rmq.specs.inside.Masks.{SuffixFrom}
+use Rattle.vers_rmq.proofs.Names.{◌≡◌, ℕ, ◌+◌, ◌-◌, ◌*◌, ◌^◌, ◌<◌, ◌≤◌, length, get_or, bit_or, bit_at, SuffixFrom}
 use Rattle.vers_rmq.proofs.rmq.fast_rmq.mask.more_suffixes.Given as goal
 
 abbrev pub invariant-down : goal.invariant-down

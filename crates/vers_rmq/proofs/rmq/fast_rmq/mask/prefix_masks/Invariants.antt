@@ -1,5 +1,4 @@
-use Rattle.std.proofs.Common.{◌≡◌, ◌-◌, ◌*◌, ◌/◌, ◌<◌, ◌≤◌}
-use Rattle.vers_rmq.specs.inside.Masks.{PrefixUpTo, IsPrefixMask}
+use Rattle.vers_rmq.proofs.Names.{◌≡◌, ◌-◌, ◌*◌, ◌/◌, ◌<◌, ◌≤◌, PrefixUpTo, IsPrefixMask}
 use Rattle.vers_rmq.proofs.rmq.fast_rmq.mask.prefix_masks.Given as goal
 
 abbrev pub invariant-parts : goal.invariant-parts
