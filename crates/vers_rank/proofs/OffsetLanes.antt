@@ -1,5 +1,5 @@
 -- Offsets of the ones of a few bits, in a buffer that is read from its end.
-use Rattle.vers_rank.proofs.Names.{zero, suc, ◌≡◌, ℕ, ◌+◌, ◌-◌, ◌*◌, ◌/◌, ◌%◌, ◌^◌, ◌<◌, ◌≤◌, Bool, true, false, cond, List, [], ◌∷◌, ◌++◌, map, filter, range_with_len, bytes_eq, ltb, set, replicate, length, get_or, eqb, ne_eqb, refl, sym, ap, ◌∙◌, inl, inr, arith, count_ones, bit_and, bit_at, All, ltb-true, cases_eq, cases_Bool, agree_below_at, map-id, length-set, get_or-set_same, get_or-set_other, mod_below, pow_pos, bit_at-zero, bit_at_cat_low, bit_at_cat_high, shr_and_one, length-zip2, length-put_chunk, length-chunk, get_or-chunk, get_or-zip2, get_or-replicate, get_or-put_chunk_at, get_or-put_chunk_below, chunk, put_chunk, zip2, last_first, ones_below}
+use Rattle.vers_rank.proofs.Names.{zero, suc, ◌≡◌, ℕ, ◌+◌, ◌-◌, ◌*◌, ◌/◌, ◌%◌, ◌^◌, ◌<◌, ◌≤◌, Bool, true, false, cond, List, [], ◌∷◌, ◌++◌, map, filter, range_with_len, bytes_eq, ltb, set, replicate, length, get_or, eqb, ne_eqb, refl, sym, ap, ◌∙◌, inl, inr, arith, count_ones, bit_and, bit_at, All, ltb-true, cases_eq, cases_Bool, agree_below_at, map-id, length-set, get_or-set_same, get_or-set_other, bit_at-zero, bit_at_cat_low, shr_and_one, length-zip2, length-put_chunk, length-chunk, get_or-chunk, get_or-zip2, get_or-replicate, get_or-put_chunk_at, get_or-put_chunk_below, chunk, put_chunk, zip2, last_first, ones_below, shr-shr}
 use Rattle.std.proofs.lemmas.List.Elements.{All-filter, All-from_get_or, All-head, All-tail, filter-append}
 use Rattle.std.proofs.lemmas.List.FromFn.{length-range_with_len, get_or-range_with_len}
 use Rattle.std.proofs.lemmas.Slice.Eq.{bytes_eq-Decides}
@@ -71,10 +71,7 @@ low_digit c i h =
     sym (ap (λ m. bit_at m i) parts ∙ bit_at_cat_low (c / 256) 8 (c % 256) i h)
 
 high_digit : (c i : ℕ) → bit_at c (8 + i) ≡ bit_at (c / 256) i
-high_digit c i =
-    let parts : c ≡ c / 256 * 2 ^ 8 + c % 256 = omega arith in
-    let place : 8 + i - 8 ≡ i = omega arith in
-    ap (λ m. bit_at m (8 + i)) parts ∙ bit_at_cat_high (c / 256) 8 (c % 256) (8 + i) (mod_below c 256 (pow_pos 8)) (omega arith) ∙ ap (bit_at (c / 256)) place
+high_digit c i = sym (ap (λ m. m % 2) (shr-shr c 8 i))
 
 -- the ones of 16 bits are those of the low byte, and those of the high byte 8 places on
 two_bytes : (c : ℕ) → ones_below 16 c ≡ ones_below 8 (c % 256) ++ map (λ i. 8 + i) (ones_below 8 (c / 256))

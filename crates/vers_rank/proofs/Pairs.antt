@@ -1,14 +1,10 @@
 -- The one after a one, in the same limb.
-use Rattle.vers_rank.proofs.Names.{◌≡◌, ◌≢◌, ℕ, zero, suc, ◌+◌, ◌-◌, ◌*◌, ◌/◌, ◌%◌, ◌^◌, ◌<◌, ◌≤◌, Bool, true, false, List, length, get_or, sym, ap, ◌∙◌, arith, inl, inr, w64, bit_at, trailing_zeros, cases_lt, get_or_past, bit_at-suc, bit_at-zero, bit_at_cat_high, bit_at_above, bit_at-trailing_zeros, mod_below, pow_pos, bit_value, count, limb, select, count_more_no, select_at, count_at_select, select_past, select_up, select_holds, value_one, value_none}
+use Rattle.vers_rank.proofs.Names.{◌≡◌, ◌≢◌, ℕ, zero, suc, ◌+◌, ◌-◌, ◌*◌, ◌/◌, ◌%◌, ◌^◌, ◌<◌, ◌≤◌, Bool, true, false, List, length, get_or, sym, ap, ◌∙◌, arith, inl, inr, w64, bit_at, trailing_zeros, cases_lt, get_or_past, bit_at-suc, bit_at-zero, bit_at_above, bit_at-trailing_zeros, bit_value, count, limb, select, count_more_no, select_at, count_at_select, select_past, select_up, select_holds, value_one, value_none, shr-shr}
 use Rattle.vers_rank.proofs.Marks.{limb_fits, marked_bit}
 
 -- a digit of a number without its lowest q digits
 pub digit_after : (n q i : ℕ) → bit_at (n / 2 ^ q) i ≡ bit_at n (q + i)
-digit_after n q i =
-    let parts : n ≡ n / 2 ^ q * 2 ^ q + n % 2 ^ q = omega arith in
-    let high : bit_at (n / 2 ^ q * 2 ^ q + n % 2 ^ q) (q + i) ≡ bit_at (n / 2 ^ q) (q + i - q) = bit_at_cat_high (n / 2 ^ q) q (n % 2 ^ q) (q + i) (mod_below n (2 ^ q) (pow_pos q)) (omega arith) in
-    let place : q + i - q ≡ i = omega arith in
-    sym (ap (λ m. bit_at m (q + i)) parts ∙ high ∙ ap (bit_at (n / 2 ^ q)) place)
+digit_after n q i = ap (λ m. m % 2) (shr-shr n q i)
 
 -- the same of the digits past number q
 digit_past : (n q i : ℕ) → bit_at (n / 2 ^ q / 2) i ≡ bit_at n (q + 1 + i)
