@@ -64,3 +64,5 @@ pub limb_begun : (l more : List Bool) (w n room : ℕ) (b : Bool) → n ≤ room
     → 63 ≡ (64 - length more % 64) % 64
 limb_begun l more w n room b within full last grown =
     omega (arith, ap length grown, length_push (l ++ low_bits w n) b, length-append l (low_bits w n), length-low_bits w n)
+
+pub ruleset digits = (byte_value, digits_gathered, gathered_below)

@@ -483,6 +483,7 @@ fn parities<T: Item>(items: &[T]) -> u64
 }
 
 // A number of `n` digits with one more digit above them.
+#[tactic(auto, using(crate::proofs::Gather::digits))]
 fn with_digit(word: u64, n: usize, digit: bool) -> u64
     requires short { n < 64 }
     requires small { word < 2 ^ n }
