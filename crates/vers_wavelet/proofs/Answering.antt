@@ -1,51 +1,36 @@
 -- What queries that go level by level answer.
 use Rattle.std.proofs.Common.{◌≡◌, ℕ, ◌+◌, ◌-◌, ◌*◌, ◌%◌, ◌^◌, ◌&&◌, ◌<◌, ◌≤◌, Bool, true, false, leb, ltb, List, [], ◌∷◌, length, get_or, refl, sym, ap, ◌∙◌, subst, arith}
 use Rattle.std.specs.Prelude.{Option, Some, None, option_map, slice_get, IfSome, if◌then◌else◌}
-use Rattle.std.proofs.lemmas.Bool.Decides.{nat_tests}
+use Rattle.std.proofs.lemmas.Bool.{le-leb, lt-leb, leb-true, leb-false, ltb-true, ltb-false}
 use Rattle.std.proofs.lemmas.Option.{slice_get-get_or, slice_get_past}
 use Rattle.vers_bits.specs.Bits.{bit_value}
 use Rattle.vers_wavelet.specs.Levels.{value, values, next, way, digit, AreLevels, Rises}
 use Rattle.vers_wavelet.specs.Batches.{Seeks}
 use Rattle.vers_wavelet.specs.Symbols.{occurrences}
-use Rattle.vers_wavelet.proofs.Values.{value_is, value_none, leb_yes, next-up, way_is, way_none}
+use Rattle.vers_wavelet.proofs.Values.{value_is, value_none, next-up, way_is, way_none}
 use Rattle.vers_wavelet.proofs.Members.{never}
 use Rattle.vers_wavelet.proofs.Steps.{rise_none, rise_all, rise_below, way_within}
 use Rattle.vers_wavelet.proofs.Lists.{length-values, get_or-values, count_is, found_or_none}
 
-leb_no : (a b : ℕ) → b < a → leb a b ≡ false
-leb_no a b h = grind (arith, nat_tests)
-
 -- what a test that came out says
 pub lt_passed : {t : Bool} (a b : ℕ) → t ≡ ltb a b → t ≡ true → a < b
-lt_passed a b e f = ltb_yes a b (sym e ∙ f)
-  where
-    ltb_yes : (a b : ℕ) → ltb a b ≡ true → a < b
-    ltb_yes a b g = grind (arith, nat_tests)
+lt_passed a b e f = ltb-true a b (sym e ∙ f)
 
 pub lt_failed : {t : Bool} (a b : ℕ) → t ≡ ltb a b → t ≡ false → b ≤ a
-lt_failed a b e f = ltb_no a b (sym e ∙ f)
-  where
-    ltb_no : (a b : ℕ) → ltb a b ≡ false → b ≤ a
-    ltb_no a b g = grind (arith, nat_tests)
+lt_failed a b e f = ltb-false a b (sym e ∙ f)
 
 pub le_passed : {t : Bool} (a b : ℕ) → t ≡ leb a b → t ≡ true → a ≤ b
-le_passed a b e f = leb_yes' a b (sym e ∙ f)
-  where
-    leb_yes' : (a b : ℕ) → leb a b ≡ true → a ≤ b
-    leb_yes' a b g = grind (arith, nat_tests)
+le_passed a b e f = leb-true a b (sym e ∙ f)
 
 pub le_failed : {t : Bool} (a b : ℕ) → t ≡ leb a b → t ≡ false → b < a
-le_failed a b e f = leb_no' a b (sym e ∙ f)
-  where
-    leb_no' : (a b : ℕ) → leb a b ≡ false → b < a
-    leb_no' a b g = grind (arith, nat_tests)
+le_failed a b e f = leb-false a b (sym e ∙ f)
 
 -- an answer of symbols that a word holds, and of those that it doesn't
 pub of_words : {X : Type 0} (k : ℕ) (o p : Option X) → k ≤ 64 → o ≡ p → o ≡ (if leb k 64 then p else None)
-of_words k o p h e = e ∙ sym (ap (λ t. if t then p else None) (leb_yes k 64 h))
+of_words k o p h e = e ∙ sym (ap (λ t. if t then p else None) (le-leb k 64 h))
 
 pub of_wide : {X : Type 0} (k : ℕ) (p : Option X) → 64 < k → None ≡ (if leb k 64 then p else None)
-of_wide k p h = sym (ap (λ t. if t then p else None) (leb_no k 64 h))
+of_wide k p h = sym (ap (λ t. if t then p else None) (lt-leb k 64 h))
 
 -- ---- symbols at places
 
@@ -78,13 +63,13 @@ rank_begins {ls} levels s end within =
 
 -- an answer where two tests pass, and where one fails
 pub if_both : {X : Type 0} (a b c d : ℕ) (o : Option X) → a ≤ b → c ≤ d → o ≡ (if leb a b && leb c d then o else None)
-if_both a b c d o h l = sym (ap (λ t. if t && leb c d then o else None) (leb_yes a b h) ∙ ap (λ t. if t then o else None) (leb_yes c d l))
+if_both a b c d o h l = sym (ap (λ t. if t && leb c d then o else None) (le-leb a b h) ∙ ap (λ t. if t then o else None) (le-leb c d l))
 
 pub if_first_fails : {X : Type 0} (a b c d : ℕ) (o : Option X) → b < a → None ≡ (if leb a b && leb c d then o else None)
-if_first_fails a b c d o h = sym (ap (λ t. if t && leb c d then o else None) (leb_no a b h))
+if_first_fails a b c d o h = sym (ap (λ t. if t && leb c d then o else None) (lt-leb a b h))
 
 pub if_second_fails : {X : Type 0} (a b c d : ℕ) (o : Option X) → a ≤ b → d < c → None ≡ (if leb a b && leb c d then o else None)
-if_second_fails a b c d o h l = sym (ap (λ t. if t && leb c d then o else None) (leb_yes a b h) ∙ ap (λ t. if t then o else None) (leb_no c d l))
+if_second_fails a b c d o h l = sym (ap (λ t. if t && leb c d then o else None) (le-leb a b h) ∙ ap (λ t. if t then o else None) (lt-leb c d l))
 
 pub rank_goes : (v : List Bool) (ls : List (List Bool)) (s end c i start to : ℕ) (b : Bool) (o : Option ℕ) → o ≡ Some c → length ls ≡ i → b ≡ digit s i
     → start ≡ next b v (end - c) → to ≡ next b v end

@@ -1,190 +1,109 @@
 -- The members of a list in ascending order, and the member that is number i by size.
-use Rattle.std.proofs.Common.{◌≡◌, ℕ, zero, suc, ◌+◌, ◌<◌, ◌≤◌, Bool, true, false, cond, ltb, leb, List, [], ◌∷◌, length, get_or, Some, None, refl, sym, ap, ◌∙◌, subst, arith, inl, inr}
-use Rattle.std.specs.Prelude.{All, ◌↔◌}
-use Rattle.std.specs.List.{count_by}
-use Rattle.std.proofs.lemmas.Bool.{cases_lt}
-use Rattle.std.specs.List.Sorted.{IsNonDecreasing}
+use Rattle.std.proofs.Common.{◌≡◌, ℕ, zero, suc, ◌+◌, ◌<◌, ◌≤◌, Bool, true, false, true≢false, ltb, leb, List, [], ◌∷◌, length, get_or, Some, None, refl, sym, ap, ◌∙◌, subst, arith, inl, inr}
+use Rattle.std.specs.Prelude.{◌↔◌}
+use Rattle.std.specs.List.{count_by, insert, prefix_len}
+use Rattle.std.specs.List.Sorted.{IsNonDecreasing, IsPermutation}
+use Rattle.std.proofs.lemmas.Bool.{cases_Bool, cases_lt, lt-ltb, le-ltb, ltb-true, ltb-false, le-leb, lt-leb, leb-true, false_from_ne_true}
 use Rattle.std.proofs.lemmas.Bool.Decides.{nat_tests}
+use Rattle.std.proofs.lemmas.List.Sorted.{length_permutation, sum_by-IsPermutation, IsPermutation-refl, IsPermutation-cons, IsPermutation-insert, IsPermutation-trans, IsNonDecreasingBy-insert}
+use Rattle.std.proofs.lemmas.List.Sums.{count_by-le-length, prefix_len-le-length, prefix_len_passes, prefix_len_stops}
 use Rattle.std.proofs.lemmas.Option.{slice_get-get_or, slice_get_past, slice_get_within, get_or_from_slice_get}
-use Rattle.std.proofs.lemmas.List.Sums.{count_by-le-length}
 use Rattle.vers_wavelet.specs.Symbols.{placed, by_size, kth_by_size, IsKth}
-use Rattle.vers_wavelet.proofs.Members.{one, count_cons, ltb_not, ltb_one}
+use Rattle.vers_wavelet.proofs.Members.{one, count_cons}
 
--- each member is at most all after it
-abbrev pub Ascends : List ℕ → Type 0
-Ascends [] = Unit {0}
-Ascends (y ∷ ys) = All (λ z. y ≤ z) ys × Ascends ys
+-- ---- ascending order
 
-all_with : (y x : ℕ) (ys : List ℕ) → y ≤ x → All (λ z. y ≤ z) ys → All (λ z. y ≤ z) (x ∷ ys)
-all_with y x ys h all zero d k = h
-all_with y x ys h all (suc i) d k = all i d (omega arith)
-
-all_after : (y x : ℕ) (ys : List ℕ) → All (λ z. y ≤ z) (x ∷ ys) → All (λ z. y ≤ z) ys
-all_after y x ys all = λ i d k. all (suc i) d (omega arith)
-
-leb_yes : (x y : ℕ) → x ≤ y → leb x y ≡ true
-leb_yes x y h = grind (arith, nat_tests)
-
-leb_no : (x y : ℕ) → y < x → leb x y ≡ false
-leb_no x y h = grind (arith, nat_tests)
-
-placed_first : (x y : ℕ) (ys : List ℕ) → x ≤ y → placed x (y ∷ ys) ≡ x ∷ y ∷ ys
-placed_first x y ys h = ap (λ t. cond t (x ∷ y ∷ ys) (y ∷ placed x ys)) (leb_yes x y h)
-
-placed_later : (x y : ℕ) (ys : List ℕ) → y < x → placed x (y ∷ ys) ≡ y ∷ placed x ys
-placed_later x y ys h = ap (λ t. cond t (x ∷ y ∷ ys) (y ∷ placed x ys)) (leb_no x y h)
-
-all_placed : (y x : ℕ) (ys : List ℕ) → y ≤ x → All (λ z. y ≤ z) ys → All (λ z. y ≤ z) (placed x ys)
-all_placed y x [] h all = all_with y x [] h all
-all_placed y x (z ∷ zs) h all =
-    elim (cases_lt z x) [
-      | inl low ↦ subst (All (λ w. y ≤ w)) (sym (placed_later x z zs low)) (all_with y z (placed x zs) (all zero 0 (omega arith)) (all_placed y x zs h (all_after y z zs all)))
-      | inr fine ↦ subst (All (λ w. y ≤ w)) (sym (placed_first x z zs fine)) (all_with y x (z ∷ zs) h all)
-    ]
-
-ascends_placed : (x : ℕ) (ys : List ℕ) → Ascends ys → Ascends (placed x ys)
-ascends_placed x [] up = (λ i d k. absurd (omega arith), up)
-ascends_placed x (y ∷ ys) up =
+-- a number is placed right behind those below it
+placed_is : (x : ℕ) (ys : List ℕ) → placed x ys ≡ insert ys (prefix_len (λ y. ltb y x) ys) x
+placed_is x [] = refl
+placed_is x (y ∷ ys) =
     elim (cases_lt y x) [
-      | inl low ↦ subst Ascends (sym (placed_later x y ys low)) (all_placed y x ys (omega arith) up.0, ascends_placed x ys up.1)
-      | inr fine ↦
-          let rest : All (λ z. x ≤ z) ys = λ i d k. omega (arith, fine, up.0 i d k) in
-          subst Ascends (sym (placed_first x y ys fine)) (all_with x y ys fine rest, up)
+      | inl low ↦
+          let next : 1 + prefix_len (λ z. ltb z x) ys ≡ suc (prefix_len (λ z. ltb z x) ys) = omega arith in
+          rw (lt-leb x y low, lt-ltb y x low, next) (ap (λ (l : List ℕ). y ∷ l) (placed_is x ys))
+      | inr fine ↦ rw (le-leb x y fine, le-ltb y x fine) refl
     ]
 
-pub ascends_by_size : (xs : List ℕ) → Ascends (by_size xs)
-ascends_by_size [] = tt
-ascends_by_size (x ∷ xs) = ascends_placed x (by_size xs) (ascends_by_size xs)
+by_size_moved : (xs : List ℕ) → IsPermutation xs (by_size xs)
+by_size_moved [] = IsPermutation-refl []
+by_size_moved (x ∷ xs) =
+    IsPermutation-trans _ _ _ (IsPermutation-cons x xs (by_size xs) (by_size_moved xs))
+    (subst (λ (l : List ℕ). IsPermutation (x ∷ by_size xs) l) (sym (placed_is x (by_size xs))) (IsPermutation-insert (by_size xs) (prefix_len (λ y. ltb y x) (by_size xs)) x))
 
-count_placed : (p : ℕ → Bool) (x : ℕ) (ys : List ℕ) → count_by p (placed x ys) ≡ one (p x) + count_by p ys
-count_placed p x [] = count_cons p x []
-count_placed p x (y ∷ ys) =
-    elim (cases_lt y x) [
-      | inl low ↦ omega (arith, ap (count_by p) (placed_later x y ys low), count_cons p y (placed x ys), count_placed p x ys, count_cons p y ys)
-      | inr fine ↦ omega (arith, ap (count_by p) (placed_first x y ys fine), count_cons p x (y ∷ ys))
-    ]
+-- in ascending order members ascend
+pub by_size_ascends : (xs : List ℕ) → IsNonDecreasing (by_size xs)
+by_size_ascends [] = λ i j d up inside. absurd (omega arith)
+by_size_ascends (x ∷ xs) =
+    let ys : List ℕ = by_size xs in
+    let up = by_size_ascends xs in
+    let test = λ (y : ℕ). ltb y x in
+    subst IsNonDecreasing (sym (placed_is x ys)) (IsNonDecreasingBy-insert (λ y. y) ys (prefix_len test ys) x up (prefix_len-le-length test ys)
+    (λ k d less. omega (arith, ltb-true _ _ (prefix_len_passes test ys k d less)))
+    (λ k d more inside. omega (arith, ltb-false _ _ (prefix_len_stops test ys d (omega arith)), up (prefix_len test ys) k d more inside)))
+
+pub ruleset ascending = (by_size_ascends)
 
 pub count_by_size : (p : ℕ → Bool) (xs : List ℕ) → count_by p (by_size xs) ≡ count_by p xs
-count_by_size p [] = refl
-count_by_size p (x ∷ xs) = omega (arith, count_placed p x (by_size xs), count_cons p x xs, count_by_size p xs)
-
-length-placed : (x : ℕ) (ys : List ℕ) → length (placed x ys) ≡ suc (length ys)
-length-placed x [] = refl
-length-placed x (y ∷ ys) =
-    elim (cases_lt y x) [
-      | inl low ↦ omega (arith, ap length (placed_later x y ys low), length-placed x ys)
-      | inr fine ↦ ap length (placed_first x y ys fine)
-    ]
+count_by_size p xs = sum_by-IsPermutation (λ y. one (p y)) xs (by_size xs) (by_size_moved xs)
 
 pub length-by_size : (xs : List ℕ) → length (by_size xs) ≡ length xs
-length-by_size [] = refl
-length-by_size (x ∷ xs) = omega (arith, length-placed x (by_size xs), length-by_size xs)
+length-by_size xs = length_permutation xs (by_size xs) (by_size_moved xs)
 
-none_above : (x : ℕ) (ys : List ℕ) → All (λ z. x < z) ys → count_by (λ y. leb y x) ys ≡ 0
-none_above x [] all = refl
-none_above x (y ∷ ys) all =
-    let here : one (leb y x) ≡ 0 = ap one (leb_no y x (all zero 0 (omega arith))) in
-    let rest : All (λ z. x < z) ys = λ i d k. all (suc i) d (omega arith) in
-    omega (arith, count_cons (λ z. leb z x) y ys, here, none_above x ys rest)
+-- ---- what the first members pass
 
-leb_one : (y x : ℕ) → one (leb y x) ≤ 1
-leb_one y x = grind (arith, nat_tests)
+counted : (p : ℕ → Bool) (x : ℕ) (xs : List ℕ) (b : Bool) → p x ≡ b → count_by p (x ∷ xs) ≡ one b + count_by p xs
+counted p x xs b is = count_cons p x xs ∙ ap (λ t. one t + count_by p xs) is
 
-leb_some : (y x : ℕ) → y ≤ x → one (leb y x) ≡ 1
-leb_some y x h = grind (arith, nat_tests)
+none_passes : (p : ℕ → Bool) (xs : List ℕ) → ((j : ℕ) → j < length xs → p (get_or xs j 0) ≡ false) → count_by p xs ≡ 0
+none_passes p [] fails = refl
+none_passes p (x ∷ xs) fails = omega (arith, counted p x xs false (fails 0 (omega arith)), none_passes p xs (λ j inside. fails (suc j) (omega arith)))
 
-ltb_some : (y x : ℕ) → y < x → one (ltb y x) ≡ 1
-ltb_some y x h = grind (arith, nat_tests)
-
--- in ascending order, at most i members below x leave no such member at place i, and more than i not above x put one there
-pub not_below_at : (ys : List ℕ) → Ascends ys → (i x : ℕ) → i < length ys → count_by (λ y. ltb y x) ys ≤ i → x ≤ get_or ys i 0
-not_below_at [] up i x h few = absurd (omega arith)
-not_below_at (y ∷ ys) up zero x h few = ltb_not x y (omega (arith, few, count_cons (λ z. ltb z x) y ys))
-not_below_at (y ∷ ys) up (suc i) x h few =
-    elim (cases_lt y x) [
-      | inl low ↦ not_below_at ys up.1 i x (omega arith) (omega (arith, few, count_cons (λ z. ltb z x) y ys, ltb_some y x low))
-      | inr fine ↦ omega (arith, fine, up.0 i 0 (omega arith))
-    ]
-
-pub not_above_at : (ys : List ℕ) → Ascends ys → (i x : ℕ) → i < count_by (λ y. leb y x) ys → get_or ys i 0 ≤ x
-not_above_at [] up i x h = absurd (omega arith)
-not_above_at (y ∷ ys) up zero x h =
-    elim (cases_lt x y) [
-      | inl high ↦
-          let rest : All (λ z. x < z) (y ∷ ys) = above x y ys high up.0 in
-          absurd (omega (arith, h, none_above x (y ∷ ys) rest))
-      | inr fine ↦ fine
+-- a test that no member passes after one that fails is passed by the first members, as many as it counts
+passes_first : (p : ℕ → Bool) (xs : List ℕ) → ((i j : ℕ) → i ≤ j → j < length xs → p (get_or xs j 0) ≡ true → p (get_or xs i 0) ≡ true) → (k : ℕ) → k < length xs → p (get_or xs k 0) ≡ ltb k (count_by p xs)
+passes_first p [] down k inside = absurd (omega arith)
+passes_first p (x ∷ xs) down k inside =
+    elim (cases_Bool (p x)) [
+      | inl on ↦ step k inside on (passes_first p xs (λ i j order within. down (suc i) (suc j) (omega arith) (omega arith)))
+      | inr off ↦
+          let fails : (j : ℕ) → j < length (x ∷ xs) → p (get_or (x ∷ xs) j 0) ≡ false = λ j within. false_from_ne_true _ (λ holds. true≢false (sym (down 0 j (omega arith) within holds) ∙ off)) in
+          fails k inside ∙ sym (le-ltb k _ (omega (arith, none_passes p (x ∷ xs) fails)))
     ]
   where
-    above : (x y : ℕ) (ys : List ℕ) → x < y → All (λ z. y ≤ z) ys → All (λ z. x < z) (y ∷ ys)
-    above x y ys high all zero d k = high
-    above x y ys high all (suc i) d k = omega (arith, high, all i d (omega arith))
-not_above_at (y ∷ ys) up (suc i) x h = not_above_at ys up.1 i x (omega (arith, h, count_cons (λ z. leb z x) y ys, leb_one y x))
+    up : (k n m : ℕ) → m ≡ 1 + n → ltb (suc k) m ≡ ltb k n
+    up k n m e = grind (arith, nat_tests)
+
+    step : (k : ℕ) → k < length (x ∷ xs) → p x ≡ true → ((j : ℕ) → j < length xs → p (get_or xs j 0) ≡ ltb j (count_by p xs)) → p (get_or (x ∷ xs) k 0) ≡ ltb k (count_by p (x ∷ xs))
+    step zero within on rest = on ∙ sym (lt-ltb 0 _ (omega (arith, counted p x xs true on)))
+    step (suc k) within on rest = rest k (omega arith) ∙ sym (up k (count_by p xs) _ (counted p x xs true on))
+
+-- which members by size are below a number, and which are not above it
+pub below_first : (xs : List ℕ) (s i : ℕ) → i < length xs → ltb (get_or (by_size xs) i 0) s ≡ ltb i (count_by (λ y. ltb y s) xs)
+below_first xs s i inside =
+    passes_first (λ y. ltb y s) (by_size xs) (λ j k order within low. lt-ltb _ _ (omega (arith, by_size_ascends xs j k 0 order within, ltb-true _ _ low))) i (omega (arith, length-by_size xs))
+    ∙ ap (ltb i) (count_by_size (λ y. ltb y s) xs)
+
+pub not_above_first : (xs : List ℕ) (s i : ℕ) → i < length xs → leb (get_or (by_size xs) i 0) s ≡ ltb i (count_by (λ y. leb y s) xs)
+not_above_first xs s i inside =
+    passes_first (λ y. leb y s) (by_size xs) (λ j k order within low. le-leb _ _ (omega (arith, by_size_ascends xs j k 0 order within, leb-true _ _ low))) i (omega (arith, length-by_size xs))
+    ∙ ap (ltb i) (count_by_size (λ y. leb y s) xs)
 
 -- member i by size stands at place i in ascending order
 pub kth_at : (xs : List ℕ) (i x : ℕ) → i < length xs → IsKth xs i x → get_or (by_size xs) i 0 ≡ x
 kth_at xs i x h kth =
-    let up = ascends_by_size xs in
-    omega (
-      arith,
-      not_below_at (by_size xs) up i x (omega (arith, length-by_size xs)) (omega (arith, kth.less, count_by_size (λ y. ltb y x) xs)),
-      not_above_at (by_size xs) up i x (omega (arith, kth.more, count_by_size (λ y. leb y x) xs)),
-    )
+    omega (arith, ltb-false _ _ (below_first xs x i h ∙ le-ltb _ _ kth.less), leb-true _ _ (not_above_first xs x i h ∙ lt-ltb _ _ kth.more))
 
-none_below : (x : ℕ) (ys : List ℕ) → All (λ z. x ≤ z) ys → count_by (λ y. ltb y x) ys ≡ 0
-none_below x [] all = refl
-none_below x (y ∷ ys) all =
-    let here : one (ltb y x) ≡ 0 = ltb_none y x (all zero 0 (omega arith)) in
-    let rest : All (λ z. x ≤ z) ys = λ i d k. all (suc i) d (omega arith) in
-    omega (arith, count_cons (λ z. ltb z x) y ys, here, none_below x ys rest)
-  where
-    ltb_none : (y x : ℕ) → x ≤ y → one (ltb y x) ≡ 0
-    ltb_none y x h = grind (arith, nat_tests)
-
--- in ascending order, at most i members are below the one at place i, and more than i are not above it
-pub few_below : (ys : List ℕ) → Ascends ys → (i : ℕ) → i < length ys → count_by (λ y. ltb y (get_or ys i 0)) ys ≤ i
-few_below [] up i h = absurd (omega arith)
-few_below (y ∷ ys) up zero h = omega (arith, none_below y (y ∷ ys) (all_with y y ys (omega arith) up.0))
-few_below (y ∷ ys) up (suc i) h =
-    let x : ℕ = get_or ys i 0 in
-    omega (arith, count_cons (λ z. ltb z x) y ys, ltb_one y x, few_below ys up.1 i (omega arith))
-
-pub more_not_above : (ys : List ℕ) → Ascends ys → (i : ℕ) → i < length ys → i < count_by (λ y. leb y (get_or ys i 0)) ys
-more_not_above [] up i h = absurd (omega arith)
-more_not_above (y ∷ ys) up zero h = omega (arith, count_cons (λ z. leb z y) y ys, leb_some y y (omega arith))
-more_not_above (y ∷ ys) up (suc i) h =
-    let x : ℕ = get_or ys i 0 in
-    omega (arith, count_cons (λ z. leb z x) y ys, leb_some y x (up.0 i 0 (omega arith)), more_not_above ys up.1 i (omega arith))
-
--- the member at place i in ascending order is member i by size
 pub at_kth : (xs : List ℕ) (i : ℕ) → i < length xs → IsKth xs i (get_or (by_size xs) i 0)
 at_kth xs i h =
-    let ys : List ℕ = by_size xs in
-    let up = ascends_by_size xs in
-    let low : i < length ys = omega (arith, length-by_size xs) in
-    let x : ℕ = get_or ys i 0 in
+    let x : ℕ = get_or (by_size xs) i 0 in
     record {
-      less = omega (arith, few_below ys up i low, count_by_size (λ y. ltb y x) xs);
-      more = omega (arith, more_not_above ys up i low, count_by_size (λ y. leb y x) xs);
+      less = ltb-false _ _ (sym (below_first xs x i h) ∙ le-ltb x x (omega arith));
+      more = ltb-true _ _ (sym (not_above_first xs x i h) ∙ le-leb x x (omega arith));
     }
 
 pub place_kth : (xs : List ℕ) (i x : ℕ) → i < length xs → x ≡ get_or (by_size xs) i 0 → IsKth xs i x
 place_kth xs i x h is = let P : ℕ → Type 0 = λ y. IsKth xs i y in subst P (sym is) (at_kth xs i h)
 
 -- ---- laws
-
-all_up_to : (ys : List ℕ) → Ascends ys → (i j : ℕ) (d : ℕ) → i ≤ j → j < length ys → get_or ys i d ≤ get_or ys j d
-all_up_to [] up i j d order h = absurd (omega arith)
-all_up_to (y ∷ ys) up zero zero d order h = omega arith
-all_up_to (y ∷ ys) up zero (suc j) d order h = up.0 j d (omega arith)
-all_up_to (y ∷ ys) up (suc i) zero d order h = absurd (omega arith)
-all_up_to (y ∷ ys) up (suc i) (suc j) d order h = all_up_to ys up.1 i j d (omega arith) (omega arith)
-
--- in ascending order members ascend
-pub by_size_ascends : (xs : List ℕ) → IsNonDecreasing (by_size xs)
-by_size_ascends xs = all_up_to (by_size xs) (ascends_by_size xs)
-
-pub ruleset ascending = (by_size_ascends)
 
 kth_within : (xs : List ℕ) (i x : ℕ) → IsKth xs i x → i < length xs
 kth_within xs i x kth = omega (arith, kth.more, count_by-le-length (λ z. leb z x) xs)

@@ -1,5 +1,5 @@
 -- Digits of numbers, and numbers that are made digit by digit from the highest on.
-use Rattle.std.proofs.Common.{◌≡◌, ℕ, zero, suc, ◌+◌, ◌*◌, ◌/◌, ◌%◌, ◌^◌, ◌<◌, ◌≤◌, Bool, true, false, eqb, List, [], ◌∷◌, length, set, get_or, replicate, refl, sym, ap, ◌∙◌, arith, add-one}
+use Rattle.std.proofs.Common.{◌≡◌, ℕ, zero, suc, ◌+◌, ◌-◌, ◌*◌, ◌/◌, ◌%◌, ◌^◌, ◌<◌, ◌≤◌, Bool, true, false, eqb, List, [], ◌∷◌, length, set, get_or, replicate, refl, sym, ap, subst, ◌∙◌, arith, add-one}
 use Rattle.std.specs.Int.{bit_at}
 use Rattle.std.specs.Prelude.{bit_and}
 use Rattle.std.proofs.Math.Nat.{pow-suc, pow-le-pow_right, mod-eq_of_lt}
@@ -55,6 +55,10 @@ pub ruleset lists = (list_digit, list_set)
 
 pub room_none : (n k : ℕ) → k ≤ n → HasRoom n k 0
 room_none n k h = record { clear = omega arith; fits = omega (arith, pow-le-pow_right {n = 2} (omega arith) {i = k} {j = n} h) }
+
+-- room for the digits that are left is room for one, and for those after it
+pub room_left : {n number : ℕ} (m k : ℕ) → k < m → HasRoom n (m - k) number → HasRoom n (m - (k + 1) + 1) number
+room_left {n} {number} m k h room = let e : m - k ≡ m - (k + 1) + 1 = omega arith in subst (λ (j : ℕ). HasRoom n j number) e room
 
 pub room_more : (bit : Bool) (n k number : ℕ) → HasRoom n (k + 1) number → HasRoom n k (number + bit_value bit * 2 ^ k)
 room_more bit n k number room =

@@ -1,13 +1,14 @@
 -- What places and counts of the levels say of the list of symbols.
-use Rattle.std.proofs.Common.{◌≡◌, ℕ, zero, suc, ◌+◌, ◌-◌, ◌%◌, ◌^◌, ◌<◌, ◌≤◌, Bool, true, cond, ltb, leb, eqb, List, [], ◌∷◌, ◌++◌, length, get_or, take, drop, refl, sym, ap, ◌∙◌, subst, arith, add-one, add-zero, inl, inr}
+use Rattle.std.proofs.Common.{◌≡◌, ℕ, zero, suc, ◌+◌, ◌-◌, ◌%◌, ◌^◌, ◌<◌, ◌≤◌, Bool, true, cond, ltb, leb, eqb, List, ◌∷◌, ◌++◌, length, get_or, take, drop, refl, sym, ap, ◌∙◌, subst, arith, add-one, add-zero, inl, inr}
 use Rattle.std.specs.Prelude.{map, filter, slice_range, slice_get, Option, Some, None, IsSome, IfSome, All}
 use Rattle.std.specs.List.{count_by, range_with_len}
-use Rattle.std.proofs.Math.Seq.{take-add}
-use Rattle.std.proofs.lemmas.Bool.{cases_lt}
+use Rattle.std.proofs.Math.Seq.{take-add, drop-cons}
+use Rattle.std.proofs.lemmas.Bool.{cases_lt, eq-eqb}
 use Rattle.std.proofs.lemmas.Bool.Decides.{nat_tests}
-use Rattle.std.proofs.lemmas.List.{map-id, get_or_append_left, get_or_push, length-take, length-drop}
+use Rattle.std.proofs.lemmas.List.{map-id, get_or_at, take-append-drop, length-append, length-take, length-drop}
+use Rattle.std.proofs.lemmas.List.Elements.{filter-append}
 use Rattle.std.proofs.lemmas.List.Sums.{length-filter, sum_by-append, sum_by_more}
-use Rattle.std.proofs.lemmas.List.FromFn.{sum_by-map-range_with_len_more, filter_of_map_range_with_len_more, length-map-range_with_len, get_or-map-range_with_len}
+use Rattle.std.proofs.lemmas.List.FromFn.{sum_by-map-range_with_len_more, length-range_with_len, get_or-range_with_len, length-map-range_with_len, get_or-map-range_with_len, take-map-range_with_len}
 use Rattle.std.proofs.lemmas.Option.{slice_get-get_or, slice_get_past}
 use Rattle.vers_wavelet.specs.Levels.{value, values, hits, under, equal, way, AreLevels, KthOf}
 use Rattle.vers_wavelet.specs.Symbols.{occurrences, IsKth}
@@ -47,9 +48,6 @@ hits_same q r zero h = refl
 hits_same q r (suc n) h =
     let here : cond {A = ℕ} (q n) 1 0 ≡ cond (r n) 1 0 = ap {B = ℕ} (λ t. cond t 1 0) (h n (omega arith)) in
     omega (arith, hits_same q r n (λ p k. h p (omega arith)), here)
-
-hits-up : (q : ℕ → Bool) (a m : ℕ) → hits q a ≤ hits q (a + m)
-hits-up q a m = omega (arith, range_hits q a m)
 
 -- a count over the places of a range
 over_places : (ls : List (List Bool)) (n a b : ℕ) (t : ℕ → Bool) → a ≤ b → b ≤ n
@@ -94,33 +92,27 @@ pub count_is : {ls : List (List Bool)} {n : ℕ} → AreLevels ls n → (s a b f
 count_is {ls} {n} levels s a b from to order within e =
     omega (arith, e, occurrences_are ls n a b (s % 2 ^ length ls) order within, way_parts levels s a b order within, way-up ls s a b order)
 
+-- a member that passes stands in the filter at the number of those before it
+pub filter_at : {X : Type 0} (p : X → Bool) (ys : List X) (i : ℕ) (d : X) → i < length ys → p (get_or ys i d) ≡ true
+    → (count_by p (take i ys) < length (filter p ys)) × (get_or (filter p ys) (count_by p (take i ys)) d ≡ get_or ys i d)
+filter_at p ys i d h on =
+    let next : filter p (drop i ys) ≡ get_or ys i d ∷ filter p (drop (suc i) ys) = rw (drop-cons ys i d h, on) refl in
+    let made : filter p ys ≡ filter p (take i ys) ++ get_or ys i d ∷ filter p (drop (suc i) ys) =
+    ap (filter p) (sym (take-append-drop i ys)) ∙ filter-append p (take i ys) (drop i ys) ∙ ap (λ l. filter p (take i ys) ++ l) next in
+    let before = length-filter p (take i ys) in (
+      omega (arith, ap length made, length-append (filter p (take i ys)) (get_or ys i d ∷ filter p (drop (suc i) ys)), before),
+      rw made (get_or_at (filter p (take i ys)) (get_or ys i d) (filter p (drop (suc i) ys)) d _ before),
+    )
+
 -- the places of a range that pass a test: number r of them is the one before which r of them stand
 nth_passing : (q : ℕ → Bool) (a m p d r : ℕ) → a ≤ p → p < a + m → q p ≡ true → count_by q (range_with_len a (p - a)) ≡ r → get_or (filter q (range_with_len a m)) r d ≡ p
-nth_passing q a zero p d r low high on e = absurd (omega arith)
-nth_passing q a (suc m) p d r low high on e =
-    let xs = filter q (range_with_len a m) in
-    let same = λ (k : ℕ). ap (filter q) (map-id (range_with_len a k)) in
-    let more : filter q (range_with_len a (m + 1)) ≡ xs ++ cond (q (a + m)) ((a + m) ∷ []) [] =
-    sym (same (m + 1)) ∙ filter_of_map_range_with_len_more q (λ (x : ℕ). x) a m (a + m) refl ∙ ap (λ ys. ys ++ cond (q (a + m)) ((a + m) ∷ []) []) (same m) in
-    let long : length xs ≡ count_by q (range_with_len a m) = length-filter q (range_with_len a m) in
-    ap (λ n. get_or (filter q (range_with_len a n)) r d) (sym (add-one m)) ∙ elim (cases_lt p (a + m)) [
-      | inl lower ↦
-          let to : a + (p - a) ≡ p = omega arith in
-          let from : p + 1 + (a + m - (p + 1)) ≡ a + m = omega arith in
-          let here : hits q (p + 1) ≡ hits q p + 1 = ap (hits q) (add-one p) ∙ ap {B = ℕ} (λ t. hits q p + cond t 1 0) on in
-          let early : r < length xs =
-          omega (arith, long, e, range_hits q a (p - a), range_hits q a m, hits-up q (p + 1) (a + m - (p + 1)), ap (hits q) from, ap (hits q) to, here) in
-          ap (λ ys. get_or ys r d) more ∙ get_or_append_left xs _ d r early ∙ nth_passing q a m p d r low lower on e
-      | inr last ↦
-          let at : a + m ≡ p = omega arith in
-          let held : q (a + m) ≡ true = ap q at ∙ on in
-          let n : p - a ≡ m = omega arith in
-          ap (λ ys. get_or ys r d) (more ∙ ap (λ t. xs ++ cond t ((a + m) ∷ []) []) held)
-          ∙ get_or_push xs (a + m) d r (long ∙ ap (λ k. count_by q (range_with_len a k)) (sym n) ∙ e) ∙ at
-    ]
-
-same_test : (v s : ℕ) → v ≡ s → eqb v s ≡ true
-same_test v s e = grind (arith, nat_tests)
+nth_passing q a m p d r low high on e =
+    let i : ℕ = p - a in
+    let at : get_or (range_with_len a m) i d ≡ p = get_or-range_with_len a m i d (omega arith) ∙ omega arith in
+    let taken : take i (range_with_len a m) ≡ range_with_len a i =
+    ap (take i) (sym (map-id (range_with_len a m))) ∙ take-map-range_with_len (λ (x : ℕ). x) a m i (omega arith) ∙ map-id (range_with_len a i) in
+    let found = filter_at q (range_with_len a m) i d (omega (arith, length-range_with_len a m)) (ap q at ∙ on) in
+    ap (λ n. get_or (filter q (range_with_len a m)) n d) (sym (ap (count_by q) taken ∙ e)) ∙ found.1 ∙ at
 
 -- the place whose way leads r past that of a is occurrence r from a on
 pub found_is : {ls : List (List Bool)} {n : ℕ} → AreLevels ls n → (s a r from to p : ℕ) → a ≤ n → from ≡ way ls s a → to ≡ way ls s n → r < to - from
@@ -138,7 +130,7 @@ found_is {ls} {n} levels s a r from to p start e f few within holds leads =
     let before : count_by q (range_with_len a (p - a)) ≡ r =
     omega (arith, over_places ls n a p (λ x. eqb x v) order (omega arith), way_equal ls n levels.even s a start, way_equal ls n levels.even s p (omega arith)) in
     let at : get_or (filter q (range_with_len a (n - a))) r p ≡ p =
-    nth_passing q a (n - a) p p r order (omega arith) (ap (λ x. eqb x v) (get_or-values ls n p 0 within) ∙ same_test (value ls p) v holds) before in
+    nth_passing q a (n - a) p p r order (omega arith) (ap (λ x. eqb x v) (get_or-values ls n p 0 within) ∙ eq-eqb (value ls p) v holds) before in
     sym (slice_get-get_or (occurrences (values ls n) a n v) r p (omega arith) ∙ ap Some at)
 
 pub found_none : {ls : List (List Bool)} {n : ℕ} → AreLevels ls n → (s a r from to : ℕ) → a ≤ n → from ≡ way ls s a → to ≡ way ls s n → to - from ≤ r

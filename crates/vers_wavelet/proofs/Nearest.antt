@@ -2,42 +2,16 @@
 use Rattle.std.proofs.Common.{◌≡◌, ℕ, ◌+◌, ◌-◌, ◌<◌, ◌≤◌, subst, Bool, true, false, not, ltb, leb, List, [], length, get_or, Some, None, refl, sym, ap, ◌∙◌, arith, inl, inr}
 use Rattle.std.specs.Prelude.{◌↔◌, IsSome, Any}
 use Rattle.std.specs.List.{count_by}
-use Rattle.std.proofs.lemmas.Bool.{cases_lt, le-leb, lt-leb}
+use Rattle.std.proofs.lemmas.Bool.{cases_lt, le-leb, lt-leb, lt-ltb, le-ltb, ltb-true, ltb-false}
 use Rattle.std.proofs.lemmas.List.Sums.{count_by-le-length}
 use Rattle.vers_bits.proofs.PublicLaws.{find_is, none_passing, last_passing_is}
 use mir.Val.{bool_byte}
 use Rattle.vers_wavelet.specs.Symbols.{by_size, kth_by_size, greatest_up_to, least_from, nearest, IsPredecessor, IsSuccessor}
-use Rattle.vers_wavelet.proofs.Members.{count-le, leb_up, ltb_up, kth_same, predecessor_is, successor_is, any_not_above, some_not_above, any_not_below, some_not_below, never}
-use Rattle.vers_wavelet.proofs.BySize.{ascends_by_size, count_by_size, length-by_size, not_below_at, not_above_at, few_below, more_not_above, kth_some, kth_none, kth_is}
+use Rattle.vers_wavelet.proofs.Members.{kth_same, predecessor_is, successor_is, any_not_above, some_not_above, any_not_below, some_not_below, never}
+use Rattle.vers_wavelet.proofs.BySize.{length-by_size, below_first, not_above_first, kth_some, kth_none, kth_is}
 use Rattle.vers_wavelet.proofs.Ranges.{members_past, members_reversed, narrow_word, wide_word}
 
 -- ---- in ascending order, what stands before and after as many members as are below s, or not above it
-
-below_before : (xs : List ℕ) (s i : ℕ) → i < length xs → i < count_by (λ y. ltb y s) xs → get_or (by_size xs) i 0 < s
-below_before xs s i h low =
-    let ys : List ℕ = by_size xs in
-    elim (cases_lt (get_or ys i 0) s) [
-      | inl fine ↦ fine
-      | inr past ↦ absurd (omega (
-        arith,
-        few_below ys (ascends_by_size xs) i (omega (arith, length-by_size xs)),
-        count-le (λ y. ltb y s) (λ y. ltb y (get_or ys i 0)) ys (λ y. ltb_up s (get_or ys i 0) y past),
-        count_by_size (λ y. ltb y s) xs,
-      ))
-    ]
-
-above_after : (xs : List ℕ) (s i : ℕ) → i < length xs → count_by (λ y. leb y s) xs ≤ i → s < get_or (by_size xs) i 0
-above_after xs s i h high =
-    let ys : List ℕ = by_size xs in
-    elim (cases_lt s (get_or ys i 0)) [
-      | inl fine ↦ fine
-      | inr low ↦ absurd (omega (
-        arith,
-        more_not_above ys (ascends_by_size xs) i (omega (arith, length-by_size xs)),
-        count-le (λ y. leb y (get_or ys i 0)) (λ y. leb y s) ys (λ y. leb_up (get_or ys i 0) s y low),
-        count_by_size (λ y. leb y s) xs,
-      ))
-    ]
 
 -- the first member that is not below s comes right after those below it
 pub least_from_is : (xs : List ℕ) (s n : ℕ) → n ≡ count_by (λ y. ltb y s) xs → least_from xs s ≡ kth_by_size xs n
@@ -47,25 +21,23 @@ least_from_is xs s n e =
     let long = length-by_size xs in
     let few = count_by-le-length (λ y. ltb y s) xs in
     find_is (λ y. leb s y) ys n (omega arith)
-    (λ i h. lt-leb s (get_or ys i 0) (below_before xs s i (omega arith) (omega arith)))
-    (λ h. le-leb s (get_or ys n 0) (not_below_at ys (ascends_by_size xs) n s h (omega (arith, count_by_size (λ y. ltb y s) xs))))
+    (λ i h. lt-leb s (get_or ys i 0) (ltb-true _ _ (below_first xs s i (omega arith) ∙ lt-ltb _ _ (omega arith))))
+    (λ h. le-leb s (get_or ys n 0) (ltb-false _ _ (below_first xs s n (omega arith) ∙ le-ltb _ _ (omega arith))))
 
 -- the last member that is not above s is the last of those
 pub greatest_up_to_is : (xs : List ℕ) (s n : ℕ) → n ≡ count_by (λ y. leb y s) xs → 0 < n → greatest_up_to xs s ≡ kth_by_size xs (n - 1)
 unfolding greatest_up_to kth_by_size
 greatest_up_to_is xs s n e some =
-    let ys : List ℕ = by_size xs in
     let long = length-by_size xs in
     let few = count_by-le-length (λ y. leb y s) xs in
-    last_passing_is None (λ y. leb y s) ys (n - 1) (omega arith)
-    (λ i h. le-leb (get_or ys i 0) s (not_above_at ys (ascends_by_size xs) i s (omega (arith, count_by_size (λ y. leb y s) xs))))
-    (λ i h short. lt-leb (get_or ys i 0) s (above_after xs s i (omega arith) (omega arith)))
+    last_passing_is None (λ y. leb y s) (by_size xs) (n - 1) (omega arith)
+    (λ i h. not_above_first xs s i (omega arith) ∙ lt-ltb _ _ (omega arith)) (λ i h short. not_above_first xs s i (omega arith) ∙ le-ltb _ _ (omega arith))
 
 pub greatest_up_to_none : (xs : List ℕ) (s : ℕ) → count_by (λ y. leb y s) xs ≡ 0 → greatest_up_to xs s ≡ None
 unfolding greatest_up_to
 greatest_up_to_none xs s e =
     let long = length-by_size xs in
-    none_passing None (λ y. leb y s) (by_size xs) (λ i h. lt-leb (get_or (by_size xs) i 0) s (above_after xs s i (omega arith) (omega arith)))
+    none_passing None (λ y. leb y s) (by_size xs) (λ i h. not_above_first xs s i (omega arith) ∙ le-ltb _ _ (omega arith))
 
 -- an empty list has no neighbours
 pub none_up_to : (s : ℕ) → greatest_up_to [] s ≡ None

@@ -1,8 +1,7 @@
 -- Members by size, from one level to the next.
 use Rattle.std.proofs.Common.{◌≡◌, ℕ, zero, suc, ◌+◌, ◌-◌, ◌*◌, ◌^◌, ◌&&◌, ◌<◌, ◌≤◌, Bool, true, false, cond, leb, ltb, List, [], ◌∷◌, length, get_or, drop, refl, sym, ap, ◌∙◌, subst, arith, inl, inr}
 use Rattle.std.specs.Prelude.{Option, Some, None, option_map, slice_get, slice_range, IfSome, if◌then◌else◌}
-use Rattle.std.proofs.lemmas.Bool.{cases_lt}
-use Rattle.std.proofs.lemmas.Bool.Decides.{nat_tests}
+use Rattle.std.proofs.lemmas.Bool.{cases_lt, lt-ltb}
 use Rattle.std.proofs.lemmas.List.{length-take}
 use Rattle.std.proofs.lemmas.Option.{slice_get-get_or, slice_get_past}
 use Rattle.vers_bits.specs.Bits.{bit_value}
@@ -30,14 +29,11 @@ member_is : (ls : List (List Bool)) (a b i x : ℕ) → a + i < b → KthOf ls a
 unfolding member
 member_is ls a b i x h kth = item_is ls b a b i x h (omega arith) kth
 
-passes : (v y : ℕ) → v < y → cond {A = ℕ} (ltb v y) 1 0 ≡ 1
-passes v y h = grind (arith, nat_tests)
-
 under_all : (ls : List (List Bool)) (y n : ℕ) → 2 ^ length ls ≤ y → under ls y n ≡ n
 unfolding under
 under_all ls y zero h = refl
 under_all ls y (suc n) h =
-    let here : cond {A = ℕ} (ltb (value ls n) y) 1 0 ≡ 1 = passes (value ls n) y (omega (arith, value-lt ls n)) in
+    let here : cond {A = ℕ} (ltb (value ls n) y) 1 0 ≡ 1 = ap {B = ℕ} (λ t. cond t 1 0) (lt-ltb (value ls n) y (omega (arith, value-lt ls n))) in
     omega (arith, under_all ls y n h, here)
 
 member-lt : (ls : List (List Bool)) (a b i : ℕ) → a + i < b → member ls a b i < 2 ^ length ls

@@ -6,12 +6,12 @@ use Rattle.std.proofs.Math.Nat.{pow-suc, mod-lt, mul-le-mul_right}
 use Rattle.std.proofs.lemmas.Bool.{cases_lt}
 use Rattle.std.proofs.lemmas.Nat.{pow_pos}
 use Rattle.std.proofs.lemmas.List.{length-drop, drop_all}
-use Rattle.vers_bits.specs.Bits.{bit_value, is_bit, count, select}
+use Rattle.vers_bits.specs.Bits.{bit_value, count, select}
 use Rattle.vers_bits.proofs.PublicLaws.{select_holds}
 use Rattle.vers_tally.specs.Reads.{Reads, IsWithin, times}
 use Rattle.vers_wavelet.specs.Levels.{start, next, value, under, equal, way, digit, AreLevels, Narrowed, KthOf, Searched, Rises}
 use Rattle.vers_wavelet.proofs.Digits.{top_digit, room_none}
-use Rattle.vers_wavelet.proofs.Values.{under_low, under_high, equal_under, under_none, next_none, next-up, next-le, none_under, all_equal, one_under, value_is, value_none, way_none, way_is, way-up, equal_more}
+use Rattle.vers_wavelet.proofs.Values.{same_bit, under_low, under_high, equal_under, under_none, next_none, next-up, next-le, none_under, all_equal, one_under, value_is, value_none, way_none, way_is, way-up, equal_more}
 
 pub under_step : (bit : Bool) (l : List Bool) (ls : List (List Bool)) (s i : ℕ) → s ≤ 2 ^ length ls → i ≤ length l
     → under (l ∷ ls) (bit_value bit * 2 ^ length ls + s) i + under ls s (start bit l) ≡ cond bit (next false l i) 0 + under ls s (next bit l i)
@@ -131,12 +131,6 @@ even_drop ls n even zero = even
 even_drop [] n even (suc k) = even
 even_drop (l ∷ ls) n even (suc k) = even_drop ls n (even_rest l ls n even) k
 
-bit_of : (bit x : Bool) → is_bit bit x ≡ true → x ≡ bit
-bit_of true true e = refl
-bit_of true false e = e
-bit_of false true e = sym e
-bit_of false false e = refl
-
 module _ (ls : List (List Bool)) (s k : ℕ) (h : k < length ls) (v : List Bool) (at : v ≡ get_or ls k v) (bit : Bool) (is : bit ≡ digit s (length ls - (k + 1))) where
   abbrev rest : ℕ
   rest = s % 2 ^ (length ls - (k + 1))
@@ -214,7 +208,7 @@ module _ (ls : List (List Bool)) (s k : ℕ) (h : k < length ls) (v : List Bool)
         let back : next bit v p ≡ q = omega (arith, at'.2, from) in
         record {
           within = omega (arith, at'.0, long);
-          holds = ap (λ m. value m p) (level_at ls k h v at) ∙ value_is v lower p bit (bit_of bit _ at'.1) ∙ ap (λ i. bit_value bit * 2 ^ length lower + value lower i) back
+          holds = ap (λ m. value m p) (level_at ls k h v at) ∙ value_is v lower p bit (same_bit bit _ at'.1) ∙ ap (λ i. bit_value bit * 2 ^ length lower + value lower i) back
               ∙ ap (λ x. bit_value bit * 2 ^ length lower + x) up.holds ∙ sym whole;
           leads = way_down p ∙ ap (way lower s) back ∙ up.leads;
         }

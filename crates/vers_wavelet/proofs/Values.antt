@@ -1,7 +1,7 @@
 -- How places and counts of symbols go from one level to the next.
 use Rattle.std.proofs.Common.{◌≡◌, ℕ, zero, suc, ◌+◌, ◌-◌, ◌*◌, ◌^◌, ◌<◌, ◌≤◌, Bool, true, false, true≢false, cond, ltb, leb, eqb, List, [], ◌∷◌, length, get_or, refl, sym, ap, ◌∙◌, arith, add-one, inl, inr, add-zero}
 use Rattle.std.proofs.Math.Nat.{pow-suc}
-use Rattle.std.proofs.lemmas.Bool.{cases_Bool, cases_lt}
+use Rattle.std.proofs.lemmas.Bool.{cases_Bool, cases_lt, lt-ltb, le-ltb, le-leb, leb-true, ltb-true, eq-eqb}
 use Rattle.std.proofs.lemmas.Bool.Decides.{nat_tests}
 use Rattle.vers_bits.specs.Bits.{bit_value, is_bit, count}
 use Rattle.vers_bits.proofs.PublicLaws.{count_le, count_up, count_near, count_both, count_past}
@@ -39,12 +39,6 @@ value-lt (l ∷ ls) i =
       | inr off ↦ let e = value_is l ls i false off in omega (arith, e, value-lt ls (next false l i), double ls l)
     ]
 
-ltb_yes : (a b : ℕ) → a < b → ltb a b ≡ true
-ltb_yes a b h = grind (arith, nat_tests)
-
-ltb_no : (a b : ℕ) → b ≤ a → ltb a b ≡ false
-ltb_no a b h = grind (arith, nat_tests)
-
 ltb_shift : (h a b : ℕ) → ltb (h + a) (h + b) ≡ ltb a b
 ltb_shift h a b = grind (arith, nat_tests)
 
@@ -68,7 +62,7 @@ under_low l ls y small (suc i) h =
     rw (← add-one i) (elim (cases_Bool (get_or l i false)) [
       | inl on ↦
           let v = value_is l ls i true on in
-          one_more (l ∷ ls) y i (2 ^ length ls + value ls (next true l i)) false (omega (arith, v)) (ltb_no _ _ (omega arith))
+          one_more (l ∷ ls) y i (2 ^ length ls + value ls (next true l i)) false (omega (arith, v)) (le-ltb _ _ (omega arith))
           ∙ omega (arith, before) ∙ ap (under ls y) (sym (next_no false l i within (ap (is_bit false) on)))
       | inr off ↦
           let v = value_is l ls i false off in
@@ -100,7 +94,7 @@ under_high l ls y (suc i) h =
           let v = value_is l ls i false off in
           let w : ℕ = value ls (next false l i) in
           let small : w < 2 ^ length ls = value-lt ls (next false l i) in
-          let more = one_more (l ∷ ls) (2 ^ length ls + y) i w true (omega (arith, v)) (ltb_yes w (2 ^ length ls + y) (omega arith)) in
+          let more = one_more (l ∷ ls) (2 ^ length ls + y) i w true (omega (arith, v)) (lt-ltb w (2 ^ length ls + y) (omega arith)) in
           let goes = next_yes false l i within (ap (is_bit false) off) in
           let stays : under ls y (next true l (i + 1)) ≡ under ls y (next true l i) = ap (under ls y) (next_no true l i within (ap (is_bit true) off)) in
           omega (arith, before, more, stays, goes)
@@ -114,6 +108,12 @@ pub equal_under : (ls : List (List Bool)) (s n : ℕ) → equal ls s n + under l
 unfolding equal under
 equal_under ls s zero = refl
 equal_under ls s (suc n) = omega (arith, equal_under ls s n, tests_add (value ls n) s)
+
+-- a bit that is one of its kind is that bit
+pub same_bit : (b c : Bool) → is_bit b c ≡ true → c ≡ b
+same_bit true c e = e
+same_bit false true e = absurd (true≢false (sym e))
+same_bit false false e = refl
 
 -- the part of the bit has room in the next level
 next_true : (l : List Bool) (i : ℕ) → next true l i ≡ count false l (length l) + count true l i
@@ -150,7 +150,7 @@ pub ruleset parts = (next_both, next-le, next-up)
 pub none_under : (i : ℕ) → under [] 0 i ≡ 0
 unfolding under
 none_under zero = refl
-none_under (suc i) = omega (arith, none_under i, ap {B = ℕ} (λ t. cond t 1 0) (ltb_no (value [] i) 0 (omega arith)))
+none_under (suc i) = omega (arith, none_under i, ap {B = ℕ} (λ t. cond t 1 0) (le-ltb (value [] i) 0 (omega arith)))
 
 pub all_equal : (i : ℕ) → equal [] 0 i ≡ i
 unfolding equal
@@ -182,24 +182,15 @@ next_false_all : (l : List Bool) → next false l (length l) ≡ count false l (
 unfolding next
 next_false_all l = omega arith
 
-pub leb_yes : (a b : ℕ) → a ≤ b → leb a b ≡ true
-leb_yes a b h = grind (arith, nat_tests)
-
-leb_from : (a b : ℕ) → leb a b ≡ true → a ≤ b
-leb_from a b e = grind (arith, nat_tests)
-
-ltb_from : (a b : ℕ) → ltb a b ≡ true → a < b
-ltb_from a b e = grind (arith, nat_tests)
-
 pub of_ones : (bit : Bool) (l : List Bool) (z p : ℕ) → bit ≡ true → z ≡ count false l (length l) → p < length l
     → (leb z p ≡ true → (start bit l ≤ p) × (p < next bit l (length l))) × ((start bit l ≤ p) × (p < next bit l (length l)) → leb z p ≡ true)
-of_ones true l z p e zeros h = (λ t. (omega (arith, zeros, leb_from z p t), omega (arith, h, next_true_all l)), λ t. leb_yes z p (omega (arith, zeros, t.0)))
+of_ones true l z p e zeros h = (λ t. (omega (arith, zeros, leb-true z p t), omega (arith, h, next_true_all l)), λ t. le-leb z p (omega (arith, zeros, t.0)))
 of_ones false l z p e zeros h = absurd (true≢false (sym e))
 
 pub of_zeros : (bit : Bool) (l : List Bool) (z p : ℕ) → bit ≡ false → z ≡ count false l (length l) → p < length l
     → (ltb p z ≡ true → (start bit l ≤ p) × (p < next bit l (length l))) × ((start bit l ≤ p) × (p < next bit l (length l)) → ltb p z ≡ true)
 of_zeros true l z p e zeros h = absurd (true≢false e)
-of_zeros false l z p e zeros h = (λ t. (omega arith, omega (arith, zeros, next_false_all l, ltb_from p z t)), λ t. ltb_yes p z (omega (arith, zeros, next_false_all l, t.1)))
+of_zeros false l z p e zeros h = (λ t. (omega arith, omega (arith, zeros, next_false_all l, ltb-true p z t)), λ t. lt-ltb p z (omega (arith, zeros, next_false_all l, t.1)))
 
 -- a place that holds the bit has its own place in the next level
 pub next-lt : (b : Bool) (l : List Bool) (i : ℕ) → i < length l → get_or l i false ≡ b → next b l i < length l
@@ -222,9 +213,6 @@ way-up (l ∷ ls) s i j h =
     let bit : Bool = digit s (length ls) in
     omega (arith, way_is l ls s i, way_is l ls s j, way-up ls s (next bit l i) (next bit l j) (next-up bit l i j h))
 
-tests_same : (v s : ℕ) → v ≡ s → cond {A = ℕ} (eqb v s) 1 0 ≡ 1
-tests_same v s e = grind (arith, nat_tests)
-
 pub equal_more : (ls : List (List Bool)) (s i : ℕ) → value ls i ≡ s → equal ls s (i + 1) ≡ equal ls s i + 1
 unfolding equal
-equal_more ls s i e = rw add-one (omega (arith, tests_same (value ls i) s e))
+equal_more ls s i e = rw add-one (omega (arith, ap {B = ℕ} (λ t. cond t 1 0) (eq-eqb (value ls i) s e)))

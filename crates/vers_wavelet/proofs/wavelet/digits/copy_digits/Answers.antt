@@ -1,7 +1,6 @@
-use Rattle.std.proofs.Common.{◌≡◌, ◌+◌, ◌-◌, ◌*◌, ◌%◌, ◌^◌, ℕ, arith, ap, ◌∙◌, refl, sym, subst}
+use Rattle.std.proofs.Common.{◌≡◌, ◌+◌, ◌-◌, ◌*◌, ◌%◌, ◌^◌, ℕ, arith, ap, ◌∙◌, refl, sym}
 use Rattle.vers_bits.specs.Bits.{bit_value}
-use Rattle.vers_wavelet.specs.Levels.{HasRoom}
-use Rattle.vers_wavelet.proofs.Digits.{room_none, room_more, top_digit}
+use Rattle.vers_wavelet.proofs.Digits.{room_none, room_left, room_more, top_digit}
 use Rattle.vers_wavelet.proofs.wavelet.digits.copy_digits.Goals as goal
 
 pub loop-i-init : goal.loop-i-init
@@ -14,17 +13,14 @@ loop-i-init g c =
     }
 
 pub put_digit-requires-clause-room : goal.put_digit-requires-clause-room
-put_digit-requires-clause-room g c =
-    let e : c.args.k - c.loop-i.i ≡ c.args.k - (c.loop-i.i + 1) + 1 = omega arith in
-    subst (λ (j : ℕ). HasRoom (g.D.Digits.width c.loop-i.to) j (g.D.Digits.number c.loop-i.to)) e c.loop-i.invariant.room
+put_digit-requires-clause-room g c = room_left c.args.k c.loop-i.i c.loop-i-test.true c.loop-i.invariant.room
 
 pub loop-i-preserved : goal.loop-i-preserved
 loop-i-preserved g c =
     let s : ℕ = g.D.Digits.number c.args.from.now in
     let j : ℕ = c.args.k - (c.loop-i.i + 1) in
     let e : c.args.k - c.loop-i.i ≡ j + 1 = omega arith in
-    let room : HasRoom (g.D.Digits.width c.loop-i.to) (j + 1) (g.D.Digits.number c.loop-i.to) =
-    subst (λ (n : ℕ). HasRoom (g.D.Digits.width c.loop-i.to) n (g.D.Digits.number c.loop-i.to)) e c.loop-i.invariant.room in
+    let room = room_left c.args.k c.loop-i.i c.loop-i-test.true c.loop-i.invariant.room in
     let put = c.put_digit.ensures in
     let top : s % 2 ^ (c.args.k - c.loop-i.i) ≡ bit_value c.digit-bit.result * 2 ^ j + s % 2 ^ j =
     ap (λ n. s % 2 ^ n) e ∙ top_digit s j ∙ ap (λ b. bit_value b * 2 ^ j + s % 2 ^ j) (sym c.digit-bit.ensures) in
