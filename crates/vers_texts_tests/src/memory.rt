@@ -1,0 +1,115 @@
+//! Runs that are refused memory, and the most that a run holds.
+use crate::answers::{Ended, run_over};
+use std::alloc::{AllocError, Global};
+use std::test::Fail;
+use test_alloc::Refusing;
+use vers_texts::RunError;
+
+// An input and its output: load lines, each kind of query, and lines that are refused.
+const RUNS: [(&[u8], &[u8]); 3] = [
+    (
+        b"text 2 0 1 2 3 0 1 2 0 1 2 3 3\ncount 0 1 2\nplaces 0 1 2\nextract 3 8\nextract 8 3\ntext 2 4\nlen\nfoo",
+        b"12\n3\n0 4 7\n3 0 1 2 0\nnone\nrefused\n12\nbad line\n",
+    ),
+    (
+        b"count 1\ntext 1\nplaces\nplaces 0\ntext 5 31 7 31\nplaces 31\ntext 1 1 1 1\nplaces 1 1",
+        b"wrong structure\n0\n0\n\n3\n0 2\n3\n0 1\n",
+    ),
+    (
+        b"text 4 1 14 0 14 0 13\ntext 3 8\ntext x\nplaces 14 0\nextract 0 6\ncount\nextract 6 6",
+        b"6\nrefused\nbad line\n1 3\n1 14 0 14 0 13\n7\n\n",
+    ),
+];
+
+// How a run ended of which a request may have been refused: whether as it must, and how many bytes of
+// whole answer lines it wrote, or None where no request was refused.
+#[derive(Clone, Copy, Drop)]
+struct Outcome {
+    is_right: bool,
+    written: Option<usize>,
+}
+
+// How a run must end: with all its answers, or at the refused request after those of a first part of the lines.
+// It gives its memory back.
+fn outcome_of(end: &Ended, heap: &Refusing<Global>, output: &[u8]) -> Outcome {
+    let text = end.text.as_slice();
+    if heap.refused() == 0 {
+        return Outcome {
+            is_right: end.result == Ok(()) && text == output && heap.asked() == heap.freed(),
+            written: None,
+        };
+    }
+    Outcome {
+        is_right: end.result == Err(RunError::Memory)
+            && output.starts_with(text)
+            && (text.is_empty() || text.ends_with(b"\n"))
+            && heap.asked().saturating_sub(heap.freed()) == 1,
+        written: Some(text.len()),
+    }
+}
+
+// A run over an input whose request of this number is refused, if it comes so far.
+fn refused_at(alloc: Global, run: (&[u8], &[u8]), request: u64) -> Outcome {
+    let heap = Refusing::nth(alloc, request);
+    let end = run_over(&heap, alloc, run.0);
+    outcome_of(&end, &heap, run.1)
+}
+
+// Whether a run ends as it must where its first request is refused, then the second, and so on, until it
+// ends with none refused. The later the request, the more answers are written.
+fn is_right_at_each_request(alloc: Global, run: (&[u8], &[u8])) -> bool {
+    let mut most = 0usize;
+    for request in 1..1000u64 {
+        let outcome = refused_at(alloc, run, request);
+        let Some(written) = outcome.written else {
+            return outcome.is_right && request > 20 && most >= run.1.len() / 2;
+        };
+        if !outcome.is_right || written < most {
+            return false;
+        }
+        most = written;
+    }
+    false
+}
+
+#[test]
+fn each_request_is_refused_in_turn(rt: HostRuntime) {
+    for run in RUNS {
+        assert!(rt; is_right_at_each_request(rt.alloc(), run));
+    }
+}
+
+// A load line of 10000 symbols of two bits.
+fn push_long_line(text: &mut Vec<u8>) -> Result<(), AllocError> {
+    text.extend_from_slice(b"text 2")?;
+    for number in 0..5000usize {
+        text.push(b' ')?;
+        text.push(b"0123"[number % 7 % 4])?;
+        text.push(b' ')?;
+        text.push(b"0123"[number % 11 % 4])?;
+    }
+    text.push(b'\n')?;
+    Ok(())
+}
+
+// The most bytes that a run holds over a long line that is there so many times.
+fn most_held(alloc: Global, times: usize) -> Result<usize, RunError> {
+    let mut text = Vec::new(alloc);
+    for _ in 0..times {
+        push_long_line(&mut text)?;
+    }
+    let heap = Refusing::none(alloc);
+    let end = run_over(&heap, alloc, text.as_slice());
+    end.result?;
+    Ok(heap.most_held_bytes())
+}
+
+// What was held is let go before a text comes in its place: a second one takes no more room than the first,
+// but for the answers that are gathered.
+#[test]
+fn a_text_is_loaded_where_another_was(rt: HostRuntime) -> Result<(), Fail> {
+    let once = most_held(rt.alloc(), 1)?;
+    let twice = most_held(rt.alloc(), 2)?;
+    assert!(rt; once > 300000 && twice <= once.saturating_add(64));
+    Ok(())
+}
