@@ -107,7 +107,23 @@ fn knows_ends<A: Allocator + Copy>(list: &EliasFanoVec<A>, len: usize) -> bool {
         (Query::Rank(u64::MAX), Some(len as u64)),
         (Query::Successor(u64::MAX), None),
     ];
-    answers_all(list, &rows) && list.heap_size() > 0
+    answers_all(list, &rows) && knows_ends_in_batches(list, len) && list.heap_size() > 0
+}
+
+// The same of batches.
+fn knows_ends_in_batches<A: Allocator + Copy>(list: &EliasFanoVec<A>, len: usize) -> bool {
+    let mut members = [Some(len as u64)];
+    list.get_each(&mut members);
+    let mut ranks = [u64::MAX];
+    list.rank_each(&mut ranks);
+    let mut before = [Some(u64::MAX)];
+    list.predecessor_each(&mut before);
+    let mut after = [Some(u64::MAX)];
+    list.successor_each(&mut after);
+    members == [None]
+        && ranks == [len as u64]
+        && before[0].is_some() == (len > 0)
+        && after == [None]
 }
 
 // Whether a list has so many members, and answers about the first, one amid and the last.
