@@ -7,7 +7,8 @@ time of each series counts. Exit status 1 where a checksum differs: the answers 
 
 `--checksums` builds the original's driver alone, runs its small workload, and compares its checksums with the stored run
 of `crates/vers_bench`, so it needs no Rattle toolchain. Series that only one of the two has are listed: the original has no
-`postings`, whose rows have no ratio, and whose checksums `plain.py` computes.
+`postings`, whose rows have no ratio, and whose checksums `plain.py` computes. Nor has it batches (`_each_` and a size): their rows
+stand beside its single calls.
 
 `--instructions` counts, under valgrind's callgrind and with a sixteenth of the sizes, the instructions of one pass over the queries of
 each series, with its loop and its checksum. In both drivers such a pass is a function of its own, whose name ends in `_pass`.
@@ -27,7 +28,7 @@ TOP = os.path.dirname(HERE)
 OWN = os.path.join(TOP, "crates/vers_bench/out/vers_bench")
 STORED = os.path.join(TOP, "crates/vers_bench/stdout")
 PROJECT = os.path.join(HERE, "original")
-STRUCTURES = ("bits", "walks", "list", "sorted", "sparse", "wavelet", "rmq", "tree", "postings")
+STRUCTURES = ("bits", "walks", "list", "sorted", "sparse", "wavelet", "rmq", "tree", "postings", "batches")
 LEVELS = ("x86-64-v2", "x86-64-v3", "x86-64-v4", "native")
 
 
@@ -48,12 +49,18 @@ def output_of(command):
     return subprocess.run(command, check=True, capture_output=True, text=True, stdin=subprocess.DEVNULL).stdout
 
 
+def of_single(name):
+    """Returns the name of the series whose queries are asked one by one, which is this one if it's of no batches."""
+    return re.sub(r"_each_\d+", "", name)
+
+
 def compare_checksums(original):
     """Prints where the checksums of the original differ from the stored run, and returns whether any does."""
     with open(STORED, encoding="utf-8") as file:
         stored = file.read()
     lines = [dict(line.rsplit("\t", 1) for line in text.splitlines()) for text in (stored, output_of([original]))]
     here, there = lines
+    there.update({it: there[of_single(it)] for it in here if of_single(it) in there})
     for series in [it for it in here if it not in there]:
         print("only here:", series.replace("\t", " "))
     for series in [it for it in there if it not in here]:
@@ -96,6 +103,15 @@ def measured(drivers, structures, passes, options):
                 for line in output_of([program, driver, structure, *options]).splitlines():
                     _, *name, value, checksum = line.split("\t")
                     found.setdefault(tuple(name), Series()).note(driver, float(value), checksum)
+    return beside_singles(found)
+
+
+def beside_singles(found):
+    """Puts single calls of the original, which has no batches, beside each batch that it is asked the same by."""
+    for (structure, operation, data), series in found.items():
+        single = found.get((structure, of_single(operation), data))
+        if single and "original" in single.values:
+            series.note("original", single.values["original"], single.checksums["original"])
     return found
 
 
@@ -138,7 +154,7 @@ def counted(drivers, structures):
         for driver, program in drivers.items():
             for name, count, checksum in instructions_of(program, driver, structure):
                 found.setdefault(name, Series()).note(driver, count, checksum)
-    return found
+    return beside_singles(found)
 
 
 def main():

@@ -34,7 +34,7 @@ pub fn run(settings: &Settings, limb_count: usize, percent: u64, query_count: us
     series.run("select1", query_count, || folded(of_ones.iter().map(|&it| bits.select1(it as usize) as u64)));
     series.run("select1_chained", query_count, || folded(chained(&of_ones, |it| bits.select1(it))));
     series.run("select0", query_count, || folded(of_zeros.iter().map(|&it| bits.select0(it as usize) as u64)));
-    series.run("iter1", ones, || summed(bits.iter1().map(|it| it as u64)));
+    series.walk("iter1", ones, || summed(bits.iter1().map(|it| it as u64)));
 }
 
 /// The series `walks`, but for the walk by chunks, which the crate has with AVX-512 alone.
@@ -43,13 +43,13 @@ pub fn run_walks(settings: &Settings, limb_count: usize, percent: u64) {
     let series = series(settings, "walks", limb_count, percent);
     let bits = RsVec::from_bit_vec(BitVec::from_limbs(&limbs(limb_count, percent)));
     let ones = bits.rank1(bits.len());
-    series.run("iter1", ones, || summed(bits.iter1().map(|it| it as u64)));
-    series.run("iter1_back", ones, || summed(bits.iter1().rev().map(|it| it as u64)));
-    series.run("iter1_nth", ones / STEP, || {
+    series.walk("iter1", ones, || summed(bits.iter1().map(|it| it as u64)));
+    series.walk("iter1_back", ones, || summed(bits.iter1().rev().map(|it| it as u64)));
+    series.walk("iter1_nth", ones / STEP, || {
         let mut places = bits.iter1();
         summed((0..ones / STEP).map(|_| places.nth(STEP - 1).unwrap_or(0) as u64))
     });
-    series.run("sparse_equals1", ones, || u64::from(bits.sparse_equals::<false>(&bits)));
+    series.walk("sparse_equals1", ones, || u64::from(bits.sparse_equals::<false>(&bits)));
 }
 
 /// The series `list`.
@@ -62,7 +62,7 @@ pub fn run_lists(settings: &Settings, limb_count: usize, query_count: usize) {
     series.run("from_limbs", len, || BitVec::from_limbs(&limbs).len() as u64);
     let places = Random::new(7).many_below(query_count, len as u64);
     // A list of three bits is extended, so that no limb falls on a limb.
-    series.run("extend_bitvec", len, || {
+    series.walk("extend_bitvec", len, || {
         let mut list = BitVec::from_ones(3);
         list.extend_bitvec(&bits);
         list.len() as u64
@@ -70,5 +70,5 @@ pub fn run_lists(settings: &Settings, limb_count: usize, query_count: usize) {
     series.run("get_bits", query_count, || {
         folded(places.iter().map(|&it| bits.get_bits(it as usize, WIDTH).unwrap_or(u64::MAX)))
     });
-    series.run("count_ones", len, || bits.count_ones());
+    series.walk("count_ones", len, || bits.count_ones());
 }

@@ -17,26 +17,33 @@ pub struct Settings {
     /// The structures to run; all where there are none.
     pub structures: Vec<String>,
     pub mode: Mode,
+    /// The one size of structures, in place of the usual ones: of bits, members, symbols, items or nodes. Then each has
+    /// the first kind of data alone, and no series that goes over all of it but builds.
+    pub size: Option<usize>,
 }
 
 impl Settings {
     pub fn from_words(mut words: impl Iterator<Item = String>) -> Result<Self, String> {
         let (mut name, mut structures) = (None, Vec::new());
-        let (mut repetitions, mut divisor) = (5, 1);
+        let (mut repetitions, mut divisor, mut size) = (5, 1, None);
+        let number = |word: Option<String>| {
+            let word = word.ok_or("an option wants a number")?;
+            word.parse::<usize>().map_err(|_| format!("{word} is no number"))
+        };
         while let Some(word) = words.next() {
             match word.as_str() {
                 "--small" => divisor = 16,
-                "--reps" => {
-                    let count = words.next().ok_or("--reps wants a number")?;
-                    repetitions = count.parse().map_err(|_| format!("{count} is no number"))?;
-                }
+                "--reps" => repetitions = number(words.next())?,
+                "--size" => size = Some(number(words.next())?),
                 _ if name.is_none() => name = Some(word),
                 _ => structures.push(word),
             }
         }
         Ok(match name {
-            None => Settings { name: String::new(), structures, mode: Mode::Checksums },
-            Some(name) => Settings { name, structures, mode: Mode::Times { repetitions: repetitions.max(1), divisor } },
+            None => Settings { name: String::new(), structures, mode: Mode::Checksums, size },
+            Some(name) => {
+                Settings { name, structures, mode: Mode::Times { repetitions: repetitions.max(1), divisor }, size }
+            }
         })
     }
 
@@ -48,9 +55,23 @@ impl Settings {
         }
     }
 
-    /// A size that only a run with times has.
-    pub fn scaled_large(&self, size: usize) -> Option<usize> {
-        matches!(self.mode, Mode::Times { .. }).then(|| self.scaled(size))
+    /// The sizes of a structure: the one that is asked for, or a usual one, and in a run with times a large one too.
+    pub fn sizes(&self, usual: usize, large: usize) -> Vec<usize> {
+        match (self.size, &self.mode) {
+            (Some(size), _) => vec![size],
+            (None, Mode::Checksums) => vec![self.scaled(usual)],
+            (None, Mode::Times { .. }) => vec![self.scaled(usual), self.scaled(large)],
+        }
+    }
+
+    /// The size of a structure: the one that is asked for, or the usual one, divided as all are.
+    pub fn size_or(&self, usual: usize) -> usize {
+        self.size.unwrap_or_else(|| self.scaled(usual))
+    }
+
+    /// The kinds of data: the first alone where one size is asked for.
+    pub fn kinds<'a, T>(&self, kinds: &'a [T]) -> &'a [T] {
+        if self.size.is_some() { &kinds[..1] } else { kinds }
     }
 
     pub fn wants(&self, structure: &str) -> bool {
@@ -101,6 +122,13 @@ impl Series<'_> {
         });
         let time = median(times.collect());
         self.print(operation, per_operation(time, count), checksum);
+    }
+
+    /// The same of a walk over all of the structure.
+    pub fn walk(&self, operation: &str, count: usize, pass: impl FnMut() -> u64) {
+        if self.settings.size.is_none() {
+            self.run(operation, count, pass);
+        }
     }
 
     /// Runs the making of a value of `count` items. The time is that of `make` alone: what the value is made of comes

@@ -26,15 +26,18 @@ fn run_list(settings: &Settings, name: &str, numbers: &[u64], asked: Asked) {
     series.run("rank", asked.count, || folded(values.iter().map(|&it| list.rank(it))));
     series.run("predecessor", asked.count, || folded(values.iter().map(|&it| list.predecessor(it).unwrap_or(NONE))));
     series.run("successor", asked.count, || folded(values.iter().map(|&it| list.successor(it).unwrap_or(NONE))));
-    series.run("iter", len, || summed(list.iter()));
+    series.walk("iter", len, || summed(list.iter()));
 }
 
 /// The series `sorted`: lists of `len` members, far apart, with many equal ones, and with a dense cluster. The first
-/// has `len` queries, the others `few`.
-pub fn run(settings: &Settings, len: usize, few: usize) {
+/// has `query_count` queries, the others `few`.
+pub fn run(settings: &Settings, len: usize, query_count: usize, few: usize) {
     let members = members_uniform(len);
     let span = members.last().map_or(1, |last| last + 1);
-    run_list(settings, "uniform", &members, Asked { first: 0, span, count: len });
+    run_list(settings, "uniform", &members, Asked { first: 0, span, count: query_count });
+    if settings.size.is_some() {
+        return;
+    }
     let Clustered { members, first } = members_clustered(len, true);
     run_list(settings, "equal", &members, Asked { first: first - 1, span: 3, count: few });
     let Clustered { members, first } = members_clustered(len, false);
@@ -57,5 +60,5 @@ pub fn run_sparse(settings: &Settings, limb_count: usize, percent: u64, query_co
     series.run("get", query_count, || folded(places.iter().map(|&it| list.get(it).unwrap_or(NONE))));
     series.run("rank1", query_count, || folded(places.iter().map(|&it| list.rank1(it))));
     series.run("select1", query_count, || folded(numbers.iter().map(|&it| list.select1(it as usize))));
-    series.run("iter1", ones as usize, || summed(list.iter1()));
+    series.walk("iter1", ones as usize, || summed(list.iter1()));
 }

@@ -6,12 +6,12 @@ use std::ops::Range;
 use vers_vecs::WaveletMatrix;
 
 /// A range of places, and a number of one of its members by size.
-struct Quantile {
-    range: Range<usize>,
-    number: usize,
+pub struct Quantile {
+    pub range: Range<usize>,
+    pub number: usize,
 }
 
-fn quantiles(random: &mut Random, count: usize, n: u64) -> Vec<Quantile> {
+pub fn quantiles(random: &mut Random, count: usize, n: u64) -> Vec<Quantile> {
     let mut quantile = || {
         let from = random.below(n);
         let long = random.below(n - from) + 1;
@@ -20,7 +20,7 @@ fn quantiles(random: &mut Random, count: usize, n: u64) -> Vec<Quantile> {
     (0..count).map(|_| quantile()).collect()
 }
 
-fn number_or_none(answer: Option<usize>) -> u64 {
+pub fn number_or_none(answer: Option<usize>) -> u64 {
     answer.map_or(NONE, |it| it as u64)
 }
 
@@ -63,6 +63,6 @@ pub fn run(settings: &Settings, n: usize, width: u16, query_count: usize) {
     series.run("successor_u64", query_count, || {
         folded(in_ranges().map(|(range, &symbol)| matrix.successor_u64(range, symbol).unwrap_or(NONE)))
     });
-    series.run("iter_u64", n, || summed(matrix.iter_u64().into_iter().flatten()));
-    series.run("iter_sorted_u64", n, || summed(matrix.iter_sorted_u64().into_iter().flatten()));
+    series.walk("iter_u64", n, || summed(matrix.iter_u64().into_iter().flatten()));
+    series.walk("iter_sorted_u64", n, || summed(matrix.iter_sorted_u64().into_iter().flatten()));
 }

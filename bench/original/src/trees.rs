@@ -49,12 +49,13 @@ fn walked(tree: &Parentheses) -> impl Iterator<Item = usize> + '_ {
     })
 }
 
-/// The series `tree`: a tree of `count` bits, and `query_count` queries of each kind.
-pub fn run(settings: &Settings, shape: Shape, count: usize, query_count: usize) {
-    let kind = match shape {
-        Shape::Random => "",
-        Shape::Path => "path ",
-        Shape::Star => "star ",
+/// The series `tree`: a tree of `nodes` nodes, or with one more where all are children of the first, and `query_count`
+/// queries of each kind.
+pub fn run(settings: &Settings, shape: Shape, nodes: usize, query_count: usize) {
+    let (kind, count) = match shape {
+        Shape::Random => ("", nodes * 2),
+        Shape::Path => ("path ", nodes * 2),
+        Shape::Star => ("star ", nodes * 2 + 2),
     };
     let series = Series { settings, structure: "tree", parameters: format!("{kind}bits={count}") };
     let bits = bits_of(shape, count);
@@ -76,6 +77,6 @@ pub fn run(settings: &Settings, shape: Shape, count: usize, query_count: usize) 
     let few = &nodes[..query_count / 5];
     let children = || few.iter().flat_map(|&it| tree.children(it));
     series.run("children", few.len() + children().count(), || folded(children().map(|it| it as u64)));
-    series.run("dfs_iter", tree.size(), || summed(tree.dfs_iter().map(|it| it as u64)));
-    series.run("dfs_walk", tree.size(), || folded(walked(&tree).map(|it| it as u64)));
+    series.walk("dfs_iter", tree.size(), || summed(tree.dfs_iter().map(|it| it as u64)));
+    series.walk("dfs_walk", tree.size(), || folded(walked(&tree).map(|it| it as u64)));
 }

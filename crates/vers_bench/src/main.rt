@@ -2,9 +2,11 @@
 //!
 //! Without arguments it prints the checksums of a small workload. With arguments it prints times:
 //! the name of the driver in the lines, then the structures to run (none: all), and the options
-//! `--small` (a sixteenth of the sizes) and `--reps N` (how often each series is run, 5 by default).
+//! `--small` (a sixteenth of the sizes), `--reps N` (how often each series is run, 5 by default) and
+//! `--size N` (one size of structures in place of the usual ones, as bits, members, symbols, items or nodes).
 #![tactic(auto)]
 
+mod batches;
 mod bits;
 mod documents;
 mod lists;
@@ -21,27 +23,49 @@ use report::{Report, Settings};
 use std::io;
 use workload::RandomBits;
 
-// Takes a word of the arguments, where the word before it was `--reps` or not. Answers whether it is
-// `--reps`.
-fn take(settings: &mut Settings, word: String, is_count: bool) -> io::Result<bool> {
-    if is_count {
-        settings.repetitions = word.as_str().parse::<usize>().unwrap_or(5);
-    } else if word.as_str() == "--reps" {
-        return Ok(true);
-    } else if word.as_str() == "--small" {
+/// What a word of the arguments is, by the word before it.
+#[derive(Clone, Copy)]
+enum Meaning {
+    /// An option, or a name.
+    Option,
+    /// How often each series is run.
+    Repetitions,
+    /// The one size of structures.
+    Size,
+}
+
+// Takes a word of the arguments. Answers what the next one is.
+fn take(settings: &mut Settings, word: String, meaning: Meaning) -> io::Result<Meaning> {
+    let number = word.as_str().parse::<usize>().ok();
+    match meaning {
+        Meaning::Option => return take_option(settings, word),
+        Meaning::Repetitions => settings.repetitions = number.unwrap_or(5),
+        Meaning::Size => settings.size = number,
+    }
+    Ok(Meaning::Option)
+}
+
+fn take_option(settings: &mut Settings, word: String) -> io::Result<Meaning> {
+    if word.as_str() == "--reps" {
+        return Ok(Meaning::Repetitions);
+    }
+    if word.as_str() == "--size" {
+        return Ok(Meaning::Size);
+    }
+    if word.as_str() == "--small" {
         settings.divisor = 16;
     } else if settings.name.is_empty() {
         settings.name = word;
     } else {
         settings.structures.push(word)?;
     }
-    Ok(false)
+    Ok(Meaning::Option)
 }
 
 fn take_words(rt: &HostRuntime, settings: &mut Settings) -> io::Result<()> {
-    let mut is_count = false;
+    let mut meaning = Meaning::Option;
     for word in std::env::args(rt)?.into_iter().skip(1) {
-        is_count = take(settings, word, is_count)?;
+        meaning = take(settings, word, meaning)?;
     }
     Ok(())
 }
@@ -63,14 +87,17 @@ fn run_list(report: &Report, data: RandomBits) -> io::Result<()> {
     run_limbs(&report.over(parameters.as_str()), limbs.as_slice())
 }
 
-// The same over lists of each share of ones.
-fn run_shares(report: &Report, limb_count: usize, percents: &[u64]) -> io::Result<()> {
+// The same over lists of each share of ones, or of the first where one size is asked for.
+fn run_shares(report: &Report, len: usize, percents: &[u64]) -> io::Result<()> {
     for percent in percents {
         let data = RandomBits {
-            limb_count,
+            limb_count: len / 64,
             percent: *percent,
         };
         run_list(report, data)?;
+        if report.settings.size.is_some() {
+            break;
+        }
     }
     Ok(())
 }
@@ -78,17 +105,17 @@ fn run_shares(report: &Report, limb_count: usize, percents: &[u64]) -> io::Resul
 // The same over a list of 2^20 bits, and where times are asked for over one of 2^26 too.
 fn run_lengths(report: &Report, percents: &[u64]) -> io::Result<()> {
     let settings = report.settings;
-    run_shares(report, settings.scaled(16_384), percents)?;
-    if settings.are_timed() {
-        run_shares(report, settings.scaled(1_048_576), percents)
+    run_shares(report, settings.size_or(1 << 20), percents)?;
+    if settings.has_large() {
+        run_shares(report, settings.scaled(1 << 26), percents)
     } else {
         Ok(())
     }
 }
 
 // All structures.
-const STRUCTURES: [&str; 9] = [
-    "bits", "walks", "list", "sorted", "sparse", "wavelet", "rmq", "tree", "postings",
+const STRUCTURES: [&str; 10] = [
+    "bits", "walks", "list", "sorted", "sparse", "wavelet", "rmq", "tree", "postings", "batches",
 ];
 
 // Runs the series of a structure.
@@ -97,11 +124,12 @@ fn run_structure(report: &Report) -> io::Result<()> {
         "bits" | "walks" => run_lengths(report, &[50, 5]),
         "list" => run_lengths(report, &[50]),
         "sorted" => sorted::run(report),
-        "sparse" => run_shares(report, report.settings.scaled(16_384), &[5, 1]),
+        "sparse" => run_shares(report, report.settings.size_or(1 << 20), &[5, 1]),
         "wavelet" => symbols::run(report),
         "rmq" => minima::run(report),
         "tree" => trees::run(report),
         "postings" => documents::run(report),
+        "batches" => batches::run(report),
         _ => Ok(()),
     }
 }
@@ -122,6 +150,7 @@ fn main(rt: HostRuntime) -> io::Result<()> {
         structures: Vec::new(rt.alloc()),
         repetitions: 5,
         divisor: 1,
+        size: None,
     };
     take_words(&rt, &mut settings)?;
     let report = Report {

@@ -128,8 +128,8 @@ fn run_count(report: &Report, n: usize) -> io::Result<()> {
 /// Runs all series over a million items, and where times are asked for over ten millions too.
 pub fn run(report: &Report) -> io::Result<()> {
     let settings = report.settings;
-    run_count(report, settings.scaled(1_000_000))?;
-    if settings.are_timed() {
+    run_count(report, settings.size_or(1_000_000))?;
+    if settings.has_large() {
         run_count(report, settings.scaled(10_000_000))
     } else {
         Ok(())

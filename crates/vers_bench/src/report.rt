@@ -16,6 +16,9 @@ pub struct Settings {
     pub repetitions: usize,
     /// What the sizes are divided by.
     pub divisor: usize,
+    /// The one size of structures, in place of the usual ones: of bits, members, symbols, items or nodes. Then each
+    /// has the first kind of data alone, and no series that goes over all of it but builds.
+    pub size: Option<usize>,
 }
 
 impl Settings {
@@ -31,6 +34,19 @@ impl Settings {
         } else {
             16
         }
+    }
+
+    /// The size of a structure: the one that is asked for, or the usual one, divided as all are.
+    pub fn size_or(&self, usual: usize) -> usize {
+        match self.size {
+            Some(size) => size,
+            None => self.scaled(usual),
+        }
+    }
+
+    /// Whether larger structures are asked for too.
+    pub fn has_large(&self) -> bool {
+        self.are_timed() && self.size.is_none()
     }
 
     /// How often a series is run.
@@ -50,7 +66,7 @@ impl Settings {
 
 /// How long a run of a series took, in nanoseconds, and the checksum of its answers.
 #[derive(Clone, Copy, Drop)]
-struct Timed {
+pub struct Timed {
     nanoseconds: u64,
     checksum: u64,
 }
@@ -181,10 +197,24 @@ impl<'a> Report<'a> {
     ) -> io::Result<()>
         requires { F.pre pass structure queries }
     {
+        self.repeated(operation, count, || {
+            measured(self.rt, structure, queries, pass)
+        })
+    }
+
+    /// Runs a series of `count` operations and prints its line. `run` does them all once.
+    pub fn repeated<F: Fn() -> io::Result<Timed>>(
+        &self,
+        operation: &str,
+        count: u64,
+        run: F,
+    ) -> io::Result<()>
+        requires { F.IsAlwaysCallable run }
+    {
         let mut times = Vec::new(self.rt.alloc());
         let mut checksum = 0u64;
         for _ in 0..self.settings.repetitions() {
-            let timed = measured(self.rt, structure, queries, pass)?;
+            let timed = run()?;
             times.push(timed.nanoseconds)?;
             checksum = timed.checksum;
         }
@@ -201,6 +231,9 @@ impl<'a> Report<'a> {
     ) -> io::Result<()>
         requires { F.IsAlwaysCallable pass }
     {
+        if self.settings.size.is_some() {
+            return Ok(());
+        }
         let pass = |it: &T, _: &[()]| pass(it);
         self.passes(operation, count, structure, &[], pass)
     }
@@ -352,8 +385,8 @@ fn measured<T, Q, F: FnOnce(&T, &[Q]) -> u64>(
     timed_since(rt, start, checksum)
 }
 
-// What a run took that began at `start`, with its checksum.
-fn timed_since(rt: &HostRuntime, start: Duration, checksum: u64) -> io::Result<Timed> {
+/// What a run took that began at `start`, with its checksum.
+pub fn timed_since(rt: &HostRuntime, start: Duration, checksum: u64) -> io::Result<Timed> {
     let nanoseconds = nanoseconds_since(rt, start)?;
     Ok(Timed {
         nanoseconds,

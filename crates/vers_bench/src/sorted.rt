@@ -90,7 +90,7 @@ fn run_uniform(report: &Report, len: usize) -> io::Result<()> {
     let values = Asked {
         first: 0,
         span: members.last().copied().unwrap_or(0).wrapping_add(1),
-        count: len,
+        count: report.query_count(),
     };
     run_kind(report, "uniform", members.as_slice(), values)
 }
@@ -112,8 +112,12 @@ fn run_clustered(report: &Report, len: usize, are_equal: bool) -> io::Result<()>
 
 /// Runs all series over lists of members: far apart, with many equal ones, and with a dense cluster.
 pub fn run(report: &Report) -> io::Result<()> {
-    let len = report.query_count();
+    let settings = report.settings;
+    let len = settings.size_or(1_000_000);
     run_uniform(report, len)?;
+    if settings.size.is_some() {
+        return Ok(());
+    }
     run_clustered(report, len, true)?;
     run_clustered(report, len, false)
 }

@@ -10,9 +10,11 @@ type Matrix = WaveletMatrix<Global>;
 
 /// Symbols of a width, which a matrix is made of.
 #[derive(Clone, Copy)]
-struct Symbols<'a> {
-    list: &'a [u64],
-    width: u16,
+pub struct Symbols<'a> {
+    /// The symbols.
+    pub list: &'a [u64],
+    /// How many bits each has.
+    pub width: u16,
 }
 
 impl Symbols<'_> {
@@ -28,15 +30,18 @@ impl Symbols<'_> {
 
 /// A range of places, and a number of one of its members by size.
 #[derive(Clone, Copy, Drop)]
-struct Quantile {
-    from: usize,
-    to: usize,
-    number: usize,
+pub struct Quantile {
+    /// The first place of the range.
+    pub from: usize,
+    /// The place that it ends before.
+    pub to: usize,
+    /// The number of the member.
+    pub number: usize,
 }
 
-// The ranges of a list of so many symbols, each with a member.
+/// The ranges of a list of so many symbols, each with a member.
 #[derive(Clone, Copy)]
-struct Quantiles(u64);
+pub struct Quantiles(pub u64);
 
 impl Draw for Quantiles {
     type Item = Quantile;
@@ -123,8 +128,8 @@ fn run_built(report: &Report, source: Symbols, matrix: &Matrix) -> io::Result<()
     report.walk("iter_sorted_u64", n, matrix, sorted_walk_pass)
 }
 
-// A build by stable sorting, of symbols that have at most 64 bits.
-fn sorted_build(alloc: Global, source: Symbols) -> Result<Matrix, AllocError> {
+/// A build by stable sorting, of symbols that have at most 64 bits.
+pub fn sorted_build(alloc: Global, source: Symbols) -> Result<Matrix, AllocError> {
     WaveletMatrix::from_slice(alloc, source.list, source.width.min(64))
 }
 
@@ -165,7 +170,11 @@ fn run_width(report: &Report, n: usize, width: u16) -> io::Result<()> {
 
 /// Runs all series over symbols of 8 bits and of 32.
 pub fn run(report: &Report) -> io::Result<()> {
-    let n = report.settings.scaled(1_000_000);
+    let settings = report.settings;
+    let n = settings.size_or(1_000_000);
     run_width(report, n, 8)?;
+    if settings.size.is_some() {
+        return Ok(());
+    }
     run_width(report, n, 32)
 }

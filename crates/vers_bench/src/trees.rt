@@ -281,8 +281,12 @@ fn copied(_alloc: Global, bits: &Bits) -> Result<Bits, AllocError> {
 
 /// Runs all series over trees of each shape.
 pub fn run(report: &Report) -> io::Result<()> {
-    let count = report.settings.scaled(2_000_000);
+    let settings = report.settings;
+    let count = settings.size_or(1_000_000).saturating_mul(2);
     run_shape(report, Shape::Random, count)?;
+    if settings.size.is_some() {
+        return Ok(());
+    }
     run_shape(report, Shape::Path, count)?;
     run_shape(report, Shape::Star, count.saturating_add(2))
 }
@@ -315,9 +319,7 @@ fn run_tree(report: &Report, _source: (), tree: &Tree) -> io::Result<()> {
     )?;
     run_nodes(report, tree)?;
     run_few(report, tree)?;
-    let size = tree.size() as u64;
-    report.walk("dfs_iter", size, tree, dfs_iter_pass)?;
-    report.passes("dfs_walk", size, tree, &[], dfs_walk_pass)
+    run_walks(report, tree)
 }
 
 fn run_nodes(report: &Report, tree: &Tree) -> io::Result<()>
@@ -336,6 +338,17 @@ fn run_few(report: &Report, tree: &Tree) -> io::Result<()>
     let count = report.query_count() / 5;
     let nodes = nodes_asked(report.alloc(), &mut Random::new(11), tree, count)?;
     run_children(report, tree, nodes.as_slice())
+}
+
+fn run_walks(report: &Report, tree: &Tree) -> io::Result<()>
+    requires { IsBalanced tree.now }
+{
+    if report.settings.size.is_some() {
+        return Ok(());
+    }
+    let size = tree.size() as u64;
+    report.walk("dfs_iter", size, tree, dfs_iter_pass)?;
+    report.passes("dfs_walk", size, tree, &[], dfs_walk_pass)
 }
 
 fn run_searches(report: &Report, tree: &Tree, nodes: &[usize]) -> io::Result<()>
