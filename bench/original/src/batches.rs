@@ -52,9 +52,19 @@ fn run_bits(settings: &Settings, limb_count: usize, query_count: usize) {
 
 fn run_members(settings: &Settings, n: usize, query_count: usize) {
     let series = Series { settings, structure: "batches", parameters: format!("members n={n}") };
-    let list = EliasFanoVec::from_slice(&members_uniform(n));
-    let places = Random::new(8).many_below(query_count, n as u64);
+    let members = members_uniform(n);
+    let list = EliasFanoVec::from_slice(&members);
+    let mut random = Random::new(8);
+    let places = random.many_below(query_count, n as u64);
+    let numbers = random.many_below(query_count, members.last().map_or(1, |last| last + 1));
     series.run("get", query_count, || folded(places.iter().map(|&it| list.get(it as usize).unwrap_or(NONE))));
+    series.run("rank", query_count, || folded(numbers.iter().map(|&it| list.rank(it))));
+    series.run("predecessor", query_count, || {
+        folded(numbers.iter().map(|&it| list.predecessor(it).unwrap_or(NONE)))
+    });
+    series.run("successor", query_count, || {
+        folded(numbers.iter().map(|&it| list.successor(it).unwrap_or(NONE)))
+    });
 }
 
 /// The series `batches`: over symbols, bits, and members of an ascending list.

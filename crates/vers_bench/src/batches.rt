@@ -5,7 +5,7 @@ use crate::bits::indexed;
 use crate::report::{Report, Timed, asked, timed_since};
 use crate::symbols::{Quantile, Quantiles, Symbols, sorted_build};
 use crate::workload::{
-    Draw, NONE, Questions, Random, RandomBits, fold, members_uniform, place_or_none, symbols,
+    Below, Draw, NONE, Questions, Random, RandomBits, fold, members_uniform, place_or_none, symbols,
 };
 use std::alloc::Global;
 use std::io;
@@ -270,11 +270,11 @@ fn run_limbs(report: &Report, limb_count: usize) -> io::Result<()> {
 
 type List = EliasFanoVec<Global>;
 
-/// The places of so many members.
+/// Numbers below one: places of members, or what members are beside.
 #[derive(Clone, Copy)]
-struct Places(u64);
+struct Asked(u64);
 
-impl Draw for Places {
+impl Draw for Asked {
     type Item = Option<u64>;
 
     fn draw(&self, random: &mut Random) -> Option<u64> {
@@ -282,9 +282,16 @@ impl Draw for Places {
     }
 }
 
-fn run_list(report: &Report, _source: (), list: &List) -> io::Result<()> {
-    let places = report.questions(8, 0, Places(list.len() as u64));
-    run_places(report, list, places.made(report.alloc())?)
+// The series over a list whose members are below a number.
+fn run_list(report: &Report, end: u64, list: &List) -> io::Result<()> {
+    let alloc = report.alloc();
+    let places = report.questions(8, 0, Asked(list.len() as u64));
+    run_places(report, list, places.made(alloc)?)?;
+    let numbers = report.questions(8, 1, Below(end));
+    run_numbers(report, list, numbers.made(alloc)?)?;
+    let asked = report.questions(8, 1, Asked(end));
+    run_predecessors(report, list, asked.made(alloc)?)?;
+    run_successors(report, list, asked.made(alloc)?)
 }
 
 fn run_places(report: &Report, list: &List, places: Vec<Option<u64>>) -> io::Result<()> {
@@ -299,6 +306,39 @@ fn run_places(report: &Report, list: &List, places: Vec<Option<u64>>) -> io::Res
     run_calls(report, "get", list, places, calls)
 }
 
+fn run_numbers(report: &Report, list: &List, numbers: Vec<u64>) -> io::Result<()> {
+    let calls = Calls {
+        one: |it: &List, number: &u64| it.rank(*number),
+        each: List::rank_each,
+        answer: |below: &u64| *below,
+    };
+    run_calls(report, "rank", list, numbers, calls)
+}
+
+fn run_predecessors(report: &Report, list: &List, numbers: Vec<Option<u64>>) -> io::Result<()> {
+    let calls = Calls {
+        one: |it: &List, number: &Option<u64>| match *number {
+            Some(number) => it.predecessor(number).unwrap_or(NONE),
+            None => NONE,
+        },
+        each: List::predecessor_each,
+        answer: |member: &Option<u64>| member.unwrap_or(NONE),
+    };
+    run_calls(report, "predecessor", list, numbers, calls)
+}
+
+fn run_successors(report: &Report, list: &List, numbers: Vec<Option<u64>>) -> io::Result<()> {
+    let calls = Calls {
+        one: |it: &List, number: &Option<u64>| match *number {
+            Some(number) => it.successor(number).unwrap_or(NONE),
+            None => NONE,
+        },
+        each: List::successor_each,
+        answer: |member: &Option<u64>| member.unwrap_or(NONE),
+    };
+    run_calls(report, "successor", list, numbers, calls)
+}
+
 // The series over members far apart.
 fn run_members(report: &Report, n: usize) -> io::Result<()> {
     let parameters = format!(in report.alloc(); "members n={n}")?;
@@ -306,8 +346,9 @@ fn run_members(report: &Report, n: usize) -> io::Result<()> {
     if !is_ascending(members.as_slice()) {
         return Ok(());
     }
+    let end = members.last().copied().unwrap_or(0).wrapping_add(1);
     let made = EliasFanoVec::from_slice(report.alloc(), members.as_slice());
-    asked(&report.over(parameters.as_str()), (), made, run_list)
+    asked(&report.over(parameters.as_str()), end, made, run_list)
 }
 
 /// Runs all series: over symbols, bits, and members of an ascending list.
