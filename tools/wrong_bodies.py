@@ -184,9 +184,7 @@ def keep(crate, refused):
     """Keeps what was refused, with the latest of what earlier runs kept; what can't be kept or read is tried again."""
     entries = list({**kept(crate), **refused}.items())[-MOST_KEPT:]
     with contextlib.suppress(OSError):
-        os.makedirs(KEPT, 0o700, exist_ok=True)
-        with open(f"{KEPT}/{crate}.json", "w", encoding="utf-8") as it:
-            json.dump(entries, it, indent=0)
+        write_files(KEPT, {f"{crate}.json": json.dumps(entries, indent=0)})
 
 
 def try_crates(crates, flags, commands):
@@ -198,8 +196,7 @@ def try_crates(crates, flags, commands):
     tried = [Tried(crates, it, commands, flags.anew) for it in names]
     prove_all(crates, {name for it in tried if len(it.told) < len(it.files) for name in it.below}, commands)
     with ThreadPoolExecutor(commands.count) as waves, ThreadPoolExecutor(len(tried) or 1) as pool:
-        for it in pool.map(lambda crate: try_crate(crate, flags, waves), tried):
-            pass
+        list(pool.map(lambda crate: try_crate(crate, flags, waves), tried))
     return {it.name: it.told for it in tried}
 
 

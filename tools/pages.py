@@ -1,21 +1,72 @@
 #!/usr/bin/env python3
-"""Writes the tables of docs/CALLS.md: every public call of the library on one page, out of the sources.
+"""Writes the tables of docs/CALLS.md, every public call of the library on one page, and the figures of README's table of times.
 
-A row has a call as it is declared, the first paragraph of its doc comment, the conditions that a caller keeps, what the counted
+A row of CALLS has a call as it is declared, the first paragraph of its doc comment, the conditions that a caller keeps, what the counted
 form adds to the counters at most, and its time where docs/PERFORMANCE.md has one. A call and its counted form share a row.
+
+A row of a table of PERFORMANCE is read where its first cell is a call, as `rank1` or `FastRmq::range_min`, or a call and what its time is
+of, as "`iter1`, a place". Nothing is measured.
 
 It also says which names that the facade hands on, and which calls of its types, stand in neither table of docs/DIFFERENCES.md, of
 our own names and of those of the crate vers-vecs; and which of the first aren't our own. Counted forms and laws are all our own.
 """
 import re
 import sys
-from collections import defaultdict
+from collections import defaultdict, namedtuple
 from itertools import takewhile
 
-from performance import times_of_calls
 from sources import TOP, public_functions, read, read_crate, write_or_check
 
 PAGE, DIFFERENCES, FACADE = "docs/CALLS.md", "docs/DIFFERENCES.md", "crates/vers_vecs/src/lib.rt"
+SOURCE, README = "docs/PERFORMANCE.md", "README.md"
+# The tables that are read: the heading, the type that it times where rows don't say it, over which data, and the times' column.
+BITS = "Beside the original, in time"
+SECTIONS = (
+    (BITS, "RsVec", "2^20 bits, half ones", "2^20 bits, 50%"),
+    (BITS, "RsVec", "2^26 bits, half ones", "2^26 bits, 50%"),
+    ("Ascending lists beside the original", "EliasFanoVec", "10^6 members far apart", "here"),
+    ("Range minima beside the original, in instructions", "", "10^6 items", "10^6 items"),
+    ("Symbols beside the original, in time", "WaveletMatrix", "10^6 symbols of 8 bits", "8 bits"),
+    ("Trees of parentheses beside the original, in time", "BpTree", "a random tree of 10^6 nodes", "here"),
+)
+CALL = re.compile(r"`(?:(\w+)::)?(\w+)`(?:, (an? \w+)(?: asked or answered)?)?")
+# A time: of which call, over which data, how long, and its ratio to the original's.
+Figure = namedtuple("Figure", "holder call data time ratio")
+
+
+def figures(top):
+    """Returns the figures, in the order of the plot."""
+    tables, heading, found = defaultdict(list), "", {}
+    for line in read(f"{top}/{SOURCE}").splitlines():
+        heading = line.lstrip("#").strip() if line.startswith("#") else heading
+        if line.startswith("|"):
+            tables[heading].append([cell.strip() for cell in line.strip("|").split("|")])
+    for heading, holder, data, column in SECTIONS:
+        at, before = None, len(found)
+        for row in tables[heading]:
+            at = row.index(column) if column in row else at
+            call = CALL.fullmatch(row[0])
+            if at and call:
+                both = re.fullmatch(r"([\d.,]+) \(([\d.]+)\)", row[at])
+                time, ratio = both.groups() if both else (row[at], row[at + 2])
+                it = Figure(call[1] or holder, call[2], data, f"{time} ns {call[3] or 'a query'}", ratio)
+                found.setdefault(it[:3], it)
+        if len(found) < before + 2:
+            sys.exit(f"{SOURCE} has no table over {data} in the section {heading!r}")
+    return list(found.values())
+
+
+def times_of_calls(top):
+    """Returns the time of each call that has one, by (type, call): its first figure."""
+    return {(it.holder, it.call): f"{it.time}, {it.data}" for it in reversed(figures(top))}
+
+
+def with_figures(text, found):
+    """Returns the text of README with these figures in the rows of its table, each of which has one."""
+    rows = {f"| `{it.holder}`, `{it.call}` | {it.data} |": f" {it.time} | {it.ratio} |" for it in found}
+    return re.sub(r"(?m)^(\| `\w+`, `\w+` \| [^|\n]* \|).*$", lambda row: row[1] + rows[row[1]], text)
+
+
 CRATES = """vers_bits vers_tally vers_rank vers_sorted vers_rmq vers_trees vers_wavelet vers_saved postings text_index vers_words
     vers_engine vers_cli vers_texts vers_files"""
 ADDS = "AddsAtMost tally.old tally.new "
@@ -89,4 +140,5 @@ def misplaced_names(top):
 if __name__ == "__main__":
     misplaced = list(misplaced_names(TOP))
     print("".join(f"{it}\n" for it in misplaced), end="", file=sys.stderr)
-    sys.exit(write_or_check({PAGE: page(TOP)}, "tools/call_list.py") or bool(misplaced))
+    pages = {PAGE: page(TOP), README: with_figures(read(f"{TOP}/{README}"), figures(TOP))}
+    sys.exit(write_or_check(pages, "tools/pages.py") or bool(misplaced))
