@@ -30,7 +30,7 @@ def draw_speed():
     """Draws the ratio of each time to the original's, by structure and data."""
     groups = [(name, list(group)) for name, group in groupby(pages.figures(compare.TOP), lambda it: f"{it.holder}, {it.data}")]
     sizes = [len(group) for _, group in groups]
-    figure, panels = pyplot.subplots(len(groups), sharex=True, figsize=(7, 0.3 * sum(sizes) + 0.5 * len(groups)), height_ratios=sizes)
+    figure, panels = pyplot.subplots(len(groups), sharex=True, figsize=(7, 0.3 * sum(sizes) + 0.5 * len(groups)), height_ratios=sizes, layout="constrained")
     for panel, (name, group) in zip(panels, groups):
         ratios = [float(it.ratio) for it in group]
         bars = panel.barh([it.call for it in group], ratios, color=[LESS if it <= 1 else MORE for it in ratios])
@@ -39,14 +39,13 @@ def draw_speed():
         panel.axvline(1, color="black", linestyle="--", linewidth=0.8)
         panel.invert_yaxis()
     figure.suptitle("Time of an operation, as a ratio to that of vers-vecs 1.10.2 (shorter is faster)")
-    figure.tight_layout()
     save(figure, "speed.svg")
 
 
 def draw_growth():
     """Draws, for each structure, how the times of its queries and of its build grow with its size."""
     tables = list(growth.read_tables())
-    figure, rows = pyplot.subplots(len(tables), 2, figsize=(9, 2.6 * len(tables)))
+    figure, rows = pyplot.subplots(len(tables), 2, figsize=(9, 2.6 * len(tables)), layout="constrained")
     for row, (structure, times) in zip(rows, tables):
         sizes = [structure.base**it for it in structure.exponents]
         for panel, operations, what in zip(row, (structure.queries, ["build"]), ("a query", "a build, an item")):
@@ -57,7 +56,6 @@ def draw_growth():
             panel.set(xscale="log", yscale="log", title=f"{structure.type}: {what}, ns", xlabel=structure.unit)
             panel.legend(fontsize=8)
     figure.suptitle("Solid: this library. Dashed: vers-vecs 1.10.2.")
-    figure.tight_layout()
     save(figure, "growth.svg")
 
 

@@ -124,8 +124,8 @@ def longest_ways(crates, asked):
 
 
 def prove_all(crates, names, commands, tell=lambda text: None):
-    """Proves crates with those below them. The one with the longest way up of those that are being proved has as many jobs as there are
-    processors, and goes first; the others have two each, and use what it leaves idle."""
+    """Proves crates with those below them. The two with the longest ways up of those that are being proved have as many jobs as there are
+    processors, and the others two each; each uses what those with a longer way leave idle."""
     asked = {it for name in names for it in [*crates.below(name), name]}
     ways, order = longest_ways(crates, asked), TopologicalSorter({it: crates.uses(it) for it in asked})
     order.prepare()
@@ -147,7 +147,7 @@ def prove(crates, name, ahead, commands):
     its version."""
     with tempfile.TemporaryDirectory(prefix="proof-") as room:
         crates.copy_to(room, name, "out")
-        command = ["nice", "-n", str(5 * ahead), "rt", "run" if crates.is_program(name) else "lib", "--jobs", str(2 if ahead else commands.count)]
+        command = ["nice", "-n", str(5 * ahead), "rt", "run" if crates.is_program(name) else "lib", "--jobs", str(2 if ahead > 1 else commands.count)]
         command += ["--", "--version"] if crates.is_program(name) else []
         said, status = commands.run((name, "proof"), command, f"{room}/crates/{name}")
         if status:
