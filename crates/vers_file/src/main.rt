@@ -10,7 +10,7 @@ use std::process::ExitCode;
 use vers_cli::{Device, fault_line as run_fault_line};
 use vers_files::{FilePlace, SaveFault, Shown, ask, fault_line, read, save_to, show};
 
-const VERSION: &str = "vers_file 0.7.0";
+const VERSION: &str = "vers_file 0.8.0";
 
 const HELP: &str = "Usage: vers_file save FILE < LINE
        vers_file ask FILE < LINES
