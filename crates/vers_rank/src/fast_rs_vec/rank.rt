@@ -4,7 +4,7 @@ ghost use Rattle.vers_bits.specs.Bits.{count};
 ghost use Rattle.vers_tally.specs.Reads.{no_reads, one_more, only_data_words, AddsAtMost};
 ghost use Rattle.vers_rank.specs.Queries.{rank_reads};
 
-use super::{BLOCK, BLOCKS, RsVec};
+use super::{BLOCK, BLOCKS, LIMB, RsVec};
 use std::alloc::Allocator;
 use vers_tally::tally::Tally;
 
@@ -105,11 +105,10 @@ impl<A: Allocator + Copy> RsVec<A> {
             + self.superblocks.read(block / BLOCKS, tally) as usize
     }
 
-    // The ones from the start of a block up to a place in it, by halves: its first 4 limbs, the first 2
-    // of the place's half and the first of its quarter are left out of the sum where the place does not
-    // lie past them. In a whole block all of them are read, with no branch on the place, which would be
-    // guessed wrong. In the last block, which may have fewer limbs, those that are left out are not
-    // read.
+    // The ones from the start of a block up to a place in it: up to its quarter, its limb there, and in
+    // that limb. In a whole block 8 limbs are read, with no branch on the place, which would be guessed
+    // wrong: each is left out of the sum where the place does not lie past it. In the last block, which
+    // may have fewer limbs, those that are left out are not read.
     #[inline(always)]
     fn ones_in_block(&self, block: usize, place: usize, is_whole: bool, tally: &mut Tally) -> usize
         requires within { (BLOCK * block ≤ place) × (place < BLOCK * block + BLOCK)
@@ -118,16 +117,16 @@ impl<A: Allocator + Copy> RsVec<A> {
         ensures value { count true self.now (BLOCK * block) + result ≡ count true self.now place }
         ensures adds { AddsAtMost tally.old tally.new (only_data_words 8) }
     {
-        let halves = self.ones_before_half(block, place, is_whole, tally);
-        let quarters = self.ones_before_quarter(place, is_whole, tally);
+        let quarters = self.ones_before_quarter(block, place, is_whole, tally);
         let limbs = self.ones_before_limb(place, is_whole, tally);
-        halves + quarters + limbs + self.ones_of_part(place, tally)
+        quarters + limbs + self.ones_of_part(place, tally)
     }
 
-    // The ones from the start of a block up to a place's half of it.
+    // The ones from the start of a block up to a place's quarter of it, which are those of its first 2,
+    // 4 or 6 limbs.
     #[inline(always)]
     #[tactic(auto, using(crate::proofs::Ranks::parts))]
-    fn ones_before_half(
+    fn ones_before_quarter(
         &self,
         block: usize,
         place: usize,
@@ -138,37 +137,46 @@ impl<A: Allocator + Copy> RsVec<A> {
             × (place < length self.now) }
         requires whole { IsTrue is_whole → BLOCK * block + BLOCK ≤ length self.now }
         ensures value { count true self.now (BLOCK * block) + result
-            ≡ count true self.now (256 * (place / 256)) }
-        ensures few { result ≤ 256 }
-        ensures adds { AddsAtMost tally.old tally.new (only_data_words 4) }
+            ≡ count true self.now (128 * (place / 128)) }
+        ensures few { result ≤ 384 }
+        ensures adds { AddsAtMost tally.old tally.new (only_data_words 6) }
     {
-        let is_second_half = place / 256 % 2 == 1;
-        if !is_whole && !is_second_half {
-            return 0;
-        }
         let from = 8 * block;
-        let middle = from + 2;
-        let first = self.ones_of_pair(from, tally) + self.ones_of_pair(middle, tally);
-        if is_second_half { first } else { 0 }
+        let two = self.ones_of_pair_before(from, place, is_whole, tally);
+        let four = two + self.ones_of_pair_before(from + 2, place, is_whole, tally);
+        let six = four + self.ones_of_pair_before(from + 4, place, is_whole, tally);
+        let is_second_quarter = place / 128 % 2 == 1;
+        if place / 256 % 2 == 0 {
+            if is_second_quarter { two } else { 0 }
+        } else if is_second_quarter {
+            six
+        } else {
+            four
+        }
     }
 
-    // The ones from the start of a place's half of a block up to its quarter.
+    // The ones of two limbs, where a place lies past them. In a list that may end in them they are read
+    // only there.
     #[inline(always)]
-    #[tactic(auto, using(crate::proofs::Ranks::parts))]
-    fn ones_before_quarter(&self, place: usize, is_whole: bool, tally: &mut Tally) -> usize
+    fn ones_of_pair_before(
+        &self,
+        k: usize,
+        place: usize,
+        is_whole: bool,
+        tally: &mut Tally,
+    ) -> usize
         requires within { place < length self.now }
-        requires whole { IsTrue is_whole → BLOCK * (place / BLOCK) + BLOCK ≤ length self.now }
-        ensures value { count true self.now (256 * (place / 256)) + result
-            ≡ count true self.now (128 * (place / 128)) }
+        requires whole { IsTrue is_whole → 64 * k + 64 < length self.now }
+        requires is_place { 64 * k + 64 < 18446744073709551616 }
+        ensures value { 64 * (k + 2) ≤ place
+            → count true self.now (64 * k) + result ≡ count true self.now (64 * (k + 2)) }
         ensures few { result ≤ 128 }
         ensures adds { AddsAtMost tally.old tally.new (only_data_words 2) }
     {
-        let is_second_quarter = place / 128 % 2 == 1;
-        if !is_whole && !is_second_quarter {
+        if !is_whole && place / LIMB < k + 2 {
             return 0;
         }
-        let first = self.ones_of_pair(place / 256 * 4, tally);
-        if is_second_quarter { first } else { 0 }
+        self.ones_of_pair(k, tally)
     }
 
     // The ones from the start of a place's quarter of a block up to its limb.
@@ -193,7 +201,7 @@ impl<A: Allocator + Copy> RsVec<A> {
     // The ones of two limbs.
     #[inline(always)]
     #[tactic(auto, using(crate::proofs::Ranks::parts))]
-    fn ones_of_pair(&self, k: usize, tally: &mut Tally) -> usize
+    pub(super) fn ones_of_pair(&self, k: usize, tally: &mut Tally) -> usize
         requires within { 64 * k + 64 < length self.now }
         requires is_place { 64 * k < 18446744073709551616 }
         ensures value { count true self.now (64 * k) + result ≡ count true self.now (64 * (k + 2)) }
@@ -206,7 +214,7 @@ impl<A: Allocator + Copy> RsVec<A> {
     // The ones of a limb.
     #[inline(always)]
     #[tactic(auto, using(crate::proofs::Ranks::limbs))]
-    fn ones_of_limb(&self, k: usize, tally: &mut Tally) -> usize
+    pub(super) fn ones_of_limb(&self, k: usize, tally: &mut Tally) -> usize
         requires { 64 * k < length self.now }
         ensures value { count true self.now (64 * k) + result ≡ count true self.now (64 * (k + 1)) }
         ensures few { result ≤ 64 }
