@@ -1,6 +1,7 @@
 -- From counts to places.
-use Rattle.vers_rank.proofs.Names.{◌≡◌, ℕ, ◌+◌, ◌-◌, ◌*◌, ◌/◌, ◌<◌, ◌≤◌, Bool, true, false, List, length, get_or, ap, ◌∙◌, refl, inl, inr, arith, min, cases_lt, cases_Bool, is_bit, count, limb, limb_count, select, count_le_all, count_le, count_up, count_near, count_limb, count_both, count_past, select_at, select_past, count_at_select, count_more_yes, count_more_no, digits, digits_up, digits_halved, IsSample, IsLimbWith, IsAmongLimbs}
-use Rattle.vers_rank.specs.inside.Index.{held, held_in}
+use Rattle.vers_rank.proofs.Names.{◌≡◌, ℕ, ◌+◌, ◌-◌, ◌*◌, ◌/◌, ◌<◌, ◌≤◌, Bool, true, false, List, length, get_or, ap, ◌∙◌, refl, sym, inl, inr, arith, min, cases_lt, cases_Bool, is_bit, count, limb, limb_count, select, count_le_all, count_le, count_up, count_near, count_limb, count_both, count_past, select_at, select_past, count_at_select, count_more_yes, count_more_no, digits, digits_up, digits_halved, IsSample, IsLimbWith, IsAmongLimbs, HasPassed}
+use Rattle.vers_rank.specs.inside.Index.{held, held_in, held_of}
+use Rattle.vers_rank.proofs.Ranks.{count_at}
 use Rattle.vers_rank.proofs.Words.{ones_few}
 
 -- inside the list it is the count
@@ -111,27 +112,37 @@ pub ruleset block_search = (count_up, count_le)
 
 pub ruleset limb_search = (held_more, held_up)
 
--- half of the limbs: those after the ones whose places don't pass number r, or else the first ones
-pub half_of : (b : Bool) (l : List Bool) (block r n limb before there more_limb more_before : ℕ) → IsAmongLimbs b l block r (n + n) limb before → held b l (64 * limb) + there ≡ held b l (64 * (limb + n)) → there ≤ 64 * n
-    → (before + there ≤ r → (more_limb ≡ limb + n) × (more_before ≡ before + there)) → (r < before + there → (more_limb ≡ limb) × (more_before ≡ before)) → IsAmongLimbs b l block r n more_limb more_before
-half_of b l block r n limb before there more_limb more_before is counts small on off = elim (cases_lt r (before + there)) [
-  | inl high ↦ rw ((off high).0, (off high).1) (record {
-    start = is.start;
-    inside = omega (arith, is.inside);
-    counted = is.counted;
-    from = is.from;
-    few = is.few;
-    to = λ _. omega (arith, is.counted, counts);
-  })
-  | inr low ↦ rw ((on low).0, (on low).1) (record {
-    start = omega (arith, is.start);
-    inside = omega (arith, is.inside);
-    counted = omega (arith, is.counted, counts);
-    from = low;
-    few = omega (arith, is.few, is.start);
-    to = λ h. let e : 64 * (limb + n + n) ≡ 64 * (limb + (n + n)) = omega arith in omega (arith, is.to (omega arith), ap (held b l) e);
-  })
-]
+-- n places more, of which `ones` are ones
+held_among : (b : Bool) (l : List Bool) (i n ones : ℕ) → count true l i + ones ≡ count true l (i + n) → ones ≤ n → (held b l i + held_of b ones n ≡ held b l (i + n)) × (held_of b ones n ≤ n)
+unfolding held
+held_among true l i n ones counts few = (counts, few)
+held_among false l i n ones counts few = (omega (arith, counts, (count_le true l i).0), omega arith)
+
+-- half of twice n limbs: the second where the places of the first don't pass number r, and else the first
+pub half_of : (b : Bool) (l : List Bool) (block r n limb before ones : ℕ) → IsAmongLimbs b l block r (2 * n) limb before → count true l (64 * limb) + ones ≡ count true l (64 * (limb + n)) → ones ≤ 64 * n
+    → (before + held_of b ones (64 * n) ≤ r → IsAmongLimbs b l block r n (limb + n) (before + held_of b ones (64 * n))) × (r < before + held_of b ones (64 * n) → IsAmongLimbs b l block r n limb before)
+half_of b l block r n limb before ones is counts few =
+    let there : ℕ = held_of b ones (64 * n) in
+    let next : 64 * limb + 64 * n ≡ 64 * (limb + n) = omega arith in
+    let among = held_among b l (64 * limb) (64 * n) ones (counts ∙ ap (count true l) (sym next)) few in
+    let more : held b l (64 * limb) + there ≡ held b l (64 * (limb + n)) = among.0 ∙ ap (held b l) next in (
+      λ low. record {
+        start = omega (arith, is.start);
+        inside = omega (arith, is.inside);
+        counted = omega (arith, is.counted, more);
+        from = low;
+        few = omega (arith, is.few, is.start, among.1);
+        to = λ h. let end : 64 * (limb + n + n) ≡ 64 * (limb + 2 * n) = omega arith in omega (arith, is.to (omega arith), ap (held b l) end);
+      },
+      λ high. record {
+        start = is.start;
+        inside = omega (arith, is.inside);
+        counted = is.counted;
+        from = is.from;
+        few = is.few;
+        to = λ _. omega (arith, is.counted, more, high);
+      },
+    )
 
 -- the limb that is left
 pub one_limb : (b : Bool) (l : List Bool) (block r limb before : ℕ) → IsAmongLimbs b l block r 1 limb before → IsLimbWith b l block r (8 * block + 7) limb before
@@ -154,18 +165,32 @@ all_limbs b l block r = record {
   to = λ h. absurd (omega arith);
 }
 
--- the places of four limbs are those of two and of the next two
-pub two_and_two : (b : Bool) (l : List Bool) (k x y : ℕ) → held b l (64 * k) + x ≡ held b l (64 * (k + 2)) → held b l (64 * (k + 2)) + y ≡ held b l (64 * (k + 2 + 2)) → held b l (64 * k) + (x + y) ≡ held b l (64 * (k + 4))
-two_and_two b l k x y one other = let e : 64 * (k + 2 + 2) ≡ 64 * (k + 4) = omega arith in omega (arith, one, other, ap (held b l) e)
-
-pub next_two : (b : Bool) (l : List Bool) (k x y : ℕ) → held b l (64 * k) + x ≡ held b l (64 * (k + 1)) → held b l (64 * (k + 1)) + y ≡ held b l (64 * (k + 1 + 1)) → held b l (64 * k) + (x + y) ≡ held b l (64 * (k + 2))
-next_two b l k x y one other = let e : 64 * (k + 1 + 1) ≡ 64 * (k + 2) = omega arith in omega (arith, one, other, ap (held b l) e)
-
-pub ruleset halves_of_block = (held_up, next_two)
+pub ruleset halves_of_block = (count_at, all_limbs, one_limb)
 
 -- the greater half of n has a digit less
 pub half_left : (n : ℕ) → 1 < n → digits (n - n / 2 - 1) + 1 ≤ digits (n - 1)
 half_left n h = digits_halved (n - n / 2 - 1) (n - 1) (omega arith) (omega arith)
+
+-- the superblock of number r, by which of the next three it has passed
+pub found_among : (b : Bool) (l : List Bool) (r first n x y z : ℕ) → n ≤ 4 → count b l (8192 * first) ≤ r → r < count b l (8192 * (first + n))
+    → HasPassed b l r (first + 1) x → HasPassed b l r (first + 2) y → HasPassed b l r (first + 3) z
+    → (count b l (8192 * (first + (x + y + z))) ≤ r) × (r < count b l (8192 * (first + (x + y + z) + 1)))
+found_among b l r first n x y z few from to second third fourth =
+    let up : (i j : ℕ) → i ≤ j → count b l (8192 * (first + i)) ≤ count b l (8192 * (first + j)) = λ i j h. count_up b l (8192 * (first + i)) (8192 * (first + j)) (omega arith) in
+    let is : (k : ℕ) → x + y + z ≡ k → count b l (8192 * (first + k)) ≤ r → r < count b l (8192 * (first + (k + 1))) → (count b l (8192 * (first + (x + y + z))) ≤ r) × (r < count b l (8192 * (first + (x + y + z) + 1))) =
+    λ k e low high. rw e (low, (let next : 8192 * (first + k + 1) ≡ 8192 * (first + (k + 1)) = omega arith in omega (arith, ap (count b l) next))) in
+    let off : (i j m : ℕ) → i ≤ j → r < count b l (8192 * (first + i)) → HasPassed b l r (first + j) m → m ≡ 0 = λ i j m order low at. elim (cases_lt 0 m) [ inl on ↦ absurd (omega (arith, at.yes on, up i j order)) | inr none ↦ omega arith ] in
+    let none : first + 0 ≡ first = omega arith in
+    elim (cases_lt 0 x) [
+      | inr stays ↦ is 0 (omega (arith, off 1 2 y (omega arith) (second.no (omega arith)) third, off 1 3 z (omega arith) (second.no (omega arith)) fourth)) (omega (arith, ap (λ i. count b l (8192 * i)) none)) (second.no (omega arith))
+      | inl one ↦ elim (cases_lt 0 y) [
+        | inr stays ↦ is 1 (omega (arith, second.few, off 2 3 z (omega arith) (third.no (omega arith)) fourth)) (second.yes one) (third.no (omega arith))
+        | inl two ↦ elim (cases_lt 0 z) [
+          | inr stays ↦ is 2 (omega (arith, second.few, third.few)) (third.yes two) (fourth.no (omega arith))
+          | inl three ↦ is 3 (omega (arith, second.few, third.few, fourth.few)) (fourth.yes three) (omega (arith, up n 4 few))
+        ]
+      ]
+    ]
 
 -- a few steps, and then halves
 pub ruleset steps = (digits_up)

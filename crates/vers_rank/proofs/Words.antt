@@ -6,12 +6,6 @@ use Rattle.vers_rank.specs.inside.Index.{held_in}
 pub ones_few : (w j : ℕ) → count_ones (w % 2 ^ j) ≤ j
 ones_few w j = ones-le j (w % 2 ^ j) (mod_below w (2 ^ j) (pow_pos j))
 
--- a mask keeps the low bits
-pub masked : (w j : ℕ) → j < 64 → bit_and w (1 * 2 ^ j % 18446744073709551616 - 1) ≡ w % 2 ^ j
-masked w j h = rw (one_shl j 64 h, and_mask) refl
-
-pub ruleset masks = (masked, ones_few)
-
 -- the low bits of a word, in two parts
 pub ones_split : (w i d : ℕ) → count_ones (w % 2 ^ (i + d)) ≡ count_ones (w % 2 ^ i) + count_ones (w / 2 ^ i % 2 ^ d)
 ones_split w i d =

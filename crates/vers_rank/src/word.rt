@@ -1,6 +1,6 @@
 //! Ones and zeros of a word of 64 bits.
 ghost use Rattle.std.specs.Prelude.{true, slice_index_or, ◌≡◌, ℕ, ◌+◌, ◌*◌, ◌<◌, ◌≤◌};
-ghost use Rattle.vers_rank.specs.inside.Index.{held_in};
+ghost use Rattle.vers_rank.specs.inside.Index.{held_in, held_of};
 ghost use Rattle.vers_rank.specs.inside.ByteOnes.{byte_ones, ones_through_bytes};
 
 // A byte 1 for each byte of a word.
@@ -26,6 +26,15 @@ fn ones_through(word: u64) -> u64
     ones_of_bytes(word).wrapping_mul(EACH_BYTE)
 }
 
+/// How many of `n` bits are `bit`, where `ones` of them are ones.
+#[inline(always)]
+pub fn held_of(bit: bool, ones: usize, n: usize) -> usize
+    requires { ones ≤ n }
+    ensures { result ≡ held_of bit ones n }
+{
+    if bit { ones } else { n - ones }
+}
+
 /// How many bits of a word are `bit`.
 #[inline(always)]
 #[tactic(auto, unfolding(crate::specs::inside::Index::held_in))]
@@ -33,19 +42,7 @@ pub fn held_in_word(word: u64, bit: bool) -> usize
     ensures value { result ≡ held_in bit word 64 }
     ensures few { result ≤ 64 }
 {
-    let ones = word.count_ones() as usize;
-    if bit { ones } else { 64 - ones }
-}
-
-// How many of the low `j` bits of a word are `bit`.
-#[inline(always)]
-#[tactic(auto, using(crate::proofs::Words::masks), unfolding(crate::specs::inside::Index::held_in))]
-fn held_in_part(word: u64, bit: bool, j: usize) -> usize
-    requires { j < 64 }
-    ensures { result ≡ held_in bit word j }
-{
-    let ones = (word & ((1 << j) - 1)).count_ones() as usize;
-    if bit { ones } else { j - ones }
+    held_of(bit, word.count_ones() as usize, 64)
 }
 
 /// The place in a word of number `r` of the bits that are `bit`: its byte, and its place there,

@@ -26,13 +26,17 @@ pub record IsIndexed (l : List Bool) (blocks superblocks zero_samples one_sample
   pub zeros_sampled : AreSamples false l zero_samples
   pub ones_sampled : AreSamples true l one_samples
 
+-- how many of n bits are b, where `ones` of them are ones
+abbrev pub held_of : Bool → ℕ → ℕ → ℕ
+held_of b ones n = cond b ones (n - ones)
+
 -- how many of the first i places hold the bit, where zeros without end follow the list
 unfoldable pub held : Bool → List Bool → ℕ → ℕ
-held b l i = cond b (count true l i) (i - count true l i)
+held b l i = held_of b (count true l i) i
 
 -- the same of the low j bits of a word
 unfoldable pub held_in : Bool → ℕ → ℕ → ℕ
-held_in b w j = cond b (count_ones (w % 2 ^ j)) (j - count_ones (w % 2 ^ j))
+held_in b w j = held_of b (count_ones (w % 2 ^ j)) j
 
 -- how many of the 512 * j places of a superblock before its block number j hold the bit, where z of them are zeros
 abbrev pub held_before : Bool → ℕ → ℕ → ℕ
@@ -49,6 +53,12 @@ pub record AreEntries (l : List Bool) (n : ℕ) (blocks superblocks : List ℕ) 
 pub record AreFirstSamples (b : Bool) (l : List Bool) (n : ℕ) (samples : List ℕ) : Type 0 where
   pub counted : length samples ≡ n
   pub each : (j : ℕ) → j < n → IsSample b l j (slice_index samples j)
+
+-- x is 1 where number r stands at or past the places of superblock s, and else 0
+pub record HasPassed (b : Bool) (l : List Bool) (r s x : ℕ) : Type 0 where
+  pub few : x ≤ 1
+  pub yes : 0 < x → count b l (SUPERBLOCK * s) ≤ r
+  pub no : x < 1 → r < count b l (SUPERBLOCK * s)
 
 -- among the limbs of a block up to number last, the one with number r of the block's places of the bit, or last; and how many of these places stand before it
 pub record IsLimbWith (b : Bool) (l : List Bool) (block r last limb before : ℕ) : Type 0 where

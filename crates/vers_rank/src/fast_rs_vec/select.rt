@@ -3,11 +3,11 @@ ghost use Rattle.std.specs.Prelude.{◌≡◌, ℕ, ◌+◌, ◌-◌, ◌*◌, �
 ghost use Rattle.vers_bits.specs.Bits.{count, limb, select};
 ghost use Rattle.vers_tally.specs.Reads.{no_reads, one_more, only_block_entries, only_superblock_entries, only_data_words, digits, AddsAtMost};
 ghost use Rattle.vers_rank.specs.Queries.{superblock_count, select_reads};
-ghost use Rattle.vers_rank.specs.inside.Index.{held, held_in, IsSample, IsLimbWith, IsAmongLimbs};
+ghost use Rattle.vers_rank.specs.inside.Index.{held, held_in, IsSample, HasPassed, IsLimbWith, IsAmongLimbs};
 
 use super::{BLOCK, BLOCKS, LIMB, RsVec, SUPERBLOCK};
 use crate::lanes::{FAR_BELOW, FoundBlock, last_up_to};
-use crate::word::{held_in_word, place_in_word};
+use crate::word::{held_in_word, held_of, place_in_word};
 use std::alloc::Allocator;
 use vers_tally::tally::Tally;
 
@@ -22,28 +22,6 @@ const STEPS: usize = 4;
 struct FoundLimb {
     limb: usize,
     before: usize,
-}
-
-impl FoundLimb {
-    // `n` limbs further, where the `held` places of these don't pass number `r`: a choice of values,
-    // and no branch.
-    #[inline(always)]
-    fn passing(self, r: usize, n: usize, held: usize) -> FoundLimb
-        requires limbs { self.limb + n < 2 ^ 64 }
-        requires places { self.before + held < 2 ^ 64 }
-        ensures passed { self.before + held ≤ r
-            → (result.limb ≡ self.limb + n) × (result.before ≡ self.before + held) }
-        ensures kept { r < self.before + held
-            → (result.limb ≡ self.limb) × (result.before ≡ self.before) }
-    {
-        let limb = self.limb + n;
-        let before = self.before + held;
-        if before <= r {
-            FoundLimb { limb, before }
-        } else {
-            self
-        }
-    }
 }
 
 // A limb, and the number in it that a number of a block is.
@@ -389,9 +367,8 @@ impl<A: Allocator + Copy> RsVec<A> {
         self.superblock_among(bit, r, first, n - STEPS, tally)
     }
 
-    // The superblock of number `r` among the `n` from `first` on: by halves while there are many, and
-    // then one after the other. Which superblocks are looked at next is no branch, so that nothing
-    // depends on a guess of it.
+    // The superblock of number `r` among the `n` from `first` on: by halves while there are many. Which
+    // superblocks are looked at next is no branch, so that nothing depends on a guess of it.
     #[inline(always)]
     #[tactic(auto, using(crate::proofs::Selects::halves))]
     fn superblock_among(
@@ -422,8 +399,74 @@ impl<A: Allocator + Copy> RsVec<A> {
             }
             left -= half;
         }
-        let mut found = start;
-        for s in start + 1..start + left {
+        self.superblock_of_few(bit, r, start, left, tally)
+    }
+
+    // The superblock of number `r` among the `n` from `first` on, which are few: as many further as don't
+    // pass the number. In the midst of a list all that may follow are looked at, with no branch on how
+    // many there are.
+    #[inline(always)]
+    fn superblock_of_few(
+        &self,
+        bit: bool,
+        r: usize,
+        first: usize,
+        n: usize,
+        tally: &mut Tally,
+    ) -> usize
+        requires few { (0 < n) × (n ≤ FEW) }
+        requires within { SUPERBLOCK * (first + n) < length self.now + SUPERBLOCK }
+        requires from { count bit self.now (SUPERBLOCK * first) ≤ r }
+        requires to { r < count bit self.now (SUPERBLOCK * (first + n)) }
+        ensures within { SUPERBLOCK * result < length self.now }
+        ensures from { count bit self.now (SUPERBLOCK * result) ≤ r }
+        ensures to { r < count bit self.now (SUPERBLOCK * (result + 1)) }
+        ensures adds { AddsAtMost tally.old tally.new (only_superblock_entries 3) }
+    {
+        let _ = &self.bits;
+        if first + FEW > self.superblocks.len() {
+            return self.superblock_up_to(bit, r, first, n, tally);
+        }
+        let second = self.passed(bit, r, first + 1, tally);
+        let third = self.passed(bit, r, first + 2, tally);
+        let fourth = self.passed(bit, r, first + 3, tally);
+        first + (second + third + fourth)
+    }
+
+    // 1 where number `r` stands in a superblock or past it, and else 0.
+    #[inline(always)]
+    fn passed(&self, bit: bool, r: usize, s: usize, tally: &mut Tally) -> usize
+        requires { SUPERBLOCK * s < length self.now }
+        ensures passed { HasPassed bit self.now r s result }
+        ensures adds { AddsAtMost tally.old tally.new (only_superblock_entries 1) }
+    {
+        let _ = &self.bits;
+        usize::from(self.count_at_superblock(bit, s, tally) <= r)
+    }
+
+    // The superblock of number `r` among the `n` from `first` on, which are few: one after the other.
+    #[inline(always)]
+    #[tactic(auto, using(crate::proofs::Selects::halves))]
+    fn superblock_up_to(
+        &self,
+        bit: bool,
+        r: usize,
+        first: usize,
+        n: usize,
+        tally: &mut Tally,
+    ) -> usize
+        requires few { (0 < n) × (n ≤ FEW) }
+        requires within { SUPERBLOCK * (first + n) < length self.now + SUPERBLOCK }
+        requires from { count bit self.now (SUPERBLOCK * first) ≤ r }
+        requires to { r < count bit self.now (SUPERBLOCK * (first + n)) }
+        ensures within { SUPERBLOCK * result < length self.now }
+        ensures from { count bit self.now (SUPERBLOCK * result) ≤ r }
+        ensures to { r < count bit self.now (SUPERBLOCK * (result + 1)) }
+        ensures adds { AddsAtMost tally.old tally.new (only_superblock_entries 3) }
+    {
+        let _ = &self.bits;
+        let mut found = first;
+        for s in first + 1..first + n {
             if self.count_at_superblock(bit, s, tally) <= r {
                 found = s;
             }
@@ -594,91 +637,45 @@ impl<A: Allocator + Copy> RsVec<A> {
         ensures found { IsLimbWith bit self.now block r (8 * block + 7) result.limb result.before }
         ensures adds { AddsAtMost tally.old tally.new (only_data_words 7) }
     {
-        let half = self.half_with(bit, r, block, tally);
-        let quarter = self.quarter_with(bit, r, block, half, tally);
-        self.limb_of_two(bit, r, block, quarter, tally)
-    }
-
-    // The half of number `r` of a block.
-    #[inline(always)]
-    #[tactic(auto, using(crate::proofs::Selects::halves_of_block))]
-    fn half_with(&self, bit: bool, r: usize, block: usize, tally: &mut Tally) -> FoundLimb
-        requires within { BLOCK * block + 448 < length self.now }
-        ensures found { IsAmongLimbs bit self.now block r 4 result.limb result.before }
-        ensures adds { AddsAtMost tally.old tally.new (only_data_words 4) }
-    {
         let _ = self.len();
         let limb = 8 * block;
-        let middle = limb + 2;
-        let held = self.held_in_two(bit, limb, tally) + self.held_in_two(bit, middle, tally);
-        FoundLimb { limb, before: 0 }.passing(r, 4, held)
+        let all = FoundLimb { limb, before: 0 };
+        let ones = self.ones_of_pair(limb, tally) + self.ones_of_pair(limb + 2, tally);
+        let half = self.half_of(bit, r, block, all, 4, ones);
+        let ones = self.ones_of_pair(half.limb, tally);
+        let quarter = self.half_of(bit, r, block, half, 2, ones);
+        let ones = self.ones_of_limb(quarter.limb, tally);
+        self.half_of(bit, r, block, quarter, 1, ones)
     }
 
-    // The quarter of number `r` of a block, in the half that has it.
+    // The half of number `r` among twice `n` limbs: the second where the places of the first, of which
+    // `ones` are ones, don't pass the number. It is a choice of values, and no branch.
     #[inline(always)]
     #[tactic(auto, using(crate::proofs::Selects::halves_of_block))]
-    fn quarter_with(
+    fn half_of(
         &self,
         bit: bool,
         r: usize,
         block: usize,
-        half: FoundLimb,
-        tally: &mut Tally,
+        all: FoundLimb,
+        n: usize,
+        ones: usize,
     ) -> FoundLimb
-        requires within { BLOCK * block + 448 < length self.now }
-        requires half { IsAmongLimbs bit self.now block r 4 half.limb half.before }
-        ensures found { IsAmongLimbs bit self.now block r 2 result.limb result.before }
-        ensures adds { AddsAtMost tally.old tally.new (only_data_words 2) }
+        requires within { BLOCK * block < length self.now }
+        requires all { IsAmongLimbs bit self.now block r (2 * n) all.limb all.before }
+        requires ones { count true self.now (64 * all.limb) + ones
+            ≡ count true self.now (64 * (all.limb + n)) }
+        requires few { ones ≤ 64 * n }
+        ensures { IsAmongLimbs bit self.now block r n result.limb result.before }
     {
         let _ = self.len();
-        let held = self.held_in_two(bit, half.limb, tally);
-        half.passing(r, 2, held)
-    }
-
-    // The limb of number `r` of a block, in the quarter that has it.
-    #[inline(always)]
-    #[tactic(auto, using(crate::proofs::Selects::halves_of_block))]
-    fn limb_of_two(
-        &self,
-        bit: bool,
-        r: usize,
-        block: usize,
-        quarter: FoundLimb,
-        tally: &mut Tally,
-    ) -> FoundLimb
-        requires within { BLOCK * block + 448 < length self.now }
-        requires quarter { IsAmongLimbs bit self.now block r 2 quarter.limb quarter.before }
-        ensures found { IsLimbWith bit self.now block r (8 * block + 7) result.limb result.before }
-        ensures adds { AddsAtMost tally.old tally.new (only_data_words 1) }
-    {
-        let _ = self.len();
-        let held = self.held_in_limb(bit, quarter.limb, tally);
-        quarter.passing(r, 1, held)
-    }
-
-    // How many places of two limbs hold the bit.
-    #[inline(always)]
-    #[tactic(auto, using(crate::proofs::Selects::limb_search))]
-    fn held_in_two(&self, bit: bool, k: usize, tally: &mut Tally) -> usize
-        requires within { 64 * k + 64 < length self.now }
-        ensures value { held bit self.now (64 * k) + result ≡ held bit self.now (64 * (k + 2)) }
-        ensures few { result ≤ 128 }
-        ensures adds { AddsAtMost tally.old tally.new (only_data_words 2) }
-    {
-        let _ = self.len();
-        self.held_in_limb(bit, k, tally) + self.held_in_limb(bit, k + 1, tally)
-    }
-
-    // How many places of a limb hold the bit.
-    #[inline(always)]
-    #[tactic(auto, using(crate::proofs::Selects::limb_search))]
-    fn held_in_limb(&self, bit: bool, k: usize, tally: &mut Tally) -> usize
-        requires within { 64 * k < length self.now }
-        ensures value { held bit self.now (64 * k) + result ≡ held bit self.now (64 * (k + 1)) }
-        ensures few { result ≤ 64 }
-        ensures adds { AddsAtMost tally.old tally.new (only_data_words 1) }
-    {
-        held_in_word(self.bits.limb(k, tally), bit)
+        let limb = all.limb + n;
+        let before = all.before + held_of(bit, ones, LIMB * n);
+        if before <= r {
+            FoundLimb { limb, before }
+        } else {
+            all
+        }
     }
 
     // The limb of number `r` among those of a block up to the one before `last`, or `last` itself: one
