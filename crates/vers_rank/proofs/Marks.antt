@@ -94,6 +94,10 @@ limb_fits l k =
     let few : 2 ^ length part ≤ 2 ^ 64 = pow_mono short in
     omega (arith, number-lt part, few)
 
+pub marked_fits : (b : Bool) (l : List Bool) (k : ℕ) → marked b (limb l k) < 18446744073709551616
+marked_fits true l k = limb_fits l k
+marked_fits false l k = omega arith
+
 not_value : (x : Bool) → 1 - bit_value x ≡ bit_value (is_bit false x)
 not_value true = refl
 not_value false = refl
@@ -109,7 +113,7 @@ marks_are b l m k v w word value view = rw (← view, ← value) word
 -- a limb whole
 pub whole_marked : (b : Bool) (l : List Bool) (k lo hi : ℕ) → lo ≤ count b l (64 * k) → count b l (64 * k + 64) ≤ hi → IsMarked b l k (marked b (limb l k)) lo hi
 whole_marked b l k lo hi low high = record {
-  fits = elim (cases_Bool b) [ inl on ↦ rw on (limb_fits l k) | inr off ↦ rw off (omega arith) ];
+  fits = marked_fits b l k;
   sound = λ i h on inside.
       let holds = value_one (is_bit b (get_or l (64 * k + i) false)) (sym (marked_bit b l k i h) ∙ on) in
       record {

@@ -1,5 +1,5 @@
 -- How many bits of a part of a word are ones or zeros.
-use Rattle.vers_rank.proofs.Names.{zero, suc, sym, subst, pow-suc, pow_mono, ap, ◌∙◌, ◌+◌, ◌/◌, inl, inr, add_comm, ◌≡◌, ℕ, ◌-◌, ◌*◌, ◌%◌, ◌^◌, ◌<◌, ◌≤◌, Bool, true, false, refl, arith, count_ones, bit_and, and-not, and_mask, one_shl, ones-le, mod_below, pow_pos, mod-pow-add, ones_cat, cases_lt}
+use Rattle.vers_rank.proofs.Names.{zero, suc, sym, subst, pow-suc, pow_mono, ap, ◌∙◌, ◌+◌, ◌/◌, inl, inr, add_comm, ◌≡◌, ℕ, ◌-◌, ◌*◌, ◌%◌, ◌^◌, ◌<◌, ◌≤◌, Bool, true, false, refl, arith, count_ones, bit_and, and-not, and_mask, ones-le, mod_below, pow_pos, mod-pow-add, ones_cat, cases_lt}
 use lib.Count.{ones}
 use Rattle.vers_rank.specs.inside.Index.{held_in}
 

@@ -36,6 +36,8 @@ fn plain_answer<A: Allocator + Copy>(plain: &PlainList<A>, query: Query) -> Opti
         Query::Rank1(place) => Some(plain.rank(true, place) as u64),
         Query::Select0(r) | Query::Select0Each(r) => Some(plain.select(false, r) as u64),
         Query::Select1(r) | Query::Select1Each(r) => Some(plain.select(true, r) as u64),
+        Query::ZeroPairFirst(r) => Some(plain.select(false, r) as u64),
+        Query::ZeroPairSecond(r) => Some(plain.select(false, r.saturating_add(1)) as u64),
         Query::PairFirst(r) => Some(plain.select(true, r) as u64),
         Query::PairSecond(r) => Some(plain.select(true, r.saturating_add(1)) as u64),
         Query::Successor0(place) => plain.successor(false, place),

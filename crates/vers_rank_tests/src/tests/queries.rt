@@ -19,6 +19,8 @@ pub enum Query {
     Select1(usize),
     Select0Each(usize),
     Select1Each(usize),
+    ZeroPairFirst(usize),
+    ZeroPairSecond(usize),
     PairFirst(usize),
     PairSecond(usize),
     Successor0(usize),
@@ -61,6 +63,8 @@ pub fn answer<A: Allocator + Copy>(list: &RsVec<A>, query: Query) -> Option<u64>
             list.select1_each(&mut numbers);
             answer_of(numbers)
         }
+        Query::ZeroPairFirst(r) => Some(list.select0_pair(r).first as u64),
+        Query::ZeroPairSecond(r) => Some(list.select0_pair(r).second as u64),
         Query::PairFirst(r) => Some(list.select1_pair(r).first as u64),
         Query::PairSecond(r) => Some(list.select1_pair(r).second as u64),
         Query::Successor0(place) => list.successor0(place),
@@ -93,6 +97,8 @@ pub fn counted<A: Allocator + Copy>(
             list.select1_each_counted(&mut numbers, tally);
             answer_of(numbers)
         }
+        Query::ZeroPairFirst(r) => Some(list.select0_pair_counted(r, tally).first as u64),
+        Query::ZeroPairSecond(r) => Some(list.select0_pair_counted(r, tally).second as u64),
         Query::PairFirst(r) => Some(list.select1_pair_counted(r, tally).first as u64),
         Query::PairSecond(r) => Some(list.select1_pair_counted(r, tally).second as u64),
         Query::Successor0(place) => list.successor0_counted(place, tally),
@@ -134,9 +140,10 @@ pub fn bounds<A: Allocator + Copy>(list: &RsVec<A>, query: Query) -> [u64; 9] {
         Query::Select0Each(_) | Query::Select1Each(_) => {
             [24, 51, superblocks.wrapping_mul(3), 0, 3, 0, 0, 0, 0]
         }
-        Query::PairFirst(_) | Query::PairSecond(_) => {
-            [16, 34, superblocks.wrapping_mul(2), 0, 2, 0, 0, 0, 0]
-        }
+        Query::ZeroPairFirst(_)
+        | Query::ZeroPairSecond(_)
+        | Query::PairFirst(_)
+        | Query::PairSecond(_) => [16, 34, superblocks.wrapping_mul(2), 0, 2, 0, 0, 0, 0],
         Query::Successor0(_)
         | Query::Successor1(_)
         | Query::Predecessor0(_)
@@ -175,7 +182,7 @@ pub fn first_wrong_answer<A: Allocator + Copy>(
 }
 
 /// The queries about a place, or about the bits of that number.
-pub fn queries_at(place: usize) -> [Query; 13] {
+pub fn queries_at(place: usize) -> [Query; 15] {
     [
         Query::Get(place),
         Query::GetBits(place, 1),
@@ -184,6 +191,8 @@ pub fn queries_at(place: usize) -> [Query; 13] {
         Query::Rank1(place),
         Query::Select0(place),
         Query::Select1(place),
+        Query::ZeroPairFirst(place),
+        Query::ZeroPairSecond(place),
         Query::PairFirst(place),
         Query::PairSecond(place),
         Query::Successor0(place),

@@ -5,47 +5,8 @@ ghost use Rattle.vers_tally.specs.Reads.{AddsAtMost};
 ghost use Rattle.vers_sorted.specs.inside.Parts.{reads};
 
 use std::alloc::Allocator;
-use vers_rank::fast_rs_vec::{PlacePair, RsVec};
+use vers_rank::fast_rs_vec::RsVec;
 use vers_tally::tally::Tally;
-
-// The places of zero number `h` and of the zero after it: most often that one is among the next 64
-// bits. Both selects of the rare case are one call in the text, so that a compiler writes the
-// search of a select only once.
-#[inline(always)]
-#[tactic(auto, using(crate::proofs::Scans::scans))]
-pub(super) fn zero_pair<A: Allocator + Copy>(
-    high: &RsVec<A>,
-    h: usize,
-    tally: &mut Tally,
-) -> PlacePair
-    requires { h < count false high.now (length high.now) }
-    ensures first { result.first ≡ select false high.now h }
-    ensures second { result.second ≡ select false high.now (h + 1) }
-    ensures adds { AddsAtMost tally.old tally.new (reads 0 3 (length high.now)) }
-{
-    let _ = high.len();
-    let mut number = h;
-    let mut first = 0;
-    loop {
-        let place = high.select0_counted(number, tally);
-        if number > h {
-            return PlacePair {
-                first,
-                second: place,
-            };
-        }
-        if let Some(word) = high.get_bits_counted(place + 1, 64, tally) {
-            if word != u64::MAX {
-                return PlacePair {
-                    first: place,
-                    second: place + 1 + word.trailing_ones() as usize,
-                };
-            }
-        }
-        number = h + 1;
-        first = place;
-    }
-}
 
 // The place of the zero after zero number `h`, which stands at a place.
 #[inline(always)]

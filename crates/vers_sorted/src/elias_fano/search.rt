@@ -12,7 +12,7 @@ ghost use Rattle.vers_sorted.specs.inside.Begun.{IsInside};
 
 use crate::elias_fano::EliasFanoVec;
 use crate::elias_fano::narrow::MANY;
-use crate::elias_fano::scan::{one_before, one_from, zero_pair};
+use crate::elias_fano::scan::{one_before, one_from};
 use std::alloc::Allocator;
 use vers_tally::tally::Tally;
 
@@ -75,7 +75,7 @@ impl<A: Allocator + Copy> EliasFanoVec<A> {
         self.with_low_part(high, i, tally)
     }
 
-    // The members with the high part of `v`, from one select and most often the bits after it.
+    // The members with the high part of `v`, by the places of two zeros, most often from one select.
     #[inline(always)]
     #[tactic(auto, using(crate::proofs::Buckets::bucket))]
     fn bucket_of(&self, v: u64, tally: &mut Tally) -> Bucket
@@ -87,7 +87,7 @@ impl<A: Allocator + Copy> EliasFanoVec<A> {
     {
         let _ = &self.len;
         let high = ((v - self.first) >> self.width) as usize;
-        let zeros = zero_pair(&self.high, high, tally);
+        let zeros = self.high.select0_pair_counted(high, tally);
         self.bucket_between(v, zeros.first, zeros.second)
     }
 
