@@ -1,6 +1,6 @@
 -- A list is balanced exactly if its excess is nowhere negative and zero at the end.
 use Rattle.vers_trees.proofs.Words.{◌≡◌, ℕ, zero, suc, ◌+◌, ◌≤◌, Bool, true, false, List, [], ◌∷◌, ◌++◌, length, pos, ◌+ℤ◌, ◌≤ℤ◌, arith, append_assoc, subst, sym, refl, ap, ◌∙◌, ints, append-nil, excess, Forest, none, tree, text, IsBalanced, closed, parse, forest_of}
-use Rattle.vers_trees.proofs.grammar.Excess.{excess-zero, excess-open, excess-close}
+use Rattle.vers_trees.proofs.grammar.Excess.{excess-zero, excess-cons}
 use Rattle.vers_trees.proofs.grammar.Paired.{never_negative, total_is_zero}
 
 -- one forest after another
@@ -50,21 +50,21 @@ record Ends (l : List Bool) (d : ℕ) : Type 0 where
 
 ends_open : (l : List Bool) (d : ℕ) → Ends (true ∷ l) d → Ends l (d + 1)
 ends_open l d h = record {
-  above = λ i x. let a = h.above (suc i) (omega arith) in let e = excess-open l i in omega (arith, ints);
-  total = let e = excess-open l (length l) in omega (arith, ints);
+  above = λ i x. let a = h.above (suc i) (omega arith) in let e = excess-cons true l i in omega (arith, ints);
+  total = let e = excess-cons true l (length l) in omega (arith, ints);
 }
 
 ends_close : (l : List Bool) (d : ℕ) → Ends (false ∷ l) (suc d) → Ends l d
 ends_close l d h = record {
-  above = λ i x. let a = h.above (suc i) (omega arith) in let e = excess-close l i in omega (arith, ints);
-  total = let e = excess-close l (length l) in omega (arith, ints);
+  above = λ i x. let a = h.above (suc i) (omega arith) in let e = excess-cons false l i in omega (arith, ints);
+  total = let e = excess-cons false l (length l) in omega (arith, ints);
 }
 
 parse_reads : (l : List Bool) (d : ℕ) → Ends l d → Reads l d (parse l).0 (parse l).1
 parse_reads [] d h = let z = excess-zero [] in record { count = omega (arith, ints); back = refl }
 parse_reads (true ∷ l) d h = open_reads l d (parse l).0 (parse l).1 (parse_reads l (d + 1) (ends_open l d h))
 parse_reads (false ∷ l) zero h =
-    let a = h.above 1 (omega arith) in let e = excess-close l 0 in let z = excess-zero l in absurd (omega (arith, ints))
+    let a = h.above 1 (omega arith) in let e = excess-cons false l 0 in let z = excess-zero l in absurd (omega (arith, ints))
 parse_reads (false ∷ l) (suc d) h = close_reads l d (parse l).0 (parse l).1 (parse_reads l d (ends_close l d h))
 
 only_forest : (l : List Bool) (F : Forest) (Gs : List Forest) → Reads l 0 F Gs → text F ≡ l

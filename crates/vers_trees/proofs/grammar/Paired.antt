@@ -1,6 +1,6 @@
 -- The pairs of a forest are the places between which the excess stays above where it began.
 use Rattle.vers_trees.proofs.Words.{◌≡◌, ℕ, zero, suc, ◌+◌, ◌-◌, ◌<◌, ◌≤◌, ◌⊎◌, inl, inr, Bool, true, false, List, ◌∷◌, ◌++◌, length, get_or, pos, ◌+ℤ◌, ◌≤ℤ◌, ◌<ℤ◌, arith, add-one, length-append, ⊎_elim, subst, sym, refl, ap, ◌∙◌, ints, cases_lt, cases_order, get_or_append_left, get_or_at, get_or-append-add, excess, Forest, none, tree, text}
-use Rattle.vers_trees.proofs.grammar.Excess.{excess-zero, excess-nil, excess-open, excess-close, excess-append_left, excess-append_right, open_from_rise, close_from_fall}
+use Rattle.vers_trees.proofs.grammar.Excess.{excess-zero, excess-nil, excess-cons, excess-append_left, excess-append_right, open_from_rise, close_from_fall}
 
 -- v opens and c closes one tree of the forest
 abbrev pub Paired : Forest → ℕ → ℕ → Type 0
@@ -23,14 +23,14 @@ length-tree X Y = let e = length-append (text X) (false ∷ text Y) in omega ari
 -- inside the first tree
 pub excess_in_first : (X Y : Forest) (i : ℕ) → i ≤ length (text X) → excess (text (tree X Y)) (i + 1) ≡ excess (text X) i +ℤ pos 1
 excess_in_first X Y i h =
-    let e = excess-open (text X ++ false ∷ text Y) i in
+    let e = excess-cons true (text X ++ false ∷ text Y) i in
     grind (arith, ints, excess-append_left)
 
 rest_from_zero : (X Y : Forest) (i : ℕ) → excess (text X) (length (text X)) ≡ pos 0 → excess (text (tree X Y)) (length (text X) + 2 + i) ≡ excess (text Y) i
 rest_from_zero X Y i z =
     let n = length (text X) in
-    let a = excess-open (text X ++ false ∷ text Y) (n + suc i) in
-    grind (arith, ints, excess-append_right, excess-close)
+    let a = excess-cons true (text X ++ false ∷ text Y) (n + suc i) in
+    grind (arith, ints, excess-append_right, excess-cons)
 
 pub total_is_zero : (F : Forest) → excess (text F) (length (text F)) ≡ pos 0
 total_is_zero none = excess-nil 0

@@ -8,10 +8,6 @@ use Rattle.vers_trees.proofs.kin.Partners.{nested, IsAbove, above_from_before, p
 use Rattle.vers_trees.proofs.kin.NodeList.{HasPair, one_pair, closes_to, closing_is, nodes_are_ones, opens, inside, last_node, no_last_node}
 
 -- ---- what a test tells
-pub refuted : {P : Type 0} → (b : Bool) → Decides b P → (P → ⊥) → b ≡ false
-refuted true d n = absurd (n (d.0 refl))
-refuted false d n = refl
-
 pub Decides-leb : (a b : ℕ) → Decides (leb a b) (a ≤ b)
 Decides-leb a b = (λ e. ⊎_elim (λ (h : (leb a b ≡ true) × (a ≤ b)). h.1) (λ (h : (leb a b ≡ false) × (b < a)). absurd (cc)) (leb_tells a b), λ h. le-leb a b h)
 

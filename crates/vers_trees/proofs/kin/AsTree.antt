@@ -1,8 +1,7 @@
 -- What a tree of balanced parentheses answers, in the words of any tree.
-use Rattle.vers_trees.proofs.Words.{◌≡◌, ◌≢◌, ◌↔◌, ℕ, suc, ◌<◌, ◌≤◌, Bool, true, false, List, [], ◌∷◌, length, eqb, Option, Some, None, arith, subst, sym, refl, ap, ◌∙◌, IsTrue, slice_get, option_map, ◌==◌, Decides-eqb, slice_get-get_or, get_or_past, count, places, select, length-places, Forest, none, tree, text, IsBalanced, forest_of, nodes, first_of}
+use Rattle.vers_trees.proofs.Words.{◌≡◌, ◌≢◌, ◌↔◌, ℕ, suc, ◌<◌, ◌≤◌, Bool, true, false, List, [], ◌∷◌, length, eqb, Option, Some, None, arith, subst, sym, refl, ap, ◌∙◌, IsTrue, slice_get, option_map, ◌==◌, Decides-eqb, slice_get-get_or, get_or_past, count, places, select, length-places, Forest, none, tree, text, IsBalanced, forest_of, nodes, first_of, ne_eqb}
 use Rattle.vers_trees.proofs.grammar.Grammar.{text-forest_of}
 use Rattle.vers_trees.proofs.kin.NodeList.{nodes_are_ones}
-use Rattle.vers_trees.proofs.kin.Around.{refuted}
 
 -- a handle is the place itself
 pub same_place : (o p : Option ℕ) → o ≡ p → option_map (λ v. v) o ≡ p
@@ -36,9 +35,6 @@ handle_past l b i n e h =
     e ∙ get_or_past (places true l) i (length l) (subst (λ (xs : List ℕ). length xs ≤ i) (nodes_by l b) h)
     ∙ ap (λ (xs : List Bool). length xs) (sym (text-forest_of l b))
 
-never : (n : ℕ) → suc n ≡ 0 → ⊥
-never n e = omega arith
-
 pub empty_by : (l : List Bool) → IsBalanced l → (r : Bool) → IsTrue r ↔ (l ≡ []) → r ≡ (length (nodes (forest_of l)) == 0)
 unfolding forest_of
 empty_by [] b r h = h.1 refl
@@ -47,6 +43,6 @@ empty_by (x ∷ l) b r h = go (forest_of (x ∷ l)) (text-forest_of (x ∷ l) b)
     go : (F : Forest) → text F ≡ x ∷ l → (r : Bool) → IsTrue r ↔ (x ∷ l ≡ []) → r ≡ (length (nodes F) == 0)
     go none e r h = absurd (cc)
     go (tree X Y) e true h = let f = h.0 refl in absurd (cc)
-    go (tree X Y) e false h = sym (refuted (eqb (length (nodes (tree X Y))) 0) (Decides-eqb (length (nodes (tree X Y))) 0) (λ q. never _ q))
+    go (tree X Y) e false h = sym (ne_eqb (length (nodes (tree X Y))) 0 (λ q. omega arith))
 
 pub ruleset as_tree = (same_place, size_by, handle_by)

@@ -1,5 +1,5 @@
 -- Children and siblings: where the nearest of them open.
-use Rattle.vers_trees.proofs.Words.{◌≡◌, ℕ, zero, suc, ◌+◌, ◌-◌, ◌<◌, ◌≤◌, ◌⊎◌, Bool, true, false, cond, List, [], ◌∷◌, length, get_or, eqb, negsuc, Option, Some, None, arith, ⊎_elim, subst, sym, refl, ap, ◌∙◌, filter, Decides, Contains, last_or, option_eq, ints, cases_lt, Decides-like, same_from_decides, get_or_past, eq-or-lt_of_le, last_rise_before, Forest, text, nodes, closing, is_proper_ancestor, parent, nodes_under, children, siblings, first_of, last_of, next_of, previous_of}
+use Rattle.vers_trees.proofs.Words.{◌≡◌, ℕ, zero, suc, ◌+◌, ◌-◌, ◌<◌, ◌≤◌, ◌⊎◌, Bool, true, false, cond, List, [], ◌∷◌, length, get_or, eqb, negsuc, Option, Some, None, arith, ⊎_elim, subst, sym, refl, ap, ◌∙◌, filter, Decides, Contains, last_or, option_eq, ints, cases_lt, Decides-like, same_from_decides, get_or_past, eq-or-lt_of_le, last_rise_before, Forest, text, nodes, closing, is_proper_ancestor, parent, nodes_under, children, siblings, first_of, last_of, next_of, previous_of, get_or_default}
 use Rattle.vers_trees.proofs.searches.Searches.{before_is}
 use Rattle.vers_trees.proofs.grammar.Excess.{excess_after_open, excess_after_close}
 use Rattle.vers_trees.proofs.grammar.Paired.{Closes, paired_closes, close_is_paired, closes_rises, closes_falls}
@@ -131,9 +131,7 @@ closed_before l zero = None
 closed_before l (suc u) = cond (get_or l u true) None (last_rise_before l u (negsuc 0))
 
 same_bit : (l : List Bool) (i : ℕ) → i < length l → get_or l i true ≡ get_or l i false
-same_bit [] i h = absurd (omega arith)
-same_bit (b ∷ l) zero h = refl
-same_bit (b ∷ l) (suc i) h = same_bit l i (omega arith)
+same_bit l i h = get_or_default l i true false h
 
 pub first_child_is : (F : Forest) (v : ℕ) → HasPair F v → opened_here (text F) (v + 1) ≡ first_of (children F v)
 first_child_is F v h = grind (arith, ints, first_child_found, first_child_none)

@@ -1,5 +1,5 @@
 -- The laws of parentheses.
-use Rattle.vers_trees.proofs.Words.{◌≡◌, ℕ, zero, suc, ◌<◌, ◌↔◌, Bool, true, false, List, [], ◌∷◌, length, get_or, ℤ, negsuc, Some, arith, Option, None, sym, ◌∙◌, slice_get, Contains, first_rise_after, last_rise_before, enclosing, Forest, text, pairs, IsFirstRiseAfter, IsLastRiseBefore, parent}
+use Rattle.vers_trees.proofs.Words.{◌≡◌, ℕ, zero, suc, ◌<◌, ◌↔◌, Bool, true, false, List, [], ◌∷◌, length, get_or, ℤ, negsuc, Some, arith, Option, None, sym, ◌∙◌, slice_get, slice_get_within, get_or_from_slice_get, Contains, first_rise_after, last_rise_before, enclosing, Forest, text, pairs, IsFirstRiseAfter, IsLastRiseBefore, parent}
 use Rattle.vers_trees.proofs.searches.Searches.{after_some, after_is, before_some, before_is, before_none, none_before}
 use Rattle.vers_trees.proofs.grammar.Paired.{paired_closes, closes_paired, open_is_paired, close_is_paired, Closes, closes_rises, closes_falls}
 use Rattle.vers_trees.proofs.grammar.Pairs.{contains_from_paired, paired_from_contains}
@@ -18,13 +18,8 @@ backward_last l i r j = (before_some l i r j, before_is l i r j)
 pub ruleset searches = (forward_first, backward_last)
 
 -- what a list has at a place
-same_bit : (a b : Bool) → Some a ≡ Some b → a ≡ b
-same_bit a b e = cc
-
 has_bit : (l : List Bool) (i : ℕ) (b : Bool) → slice_get l i ≡ Some b → (i < length l) × (get_or l i false ≡ b)
-has_bit [] i b e = absurd (cc)
-has_bit (x ∷ l) zero b e = (omega arith, same_bit x b e)
-has_bit (x ∷ l) (suc i) b e = let h = has_bit l i b e in (omega arith, h.1)
+has_bit l i b e = (slice_get_within l i b e, get_or_from_slice_get l i b false e)
 
 pub close_pair : (F : Forest) (v c : ℕ) → slice_get (text F) v ≡ Some true → (first_rise_after (text F) v (negsuc 0) ≡ Some c) ↔ Contains (pairs F) (v, c)
 close_pair F v c h = (

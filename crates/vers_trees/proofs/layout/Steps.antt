@@ -1,5 +1,5 @@
 -- A number without the zeros at its end, and how many digits it has.
-use Rattle.vers_trees.proofs.Words.{◌≡◌, ℕ, zero, suc, Bool, true, false, bool_byte, ◌+◌, ◌-◌, ◌*◌, ◌/◌, ◌%◌, ◌^◌, ◌<◌, ◌≤◌, arith, ⊎_elim, sym, ap, ◌∙◌, bit_at, pow-succ', le-mul_of_pos_right, pow_pos, shr-shr, bit_at_lowest, bit_at-suc, cases_lt, digits, Reads, AddsAtMost, only_nodes, IsWithin, plus, digits_half, digits_up, adds_then, adds_weaker, adds_nothing, IsOddPart}
+use Rattle.vers_trees.proofs.Words.{◌≡◌, ℕ, zero, suc, Bool, true, false, bool_byte, ◌+◌, ◌-◌, ◌*◌, ◌/◌, ◌%◌, ◌^◌, ◌<◌, ◌≤◌, arith, ⊎_elim, sym, ap, ◌∙◌, bit_at, pow-succ', le-mul_of_pos_right, pow_pos, shr-shr, bit_at_lowest, bit_at-suc, cases_lt, digits, Reads, AddsAtMost, only_nodes, IsWithin, plus, digits_half, digits_up, adds_then, adds_weaker, adds_nothing, IsOddPart, bit_value_le, byte_value}
 
 -- a number whose lowest digits are zeros is what stands above them, with as many zeros behind it
 zeros_below : (i n : ℕ) → ((j : ℕ) → j < i → bit_at n j ≡ 0) → n / 2 ^ i * 2 ^ i ≡ n
@@ -68,8 +68,7 @@ digits_child m n e h = omega (arith, digits_half n h, ap digits e)
 
 -- going down: a node read at each level, which is one of two
 pub one_of_two : (b : Bool) → bool_byte b ≤ 1
-one_of_two true = omega arith
-one_of_two false = omega arith
+one_of_two b = let e = byte_value b in let h = bit_value_le b in omega arith
 
 pub read_down : (a b c : Reads) (node child : ℕ) → (child + 1) / 2 ≡ node + 1 → AddsAtMost a b (only_nodes (digits (node + 1) - 1)) → AddsAtMost b c (only_nodes 1) → AddsAtMost a c (only_nodes (digits (child + 1) - 1))
 read_down a b c node child e p q =

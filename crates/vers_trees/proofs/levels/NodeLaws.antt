@@ -1,10 +1,9 @@
 -- The laws of the nodes of a forest.
-use Rattle.vers_trees.proofs.Words.{◌≡◌, ℕ, zero, suc, ◌+◌, ◌-◌, ◌<◌, ◌≤◌, ◌↔◌, Bool, true, false, cond, not, List, [], ◌∷◌, length, get_or, ltb, eqb, Option, None, Some, arith, ⊎_elim, subst, sym, refl, ap, ◌∙◌, ◌++◌, take, slice_get, option_map, find, filter, Contains, last_or, range_with_len, get_or_from_slice_get, slice_get-get_or, slice_get_within, get_or_past, take_more, cases_lt, Decides-ltb, Decides-eqb, length-filter_both, bit_value, places, Forest, text, IsBalanced, forest_of, nodes, IsNode, closing, depth, level, last_of, next_of, previous_of, IsAlongLevel}
+use Rattle.vers_trees.proofs.Words.{◌≡◌, ℕ, zero, suc, ◌+◌, ◌-◌, ◌<◌, ◌≤◌, ◌↔◌, Bool, true, false, cond, not, List, [], ◌∷◌, length, get_or, ltb, eqb, Option, None, Some, arith, ⊎_elim, subst, sym, refl, ap, ◌∙◌, ◌++◌, take, slice_get, option_map, find, filter, Contains, last_or, range_with_len, get_or_from_slice_get, slice_get-get_or, slice_get_within, get_or_past, take_more, cases_lt, lt-ltb, le-ltb, same_Some, find_is, none_passing, last_passing_is, Decides-eqb, length-filter_both, bit_value, places, Forest, text, IsBalanced, forest_of, nodes, IsNode, closing, depth, level, last_of, next_of, previous_of, IsAlongLevel}
 use Rattle.vers_trees.proofs.grammar.Grammar.{text-forest_of}
 use Rattle.vers_trees.proofs.grammar.Paired.{closes_rises}
 use Rattle.vers_trees.proofs.grammar.Pairs.{contains_first, contains_later}
 use Rattle.vers_trees.proofs.kin.NodeList.{nodes_are_ones, one_pair, node_pair, pair_node}
-use Rattle.vers_trees.proofs.kin.Around.{refuted}
 
 -- ---- nodes and ones
 bit_inside : (l : List Bool) (v : ℕ) → get_or l v false ≡ true → v < length l
@@ -27,14 +26,11 @@ node_iff_one bits v b =
       λ h. n.1 (get_or_from_slice_get bits v true false h),
     )
 
-same_member : (x y : ℕ) → Some x ≡ Some y → x ≡ y
-same_member x y e = cc
-
 -- a bit read as a number
 got_one : (o : Option Bool) → (o ≡ Some true) ↔ (option_map bit_value o ≡ Some 1)
 got_one None = (λ h. absurd (cc), λ h. absurd (cc))
 got_one (Some true) = (λ h. refl, λ h. refl)
-got_one (Some false) = (λ h. absurd (cc), λ h. absurd (let e = same_member 0 1 h in omega arith))
+got_one (Some false) = (λ h. absurd (cc), λ h. absurd (let e = same_Some 0 1 h in omega arith))
 
 pub node_iff_got : (bits : List Bool) (v : ℕ) → IsBalanced bits → IsNode (forest_of bits) v ↔ (option_map bit_value (slice_get bits v) ≡ Some 1)
 node_iff_got bits v b =
@@ -63,58 +59,37 @@ filter_ascends p n (x ∷ xs) a = go (p x) (filter_ascends p (x + 1) xs a.1)
     go true r = (a.0, r)
     go false r = ascends_lower n (x + 1) (filter p xs) (omega arith) r
 
-above : (v w : ℕ) → v < w → ltb v w ≡ true
-above v w h = (Decides-ltb v w).1 h
+-- they rise by one at least from each to the next
+member_from : (n i : ℕ) (xs : List ℕ) → AscendsFrom n xs → i < length xs → n + i ≤ get_or xs i 0
+member_from n i [] a h = absurd (omega arith)
+member_from n zero (x ∷ xs) a h = let a0 = a.0 in omega arith
+member_from n (suc i) (x ∷ xs) a h = let r = member_from (x + 1) i xs a.1 (omega arith) in let a0 = a.0 in omega arith
 
-not_above : (v w : ℕ) → w ≤ v → ltb v w ≡ false
-not_above v w h = refuted (ltb v w) (Decides-ltb v w) (λ (g : v < w). omega arith)
-
-member_from : (n i v : ℕ) (xs : List ℕ) → AscendsFrom n xs → slice_get xs i ≡ Some v → n ≤ v
-member_from n i v [] a e = absurd (cc)
-member_from n zero v (x ∷ xs) a e = let s = same_member x v e in let a0 = a.0 in omega arith
-member_from n (suc i) v (x ∷ xs) a e = let r = member_from (x + 1) i v xs a.1 e in let a0 = a.0 in omega arith
-
-first_above : (v : ℕ) (xs : List ℕ) → AscendsFrom (v + 1) xs → find (λ w. ltb v w) xs ≡ slice_get xs 0
-first_above v [] a = refl
-first_above v (x ∷ xs) a = let t : ltb v x ≡ true = above v x (omega arith) in rw t refl
+in_order : (n i j : ℕ) (xs : List ℕ) → AscendsFrom n xs → i ≤ j → j < length xs → get_or xs i 0 + j ≤ get_or xs j 0 + i
+in_order n i j [] a h k = absurd (omega arith)
+in_order n zero zero (x ∷ xs) a h k = omega arith
+in_order n (suc i) zero (x ∷ xs) a h k = absurd (omega arith)
+in_order n zero (suc j) (x ∷ xs) a h k = let r = member_from (x + 1) j xs a.1 (omega arith) in omega arith
+in_order n (suc i) (suc j) (x ∷ xs) a h k = let r = in_order (x + 1) i j xs a.1 (omega arith) (omega arith) in omega arith
 
 pub next_member : (n i v : ℕ) (xs : List ℕ) → AscendsFrom n xs → slice_get xs i ≡ Some v → find (λ w. ltb v w) xs ≡ slice_get xs (suc i)
-next_member n i v [] a e = absurd (cc)
-next_member n zero v (x ∷ xs) a e =
-    let s = same_member x v e in
-    let t : ltb v x ≡ false = not_above v x (omega arith) in
-    rw t (first_above v xs (subst (λ (k : ℕ). AscendsFrom (k + 1) xs) s a.1))
-next_member n (suc i) v (x ∷ xs) a e =
-    let r = member_from (x + 1) i v xs a.1 e in
-    let t : ltb v x ≡ false = not_above v x (omega arith) in
-    rw t (next_member (x + 1) i v xs a.1 e)
+next_member n i v xs a e =
+    let m = slice_get_within xs i v e in let g = get_or_from_slice_get xs i v 0 e in
+    find_is (λ w. ltb v w) xs (suc i) m
+    (λ j h. le-ltb v (get_or xs j 0) (let r = in_order n j i xs a (omega arith) m in omega arith))
+    (λ h. lt-ltb v (get_or xs (suc i) 0) (let r = in_order n i (suc i) xs a (omega arith) h in omega arith))
 
-none_before : (o : Option ℕ) (n v : ℕ) (xs : List ℕ) → AscendsFrom n xs → v ≤ n → last_or o (filter (λ w. ltb w v) xs) ≡ o
-none_before o n v [] a h = refl
-none_before o n v (x ∷ xs) a h =
-    let t : ltb x v ≡ false = not_above x v (omega arith) in
-    rw t (none_before o (x + 1) v xs a.1 (omega arith))
-
-pub member_before : (o : Option ℕ) (n i v : ℕ) (xs : List ℕ) → AscendsFrom n xs → slice_get xs (suc i) ≡ Some v → last_or o (filter (λ w. ltb w v) xs) ≡ slice_get xs i
-member_before o n i v [] a e = absurd (cc)
-member_before o n zero v (x ∷ xs) a e =
-    let r = member_from (x + 1) 0 v xs a.1 e in
-    let t : ltb x v ≡ true = above x v (omega arith) in
-    rw t (none_before (Some x) v v xs (from_member xs a.1 e) (omega arith))
-  where
-    from_member : (ys : List ℕ) → AscendsFrom (x + 1) ys → slice_get ys 0 ≡ Some v → AscendsFrom v ys
-    from_member [] b f = tt
-    from_member (y ∷ ys) b f = let s = same_member y v f in (omega arith, b.1)
-member_before o n (suc i) v (x ∷ xs) a e =
-    let r = member_from (x + 1) (suc i) v xs a.1 e in
-    let t : ltb x v ≡ true = above x v (omega arith) in
-    rw t (member_before (Some x) (x + 1) i v xs a.1 e)
+pub member_before : (n i v : ℕ) (xs : List ℕ) → AscendsFrom n xs → slice_get xs (suc i) ≡ Some v → last_or None (filter (λ w. ltb w v) xs) ≡ slice_get xs i
+member_before n i v xs a e =
+    let m = slice_get_within xs (suc i) v e in let g = get_or_from_slice_get xs (suc i) v 0 e in
+    last_passing_is None (λ w. ltb w v) xs i (omega arith)
+    (λ j h. lt-ltb (get_or xs j 0) v (let r = in_order n j (suc i) xs a (omega arith) m in omega arith))
+    (λ j h k. le-ltb (get_or xs j 0) v (let r = in_order n (suc i) j xs a (omega arith) k in omega arith))
 
 pub first_member_before : (n v : ℕ) (xs : List ℕ) → AscendsFrom n xs → slice_get xs 0 ≡ Some v → last_or None (filter (λ w. ltb w v) xs) ≡ None
-first_member_before n v [] a e = refl
-first_member_before n v (x ∷ xs) a e =
-    let s = same_member x v e in
-    none_before None v v (x ∷ xs) (omega arith, a.1) (omega arith)
+first_member_before n v xs a e =
+    let g = get_or_from_slice_get xs 0 v 0 e in
+    none_passing None (λ w. ltb w v) xs (λ j h. le-ltb (get_or xs j 0) v (let r = in_order n 0 j xs a (omega arith) h in omega arith))
 
 last_member : (o : Option ℕ) (x : ℕ) (xs : List ℕ) → last_or o (x ∷ xs) ≡ slice_get (x ∷ xs) (length xs)
 last_member o x [] = refl
@@ -130,7 +105,7 @@ member_passes p [] i v e = absurd (cc)
 member_passes p (x ∷ xs) i v e = go (member_passes p xs) (p x) refl i e
   where
     go : ((j w : ℕ) → slice_get (filter p xs) j ≡ Some w → Contains xs w × (p w ≡ true)) → (b : Bool) → p x ≡ b → (j : ℕ) → slice_get (cond b (x ∷ filter p xs) (filter p xs)) j ≡ Some v → Contains (x ∷ xs) v × (p v ≡ true)
-    go ih true t zero f = let s = same_member x v f in (subst (Contains (x ∷ xs)) s (contains_first x xs), subst (λ (k : ℕ). p k ≡ true) s t)
+    go ih true t zero f = let s = same_Some x v f in (subst (Contains (x ∷ xs)) s (contains_first x xs), subst (λ (k : ℕ). p k ≡ true) s t)
     go ih true t (suc j) f = let r = ih j v f in (contains_later x xs v r.0, r.1)
     go ih false t j f = let r = ih j v f in (contains_later x xs v r.0, r.1)
 
@@ -186,7 +161,7 @@ pub levels_go_back : (F : Forest) (d : ℕ) → (last_of (level F d) ≡ slice_g
 levels_go_back F d = (
   last_by_number (level F d),
   λ v e. first_member_before 0 v (level F d) (level_ascends F d) e,
-  λ i v e. let s : i + 1 ≡ suc i = omega arith in member_before None 0 i v (level F d) (level_ascends F d) (subst (λ (k : ℕ). slice_get (level F d) k ≡ Some v) s e),
+  λ i v e. let s : i + 1 ≡ suc i = omega arith in member_before 0 i v (level F d) (level_ascends F d) (subst (λ (k : ℕ). slice_get (level F d) k ≡ Some v) s e),
 )
 
 pub levels_are_parts : (F : Forest) (d : ℕ) → length (level F d) ≤ length (nodes F)

@@ -1,5 +1,5 @@
 -- Whole bytes of a scan, by the entries of their tables.
-use Rattle.vers_trees.proofs.Words.{◌≡◌, ◌≢◌, ℕ, zero, suc, ◌+◌, ◌-◌, ◌*◌, ◌/◌, ◌%◌, ◌^◌, ◌<◌, ◌≤◌, Bool, true, false, List, [], ◌∷◌, length, take, drop, ℤ, pos, negsuc, ◌+ℤ◌, ◌-ℤ◌, ◌≤ℤ◌, arith, sym, ap, subst, refl, Option, Some, FitsSigned, to_z, of_z, ◌∙◌, w64, count_ones, is_some, ints, nat_tests, mod-pow-add, take-append-drop, length-take-le, length-drop, drop-take, take_all, drop_all, mod-eq_of_lt, number, part, count, limb, number_below, number-drop, count_limb, count_both, count_none, number-take, part_number_or_zero, excess, IsByte, IsEntry, sum_along, place_along, place_in, least_in, greatest_in, IsFirstRise, HasNoRise, IsLastRise, HasNoRiseBefore}
+use Rattle.vers_trees.proofs.Words.{◌≡◌, ◌≢◌, ℕ, zero, suc, ◌+◌, ◌-◌, ◌*◌, ◌/◌, ◌%◌, ◌^◌, ◌<◌, ◌≤◌, Bool, true, false, List, [], ◌∷◌, length, take, drop, ℤ, pos, negsuc, ◌+ℤ◌, ◌-ℤ◌, ◌≤ℤ◌, arith, sym, ap, subst, refl, Option, Some, FitsSigned, to_z, of_z, ◌∙◌, w64, count_ones, is_some, ints, nat_tests, mod-pow-add, take-append-drop, length-take-le, length-drop, drop-take, drop-drop, take_all, drop_all, mod-eq_of_lt, number, part, count, limb, number_below, number-drop, count_limb, count_both, count_none, number-take, part_number_or_zero, excess, IsByte, IsEntry, sum_along, place_along, place_in, least_in, greatest_in, IsFirstRise, HasNoRise, IsLastRise, HasNoRiseBefore}
 use Rattle.vers_trees.proofs.searches.Scans.{Misses, forward_found, forward_more, backward_found, backward_more}
 use Rattle.vers_trees.proofs.grammar.Excess.{excess-append_left, excess-append_right}
 
@@ -54,16 +54,11 @@ word_read l p n o word e f few within = let w = word_is l p n few within in cc
 pub whole_word : (l : List Bool) (p n : ℕ) (o : Option ℕ) (word : ℕ) → o ≡ part_number_or_zero l p n → o ≡ Some word → n ≡ 64 → p + n ≤ length l → word ≡ number (part l p 64)
 whole_word l p n o word e f long within = word_read l p n o word e f (omega arith) within ∙ ap (λ (k : ℕ). number (part l p k)) long
 
-drop-drop : (l : List Bool) (i j : ℕ) → drop i (drop j l) ≡ drop (j + i) l
-drop-drop l i zero = ap (λ (n : ℕ). drop n l) (omega arith)
-drop-drop [] i (suc j) = drop_all i [] (omega arith) ∙ sym (drop_all (suc j + i) [] (omega arith))
-drop-drop (b ∷ l) i (suc j) = drop-drop l i j ∙ ap (λ (n : ℕ). drop n (b ∷ l)) (let g : suc (j + i) ≡ suc j + i = omega arith in g)
-
 byte_of_word : (l : List Bool) (s n m : ℕ) → m + 8 ≤ n → s + n ≤ length l → number (part l s n) / 2 ^ m % 256 ≡ number (part l (s + m) 8)
 byte_of_word l s n m h i =
     let e : n ≡ m + (8 + (n - m - 8)) = omega arith in
     let b : drop m (take n (drop s l)) ≡ take (8 + (n - m - 8)) (drop m (drop s l)) = ap (λ (k : ℕ). drop m (take k (drop s l))) e ∙ drop-take m (8 + (n - m - 8)) (drop s l) in
-    ap (λ (k : ℕ). k % 256) (sym (number-drop m (part l s n)) ∙ ap number (b ∙ ap (take (8 + (n - m - 8))) (drop-drop l m s))) ∙ front (n - m - 8) (drop (s + m) l)
+    ap (λ (k : ℕ). k % 256) (sym (number-drop m (part l s n)) ∙ ap number (b ∙ ap (take (8 + (n - m - 8))) (drop-drop m s l))) ∙ front (n - m - 8) (drop (s + m) l)
   where
     front : (k : ℕ) (l : List Bool) → number (take (8 + k) l) % 2 ^ 8 ≡ number (take 8 l)
     front k l =

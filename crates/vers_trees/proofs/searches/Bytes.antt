@@ -1,5 +1,5 @@
 -- Numbers by their octal digits, and what an entry of a table of bytes is packed of.
-use Rattle.vers_trees.proofs.Words.{◌≡◌, ℕ, zero, suc, ◌+◌, ◌-◌, ◌*◌, ◌/◌, ◌%◌, ◌^◌, ◌<◌, ◌≤◌, List, [], ◌∷◌, length, drop, get_or, arith, ap, sym, ◌∙◌, ◌≢◌, ◌⊎◌, inl, inr, Bool, true, false, pos, negsuc, ◌+ℤ◌, ◌-ℤ◌, cond, min, max, ⊎_elim, subst, refl, replicate, nat_eq, set, pow-suc, pow-le-pow_right, drop-cons, length-drop, get_or-drop, get_or-set_same, get_or-set_other, length-set, shr-shr, place_in, IsByte, IsEntry, IsFirstMet, sum_along, place_along, octal, AreEntries, HasMet, step_along, bit_at, ints, cases_lt, bit_value, bit_at-number, excess, bit_step}
+use Rattle.vers_trees.proofs.Words.{◌≡◌, ℕ, zero, suc, ◌+◌, ◌-◌, ◌*◌, ◌/◌, ◌%◌, ◌^◌, ◌<◌, ◌≤◌, List, [], ◌∷◌, length, drop, get_or, arith, ap, sym, ◌∙◌, ◌≢◌, ◌⊎◌, inl, inr, Bool, true, false, pos, negsuc, ◌+ℤ◌, ◌-ℤ◌, cond, min, max, ⊎_elim, subst, refl, replicate, nat_eq, set, pow-suc, pow-le-pow_right, drop-cons, length-drop, get_or-drop, get_or-set_same, get_or-set_other, length-set, shr-shr, place_in, IsByte, IsEntry, IsFirstMet, sum_along, place_along, octal, AreEntries, HasMet, step_along, bit_at, ints, cases_lt, bit_value, bit_at-number, excess, bit_step, bit_value_test}
 use Rattle.vers_trees.proofs.grammar.Excess.{excess-zero, excess_after_bit}
 
 -- each of the digits is below 8
@@ -85,15 +85,6 @@ later from_end bits n x p m = record { step = m.step; within = omega arith; sum 
 pub up_or_down : (from_end b : Bool) (value next : ℕ) → pos next ≡ pos value +ℤ step_along from_end b → (next ≡ value + 1) ⊎ (next + 1 ≡ value)
 up_or_down from_end b value next u = grind (arith, ints, by_one)
 
--- a bit as the code tests it
-bit_at-is : (n i : ℕ) → bit_at n i ≡ n / 2 ^ i % 2
-bit_at-is n i = refl
-
-tested : (m : ℕ) → m < 2 → m ≡ bit_value (nat_eq m 1)
-tested zero h = refl
-tested (suc zero) h = refl
-tested (suc (suc m)) h = absurd (omega arith)
-
 pub place_small : (from_end : Bool) (n : ℕ) → n < 8 → place_along from_end n < 8
 place_small true n h = omega arith
 place_small false n h = h
@@ -115,7 +106,7 @@ pub met_more : (from_end : Bool) (bits : List Bool) (byte n value least greatest
     → HasMet from_end bits (n + 1) next least' greatest' places'
 met_more from_end bits byte n value least greatest next place places least' greatest' places' is h m e u inside w =
     let bit : get_or bits (place_along from_end n) false ≡ nat_eq (byte / 2 ^ place % 2) 1 =
-    bit_taken bits byte (place_along from_end n) _ is (subst (λ (q : ℕ). bit_at byte q ≡ bit_value (nat_eq (byte / 2 ^ place % 2) 1)) e (bit_at-is byte place ∙ tested (byte / 2 ^ place % 2) (omega arith))) in
+    bit_taken bits byte (place_along from_end n) _ is (subst (λ (q : ℕ). bit_at byte q ≡ bit_value (nat_eq (byte / 2 ^ place % 2) 1)) e (sym (bit_value_test (byte / 2 ^ place % 2) (omega arith)))) in
     let s = next_sum from_end bits n is.eight h ∙ ap (λ (c : Bool). sum_along from_end bits n +ℤ step_along from_end c) bit in
     let sum : pos next ≡ sum_along from_end bits (n + 1) +ℤ pos 8 = omega (arith, ints) in
     let near = up_or_down from_end _ value next u in

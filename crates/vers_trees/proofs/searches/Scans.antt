@@ -1,22 +1,17 @@
 -- Scans over the bits of a part, by stretches: a bit, a byte or a word at a time.
-use Rattle.vers_trees.proofs.Words.{◌≡◌, ◌≢◌, ℕ, zero, suc, ◌+◌, ◌-◌, ◌^◌, ◌<◌, ◌≤◌, Bool, true, false, List, length, get_or, ℤ, pos, negsuc, ◌+ℤ◌, ◌-ℤ◌, ◌≤ℤ◌, FitsSigned, to_z, of_z, arith, ⊎_elim, sym, ap, ◌∙◌, w64, int_min, int_max, ints, clamps, by_lt_z, to_z-of_z, cases_lt, Reads, AddsAtMost, adds_then, get_reads, Node, excess, bit_step, IsPart, IsFirstRise, HasNoRise, IsLastRise, HasNoRiseBefore, scan_reads}
-use Rattle.vers_trees.proofs.grammar.Excess.{excess-is_walk, excess_after_bit}
+use Rattle.vers_trees.proofs.Words.{◌≡◌, ◌≢◌, ℕ, zero, suc, ◌+◌, ◌-◌, ◌^◌, ◌<◌, ◌≤◌, Bool, true, false, List, length, get_or, ℤ, pos, negsuc, ◌+ℤ◌, ◌-ℤ◌, ◌≤ℤ◌, FitsSigned, to_z, of_z, arith, ⊎_elim, sym, ap, ◌∙◌, w64, int_min, int_max, ints, clamps, by_lt_z, to_z-of_z, cases_lt, Reads, AddsAtMost, adds_then, get_reads, Node, excess, bit_step, count, count_near, count_up, IsPart, IsFirstRise, HasNoRise, IsLastRise, HasNoRiseBefore, scan_reads}
+use Rattle.vers_trees.proofs.grammar.Excess.{excess_after_bit}
 
 -- the excess changes by at most as much as there are places between
-near_by : (l : List Bool) (i d : ℕ) → (excess l (i + d) ≤ℤ (excess l i +ℤ pos d)) × (excess l i ≤ℤ (excess l (i + d) +ℤ pos d))
-near_by l i zero = grind (arith, ints)
-near_by l i (suc d) =
-    let h = near_by l i d in
-    let e : excess l (i + suc d) ≡ excess l (i + d + 1) = ap (excess l) (omega arith) in
-    let u = (excess-is_walk l).up (i + d) in
-    let v = (excess-is_walk l).down (i + d) in
-    (omega (arith, ints), omega (arith, ints))
-
 pub rise_within : (l : List Bool) (i j n : ℕ) (z : ℤ) → excess l j ≡ excess l i +ℤ z → j ≤ i + n → i ≤ j + n → (z ≤ℤ pos n) × (negsuc n ≤ℤ z)
+unfolding excess
 rise_within l i j n z e a b = ⊎_elim
-    (λ (h : i < j). let w = near_by l i (j - i) in let w0 = w.0 in let w1 = w.1 in let s : excess l (i + (j - i)) ≡ excess l j = ap (excess l) (omega arith) in (omega (arith, ints), omega (arith, ints)))
-    (λ (h : j ≤ i). let w = near_by l j (i - j) in let w0 = w.0 in let w1 = w.1 in let s : excess l (j + (i - j)) ≡ excess l i = ap (excess l) (omega arith) in (omega (arith, ints), omega (arith, ints)))
+    (λ (h : i < j). let s = near i j (omega arith) in (omega (arith, ints, s), omega (arith, ints, s)))
+    (λ (h : j ≤ i). let s = near j i h in (omega (arith, ints, s), omega (arith, ints, s)))
     (cases_lt i j)
+  where
+    near : (i j : ℕ) → i ≤ j → (count true l i ≤ count true l j) × (count false l i ≤ count false l j) × (count true l j ≤ count true l i + (j - i)) × (count false l j ≤ count false l i + (j - i))
+    near i j h = (count_up true l i j h, count_up false l i j h, count_near true l i j h, count_near false l i j h)
 
 pub fits_small : (z : ℤ) → z ≤ℤ pos (2 ^ 63 - 1) → negsuc (2 ^ 63 - 1) ≤ℤ z → FitsSigned w64 z
 fits_small (pos n) a b = record { sfits = omega (arith, ints) }

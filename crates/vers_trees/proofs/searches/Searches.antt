@@ -41,11 +41,6 @@ find_is test P d a n j r = found_is _ ((k : ℕ) → a ≤ k → k < a + n → P
 pub none_find : (test : ℕ → Bool) (P : ℕ → Type 0) → ((k : ℕ) → Decides (test k) (P k)) → (a n : ℕ) → ((k : ℕ) → a ≤ k → k < a + n → P k → ⊥) → find test (range_with_len a n) ≡ None
 none_find test P d a n none = none_is _ ((k : ℕ) → a ≤ k → k < a + n → P k → ⊥) (IsFirst P a (a + n)) (find_first test P d a n) (λ i h. none i h.from h.below h.holds)
 
--- the last of the numbers below n that passes the test
-abbrev last_below : (ℕ → Bool) → ℕ → Option ℕ
-last_below test zero = None
-last_below test (suc n) = cond (test n) (Some n) (last_below test n)
-
 last_append : {X : Type 0} → (o : Option X) (xs ys : List X) → last_or o (xs ++ ys) ≡ last_or (last_or o xs) ys
 last_append o [] ys = refl
 last_append o (x ∷ xs) ys = last_append (Some x) xs ys
@@ -55,32 +50,19 @@ filter_more test n =
     let same = λ (m : ℕ). ap (filter test) (map-id (range_with_len 0 m)) in
     sym (same (n + 1)) ∙ filter_of_map_range_with_len_more test (λ (x : ℕ). x) 0 n n (omega arith) ∙ ap (λ (xs : List ℕ). xs ++ cond (test n) (n ∷ []) []) (same n)
 
-last_of_range : (test : ℕ → Bool) (n : ℕ) → last_or None (filter test (range_with_len 0 n)) ≡ last_below test n
-last_of_range test zero = refl
-last_of_range test (suc n) =
+pub find_last : (test : ℕ → Bool) (P : ℕ → Type 0) → ((k : ℕ) → Decides (test k) (P k)) → (n : ℕ) → MatchOption (last_or None (filter test (range_with_len 0 n))) ((k : ℕ) → k < n → P k → ⊥) (λ j. IsLast P n j)
+find_last test P d zero = λ k y p. omega arith
+find_last test P d (suc n) =
     let e : suc n ≡ n + 1 = omega arith in
-    ap (λ (m : ℕ). last_or None (filter test (range_with_len 0 m))) e
-    ∙ ap (last_or None) (filter_more test n)
-    ∙ last_append None (filter test (range_with_len 0 n)) (cond (test n) (n ∷ []) [])
-    ∙ go (last_of_range test n) (test n)
+    let more = ap (λ (m : ℕ). last_or None (filter test (range_with_len 0 m))) e ∙ ap (last_or None) (filter_more test n) ∙ last_append None (filter test (range_with_len 0 n)) (cond (test n) (n ∷ []) []) in
+    subst (λ (o : Option ℕ). MatchOption o ((k : ℕ) → k < suc n → P k → ⊥) (λ j. IsLast P (suc n) j)) (sym more) (go (test n) refl (last_or None (filter test (range_with_len 0 n))) (find_last test P d n))
   where
-    go : last_or None (filter test (range_with_len 0 n)) ≡ last_below test n → (b : Bool) → last_or (last_or None (filter test (range_with_len 0 n))) (cond b (n ∷ []) []) ≡ cond b (Some n) (last_below test n)
-    go ih true = refl
-    go ih false = ih
-
-last_found : (test : ℕ → Bool) (P : ℕ → Type 0) → ((k : ℕ) → Decides (test k) (P k)) → (n : ℕ) → MatchOption (last_below test n) ((k : ℕ) → k < n → P k → ⊥) (λ j. IsLast P n j)
-last_found test P d zero = λ k y p. omega arith
-last_found test P d (suc n) = go (test n) refl (last_below test n) (last_found test P d n)
-  where
-    go : (b : Bool) → test n ≡ b → (o : Option ℕ) → MatchOption o ((k : ℕ) → k < n → P k → ⊥) (λ j. IsLast P n j) → MatchOption (cond b (Some n) o) ((k : ℕ) → k < suc n → P k → ⊥) (λ j. IsLast P (suc n) j)
+    go : (b : Bool) → test n ≡ b → (o : Option ℕ) → MatchOption o ((k : ℕ) → k < n → P k → ⊥) (λ j. IsLast P n j) → MatchOption (last_or o (cond b (n ∷ []) [])) ((k : ℕ) → k < suc n → P k → ⊥) (λ j. IsLast P (suc n) j)
     go true e o h = record { below = omega arith; holds = (d n).0 e; last = λ k x y p. omega arith }
     go false e None h = λ k y p. ⊎_elim (λ (s : k < n). h k s p) (λ (s : n ≤ k). let t = (d n).1 (subst P (omega arith) p) in cc) (cases_lt k n)
     go false e (Some j) h =
         let b = h.below in
         record { below = omega arith; holds = h.holds; last = λ k x y p. ⊎_elim (λ (s : k < n). h.last k x s p) (λ (s : n ≤ k). let t = (d n).1 (subst P (omega arith) p) in cc) (cases_lt k n) }
-
-pub find_last : (test : ℕ → Bool) (P : ℕ → Type 0) → ((k : ℕ) → Decides (test k) (P k)) → (n : ℕ) → MatchOption (last_or None (filter test (range_with_len 0 n))) ((k : ℕ) → k < n → P k → ⊥) (λ j. IsLast P n j)
-find_last test P d n = rw (last_of_range test n) (last_found test P d n)
 
 pub last_is : (test : ℕ → Bool) (P : ℕ → Type 0) → ((k : ℕ) → Decides (test k) (P k)) → (n j : ℕ) → IsLast P n j → last_or None (filter test (range_with_len 0 n)) ≡ Some j
 last_is test P d n j r = found_is _ ((k : ℕ) → k < n → P k → ⊥) (IsLast P n) j (find_last test P d n) (λ h. h j r.below r.holds)

@@ -1,7 +1,7 @@
 -- Whole words of a scan: how far a sum falls along one at most, by its zeros that no one stands right before, and by its ones that no zero stands right after.
-use Rattle.vers_trees.proofs.Words.{◌≡◌, ℕ, zero, suc, ◌+◌, ◌-◌, ◌*◌, ◌/◌, ◌%◌, ◌^◌, ◌<◌, ◌≤◌, Bool, true, false, ◌||◌, ◌&&◌, List, [], ◌∷◌, length, take, ℤ, pos, negsuc, ◌+ℤ◌, ◌-ℤ◌, ◌≤ℤ◌, ◌<ℤ◌, Option, Some, arith, sym, ap, refl, FitsSigned, to_z, of_z, ◌∙◌, w64, pow-suc, ones-le, part_number_or_zero, bit_or, bit_and, count_ones, IsTrue, lt_z, ints, to_z-of_z, to_z_pos, or_block, and_block, or_lt, number, part, bit_value, number-take, excess, Reads, AddsAtMost, adds_then, get_bits_reads, HasNoRise, HasNoRiseBefore, falls, is_not_closed, rises, scan_reads, ones_step, ones-ones}
+use Rattle.vers_trees.proofs.Words.{◌≡◌, ℕ, zero, suc, ◌+◌, ◌-◌, ◌*◌, ◌/◌, ◌%◌, ◌^◌, ◌<◌, ◌≤◌, Bool, true, false, ◌||◌, ◌&&◌, List, [], ◌∷◌, length, take, ℤ, pos, negsuc, ◌+ℤ◌, ◌-ℤ◌, ◌≤ℤ◌, ◌<ℤ◌, Option, Some, arith, sym, ap, refl, FitsSigned, to_z, of_z, ◌∙◌, w64, pow-suc, ones-le, part_number_or_zero, bit_or, bit_and, count_ones, IsTrue, lt_z, ints, to_z-of_z, to_z_pos, or_block, and_block, or_lt, number, part, bit_value, number-take, excess, Reads, AddsAtMost, adds_then, get_bits_reads, HasNoRise, HasNoRiseBefore, falls, is_not_closed, rises, scan_reads, ones_step, ones-ones, bit_value_le}
 use Rattle.vers_trees.proofs.searches.Scans.{fits_small, forward_more, backward_more}
-use Rattle.vers_trees.proofs.grammar.Excess.{excess-zero, excess-nil, excess-open, excess-close}
+use Rattle.vers_trees.proofs.grammar.Excess.{excess-zero, excess-nil, excess-cons}
 use Rattle.vers_trees.proofs.searches.ByteScans.{length-part, excess-part, total_of, whole_word}
 
 -- ---- the number of a list and its first bit
@@ -9,8 +9,7 @@ number_next : (b : Bool) (l : List Bool) → number (b ∷ l) ≡ number l * 2 ^
 number_next b l = omega arith
 
 bit_small : (b : Bool) → bit_value b < 2 ^ 1
-bit_small true = omega arith
-bit_small false = omega arith
+bit_small b = let h = bit_value_le b in omega arith
 
 ones_next : (n : ℕ) (b : Bool) → count_ones (n * 2 ^ 1 + bit_value b) ≡ bit_value b + count_ones n
 ones_next n b =
@@ -61,9 +60,7 @@ falls_counted l word h e =
 above : (p : Bool) (l : List Bool) (j : ℕ) → pos 0 ≤ℤ (excess l j +ℤ pos (bit_value p + falls p l))
 above p [] j = let e = excess-nil j in omega (arith, ints)
 above p (b ∷ l) zero = let e = excess-zero (b ∷ l) in omega (arith, ints)
-above p (true ∷ l) (suc j) = let h = above true l j in let e = excess-open l j in omega (arith, ints)
-above true (false ∷ l) (suc j) = let h = above false l j in let e = excess-close l j in omega (arith, ints)
-above false (false ∷ l) (suc j) = let h = above false l j in let e = excess-close l j in omega (arith, ints)
+above p (b ∷ l) (suc j) = let h = above b l j in let e = excess-cons b l j in grind (arith, ints)
 
 pub covered_few : (word : ℕ) → word < 18446744073709551616 → count_ones (bit_or word (word * 2 % 18446744073709551616)) ≤ 64
 covered_few word h = ones-le 64 (bit_or word (word * 2 % 18446744073709551616)) (or_lt 64 word (word * 2 % 18446744073709551616) h (omega arith))
@@ -108,16 +105,15 @@ rises_few (b ∷ l) = let h = rises_few l in let s = bit_small (b && is_not_clos
 -- no sum from the end of the list falls further
 total_few : (l : List Bool) → (excess l (length l) +ℤ pos (1 - bit_value (is_not_closed l))) ≤ℤ pos (rises l)
 total_few [] = let e = excess-nil 0 in omega (arith, ints)
-total_few (false ∷ l) = let h = total_few l in let e = excess-close l (length l) in omega (arith, ints)
-total_few (true ∷ []) = let e = excess-open [] 0 in let z = excess-zero [] in omega (arith, ints)
-total_few (true ∷ true ∷ l) = let h = total_few (true ∷ l) in let e = excess-open (true ∷ l) (suc (length l)) in omega (arith, ints)
-total_few (true ∷ false ∷ l) = let h = total_few (false ∷ l) in let e = excess-open (false ∷ l) (suc (length l)) in omega (arith, ints)
+total_few (false ∷ l) = let h = total_few l in let e = excess-cons false l (length l) in omega (arith, ints)
+total_few (true ∷ []) = let e = excess-cons true [] 0 in let z = excess-zero [] in omega (arith, ints)
+total_few (true ∷ true ∷ l) = let h = total_few (true ∷ l) in let e = excess-cons true (true ∷ l) (suc (length l)) in omega (arith, ints)
+total_few (true ∷ false ∷ l) = let h = total_few (false ∷ l) in let e = excess-cons true (false ∷ l) (suc (length l)) in omega (arith, ints)
 
 below : (l : List Bool) (j : ℕ) → j ≤ length l → excess l (length l) ≤ℤ (excess l j +ℤ pos (rises l))
 below l zero h = let t = total_few l in let z = excess-zero l in omega (arith, ints)
 below [] (suc j) h = absurd (omega arith)
-below (true ∷ l) (suc j) h = let i = below l j (omega arith) in let a = excess-open l j in let b = excess-open l (length l) in omega (arith, ints)
-below (false ∷ l) (suc j) h = let i = below l j (omega arith) in let a = excess-close l j in let b = excess-close l (length l) in omega (arith, ints)
+below (b ∷ l) (suc j) h = let i = below l j (omega arith) in let a = excess-cons b l j in let e = excess-cons b l (length l) in omega (arith, ints)
 
 -- ---- as the code has them
 count_is : (n : ℕ) → n ≤ 64 → to_z w64 n ≡ pos n

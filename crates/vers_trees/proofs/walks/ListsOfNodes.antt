@@ -1,10 +1,10 @@
 -- The nodes of a node's tree are a part of all nodes, in preorder and in postorder.
-use Rattle.vers_trees.proofs.Words.{◌≡◌, ℕ, suc, ◌+◌, ◌*◌, ◌<◌, ◌≤◌, ◌⊎◌, inl, inr, Bool, true, false, ◌&&◌, List, [], ◌∷◌, map, length, take, drop, ltb, leb, count_by, negsuc, Option, arith, ⊎_elim, subst, sym, refl, ap, ◌∙◌, filter, All, Decides, unwrap_or, ints, cases_lt, lt-ltb, le-ltb, nat_tests, Decides-and, Decides-like, same_from_decides, All-head, All-tail, All-weaker, length-filter, count_by-le-length, eq-or-lt_of_le, is_bit, count, places, count_both, excess, Forest, text, nodes, closing, is_ancestor, subtree, opening_of, pairs_by_closing, postorder, subtree_post}
+use Rattle.vers_trees.proofs.Words.{◌≡◌, ℕ, suc, ◌+◌, ◌*◌, ◌<◌, ◌≤◌, ◌⊎◌, inl, inr, Bool, true, false, ◌&&◌, List, [], ◌∷◌, map, length, take, drop, ltb, leb, count_by, negsuc, Option, arith, ⊎_elim, subst, sym, refl, ap, ◌∙◌, filter, All, Decides, unwrap_or, ints, cases_lt, lt-ltb, le-ltb, nat_tests, Decides-and, Decides-like, same_from_decides, All-head, All-tail, All-weaker, length-filter, count_by-le-length, eq-or-lt_of_le, is_bit, count, places, count_both, excess, Forest, text, nodes, closing, is_ancestor, subtree, opening_of, pairs_by_closing, postorder, subtree_post, not-true}
 use Rattle.vers_trees.proofs.grammar.Paired.{Paired, paired_closes, close_is_paired}
 use Rattle.vers_trees.proofs.kin.Partners.{before_from_closes, nested}
 use Rattle.vers_trees.proofs.searches.Searches.{before_is}
 use Rattle.vers_trees.proofs.kin.NodeList.{HasPair, nodes_are_ones, node_pair, closing_is, inside}
-use Rattle.vers_trees.proofs.kin.Around.{refuted, Decides-leb, ancestor_decides, below_counted}
+use Rattle.vers_trees.proofs.kin.Around.{Decides-leb, ancestor_decides, below_counted}
 use Rattle.vers_trees.proofs.grammar.Pairs.{one_if, count_by-cons}
 use Rattle.vers_trees.proofs.kin.Kin.{filter_agree}
 use Rattle.vers_trees.proofs.walks.Lists.{opening_places, closing_places, filter_mapped, HasBitAt, all_places, closing_is_zeros, closing_paired, postorder_opens}
@@ -18,7 +18,7 @@ between_decides : (v c w : ℕ) → Decides (between v c w) ((v ≤ w) × (w ≤
 between_decides v c w = Decides-and (leb v w) (leb w c) (Decides-leb v w) (Decides-leb w c)
 
 outside : (v c w : ℕ) → (w < v) ⊎ (c < w) → between v c w ≡ false
-outside v c w o = refuted (between v c w) (between_decides v c w) (λ g. omega (arith, o))
+outside v c w o = grind (arith, nat_tests, o)
 
 -- with those before v they are those before c + 1
 count_between : (v c : ℕ) (xs : List ℕ) → v ≤ c + 1 → count_by (between v c) xs + count_by (λ w. ltb w v) xs ≡ count_by (λ w. ltb w (c + 1)) xs
@@ -107,15 +107,11 @@ pub subtree_size_is : (F : Forest) (v : ℕ) → HasPair F v → 2 * length (sub
 subtree_size_is F v h = let s = ap (λ (xs : List ℕ). length xs) (subtree_is F v h) in let p = part_size true F v h in omega arith
 
 -- in postorder
-zero_here : (b : Bool) → is_bit false b ≡ true → b ≡ false
-zero_here true h = absurd (cc)
-zero_here false h = refl
-
 pub subtree_post_is : (F : Forest) (v : ℕ) → HasPair F v → subtree_post F v ≡ map (opening_of (text F)) (places_in false F v)
 unfolding subtree_post places_in
 subtree_post_is F v h =
     ap (filter (λ w. is_ancestor F v w)) (sym (postorder_opens F))
-    ∙ filter_mapped (λ w. is_ancestor F v w) (between v (closing F v)) (opening_of (text F)) (places false (text F)) (All-weaker (HasBitAt false (text F)) (λ k. is_ancestor F v (opening_of (text F) k) ≡ between v (closing F v) k) (λ k b. agree k (close_is_paired F k false b.inside (zero_here _ b.holds))) (places false (text F)) (all_places false (text F)))
+    ∙ filter_mapped (λ w. is_ancestor F v w) (between v (closing F v)) (opening_of (text F)) (places false (text F)) (All-weaker (HasBitAt false (text F)) (λ k. is_ancestor F v (opening_of (text F) k) ≡ between v (closing F v) k) (λ k b. agree k (close_is_paired F k false b.inside (not-true _ b.holds))) (places false (text F)) (all_places false (text F)))
   where
     agree : (k : ℕ) → (w : ℕ) × Paired F w k → is_ancestor F v (opening_of (text F) k) ≡ between v (closing F v) k
     agree k p =

@@ -1,5 +1,5 @@
 -- A walk from tree to tree below a node meets its children, forwards and backwards.
-use Rattle.vers_trees.proofs.Words.{◌≡◌, ℕ, zero, suc, ◌+◌, ◌-◌, ◌<◌, ◌≤◌, Bool, true, false, cond, List, [], ◌∷◌, length, reverse, get_or, eqb, negsuc, Option, Some, None, arith, sym, refl, ap, ◌∙◌, ◌/◌, map, take, drop, subst, slice_get, unwrap_or, Contains, option_eq, slice_get_within, slice_get_past, slice_get-get_or, get_or_from_slice_get, get_or-reverse, length-reverse, length-map, length-take, length-drop, get_or-map, get_or-take, get_or-drop, take_all, length-filter, count_by-le-length, count, places, select, length-places, count_le, first_rise_after, last_rise_before, Forest, text, IsBalanced, forest_of, nodes, closing, parent, nodes_under, children, siblings, last_of, next_of, previous_of, IsNode, subtree, tree_to, opened, tree_from, tree_before, met, walked, MeetsJust, opening_of, tree_beside, siblings_left, IsWalkOfSiblings, Contains-get_or, TakesFirst, postorder, subtree_post, closed_by}
+use Rattle.vers_trees.proofs.Words.{◌≡◌, ℕ, zero, suc, ◌+◌, ◌-◌, ◌<◌, ◌≤◌, Bool, true, false, cond, List, [], ◌∷◌, length, reverse, get_or, eqb, negsuc, Option, Some, None, arith, sym, refl, ap, ◌∙◌, ◌/◌, map, take, drop, subst, slice_get, unwrap_or, Contains, option_eq, slice_get_within, slice_get_past, cond_some, slice_get-get_or, get_or_from_slice_get, get_or-reverse, length-reverse, length-map, length-take, length-drop, get_or-map, get_or-take, get_or-drop, take_all, length-filter, count_by-le-length, count, places, select, length-places, count_le, first_rise_after, last_rise_before, Forest, text, IsBalanced, forest_of, nodes, closing, parent, nodes_under, children, siblings, last_of, next_of, previous_of, IsNode, subtree, tree_to, opened, tree_from, tree_before, met, walked, MeetsJust, opening_of, tree_beside, siblings_left, IsWalkOfSiblings, Contains-get_or, TakesFirst, postorder, subtree_post, closed_by}
 use Rattle.vers_trees.proofs.searches.Searches.{after_is}
 use Rattle.vers_trees.proofs.kin.Partners.{after_from_closes}
 use Rattle.vers_trees.proofs.kin.Handles.{closing_by}
@@ -48,7 +48,7 @@ reversed_next : (xs : List ℕ) (i j w : ℕ) → AscendsFrom 0 xs → i + j + 1
 reversed_next xs i zero w a h e = let r = length-reverse xs in slice_get_past (reverse xs) (suc i) (omega arith) ∙ sym (first_member_before 0 w xs a e)
 reversed_next xs i (suc j) w a h e =
     let at : length xs - 1 - suc i ≡ j = omega arith in
-    reversed_at xs (suc i) (omega arith) ∙ ap (slice_get xs) at ∙ sym (member_before None 0 j w xs a e)
+    reversed_at xs (suc i) (omega arith) ∙ ap (slice_get xs) at ∙ sym (member_before 0 j w xs a e)
 
 -- ---- children
 children_ascend : (F : Forest) (v : ℕ) → AscendsFrom 0 (children F v)
@@ -70,13 +70,6 @@ children_few F v =
     let d = (count_le true (text F) (length (text F))).0 in
     omega arith
 
-here : (l : List Bool) (p w : ℕ) → opened_here l p ≡ Some w → p ≡ w
-here l p w e = go (get_or l p false) e
-  where
-    go : (b : Bool) → cond b (Some p) None ≡ Some w → p ≡ w
-    go true e = cc
-    go false e = absurd (cc)
-
 not_here : (l : List Bool) (p : ℕ) → opened_here l p ≡ None → tree_from l p ≡ None
 not_here l p e = go (get_or l p false) e
   where
@@ -89,7 +82,7 @@ meets_forwards F v h = steps_meet (tree_from (text F)) (children F v) (λ p i. s
     (λ p i a e. not_here (text F) p (sym a ∙ e))
     (λ p i w a e.
     let m = child_member F v i w e in let k = m.0 in
-    let at : p ≡ w = here (text F) p w (sym a ∙ e) in (
+    let at : p ≡ w = (cond_some (get_or (text F) p false) p w (sym a ∙ e)).1 in (
       closing F w + 1,
       rw (at, opens F w k) (ap (tree_to w) (after_is (text F) w (negsuc 0) (closing F w) (after_from_closes (text F) w (closing F w) k.closes))),
       sym (next_member 0 i w (children F v) (children_ascend F v) e) ∙ ap (λ (vs : List ℕ). next_of vs w) (sym m.1) ∙ sym (next_sibling_is F w k),
