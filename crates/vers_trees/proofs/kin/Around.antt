@@ -1,7 +1,7 @@
 -- The nodes around a node: its parent, its depth, how many nodes are in its tree, and how many come before it.
 use Rattle.vers_trees.proofs.Words.{◌≡◌, ℕ, zero, suc, ◌+◌, ◌<◌, ◌≤◌, Bool, true, false, cond, ◌&&◌, List, [], ◌∷◌, take, ltb, leb, count_by, pos, negsuc, Option, Some, None, arith, ⊎_elim, sym, refl, ap, ◌∙◌, Decides, last_or, lt-ltb, le-ltb, le-leb, Decides-ltb, Decides-and, leb_tells, length-filter, count, is_bit, places, excess, last_rise_before, Forest, text, pairs, nodes, closing, is_ancestor, is_proper_ancestor, proper_ancestors, depth, parent, node_index}
 use Rattle.vers_trees.proofs.walks.Lists.{shifted, places-cons}
-use Rattle.vers_trees.proofs.searches.Searches.{before_some, before_none}
+use Rattle.vers_trees.proofs.searches.Searches.{before_some, before_none, by_answer}
 use Rattle.vers_trees.proofs.grammar.Paired.{closes_rises, closes_paired}
 use Rattle.vers_trees.proofs.grammar.Pairs.{paired_from_contains, one_if, count_by-cons, count_by-append, count_by-map, count_agree, count_none, moved_lt, strictly_contains, pairs_around}
 use Rattle.vers_trees.proofs.kin.Partners.{nested, IsAbove, above_from_before, parent_is_nearest, no_parent}
@@ -29,8 +29,9 @@ above_is_around F v t a h p =
     let n = nested (text F) a p.close v (closing F v) q h.closes b (omega arith) in
     (b, omega arith, one_pair F a (omega arith) (closes_rises (text F) a p.close false q))
 
-parent_found : (F : Forest) (v p : ℕ) → HasPair F v → IsAbove (text F) v 1 p → last_or None (proper_ancestors F v) ≡ Some p
-parent_found F v p h a =
+pub above_parent : (F : Forest) (v p : ℕ) → HasPair F v → IsAbove (text F) v 1 p → parent F v ≡ Some p
+unfolding parent
+above_parent F v p h a =
     let r = above_is_around F v 1 p h a in
     last_node F _ _ (λ w. proper_decides F w v) p r.2 (r.0, r.1) (λ w x k g.
     let s = parent_is_nearest (text F) v p w (closing F w) a k.closes g.0 (omega arith) in
@@ -38,36 +39,26 @@ parent_found F v p h a =
 
 pub parent_is_search : (F : Forest) (v : ℕ) → HasPair F v → last_rise_before (text F) v (negsuc 0) ≡ parent F v
 unfolding parent
-parent_is_search F v h = go (last_rise_before (text F) v (negsuc 0)) refl
-  where
-    go : (o : Option ℕ) → last_rise_before (text F) v (negsuc 0) ≡ o → o ≡ last_or None (proper_ancestors F v)
-    go None e = sym (no_last_node F _ _ (λ w. proper_decides F w v) (λ w k g.
-        no_parent (text F) v w (closing F w) (before_none (text F) v (negsuc 0) (inside F v h) e) k.closes g.0 (omega arith)))
-    go (Some p) e = sym (parent_found F v p h (above_from_before F v 1 p (omega arith) (opens F v h) (before_some (text F) v (negsuc 0) p e)))
+parent_is_search F v h = by_answer (last_rise_before (text F) v (negsuc 0))
+    (λ e. e ∙ sym (no_last_node F _ _ (λ w. proper_decides F w v) (λ w k g. no_parent (text F) v w (closing F w) (before_none (text F) v (negsuc 0) (inside F v h) e) k.closes g.0 (omega arith))))
+    (λ p e. e ∙ sym (above_parent F v p h (above_from_before F v 1 p (omega arith) (opens F v h) (before_some (text F) v (negsuc 0) p e))))
 
 pub parent_above : (F : Forest) (v p : ℕ) → HasPair F v → parent F v ≡ Some p → IsAbove (text F) v 1 p
 parent_above F v p h e =
     above_from_before F v 1 p (omega arith) (closes_rises (text F) v (closing F v) false h.closes) (before_some (text F) v (negsuc 0) p (parent_is_search F v h ∙ e))
-
-pub above_parent : (F : Forest) (v p : ℕ) → HasPair F v → IsAbove (text F) v 1 p → parent F v ≡ Some p
-unfolding parent
-above_parent F v p h a = parent_found F v p h a
 
 -- the parent is around, and each node around v is at or before it
 pub parent_around : (F : Forest) (v p : ℕ) → HasPair F v → parent F v ≡ Some p → (p < v) × (closing F v < closing F p) × HasPair F p
 parent_around F v p h e = above_is_around F v 1 p h (parent_above F v p h e)
 
 pub has_parent : (F : Forest) (v q : ℕ) → HasPair F v → HasPair F q → q < v → closing F v < closing F q → (p : ℕ) × (parent F v ≡ Some p) × (q ≤ p)
-has_parent F v q h k x y = go (last_rise_before (text F) v (negsuc 0)) refl
-  where
-    go : (o : Option ℕ) → last_rise_before (text F) v (negsuc 0) ≡ o → (p : ℕ) × (parent F v ≡ Some p) × (q ≤ p)
-    go None e =
-        let ha = h.closes.after in
-        absurd (no_parent (text F) v q (closing F q) (before_none (text F) v (negsuc 0) (omega arith) e) k.closes x (omega arith))
-    go (Some p) e =
-        let ha = h.closes.after in
-        let f : parent F v ≡ Some p = sym (parent_is_search F v h) ∙ e in
-        (p, f, parent_is_nearest (text F) v p q (closing F q) (parent_above F v p h f) k.closes x (omega arith))
+has_parent F v q h k x y =
+    let ha = h.closes.after in
+    by_answer (last_rise_before (text F) v (negsuc 0))
+    (λ e. absurd (no_parent (text F) v q (closing F q) (before_none (text F) v (negsuc 0) (omega arith) e) k.closes x (omega arith)))
+    (λ p e.
+    let f : parent F v ≡ Some p = sym (parent_is_search F v h) ∙ e in
+    (p, f, parent_is_nearest (text F) v p q (closing F q) (parent_above F v p h f) k.closes x (omega arith)))
 
 -- ---- how many
 pub depth_is_excess : (F : Forest) (v : ℕ) → HasPair F v → pos (depth F v) ≡ excess (text F) v

@@ -12,9 +12,6 @@ use Rattle.vers_trees.proofs.kin.Around.{proper_decides, parent_around, above_pa
 abbrev under : Forest → Option ℕ → ℕ → Bool
 under F p w = option_eq eqb (parent F w) p
 
-under_decides : (F : Forest) (p : Option ℕ) (w : ℕ) → Decides (under F p w) (parent F w ≡ p)
-under_decides F p w = option_decides (parent F w) p
-
 -- tests that agree at each element keep the same elements
 pub filter_agree : {X : Type 0} → (p q : X → Bool) (xs : List X) → ((x : X) → Contains xs x → p x ≡ q x) → filter p xs ≡ filter q xs
 filter_agree {X = X} p q [] h = refl
@@ -41,7 +38,7 @@ first_child_found : (F : Forest) (v : ℕ) → HasPair F v → get_or (text F) (
 unfolding nodes_under
 first_child_found F v h b =
     let k = one_pair F (v + 1) (omega arith) b in
-    first_in F _ _ (under_decides F (Some v)) (v + 1) k (above_parent F (v + 1) v k (first_child_above (text F) v (closing F v) h.closes b)) (λ w x k e. let r = (parent_around F w v k e).0 in omega arith)
+    first_in F _ _ (λ w. option_decides (parent F w) (Some v)) (v + 1) k (above_parent F (v + 1) v k (first_child_above (text F) v (closing F v) h.closes b)) (λ w x k e. let r = (parent_around F w v k e).0 in omega arith)
 
 -- nothing opens inside a tree that closes right after it opens
 no_child : (F : Forest) (v w : ℕ) → HasPair F v → get_or (text F) (v + 1) false ≡ false → HasPair F w → parent F w ≡ Some v → ⊥
@@ -51,11 +48,11 @@ no_child F v w h b k e =
 
 first_child_none : (F : Forest) (v : ℕ) → HasPair F v → get_or (text F) (v + 1) false ≡ false → first_of (children F v) ≡ None
 unfolding nodes_under
-first_child_none F v h b = no_first_in F _ _ (under_decides F (Some v)) (λ w k e. no_child F v w h b k e)
+first_child_none F v h b = no_first_in F _ _ (λ w. option_decides (parent F w) (Some v)) (λ w k e. no_child F v w h b k e)
 
 pub last_child_none : (F : Forest) (v : ℕ) → HasPair F v → closing F v ≡ v + 1 → last_of (children F v) ≡ None
 unfolding nodes_under
-last_child_none F v h s = no_last_node F _ _ (under_decides F (Some v)) (λ w k e. no_child F v w h (rw s at (closes_falls (text F) v (closing F v) false h.closes)) k e)
+last_child_none F v h s = no_last_node F _ _ (λ w. option_decides (parent F w) (Some v)) (λ w k e. no_child F v w h (rw s at (closes_falls (text F) v (closing F v) false h.closes)) k e)
 
 -- the last child closes right before the node
 pub last_child_is_search : (F : Forest) (v c : ℕ) → HasPair F v → closing F v ≡ c + 1 → v < c → last_rise_before (text F) c (negsuc 0) ≡ last_of (children F v)
@@ -68,7 +65,7 @@ last_child_is_search F v c h s x =
     let k = one_pair F p.0 (omega arith) (closes_rises (text F) p.0 c false q) in
     let pc = closes_to F p.0 c q in
     before_is (text F) c (negsuc 0) p.0 (before_from_closes (text F) p.0 c q)
-    ∙ sym (last_node F _ _ (under_decides F (Some v)) p.0 k (above_parent F p.0 v k (last_child_above (text F) v c p.0 m q after)) (λ w y kw e.
+    ∙ sym (last_node F _ _ (λ w. option_decides (parent F w) (Some v)) p.0 k (above_parent F p.0 v k (last_child_above (text F) v c p.0 m q after)) (λ w y kw e.
     let r = parent_around F w v kw e in
     grind (arith, ints, nested, has_parent)))
 
@@ -77,11 +74,11 @@ next_sibling_found : (F : Forest) (v : ℕ) → HasPair F v → closing F v + 1 
 unfolding nodes_under
 next_sibling_found F v h i b =
     let k = one_pair F (closing F v + 1) i b in
-    next_in F _ _ (under_decides F (parent F v)) v (closing F v + 1) k (same_parent F v h k) (omega arith) (λ w y x k e. not_beside F v w h k y (omega arith) e)
+    next_in F _ _ (λ w. option_decides (parent F w) (parent F v)) v (closing F v + 1) k (same_parent F v h k) (omega arith) (λ w y x k e. not_beside F v w h k y (omega arith) e)
 
 next_sibling_end : (F : Forest) (v : ℕ) → HasPair F v → length (text F) ≤ closing F v + 1 → next_of (siblings F v) v ≡ None
 unfolding nodes_under
-next_sibling_end F v h i = no_next_in F _ _ (under_decides F (parent F v)) v (λ w y k e. not_beside F v w h k y (omega arith) e)
+next_sibling_end F v h i = no_next_in F _ _ (λ w. option_decides (parent F w) (parent F v)) v (λ w y k e. not_beside F v w h k y (omega arith) e)
 
 -- what a tree's parent closes right after it has no later child
 last_beside : (F : Forest) (v w : ℕ) → HasPair F v → closing F v + 1 < length (text F) → get_or (text F) (closing F v + 1) false ≡ false → HasPair F w → closing F v < w → parent F w ≡ parent F v → ⊥
@@ -96,11 +93,11 @@ last_beside F v w h i b k x e =
 
 next_sibling_none : (F : Forest) (v : ℕ) → HasPair F v → closing F v + 1 < length (text F) → get_or (text F) (closing F v + 1) false ≡ false → next_of (siblings F v) v ≡ None
 unfolding nodes_under
-next_sibling_none F v h i b = no_next_in F _ _ (under_decides F (parent F v)) v (λ w y k e. ⊎_elim (λ (t : closing F v < w). last_beside F v w h i b k t e) (λ (t : w ≤ closing F v). not_beside F v w h k y t e) (cases_lt (closing F v) w))
+next_sibling_none F v h i b = no_next_in F _ _ (λ w. option_decides (parent F w) (parent F v)) v (λ w y k e. ⊎_elim (λ (t : closing F v < w). last_beside F v w h i b k t e) (λ (t : w ≤ closing F v). not_beside F v w h k y t e) (cases_lt (closing F v) w))
 
 previous_sibling_first : (F : Forest) → previous_of (siblings F 0) 0 ≡ None
 unfolding nodes_under
-previous_sibling_first F = no_previous_in F _ _ (under_decides F (parent F 0)) 0 (λ w y k e. omega arith)
+previous_sibling_first F = no_previous_in F _ _ (λ w. option_decides (parent F w) (parent F 0)) 0 (λ w y k e. omega arith)
 
 pub previous_sibling_none : (F : Forest) (v : ℕ) → HasPair F v → 0 < v → get_or (text F) (v - 1) false ≡ true → previous_of (siblings F v) v ≡ None
 unfolding nodes_under
@@ -108,7 +105,7 @@ previous_sibling_none F v h some b =
     let e : v - 1 + 1 ≡ v = omega arith in
     let k : HasPair F (v - 1 + 1) = rw e h in
     let p : parent F v ≡ Some (v - 1) = rw e at (above_parent F (v - 1 + 1) (v - 1) k (first_of_siblings F (v - 1) (closing F (v - 1 + 1)) k.closes b)) in
-    no_previous_in F _ _ (under_decides F (parent F v)) v (λ w y k g. let r = (parent_around F w (v - 1) k (g ∙ p)).0 in omega arith)
+    no_previous_in F _ _ (λ w. option_decides (parent F w) (parent F v)) v (λ w y k g. let r = (parent_around F w (v - 1) k (g ∙ p)).0 in omega arith)
 
 pub previous_sibling_is_search : (F : Forest) (v : ℕ) → HasPair F v → 0 < v → get_or (text F) (v - 1) false ≡ false → last_rise_before (text F) (v - 1) (negsuc 0) ≡ previous_of (siblings F v) v
 unfolding nodes_under
@@ -120,7 +117,7 @@ previous_sibling_is_search F v h some b =
     let at : closing F p.0 + 1 ≡ v = omega arith in
     let same : parent F v ≡ parent F p.0 = ap (parent F) (sym at) ∙ same_parent F p.0 k (subst (HasPair F) (sym at) h) in
     before_is (text F) (v - 1) (negsuc 0) p.0 (before_from_closes (text F) p.0 (v - 1) q)
-    ∙ sym (previous_in F _ _ (under_decides F (parent F v)) v p.0 k (sym same) (omega arith) (λ w y x kw e. not_beside F p.0 w k kw y (omega arith) (e ∙ same)))
+    ∙ sym (previous_in F _ _ (λ w. option_decides (parent F w) (parent F v)) v p.0 k (sym same) (omega arith) (λ w y x kw e. not_beside F p.0 w k kw y (omega arith) (e ∙ same)))
 
 -- ---- by one bit: what opens at a place, and what closes right before it
 abbrev pub opened_here : List Bool → ℕ → Option ℕ

@@ -1,6 +1,6 @@
 -- The nodes of one depth: which of them the searches find.
 use Rattle.vers_trees.proofs.Words.{◌≡◌, ℕ, ◌+◌, ◌-◌, ◌<◌, ◌≤◌, ◌≢◌, Bool, true, false, ◌&&◌, List, length, get_or, eqb, ℤ, pos, negsuc, neg_ℤ, ◌+ℤ◌, ◌≤ℤ◌, ◌<ℤ◌, Option, Some, None, arith, ⊎_elim, sym, refl, ap, ◌∙◌, find, Decides, ints, cases_lt, Decides-eqb, Decides-and, eq-or-lt_of_le, count_le, excess, first_rise_after, last_rise_before, Forest, none, tree, text, nodes, closing, is_ancestor, depth, level, level_ancestor, first_of, last_of, next_of, previous_of}
-use Rattle.vers_trees.proofs.searches.Searches.{after_some, after_none, before_some, before_is, before_none}
+use Rattle.vers_trees.proofs.searches.Searches.{by_answer, after_some, after_none, before_some, before_is, before_none}
 use Rattle.vers_trees.proofs.grammar.Excess.{below_until, below_since, excess-zero, excess-is_walk, excess_after_open, excess_after_close, open_from_rise, close_from_fall}
 use Rattle.vers_trees.proofs.grammar.Paired.{paired_closes, close_is_paired, closes_rises, total_is_zero, never_negative}
 use Rattle.vers_trees.proofs.kin.Partners.{before_from_closes, above_from_before}
@@ -68,21 +68,19 @@ no_steps_up F v h = first_node F _ _ (at_depth_decides F v 0) v h ((omega arith,
 
 pub level_ancestor_is_search : (F : Forest) (v t : ℕ) → HasPair F v → 0 < t → last_rise_before (text F) v (neg_ℤ (pos t)) ≡ level_ancestor F v t
 unfolding level_ancestor
-level_ancestor_is_search F v t h some = go (last_rise_before (text F) v (neg_ℤ (pos t))) refl
-  where
-    go : (o : Option ℕ) → last_rise_before (text F) v (neg_ℤ (pos t)) ≡ o → o ≡ find (at_depth F v t) (nodes F)
-    go None e = sym (no_first_node F _ _ (at_depth_decides F v t) (λ w k g.
-        let dw = depth_is_excess F w k in let dv = depth_is_excess F v h in let d = g.1 in
-        grind (arith, ints, before_none, inside, eq-or-lt_of_le)))
-    go (Some a) e =
-        let m = above_from_before F v t a some (opens F v h) (before_some (text F) v (neg_ℤ (pos t)) a e) in
-        let r = above_is_around F v t a h m in
-        let k = r.2 in
-        let da = depth_is_excess F a k in let dv = depth_is_excess F v h in
-        sym (first_node F _ _ (at_depth_decides F v t) a k ((omega arith, omega arith), omega (arith, ints)) (λ w x kw g.
-        let dw = depth_is_excess F w kw in let d = g.1 in
-        let u = kw.closes.above a x (omega arith) in
-        omega (arith, ints)))
+level_ancestor_is_search F v t h some = by_answer (last_rise_before (text F) v (neg_ℤ (pos t)))
+    (λ e. e ∙ sym (no_first_node F _ _ (at_depth_decides F v t) (λ w k g.
+    let dw = depth_is_excess F w k in let dv = depth_is_excess F v h in let d = g.1 in
+    grind (arith, ints, before_none, inside, eq-or-lt_of_le))))
+    (λ a e.
+    let m = above_from_before F v t a some (opens F v h) (before_some (text F) v (neg_ℤ (pos t)) a e) in
+    let r = above_is_around F v t a h m in
+    let k = r.2 in
+    let da = depth_is_excess F a k in let dv = depth_is_excess F v h in
+    e ∙ sym (first_node F _ _ (at_depth_decides F v t) a k ((omega arith, omega arith), omega (arith, ints)) (λ w x kw g.
+    let dw = depth_is_excess F w kw in let d = g.1 in
+    let u = kw.closes.above a x (omega arith) in
+    omega (arith, ints))))
 
 -- no node is so deep
 depth_small : (F : Forest) (v : ℕ) → HasPair F v → depth F v < length (text F)
@@ -94,9 +92,6 @@ unfolding level_ancestor
 too_far_up F v t h far = no_first_node F _ _ (at_depth_decides F v t) (λ w k g. let s = depth_small F v h in omega arith)
 
 -- ---- the neighbours on a level
-level_decides : (F : Forest) (d w : ℕ) → Decides (eqb (depth F w) d) (depth F w ≡ d)
-level_decides F d w = Decides-eqb (depth F w) d
-
 -- ones of one depth have one excess
 same_excess : (F : Forest) (v w : ℕ) → HasPair F v → HasPair F w → depth F w ≡ depth F v → excess (text F) w ≡ excess (text F) v
 same_excess F v w h k e = sym (depth_is_excess F w k) ∙ ap pos e ∙ depth_is_excess F v h
@@ -110,20 +105,18 @@ past_tree F v w h k g x n =
 
 pub level_next_is_search : (F : Forest) (v : ℕ) → HasPair F v → first_rise_after (text F) (closing F v) (pos 1) ≡ next_of (level F (depth F v)) v
 unfolding level
-level_next_is_search F v h = go (first_rise_after (text F) (closing F v) (pos 1)) refl
-  where
-    go : (o : Option ℕ) → first_rise_after (text F) (closing F v) (pos 1) ≡ o → o ≡ next_of (level F (depth F v)) v
-    go None e = sym (no_next_in F _ _ (level_decides F (depth F v)) v (λ w x k g. past_tree F v w h k g x (λ z. after_none (text F) (closing F v) (pos 1) e w z (inside F w k))))
-    go (Some u) e =
-        let q = after_some (text F) (closing F v) (pos 1) u e in
-        let r = opens_at (text F) (closing F v) u (excess (text F) (closing F v + 1) +ℤ pos 1) (omega (arith, ints)) q.after q.inside q.sum q.first in
-        let k = one_pair F u q.inside r.0 in
-        let du = depth_is_excess F u k in let dv = depth_is_excess F v h in
-        sym (next_in F _ _ (level_decides F (depth F v)) v u k (omega (arith, ints)) (omega arith) (λ w x y kw g. past_tree F v w h kw g x (λ z. q.first w z y)))
+level_next_is_search F v h = by_answer (first_rise_after (text F) (closing F v) (pos 1))
+    (λ e. e ∙ sym (no_next_in F _ _ (λ w. Decides-eqb (depth F w) (depth F v)) v (λ w x k g. past_tree F v w h k g x (λ z. after_none (text F) (closing F v) (pos 1) e w z (inside F w k)))))
+    (λ u e.
+    let q = after_some (text F) (closing F v) (pos 1) u e in
+    let r = opens_at (text F) (closing F v) u (excess (text F) (closing F v + 1) +ℤ pos 1) (omega (arith, ints)) q.after q.inside q.sum q.first in
+    let k = one_pair F u q.inside r.0 in
+    let du = depth_is_excess F u k in let dv = depth_is_excess F v h in
+    e ∙ sym (next_in F _ _ (λ w. Decides-eqb (depth F w) (depth F v)) v u k (omega (arith, ints)) (omega arith) (λ w x y kw g. past_tree F v w h kw g x (λ z. q.first w z y))))
 
 pub no_level_prev_found : (F : Forest) (v : ℕ) → HasPair F v → last_rise_before (text F) v (pos 1) ≡ None → previous_of (level F (depth F v)) v ≡ None
 unfolding level
-no_level_prev_found F v h e = no_previous_in F _ _ (level_decides F (depth F v)) v (λ w x k g.
+no_level_prev_found F v h e = no_previous_in F _ _ (λ w. Decides-eqb (depth F w) (depth F v)) v (λ w x k g.
     let s = same_excess F v w h k g in let i = inside F v h in
     not_between (text F) 0 v w (excess (text F) v +ℤ pos 1) (λ k y z. before_none (text F) v (pos 1) i e k z) (omega (arith, ints)) (omega arith) x (omega arith) (opens F w k) (omega (arith, ints)))
 
@@ -132,7 +125,7 @@ unfolding level
 level_prev_is_search F v c h e =
     let o = opened_before F v c (pos 1) (omega (arith, ints)) e in
     let du = depth_is_excess F o.place o.pair in let dv = depth_is_excess F v h in
-    o.found ∙ sym (previous_in F _ _ (level_decides F (depth F v)) v o.place o.pair (omega (arith, ints)) o.before (λ w x y k g. let s = same_excess F v w h k g in o.last w x y k (omega (arith, ints))))
+    o.found ∙ sym (previous_in F _ _ (λ w. Decides-eqb (depth F w) (depth F v)) v o.place o.pair (omega (arith, ints)) o.before (λ w x y k g. let s = same_excess F v w h k g in o.last w x y k (omega (arith, ints))))
 
 -- ---- the ends of a level
 -- a forest with a node opens at 0 and closes at its end
@@ -154,12 +147,12 @@ pub first_root : (F : Forest) → 0 < length (text F) → first_of (level F 0) �
 unfolding level
 first_root F h =
     let k = opens_first F h in let z = excess-zero (text F) in let d = depth_is_excess F 0 k in
-    first_in F _ _ (level_decides F 0) 0 k (omega (arith, ints)) (λ w x k g. omega arith)
+    first_in F _ _ (λ w. Decides-eqb (depth F w) 0) 0 k (omega (arith, ints)) (λ w x k g. omega arith)
 
 -- no node is as deep as a forest is long
 pub too_deep : (F : Forest) (t : ℕ) → length (text F) ≤ t → (first_of (level F t) ≡ None) × (last_of (level F t) ≡ None)
 unfolding level
-too_deep F t far = (no_first_in F _ _ (level_decides F t) (λ w k g. let s = depth_small F w k in omega arith), no_last_node F _ _ (level_decides F t) (λ w k g. let s = depth_small F w k in omega arith))
+too_deep F t far = (no_first_in F _ _ (λ w. Decides-eqb (depth F w) t) (λ w k g. let s = depth_small F w k in omega arith), no_last_node F _ _ (λ w. Decides-eqb (depth F w) t) (λ w k g. let s = depth_small F w k in omega arith))
 
 -- below the first root a node opens where the excess rises from there
 below_first : (F : Forest) (t w : ℕ) → 0 < t → HasPair F w → depth F w ≡ t → (0 < w) × (excess (text F) (w + 1) ≡ excess (text F) (0 + 1) +ℤ pos t)
@@ -171,16 +164,14 @@ below_first F t w some k e =
 
 pub level_leftmost_is_search : (F : Forest) (t : ℕ) → 0 < t → first_rise_after (text F) 0 (pos t) ≡ first_of (level F t)
 unfolding level
-level_leftmost_is_search F t some = go (first_rise_after (text F) 0 (pos t)) refl
-  where
-    go : (o : Option ℕ) → first_rise_after (text F) 0 (pos t) ≡ o → o ≡ first_of (level F t)
-    go None e = sym (no_first_in F _ _ (level_decides F t) (λ w k g. let b = below_first F t w some k g in after_none (text F) 0 (pos t) e w b.0 (inside F w k) b.1))
-    go (Some u) e =
-        let q = after_some (text F) 0 (pos t) u e in
-        let r = opens_at (text F) 0 u (excess (text F) (0 + 1) +ℤ pos t) (omega (arith, ints)) q.after q.inside q.sum q.first in
-        let k = one_pair F u q.inside r.0 in let d = depth_is_excess F u k in let z = excess-zero (text F) in
-        let one = excess_after_open (text F) 0 false (omega arith) (opens F 0 (opens_first F (omega arith))) in
-        sym (first_in F _ _ (level_decides F t) u k (omega (arith, ints)) (λ w x kw g. let b = below_first F t w some kw g in q.first w b.0 x b.1))
+level_leftmost_is_search F t some = by_answer (first_rise_after (text F) 0 (pos t))
+    (λ e. e ∙ sym (no_first_in F _ _ (λ w. Decides-eqb (depth F w) t) (λ w k g. let b = below_first F t w some k g in after_none (text F) 0 (pos t) e w b.0 (inside F w k) b.1)))
+    (λ u e.
+    let q = after_some (text F) 0 (pos t) u e in
+    let r = opens_at (text F) 0 u (excess (text F) (0 + 1) +ℤ pos t) (omega (arith, ints)) q.after q.inside q.sum q.first in
+    let k = one_pair F u q.inside r.0 in let d = depth_is_excess F u k in let z = excess-zero (text F) in
+    let one = excess_after_open (text F) 0 false (omega arith) (opens F 0 (opens_first F (omega arith))) in
+    e ∙ sym (first_in F _ _ (λ w. Decides-eqb (depth F w) t) u k (omega (arith, ints)) (λ w x kw g. let b = below_first F t w some kw g in q.first w b.0 x b.1)))
 
 -- the last root closes at the end
 pub last_root_is_search : (F : Forest) (n : ℕ) → length (text F) ≡ n + 1 → last_rise_before (text F) n (negsuc 0) ≡ last_of (level F 0)
@@ -191,7 +182,7 @@ last_root_is_search F n e =
     let t : excess (text F) (n + 1) ≡ pos 0 = ap (excess (text F)) (sym e) ∙ total_is_zero F in
     let k = one_pair F p.0 (omega arith) (closes_rises (text F) p.0 n false q) in let d = depth_is_excess F p.0 k in
     before_is (text F) n (negsuc 0) p.0 (before_from_closes (text F) p.0 n q)
-    ∙ sym (last_node F _ _ (level_decides F 0) p.0 k (omega (arith, ints)) (λ w x k g. let u = q.above w x (omega arith) in let d = depth_is_excess F w k in omega (arith, ints)))
+    ∙ sym (last_node F _ _ (λ w. Decides-eqb (depth F w) 0) p.0 k (omega (arith, ints)) (λ w x k g. let u = q.above w x (omega arith) in let d = depth_is_excess F w k in omega (arith, ints)))
 
 end_is_one : (F : Forest) (n : ℕ) → length (text F) ≡ n + 1 → excess (text F) n ≡ pos 1
 end_is_one F n e =
@@ -201,7 +192,7 @@ end_is_one F n e =
 
 pub no_level_rightmost : (F : Forest) (n t : ℕ) → length (text F) ≡ n + 1 → 0 < t → last_rise_before (text F) n (pos t) ≡ None → last_of (level F t) ≡ None
 unfolding level
-no_level_rightmost F n t e some missing = no_last_node F _ _ (level_decides F t) (λ w k g.
+no_level_rightmost F n t e some missing = no_last_node F _ _ (λ w. Decides-eqb (depth F w) t) (λ w k g.
     let one = end_is_one F n e in let d = depth_is_excess F w k in
     not_between (text F) 0 n w (excess (text F) n +ℤ pos t) (λ k y z. before_none (text F) n (pos t) (omega arith) missing k z) (omega (arith, ints)) (omega arith) (omega arith) (omega arith) (opens F w k) (omega (arith, ints)))
 
@@ -210,4 +201,4 @@ unfolding level
 level_rightmost_is_search F n t j e some found =
     let o = opened_before F n j (pos t) (omega (arith, ints)) found in
     let one = end_is_one F n e in let d = depth_is_excess F o.place o.pair in
-    o.found ∙ sym (last_node F _ _ (level_decides F t) o.place o.pair (omega (arith, ints)) (λ w x k g. let d = depth_is_excess F w k in o.last w x (omega arith) k (omega (arith, ints))))
+    o.found ∙ sym (last_node F _ _ (λ w. Decides-eqb (depth F w) t) o.place o.pair (omega (arith, ints)) (λ w x k g. let d = depth_is_excess F w k in o.last w x (omega arith) k (omega (arith, ints))))
