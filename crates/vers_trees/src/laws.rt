@@ -7,43 +7,39 @@ ghost use Rattle.vers_trees.specs.BalanceLaws.{ReadingDecidesBalance};
 ghost use Rattle.vers_trees.specs.NodeLaws.{NodeIffOne, LevelIffDepth, LevelsGoOn, LevelsGoBack, LevelsAreParts};
 
 /// A search forwards finds the first place after the one asked for at which the excess has risen so.
-#[tactic(auto, using(crate::proofs::kin::Matching::searches))]
 pub fn forward_finds_first()
     ensures { ForwardFindsFirst }
 {}
 
 /// A search backwards finds the last place before the one asked for at which the excess is higher so.
-#[tactic(auto, using(crate::proofs::kin::Matching::searches))]
 pub fn backward_finds_last()
     ensures { BackwardFindsLast }
 {}
 
 /// No list of parentheses writes down two forests.
-#[tactic(auto, using(crate::proofs::kin::Matching::partners))]
+#[tactic(auto, using(crate::proofs::grammar::Grammar::one_forest))]
 pub fn one_forest()
     ensures { OneForest }
 {}
 
 /// In a forest written down, what closes a one is the other place of its pair.
-#[tactic(auto, using(crate::proofs::kin::Matching::partners))]
 pub fn close_finds_pair()
     ensures { CloseFindsPair }
 {}
 
 /// In a forest written down, what opens for a zero is the other place of its pair.
-#[tactic(auto, using(crate::proofs::kin::Matching::partners))]
 pub fn open_finds_pair()
     ensures { OpenFindsPair }
 {}
 
 /// In a forest written down, what opens for the zero that closes a one is that one.
-#[tactic(auto, using(crate::proofs::kin::Matching::partners))]
+#[tactic(auto, using(crate::proofs::kin::Matching::open_of_close))]
 pub fn open_undoes_close()
     ensures { OpenUndoesClose }
 {}
 
 /// In a forest written down, what closes the one that opens for a zero is that zero.
-#[tactic(auto, using(crate::proofs::kin::Matching::partners))]
+#[tactic(auto, using(crate::proofs::kin::Matching::close_of_open))]
 pub fn close_undoes_open()
     ensures { CloseUndoesOpen }
 {}
@@ -66,78 +62,75 @@ pub fn reading_decides_balance()
 {}
 
 /// The tree over the blocks of a list with some bits has fewer than three nodes a block.
-#[tactic(auto, using(crate::proofs::layout::Widths::few))]
+#[tactic(auto, using(crate::proofs::layout::Widths::few_nodes))]
 pub fn nodes_are_few()
     ensures { NodesAreFew }
 {}
 
 /// The nodes of a forest in preorder open at the ones of its text, each at the next one.
-#[tactic(auto, using(crate::proofs::walks::ListsOfNodes::orders))]
+#[tactic(auto, using(crate::proofs::kin::NodeList::nodes_are_ones))]
 pub fn preorder_opens_in_order()
     ensures { PreorderOpensInOrder }
 {}
 
 /// The nodes of a forest in postorder close at the zeros of its text, each at the next one.
-#[tactic(auto, using(crate::proofs::walks::ListsOfNodes::orders))]
+#[tactic(auto, using(crate::proofs::walks::ListsOfNodes::closes_in_order))]
 pub fn postorder_closes_in_order()
     ensures { PostorderClosesInOrder }
 {}
 
 /// In balanced parentheses one number `i` is a node: what `node_handle` answers below the `size`.
-#[tactic(auto, using(crate::proofs::walks::WalksOfNodes::handles))]
+#[tactic(auto, using(crate::proofs::walks::WalksOfNodes::ones_are_nodes))]
 pub fn ones_are_nodes()
     ensures { OnesAreNodes }
 {}
 
 /// In balanced parentheses a node opens at each place that holds a one, and nowhere else.
-#[tactic(auto, using(crate::proofs::levels::NodeLaws::node_laws))]
+#[tactic(auto, using(crate::proofs::levels::NodeLaws::node_iff_one))]
 pub fn node_iff_one()
     ensures { NodeIffOne }
 {}
 
 /// A level of a forest holds the nodes of its depth, and nothing else.
-#[tactic(auto, using(crate::proofs::levels::NodeLaws::node_laws))]
 pub fn level_iff_depth()
     ensures { LevelIffDepth }
 {}
 
 /// The member of number `i` of a level is a node of its depth, and the next one on the level is the
 /// member after it: what `level_leftmost` and `level_next` answer goes along the level.
-#[tactic(auto, using(crate::proofs::levels::NodeLaws::node_laws))]
 pub fn levels_go_on()
     ensures { LevelsGoOn }
 {}
 
 /// The one before on a level is the member before it: what `level_rightmost` and `level_prev` answer
 /// goes back along the level.
-#[tactic(auto, using(crate::proofs::levels::NodeLaws::node_laws))]
 pub fn levels_go_back()
     ensures { LevelsGoBack }
 {}
 
 /// No level has more members than the forest has nodes.
-#[tactic(auto, using(crate::proofs::levels::NodeLaws::node_laws))]
+#[tactic(auto, using(crate::proofs::levels::NodeLaws::levels_are_parts))]
 pub fn levels_are_parts()
     ensures { LevelsAreParts }
 {}
 
 /// Each bound that the contract of a counted call names, or of a step of a walk, is within one bound,
 /// `tree_reads`.
-#[tactic(auto, using(crate::proofs::layout::ReadLaws::read_laws))]
+#[tactic(auto, using(crate::proofs::layout::ReadLaws::calls_within))]
 pub fn calls_are_within_one_bound()
     ensures { CallsAreWithinOneBound }
 {}
 
 /// What adds at most `tree_reads` begins at most four blocks, and reads at most eight nodes a level,
 /// and as data words four times the bits of a block and 32.
-#[tactic(auto, using(crate::proofs::layout::ReadLaws::read_laws))]
+#[tactic(auto, using(crate::proofs::layout::ReadLaws::calls_few))]
 pub fn calls_read_few()
     ensures { CallsReadFew }
 {}
 
 /// A search begins at most two blocks, and reads at most four nodes a level, and as data words twice
 /// the bits of a block and four.
-#[tactic(auto, using(crate::proofs::layout::ReadLaws::read_laws))]
+#[tactic(auto, using(crate::proofs::layout::ReadLaws::searches_few))]
 pub fn searches_read_few()
     ensures { SearchesReadFew }
 {}

@@ -22,9 +22,7 @@ Closing-tree (suc n) F rest c =
 Closing-from : (bits : List Bool) (n : ℕ) → closes n bits ≡ true → Closing n bits
 Closing-from [] zero h = record { forest = none; written = refl }
 Closing-from [] (suc n) h = cc
-Closing-from (true ∷ bits) n h =
-    let c = Closing-from bits (suc n) h in
-    rw (← c.2) (Closing-tree n c.0 c.1 c.3)
+Closing-from (true ∷ bits) n h = let c = Closing-from bits (suc n) h in rw (← c.2) (Closing-tree n c.0 c.1 c.3)
 Closing-from (false ∷ bits) zero h = cc
 Closing-from (false ∷ bits) (suc n) h = (none, bits, refl, Closing-from bits n h)
 

@@ -104,16 +104,6 @@ paired_closes (tree X Y) v c (inl p) = rw (p.0, p.1) (closes_root X Y)
 paired_closes (tree X Y) v c (inr (inl p)) = let a : v ≡ 1 + p.0 = (let e = p.2 in omega arith) in let b : c ≡ 1 + p.1 = (let e = p.3 in omega arith) in rw (a, b) (closes_first X Y p.0 p.1 (paired_closes X p.0 p.1 p.4))
 paired_closes (tree X Y) v c (inr (inr p)) = rw (p.2, p.3) (closes_rest X Y p.0 p.1 (paired_closes Y p.0 p.1 p.4))
 
--- what stands in a tree written down
-open_in_first : (X Y : Forest) (i : ℕ) (d : Bool) → i < length (text X) → get_or (text (tree X Y)) (suc i) d ≡ get_or (text X) i d
-open_in_first X Y i d h = get_or_append_left (text X) (false ∷ text Y) d i h
-
-close_of_first : (X Y : Forest) (d : Bool) → get_or (text (tree X Y)) (suc (length (text X))) d ≡ false
-close_of_first X Y d = get_or_at (text X) false (text Y) d (length (text X)) refl
-
-bit_in_rest : (X Y : Forest) (i : ℕ) (d : Bool) → get_or (text (tree X Y)) (suc (length (text X) + suc i)) d ≡ get_or (text Y) i d
-bit_in_rest X Y i d = get_or-append-add (text X) (false ∷ text Y) (suc i) d
-
 -- each bit is one end of a pair, a one where it opens and a zero where it closes
 abbrev end_at : Bool → ℕ → ℕ → ℕ
 end_at true v c = v
@@ -128,15 +118,15 @@ bit_is_paired none bit i d h b = absurd (omega arith)
 bit_is_paired (tree X Y) true zero d h b = (0, length (text X) + 1, inl (refl, refl), refl)
 bit_is_paired (tree X Y) false zero d h b = absurd (cc)
 bit_is_paired (tree X Y) bit (suc i) d h b = ⊎_elim
-    (λ (e : i ≡ length (text X)). last e bit (sym b ∙ ap (λ (m : ℕ). get_or (text (tree X Y)) (suc m) d) e ∙ close_of_first X Y d))
+    (λ (e : i ≡ length (text X)). last e bit (sym b ∙ ap (λ (m : ℕ). get_or (text (tree X Y)) (suc m) d) e ∙ get_or_at (text X) false (text Y) d (length (text X)) refl))
     (λ (o : (i < length (text X)) ⊎ (length (text X) < i)). ⊎_elim
     (λ (a : i < length (text X)).
-    let r = bit_is_paired X bit i d a (sym (open_in_first X Y i d a) ∙ b) in let m = end_moved bit 1 r.0 r.1 in let e = r.3 in
+    let r = bit_is_paired X bit i d a (sym (get_or_append_left (text X) (false ∷ text Y) d i a) ∙ b) in let m = end_moved bit 1 r.0 r.1 in let e = r.3 in
     (1 + r.0, 1 + r.1, inr (inl (r.0, r.1, omega arith, omega arith, r.2)), omega arith))
     (λ (a : length (text X) < i).
     let len = length-tree X Y in
     let g : length (text X) + suc (i - length (text X) - 1) ≡ i = omega arith in
-    let r = bit_is_paired Y bit (i - length (text X) - 1) d (omega arith) (sym (bit_in_rest X Y (i - length (text X) - 1) d) ∙ ap (λ (m : ℕ). get_or (text (tree X Y)) (suc m) d) g ∙ b) in
+    let r = bit_is_paired Y bit (i - length (text X) - 1) d (omega arith) (sym (get_or-append-add (text X) (false ∷ text Y) (suc (i - length (text X) - 1)) d) ∙ ap (λ (m : ℕ). get_or (text (tree X Y)) (suc m) d) g ∙ b) in
     let m = end_moved bit (length (text X) + 2) r.0 r.1 in let e = r.3 in
     (length (text X) + 2 + r.0, length (text X) + 2 + r.1, inr (inr (r.0, r.1, refl {a = length (text X) + 2 + r.0}, refl {a = length (text X) + 2 + r.1}, r.2)), omega arith))
     o)

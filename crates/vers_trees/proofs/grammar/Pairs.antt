@@ -80,9 +80,6 @@ count_none p (x ∷ xs) h = let ih = count_none p xs (λ y c. h y (contains_late
 pub count_tree : (p : ℕ × ℕ → Bool) (X Y : Forest) → count_by p (pairs (tree X Y)) ≡ one_if (p (0, length (text X) + 1)) + (count_by (λ q. p (moved 1 q)) (pairs X) + count_by (λ q. p (moved (length (text X) + 2) q)) (pairs Y))
 count_tree p X Y = grind (arith, ints, count_by-cons, count_by-append, count_by-map)
 
-pub inside_pair : (F : Forest) (q : ℕ × ℕ) → Contains (pairs F) q → (q.0 < q.1) × (q.1 < length (text F))
-inside_pair F q c = let p = paired_closes F q.0 q.1 (paired_from_contains F q c) in (p.after, p.inside)
-
 -- the tests at pairs moved to the right by the same number
 pub moved_lt : (n a x v : ℕ) → v ≡ n + x → ltb (n + a) v ≡ ltb a x
 moved_lt n a x v e = grind (arith, nat_tests)
@@ -107,7 +104,7 @@ around_moved n F x y v c e f = grind (arith, ints, count_agree, both, moved_lt, 
 -- none of the pairs that open at or after v, or close at or before c, is around (v, c)
 around_none : (n : ℕ) (F : Forest) (v c : ℕ) → (v ≤ n) ⊎ (n + length (text F) ≤ c + 1) → around n F v c ≡ 0
 around_none n F v c (inl h) = count_none (λ q. strictly_contains (moved n q) (v, c)) (pairs F) (λ q _. and_left _ _ (le-ltb (n + q.0) v (omega arith)))
-around_none n F v c (inr h) = count_none (λ q. strictly_contains (moved n q) (v, c)) (pairs F) (λ q i. and_right _ _ (le-ltb c (n + q.1) (let w = (inside_pair F q i).1 in omega arith)))
+around_none n F v c (inr h) = count_none (λ q. strictly_contains (moved n q) (v, c)) (pairs F) (λ q i. and_right _ _ (le-ltb c (n + q.1) (let w = (paired_closes F q.0 q.1 (paired_from_contains F q i)).inside in omega arith)))
 
 -- the depth of a node is the excess before it
 pub pairs_around : (F : Forest) (v c : ℕ) → Paired F v c → pos (count_by (λ q. strictly_contains q (v, c)) (pairs F)) ≡ excess (text F) v

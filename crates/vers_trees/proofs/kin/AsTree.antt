@@ -44,5 +44,3 @@ empty_by (x ∷ l) b r h = go (forest_of (x ∷ l)) (text-forest_of (x ∷ l) b)
     go none e r h = absurd (cc)
     go (tree X Y) e true h = let f = h.0 refl in absurd (cc)
     go (tree X Y) e false h = sym (ne_eqb (length (nodes (tree X Y))) 0 (λ q. omega arith))
-
-pub ruleset as_tree = (same_place, size_by, handle_by)

@@ -76,10 +76,6 @@ next_sibling_found F v h i b =
     let k = one_pair F (closing F v + 1) i b in
     next_in F _ _ (λ w. option_decides (parent F w) (parent F v)) v (closing F v + 1) k (same_parent F v h k) (omega arith) (λ w y x k e. not_beside F v w h k y (omega arith) e)
 
-next_sibling_end : (F : Forest) (v : ℕ) → HasPair F v → length (text F) ≤ closing F v + 1 → next_of (siblings F v) v ≡ None
-unfolding nodes_under
-next_sibling_end F v h i = no_next_in F _ _ (λ w. option_decides (parent F w) (parent F v)) v (λ w y k e. not_beside F v w h k y (omega arith) e)
-
 -- what a tree's parent closes right after it has no later child
 last_beside : (F : Forest) (v w : ℕ) → HasPair F v → closing F v + 1 < length (text F) → get_or (text F) (closing F v + 1) false ≡ false → HasPair F w → closing F v < w → parent F w ≡ parent F v → ⊥
 last_beside F v w h i b k x e =
@@ -91,13 +87,9 @@ last_beside F v w h i b k x e =
     let r = parent_around F w g.0 k (e ∙ g.1) in
     grind (arith, ints, parent_around, nested, eq-or-lt_of_le)
 
-next_sibling_none : (F : Forest) (v : ℕ) → HasPair F v → closing F v + 1 < length (text F) → get_or (text F) (closing F v + 1) false ≡ false → next_of (siblings F v) v ≡ None
+next_sibling_none : (F : Forest) (v : ℕ) → HasPair F v → get_or (text F) (closing F v + 1) false ≡ false → next_of (siblings F v) v ≡ None
 unfolding nodes_under
-next_sibling_none F v h i b = no_next_in F _ _ (λ w. option_decides (parent F w) (parent F v)) v (λ w y k e. ⊎_elim (λ (t : closing F v < w). last_beside F v w h i b k t e) (λ (t : w ≤ closing F v). not_beside F v w h k y t e) (cases_lt (closing F v) w))
-
-previous_sibling_first : (F : Forest) → previous_of (siblings F 0) 0 ≡ None
-unfolding nodes_under
-previous_sibling_first F = no_previous_in F _ _ (λ w. option_decides (parent F w) (parent F 0)) 0 (λ w y k e. omega arith)
+next_sibling_none F v h b = no_next_in F _ _ (λ w. option_decides (parent F w) (parent F v)) v (λ w y k e. ⊎_elim (λ (t : closing F v < w). last_beside F v w h (let i = inside F w k in omega arith) b k t e) (λ (t : w ≤ closing F v). not_beside F v w h k y t e) (cases_lt (closing F v) w))
 
 pub previous_sibling_none : (F : Forest) (v : ℕ) → HasPair F v → 0 < v → get_or (text F) (v - 1) false ≡ true → previous_of (siblings F v) v ≡ None
 unfolding nodes_under
@@ -134,11 +126,12 @@ pub first_child_is : (F : Forest) (v : ℕ) → HasPair F v → opened_here (tex
 first_child_is F v h = grind (arith, ints, first_child_found, first_child_none)
 
 pub next_sibling_is : (F : Forest) (v : ℕ) → HasPair F v → opened_here (text F) (closing F v + 1) ≡ next_of (siblings F v) v
-next_sibling_is F v h = grind (arith, ints, get_or_past, next_sibling_end, next_sibling_found, next_sibling_none)
+next_sibling_is F v h = grind (arith, ints, get_or_past, next_sibling_found, next_sibling_none)
 
 pub last_child_is : (F : Forest) (v : ℕ) → HasPair F v → closed_before (text F) (closing F v) ≡ last_of (children F v)
 last_child_is F v h = grind (arith, ints, same_bit, last_child_closes, last_child_is_search, closes_rises, last_child_none)
 
 pub previous_sibling_is : (F : Forest) (v : ℕ) → HasPair F v → closed_before (text F) v ≡ previous_of (siblings F v) v
-previous_sibling_is F zero h = sym (previous_sibling_first F)
+unfolding nodes_under
+previous_sibling_is F zero h = sym (no_previous_in F _ _ (λ w. option_decides (parent F w) (parent F 0)) 0 (λ w y k e. omega arith))
 previous_sibling_is F (suc u) h = grind (arith, ints, inside, previous_sibling_none, same_bit, previous_sibling_is_search)

@@ -15,8 +15,6 @@ forward_first l i r j = (after_some l i r j, after_is l i r j)
 pub backward_last : (l : List Bool) (i : ℕ) (r : ℤ) (j : ℕ) → (last_rise_before l i r ≡ Some j) ↔ IsLastRiseBefore l i r j
 backward_last l i r j = (before_some l i r j, before_is l i r j)
 
-pub ruleset searches = (forward_first, backward_last)
-
 -- what a list has at a place
 has_bit : (l : List Bool) (i : ℕ) (b : Bool) → slice_get l i ≡ Some b → (i < length l) × (get_or l i false ≡ b)
 has_bit l i b e = (slice_get_within l i b e, get_or_from_slice_get l i b false e)
@@ -47,15 +45,10 @@ close_of_open F c h =
     let q = paired_closes F p.0 c p.1 in
     (p.0, before_is (text F) c (negsuc 0) p.0 (before_from_closes (text F) p.0 c q), after_is (text F) p.0 (negsuc 0) c (after_from_closes (text F) p.0 c q))
 
-pub ruleset partners = (one_forest, close_pair, open_pair, open_of_close, close_of_open)
-
 -- ---- what encloses a pair of a forest written down, and what the forest of a balanced list writes down
--- where nothing is found from the opening bracket, nothing is from the closing one
-none_at_close : (l : List Bool) (v c : ℕ) → Closes l v c → last_rise_before l v (negsuc 0) ≡ None → last_rise_before l c (negsuc 1) ≡ None
-none_at_close l v c q n = none_before l c (negsuc 1) (λ k x e. let b = before_pair l v c q k x e in before_none l v (negsuc 0) (omega arith) n k b.0 b.1)
-
+-- from the closing bracket of a pair two less is found where one less is from the opening one
 found_at_close : (l : List Bool) (v c : ℕ) → Closes l v c → (o : Option ℕ) → last_rise_before l v (negsuc 0) ≡ o → last_rise_before l c (negsuc 1) ≡ o
-found_at_close l v c q None e = none_at_close l v c q e
+found_at_close l v c q None e = none_before l c (negsuc 1) (λ k x h. let b = before_pair l v c q k x h in before_none l v (negsuc 0) (omega arith) e k b.0 b.1)
 found_at_close l v c q (Some p) e =
     before_is l c (negsuc 1) p (enclose_at_close l v c p q (before_some l v (negsuc 0) p e))
 

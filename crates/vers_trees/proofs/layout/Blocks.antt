@@ -42,16 +42,10 @@ total_more [] k h = absurd (omega arith)
 total_more (x ∷ xs) zero h = let z = total_start xs in omega (arith, ints)
 total_more (x ∷ xs) (suc k) h = let ih = rw add-one at (total_more xs k (omega arith)) in rw add-one (omega (arith, ints))
 
-pub total_past : (blocks : List Node) (k : ℕ) → length blocks ≤ k → total_before blocks (k + 1) ≡ total_before blocks k
+pub total_past : (blocks : List Node) (k : ℕ) → length blocks ≤ k → total_before blocks k ≡ total_before blocks (length blocks)
 total_past [] k h = refl
 total_past (x ∷ xs) zero h = absurd (omega arith)
-total_past (x ∷ xs) (suc k) h = let ih = rw add-one at (total_past xs k (omega arith)) in rw add-one (ap (λ (z : ℤ). x.total +ℤ z) ih)
-
-pub total_all : (blocks : List Node) (k : ℕ) → total_before blocks (length blocks + k) ≡ total_before blocks (length blocks)
-total_all blocks zero = ap (total_before blocks) (let g : length blocks + 0 ≡ length blocks = omega arith in g)
-total_all blocks (suc k) =
-    let p = total_past blocks (length blocks + k) (omega arith) in
-    ap (total_before blocks) (let g : length blocks + suc k ≡ length blocks + k + 1 = omega arith in g) ∙ p ∙ total_all blocks k
+total_past (x ∷ xs) (suc k) h = ap (λ (z : ℤ). x.total +ℤ z) (total_past xs k (omega arith))
 
 pub sum_before_block : (l : List Bool) (size : ℕ) (blocks : List Node) → AreBlocks l size blocks → (k : ℕ) → k ≤ length blocks → total_before blocks k ≡ excess l (min (k * size) (length l))
 sum_before_block l size blocks b zero h =
@@ -104,15 +98,13 @@ sum_place l size blocks b s = ⊎_elim
     (λ (h : length blocks ≤ s). (
       min (length blocks * size) (length l),
       omega arith,
-      ap (total_before blocks) (let g : s ≡ length blocks + (s - length blocks) = omega arith in g) ∙ total_all blocks (s - length blocks) ∙ sum_before_block l size blocks b (length blocks) (omega arith),
+      total_past blocks s h ∙ sum_before_block l size blocks b (length blocks) (omega arith),
     ))
     (cases_lt s (length blocks))
 
 met_place : (l : List Bool) (size : ℕ) (blocks : List Node) → AreBlocks l size blocks → (k : ℕ) (t : ℤ) → k < length blocks → Meets blocks k t → (i : ℕ) × (i ≤ length l) × (excess l i ≡ t)
 met_place l size blocks b k t h (inl z) = let p = sum_place l size blocks b k in (p.0, p.1, sym p.2 ∙ z)
-met_place l size blocks b k t h (inr w) =
-    let j = (reaches_iff l size blocks b k t h).0 w in
-    (j.0, omega arith, j.3)
+met_place l size blocks b k t h (inr w) = let j = (reaches_iff l size blocks b k t h).0 w in (j.0, omega arith, j.3)
 
 near_sum : (l : List Bool) (size : ℕ) (blocks : List Node) → AreBlocks l size blocks → length l < 2 ^ 63 → (s k : ℕ) (t : ℤ) → k < length blocks → Meets blocks k t → FitsSigned w64 (t -ℤ total_before blocks s)
 near_sum l size blocks b short s k t h m =
@@ -149,9 +141,6 @@ block_inside l size blocks b p h = let so = b.some in (div-lt_iff_lt-mul so).1 (
 
 pub div_up : (a p size : ℕ) → 0 < size → a * size ≤ p → a ≤ p / size
 div_up a p size so h = grind (arith, ints, mul-le-mul_right, block_of)
-
-pub div_below : (a p size : ℕ) → 0 < size → p < a * size → p / size < a
-div_below a p size so h = (div-lt_iff_lt-mul so).1 h
 
 pub start_is : (l : List Bool) (size : ℕ) (blocks : List Node) → AreBlocks l size blocks → (k : ℕ) → k < length blocks → (total_before blocks k ≡ excess l (k * size)) × (k * size < length l)
 start_is l size blocks b k h =

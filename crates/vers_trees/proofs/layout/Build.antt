@@ -2,7 +2,7 @@
 use Rattle.vers_trees.proofs.Words.{◌≡◌, ℕ, ◌+◌, ◌-◌, ◌*◌, ◌/◌, ◌^◌, ◌<◌, ◌≤◌, ◌≢◌, ◌⊎◌, inl, inr, Bool, List, [], ◌∷◌, length, get_or, set, drop, ℤ, ◌+ℤ◌, ◌-ℤ◌, ◌≤ℤ◌, ◌<ℤ◌, arith, ⊎_elim, subst, sym, refl, ap, ◌∙◌, FitsSigned, ◌↔◌, w64, ints, clamps, cases_lt, get_or_past, get_or-set_same, get_or-set_other, get_or-drop, drop-set-lt, eq-or-lt_of_le, Node, excess, combined, CoveredFrom, AreLeaves, JoinFits, total_before, empty_node, Reaches, Covers, StandsOver, IsPart, AreBlocks, IsRange, IsLevel, IsBalanced, IsIndexed}
 use Rattle.vers_trees.proofs.grammar.Excess.{excess-zero}
 use Rattle.vers_trees.proofs.layout.MinMax.{covers_combined, HasChildren, stands_children, stands_every, leaf_stands, root}
-use Rattle.vers_trees.proofs.layout.Blocks.{block_inside, reached_at, total_more, total_past, total_all, total_start, reaches_iff, sum_before_block, balanced_iff_root}
+use Rattle.vers_trees.proofs.layout.Blocks.{block_inside, reached_at, total_more, total_past, total_start, reaches_iff, sum_before_block, balanced_iff_root}
 
 -- a leaf covers its block, and one past the blocks nothing
 covers_leaf : (blocks : List Node) → ((k : ℕ) → k < length blocks → IsRange (get_or blocks k empty_node)) → (s : ℕ) → Covers blocks s (s + 1) (get_or blocks s empty_node)
@@ -62,7 +62,7 @@ root_is_part l size blocks e x b some le c = record {
 
     end : total_before blocks 0 +ℤ x.total ≡ excess l (length l)
     end =
-        sym c.total ∙ ap (total_before blocks) (let g : e ≡ length blocks + (e - length blocks) = omega arith in g) ∙ total_all blocks (e - length blocks) ∙ sum_before_block l size blocks b (length blocks) (omega arith) ∙ ap (excess l) (omega arith)
+        sym c.total ∙ total_past blocks e le ∙ sum_before_block l size blocks b (length blocks) (omega arith) ∙ ap (excess l) (omega arith)
 
     place : (j : ℕ) → 0 < j → j ≤ length l → (k : ℕ) × (k < length blocks) × Reaches blocks k (excess l j)
     place j u v = ((j - 1) / size, block_inside l size blocks b (j - 1) (omega arith), subst (λ (n : ℕ). Reaches blocks ((j - 1) / size) (excess l n)) (omega arith) (reached_at l size blocks b (j - 1) (omega arith)))

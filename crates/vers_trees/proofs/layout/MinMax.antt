@@ -1,9 +1,6 @@
 -- The parts of the nodes of a tree, and what a node made of two says.
 use Rattle.vers_trees.proofs.Words.{◌≡◌, ℕ, zero, suc, ◌+◌, ◌-◌, ◌*◌, ◌/◌, ◌%◌, ◌^◌, ◌<◌, ◌≤◌, ◌⊎◌, inl, inr, List, length, get_or, drop, ℤ, pos, negsuc, ◌+ℤ◌, ◌≤ℤ◌, arith, ⊎_elim, subst, refl, ap, ◌∙◌, pow-succ', pow-le-pow_right, ints, clamps, by_lt_z, cases_lt, pow_pos, Node, combined, total_before, empty_node, IsRange, Covers, StandsOver, IsMinMax}
 
-pow_suc : (k : ℕ) → 2 ^ suc k ≡ 2 * 2 ^ k
-pow_suc k = pow-succ' 2 k
-
 -- what a node may be, in numbers
 abbrev Numbers : Node → Type 0
 Numbers x = ((x.least ≤ℤ x.total) × (x.total ≤ℤ x.greatest) × (x.least ≤ℤ pos 1) × (negsuc 0 ≤ℤ x.greatest)) ⊎ ((x.total ≡ pos 0) × (x.least ≡ pos 1) × (x.greatest ≡ negsuc 0))
@@ -48,7 +45,7 @@ covers_combined blocks s m e x y sm me p q = record {
 }
 
 pow_more : (k l : ℕ) → l ≡ k + 1 → 2 ^ l ≡ 2 * 2 ^ k
-pow_more k l e = ap (λ (n : ℕ). 2 ^ n) (let g : l ≡ suc k = omega arith in g) ∙ pow_suc k
+pow_more k l e = ap (λ (n : ℕ). 2 ^ n) (let g : l ≡ suc k = omega arith in g) ∙ pow-succ' 2 k
 
 pub record HasChildren (first i s e : ℕ) : Type 0 where
   pub middle : ℕ
@@ -66,7 +63,7 @@ stands_children first i s e p h = go p.height refl
         grind (arith, ints)
     go (suc k) z =
         let lv = p.levels in let ins = p.inside in let pl = p.place in let fr = p.from in let up = p.upto in
-        let pw : 2 ^ p.height ≡ 2 * 2 ^ k = ap (λ (n : ℕ). 2 ^ n) z ∙ pow_suc k in
+        let pw : 2 ^ p.height ≡ 2 * 2 ^ k = ap (λ (n : ℕ). 2 ^ n) z ∙ pow-succ' 2 k in
         let pl2 = pow_more p.level (p.level + 1) refl in
         let lv' : 2 ^ (p.level + 1 + k) ≡ first + 1 = ap (λ (n : ℕ). 2 ^ n) (let g : p.level + 1 + k ≡ p.level + p.height = omega arith in g) ∙ lv in
         let fr' : s ≡ p.offset * (2 * 2 ^ k) = fr ∙ ap (λ (n : ℕ). p.offset * n) pw in
@@ -125,9 +122,7 @@ parent_of_left first j s e p =
     (q.1, rw (← o.0) at q.2, rw (← o.1) at q.3.right, rw (← o.1) at q.3.before)
 
 pub parent_of_right : (first j s e : ℕ) → StandsOver first (2 * j + 2) s e → (u : ℕ) × StandsOver first j u e × StandsOver first (2 * j + 1) u s
-parent_of_right first j s e p =
-    let q = parent_of first (2 * j + 2) j s e p (inr refl) in
-    grind (arith, ints, one_part)
+parent_of_right first j s e p = let q = parent_of first (2 * j + 2) j s e p (inr refl) in grind (arith, ints, one_part)
 
 leaf : (first h i : ℕ) → 2 ^ h ≡ first + 1 → first ≤ i → i ≤ 2 * first → StandsOver first i (i - first) (i - first + 1)
 leaf first h i lv a b = record { level = h; height = 0; offset = i - first; levels = ap (λ (n : ℕ). 2 ^ n) (let g : h + 0 ≡ h = omega arith in g) ∙ lv; inside = omega arith; place = omega arith; from = omega arith; upto = omega arith }

@@ -19,5 +19,3 @@ module _ (size n : ℕ) where
   pub searches_few : (old new : Reads) → AddsAtMost old new (search_reads size n)
       → (new.blocks ≤ old.blocks + 2) × (new.nodes ≤ old.nodes + 4 * levels size n) × (new.data_words ≤ old.data_words + (2 * size + 4))
   searches_few old new h = (h.blocks.within, h.nodes.within, h.data_words.within)
-
-pub ruleset read_laws = (calls_within, calls_few, searches_few)

@@ -7,8 +7,7 @@ pub grow_start : (leaves : ℕ) → IsGrowing leaves 2
 grow_start leaves = record { exponent = 0; power = refl; short = inl refl }
 
 pub grow_more : (leaves w : ℕ) → IsGrowing leaves w → w < leaves → IsGrowing leaves (w * 2)
-grow_more leaves w g h =
-    record { exponent = suc g.exponent; power = omega arith; short = inr (omega arith) }
+grow_more leaves w g h = record { exponent = suc g.exponent; power = omega arith; short = inr (omega arith) }
 
 grown_bounded : (leaves e : ℕ) → leaves < 2 ^ 63 → (e ≡ 0) ⊎ (2 ^ e < leaves) → e < 63
 grown_bounded leaves e h (inl z) = omega arith
@@ -36,8 +35,6 @@ grown leaves w h g enough =
     let some = pow-le-pow_right {n = 2} (omega arith) {i = 0} {j = g.exponent} (omega arith) in
     record { exponent = suc g.exponent; power = omega arith; enough = enough; some = omega arith; bounded = omega arith; least = grown_least leaves g.exponent w q g.short }
 
-pub ruleset widths = (grow_start, grow_more, grown)
-
 -- ---- how many nodes there are
 width_is : (leaves w : ℕ) → IsWidth leaves w → w - 1 ≡ max 1 (2 ^ clog leaves - 1)
 width_is leaves w h =
@@ -54,10 +51,10 @@ width_is leaves w h =
     omega arith)
     (cases_lt 0 (clog leaves))
 
-node_count_some : (size n : ℕ) → 0 < n → node_count size n ≡ block_count size n + max 1 (2 ^ clog (block_count size n) - 1)
-unfolding node_count
-node_count_some size zero h = absurd (omega arith)
-node_count_some size (suc n) h = refl
+some_counted : (size n : ℕ) → 0 < n → (node_count size n ≡ block_count size n + max 1 (2 ^ clog (block_count size n) - 1)) × (levels size n ≡ max 1 (clog (block_count size n)) + 1)
+unfolding node_count levels
+some_counted size zero h = absurd (omega arith)
+some_counted size (suc n) h = (refl, refl)
 
 pub no_nodes_counted : (size n : ℕ) (nodes : List Node) → n ≡ 0 → nodes ≡ [] → length nodes ≡ node_count size n
 unfolding node_count
@@ -66,7 +63,7 @@ no_nodes_counted size n nodes z e = rw (z, e) refl
 pub nodes_counted : (l : List Bool) (size first : ℕ) (nodes : List Node) → 0 < length l → IsWidth (block_count size (length l)) (first + 1) → length nodes ≡ first + block_count size (length l) → length nodes ≡ node_count size (length l)
 nodes_counted l size first nodes some w c =
     let e = width_is (block_count size (length l)) (first + 1) w in
-    let n = node_count_some size (length l) some in
+    let n = (some_counted size (length l) some).0 in
     omega arith
 
 -- ---- the blocks
@@ -87,8 +84,6 @@ block_added l size first n nodes x b p =
           (cases_lt k n);
     }
 
-pub ruleset gathering = (no_blocks, block_added)
-
 are_blocks : (l : List Bool) (size first : ℕ) (nodes : List Node) → 0 < size → AreFirstBlocks l size first (block_count size (length l)) nodes → AreBlocks l size (drop first nodes)
 are_blocks l size first nodes so b =
     let d = length-drop first nodes in
@@ -100,11 +95,6 @@ are_blocks l size first nodes so b =
   where
     enough : (n size : ℕ) → 0 < size → length (drop first nodes) ≡ block_count size n → n ≤ length (drop first nodes) * size
     enough n size so e = subst (λ (m : ℕ). n ≤ m * size) (sym e) (div_ceil_times n size so).0
-
-levels_some : (size n : ℕ) → 0 < n → levels size n ≡ max 1 (clog (block_count size n)) + 1
-unfolding levels
-levels_some size zero h = absurd (omega arith)
-levels_some size (suc n) h = refl
 
 pub blocks_are_leaves : (l : List Bool) (size first : ℕ) (nodes : List Node) → 0 < size → length l < 2 ^ 63 → AreFirstBlocks l size first (block_count size (length l)) nodes → AreLeaves (drop first nodes)
 blocks_are_leaves l size first nodes so short b = leaves_of l size (drop first nodes) (are_blocks l size first nodes so b) short
@@ -125,7 +115,7 @@ tree_made l size first leaves nodes so some short w b n e c =
     record {
       tree = minmax_of l size first w.exponent nodes w.power (omega arith) (omega arith) (omega arith) short blocks c;
       blocks = blocks;
-      few = (let e = levels_some size (length l) some in let d = ap digits same in let m = w.least in omega arith);
+      few = (let e = (some_counted size (length l) some).1 in let d = ap digits same in let m = w.least in omega arith);
     }
 
 pub empty_indexed : (l : List Bool) (size first : ℕ) (nodes : List Node) → length l ≡ 0 → nodes ≡ [] → 0 < size → size ≤ 4294967296 → IsIndexed l size first nodes
@@ -153,6 +143,4 @@ few_over b h = ⊎_elim
     (cases_lt 0 (clog b))
 
 pub few_nodes : (size n : ℕ) → 0 < size → 0 < n → node_count size n < 3 * block_count size n
-few_nodes size n s h = rw (node_count_some size n h) (few_over (block_count size n) (one_at_least n size s h))
-
-pub ruleset few = (few_nodes)
+few_nodes size n s h = rw (some_counted size n h).0 (few_over (block_count size n) (one_at_least n size s h))

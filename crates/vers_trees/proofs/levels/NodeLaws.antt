@@ -9,15 +9,13 @@ use Rattle.vers_trees.proofs.kin.NodeList.{nodes_are_ones, one_pair, node_pair, 
 bit_inside : (l : List Bool) (v : ℕ) → get_or l v false ≡ true → v < length l
 bit_inside l v e = ⊎_elim (λ (h : v < length l). h) (λ (h : length l ≤ v). let p = get_or_past l v false h in absurd (cc)) (cases_lt v (length l))
 
-node_bit : (F : Forest) (v : ℕ) → IsNode F v → get_or (text F) v false ≡ true
-node_bit F v n = closes_rises (text F) v (closing F v) false (node_pair F v n).closes
-
-bit_node : (F : Forest) (v : ℕ) → get_or (text F) v false ≡ true → IsNode F v
-bit_node F v e = pair_node F v (one_pair F v (bit_inside (text F) v e) e)
-
 pub node_iff_bit : (bits : List Bool) (v : ℕ) → IsBalanced bits → IsNode (forest_of bits) v ↔ (get_or bits v false ≡ true)
 node_iff_bit bits v b =
-    subst (λ (m : List Bool). IsNode (forest_of bits) v ↔ (get_or m v false ≡ true)) (text-forest_of bits b) (node_bit (forest_of bits) v, bit_node (forest_of bits) v)
+    let F = forest_of bits in
+    subst (λ (m : List Bool). IsNode F v ↔ (get_or m v false ≡ true)) (text-forest_of bits b) (
+      λ n. closes_rises (text F) v (closing F v) false (node_pair F v n).closes,
+      λ e. pair_node F v (one_pair F v (bit_inside (text F) v e) e),
+    )
 
 pub node_iff_one : (bits : List Bool) (v : ℕ) → IsBalanced bits → IsNode (forest_of bits) v ↔ (slice_get bits v ≡ Some true)
 node_iff_one bits v b =
@@ -138,13 +136,10 @@ level_member F d i v e =
     let r = member_passes (λ v. eqb (depth F v) d) (nodes F) i v e in
     (r.0, (Decides-eqb (depth F v) d).0 r.1)
 
-contained_at : (xs : List ℕ) (v : ℕ) → Contains xs v → (i : ℕ) × (slice_get xs i ≡ Some v)
-contained_at xs v (k, l, e) = (k, slice_get-get_or xs k v l ∙ ap Some e)
-
 pub level_iff_depth : (F : Forest) (d v : ℕ) → Contains (level F d) v ↔ (IsNode F v × (depth F v ≡ d))
 unfolding level
 level_iff_depth F d v = (
-  λ c. let m = contained_at (level F d) v c in level_member F d m.0 v m.1,
+  λ c. level_member F d c.0 v (slice_get-get_or (level F d) c.0 v c.1 ∙ ap Some c.2),
   λ h. passing_holds (λ v. eqb (depth F v) d) (nodes F) v h.0 ((Decides-eqb (depth F v) d).1 h.1),
 )
 
@@ -169,8 +164,6 @@ unfolding level
 levels_are_parts F d =
     let b = length-filter_both (λ v. eqb (depth F v) d) (λ v. not (eqb (depth F v) d)) (λ v. refl) (nodes F) in
     omega arith
-
-pub ruleset node_laws = (node_iff_one, level_iff_depth, levels_go_on, levels_go_back, levels_are_parts)
 
 -- ---- a walk along a level, by any handles of nodes
 pub take_next : (xs : List ℕ) (n x : ℕ) → slice_get xs n ≡ Some x → take (n + 1) xs ≡ take n xs ++ x ∷ []

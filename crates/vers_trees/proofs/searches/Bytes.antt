@@ -10,13 +10,10 @@ octal-lt : (ds : List ℕ) → AreOctal ds → octal ds < 8 ^ length ds
 octal-lt [] h = omega arith
 octal-lt (d ∷ ds) h = let z = h 0 in let ih = octal-lt ds (λ x. h (suc x)) in let p = pow-suc 8 (length ds) in omega arith
 
-octal_rest : (ds : List ℕ) (i : ℕ) → AreOctal ds → AreOctal (drop i ds)
-octal_rest ds i h x = rw (get_or-drop i ds x 7) (h (i + x))
-
 -- of 17 digits the number is below 2 ^ 51, whatever number of the lowest is left out
 pub octal_small : (ds : List ℕ) (i : ℕ) → length ds ≡ 17 → AreOctal ds → octal (drop i ds) < 2 ^ 51
 octal_small ds i e h =
-    let a = octal-lt (drop i ds) (octal_rest ds i h) in
+    let a = octal-lt (drop i ds) (λ x. rw (get_or-drop i ds x 7) (h (i + x))) in
     let l = length-drop i ds in
     let m : 8 ^ length (drop i ds) ≤ 8 ^ 17 = pow-le-pow_right {n = 8} (let z : 0 < 8 = omega arith in z) {i = length (drop i ds)} {j = 17} (omega arith) in
     omega arith

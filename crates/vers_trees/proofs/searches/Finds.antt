@@ -1,8 +1,8 @@
 -- The searches forwards and backwards: the scan of a block, what the tree answers, and the scan of that block.
-use Rattle.vers_trees.proofs.Words.{◌≡◌, ℕ, ◌+◌, ◌-◌, ◌*◌, ◌/◌, ◌<◌, ◌≤◌, ◌≢◌, inl, min, Bool, List, length, drop, ℤ, ◌+ℤ◌, ◌-ℤ◌, FitsSigned, to_z, of_z, Some, None, Result, Ok, Err, MatchResult, arith, ⊎_elim, subst, sym, ap, ◌∙◌, w64, result_ok, ints, to_z-of_z, cases_lt, div-mul-le_self, mul-le-mul_right, Node, excess, first_rise_after, last_rise_before, IsFirstRise, HasNoRise, IsLastRise, HasNoRiseBefore, total_before, Reaches, Meets, IsNextFrom, IsPreviousBefore, IsTreeOf, IsIndexed}
+use Rattle.vers_trees.proofs.Words.{◌≡◌, ℕ, ◌+◌, ◌-◌, ◌*◌, ◌/◌, ◌<◌, ◌≤◌, ◌≢◌, inl, min, Bool, List, length, drop, ℤ, ◌+ℤ◌, ◌-ℤ◌, FitsSigned, to_z, of_z, Some, None, Result, Ok, Err, MatchResult, arith, ⊎_elim, subst, sym, ap, ◌∙◌, w64, result_ok, ints, to_z-of_z, cases_lt, div-mul-le_self, div-lt_iff_lt-mul, mul-le-mul_right, Node, excess, first_rise_after, last_rise_before, IsFirstRise, HasNoRise, IsLastRise, HasNoRiseBefore, total_before, Reaches, Meets, IsNextFrom, IsPreviousBefore, IsTreeOf, IsIndexed}
 use Rattle.vers_trees.proofs.searches.Searches.{after_is, none_after, before_is, none_before, before_past}
 use Rattle.vers_trees.proofs.searches.Scans.{rise_fits}
-use Rattle.vers_trees.proofs.layout.Blocks.{reaches_iff, sum_before_block, block_inside, block_of, div_up, div_below, start_is, reached_at, met_at}
+use Rattle.vers_trees.proofs.layout.Blocks.{reaches_iff, sum_before_block, block_inside, block_of, div_up, start_is, reached_at, met_at}
 
 -- a number as the machine has it
 abbrev stored : ℤ → ℤ
@@ -20,9 +20,6 @@ none_past l i r h = sym (none_after l i r (λ k a b. absurd (omega arith)))
 
 pub none_first : (l : List Bool) (r : ℤ) → None ≡ last_rise_before l 0 r
 none_first l r = sym (none_before l 0 r (λ k a. absurd (omega arith)))
-
-pub none_past_back : (l : List Bool) (i : ℕ) (r : ℤ) → length l ≤ i → None ≡ last_rise_before l i r
-none_past_back l i r h = sym (before_past l i r h)
 
 pub found_first : (l : List Bool) (i end : ℕ) (r : ℤ) (place : ℕ) → end ≤ length l → IsFirstRise l (i + 1) end r place → Some place ≡ first_rise_after l i r
 found_first l i end r place h p = grind (arith, ints, after_is)
@@ -97,7 +94,7 @@ module _ (l : List Bool) (size first : ℕ) (nodes : List Node) (x : IsIndexed l
                 first = λ k a b z. ⊎_elim
                     (λ (w : k < end). p.none k (omega arith) w z)
                     (λ (w : end ≤ k). ⊎_elim
-                    (λ (v : k < j * size). let m = later k w (omega arith) z in n.first (k / size) m.0 (div_below j k size tree.blocks.some v) m.1)
+                    (λ (v : k < j * size). let m = later k w (omega arith) z in n.first (k / size) m.0 ((div-lt_iff_lt-mul tree.blocks.some).1 v) m.1)
                     (λ (v : j * size ≤ k). q.first k v b (omega (arith, ints)))
                     (cases_lt k (j * size)))
                     (cases_lt k end);
@@ -131,7 +128,7 @@ module _ (l : List Bool) (size first : ℕ) (nodes : List Node) (x : IsIndexed l
 
       -- an earlier place of that sum lies in an earlier block that meets it
       earlier : (k : ℕ) → k < (i - 1) / size * size → excess l k ≡ excess l i +ℤ r → (k / size < (i - 1) / size) × Meets (drop first nodes) (k / size) (total_before (drop first nodes) ((i - 1) / size) +ℤ stored left)
-      earlier k w z = (div_below ((i - 1) / size) k size x.some w, subst (Meets (drop first nodes) (k / size)) (z ∙ sym asked_back) (met_at l size (drop first nodes) tree_back.blocks k (omega arith)))
+      earlier k w z = ((div-lt_iff_lt-mul x.some).1 w, subst (Meets (drop first nodes) (k / size)) (z ∙ sym asked_back) (met_at l size (drop first nodes) tree_back.blocks k (omega arith)))
 
       pub none_previous : ((k : ℕ) → k < (i - 1) / size → Meets (drop first nodes) k (total_before (drop first nodes) ((i - 1) / size) +ℤ stored left) → ⊥) → None ≡ last_rise_before l i r
       none_previous nowhere = sym (none_before l i r (λ k a z. ⊎_elim (λ (w : k < (i - 1) / size * size). let q = earlier k w z in nowhere (k / size) q.0 q.1) (λ (w : (i - 1) / size * size ≤ k). p.none k w a z) (cases_lt k ((i - 1) / size * size))))

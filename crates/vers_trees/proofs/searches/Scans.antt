@@ -78,7 +78,7 @@ backward_bit l p q end r rise d h short o i n e ne =
 
 -- one bit more is read
 pub one_more_read : (a b c : Reads) (n m : ℕ) → m ≡ n + 1 → AddsAtMost a b (scan_reads n) → AddsAtMost b c get_reads → AddsAtMost a c (scan_reads m)
-one_more_read a b c n m e p q = adds_then p q (record { data_words = omega arith; block_entries = omega arith; superblock_entries = omega arith; low_parts = omega arith; rank_calls = omega arith; items = omega arith; blocks = omega arith; nodes = omega arith; chunks = omega arith })
+one_more_read a b c n m e p q = adds_then p q (grind arith)
 
 -- ---- the node of a part
 pub part_start : (l : List Bool) (a : ℕ) (d : ℤ) → excess l (a + 1) ≡ excess l a +ℤ d → IsPart l a (a + 1) (record { total = d; least = d; greatest = d })

@@ -12,9 +12,7 @@ bit_small : (b : Bool) → bit_value b < 2 ^ 1
 bit_small b = let h = bit_value_le b in omega arith
 
 ones_next : (n : ℕ) (b : Bool) → count_ones (n * 2 ^ 1 + bit_value b) ≡ bit_value b + count_ones n
-ones_next n b =
-    let s = ones_step (n * 2 ^ 1 + bit_value b) in let m = bit_small b in
-    grind (arith, ints)
+ones_next n b = let s = ones_step (n * 2 ^ 1 + bit_value b) in let m = bit_small b in grind (arith, ints)
 
 zero_ones : count_ones 0 ≡ 0
 zero_ones = ones-ones 0
@@ -89,14 +87,10 @@ and_ones (b ∷ l) =
 
 after_word : (l : List Bool) → length l ≡ 64 → number (after l) ≡ number l / 2 + 9223372036854775808
 after_word [] h = absurd (omega arith)
-after_word (b ∷ l) h =
-    let e = number-after b l in
-    grind (arith, ints, bit_small)
+after_word (b ∷ l) h = let e = number-after b l in grind (arith, ints, bit_small)
 
 pub rises_counted : (l : List Bool) (word : ℕ) → length l ≡ 64 → word ≡ number l → rises l ≡ count_ones (bit_and word (word / 2 + 9223372036854775808))
-rises_counted l word h e =
-    let a = after_word l h in
-    grind (arith, ints, and_ones)
+rises_counted l word h e = let a = after_word l h in grind (arith, ints, and_ones)
 
 pub rises_few : (l : List Bool) → rises l ≤ length l
 rises_few [] = omega arith
@@ -116,7 +110,7 @@ below [] (suc j) h = absurd (omega arith)
 below (b ∷ l) (suc j) h = let i = below l j (omega arith) in let a = excess-cons b l j in let e = excess-cons b l (length l) in omega (arith, ints)
 
 -- ---- as the code has them
-count_is : (n : ℕ) → n ≤ 64 → to_z w64 n ≡ pos n
+pub count_is : (n : ℕ) → n ≤ 64 → to_z w64 n ≡ pos n
 count_is n h = to_z_pos w64 n (omega arith)
 
 pub count_fits : (n : ℕ) → n ≤ 64 → FitsSigned w64 (pos n)
@@ -127,13 +121,6 @@ zeros_fit n h = rw (count_is n h) (fits_small (pos 64 -ℤ pos n) (omega (arith,
 
 pub zeros_is : (n : ℕ) → n ≤ 64 → to_z w64 (of_z w64 (pos 64 -ℤ to_z w64 n)) ≡ pos 64 -ℤ pos n
 zeros_is n h = to_z-of_z w64 (pos 64 -ℤ to_z w64 n) (zeros_fit n h) ∙ ap (λ (z : ℤ). pos 64 -ℤ z) (count_is n h)
-
-pub ones_is : (n : ℕ) → n ≤ 64 → to_z w64 n ≡ pos n
-ones_is = count_is
-
-fits_high : (z : ℤ) → FitsSigned w64 z → z ≤ℤ pos (2 ^ 63 - 1)
-fits_high (pos n) f = omega (arith, ints)
-fits_high (negsuc n) f = omega (arith, ints)
 
 pub less_fits : (rise d : ℤ) → FitsSigned w64 rise → negsuc 9223372036854775743 ≤ℤ rise → pos 0 ≤ℤ d → d ≤ℤ pos 64 → FitsSigned w64 (to_z w64 (of_z w64 rise) -ℤ d)
 less_fits rise d f low a b = rw (to_z-of_z w64 rise f) (fits_small (rise -ℤ d) (omega (arith, ints)) (omega (arith, ints)))
@@ -147,7 +134,7 @@ less_is target rise d f g low a b t =
 
 -- a word is read beside other bits
 pub word_counted : (a b c : Reads) (n m : ℕ) → n + 2 ≤ m → AddsAtMost a b (scan_reads n) → AddsAtMost b c get_bits_reads → AddsAtMost a c (scan_reads m)
-word_counted a b c n m e p q = adds_then p q (record { data_words = omega arith; block_entries = omega arith; superblock_entries = omega arith; low_parts = omega arith; rank_calls = omega arith; items = omega arith; blocks = omega arith; nodes = omega arith; chunks = omega arith })
+word_counted a b c n m e p q = adds_then p q (grind arith)
 
 -- ---- past a word that is read whole, where no sum along it comes down to r
 pub forward_word : (l : List Bool) (from p q n : ℕ) (r rise d : ℤ) (o : Option ℕ) (word : ℕ) → HasNoRise l from p r rise → length l < 2 ^ 63 → from ≤ p → q ≡ p + n → q ≤ length l → n ≡ 64 → o ≡ part_number_or_zero l p n → o ≡ Some word

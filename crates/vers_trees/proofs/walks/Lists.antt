@@ -26,8 +26,7 @@ closing_moved n (q ∷ qs) = ap (λ (xs : List ℕ). (n + q.1) ∷ xs) (closing_
 
 pub shifted-shifted : (m n : ℕ) (xs : List ℕ) → shifted m (shifted n xs) ≡ shifted (m + n) xs
 shifted-shifted m n [] = refl
-shifted-shifted m n (x ∷ xs) =
-    let e : m + (n + x) ≡ m + n + x = omega arith in rw (e, shifted-shifted m n xs) refl
+shifted-shifted m n (x ∷ xs) = let e : m + (n + x) ≡ m + n + x = omega arith in rw (e, shifted-shifted m n xs) refl
 
 pub shifted-append : (n : ℕ) (xs ys : List ℕ) → shifted n (xs ++ ys) ≡ shifted n xs ++ shifted n ys
 shifted-append n xs ys = map-append (λ v. n + v) xs ys
@@ -104,8 +103,7 @@ all_places bit (b ∷ l) =
 
 -- ---- the nodes of a forest in postorder open what the zeros of its text close, in their order
 closing-tree : (X Y : Forest) → closing_places (pairs_by_closing (tree X Y)) ≡ shifted 1 (closing_places (pairs_by_closing X)) ++ ((length (text X) + 1) ∷ shifted (length (text X) + 2) (closing_places (pairs_by_closing Y)))
-closing-tree X Y =
-    simp (map-append, closing_moved)
+closing-tree X Y = simp (map-append, closing_moved)
 
 -- the zeros are where the pairs close, in this order
 pub closing_is_zeros : (F : Forest) → closing_places (pairs_by_closing F) ≡ places false (text F)
@@ -133,8 +131,7 @@ FindsOpening l q = last_rise_before l q.1 (negsuc 0) ≡ Some q.0
 
 pub all_opened : (l : List Bool) (qs : List (ℕ × ℕ)) → All (FindsOpening l) qs → map (opening_of l) (closing_places qs) ≡ opening_places qs
 all_opened l [] h = refl
-all_opened l (q ∷ qs) h =
-    rw (All-head (FindsOpening l) q qs h, all_opened l qs (All-tail (FindsOpening l) q qs h)) refl
+all_opened l (q ∷ qs) h = rw (All-head (FindsOpening l) q qs h, all_opened l qs (All-tail (FindsOpening l) q qs h)) refl
 
 pub all_find : (F : Forest) → All (FindsOpening (text F)) (pairs_by_closing F)
 all_find F = All-weaker (PairedIn F) (FindsOpening (text F)) (λ q h. before_is (text F) q.1 (negsuc 0) q.0 (before_from_closes (text F) q.0 q.1 (paired_closes F q.0 q.1 h))) (pairs_by_closing F) (closing_paired F)

@@ -130,5 +130,3 @@ closes_in_order F = all_closed F (pairs_by_closing F) (closing_paired F) ∙ clo
     all_closed F [] h = refl
     all_closed F (q ∷ qs) h =
         ap (λ (c : ℕ). c ∷ map (closing F) (opening_places qs)) (closing_is F q.0 q.1 (All-head (λ q. Paired F q.0 q.1) q qs h)) ∙ ap (λ (xs : List ℕ). q.1 ∷ xs) (all_closed F qs (All-tail (λ q. Paired F q.0 q.1) q qs h))
-
-pub ruleset orders = (nodes_are_ones, closes_in_order)

@@ -144,22 +144,18 @@ walk_from l forward p vs m h =
     let e = walk_is (tree_beside l forward) (length l) p vs m h in
     (e, subst (MeetsJust (tree_beside l forward) p) (sym e) m)
 
-forwards_in : (F : Forest) (v : ℕ) → IsNode F v → (siblings_left (text F) true (v + 1) ≡ children F v) × IsWalkOfSiblings (text F) true (v + 1)
-forwards_in F v n = walk_from (text F) true (v + 1) (children F v) (meets_forwards F v (node_pair F v n)) (children_few F v)
-
-backwards_in : (F : Forest) (v : ℕ) → IsNode F v → (siblings_left (text F) false (closing F v) ≡ reverse (children F v)) × IsWalkOfSiblings (text F) false (closing F v)
-backwards_in F v n = walk_from (text F) false (closing F v) (reverse (children F v)) (meets_backwards F v (node_pair F v n)) (let a = length-reverse (children F v) in let b = children_few F v in omega arith)
-
 pub end_in : (l : List Bool) (v : ℕ) (o : Option ℕ) (c : ℕ) → IsBalanced l → IsNode (forest_of l) v → o ≡ first_rise_after l v (negsuc 0) → c ≡ unwrap_or o v → c ≡ closing (forest_of l) v
 end_in l v o c b n e d = d ∙ ap (λ (x : Option ℕ). unwrap_or x v) (e ∙ closing_by l b v n)
 
 pub forwards : (l : List Bool) (v : ℕ) → IsBalanced l → IsNode (forest_of l) v → (siblings_left l true (v + 1) ≡ children (forest_of l) v) × IsWalkOfSiblings l true (v + 1)
-forwards l v b n = subst (λ (m : List Bool). (siblings_left m true (v + 1) ≡ children (forest_of l) v) × IsWalkOfSiblings m true (v + 1)) (text-forest_of l b) (forwards_in (forest_of l) v n)
+forwards l v b n = subst (λ (m : List Bool). (siblings_left m true (v + 1) ≡ children (forest_of l) v) × IsWalkOfSiblings m true (v + 1)) (text-forest_of l b) (walk_from (text (forest_of l)) true (v + 1) (children (forest_of l) v) (meets_forwards (forest_of l) v (node_pair (forest_of l) v n)) (children_few (forest_of l) v))
 
 pub backwards : (l : List Bool) (v c : ℕ) → IsBalanced l → IsNode (forest_of l) v → c ≡ closing (forest_of l) v → (siblings_left l false c ≡ reverse (children (forest_of l) v)) × IsWalkOfSiblings l false c
 backwards l v c b n e =
-    subst (λ (k : ℕ). (siblings_left l false k ≡ reverse (children (forest_of l) v)) × IsWalkOfSiblings l false k) (sym e)
-    (subst (λ (m : List Bool). (siblings_left m false (closing (forest_of l) v) ≡ reverse (children (forest_of l) v)) × IsWalkOfSiblings m false (closing (forest_of l) v)) (text-forest_of l b) (backwards_in (forest_of l) v n))
+    let F = forest_of l in let few : length (reverse (children F v)) ≤ length (text F) = (let r = length-reverse (children F v) in let f = children_few F v in omega arith) in
+    subst (λ (k : ℕ). (siblings_left l false k ≡ reverse (children F v)) × IsWalkOfSiblings l false k) (sym e)
+    (subst (λ (m : List Bool). (siblings_left m false (closing F v) ≡ reverse (children F v)) × IsWalkOfSiblings m false (closing F v)) (text-forest_of l b)
+    (walk_from (text F) false (closing F v) (reverse (children F v)) (meets_backwards F v (node_pair F v n)) few))
 
 -- ---- the tree of a node
 pub within_is : (l : List Bool) (v c : ℕ) → IsBalanced l → IsNode (forest_of l) v → c ≡ closing (forest_of l) v → (v ≤ c) × ((c - v) / 2 + 1 ≡ length (subtree (forest_of l) v))
@@ -186,9 +182,6 @@ subtree_post_part l v b n =
     subst (λ (m : List Bool). map (opening_of m) (take (length (subtree F v)) (drop (count false m v) (places false m))) ≡ subtree_post F v) (text-forest_of l b)
     (ap (λ (k : ℕ). map (opening_of (text F)) (take k (drop (count false (text F) v) (places false (text F))))) same ∙ ap (map (opening_of (text F))) (sym (as_part false F v)) ∙ sym (subtree_post_is F v h))
 
-pub post_all : (l : List Bool) → IsBalanced l → map (opening_of l) (places false l) ≡ postorder (forest_of l)
-post_all l b = subst (λ (m : List Bool). map (opening_of m) (places false m) ≡ postorder (forest_of l)) (text-forest_of l b) (postorder_opens (forest_of l))
-
 -- ---- handles
 pub ones_are_nodes : (bits : List Bool) (i : ℕ) → IsBalanced bits → i < count true bits (length bits) → IsNode (forest_of bits) (select true bits i)
 unfolding select
@@ -196,8 +189,6 @@ ones_are_nodes bits i b h =
     let e : nodes (forest_of bits) ≡ places true bits = nodes_are_ones (forest_of bits) ∙ ap (places true) (text-forest_of bits b) in
     let n = length-places true bits in
     subst (λ (vs : List ℕ). Contains vs (get_or (places true bits) i (length bits))) (sym e) (Contains-get_or (places true bits) i (length bits) (omega arith))
-
-pub ruleset handles = (ones_are_nodes)
 
 -- ---- the nodes that zeros close, as a source of items
 length-zeros_from : (l : List Bool) (k n : ℕ) → k + n ≤ length (places false l) → length (take n (drop k (places false l))) ≡ n
@@ -223,6 +214,6 @@ closed_item l k n i c h low at =
 
 -- the nodes that all zeros close are those of the forest, each after those below it
 pub closed_by_all : (l : List Bool) (n : ℕ) → IsBalanced l → n ≡ length (places false l) → closed_by l 0 n ≡ postorder (forest_of l)
-closed_by_all l n b e = ap (map (opening_of l)) (take_all n (places false l) (omega (arith, e))) ∙ post_all l b
+closed_by_all l n b e = ap (map (opening_of l)) (take_all n (places false l) (omega (arith, e))) ∙ subst (λ (m : List Bool). map (opening_of m) (places false m) ≡ postorder (forest_of l)) (text-forest_of l b) (postorder_opens (forest_of l))
 
 pub ruleset closed = (length-closed_by, zero_inside, zeros_fit, closed_item)

@@ -47,7 +47,7 @@ impl<const BLOCK_SIZE: usize, A: Allocator + Copy> Model for BpBuilder<BLOCK_SIZ
     ghost invariant = { λ b. IsBuilding BLOCK_SIZE b.bits b.excess };
 }
 
-#[tactic(auto, using(crate::proofs::layout::Building::building))]
+#[tactic(auto, using(crate::proofs::layout::Building::nothing_built, crate::proofs::layout::Building::built_fits))]
 impl<const BLOCK_SIZE: usize, A: Allocator + Copy> BpBuilder<BLOCK_SIZE, A> {
     /// A list of no parentheses. Takes no memory.
     ///
@@ -133,7 +133,7 @@ impl<const BLOCK_SIZE: usize, A: Allocator + Copy> BpBuilder<BLOCK_SIZE, A> {
     }
 }
 
-#[tactic(auto, using(crate::proofs::layout::Building::forests_built))]
+#[tactic(auto, using(crate::proofs::layout::Building::forest_built))]
 impl<const BLOCK_SIZE: usize, A: Allocator + Copy> TreeBuilder for BpBuilder<BLOCK_SIZE, A> {
     type Tree = BpTree<BLOCK_SIZE, A>;
 

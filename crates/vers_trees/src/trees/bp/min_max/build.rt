@@ -10,7 +10,7 @@ use std::alloc::{AllocError, Allocator};
 use vers_bits::bit_vec::BitVec;
 
 // The least power of two, from 2, that is not below the number.
-#[tactic(auto, using(crate::proofs::layout::Widths::widths))]
+#[tactic(auto, using(crate::proofs::layout::Widths::grow_start, crate::proofs::layout::Widths::grow_more, crate::proofs::layout::Widths::grown))]
 pub(super) fn width(leaves: usize) -> usize
     requires { leaves < 2 ^ 63 }
     ensures { IsWidth leaves result }
@@ -23,7 +23,7 @@ pub(super) fn width(leaves: usize) -> usize
 }
 
 // The nodes of the blocks of `size` bits, after `first` nodes that are still to be filled.
-#[tactic(auto, using(crate::proofs::layout::Widths::gathering))]
+#[tactic(auto, using(crate::proofs::layout::Widths::no_blocks, crate::proofs::layout::Widths::block_added))]
 fn leaves_of<A: Allocator + Copy>(
     bits: &BitVec<A>,
     size: usize,

@@ -22,6 +22,4 @@ loop-x-preserved c =
     record { within = omega arith; value = octal_more c.args.digits.now c.loop-x.x c.loop-x.number 0 c.loop-x-test.true (omega arith) i.value }
 
 pub returns-clause-bounded : goal.returns-clause-bounded
-returns-clause-bounded c =
-    let s = octal_small c.args.digits.now c.loop-x.x (omega arith) c.requires in
-    omega arith
+returns-clause-bounded c = let s = octal_small c.args.digits.now c.loop-x.x (omega arith) c.requires in omega arith

@@ -57,6 +57,4 @@ loop-node-preserved g c =
     }
 
 pub loop-node-smaller : goal.loop-node-smaller
-loop-node-smaller g c =
-    let most = odd_most _ _ c.node_after-node-in-loop-node.ensures in
-    omega arith
+loop-node-smaller g c = let most = odd_most _ _ c.node_after-node-in-loop-node.ensures in omega arith
