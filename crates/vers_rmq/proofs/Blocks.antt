@@ -50,8 +50,6 @@ no_blocks xs mi pl ms e1 e2 e3 = rw (e1, e2, e3) (record {
 pub all_blocks : (xs mi pl : List ℕ) (ms : List BlockMasks) (b : ℕ) → length xs ≤ MAX_LEN → b ≡ block_count 128 (length xs) → AreBlocks xs b mi pl ms → AreAllBlocks xs mi pl ms
 all_blocks xs mi pl ms b few e h = record { bounded = few; blocks = rw (← e) h }
 
-pub ruleset starting = (no_blocks, all_blocks)
-
 -- ---- the sizes of what is kept
 pub sizes : (xs mi pl : List ℕ) (ms : List BlockMasks) → AreAllBlocks xs mi pl ms
     → (binary_heap_size (length mi) ≡ binary_heap_size (block_count 128 (length xs))) × (length pl ≡ block_count 128 (length xs)) × (length ms ≡ block_count 128 (length xs))
@@ -59,8 +57,6 @@ pub sizes : (xs mi pl : List ℕ) (ms : List BlockMasks) → AreAllBlocks xs mi 
 sizes xs mi pl ms h =
     let same = ap binary_heap_size h.blocks.minima_counted in
     (same, h.blocks.places_counted, h.blocks.masks_counted, omega (arith, same, size_bounded (block_count 128 (length xs)) (omega (arith, h.bounded))), h.bounded)
-
-pub ruleset sizing = (sizes)
 
 -- ---- what the masks of a block answer
 -- the block of a place
@@ -99,8 +95,6 @@ suffix_at xs ys w i l r masks e inside stop h found =
     let back : 128 * (i / 128) + i % 128 ≡ i = omega arith in
     subst P e (subst Q back (least_ends xs (128 * (i / 128) + i % 128) (part_end w (128 * (i / 128)) (block_end (length xs) (i / 128)) (i % 128) - 1) (l - 1) (128 * (i / 128) + r) (omega (arith, stop, ap length e))
     (h.suffixes.places (i % 128) r (omega arith) (omega (arith, ap length e)) found)))
-
-pub ruleset reading = (block_inside)
 
 -- ---- ranges over blocks
 -- the least of whole blocks, from the least of their least items
@@ -167,13 +161,6 @@ start_after xs ys f j m a b r same later right pb vb v before =
     (omega (arith, before.place.from, before.place.to)) (omega arith) (omega arith) v
 
 -- ---- ranges over parts of a block
--- the end of the part of the first place
-pub part_start : (xs ys : List ℕ) (i m : ℕ) (a : PlacedItem) → xs ≡ ys → 16 * (i / 16) + 16 ≤ length ys → IsFirstLeast ys i (min (16 * (i / 16) + 16) (length ys) - 1) m → a.place ≡ m → a.value ≡ get_or xs m 0
-    → IsLeastItem ys i (16 * (i / 16 + 1) - 1) a
-part_start xs ys i m a e inside left pa va =
-    item_ends ys i (min (16 * (i / 16) + 16) (length ys) - 1) (16 * (i / 16 + 1) - 1) a (omega arith)
-    (item_at ys i (min (16 * (i / 16) + 16) (length ys) - 1) m a left pa (va ∙ ap (λ zs. get_or zs m 0) e))
-
 -- a whole part more
 pub part_more : (xs ys : List ℕ) (i q j m : ℕ) (a b r : PlacedItem) → xs ≡ ys → i < 16 * q → j ≡ 16 * q + 15 → IsLeastItem ys i (16 * q - 1) a → IsFirstLeast ys (16 * (j / 16)) j m → b.place ≡ m → b.value ≡ get_or xs m 0
     → r ≡ lesser_item a b → IsLeastItem ys i (16 * (q + 1) - 1) r

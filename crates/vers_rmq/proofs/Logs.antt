@@ -9,12 +9,8 @@ top_is a some few =
     let e : 63 - count_leading_zeros 64 a ≡ t.0 = omega (arith, t.1) in
     rw e (t.2, omega (arith, t.3, pow-suc 2 t.0), omega (arith, t.1))
 
-pub ruleset tops = (top_is)
-
 pub shifted : (k : ℕ) → k < 64 → (1 * 2 ^ k) % 2 ^ 64 ≡ 2 ^ k
 shifted k h = one_shl k 64 h
-
-pub ruleset shifts = (shifted)
 
 -- as many levels as the top digit of n - 1 asks for
 pub levels_are : (n k : ℕ) → 2 ≤ n → 2 ^ k ≤ n - 1 → n - 1 < 2 * 2 ^ k → k + 2 ≡ clog n + 1
@@ -31,5 +27,3 @@ pub size_bounded : (n : ℕ) → n < 2 ^ 32 → binary_heap_size n ≤ 140 * n
 size_bounded n h =
     let few : clog n ≤ 32 = digits-le 32 (n - 1) (omega (arith, h)) in
     omega (arith, mul-le-mul_left {m = clog n + 1} {n = 33} n (omega (arith, few)))
-
-pub ruleset counting = (levels_are, one_level, few_levels)

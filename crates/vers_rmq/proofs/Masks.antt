@@ -361,13 +361,3 @@ last_few mask j h first fits =
     let on : bit_at (bit_and mask v) 0 ≡ 1 = bit_at_and mask v 0 ∙ omega (arith, ap (λ r. bit_at r 0) ev, bit_at_ones (j + 1) 0 (omega arith), first) in
     let t = leading_top 128 (bit_and mask v) (some_bit (bit_and mask v) 0 on) (omega (arith, and_le_l mask v, fits)) in
     omega (arith, t.1)
-
-pub ruleset finding = (last_found, last_few, first_is)
-
-pub ruleset prefixing = (prefix_start, prefix_skip, few_bits)
-
-pub ruleset suffixing = (suffix_start, suffix_skip, few_bits)
-
-pub ruleset prefix_parts = (prefix_whole, prefix_first, prefix_part)
-
-pub ruleset suffix_parts = (suffix_whole, suffix_last, suffix_part)

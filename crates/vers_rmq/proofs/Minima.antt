@@ -121,8 +121,6 @@ chosen_place xs m n r e =
       | inr le ↦ ap (λ c. c.place) (e ∙ candidate_first first second le) ∙ sym (lesser_first xs m n le)
     ]
 
-pub ruleset lessers = (lesser_inside, chosen_place)
-
 -- a range has one first least place
 pub same_place : (xs : List ℕ) (i j m n : ℕ) → IsFirstLeast xs i j m → IsFirstLeast xs i j n → m ≡ n
 same_place xs i j m n a b = elim (cases_lt m n) [
@@ -142,8 +140,6 @@ least_within xs s e i j m a si im mj je = record {
   leftmost = λ p f t. a.leftmost p (omega arith) t;
 }
 
-pub ruleset inner = (least_within)
-
 -- a scan: its start, a step, and its end
 pub scan_start : (xs : List ℕ) (i : ℕ) (c : PlacedItem) → c.place ≡ i → c.value ≡ get_or xs i 0 → IsLeastItem xs i (i + 1 - 1) c
 scan_start xs i c place value = item_ends xs i i (i + 1 - 1) c (omega arith) (item_at xs i i i c (least_at xs i) place value)
@@ -154,5 +150,3 @@ scan_more xs i k a b r ik best place value e =
 
 pub scan_end : (xs : List ℕ) (i j k : ℕ) (c : PlacedItem) → k ≡ j + 1 → IsLeastItem xs i (k - 1) c → IsLeastItem xs i j c
 scan_end xs i j k c e best = item_ends xs i (k - 1) j c (omega arith) best
-
-pub ruleset choosing = (scan_start, scan_more, scan_end)

@@ -95,10 +95,6 @@ pub next_is : (xs table : List ℕ) (k i w m n r : ℕ) → HoldsPlaces xs table
     → r ≡ lesser xs (get_or table (length xs * k + i) 0) (get_or table (length xs * k + (i + w)) 0) → IsFirstLeast xs i (reach (length xs) (k + 1) i) r
 next_is xs table k i w m n r holds room ew inside v = rw (v, ew) (next_joined xs table k i holds room (omega arith))
 
-pub ruleset entries = (level_inside, room_of)
-
-pub ruleset next_level = (next_joined, next_same)
-
 -- the room that is asked for is a number of the machine
 pub room_fits : (n r : ℕ) → n < 2 ^ 32 → r ≤ 33 → n * r < 2 ^ 64
 room_fits n r few most = omega (arith, few, mul-le-mul_left {m = r} {n = 33} n most)
@@ -110,5 +106,3 @@ pub table_size : (xs table : List ℕ) → IsTable xs table → (length table �
 table_size xs table t =
     let few : clog (length xs) ≤ 32 = digits-le 32 (length xs - 1) (omega (arith, t.bounded)) in
     (t.counted, omega (arith, t.counted, mul-le-mul_left {m = clog (length xs) + 1} {n = 33} (length xs) (omega (arith, few))), t.bounded)
-
-pub ruleset sizing = (table_size)

@@ -148,7 +148,7 @@ impl<A: Allocator + Copy> FastRmq<A> {
     }
 
     /// The bytes that the items and what is kept of the blocks take.
-    #[tactic(auto, using(crate::proofs::Blocks::sizing))]
+    #[tactic(auto, using(crate::proofs::Blocks::sizes))]
     pub fn heap_size(&self) -> usize
         ensures { result ≡ fast_heap_size (length self.now) }
     {
@@ -158,7 +158,7 @@ impl<A: Allocator + Copy> FastRmq<A> {
 
     // The first place of a least item from the start of the block of `j` to `j`.
     #[inline(always)]
-    #[tactic(auto, using(crate::proofs::Blocks::reading))]
+    #[tactic(auto, using(crate::proofs::Blocks::block_inside))]
     fn prefix_place(&self, j: usize) -> usize
         requires { j < length self.now }
         ensures value { IsFirstLeast self.now (BLOCK * (j / BLOCK)) j result }
@@ -170,7 +170,7 @@ impl<A: Allocator + Copy> FastRmq<A> {
 
     // The first place of a least item from `i` to the end of its block.
     #[inline(always)]
-    #[tactic(auto, using(crate::proofs::Blocks::reading))]
+    #[tactic(auto, using(crate::proofs::Blocks::block_inside))]
     fn suffix_place(&self, i: usize) -> usize
         requires { i < length self.now }
         ensures value { IsFirstLeast self.now i (min (BLOCK * (i / BLOCK) + BLOCK) (length self.now) - 1)
@@ -183,7 +183,7 @@ impl<A: Allocator + Copy> FastRmq<A> {
 
     // The first place of a least item from the start of the part of `j` to `j`.
     #[inline(always)]
-    #[tactic(auto, using(crate::proofs::Blocks::reading))]
+    #[tactic(auto, using(crate::proofs::Blocks::block_inside))]
     fn part_prefix_place(&self, j: usize) -> usize
         requires { j < length self.now }
         ensures value { IsFirstLeast self.now (PART * (j / PART)) j result }
@@ -195,7 +195,7 @@ impl<A: Allocator + Copy> FastRmq<A> {
 
     // The first place of a least item from `i` to the end of its part.
     #[inline(always)]
-    #[tactic(auto, using(crate::proofs::Blocks::reading))]
+    #[tactic(auto, using(crate::proofs::Blocks::block_inside))]
     fn part_suffix_place(&self, i: usize) -> usize
         requires { i < length self.now }
         ensures value { IsFirstLeast self.now i (min (PART * (i / PART) + PART) (length self.now) - 1)
@@ -225,7 +225,7 @@ impl<A: Allocator + Copy> FastRmq<A> {
 
     // The first place of a least item of a range in one part: by its masks, or by reading its items.
     #[inline(always)]
-    #[tactic(auto, using(crate::proofs::Minima::inner))]
+    #[tactic(auto, using(crate::proofs::Minima::least_within))]
     fn least_in_part(&self, i: usize, j: usize, tally: &mut Tally) -> usize
         requires order { i ≤ j }
         requires inside { j < length self.now }
@@ -247,7 +247,7 @@ impl<A: Allocator + Copy> FastRmq<A> {
     // The first place of a least item of a range over parts of one block: by the masks of the block, or
     // by reading the least items of the end of a part, of whole parts and of the start of a part.
     #[inline(always)]
-    #[tactic(auto, using(crate::proofs::Minima::inner))]
+    #[tactic(auto, using(crate::proofs::Minima::least_within))]
     fn least_in_block(&self, i: usize, j: usize, tally: &mut Tally) -> usize
         requires inside { j < length self.now }
         requires parts { i / PART < j / PART }

@@ -29,7 +29,7 @@ pub(super) fn lesser_of(first: PlacedItem, second: PlacedItem) -> PlacedItem
 }
 
 // The one of two places that has the lesser item, the first where they are equal.
-#[tactic(auto, using(crate::proofs::Minima::lessers))]
+#[tactic(auto, using(crate::proofs::Minima::lesser_inside, crate::proofs::Minima::chosen_place))]
 pub(super) fn lesser_place(items: &[u64], m: usize, n: usize) -> usize
     requires first { m < length items.now }
     requires second { n < length items.now }
@@ -65,7 +65,7 @@ pub(super) fn read_at<A: Allocator + Copy>(
 
 // The first least item from `i` to `j`, by reading each of them once.
 #[inline(always)]
-#[tactic(auto, using(crate::proofs::Minima::choosing))]
+#[tactic(auto, using(crate::proofs::Minima::scan_start, crate::proofs::Minima::scan_more, crate::proofs::Minima::scan_end))]
 pub(super) fn scan<A: Allocator + Copy>(
     items: &CountedItems<A>,
     i: usize,

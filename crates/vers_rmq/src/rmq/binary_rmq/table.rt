@@ -9,7 +9,7 @@ use std::alloc::{AllocError, Allocator};
 
 // The exponent of the greatest power of two that is not above a number.
 #[inline(always)]
-#[tactic(auto, using(crate::proofs::Logs::tops))]
+#[tactic(auto, using(crate::proofs::Logs::top_is))]
 pub(super) fn log2(a: usize) -> usize
     requires { 0 < a }
     ensures low { 2 ^ result ≤ a }
@@ -21,7 +21,7 @@ pub(super) fn log2(a: usize) -> usize
 
 // Two to the power of `k`.
 #[inline(always)]
-#[tactic(auto, using(crate::proofs::Logs::shifts))]
+#[tactic(auto, using(crate::proofs::Logs::shifted))]
 pub(super) fn width(k: usize) -> usize
     requires { k < 64 }
     ensures { result ≡ 2 ^ k }
@@ -31,7 +31,7 @@ pub(super) fn width(k: usize) -> usize
 
 // How many levels the table of `n` items has: one for each power of two up to the first that is not
 // below `n`.
-#[tactic(auto, using(crate::proofs::Logs::counting))]
+#[tactic(auto, using(crate::proofs::Logs::levels_are, crate::proofs::Logs::one_level, crate::proofs::Logs::few_levels))]
 fn level_count(n: usize) -> usize
     requires { n < 2 ^ 32 }
     ensures value { result ≡ clog n + 1 }
@@ -41,7 +41,7 @@ fn level_count(n: usize) -> usize
 }
 
 // The entry of level `k + 1` for the range from `i` on, from two entries of level `k`.
-#[tactic(auto, using(crate::proofs::Tables::next_level))]
+#[tactic(auto, using(crate::proofs::Tables::next_joined, crate::proofs::Tables::next_same))]
 fn next_place(items: &[u64], table: &[u32], k: usize, i: usize) -> u32
     requires places { HoldsPlaces items.now table.now }
     requires inside { length items.now * k + length items.now ≤ length table.now }

@@ -67,7 +67,7 @@ fn add_block<A: Allocator + Copy>(
 }
 
 // What is kept of all blocks, with room asked for once.
-#[tactic(auto, using(crate::proofs::Blocks::starting))]
+#[tactic(auto, using(crate::proofs::Blocks::no_blocks, crate::proofs::Blocks::all_blocks))]
 pub(super) fn all_blocks<A: Allocator + Copy>(
     items: &[u64],
     alloc: A,

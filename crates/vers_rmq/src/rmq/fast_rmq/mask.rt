@@ -51,7 +51,7 @@ fn with_bits(mask: u128, bits: u64, d: usize) -> u128
 
 // The prefix mask that reaches to before `from`, with the items from there to before `to`.
 #[inline(always)]
-#[tactic(auto, using(crate::proofs::Masks::prefixing))]
+#[tactic(auto, using(crate::proofs::Masks::prefix_start, crate::proofs::Masks::prefix_skip, crate::proofs::Masks::few_bits))]
 fn more_prefixes(items: &[u64], start: usize, from: usize, to: usize, done: Partial) -> Partial
     requires base { start ≤ from }
     requires block { from < start + BLOCK }
@@ -80,7 +80,7 @@ fn more_prefixes(items: &[u64], start: usize, from: usize, to: usize, done: Part
 
 // The prefix mask of the part from `from` to before `to`.
 #[inline(always)]
-#[tactic(auto, using(crate::proofs::Masks::prefixing))]
+#[tactic(auto, using(crate::proofs::Masks::prefix_start, crate::proofs::Masks::prefix_skip, crate::proofs::Masks::few_bits))]
 fn part_prefixes(items: &[u64], start: usize, from: usize, to: usize) -> Partial
     requires base { start ≤ from }
     requires some { from < to }
@@ -98,7 +98,7 @@ fn part_prefixes(items: &[u64], start: usize, from: usize, to: usize) -> Partial
 
 // The prefix mask that reaches to before `from`, with a part of which the least item stands at `least`.
 #[inline(always)]
-#[tactic(auto, using(crate::proofs::Masks::prefixing))]
+#[tactic(auto, using(crate::proofs::Masks::prefix_start, crate::proofs::Masks::prefix_skip, crate::proofs::Masks::few_bits))]
 fn prefixes_past(
     items: &[u64],
     start: usize,
@@ -125,7 +125,7 @@ fn prefixes_past(
 
 // The prefix masks of the block from `start` to before `end`, of all of it and by parts of 16 items, and
 // the first place of its least item.
-#[tactic(auto, using(crate::proofs::Masks::prefix_parts))]
+#[tactic(auto, using(crate::proofs::Masks::prefix_whole, crate::proofs::Masks::prefix_first, crate::proofs::Masks::prefix_part))]
 pub(super) fn prefix_masks(items: &[u64], start: usize, end: usize) -> (u128, u128, usize)
     requires some { start < end }
     requires few { end ≤ start + BLOCK }
@@ -149,7 +149,7 @@ pub(super) fn prefix_masks(items: &[u64], start: usize, end: usize) -> (u128, u1
 
 // The suffix mask that begins at `to`, with the items before it from `from` on.
 #[inline(always)]
-#[tactic(auto, using(crate::proofs::Masks::suffixing))]
+#[tactic(auto, using(crate::proofs::Masks::suffix_start, crate::proofs::Masks::suffix_skip, crate::proofs::Masks::few_bits))]
 fn more_suffixes(items: &[u64], start: usize, from: usize, to: usize, done: Partial) -> Partial
     requires base { start ≤ from }
     requires block { from < start + BLOCK }
@@ -180,7 +180,7 @@ fn more_suffixes(items: &[u64], start: usize, from: usize, to: usize, done: Part
 
 // The suffix mask of the part from `from` to before `to`.
 #[inline(always)]
-#[tactic(auto, using(crate::proofs::Masks::suffixing))]
+#[tactic(auto, using(crate::proofs::Masks::suffix_start, crate::proofs::Masks::suffix_skip, crate::proofs::Masks::few_bits))]
 fn part_suffixes(items: &[u64], start: usize, from: usize, to: usize) -> Partial
     requires base { start ≤ from }
     requires some { from < to }
@@ -198,7 +198,7 @@ fn part_suffixes(items: &[u64], start: usize, from: usize, to: usize) -> Partial
 
 // The suffix mask that begins at `to`, with a part before it of which the least item stands at `least`.
 #[inline(always)]
-#[tactic(auto, using(crate::proofs::Masks::suffixing))]
+#[tactic(auto, using(crate::proofs::Masks::suffix_start, crate::proofs::Masks::suffix_skip, crate::proofs::Masks::few_bits))]
 fn suffixes_past(
     items: &[u64],
     start: usize,
@@ -225,7 +225,7 @@ fn suffixes_past(
 }
 
 // The suffix masks of the block from `start` to before `end`: of all of it, and by parts of 16 items.
-#[tactic(auto, using(crate::proofs::Masks::suffix_parts))]
+#[tactic(auto, using(crate::proofs::Masks::suffix_whole, crate::proofs::Masks::suffix_last, crate::proofs::Masks::suffix_part))]
 pub(super) fn suffix_masks(items: &[u64], start: usize, end: usize) -> (u128, u128)
     requires some { start < end }
     requires few { end ≤ start + BLOCK }
@@ -248,7 +248,7 @@ pub(super) fn suffix_masks(items: &[u64], start: usize, end: usize) -> (u128, u1
 
 // The last place up to `j` with a 1.
 #[inline(always)]
-#[tactic(auto, using(crate::proofs::Masks::finding))]
+#[tactic(auto, using(crate::proofs::Masks::last_found, crate::proofs::Masks::last_few, crate::proofs::Masks::first_is))]
 pub(super) fn last_set(mask: u128, j: usize) -> usize
     requires few { j < BLOCK }
     requires first { bit_at mask 0 ≡ 1 }
@@ -259,7 +259,7 @@ pub(super) fn last_set(mask: u128, j: usize) -> usize
 
 // The first place from `i` on with a 1.
 #[inline(always)]
-#[tactic(auto, using(crate::proofs::Masks::finding))]
+#[tactic(auto, using(crate::proofs::Masks::last_found, crate::proofs::Masks::last_few, crate::proofs::Masks::first_is))]
 pub(super) fn first_set(mask: u128, i: usize) -> usize
     requires few { i < BLOCK }
     requires some { 0 < mask / 2 ^ i }
