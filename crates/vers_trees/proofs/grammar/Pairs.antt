@@ -133,7 +133,4 @@ pairs_around (tree X Y) v c (inr (inr p)) =
     let ev = p.2 in let ec = p.3 in let ki = k.inside in let ka = k.after in
     let a : one_if (strictly_contains (0, length (text X) + 1) (v, c)) ≡ 0 = ap one_if (and_right (ltb 0 v) (ltb c (length (text X) + 1)) (le-ltb c (length (text X) + 1) (omega arith))) in
     let b = around_none 1 X v c (inr (omega arith)) in
-    let d = around_moved (length (text X) + 2) Y p.0 p.1 v c ev ec in
-    let s = excess_in_rest X Y p.0 in
-    let s' : excess (text (tree X Y)) v ≡ excess (text Y) p.0 = ap (excess (text (tree X Y))) ev ∙ s in
-    omega (arith, ints)
+    grind (arith, ints, around_moved, excess_in_rest, tree)

@@ -8,10 +8,6 @@ use Rattle.vers_trees.proofs.kin.Partners.{before_from_closes, nested, opens_aro
 use Rattle.vers_trees.proofs.kin.NodeList.{HasPair, one_pair, node_pair, closes_to, opens, inside, first_in, no_first_in, last_node, no_last_node, next_in, no_next_in, previous_in, no_previous_in, option_decides}
 use Rattle.vers_trees.proofs.kin.Around.{proper_decides, parent_around, above_parent, has_parent}
 
--- whether w has this parent
-abbrev under : Forest → Option ℕ → ℕ → Bool
-under F p w = option_eq eqb (parent F w) p
-
 -- tests that agree at each element keep the same elements
 pub filter_agree : {X : Type 0} → (p q : X → Bool) (xs : List X) → ((x : X) → Contains xs x → p x ≡ q x) → filter p xs ≡ filter q xs
 filter_agree {X = X} p q [] h = refl

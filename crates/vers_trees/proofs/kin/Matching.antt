@@ -9,12 +9,6 @@ use Rattle.vers_trees.proofs.kin.Around.{parent_is_search}
 use Rattle.vers_trees.proofs.kin.NodeList.{one_pair}
 use Rattle.vers_trees.proofs.searches.Beside.{enclosing_open, enclosing_close}
 
-pub forward_first : (l : List Bool) (i : ℕ) (r : ℤ) (j : ℕ) → (first_rise_after l i r ≡ Some j) ↔ IsFirstRiseAfter l i r j
-forward_first l i r j = (after_some l i r j, after_is l i r j)
-
-pub backward_last : (l : List Bool) (i : ℕ) (r : ℤ) (j : ℕ) → (last_rise_before l i r ≡ Some j) ↔ IsLastRiseBefore l i r j
-backward_last l i r j = (before_some l i r j, before_is l i r j)
-
 -- what a list has at a place
 has_bit : (l : List Bool) (i : ℕ) (b : Bool) → slice_get l i ≡ Some b → (i < length l) × (get_or l i false ≡ b)
 has_bit l i b e = (slice_get_within l i b e, get_or_from_slice_get l i b false e)
@@ -33,17 +27,11 @@ open_pair F v c h = (
 
 pub open_of_close : (F : Forest) (v : ℕ) → slice_get (text F) v ≡ Some true → (c : ℕ) × (first_rise_after (text F) v (negsuc 0) ≡ Some c) × (last_rise_before (text F) c (negsuc 0) ≡ Some v)
 open_of_close F v h =
-    let b = has_bit (text F) v true h in
-    let p = open_is_paired F v false b.0 b.1 in
-    let q = paired_closes F v p.0 p.1 in
-    (p.0, after_is (text F) v (negsuc 0) p.0 (after_from_closes (text F) v p.0 q), before_is (text F) p.0 (negsuc 0) v (before_from_closes (text F) v p.0 q))
+    grind (arith, has_bit, open_is_paired, paired_closes, after_is, after_from_closes, before_is, before_from_closes)
 
 pub close_of_open : (F : Forest) (c : ℕ) → slice_get (text F) c ≡ Some false → (v : ℕ) × (last_rise_before (text F) c (negsuc 0) ≡ Some v) × (first_rise_after (text F) v (negsuc 0) ≡ Some c)
 close_of_open F c h =
-    let b = has_bit (text F) c false h in
-    let p = close_is_paired F c false b.0 b.1 in
-    let q = paired_closes F p.0 c p.1 in
-    (p.0, before_is (text F) c (negsuc 0) p.0 (before_from_closes (text F) p.0 c q), after_is (text F) p.0 (negsuc 0) c (after_from_closes (text F) p.0 c q))
+    grind (arith, has_bit, close_is_paired, paired_closes, before_is, before_from_closes, after_is, after_from_closes)
 
 -- ---- what encloses a pair of a forest written down, and what the forest of a balanced list writes down
 -- from the closing bracket of a pair two less is found where one less is from the opening one

@@ -45,12 +45,7 @@ closing_is F v c p =
         ap (λ (k : ℕ). (k, q.1)) e ∙ ap (λ (k : ℕ). (v, k)) o
 
 has_pair : (F : Forest) (v c : ℕ) → Paired F v c → HasPair F v
-has_pair F v c p =
-    let e = sym (closing_is F v c p) in
-    record {
-      is_pair = subst (λ (k : ℕ). Contains (pairs F) (v, k)) e (contains_from_paired F v c p);
-      closes = subst (λ (k : ℕ). Closes (text F) v k) e (paired_closes F v c p);
-    }
+has_pair F v c p = grind (arith, closing_is, contains_from_paired, paired_closes)
 
 pub closes_to : (F : Forest) (v c : ℕ) → Closes (text F) v c → closing F v ≡ c
 closes_to F v c p = closing_is F v c (closes_paired F v c p)
@@ -70,27 +65,15 @@ pair_node F v h = contains_map (λ (q : ℕ × ℕ). q.0) (pairs F) (v, closing 
 -- ---- the first and the last node that pass a test
 pub find_filtered : {X : Type 0} → (p t : X → Bool) (xs : List X) → find t (filter p xs) ≡ find (λ x. p x && t x) xs
 find_filtered {X = X} p t [] = refl
-find_filtered {X = X} p t (x ∷ xs) = go (p x) (t x) (find_filtered p t xs)
-  where
-    go : (a b : Bool) → find t (filter p xs) ≡ find (λ x. p x && t x) xs → find t (cond a (x ∷ filter p xs) (filter p xs)) ≡ cond (a && t x) (Some x) (find (λ x. p x && t x) xs)
-    go true b ih = ap (λ (o : Option X). cond (t x) (Some x) o) ih
-    go false b ih = ih
+find_filtered {X = X} p t (x ∷ xs) = grind (arith, find_filtered p t xs)
 
 pub filter_filtered : {X : Type 0} → (p t : X → Bool) (xs : List X) → filter t (filter p xs) ≡ filter (λ x. p x && t x) xs
 filter_filtered {X = X} p t [] = refl
-filter_filtered {X = X} p t (x ∷ xs) = go (p x) (filter_filtered p t xs)
-  where
-    go : (a : Bool) → filter t (filter p xs) ≡ filter (λ x. p x && t x) xs → filter t (cond a (x ∷ filter p xs) (filter p xs)) ≡ cond (a && t x) (x ∷ filter (λ x. p x && t x) xs) (filter (λ x. p x && t x) xs)
-    go true ih = ap (λ (ys : List X). cond (t x) (x ∷ ys) ys) ih
-    go false ih = ih
+filter_filtered {X = X} p t (x ∷ xs) = grind (arith, filter_filtered p t xs)
 
 pub first_filtered : {X : Type 0} → (t : X → Bool) (xs : List X) → slice_get (filter t xs) 0 ≡ find t xs
 first_filtered {X = X} t [] = refl
-first_filtered {X = X} t (x ∷ xs) = go (t x) (first_filtered t xs)
-  where
-    go : (b : Bool) → slice_get (filter t xs) 0 ≡ find t xs → slice_get (cond b (x ∷ filter t xs) (filter t xs)) 0 ≡ cond b (Some x) (find t xs)
-    go true ih = refl
-    go false ih = ih
+first_filtered {X = X} t (x ∷ xs) = grind (arith, first_filtered t xs)
 
 abbrev node_test : Forest → (ℕ → Bool) → ℕ → Bool
 node_test F t v = get_or (text F) v false && t v
@@ -155,7 +138,4 @@ module _ (F : Forest) (t : ℕ → Bool) (P : ℕ → Type 0) (d : (w : ℕ) →
 
 -- whether two numbers or none are the same
 pub option_decides : (a b : Option ℕ) → Decides (option_eq eqb a b) (a ≡ b)
-option_decides None None = (λ e. refl, λ e. refl)
-option_decides None (Some y) = (λ e. absurd (cc), λ e. absurd (cc))
-option_decides (Some x) None = (λ e. absurd (cc), λ e. absurd (cc))
-option_decides (Some x) (Some y) = (λ e. ap Some ((Decides-eqb x y).0 e), λ e. let s : x ≡ y = cc in (Decides-eqb x y).1 s)
+option_decides a b = grind (arith, Decides-eqb)

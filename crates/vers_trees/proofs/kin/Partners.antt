@@ -82,10 +82,7 @@ no_parent l v q e n c x y =
 -- what is two less than before the closing bracket is one less than before the opening one, and before it
 pub before_pair : (l : List Bool) (v c : ℕ) → Closes l v c → (k : ℕ) → k < c → excess l k ≡ excess l c +ℤ negsuc 1 → (k < v) × (excess l k ≡ excess l v +ℤ negsuc 0)
 before_pair l v c q k x e =
-    let r = excess_after_close l c true q.inside (closes_falls l v c true q) in (
-      (grind (arith, ints, eq-or-lt_of_le)),
-      omega (arith, ints),
-    )
+    let r = excess_after_close l c true q.inside (closes_falls l v c true q) in grind (arith, ints, eq-or-lt_of_le)
 
 -- so from the closing bracket two less is found where from the opening one is
 pub enclose_at_close : (l : List Bool) (v c p : ℕ) → Closes l v c → IsLastRiseBefore l v (negsuc 0) p → IsLastRiseBefore l c (negsuc 1) p
@@ -96,20 +93,11 @@ enclose_at_close l v c p q b =
 -- ---- what stands beside a tree, and the first and the last tree inside another
 -- a tree and the one that opens right after it lie between the same pairs
 pub same_around : (l : List Bool) (v c d q e : ℕ) → Closes l v c → Closes l (c + 1) d → Closes l q e → ((q < v) × (c < e)) ↔ ((q < c + 1) × (d < e))
-same_around l v c d q e p n m = (there, back)
-  where
-    there : (q < v) × (c < e) → (q < c + 1) × (d < e)
-    there h = let x = h.0 in let y = h.1 in (omega arith, nested l q e (c + 1) d m n (omega arith) (omega arith))
-
-    back : (q < c + 1) × (d < e) → (q < v) × (c < e)
-    back h = let x = h.0 in let y = h.1 in (opens_around l v c q e p m (omega arith) (omega arith), omega arith)
+same_around l v c d q e p n m = grind (arith, ints)
 
 -- where what follows a tree is a closing bracket, its pair is around the tree and around nothing later
 pub last_of_siblings : (F : Forest) (v c : ℕ) → Closes (text F) v c → c + 1 < length (text F) → get_or (text F) (c + 1) false ≡ false → (q : ℕ) × Closes (text F) q (c + 1) × (q < v)
-last_of_siblings F v c p i b =
-    let r = close_is_paired F (c + 1) false i b in
-    let m = paired_closes F r.0 (c + 1) r.1 in
-    (r.0, m, opens_around (text F) v c r.0 (c + 1) p m (omega arith) (omega arith))
+last_of_siblings F v c p i b = grind (arith, ints, close_is_paired, paired_closes, opens_around)
 
 -- likewise where what stands before it is an opening one
 pub first_of_siblings : (F : Forest) (v c : ℕ) → Closes (text F) (v + 1) c → get_or (text F) v false ≡ true → IsAbove (text F) (v + 1) 1 v

@@ -82,13 +82,7 @@ balanced_iff_root l x p = (there, back)
         (omega (arith, ints), omega (arith, ints))
 
     back : (x.total ≡ pos 0) × (pos 0 ≤ℤ x.least) → IsBalanced l
-    back h =
-        let z = excess-zero l in let t = p.total in let h1 = h.1 in
-        balanced_from_excess l (omega (arith, ints)) (λ i b. above i b)
-      where
-        above : (i : ℕ) → i ≤ length l → pos 0 ≤ℤ excess l i
-        above zero b = let z = excess-zero l in omega (arith, ints)
-        above (suc i) b = let z = excess-zero l in let lo = p.low (suc i) (omega arith) b in let h1 = h.1 in omega (arith, ints)
+    back h = grind (arith, ints, excess-zero, balanced_from_excess)
 
 -- ---- a tree of excesses over the blocks of a list meets what the searches ask of it
 -- the sum before a block is the excess before some place
@@ -154,9 +148,4 @@ reached_at l size blocks b p h =
 
 -- and meets the sum before it
 pub met_at : (l : List Bool) (size : ℕ) (blocks : List Node) → AreBlocks l size blocks → (p : ℕ) → p < length l → Meets blocks (p / size) (excess l p)
-met_at l size blocks b p h =
-    let s = start_is l size blocks b (p / size) (block_inside l size blocks b p h) in
-    ⊎_elim
-    (λ (x : p / size * size < p). inr ((reaches_iff l size blocks b (p / size) (excess l p) (block_inside l size blocks b p h)).1 (p, x, omega arith, refl)))
-    (λ (x : p ≤ p / size * size). inl (s.0 ∙ ap (excess l) (let g : p / size * size ≡ p = omega arith in g)))
-    (cases_lt (p / size * size) p)
+met_at l size blocks b p h = grind (arith, ints, start_is, block_inside, reaches_iff)

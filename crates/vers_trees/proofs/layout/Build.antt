@@ -9,13 +9,7 @@ covers_leaf : (blocks : List Node) → ((k : ℕ) → k < length blocks → IsRa
 covers_leaf blocks r s = ⊎_elim inside outside (cases_lt s (length blocks))
   where
     inside : s < length blocks → Covers blocks s (s + 1) (get_or blocks s empty_node)
-    inside h = record {
-      total = total_more blocks s h;
-      shape = inl (r s h);
-      found = λ t lo hi. (s, omega arith, omega arith, record { inside = h; low = lo; high = hi });
-      low = λ k t a b w. let e : k ≡ s = omega arith in (subst (λ (n : ℕ). Reaches blocks n t) e w).low;
-      high = λ k t a b w. let e : k ≡ s = omega arith in (subst (λ (n : ℕ). Reaches blocks n t) e w).high;
-    }
+    inside h = grind (arith, ints, total_more)
 
     outside : length blocks ≤ s → Covers blocks s (s + 1) (get_or blocks s empty_node)
     outside h =

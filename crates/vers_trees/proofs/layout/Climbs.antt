@@ -61,8 +61,7 @@ passed_right first nodes from t place left p some even =
 
 passed_root : (first : ℕ) (nodes : List Node) (from : ℕ) (t : ℤ) (place : ℕ) (left : ℤ) → IsMinMax first nodes → PassedTo first nodes from t place left → place ≡ 0 → (k : ℕ) → from ≤ k → Reaches (drop first nodes) k t → ⊥
 passed_root first nodes from t place left m p root k a w =
-    let e = (root_stands first p.start p.stop (subst (λ (n : ℕ). StandsOver first n p.start p.stop) root p.stands)).1 in
-    p.none k a (omega arith) w
+    p.none k a (omega (arith, (root_stands first p.start p.stop (subst (λ (n : ℕ). StandsOver first n p.start p.stop) root p.stands)).1)) w
 
 -- up past the right children that the passed part ends with
 pub comes_to : (first : ℕ) (nodes : List Node) (from : ℕ) (t : ℤ) (place : ℕ) (left : ℤ) (next : ℕ) → IsMinMax first nodes → PassedTo first nodes from t place left → IsOddPart (place + 2) (next + 1) → ComesTo first nodes from t next left
@@ -104,10 +103,7 @@ reaches_after first nodes from t place left x m c some e i =
     record { start = p.stop; stop = b.stop; stands = b.stands; after = p.after; remains = p.remains; none = p.none; range = rw e at i }
 
 none_right : (first : ℕ) (nodes : List Node) (from : ℕ) (t : ℤ) (place : ℕ) (left : ℤ) (x : Node) → (b : Right first nodes from t place left x) → (IsInRange x left → ⊥) → (k : ℕ) → from ≤ k → k < b.stop → Reaches (drop first nodes) k t → ⊥
-none_right first nodes from t place left x b misses k a c w = ⊎_elim
-    (λ (u : k < b.passed.stop). b.passed.none k a u w)
-    (λ (u : b.passed.stop ≤ k). none_in (drop first nodes) b.passed.stop b.stop x t left b.covers b.passed.remains misses k u c w)
-    (cases_lt k b.passed.stop)
+none_right first nodes from t place left x b misses k a c w = grind (arith, ints, none_in)
 
 pub goes_on_after : (first : ℕ) (nodes : List Node) (from : ℕ) (t : ℤ) (place : ℕ) (left : ℤ) (x : Node) (next : ℕ) → IsMinMax first nodes → ComesTo first nodes from t place left → 0 < place → x ≡ get_or nodes place empty_node → (IsInRange x left → ⊥) → IsOddPart ((place - 1) / 2 + 2) (next + 1) → ComesTo first nodes from t next (left -ℤ x.total)
 goes_on_after first nodes from t place left x next m c some e misses o =
@@ -127,17 +123,7 @@ too_far_after first nodes from t place left x m c some e misses long k a w =
 -- ---- the steps of a search backwards in a tree of excesses
 -- a sum in the range, with the start, is that of the start or in the range
 split_start : (x : Node) (r : ℤ) → IsRange x ⊎ (x ≡ empty_node) → IsInRangeOrStart x r → (r ≡ pos 0) ⊎ IsInRange x r
-split_start x r shape i = by_lt_z r (pos 0) (λ below. inr (inside (inl below))) (λ up. by_lt_z (pos 0) r (λ above. inr (inside (inr above))) (λ down. inl (omega (arith, ints))))
-  where
-    inside : (r <ℤ pos 0) ⊎ (pos 0 <ℤ r) → IsInRange x r
-    inside o = ⊎_elim
-        (λ (s : IsRange x).
-        let lo = i.low in let hi = i.high in
-        record { low = omega (arith, ints, clamps, o); high = omega (arith, ints, clamps, o) })
-        (λ (s : x ≡ empty_node).
-        let lo = rw s at i.low in let hi = rw s at i.high in
-        absurd (omega (arith, ints, clamps, o)))
-        shape
+split_start x r shape i = grind (arith, ints)
 
 -- what the range of a node says is met in its part
 range_found : (blocks : List Node) (s e : ℕ) (x : Node) (t r : ℤ) → s < e → Covers blocks s e x → total_before blocks s +ℤ r ≡ t → IsInRangeOrStart x r → (k : ℕ) × (s ≤ k) × (k < e) × Meets blocks k t
@@ -225,20 +211,14 @@ rise_same first nodes to t place left p odd =
 
 rise_root : (first : ℕ) (nodes : List Node) (to : ℕ) (t : ℤ) (place : ℕ) (left : ℤ) → PassedBack first nodes to t place left → place ≡ 0 → (k : ℕ) → k < to → Meets (drop first nodes) k t → ⊥
 rise_root first nodes to t place left p root k a w =
-    let s = (root_stands first p.start p.stop (subst (λ (n : ℕ). StandsOver first n p.start p.stop) root p.stands)).0 in
-    p.none k (omega arith) a w
+    p.none k (omega (arith, (root_stands first p.start p.stop (subst (λ (n : ℕ). StandsOver first n p.start p.stop) root p.stands)).0)) a w
 
 -- up past the left children that the passed part begins with
 pub comes_back : (first : ℕ) (nodes : List Node) (to : ℕ) (t : ℤ) (place : ℕ) (left : ℤ) (odd : ℕ) → PassedBack first nodes to t place left → IsOddPart (place + 1) odd → ComesBack first nodes to t (odd - 2) left
 comes_back first nodes to t place left odd p o = go o.zeros place p o.splits
   where
     go : (k place : ℕ) → PassedBack first nodes to t place left → place + 1 ≡ odd * 2 ^ k → ComesBack first nodes to t (odd - 2) left
-    go zero place p e =
-        record {
-          odd = λ some. omega arith;
-          passed = λ some. subst (λ (n : ℕ). PassedBack first nodes to t n left) (let g : place ≡ odd - 2 + 1 = omega arith in g) p;
-          none = λ z. rise_root first nodes to t place left p (omega arith);
-        }
+    go zero place p e = grind (arith, ints, rise_root)
     go (suc k) place p e =
         let twice : odd * 2 ^ suc k ≡ odd * (2 * 2 ^ k) = ap (λ (x : ℕ). odd * x) (pow-succ' 2 k) in
         go k ((place - 1) / 2) (rise_same first nodes to t place left p (λ u. omega arith)) (omega arith)

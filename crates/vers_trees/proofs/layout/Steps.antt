@@ -21,25 +21,14 @@ odd_most n odd p = let a = le-mul_of_pos_right odd (pow_pos p.zeros) in omega ar
 
 -- an odd number above 1 has as many digits as the number before it
 digits_odd : (n : ℕ) → 1 < n → n % 2 ≡ 1 → digits n ≡ digits (n - 1)
-digits_odd n some odd =
-    let a = digits_half n (omega arith) in
-    let b = digits_half (n - 1) (omega arith) in
-    let same : digits (n / 2) ≡ digits ((n - 1) / 2) = ap digits (let g : n / 2 ≡ (n - 1) / 2 = omega arith in g) in
-    omega arith
+digits_odd n some odd = grind (arith, digits_half)
 
 -- the node after the parent of a right child is a level up at least
 pub digits_after : (node odd : ℕ) → 0 < node → node % 2 ≡ 0 → IsOddPart ((node - 1) / 2 + 2) odd → digits odd + 1 ≤ digits (node + 1)
 digits_after node odd some even p =
     let most = odd_most _ _ p in
     let half = digits_half (node + 1) (omega arith) in
-    let here : digits ((node + 1) / 2) ≡ digits (node / 2) = ap digits (let g : (node + 1) / 2 ≡ node / 2 = omega arith in g) in
-    ⊎_elim
-    (λ (low : odd < node / 2 + 1). let u = digits_up odd (node / 2) (omega arith) in omega arith)
-    (λ (high : node / 2 + 1 ≤ odd).
-    let h = digits_odd odd (omega arith) p.ends in
-    let e : digits (odd - 1) ≡ digits (node / 2) = ap digits (let g : odd - 1 ≡ node / 2 = omega arith in g) in
-    omega arith)
-    (cases_lt odd (node / 2 + 1))
+    grind (arith, digits_up, digits_odd)
 
 -- the node before the parent of a left child is a level up at least
 pub digits_before : (node odd : ℕ) → node % 2 ≡ 1 → IsOddPart ((node - 1) / 2 + 1) odd → digits (odd - 2 + 1) + 1 ≤ digits (node + 1)
@@ -65,16 +54,10 @@ pub one_of_two : (b : Bool) → bool_byte b ≤ 1
 one_of_two b = let e = byte_value b in let h = bit_value_le b in omega arith
 
 pub read_down : (a b c : Reads) (node child : ℕ) → (child + 1) / 2 ≡ node + 1 → AddsAtMost a b (only_nodes (digits (node + 1) - 1)) → AddsAtMost b c (only_nodes 1) → AddsAtMost a c (only_nodes (digits (child + 1) - 1))
-read_down a b c node child e p q =
-    let d = digits_child (node + 1) (child + 1) e (omega arith) in
-    let s = digit_some (node + 1) (omega arith) in
-    adds_then p q (grind arith)
+read_down a b c node child e p q = grind (arith, digits_child, digit_some, adds_then)
 
 pub down_ends : (a b : Reads) (node first : ℕ) → node ≤ 2 * first → AddsAtMost a b (only_nodes (digits (node + 1) - 1)) → AddsAtMost a b (only_nodes (digits first))
-down_ends a b node first h p =
-    let u = digits_up (node + 1) (2 * first + 1) (omega arith) in
-    let d = digits_child first (2 * first + 1) (omega arith) (omega arith) in
-    adds_weaker p (grind arith)
+down_ends a b node first h p = grind (arith, digits_up, digits_child, adds_weaker)
 
 -- climbing: at most a node read at each level
 pub read_up : (a b c : Reads) (first node up : ℕ) → node ≤ 2 * first → digits (up + 1) + 1 ≤ digits (node + 1) → AddsAtMost a b (only_nodes (digits (2 * first + 1) - digits (node + 1))) → AddsAtMost b c (only_nodes 1) → AddsAtMost a c (only_nodes (digits (2 * first + 1) - digits (up + 1)))
@@ -83,19 +66,11 @@ read_up a b c first node up h d p q =
     adds_then p q (grind arith)
 
 pub up_ends : (a b : Reads) (first node : ℕ) → node ≤ 2 * first → AddsAtMost a b (only_nodes (digits (2 * first + 1) - digits (node + 1))) → AddsAtMost a b (only_nodes (2 * digits first))
-up_ends a b first node h p =
-    let d = digits_child first (2 * first + 1) (omega arith) (omega arith) in
-    let s = digit_some (node + 1) (omega arith) in
-    adds_weaker p (grind arith)
+up_ends a b first node h p = grind (arith, digits_child, digit_some, adds_weaker)
 
 -- the last step up, which reads a node, and then nothing or the way down
 up_then : (a b c : Reads) (first node : ℕ) → node ≤ 2 * first → 0 < node → AddsAtMost a b (only_nodes (digits (2 * first + 1) - digits (node + 1))) → AddsAtMost b c (only_nodes 1) → AddsAtMost a c (only_nodes (digits first))
-up_then a b c first node h some p q =
-    let d = digits_child first (2 * first + 1) (omega arith) (omega arith) in
-    let e = digits_child ((node + 1) / 2) (node + 1) (omega arith) (omega arith) in
-    let s = digit_some ((node + 1) / 2) (omega arith) in
-    let u = digits_up (node + 1) (2 * first + 1) (omega arith) in
-    adds_then p q (grind arith)
+up_then a b c first node h some p q = grind (arith, digits_child, digit_some, digits_up, adds_then)
 
 pub up_then_down : (a b c d : Reads) (first node : ℕ) → node ≤ 2 * first → 0 < node → AddsAtMost a b (only_nodes (digits (2 * first + 1) - digits (node + 1))) → AddsAtMost b c (only_nodes 1) → AddsAtMost c d (only_nodes (digits first)) → AddsAtMost a d (only_nodes (2 * digits first))
 up_then_down a b c d first node h some p q r = adds_then (up_then a b c first node h some p q) r (grind arith)

@@ -44,11 +44,7 @@ width_is leaves w h =
     let one = digit_some (w - 1) (omega arith) in
     ⊎_elim
     (λ (x : 0 < clog leaves). let e : h.exponent ≡ clog leaves = omega arith in let q : 2 ^ clog leaves ≡ w = ap (λ (n : ℕ). 2 ^ n) (sym e) ∙ p in omega arith)
-    (λ (x : clog leaves ≤ 0).
-    let e : h.exponent ≡ 1 = omega arith in let z : clog leaves ≡ 0 = omega arith in
-    let q : 2 ^ h.exponent ≡ 2 = ap (λ (n : ℕ). 2 ^ n) e in
-    let r : 2 ^ clog leaves ≡ 1 = ap (λ (n : ℕ). 2 ^ n) z in
-    omega arith)
+    (grind arith)
     (cases_lt 0 (clog leaves))
 
 some_counted : (size n : ℕ) → 0 < n → (node_count size n ≡ block_count size n + max 1 (2 ^ clog (block_count size n) - 1)) × (levels size n ≡ max 1 (clog (block_count size n)) + 1)
@@ -61,10 +57,7 @@ unfolding node_count
 no_nodes_counted size n nodes z e = rw (z, e) refl
 
 pub nodes_counted : (l : List Bool) (size first : ℕ) (nodes : List Node) → 0 < length l → IsWidth (block_count size (length l)) (first + 1) → length nodes ≡ first + block_count size (length l) → length nodes ≡ node_count size (length l)
-nodes_counted l size first nodes some w c =
-    let e = width_is (block_count size (length l)) (first + 1) w in
-    let n = (some_counted size (length l) some).0 in
-    omega arith
+nodes_counted l size first nodes some w c = grind (arith, width_is, some_counted)
 
 -- ---- the blocks
 pub no_blocks : (l : List Bool) (size first : ℕ) (nodes : List Node) → length nodes ≡ first → AreFirstBlocks l size first 0 nodes
@@ -85,26 +78,13 @@ block_added l size first n nodes x b p =
     }
 
 are_blocks : (l : List Bool) (size first : ℕ) (nodes : List Node) → 0 < size → AreFirstBlocks l size first (block_count size (length l)) nodes → AreBlocks l size (drop first nodes)
-are_blocks l size first nodes so b =
-    let d = length-drop first nodes in
-    record {
-      some = so;
-      enough = enough (length l) size so (omega arith);
-      part = λ k h. subst (λ (y : Node). IsPart l (k * size) (min (k * size + size) (length l)) y) (sym (get_or-drop first nodes k empty_node)) (b.part k (omega arith));
-    }
-  where
-    enough : (n size : ℕ) → 0 < size → length (drop first nodes) ≡ block_count size n → n ≤ length (drop first nodes) * size
-    enough n size so e = subst (λ (m : ℕ). n ≤ m * size) (sym e) (div_ceil_times n size so).0
+are_blocks l size first nodes so b = grind (arith, length-drop, get_or-drop)
 
 pub blocks_are_leaves : (l : List Bool) (size first : ℕ) (nodes : List Node) → 0 < size → length l < 2 ^ 63 → AreFirstBlocks l size first (block_count size (length l)) nodes → AreLeaves (drop first nodes)
 blocks_are_leaves l size first nodes so short b = leaves_of l size (drop first nodes) (are_blocks l size first nodes so b) short
 
 one_at_least : (n size : ℕ) → 0 < size → 0 < n → 0 < block_count size n
-one_at_least n size so h = go (block_count size n) (div_ceil_times n size so).0
-  where
-    go : (b : ℕ) → n ≤ b * size → 0 < b
-    go zero d = absurd (omega arith)
-    go (suc b) d = omega arith
+one_at_least n size so h = grind (arith, div_ceil_times)
 
 pub tree_made : (l : List Bool) (size first : ℕ) (leaves nodes : List Node) → 0 < size → 0 < length l → length l < 2 ^ 63 → IsWidth (block_count size (length l)) (first + 1) → AreFirstBlocks l size first (block_count size (length l)) leaves → length nodes ≡ length leaves → drop first nodes ≡ drop first leaves → CoveredFrom first nodes 0 → IsTreeOf l size first nodes
 tree_made l size first leaves nodes so some short w b n e c =

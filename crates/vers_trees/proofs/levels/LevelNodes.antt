@@ -77,10 +77,7 @@ level_ancestor_is_search F v t h some = by_answer (last_rise_before (text F) v (
     let r = above_is_around F v t a h m in
     let k = r.2 in
     let da = depth_is_excess F a k in let dv = depth_is_excess F v h in
-    e ∙ sym (first_node F _ _ (at_depth_decides F v t) a k ((omega arith, omega arith), omega (arith, ints)) (λ w x kw g.
-    let dw = depth_is_excess F w kw in let d = g.1 in
-    let u = kw.closes.above a x (omega arith) in
-    omega (arith, ints))))
+    e ∙ sym (first_node F _ _ (at_depth_decides F v t) a k ((omega arith, omega arith), omega (arith, ints)) (grind (arith, ints, depth_is_excess))))
 
 -- no node is so deep
 depth_small : (F : Forest) (v : ℕ) → HasPair F v → depth F v < length (text F)

@@ -19,10 +19,7 @@ node_iff_bit bits v b =
 
 pub node_iff_one : (bits : List Bool) (v : ℕ) → IsBalanced bits → IsNode (forest_of bits) v ↔ (slice_get bits v ≡ Some true)
 node_iff_one bits v b =
-    let n = node_iff_bit bits v b in (
-      λ h. let e = n.0 h in slice_get-get_or bits v false (bit_inside bits v e) ∙ ap Some e,
-      λ h. n.1 (get_or_from_slice_get bits v true false h),
-    )
+    let n = node_iff_bit bits v b in grind (arith, slice_get-get_or, bit_inside, get_or_from_slice_get)
 
 -- a bit read as a number
 got_one : (o : Option Bool) → (o ≡ Some true) ↔ (option_map bit_value o ≡ Some 1)
@@ -31,10 +28,7 @@ got_one (Some true) = (λ h. refl, λ h. refl)
 got_one (Some false) = (λ h. absurd (cc), λ h. absurd (let e = same_Some 0 1 h in omega arith))
 
 pub node_iff_got : (bits : List Bool) (v : ℕ) → IsBalanced bits → IsNode (forest_of bits) v ↔ (option_map bit_value (slice_get bits v) ≡ Some 1)
-node_iff_got bits v b =
-    let n = node_iff_one bits v b in
-    let g = got_one (slice_get bits v) in
-    (λ h. g.0 (n.0 h), λ h. n.1 (g.1 h))
+node_iff_got bits v b = grind (arith, node_iff_one, got_one)
 
 -- ---- members that ascend, the first of them from n on
 abbrev pub AscendsFrom : ℕ → List ℕ → Type 0
@@ -162,8 +156,7 @@ levels_go_back F d = (
 pub levels_are_parts : (F : Forest) (d : ℕ) → length (level F d) ≤ length (nodes F)
 unfolding level
 levels_are_parts F d =
-    let b = length-filter_both (λ v. eqb (depth F v) d) (λ v. not (eqb (depth F v) d)) (λ v. refl) (nodes F) in
-    omega arith
+    omega (arith, length-filter_both (λ v. eqb (depth F v) d) (λ v. not (eqb (depth F v) d)) (λ v. refl) (nodes F))
 
 -- ---- a walk along a level, by any handles of nodes
 pub take_next : (xs : List ℕ) (n x : ℕ) → slice_get xs n ≡ Some x → take (n + 1) xs ≡ take n xs ++ x ∷ []

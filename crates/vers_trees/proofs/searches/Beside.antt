@@ -13,11 +13,7 @@ stored_same d r e = eq-eqb _ _ (ap (of_z w64) e)
 -- ---- right after
 pub right_after : (l : List Bool) (i : ℕ) (r d : ℤ) (b : Bool) → FitsSigned w64 r → i + 1 < length l → b ≡ get_or l (i + 1) false → d ≡ bit_step b → IsTrue (nat_eq (of_z w64 d) (of_z w64 r)) ↔ (first_rise_after l i r ≡ Some (i + 1))
 right_after l i r d b f h e q =
-    let s = bit_is l (i + 1) (i + 1 + 1) b d refl h e q in (
-      (λ t. let same = same_stored d r (step_fits b d q) f t in
-          after_is l i r (i + 1) (record { after = omega arith; inside = h; sum = omega (arith, ints); first = λ k x y. absurd (omega arith) })),
-      (λ found. let a = (after_some l i r (i + 1) found).sum in stored_same d r (omega (arith, ints))),
-    )
+    let s = bit_is l (i + 1) (i + 1 + 1) b d refl h e q in grind (arith, ints, same_stored, step_fits, after_is, after_some, stored_same)
 
 pub nothing_after : (l : List Bool) (i : ℕ) (r : ℤ) → length l ≤ i + 1 → IsTrue false ↔ (first_rise_after l i r ≡ Some (i + 1))
 nothing_after l i r h = ((λ t. absurd (cc)), (λ found. let a = (after_some l i r (i + 1) found).inside in absurd (omega arith)))
@@ -29,12 +25,7 @@ turned_step false = refl
 
 pub right_before : (l : List Bool) (i : ℕ) (r d : ℤ) (b : Bool) → FitsSigned w64 r → 0 < i → i < length l → b ≡ get_or l (i - 1) false → d ≡ bit_step (not b) → IsTrue (nat_eq (of_z w64 d) (of_z w64 r)) ↔ (last_rise_before l i r ≡ Some (i - 1))
 right_before l i r d b f some h e q =
-    let up = bit_is l (i - 1) i b (bit_step b) (omega arith) (omega arith) e refl in let t : d ≡ pos 0 -ℤ bit_step b = q ∙ turned_step b in
-    let s : excess l (i - 1) ≡ excess l i +ℤ d = omega (arith, ints) in (
-      (λ t. let same = same_stored d r (step_fits (not b) d q) f t in
-          before_is l i r (i - 1) (record { before = omega arith; inside = h; sum = omega (arith, ints); last = λ k x y. absurd (omega arith) })),
-      (λ found. let a = (before_some l i r (i - 1) found).sum in stored_same d r (omega (arith, ints))),
-    )
+    let up = bit_is l (i - 1) i b (bit_step b) (omega arith) (omega arith) e refl in grind (arith, ints, turned_step, same_stored, step_fits, before_is, before_some, stored_same)
 
 -- ---- what the queries of a tree answer, in the words of the code
 pub enclosing_open : (l : List Bool) (i : ℕ) → get_or l i false ≡ true → last_rise_before l i (negsuc 0) ≡ enclosing l i

@@ -20,10 +20,7 @@ octal_small ds i e h =
 
 -- the digit before
 pub octal_more : (ds : List ℕ) (x number d : ℕ) → 0 < x → x ≤ length ds → number ≡ octal (drop x ds) → 8 * number + get_or ds (x - 1) d ≡ octal (drop (x - 1) ds)
-octal_more ds x number d some h e =
-    let c = ap octal (drop-cons ds (x - 1) d (omega arith)) in
-    let g : octal (drop (suc (x - 1)) ds) ≡ octal (drop x ds) = ap (λ (n : ℕ). octal (drop n ds)) (let s : suc (x - 1) ≡ x = omega arith in s) in
-    omega arith
+octal_more ds x number d some h e = grind (arith, ints, drop-cons)
 
 -- digit x
 pub octal-digit : (ds : List ℕ) (x : ℕ) → AreOctal ds → x < length ds → octal ds / 2 ^ (3 * x) % 8 ≡ get_or ds x 7
@@ -52,10 +49,7 @@ met_nothing from_end bits places all = grind (arith, ints, no_sum)
 
 -- a step at a bit adds to the sum
 step_by : (from_end b : Bool) → step_along from_end b ≡ cond from_end (pos 0 -ℤ bit_step b) (bit_step b)
-step_by true true = refl
-step_by true false = refl
-step_by false true = refl
-step_by false false = refl
+step_by from_end b = grind (arith, ints)
 
 next_sum : (from_end : Bool) (bits : List Bool) (n : ℕ) → length bits ≡ 8 → n < 8 → sum_along from_end bits (n + 1) ≡ sum_along from_end bits n +ℤ step_along from_end (get_or bits (place_along from_end n) false)
 next_sum false bits n e h = let s = excess_after_bit bits n false (omega arith) in let t = step_by false (get_or bits n false) in omega (arith, ints)
@@ -70,10 +64,7 @@ pub bit_taken : (bits : List Bool) (byte place : ℕ) (b : Bool) → IsByte bits
 bit_taken bits byte place b is e = grind (arith, ints, bit_at-number)
 
 by_one : (from_end b : Bool) → (step_along from_end b ≡ pos 1) ⊎ (step_along from_end b ≡ negsuc 0)
-by_one true true = inr refl
-by_one true false = inl refl
-by_one false true = inl refl
-by_one false false = inr refl
+by_one from_end b = grind (arith, ints)
 
 -- what was met before stays so
 later : (from_end : Bool) (bits : List Bool) (n x p : ℕ) → IsFirstMet from_end bits n x p → IsFirstMet from_end bits (n + 1) x p

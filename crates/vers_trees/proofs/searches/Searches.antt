@@ -30,14 +30,7 @@ by_answer (Some j) n s = s j refl
 -- a search by a test that decides P
 pub find_first : (test : ℕ → Bool) (P : ℕ → Type 0) → ((k : ℕ) → Decides (test k) (P k)) → (a n : ℕ) → MatchOption (find test (range_with_len a n)) ((k : ℕ) → a ≤ k → k < a + n → P k → ⊥) (λ j. IsFirst P a (a + n) j)
 find_first test P d a zero = λ k x y p. omega arith
-find_first test P d a (suc n) = go (test a) refl (find test (range_with_len (a + 1) n)) (find_first test P d (a + 1) n)
-  where
-    go : (b : Bool) → test a ≡ b → (o : Option ℕ) → MatchOption o ((k : ℕ) → a + 1 ≤ k → k < a + 1 + n → P k → ⊥) (λ j. IsFirst P (a + 1) (a + 1 + n) j) → MatchOption (cond b (Some a) o) ((k : ℕ) → a ≤ k → k < a + suc n → P k → ⊥) (λ j. IsFirst P a (a + suc n) j)
-    go true e o h = record { from = omega arith; below = omega arith; holds = (d a).0 e; first = λ k x y p. omega arith }
-    go false e None h = λ k x y p. ⊎_elim (λ (s : a ≡ k). let t = (d a).1 (subst P (sym s) p) in cc) (λ (s : a < k). h k (omega arith) (omega arith) p) (eq-or-lt_of_le x)
-    go false e (Some j) h =
-        let b = h.below in
-        record { from = omega arith; below = omega arith; holds = h.holds; first = λ k x y p. ⊎_elim (λ (s : a ≡ k). let t = (d a).1 (subst P (sym s) p) in cc) (λ (s : a < k). h.first k (omega arith) y p) (eq-or-lt_of_le x) }
+find_first test P d a (suc n) = grind (arith, find_first test P d (a + 1) n)
 
 pub find_is : (test : ℕ → Bool) (P : ℕ → Type 0) → ((k : ℕ) → Decides (test k) (P k)) → (a n j : ℕ) → IsFirst P a (a + n) j → find test (range_with_len a n) ≡ Some j
 find_is test P d a n j r = found_is _ ((k : ℕ) → a ≤ k → k < a + n → P k → ⊥) (IsFirst P a (a + n)) j (find_first test P d a n) (λ h. h j r.from r.below r.holds)
@@ -60,14 +53,7 @@ find_last test P d zero = λ k y p. omega arith
 find_last test P d (suc n) =
     let e : suc n ≡ n + 1 = omega arith in
     let more = ap (λ (m : ℕ). last_or None (filter test (range_with_len 0 m))) e ∙ ap (last_or None) (filter_more test n) ∙ last_append None (filter test (range_with_len 0 n)) (cond (test n) (n ∷ []) []) in
-    subst (λ (o : Option ℕ). MatchOption o ((k : ℕ) → k < suc n → P k → ⊥) (λ j. IsLast P (suc n) j)) (sym more) (go (test n) refl (last_or None (filter test (range_with_len 0 n))) (find_last test P d n))
-  where
-    go : (b : Bool) → test n ≡ b → (o : Option ℕ) → MatchOption o ((k : ℕ) → k < n → P k → ⊥) (λ j. IsLast P n j) → MatchOption (last_or o (cond b (n ∷ []) [])) ((k : ℕ) → k < suc n → P k → ⊥) (λ j. IsLast P (suc n) j)
-    go true e o h = record { below = omega arith; holds = (d n).0 e; last = λ k x y p. omega arith }
-    go false e None h = λ k y p. ⊎_elim (λ (s : k < n). h k s p) (λ (s : n ≤ k). let t = (d n).1 (subst P (omega arith) p) in cc) (cases_lt k n)
-    go false e (Some j) h =
-        let b = h.below in
-        record { below = omega arith; holds = h.holds; last = λ k x y p. ⊎_elim (λ (s : k < n). h.last k x s p) (λ (s : n ≤ k). let t = (d n).1 (subst P (omega arith) p) in cc) (cases_lt k n) }
+    grind (arith, find_last test P d n)
 
 pub last_is : (test : ℕ → Bool) (P : ℕ → Type 0) → ((k : ℕ) → Decides (test k) (P k)) → (n j : ℕ) → IsLast P n j → last_or None (filter test (range_with_len 0 n)) ≡ Some j
 last_is test P d n j r = found_is _ ((k : ℕ) → k < n → P k → ⊥) (IsLast P n) j (find_last test P d n) (λ h. h j r.below r.holds)

@@ -23,10 +23,7 @@ before p [] = []
 before p (b ∷ l) = p ∷ before b l
 
 or_values : (b p : Bool) → bit_or (bit_value b) (bit_value p) ≡ bit_value (b || p)
-or_values true true = refl
-or_values true false = refl
-or_values false true = refl
-or_values false false = refl
+or_values b p = grind (arith, ints)
 
 before_is : (p : Bool) (n : ℕ) (l : List Bool) → length l ≡ suc n → before p l ≡ p ∷ take n l
 before_is p n [] e = absurd (omega arith)
@@ -38,14 +35,7 @@ or_ones : (p : Bool) (l : List Bool) → count_ones (bit_or (number l) (number (
 or_ones p [] = let z = zero_ones in omega arith
 or_ones p (b ∷ l) =
     let a = or_block 1 (number l) (number (before b l)) (bit_value b) (bit_value p) (bit_small b) (bit_small p) in
-    let e : bit_or (number (b ∷ l)) (number (before p (b ∷ l))) ≡ bit_or (number l) (number (before b l)) * 2 ^ 1 + bit_value (b || p) =
-    rw (number_next b l, number_next p (before b l)) (a ∙ ap (λ (n : ℕ). bit_or (number l) (number (before b l)) * 2 ^ 1 + n) (or_values b p)) in
-    one b p (ap count_ones e ∙ ones_next _ (b || p)) (or_ones b l)
-  where
-    one : (b p : Bool) → count_ones (bit_or (number (b ∷ l)) (number (before p (b ∷ l)))) ≡ bit_value (b || p) + count_ones (bit_or (number l) (number (before b l))) → count_ones (bit_or (number l) (number (before b l))) + falls b l ≡ length l → count_ones (bit_or (number (b ∷ l)) (number (before p (b ∷ l)))) + falls p (b ∷ l) ≡ length (b ∷ l)
-    one true p c h = omega arith
-    one false true c h = omega arith
-    one false false c h = omega arith
+    grind (arith, ints, number_next, or_values, ones_next, or_ones b l)
 
 pub falls_counted : (l : List Bool) (word : ℕ) → length l ≡ 64 → word ≡ number l → falls false l + count_ones (bit_or word (word * 2 % 18446744073709551616)) ≡ 64
 falls_counted l word h e =
@@ -69,10 +59,7 @@ after [] = []
 after (b ∷ l) = is_not_closed l ∷ after l
 
 and_values : (b p : Bool) → bit_and (bit_value b) (bit_value p) ≡ bit_value (b && p)
-and_values true true = refl
-and_values true false = refl
-and_values false true = refl
-and_values false false = refl
+and_values b p = grind (arith, ints)
 
 number-after : (b : Bool) (l : List Bool) → number (after (b ∷ l)) ≡ number l + 2 ^ length l
 number-after b [] = refl
@@ -127,10 +114,7 @@ less_fits rise d f low a b = rw (to_z-of_z w64 rise f) (fits_small (rise -ℤ d)
 
 pub less_is : (target rise d : ℤ) → FitsSigned w64 target → FitsSigned w64 rise → negsuc 9223372036854775743 ≤ℤ rise → pos 0 ≤ℤ d → d ≤ℤ pos 64
     → IsTrue (lt_z (to_z w64 (of_z w64 target)) (to_z w64 (of_z w64 (to_z w64 (of_z w64 rise) -ℤ d)))) → target <ℤ (rise -ℤ d)
-less_is target rise d f g low a b t =
-    let e : to_z w64 (of_z w64 (to_z w64 (of_z w64 rise) -ℤ d)) ≡ rise -ℤ d = to_z-of_z w64 (to_z w64 (of_z w64 rise) -ℤ d) (less_fits rise d g low a b) ∙ ap (λ (z : ℤ). z -ℤ d) (to_z-of_z w64 rise g) in
-    let k = rw (to_z-of_z w64 target f, e) at t in
-    grind (arith, ints, k)
+less_is target rise d f g low a b t = grind (arith, ints, to_z-of_z, less_fits)
 
 -- a word is read beside other bits
 pub word_counted : (a b c : Reads) (n m : ℕ) → n + 2 ≤ m → AddsAtMost a b (scan_reads n) → AddsAtMost b c get_bits_reads → AddsAtMost a c (scan_reads m)

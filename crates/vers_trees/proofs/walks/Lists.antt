@@ -1,5 +1,5 @@
 -- Lists of places: moved to the right, and those of a list that follows another.
-use Rattle.vers_trees.proofs.Words.{◌≡◌, ℕ, zero, suc, ◌+◌, ◌<◌, Bool, true, false, cond, List, [], ◌∷◌, ◌++◌, map, length, get_or, arith, subst, sym, refl, ap, ◌∙◌, negsuc, Some, inl, inr, filter, All, range_with_len, map-append, append_assoc, All-nil, All-cons, All-head, All-tail, All-append, All-map, All-weaker, is_bit, places, moved, Forest, none, tree, text, last_rise_before, opening_of, pairs_by_closing, postorder}
+use Rattle.vers_trees.proofs.Words.{◌≡◌, ℕ, zero, suc, ◌+◌, ◌<◌, Bool, true, false, cond, List, [], ◌∷◌, ◌++◌, map, length, get_or, arith, subst, sym, refl, ap, ◌∙◌, negsuc, Some, inl, inr, filter, All, range_with_len, map-append, append_assoc, All-nil, All-cons, All-head, All-tail, All-append, All-map, All-weaker, is_bit, places, moved, Forest, none, tree, text, last_rise_before, opening_of, pairs_by_closing, postorder, Option, unwrap_or}
 use Rattle.vers_trees.proofs.grammar.Paired.{Paired, paired_closes}
 use Rattle.vers_trees.proofs.grammar.Pairs.{PairedIn}
 use Rattle.vers_trees.proofs.kin.Partners.{before_from_closes}
@@ -34,16 +34,7 @@ shifted-append n xs ys = map-append (λ v. n + v) xs ys
 -- numbers that pass a test, moved by one
 filter_next : (p q : ℕ → Bool) (a n : ℕ) → ((i : ℕ) → p (i + 1) ≡ q i) → filter p (range_with_len (a + 1) n) ≡ shifted 1 (filter q (range_with_len a n))
 filter_next p q a zero h = refl
-filter_next p q a (suc n) h = go (filter_next p q (a + 1) n h) (q a) refl
-  where
-    go : filter p (range_with_len (a + 1 + 1) n) ≡ shifted 1 (filter q (range_with_len (a + 1) n)) → (b : Bool) → q a ≡ b → filter p (range_with_len (a + 1) (suc n)) ≡ shifted 1 (filter q (range_with_len a (suc n)))
-    go ih true e =
-        let t : p (a + 1) ≡ true = h a ∙ e in
-        let s : a + 1 ≡ 1 + a = omega arith in
-        rw (t, e) (ap (λ (x : ℕ). x ∷ filter p (range_with_len (a + 1 + 1) n)) s ∙ ap (λ (xs : List ℕ). (1 + a) ∷ xs) ih)
-    go ih false e =
-        let t : p (a + 1) ≡ false = h a ∙ e in
-        rw (t, e) ih
+filter_next p q a (suc n) h = grind (arith, filter_next p q (a + 1) n h)
 
 pub places-cons : (bit b : Bool) (l : List Bool) → places bit (b ∷ l) ≡ cond (is_bit bit b) (0 ∷ []) [] ++ shifted 1 (places bit l)
 unfolding places
@@ -125,16 +116,13 @@ closing_paired (tree X Y) =
     (All-map (PairedIn (tree X Y)) (moved 1) (pairs_by_closing X) first)
     (All-cons (PairedIn (tree X Y)) (0, length (text X) + 1) (map (moved n) (pairs_by_closing Y)) (inl (refl, refl)) (All-map (PairedIn (tree X Y)) (moved n) (pairs_by_closing Y) rest))
 
+-- what holds of one place of each pair and the other holds of the lists of them
+pub mapped_all : (f : ℕ → ℕ) (a b : ℕ × ℕ → ℕ) (qs : List (ℕ × ℕ)) → All (λ q. f (a q) ≡ b q) qs → map f (map a qs) ≡ map b qs
+mapped_all f a b [] h = refl
+mapped_all f a b (q ∷ qs) h = rw (All-head (λ q. f (a q) ≡ b q) q qs h, mapped_all f a b qs (All-tail (λ q. f (a q) ≡ b q) q qs h)) refl
+
 -- a search backwards from where a pair closes finds where it opens
-abbrev pub FindsOpening : List Bool → ℕ × ℕ → Type 0
-FindsOpening l q = last_rise_before l q.1 (negsuc 0) ≡ Some q.0
-
-pub all_opened : (l : List Bool) (qs : List (ℕ × ℕ)) → All (FindsOpening l) qs → map (opening_of l) (closing_places qs) ≡ opening_places qs
-all_opened l [] h = refl
-all_opened l (q ∷ qs) h = rw (All-head (FindsOpening l) q qs h, all_opened l qs (All-tail (FindsOpening l) q qs h)) refl
-
-pub all_find : (F : Forest) → All (FindsOpening (text F)) (pairs_by_closing F)
-all_find F = All-weaker (PairedIn F) (FindsOpening (text F)) (λ q h. before_is (text F) q.1 (negsuc 0) q.0 (before_from_closes (text F) q.0 q.1 (paired_closes F q.0 q.1 h))) (pairs_by_closing F) (closing_paired F)
-
 pub postorder_opens : (F : Forest) → map (opening_of (text F)) (places false (text F)) ≡ postorder F
-postorder_opens F = ap (λ (xs : List ℕ). map (opening_of (text F)) xs) (sym (closing_is_zeros F)) ∙ all_opened (text F) (pairs_by_closing F) (all_find F)
+postorder_opens F =
+    let opens = All-weaker (PairedIn F) (λ q. opening_of (text F) q.1 ≡ q.0) (λ q h. ap (λ (o : Option ℕ). unwrap_or o 0) (before_is (text F) q.1 (negsuc 0) q.0 (before_from_closes (text F) q.0 q.1 (paired_closes F q.0 q.1 h)))) (pairs_by_closing F) (closing_paired F) in
+    ap (map (opening_of (text F))) (sym (closing_is_zeros F)) ∙ mapped_all (opening_of (text F)) (λ q. q.1) (λ q. q.0) (pairs_by_closing F) opens

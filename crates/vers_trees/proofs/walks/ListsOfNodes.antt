@@ -7,7 +7,7 @@ use Rattle.vers_trees.proofs.kin.NodeList.{HasPair, nodes_are_ones, node_pair, c
 use Rattle.vers_trees.proofs.kin.Around.{Decides-leb, ancestor_decides, below_counted}
 use Rattle.vers_trees.proofs.grammar.Pairs.{one_if, count_by-cons}
 use Rattle.vers_trees.proofs.kin.Kin.{filter_agree}
-use Rattle.vers_trees.proofs.walks.Lists.{opening_places, closing_places, filter_mapped, HasBitAt, all_places, closing_is_zeros, closing_paired, postorder_opens}
+use Rattle.vers_trees.proofs.walks.Lists.{opening_places, closing_places, filter_mapped, HasBitAt, all_places, closing_is_zeros, closing_paired, mapped_all, postorder_opens}
 use Rattle.vers_trees.proofs.levels.NodeLaws.{AscendsFrom, places_ascend}
 
 -- ---- numbers from v up to c
@@ -26,11 +26,7 @@ count_between v c [] h = refl
 count_between v c (x ∷ xs) h =
     let ih = count_between v c xs h in
     let a = count_by-cons (between v c) x xs in let b = count_by-cons (λ w. ltb w v) x xs in let d = count_by-cons (λ w. ltb w (c + 1)) x xs in
-    let e = one v c x h in
-    omega arith
-  where
-    one : (v c x : ℕ) → v ≤ c + 1 → one_if (between v c x) + one_if (ltb x v) ≡ one_if (ltb x (c + 1))
-    one v c x h = grind (arith, nat_tests)
+    grind (arith, ints)
 
 -- of numbers that ascend they are a part
 past_part : (v c n : ℕ) (xs : List ℕ) → AscendsFrom n xs → c < n → filter (between v c) xs ≡ []
@@ -40,10 +36,7 @@ past_part v c n (x ∷ xs) a h = rw (outside v c x (inr (omega arith))) (past_pa
 first_part : (v c n : ℕ) (xs : List ℕ) → AscendsFrom n xs → v ≤ n → filter (between v c) xs ≡ take (length (filter (between v c) xs)) xs
 first_part v c n [] a h = refl
 first_part v c n (x ∷ xs) a h =
-    ⊎_elim
-    (λ (z : c < x). rw (past_part v c x (x ∷ xs) (omega arith, a.1) z) refl)
-    (λ (z : x ≤ c). rw ((between_decides v c x).1 (omega arith, z)) (ap (λ (ys : List ℕ). x ∷ ys) (first_part v c (x + 1) xs a.1 (omega arith))))
-    (cases_lt c x)
+    grind (arith, ints, past_part, between_decides, first_part v c (x + 1) xs a.1 (omega arith))
 
 none_below : (v n : ℕ) (xs : List ℕ) → AscendsFrom n xs → v ≤ n → count_by (λ w. ltb w v) xs ≡ 0
 none_below v n [] a h = refl
@@ -95,13 +88,7 @@ unfolding subtree places_in
 subtree_is F v h = filter_agree (λ w. is_ancestor F v w) (between v (closing F v)) (nodes F) (λ w i. agree w (node_pair F w i)) ∙ ap (filter (between v (closing F v))) (nodes_are_ones F)
   where
     agree : (w : ℕ) → HasPair F w → is_ancestor F v w ≡ between v (closing F v) w
-    agree w k = same_from_decides _ _ (Decides-like (is_ancestor F v w) (λ g. let a = k.closes.after in let b = g.1 in (g.0, omega arith)) (λ g. (g.0, back g.0 g.1)) (ancestor_decides F v w)) (between_decides v (closing F v) w)
-      where
-        back : v ≤ w → w ≤ closing F v → closing F w ≤ closing F v
-        back a b = ⊎_elim
-            (λ (e : v ≡ w). let s : closing F v ≡ closing F w = ap (closing F) e in omega arith)
-            (λ (z : v < w). let n = nested (text F) v (closing F v) w (closing F w) h.closes k.closes z b in omega arith)
-            (eq-or-lt_of_le a)
+    agree w k = grind (arith, ints, same_from_decides, Decides-like, ancestor_decides, between_decides)
 
 pub subtree_size_is : (F : Forest) (v : ℕ) → HasPair F v → 2 * length (subtree F v) + v ≡ closing F v + 1
 subtree_size_is F v h = let s = ap (λ (xs : List ℕ). length xs) (subtree_is F v h) in let p = part_size true F v h in omega arith
@@ -115,18 +102,10 @@ subtree_post_is F v h =
   where
     agree : (k : ℕ) → (w : ℕ) × Paired F w k → is_ancestor F v (opening_of (text F) k) ≡ between v (closing F v) k
     agree k p =
-        let q = paired_closes F p.0 k p.1 in let a = q.after in let c = closing_is F p.0 k p.1 in
-        let o : opening_of (text F) k ≡ p.0 = ap (λ (o : Option ℕ). unwrap_or o 0) (before_is (text F) k (negsuc 0) p.0 (before_from_closes (text F) p.0 k q)) in
-        rw o (same_from_decides _ _ (Decides-like (is_ancestor F v p.0) (λ g. let x = g.0 in let y = g.1 in (omega arith, omega arith)) (λ g.
-        let x = g.0 in let y = g.1 in
-        (⊎_elim (λ (z : p.0 < v). let n = nested (text F) p.0 k v (closing F v) q h.closes z x in absurd (omega arith)) (λ (z : v ≤ p.0). z) (cases_lt p.0 v), omega arith))
-        (ancestor_decides F v p.0)) (between_decides v (closing F v) k))
+        grind (arith, ints, paired_closes, closing_is, before_is, before_from_closes, same_from_decides, Decides-like, nested, ancestor_decides, between_decides)
 
 -- ---- the orders
 pub closes_in_order : (F : Forest) → map (closing F) (postorder F) ≡ places false (text F)
-closes_in_order F = all_closed F (pairs_by_closing F) (closing_paired F) ∙ closing_is_zeros F
-  where
-    all_closed : (F : Forest) (qs : List (ℕ × ℕ)) → All (λ q. Paired F q.0 q.1) qs → map (closing F) (opening_places qs) ≡ closing_places qs
-    all_closed F [] h = refl
-    all_closed F (q ∷ qs) h =
-        ap (λ (c : ℕ). c ∷ map (closing F) (opening_places qs)) (closing_is F q.0 q.1 (All-head (λ q. Paired F q.0 q.1) q qs h)) ∙ ap (λ (xs : List ℕ). q.1 ∷ xs) (all_closed F qs (All-tail (λ q. Paired F q.0 q.1) q qs h))
+closes_in_order F =
+    let closes = All-weaker (λ q. Paired F q.0 q.1) (λ q. closing F q.0 ≡ q.1) (λ q h. closing_is F q.0 q.1 h) (pairs_by_closing F) (closing_paired F) in
+    mapped_all (closing F) (λ q. q.0) (λ q. q.1) (pairs_by_closing F) closes ∙ closing_is_zeros F

@@ -63,19 +63,10 @@ child_member F v i w e =
 
 pub children_few : (F : Forest) (v : ℕ) → length (children F v) ≤ length (text F)
 unfolding nodes_under
-children_few F v =
-    let a = length-filter (λ w. option_eq eqb (parent F w) (Some v)) (nodes F) in
-    let b = count_by-le-length (λ w. option_eq eqb (parent F w) (Some v)) (nodes F) in
-    let c = ap (λ (xs : List ℕ). length xs) (nodes_are_ones F) ∙ length-places true (text F) in
-    let d = (count_le true (text F) (length (text F))).0 in
-    omega arith
+children_few F v = grind (arith, length-filter, count_by-le-length, nodes_are_ones, length-places, count_le)
 
 not_here : (l : List Bool) (p : ℕ) → opened_here l p ≡ None → tree_from l p ≡ None
-not_here l p e = go (get_or l p false) e
-  where
-    go : (b : Bool) → cond b (Some p) None ≡ None → cond b (tree_to p (first_rise_after l p (negsuc 0))) None ≡ None
-    go true e = absurd (cc)
-    go false e = refl
+not_here l p e = grind arith
 
 pub meets_forwards : (F : Forest) (v : ℕ) → HasPair F v → MeetsJust (tree_from (text F)) (v + 1) (children F v)
 meets_forwards F v h = steps_meet (tree_from (text F)) (children F v) (λ p i. slice_get (children F v) i ≡ opened_here (text F) p)
@@ -91,12 +82,7 @@ meets_forwards F v h = steps_meet (tree_from (text F)) (children F v) (λ p i. s
     (sym (first_child_is F v h))
 
 before_step : (l : List Bool) (p : ℕ) → tree_before l p ≡ opened (closed_before l p)
-before_step l zero = refl
-before_step l (suc u) = go (get_or l u true) (last_rise_before l u (negsuc 0))
-  where
-    go : (b : Bool) (o : Option ℕ) → cond b None (opened o) ≡ opened (cond b None o)
-    go true o = refl
-    go false o = refl
+before_step l p = grind arith
 
 pub meets_backwards : (F : Forest) (v : ℕ) → HasPair F v → MeetsJust (tree_before (text F)) (closing F v) (reverse (children F v))
 meets_backwards F v h = steps_meet (tree_before (text F)) (reverse xs) (λ p i. slice_get (reverse xs) i ≡ closed_before (text F) p)
@@ -130,13 +116,7 @@ walk_goes_on l forward p v q w e = go (siblings_left l forward p) w (walk_short 
   where
     go : (vs : List ℕ) → MeetsJust (tree_beside l forward) p vs → length vs ≤ length l → TakesFirst vs (Some v) (siblings_left l forward q) × MeetsJust (tree_beside l forward) q (siblings_left l forward q)
     go [] m h = absurd (cc)
-    go (u ∷ vs) m h =
-        let s : (v, q) ≡ (u, m.0) = cc in
-        let a : v ≡ u = ap (λ (x : ℕ × ℕ). x.0) s in
-        let b : m.0 ≡ q = sym (ap (λ (x : ℕ × ℕ). x.1) s) in
-        let rest = subst (λ (x : ℕ). MeetsJust (tree_beside l forward) x vs) b m.2 in
-        let r = walk_is (tree_beside l forward) (length l) q vs rest (omega arith) in
-        (record { given = ap Some a; left = r }, subst (MeetsJust (tree_beside l forward) q) (sym r) rest)
+    go (u ∷ vs) m h = grind (arith, walk_is)
 
 walk_from : (l : List Bool) (forward : Bool) (p : ℕ) (vs : List ℕ) → MeetsJust (tree_beside l forward) p vs → length vs ≤ length l → (siblings_left l forward p ≡ vs) × IsWalkOfSiblings l forward p
 unfolding siblings_left
@@ -159,10 +139,7 @@ backwards l v c b n e =
 
 -- ---- the tree of a node
 pub within_is : (l : List Bool) (v c : ℕ) → IsBalanced l → IsNode (forest_of l) v → c ≡ closing (forest_of l) v → (v ≤ c) × ((c - v) / 2 + 1 ≡ length (subtree (forest_of l) v))
-within_is l v c b n e =
-    let h = node_pair (forest_of l) v n in
-    let s = subtree_size_is (forest_of l) v h in
-    (omega arith, omega arith)
+within_is l v c b n e = grind (arith, node_pair, subtree_size_is)
 
 pub subtree_inside : (bit : Bool) (l : List Bool) (v : ℕ) → IsBalanced l → IsNode (forest_of l) v → count bit l v + length (subtree (forest_of l) v) ≤ length (places bit l)
 subtree_inside bit l v b n =
@@ -170,17 +147,11 @@ subtree_inside bit l v b n =
     subst (λ (m : List Bool). count bit m v + length (subtree F v) ≤ length (places bit m)) (text-forest_of l b) (let p = part_size bit F v h in let q = subtree_size_is F v h in let i = part_inside bit F v h in omega arith)
 
 pub subtree_part : (l : List Bool) (v : ℕ) → IsBalanced l → IsNode (forest_of l) v → take (length (subtree (forest_of l) v)) (drop (count true l v) (places true l)) ≡ subtree (forest_of l) v
-subtree_part l v b n =
-    let F = forest_of l in let e = subtree_is F v (node_pair F v n) in
-    subst (λ (m : List Bool). take (length (subtree F v)) (drop (count true m v) (places true m)) ≡ subtree F v) (text-forest_of l b)
-    (ap (λ (xs : List ℕ). take (length xs) (drop (count true (text F) v) (places true (text F)))) e ∙ sym (as_part true F v) ∙ sym e)
+subtree_part l v b n = grind (arith, subtree_is, node_pair, text-forest_of, as_part)
 
 pub subtree_post_part : (l : List Bool) (v : ℕ) → IsBalanced l → IsNode (forest_of l) v → map (opening_of l) (take (length (subtree (forest_of l) v)) (drop (count false l v) (places false l))) ≡ subtree_post (forest_of l) v
 subtree_post_part l v b n =
-    let F = forest_of l in let h = node_pair (forest_of l) v n in
-    let same : length (subtree (forest_of l) v) ≡ length (places_in false (forest_of l) v) = (let p = part_size false (forest_of l) v h in let q = subtree_size_is (forest_of l) v h in omega arith) in
-    subst (λ (m : List Bool). map (opening_of m) (take (length (subtree F v)) (drop (count false m v) (places false m))) ≡ subtree_post F v) (text-forest_of l b)
-    (ap (λ (k : ℕ). map (opening_of (text F)) (take k (drop (count false (text F) v) (places false (text F))))) same ∙ ap (map (opening_of (text F))) (sym (as_part false F v)) ∙ sym (subtree_post_is F v h))
+    grind (arith, node_pair, places_in, part_size, subtree_size_is, text-forest_of, as_part, subtree_post_is)
 
 -- ---- handles
 pub ones_are_nodes : (bits : List Bool) (i : ℕ) → IsBalanced bits → i < count true bits (length bits) → IsNode (forest_of bits) (select true bits i)

@@ -5,8 +5,7 @@ use Rattle.vers_trees.proofs.trees.bp.BpTree.enclose_counted.Goals.{then-is_one_
 
 pub returns-then-i-len-clause-value : goal.returns-then-i-len-clause-value
 returns-then-i-len-clause-value g c =
-    let t = c.if-i-len.true in let v = c.len.ensures.value ∙ ap (λ (l : List Bool). length l) c.self.view_is in
-    enclosing_past c.args.self.now c.args.i (omega arith)
+    enclosing_past c.args.self.now c.args.i (omega (arith, c.if-i-len.true, c.len.ensures.value ∙ ap (λ (l : List Bool). length l) c.self.view_is))
 
 pub returns-clause-value : goal.returns-clause-value
 returns-clause-value g c =

@@ -24,18 +24,15 @@ returns-in_err-previous-clause-value g c =
 
 pub overflow_mul-start : goal.overflow_mul-start
 overflow_mul-start g c =
-    let e = previous_ends _ g.row.BLOCK_SIZE (c.args.i - 1) _ c.in_ok-previous.previous _ (let a = c.in_ok-previous.ensures in a.value) in
-    record { fits = omega arith }
+    record { fits = omega (arith, previous_ends _ g.row.BLOCK_SIZE (c.args.i - 1) _ c.in_ok-previous.previous _ (let a = c.in_ok-previous.ensures in a.value)) }
 
 pub overflow_add-start : goal.overflow_add-start
 overflow_add-start g c =
-    let e = previous_ends _ g.row.BLOCK_SIZE (c.args.i - 1) _ c.in_ok-previous.previous _ (let a = c.in_ok-previous.ensures in a.value) in
-    record { fits = omega arith }
+    record { fits = omega (arith, previous_ends _ g.row.BLOCK_SIZE (c.args.i - 1) _ c.in_ok-previous.previous _ (let a = c.in_ok-previous.ensures in a.value)) }
 
 pub scan_backward-requires-2-clause-inside : goal.scan_backward-requires-2-clause-inside
 scan_backward-requires-2-clause-inside g c =
-    let e = previous_ends _ g.row.BLOCK_SIZE (c.args.i - 1) _ c.in_ok-previous.previous _ (let a = c.in_ok-previous.ensures in a.value) in
-    omega arith
+    omega (arith, previous_ends _ g.row.BLOCK_SIZE (c.args.i - 1) _ c.in_ok-previous.previous _ (let a = c.in_ok-previous.ensures in a.value))
 
 pub returns-clause-value : goal.returns-clause-value
 returns-clause-value g c =

@@ -7,8 +7,7 @@ returns-then-i-len-clause-value g c = none_past _ _ _ (omega arith)
 
 pub scan_forward-requires-clause-order : goal.scan_forward-requires-clause-order
 scan_forward-requires-clause-order g c =
-    let f = first_end c.args.self.bits.now g.row.BLOCK_SIZE c.args.i c.requires.some (omega arith) in
-    omega arith
+    omega (arith, first_end c.args.self.bits.now g.row.BLOCK_SIZE c.args.i c.requires.some (omega arith))
 
 pub returns-in-Ok-clause-value : goal.returns-in-Ok-clause-value
 returns-in-Ok-clause-value g c = found_first _ _ _ _ _ (omega arith) (rw (to_z-of_z w64 c.args.r c.ranges.r) at c.in-Ok.ensures.value)
@@ -23,18 +22,15 @@ returns-in_err-next-clause-value g c =
 
 pub overflow_mul-start : goal.overflow_mul-start
 overflow_mul-start g c =
-    let n = next_inside c.args.self.bits.now g.row.BLOCK_SIZE c.args.self.tree.now.first c.args.self.tree.now.nodes c.requires _ _ c.in_ok-next.next _ (omega arith) (let a = c.in_ok-next.ensures in a.value) in
-    record { fits = omega arith }
+    record { fits = omega (arith, next_inside c.args.self.bits.now g.row.BLOCK_SIZE c.args.self.tree.now.first c.args.self.tree.now.nodes c.requires _ _ c.in_ok-next.next _ (omega arith) (let a = c.in_ok-next.ensures in a.value)) }
 
 pub overflow_add-start : goal.overflow_add-start
 overflow_add-start g c =
-    let n = next_inside c.args.self.bits.now g.row.BLOCK_SIZE c.args.self.tree.now.first c.args.self.tree.now.nodes c.requires _ _ c.in_ok-next.next _ (omega arith) (let a = c.in_ok-next.ensures in a.value) in
-    record { fits = omega arith }
+    record { fits = omega (arith, next_inside c.args.self.bits.now g.row.BLOCK_SIZE c.args.self.tree.now.first c.args.self.tree.now.nodes c.requires _ _ c.in_ok-next.next _ (omega arith) (let a = c.in_ok-next.ensures in a.value)) }
 
 pub scan_forward-requires-2-clause-order : goal.scan_forward-requires-2-clause-order
 scan_forward-requires-2-clause-order g c =
-    let n = next_inside c.args.self.bits.now g.row.BLOCK_SIZE c.args.self.tree.now.first c.args.self.tree.now.nodes c.requires _ _ c.in_ok-next.next _ (omega arith) (let a = c.in_ok-next.ensures in a.value) in
-    omega arith
+    omega (arith, next_inside c.args.self.bits.now g.row.BLOCK_SIZE c.args.self.tree.now.first c.args.self.tree.now.nodes c.requires _ _ c.in_ok-next.next _ (omega arith) (let a = c.in_ok-next.ensures in a.value))
 
 pub returns-clause-value : goal.returns-clause-value
 returns-clause-value g c =
