@@ -12,14 +12,7 @@ use Rattle.vers_rmq.proofs.Logs.{size_bounded}
 -- ---- how blocks are made
 pub block_is : (xs : List ℕ) (b e least value : ℕ) (masks : BlockMasks) → e ≡ block_end (length xs) b → AreMasks xs 128 (128 * b) e masks.whole → AreMasks xs 16 (128 * b) e masks.parts
     → IsFirstLeast xs (128 * b) (e - 1) least → value ≡ get_or xs least 0 → IsBlock xs b (least - 128 * b) value masks
-block_is xs b e least value masks ee whole parts best v =
-    let q : 128 * b + (least - 128 * b) ≡ least = omega (arith, best.from) in
-    record {
-      whole = rw (← ee) whole;
-      parts = rw (← ee) parts;
-      best = rw (q, ← ee) best;
-      value = v ∙ ap (λ r. get_or xs r 0) (sym q);
-    }
+block_is xs b e least value masks ee whole parts best v = grind arith
 
 pub add_block : (xs : List ℕ) (b place least : ℕ) (masks : BlockMasks) (mi pl mi2 pl2 : List ℕ) (ms ms2 : List BlockMasks) → AreBlocks xs b mi pl ms → IsBlock xs b place least masks
     → mi2 ≡ mi ++ least ∷ [] → pl2 ≡ pl ++ place ∷ [] → ms2 ≡ ms ++ masks ∷ [] → AreBlocks xs (b + 1) mi2 pl2 ms2
@@ -40,12 +33,7 @@ add_block xs b place least masks mi pl mi2 pl2 ms ms2 h new e1 e2 e3 = rw (e1, e
 })
 
 pub no_blocks : (xs mi pl : List ℕ) (ms : List BlockMasks) → mi ≡ [] → pl ≡ [] → ms ≡ [] → AreBlocks xs 0 mi pl ms
-no_blocks xs mi pl ms e1 e2 e3 = rw (e1, e2, e3) (record {
-  minima_counted = refl;
-  places_counted = refl;
-  masks_counted = refl;
-  block = λ a l. absurd (omega arith);
-})
+no_blocks xs mi pl ms e1 e2 e3 = grind arith
 
 pub all_blocks : (xs mi pl : List ℕ) (ms : List BlockMasks) (b : ℕ) → length xs ≤ MAX_LEN → b ≡ block_count 128 (length xs) → AreBlocks xs b mi pl ms → AreAllBlocks xs mi pl ms
 all_blocks xs mi pl ms b few e h = record { bounded = few; blocks = rw (← e) h }
@@ -54,9 +42,7 @@ all_blocks xs mi pl ms b few e h = record { bounded = few; blocks = rw (← e) h
 pub sizes : (xs mi pl : List ℕ) (ms : List BlockMasks) → AreAllBlocks xs mi pl ms
     → (binary_heap_size (length mi) ≡ binary_heap_size (block_count 128 (length xs))) × (length pl ≡ block_count 128 (length xs)) × (length ms ≡ block_count 128 (length xs))
     × (binary_heap_size (length mi) ≤ 140 * block_count 128 (length xs)) × (length xs ≤ MAX_LEN)
-sizes xs mi pl ms h =
-    let same = ap binary_heap_size h.blocks.minima_counted in
-    (same, h.blocks.places_counted, h.blocks.masks_counted, omega (arith, same, size_bounded (block_count 128 (length xs)) (omega (arith, h.bounded))), h.bounded)
+sizes xs mi pl ms h = grind (arith, size_bounded)
 
 -- ---- what the masks of a block answer
 -- the block of a place
@@ -76,25 +62,15 @@ prefix_some xs ys w j masks e inside zero h = ap (bit_at masks.prefixes) (sym ze
 -- each suffix mask has the last place of the part
 pub suffix_some : (xs ys : List ℕ) (w i : ℕ) (masks : Masks) → xs ≡ ys → i < length ys → i % 128 < w * (i % 128 / w) + w → AreMasks xs w (128 * (i / 128)) (block_end (length xs) (i / 128)) masks
     → 0 < masks.suffixes / 2 ^ (i % 128)
-suffix_some xs ys w i masks e inside before h =
-    some_from masks.suffixes (i % 128) (part_end w (128 * (i / 128)) (block_end (length xs) (i / 128)) (i % 128) - 1 - 128 * (i / 128)) (omega (arith, ap length e))
-    (h.suffixes.ends (i % 128) (omega arith) (omega (arith, ap length e)))
+suffix_some xs ys w i masks e inside before h = grind (arith, some_from)
 
 pub prefix_at : (xs ys : List ℕ) (w f j r : ℕ) (masks : Masks) → xs ≡ ys → j < length ys → f ≡ 128 * (j / 128) + w * (j % 128 / w) → AreMasks xs w (128 * (j / 128)) (block_end (length xs) (j / 128)) masks
     → IsLastSet masks.prefixes (j % 128) r → IsFirstLeast ys f j (128 * (j / 128) + r)
-prefix_at xs ys w f j r masks e inside start h found =
-    let P : List ℕ → Type 0 = λ zs. IsFirstLeast zs f j (128 * (j / 128) + r) in
-    let Q : ℕ → Type 0 = λ n. IsFirstLeast xs n j (128 * (j / 128) + r) in
-    subst P e (subst Q (sym start) (least_ends xs (128 * (j / 128) + w * (j % 128 / w)) (128 * (j / 128) + j % 128) j (128 * (j / 128) + r) (omega arith) (h.prefixes.places (j % 128) r (omega (arith, ap length e)) found)))
+prefix_at xs ys w f j r masks e inside start h found = grind (arith, least_ends)
 
 pub suffix_at : (xs ys : List ℕ) (w i l r : ℕ) (masks : Masks) → xs ≡ ys → i < length ys → l ≡ part_end w (128 * (i / 128)) (block_end (length ys) (i / 128)) (i % 128) → AreMasks xs w (128 * (i / 128)) (block_end (length xs) (i / 128)) masks
     → IsFirstSet masks.suffixes (i % 128) r → IsFirstLeast ys i (l - 1) (128 * (i / 128) + r)
-suffix_at xs ys w i l r masks e inside stop h found =
-    let P : List ℕ → Type 0 = λ zs. IsFirstLeast zs i (l - 1) (128 * (i / 128) + r) in
-    let Q : ℕ → Type 0 = λ n. IsFirstLeast xs n (l - 1) (128 * (i / 128) + r) in
-    let back : 128 * (i / 128) + i % 128 ≡ i = omega arith in
-    subst P e (subst Q back (least_ends xs (128 * (i / 128) + i % 128) (part_end w (128 * (i / 128)) (block_end (length xs) (i / 128)) (i % 128) - 1) (l - 1) (128 * (i / 128) + r) (omega (arith, stop, ap length e))
-    (h.suffixes.places (i % 128) r (omega arith) (omega (arith, ap length e)) found)))
+suffix_at xs ys w i l r masks e inside stop h found = grind (arith, least_ends)
 
 -- ---- ranges over blocks
 -- the least of whole blocks, from the least of their least items
@@ -123,17 +99,11 @@ between xs ys mi pl t ms a c q r h e et inside found place value =
 pub two_parts : (xs ys : List ℕ) (i j m n : ℕ) (a b r : PlacedItem) → xs ≡ ys → i / 128 + 1 ≡ j / 128 → j < length ys
     → IsFirstLeast ys i (min (128 * (i / 128) + 128) (length ys) - 1) m → IsFirstLeast ys (128 * (j / 128)) j n
     → a.place ≡ m → a.value ≡ get_or xs m 0 → b.place ≡ n → b.value ≡ get_or xs n 0 → r ≡ lesser_item a b → IsLeastItem ys i j r
-two_parts xs ys i j m n a b r e next inside left right pa va pb vb v =
-    item_join ys i (min (128 * (i / 128) + 128) (length ys) - 1) (128 * (j / 128)) j a b r
-    (item_at ys i (min (128 * (i / 128) + 128) (length ys) - 1) m a left pa (va ∙ ap (λ zs. get_or zs m 0) e)) (item_at ys (128 * (j / 128)) j n b right pb (vb ∙ ap (λ zs. get_or zs n 0) e))
-    (omega arith) (omega arith) (omega arith) v
+two_parts xs ys i j m n a b r e next inside left right pa va pb vb v = grind (arith, item_join, item_at)
 
 -- the bounds of the blocks between may be spelled otherwise
 pub block_bounds : (xs : List ℕ) (i j : ℕ) (c : PlacedItem) → i / 128 + 1 < j / 128 → IsLeastItem xs (128 * (i / 128 + 1)) (128 * (j / 128 - 1) + 127) c → IsLeastItem xs (128 * (i / 128) + 128) (128 * (j / 128) - 1) c
-block_bounds xs i j c next h =
-    let start : 128 * (i / 128 + 1) ≡ 128 * (i / 128) + 128 = omega arith in
-    let stop : 128 * (j / 128 - 1) + 127 ≡ 128 * (j / 128) - 1 = omega arith in
-    rw (← start) (item_ends xs (128 * (i / 128 + 1)) (128 * (j / 128 - 1) + 127) (128 * (j / 128) - 1) c stop h)
+block_bounds xs i j c next h = grind (arith, item_ends)
 
 -- the least item of a block is below none of its items
 pub block_least : (xs ys mi pl : List ℕ) (ms : List BlockMasks) (b v p : ℕ) → AreAllBlocks xs mi pl ms → xs ≡ ys → v ≡ get_or mi b 0 → 128 * b ≤ p → p < 128 * b + 128 → p < length ys → v ≤ get_or ys p 0
@@ -146,27 +116,19 @@ block_least xs ys mi pl ms b v p h e ev from to inside =
 pub end_before : (xs ys : List ℕ) (i m e : ℕ) (a b r : PlacedItem) → xs ≡ ys → 128 * (i / 128) + 128 ≤ length ys
     → IsFirstLeast ys i (min (128 * (i / 128) + 128) (length ys) - 1) m → a.place ≡ m → a.value ≡ get_or xs m 0 → r ≡ lesser_item a b
     → IsLeastItem ys (128 * (i / 128) + 128) e b → IsLeastItem ys i e r
-end_before xs ys i m e a b r same inside left pa va v after =
-    item_join ys i (min (128 * (i / 128) + 128) (length ys) - 1) (128 * (i / 128) + 128) e a b r
-    (item_at ys i (min (128 * (i / 128) + 128) (length ys) - 1) m a left pa (va ∙ ap (λ zs. get_or zs m 0) same)) after
-    (omega arith) (omega arith) (omega (arith, after.place.from, after.place.to)) v
+end_before xs ys i m e a b r same inside left pa va v after = grind (arith, item_join, item_at)
 
 -- the start of a block after what comes before it
 pub start_after : (xs ys : List ℕ) (f j m : ℕ) (a b r : PlacedItem) → xs ≡ ys → 128 ≤ j
     → IsFirstLeast ys (128 * (j / 128)) j m → b.place ≡ m → b.value ≡ get_or xs m 0 → r ≡ lesser_item a b
     → IsLeastItem ys f (128 * (j / 128) - 1) a → IsLeastItem ys f j r
-start_after xs ys f j m a b r same later right pb vb v before =
-    item_join ys f (128 * (j / 128) - 1) (128 * (j / 128)) j a b r before
-    (item_at ys (128 * (j / 128)) j m b right pb (vb ∙ ap (λ zs. get_or zs m 0) same))
-    (omega (arith, before.place.from, before.place.to)) (omega arith) (omega arith) v
+start_after xs ys f j m a b r same later right pb vb v before = grind (arith, item_join, item_at)
 
 -- ---- ranges over parts of a block
 -- a whole part more
 pub part_more : (xs ys : List ℕ) (i q j m : ℕ) (a b r : PlacedItem) → xs ≡ ys → i < 16 * q → j ≡ 16 * q + 15 → IsLeastItem ys i (16 * q - 1) a → IsFirstLeast ys (16 * (j / 16)) j m → b.place ≡ m → b.value ≡ get_or xs m 0
     → r ≡ lesser_item a b → IsLeastItem ys i (16 * (q + 1) - 1) r
-part_more xs ys i q j m a b r e before ej left right pb vb v =
-    item_ends ys i j (16 * (q + 1) - 1) r (omega arith)
-    (item_join ys i (16 * q - 1) (16 * (j / 16)) j a b r left (item_at ys (16 * (j / 16)) j m b right pb (vb ∙ ap (λ zs. get_or zs m 0) e)) (omega arith) (omega arith) (omega arith) v)
+part_more xs ys i q j m a b r e before ej left right pb vb v = grind (arith, item_ends, item_join, item_at)
 
 -- the start of the part of the last place
 pub part_end_with : (xs ys : List ℕ) (i q j m : ℕ) (a b r : PlacedItem) → xs ≡ ys → i < 16 * q → q ≡ j / 16 → IsLeastItem ys i (16 * q - 1) a → IsFirstLeast ys (16 * (j / 16)) j m → b.place ≡ m → b.value ≡ get_or xs m 0

@@ -11,18 +11,7 @@ same_value xs i j m n a b = a.least n b.from b.to
 
 -- ---- a prefix mask of one part
 pub prefix_start : (xs : List ℕ) (s f mask : ℕ) → s ≤ f → AddsOne 0 mask (f - s) → PrefixUpTo xs s f (f + 1) mask f
-prefix_start xs s f mask sf a = record {
-  base = sf;
-  some = omega arith;
-  first = a.here;
-  places = λ j p g h t. elim (cases_lt p (f - s)) [
-    | inl less ↦ let np : p ≢ f - s = omega arith in absurd (omega (arith, t.set_at, a.others p np, bit_at-zero p))
-    | inr rest ↦ let ej : s + j ≡ f = omega arith in let ep : s + p ≡ f = omega (arith, t.within) in rw (ej, ep) (least_at xs f)
-  ];
-  best = let e : f ≡ f + 1 - 1 = omega arith in least_ends xs f f (f + 1 - 1) f e (least_at xs f);
-  above = λ q h. let ne : q ≢ f - s = omega arith in a.others q ne ∙ bit_at-zero q;
-  below = λ q h. let ne : q ≢ f - s = omega arith in a.others q ne ∙ bit_at-zero q;
-}
+prefix_start xs s f mask sf a = grind (arith, bit_at-zero, least_at, least_ends)
 
 -- an item below the least so far
 pub prefix_more : (xs : List ℕ) (s f k mask more least : ℕ) → PrefixUpTo xs s f k mask least → get_or xs k 0 < get_or xs least 0 → AddsOne mask more (k - s)
@@ -34,11 +23,7 @@ prefix_more xs s f k mask more least u lt a =
       some = omega arith;
       first = let ne : f - s ≢ k - s = omega arith in a.others (f - s) ne ∙ u.first;
       places = λ j p g h t. elim (cases_lt (s + j) k) [
-        | inl old ↦ u.places j p g old (record {
-          within = t.within;
-          set_at = let ne : p ≢ k - s = omega (arith, t.within) in sym (a.others p ne) ∙ t.set_at;
-          clear = λ q y l. let ne : q ≢ k - s = omega arith in sym (a.others q ne) ∙ t.clear q y l;
-        })
+        | inl old ↦ u.places j p g old (grind arith)
         | inr new ↦ elim (cases_lt p j) [
           | inl less ↦ absurd (omega (arith, a.here, t.clear (k - s) (omega arith) (omega arith)))
           | inr same ↦ let ej : s + j ≡ k = omega arith in let ep : s + p ≡ k = omega (arith, t.within) in rw (ej, ep) here
@@ -78,18 +63,7 @@ prefix_same xs s f k mask least u le = prefix_skip xs s f k (k + 1) mask least k
 
 -- ---- a suffix mask of one part
 pub suffix_start : (xs : List ℕ) (s k mask : ℕ) → s ≤ k → AddsOne 0 mask (k - s) → SuffixFrom xs s k (k + 1) mask k
-suffix_start xs s k mask sk a = record {
-  base = sk;
-  some = omega arith;
-  last = let e : k + 1 - 1 - s ≡ k - s = omega arith in rw e a.here;
-  places = λ i p h f t. elim (cases_lt (k - s) p) [
-    | inl more ↦ let np : p ≢ k - s = omega arith in absurd (omega (arith, t.set_at, a.others p np, bit_at-zero p))
-    | inr same ↦ let ei : s + i ≡ k = omega arith in let ep : s + p ≡ k = omega (arith, t.within) in let ek : k + 1 - 1 ≡ k = omega arith in rw (ei, ep, ek) (least_at xs k)
-  ];
-  best = let e : k ≡ k + 1 - 1 = omega arith in least_ends xs k k (k + 1 - 1) k e (least_at xs k);
-  above = λ q h. let ne : q ≢ k - s = omega arith in a.others q ne ∙ bit_at-zero q;
-  below = λ q h. let ne : q ≢ k - s = omega arith in a.others q ne ∙ bit_at-zero q;
-}
+suffix_start xs s k mask sk a = grind (arith, bit_at-zero, least_at, least_ends)
 
 -- an item not above the least after it
 pub suffix_more : (xs : List ℕ) (s k n e mask more least : ℕ) → s ≤ k → n ≡ k + 1 → SuffixFrom xs s n e mask least → get_or xs k 0 ≤ get_or xs least 0 → AddsOne mask more (k - s)
@@ -101,11 +75,7 @@ suffix_more xs s k n e mask more least sk en u le a =
       some = omega arith;
       last = let ne : e - 1 - s ≢ k - s = omega arith in a.others (e - 1 - s) ne ∙ u.last;
       places = λ i p h f t. elim (cases_lt k (s + i)) [
-        | inl old ↦ u.places i p (omega arith) f (record {
-          within = t.within;
-          set_at = let ne : p ≢ k - s = omega (arith, t.within) in sym (a.others p ne) ∙ t.set_at;
-          clear = λ q g l. let ne : q ≢ k - s = omega arith in sym (a.others q ne) ∙ t.clear q g l;
-        })
+        | inl old ↦ u.places i p (omega arith) f (grind arith)
         | inr new ↦ elim (cases_lt i p) [
           | inl less ↦ absurd (omega (arith, a.here, t.clear (k - s) (omega arith) (omega arith)))
           | inr same ↦ let ei : s + i ≡ k = omega arith in let ep : s + p ≡ k = omega (arith, t.within) in rw (ei, ep) here
@@ -167,11 +137,7 @@ placed_other bits more d o q a ne = elim (cases_lt q o) [
 
 -- one bit more makes one 1 more in the mask
 pub merged_one : (mask bits more d o t : ℕ) → t ≡ d + o → AddsOne bits more d → AddsOne (bit_or mask (bits * 2 ^ o)) (bit_or mask (more * 2 ^ o)) t
-merged_one mask bits more d o t e a = record {
-  here = bit_at_or mask (more * 2 ^ o) t ∙ omega (arith, ap (bit_at (more * 2 ^ o)) e, placed_high more o d, a.here, bit_at-lt mask t);
-  others = λ q ne. let nd : q ≢ d + o = omega arith in
-      bit_at_or mask (more * 2 ^ o) q ∙ ap (λ r. max (bit_at mask q) r) (placed_other bits more d o q a nd) ∙ sym (bit_at_or mask (bits * 2 ^ o) q);
-}
+merged_one mask bits more d o t e a = grind (arith, bit_at_or, placed_high, bit_at-lt, placed_other)
 
 pub merged_none : (mask o : ℕ) → bit_or mask (0 * 2 ^ o) ≡ mask
 merged_none mask o = let z : 0 * 2 ^ o ≡ 0 = omega arith in ap (bit_or mask) z ∙ or_zero_r mask
@@ -186,10 +152,7 @@ shifted_bit n i d = sym (ap (λ m. m % 2) (shr-shr n i d))
 last_from : (mask low j : ℕ) → 0 < low → low < 2 ^ 128 → ((q : ℕ) → q ≤ j → bit_at low q ≡ bit_at mask q) → ((q : ℕ) → j < q → bit_at low q ≡ 0) → IsLastSet mask j (127 - count_leading_zeros 128 low)
 last_from mask low j some few same over =
     let t = leading_top 128 low some few in
-    let e : 127 - count_leading_zeros 128 low ≡ t.0 = omega (arith, t.1) in
-    let top : bit_at low t.0 ≡ 1 = top_bit low t.0 t.2 t.3 in
-    let inside : t.0 ≤ j = elim (cases_lt j t.0) [ inl y ↦ absurd (omega (arith, over t.0 y, top)) | inr n ↦ n ] in
-    rw e (record { within = inside; set_at = sym (same t.0 inside) ∙ top; clear = λ q f l. sym (same q l) ∙ bit_at_above low (suc t.0) q t.3 (omega arith) })
+    grind (arith, top_bit, bit_at_above)
 
 -- the low part of a mask up to j, and the place of its highest 1
 pub last_is : (mask v j : ℕ) → j < 128 → bit_at mask 0 ≡ 1 → mask < 2 ^ 128 → v ≡ 2 ^ (j + 1) - 1 → IsLastSet mask j (127 - count_leading_zeros 128 (bit_and mask v))
@@ -296,10 +259,7 @@ pub prefix_part : (xs : List ℕ) (s k e mask part least : ℕ) → 16 * ((k - s
 prefix_part xs s k e mask part least aligned few m u =
     let on : bit_at (bit_or mask part) (k - s) ≡ 1 = or_second mask part (k - s) u.first in
     record {
-      starts = λ j h. elim (cases_lt (s + j) k) [
-        | inl old ↦ or_first mask part (16 * (j / 16)) (m.starts j old)
-        | inr new ↦ let e : 16 * (j / 16) ≡ k - s = omega arith in ap (bit_at (bit_or mask part)) e ∙ on
-      ];
+      starts = grind (arith, or_first);
       places = λ j p h t. elim (cases_lt (s + j) k) [
         | inl old ↦
             let keeps : (q : ℕ) → q ≤ j → bit_at (bit_or mask part) q ≡ bit_at mask q = λ q l. or_left mask part q (u.below q (omega arith)) in
@@ -320,10 +280,7 @@ pub suffix_part : (xs : List ℕ) (s c k e mask part least : ℕ) → 16 * ((c -
 suffix_part xs s c k e mask part least aligned next ke m u =
     let on : bit_at (bit_or mask part) (k - 1 - s) ≡ 1 = or_second mask part (k - 1 - s) u.last in
     record {
-      ends = λ i h f. elim (cases_lt (s + i) k) [
-        | inl new ↦ let q : part_end 16 s e i - 1 - s ≡ k - 1 - s = omega arith in ap (bit_at (bit_or mask part)) q ∙ on
-        | inr old ↦ or_first mask part (part_end 16 s e i - 1 - s) (m.ends i old f)
-      ];
+      ends = grind (arith, or_first);
       places = λ i p h f t. elim (cases_lt (s + i) k) [
         | inl new ↦
             let keeps : (q : ℕ) → s + q < k → bit_at (bit_or mask part) q ≡ bit_at part q = λ q l. or_right mask part q (m.below q l) in

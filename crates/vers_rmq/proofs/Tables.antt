@@ -6,13 +6,7 @@ use Rattle.vers_rmq.proofs.Minima.{least_at, least_join, least_ends, item_at, it
 
 -- a place of the table has one level
 same_row : (n a b i j : ℕ) → i < n → j < n → n * a + i ≡ n * b + j → a ≡ b
-same_row n a b i j il jl e = elim (cases_lt a b) [
-  | inl h ↦ absurd (omega (arith, mul-le-mul_left {m = a + 1} {n = b} n (omega arith)))
-  | inr h ↦ elim (cases_lt b a) [
-    | inl h2 ↦ absurd (omega (arith, mul-le-mul_left {m = b + 1} {n = a} n (omega arith)))
-    | inr h2 ↦ omega arith
-  ]
-]
+same_row n a b i j il jl e = grind (arith, mul-le-mul_left)
 
 -- one more entry
 pub add_place : (xs table more : List ℕ) (k i m : ℕ) → HoldsPlaces xs table → length table ≡ length xs * k + i → i < length xs
@@ -73,10 +67,7 @@ table_is xs table k few holds counted up down = record {
 
 pub entry_is : (xs ys table t : List ℕ) (k i n : ℕ) → IsTable xs table → xs ≡ ys → t ≡ table → i + 2 ^ k ≤ length ys → n ≡ length xs
     → IsFirstLeast ys i (i + 2 ^ k - 1) (get_or t (n * k + i) 0)
-entry_is xs ys table t k i n holds e et h en =
-    let P : List ℕ → Type 0 = λ zs. IsFirstLeast zs i (i + 2 ^ k - 1) (get_or t (n * k + i) 0) in
-    let inside : i + 2 ^ k ≤ length xs = omega (arith, ap length e) in
-    subst P e (rw (et, en) (entry_at xs table k i holds inside))
+entry_is xs ys table t k i n holds e et h en = grind (arith, entry_at)
 
 pub room_is : (xs table t : List ℕ) (k i n : ℕ) → IsTable xs table → t ≡ table → i + 2 ^ k ≤ length xs → n ≡ length xs → n * k + i < length t
 room_is xs table t k i n holds e h en = rw e (room_of xs table k i n holds h en)
@@ -86,10 +77,7 @@ pub asked : (xs ys : List ℕ) (k i j w h m n : ℕ) (a b r : PlacedItem) → xs
     → IsFirstLeast ys i (i + 2 ^ k - 1) m → IsFirstLeast ys h (h + 2 ^ k - 1) n → a.place ≡ m → a.value ≡ get_or xs m 0 → b.place ≡ n → b.value ≡ get_or xs n 0
     → r ≡ lesser_item a b → IsLeastItem ys i j r
 asked xs ys k i j w h m n a b r e ij ew low high eh left right pa va pb vb v =
-    item_join ys i (i + 2 ^ k - 1) h j a b r
-    (item_at ys i (i + 2 ^ k - 1) m a left pa (va ∙ ap (λ zs. get_or zs m 0) e))
-    (item_ends ys h (h + 2 ^ k - 1) j b (omega arith) (item_at ys h (h + 2 ^ k - 1) n b right pb (vb ∙ ap (λ zs. get_or zs n 0) e)))
-    (omega arith) (omega arith) (omega arith) v
+    grind (arith, item_join, item_at, item_ends)
 
 pub next_is : (xs table : List ℕ) (k i w m n r : ℕ) → HoldsPlaces xs table → length xs * k + length xs ≤ length table → w ≡ 2 ^ k → i + w < length xs
     → r ≡ lesser xs (get_or table (length xs * k + i) 0) (get_or table (length xs * k + (i + w)) 0) → IsFirstLeast xs i (reach (length xs) (k + 1) i) r
