@@ -6,36 +6,18 @@ use Rattle.std.specs.Int.{trailing_zeros}
 use Rattle.std.specs.List.Sorted.{IsNonDecreasing}
 use Rattle.std.proofs.Math.Nat.{pow-le-pow_right}
 use Rattle.std.proofs.lemmas.Bool.{cases_lt}
-use Rattle.std.proofs.lemmas.Grind.{same_number_lists}
-use Rattle.std.proofs.lemmas.List.{get_or_past, get_or_default, length-take, drop-take, drop-drop, map-id}
+use Rattle.std.proofs.lemmas.List.{get_or_past, length-take, drop-take, drop-drop}
 use Rattle.std.proofs.lemmas.Nat.Bits.{bit_at-trailing_zeros}
-use Rattle.vers_bits.specs.Bits.{bit_value, number, count, places, select}
-use Rattle.vers_bits.proofs.PublicLaws.{bit_at-number, number-lt, number-drop, select_at, count_at_select, count_more_yes, length-places, part_bit, value_none, value_one}
+use Rattle.vers_bits.specs.Bits.{bit_value, number, count, select}
+use Rattle.vers_bits.proofs.PublicLaws.{bit_at-number, number-lt, number-drop, select_at, count_at_select, count_more_yes, part_bit, value_none, value_one}
 use Rattle.vers_rank.specs.Queries.{part_number_or_zero}
 use Rattle.vers_sorted.specs.declared.elias_fano.ahead.Ahead.{Ahead}
 use Rattle.vers_sorted.specs.Layout.{high_parts, high_place}
-use Rattle.vers_sorted.specs.inside.Parts.{HoldHigh, IsPacked}
+use Rattle.vers_sorted.specs.inside.Parts.{IsPacked}
 use Rattle.vers_sorted.specs.inside.Ahead.{HasRead, IsAhead}
-use Rattle.vers_sorted.specs.Ones.{ones_at}
-use Rattle.vers_sorted.proofs.Ones.{ones_at-places}
 use Rattle.vers_sorted.proofs.Holds.{hold_high}
+use Rattle.vers_sorted.proofs.Packed.{high_same}
 use Rattle.vers_sorted.proofs.Scans.{count_stays, part_of, counted_past}
-
--- the high parts are those of the layout, since they have the same ones
-pub high_same : {s : List ℕ} {high low : List Bool} {first last width : ℕ} → IsPacked s high low first last width → high ≡ high_parts s
-unfolding select
-high_same {s} {high} packed =
-    let made : HoldHigh s (high_parts s) = hold_high s packed.ascending in
-    let counted : length (places true high) ≡ length s = length-places true high ∙ packed.high_parts.ones in
-    let both : length (places true high) ≡ length (places true (high_parts s)) = counted ∙ sym (length-places true (high_parts s) ∙ made.ones) in
-    let same : places true high ≡ places true (high_parts s) = same_number_lists _ _ both (λ k h.
-    get_or_default (places true high) k 0 (length high) h
-    ∙ packed.high_parts.place k (omega (arith, counted)) ∙ sym (made.place k (omega (arith, counted)))
-    ∙ get_or_default (places true (high_parts s)) k (length (high_parts s)) 0 (omega (arith, both))) in
-    sym (ones_at-places true high ∙ map-id high)
-    ∙ ap (λ n. ones_at (places true high) n) (packed.high_parts.total ∙ sym made.total)
-    ∙ ap (λ l. ones_at l (length (high_parts s))) same
-    ∙ ones_at-places true (high_parts s) ∙ map-id (high_parts s)
 
 module _ (l : List Bool) (p n : ℕ) (within : p + n ≤ length l) (few : n ≤ 64) (some : 0 < number (take n (drop p l))) where
   pub small : number (take n (drop p l)) < 18446744073709551616
@@ -118,11 +100,9 @@ module _ (s : List ℕ) (i : ℕ) (a : Ahead) (up : IsNonDecreasing s) (read : H
 pub read_after : {s : List ℕ} {high low : List Bool} {first last width : ℕ} (i p n w : ℕ) → IsPacked s high low first last width → i < length s → p ≡ select true high i
     → part_number_or_zero high (p + 1) n ≡ Some w → HasRead s (i + 1) (record { place = p + 1; len = n; word = w })
 read_after {s} {high} i p n w packed h e read =
-    let same : high ≡ high_parts s = high_same packed in
-    let made : HoldHigh s (high_parts s) = hold_high s packed.ascending in
-    let part = part_of (high_parts s) (p + 1) n w (ap (λ l. part_number_or_zero l (p + 1) n) (sym same) ∙ read) in
+    let part = part_of (high_parts s) (p + 1) n w (rw (high_same packed) at read) in
     record {
-      before = counted_past true (high_parts s) i p (omega (arith, made.ones)) (e ∙ ap (λ l. select true l i) same);
+      before = counted_past true (high_parts s) i p (omega (arith, h, (hold_high s packed.ascending).ones)) (rw (high_same packed) at e);
       within = part.1;
       few = part.0;
       bits = part.2;
@@ -137,7 +117,7 @@ read_maybe {s} i p n w (Some v) packed h e read is some =
 
 -- the place after what was read stands among the bits
 pub read_fits : {s : List ℕ} {high low : List Bool} {first last width : ℕ} (i : ℕ) (a : Ahead) → IsPacked s high low first last width → HasRead s i a → a.place + a.len ≤ length high
-read_fits {s} i a packed read = omega (arith, read.within, (hold_high s packed.ascending).total, packed.high_parts.total)
+read_fits i a packed read = rw (high_same packed) read.within
 
 pub place_fits : {s : List ℕ} {high low : List Bool} {first last width : ℕ} (i : ℕ) → IsPacked s high low first last width → i < length s → select true high i < length high
 place_fits {s} {high} i packed h = (count_at_select true high i (omega (arith, packed.high_parts.ones))).0

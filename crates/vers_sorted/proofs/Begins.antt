@@ -13,7 +13,6 @@ use Rattle.vers_sorted.specs.Layout.{first_of, last_of, high_of, high_parts}
 use Rattle.vers_sorted.specs.inside.Parts.{IsPacked}
 use Rattle.vers_sorted.specs.inside.Buckets.{IsBucket}
 use Rattle.vers_sorted.specs.inside.Begun.{IsInside}
-use Rattle.vers_sorted.proofs.Aheads.{high_same}
 use Rattle.vers_sorted.proofs.Buckets.{bucket_is, high_is, start_at, zeros_counted}
 use Rattle.vers_sorted.proofs.Makes.{last_none}
 use Rattle.vers_sorted.proofs.Split.{high_up}
@@ -39,49 +38,17 @@ place_each high numbers places rest n j e few h =
     ∙ ap (λ l. slice_index l j) e ∙ get_or-map (select false high) (take n numbers) j 0 0 (omega arith)
     ∙ ap (select false high) (get_or-take n numbers j 0 h)
 
-module _ {s : List ℕ} {high low : List Bool} {first last width : ℕ} where
-  -- the bucket of v, by the zeros before and after it
-  pub between_is : (v before after : ℕ) → IsPacked s high low first last width → 0 < length s → first_of s ≤ v → v ≤ last_of s
-      → before ≡ select false (high_parts s) (high_of s v) → after ≡ select false (high_parts s) (high_of s v + 1)
-      → ((v - first) / 2 ^ width ≤ before) × ((v - first) / 2 ^ width + 1 ≤ after)
-      × IsBucket s v (record { high = (v - first) / 2 ^ width; start = before - (v - first) / 2 ^ width; end = after - (v - first) / 2 ^ width - 1 })
-  between_is v before after packed some from to b a =
-      bucket_is packed v before after some from to (rw (high_is v packed, high_same packed) b) (rw (high_is v packed, high_same packed) a)
-
-  -- its second zero stands among the high parts
-  pub next_within : (v : ℕ) → IsPacked s high low first last width → IsInside s v → high_of s v + 1 < count false high (length high)
-  next_within v packed is = omega (arith, zeros_counted packed is.some, high_up s v (last_of s) is.to (omega (arith, is.from)))
-
-  -- and a member at or after its start
-  pub first_within : (v before : ℕ) → IsPacked s high low first last width → IsInside s v → before ≡ select false (high_parts s) (high_of s v)
-      → (high_of s v ≤ before) × (before - high_of s v < length s)
-  first_within v before packed is b =
-      let up = high_up s v (last_of s) is.to (omega (arith, is.from)) in
-      let start = start_at packed (high_of s v) is.some (omega (arith, up)) in
-      let place : before ≡ select false high (high_of s v) = rw (high_same packed) b in (
-        omega (arith, place, start.0),
-        elim (cases_lt (before - high_of s v) (length s)) [
-          | inl fine ↦ fine
-          | inr past ↦ absurd (omega (arith, up, start.1.before (length s - 1) (omega (arith, place, is.some))))
-        ],
-      )
-
--- ---- the neighbours of a number that lies outside
-
-pub pred_all : (s : List ℕ) (v : ℕ) → IsNonDecreasing s → last_of s ≤ v → greatest_not_above s v ≡ slice_get s (length s - 1)
-pred_all s v up past = elim (cases_lt 0 (length s)) [
-  | inl some ↦
-      let all : below s (v + 1) ≡ length s = omega (arith, below_le s (v + 1), below_from s (v + 1) (length s - 1) up (omega arith) (omega arith)) in
-      pred_some s v up (omega arith) ∙ ap (λ k. slice_get s (k - 1)) all
-  | inr none ↦ pred_none s v up (omega (arith, below_le s (v + 1))) ∙ sym (slice_get_past s (length s - 1) (omega arith))
-]
-
-pub succ_all : (s : List ℕ) (v : ℕ) → IsNonDecreasing s → v ≤ first_of s → least_not_below s v ≡ slice_get s 0
-succ_all s v up before =
-    let none : below s v ≡ 0 = elim (cases_lt 0 (length s)) [
-      | inl some ↦ omega (arith, below_to s v 0 up some before)
-      | inr none ↦ omega (arith, below_le s v)
-    ] in
-    succ_is s v up ∙ ap (slice_get s) none
+-- the first of the members with the high part of v, or the one after where there are none
+pub first_within : (s : List ℕ) (v before : ℕ) → IsNonDecreasing s → IsInside s v → before ≡ select false (high_parts s) (high_of s v)
+    → (high_of s v ≤ before) × (before - high_of s v < length s)
+first_within s v before up is b =
+    let order = high_up s v (last_of s) is.to (omega (arith, is.from)) in
+    let start = start_at s up (high_of s v) is.some (omega (arith, order)) in (
+      omega (arith, b, start.0),
+      elim (cases_lt (before - high_of s v) (length s)) [
+        | inl fine ↦ fine
+        | inr past ↦ absurd (omega (arith, order, start.1.before (length s - 1) (omega (arith, b, is.some))))
+      ],
+    )
 
 pub ruleset insides = (inside)

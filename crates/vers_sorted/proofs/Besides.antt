@@ -3,16 +3,18 @@ use Rattle.std.proofs.Common.{◌≡◌, ℕ, ◌+◌, ◌-◌, ◌<◌, ◌≤�
 use mir.Syntax.{w64}
 use Rattle.std.specs.Int.{bit_at, trailing_zeros}
 use Rattle.std.specs.Int.Count.{count_leading_zeros}
+use Rattle.std.specs.List.Sorted.{IsNonDecreasing}
 use Rattle.std.proofs.lemmas.Bool.{cases_lt}
 use Rattle.vers_bits.specs.Bits.{number, count, select}
 use Rattle.vers_bits.proofs.PublicLaws.{highest_bit, select_at, count_at_select, count_both, count_more_yes, part_bit, value_none, value_one}
 use Rattle.vers_rank.specs.Queries.{part_number_or_zero}
-use Rattle.vers_sorted.specs.Layout.{first_of, last_of, high_of}
+use Rattle.vers_sorted.specs.Layout.{first_of, last_of, high_of, high_parts}
 use Rattle.vers_sorted.specs.inside.Parts.{IsPacked, IsStart}
 use Rattle.vers_sorted.specs.inside.Buckets.{IsBucket}
 use Rattle.vers_sorted.specs.declared.elias_fano.search.Bucket.{Bucket}
 use Rattle.vers_sorted.proofs.Scans.{part_read, count_stays}
 use Rattle.vers_sorted.proofs.Aheads.{small, lowest}
+use Rattle.vers_sorted.proofs.Packed.{high_same}
 use Rattle.vers_sorted.proofs.Split.{high_up}
 use Rattle.vers_sorted.proofs.Buckets.{start_at, zeros_counted}
 
@@ -74,32 +76,30 @@ start_unique s h a b first second =
       ]
     ]
 
-module _ {s : List ℕ} {high low : List Bool} {first last width : ℕ} (packed : IsPacked s high low first last width) where
-  -- up to the zero with number h, and past it, as many ones stand as members have a high part below h
-  ones_around : (h start : ℕ) → 0 < length s → h ≤ high_of s (last_of s) + 1 → IsStart s h start
-      → (count true high (h + start) ≡ start) × (count true high (h + start + 1) ≡ start) × (h + start < length high)
-  ones_around h start some within is =
-      let zero = start_at packed h some within in
-      let same : start ≡ select false high h - h = start_unique s h start (select false high h - h) is zero.1 in
-      let place : select false high h ≡ h + start = omega (arith, zero.0) in
-      let at = count_at_select false high h (omega (arith, zeros_counted packed some)) in
-      let before : count false high (h + start) ≡ h = ap (count false high) (sym place) ∙ at.1 in
-      let past : count false high (h + start + 1) ≡ h + 1 = ap (λ q. count false high (q + 1)) (sym place) ∙ at.2 in
-      (omega (arith, place, at.0, before, count_both high (h + start)), omega (arith, place, at.0, past, count_both high (h + start + 1)), omega (arith, place, at.0))
+-- up to the zero with number h, and past it, as many ones stand as members have a high part below h
+ones_around : (s : List ℕ) (h start : ℕ) → IsNonDecreasing s → 0 < length s → h ≤ high_of s (last_of s) + 1 → IsStart s h start
+    → (count true (high_parts s) (h + start) ≡ start) × (count true (high_parts s) (h + start + 1) ≡ start) × (h + start < length (high_parts s))
+ones_around s h start up some within is =
+    let zero = start_at s up h some within in
+    let same : start ≡ select false (high_parts s) h - h = start_unique s h start (select false (high_parts s) h - h) is zero.1 in
+    let place : h + start ≡ select false (high_parts s) h = omega (arith, zero.0) in
+    let at = count_at_select false (high_parts s) h (omega (arith, zeros_counted s up some)) in
+    rw place (omega (arith, at.0, at.1, count_both (high_parts s) (select false (high_parts s) h)), omega (arith, at.0, at.2, count_both (high_parts s) (select false (high_parts s) h + 1)), at.0)
 
+module _ {s : List ℕ} {high low : List Bool} {first last width : ℕ} (packed : IsPacked s high low first last width) where
   pub ones_past : (v : ℕ) (bucket : Bucket) → first_of s ≤ v → v ≤ last_of s → IsBucket s v bucket → bucket.end < length s
       → (bucket.high + bucket.end + 2 ≤ length high) × (count true high (bucket.high + bucket.end + 2) ≡ bucket.end)
   ones_past v bucket from to is more =
-      let around = ones_around (high_of s v + 1) bucket.end (omega arith) (omega (arith, high_up s v (last_of s) to from)) is.end in
-      let place : high_of s v + 1 + bucket.end + 1 ≡ bucket.high + bucket.end + 2 = omega (arith, is.high) in
-      (omega (arith, around.2, is.high), ap (count true high) (sym place) ∙ around.1)
+      let around = ones_around s (high_of s v + 1) bucket.end packed.ascending (omega arith) (omega (arith, high_up s v (last_of s) to from)) is.end in
+      let place : bucket.high + bucket.end + 2 ≡ high_of s v + 1 + bucket.end + 1 = omega (arith, is.high) in
+      rw (place, high_same packed) (omega (arith, around.2), around.1)
 
   pub ones_before : (v : ℕ) (bucket : Bucket) → first_of s ≤ v → v ≤ last_of s → IsBucket s v bucket → 0 < bucket.start
       → (bucket.high + (bucket.start - 1) + 1 ≤ length high) × (count true high (bucket.high + (bucket.start - 1) + 1) ≡ bucket.start - 1 + 1)
   ones_before v bucket from to is some =
-      let around = ones_around (high_of s v) bucket.start (omega (arith, is.start.within)) (omega (arith, high_up s v (last_of s) to from)) is.start in
-      let place : high_of s v + bucket.start ≡ bucket.high + (bucket.start - 1) + 1 = omega (arith, is.high) in
-      (omega (arith, around.2, is.high), ap (count true high) (sym place) ∙ around.0 ∙ omega arith)
+      let around = ones_around s (high_of s v) bucket.start packed.ascending (omega (arith, is.start.within)) (omega (arith, high_up s v (last_of s) to from)) is.start in
+      let place : bucket.high + (bucket.start - 1) + 1 ≡ high_of s v + bucket.start = omega (arith, is.high) in
+      rw (place, high_same packed) (omega (arith, around.2), omega (arith, around.0))
 
 pub ruleset ones_beside = (one_fits, one_read, back_fits, one_back)
 

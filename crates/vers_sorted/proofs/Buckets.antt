@@ -1,5 +1,5 @@
 -- Where the members with one high part begin and end.
-use Rattle.std.proofs.Common.{◌≡◌, ℕ, ◌+◌, ◌-◌, ◌*◌, ◌/◌, ◌%◌, ◌^◌, ◌<◌, ◌≤◌, Bool, true, false, List, length, ap, ◌∙◌, arith, inl, inr}
+use Rattle.std.proofs.Common.{◌≡◌, ℕ, ◌+◌, ◌-◌, ◌*◌, ◌/◌, ◌%◌, ◌^◌, ◌<◌, ◌≤◌, Bool, true, false, List, length, refl, ap, ◌∙◌, arith, inl, inr}
 use Rattle.std.specs.Prelude.{slice_index, bit_and}
 use Rattle.std.specs.List.Sorted.{IsNonDecreasing}
 use Rattle.std.proofs.lemmas.Nat.{and_mask, one_shl}
@@ -9,71 +9,84 @@ use Rattle.vers_bits.proofs.PublicLaws.{count_both, count_up, count_at_select, s
 use Rattle.vers_tally.specs.Reads.{digits}
 use Rattle.vers_tally.proofs.PublicLaws.{digits_halved, digits_up}
 use Rattle.vers_sorted.specs.Sorted.{below}
-use Rattle.vers_sorted.specs.Layout.{first_of, last_of, low_width, high_of, low_of}
+use Rattle.vers_sorted.specs.Layout.{first_of, last_of, low_width, high_of, low_of, high_place, high_parts}
 use Rattle.vers_sorted.specs.inside.Parts.{IsPacked, IsStart}
 use Rattle.vers_sorted.specs.inside.Buckets.{IsBucket}
 use Rattle.vers_sorted.specs.declared.elias_fano.search.Bucket.{Bucket}
-use Rattle.vers_sorted.proofs.Below.{below_le, below_from, below_to}
+use Rattle.vers_sorted.proofs.Below.{below_le, below_from, below_to, below_before, below_after}
 use Rattle.vers_sorted.proofs.Split.{parts_sum, high_up, member_from, high_zeros}
-use Rattle.vers_sorted.proofs.Packed.{high_counted}
+use Rattle.vers_sorted.proofs.Holds.{hold_high}
+use Rattle.vers_sorted.proofs.Packed.{high_same, high_counted}
 
-module _ {s : List ℕ} {high low : List Bool} {first last width : ℕ} (packed : IsPacked s high low first last width) where
-  pub zeros_counted : 0 < length s → count false high (length high) ≡ 2 + high_of s (last_of s)
-  zeros_counted some = omega (arith, count_both high (length high), packed.high_parts.ones, high_counted packed, high_zeros s some)
+module _ (s : List ℕ) (up : IsNonDecreasing s) where
+  pub zeros_counted : 0 < length s → count false (high_parts s) (length (high_parts s)) ≡ 2 + high_of s (last_of s)
+  zeros_counted some = omega (arith, count_both (high_parts s) (length (high_parts s)), (hold_high s up).ones, (hold_high s up).total, high_zeros s some)
 
   -- the zeros and ones up to the place of a member
-  zeros_at_member : (i : ℕ) → i < length s → count false high (high_of s (slice_index s i) + i + 1) ≡ high_of s (slice_index s i) + 1
+  zeros_at_member : (i : ℕ) → i < length s → count false (high_parts s) (high_place s i) ≡ high_of s (slice_index s i) + 1
   zeros_at_member i h =
-      let at = count_at_select true high i (omega (arith, packed.high_parts.ones)) in
-      let p : select true high i ≡ high_of s (slice_index s i) + i + 1 = packed.high_parts.place i h in
-      omega (arith, count_both high (high_of s (slice_index s i) + i + 1), at.0, at.1, ap (count true high) p)
+      let at = count_at_select true (high_parts s) i (omega (arith, (hold_high s up).ones)) in
+      omega (arith, count_both (high_parts s) (high_place s i), at.0, at.1, (hold_high s up).place i h, ap (count true (high_parts s)) ((hold_high s up).place i h))
 
   -- zero number h has as many ones below it as members have a high part below h
-  pub start_at : (h : ℕ) → 0 < length s → h ≤ high_of s (last_of s) + 1 → (h ≤ select false high h) × IsStart s h (select false high h - h)
+  pub start_at : (h : ℕ) → 0 < length s → h ≤ high_of s (last_of s) + 1 → (h ≤ select false (high_parts s) h) × IsStart s h (select false (high_parts s) h - h)
   start_at h some within =
-      let q : ℕ = select false high h in
-      let at = count_at_select false high h (omega (arith, zeros_counted some)) in
-      let ones : count true high q + h ≡ q = omega (arith, count_both high q, at.0, at.1) in
-      let ones_past : count true high (q + 1) + h ≡ q = omega (arith, count_both high (q + 1), at.0, at.2) in (
+      let high : List Bool = high_parts s in
+      let holds = hold_high s up in
+      let q : ℕ = select false (high_parts s) h in
+      let at = count_at_select false (high_parts s) h (omega (arith, zeros_counted some)) in
+      let ones : count true (high_parts s) q + h ≡ q = omega (arith, count_both (high_parts s) q, at.0, at.1) in
+      let ones_past : count true (high_parts s) (q + 1) + h ≡ q = omega (arith, count_both (high_parts s) (q + 1), at.0, at.2) in
+      let few : q - h ≤ length s = omega (arith, holds.ones, count_up true (high_parts s) q (length (high_parts s)) (omega (arith, at.0))) in (
         omega arith,
         record {
-          within = omega (arith, packed.high_parts.ones, (count_up true high q (length high) (omega (arith, at.0))));
+          within = few;
           before = λ i small.
-              let short : i < length s = omega (arith, packed.high_parts.ones, (count_up true high q (length high) (omega (arith, at.0)))) in
-              let left : select true high i < q = select_below true high i q (omega arith) in
-              omega (arith, zeros_at_member i short, packed.high_parts.place i short, at.1, count_up false high (high_of s (slice_index s i) + i + 1) q (omega (arith, packed.high_parts.place i short)));
+              let left : select true (high_parts s) i < q = select_below true (high_parts s) i q (omega arith) in
+              omega (arith, zeros_at_member i (omega arith), holds.place i (omega arith), at.1, count_up false (high_parts s) (high_place s i) q (omega (arith, holds.place i (omega arith))));
           after = λ i large short.
-              let right : q + 1 ≤ select true high i = select_not_below true high i (q + 1) (omega (arith, packed.high_parts.ones)) (omega arith) in
-              omega (arith, zeros_at_member i short, packed.high_parts.place i short, at.2, count_up false high (q + 1) (high_of s (slice_index s i) + i + 1) (omega (arith, packed.high_parts.place i short)));
+              let right : q + 1 ≤ select true (high_parts s) i = select_not_below true (high_parts s) i (q + 1) (omega (arith, holds.ones)) (omega arith) in
+              omega (arith, zeros_at_member i short, holds.place i short, at.2, count_up false (high_parts s) (q + 1) (high_place s i) (omega (arith, holds.place i short)));
         },
       )
+
+  -- the zeros before and after the members with the high part of v
+  pub zeros_from : (v : ℕ) → 0 < length s → first_of s ≤ v → v ≤ last_of s
+      → (high_of s v ≤ select false (high_parts s) (high_of s v)) × (high_of s v + 1 ≤ select false (high_parts s) (high_of s v + 1))
+  zeros_from v some from to =
+      let order = high_up s v (last_of s) to from in
+      ((start_at (high_of s v) some (omega (arith, order))).0, (start_at (high_of s v + 1) some (omega (arith, order))).0)
+
+  -- and the bucket between them
+  pub bucket_is : (v h before after : ℕ) → h ≡ high_of s v → 0 < length s → first_of s ≤ v → v ≤ last_of s
+      → before ≡ select false (high_parts s) (high_of s v) → after ≡ select false (high_parts s) (high_of s v + 1)
+      → IsBucket s v (record { high = h; start = before - h; end = after - h - 1 })
+  bucket_is v h before after is some from to b a =
+      let order = high_up s v (last_of s) to from in
+      let end : after - high_of s v - 1 ≡ select false (high_parts s) (high_of s v + 1) - (high_of s v + 1) = omega (arith, a) in
+      rw is (record {
+        high = refl;
+        start = rw b (start_at (high_of s v) some (omega (arith, order))).1;
+        end = rw end (start_at (high_of s v + 1) some (omega (arith, order))).1;
+      })
 
 -- ---- from high parts to the members themselves
 
 pub start_below : (s : List ℕ) (v start : ℕ) → IsNonDecreasing s → first_of s ≤ v → IsStart s (high_of s v) start → start ≤ below s v
-start_below s v start up from at =
-    elim (cases_lt 0 start) [
-      | inr none ↦ omega arith
-      | inl some ↦
-          let h : start - 1 < length s = omega (arith, at.within) in
-          let less : slice_index s (start - 1) < v = elim (cases_lt (slice_index s (start - 1)) v) [
-            | inl fine ↦ fine
-            | inr not ↦ absurd (omega (arith, at.before (start - 1) (omega arith), high_up s v (slice_index s (start - 1)) not from))
-          ] in
-          omega (arith, below_from s v (start - 1) up h less)
-    ]
+start_below s v start up from at = elim (cases_lt (below s v) start) [
+  | inr fine ↦ fine
+  | inl few ↦
+      absurd (omega (arith, at.before (below s v) few, high_up s v (slice_index s (below s v)) (below_after s v (below s v) up (omega arith) (omega (arith, at.within))) from))
+]
 
 pub below_end : (s : List ℕ) (v end : ℕ) → IsNonDecreasing s → first_of s ≤ v → IsStart s (high_of s v + 1) end → below s v ≤ end
-below_end s v end up from at =
-    elim (cases_lt end (length s)) [
-      | inr all ↦ omega (arith, below_le s v)
-      | inl h ↦
-          let more : v ≤ slice_index s end = elim (cases_lt (slice_index s end) v) [
-            | inr fine ↦ fine
-            | inl less ↦ absurd (omega (arith, at.after end (omega arith) h, high_up s (slice_index s end) v (omega arith) (member_from s end up h)))
-          ] in
-          below_to s v end up h more
-    ]
+below_end s v end up from at = elim (cases_lt end (below s v)) [
+  | inr fine ↦ fine
+  | inl past ↦
+      let h : end < length s = omega (arith, below_le s v) in
+      let less = below_before s v end up past in
+      absurd (omega (arith, at.after end (omega arith) h, high_up s (slice_index s end) v (omega arith) (member_from s end up h)))
+]
 
 -- a member between the two, by its low part
 pub step_up : (s : List ℕ) (v start end i : ℕ) → IsNonDecreasing s → first_of s ≤ v → IsStart s (high_of s v) start → IsStart s (high_of s v + 1) end
@@ -107,55 +120,19 @@ upper_steps a e h = digits_halved _ _ (omega arith) (omega arith)
 pub lower_steps : (a e : ℕ) → a < e → digits (a + (e - a) / 2 - a) + 1 ≤ digits (e - a)
 lower_steps a e h = digits_halved _ _ (omega arith) (omega arith)
 
--- the ends
-pub none_below : {s : List ℕ} {high low : List Bool} {first last width : ℕ} (v : ℕ) → IsPacked s high low first last width → v ≤ first → below s v ≡ 0
-none_below {s} v packed h =
-    elim (cases_lt 0 (length s)) [
-      | inl some ↦ omega (arith, below_to s v 0 packed.ascending some (omega (arith, packed.first_is)))
-      | inr none ↦ omega (arith, below_le s v)
-    ]
-
-pub all_below : {s : List ℕ} {high low : List Bool} {first last width : ℕ} (v : ℕ) → IsPacked s high low first last width → last < v → below s v ≡ length s
-all_below {s} v packed h =
-    elim (cases_lt 0 (length s)) [
-      | inl some ↦ omega (arith, below_le s v, below_from s v (length s - 1) packed.ascending (omega arith) (omega (arith, packed.last_is)))
-      | inr none ↦ omega (arith, below_le s v)
-    ]
-
 -- ---- buckets
 
-module _ {s : List ℕ} {high low : List Bool} {first last width : ℕ} (packed : IsPacked s high low first last width) where
-  pub high_below : (v : ℕ) → 0 < length s → first_of s ≤ v → v ≤ last_of s → (v - first) / 2 ^ width + 1 < count false high (length high)
-  high_below v some from to = omega (arith, zeros_counted packed some, high_up s v (last_of s) to from, high_is v packed)
-
-  -- the bucket of v, by two zeros
-  pub bucket_is : (v this next : ℕ) → 0 < length s → first_of s ≤ v → v ≤ last_of s
-      → this ≡ select false high ((v - first) / 2 ^ width) → next ≡ select false high ((v - first) / 2 ^ width + 1)
-      → ((v - first) / 2 ^ width ≤ this) × ((v - first) / 2 ^ width + 1 ≤ next)
-      × IsBucket s v (record { high = (v - first) / 2 ^ width; start = this - (v - first) / 2 ^ width; end = next - (v - first) / 2 ^ width - 1 })
-  bucket_is v this next some from to z n =
-      let h : ℕ = (v - first) / 2 ^ width in
-      let is : (v - first) / 2 ^ width ≡ high_of s v = high_is v packed in
-      let up = high_up s v (last_of s) to from in
-      let low_end = start_at packed ((v - first) / 2 ^ width) some (omega (arith, is, up)) in
-      let high_end = start_at packed ((v - first) / 2 ^ width + 1) some (omega (arith, is, up)) in
-      let start : this - (v - first) / 2 ^ width ≡ select false high ((v - first) / 2 ^ width) - (v - first) / 2 ^ width = ap (λ q. q - (v - first) / 2 ^ width) z in
-      let end : next - (v - first) / 2 ^ width - 1 ≡ select false high ((v - first) / 2 ^ width + 1) - ((v - first) / 2 ^ width + 1) = omega (arith, n) in (
-        omega (arith, low_end.0, z),
-        omega (arith, high_end.0, n),
-        record {
-          high = is;
-          start = rw (← is, start) low_end.1;
-          end = rw (← is, end) high_end.1;
-        },
-      )
+-- the zero after that with the high part of v stands among the high parts
+pub high_below : {s : List ℕ} {high low : List Bool} {first last width : ℕ} (v : ℕ) → IsPacked s high low first last width → 0 < length s → first_of s ≤ v → v ≤ last_of s
+    → high_of s v + 1 < count false high (length high)
+high_below {s} v packed some from to = rw (high_same packed) (omega (arith, zeros_counted s packed.ascending some, high_up s v (last_of s) to from))
 
 pub in_bucket : {s : List ℕ} {v : ℕ} {bucket : Bucket} (i : ℕ) → IsBucket s v bucket → bucket.start ≤ i → i < bucket.end → i < length s → bucket.high ≡ high_of s (slice_index s i)
 in_bucket i at low high h = omega (arith, at.high, at.start.after i low h, at.end.before i high)
 
-pub ruleset bucket = (zeros_counted, high_below)
+pub ruleset bucket = (high_below, zeros_from, bucket_is)
 
-pub ruleset search_steps = (start_below, below_end, step_up, step_down, low_is, upper_steps, lower_steps, digits_up)
+pub ruleset search_steps = (start_below, below_end, step_up, step_down, upper_steps, lower_steps, digits_up)
 
 pub ruleset members = (in_bucket)
 

@@ -8,8 +8,8 @@ use Rattle.vers_sorted.specs.Sorted.{below, greatest_not_above, least_not_below}
 use Rattle.vers_sorted.specs.Layout.{first_of, last_of, high_of}
 use Rattle.vers_sorted.specs.inside.Buckets.{IsBucket}
 use Rattle.vers_sorted.specs.declared.elias_fano.search.Bucket.{Bucket}
-use Rattle.vers_sorted.proofs.Below.{below_le, below_from, below_to}
-use Rattle.vers_sorted.proofs.Neighbours.{below_before, below_after, succ_at, pred_at}
+use Rattle.vers_sorted.proofs.Below.{below_le, below_from, below_to, below_before, below_after}
+use Rattle.vers_sorted.proofs.Neighbours.{succ_at, pred_at, some_left, some_below}
 use Rattle.vers_sorted.proofs.Ones.{any_member, no_member, member_place}
 use Rattle.vers_sorted.proofs.Buckets.{start_below, in_bucket}
 
@@ -59,3 +59,5 @@ greatest_held s v up on =
     pred_at s v (below s (v + 1)) up refl (omega arith) ∙ ap (λ (m : ℕ). Some m) here
 
 pub ruleset members = (in_bucket, start_below)
+
+pub ruleset neighbours = (least_held, greatest_held, succ_at, pred_at, some_left, some_below)

@@ -7,14 +7,7 @@ use Rattle.vers_sorted.specs.Sorted.{below, greatest_not_above, least_not_below,
 use Rattle.std.proofs.lemmas.Option.{slice_get-get_or, slice_get_past}
 use Rattle.vers_bits.proofs.PublicLaws.{find_is, none_passing, last_passing_is}
 use Rattle.vers_sorted.specs.inside.Parts.{IsPacked}
-use Rattle.vers_sorted.proofs.Below.{below_le, below_up, below_from, below_to}
-
--- what stands before and after
-pub below_before : (s : List ℕ) (v i : ℕ) → IsNonDecreasing s → i < below s v → slice_index s i < v
-below_before s v i up h = elim (cases_lt (slice_index s i) v) [ inl fine ↦ fine | inr not ↦ absurd (omega (arith, below_le s v, below_to s v i up (omega (arith, below_le s v)) not)) ]
-
-pub below_after : (s : List ℕ) (v i : ℕ) → IsNonDecreasing s → below s v ≤ i → i < length s → v ≤ slice_index s i
-below_after s v i up h short = elim (cases_lt (slice_index s i) v) [ inr fine ↦ fine | inl less ↦ absurd (omega (arith, below_from s v i up short less)) ]
+use Rattle.vers_sorted.proofs.Below.{below_le, below_up, below_from, below_to, below_before, below_after, none_below, all_below}
 
 pub succ_is : (s : List ℕ) (v : ℕ) → IsNonDecreasing s → least_not_below s v ≡ slice_get s (below s v)
 unfolding least_not_below
@@ -75,3 +68,6 @@ pub ruleset deltas = (delta_first, delta_later, delta_none, member_before)
 
 -- what the laws say of `below` and of the neighbours
 pub ruleset laws = (below_le, below_up, below_before, below_after, succ_is, pred_some, pred_none)
+
+-- what is outside the members
+pub ruleset outside = (below_le, none_below, all_below, succ_past, succ_at, pred_none, pred_at)

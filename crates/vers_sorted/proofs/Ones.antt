@@ -10,14 +10,13 @@ use Rattle.std.proofs.lemmas.Grind.{same_number_lists}
 use Rattle.std.proofs.lemmas.List.{same_lists, get_or-set_same, get_or-set_other, length-set, length-replicate, get_or-replicate, get_or-map, length-map}
 use Rattle.std.proofs.lemmas.List.FromFn.{length-map-range_with_len, get_or-map-range_with_len}
 use Rattle.std.proofs.lemmas.List.Folds.{list_any-from_Any, Any-from_list_any, list_any_none, list_any-append}
-use Rattle.std.proofs.lemmas.List.Sorted.{IsNonDecreasingBy-from_default}
+use Rattle.std.proofs.lemmas.List.Kept.{AllPairs-from_increasing}
 use Rattle.std.proofs.lemmas.List.{get_or_default}
 use Rattle.vers_bits.specs.Bits.{is_bit, count, places, select}
 use Rattle.vers_bits.proofs.PublicLaws.{count_none, count_up, count_more_yes, count_more_no, select_at, length-places, select_is_place, select_up, IsPlace}
 use Rattle.vers_sorted.specs.Sorted.{below}
 use Rattle.vers_sorted.specs.Ones.{ones_at}
-use Rattle.vers_sorted.proofs.Below.{below_le, below_up, below_from, below_to}
-use Rattle.vers_sorted.proofs.Neighbours.{below_before, below_after}
+use Rattle.vers_sorted.proofs.Below.{below_le, below_at, below_before, below_after, none_below, all_below}
 
 pub length-ones_at : (s : List ℕ) (n : ℕ) → length (ones_at s n) ≡ n
 unfolding ones_at
@@ -42,13 +41,6 @@ member_place s v on =
     let found = Any-from_list_any (λ q. eqb q v) s on in
     (found.0, found.2, get_or_default s found.0 0 found.1 found.2 ∙ found.3 ∙ eqb-true found.1 v found.4)
 
-below_zero : (s : List ℕ) → IsNonDecreasing s → below s 0 ≡ 0
-below_zero s up =
-    elim (cases_lt 0 (below s 0)) [
-      | inl some ↦ absurd (omega (arith, below_before s 0 0 up some))
-      | inr none ↦ omega arith
-    ]
-
 or_yes : (a b : Bool) → b ≡ true → (a || (b || false)) ≡ true
 or_yes true b e = refl
 or_yes false b e = rw e refl
@@ -60,49 +52,28 @@ or_no false b e = rw e refl
 -- ---- numbers that rise
 
 module _ (s : List ℕ) (up : IsStrictlyIncreasing s) where
-  rises : (i d : ℕ) → i + d < length s → slice_index s i + d ≤ slice_index s (i + d)
-  rises i zero h = let e : i + 0 ≡ i = omega arith in omega (arith, ap (slice_index s) e)
-  rises i (suc d) h =
-      let e : i + suc d ≡ i + d + 1 = omega arith in
-      omega (arith, rises i d (omega arith), up (i + d) (omega arith), ap (slice_index s) e)
+  rises_to : (i j : ℕ) → i < j → j < length s → slice_index s i < slice_index s j
+  rises_to i j h short = AllPairs-from_increasing s up i j 0 h short
 
   pub ascends : IsNonDecreasing s
-  ascends = IsNonDecreasingBy-from_default (λ x. x) s 0 (λ i j h short.
-      let e : i + (j - i) ≡ j = omega arith in omega (arith, rises i (j - i) (omega arith), ap (slice_index s) e))
-
-  pub rises_to : (i j : ℕ) → i < j → j < length s → slice_index s i < slice_index s j
-  rises_to i j h short = let e : i + (j - i) ≡ j = omega arith in omega (arith, rises i (j - i) (omega arith), ap (slice_index s) e)
+  ascends i j d h short = elim (cases_lt i j) [
+    | inl less ↦ omega (arith, AllPairs-from_increasing s up i j d less short)
+    | inr not ↦ let e : i ≡ j = omega arith in omega (arith, ap (λ k. get_or s k d) e)
+  ]
 
   -- as many are below a member as stand before it
   pub below_member : (r : ℕ) → r < length s → below s (slice_index s r) ≡ r
-  below_member r h =
-      elim (cases_lt 0 r) [
-        | inl some ↦ omega (arith, below_to s (slice_index s r) r ascends h (omega arith), below_from s (slice_index s r) (r - 1) ascends (omega arith) (rises_to (r - 1) r (omega arith) h))
-        | inr none ↦ omega (arith, below_to s (slice_index s r) r ascends h (omega arith))
-      ]
+  below_member r h = below_at s (slice_index s r) r ascends (omega arith) (λ some. rises_to (r - 1) r (omega arith) h) (λ _. omega arith)
 
   -- a number that is a member
   below_held : (v : ℕ) → below s v < length s → slice_index s (below s v) ≡ v → below s (v + 1) ≡ below s v + 1
-  below_held v h e =
-      let k : ℕ = below s v in
-      let from = below_from s (v + 1) k ascends h (omega arith) in
-      elim (cases_lt (k + 1) (length s)) [
-        | inl more ↦ omega (arith, from, below_to s (v + 1) (k + 1) ascends more (omega (arith, up k more)))
-        | inr last ↦ omega (arith, from, below_le s (v + 1))
-      ]
+  below_held v h e = below_at s (v + 1) (below s v + 1) ascends (omega arith) (λ _. let last : below s v + 1 - 1 ≡ below s v = omega arith in rw last (omega arith)) (λ more. omega (arith, up (below s v) more))
 
   -- and one that is none
   below_free : (v : ℕ) → (below s v < length s → slice_index s (below s v) ≡ v → ⊥) → below s (v + 1) ≡ below s v
   below_free v none =
-      elim (cases_lt (below s v) (length s)) [
-        | inl h ↦
-            let after : v ≤ slice_index s (below s v) = below_after s v (below s v) ascends (omega arith) h in
-            elim (cases_eq (slice_index s (below s v)) v) [
-              | inl e ↦ absurd (none h e)
-              | inr ne ↦ omega (arith, below_up s v (v + 1) (omega arith), below_to s (v + 1) (below s v) ascends h (omega arith))
-            ]
-        | inr all ↦ omega (arith, below_up s v (v + 1) (omega arith), below_le s (v + 1), below_le s v)
-      ]
+      below_at s (v + 1) (below s v) ascends (below_le s v) (λ some. omega (arith, below_before s v (below s v - 1) ascends (omega arith)))
+      (λ h. omega (arith, none h, below_after s v (below s v) ascends (omega arith) h))
 
   -- whether v is a member, by the member that `below` names
   pub member_test : (v : ℕ) → ((list_any (λ q. eqb q v) s ≡ true) × (below s (v + 1) ≡ below s v + 1))
@@ -118,7 +89,7 @@ module _ (s : List ℕ) (up : IsStrictlyIncreasing s) where
       ]
 
   pub count-ones_at : (n i : ℕ) → i ≤ n → count true (ones_at s n) i ≡ below s i
-  count-ones_at n zero h = count_none true (ones_at s n) ∙ sym (below_zero s ascends)
+  count-ones_at n zero h = count_none true (ones_at s n) ∙ sym (none_below s 0 ascends (omega arith))
   count-ones_at n (suc i) h =
       let e : suc i ≡ i + 1 = omega arith in
       let before : count true (ones_at s n) i ≡ below s i = count-ones_at n i (omega arith) in
@@ -140,10 +111,7 @@ module _ (s : List ℕ) (up : IsStrictlyIncreasing s) where
   pub all_ones : (n : ℕ) → (0 < length s → slice_index s (length s - 1) < n) → count true (ones_at s n) (length (ones_at s n)) ≡ length s
   all_ones n within =
       ap (count true (ones_at s n)) (length-ones_at s n) ∙ count-ones_at n n (omega arith)
-      ∙ elim (cases_lt 0 (length s)) [
-        | inl some ↦ omega (arith, below_le s n, below_from s n (length s - 1) ascends (omega arith) (within some))
-        | inr none ↦ omega (arith, below_le s n)
-      ]
+      ∙ elim (cases_lt 0 (length s)) [ inl some ↦ all_below s n ascends (within some) | inr none ↦ omega (arith, below_le s n) ]
 
   pub places-ones_at : (n : ℕ) → (0 < length s → slice_index s (length s - 1) < n) → places true (ones_at s n) ≡ s
   unfolding select

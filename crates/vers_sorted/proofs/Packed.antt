@@ -10,7 +10,7 @@ use Rattle.vers_bits.specs.Bits.{select, number, count, block_count, limb_count}
 use Rattle.vers_bits.proofs.PublicLaws.{count_both}
 use Rattle.vers_rank.specs.Queries.{index_size, superblock_count}
 use Rattle.vers_sorted.specs.Layout.{first_of, last_of, low_width, high_of, low_of, high_length, high_parts, low_parts, heap_size_of}
-use Rattle.vers_sorted.specs.inside.Parts.{member, members, HoldHigh, IsPacked}
+use Rattle.vers_sorted.specs.inside.Parts.{member, members, AreHighParts, IsPacked}
 use Rattle.vers_sorted.proofs.Split.{parts_sum, low_below}
 use Rattle.vers_sorted.proofs.Holds.{hold_high, hold_low, packs}
 
@@ -21,10 +21,15 @@ length-members high low first width n = length-map-range_with_len (member high l
 -- the parts of an ascending list hold it
 pub packed_as : (s : List ℕ) (first last width : ℕ) → IsNonDecreasing s → first ≡ first_of s → last ≡ last_of s → last < 18446744073709551616 → width ≡ low_width s → width < 64
     → (members (high_parts s) (low_parts s) first width (length s) ≡ s) × IsPacked (members (high_parts s) (low_parts s) first width (length s)) (high_parts s) (low_parts s) first last width
+unfolding AreHighParts
 packed_as s first last width up f l fits w narrow =
     let back : members (high_parts s) (low_parts s) first width (length s) ≡ s =
     ap (λ v. members (high_parts s) (low_parts s) v width (length s)) f ∙ ap (λ v. members (high_parts s) (low_parts s) (first_of s) v (length s)) w ∙ packs s up in
-    (back, rw back (record { ascending = up; first_is = f; last_is = l; fits = fits; width_is = w; narrow = narrow; high_parts = hold_high s up; low_parts = hold_low s }))
+    (back, rw back (record { ascending = up; first_is = f; last_is = l; fits = fits; width_is = w; narrow = narrow; high_parts = hold_high s up; low_parts = hold_low s; laid_out = refl }))
+
+pub high_same : {s : List ℕ} {high low : List Bool} {first last width : ℕ} → IsPacked s high low first last width → high ≡ high_parts s
+unfolding AreHighParts
+high_same packed = packed.laid_out
 
 -- ---- the low part
 
@@ -80,26 +85,8 @@ joined {s} {first} {last} {width} i packed h =
 
 -- ---- sizes
 
--- the size of a list with its index, by its length, its zeros and its ones
-abbrev sized : ℕ → ℕ → ℕ → ℕ
-sized n zeros_in ones_in = 8 * limb_count n + 2 * block_count 512 n + 8 * superblock_count n + 16 * (max zeros_in ones_in / 8192 + 2)
-
-same_sized : (n m z y o p : ℕ) → n ≡ m → z ≡ y → o ≡ p → sized n z o ≡ sized m y p
-same_sized n m z y o p e f g = rw (e, f, g) refl
-
--- of the high parts the size follows from their length and their ones
-same_index : (s : List ℕ) (high : List Bool) → HoldHigh s high → HoldHigh s (high_parts s) → index_size high ≡ index_size (high_parts s)
-same_index s high holds made =
-    let same_length : length high ≡ length (high_parts s) = holds.total ∙ sym made.total in
-    let same_ones : count true high (length high) ≡ count true (high_parts s) (length (high_parts s)) = holds.ones ∙ sym made.ones in
-    let same_zeros : count false high (length high) ≡ count false (high_parts s) (length (high_parts s)) =
-    omega (arith, same_length, same_ones, count_both high (length high), count_both (high_parts s) (length (high_parts s))) in
-    same_sized _ _ _ _ _ _ same_length same_zeros same_ones
-
 pub size_is : {s : List ℕ} {high low : List Bool} {first last width : ℕ} → IsPacked s high low first last width → index_size high + 8 * limb_count (length low) ≡ heap_size_of s
-size_is {s} {high} {low} packed =
-    ap (λ k. k + 8 * limb_count (length low)) (same_index s high packed.high_parts (hold_high s packed.ascending))
-    ∙ ap (λ n. index_size (high_parts s) + 8 * limb_count n) (packed.low_parts.counted ∙ sym (hold_low s).counted)
+size_is {s} packed = rw (high_same packed, packed.low_parts.counted, (hold_low s).counted) refl
 
 pub index_fits : (l : List Bool) → length l ≤ 18446744073709551552 → index_size l ≤ 4611686018427387904
 index_fits l h = omega (arith, count_both l (length l))

@@ -31,10 +31,10 @@ below_up = Below.below_up
 
 -- of an ascending list, the members before place `below members v` are below v, and those from it on are not
 pub below_before : (members : List ℕ) (v i : ℕ) → IsNonDecreasing members → i < below members v → slice_index members i < v
-below_before = Neighbours.below_before
+below_before = Below.below_before
 
 pub below_after : (members : List ℕ) (v i : ℕ) → IsNonDecreasing members → below members v ≤ i → i < length members → v ≤ slice_index members i
-below_after = Neighbours.below_after
+below_after = Below.below_after
 
 -- ---- neighbours of a number
 

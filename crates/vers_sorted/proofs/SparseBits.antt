@@ -9,8 +9,8 @@ use Rattle.vers_bits.specs.Bits.{is_bit, count, places, select}
 use Rattle.vers_bits.proofs.PublicLaws.{count_none, count_both, count_past, count_up, select_at, select_past, length-places, count_more_yes}
 use Rattle.vers_sorted.specs.Sorted.{below, least_not_below}
 use Rattle.vers_sorted.specs.Ones.{ones_at, AreSparse}
-use Rattle.vers_sorted.proofs.Below.{below_le, below_from, below_to}
-use Rattle.vers_sorted.proofs.Neighbours.{below_after, succ_is}
+use Rattle.vers_sorted.proofs.Below.{below_le, below_from, below_to, below_after, all_below}
+use Rattle.vers_sorted.proofs.Neighbours.{succ_is}
 use Rattle.vers_sorted.proofs.Ones.{length-ones_at, get_or-ones_at, member_test, ascends, below_member, count-ones_at, select-ones_at, all_ones, places-ones_at, places_rise, places_within, ones_at-places}
 
 module _ {s : List ℕ} {n : ℕ} (sparse : AreSparse s n) where
@@ -26,7 +26,7 @@ module _ {s : List ℕ} {n : ℕ} (sparse : AreSparse s n) where
         | inr within ↦ count-ones_at s sparse.rising n i within
         | inl past ↦
             let all : below s i ≡ length s = elim (cases_lt 0 (length s)) [
-              | inl some ↦ omega (arith, below_le s i, below_from s i (length s - 1) (ascends s sparse.rising) (omega arith) (omega (arith, last_within some)))
+              | inl some ↦ all_below s i (ascends s sparse.rising) (omega (arith, last_within some))
               | inr none ↦ omega (arith, below_le s i)
             ] in
             count_past true (ones_at s n) i (omega (arith, length-ones_at s n)) ∙ all_ones s sparse.rising n last_within ∙ sym all

@@ -5,7 +5,7 @@ use Rattle.std.specs.List.Sorted.{IsNonDecreasing}
 use Rattle.vers_bits.specs.Bits.{number, count, select, pack}
 use Rattle.vers_tally.specs.Reads.{Reads, no_reads, digits}
 use Rattle.vers_rank.specs.Queries.{superblock_count}
-use Rattle.vers_sorted.specs.Layout.{first_of, last_of, low_width, high_of, low_of, high_length, high_place}
+use Rattle.vers_sorted.specs.Layout.{first_of, last_of, low_width, high_of, low_of, high_length, high_place, high_parts}
 use Rattle.vers_sorted.specs.Ones.{ones_at}
 
 -- the member that the parts hold at place i
@@ -34,6 +34,10 @@ first_high_parts s i = ones_at (map (high_place s) (range_with_len 0 i)) (high_l
 unfoldable pub first_low_parts : List ℕ → ℕ → List Bool
 first_low_parts s i = pack (map (λ m. m - first_of s) (take i s)) (low_width s)
 
+-- they are those of the layout
+unfoldable pub AreHighParts : List ℕ → List Bool → Type 0
+AreHighParts s high = high ≡ high_parts s
+
 -- the parts hold the list s
 pub record IsPacked (s : List ℕ) (high low : List Bool) (first last width : ℕ) : Type 0 where
   pub ascending : IsNonDecreasing s
@@ -44,6 +48,7 @@ pub record IsPacked (s : List ℕ) (high low : List Bool) (first last width : �
   pub narrow : width < 64
   pub high_parts : HoldHigh s high
   pub low_parts : HoldLow s low
+  pub laid_out : AreHighParts s high
 
 -- start is the number of members whose high part is below h
 pub record IsStart (s : List ℕ) (h start : ℕ) : Type 0 where

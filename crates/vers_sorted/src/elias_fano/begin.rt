@@ -16,7 +16,7 @@ impl<A: Allocator + Copy> EliasFanoVec<A> {
     // The high part of a number, 0 below the first member.
     #[inline(always)]
     #[tactic(auto, using(crate::proofs::Buckets::high_is))]
-    fn high_number(&self, v: u64) -> usize
+    fn high_or_zero(&self, v: u64) -> usize
         ensures { result ≡ high_of self.now v }
     {
         let _ = &self.len;
@@ -31,7 +31,7 @@ impl<A: Allocator + Copy> EliasFanoVec<A> {
             → slice_index highs.new j ≡ high_of self.now (slice_index asked.now j) }
     {
         for j in 0..asked.len() {
-            highs[j] = self.high_number(asked[j]);
+            highs[j] = self.high_or_zero(asked[j]);
         }
     }
 
@@ -102,6 +102,7 @@ impl<A: Allocator + Copy> EliasFanoVec<A> {
 
     // The low part of the first of these members, or of the one after where there are none.
     #[inline(always)]
+    #[tactic(auto, using(crate::proofs::Begins::first_within, crate::proofs::Buckets::zeros_from))]
     fn first_part(&self, v: u64, before: usize, tally: &mut Tally) -> u64
         requires inside { IsInside self.now v }
         requires before { before ≡ select false (high_parts self.now) (high_of self.now v) }

@@ -200,6 +200,7 @@ impl<A: Allocator + Copy> EliasFanoVec<A> {
 
     // The predecessor of a number, by what the search began with.
     #[inline(always)]
+    #[tactic(auto, using(crate::proofs::Members::neighbours))]
     fn predecessor_begun(
         &self,
         v: u64,
@@ -214,11 +215,8 @@ impl<A: Allocator + Copy> EliasFanoVec<A> {
             (reads (digits (length self.now) + 5) 2 (high_length self.now)) }
     {
         let _ = &self.len;
-        if v >= self.last {
-            return self.last_member();
-        }
-        if v < self.first {
-            return None;
+        if !self.is_inside_after(v) {
+            return self.predecessor_outside(v);
         }
         let bucket = self.bucket_between(v + 1, before, after);
         let k = self.below_from(bucket, part, v + 1, tally);
@@ -227,6 +225,7 @@ impl<A: Allocator + Copy> EliasFanoVec<A> {
 
     // The successor of a number, by what the search began with.
     #[inline(always)]
+    #[tactic(auto, using(crate::proofs::Members::neighbours))]
     fn successor_begun(
         &self,
         v: u64,
@@ -241,11 +240,8 @@ impl<A: Allocator + Copy> EliasFanoVec<A> {
             (reads (digits (length self.now) + 5) 2 (high_length self.now)) }
     {
         let _ = &self.len;
-        if v <= self.first {
-            return self.first_member();
-        }
-        if v > self.last {
-            return None;
+        if !self.is_inside(v) {
+            return self.successor_outside(v);
         }
         let bucket = self.bucket_between(v, before, after);
         let k = self.below_from(bucket, part, v, tally);

@@ -75,6 +75,30 @@ impl<A: Allocator + Copy> EliasFanoVec<A> {
         self.with_low_part(high, i, tally)
     }
 
+    // The high part of a number that isn't below the first member.
+    #[inline(always)]
+    #[tactic(auto, using(crate::proofs::Buckets::high_is))]
+    pub(super) fn high_number(&self, v: u64) -> usize
+        requires { first_of self.now ≤ v }
+        ensures value { result ≡ high_of self.now v }
+        ensures ascending { IsNonDecreasing self.now }
+    {
+        let _ = &self.len;
+        ((v - self.first) >> self.width) as usize
+    }
+
+    // Its low part.
+    #[inline(always)]
+    #[tactic(auto, using(crate::proofs::Buckets::low_is))]
+    pub(super) fn low_number(&self, v: u64) -> u64
+        requires { first_of self.now ≤ v }
+        ensures value { result ≡ low_of self.now v }
+        ensures ascending { IsNonDecreasing self.now }
+    {
+        let _ = &self.len;
+        (v - self.first) & ((1 << self.width) - 1)
+    }
+
     // The members with the high part of `v`, by the places of two zeros, most often from one select.
     #[inline(always)]
     #[tactic(auto, using(crate::proofs::Buckets::bucket))]
@@ -86,8 +110,7 @@ impl<A: Allocator + Copy> EliasFanoVec<A> {
         ensures adds { AddsAtMost tally.old tally.new (reads 0 3 (high_length self.now)) }
     {
         let _ = &self.len;
-        let high = ((v - self.first) >> self.width) as usize;
-        let zeros = self.high.select0_pair_counted(high, tally);
+        let zeros = self.high.select0_pair_counted(self.high_number(v), tally);
         self.bucket_between(v, zeros.first, zeros.second)
     }
 
@@ -103,8 +126,7 @@ impl<A: Allocator + Copy> EliasFanoVec<A> {
         ensures bucket { IsBucket self.now v result }
         ensures start { result.start ≡ before - high_of self.now v }
     {
-        let _ = &self.len;
-        let high = ((v - self.first) >> self.width) as usize;
+        let high = self.high_number(v);
         Bucket {
             high: high as u64,
             start: before - high,
@@ -123,7 +145,7 @@ impl<A: Allocator + Copy> EliasFanoVec<A> {
             (only_low_parts (digits (length self.now) + 4)) }
     {
         let _ = &self.len;
-        let low = (v - self.first) & ((1 << self.width) - 1);
+        let low = self.low_number(v);
         let between = self.narrowed(bucket, v, low, tally);
         let mut from = between.from;
         let mut to = between.to;
@@ -149,8 +171,7 @@ impl<A: Allocator + Copy> EliasFanoVec<A> {
         ensures adds { AddsAtMost tally.old tally.new
             (only_low_parts (digits (length self.now) + 4)) }
     {
-        let _ = &self.len;
-        let low = (v - self.first) & ((1 << self.width) - 1);
+        let low = self.low_number(v);
         if bucket.start >= bucket.end {
             return bucket.start;
         }
@@ -316,6 +337,7 @@ impl<A: Allocator + Copy> EliasFanoVec<A> {
 
     // How many members are below a number that doesn't lie so.
     #[inline(always)]
+    #[tactic(auto, using(crate::proofs::Neighbours::outside))]
     pub(super) fn rank_outside(&self, v: u64) -> u64
         requires { first_of self.now < v → last_of self.now < v }
         ensures { result ≡ below self.now v }
@@ -329,18 +351,15 @@ impl<A: Allocator + Copy> EliasFanoVec<A> {
     /// The same as `predecessor`, by at most as many low parts and queries of the high parts as the
     /// number of members has binary digits, and 8 more.
     #[inline(always)]
-    #[tactic(auto, using(crate::proofs::Bounds::bounds, crate::proofs::Buckets::ends))]
+    #[tactic(auto, using(crate::proofs::Bounds::bounds, crate::proofs::Members::neighbours))]
     pub fn predecessor_counted(&self, v: u64, tally: &mut Tally) -> Option<u64>
         ensures value { result ≡ greatest_not_above self.now v }
         ensures ascending { IsNonDecreasing self.now }
         ensures adds { AddsAtMost tally.old tally.new (search_reads self.now) }
     {
         let _ = &self.len;
-        if v >= self.last {
-            return self.last_member();
-        }
-        if v < self.first {
-            return None;
+        if !self.is_inside_after(v) {
+            return self.predecessor_outside(v);
         }
         let bucket = self.bucket_of(v + 1, tally);
         if self.is_amid(bucket, v + 1, v, tally) {
@@ -348,6 +367,30 @@ impl<A: Allocator + Copy> EliasFanoVec<A> {
         }
         let k = self.below_in(bucket, v + 1, tally);
         Some(self.last_below(bucket, v + 1, k, tally))
+    }
+
+    // Whether the number after `v` lies above the first member and not above the last.
+    #[inline(always)]
+    #[tactic(auto, using(crate::proofs::Begins::insides))]
+    pub(super) fn is_inside_after(&self, v: u64) -> bool
+        ensures inside { IsTrue result → IsInside self.now (v + 1) }
+        ensures outside { IsFalse result → first_of self.now ≤ v → last_of self.now ≤ v }
+    {
+        let _ = &self.len;
+        self.first <= v && v < self.last
+    }
+
+    // The predecessor of a number where the one after it doesn't lie so.
+    #[inline(always)]
+    #[tactic(auto, using(crate::proofs::Neighbours::outside))]
+    pub(super) fn predecessor_outside(&self, v: u64) -> Option<u64>
+        requires { first_of self.now ≤ v → last_of self.now ≤ v }
+        ensures { result ≡ greatest_not_above self.now v }
+    {
+        if v < self.first || self.len() == 0 {
+            return None;
+        }
+        Some(self.last)
     }
 
     // The last of the `k` members below `v`.
@@ -368,32 +411,18 @@ impl<A: Allocator + Copy> EliasFanoVec<A> {
         self.with_low_part(bucket.high, k - 1, tally)
     }
 
-    // The last member. None where there are none.
-    #[inline(always)]
-    pub(super) fn last_member(&self) -> Option<u64>
-        ensures { result ≡ slice_get self.now (length self.now - 1) }
-    {
-        if self.len() == 0 {
-            return None;
-        }
-        Some(self.last)
-    }
-
     /// The same as `successor`, by at most as many low parts and queries of the high parts as the
     /// number of members has binary digits, and 8 more.
     #[inline(always)]
-    #[tactic(auto, using(crate::proofs::Bounds::bounds, crate::proofs::Buckets::ends))]
+    #[tactic(auto, using(crate::proofs::Bounds::bounds, crate::proofs::Members::neighbours))]
     pub fn successor_counted(&self, v: u64, tally: &mut Tally) -> Option<u64>
         ensures value { result ≡ least_not_below self.now v }
         ensures ascending { IsNonDecreasing self.now }
         ensures adds { AddsAtMost tally.old tally.new (search_reads self.now) }
     {
         let _ = &self.len;
-        if v <= self.first {
-            return self.first_member();
-        }
-        if v > self.last {
-            return None;
+        if !self.is_inside(v) {
+            return self.successor_outside(v);
         }
         let bucket = self.bucket_of(v, tally);
         if self.is_amid(bucket, v, v, tally) {
@@ -401,6 +430,19 @@ impl<A: Allocator + Copy> EliasFanoVec<A> {
         }
         let k = self.below_in(bucket, v, tally);
         Some(self.first_from(bucket, v, k, tally))
+    }
+
+    // The successor of a number that doesn't lie above the first member and not above the last.
+    #[inline(always)]
+    #[tactic(auto, using(crate::proofs::Neighbours::outside))]
+    pub(super) fn successor_outside(&self, v: u64) -> Option<u64>
+        requires { first_of self.now < v → last_of self.now < v }
+        ensures { result ≡ least_not_below self.now v }
+    {
+        if v > self.first || self.len() == 0 {
+            return None;
+        }
+        Some(self.first)
     }
 
     // The member after the `k` members below `v`.
@@ -419,16 +461,5 @@ impl<A: Allocator + Copy> EliasFanoVec<A> {
             return self.member_past(bucket, v, tally);
         }
         self.with_low_part(bucket.high, k, tally)
-    }
-
-    // The first member. None where there are none.
-    #[inline(always)]
-    pub(super) fn first_member(&self) -> Option<u64>
-        ensures { result ≡ slice_get self.now 0 }
-    {
-        if self.len() == 0 {
-            return None;
-        }
-        Some(self.first)
     }
 }

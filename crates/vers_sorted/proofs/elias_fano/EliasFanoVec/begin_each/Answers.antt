@@ -4,10 +4,9 @@ use Rattle.std.proofs.lemmas.List.{length-take}
 use Rattle.vers_bits.specs.Bits.{select}
 use Rattle.vers_tally.proofs.PublicLaws.{adds_then}
 use Rattle.vers_sorted.specs.Layout.{high_of, high_length}
-use Rattle.vers_sorted.proofs.Aheads.{high_same}
 use Rattle.vers_sorted.proofs.Batches.{begun_reads}
 use Rattle.vers_sorted.proofs.Begins.{place_each}
-use Rattle.vers_sorted.proofs.Packed.{high_counted}
+use Rattle.vers_sorted.proofs.Packed.{high_counted, high_same}
 use Rattle.vers_sorted.proofs.elias_fano.EliasFanoVec.begin_each.Goals as goal
 
 pub returns-clause-adds : goal.returns-clause-adds
