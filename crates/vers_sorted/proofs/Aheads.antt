@@ -1,19 +1,6 @@
 -- The ones of the high parts that were read ahead.
-use Rattle.std.proofs.Common.{◌≡◌, ℕ, ◌+◌, ◌-◌, ◌/◌, ◌^◌, ◌<◌, ◌≤◌, Bool, true, false, List, length, take, drop, get_or, sym, ap, subst, ◌∙◌, arith, Option, Some, None, inl, inr}
-use mir.Syntax.{w64}
-use Rattle.std.specs.Option.{unwrap_or}
-use Rattle.std.specs.Int.{trailing_zeros}
-use Rattle.std.specs.List.Sorted.{IsNonDecreasing}
-use Rattle.std.proofs.Math.Nat.{pow-le-pow_right}
-use Rattle.std.proofs.lemmas.Bool.{cases_lt}
-use Rattle.std.proofs.lemmas.List.{get_or_past, length-take, drop-take, drop-drop}
-use Rattle.std.proofs.lemmas.Nat.Bits.{bit_at-trailing_zeros}
-use Rattle.vers_bits.specs.Bits.{bit_value, number, count, select}
-use Rattle.vers_bits.proofs.PublicLaws.{bit_at-number, number-lt, number-drop, select_at, count_at_select, count_more_yes, part_bit, value_none, value_one}
-use Rattle.vers_rank.specs.Queries.{part_number_or_zero}
+use Rattle.vers_sorted.proofs.Names.{◌≡◌, ℕ, ◌+◌, ◌-◌, ◌/◌, ◌^◌, ◌<◌, ◌≤◌, Bool, true, false, List, length, take, drop, get_or, sym, ap, subst, ◌∙◌, arith, Option, Some, None, w64, unwrap_or, trailing_zeros, IsNonDecreasing, pow-le-pow_right, get_or_past, length-take, drop-take, drop-drop, bit_at-trailing_zeros, number, count, select, bit_at-number, number-lt, number-drop, select_at, count_at_select, count_more_yes, part_bit, value_none, value_one, part_number_or_zero, high_parts, high_place, IsPacked}
 use Rattle.vers_sorted.specs.declared.elias_fano.ahead.Ahead.{Ahead}
-use Rattle.vers_sorted.specs.Layout.{high_parts, high_place}
-use Rattle.vers_sorted.specs.inside.Parts.{IsPacked}
 use Rattle.vers_sorted.specs.inside.Ahead.{HasRead, IsAhead}
 use Rattle.vers_sorted.proofs.Holds.{hold_high}
 use Rattle.vers_sorted.proofs.Packed.{high_same}
@@ -32,12 +19,7 @@ module _ (l : List Bool) (p n : ℕ) (within : p + n ≤ length l) (few : n ≤ 
   lowest =
       let t : ℕ = trailing_zeros w64 (number (take n (drop p l))) in
       let found = bit_at-trailing_zeros w64 (number (take n (drop p l))) some small in
-      let low : t < n = elim (cases_lt t n) [
-        | inl h ↦ h
-        | inr past ↦
-            let none : get_or (take n (drop p l)) t false ≡ false = get_or_past (take n (drop p l)) t false (omega (arith, length-take n (drop p l))) in
-            absurd (omega (arith, found.1, bit_at-number (take n (drop p l)) t, ap bit_value none))
-      ] in (
+      let low : t < n = grind (arith, get_or_past, length-take, bit_at-number) in (
         low,
         value_one (get_or l (p + t) false) (sym (part_bit l p n t low) ∙ found.1),
         count_stays true l p t (omega arith) (λ i less. value_none (get_or l (p + i) false) (sym (part_bit l p n i (omega arith)) ∙ found.2 i less)),
@@ -46,7 +28,6 @@ module _ (l : List Bool) (p n : ℕ) (within : p + n ≤ length l) (few : n ≤ 
   -- what is left of the part past a place of it
   pub rest : (t : ℕ) → t < n → number (take n (drop p l)) / 2 ^ t / 2 ^ 1 ≡ number (take (n - (t + 1)) (drop (p + (t + 1)) l))
   rest t low =
-      let m : ℕ = n - (t + 1) in
       let e : t + 1 + (n - (t + 1)) ≡ n = omega arith in
       ap (λ x. x / 2 ^ 1) (sym (number-drop t (take n (drop p l))))
       ∙ sym (number-drop 1 (drop t (take n (drop p l))))
@@ -82,31 +63,16 @@ module _ (s : List ℕ) (i : ℕ) (a : Ahead) (up : IsNonDecreasing s) (read : H
       let t : ℕ = trailing_zeros w64 (number (take a.len (drop a.place (high_parts s)))) in
       let t_is : trailing_zeros w64 a.word ≡ t = same_zeros in
       let low : t < a.len = found.0 in
-      let place_is : b.place ≡ a.place + (t + 1) = omega (arith, place, t_is) in
       let len_is : b.len ≡ a.len - (t + 1) = omega (arith, len, t_is) in
       let past : a.place + (t + 1) ≡ a.place + t + 1 = omega arith in
-      record {
-        before = ap (count true (high_parts s)) (place_is ∙ past) ∙ count_more_yes true (high_parts s) (a.place + t) (omega (arith, read.within)) found.1 ∙ omega (arith, found.2, read.before);
-        within = omega (arith, place_is, len_is, read.within);
-        few = omega (arith, len_is, read.few);
-        bits = word ∙ ap (λ k. a.word / 2 ^ k / 2 ^ 1) t_is ∙ ap (λ w. w / 2 ^ t / 2 ^ 1) read.bits
-            ∙ rest (high_parts s) a.place a.len read.within read.few one_left t low
-            ∙ ap (λ k. number (take k (drop (a.place + (t + 1)) (high_parts s)))) (sym len_is)
-            ∙ ap (λ q. number (take b.len (drop q (high_parts s)))) (sym place_is);
-      }
+      grind (arith, lowest, one_left, same_zeros, count_more_yes, rest)
 
 -- ---- the bits after a member's one
 
 pub read_after : {s : List ℕ} {high low : List Bool} {first last width : ℕ} (i p n w : ℕ) → IsPacked s high low first last width → i < length s → p ≡ select true high i
     → part_number_or_zero high (p + 1) n ≡ Some w → HasRead s (i + 1) (record { place = p + 1; len = n; word = w })
 read_after {s} {high} i p n w packed h e read =
-    let part = part_of (high_parts s) (p + 1) n w (rw (high_same packed) at read) in
-    record {
-      before = counted_past true (high_parts s) i p (omega (arith, h, (hold_high s packed.ascending).ones)) (rw (high_same packed) at e);
-      within = part.1;
-      few = part.0;
-      bits = part.2;
-    }
+    grind (arith, high_same packed, h, (hold_high s packed.ascending).ones, part_of, counted_past)
 
 pub read_maybe : {s : List ℕ} {high low : List Bool} {first last width : ℕ} (i p n w : ℕ) (o : Option ℕ) → IsPacked s high low first last width → i < length s → p ≡ select true high i
     → o ≡ part_number_or_zero high (p + 1) n → w ≡ unwrap_or o 0 → IsAhead s (i + 1) (record { place = p + 1; len = n; word = w })
@@ -122,4 +88,4 @@ read_fits i a packed read = rw (high_same packed) read.within
 pub place_fits : {s : List ℕ} {high low : List Bool} {first last width : ℕ} (i : ℕ) → IsPacked s high low first last width → i < length s → select true high i < length high
 place_fits {s} {high} i packed h = (count_at_select true high i (omega (arith, packed.high_parts.ones))).0
 
-pub ruleset steps = (step_fits, step_place)
+pub ruleset steps = (step_fits, step_place, place_fits)

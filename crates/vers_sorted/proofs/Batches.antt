@@ -1,9 +1,5 @@
 -- The bounds of batches.
-use Rattle.std.proofs.Common.{◌≡◌, ℕ, ◌+◌, List, length, arith}
-use Rattle.vers_tally.specs.Reads.{IsWithin, plus, times, only_low_parts, digits}
-use Rattle.vers_rank.specs.Queries.{select_reads, superblock_count}
-use Rattle.vers_sorted.specs.Layout.{high_length, search_reads}
-use Rattle.vers_sorted.specs.inside.Parts.{reads}
+use Rattle.vers_sorted.proofs.Names.{◌≡◌, ℕ, ◌+◌, List, length, arith, IsWithin, plus, times, only_low_parts, digits, select_reads, superblock_count, high_length, search_reads, reads}
 
 -- a select, the bits after its place or another one, and a low part
 pub begun_reads : (k n bits m : ℕ) → k ≡ n → bits ≡ m → IsWithin (plus (times k (select_reads (superblock_count bits))) (times n (reads 1 2 m))) (times n (reads 1 3 m))

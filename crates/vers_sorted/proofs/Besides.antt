@@ -1,17 +1,6 @@
 -- The ones beside a place, by the number of the bits there, and the members beside a bucket.
-use Rattle.std.proofs.Common.{◌≡◌, ℕ, ◌+◌, ◌-◌, ◌<◌, ◌≤◌, Bool, true, false, List, length, take, drop, get_or, sym, ap, ◌∙◌, arith, Some, inl, inr}
-use mir.Syntax.{w64}
-use Rattle.std.specs.Int.{bit_at, trailing_zeros}
+use Rattle.vers_sorted.proofs.Names.{◌≡◌, ℕ, ◌+◌, ◌-◌, ◌<◌, ◌≤◌, Bool, true, false, List, length, take, drop, get_or, sym, ap, ◌∙◌, arith, Some, w64, bit_at, trailing_zeros, IsNonDecreasing, number, count, select, highest_bit, select_at, count_at_select, count_both, count_more_yes, part_bit, value_none, value_one, part_number_or_zero, first_of, last_of, high_of, high_parts, IsPacked, IsStart, IsBucket, Bucket}
 use Rattle.std.specs.Int.Count.{count_leading_zeros}
-use Rattle.std.specs.List.Sorted.{IsNonDecreasing}
-use Rattle.std.proofs.lemmas.Bool.{cases_lt}
-use Rattle.vers_bits.specs.Bits.{number, count, select}
-use Rattle.vers_bits.proofs.PublicLaws.{highest_bit, select_at, count_at_select, count_both, count_more_yes, part_bit, value_none, value_one}
-use Rattle.vers_rank.specs.Queries.{part_number_or_zero}
-use Rattle.vers_sorted.specs.Layout.{first_of, last_of, high_of, high_parts}
-use Rattle.vers_sorted.specs.inside.Parts.{IsPacked, IsStart}
-use Rattle.vers_sorted.specs.inside.Buckets.{IsBucket}
-use Rattle.vers_sorted.specs.declared.elias_fano.search.Bucket.{Bucket}
 use Rattle.vers_sorted.proofs.Scans.{part_read, count_stays}
 use Rattle.vers_sorted.proofs.Aheads.{small, lowest}
 use Rattle.vers_sorted.proofs.Packed.{high_same}
@@ -67,14 +56,7 @@ module _ (l : List Bool) (to w : ℕ) (far : 64 ≤ to) (read : part_number_or_z
 -- ---- the ones beside a bucket
 
 start_unique : (s : List ℕ) (h a b : ℕ) → IsStart s h a → IsStart s h b → a ≡ b
-start_unique s h a b first second =
-    elim (cases_lt a b) [
-      | inl less ↦ absurd (omega (arith, second.before a less, first.after a (omega arith) (omega (arith, second.within))))
-      | inr not ↦ elim (cases_lt b a) [
-        | inl more ↦ absurd (omega (arith, first.before b more, second.after b (omega arith) (omega (arith, first.within))))
-        | inr neither ↦ omega arith
-      ]
-    ]
+start_unique s h a b first second = grind (arith)
 
 -- up to the zero with number h, and past it, as many ones stand as members have a high part below h
 ones_around : (s : List ℕ) (h start : ℕ) → IsNonDecreasing s → 0 < length s → h ≤ high_of s (last_of s) + 1 → IsStart s h start

@@ -1,9 +1,5 @@
 -- The items of the iterators over the members.
-use Rattle.std.proofs.Common.{◌≡◌, ℕ, ◌-◌, ◌<◌, List, length, drop, sym, ap, ◌∙◌, Some, slice_get}
-use Rattle.std.specs.Prelude.{slice_index}
-use Rattle.std.specs.List.Sorted.{IsNonDecreasing}
-use Rattle.std.proofs.lemmas.List.Sorted.{IsNonDecreasingBy-take, IsNonDecreasingBy-drop}
-use Rattle.std.proofs.lemmas.Option.{slice_get-get_or}
+use Rattle.vers_sorted.proofs.Names.{◌≡◌, ℕ, ◌-◌, ◌<◌, List, length, drop, sym, ap, ◌∙◌, Some, slice_get, slice_index, IsNonDecreasing, IsNonDecreasingBy-take, IsNonDecreasingBy-drop, slice_get-get_or}
 use Rattle.vers_bits.specs.declared.walk.Span.{Span}
 use Rattle.vers_bits.specs.Walk.{items_in}
 

@@ -1,6 +1,5 @@
 -- The bounds of the queries.
-use Rattle.std.proofs.Common.{ℕ, ◌+◌, ◌*◌, ◌≤◌, arith}
-use Rattle.std.proofs.Math.Nat.{mul-le-mul_left, mul_comm}
+use Rattle.vers_sorted.proofs.Names.{ℕ, ◌+◌, ◌*◌, ◌≤◌, arith, mul-le-mul_left, mul_comm}
 
 -- a row that allows 8 calls and more has room for 4
 pub few_calls : (d x : ℕ) → 4 * x ≤ (d + 8) * x

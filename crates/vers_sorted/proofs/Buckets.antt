@@ -1,18 +1,6 @@
 -- Where the members with one high part begin and end.
-use Rattle.std.proofs.Common.{◌≡◌, ℕ, ◌+◌, ◌-◌, ◌*◌, ◌/◌, ◌%◌, ◌^◌, ◌<◌, ◌≤◌, Bool, true, false, List, length, refl, ap, ◌∙◌, arith, inl, inr}
-use Rattle.std.specs.Prelude.{slice_index, bit_and}
-use Rattle.std.specs.List.Sorted.{IsNonDecreasing}
-use Rattle.std.proofs.lemmas.Nat.{and_mask, one_shl}
-use Rattle.std.proofs.lemmas.Bool.{cases_lt}
-use Rattle.vers_bits.specs.Bits.{count, select}
-use Rattle.vers_bits.proofs.PublicLaws.{count_both, count_up, count_at_select, select_below, select_not_below}
-use Rattle.vers_tally.specs.Reads.{digits}
-use Rattle.vers_tally.proofs.PublicLaws.{digits_halved, digits_up}
-use Rattle.vers_sorted.specs.Sorted.{below}
-use Rattle.vers_sorted.specs.Layout.{first_of, last_of, low_width, high_of, low_of, high_place, high_parts}
-use Rattle.vers_sorted.specs.inside.Parts.{IsPacked, IsStart}
-use Rattle.vers_sorted.specs.inside.Buckets.{IsBucket}
-use Rattle.vers_sorted.specs.declared.elias_fano.search.Bucket.{Bucket}
+use Rattle.vers_sorted.proofs.Names.{◌≡◌, ℕ, ◌+◌, ◌-◌, ◌*◌, ◌/◌, ◌%◌, ◌^◌, ◌<◌, ◌≤◌, Bool, true, false, List, length, refl, ap, ◌∙◌, arith, inl, inr, slice_index, bit_and, IsNonDecreasing, and_mask, one_shl, cases_lt, count, select, count_both, count_up, count_at_select, select_below, select_not_below, digits, digits_halved, digits_up, below, first_of, last_of, low_width, high_place, high_parts, IsPacked, IsStart, IsBucket, Bucket}
+use Rattle.vers_sorted.specs.Layout.{high_of, low_of}
 use Rattle.vers_sorted.proofs.Below.{below_le, below_from, below_to, below_before, below_after}
 use Rattle.vers_sorted.proofs.Split.{parts_sum, high_up, member_from, high_zeros}
 use Rattle.vers_sorted.proofs.Holds.{hold_high}
@@ -53,40 +41,21 @@ module _ (s : List ℕ) (up : IsNonDecreasing s) where
   -- the zeros before and after the members with the high part of v
   pub zeros_from : (v : ℕ) → 0 < length s → first_of s ≤ v → v ≤ last_of s
       → (high_of s v ≤ select false (high_parts s) (high_of s v)) × (high_of s v + 1 ≤ select false (high_parts s) (high_of s v + 1))
-  zeros_from v some from to =
-      let order = high_up s v (last_of s) to from in
-      ((start_at (high_of s v) some (omega (arith, order))).0, (start_at (high_of s v + 1) some (omega (arith, order))).0)
+  zeros_from v some from to = grind (arith, high_up, start_at)
 
   -- and the bucket between them
   pub bucket_is : (v h before after : ℕ) → h ≡ high_of s v → 0 < length s → first_of s ≤ v → v ≤ last_of s
       → before ≡ select false (high_parts s) (high_of s v) → after ≡ select false (high_parts s) (high_of s v + 1)
       → IsBucket s v (record { high = h; start = before - h; end = after - h - 1 })
-  bucket_is v h before after is some from to b a =
-      let order = high_up s v (last_of s) to from in
-      let end : after - high_of s v - 1 ≡ select false (high_parts s) (high_of s v + 1) - (high_of s v + 1) = omega (arith, a) in
-      rw is (record {
-        high = refl;
-        start = rw b (start_at (high_of s v) some (omega (arith, order))).1;
-        end = rw end (start_at (high_of s v + 1) some (omega (arith, order))).1;
-      })
+  bucket_is v h before after is some from to b a = grind (arith, high_up, start_at)
 
 -- ---- from high parts to the members themselves
 
 pub start_below : (s : List ℕ) (v start : ℕ) → IsNonDecreasing s → first_of s ≤ v → IsStart s (high_of s v) start → start ≤ below s v
-start_below s v start up from at = elim (cases_lt (below s v) start) [
-  | inr fine ↦ fine
-  | inl few ↦
-      absurd (omega (arith, at.before (below s v) few, high_up s v (slice_index s (below s v)) (below_after s v (below s v) up (omega arith) (omega (arith, at.within))) from))
-]
+start_below s v start up from at = grind (arith, high_up, below_after)
 
 pub below_end : (s : List ℕ) (v end : ℕ) → IsNonDecreasing s → first_of s ≤ v → IsStart s (high_of s v + 1) end → below s v ≤ end
-below_end s v end up from at = elim (cases_lt end (below s v)) [
-  | inr fine ↦ fine
-  | inl past ↦
-      let h : end < length s = omega (arith, below_le s v) in
-      let less = below_before s v end up past in
-      absurd (omega (arith, at.after end (omega arith) h, high_up s (slice_index s end) v (omega arith) (member_from s end up h)))
-]
+below_end s v end up from at = grind (arith, below_le, below_before, high_up, member_from)
 
 -- a member between the two, by its low part
 pub step_up : (s : List ℕ) (v start end i : ℕ) → IsNonDecreasing s → first_of s ≤ v → IsStart s (high_of s v) start → IsStart s (high_of s v + 1) end
@@ -106,13 +75,12 @@ step_down s v start end i up from at past low high more =
 -- the parts of the number that is looked for
 pub high_is : {s : List ℕ} {high low : List Bool} {first last width : ℕ} (v : ℕ) → IsPacked s high low first last width → (v - first) / 2 ^ width ≡ high_of s v
 unfolding high_of
-high_is {s} {first} {width} v packed = ap (λ w. (v - first) / 2 ^ w) packed.width_is ∙ ap (λ f. (v - f) / 2 ^ low_width s) packed.first_is
+high_is {s} {first} {width} v packed = grind (arith)
 
 pub low_is : {s : List ℕ} {high low : List Bool} {first last width : ℕ} (v : ℕ) → IsPacked s high low first last width
     → bit_and (v - first) (1 * 2 ^ width % 18446744073709551616 - 1) ≡ low_of s v
 unfolding low_of
-low_is {s} {first} {last} {width} v packed =
-    rw (one_shl width 64 packed.narrow, and_mask) (ap (λ w. (v - first) % 2 ^ w) packed.width_is ∙ ap (λ f. (v - f) % 2 ^ low_width s) packed.first_is)
+low_is {s} {first} {last} {width} v packed = grind (arith, one_shl width 64 packed.narrow, and_mask)
 
 pub upper_steps : (a e : ℕ) → a < e → digits (e - (a + (e - a) / 2 + 1)) + 1 ≤ digits (e - a)
 upper_steps a e h = digits_halved _ _ (omega arith) (omega arith)
@@ -137,3 +105,5 @@ pub ruleset search_steps = (start_below, below_end, step_up, step_down, upper_st
 pub ruleset members = (in_bucket)
 
 pub ruleset ends = (below_le, high_counted)
+
+pub ruleset sides = (start_below, below_end, in_bucket, below_le)

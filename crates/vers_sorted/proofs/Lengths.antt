@@ -1,12 +1,8 @@
 -- How many bits the high and the low parts have at most.
-use Rattle.std.proofs.Common.{◌≡◌, ℕ, zero, suc, ◌+◌, ◌-◌, ◌*◌, ◌^◌, ◌<◌, ◌≤◌, List, length, ap, arith, max, inl, inr}
-use Rattle.std.proofs.Math.Nat.{div-le_of_le-mul, mul-le-mul_left, mul_comm, pow-le-pow_right}
-use Rattle.std.proofs.lemmas.Bool.{cases_lt}
-use Rattle.std.proofs.lemmas.Nat.{pow-add}
-use Rattle.vers_sorted.specs.Layout.{clog, first_of, last_of, width, low_width, high_of, high_length, high_parts}
+use Rattle.vers_sorted.proofs.Names.{◌≡◌, ℕ, zero, suc, ◌+◌, ◌-◌, ◌*◌, ◌^◌, ◌<◌, ◌≤◌, List, length, ap, arith, max, inl, inr, div-le_of_le-mul, mul-le-mul_left, mul_comm, pow-le-pow_right, cases_lt, pow-add, clog, first_of, last_of, width, high_length, high_parts, clog_most, clog_least, clog_is_least}
+use Rattle.vers_sorted.specs.Layout.{low_width, high_of}
 use Rattle.vers_sorted.proofs.Split.{high_none, high_zeros}
 use Rattle.vers_sorted.proofs.Holds.{length-high_parts}
-use Rattle.vers_tally.proofs.PublicLaws.{clog_most, clog_least, clog_is_least}
 use Rattle.vers_sorted.proofs.Widths.{width_enough, width_few}
 
 -- the high part of the last member is at most the least power of two that isn't below the number of members
@@ -22,10 +18,7 @@ high_few s =
     div-le_of_le-mul (2 ^ w) within
 
 high_length-le : (s : List ℕ) → high_length s ≤ 2 + length s + 2 ^ clog (max (length s) 2)
-high_length-le s = elim (cases_lt 0 (length s)) [
-  | inl some ↦ omega (arith, high_zeros s some, high_few s)
-  | inr none ↦ omega (arith, high_none s (omega arith))
-]
+high_length-le s = grind (arith, high_zeros, high_few, high_none)
 
 pub length-high_parts-le : (s : List ℕ) → length (high_parts s) ≤ 2 + length s + 2 ^ clog (max (length s) 2)
 length-high_parts-le s = omega (arith, length-high_parts s, high_length-le s)
@@ -41,9 +34,7 @@ high_fits s few = omega (arith, high_length-le s, power_few (length s) few)
 
 grows : (m : ℕ) → m + 4 ≤ 2 ^ (m + 2)
 grows zero = omega arith
-grows (suc m) =
-    let e : suc m + 2 ≡ m + 2 + 1 = omega arith in
-    omega (arith, grows m, ap (λ k. 2 ^ k) e, pow-add 2 (m + 2) 1)
+grows (suc m) = grind (arith, grows m, grows m, pow-add 2 (m + 2) 1)
 
 -- the more members, the shorter their low parts
 pub low_fits : (s : List ℕ) → length s < 1152921504606846976 → last_of s < 18446744073709551616 → length s * low_width s ≤ 4611686018427387904

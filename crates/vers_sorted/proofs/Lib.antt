@@ -1,3 +1,4 @@
+pub mod Names
 pub mod Split
 pub mod Orders
 pub mod Below

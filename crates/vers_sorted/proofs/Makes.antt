@@ -1,19 +1,7 @@
 -- How high and low parts are made.
-use Rattle.std.proofs.Common.{◌≡◌, ◌==◌, ℕ, ◌+◌, ◌-◌, ◌*◌, ◌/◌, ◌^◌, ◌<◌, ◌≤◌, true, false, Bool, List, [], ◌∷◌, ◌++◌, length, take, drop, Option, Some, None, unwrap_or, refl, sym, ap, ◌∙◌, arith, inl, inr}
-use Rattle.std.proofs.Math.ListN.{set, replicate}
-use Rattle.std.proofs.Math.Nat.{mul-le-mul_left, mul_comm, zero-div}
-use Rattle.std.specs.Prelude.{slice_index, slice_get, map, if◌then◌else◌}
-use Rattle.std.specs.List.{range_with_len}
-use Rattle.std.specs.List.Sorted.{IsNonDecreasing}
-use Rattle.std.proofs.lemmas.Bool.{cases_lt}
-use Rattle.std.proofs.lemmas.List.{get_or_past, append-nil, map-append, take_all, take_more, length-map, length-take, length-drop, drop-drop, get_or-drop}
-use Rattle.std.proofs.lemmas.Option.{slice_get-get_or, slice_get_past, get_or_from_slice_get}
-use Rattle.std.proofs.lemmas.List.FromFn.{map-range_with_len_more}
-use Rattle.std.proofs.lemmas.Grind.{flat_map-append}
-use Rattle.vers_bits.specs.Bits.{low_bits, pack}
+use Rattle.vers_sorted.proofs.Names.{◌≡◌, ◌==◌, ℕ, ◌+◌, ◌-◌, ◌*◌, ◌/◌, ◌^◌, ◌<◌, ◌≤◌, true, false, Bool, List, [], ◌∷◌, ◌++◌, length, take, drop, Option, Some, None, unwrap_or, refl, sym, ap, ◌∙◌, arith, inl, inr, set, replicate, mul-le-mul_left, mul_comm, zero-div, slice_index, slice_get, map, if◌then◌else◌, range_with_len, IsNonDecreasing, cases_lt, get_or_past, append-nil, map-append, take_all, take_more, length-map, length-take, length-drop, drop-drop, get_or-drop, slice_get-get_or, slice_get_past, get_or_from_slice_get, map-range_with_len_more, flat_map-append, low_bits, pack, ones_at, first_of, last_of, width, high_place}
 use Rattle.vers_bits.specs.Walk.{TakesFirst}
-use Rattle.vers_sorted.specs.Ones.{ones_at}
-use Rattle.vers_sorted.specs.Layout.{first_of, last_of, width, low_width, high_of, high_length, high_place, high_parts, low_parts}
+use Rattle.vers_sorted.specs.Layout.{low_width, high_of, high_length, high_parts, low_parts}
 use Rattle.vers_sorted.specs.inside.Parts.{first_high_parts, first_low_parts}
 use Rattle.vers_sorted.proofs.Ones.{length-ones_at, ones_at_none, ones_at_more}
 use Rattle.vers_sorted.proofs.Split.{high_zeros, member_from}
@@ -29,10 +17,7 @@ pub last_none : (s : List ℕ) → length s ≡ 0 → last_of s ≡ 0
 last_none s e = get_or_past s (length s - 1) 0 (omega arith)
 
 pub first_last : (s : List ℕ) → IsNonDecreasing s → first_of s ≤ last_of s
-first_last s up = elim (cases_lt 0 (length s)) [
-  | inl some ↦ up 0 (length s - 1) 0 (omega arith) (omega arith)
-  | inr none ↦ omega (arith, first_none s (omega arith))
-]
+first_last s up = grind (arith, first_none)
 
 pub low_width_is : (s : List ℕ) (first last n w : ℕ) → first ≡ first_of s → last ≡ last_of s → n ≡ length s → w ≡ width n (last - first) → w ≡ low_width s
 unfolding low_width
@@ -72,7 +57,6 @@ low_start s = refl
 pub low_next : (s : List ℕ) (i : ℕ) → i < length s → first_low_parts s i ++ low_bits (slice_index s i - first_of s) (low_width s) ≡ first_low_parts s (i + 1)
 unfolding first_low_parts
 low_next s i h =
-    let f : ℕ → ℕ = λ m. m - first_of s in
     sym (ap (λ l. pack (map (λ m. m - first_of s) l) (low_width s)) (take_more s i 0 h)
     ∙ ap (λ l. pack l (low_width s)) (map-append (λ m. m - first_of s) (take i s) (slice_index s i ∷ []))
     ∙ flat_map-append (λ v. low_bits v (low_width s)) (map (λ m. m - first_of s) (take i s)) ((slice_index s i - first_of s) ∷ [])
@@ -81,11 +65,7 @@ low_next s i h =
 -- the low parts of the first i members, which fit
 pub low_length : (s : List ℕ) (i w : ℕ) → w ≡ low_width s → i ≤ length s → (length (first_low_parts s i) ≡ w * i) × (w * i ≤ length s * w)
 unfolding first_low_parts
-low_length s i w e h =
-    let some : length (map (λ m. m - first_of s) (take i s)) ≡ i = length-map (take i s) (λ m. m - first_of s) ∙ omega (arith, length-take i s) in (
-      length-pack (map (λ m. m - first_of s) (take i s)) (low_width s) ∙ ap (λ n. low_width s * n) some ∙ ap (λ k. k * i) (sym e),
-      omega (arith, mul-le-mul_left {m = i} {n = length s} w h, mul_comm w (length s)),
-    )
+low_length s i w e h = grind (arith, length-map, length-take, length-pack, mul-le-mul_left, mul_comm)
 
 pub low_all : (s : List ℕ) → first_low_parts s (length s) ≡ low_parts s
 unfolding first_low_parts low_parts
@@ -106,12 +86,7 @@ taken_at s rest new i v here t =
 
 -- where none was, all were taken
 pub all_taken : (s rest new : List ℕ) (i : ℕ) → rest ≡ drop i s → i ≤ length s → TakesFirst rest None new → i ≡ length s
-all_taken s rest new i here within t =
-    let given : slice_get (drop i s) 0 ≡ None = sym (rw here at t.given) in
-    elim (cases_lt i (length s)) [
-      | inl less ↦ let some = slice_get-get_or (drop i s) 0 0 (omega (arith, length-drop i s)) in absurd (cc (given, some))
-      | inr past ↦ omega arith
-    ]
+all_taken s rest new i here within t = grind (arith, length-drop i s, slice_get-get_or)
 
 -- the first, or 0
 pub first_taken : (s new : List ℕ) (taken : Option ℕ) → TakesFirst s taken new → unwrap_or taken 0 ≡ first_of s
@@ -145,11 +120,7 @@ pub low_more : (s rest new : List ℕ) (low more_low : List Bool) (i v first wid
     → low ≡ first_low_parts s i → more_low ≡ low ++ low_bits (v - first) width → more_low ≡ first_low_parts s (i + 1)
 low_more s rest new low more_low i v first width f w here t is put =
     let at = taken_at s rest new i v here t in
-    put ∙ ap (λ l. l ++ low_bits (v - first) width) is
-    ∙ ap (λ k. first_low_parts s i ++ low_bits (v - first) k) w
-    ∙ ap (λ k. first_low_parts s i ++ low_bits (v - k) (low_width s)) f
-    ∙ ap (λ k. first_low_parts s i ++ low_bits (k - first_of s) (low_width s)) (sym at.1)
-    ∙ low_next s i at.0
+    grind (arith, taken_at, low_next)
 
 -- ---- lengths
 
@@ -157,9 +128,7 @@ low_more s rest new low more_low i v first width f w here t is put =
 pub high_len_is : (s : List ℕ) (n first last width bits : ℕ) → n ≡ length s → first ≡ first_of s → last ≡ last_of s → width ≡ low_width s
     → bits ≡ (if n == 0 then 0 else 2 + n + (last - first) / 2 ^ width) → bits ≡ high_length s
 unfolding high_length
-high_len_is s n first last width bits same f l w is =
-    is ∙ ap (λ k. if k == 0 then 0 else 2 + k + (last - first) / 2 ^ width) same
-    ∙ ap (λ h. if length s == 0 then 0 else 2 + length s + h) (high_part_is s last first width f w ∙ ap (high_of s) l)
+high_len_is s n first last width bits same f l w is = grind (arith, high_part_is)
 
 -- which are few even of no members
 pub high_sum_fits : (s : List ℕ) (n first last width : ℕ) → n ≡ length s → first ≡ first_of s → last ≡ last_of s → width ≡ low_width s → n < 1152921504606846976

@@ -1,16 +1,7 @@
 -- The ones or the zeros of a limb, from the lowest up.
-use Rattle.std.proofs.Common.{◌≡◌, ℕ, ◌+◌, ◌-◌, ◌*◌, ◌/◌, ◌%◌, ◌^◌, ◌<◌, ◌≤◌, Bool, true, false, List, [], ◌∷◌, ◌++◌, length, take, get_or, not, refl, sym, ap, subst, ◌∙◌, arith, inl, inr, min}
-use mir.Syntax.{w64}
-use Rattle.std.specs.Int.{bit_at, bit_not, trailing_zeros}
-use Rattle.std.specs.Int.Count.{trailing_of_zero}
-use Rattle.std.proofs.lemmas.Bool.{cases_lt}
-use Rattle.std.proofs.lemmas.Nat.{shr-shr}
-use Rattle.std.proofs.lemmas.Nat.Bits.{bit_at-zero, bit_at-trailing_zeros, bit_at_not}
-use Rattle.vers_bits.specs.Bits.{bit_value, is_bit, count, places, limb}
-use Rattle.vers_sorted.specs.Ones.{AreMarked}
+use Rattle.vers_sorted.proofs.Names.{◌≡◌, ℕ, ◌+◌, ◌-◌, ◌*◌, ◌/◌, ◌%◌, ◌^◌, ◌<◌, ◌≤◌, Bool, true, false, List, [], ◌∷◌, ◌++◌, length, take, get_or, not, refl, sym, ap, subst, ◌∙◌, arith, inl, inr, min, w64, bit_at, bit_not, trailing_zeros, trailing_of_zero, cases_lt, shr-shr, bit_at-zero, bit_at-trailing_zeros, bit_at_not, bit_value, is_bit, count, places, limb, AreMarked, value_none, value_one, limb_bit}
 use Rattle.vers_sorted.proofs.Scans.{count_stays}
 use Rattle.vers_sorted.proofs.SparseBits.{first_places_more, first_places_limb}
-use Rattle.vers_bits.proofs.PublicLaws.{value_none, value_one, limb_bit}
 
 -- ---- a limb
 
@@ -63,9 +54,7 @@ module _ (b : Bool) (l : List Bool) (p n w : ℕ) (within : p + n ≤ length l) 
   places_more h =
       let t : ℕ = trailing_zeros w64 w in
       let e : p + (t + 1) ≡ p + t + 1 = omega arith in
-      let same : count b l (p + t) ≡ count b l p = count_stays b l p t (omega arith) (λ i low. off i (omega arith) low) in
-      ap (λ q. take (count b l q) (places b l)) e ∙ first_places_more b l (p + t) (omega arith) (on h)
-      ∙ ap (λ c. take c (places b l) ++ (p + t) ∷ []) same
+      grind (arith, count_stays, off, first_places_more, on)
 
   -- else there is none
   pub places_all : n ≤ trailing_zeros w64 w → take (count b l p) (places b l) ≡ take (count b l (p + n)) (places b l)
@@ -80,9 +69,8 @@ pub more_found : (b : Bool) (l : List Bool) (p e w t : ℕ) (items more : List �
     → more ≡ take (count b l (p + (t + 1))) (places b l)
 more_found b l p e w t items more to within few fits marked is h found put =
     let P : ℕ → Type 0 = λ q. take (count b l (p + (q + 1))) (places b l) ≡ take (count b l p) (places b l) ++ (p + q) ∷ [] in
-    let step : take (count b l (p + (t + 1))) (places b l) ≡ take (count b l p) (places b l) ++ (p + t) ∷ [] =
-    subst P (sym is) (places_more b l p (e - p) w (omega arith) (omega arith) fits marked (omega (arith, is))) in
-    put ∙ ap (λ x. x ++ (p + t) ∷ []) found ∙ sym step
+    let step : take (count b l (p + (t + 1))) (places b l) ≡ take (count b l p) (places b l) ++ (p + t) ∷ [] = subst P (sym is) (places_more b l p (e - p) w (omega arith) (omega arith) fits marked (omega (arith, is))) in
+    grind (arith, places_more)
 
 -- ---- of one limb
 

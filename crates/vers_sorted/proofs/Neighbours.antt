@@ -1,12 +1,6 @@
 -- The members next to a number.
-use Rattle.std.proofs.Common.{◌≡◌, ℕ, ◌+◌, ◌-◌, ◌<◌, ◌≤◌, Bool, List, length, refl, sym, ap, ◌∙◌, arith, inl, inr, Some, None}
-use Rattle.std.specs.Prelude.{nat_le, slice_index, slice_get}
-use Rattle.std.specs.List.Sorted.{IsNonDecreasing}
-use Rattle.std.proofs.lemmas.Bool.{cases_lt, le-leb, lt-leb, ne_eqb}
-use Rattle.vers_sorted.specs.Sorted.{below, greatest_not_above, least_not_below, delta}
-use Rattle.std.proofs.lemmas.Option.{slice_get-get_or, slice_get_past}
-use Rattle.vers_bits.proofs.PublicLaws.{find_is, none_passing, last_passing_is}
-use Rattle.vers_sorted.specs.inside.Parts.{IsPacked}
+use Rattle.vers_sorted.proofs.Names.{◌≡◌, ℕ, ◌+◌, ◌-◌, ◌<◌, ◌≤◌, Bool, List, length, refl, sym, ap, ◌∙◌, arith, Some, None, nat_le, slice_index, slice_get, IsNonDecreasing, le-leb, lt-leb, ne_eqb, below, slice_get-get_or, slice_get_past, find_is, none_passing, last_passing_is, IsPacked}
+use Rattle.vers_sorted.specs.Sorted.{greatest_not_above, least_not_below, delta}
 use Rattle.vers_sorted.proofs.Below.{below_le, below_up, below_from, below_to, below_before, below_after, none_below, all_below}
 
 pub succ_is : (s : List ℕ) (v : ℕ) → IsNonDecreasing s → least_not_below s v ≡ slice_get s (below s v)
@@ -22,10 +16,7 @@ pred_none s v up e =
 
 pub pred_some : (s : List ℕ) (v : ℕ) → IsNonDecreasing s → 0 < below s (v + 1) → greatest_not_above s v ≡ slice_get s (below s (v + 1) - 1)
 unfolding greatest_not_above
-pred_some s v up some =
-    last_passing_is None (λ m. nat_le m v) s (below s (v + 1) - 1) (omega (arith, below_le s (v + 1)))
-    (λ i h. le-leb (slice_index s i) v (omega (arith, below_before s (v + 1) i up (omega arith))))
-    (λ i h short. lt-leb (slice_index s i) v (omega (arith, below_after s (v + 1) i up (omega arith) short)))
+pred_some s v up some = grind (arith, last_passing_is, below_le, le-leb, below_before, lt-leb, below_after)
 
 -- ---- the neighbours of a number that lies between the first member and the last
 

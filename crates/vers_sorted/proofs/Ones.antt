@@ -1,20 +1,8 @@
 -- The bits whose ones stand at given places: their counts, their places, and how they come about.
-use Rattle.std.proofs.Common.{◌≡◌, ℕ, zero, suc, ◌+◌, ◌-◌, ◌<◌, ◌≤◌, Bool, true, false, ◌⊎◌, List, [], ◌∷◌, ◌++◌, length, get_or, refl, sym, ap, ◌∙◌, arith, inl, inr}
-use Rattle.std.proofs.Math.Dec.{eqb}
-use Rattle.std.proofs.Math.ListN.{set, replicate}
-use Rattle.std.specs.Prelude.{slice_index, map, ◌||◌}
-use Rattle.std.specs.List.{list_any}
-use Rattle.std.specs.List.Sorted.{IsNonDecreasing, IsStrictlyIncreasing}
-use Rattle.std.proofs.lemmas.Bool.{cases_lt, cases_eq, cases_Bool, ne_eqb, eq-eqb, eqb-true}
-use Rattle.std.proofs.lemmas.Grind.{same_number_lists}
-use Rattle.std.proofs.lemmas.List.{same_lists, get_or-set_same, get_or-set_other, length-set, length-replicate, get_or-replicate, get_or-map, length-map}
-use Rattle.std.proofs.lemmas.List.FromFn.{length-map-range_with_len, get_or-map-range_with_len}
+use Rattle.vers_sorted.proofs.Names.{◌≡◌, ℕ, zero, suc, ◌+◌, ◌-◌, ◌<◌, ◌≤◌, Bool, true, false, ◌⊎◌, List, [], ◌∷◌, ◌++◌, length, get_or, refl, sym, ap, ◌∙◌, arith, inl, inr, eqb, set, replicate, slice_index, map, ◌||◌, list_any, IsNonDecreasing, IsStrictlyIncreasing, cases_lt, cases_Bool, ne_eqb, eq-eqb, eqb-true, same_number_lists, same_lists, get_or-set_same, get_or-set_other, length-set, length-replicate, get_or-replicate, get_or-map, length-map, length-map-range_with_len, get_or-map-range_with_len, get_or_default, is_bit, count, places, count_none, count_up, count_more_yes, count_more_no, select_at, length-places, select_is_place, select_up, IsPlace, below}
 use Rattle.std.proofs.lemmas.List.Folds.{list_any-from_Any, Any-from_list_any, list_any_none, list_any-append}
 use Rattle.std.proofs.lemmas.List.Kept.{AllPairs-from_increasing}
-use Rattle.std.proofs.lemmas.List.{get_or_default}
-use Rattle.vers_bits.specs.Bits.{is_bit, count, places, select}
-use Rattle.vers_bits.proofs.PublicLaws.{count_none, count_up, count_more_yes, count_more_no, select_at, length-places, select_is_place, select_up, IsPlace}
-use Rattle.vers_sorted.specs.Sorted.{below}
+use Rattle.vers_bits.specs.Bits.{select}
 use Rattle.vers_sorted.specs.Ones.{ones_at}
 use Rattle.vers_sorted.proofs.Below.{below_le, below_at, below_before, below_after, none_below, all_below}
 
@@ -78,15 +66,7 @@ module _ (s : List ℕ) (up : IsStrictlyIncreasing s) where
   -- whether v is a member, by the member that `below` names
   pub member_test : (v : ℕ) → ((list_any (λ q. eqb q v) s ≡ true) × (below s (v + 1) ≡ below s v + 1))
       ⊎ ((list_any (λ q. eqb q v) s ≡ false) × (below s (v + 1) ≡ below s v))
-  member_test v =
-      elim (cases_Bool (list_any (λ q. eqb q v) s)) [
-        | inl on ↦
-            let found : (k : ℕ) × (k < length s) × (get_or s k 0 ≡ v) = member_place s v on in
-            let at : below s v ≡ found.0 = sym (ap (below s) found.2) ∙ below_member found.0 found.1 in
-            inl (on, below_held v (omega (arith, found.1)) (ap (slice_index s) at ∙ found.2))
-        | inr off ↦
-            inr (off, below_free v (λ h e. let on = any_member s v (below s v) h e in absurd (cc (on, off))))
-      ]
+  member_test v = grind (arith, member_place, below_member, below_held, below_free, any_member)
 
   pub count-ones_at : (n i : ℕ) → i ≤ n → count true (ones_at s n) i ≡ below s i
   count-ones_at n zero h = count_none true (ones_at s n) ∙ sym (none_below s 0 ascends (omega arith))
@@ -95,10 +75,7 @@ module _ (s : List ℕ) (up : IsStrictlyIncreasing s) where
       let before : count true (ones_at s n) i ≡ below s i = count-ones_at n i (omega arith) in
       let within : i < length (ones_at s n) = omega (arith, length-ones_at s n) in
       let here : get_or (ones_at s n) i false ≡ list_any (λ q. eqb q i) s = get_or-ones_at s n i false (omega arith) in
-      ap (count true (ones_at s n)) e ∙ elim (member_test i) [
-        | inl (on, more) ↦ count_more_yes true (ones_at s n) i within (here ∙ on) ∙ omega (arith, before, more, ap (below s) e)
-        | inr (off, same) ↦ count_more_no true (ones_at s n) i within (here ∙ off) ∙ omega (arith, before, same, ap (below s) e)
-      ]
+      ap (count true (ones_at s n)) e ∙ grind (arith, member_test, count_more_yes, count_more_no)
 
   pub select-ones_at : (n r : ℕ) → r < length s → slice_index s r < n → select true (ones_at s n) r ≡ slice_index s r
   select-ones_at n r h within =
@@ -109,9 +86,7 @@ module _ (s : List ℕ) (up : IsStrictlyIncreasing s) where
 
   -- all are below n
   pub all_ones : (n : ℕ) → (0 < length s → slice_index s (length s - 1) < n) → count true (ones_at s n) (length (ones_at s n)) ≡ length s
-  all_ones n within =
-      ap (count true (ones_at s n)) (length-ones_at s n) ∙ count-ones_at n n (omega arith)
-      ∙ elim (cases_lt 0 (length s)) [ inl some ↦ all_below s n ascends (within some) | inr none ↦ omega (arith, below_le s n) ]
+  all_ones n within = grind (arith, length-ones_at, count-ones_at, all_below, ascends, below_le)
 
   pub places-ones_at : (n : ℕ) → (0 < length s → slice_index s (length s - 1) < n) → places true (ones_at s n) ≡ s
   unfolding select
@@ -125,22 +100,11 @@ module _ (s : List ℕ) (up : IsStrictlyIncreasing s) where
 -- ---- how such bits come about
 
 pub ones_at_none : (n : ℕ) → ones_at [] n ≡ replicate n false
-ones_at_none n =
-    same_lists _ _ (length-ones_at [] n ∙ sym (length-replicate n false)) (λ k d h.
-    let short : k < n = omega (arith, length-ones_at [] n) in
-    get_or-ones_at [] n k d short ∙ sym (get_or-replicate n k false d short))
+ones_at_none n = grind (arith, same_lists, length-ones_at, length-replicate, get_or-ones_at, get_or-replicate)
 
 pub ones_at_more : (s : List ℕ) (n p : ℕ) → p < n → ones_at (s ++ p ∷ []) n ≡ set (ones_at s n) p true
 ones_at_more s n p within =
-    same_lists _ _ (length-ones_at (s ++ p ∷ []) n ∙ sym (length-set (ones_at s n) p true ∙ length-ones_at s n)) (λ k d h.
-    let short : k < n = omega (arith, length-ones_at (s ++ p ∷ []) n) in
-    get_or-ones_at (s ++ p ∷ []) n k d short ∙ list_any-append (λ q. eqb q k) s (p ∷ [])
-    ∙ elim (cases_eq k p) [
-      | inl e ↦ or_yes (list_any (λ q. eqb q k) s) (eqb p k) (eq-eqb p k (sym e))
-          ∙ sym (ap (λ i. get_or (set (ones_at s n) p true) i d) e ∙ get_or-set_same (ones_at s n) p true d (omega (arith, length-ones_at s n)))
-      | inr ne ↦ or_no (list_any (λ q. eqb q k) s) (eqb p k) (ne_eqb p k (λ e. ne (sym e)))
-          ∙ sym (get_or-set_other (ones_at s n) p k true d ne ∙ get_or-ones_at s n k d short)
-    ])
+    grind (arith, same_lists, length-ones_at, length-set, get_or-ones_at, list_any-append, or_yes, eq-eqb, get_or-set_same, or_no, ne_eqb, get_or-set_other)
 
 -- ---- the places of a list's own ones or zeros
 
@@ -153,9 +117,7 @@ places_rise b l k h =
 
 pub places_within : (b : Bool) (l : List Bool) (k : ℕ) → k < length (places b l) → slice_index (places b l) k < length l
 unfolding select
-places_within b l k h =
-    let at : IsPlace b l k (select b l k) = select_is_place b l k (omega (arith, length-places b l)) in
-    omega (arith, at.within, get_or_default (places b l) k 0 (length l) h)
+places_within b l k h = grind (arith, length-places b l, get_or_default (places b l) k 0 (length l) h, select_is_place)
 
 pub ones_at-places : (b : Bool) (l : List Bool) → ones_at (places b l) (length l) ≡ map (is_bit b) l
 unfolding select

@@ -1,14 +1,6 @@
 -- Numbers that stand in an order, each to the next.
-use Rattle.std.proofs.Common.{◌≡◌, ℕ, zero, suc, ◌<◌, Bool, true, false, List, [], ◌∷◌, length, get_or, nat_le, nat_lt, refl, sym, ◌∙◌, arith, add-one}
-use Rattle.std.specs.Prelude.{◌↔◌, All, IsTrue}
+use Rattle.vers_sorted.proofs.Names.{◌≡◌, ℕ, zero, suc, ◌<◌, Bool, true, false, List, [], ◌∷◌, length, get_or, nat_le, nat_lt, refl, sym, ◌∙◌, arith, add-one, ◌↔◌, All, IsTrue, IsAllAdjacentAnswer, list_all, IsNonDecreasing, IsStrictlyIncreasing, leb-true, le-leb, ltb-true, lt-ltb, get_or_default, IsNonDecreasingBy-from_all_adjacent, AllPass-from_list_all, list_all-from_AllPass, each_next}
 use Rattle.std.proofs.Math.Bool.{◌&&◌, and-false}
-use Rattle.std.specs.List.{IsAllAdjacentAnswer, list_all}
-use Rattle.std.specs.List.Sorted.{IsNonDecreasing, IsStrictlyIncreasing}
-use Rattle.std.proofs.lemmas.Bool.{leb-true, le-leb, ltb-true, lt-ltb}
-use Rattle.std.proofs.lemmas.List.{get_or_default}
-use Rattle.std.proofs.lemmas.List.Sorted.{IsNonDecreasingBy-from_all_adjacent}
-use Rattle.std.proofs.lemmas.List.Sums.{AllPass-from_list_all, list_all-from_AllPass}
-use Rattle.vers_sorted.specs.Sorted.{each_next}
 
 -- number k and the next
 abbrev pair_at : (ℕ → ℕ → Bool) → List ℕ → ℕ → Bool
@@ -55,16 +47,10 @@ ascending xs h = IsNonDecreasingBy-from_all_adjacent (λ x. x) xs (λ k d l.
 
 -- what the tests of a caller answer
 pub ascending_is : (xs : List ℕ) (r : Bool) → r ≡ each_next nat_le xs → IsTrue r ↔ IsNonDecreasing xs
-ascending_is xs r e = (
-  λ h. ascending xs (sym e ∙ h),
-  λ up. e ∙ each_next-true nat_le xs (λ k l. le-leb _ _ (up k (suc k) 0 (omega arith) l)),
-)
+ascending_is xs r e = grind (arith, ascending, each_next-true, nat_le, le-leb)
 
 pub rising_is : (xs : List ℕ) (r : Bool) → r ≡ each_next nat_lt xs → IsTrue r ↔ IsStrictlyIncreasing xs
-rising_is xs r e = (
-  λ h. rising xs (sym e ∙ h),
-  λ up. e ∙ each_next-true nat_lt xs (λ k l. lt-ltb _ _ (rw (← add-one k) (up k (omega arith)))),
-)
+rising_is xs r e = grind (arith, rising, each_next-true, nat_lt, lt-ltb, add-one)
 
 pub below_is : (xs : List ℕ) (limit : ℕ) (r : Bool) → r ≡ list_all (λ n. nat_lt n limit) xs → IsTrue r ↔ All (λ n. n < limit) xs
 below_is xs limit r e = (

@@ -1,16 +1,6 @@
 -- What the fields of a packed list say of its members.
-use Rattle.std.proofs.Common.{◌≡◌, ℕ, ◌+◌, ◌-◌, ◌*◌, ◌/◌, ◌%◌, ◌^◌, ◌<◌, ◌≤◌, max, Bool, true, false, List, length, take, drop, refl, sym, ap, ◌∙◌, arith, Some, None}
-use Rattle.std.specs.Prelude.{slice_index, slice_get, bit_or}
-use Rattle.std.specs.List.Sorted.{IsNonDecreasing}
-use Rattle.std.proofs.Math.Nat.{mul-le-mul_left, mul_comm, mod-eq_of_lt}
-use Rattle.std.proofs.lemmas.Nat.{or_shifted}
-use Rattle.std.proofs.lemmas.Option.{slice_get-get_or, slice_get_past}
-use Rattle.std.proofs.lemmas.List.FromFn.{length-map-range_with_len}
-use Rattle.vers_bits.specs.Bits.{select, number, count, block_count, limb_count}
-use Rattle.vers_bits.proofs.PublicLaws.{count_both}
-use Rattle.vers_rank.specs.Queries.{index_size, superblock_count}
-use Rattle.vers_sorted.specs.Layout.{first_of, last_of, low_width, high_of, low_of, high_length, high_parts, low_parts, heap_size_of}
-use Rattle.vers_sorted.specs.inside.Parts.{member, members, AreHighParts, IsPacked}
+use Rattle.vers_sorted.proofs.Names.{◌≡◌, ℕ, ◌+◌, ◌*◌, ◌%◌, ◌^◌, ◌<◌, ◌≤◌, Bool, true, List, length, take, drop, refl, ap, ◌∙◌, arith, Some, None, slice_index, slice_get, bit_or, IsNonDecreasing, mul-le-mul_left, mul_comm, mod-eq_of_lt, or_shifted, slice_get-get_or, slice_get_past, length-map-range_with_len, select, number, limb_count, count_both, index_size, first_of, last_of, low_width, high_of, low_of, high_length, high_parts, low_parts, heap_size_of, member, IsPacked}
+use Rattle.vers_sorted.specs.inside.Parts.{members, AreHighParts}
 use Rattle.vers_sorted.proofs.Split.{parts_sum, low_below}
 use Rattle.vers_sorted.proofs.Holds.{hold_high, hold_low, packs}
 
@@ -37,16 +27,11 @@ mul_step : (w i n : ℕ) → i < n → w * i + w ≤ w * n
 mul_step w i n h = omega (arith, mul-le-mul_left {m = i + 1} {n = n} w (omega arith), mul_comm w (i + 1), mul_comm w i)
 
 pub low_within : {s : List ℕ} {high low : List Bool} {first last width : ℕ} (i : ℕ) → IsPacked s high low first last width → i < length s → i * width + width ≤ length low
-low_within {s} {width} i packed h =
-    omega (arith, mul_step width i (length s) h, mul_comm width i, packed.low_parts.counted, ap (λ w. w * length s) packed.width_is)
+low_within {s} {width} i packed h = grind (arith, mul_step)
 
 pub low_read : {s : List ℕ} {high low : List Bool} {first last width : ℕ} (i : ℕ) → IsPacked s high low first last width → i < length s
     → number (take width (drop (i * width) low)) ≡ low_of s (slice_index s i)
-low_read {s} {low} {width} i packed h =
-    let place : i * width ≡ width * i = mul_comm i width in
-    ap (λ p. number (take width (drop p low))) place
-    ∙ ap (λ w. number (take w (drop (w * i) low))) packed.width_is
-    ∙ packed.low_parts.part i h
+low_read {s} {low} {width} i packed h = grind (arith, mul_comm)
 
 -- ---- the high part
 
@@ -67,21 +52,12 @@ get_none s i h = slice_get_past s i h
 
 pub in_order : {s : List ℕ} {high low : List Bool} {first last width : ℕ} (i : ℕ) → IsPacked s high low first last width → i < length s
     → (first ≤ slice_index s i) × (slice_index s i ≤ last)
-in_order {s} i packed h =
-    (omega (arith, packed.first_is, packed.ascending 0 i 0 (omega arith) h), omega (arith, packed.last_is, packed.ascending i (length s - 1) 0 (omega arith) (omega arith)))
+in_order {s} i packed h = grind (arith)
 
 pub joined : {s : List ℕ} {high low : List Bool} {first last width : ℕ} (i : ℕ) → IsPacked s high low first last width → i < length s
     → (first + bit_or (high_of s (slice_index s i) * 2 ^ width % 18446744073709551616) (low_of s (slice_index s i)) ≡ slice_index s i)
 joined {s} {first} {last} {width} i packed h =
-    let v : ℕ = slice_index s i in
-    let order = in_order i packed h in
-    let sum : high_of s v * 2 ^ low_width s + low_of s v ≡ v - first_of s = parts_sum s v (omega (arith, order.0, packed.first_is)) in
-    let small : high_of s v * 2 ^ low_width s < 18446744073709551616 = omega (arith, sum, order.1, packed.fits) in
-    let whole : high_of s v * 2 ^ low_width s % 18446744073709551616 ≡ high_of s v * 2 ^ low_width s = mod-eq_of_lt small in
-    let both : bit_or (high_of s v * 2 ^ low_width s % 18446744073709551616) (low_of s v) ≡ v - first_of s =
-    ap (λ m. bit_or m (low_of s v)) whole ∙ or_shifted (high_of s v) (low_width s) (low_of s v) (low_below s v) ∙ sum in
-    ap (λ w. first + bit_or (high_of s v * 2 ^ w % 18446744073709551616) (low_of s v)) packed.width_is
-    ∙ omega (arith, both, packed.first_is, order.0)
+    grind (arith, in_order, packed, parts_sum, mod-eq_of_lt, or_shifted, low_below)
 
 -- ---- sizes
 

@@ -1,10 +1,5 @@
 -- The laws that proofs of other crates may cite. A crate above imports this file and no other of this folder.
-use Rattle.std.proofs.Common.{◌≡◌, ℕ, ◌+◌, ◌-◌, ◌<◌, ◌≤◌, Bool, List, length, slice_get, None, refl}
-use Rattle.std.specs.Prelude.{◌↔◌, IsTrue, slice_index, map, nat_le, nat_lt}
-use Rattle.std.specs.List.Sorted.{IsNonDecreasing, IsStrictlyIncreasing}
-use Rattle.vers_bits.specs.Bits.{is_bit, places}
-use Rattle.vers_sorted.specs.Ones.{ones_at}
-use Rattle.vers_sorted.specs.Sorted.{each_next, below, greatest_not_above, least_not_below}
+use Rattle.vers_sorted.proofs.Names.{◌≡◌, ℕ, ◌+◌, ◌-◌, ◌<◌, ◌≤◌, Bool, List, length, slice_get, None, refl, ◌↔◌, IsTrue, slice_index, map, nat_le, nat_lt, IsNonDecreasing, IsStrictlyIncreasing, is_bit, places, ones_at, each_next, below, greatest_not_above, least_not_below}
 use Rattle.vers_sorted.proofs.Below as Below
 use Rattle.vers_sorted.proofs.Neighbours as Neighbours
 use Rattle.vers_sorted.proofs.Ones as Ones

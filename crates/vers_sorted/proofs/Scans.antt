@@ -1,13 +1,5 @@
 -- The next zero or one, by the number of the bits that follow.
-use Rattle.std.proofs.Common.{◌≡◌, ℕ, zero, suc, ◌+◌, ◌<◌, ◌≤◌, Bool, true, false, List, length, take, drop, get_or, sym, ap, ◌∙◌, arith, Some}
-use mir.Syntax.{w64}
-use Rattle.std.specs.Int.{trailing_ones}
-use Rattle.std.specs.Prelude.{nat_le, ◌&&◌}
-use Rattle.std.proofs.lemmas.Bool.{leb-true, and_parts}
-use Rattle.std.proofs.lemmas.Option.{cond_some}
-use Rattle.std.proofs.lemmas.Nat.Bits.{bit_at-trailing_ones}
-use Rattle.vers_bits.specs.Bits.{is_bit, number, count, select}
-use Rattle.vers_bits.proofs.PublicLaws.{count_le, select_at, count_at_select, count_more_no, part_bit, value_none, value_one}
+use Rattle.vers_sorted.proofs.Names.{◌≡◌, ℕ, zero, suc, ◌+◌, ◌<◌, ◌≤◌, Bool, true, false, List, length, take, drop, get_or, sym, ap, ◌∙◌, arith, Some, w64, trailing_ones, leb-true, and_parts, cond_some, bit_at-trailing_ones, is_bit, number, count, select, count_le, select_at, count_at_select, count_more_no, part_bit, value_none, value_one}
 use Rattle.vers_rank.specs.Queries.{part_number_or_zero}
 
 -- where no place of a stretch holds the bit, the count stays
@@ -37,10 +29,7 @@ counted_past b l h p some e = ap (λ q. count b l (q + 1)) e ∙ (count_at_selec
 -- what a part of n bits says that was read
 pub part_of : (l : List Bool) (p n w : ℕ) → part_number_or_zero l p n ≡ Some w → (n ≤ 64) × (p + n ≤ length l) × (w ≡ number (take n (drop p l)))
 unfolding part_number_or_zero
-part_of l p n w e =
-    let found = cond_some (nat_le n 64 && nat_le (p + n) (length l)) (number (take n (drop p l))) w e in
-    let both = and_parts (nat_le n 64) (nat_le (p + n) (length l)) found.0 in
-    (leb-true n 64 both.0, leb-true (p + n) (length l) both.1, sym found.1)
+part_of l p n w e = grind (arith, cond_some, and_parts, leb-true)
 
 pub part_read : (l : List Bool) (p w : ℕ) → part_number_or_zero l p 64 ≡ Some w → (p + 64 ≤ length l) × (w ≡ number (take 64 (drop p l)))
 part_read l p w e = let read = part_of l p 64 w e in (read.1, read.2)
@@ -50,9 +39,7 @@ select_within b l h p some e = omega (arith, e, (count_at_select b l h some).0)
 
 pub zero_read : (l : List Bool) (h at w : ℕ) → h < count false l (length l) → at ≡ select false l h → part_number_or_zero l (at + 1) 64 ≡ Some w → w + 1 < 18446744073709551616
     → at + 1 + trailing_ones w64 w ≡ select false l (h + 1)
-zero_read l h at w some e read small =
-    let part = part_read l (at + 1) w read in
-    sym (next_zero l (at + 1) (h + 1) part.0 (counted_past false l h at some e) (omega (arith, part.1)) ∙ ap (λ v. at + 1 + trailing_ones w64 v) (sym part.1))
+zero_read l h at w some e read small = grind (arith, part_read, next_zero, counted_past)
 
 pub zero_fits : (l : List Bool) (p w : ℕ) → part_number_or_zero l p 64 ≡ Some w → w + 1 < 18446744073709551616 → p + trailing_ones w64 w < length l
 zero_fits l p w read small = omega (arith, (part_read l p w read).0, (bit_at-trailing_ones w64 w small).0)

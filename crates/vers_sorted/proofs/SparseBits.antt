@@ -1,14 +1,6 @@
 -- The queries of a sparse list of bits, by those of the list of its ones' places.
-use Rattle.std.proofs.Common.{◌≡◌, ℕ, ◌+◌, ◌-◌, ◌*◌, ◌<◌, ◌≤◌, Bool, true, false, List, [], ◌∷◌, ◌++◌, length, take, get_or, eqb, refl, sym, ap, ◌∙◌, arith, inl, inr, min, Some, None}
-use Rattle.std.specs.Prelude.{slice_index, slice_get, map}
-use Rattle.std.specs.List.Sorted.{IsNonDecreasing}
-use Rattle.std.proofs.lemmas.Bool.{cases_lt, cases_eq, eq-eqb, ne_eqb}
-use Rattle.std.proofs.lemmas.List.{get_or_default, map-id, take_more, take_all}
-use Rattle.std.proofs.lemmas.Option.{slice_get-get_or, slice_get_past, slice_get_within, get_or_from_slice_get}
-use Rattle.vers_bits.specs.Bits.{is_bit, count, places, select}
-use Rattle.vers_bits.proofs.PublicLaws.{count_none, count_both, count_past, count_up, select_at, select_past, length-places, count_more_yes}
-use Rattle.vers_sorted.specs.Sorted.{below, least_not_below}
-use Rattle.vers_sorted.specs.Ones.{ones_at, AreSparse}
+use Rattle.vers_sorted.proofs.Names.{◌≡◌, ℕ, ◌+◌, ◌-◌, ◌*◌, ◌<◌, ◌≤◌, Bool, true, false, List, [], ◌∷◌, ◌++◌, length, take, get_or, eqb, refl, sym, ap, ◌∙◌, arith, inl, inr, min, Some, None, slice_index, slice_get, map, IsNonDecreasing, cases_lt, eq-eqb, ne_eqb, get_or_default, map-id, take_more, take_all, slice_get-get_or, slice_get_past, slice_get_within, get_or_from_slice_get, is_bit, count, places, count_none, count_both, count_past, count_up, select_at, select_past, length-places, count_more_yes, below, least_not_below, ones_at, AreSparse}
+use Rattle.vers_bits.specs.Bits.{select}
 use Rattle.vers_sorted.proofs.Below.{below_le, below_from, below_to, below_after, all_below}
 use Rattle.vers_sorted.proofs.Neighbours.{succ_is}
 use Rattle.vers_sorted.proofs.Ones.{length-ones_at, get_or-ones_at, member_test, ascends, below_member, count-ones_at, select-ones_at, all_ones, places-ones_at, places_rise, places_within, ones_at-places}
@@ -22,24 +14,10 @@ module _ {s : List ℕ} {n : ℕ} (sparse : AreSparse s n) where
 
   pub count_is : (i : ℕ) → count true (ones_at s n) i ≡ below s i
   count_is i =
-      elim (cases_lt n i) [
-        | inr within ↦ count-ones_at s sparse.rising n i within
-        | inl past ↦
-            let all : below s i ≡ length s = elim (cases_lt 0 (length s)) [
-              | inl some ↦ all_below s i (ascends s sparse.rising) (omega (arith, last_within some))
-              | inr none ↦ omega (arith, below_le s i)
-            ] in
-            count_past true (ones_at s n) i (omega (arith, length-ones_at s n)) ∙ all_ones s sparse.rising n last_within ∙ sym all
-      ]
+      grind (arith, count-ones_at, all_below, ascends, last_within, below_le, count_past, length-ones_at, all_ones)
 
   pub select_some : (r v : ℕ) → slice_get s r ≡ Some v → select true (ones_at s n) r ≡ v
-  select_some r v e =
-      elim (cases_lt r (length s)) [
-        | inl h ↦
-            let at : Some v ≡ Some (slice_index s r) = sym e ∙ slice_get-get_or s r 0 h in
-            select-ones_at s sparse.rising n r h (sparse.within r 0 h) ∙ cc at
-        | inr past ↦ let none = slice_get_past s r past in absurd (cc (e, none))
-      ]
+  select_some r v e = grind (arith, slice_get-get_or, select-ones_at, slice_get_past)
 
   pub select_none : (r : ℕ) → slice_get s r ≡ None → select true (ones_at s n) r ≡ n
   select_none r e =
@@ -58,19 +36,7 @@ module _ {s : List ℕ} {n : ℕ} (sparse : AreSparse s n) where
         | inl h ↦
             let here : Some v ≡ Some (slice_index s (below s p)) = sym at ∙ slice_get-get_or s (below s p) 0 h in
             let same : v ≡ slice_index s (below s p) = cc here in
-            get_or-ones_at s n p false within ∙ elim (member_test s sparse.rising p) [
-              | inl (on, more) ↦
-                  elim (cases_eq v p) [
-                    | inl is ↦ on ∙ sym (eq-eqb v p is)
-                    | inr ne ↦
-                        absurd (omega (arith, more, below_to s (p + 1) (below s p) up h (omega (arith, same, ne, below_after s p (below s p) up (omega arith) h))))
-                  ]
-              | inr (off, less) ↦
-                  elim (cases_eq v p) [
-                    | inl is ↦ absurd (omega (arith, less, below_from s (p + 1) (below s p) up h (omega (arith, same, is))))
-                    | inr ne ↦ off ∙ sym (ne_eqb v p ne)
-                  ]
-            ]
+            get_or-ones_at s n p false within ∙ grind (arith, same, member_test, eq-eqb, below_to, below_after, below_from, ne_eqb)
       ]
 
   pub bit_none : (p : ℕ) → p < n → least_not_below s p ≡ None → get_or (ones_at s n) p false ≡ false
@@ -79,10 +45,7 @@ module _ {s : List ℕ} {n : ℕ} (sparse : AreSparse s n) where
       elim (cases_lt (below s p) (length s)) [
         | inl h ↦ let some = slice_get-get_or s (below s p) 0 h in absurd (cc (at, some))
         | inr past ↦
-            get_or-ones_at s n p false within ∙ elim (member_test s sparse.rising p) [
-              | inl (on, more) ↦ absurd (omega (arith, more, below_le s (p + 1)))
-              | inr (off, less) ↦ off
-            ]
+            get_or-ones_at s n p false within ∙ grind (arith, below_le s (p + 1), member_test)
       ]
 
 -- the list has no fewer bits than ones, and each member is one of its places
@@ -116,10 +79,8 @@ pub first_places_more : (b : Bool) (l : List Bool) (i : ℕ) → i < length l �
 unfolding select
 first_places_more b l i h on =
     let more : count b l (i + 1) ≡ count b l i + 1 = count_more_yes b l i h on in
-    let few : count b l i < length (places b l) = omega (arith, more, length-places b l, count_up b l (i + 1) (length l) (omega arith)) in
     let at : get_or (places b l) (count b l i) (length l) ≡ i = select_at b l (count b l i) i h on refl in
-    ap (λ k. take k (places b l)) more ∙ take_more (places b l) (count b l i) (length l) few
-    ∙ ap (λ p. take (count b l i) (places b l) ++ p ∷ []) at
+    grind (arith, count_more_yes, length-places, count_up, select_at, take_more)
 
 pub first_places_all : (b : Bool) (l : List Bool) → take (count b l (length l)) (places b l) ≡ places b l
 first_places_all b l = take_all (count b l (length l)) (places b l) (omega (arith, length-places b l))
@@ -127,10 +88,7 @@ first_places_all b l = take_all (count b l (length l)) (places b l) (omega (arit
 -- the places of a limb that ends at e, which is its own end or the list's
 pub first_places_limb : (b : Bool) (l : List Bool) (k e : ℕ) → e ≡ 64 * k + min (length l - 64 * k) 64 → 64 * k < length l
     → take (count b l (64 * k + 64)) (places b l) ≡ take (count b l e) (places b l)
-first_places_limb b l k e is h = ap (λ n. take n (places b l)) (elim (cases_lt (64 * k + 64) (length l)) [
-  | inl less ↦ ap (count b l) (let same : 64 * k + 64 ≡ e = omega arith in same)
-  | inr past ↦ count_past b l (64 * k + 64) past ∙ sym (ap (count b l) (let same : e ≡ length l = omega arith in same))
-])
+first_places_limb b l k e is h = grind (arith, count_past)
 
 -- past the last limb
 pub first_places_end : (b : Bool) (l : List Bool) (i : ℕ) → length l ≤ i → take (count b l i) (places b l) ≡ places b l

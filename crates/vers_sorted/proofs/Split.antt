@@ -1,15 +1,10 @@
 -- How a number is split into its high and its low part.
-use Rattle.std.proofs.Common.{◌≡◌, ℕ, ◌+◌, ◌-◌, ◌*◌, ◌/◌, ◌^◌, ◌<◌, ◌≤◌, List, length, refl, arith, inl, inr}
-use Rattle.std.specs.Prelude.{slice_index}
-use Rattle.std.specs.List.Sorted.{IsNonDecreasing}
-use Rattle.std.proofs.Math.Nat.{mul-le-mul_left, mul_comm, div-add-mod}
-use Rattle.std.proofs.lemmas.Nat.{mod_below, pow_pos}
-use Rattle.std.proofs.lemmas.Bool.{cases_lt}
-use Rattle.vers_sorted.specs.Layout.{first_of, last_of, low_width, high_of, low_of, high_length}
+use Rattle.vers_sorted.proofs.Names.{◌≡◌, ℕ, ◌+◌, ◌-◌, ◌*◌, ◌^◌, ◌<◌, ◌≤◌, List, length, refl, arith, inl, inr, slice_index, IsNonDecreasing, mul-le-mul_left, mul_comm, mod_below, pow_pos, cases_lt, first_of, last_of, low_width}
+use Rattle.vers_sorted.specs.Layout.{high_of, low_of, high_length}
 
 pub parts_sum : (s : List ℕ) (v : ℕ) → first_of s ≤ v → high_of s v * 2 ^ low_width s + low_of s v ≡ v - first_of s
 unfolding high_of low_of
-parts_sum s v h = omega (arith, div-add-mod (v - first_of s) (2 ^ low_width s), mul_comm (2 ^ low_width s) ((v - first_of s) / 2 ^ low_width s))
+parts_sum s v h = grind (arith)
 
 pub low_below : (s : List ℕ) (v : ℕ) → low_of s v < 2 ^ low_width s
 unfolding low_of

@@ -1,10 +1,7 @@
 -- The widths of low parts.
-use Rattle.std.proofs.Common.{◌≡◌, ℕ, ◌+◌, ◌-◌, ◌/◌, ◌<◌, ◌≤◌, arith, max}
+use Rattle.vers_sorted.proofs.Names.{◌≡◌, ℕ, ◌+◌, ◌-◌, ◌/◌, ◌<◌, ◌≤◌, arith, max, leading_length, digits, digits_half, digits-le, digits_up, digits_is, clog_least, clog}
 use lib.Count.{count_leading_zeros}
-use Rattle.std.proofs.lemmas.Nat.{leading_length}
-use Rattle.vers_tally.specs.Reads.{digits}
-use Rattle.vers_tally.proofs.PublicLaws.{digits_half, digits-le, digits_up, digits_is, clog_least}
-use Rattle.vers_sorted.specs.Layout.{clog, width}
+use Rattle.vers_sorted.specs.Layout.{width}
 
 pub digits_leading : (n : ℕ) → n < 340282366920938463463374607431768211456 → 128 - count_leading_zeros 128 n ≡ digits n
 digits_leading n h =

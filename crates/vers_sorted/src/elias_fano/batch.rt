@@ -19,7 +19,7 @@ pub(super) const GROUP: usize = 64;
 #[inline(always)]
 fn ask_each(places: &[Option<u64>], from: usize, n: usize, ones: &mut [usize; GROUP])
     requires within { from + n ≤ length places.now }
-    requires few { n ≤ 64 }
+    requires few { n ≤ GROUP }
     ensures { (j : ℕ) → j < n → slice_index ones.new j
         ≡ unwrap_or (slice_index_or places.now (from + j) None) 18446744073709551615 }
 {
@@ -61,7 +61,7 @@ impl<A: Allocator + Copy> EliasFanoVec<A> {
     #[inline(always)]
     fn get_group(&self, places: &mut [Option<u64>], from: usize, n: usize, tally: &mut Tally)
         requires within { from + n ≤ length places.old }
-        requires few { n ≤ 64 }
+        requires few { n ≤ GROUP }
         ensures value { Changed None (λ place m. m ≡ option_and_then (slice_get self.now) place)
             from n places.old places.new }
         ensures adds { AddsAtMost tally.old tally.new (times n (member_reads self.now)) }
@@ -84,7 +84,7 @@ impl<A: Allocator + Copy> EliasFanoVec<A> {
         tally: &mut Tally,
     )
         requires within { from + n ≤ length places.old }
-        requires few { n ≤ 64 }
+        requires few { n ≤ GROUP }
         requires ones { (j : ℕ) → j < n → (i : ℕ)
             → slice_index_or places.old (from + j) None ≡ Some i → i < length self.now
             → slice_index ones.now j ≡ high_place self.now i }
@@ -145,9 +145,10 @@ impl<A: Allocator + Copy> EliasFanoVec<A> {
 
     // Puts in the stead of each of `n` numbers how many members are below it.
     #[inline(always)]
+    #[tactic(auto, using(crate::proofs::Batches::rank_reads))]
     fn rank_group(&self, numbers: &mut [u64], from: usize, n: usize, tally: &mut Tally)
         requires within { from + n ≤ length numbers.old }
-        requires few { n ≤ 64 }
+        requires few { n ≤ GROUP }
         ensures value { Changed 0 (λ v r. r ≡ below self.now v) from n numbers.old numbers.new }
         ensures adds { AddsAtMost tally.old tally.new (times n (search_reads self.now)) }
     {
@@ -177,7 +178,7 @@ impl<A: Allocator + Copy> EliasFanoVec<A> {
         tally: &mut Tally,
     )
         requires within { from + n ≤ length numbers.old }
-        requires few { n ≤ 64 }
+        requires few { n ≤ GROUP }
         requires begun { (j : ℕ) → j < n → IsInside self.now (slice_index numbers.old (from + j))
             → IsBegun self.now (slice_index numbers.old (from + j)) (slice_index before.now j)
             (slice_index after.now j) (slice_index parts.now j) }

@@ -26,7 +26,7 @@ impl<A: Allocator + Copy> EliasFanoVec<A> {
     // The high parts of numbers.
     #[inline(always)]
     fn high_numbers(&self, asked: &[u64], highs: &mut [usize; GROUP])
-        requires { length asked.now ≤ 64 }
+        requires { length asked.now ≤ GROUP }
         ensures { (j : ℕ) → j < length asked.now
             → slice_index highs.new j ≡ high_of self.now (slice_index asked.now j) }
     {
@@ -46,7 +46,7 @@ impl<A: Allocator + Copy> EliasFanoVec<A> {
         parts: &mut [u64; GROUP],
         tally: &mut Tally,
     )
-        requires { length asked.now ≤ 64 }
+        requires { length asked.now ≤ GROUP }
         ensures begun { (j : ℕ) → j < length asked.now → IsInside self.now (slice_index asked.now j)
             → IsBegun self.now (slice_index asked.now j) (slice_index before.new j)
             (slice_index after.new j) (slice_index parts.new j) }
@@ -70,7 +70,7 @@ impl<A: Allocator + Copy> EliasFanoVec<A> {
         parts: &mut [u64; GROUP],
         tally: &mut Tally,
     )
-        requires few { length asked.now ≤ 64 }
+        requires few { length asked.now ≤ GROUP }
         requires before { (j : ℕ) → j < length asked.now → slice_index before.now j
             ≡ select false (high_parts self.now) (high_of self.now (slice_index asked.now j)) }
         ensures begun { (j : ℕ) → j < length asked.now → IsInside self.now (slice_index asked.now j)

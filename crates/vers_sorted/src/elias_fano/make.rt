@@ -55,6 +55,7 @@ impl<A: Allocator + Copy> EliasFanoVec<A> {
 
     /// The list of `len` ascending numbers that are read in turn, of which `last` is the last one, or 0
     /// where there are none. `AllocError` only where a request for memory was refused.
+    #[tactic(auto, using(crate::proofs::Makes::low_width_is, crate::proofs::Packed::packed_as))]
     pub fn from_numbers<N: Numbers>(
         alloc: A,
         numbers: N,

@@ -39,7 +39,7 @@ impl Side {
 #[inline(always)]
 fn bounds_each(side: Side, values: &[Option<u64>], from: usize, n: usize, asked: &mut [u64; GROUP])
     requires within { from + n ≤ length values.now }
-    requires few { n ≤ 64 }
+    requires few { n ≤ GROUP }
     ensures { (j : ℕ) → j < n → (v : ℕ) → slice_index_or values.now (from + j) None ≡ Some v
         → bound side v < 2 ^ 64 → slice_index asked.new j ≡ bound side v }
 {
@@ -120,7 +120,7 @@ impl<A: Allocator + Copy> EliasFanoVec<A> {
         tally: &mut Tally,
     )
         requires within { from + n ≤ length values.old }
-        requires few { n ≤ 64 }
+        requires few { n ≤ GROUP }
         ensures value { Changed None (λ x y. y ≡ option_and_then (neighbour side self.now) x)
             from n values.old values.new }
         ensures adds { AddsAtMost tally.old tally.new (times n (search_reads self.now)) }
@@ -149,7 +149,7 @@ impl<A: Allocator + Copy> EliasFanoVec<A> {
         tally: &mut Tally,
     )
         requires within { from + n ≤ length values.old }
-        requires few { n ≤ 64 }
+        requires few { n ≤ GROUP }
         requires begun { (j : ℕ) → j < n → (v : ℕ)
             → slice_index_or values.old (from + j) None ≡ Some v → IsInside self.now (bound side v)
             → IsBegun self.now (bound side v) (slice_index before.now j) (slice_index after.now j)

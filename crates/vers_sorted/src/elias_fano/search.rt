@@ -395,6 +395,7 @@ impl<A: Allocator + Copy> EliasFanoVec<A> {
 
     // The last of the `k` members below `v`.
     #[inline(always)]
+    #[tactic(auto, using(crate::proofs::Buckets::sides))]
     pub(super) fn last_below(&self, bucket: Bucket, v: u64, k: usize, tally: &mut Tally) -> u64
         requires from { first_of self.now ≤ v }
         requires to { v ≤ last_of self.now }
@@ -447,6 +448,7 @@ impl<A: Allocator + Copy> EliasFanoVec<A> {
 
     // The member after the `k` members below `v`.
     #[inline(always)]
+    #[tactic(auto, using(crate::proofs::Buckets::sides))]
     pub(super) fn first_from(&self, bucket: Bucket, v: u64, k: usize, tally: &mut Tally) -> u64
         requires from { first_of self.now ≤ v }
         requires to { v ≤ last_of self.now }

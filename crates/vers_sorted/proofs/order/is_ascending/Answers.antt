@@ -1,5 +1,4 @@
-use Rattle.std.proofs.Common.{rules, nat_le}
-use Rattle.std.proofs.lemmas.List.Sorted.{answers_always}
+use Rattle.vers_sorted.proofs.Names.{rules, nat_le, answers_always}
 use Rattle.vers_sorted.proofs.Orders.{each_next-answer, ascending_is}
 use Rattle.vers_sorted.proofs.order.is_ascending.Goals as goal
 

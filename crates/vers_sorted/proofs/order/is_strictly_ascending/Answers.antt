@@ -1,5 +1,4 @@
-use Rattle.std.proofs.Common.{rules, nat_lt}
-use Rattle.std.proofs.lemmas.List.Sorted.{answers_always}
+use Rattle.vers_sorted.proofs.Names.{rules, nat_lt, answers_always}
 use Rattle.vers_sorted.proofs.Orders.{each_next-answer, rising_is}
 use Rattle.vers_sorted.proofs.order.is_strictly_ascending.Goals as goal
 

@@ -1,5 +1,4 @@
-use Rattle.std.proofs.Common.{◌≡◌, ◌*◌, take}
-use Rattle.vers_bits.specs.Bits.{count, places}
+use Rattle.vers_sorted.proofs.Names.{◌≡◌, ◌*◌, take, count, places}
 use Rattle.vers_sorted.proofs.sparse.places_of.Given as goal
 
 abbrev pub invariant-loop-k : goal.invariant-loop-k

@@ -3,14 +3,7 @@ use Rattle.vers_sorted.proofs.Marks.{marked_past_to, more_found, limb_done}
 use Rattle.vers_sorted.proofs.sparse.push_places.Goals as goal
 
 pub loop-skip-init : goal.loop-skip-init
-loop-skip-init g c =
-    record {
-      from = omega arith;
-      to = omega arith;
-      lowest = refl;
-      marked = λ i h. c.marks_of-word.ensures i (omega (arith, c.min.ensures));
-      found = c.requires.before;
-    }
+loop-skip-init g c = grind (arith)
 
 pub overflow_sub-end : goal.overflow_sub-end
 overflow_sub-end g c = omega (arith, c.loop-skip.invariant.to)

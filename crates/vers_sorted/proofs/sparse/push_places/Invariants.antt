@@ -1,8 +1,4 @@
-use Rattle.std.proofs.Common.{◌≡◌, ◌-◌, ◌*◌, ◌≤◌, take}
-use mir.Syntax.{w64}
-use Rattle.std.specs.Int.{trailing_zeros}
-use Rattle.vers_bits.specs.Bits.{count, places}
-use Rattle.vers_sorted.specs.Ones.{AreMarked}
+use Rattle.vers_sorted.proofs.Names.{◌≡◌, ◌-◌, ◌*◌, ◌≤◌, take, w64, trailing_zeros, count, places, AreMarked}
 use Rattle.vers_sorted.proofs.sparse.push_places.Given as goal
 
 abbrev pub invariant-loop-skip : goal.invariant-loop-skip

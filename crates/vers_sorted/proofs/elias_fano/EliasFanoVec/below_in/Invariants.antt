@@ -1,7 +1,4 @@
-use Rattle.std.proofs.Common.{◌≡◌, ◌+◌, ◌-◌, ◌≤◌, length}
-use Rattle.vers_tally.specs.Reads.{only_low_parts, digits, AddsAtMost}
-use Rattle.vers_sorted.specs.Sorted.{below}
-use Rattle.vers_sorted.specs.Layout.{low_of}
+use Rattle.vers_sorted.proofs.Names.{◌≡◌, ◌+◌, ◌-◌, ◌≤◌, length, only_low_parts, digits, AddsAtMost, below, low_of}
 use Rattle.vers_sorted.proofs.elias_fano.EliasFanoVec.below_in.Given as goal
 
 abbrev pub invariant-loop-from : goal.invariant-loop-from

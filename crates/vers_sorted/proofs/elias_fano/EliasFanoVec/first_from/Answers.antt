@@ -1,11 +1,6 @@
-use Rattle.std.proofs.Common.{◌≡◌, ap, ◌∙◌, arith}
-use Rattle.std.specs.Prelude.{slice_index}
+use Rattle.vers_sorted.proofs.Names.{◌≡◌, ap, ◌∙◌, arith, slice_index}
 use Rattle.vers_sorted.proofs.Buckets.{start_below, below_end, in_bucket}
 use Rattle.vers_sorted.proofs.elias_fano.EliasFanoVec.first_from.Goals as goal
-
-pub member_past-requires-clause-more : goal.member_past-requires-clause-more
-member_past-requires-clause-more g c =
-    omega (arith, c.requires.more)
 
 pub returns-then-bucket-k-clause-value : goal.returns-then-bucket-k-clause-value
 returns-then-bucket-k-clause-value g c =

@@ -1,8 +1,4 @@
-use Rattle.std.proofs.Common.{◌≡◌, ◌-◌, ◌≤◌}
-use Rattle.std.specs.Prelude.{None, slice_get, option_and_then}
-use Rattle.vers_tally.specs.Reads.{AddsAtMost, times}
-use Rattle.vers_rank.specs.Batches.{Changed}
-use Rattle.vers_sorted.specs.Layout.{member_reads}
+use Rattle.vers_sorted.proofs.Names.{◌≡◌, ◌-◌, ◌≤◌, None, slice_get, option_and_then, AddsAtMost, times, Changed, member_reads}
 use Rattle.vers_sorted.proofs.elias_fano.EliasFanoVec.get_each_counted.Given as goal
 
 abbrev pub invariant-loop-from : goal.invariant-loop-from

@@ -1,9 +1,4 @@
-use Rattle.std.proofs.Common.{ℕ, ◌<◌}
-use Rattle.std.specs.Prelude.{slice_index}
-use Rattle.vers_tally.specs.Reads.{AddsAtMost, times}
-use Rattle.vers_sorted.specs.Layout.{high_length}
-use Rattle.vers_sorted.specs.inside.Parts.{reads}
-use Rattle.vers_sorted.specs.inside.Begun.{IsInside, IsBegun}
+use Rattle.vers_sorted.proofs.Names.{ℕ, ◌<◌, slice_index, AddsAtMost, times, high_length, reads, IsInside, IsBegun}
 use Rattle.vers_sorted.proofs.elias_fano.EliasFanoVec.go_on_each.Given as goal
 
 abbrev pub invariant-loop-j : goal.invariant-loop-j

@@ -1,6 +1,4 @@
-use Rattle.std.proofs.Common.{◌≡◌, ℕ, ◌<◌}
-use Rattle.std.specs.Prelude.{slice_index}
-use Rattle.vers_sorted.specs.Layout.{high_of}
+use Rattle.vers_sorted.proofs.Names.{◌≡◌, ℕ, ◌<◌, slice_index, high_of}
 use Rattle.vers_sorted.proofs.elias_fano.EliasFanoVec.high_numbers.Given as goal
 
 abbrev pub invariant-loop-j : goal.invariant-loop-j

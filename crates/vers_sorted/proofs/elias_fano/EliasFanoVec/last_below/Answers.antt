@@ -1,5 +1,4 @@
-use Rattle.std.proofs.Common.{◌≡◌, ◌-◌, ap, ◌∙◌, arith}
-use Rattle.std.specs.Prelude.{slice_index}
+use Rattle.vers_sorted.proofs.Names.{◌≡◌, ◌-◌, ap, ◌∙◌, arith, slice_index}
 use Rattle.vers_sorted.proofs.Below.{below_le}
 use Rattle.vers_sorted.proofs.Buckets.{start_below, below_end, in_bucket}
 use Rattle.vers_sorted.proofs.elias_fano.EliasFanoVec.last_below.Goals as goal
@@ -10,10 +9,6 @@ returns-then-k-bucket-clause-value g c =
     let start = start_below c.args.self.now c.args.v c.args.bucket.start packed.ascending c.requires.from c.requires.bucket.start in
     let same : c.args.bucket.start - 1 ≡ c.args.k - 1 = omega (arith, start, c.requires.below) in
     c.member_before.ensures.value ∙ ap (slice_index c.args.self.now) same
-
-pub with_low_part-requires-clause-within : goal.with_low_part-requires-clause-within
-with_low_part-requires-clause-within g c =
-    omega (arith, c.requires.below, c.requires.some, below_le c.args.self.now c.args.v)
 
 pub with_low_part-requires-clause-high : goal.with_low_part-requires-clause-high
 with_low_part-requires-clause-high g c =

@@ -1,7 +1,4 @@
-use Rattle.std.proofs.Common.{◌≡◌}
-use Rattle.std.specs.Prelude.{None, slice_get, option_and_then}
-use Rattle.vers_tally.specs.Reads.{AddsAtMost, times, only_low_parts}
-use Rattle.vers_rank.specs.Batches.{Changed}
+use Rattle.vers_sorted.proofs.Names.{◌≡◌, None, slice_get, option_and_then, AddsAtMost, times, only_low_parts, Changed}
 use Rattle.vers_sorted.proofs.elias_fano.EliasFanoVec.members_each.Given as goal
 
 abbrev pub invariant-loop-j : goal.invariant-loop-j

@@ -1,9 +1,4 @@
-use Rattle.std.proofs.Common.{◌≡◌, ◌-◌, ◌≤◌, None}
-use Rattle.std.specs.Prelude.{option_and_then}
-use Rattle.vers_tally.specs.Reads.{AddsAtMost, times}
-use Rattle.vers_rank.specs.Batches.{Changed}
-use Rattle.vers_sorted.specs.Layout.{search_reads}
-use Rattle.vers_sorted.specs.inside.Sides.{neighbour}
+use Rattle.vers_sorted.proofs.Names.{◌≡◌, ◌-◌, ◌≤◌, None, option_and_then, AddsAtMost, times, Changed, search_reads, neighbour}
 use Rattle.vers_sorted.proofs.elias_fano.EliasFanoVec.neighbour_each.Given as goal
 
 abbrev pub invariant-loop-from : goal.invariant-loop-from

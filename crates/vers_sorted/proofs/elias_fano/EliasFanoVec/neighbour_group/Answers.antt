@@ -1,9 +1,4 @@
-use Rattle.std.proofs.Common.{◌≡◌, ℕ, ◌<◌, length, take, subst, ◌∙◌, arith}
-use Rattle.std.specs.Prelude.{◌^◌, slice_index}
-use Rattle.std.proofs.lemmas.List.{length-take, get_or-take}
-use Rattle.vers_tally.proofs.PublicLaws.{adds_then}
-use Rattle.vers_sorted.specs.inside.Begun.{IsBegun, IsInside}
-use Rattle.vers_sorted.specs.inside.Sides.{bound}
+use Rattle.vers_sorted.proofs.Names.{◌≡◌, ℕ, ◌<◌, length, take, subst, ◌∙◌, arith, ◌^◌, slice_index, length-take, get_or-take, adds_then, IsBegun, IsInside, bound}
 use Rattle.vers_sorted.proofs.Batches.{neighbour_reads}
 use Rattle.vers_sorted.proofs.elias_fano.EliasFanoVec.neighbour_group.Goals as goal
 

@@ -1,10 +1,4 @@
-use Rattle.std.proofs.Common.{◌≡◌, ◌+◌, None, length}
-use Rattle.std.specs.Prelude.{option_and_then}
-use Rattle.vers_tally.specs.Reads.{AddsAtMost, digits, times}
-use Rattle.vers_rank.specs.Batches.{Changed}
-use Rattle.vers_sorted.specs.Layout.{high_length}
-use Rattle.vers_sorted.specs.inside.Parts.{reads}
-use Rattle.vers_sorted.specs.inside.Sides.{neighbour}
+use Rattle.vers_sorted.proofs.Names.{◌≡◌, ◌+◌, None, length, option_and_then, AddsAtMost, digits, times, Changed, high_length, reads, neighbour}
 use Rattle.vers_sorted.proofs.elias_fano.EliasFanoVec.neighbours_each.Given as goal
 
 abbrev pub invariant-loop-j : goal.invariant-loop-j

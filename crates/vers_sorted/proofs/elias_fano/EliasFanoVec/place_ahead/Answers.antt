@@ -1,5 +1,5 @@
 use Rattle.std.proofs.Common.{refl, arith}
-use Rattle.vers_sorted.proofs.Aheads.{step_fits, step_read, read_maybe, read_fits, place_fits}
+use Rattle.vers_sorted.proofs.Aheads.{step_fits, step_read, read_maybe, read_fits}
 use Rattle.vers_sorted.proofs.elias_fano.EliasFanoVec.place_ahead.Goals as goal
 
 pub overflow_add-ahead-then-ahead-ne0 : goal.overflow_add-ahead-then-ahead-ne0
@@ -12,26 +12,6 @@ pub returns-then-ahead-ne0-clause-ahead : goal.returns-then-ahead-ne0-clause-ahe
 returns-then-ahead-ne0-clause-ahead g c =
     let packed = rw c.self.view_is at c.self.invariant in
     λ more. step_read c.args.self.now c.args.i c.args.ahead.now packed.ascending (c.requires.ahead (omega arith)) (omega arith) _ refl refl refl
-
-pub overflow_add-ahead-2 : goal.overflow_add-ahead-2
-overflow_add-ahead-2 g c =
-    let packed = rw c.self.view_is at c.self.invariant in
-    record { fits = omega (arith, place_fits c.args.i packed c.requires.within, c.select1_counted-place.ensures.value) }
-
-pub overflow_sub-bits : goal.overflow_sub-bits
-overflow_sub-bits g c =
-    let packed = rw c.self.view_is at c.self.invariant in
-    omega (arith, place_fits c.args.i packed c.requires.within, c.select1_counted-place.ensures.value, c.len-bits.ensures.value)
-
-pub overflow_sub-bits-2 : goal.overflow_sub-bits-2
-overflow_sub-bits-2 g c =
-    let packed = rw c.self.view_is at c.self.invariant in
-    omega (arith, place_fits c.args.i packed c.requires.within, c.select1_counted-place.ensures.value, c.len-bits.ensures.value)
-
-pub overflow_add-place : goal.overflow_add-place
-overflow_add-place g c =
-    let packed = rw c.self.view_is at c.self.invariant in
-    record { fits = omega (arith, place_fits c.args.i packed c.requires.within, c.select1_counted-place.ensures.value) }
 
 pub returns-clause-ahead : goal.returns-clause-ahead
 returns-clause-ahead g c =

@@ -1,6 +1,4 @@
-use Rattle.std.proofs.Common.{refl, sym, ap, ◌∙◌}
-use Rattle.std.specs.Prelude.{slice_index}
-use Rattle.vers_sorted.specs.Layout.{low_of}
+use Rattle.vers_sorted.proofs.Names.{refl, sym, ap, ◌∙◌, slice_index, low_of}
 use Rattle.vers_sorted.proofs.elias_fano.EliasFanoVec.rank_begun.Goals as goal
 
 pub below_from-requires-clause-part : goal.below_from-requires-clause-part

@@ -1,6 +1,4 @@
-use Rattle.std.proofs.Common.{arith}
-use Rattle.vers_rank.proofs.PublicLaws.{changed_on, changed_all, adds_times}
-use Rattle.vers_sorted.specs.Layout.{search_reads}
+use Rattle.vers_sorted.proofs.Names.{arith, changed_on, changed_all, adds_times, search_reads}
 use Rattle.vers_sorted.proofs.elias_fano.EliasFanoVec.rank_each_counted.Goals as goal
 
 pub loop-from-preserved : goal.loop-from-preserved

@@ -1,8 +1,4 @@
-use Rattle.std.proofs.Common.{◌≡◌, ◌-◌, ◌≤◌}
-use Rattle.vers_tally.specs.Reads.{AddsAtMost, times}
-use Rattle.vers_rank.specs.Batches.{Changed}
-use Rattle.vers_sorted.specs.Sorted.{below}
-use Rattle.vers_sorted.specs.Layout.{search_reads}
+use Rattle.vers_sorted.proofs.Names.{◌≡◌, ◌-◌, ◌≤◌, AddsAtMost, times, Changed, below, search_reads}
 use Rattle.vers_sorted.proofs.elias_fano.EliasFanoVec.rank_each_counted.Given as goal
 
 abbrev pub invariant-loop-from : goal.invariant-loop-from

@@ -1,7 +1,4 @@
-use Rattle.std.proofs.Common.{◌≡◌, ◌+◌, length}
-use Rattle.vers_tally.specs.Reads.{AddsAtMost, digits, only_low_parts, times}
-use Rattle.vers_rank.specs.Batches.{Changed}
-use Rattle.vers_sorted.specs.Sorted.{below}
+use Rattle.vers_sorted.proofs.Names.{◌≡◌, ◌+◌, length, AddsAtMost, digits, only_low_parts, times, Changed, below}
 use Rattle.vers_sorted.proofs.elias_fano.EliasFanoVec.ranks_each.Given as goal
 
 abbrev pub invariant-loop-j : goal.invariant-loop-j

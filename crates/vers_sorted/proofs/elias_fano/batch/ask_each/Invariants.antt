@@ -1,5 +1,4 @@
-use Rattle.std.proofs.Common.{◌≡◌, ℕ, ◌+◌, ◌<◌, None}
-use Rattle.std.specs.Prelude.{slice_index, slice_index_or, unwrap_or}
+use Rattle.vers_sorted.proofs.Names.{◌≡◌, ℕ, ◌+◌, ◌<◌, None, slice_index, slice_index_or, unwrap_or}
 use Rattle.vers_sorted.proofs.elias_fano.batch.ask_each.Given as goal
 
 abbrev pub invariant-loop-j : goal.invariant-loop-j

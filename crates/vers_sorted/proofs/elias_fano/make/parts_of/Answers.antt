@@ -1,6 +1,4 @@
-use Rattle.std.proofs.Common.{◌≡◌, ◌+◌, ◌*◌, refl, length, ap, ◌∙◌, arith}
-use Rattle.vers_sorted.specs.Layout.{low_width}
-use Rattle.vers_sorted.specs.inside.Parts.{first_high_parts, first_low_parts}
+use Rattle.vers_sorted.proofs.Names.{◌≡◌, ◌+◌, ◌*◌, length, ap, ◌∙◌, arith, low_width, first_high_parts, first_low_parts}
 use Rattle.vers_sorted.proofs.Lengths.{high_fits, low_fits}
 use Rattle.vers_sorted.proofs.Gathers.{none_gathered, so_many}
 use Rattle.vers_sorted.proofs.Makes.{taken_at, all_taken, taken_above, one_place, one_more, low_more, high_len_is, high_sum_fits, high_start, high_all, length-first_high_parts, low_start, low_length, low_all}
@@ -19,30 +17,13 @@ known_to_fit-requires g c =
     omega (arith, high, high_fits s (omega (arith, c.requires.len)), long)
 
 pub overflow_mul-len : goal.overflow_mul-len
-overflow_mul-len g c =
-    let s = g.N.Numbers.left c.args.numbers in
-    let low : c.args.len * c.args.width ≡ length s * low_width s = rw (c.requires.len, c.requires.width) refl in
-    record { fits = omega (arith, low, low_fits s (omega (arith, c.requires.len)) (omega (arith, c.requires.last))) }
+overflow_mul-len g c = grind (arith, low_fits)
 
 pub known_to_fit-requires-2 : goal.known_to_fit-requires-2
-known_to_fit-requires-2 g c =
-    λ e.
-    let s = g.N.Numbers.left c.args.numbers in
-    let low : c.args.len * c.args.width ≡ length s * low_width s = rw (c.requires.len, c.requires.width) refl in
-    let long = c.with_capacity.ensures.too_long.0 e in
-    omega (arith, low, low_fits s (omega (arith, c.requires.len)) (omega (arith, c.requires.last)), long)
+known_to_fit-requires-2 g c = grind (arith, low_fits)
 
 pub loop-number-init : goal.loop-number-init
-loop-number-init g c =
-    let s = g.N.Numbers.left c.args.numbers in
-    record {
-      left = refl;
-      within = omega arith;
-      high = (rw c.in_ok-high.ensures at c.from_zeros.ensures.made)
-          ∙ high_start s _ (high_len_is s c.args.len c.args.first c.args.last c.args.width _ c.requires.len c.requires.first c.requires.last c.requires.width c.high_length_of-high_len.ensures);
-      gathered = record { few = omega arith; small = omega arith };
-      low = none_gathered c.in_ok-low.low (first_low_parts s 0) (rw c.in_ok-low.ensures at c.with_capacity.ensures.made) (low_start s);
-    }
+loop-number-init g c = grind (arith, high_start, high_len_is, none_gathered, low_start)
 
 pub overflow_sub-above : goal.overflow_sub-above
 overflow_sub-above g c =

@@ -1,7 +1,5 @@
-use Rattle.std.proofs.Common.{◌≡◌, ◌≤◌, ◌++◌, length, drop}
-use Rattle.vers_bits.specs.Bits.{low_bits}
+use Rattle.vers_sorted.proofs.Names.{◌≡◌, ◌≤◌, ◌++◌, length, drop, low_bits, first_high_parts, first_low_parts}
 use Rattle.vers_sorted.specs.inside.Gathered.{IsGathered}
-use Rattle.vers_sorted.specs.inside.Parts.{first_high_parts, first_low_parts}
 use Rattle.vers_sorted.proofs.elias_fano.make.parts_of.Given as goal
 
 abbrev pub invariant-loop-number : goal.invariant-loop-number

@@ -1,6 +1,4 @@
-use Rattle.std.proofs.Common.{◌≡◌, ℕ, ◌+◌, ◌<◌, Some, None}
-use Rattle.std.specs.Prelude.{◌^◌, slice_index, slice_index_or}
-use Rattle.vers_sorted.specs.inside.Sides.{bound}
+use Rattle.vers_sorted.proofs.Names.{◌≡◌, ℕ, ◌+◌, ◌<◌, Some, None, ◌^◌, slice_index, slice_index_or, bound}
 use Rattle.vers_sorted.proofs.elias_fano.neighbours.bounds_each.Given as goal
 
 abbrev pub invariant-loop-j : goal.invariant-loop-j
