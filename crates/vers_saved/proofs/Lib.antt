@@ -9,7 +9,6 @@ pub mod RoundTrips
 pub mod SumTells
 pub mod WordLists
 pub mod Parentheses
-pub mod TreeForms
 pub mod SparseLists
 pub mod PostingLists
 pub mod SymbolLists

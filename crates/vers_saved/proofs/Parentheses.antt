@@ -1,25 +1,12 @@
 -- Saved forms of parentheses.
-use Rattle.std.proofs.Common.{◌≡◌, ℕ, suc, ◌+◌, ◌-◌, ◌*◌, ◌<◌, ◌≤◌, min, max, Bool, false, List, length, get_or, take, drop, sym, ap, subst, refl, ◌∙◌, arith}
-use Rattle.std.specs.Prelude.{slice_get, Some}
+use Rattle.std.proofs.Common.{◌≡◌, ℕ, ◌+◌, ◌-◌, ◌*◌, ◌<◌, ◌≤◌, min, max, Bool, List, length, get_or, take, drop, sym, ap, subst, refl, ◌∙◌, arith}
 use Rattle.std.proofs.lemmas.Bool.Decides.{nat_tests}
-use Rattle.std.proofs.lemmas.List.{drop_more, length-take}
-use Rattle.std.proofs.lemmas.Option.{get_or_from_slice_get}
-use Rattle.vers_bits.specs.Bits.{bit_value, number, limbs, limb_count, pack}
-use Rattle.vers_bits.proofs.PublicLaws.{length-limbs, number_below, byte_value}
+use Rattle.vers_bits.specs.Bits.{number, limbs, limb_count, pack}
+use Rattle.vers_bits.proofs.PublicLaws.{length-limbs}
 use Rattle.vers_saved.specs.Kinds.{EndsPadded, IsWhole, tree_kind}
 use Rattle.vers_saved.proofs.LimbLists.{limbs-first, limbs_fit, limbs_padded}
 use Rattle.vers_saved.proofs.BitLists.{within}
 use Rattle.vers_saved.proofs.Sources.{limb_part}
-
--- the number of the bits from a place on, by that of the bits after it
-pub number_step : (bits : List Bool) (p end : ℕ) → p < length bits → p < end
-    → number (take (end - p) (drop p bits)) ≡ bit_value (get_or bits p false) + 2 * number (take (end - (p + 1)) (drop (p + 1) bits))
-number_step bits p end inside h =
-    let more : end - p ≡ suc (end - (p + 1)) = omega arith in
-    ap (λ m. number (take m (drop p bits))) more ∙ ap (λ l. number (take (suc (end - (p + 1))) l)) (drop_more bits p false inside)
-
-pub number_small : (bits : List Bool) (p m : ℕ) → m ≤ 63 → number (take m (drop p bits)) < 9223372036854775808
-number_small bits p m h = number_below (take m (drop p bits)) 63 (omega (arith, length-take m (drop p bits)))
 
 pub last_limb : (bits : List Bool) (k end : ℕ) → k < length (limbs bits) → end ≡ min (length bits) (64 * k + 64) → number (take (end - 64 * k) (drop (64 * k) bits)) ≡ get_or (limbs bits) k 0
 last_limb bits k end h is =
@@ -28,16 +15,6 @@ last_limb bits k end h is =
 
 pub none_yet : (bits : List Bool) (p : ℕ) → number (take (p - p) (drop p bits)) ≡ 0
 none_yet bits p = let none : p - p ≡ 0 = omega arith in ap (λ m. number (take m (drop p bits))) none
-
--- one bit more in front of those whose number is known
-pub number_before : (bits : List Bool) (place end word bit : ℕ) → 0 < place → place ≤ end → end ≤ length bits → word ≡ number (take (end - place) (drop place bits))
-    → bit ≡ bit_value (get_or bits (place - 1) false) → 2 * word + bit ≡ number (take (end - (place - 1)) (drop (place - 1) bits))
-number_before bits place end word bit some among inside is_word is_bit =
-    let back : place - 1 + 1 ≡ place = omega arith in
-    let rest : number (take (end - (place - 1 + 1)) (drop (place - 1 + 1) bits)) ≡ word = ap (λ p. number (take (end - p) (drop p bits))) back ∙ sym is_word in
-    omega (arith, number_step bits (place - 1) end (omega arith) (omega arith), rest, is_bit)
-
-pub ruleset reading = (byte_value)
 
 pub whole_tree : (size : ℕ) (bits : List Bool) → 1 ≤ size → size ≤ 4294967296 → length bits ≤ 9223372036854775807 → IsWhole (tree_kind size) (length bits) size (limbs bits)
 whole_tree size bits some few small =
@@ -75,7 +52,3 @@ pub too_large : (size count : ℕ) (words : List ℕ) → 4294967296 < size → 
 too_large size count words many whole = omega (arith, (tree_size size count size words whole).1)
 
 pub ruleset trees = (whole_tree, tree_size, few_parens, limbs_of_tree, no_tree, too_large)
-
--- the bit that was found
-pub bit_is : (bits : List Bool) (p : ℕ) (b : Bool) → slice_get bits p ≡ Some b → bit_value b ≡ bit_value (get_or bits p false)
-bit_is bits p b e = ap bit_value (sym (get_or_from_slice_get bits p b false e))

@@ -1,11 +1,9 @@
 -- What was saved is loaded.
-use Rattle.std.proofs.Common.{◌≡◌, ℕ, ◌*◌, ◌+◌, ◌^◌, ◌<◌, ◌≤◌, Bool, true, false, List, length, sym, ap, ◌∙◌, inl, inr, arith}
-use Rattle.std.specs.Prelude.{None, Some, ◌⊎◌, ◌&&◌, nat_le}
+use Rattle.std.proofs.Common.{◌≡◌, ℕ, ◌*◌, ◌+◌, ◌^◌, ◌<◌, ◌≤◌, Bool, true, false, List, length, sym, ap, ◌∙◌, arith}
+use Rattle.std.specs.Prelude.{None, ◌&&◌, nat_le}
 use Rattle.std.proofs.lemmas.Bool.{leb-true}
 use Rattle.vers_bits.specs.Bits.{limb_count}
 use Rattle.vers_saved.specs.declared.kind.Kind.{Kind}
-use Rattle.vers_saved.specs.declared.fault.LoadError.{LoadError}
-use Rattle.vers_saved.specs.declared.fault.LoadError.TheVariants.{Memory}
 use Rattle.vers_saved.specs.Format.{saved}
 use Rattle.vers_saved.specs.Faults.{item_bits, fault_of}
 use Rattle.vers_saved.specs.Kinds.{IsWhole}
@@ -34,13 +32,6 @@ pub no_fault_back : (kind : Kind) (bytes : List ℕ) (count width : ℕ) (words 
 no_fault_back kind bytes count width words bounds whole e =
     ap (fault_of kind) e
     ∙ saved_has_no_fault kind count width words bounds.0 (count_lt kind count width words bounds whole) (width_lt kind count width words bounds whole) whole
-
--- so that only memory is lacking
-pub only_memory : (kind : Kind) (bytes : List ℕ) (e : LoadError) {P : Type 0} → fault_of kind bytes ≡ None → (fault_of kind bytes ≡ Some e) ⊎ ((e ≡ Memory) × P) → e ≡ Memory
-only_memory kind bytes e none refused = elim refused [
-  | inl some ↦ cc
-  | inr memory ↦ memory.0
-]
 
 -- one form is of one shape and the same words
 pub one_form : (kind : Kind) (bytes : List ℕ) (c w c' w' : ℕ) (xs ys : List ℕ) → AreBounds kind → IsWhole kind c w xs → IsWhole kind c' w' ys

@@ -1,18 +1,21 @@
 -- Saved forms of lists of symbols.
-use Rattle.std.proofs.Common.{◌≡◌, ℕ, zero, suc, ◌+◌, ◌-◌, ◌*◌, ◌/◌, ◌%◌, ◌^◌, ◌<◌, ◌≤◌, Bool, false, eqb, List, [], ◌∷◌, ◌++◌, length, get_or, take, drop, refl, sym, ap, subst, ◌∙◌, arith}
-use Rattle.std.specs.Prelude.{map, All, Result, Ok, Err, IfOk}
+use Rattle.std.proofs.Common.{◌≡◌, ℕ, zero, suc, ◌+◌, ◌-◌, ◌*◌, ◌/◌, ◌%◌, ◌^◌, ◌<◌, ◌≤◌, Bool, List, [], ◌∷◌, ◌++◌, length, get_or, take, drop, refl, sym, ap, subst, ◌∙◌, inl, inr, append_assoc, pow-add, below_more, get_or-set_same, get_or-set_other, ◌≢◌, arith}
+use Rattle.std.specs.Prelude.{map, All, Option, None, Result, Ok, Err, IfOk, nat_le, slice_get, unwrap_or, if◌then◌else◌}
 use Rattle.std.specs.List.{range_with_len}
-use Rattle.std.specs.Int.{bit_at}
 use Rattle.std.proofs.Math.Seq.{take-add}
-use Rattle.std.proofs.Math.Nat.{pow-le-pow_right, div-lt_iff_lt-mul, mod-eq-sub-div-mul, div-mul-le_self}
+use Rattle.std.proofs.Math.Nat.{pow-le-pow_right, mul-le-mul_left, mod-eq_of_lt, mod-eq-sub-div-mul, div-mul-le_self}
+use Rattle.std.proofs.Math.ListN.{set}
+use Rattle.std.proofs.lemmas.Bool.{cases_lt, le-leb}
 use Rattle.std.proofs.lemmas.Bool.Decides.{nat_tests}
-use Rattle.std.proofs.lemmas.List.{drop-drop, take_all, get_or_append_left, get_or-append_right, length-take}
+use Rattle.std.proofs.lemmas.List.{drop-drop, take_all, take_at, drop_at, take-take, drop-take, length-take, length-map, map-set, get_or-map, get_or_past}
+use Rattle.std.proofs.lemmas.Option.{slice_get-get_or, slice_get_past}
 use Rattle.std.proofs.lemmas.List.FromFn.{length-map-range_with_len, get_or-map-range_with_len}
 use Rattle.std.proofs.lemmas.List.Elements.{All-from_get_or}
 use Rattle.std.proofs.lemmas.Nat.{div-mul-add, mod-mul-add, mod_below}
-use Rattle.vers_bits.specs.Bits.{bit_value, number, low_bits, part, limbs, limb_count, pack}
-use Rattle.vers_bits.proofs.PublicLaws.{length-low_bits, number-lt, length-limbs, length-packed, low_bits_of_part, bit_value_test}
+use Rattle.vers_bits.specs.Bits.{number, low_bits, part, limbs, limb_count, pack}
+use Rattle.vers_bits.proofs.PublicLaws.{length-low_bits, low_bits-add, number-low_bits, number-take, number-drop, number-lt, length-limbs, length-packed, low_bits_of_part}
 use Rattle.vers_wavelet.specs.Symbols.{Symbols}
+use Rattle.vers_wavelet.specs.declared.wavelet.batch.get.GetQuery.{GetQuery}
 use Rattle.vers_wavelet.specs.Makers.{packed_symbols}
 use Rattle.vers_saved.specs.declared.kind.TheConstants.{SYMBOL_LISTS}
 use Rattle.vers_saved.specs.Kinds.{EndsPadded, IsWhole}
@@ -22,40 +25,101 @@ use Rattle.vers_saved.proofs.BitLists.{within}
 pub length-packed_items : (items : List ℕ) (k : ℕ) → length (pack items k) ≡ length items * k
 length-packed_items items k = length-packed (λ v. v) k items
 
+times_le : (n q w : ℕ) → n ≤ q → n * w ≤ q * w
+times_le n q w h = grind (arith, h)
+
 -- ---- bits of packed symbols
 
-low_bit : (v k i : ℕ) → i < k → get_or (low_bits v k) i false ≡ eqb (bit_at v i) 1
-unfolding low_bits
-low_bit v k i h = get_or-map-range_with_len (λ j. eqb (bit_at v j) 1) 0 k i i false h (omega arith)
+-- the bits from a symbol on are its own, and those of the symbols after it
+drop_packed : (items : List ℕ) (w q : ℕ) → q < length items → drop (q * w) (pack items w) ≡ low_bits (get_or items q 0) w ++ pack (drop (suc q) items) w
+drop_packed [] w q h = absurd (omega arith)
+drop_packed (y ∷ items) w zero h = let none : 0 * w ≡ 0 = omega arith in ap (λ p. drop p (low_bits y w ++ pack items w)) none
+drop_packed (y ∷ items) w (suc q) h =
+    let more : suc q * w ≡ w + q * w = grind arith in
+    ap (λ p. drop p (low_bits y w ++ pack items w)) more ∙ sym (drop-drop (q * w) w (low_bits y w ++ pack items w))
+    ∙ ap (drop (q * w)) (drop_at (low_bits y w) (pack items w) w (length-low_bits y w)) ∙ drop_packed items w q (omega arith)
 
--- bit r of symbol q
-pack_bit : (items : List ℕ) (w q r : ℕ) → q < length items → r < w → get_or (pack items w) (q * w + r) false ≡ eqb (bit_at (get_or items q 0) r) 1
-pack_bit [] w q r h few = absurd (omega arith)
-pack_bit (y ∷ items) w zero r h few =
-    let first : 0 * w + r ≡ r = omega arith in
-    ap (λ p. get_or (low_bits y w ++ pack items w) p false) first ∙ get_or_append_left (low_bits y w) (pack items w) false r (omega (arith, length-low_bits y w)) ∙ low_bit y w r few
-pack_bit (y ∷ items) w (suc q) r h few =
-    let more : suc q * w + r ≡ w + (q * w + r) = grind arith in
-    let back : w + (q * w + r) - w ≡ q * w + r = omega arith in
-    ap (λ p. get_or (low_bits y w ++ pack items w) p false) more
-    ∙ get_or-append_right (low_bits y w) (pack items w) w (w + (q * w + r)) false (length-low_bits y w) (omega arith)
-    ∙ ap (λ p. get_or (pack items w) p false) back ∙ pack_bit items w q r (omega arith) few
+-- n of the bits of a symbol, from one of them on
+symbol_part : (symbol r n m : ℕ) (rest : List Bool) → take n (drop r (low_bits symbol (r + (n + m)) ++ rest)) ≡ low_bits (symbol / 2 ^ r) n
+symbol_part symbol r n m rest =
+    ap (λ l. take n (drop r (l ++ rest))) (low_bits-add symbol r (n + m))
+    ∙ ap (λ l. take n (drop r l)) (append_assoc (low_bits symbol r) (low_bits (symbol / 2 ^ r) (n + m)) rest)
+    ∙ ap (take n) (drop_at (low_bits symbol r) (low_bits (symbol / 2 ^ r) (n + m) ++ rest) r (length-low_bits symbol r))
+    ∙ ap (λ l. take n (l ++ rest)) (low_bits-add (symbol / 2 ^ r) n m)
+    ∙ ap (take n) (append_assoc (low_bits (symbol / 2 ^ r) n) (low_bits (symbol / 2 ^ r / 2 ^ n) m) rest)
+    ∙ take_at (low_bits (symbol / 2 ^ r) n) (low_bits (symbol / 2 ^ r / 2 ^ n) m ++ rest) n (length-low_bits (symbol / 2 ^ r) n)
 
-split : (p w : ℕ) → p / w * w + p % w ≡ p
-split p w = omega (arith, mod-eq-sub-div-mul p w, div-mul-le_self p w)
+part_number : (items : List ℕ) (w q r n m : ℕ) → q < length items → w ≡ r + (n + m) → number (take n (drop (q * w + r) (pack items w))) ≡ get_or items q 0 / 2 ^ r % 2 ^ n
+part_number items w q r n m h is =
+    ap (λ l. number (take n l)) (sym (drop-drop r (q * w) (pack items w)))
+    ∙ ap (λ l. number (take n (drop r l))) (drop_packed items w q h ∙ ap (λ k. low_bits (get_or items q 0) k ++ pack (drop (suc q) items) w) is)
+    ∙ ap number (symbol_part (get_or items q 0) r n m (pack (drop (suc q) items) w)) ∙ number-low_bits (get_or items q 0 / 2 ^ r) n
 
-pub inside_items : (items : List ℕ) (w p : ℕ) → 1 ≤ w → p < length items * w → p / w < length items
-inside_items items w p some h = (div-lt_iff_lt-mul (omega arith)).1 h
+-- the number of bits, by that of the first of them and that of the others
+number_split : (bits : List Bool) (n k : ℕ) → number (take (n + k) bits) ≡ number (take n bits) + 2 ^ n * number (take k (drop n bits))
+number_split bits n k =
+    let first : number (take n bits) ≡ number (take (n + k) bits) % 2 ^ n = ap number (sym (take-take n (n + k) bits (omega arith))) ∙ number-take n (take (n + k) bits) in
+    let rest : number (take k (drop n bits)) ≡ number (take (n + k) bits) / 2 ^ n = ap number (sym (drop-take n k bits)) ∙ number-drop n (take (n + k) bits) in
+    omega (arith, first, rest, ap (λ m. 2 ^ n * m) rest, mod-eq-sub-div-mul (number (take (n + k) bits)) (2 ^ n), div-mul-le_self (number (take (n + k) bits)) (2 ^ n))
 
--- the bit at a place, by the symbol that it lies in
-pub symbol_bit : (items : List ℕ) (w p symbol bit : ℕ) → 1 ≤ w → p < length items * w → symbol ≡ get_or items (p / w) 0 → bit ≡ bit_at symbol (p % w)
-    → bit ≡ bit_value (get_or (pack items w) p false)
-symbol_bit items w p symbol bit some h is is_bit =
-    let low : p % w < w = mod_below p w (omega arith) in
-    let here : get_or (pack items w) p false ≡ eqb (bit_at symbol (p % w)) 1 =
-    ap (λ m. get_or (pack items w) m false) (sym (split p w)) ∙ pack_bit items w (p / w) (p % w) (inside_items items w p some h) low
-    ∙ ap (λ v. eqb (bit_at v (p % w)) 1) (sym is) in
-    is_bit ∙ sym (ap bit_value here ∙ bit_value_test (bit_at symbol (p % w)) (mod_below (symbol / 2 ^ (p % w)) 2 (omega arith)))
+item_inside : (items : List ℕ) (w item : ℕ) → item * w < length items * w → item < length items
+item_inside items w item h = elim (cases_lt item (length items)) [
+  | inl inside ↦ inside
+  | inr past ↦ absurd (omega (arith, times_le (length items) item w past))
+]
+
+-- the bits of a symbol before those whose number is known
+bits_before : (items : List ℕ) (w item place end start word symbol new : ℕ) → item * w < place → place ≤ item * w + w → item * w ≤ start → start < place → place ≤ end
+    → end ≤ length (pack items w) → symbol ≡ get_or items item 0 → word ≡ number (take (end - place) (drop place (pack items w)))
+    → new ≡ symbol / 2 ^ (start - item * w) % 2 ^ (place - start) + 2 ^ (place - start) * word → new ≡ number (take (end - start) (drop start (pack items w)))
+bits_before items w item place end start word symbol new low high above below inside whole is_symbol is_word is_new =
+    let here : item < length items = item_inside items w item (omega (arith, length-packed_items items w)) in
+    let wide : w ≡ start - item * w + (place - start + (item * w + w - place)) = omega arith in
+    let from : item * w + (start - item * w) ≡ start = omega arith in
+    let to : start + (place - start) ≡ place = omega arith in
+    let all : place - start + (end - place) ≡ end - start = omega arith in
+    is_new
+    ∙ ap (λ s. s / 2 ^ (start - item * w) % 2 ^ (place - start) + 2 ^ (place - start) * word) is_symbol
+    ∙ ap (λ v. v + 2 ^ (place - start) * word) (sym (part_number items w item (start - item * w) (place - start) (item * w + w - place) here wide)
+    ∙ ap (λ p. number (take (place - start) (drop p (pack items w)))) from)
+    ∙ ap (λ v. number (take (place - start) (drop start (pack items w))) + 2 ^ (place - start) * v)
+    (is_word ∙ ap (λ p. number (take (end - place) (drop p (pack items w)))) (sym to) ∙ ap (λ l. number (take (end - place) l)) (sym (drop-drop (place - start) start (pack items w))))
+    ∙ sym (number_split (drop start (pack items w)) (place - start) (end - place)) ∙ ap (λ m. number (take m (drop start (pack items w)))) all
+
+-- the symbol that the bit before a place lies in
+pub item_of : (p w : ℕ) → 1 ≤ w → 0 < p → ((p - 1) / w * w < p) × (p ≤ (p - 1) / w * w + w)
+item_of p w some h = (omega (arith, div-mul-le_self (p - 1) w), omega (arith, mod-eq-sub-div-mul (p - 1) w, mod_below (p - 1) w (omega arith)))
+
+-- it stands in the group of the word
+pub in_group : (w k item place : ℕ) → 1 ≤ w → item * w < place → place ≤ item * w + w → 64 * k < place → place ≤ 64 * k + 64 → 64 * (k / w) + item % 64 ≡ item
+in_group w k item place some low high above below =
+    let from : 64 * (k / w) * w ≤ 64 * k = omega (arith, div-mul-le_self k w) in
+    let to : 64 * k + 64 ≤ (64 * (k / w) + 64) * w = omega (arith, mod-eq-sub-div-mul k w, mod_below k w (omega arith)) in
+    let first : 64 * (k / w) ≤ item = elim (cases_lt item (64 * (k / w))) [
+      | inl less ↦ absurd (omega (arith, times_le (item + 1) (64 * (k / w)) w (omega arith)))
+      | inr more ↦ more
+    ] in
+    let last : item < 64 * (k / w) + 64 = elim (cases_lt item (64 * (k / w) + 64)) [
+      | inl less ↦ less
+      | inr more ↦ absurd (omega (arith, times_le (64 * (k / w) + 64) item w more))
+    ] in
+    omega arith
+
+-- the same, where the width has another name
+pub bits_before_as : (items : List ℕ) (w v item place end start word symbol new : ℕ) → v ≡ w → item * w < place → place ≤ item * w + w → item * w ≤ start → start < place → place ≤ end
+    → end ≤ length (pack items w) → symbol ≡ get_or items item 0 → word ≡ number (take (end - place) (drop place (pack items w)))
+    → new ≡ symbol / 2 ^ (start - item * v) % 2 ^ (place - start) + 2 ^ (place - start) * word → new ≡ number (take (end - start) (drop start (pack items w)))
+bits_before_as items w v item place end start word symbol new is low high above below inside whole is_symbol is_word is_new =
+    bits_before items w item place end start word symbol new low high above below inside whole is_symbol is_word
+    (subst (λ m. new ≡ symbol / 2 ^ (start - item * m) % 2 ^ (place - start) + 2 ^ (place - start) * word) is is_new)
+
+-- before the first bit of a symbol stands the last one of the symbol before it
+pub symbol_before : (w item start : ℕ) → 1 ≤ w → start ≡ item * w → 0 < start → ((item - 1) * w < start) × (start ≤ (item - 1) * w + w)
+symbol_before w zero start some is h = absurd (omega arith)
+symbol_before w (suc q) start some is h =
+    let back : suc q - 1 ≡ q = omega arith in
+    let more : suc q * w ≡ q * w + w = grind arith in
+    (omega (arith, ap (λ m. m * w) back), omega (arith, ap (λ m. m * w) back))
 
 -- ---- symbols that bits hold
 
@@ -158,25 +222,6 @@ count_small count k a b words whole is_count is_width = rw (is_count, is_width) 
 pub all_bits : (items : List ℕ) (k a b : ℕ) → a ≡ length items → b ≡ k → a * b ≡ length (pack items k)
 all_bits items k a b is_count is_width = rw (is_count, is_width) (sym (length-packed_items items k))
 
-pub bit_is_digit : (v r : ℕ) → v / 2 ^ r % 2 ≡ bit_at v r
-bit_is_digit v r = refl
-
-pub place_inside : (items : List ℕ) (width w p : ℕ) → 1 ≤ width → w ≡ width → p < length (pack items width) → p / w < length items
-place_inside items width w p some is h =
-    subst (λ v. p / v < length items) (sym is) (inside_items items width p some (omega (arith, length-packed_items items width)))
-
-pub bit_inside : (items : List ℕ) (width w p symbol bit : ℕ) → 1 ≤ width → w ≡ width → p < length (pack items width) → symbol ≡ get_or items (p / w) 0 → bit ≡ bit_at symbol (p % w)
-    → bit ≡ bit_value (get_or (pack items width) p false)
-bit_inside items width w p symbol bit some is h e f =
-    symbol_bit items width p symbol bit some (omega (arith, length-packed_items items width))
-    (subst (λ v. symbol ≡ get_or items (p / v) 0) is e) (subst (λ v. bit ≡ bit_at symbol (p % v)) is f)
-
-pub digit_small : (symbol r bit : ℕ) → bit ≡ bit_at symbol r → bit < 2
-digit_small symbol r bit e = omega (arith, e, mod_below (symbol / 2 ^ r) 2 (omega arith))
-
-times_le : (n q w : ℕ) → n ≤ q → n * w ≤ q * w
-times_le n q w h = grind (arith, h)
-
 pub few_symbols : (n a b w : ℕ) → a ≡ n → b ≡ w → a ≤ 18446744073709551552 / b → n * w ≤ 18446744073709551552
 few_symbols n a b w is_count is_width h =
     rw (← is_count, ← is_width) (omega (arith, times_le a (18446744073709551552 / b) b h, div-mul-le_self 18446744073709551552 b))
@@ -196,6 +241,60 @@ if_ok (Err e) P Q R f p q = tt
 
 pub ruleset counting = (count_small, all_bits)
 
-pub ruleset digits = (bit_is_digit)
+-- a word and digits in front of it fill no more than 64 bits
+pub times_room : (n word : ℕ) → n ≤ 64 → word < 2 ^ (64 - n) → 2 ^ n * word + 2 ^ n ≤ 2 ^ 64
+times_room n word few h =
+    let all : n + (64 - n) ≡ 64 = omega arith in
+    let whole : 2 ^ n * 2 ^ (64 - n) ≡ 2 ^ 64 = sym (pow-add 2 n (64 - n)) ∙ ap (λ m. 2 ^ m) all in
+    let more : 2 ^ n * (word + 1) ≤ 2 ^ n * 2 ^ (64 - n) = mul-le-mul_left (2 ^ n) (omega arith) in
+    omega arith
+
+-- a power of two is a word
+pub power_word : (n : ℕ) → n < 64 → 1 * 2 ^ n % 18446744073709551616 ≡ 2 ^ n
+power_word n h =
+    let few : n ≤ 63 = omega arith in
+    let small : 1 * 2 ^ n < 18446744073709551616 = omega (arith, pow-le-pow_right {n = 2} (omega arith) few) in
+    mod-eq_of_lt small ∙ omega arith
+
+pub ruleset joining = (times_room, power_word)
+
+-- ---- symbols that are read at once
+
+no_query : GetQuery
+no_query = record { place = 0; answer = None }
+
+-- one query more asks for the next place
+pub place_next : (queries : List GetQuery) (j n : ℕ) (query : GetQuery) → j < length queries → ((i : ℕ) → i < j → get_or (map (λ q. q.place) queries) i 0 ≡ n + i) → query.place ≡ n + j
+    → (i : ℕ) → i < j + 1 → get_or (map (λ q. q.place) (set queries j query)) i 0 ≡ n + i
+place_next queries j n query h so_far is =
+    subst (λ l. (i : ℕ) → i < j + 1 → get_or l i 0 ≡ n + i) (sym (map-set (λ (q : GetQuery). q.place) queries j query))
+    (below_more _ _ (λ k less. let ne : k ≢ j = omega arith in rw get_or-set_other (so_far k less))
+    (let lt : j < length (map (λ (q : GetQuery). q.place) queries) = omega (arith, length-map queries (λ (q : GetQuery). q.place)) in rw get_or-set_same is))
+
+-- what a query is answered
+pub answered : (items : List ℕ) (w n j : ℕ) (queries : List GetQuery) (answers : List (Option ℕ)) → w ≤ 64 → j < length queries → get_or (map (λ q. q.place) queries) j 0 ≡ n + j
+    → answers ≡ map (λ q. if nat_le w 64 then slice_get items q.place else None) queries → get_or answers j None ≡ slice_get items (n + j)
+answered items w n j queries answers few h is_place is =
+    ap (λ l. get_or l j None) is ∙ get_or-map (λ (q : GetQuery). if nat_le w 64 then slice_get items q.place else None) queries j no_query None h
+    ∙ ap (λ b. if b then slice_get items (get_or queries j no_query).place else None) (le-leb w 64 few)
+    ∙ ap (slice_get items) (sym (get_or-map (λ (q : GetQuery). q.place) queries j no_query 0 h) ∙ is_place)
+
+pub answer_at : (queries : List GetQuery) (j : ℕ) (d : GetQuery) → j < length queries → (get_or queries j d).answer ≡ get_or (map (λ q. q.answer) queries) j None
+answer_at queries j d h = sym (get_or-map (λ (q : GetQuery). q.answer) queries j d None h)
+
+pub ruleset reading = (answer_at)
+
+-- the symbol that was found, or zero past the end
+pub given_symbol : (items : List ℕ) (p : ℕ) → unwrap_or (slice_get items p) 0 ≡ get_or items p 0
+given_symbol items p = elim (cases_lt p (length items)) [
+  | inl inside ↦ ap (λ o. unwrap_or o 0) (slice_get-get_or items p 0 inside)
+  | inr past ↦ ap (λ o. unwrap_or o 0) (slice_get_past items p past) ∙ sym (get_or_past items p 0 past)
+]
+
+-- one symbol more
+pub symbol_next : (symbols items : List ℕ) (j n symbol : ℕ) → j < length symbols → ((i : ℕ) → i < j → get_or symbols i 0 ≡ get_or items (n + i) 0) → symbol ≡ get_or items (n + j) 0
+    → (i : ℕ) → i < j + 1 → get_or (set symbols j symbol) i 0 ≡ get_or items (n + i) 0
+symbol_next symbols items j n symbol h so_far is =
+    below_more _ _ (λ k less. let ne : k ≢ j = omega arith in rw get_or-set_other (so_far k less)) (rw get_or-set_same is)
 
 pub ruleset symbols = (symbols_shape, whole_number)

@@ -1,5 +1,5 @@
 //! Lists of bits, saved by their limbs.
-ghost use Rattle.std.specs.Prelude.{◌≡◌, ⊤, length};
+ghost use Rattle.std.specs.Prelude.{◌≡◌, ◌<◌, ⊤, length, slice_index};
 ghost use Rattle.vers_bits.specs.Bits.{limbs};
 ghost use Rattle.vers_saved.specs.declared.kind.TheConstants.{BIT_LISTS};
 
@@ -21,6 +21,18 @@ fn shape_of(count: usize) -> Shape
         count,
         width: 1,
     }
+}
+
+// The limb at a place.
+#[inline]
+#[tactic(auto, using(crate::proofs::Sources::bits))]
+pub(crate) fn limb_of<A: Allocator + Copy>(bits: &RsVec<A>, k: usize) -> u64
+    requires { k < length (limbs bits.now) }
+    ensures { result ≡ slice_index (limbs bits.now) k }
+{
+    let len = bits.len();
+    let place = 64 * k;
+    bits.get_bits_unchecked(place, (len - place).min(64))
 }
 
 #[tactic(auto, using(crate::proofs::BitLists::bits, crate::proofs::Sources::bits))]
@@ -82,9 +94,7 @@ impl<A: Allocator + Copy> Saved for RsVec<A> {
 
     #[inline]
     fn word(&self, k: usize) -> u64 {
-        let len = self.len();
-        let place = 64 * k;
-        self.get_bits_unchecked(place, (len - place).min(64))
+        limb_of(self, k)
     }
 }
 

@@ -197,16 +197,20 @@ pub(crate) struct Form<A: Allocator> {
 // The shape and the words that the bytes are the saved form of, of a list of that kind.
 pub(crate) fn form_of<A: Allocator>(
     alloc: A,
-    kind: &Kind,
+    kind: Kind,
     bytes: &[u8],
 ) -> Result<Form<A>, LoadError>
-    ensures ok { IfOk result (λ r. (bytes.now ≡ saved kind.now.number r.shape.count r.shape.width r.words.items)
-        × IsWhole kind.now r.shape.count r.shape.width r.words.items × (r.shape.kind ≡ kind.now.number)) }
-    ensures none { OnOk result (fault_of kind.now bytes.now ≡ None) }
-    ensures err { IfErr result (λ e. (fault_of kind.now bytes.now ≡ Some e)
-        ⊎ ((e ≡ LoadError.Memory) × (fault_of kind.now bytes.now ≡ None))) }
+    ensures ok { IfOk result (λ r. (bytes.now ≡ saved kind.number r.shape.count r.shape.width r.words.items)
+        × IsWhole kind r.shape.count r.shape.width r.words.items × (r.shape.kind ≡ kind.number)) }
+    ensures none { OnOk result (fault_of kind bytes.now ≡ None) }
+    ensures err { IfErr result (λ e. (fault_of kind bytes.now ≡ Some e)
+        ⊎ ((e ≡ LoadError.Memory) × (fault_of kind bytes.now ≡ None))) }
+    ensures back { (count width : ℕ) → (words : List ℕ) → IsWhole kind count width words
+        → bytes.now ≡ saved kind.number count width words
+        → MatchResult result (λ r. (r.shape.count ≡ count) × (r.shape.width ≡ width) × (r.words.items ≡ words))
+        (λ e. e ≡ LoadError.Memory) }
 {
-    let head = test_bytes(kind, bytes)?;
+    let head = test_bytes(&kind, bytes)?;
     let words = words_in(alloc, words_among(head.bits, bytes))?;
     Ok(Form {
         shape: head.shape,

@@ -1,5 +1,5 @@
 //! Words of a saved form, gathered from any reader a block at a time.
-ghost use Rattle.std.specs.Prelude.{◌≡◌, ℕ, ◌+◌, ◌-◌, ◌*◌, ◌%◌, ◌<◌, ◌≤◌, ◌++◌, ◌⊎◌, [], List, length, take, drop, slice_index, OnOk, OnErr, IfOk, IfErr, IfSome, Some, None};
+ghost use Rattle.std.specs.Prelude.{◌≡◌, ℕ, ◌+◌, ◌-◌, ◌*◌, ◌%◌, ◌<◌, ◌≤◌, ◌++◌, ◌⊎◌, [], List, length, take, drop, slice_index, OnOk, OnErr, IfOk, IfErr, IfSome, MatchResult, Some, None};
 ghost use Rattle.std.specs.Io.KnownBytes.{Consumes, IsAtEnd, prepend_known};
 ghost use Rattle.vers_bits.specs.Bits.{limb_count};
 ghost use Rattle.vers_saved.specs.Format.{bytes_of, saved};
@@ -271,19 +271,25 @@ fn gather_form<R: Source, A: Allocator>(
 // of that kind.
 pub(crate) fn form_from<R: Source, A: Allocator + Copy>(
     alloc: A,
-    kind: &Kind,
+    kind: Kind,
     reader: &mut R,
 ) -> Result<Form<A>, LoadError>
     ensures ok { IfOk result (λ r. IfSome (R.remaining reader.old) (λ bytes.
-        bytes ≡ saved kind.now.number r.shape.count r.shape.width r.words.items)) }
-    ensures whole { IfOk result (λ r. IsWhole kind.now r.shape.count r.shape.width r.words.items
-        × (r.shape.kind ≡ kind.now.number)) }
+        bytes ≡ saved kind.number r.shape.count r.shape.width r.words.items)) }
+    ensures whole { IfOk result (λ r. IsWhole kind r.shape.count r.shape.width r.words.items
+        × (r.shape.kind ≡ kind.number)) }
     ensures end { OnOk result (IsAtEnd (R.remaining reader.new)) }
-    ensures refused { IfErr result (IsRefused kind.now (R.remaining reader.old)) }
+    ensures refused { IfErr result (IsRefused kind (R.remaining reader.old)) }
     ensures cause { IfErr result (λ e. e ≡ LoadError.Read → FollowsReadFault R.read_gives reader.new) }
+    ensures back { (count width : ℕ) → (words : List ℕ) → IsWhole kind count width words
+        → R.remaining reader.old ≡ Some (saved kind.number count width words)
+        → MatchResult result (λ r. (r.shape.count ≡ count) × (r.shape.width ≡ width) × (r.words.items ≡ words))
+        (λ e. (e ≡ LoadError.Read) ⊎ (e ≡ LoadError.Memory)) }
 {
     let mut block = Vec::from_elem(alloc, 0u8, BLOCK)?;
     let mut words = Vec::new(alloc);
-    let shape = gather_form(kind, reader, block.as_mut_slice(), &mut words)?;
-    Ok(Form { shape, words })
+    match gather_form(&kind, reader, block.as_mut_slice(), &mut words) {
+        Ok(shape) => Ok(Form { shape, words }),
+        Err(fault) => Err(fault),
+    }
 }

@@ -170,6 +170,6 @@ pub fn load_from_slice<S: Loaded<A>, A: Allocator>(alloc: A, bytes: &[u8]) -> Re
         → bytes.now ≡ saved S.kind.number (S.count x) (S.width x) (S.words x)
         → MatchResult result (λ v. v ≡ x) (λ e. e ≡ LoadError.Memory) }
 {
-    let Form { shape, mut words } = form_of(alloc, &S::kind(), bytes)?;
+    let Form { shape, mut words } = form_of(alloc, S::kind(), bytes)?;
     Ok(S::make(shape, &mut words)?)
 }

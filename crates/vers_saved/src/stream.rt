@@ -130,6 +130,6 @@ pub fn load<S: Loaded<A>, A: Allocator + Copy, R: Source>(
         → R.remaining reader.old ≡ Some (saved S.kind.number (S.count x) (S.width x) (S.words x))
         → MatchResult result (λ v. v ≡ x) (λ e. (e ≡ LoadError.Read) ⊎ (e ≡ LoadError.Memory)) }
 {
-    let Form { shape, mut words } = form_from(alloc, &S::kind(), reader)?;
+    let Form { shape, mut words } = form_from(alloc, S::kind(), reader)?;
     Ok(S::make(shape, &mut words)?)
 }

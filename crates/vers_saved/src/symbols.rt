@@ -1,33 +1,65 @@
 //! Lists of symbols, saved by the limbs of their bits, one symbol after another.
-ghost use Rattle.std.specs.Prelude.{◌≡◌, ◌<◌, ◌≤◌, ◌^◌, All, length, slice_index};
-ghost use Rattle.std.specs.Int.{bit_at};
+ghost use Rattle.std.specs.Prelude.{◌≡◌, ℕ, ◌+◌, ◌-◌, ◌*◌, ◌/◌, ◌%◌, ◌<◌, ◌≤◌, ◌^◌, All, None, length, map, slice_get, slice_index, slice_index_or, unwrap_or};
 ghost use Rattle.vers_bits.specs.Bits.{limbs, pack};
 ghost use Rattle.vers_saved.specs.declared.kind.TheConstants.{SYMBOL_LISTS};
 ghost use Rattle.vers_saved.specs.Kinds.{IsWhole};
+ghost use Rattle.vers_saved.specs.inside.Groups.{IsGroup};
 
 use crate::form::{Shape, bits_of, taken};
 use crate::kind::{Kind, SYMBOL_LISTS, SYMBOLS};
 use crate::saved::{Loaded, Saved};
 use std::alloc::{AllocError, Allocator};
 use vers_bits::bit_vec::MAX_LEN;
-use vers_wavelet::wavelet::WaveletMatrix;
+use vers_wavelet::wavelet::{GetQuery, WaveletMatrix};
 
-// The symbol at a place, where that at another place is known.
-fn symbol_at<A: Allocator + Copy>(
+/// How many symbols are read at once. Their bits fill as many words as a symbol has bits.
+const GROUP: usize = 64;
+
+// Asks for the symbols of a group.
+fn ask_group<A: Allocator + Copy>(list: &WaveletMatrix<A>, group: usize, queries: &mut [GetQuery])
+    requires few { list.now.width ≤ 64 }
+    requires long { length queries.old ≡ 64 }
+    requires small { 64 * group + 64 ≤ 18446744073709551615 }
+    ensures { (j : ℕ) → j < 64 → slice_index_or (map (λ q. q.answer) queries.new) j None
+        ≡ slice_get list.now.items (64 * group + j) }
+{
+    for j in 0..GROUP {
+        queries[j] = GetQuery::new(GROUP * group + j);
+    }
+    list.get_u64_each(queries);
+}
+
+// The symbol that a query was answered, or 0 where there is none.
+#[inline(always)]
+#[tactic(auto, using(crate::proofs::SymbolLists::reading))]
+fn answer_of(queries: &[GetQuery], j: usize) -> u64
+    requires { j < length queries.now }
+    ensures { result ≡ unwrap_or (slice_index_or (map (λ q. q.answer) queries.now) j None) 0 }
+{
+    queries[j].answer.unwrap_or(0)
+}
+
+// Reads the symbols of a group, where they aren't those of one that was read.
+fn read_group<A: Allocator + Copy>(
     list: &WaveletMatrix<A>,
     known: usize,
-    symbol: u64,
-    place: usize,
-) -> u64
+    group: usize,
+    symbols: &mut [u64],
+)
     requires few { list.now.width ≤ 64 }
-    requires known { symbol ≡ slice_index list.now.items known }
-    requires inside { place < length list.now.items }
-    ensures { result ≡ slice_index list.now.items place }
+    requires long { length symbols.old ≡ 64 }
+    requires small { 64 * group + 64 ≤ 18446744073709551615 }
+    requires known { known ≡ group → IsGroup list.now.items group symbols.old }
+    ensures { IsGroup list.now.items group symbols.new }
 {
-    if place == known {
-        return symbol;
+    if known == group {
+        return;
     }
-    list.get_u64_unchecked(place)
+    let mut queries = [GetQuery::new(0); GROUP];
+    ask_group(list, group, &mut queries);
+    for j in 0..GROUP {
+        symbols[j] = answer_of(&queries, j);
+    }
 }
 
 // How many bits all symbols have.
@@ -42,36 +74,67 @@ fn count_bits<A: Allocator + Copy>(list: &WaveletMatrix<A>) -> usize
     list.len() * width
 }
 
-// The bit at a place of a symbol.
-#[tactic(auto, using(crate::proofs::SymbolLists::digits))]
-fn digit(symbol: u64, r: usize) -> u64
-    requires { r < 64 }
-    ensures { result ≡ bit_at symbol r }
+// A number whose low digits are `n` of a symbol, and whose others are those of a word.
+#[inline(always)]
+#[tactic(auto, using(crate::proofs::SymbolLists::joining))]
+fn joined(symbol: u64, n: usize, word: u64) -> u64
+    requires some { 1 ≤ n }
+    requires few { n ≤ 64 }
+    requires room { word < 2 ^ (64 - n) }
+    ensures { result ≡ symbol % 2 ^ n + 2 ^ n * word }
 {
-    symbol >> r & 1
+    if n == 64 {
+        return symbol;
+    }
+    symbol % (1 << n) + (1 << n) * word
 }
 
-// The number of the bits of all symbols from place `64 * k` on, 64 of them or as many as there are.
-fn limb_of<A: Allocator + Copy>(list: &WaveletMatrix<A>, k: usize) -> u64
+// The number of the bits of all symbols from place `64 * k` on, 64 of them or as many as there are. The symbols
+// of its group were read.
+fn limb_of<A: Allocator + Copy>(list: &WaveletMatrix<A>, symbols: &[u64], k: usize) -> u64
     requires whole { IsWhole SYMBOL_LISTS (length list.now.items) list.now.width
         (limbs (pack list.now.items list.now.width)) }
     requires within { k < length (limbs (pack list.now.items list.now.width)) }
+    requires long { length symbols.now ≡ 64 }
+    requires group { IsGroup list.now.items (k / list.now.width) symbols.now }
     ensures { result ≡ slice_index (limbs (pack list.now.items list.now.width)) k }
 {
-    let len = count_bits(list);
     let width = list.bits_per_element();
     let from = 64 * k;
-    let mut place = len.min(from + 64);
-    let mut known = (place - 1) / width;
-    let mut symbol = list.get_u64_unchecked(known);
-    let mut word = 0u64;
+    let mut place = count_bits(list).min(from + 64);
+    let mut item = (place - 1) / width;
+    let mut word = 0;
     while place > from {
-        place -= 1;
-        symbol = symbol_at(list, known, symbol, place / width);
-        known = place / width;
-        word = 2 * word + digit(symbol, place % width);
+        let first = item * width;
+        let start = first.max(from);
+        word = joined(
+            symbols[item % GROUP] >> (start - first),
+            place - start,
+            word,
+        );
+        place = start;
+        item = item.saturating_sub(1);
     }
     word
+}
+
+// Copies the limbs of the bits of all symbols from a place on, as many as the slice has.
+fn copy_limbs<A: Allocator + Copy>(list: &WaveletMatrix<A>, from: usize, out: &mut [u64])
+    requires whole { IsWhole SYMBOL_LISTS (length list.now.items) list.now.width
+        (limbs (pack list.now.items list.now.width)) }
+    requires within { from + length out.old ≤ length (limbs (pack list.now.items list.now.width)) }
+    ensures { (j : ℕ) → j < length out.old
+        → slice_index out.new j ≡ slice_index (limbs (pack list.now.items list.now.width)) (from + j) }
+{
+    let width = list.bits_per_element();
+    let mut symbols = [0; GROUP];
+    let mut known = usize::MAX;
+    for k in 0..out.len() {
+        let group = (from + k) / width;
+        read_group(list, known, group, &mut symbols);
+        known = group;
+        out[k] = limb_of(list, &symbols, from + k);
+    }
 }
 
 #[tactic(auto, using(crate::proofs::SymbolLists::symbols))]
@@ -107,7 +170,13 @@ impl<A: Allocator + Copy> Saved for WaveletMatrix<A> {
     }
 
     fn word(&self, k: usize) -> u64 {
-        limb_of(self, k)
+        let mut word = [0];
+        copy_limbs(self, k, &mut word);
+        word[0]
+    }
+
+    fn copy_words(&self, from: usize, out: &mut [u64]) {
+        copy_limbs(self, from, out)
     }
 }
 

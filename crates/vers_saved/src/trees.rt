@@ -1,13 +1,14 @@
 //! Lists of parentheses, saved by their limbs.
-ghost use Rattle.std.specs.Prelude.{◌≡◌, ◌<◌, ◌⊎◌, ⊤, false, length, slice_index, slice_index_or, Bool, List, OnOk, IfOk, IfErr, IfSome, MatchResult, Some, None};
+ghost use Rattle.std.specs.Prelude.{◌≡◌, ◌⊎◌, ⊤, length, Bool, List, OnOk, IfOk, IfErr, IfSome, MatchResult, Some, None};
 ghost use Rattle.std.specs.Io.KnownBytes.{IsAtEnd};
-ghost use Rattle.vers_bits.specs.Bits.{bit_value, limbs};
+ghost use Rattle.vers_bits.specs.Bits.{limbs};
 ghost use Rattle.vers_saved.specs.Faults.{fault_of};
 ghost use Rattle.vers_saved.specs.Format.{saved_parentheses};
 ghost use Rattle.vers_saved.specs.Kinds.{IsWhole, tree_kind};
 ghost use Rattle.vers_engine.specs.Device.{FollowsReadFault};
 ghost use Rattle.vers_saved.specs.Streams.{IsRefused};
 
+use crate::bits::limb_of;
 use crate::fault::LoadError;
 use crate::form::{Form, Shape, bits_of, form_of, taken};
 use crate::gather::form_from;
@@ -31,37 +32,6 @@ pub fn tree_kind(size: usize) -> Kind
         greatest_count: MAX_LEN as u64,
         order: Order::Any,
     }
-}
-
-// The bit at a place, 1 or 0.
-#[tactic(auto, using(crate::proofs::Parentheses::reading))]
-fn bit_of<const BLOCK_SIZE: usize, A: Allocator + Copy>(
-    tree: &BpTree<BLOCK_SIZE, A>,
-    place: usize,
-) -> u64
-    requires { place < length tree.now }
-    ensures { result ≡ bit_value (slice_index_or tree.now place false) }
-{
-    tree.is_open(place).unwrap() as u64
-}
-
-// The number of the bits from place `64 * k` on, 64 of them or as many as there are.
-fn limb_of<const BLOCK_SIZE: usize, A: Allocator + Copy>(
-    tree: &BpTree<BLOCK_SIZE, A>,
-    k: usize,
-) -> u64
-    requires { k < length (limbs tree.now) }
-    ensures { result ≡ slice_index (limbs tree.now) k }
-{
-    let len = tree.len();
-    let from = 64 * k;
-    let mut place = len.min(from + 64);
-    let mut word = 0u64;
-    while place > from {
-        place -= 1;
-        word = 2 * word + bit_of(tree, place);
-    }
-    word
 }
 
 #[tactic(auto, using(crate::proofs::Parentheses::trees))]
@@ -91,8 +61,9 @@ impl<const BLOCK_SIZE: usize, A: Allocator + Copy> Saved for BpTree<BLOCK_SIZE, 
         })
     }
 
+    #[inline]
     fn word(&self, k: usize) -> u64 {
-        limb_of(self, k)
+        limb_of(self.bits(), k)
     }
 }
 
@@ -150,7 +121,7 @@ pub fn load_parentheses_from_slice<A: Allocator + Copy>(
         → bytes.now ≡ saved_parentheses size x
         → MatchResult result (λ v. v ≡ x) (λ e. e ≡ LoadError.Memory) }
 {
-    let Form { shape, words } = form_of(alloc, &tree_kind(size), bytes)?;
+    let Form { shape, words } = form_of(alloc, tree_kind(size), bytes)?;
     Ok(parentheses_of(size, shape, words))
 }
 
@@ -192,6 +163,6 @@ pub fn load_tree<'a, const BLOCK_SIZE: usize, A: Allocator, R: Source>(
         → R.remaining reader.old ≡ Some (saved_parentheses BLOCK_SIZE x)
         → MatchResult result (λ v. v ≡ x) (λ e. (e ≡ LoadError.Read) ⊎ (e ≡ LoadError.Memory)) }
 {
-    let Form { shape, mut words } = form_from(alloc, &tree_kind(BLOCK_SIZE), reader)?;
+    let Form { shape, mut words } = form_from(alloc, tree_kind(BLOCK_SIZE), reader)?;
     Ok(tree_of(shape, &mut words)?)
 }

@@ -121,6 +121,14 @@ impl<const BLOCK_SIZE: usize, A: Allocator + Copy> BpTree<BLOCK_SIZE, A> {
         self.bits.len()
     }
 
+    /// The bits alone, with ranks and selects.
+    #[inline]
+    pub fn bits(&self) -> &RsVec<A>
+        ensures { result.now ≡ self.now }
+    {
+        &self.bits
+    }
+
     /// How many ones the list has: in balanced parentheses, how many nodes there are.
     #[inline]
     pub fn size(&self) -> usize

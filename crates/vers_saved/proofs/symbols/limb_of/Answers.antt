@@ -1,70 +1,61 @@
-use Rattle.std.proofs.Common.{◌≡◌, ◌-◌, ◌+◌, ◌*◌, ◌%◌, ◌<◌, min, length, take, drop, refl, ap, sym, ◌∙◌, arith}
+use Rattle.std.proofs.Common.{◌≡◌, ◌-◌, ◌+◌, ◌*◌, ◌/◌, ◌%◌, ◌<◌, ◌≤◌, min, max, length, get_or, take, drop, refl, ap, subst, sym, ◌∙◌, arith}
+use Rattle.std.proofs.lemmas.List.{length-take}
 use Rattle.vers_bits.specs.Bits.{number, limbs, pack}
-use Rattle.vers_bits.proofs.PublicLaws.{length-limbs}
-use Rattle.vers_saved.proofs.Parentheses.{number_before, number_small, last_limb, none_yet}
-use Rattle.vers_saved.proofs.SymbolLists.{symbols_shape, place_inside, bit_inside, digit_small}
+use Rattle.vers_bits.proofs.PublicLaws.{length-limbs, number_below}
+use Rattle.vers_saved.proofs.Parentheses.{last_limb, none_yet}
+use Rattle.vers_saved.proofs.SymbolLists.{symbols_shape, item_of, in_group, bits_before_as, symbol_before}
 use Rattle.vers_saved.proofs.symbols.limb_of.Goals as goal
 
-pub overflow_sub-known : goal.overflow_sub-known
-overflow_sub-known g c =
-    omega (arith, c.min-place.ensures, c.count_bits-len.ensures.value, length-limbs (pack c.args.list.now.items c.args.list.now.width), c.requires.within)
-
-pub get_u64_unchecked-symbol-requires-clause-within : goal.get_u64_unchecked-symbol-requires-clause-within
-get_u64_unchecked-symbol-requires-clause-within g c =
-    let s = symbols_shape (length c.args.list.now.items) c.args.list.now.width (limbs (pack c.args.list.now.items c.args.list.now.width)) c.requires.whole in
-    place_inside c.args.list.now.items c.args.list.now.width c.bits_per_element-width.result (c.min-place.result - 1) s.0 c.bits_per_element-width.ensures.value
-    (omega (arith, c.min-place.ensures, c.count_bits-len.ensures.value, length-limbs (pack c.args.list.now.items c.args.list.now.width), c.requires.within))
+pub overflow_sub-item : goal.overflow_sub-item
+overflow_sub-item g c =
+    omega (arith, c.min-place.ensures, c.count_bits.ensures.value, length-limbs (pack c.args.list.now.items c.args.list.now.width), c.requires.within)
 
 pub loop-place-init : goal.loop-place-init
 loop-place-init g c =
+    let bits = pack c.args.list.now.items c.args.list.now.width in
+    let s = symbols_shape (length c.args.list.now.items) c.args.list.now.width (limbs bits) c.requires.whole in
     let is : c.min-place.result ≡ min (length (pack c.args.list.now.items c.args.list.now.width)) (64 * c.args.k + 64) =
-    c.min-place.ensures ∙ ap (λ n. min n (64 * c.args.k + 64)) c.count_bits-len.ensures.value in (
-      sym (ap (λ e. number (take (e - c.min-place.result) (drop c.min-place.result (pack c.args.list.now.items c.args.list.now.width)))) (sym is)
-          ∙ none_yet (pack c.args.list.now.items c.args.list.now.width) c.min-place.result),
-      omega (arith, is, length-limbs (pack c.args.list.now.items c.args.list.now.width), c.requires.within),
-      omega (arith, is),
-      c.get_u64_unchecked-symbol.ensures,
-    )
+    c.min-place.ensures ∙ ap (λ n. min n (64 * c.args.k + 64)) c.count_bits.ensures.value in
+    record {
+      word = sym (ap (λ e. number (take (e - c.min-place.result) (drop c.min-place.result bits))) (sym is) ∙ none_yet bits c.min-place.result);
+      above = omega (arith, is, length-limbs bits, c.requires.within);
+      below = omega (arith, is);
+      item = λ some. subst (λ w. ((c.min-place.result - 1) / w * c.args.list.now.width < c.min-place.result)
+          × (c.min-place.result ≤ (c.min-place.result - 1) / w * c.args.list.now.width + c.args.list.now.width))
+          (sym c.bits_per_element-width.ensures.value) (item_of c.min-place.result c.args.list.now.width s.0 (omega (arith, some)));
+    }
 
-pub symbol_at-symbol-requires-clause-inside : goal.symbol_at-symbol-requires-clause-inside
-symbol_at-symbol-requires-clause-inside g c =
-    let s = symbols_shape (length c.args.list.now.items) c.args.list.now.width (limbs (pack c.args.list.now.items c.args.list.now.width)) c.requires.whole in
-    place_inside c.args.list.now.items c.args.list.now.width c.bits_per_element-width.result (c.loop-place.place - 1) s.0 c.bits_per_element-width.ensures.value
-    (omega (arith, c.loop-place.invariant.2))
-
-pub overflow_mul-word : goal.overflow_mul-word
-overflow_mul-word g c =
-    let i = c.loop-place.invariant in
-    let small : c.loop-place.word < 9223372036854775808 = rw i.0
-    (number_small (pack c.args.list.now.items c.args.list.now.width) c.loop-place.place
-    (min (length (pack c.args.list.now.items c.args.list.now.width)) (64 * c.args.k + 64) - c.loop-place.place) (omega arith)) in
-    omega (arith, small)
-
-pub overflow_add-word : goal.overflow_add-word
-overflow_add-word g c =
-    let i = c.loop-place.invariant in
-    let small : c.loop-place.word < 9223372036854775808 = rw i.0
-    (number_small (pack c.args.list.now.items c.args.list.now.width) c.loop-place.place
-    (min (length (pack c.args.list.now.items c.args.list.now.width)) (64 * c.args.k + 64) - c.loop-place.place) (omega arith)) in
-    omega (arith, small, digit_small c.symbol_at-symbol.result ((c.loop-place.place - 1) % c.bits_per_element-width.result) c.digit.result c.digit.ensures)
+pub joined-word-requires-clause-room : goal.joined-word-requires-clause-room
+joined-word-requires-clause-room g c =
+    let bits = pack c.args.list.now.items c.args.list.now.width in
+    rw c.loop-place.invariant.word
+    (number_below (take (min (length bits) (64 * c.args.k + 64) - c.loop-place.place) (drop c.loop-place.place bits)) (64 - (c.loop-place.place - c.max-start.result))
+    (omega (arith, length-take (min (length bits) (64 * c.args.k + 64) - c.loop-place.place) (drop c.loop-place.place bits), c.max-start.ensures, c.loop-place.invariant.below)))
 
 pub loop-place-preserved : goal.loop-place-preserved
 loop-place-preserved g c =
-    let i = c.loop-place.invariant in
-    let s = symbols_shape (length c.args.list.now.items) c.args.list.now.width (limbs (pack c.args.list.now.items c.args.list.now.width)) c.requires.whole in (
-      number_before (pack c.args.list.now.items c.args.list.now.width) c.loop-place.place
-          (min (length (pack c.args.list.now.items c.args.list.now.width)) (64 * c.args.k + 64)) c.loop-place.word c.digit.result
-          (omega arith) i.2 (omega arith) i.0
-          (bit_inside c.args.list.now.items c.args.list.now.width c.bits_per_element-width.result (c.loop-place.place - 1) c.symbol_at-symbol.result c.digit.result
-          s.0 c.bits_per_element-width.ensures.value (omega (arith, i.2)) c.symbol_at-symbol.ensures c.digit.ensures),
-      omega arith,
-      omega (arith, i.2),
-      c.symbol_at-symbol.ensures,
-    )
+    let s = symbols_shape (length c.args.list.now.items) c.args.list.now.width (limbs (pack c.args.list.now.items c.args.list.now.width)) c.requires.whole in
+    let at = c.loop-place.invariant.item c.loop-place-test.true in
+    let first : c.max-start.result ≡ max (c.loop-place.item * c.args.list.now.width) (64 * c.args.k) =
+    c.max-start.ensures ∙ ap (λ v. max (c.loop-place.item * v) (64 * c.args.k)) c.bits_per_element-width.ensures.value in
+    let symbol = c.requires.group (c.loop-place.item % 64) (omega arith)
+    ∙ ap (λ p. get_or c.args.list.now.items p 0) (in_group c.args.list.now.width c.args.k c.loop-place.item c.loop-place.place s.0 at.0 at.1 (omega arith) (omega (arith, c.loop-place.invariant.below))) in
+    record {
+      word = bits_before_as c.args.list.now.items c.args.list.now.width c.bits_per_element-width.result c.loop-place.item c.loop-place.place
+          (min (length (pack c.args.list.now.items c.args.list.now.width)) (64 * c.args.k + 64)) c.max-start.result c.loop-place.word _ c.joined-word.result
+          c.bits_per_element-width.ensures.value at.0 at.1 (omega (arith, first)) (omega (arith, first, at.0)) c.loop-place.invariant.below (omega arith)
+          symbol c.loop-place.invariant.word c.joined-word.ensures;
+      above = omega (arith, first);
+      below = omega (arith, first, at.0, c.loop-place.invariant.below);
+      item = λ more. subst (λ q. (q * c.args.list.now.width < c.max-start.result) × (c.max-start.result ≤ q * c.args.list.now.width + c.args.list.now.width))
+          (sym c.saturating_sub-item.ensures)
+          (symbol_before c.args.list.now.width c.loop-place.item c.max-start.result s.0 (omega (arith, first, more)) (omega (arith, more)));
+    }
 
 pub returns : goal.returns
 returns g c =
     let i = c.loop-place.invariant in
-    let here : c.loop-place.place ≡ 64 * c.args.k = omega (arith, i.1) in
-    i.0 ∙ ap (λ p. number (take (min (length (pack c.args.list.now.items c.args.list.now.width)) (64 * c.args.k + 64) - p) (drop p (pack c.args.list.now.items c.args.list.now.width)))) here
-    ∙ last_limb (pack c.args.list.now.items c.args.list.now.width) c.args.k (min (length (pack c.args.list.now.items c.args.list.now.width)) (64 * c.args.k + 64)) c.requires.within refl
+    let bits = pack c.args.list.now.items c.args.list.now.width in
+    let here : c.loop-place.place ≡ 64 * c.args.k = omega (arith, i.above) in
+    i.word ∙ ap (λ p. number (take (min (length bits) (64 * c.args.k + 64) - p) (drop p bits))) here
+    ∙ last_limb bits c.args.k (min (length bits) (64 * c.args.k + 64)) c.requires.within refl
