@@ -67,6 +67,29 @@ static uint64_t *random_bits(size_t n, uint64_t *words) {
     return bits;
 }
 
+/* Many queries at once, with numbers below `most`, against single ones: of no rows, and of groups that are full or not. */
+static void test_many(vers_handle *handle, uint32_t query, uint64_t most) {
+    static const size_t counts[] = {0, 1, 63, 64, 65, 200};
+    for (size_t k = 0; k < sizeof counts / sizeof *counts; k++) {
+        uint64_t each[200], a[200], b = next() % most, c = next() % most;
+        vers_row rows[200], asked[200];
+        for (size_t i = 0; i < 200; i++) {
+            each[i] = a[i] = next() % most;
+            rows[i] = asked[i] = (vers_row){next() % most, next() % most, next() % most};
+        }
+        is("many each", vers_ask_each(handle, query, each, counts[k], b, c, 77), VERS_DONE);
+        is("many rows", vers_ask_rows(handle, query, rows, counts[k], 77), VERS_DONE);
+        for (size_t i = 0; i < 200; i++) {
+            bool is_asked = i < counts[k];
+            vers_row row = asked[i];
+            is("of each", each[i], is_asked ? vers_value_or(vers_ask(handle, query, a[i], b, c), 77) : a[i]);
+            is("of rows", rows[i].a, is_asked ? vers_value_or(vers_ask(handle, query, row.a, row.b, row.c), 77) : row.a);
+            is("value", vers_value(handle, query, a[i]), vers_value_or(vers_ask(handle, query, a[i], 0, 0), UINT64_MAX));
+            is("as it was", rows[i].b == row.b && rows[i].c == row.c, 1);
+        }
+    }
+}
+
 /* The next and the previous one, and zero, of each place and of places past the end. */
 static void test_neighbours(const vers_bits *list, const uint64_t *bits, size_t n) {
     for (size_t k = 0; k < 600; k++) {
@@ -111,6 +134,7 @@ static void test_bits(size_t n) {
         found_if("get_bits", place, vers_bits_get_bits(&list, place, count), has, number);
     }
     is("heap_size", vers_bits_heap_size(&list).value >= n / 8, 1);
+    for (uint32_t query = VERS_GET; query <= VERS_SELECT1; query++) test_many(&list.handle, query, n + 70);
     vers_bits_free(&list);
     free(words);
     free(bits);
@@ -260,6 +284,8 @@ static void test_sorted(size_t n, uint64_t most) {
         found_if("predecessor", x, vers_sorted_predecessor(&list, x), past > 0, v[past ? past - 1 : 0]);
         found_if("successor", x, vers_sorted_successor(&list, x), below < n, v[below]);
     }
+    static const uint32_t queries[] = {VERS_GET, VERS_RANK, VERS_HAS, VERS_PREDECESSOR, VERS_SUCCESSOR, VERS_DELTA};
+    for (size_t k = 0; k < 6; k++) test_many(&list.handle, queries[k], k ? most + 3 : n + 2);
     vers_sorted_free(&list);
     if (n > 1) {
         v[0] = most + 1;
@@ -308,10 +334,8 @@ static void test_symbols(size_t n, uint32_t width) {
         found_if("select", t, vers_symbols_select(&list, t, c), at < n, at);
         found_if("select_offset", a, vers_symbols_select_offset(&list, a, t, c), on < n, on);
     }
-    vers_row rows[64];
-    for (uint64_t k = 0; k < 64; k++) rows[k] = (vers_row){0, n, k};
-    is("rows", vers_symbols_rows(&list, VERS_QUANTILE, rows, 64, 99), VERS_DONE);
-    for (uint64_t k = 0; k < 64; k++) is("row", rows[k].a, vers_value_or(vers_symbols_quantile(&list, 0, n, k), 99));
+    for (uint32_t query = VERS_RANK_OF; query <= VERS_SYMBOLS_SUCCESSOR; query++) test_many(&list.handle, query, n + 2);
+    test_many(&list.handle, VERS_GET, n + 2);
     vers_symbols_free(&list);
     is("too wide", vers_symbols_of(&list, v, n, 65), VERS_REFUSED);
     is("of no bits", vers_symbols_of(&list, v, n, 0), VERS_DONE);
@@ -370,6 +394,8 @@ static void test_kin(const vers_tree *tree, const struct forest *f, size_t i) {
     found_node("level_next", f, i, vers_tree_level_next(tree, v), ahead);
     found_node("level_prev", f, i, vers_tree_level_prev(tree, v), behind);
     found_node("enclose", f, i, vers_tree_enclose(tree, v), f->parent[i]);
+    found("has_node", v, vers_tree_has_node(tree, v), 1);
+    found("has_node", v, vers_tree_has_node(tree, f->close[i]), 0);
     found("is_leaf", v, vers_tree_is_leaf(tree, v), first == m);
     found("subtree_size", v, vers_tree_subtree_size(tree, v), under);
     for (size_t levels = 0, up = i; levels < 4; levels++) {
@@ -551,6 +577,7 @@ static void test_text(size_t n, uint32_t width, size_t step) {
     is("full", vers_text_of(&text, symbols, n, width, step), VERS_OCCUPIED);
     found("len", n, vers_text_len(&text), n);
     found("width", n, vers_text_width(&text), width);
+    found("step", n, vers_text_step(&text), step);
     is("heap_size", vers_text_heap_size(&text).value > n * width / 8, 1);
     test_pattern(&text, symbols, n, NULL, 0);
     for (size_t m = 1; m <= 5; m++) {

@@ -105,6 +105,27 @@ static void test_append(void) {
     vers_growing_free(&list);
 }
 
+/* Many queries of symbols ask for memory, and answer the same where it is refused. */
+static void test_many(void) {
+    static const enum vers_query queries[] = {VERS_GET, VERS_RANK_OF, VERS_SELECT_OF, VERS_QUANTILE};
+    vers_symbols list = {0};
+    check("symbols", vers_symbols_of(&list, numbers, COUNT, 5) == VERS_DONE);
+    for (size_t k = 0; k < 4; k++)
+        for (long refused = 0; refused < 2; refused++) {
+            static uint64_t each[COUNT];
+            unsigned long held = given - taken_back, before = given;
+            for (uint64_t i = 0; i < COUNT; i++) each[i] = i;
+            until_refusal = refused ? 0 : -1;
+            check("each", vers_ask_each(&list.handle, queries[k], each, COUNT, COUNT, 7, COUNT) == VERS_DONE);
+            check("as asked for", (until_refusal == -1) && given - before == (refused ? 0 : 1));
+            until_refusal = -1;
+            check("given back", given - taken_back == held);
+            for (uint64_t i = 0; i < COUNT; i++)
+                check("item", each[i] == vers_value_or(vers_ask(&list.handle, queries[k], i, COUNT, 7), COUNT));
+        }
+    vers_symbols_free(&list);
+}
+
 /* Saving a list takes memory too, and where there is none the bytes stay as they were. Then the list is loaded. */
 static void test_form(const char *what, uint32_t (*fill)(vers_handle *), enum vers_kind loaded) {
     vers_handle list = {0};
@@ -148,6 +169,7 @@ int main(void) {
     test_fill("clone", clone);
     test_fill("intersect", intersect);
     test_append();
+    test_many();
     test_form("form of growing", growing, VERS_KIND_GROWING);
     test_form("form of bits", growing, VERS_KIND_BITS);
     test_form("form of sparse", sparse, VERS_KIND_SPARSE);

@@ -12,7 +12,8 @@
  *  Memory. A list copies what it is made of, so the caller's array is his own again when the call returns. What a
  *  call has put into a handle (`_of`, `_load`, `_clone`, `_intersect`, `_places`, `_extract`) is freed by `_free`, and by
  *  nothing else.
- *  Answers are numbers, never pointers. Where memory is out a call answers VERS_NO_MEMORY and changes nothing.
+ *  Answers are numbers, never pointers. Where memory is out a call answers VERS_NO_MEMORY and changes nothing. Many
+ *  queries of symbols at once ask for memory too, and are answered without it, if more slowly.
  *
  *  Threads. A handle is used by one thread at a time, also for queries. Each thread asks through a handle of its
  *  own, which `_clone` makes in constant time: handles of one list may be asked and freed by many threads at once,
@@ -116,7 +117,9 @@ enum vers_query {
     VERS_IS_ANCESTOR = 47,         /**< Tree: whether a is above b or is b, 1 or 0. */
     VERS_RANGE_MIN = 48,           /**< Minima: the first place of a least value from a to b. */
     VERS_CHEAPEST = 49,            /**< Postings: the first document of least cost from a to b. */
-    VERS_COST = 50                 /**< Postings: the cost of the document at place a. */
+    VERS_COST = 50,                /**< Postings: the cost of the document at place a. */
+    VERS_HAS_NODE = 51,            /**< Tree: whether the parentheses are balanced and a node opens at a, 1 or 0. */
+    VERS_STEP = 52                 /**< Text: of how many places one is kept. */
 };
 
 /** The codes of changes of a vers_growing. */
@@ -161,6 +164,9 @@ typedef struct vers_handle {
 
 /** Asks one query. VERS_UNKNOWN, VERS_VACANT, and what the query has. */
 vers_answer vers_ask(vers_handle *handle, uint32_t query, uint64_t a, uint64_t b, uint64_t c);
+
+/** The value of what a query of one number answers, and UINT64_MAX where its status isn't VERS_DONE. */
+uint64_t vers_value(vers_handle *handle, uint32_t query, uint64_t a);
 
 /** Puts in the place of each number what is answered to it as a, with these b and c; `other` where the status isn't
  *  VERS_DONE. VERS_UNKNOWN and VERS_VACANT leave the numbers as they were. */
@@ -1199,6 +1205,11 @@ static inline vers_answer vers_tree_node_index(const vers_tree *list, uint64_t n
     return vers_asked(&list->handle, VERS_NODE_INDEX, node, 0, 0);
 }
 
+/** Whether the parentheses are balanced and a node opens at a place, 1 or 0. */
+static inline vers_answer vers_tree_has_node(const vers_tree *list, uint64_t place) {
+    return vers_asked(&list->handle, VERS_HAS_NODE, place, 0, 0);
+}
+
 /** Whether a node has no children, 1 or 0. */
 static inline vers_answer vers_tree_is_leaf(const vers_tree *list, uint64_t node) {
     return vers_asked(&list->handle, VERS_IS_LEAF, node, 0, 0);
@@ -1431,6 +1442,11 @@ static inline vers_answer vers_text_len(const vers_text *text) {
 /** How many bits a symbol has. */
 static inline vers_answer vers_text_width(const vers_text *text) {
     return vers_asked(&text->handle, VERS_WIDTH, 0, 0, 0);
+}
+
+/** Of how many places one is kept. */
+static inline vers_answer vers_text_step(const vers_text *text) {
+    return vers_asked(&text->handle, VERS_STEP, 0, 0, 0);
 }
 
 /** How many bytes of the heap the text takes. */

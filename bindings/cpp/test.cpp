@@ -245,6 +245,7 @@ static void test_tree() {
     check("measures", tree.depth(8) == Found(2) && tree.subtree_size(0) == Found(6) && tree.node_index(8) == Found(5));
     check("truths", tree.is_leaf(2) == std::optional(true) && tree.is_ancestor(0, 8) == std::optional(true));
     check("none", !tree.is_leaf(3) && !tree.is_ancestor(3, 8));
+    check("has_node", tree.has_node(2) && !tree.has_node(3) && !tree.has_node(14));
     check("pairs", tree.close(0) == Found(11) && tree.open(11) == Found(0) && tree.enclose(4) == Found(1));
     check("searches", tree.fwd_search(0, -1) == Found(11) && tree.bwd_search(11, -1) == Found(0));
     check("node_handle", tree.node_handle(5) == 8 && tree.node_handle(7) == 14);
@@ -277,7 +278,7 @@ static void test_postings() {
 static void test_texts() {
     const Numbers symbols = {2, 1, 2, 1, 2}, pattern = {2, 1}, wide = {70000};
     const auto text = vers::TextIndex::from(symbols.data(), 5, 2);
-    check("made", text && text->len() == 5 && text->width() == 2);
+    check("made", text && text->len() == 5 && text->width() == 2 && text->step() == 32);
     Status status;
     check("refused", !vers::TextIndex::from(symbols.data(), 5, 1, 1, status) && status == Status::refused);
     check("count", text->count(pattern.data(), 2) == 2 && text->count(nullptr, 0) == 6);

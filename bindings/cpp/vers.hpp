@@ -617,6 +617,8 @@ public:
     Found depth(std::uint64_t node) const noexcept { return detail::found(vers_tree_depth(&raw_, node)); }
     /** How many nodes a node and those below it are. */
     Found subtree_size(std::uint64_t node) const noexcept { return find(VERS_SUBTREE_SIZE, node); }
+    /** Whether the parentheses are balanced and a node opens at a place. */
+    bool has_node(std::uint64_t place) const noexcept { return ask(VERS_HAS_NODE, place).value == 1; }
     std::optional<bool> is_leaf(std::uint64_t node) const noexcept { return truth(find(VERS_IS_LEAF, node)); }
     /** Whether one node is above another, or is that node. */
     std::optional<bool> is_ancestor(std::uint64_t ancestor, std::uint64_t node) const noexcept {
@@ -716,6 +718,8 @@ public:
 
     /** How many bits a symbol has. */
     std::uint64_t width() const noexcept { return ask(VERS_WIDTH).value; }
+    /** Of how many places one is kept. */
+    std::uint64_t step() const noexcept { return ask(VERS_STEP).value; }
     /** How many places a pattern has. */
     std::uint64_t count(const std::uint64_t *pattern, std::size_t length) const noexcept {
         return vers_text_count(raw(), pattern, length).value;

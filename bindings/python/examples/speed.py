@@ -53,8 +53,16 @@ def main(items=1_000_000, queries=1_000_000):
     assert listed.rank(int(asked[0])) == bisect.bisect_left(plain, int(asked[0]))
     row("`EliasFanoVec.rank`; `searchsorted`", listed.rank, lambda it: numpy.searchsorted(members, it), asked)
 
-    plainly = sums.nbytes + ones.nbytes
-    print(f"\nBytes: {bits.heap_size()} and {listed.heap_size()}; in numpy {plainly} and {members.nbytes}")
+    past = numpy.concatenate([members, [members[-1]]])
+    row("`EliasFanoVec.successor`; by `searchsorted`", listed.successor, lambda it: past[numpy.searchsorted(members, it)],
+        numpy.minimum(asked, members[-1]))
+
+    symbols = random.integers(0, 256, items).astype(numpy.uint64)
+    matrix = vers.WaveletMatrix(symbols, 8)
+    row("`WaveletMatrix.get`; by index", matrix.get, lambda it: symbols[it], places)
+
+    plainly = sums.nbytes + ones.nbytes, members.nbytes, symbols.nbytes
+    print(f"\nBytes: {bits.heap_size()}, {listed.heap_size()} and {matrix.heap_size()}; in numpy {plainly}")
 
 
 if __name__ == "__main__":

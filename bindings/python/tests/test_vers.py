@@ -172,6 +172,7 @@ class Lists(unittest.TestCase):
         self.assertEqual((made.level_next(4), made.level_prev(8), made.level_ancestor(8, 2)), (8, 4, 0))
         self.assertEqual((made.level_leftmost(2), made.level_rightmost(2), made.level_leftmost(3)), (2, 8, None))
         self.assertEqual((made.is_leaf(2), made.is_leaf(1), made.is_ancestor(0, 8)), (True, False, True))
+        self.assertEqual([made.has_node(place) for place in (2, 3, 14)], [True, False, False])
         with self.assertRaises(vers.Refused):
             made.parent(3)
         other = vers.BpTree([0, 1])
@@ -339,7 +340,7 @@ class Owners(unittest.TestCase):
     def test_texts_of_symbols(self):
         plain = b"abracadabra" * 5
         text = vers.TextIndex(plain, 8, 4)
-        self.assertEqual((len(text), text.bits_per_symbol(), repr(text)), (55, 8, "<vers.TextIndex of 55 symbols>"))
+        self.assertEqual((len(text), text.bits_per_symbol(), text.step(), repr(text)), (55, 8, 4, "<vers.TextIndex of 55 symbols>"))
         for pattern in (b"", b"a", b"abra", b"raa", b"x", plain, plain + b"a"):
             places = [place for place in range(len(plain) + 1) if plain.startswith(pattern, place)]
             self.assertEqual((text.count(pattern), list(text.places(pattern)), pattern in text),

@@ -28,7 +28,8 @@ class Answer(ctypes.Structure):
 PATH = os.environ.get("VERS_LIBRARY") or os.path.join(os.path.dirname(os.path.abspath(__file__)), "libvers.so")
 _locked = ctypes.PyDLL(PATH)
 _unlocked = ctypes.CDLL(PATH)
-_AT = ctypes.POINTER(Handle)
+# a handle's address, which ctypes passes on faster than a pointer of its own
+_AT = _POINTER
 
 
 def _call(library: Any, name: str, result: Any, *arguments: Any) -> Any:
@@ -38,6 +39,7 @@ def _call(library: Any, name: str, result: Any, *arguments: Any) -> Any:
 
 
 ask = _call(_locked, "vers_ask", Answer, _AT, _U32, _U64, _U64, _U64)
+value = _call(_locked, "vers_value", _U64, _AT, _U32, _U64)
 ask_each = _call(_unlocked, "vers_ask_each", _U32, _AT, _U32, _POINTER, _SIZE, _U64, _U64, _U64)
 ask_rows = _call(_unlocked, "vers_ask_rows", _U32, _AT, _U32, _POINTER, _SIZE, _U64)
 change = _call(_locked, "vers_change", _U32, _AT, _U32, _U64, _U64)

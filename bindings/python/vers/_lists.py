@@ -10,11 +10,10 @@ from typing import Any, Dict, FrozenSet, Iterable, Iterator, Optional, Tuple, Un
 
 from . import _buffers, _codes as codes, _library as library
 from ._buffers import Numbers, number
-from ._faults import Unknown, fault
+from ._faults import Unknown
 
 #: What `each` writes where there is no answer, unless another number is named: 2**64 - 1.
 NONE = _buffers.MOST
-_NO_OTHERS = 0, 0
 
 
 class List:
@@ -32,31 +31,36 @@ class List:
 
     def _make(self, build: Any, *arguments: Any) -> None:
         self._handle = library.Handle()
-        self._at = ctypes.byref(self._handle)
+        self._at = ctypes.addressof(self._handle)
         library.done(build(*arguments, self._at))
 
     def __del__(self, free: Any = library.free) -> None:
         if hasattr(self, "_at"):
             free(self._at)
 
-    def _find(self, code: int, first: int = 0, *others: int) -> Optional[int]:
-        b, c = [*map(number, others), 0][:2] if others else _NO_OTHERS
-        answer = library.ask(self._at, code, number(first), b, c)
-        status = answer.status
-        if status == codes.DONE:
-            value: int = answer.value
-            return value
-        if status == codes.ABSENT:
-            return None
-        raise fault(status)
+    # A call of the library costs more with each argument, and with an answer that has fields. So a query of one number is
+    # asked by the call that takes no more, and answers a number; what that can't tell is asked again.
+    def _find(self, code: int, a: int = 0) -> Optional[int]:
+        if type(a) is not int or not 0 <= a <= NONE:
+            a = number(a)
+        found: int = library.value(self._at, code, a)
+        return found if found != NONE else self._found(code, a, 0, 0)
 
-    def _number(self, code: int, first: int = 0, *others: int) -> int:
-        b, c = [*map(number, others), 0][:2] if others else _NO_OTHERS
-        answer = library.ask(self._at, code, number(first), b, c)
-        if answer.status == codes.DONE:
-            value: int = answer.value
-            return value
-        raise fault(answer.status)
+    def _number(self, code: int, a: int = 0) -> int:
+        found = self._find(code, a)
+        assert found is not None, "the query finds a number"
+        return found
+
+    def _find_by(self, code: int, a: int, b: int, c: int = 0) -> Optional[int]:
+        return self._found(code, number(a), number(b), number(c))
+
+    def _found(self, code: int, a: int, b: int, c: int) -> Optional[int]:
+        answer = library.ask(self._at, code, a, b, c)
+        if answer.status == codes.ABSENT:
+            return None
+        library.done(answer.status)
+        value: int = answer.value
+        return value
 
     def __len__(self) -> int:
         return self._number(codes.LEN)
@@ -123,7 +127,8 @@ class List:
             yield from self.each(query, range(start, min(start + 4096, count)))
 
     def _batch(self, ask: Any, *arguments: Any) -> None:
-        own = library.Handle()
+        handle = library.Handle()
+        own = ctypes.addressof(handle)
         library.done(library.clone(self._at, own))
         try:
             library.done(ask(own, *arguments))
@@ -206,7 +211,7 @@ class BitVec(_Items):
     def get_bits(self, place: int, count: int) -> Optional[int]:
         """The number of the bits from a place on, the lowest first. None where there are not so many, or they are none or more
         than 64."""
-        return self._find(codes.GET_BITS, place, count)
+        return self._find_by(codes.GET_BITS, place, count)
 
     def _change(self, code: int, a: int, b: int = 0) -> None:
         library.done(library.change(self._at, code, number(a), number(b)))
@@ -267,7 +272,7 @@ class RsVec(_Fixed):
     def get_bits(self, place: int, count: int) -> Optional[int]:
         """The number of the bits from a place on, the lowest first; 0 for no bits. None where there are not so many, or they
         are more than 64."""
-        return self._find(codes.GET_BITS, place, count)
+        return self._find_by(codes.GET_BITS, place, count)
 
     def rank1(self, place: int) -> int:
         """How many ones stand before a place; all of them past the end."""
@@ -415,43 +420,43 @@ class WaveletMatrix(_Fixed):
 
     def rank(self, end: int, symbol: int) -> Optional[int]:
         """How many of the first `end` places hold a symbol. None where there are not so many places."""
-        return self._find(codes.RANK_OF, end, symbol)
+        return self._find_by(codes.RANK_OF, end, symbol)
 
     def rank_range(self, start: int, end: int, symbol: int) -> Optional[int]:
         """How many places of a range hold a symbol. None where it starts past the last place, or ends before it starts."""
-        return self._find(codes.RANK_RANGE, start, end, symbol)
+        return self._find_by(codes.RANK_RANGE, start, end, symbol)
 
     def select(self, number: int, symbol: int) -> Optional[int]:
         """The place of occurrence `number` of a symbol. None where there are not so many."""
-        return self._find(codes.SELECT_OF, number, symbol)
+        return self._find_by(codes.SELECT_OF, number, symbol)
 
     def select_offset(self, offset: int, number: int, symbol: int) -> Optional[int]:
         """The place of occurrence `number` of a symbol among the places from `offset` on."""
-        return self._find(codes.SELECT_FROM, offset, number, symbol)
+        return self._find_by(codes.SELECT_FROM, offset, number, symbol)
 
     def quantile(self, start: int, end: int, number: int) -> Optional[int]:
         """Symbol `number` of a range in ascending order. None where it hasn't so many."""
-        return self._find(codes.QUANTILE, start, end, number)
+        return self._find_by(codes.QUANTILE, start, end, number)
 
     def range_min(self, start: int, end: int) -> Optional[int]:
         """The least symbol of a range. None where it is empty."""
-        return self._find(codes.LEAST, start, end)
+        return self._find_by(codes.LEAST, start, end)
 
     def range_max(self, start: int, end: int) -> Optional[int]:
         """The greatest symbol of a range. None where it is empty."""
-        return self._find(codes.GREATEST, start, end)
+        return self._find_by(codes.GREATEST, start, end)
 
     def range_median(self, start: int, end: int) -> Optional[int]:
         """The middle one of a range in ascending order, the lower one of two. None where it is empty."""
-        return self._find(codes.MEDIAN, start, end)
+        return self._find_by(codes.MEDIAN, start, end)
 
     def predecessor(self, start: int, end: int, symbol: int) -> Optional[int]:
         """The greatest symbol of a range not above a symbol. None where there is none."""
-        return self._find(codes.SYMBOLS_PREDECESSOR, start, end, symbol)
+        return self._find_by(codes.SYMBOLS_PREDECESSOR, start, end, symbol)
 
     def successor(self, start: int, end: int, symbol: int) -> Optional[int]:
         """The least symbol of a range not below a symbol. None where there is none."""
-        return self._find(codes.SYMBOLS_SUCCESSOR, start, end, symbol)
+        return self._find_by(codes.SYMBOLS_SUCCESSOR, start, end, symbol)
 
 
 class FastRmq(_Fixed):
@@ -468,7 +473,7 @@ class FastRmq(_Fixed):
 
     def range_min(self, first: int, last: int) -> Optional[int]:
         """The first place of a least value from one place to another, both included. None where that is no range of the list."""
-        return self._find(codes.RANGE_MIN, first, last)
+        return self._find_by(codes.RANGE_MIN, first, last)
 
 
 class BinaryRmq(FastRmq):
@@ -504,7 +509,7 @@ class BpTree(_Shared):
         "last_child": (codes.LAST_CHILD, 1), "next_sibling": (codes.NEXT_SIBLING, 1),
         "previous_sibling": (codes.PREVIOUS_SIBLING, 1), "level_next": (codes.LEVEL_NEXT, 1),
         "level_prev": (codes.LEVEL_PREV, 1), "level_ancestor": (codes.LEVEL_ANCESTOR, 2),
-        "node_index": (codes.NODE_INDEX, 1), "is_leaf": (codes.IS_LEAF, 1), "depth": (codes.DEPTH, 1),
+        "node_index": (codes.NODE_INDEX, 1), "has_node": (codes.HAS_NODE, 1), "is_leaf": (codes.IS_LEAF, 1), "depth": (codes.DEPTH, 1),
         "subtree_size": (codes.SUBTREE_SIZE, 1), "is_ancestor": (codes.IS_ANCESTOR, 2),
         "level_leftmost": (codes.LEVEL_LEFTMOST, 1), "level_rightmost": (codes.LEVEL_RIGHTMOST, 1),
     }
@@ -566,11 +571,11 @@ class BpTree(_Shared):
 
     def fwd_search(self, place: int, rise: int) -> Optional[int]:
         """The first place past `place` where the excess has risen by `rise`, which may be negative."""
-        return self._find(codes.FWD_SEARCH, place, _signed_number(rise))
+        return self._find_by(codes.FWD_SEARCH, place, _signed_number(rise))
 
     def bwd_search(self, place: int, rise: int) -> Optional[int]:
         """The last place before `place` before which the excess is `rise` more, which may be negative."""
-        return self._find(codes.BWD_SEARCH, place, _signed_number(rise))
+        return self._find_by(codes.BWD_SEARCH, place, _signed_number(rise))
 
     def parent(self, node: int) -> Optional[int]:
         """The parent of a node. None for a root."""
@@ -613,11 +618,15 @@ class BpTree(_Shared):
 
     def level_ancestor(self, node: int, levels: int) -> Optional[int]:
         """The ancestor of a node that is so many levels up, itself at 0. None where there is none."""
-        return self._find(codes.LEVEL_ANCESTOR, node, levels)
+        return self._find_by(codes.LEVEL_ANCESTOR, node, levels)
 
     def node_index(self, node: int) -> int:
         """The number of a node in preorder."""
         return self._number(codes.NODE_INDEX, node)
+
+    def has_node(self, place: int) -> bool:
+        """Whether the parentheses are balanced and a node opens at a place."""
+        return self._number(codes.HAS_NODE, place) == 1
 
     def is_leaf(self, node: int) -> bool:
         """Whether a node has no children."""
@@ -633,7 +642,7 @@ class BpTree(_Shared):
 
     def is_ancestor(self, ancestor: int, node: int) -> bool:
         """Whether one node is above another, or is that node."""
-        return self._number(codes.IS_ANCESTOR, ancestor, node) == 1
+        return self._find_by(codes.IS_ANCESTOR, ancestor, node) == 1
 
     def level_leftmost(self, depth: int) -> Optional[int]:
         """The first node of a depth, roots having 0. None where no node is so deep."""
@@ -685,7 +694,7 @@ class Postings(_Fixed):
 
     def cheapest(self, first: int, last: int) -> Optional[int]:
         """The first document of least cost from one number to another, both included. None where there is none."""
-        return self._find(codes.CHEAPEST, first, last)
+        return self._find_by(codes.CHEAPEST, first, last)
 
     def intersect(self, other: Postings) -> PlainNumbers:
         """The documents that another list has too, ascending."""
@@ -708,6 +717,10 @@ class TextIndex(_Shared):
     def bits_per_symbol(self) -> int:
         """How many bits a symbol has."""
         return self._number(codes.WIDTH)
+
+    def step(self) -> int:
+        """Of how many places one is kept."""
+        return self._number(codes.STEP)
 
     def count(self, pattern: Numbers) -> int:
         """How many places a pattern has."""

@@ -65,6 +65,8 @@ pub(crate) enum Query {
     RangeMin,
     Cheapest,
     Cost,
+    HasNode,
+    Step,
 }
 
 /// What a saved form is loaded as: a place in the library's one table of kinds. One stands here for its place.

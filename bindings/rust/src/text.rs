@@ -46,6 +46,12 @@ impl TextIndex {
         self.owner.told(Query::Width, 0) as u16
     }
 
+    /// Of how many places one is kept.
+    #[must_use]
+    pub fn step(&self) -> usize {
+        self.owner.told(Query::Step, 0)
+    }
+
     /// How many places a pattern has.
     #[must_use]
     pub fn count(&self, pattern: &[u64]) -> usize {

@@ -10,7 +10,8 @@ fn patterns_are_found() {
     for (length, width, step) in [(0, 1, 1), (1, 16, 32), (60, 1, 3), (400, 2, 50), (400, 16, 1)] {
         let symbols = random.numbers(length, 1 << width.min(2));
         let text = TextIndex::with_step(&symbols, width, step).unwrap();
-        assert_eq!((text.len(), text.is_empty(), text.bits_per_symbol()), (length, length == 0, width));
+        assert_eq!((text.len(), text.is_empty()), (length, length == 0));
+        assert_eq!((text.bits_per_symbol(), text.step()), (width, step));
         let patterns = (0..5).flat_map(|count| (0..20).map(move |_| count)).map(|count| random.numbers(count, 4));
         for pattern in patterns.chain([symbols.clone(), vec![u64::MAX]]) {
             let places: Vec<usize> = (0..=length).filter(|&place| symbols[place..].starts_with(&pattern)).collect();

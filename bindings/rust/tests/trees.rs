@@ -145,6 +145,7 @@ fn parentheses_that_are_not_balanced_are_searched() {
                 assert_eq!(tree.node_index(place), (0..place).filter(|&it| bits.get(it) == Some(1)).count());
                 assert_eq!(tree.first_child(place), Some(place + 1).filter(|&it| bits.get(it) == Some(1)));
                 assert_eq!(tree.is_leaf(place), bits.get(place + 1) == Some(0));
+                assert_eq!(tree.has_node(place), tree.is_balanced());
                 assert_eq!(tree.parent(place), tree.enclose(place));
                 assert_eq!(tree.depth(place), (excess[place + 1] - 1).max(0) as u64);
             }

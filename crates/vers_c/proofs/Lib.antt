@@ -1,4 +1,4 @@
+pub mod Batches
 pub mod Boxes
 mod OwnerBoxes
 pub mod SymbolAnswers
-pub mod Written

@@ -11,3 +11,11 @@ answered answers other b c a = value_or other (answers a b c)
 -- three numbers, the first of which is replaced by the answer to them
 abbrev pub row_answered : (ℕ → ℕ → ℕ → Answer) → ℕ → Ask → Ask
 row_answered answers other ask = record { a = answered answers other ask.b ask.c ask.a; b = ask.b; c = ask.c }
+
+-- the answer to three numbers
+abbrev pub asked : (ℕ → ℕ → ℕ → Answer) → Ask → Answer
+asked answers ask = answers ask.a ask.b ask.c
+
+-- a row with the answer to its numbers, where `ask` says which these are and `told` puts a number into a row
+abbrev pub told_row : {R : Type 0} → (ℕ → ℕ → R → Ask) → (R → ℕ → R) → (ℕ → ℕ → ℕ → Answer) → ℕ → ℕ → ℕ → R → R
+told_row ask told answers other b c row = told row (value_or other (asked answers (ask b c row)))

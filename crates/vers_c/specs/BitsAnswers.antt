@@ -28,6 +28,11 @@ bits_answer bits Select0 a b c = found (select false bits a)
 bits_answer bits Select1 a b c = found (select true bits a)
 bits_answer bits _ a b c = unknown
 
+-- the query for the place of a zero or of a one by its number
+abbrev pub select_query : Bool → Query
+select_query false = Select0
+select_query true = Select1
+
 -- of a list with few ones
 abbrev pub sparse_answer : List Bool → Query → ℕ → ℕ → ℕ → Answer
 sparse_answer bits Len a b c = found (length bits)

@@ -6,7 +6,7 @@ use Rattle.text_index.specs.Sizes.{text_size}
 use Rattle.text_index.specs.declared.index.TheConstants.{MAX_LEN}
 use Rattle.vers_c.specs.declared.answer.Answer.{Answer}
 use Rattle.vers_c.specs.declared.query.Query.{Query}
-use Rattle.vers_c.specs.declared.query.Query.TheVariants.{Len, HeapSize, Width}
+use Rattle.vers_c.specs.declared.query.Query.TheVariants.{Len, HeapSize, Width, Step}
 use Rattle.vers_c.specs.Answers.{found, unknown, vacant}
 use Rattle.vers_c.specs.Structures.{Structure, IndexedText, PlainNumbers}
 
@@ -24,6 +24,7 @@ text_made symbols width step =
 abbrev pub text_answer : Text → Query → ℕ → ℕ → ℕ → Answer
 text_answer text Len a b c = found (length text.items)
 text_answer text Width a b c = found text.width
+text_answer text Step a b c = found text.step
 text_answer text HeapSize a b c = found (min (text_size text) 18446744073709551615)
 text_answer text _ a b c = unknown
 

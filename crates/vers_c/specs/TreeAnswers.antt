@@ -9,7 +9,7 @@ use Rattle.vers_trees.specs.Layout.{tree_heap_size}
 use Rattle.vers_trees.specs.Nodes.{is_ancestor, depth, parent, level_ancestor, children, siblings, first_of, last_of, next_of, previous_of, level, subtree, node_index}
 use Rattle.vers_c.specs.declared.answer.Answer.{Answer}
 use Rattle.vers_c.specs.declared.query.Query.{Query}
-use Rattle.vers_c.specs.declared.query.Query.TheVariants.{Len, Get, HeapSize, Tree, Node, Measure, Level, IsAncestor}
+use Rattle.vers_c.specs.declared.query.Query.TheVariants.{Len, Get, HeapSize, Tree, Node, Measure, Level, HasNode, IsAncestor}
 use Rattle.vers_c.specs.declared.query.TreeQuery.{TreeQuery}
 use Rattle.vers_c.specs.declared.query.TreeQuery.TheVariants.{Size, IsBalanced, Excess, Close, Open, Enclose, NodeHandle, FwdSearch, BwdSearch}
 use Rattle.vers_c.specs.declared.query.NodeQuery.{NodeQuery}
@@ -64,5 +64,6 @@ tree_answer bits (Tree query) a b c = any_tree_answer bits query a b
 tree_answer bits (Node query) a b c = answer_if (has_node bits a) (found_or_absent (relative_of (forest_of bits) query a b))
 tree_answer bits (Measure query) a b c = answer_if (has_node bits a) (found (measure_of (forest_of bits) query a))
 tree_answer bits (Level query) a b c = answer_if (are_balanced bits) (found_or_absent (level_end_of (forest_of bits) query a))
+tree_answer bits HasNode a b c = decided (has_node bits a)
 tree_answer bits IsAncestor a b c = answer_if (has_node bits a && has_node bits b) (decided (is_ancestor (forest_of bits) a b))
 tree_answer bits _ a b c = unknown

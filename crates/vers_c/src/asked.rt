@@ -1,6 +1,6 @@
 //! Structures that can be asked, once or many times.
 ghost use Rattle.std.specs.Prelude.{◌≡◌, ℕ, map};
-ghost use Rattle.vers_c.specs.Batches.{answered, row_answered};
+ghost use Rattle.vers_c.specs.Batches.{told_row};
 
 use crate::answer::Answer;
 use crate::query::Query;
@@ -30,6 +30,65 @@ pub struct Ask {
     pub c: u64,
 }
 
+/// The numbers of a query among many, and its answer afterwards.
+pub trait Row: Copy {
+    ghost use Rattle.vers_c.specs.declared.asked.Ask.{Ask};
+
+    // Its three numbers; `b` and `c` are those that a row of one number lacks.
+    ghost ask: { ℕ → ℕ → Self → Ask };
+
+    // The row with its answer.
+    ghost told: { Self → ℕ → Self };
+
+    /// Its three numbers; `b` and `c` are those that a row of one number lacks.
+    fn ask(self, b: u64, c: u64) -> Ask
+        ensures { result ≡ ask b c self };
+
+    /// The row with its answer.
+    fn told(self, answer: u64) -> Self
+        ensures { result ≡ told self answer };
+}
+
+impl Row for usize {
+    ghost ask = { λ b c a. record { a = a; b = b; c = c } };
+
+    ghost told = { λ _ answer. answer };
+
+    #[inline(always)]
+    fn ask(self, b: u64, c: u64) -> Ask {
+        Ask {
+            a: self as u64,
+            b,
+            c,
+        }
+    }
+
+    #[inline(always)]
+    fn told(self, answer: u64) -> usize {
+        answer as usize
+    }
+}
+
+impl Row for Ask {
+    ghost ask = { λ _ _ row. row };
+
+    ghost told = { λ row answer. record { a = answer; b = row.b; c = row.c } };
+
+    #[inline(always)]
+    fn ask(self, _b: u64, _c: u64) -> Ask {
+        self
+    }
+
+    #[inline(always)]
+    fn told(self, answer: u64) -> Ask {
+        Ask {
+            a: answer,
+            b: self.b,
+            c: self.c,
+        }
+    }
+}
+
 /// What a structure answers, in a function of its own, which saves no registers that only others need.
 #[inline(never)]
 pub fn answer_once<S: Asked>(structure: &S, query: Query, a: u64, b: u64, c: u64) -> Answer
@@ -38,30 +97,22 @@ pub fn answer_once<S: Asked>(structure: &S, query: Query, a: u64, b: u64, c: u64
     structure.answer(query, a, b, c)
 }
 
-/// Puts in the stead of each number what is answered to it and two more numbers, and `other` where there is no answer.
+/// Puts into each row what is answered to its numbers, and `other` where there is no answer.
 #[inline(always)]
-pub fn answer_each<S: Asked>(
+pub fn answer_each<S: Asked, R: Row>(
     structure: &S,
     query: Query,
-    numbers: &mut [usize],
+    rows: &mut [R],
     b: u64,
     c: u64,
-    other: usize,
+    other: u64,
 )
-    ensures { numbers.new ≡ map (answered (S.answers structure.now query) other b c) numbers.old }
+    ensures { rows.new ≡ map (told_row R.ask R.told (S.answers structure.now query) other b c) rows.old }
 {
-    for number in numbers.iter_mut() {
-        let answer = structure.answer(query, *number as u64, b, c);
-        *number = answer.value_or(other as u64) as usize;
-    }
-}
-
-/// Puts in the first place of each ask what is answered to it, and `other` where there is no answer.
-#[inline(always)]
-pub fn answer_rows<S: Asked>(structure: &S, query: Query, asks: &mut [Ask], other: u64)
-    ensures { asks.new ≡ map (row_answered (S.answers structure.now query) other) asks.old }
-{
-    for ask in asks.iter_mut() {
-        ask.a = structure.answer(query, ask.a, ask.b, ask.c).value_or(other);
+    for i in 0..rows.len() {
+        let row = rows[i];
+        let ask = row.ask(b, c);
+        let answer = structure.answer(query, ask.a, ask.b, ask.c);
+        rows[i] = row.told(answer.value_or(other));
     }
 }

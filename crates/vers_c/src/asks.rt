@@ -1,6 +1,6 @@
 //! Exports that ask and change what a handle holds.
-ghost use Rattle.std.specs.Prelude.{◌≡◌, ◌≢◌, ◌⊎◌, IsSome, map};
-ghost use Rattle.vers_c.specs.Answers.{IsToldAs};
+ghost use Rattle.std.specs.Prelude.{◌≡◌, ◌≢◌, ◌⊎◌, ◌-◌, ◌^◌, IsSome, map};
+ghost use Rattle.vers_c.specs.Answers.{IsToldAs, value_or};
 ghost use Rattle.vers_c.specs.Batches.{answered, row_answered};
 ghost use Rattle.vers_c.specs.Changes.{IsChanged, changed_status, contents_changed};
 ghost use Rattle.vers_c.specs.Queries.{contents_answer, contents_status};
@@ -35,6 +35,15 @@ pub extern "C" fn vers_ask(
     answer
 }
 
+/// The number that a query of one number finds, or `u64::MAX` where it finds none.
+#[unsafe(no_mangle)]
+pub extern "C" fn vers_value(alloc: Global, handle: &mut VersHandle, code: u32, a: u64) -> u64
+    ensures value { result ≡ value_or (2 ^ 64 - 1) (contents_answer (contents handle.old) code a 0 0) }
+    ensures kept { contents handle.new ≡ contents handle.old }
+{
+    vers_ask(alloc, handle, code, a, 0, 0).value_or(u64::MAX)
+}
+
 /// Puts in the stead of each number what is answered to it and two more numbers, and `other` where there is no answer.
 #[unsafe(no_mangle)]
 pub extern "C" fn vers_ask_each(
@@ -56,7 +65,7 @@ pub extern "C" fn vers_ask_each(
         return VACANT;
     }
     let owner = taken(alloc, handle);
-    let status = owner.answer_each_coded(code, numbers, b, c, other);
+    let status = owner.answer_each_coded(alloc, code, numbers, b, c, other as u64);
     put(handle, owner);
     status
 }
@@ -80,7 +89,7 @@ pub extern "C" fn vers_ask_rows(
         return VACANT;
     }
     let owner = taken(alloc, handle);
-    let status = owner.answer_rows_coded(code, asks, other);
+    let status = owner.answer_each_coded(alloc, code, asks, 0, 0, other);
     put(handle, owner);
     status
 }

@@ -1,11 +1,10 @@
 //! Lists of bits.
-ghost use Rattle.std.specs.Prelude.{◌≡◌, map, IfOk, length, take};
+ghost use Rattle.std.specs.Prelude.{◌≡◌, IfOk, length, take};
 ghost use Rattle.vers_bits.specs.Bits.{pack};
-ghost use Rattle.vers_c.specs.Batches.{answered};
 ghost use Rattle.vers_c.specs.BitsAnswers.{bits_answer, growing_answer};
 
 use crate::answer::Answer;
-use crate::asked::{Asked, answer_each};
+use crate::asked::Asked;
 use crate::query::Query;
 use std::alloc::Global;
 use vers_bits::bit_vec::{BitVec, GrowError};
@@ -58,27 +57,5 @@ impl Asked for RsVec<Global> {
             Query::Select1 => Answer::place(self.select1(a as usize)),
             _ => Answer::unknown(),
         }
-    }
-}
-
-/// Puts in the stead of each number what bits with ranks answer to it, by a loop of its own for each query that is
-/// asked often.
-pub fn each_of_bits(
-    bits: &RsVec<Global>,
-    query: Query,
-    numbers: &mut [usize],
-    b: u64,
-    c: u64,
-    other: usize,
-)
-    ensures { numbers.new ≡ map (answered (bits_answer bits.now query) other b c) numbers.old }
-{
-    match query {
-        Query::Get => answer_each(bits, Query::Get, numbers, b, c, other),
-        Query::Rank0 => answer_each(bits, Query::Rank0, numbers, b, c, other),
-        Query::Rank1 => answer_each(bits, Query::Rank1, numbers, b, c, other),
-        Query::Select0 => bits.select0_each(numbers),
-        Query::Select1 => bits.select1_each(numbers),
-        _ => answer_each(bits, query, numbers, b, c, other),
     }
 }

@@ -1,6 +1,6 @@
 //! The structures that a handle holds.
 ghost use Rattle.std.specs.Prelude.{◌≡◌, ◌≢◌, map, Some, None, IfOk, IfSome, IsErr, IsSome, option_map};
-ghost use Rattle.vers_c.specs.Batches.{answered, row_answered};
+ghost use Rattle.vers_c.specs.Batches.{told_row};
 ghost use Rattle.vers_c.specs.Answers.{IsToldAs};
 ghost use Rattle.vers_c.specs.Changes.{IsChanged, changed_by_code, coded_status};
 ghost use Rattle.vers_c.specs.Queries.{batch_status, coded_answer, query_of, structure_answer};
@@ -9,15 +9,13 @@ ghost use Rattle.vers_c.specs.Structures.{structure_of};
 ghost use Rattle.vers_c.specs.TextAnswers.{pattern_count, pattern_places, piece};
 
 use crate::answer::Answer;
-use crate::asked::{Ask, Asked, answer_each, answer_once, answer_rows};
-use crate::bits::each_of_bits;
+use crate::asked::{Asked, Row, answer_each, answer_once};
+use crate::batch::{each_of_bits, each_of_members, each_of_symbols};
 use crate::change::Change;
 use crate::kind::Kind;
-use crate::minima::{each_of_values, rows_of_values};
+use crate::minima::each_of_values;
 use crate::query::Query;
-use crate::sorted::each_of_sorted;
 use crate::status::{DONE, UNKNOWN};
-use crate::symbols::each_of_symbols;
 use crate::text::as_numbers;
 use crate::tree::Parentheses;
 use postings::Postings;
@@ -122,42 +120,31 @@ impl Kept {
         }
     }
 
-    /// Puts in the stead of each number what is answered to it, by a loop for each structure.
-    pub fn answer_each(&self, query: Query, numbers: &mut [usize], b: u64, c: u64, other: usize)
-        ensures { numbers.new
-            ≡ map (answered (structure_answer (structure_of self.now) query) other b c) numbers.old }
+    /// Puts into each row what is answered to its numbers, by a loop for each structure.
+    pub fn answer_each<R: Row>(
+        &self,
+        alloc: Global,
+        query: Query,
+        rows: &mut [R],
+        b: u64,
+        c: u64,
+        other: u64,
+    )
+        ensures { rows.new
+            ≡ map (told_row R.ask R.told (structure_answer (structure_of self.now) query) other b c) rows.old }
     {
         match self {
-            Kept::Growing(bits) => answer_each(bits, query, numbers, b, c, other),
-            Kept::Bits(bits) => each_of_bits(bits, query, numbers, b, c, other),
-            Kept::Sparse(bits) => answer_each(bits, query, numbers, b, c, other),
-            Kept::Sorted(members) => each_of_sorted(members, query, numbers, b, c, other),
-            Kept::Symbols(symbols) => each_of_symbols(symbols, query, numbers, b, c, other),
-            Kept::Tree(tree) => answer_each(&**tree, query, numbers, b, c, other),
-            Kept::Fast(values) => each_of_values(values, query, numbers, b, c, other),
-            Kept::Binary(values) => answer_each(values, query, numbers, b, c, other),
-            Kept::Posted(posted) => answer_each(posted, query, numbers, b, c, other),
-            Kept::Text(text) => answer_each(text, query, numbers, b, c, other),
-            Kept::Numbers(held) => answer_each(held, query, numbers, b, c, other),
-        }
-    }
-
-    /// Puts in the first place of each ask what is answered to it, by a loop for each structure.
-    pub fn answer_rows(&self, query: Query, asks: &mut [Ask], other: u64)
-        ensures { asks.new ≡ map (row_answered (structure_answer (structure_of self.now) query) other) asks.old }
-    {
-        match self {
-            Kept::Growing(bits) => answer_rows(bits, query, asks, other),
-            Kept::Bits(bits) => answer_rows(bits, query, asks, other),
-            Kept::Sparse(bits) => answer_rows(bits, query, asks, other),
-            Kept::Sorted(members) => answer_rows(members, query, asks, other),
-            Kept::Symbols(symbols) => answer_rows(symbols, query, asks, other),
-            Kept::Tree(tree) => answer_rows(&**tree, query, asks, other),
-            Kept::Fast(values) => rows_of_values(values, query, asks, other),
-            Kept::Binary(values) => answer_rows(values, query, asks, other),
-            Kept::Posted(posted) => answer_rows(posted, query, asks, other),
-            Kept::Text(text) => answer_rows(text, query, asks, other),
-            Kept::Numbers(held) => answer_rows(held, query, asks, other),
+            Kept::Growing(bits) => answer_each(bits, query, rows, b, c, other),
+            Kept::Bits(bits) => each_of_bits(bits, query, rows, b, c, other),
+            Kept::Sparse(bits) => answer_each(bits, query, rows, b, c, other),
+            Kept::Sorted(members) => each_of_members(members, query, rows, b, c, other),
+            Kept::Symbols(symbols) => each_of_symbols(alloc, symbols, query, rows, b, c, other),
+            Kept::Tree(tree) => answer_each(&**tree, query, rows, b, c, other),
+            Kept::Fast(values) => each_of_values(values, query, rows, b, c, other),
+            Kept::Binary(values) => answer_each(values, query, rows, b, c, other),
+            Kept::Posted(posted) => answer_each(posted, query, rows, b, c, other),
+            Kept::Text(text) => answer_each(text, query, rows, b, c, other),
+            Kept::Numbers(numbers) => answer_each(numbers, query, rows, b, c, other),
         }
     }
 
@@ -181,38 +168,23 @@ impl Kept {
     }
 
     /// The same as `answer_each` by the code of the query.
-    pub fn answer_each_coded(
+    pub fn answer_each_coded<R: Row>(
         &self,
+        alloc: Global,
         code: u32,
-        numbers: &mut [usize],
+        rows: &mut [R],
         b: u64,
         c: u64,
-        other: usize,
+        other: u64,
     ) -> u32
         ensures status { result ≡ batch_status (structure_of self.now) code }
-        ensures done { result ≡ DONE → numbers.new
-            ≡ map (answered (coded_answer (structure_of self.now) code) other b c) numbers.old }
-        ensures left { result ≢ DONE → numbers.new ≡ numbers.old }
+        ensures done { result ≡ DONE → rows.new
+            ≡ map (told_row R.ask R.told (coded_answer (structure_of self.now) code) other b c) rows.old }
+        ensures left { result ≢ DONE → rows.new ≡ rows.old }
     {
         match self.query_of(code) {
             Some(query) => {
-                self.answer_each(query, numbers, b, c, other);
-                DONE
-            }
-            None => UNKNOWN,
-        }
-    }
-
-    /// The same as `answer_rows` by the code of the query.
-    pub fn answer_rows_coded(&self, code: u32, asks: &mut [Ask], other: u64) -> u32
-        ensures status { result ≡ batch_status (structure_of self.now) code }
-        ensures done { result ≡ DONE → asks.new
-            ≡ map (row_answered (coded_answer (structure_of self.now) code) other) asks.old }
-        ensures left { result ≢ DONE → asks.new ≡ asks.old }
-    {
-        match self.query_of(code) {
-            Some(query) => {
-                self.answer_rows(query, asks, other);
+                self.answer_each(alloc, query, rows, b, c, other);
                 DONE
             }
             None => UNKNOWN,

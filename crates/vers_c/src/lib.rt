@@ -8,6 +8,7 @@
 mod answer;
 mod asked;
 mod asks;
+mod batch;
 mod bits;
 mod builds;
 mod change;

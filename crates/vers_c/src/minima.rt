@@ -1,10 +1,10 @@
 //! Lists of values for the least of ranges, and plain numbers.
 ghost use Rattle.std.specs.Prelude.{◌≡◌, map, IfOk};
-ghost use Rattle.vers_c.specs.Batches.{answered, row_answered};
+ghost use Rattle.vers_c.specs.Batches.{told_row};
 ghost use Rattle.vers_c.specs.MinimaAnswers.{fast_answer, first_least, numbers_answer, table_answer};
 
 use crate::answer::Answer;
-use crate::asked::{Ask, Asked, answer_each, answer_rows};
+use crate::asked::{Asked, Row, answer_each};
 use crate::query::Query;
 use std::alloc::Global;
 use vers_bits::bit_vec::GrowError;
@@ -99,32 +99,21 @@ impl Asked for Vec<u64, Global> {
     }
 }
 
-/// Puts in the stead of each number what values by blocks answer to it, by a loop of its own for each query that is
-/// asked often.
-pub fn each_of_values(
+/// Puts into each row what values by blocks answer to its numbers, by a loop of its own for each query that is asked
+/// often.
+pub fn each_of_values<R: Row>(
     values: &FastRmq<Global>,
     query: Query,
-    numbers: &mut [usize],
+    rows: &mut [R],
     b: u64,
     c: u64,
-    other: usize,
+    other: u64,
 )
-    ensures { numbers.new ≡ map (answered (fast_answer values.now query) other b c) numbers.old }
+    ensures { rows.new ≡ map (told_row R.ask R.told (fast_answer values.now query) other b c) rows.old }
 {
     match query {
-        Query::Get => answer_each(values, Query::Get, numbers, b, c, other),
-        Query::RangeMin => answer_each(values, Query::RangeMin, numbers, b, c, other),
-        _ => answer_each(values, query, numbers, b, c, other),
-    }
-}
-
-/// Puts in the first place of each ask what values by blocks answer to it, by a loop of its own for the
-/// least of ranges.
-pub fn rows_of_values(values: &FastRmq<Global>, query: Query, asks: &mut [Ask], other: u64)
-    ensures { asks.new ≡ map (row_answered (fast_answer values.now query) other) asks.old }
-{
-    match query {
-        Query::RangeMin => answer_rows(values, Query::RangeMin, asks, other),
-        _ => answer_rows(values, query, asks, other),
+        Query::Get => answer_each(values, Query::Get, rows, b, c, other),
+        Query::RangeMin => answer_each(values, Query::RangeMin, rows, b, c, other),
+        _ => answer_each(values, query, rows, b, c, other),
     }
 }

@@ -51,6 +51,10 @@ pub enum Query {
     Cheapest,
     /// The cost of the document at a place.
     Cost,
+    /// Whether parentheses are balanced and a node opens at a place.
+    HasNode,
+    /// Of how many places of a text one is kept.
+    Step,
 }
 
 /// What a list of symbols can be asked.
@@ -145,7 +149,7 @@ pub enum LevelQuery {
 }
 
 /// The query of each code, which is its place here.
-pub const QUERIES: [Query; 51] = [
+pub const QUERIES: [Query; 53] = [
     Query::Len,
     Query::Get,
     Query::GetBits,
@@ -197,6 +201,8 @@ pub const QUERIES: [Query; 51] = [
     Query::RangeMin,
     Query::Cheapest,
     Query::Cost,
+    Query::HasNode,
+    Query::Step,
 ];
 
 impl Query {

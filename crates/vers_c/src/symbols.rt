@@ -1,10 +1,9 @@
 //! Lists of symbols.
-ghost use Rattle.std.specs.Prelude.{◌≡◌, map};
-ghost use Rattle.vers_c.specs.Batches.{answered};
+ghost use Rattle.std.specs.Prelude.{◌≡◌};
 ghost use Rattle.vers_c.specs.SymbolsAnswers.{answer_of_symbols, symbols_answer};
 
 use crate::answer::Answer;
-use crate::asked::{Asked, answer_each};
+use crate::asked::Asked;
 use crate::query::{Query, SymbolsQuery};
 use std::alloc::Global;
 use vers_wavelet::wavelet::WaveletMatrix;
@@ -51,23 +50,5 @@ fn answer_of(
         SymbolsQuery::Median => Answer::number_or_absent(symbols.range_median_u64(range)),
         SymbolsQuery::Predecessor => Answer::number_or_absent(symbols.predecessor_u64(range, c)),
         SymbolsQuery::Successor => Answer::number_or_absent(symbols.successor_u64(range, c)),
-    }
-}
-
-/// Puts in the stead of each number what symbols answer to it, by a loop of its own for each query that is
-/// asked often.
-pub fn each_of_symbols(
-    symbols: &WaveletMatrix<Global>,
-    query: Query,
-    numbers: &mut [usize],
-    b: u64,
-    c: u64,
-    other: usize,
-)
-    ensures { numbers.new ≡ map (answered (symbols_answer symbols.now query) other b c) numbers.old }
-{
-    match query {
-        Query::Get => answer_each(symbols, Query::Get, numbers, b, c, other),
-        _ => answer_each(symbols, query, numbers, b, c, other),
     }
 }

@@ -48,6 +48,7 @@ impl Asked for TextIndex<Global> {
             Query::Len => Answer::place(self.len()),
             Query::Width => Answer::found(u64::from(self.bits_per_symbol())),
             Query::HeapSize => Answer::place(self.heap_size()),
+            Query::Step => Answer::place(self.step()),
             _ => Answer::unknown(),
         }
     }

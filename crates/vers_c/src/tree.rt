@@ -93,6 +93,7 @@ impl Asked for BpTree<512, Global> {
                     Answer::refused()
                 }
             }
+            Query::HasNode => Answer::truth(self.has_node(a as usize)),
             Query::IsAncestor => {
                 if self.has_node(a as usize) && self.has_node(b as usize) {
                     Answer::bit_or_absent(self.is_ancestor(a as usize, b as usize))

@@ -111,6 +111,12 @@ impl<const BLOCK_SIZE: usize> BpTree<BLOCK_SIZE> {
         self.owner.ask_quickly(Quick::TreeGet, place).map(|bit| bit == 1)
     }
 
+    /// Whether the parentheses are balanced and a node opens at a place.
+    #[must_use]
+    pub fn has_node(&self, place: usize) -> bool {
+        self.owner.told(Query::HasNode, place) == 1
+    }
+
     /// Stops a program with debug assertions where no node opens.
     fn assert_node(&self, node: usize) {
         debug_assert_eq!(self.is_open(node), Some(true), "no node opens at {node}");

@@ -1,0 +1,155 @@
+#!/usr/bin/env python3
+"""Writes bindings/NAMES.md: by which name each call of a structure is asked from C, C++, Rust and Python, and what is left out and why.
+
+The calls are those of docs/CALLS.md. A call has its own name in each language, or that of `NAMES`, or is left out for a reason of `LEFT_OUT`.
+Each name has to stand in the header, the classes and the crate; a call that is neither named nor left out is a fault.
+"""
+import os
+import re
+import sys
+from glob import glob
+
+sys.path.append(os.path.join(os.path.dirname(os.path.abspath(__file__)), "../tools"))
+from sources import TOP, read, write_or_check
+
+PAGE, LANGUAGES = "bindings/NAMES.md", ("C", "C++", "Rust", "Python")
+# a structure, what its names begin with in C, and its files of the Rust crate
+STRUCTURES = {
+    "BitVec": ("growing", "bit_vec/mod.rs"),
+    "RsVec": ("bits", "bit_vec/fast_rs_vec.rs"),
+    "SparseRSVec": ("sparse", "bit_vec/sparse.rs"),
+    "EliasFanoVec": ("sorted", "elias_fano/mod.rs"),
+    "WaveletMatrix": ("symbols", "wavelet/*.rs"),
+    "BinaryRmq": ("binary_rmq", "rmq/*.rs"),
+    "FastRmq": ("fast_rmq", "rmq/*.rs"),
+    "BpTree": ("tree", "trees/bp.rs"),
+    "Postings": ("postings", "postings.rs"),
+    "TextIndex": ("text", "text.rs"),
+}
+# a call's names in the four languages, where they are others than its own without `_u64`; `=` stands for its own, `-` for none, and
+# `()` and `[]` for what the language writes so. The first row that fits counts.
+NAMES = (
+    (r"(?!BpTree)\w+\.len", "= = = len()"),
+    (r"\w+\.is_empty", "len = = len()"),
+    (r"RsVec\.from_bit_vec|BpTree\.from_bit_vector", "of from_words = from_words"),
+    (r"BitVec\.from_limbs", "of from_words from_vec from_words"),
+    (r"BitVec\.set", "= = = []"),
+    (r"SparseRSVec\.new|EliasFanoVec\.from_slice|WaveletMatrix\.from_slice|\w+Rmq\.from_vec|Postings\.from_sorted", "of from = ()"),
+    (r"TextIndex\.with_step", "of from = ()"),
+    (r"\w+Rmq\.(item|as_slice)", "get get [] []"),
+    (r"Postings\.documents", "= get get get"),
+    (r"Postings\.costs", "cost cost cost cost"),
+    (r"EliasFanoVec\.select", "get get get get"),
+    (r"SparseRSVec\.is_set", "get get = get"),
+    (r"BitVec\.is_bit_set", "get get = get"),
+    (r"BpTree\.len", "= = - len()"),
+    (r"TextIndex\.bits_per_symbol", "width width = ="),
+    (r"TextIndex\.contains", "count = = in"),
+    (r"TextIndex\.places_ascending", "places places places places"),
+    (r"WaveletMatrix\.get_sorted_u64", "quantile quantile = quantile"),
+    (r"WaveletMatrix\.rank_offset_u64", "rank_range rank_range = rank_range"),
+    (r"EliasFanoVec\.\w+_each|WaveletMatrix\.\w+_each", "each each - each"),
+    (r"RsVec\.select[01]_each", "each each = each"),
+)
+# why calls have no name in C, C++ and Python: the first row that fits counts
+LEFT_OUT = (
+    (r"\w+\.(is_one_counted|allocator|select[01]_pair)|BpTree\.bits", "They serve what is built on the structure in Rattle."),
+    (r"BitVec\.(append_bit|append_word|append_bit_u\d+|flip_bit|limb|extend\w*|from_\w+|new|with_capacity|count_\w+|split_at|pack_\w+|unpack_\w+|\w*mask_\w+)",
+     "Words of 64 bits by `get_bits` and `append_bits`; counts by a `vers_bits`."),
+    (r"RsVec\.(into_bit_vec|\w+_equals)|BpTree\.into_parentheses_vec|SparseRSVec\.from_\w+|\w+\.from_iter|EliasFanoVec\.from_numbers|TextIndex\.from_slice",
+     "A structure is made of an array, and its items are written over one."),
+    (r"WaveletMatrix\.(bit_len|from_\w+|get_value|(iter|into_iter|rank|rank_range|rank_offset|select|select_offset|quantile|predecessor|successor|get_sorted|range_m[a-z]+)(_sorted)?)",
+     "Symbols are numbers of at most 64 bits, and not lists of bits."),
+    (r"\w+\.\w*iter\w*|BpTree\.\w*children", "Iterators: the query of the next place, or `_each` over a range of places."),
+    (r"\w+Rmq\.range_min_\w+", "Ranges are from one place to another."),
+    (r"TextIndex\.(places|first_places)", "Places are answered ascending."),
+)
+HEAD = """# Names
+
+By which name each call of a structure is asked from C, C++, Rust and Python. `bindings/names.py` writes this page out of
+[CALLS](../docs/CALLS.md), and fails where a call has no name and no reason, or a binding lacks a name. Rust's names are those of the crate
+vers-vecs; in Python `[]` is an index, and `()` the class. `each` takes the name of a query.
+"""
+
+
+def calls():
+    """Returns the calls of each structure, without those that want a condition."""
+    found = {}
+    for part in read(f"{TOP}/docs/CALLS.md").split("\n## ")[1:]:
+        owner = re.match(r"`(\w+)` of", part)
+        if owner and owner[1] in STRUCTURES:
+            found[owner[1]] = [it for it in re.findall(r"(?m)^\| `(\w+)", part) if not it.endswith("_unchecked")]
+    return found
+
+
+def class_body(text, head):
+    """Returns the text of a class, with those of the classes that it is made of."""
+    found = re.search(head + r"(.*?)(?=^class |^\}\s*// namespace|\Z)", text, re.M | re.S)
+    return found[1] if found else ""
+
+
+def python_class(text, name):
+    """Returns the text of a class of the Python package and of those above it."""
+    head = re.search(rf"^class {name}(?:\((.*?)\))?:\n", text, re.M)
+    above = re.findall(r"\w+", head[1] or "") if head else []
+    return class_body(text, rf"^class {name}\b[^\n]*\n") + "".join(python_class(text, it) for it in above if it != "Generic")
+
+
+def has(structure, language, name):
+    """Whether a structure has a name in a language."""
+    prefix, files = STRUCTURES[structure]
+    if language == "C":
+        return re.search(rf"\bvers_{prefix}_{name}\(", read(f"{TOP}/bindings/c/vers.h"))
+    if language == "Rust":
+        text = "".join(read(it) for it in glob(f"{TOP}/bindings/rust/src/{files}"))
+        text += read(f"{TOP}/bindings/rust/src/items.rs") if "lengths!(" in text else ""
+        return "Deref" in text if name == "[]" else re.search(rf"\b(?:fn {name}\b|{name},)", text)
+    if language == "C++":
+        text = read(f"{TOP}/bindings/cpp/vers.hpp")
+        return re.search(rf"\b{name}\(", class_body(text, rf"^class {structure}\b[^\n]*\n") + class_body(text, r"^class Owner\b[^\n]*\n"))
+    text = python_class(read(f"{TOP}/bindings/python/vers/_lists.py"), structure)
+    special = {"len()": "__len__", "[]": "__getitem__", "()": "__init__", "in": "__contains__"}
+    return re.search(rf"\bdef {re.escape(special.get(name, name))}\(", text)
+
+
+def named(structure, call):
+    """Returns the names of a call in each language, or None where there is none."""
+    plain = call.replace("_u64", "")
+    row = next((row for fits, row in NAMES if re.fullmatch(fits, f"{structure}.{call}")), None)
+    if row is None and any(re.fullmatch(fits, f"{structure}.{call}") for fits, _ in LEFT_OUT):
+        return None
+    own = (plain, plain, call, plain)
+    return [own[k] if name == "=" else name for k, name in enumerate((row or "= = = =").split())]
+
+
+def shown(structure, language, name):
+    """Returns a name as the table has it."""
+    if name == "-":
+        return ""
+    name = structure if (language, name) == ("Python", "()") else name
+    return f"`vers_{STRUCTURES[structure][0]}_{name}`" if language == "C" else f"`{name}`"
+
+
+def main():
+    """Writes the page."""
+    text, left, faults = HEAD, {reason: [] for _, reason in LEFT_OUT}, []
+    for structure, names in calls().items():
+        text += f"\n## `{structure}`\n\n| Call | {' | '.join(LANGUAGES)} |\n|---|{'---|' * len(LANGUAGES)}\n"
+        for call in dict.fromkeys(names):
+            row = named(structure, call)
+            if row is None:
+                reason = next(reason for fits, reason in LEFT_OUT if re.fullmatch(fits, f"{structure}.{call}"))
+                left[reason].append(f"`{structure}::{call}`")
+                continue
+            faults += [f"{structure}.{call}: no {it} in {language}" for language, it in zip(LANGUAGES, row) if it != "-" and not has(structure, language, it)]
+            text += f"| `{call}` | {' | '.join(shown(structure, *it) for it in zip(LANGUAGES, row))} |\n"
+    text += "\n## Left out of C, C++ and Python\n\nRust has those of them that the crate vers-vecs has.\n\n| Why | Calls |\n|---|---|\n"
+    text += "| Each call tests what it is asked. | those whose names end in `_unchecked` or `_counted` |\n"
+    text += "| A list of bits that grows, or words, make the tree. | `BpBuilder` |\n"
+    text += "".join(f"| {reason} | {', '.join(names)} |\n" for reason, names in left.items())
+    print("".join(f"{it}\n" for it in faults), end="", file=sys.stderr)
+    return write_or_check({PAGE: text}, "bindings/names.py") or int(bool(faults))
+
+
+if __name__ == "__main__":
+    sys.exit(main())

@@ -1,0 +1,11 @@
+use Rattle.std.proofs.Common.{◌∙◌, map, ap, true, false}
+use Rattle.std.proofs.lemmas.Simd.{map-map}
+use Rattle.vers_bits.specs.Bits.{select}
+use Rattle.vers_c.specs.Answers.{found}
+use Rattle.vers_c.proofs.batch.bits.SelectsBatchRsVecGlobalUsize.ask_all.Goals as goal
+
+pub returns-then-self : goal.returns-then-self
+returns-then-self c = rw c.if-self.true (ap (map found) c.select1_each.ensures ∙ map-map found (select true c.args.bits.now) c.args.numbers.now)
+
+pub returns-else-self : goal.returns-else-self
+returns-else-self c = rw c.if-self.false (ap (map found) c.select0_each.ensures ∙ map-map found (select false c.args.bits.now) c.args.numbers.now)

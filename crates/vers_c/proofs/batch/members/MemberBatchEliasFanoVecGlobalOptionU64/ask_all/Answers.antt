@@ -1,0 +1,18 @@
+use Rattle.std.proofs.Common.{◌∙◌, map, ap, slice_get}
+use Rattle.std.specs.Prelude.{option_and_then}
+use Rattle.std.proofs.lemmas.Simd.{map-map}
+use Rattle.vers_sorted.specs.Sorted.{greatest_not_above, least_not_below}
+use Rattle.vers_c.specs.Answers.{found_or_absent}
+use Rattle.vers_c.proofs.batch.members.MemberBatchEliasFanoVecGlobalOptionU64.ask_all.Goals as goal
+
+pub returns-in-At : goal.returns-in-At
+returns-in-At c =
+    rw c.in-At.is (ap (map found_or_absent) c.get_each.ensures.value ∙ map-map found_or_absent (option_and_then (slice_get c.args.members.now)) c.args.numbers.now)
+
+pub returns-in-Before : goal.returns-in-Before
+returns-in-Before c =
+    rw c.in-Before.is (ap (map found_or_absent) c.predecessor_each.ensures.value ∙ map-map found_or_absent (option_and_then (greatest_not_above c.args.members.now)) c.args.numbers.now)
+
+pub returns-in-After : goal.returns-in-After
+returns-in-After c =
+    rw c.in-After.is (ap (map found_or_absent) c.successor_each.ensures.value ∙ map-map found_or_absent (option_and_then (least_not_below c.args.members.now)) c.args.numbers.now)

@@ -1,0 +1,160 @@
+//! Many queries at once, by the calls of the library that answer many.
+ghost use Rattle.std.specs.Prelude.{◌≡◌, ℕ, ◌<◌, length, map};
+ghost use Rattle.vers_c.specs.Answers.{value_or};
+ghost use Rattle.vers_c.specs.Batches.{asked, told_row};
+ghost use Rattle.vers_c.specs.declared.answer.Answer.{Answer};
+
+mod bits;
+mod members;
+mod symbols;
+
+use crate::answer::Answer;
+use crate::asked::{Ask, Row};
+pub use bits::each_of_bits;
+pub use members::each_of_members;
+use std::alloc::Global;
+pub use symbols::each_of_symbols;
+
+/// How many queries are handed to the library together.
+const GROUP: usize = 64;
+
+/// How many queries at most are handed to it together where memory is asked for.
+const MOST: usize = 65_536;
+
+/// A query of a structure `S` that the library answers many times at once, each in a `Q` of its own.
+trait Batch<S, Q: Copy>: Copy {
+    ghost use Rattle.vers_c.specs.declared.answer.Answer.{Answer};
+
+    // What the structure answers to three numbers.
+    ghost answers: { Self → S → ℕ → ℕ → ℕ → Answer };
+
+    // What the structure answers to what was made of three numbers.
+    ghost wants: { Self → S → Q → Answer };
+
+    // The answer that stands in one afterwards.
+    ghost says: { Self → Q → Answer };
+
+    /// What is made of three numbers.
+    fn of(self, ask: Ask) -> Q
+        ensures { (structure : S) → wants self structure result
+            ≡ answers self structure ask.a ask.b ask.c };
+
+    /// Answers all.
+    fn ask_all(self, structure: &S, queries: &mut [Q])
+        ensures { map (says self) queries.new ≡ map (wants self structure.now) queries.old };
+
+    /// The answer that stands in one afterwards.
+    fn answer(self, query: Q) -> Answer
+        ensures { result ≡ says self query };
+}
+
+/// Puts into each row what is answered to its numbers, and `other` where there is no answer: as many at once as there
+/// are queries to work in.
+#[inline(always)]
+fn in_groups<S, Q: Copy, B: Batch<S, Q>, R: Row>(
+    batch: B,
+    structure: &S,
+    queries: &mut [Q],
+    rows: &mut [R],
+    b: u64,
+    c: u64,
+    other: u64,
+)
+    requires { 0 < length queries.old }
+    ensures { rows.new ≡ map (told_row R.ask R.told (B.answers batch structure.now) other b c) rows.old }
+{
+    let len = rows.len();
+    let mut from = 0;
+    while from < len {
+        let n = queries.len().min(len - from);
+        ask_group(
+            batch,
+            structure,
+            &mut queries[..n],
+            &mut rows[from..from + n],
+            b,
+            c,
+            other,
+        );
+        from += n;
+    }
+}
+
+// The same in memory for up to `MOST` queries, where there is any, and else with those to work in. A level that many
+// queries read in turn stays near.
+fn in_wide_groups<S, Q: Copy + Drop, B: Batch<S, Q>, R: Row>(
+    alloc: Global,
+    batch: B,
+    structure: &S,
+    few: &mut [Q],
+    rows: &mut [R],
+    b: u64,
+    c: u64,
+    other: u64,
+)
+    requires { 0 < length few.old }
+    ensures { rows.new ≡ map (told_row R.ask R.told (B.answers batch structure.now) other b c) rows.old }
+{
+    let wanted = rows.len().min(MOST);
+    if wanted > few.len() {
+        if let Ok(mut many) = vec![in alloc; few[0]; wanted] {
+            in_groups(batch, structure, many.as_mut_slice(), rows, b, c, other);
+            return;
+        }
+    }
+    in_groups(batch, structure, few, rows, b, c, other)
+}
+
+// The same of as many rows as there are queries to work in.
+#[inline(always)]
+fn ask_group<S, Q: Copy, B: Batch<S, Q>, R: Row>(
+    batch: B,
+    structure: &S,
+    queries: &mut [Q],
+    rows: &mut [R],
+    b: u64,
+    c: u64,
+    other: u64,
+)
+    requires { length queries.old ≡ length rows.old }
+    ensures { rows.new ≡ map (told_row R.ask R.told (B.answers batch structure.now) other b c) rows.old }
+{
+    make_each(batch, queries, rows, b, c);
+    batch.ask_all(structure, queries);
+    tell_each(batch, queries, rows, other);
+}
+
+// Makes queries of the numbers of rows.
+#[inline(always)]
+fn make_each<S, Q: Copy, B: Batch<S, Q>, R: Row>(
+    batch: B,
+    queries: &mut [Q],
+    rows: &[R],
+    b: u64,
+    c: u64,
+)
+    requires { length queries.old ≡ length rows.now }
+    ensures { (structure : S) → map (B.wants batch structure) queries.new
+        ≡ map (λ row. asked (B.answers batch structure) (R.ask b c row)) rows.now }
+{
+    for i in 0..rows.len() {
+        queries[i] = batch.of(rows[i].ask(b, c));
+    }
+}
+
+// Puts the answers of queries into rows.
+#[inline(always)]
+fn tell_each<S, Q: Copy, B: Batch<S, Q>, R: Row>(
+    batch: B,
+    queries: &[Q],
+    rows: &mut [R],
+    other: u64,
+)
+    requires { length queries.now ≡ length rows.old }
+    ensures { (answer : R → Answer) → map (B.says batch) queries.now ≡ map answer rows.old
+        → rows.new ≡ map (λ row. R.told row (value_or other (answer row))) rows.old }
+{
+    for i in 0..rows.len() {
+        rows[i] = rows[i].told(batch.answer(queries[i]).value_or(other));
+    }
+}

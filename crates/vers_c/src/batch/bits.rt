@@ -1,0 +1,78 @@
+//! Many queries of bits with ranks.
+ghost use Rattle.std.specs.Prelude.{◌≡◌, map};
+ghost use Rattle.vers_bits.specs.Bits.{select};
+ghost use Rattle.vers_c.specs.Answers.{found};
+ghost use Rattle.vers_c.specs.Batches.{told_row};
+ghost use Rattle.vers_c.specs.BitsAnswers.{bits_answer, select_query};
+
+use super::{Batch, GROUP, in_groups};
+use crate::answer::Answer;
+use crate::asked::{Ask, Row, answer_each};
+use crate::query::Query;
+use std::alloc::Global;
+use vers_rank::fast_rs_vec::RsVec;
+
+// Places of zeros or of ones by their numbers.
+#[derive(Clone, Copy)]
+struct Selects {
+    bit: bool,
+}
+
+impl Batch<RsVec<Global>, usize> for Selects {
+    ghost answers = { λ batch bits. bits_answer bits (select_query batch.bit) };
+
+    ghost wants = { λ batch bits number. found (select batch.bit bits number) };
+
+    ghost says = { λ _ place. found place };
+
+    #[inline(always)]
+    fn of(self, ask: Ask) -> usize {
+        ask.a as usize
+    }
+
+    #[inline(always)]
+    fn ask_all(self, bits: &RsVec<Global>, numbers: &mut [usize]) {
+        if self.bit {
+            bits.select1_each(numbers)
+        } else {
+            bits.select0_each(numbers)
+        }
+    }
+
+    #[inline(always)]
+    fn answer(self, place: usize) -> Answer {
+        Answer::place(place)
+    }
+}
+
+/// Puts into each row what bits with ranks answer to its numbers, by a loop of its own for each query that is asked
+/// often.
+pub fn each_of_bits<R: Row>(
+    bits: &RsVec<Global>,
+    query: Query,
+    rows: &mut [R],
+    b: u64,
+    c: u64,
+    other: u64,
+)
+    ensures { rows.new ≡ map (told_row R.ask R.told (bits_answer bits.now query) other b c) rows.old }
+{
+    match query {
+        Query::Get => answer_each(bits, Query::Get, rows, b, c, other),
+        Query::Rank0 => answer_each(bits, Query::Rank0, rows, b, c, other),
+        Query::Rank1 => answer_each(bits, Query::Rank1, rows, b, c, other),
+        Query::Select0 => select_each(bits, false, rows, b, c, other),
+        Query::Select1 => select_each(bits, true, rows, b, c, other),
+        _ => answer_each(bits, query, rows, b, c, other),
+    }
+}
+
+// The same for the places of a bit.
+#[inline(always)]
+fn select_each<R: Row>(bits: &RsVec<Global>, bit: bool, rows: &mut [R], b: u64, c: u64, other: u64)
+    ensures { rows.new
+        ≡ map (told_row R.ask R.told (bits_answer bits.now (select_query bit)) other b c) rows.old }
+{
+    let mut numbers = [0; GROUP];
+    in_groups(Selects { bit }, bits, &mut numbers, rows, b, c, other)
+}

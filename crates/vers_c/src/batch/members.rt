@@ -1,0 +1,120 @@
+//! Many queries of ascending lists.
+ghost use Rattle.std.specs.Prelude.{◌≡◌, map, option_and_then};
+ghost use Rattle.vers_sorted.specs.Sorted.{below};
+ghost use Rattle.vers_c.specs.Answers.{found, found_or_absent};
+ghost use Rattle.vers_c.specs.Batches.{told_row};
+ghost use Rattle.vers_c.specs.SortedAnswers.{member_found, member_query, sorted_answer};
+ghost use Rattle.vers_c.specs.declared.query.Query.TheVariants as query;
+
+use super::{Batch, GROUP, in_groups};
+use crate::answer::Answer;
+use crate::asked::{Ask, Row, answer_each};
+use crate::query::Query;
+use std::alloc::Global;
+use vers_sorted::elias_fano::EliasFanoVec;
+
+// How many members are below numbers.
+#[derive(Clone, Copy)]
+struct Ranks;
+
+impl Batch<EliasFanoVec<Global>, u64> for Ranks {
+    ghost answers = { λ _ members. sorted_answer members query.Rank };
+
+    ghost wants = { λ _ members number. found (below members number) };
+
+    ghost says = { λ _ rank. found rank };
+
+    #[inline(always)]
+    fn of(self, ask: Ask) -> u64 {
+        ask.a
+    }
+
+    #[inline(always)]
+    fn ask_all(self, members: &EliasFanoVec<Global>, numbers: &mut [u64]) {
+        members.rank_each(numbers)
+    }
+
+    #[inline(always)]
+    fn answer(self, rank: u64) -> Answer {
+        Answer::found(rank)
+    }
+}
+
+/// Which member is looked for by a number.
+#[derive(Clone, Copy)]
+pub enum Member {
+    /// The one at a place.
+    At,
+    /// The greatest that is not above the number.
+    Before,
+    /// The least that is not below the number.
+    After,
+}
+
+impl Batch<EliasFanoVec<Global>, Option<u64>> for Member {
+    ghost answers = { λ member members. sorted_answer members (member_query member) };
+
+    ghost wants = { λ member members number.
+        found_or_absent (option_and_then (member_found member members) number) };
+
+    ghost says = { λ _ member. found_or_absent member };
+
+    #[inline(always)]
+    fn of(self, ask: Ask) -> Option<u64> {
+        Some(ask.a)
+    }
+
+    #[inline(always)]
+    fn ask_all(self, members: &EliasFanoVec<Global>, numbers: &mut [Option<u64>]) {
+        match self {
+            Member::At => members.get_each(numbers),
+            Member::Before => members.predecessor_each(numbers),
+            Member::After => members.successor_each(numbers),
+        }
+    }
+
+    #[inline(always)]
+    fn answer(self, member: Option<u64>) -> Answer {
+        Answer::number_or_absent(member)
+    }
+}
+
+/// Puts into each row what ascending members answer to its numbers, by many searches at once for each query that is
+/// asked often.
+pub fn each_of_members<R: Row>(
+    members: &EliasFanoVec<Global>,
+    query: Query,
+    rows: &mut [R],
+    b: u64,
+    c: u64,
+    other: u64,
+)
+    ensures { rows.new ≡ map (told_row R.ask R.told (sorted_answer members.now query) other b c) rows.old }
+{
+    match query {
+        Query::Get => find_each(members, Member::At, rows, b, c, other),
+        Query::Predecessor => find_each(members, Member::Before, rows, b, c, other),
+        Query::Successor => find_each(members, Member::After, rows, b, c, other),
+        Query::Rank => {
+            let mut numbers = [0; GROUP];
+            in_groups(Ranks, members, &mut numbers, rows, b, c, other)
+        }
+        _ => answer_each(members, query, rows, b, c, other),
+    }
+}
+
+// The same for a member.
+fn find_each<R: Row>(
+    members: &EliasFanoVec<Global>,
+    member: Member,
+    rows: &mut [R],
+    b: u64,
+    c: u64,
+    other: u64,
+)
+    ensures { rows.new
+        ≡ map (told_row R.ask R.told (sorted_answer members.now (member_query member)) other b c) rows.old }
+{
+    let mut numbers = [None; GROUP];
+    in_groups(member, members, &mut numbers, rows, b, c, other)
+}

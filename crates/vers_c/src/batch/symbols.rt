@@ -1,0 +1,158 @@
+//! Many queries of symbols.
+ghost use Rattle.std.specs.Prelude.{◌≡◌, map, slice_get};
+ghost use Rattle.vers_c.specs.Answers.{found_or_absent};
+ghost use Rattle.vers_c.specs.Batches.{told_row};
+ghost use Rattle.vers_c.specs.SymbolsAnswers.{answer_of_symbols, found_of_symbols, if_numbers, symbols_answer};
+ghost use Rattle.vers_c.specs.declared.query.Query.TheVariants as query;
+ghost use Rattle.vers_c.specs.declared.query.SymbolsQuery.TheVariants as of_symbols;
+
+use super::{Batch, GROUP, in_wide_groups};
+use crate::answer::Answer;
+use crate::asked::{Ask, Row, answer_each};
+use crate::query::{Query, SymbolsQuery};
+use std::alloc::Global;
+use vers_wavelet::wavelet::{GetQuery, QuantileQuery, RankQuery, SelectQuery, WaveletMatrix};
+
+// Symbols at places.
+#[derive(Clone, Copy)]
+struct Gets;
+
+impl Batch<WaveletMatrix<Global>, GetQuery> for Gets {
+    ghost answers = { λ _ symbols. symbols_answer symbols query.Get };
+
+    ghost wants = { λ _ symbols it. if_numbers symbols (slice_get symbols.items it.place) };
+
+    ghost says = { λ _ it. found_or_absent it.answer };
+
+    #[inline(always)]
+    fn of(self, ask: Ask) -> GetQuery {
+        GetQuery::new(ask.a as usize)
+    }
+
+    #[inline(always)]
+    fn ask_all(self, symbols: &WaveletMatrix<Global>, queries: &mut [GetQuery]) {
+        symbols.get_u64_each(queries)
+    }
+
+    #[inline(always)]
+    fn answer(self, query: GetQuery) -> Answer {
+        Answer::number_or_absent(query.answer)
+    }
+}
+
+// How many of the first places hold symbols.
+#[derive(Clone, Copy)]
+struct Ranks;
+
+impl Batch<WaveletMatrix<Global>, RankQuery> for Ranks {
+    ghost answers = { λ _ symbols. answer_of_symbols symbols of_symbols.RankOf };
+
+    ghost wants = { λ _ symbols it.
+        if_numbers symbols (found_of_symbols symbols of_symbols.RankOf it.end it.symbol 0) };
+
+    ghost says = { λ _ it. found_or_absent it.answer };
+
+    #[inline(always)]
+    fn of(self, ask: Ask) -> RankQuery {
+        RankQuery::new(ask.a as usize, ask.b)
+    }
+
+    #[inline(always)]
+    fn ask_all(self, symbols: &WaveletMatrix<Global>, queries: &mut [RankQuery]) {
+        symbols.rank_u64_each(queries)
+    }
+
+    #[inline(always)]
+    fn answer(self, query: RankQuery) -> Answer {
+        Answer::place_or_absent(query.answer)
+    }
+}
+
+// Places of symbols by the numbers of their occurrences.
+#[derive(Clone, Copy)]
+struct Selects;
+
+impl Batch<WaveletMatrix<Global>, SelectQuery> for Selects {
+    ghost answers = { λ _ symbols. answer_of_symbols symbols of_symbols.SelectOf };
+
+    ghost wants = { λ _ symbols it.
+        if_numbers symbols (found_of_symbols symbols of_symbols.SelectOf it.rank it.symbol 0) };
+
+    ghost says = { λ _ it. found_or_absent it.answer };
+
+    #[inline(always)]
+    fn of(self, ask: Ask) -> SelectQuery {
+        SelectQuery::new(ask.a as usize, ask.b)
+    }
+
+    #[inline(always)]
+    fn ask_all(self, symbols: &WaveletMatrix<Global>, queries: &mut [SelectQuery]) {
+        symbols.select_u64_each(queries)
+    }
+
+    #[inline(always)]
+    fn answer(self, query: SelectQuery) -> Answer {
+        Answer::place_or_absent(query.answer)
+    }
+}
+
+// Members of ranges by size.
+#[derive(Clone, Copy)]
+struct Quantiles;
+
+impl Batch<WaveletMatrix<Global>, QuantileQuery> for Quantiles {
+    ghost answers = { λ _ symbols. answer_of_symbols symbols of_symbols.Quantile };
+
+    ghost wants = { λ _ symbols it.
+        if_numbers symbols (found_of_symbols symbols of_symbols.Quantile it.start it.end it.i) };
+
+    ghost says = { λ _ it. found_or_absent it.answer };
+
+    #[inline(always)]
+    fn of(self, ask: Ask) -> QuantileQuery {
+        QuantileQuery::new(ask.a as usize, ask.b as usize, ask.c as usize)
+    }
+
+    #[inline(always)]
+    fn ask_all(self, symbols: &WaveletMatrix<Global>, queries: &mut [QuantileQuery]) {
+        symbols.quantile_u64_each(queries)
+    }
+
+    #[inline(always)]
+    fn answer(self, query: QuantileQuery) -> Answer {
+        Answer::number_or_absent(query.answer)
+    }
+}
+
+/// Puts into each row what symbols answer to its numbers, level by level for each query that is asked often.
+pub fn each_of_symbols<R: Row>(
+    alloc: Global,
+    symbols: &WaveletMatrix<Global>,
+    query: Query,
+    rows: &mut [R],
+    b: u64,
+    c: u64,
+    other: u64,
+)
+    ensures { rows.new ≡ map (told_row R.ask R.told (symbols_answer symbols.now query) other b c) rows.old }
+{
+    match query {
+        Query::Get => {
+            let mut few = [GetQuery::new(0); GROUP];
+            in_wide_groups(alloc, Gets, symbols, &mut few, rows, b, c, other)
+        }
+        Query::Symbols(SymbolsQuery::RankOf) => {
+            let mut few = [RankQuery::new(0, 0); GROUP];
+            in_wide_groups(alloc, Ranks, symbols, &mut few, rows, b, c, other)
+        }
+        Query::Symbols(SymbolsQuery::SelectOf) => {
+            let mut few = [SelectQuery::new(0, 0); GROUP];
+            in_wide_groups(alloc, Selects, symbols, &mut few, rows, b, c, other)
+        }
+        Query::Symbols(SymbolsQuery::Quantile) => {
+            let mut few = [QuantileQuery::new(0, 0, 0); GROUP];
+            in_wide_groups(alloc, Quantiles, symbols, &mut few, rows, b, c, other)
+        }
+        _ => answer_each(symbols, query, rows, b, c, other),
+    }
+}
