@@ -92,8 +92,7 @@ between xs ys mi pl t ms a c q r h e et inside found place value =
         | inr same ↦ here.best.leftmost p (omega (arith, here.best.to)) g
       ];
     } in
-    let P : List ℕ → Type 0 = λ zs. IsLeastItem zs (128 * a) (128 * c + 127) r in
-    subst P e (item_at xs (128 * a) (128 * c + 127) (128 * q.place + get_or pl q.place 0) r best (place ∙ ap (λ ps. 128 * q.place + get_or ps q.place 0) et) (value ∙ found.item ∙ here.value))
+    grind (arith, item_at)
 
 -- the end of a block and the start of the next
 pub two_parts : (xs ys : List ℕ) (i j m n : ℕ) (a b r : PlacedItem) → xs ≡ ys → i / 128 + 1 ≡ j / 128 → j < length ys
@@ -133,5 +132,4 @@ part_more xs ys i q j m a b r e before ej left right pb vb v = grind (arith, ite
 -- the start of the part of the last place
 pub part_end_with : (xs ys : List ℕ) (i q j m : ℕ) (a b r : PlacedItem) → xs ≡ ys → i < 16 * q → q ≡ j / 16 → IsLeastItem ys i (16 * q - 1) a → IsFirstLeast ys (16 * (j / 16)) j m → b.place ≡ m → b.value ≡ get_or xs m 0
     → r ≡ lesser_item a b → IsLeastItem ys i j r
-part_end_with xs ys i q j m a b r e before eq left right pb vb v =
-    item_join ys i (16 * q - 1) (16 * (j / 16)) j a b r left (item_at ys (16 * (j / 16)) j m b right pb (vb ∙ ap (λ zs. get_or zs m 0) e)) (omega arith) (omega arith) (omega arith) v
+part_end_with xs ys i q j m a b r e before eq left right pb vb v = grind (arith, item_join, item_at)

@@ -6,8 +6,7 @@ use Rattle.vers_tally.proofs.PublicLaws.{clog_is, digits-le, pow_next}
 pub top_is : (a : ℕ) → 0 < a → a < 2 ^ 64 → (2 ^ (63 - count_leading_zeros 64 a) ≤ a) × (a < 2 * 2 ^ (63 - count_leading_zeros 64 a)) × (count_leading_zeros 64 a ≤ 63)
 top_is a some few =
     let t = leading_top 64 a some few in
-    let e : 63 - count_leading_zeros 64 a ≡ t.0 = omega (arith, t.1) in
-    rw e (t.2, omega (arith, t.3, pow-suc 2 t.0), omega (arith, t.1))
+    grind (arith, pow-suc)
 
 pub shifted : (k : ℕ) → k < 64 → (1 * 2 ^ k) % 2 ^ 64 ≡ 2 ^ k
 shifted k h = one_shl k 64 h

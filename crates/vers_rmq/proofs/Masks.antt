@@ -118,8 +118,7 @@ suffix_same xs s k n e mask least sk en u lt = suffix_skip xs s k n e mask least
 placed_high : (n o d : ℕ) → bit_at (n * 2 ^ o) (d + o) ≡ bit_at n d
 placed_high n o d =
     let whole : n * 2 ^ o ≡ n * 2 ^ o + 0 = omega arith in
-    let back : d + o - o ≡ d = omega arith in
-    ap (λ v. bit_at v (d + o)) whole ∙ bit_at_cat_high n o 0 (d + o) (pow_pos o) (omega arith) ∙ ap (bit_at n) back
+    grind (arith, bit_at_cat_high, pow_pos)
 
 placed_low : (n o q : ℕ) → q < o → bit_at (n * 2 ^ o) q ≡ 0
 placed_low n o q h =
@@ -193,8 +192,7 @@ prefixes_more xs s f from k mask bits more least sf fk u lt a =
     prefix_more xs s f k (bit_or mask (bits * 2 ^ (from - s))) (bit_or mask (more * 2 ^ (from - s))) least u lt (merged_one mask bits more (k - from) (from - s) (k - s) (omega arith) a)
 
 pub prefixes_to : (xs : List ℕ) (s f k e mask more least : ℕ) → k ≡ e → more ≡ mask → PrefixUpTo xs s f k mask least → PrefixUpTo xs s f e more least
-prefixes_to xs s f k e mask more least ek em u =
-    let P : ℕ → Type 0 = λ n. PrefixUpTo xs s f n mask least in rw em (subst P ek u)
+prefixes_to xs s f k e mask more least ek em u = grind arith
 
 pub suffixes_none : (xs : List ℕ) (s k e mask o least : ℕ) → SuffixFrom xs s k e mask least → SuffixFrom xs s k e (bit_or mask (0 * 2 ^ o)) least
 suffixes_none xs s k e mask o least u = rw (merged_none mask o) u
@@ -205,8 +203,7 @@ suffixes_more xs s from k n e mask bits more least sf fk en u le a =
     suffix_more xs s k n e (bit_or mask (bits * 2 ^ (from - s))) (bit_or mask (more * 2 ^ (from - s))) least (omega arith) en u le (merged_one mask bits more (k - from) (from - s) (k - s) (omega arith) a)
 
 pub suffixes_to : (xs : List ℕ) (s k f e mask more least : ℕ) → k ≡ f → more ≡ mask → SuffixFrom xs s k e mask least → SuffixFrom xs s f e more least
-suffixes_to xs s k f e mask more least ek em u =
-    let P : ℕ → Type 0 = λ n. SuffixFrom xs s n e mask least in rw em (subst P ek u)
+suffixes_to xs s k f e mask more least ek em u = grind arith
 
 -- one bit more, where none stands from n on
 pub none_above : (bits more d n : ℕ) → d < n → AddsOne bits more d → ((q : ℕ) → n ≤ q → bit_at bits q ≡ 0) → (q : ℕ) → n ≤ q → bit_at more q ≡ 0
@@ -218,9 +215,6 @@ or_left a b q off = bit_at_or a b q ∙ omega (arith, off)
 
 or_right : (a b q : ℕ) → bit_at a q ≡ 0 → bit_at (bit_or a b) q ≡ bit_at b q
 or_right a b q off = bit_at_or a b q ∙ omega (arith, off)
-
-or_first : (a b q : ℕ) → bit_at a q ≡ 1 → bit_at (bit_or a b) q ≡ 1
-or_first a b q on = bit_at_or a b q ∙ omega (arith, on, bit_at-lt b q)
 
 or_second : (a b q : ℕ) → bit_at b q ≡ 1 → bit_at (bit_or a b) q ≡ 1
 or_second a b q on = bit_at_or a b q ∙ omega (arith, on, bit_at-lt a q)
@@ -259,7 +253,7 @@ pub prefix_part : (xs : List ℕ) (s k e mask part least : ℕ) → 16 * ((k - s
 prefix_part xs s k e mask part least aligned few m u =
     let on : bit_at (bit_or mask part) (k - s) ≡ 1 = or_second mask part (k - s) u.first in
     record {
-      starts = grind (arith, or_first);
+      starts = grind (arith, bit_at_or, bit_at-lt);
       places = λ j p h t. elim (cases_lt (s + j) k) [
         | inl old ↦
             let keeps : (q : ℕ) → q ≤ j → bit_at (bit_or mask part) q ≡ bit_at mask q = λ q l. or_left mask part q (u.below q (omega arith)) in
@@ -280,7 +274,7 @@ pub suffix_part : (xs : List ℕ) (s c k e mask part least : ℕ) → 16 * ((c -
 suffix_part xs s c k e mask part least aligned next ke m u =
     let on : bit_at (bit_or mask part) (k - 1 - s) ≡ 1 = or_second mask part (k - 1 - s) u.last in
     record {
-      ends = grind (arith, or_first);
+      ends = grind (arith, bit_at_or, bit_at-lt);
       places = λ i p h f t. elim (cases_lt (s + i) k) [
         | inl new ↦
             let keeps : (q : ℕ) → s + q < k → bit_at (bit_or mask part) q ≡ bit_at part q = λ q l. or_right mask part q (m.below q l) in

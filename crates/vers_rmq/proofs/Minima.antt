@@ -39,9 +39,6 @@ pub least_ends : (xs : List ℕ) (i j k m : ℕ) → j ≡ k → IsFirstLeast xs
 least_ends xs i j k m e a = let P : ℕ → Type 0 = λ n. IsFirstLeast xs i n m in subst P e a
 
 -- the choice between candidates
-candidate_first : (a b : PlacedItem) → a.value ≤ b.value → lesser_item a b ≡ a
-candidate_first a b h = cond-true (leb a.value b.value) a b (le-leb a.value b.value h)
-
 candidate_second : (a b : PlacedItem) → b.value < a.value → lesser_item a b ≡ b
 candidate_second a b h = cond-false (leb a.value b.value) a b (lt-leb a.value b.value h)
 
@@ -51,7 +48,7 @@ item_at xs i j m c a place value = grind arith
 
 -- the candidates of two ranges that meet or overlap
 pub item_join : (xs : List ℕ) (i k h j : ℕ) (a b r : PlacedItem) → IsLeastItem xs i k a → IsLeastItem xs h j b → i ≤ h → h ≤ k + 1 → k ≤ j → r ≡ lesser_item a b → IsLeastItem xs i j r
-item_join xs i k h j a b r left right ih hk kj e = grind (arith, item_at, least_earlier, candidate_second, least_longer, candidate_first)
+item_join xs i k h j a b r left right ih hk kj e = grind (arith, item_at, least_earlier, candidate_second, least_longer, cond-true, le-leb)
 
 -- a range begins earlier, at items that are above its least one
 pub item_earlier : (xs : List ℕ) (i h j v : ℕ) (c : PlacedItem) → i ≤ h → c.value < v → ((p : ℕ) → i ≤ p → p < h → v ≤ get_or xs p 0) → IsLeastItem xs h j c → IsLeastItem xs i j c
@@ -67,7 +64,7 @@ item_ends xs i j k c e a = let P : ℕ → Type 0 = λ n. IsLeastItem xs i n c i
 
 -- the place of the chosen one
 pub chosen_place : (xs : List ℕ) (m n : ℕ) (r : PlacedItem) → r ≡ lesser_item (record { place = m; value = get_or xs m 0 }) (record { place = n; value = get_or xs n 0 }) → r.place ≡ lesser xs m n
-chosen_place xs m n r e = grind (arith, candidate_second, lesser_second, candidate_first, lesser_first)
+chosen_place xs m n r e = grind (arith, candidate_second, lesser_second, cond-true, le-leb, lesser_first)
 
 -- a range has one first least place
 pub same_place : (xs : List ℕ) (i j m n : ℕ) → IsFirstLeast xs i j m → IsFirstLeast xs i j n → m ≡ n
@@ -82,8 +79,7 @@ pub scan_start : (xs : List ℕ) (i : ℕ) (c : PlacedItem) → c.place ≡ i �
 scan_start xs i c place value = item_ends xs i i (i + 1 - 1) c (omega arith) (item_at xs i i i c (least_at xs i) place value)
 
 pub scan_more : (xs : List ℕ) (i k : ℕ) (a b r : PlacedItem) → i < k → IsLeastItem xs i (k - 1) a → b.place ≡ k → b.value ≡ get_or xs k 0 → r ≡ lesser_item a b → IsLeastItem xs i (k + 1 - 1) r
-scan_more xs i k a b r ik best place value e =
-    item_ends xs i k (k + 1 - 1) r (omega arith) (item_join xs i (k - 1) k k a b r best (item_at xs k k k b (least_at xs k) place value) (omega arith) (omega arith) (omega arith) e)
+scan_more xs i k a b r ik best place value e = grind (arith, item_ends, item_join, item_at, least_at)
 
 pub scan_end : (xs : List ℕ) (i j k : ℕ) (c : PlacedItem) → k ≡ j + 1 → IsLeastItem xs i (k - 1) c → IsLeastItem xs i j c
 scan_end xs i j k c e best = item_ends xs i (k - 1) j c (omega arith) best

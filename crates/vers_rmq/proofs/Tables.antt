@@ -40,20 +40,13 @@ next_joined xs table k i holds room inside =
 
 pub next_same : (xs table : List ℕ) (k i : ℕ) → HoldsPlaces xs table → length xs * k + length xs ≤ length table → i < length xs → length xs ≤ i + 2 ^ k
     → IsFirstLeast xs i (reach (length xs) (k + 1) i) (get_or table (length xs * k + i) 0)
-next_same xs table k i holds room here far =
-    least_ends xs i (reach (length xs) k i) (reach (length xs) (k + 1) i) _ (omega (arith, pow_next k)) (holds.place k i here (omega arith))
+next_same xs table k i holds room here far = grind (arith, least_ends, pow_next)
 
 pub level_inside : (xs table : List ℕ) (k : ℕ) → IsTable xs table → 2 ^ k ≤ length xs → length xs * k + length xs ≤ length table
 level_inside xs table k t h = omega (arith, t.counted, mul-le-mul_left (length xs) (clog_up (length xs) k h))
 
 pub room_of : (xs table : List ℕ) (k i n : ℕ) → IsTable xs table → i + 2 ^ k ≤ length xs → n ≡ length xs → n * k + i < length table
 room_of xs table k i n t h e = rw e (omega (arith, level_inside xs table k t (omega (arith, h)), pow_pos k))
-
-pub entry_at : (xs table : List ℕ) (k i : ℕ) → IsTable xs table → i + 2 ^ k ≤ length xs
-    → IsFirstLeast xs i (i + 2 ^ k - 1) (get_or table (length xs * k + i) 0)
-entry_at xs table k i t h =
-    let room = level_inside xs table k t (omega arith) in
-    least_ends xs i (reach (length xs) k i) (i + 2 ^ k - 1) _ (omega arith) (t.places.place k i (omega (arith, pow_pos k)) (omega (arith, pow_pos k, room)))
 
 pub table_is : (xs table : List ℕ) (k : ℕ) → length xs < 2 ^ 32 → HoldsPlaces xs table → length table ≡ length xs * (k + 1) → length xs ≤ 2 ^ k → (0 < length xs → 2 ^ k < 2 * length xs) → IsTable xs table
 table_is xs table k few holds counted up down = record {
@@ -67,7 +60,7 @@ table_is xs table k few holds counted up down = record {
 
 pub entry_is : (xs ys table t : List ℕ) (k i n : ℕ) → IsTable xs table → xs ≡ ys → t ≡ table → i + 2 ^ k ≤ length ys → n ≡ length xs
     → IsFirstLeast ys i (i + 2 ^ k - 1) (get_or t (n * k + i) 0)
-entry_is xs ys table t k i n holds e et h en = grind (arith, entry_at)
+entry_is xs ys table t k i n holds e et h en = grind (arith, level_inside, least_ends, pow_pos)
 
 pub room_is : (xs table t : List ℕ) (k i n : ℕ) → IsTable xs table → t ≡ table → i + 2 ^ k ≤ length xs → n ≡ length xs → n * k + i < length t
 room_is xs table t k i n holds e h en = rw e (room_of xs table k i n holds h en)
@@ -76,8 +69,7 @@ room_is xs table t k i n holds e h en = rw e (room_of xs table k i n holds h en)
 pub asked : (xs ys : List ℕ) (k i j w h m n : ℕ) (a b r : PlacedItem) → xs ≡ ys → i ≤ j → w ≡ 2 ^ k → 2 ^ k ≤ j - i + 1 → j - i + 1 < 2 * 2 ^ k → h ≡ j + 1 - w
     → IsFirstLeast ys i (i + 2 ^ k - 1) m → IsFirstLeast ys h (h + 2 ^ k - 1) n → a.place ≡ m → a.value ≡ get_or xs m 0 → b.place ≡ n → b.value ≡ get_or xs n 0
     → r ≡ lesser_item a b → IsLeastItem ys i j r
-asked xs ys k i j w h m n a b r e ij ew low high eh left right pa va pb vb v =
-    grind (arith, item_join, item_at, item_ends)
+asked xs ys k i j w h m n a b r e ij ew low high eh left right pa va pb vb v = grind (arith, item_at, item_ends)
 
 pub next_is : (xs table : List ℕ) (k i w m n r : ℕ) → HoldsPlaces xs table → length xs * k + length xs ≤ length table → w ≡ 2 ^ k → i + w < length xs
     → r ≡ lesser xs (get_or table (length xs * k + i) 0) (get_or table (length xs * k + (i + w)) 0) → IsFirstLeast xs i (reach (length xs) (k + 1) i) r
