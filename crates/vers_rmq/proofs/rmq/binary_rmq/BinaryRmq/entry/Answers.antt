@@ -6,6 +6,4 @@ pub bounds-table-len : goal.bounds-table-len
 bounds-table-len g c = room_is c.self.inside.items c.self.inside.table.items c.as_slice-table.result.now c.args.k c.args.i c.len.result c.self.invariant c.as_slice-table.ensures.value (omega (arith, ap length c.self.view_is, c.requires)) c.len.ensures.value
 
 pub returns : goal.returns
-returns g c =
-    let v = entry_is c.self.inside.items c.args.self.now c.self.inside.table.items c.as_slice-table.result.now c.args.k c.args.i c.len.result c.self.invariant c.self.view_is c.as_slice-table.ensures.value c.requires c.len.ensures.value in
-    record { value = v; inside = omega (arith, pow_pos c.args.k, v.from, v.to, c.requires) }
+returns g c = grind (arith, entry_is, pow_pos)

@@ -4,9 +4,7 @@ use Rattle.vers_rmq.proofs.Minima.{item_earlier}
 use Rattle.vers_rmq.proofs.rmq.fast_rmq.FastRmq.least_from.Goals as goal
 
 pub returns-then-after-least-clause-value : goal.returns-then-after-least-clause-value
-returns-then-after-least-clause-value g c to found =
-    item_earlier c.args.self.now c.args.i (128 * (c.args.i / 128) + 128) to c.least_of_block-least.result c.args.after (omega arith) (omega arith)
-    (λ p f t. c.least_of_block-least.ensures.least p (omega arith) t (omega (arith, c.requires))) found
+returns-then-after-least-clause-value g c to found = grind (arith, item_earlier)
 
 pub returns-clause-value : goal.returns-clause-value
 returns-clause-value g c to found =

@@ -4,9 +4,7 @@ use Rattle.vers_rmq.proofs.Minima.{item_longer}
 use Rattle.vers_rmq.proofs.rmq.fast_rmq.FastRmq.least_up_to.Goals as goal
 
 pub returns-then-before-least-clause-value : goal.returns-then-before-least-clause-value
-returns-then-before-least-clause-value g c from found =
-    item_longer c.args.self.now from (128 * (c.args.j / 128)) c.args.j c.least_of_block-least.result c.args.before (omega arith) (omega arith)
-    (λ p f t. c.least_of_block-least.ensures.least p f (omega arith) (omega (arith, c.requires.inside))) (omega (arith, c.requires.later)) found
+returns-then-before-least-clause-value g c from found = grind (arith, item_longer)
 
 pub returns-clause-value : goal.returns-clause-value
 returns-clause-value g c from found =

@@ -16,8 +16,7 @@ loop-k-preserved c = elim c.if-here-value.branch [
   | then-here-value w ↦ rw (w.bits-is, w.least-is, w.value-is) (record {
     inside = omega arith;
     value = refl;
-    few = λ q h. none_above c.loop-k.bits w.with_one-bits.result (c.loop-k.k - c.args.from) (c.loop-k.k + 1 - c.args.from) (omega arith) w.with_one-bits.ensures
-        (λ r g. c.loop-k.invariant.few r (omega arith)) q (omega arith);
+    few = grind (arith, none_above);
     made = λ first u. prefixes_more c.args.items.now c.args.start first c.args.from c.loop-k.k c.args.done.mask c.loop-k.bits w.with_one-bits.result c.loop-k.least c.requires.base (omega arith)
         (c.loop-k.invariant.made first u) (omega (arith, w.if-here-value.true, c.loop-k.invariant.value)) w.with_one-bits.ensures;
   })

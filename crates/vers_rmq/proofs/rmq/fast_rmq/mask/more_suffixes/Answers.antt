@@ -18,8 +18,7 @@ down-preserved-then-here-value c = record {
   high = omega arith;
   inside = omega arith;
   value = refl;
-  few = λ q h. none_above c.down.bits c.with_one-bits.result (c.down.k - 1 - c.args.from) (c.args.to - c.args.from) (omega arith) c.with_one-bits.ensures
-      (λ r g. c.down.invariant.few r (omega arith)) q (omega arith);
+  few = grind (arith, none_above);
   made = λ end u. suffixes_more c.args.items.now c.args.start c.args.from (c.down.k - 1) c.down.k end c.args.done.mask c.down.bits c.with_one-bits.result c.down.least c.requires.base (omega arith) (omega arith)
       (c.down.invariant.made end u) (omega (arith, c.if-here-value.true, c.down.invariant.value)) c.with_one-bits.ensures;
 }
