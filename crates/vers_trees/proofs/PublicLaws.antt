@@ -89,9 +89,7 @@ walk_goes_on {place = place} {F = F} {d = d} {met = met} {all = all} {v = v} h e
 pub walk_comes_nearer : {H : Type 0} {place : H → ℕ} {F : Forest} {d : ℕ} {met all : List H} {next : Option H} {v : H} → IsAlongLevel place F d met next → next ≡ Some v
     → all ≡ met ++ v ∷ [] → length (level F d) - length all < length (level F d) - length met
 walk_comes_nearer {place = place} {F = F} {d = d} {met = met} {all = all} {v = v} h e a =
-    let inside = slice_get_within (level F d) (length met) (place v) (NodeLaws.member_met h e) in
-    let long : length all ≡ length met + 1 = ap (λ (vs : List _). length vs) a ∙ length_push met v in
-    omega arith
+    grind (arith, slice_get_within, length_push)
 
 -- where none comes next, all of the level were met
 pub walk_ends : {H : Type 0} {place : H → ℕ} {F : Forest} {d : ℕ} {met : List H} {next : Option H} → IsAlongLevel place F d met next → next ≡ None → map place met ≡ level F d

@@ -1,5 +1,5 @@
 -- Parentheses that are balanced, read from the left, and where their nodes open.
-use Rattle.vers_trees.proofs.Words.{◌≡◌, ℕ, zero, suc, Bool, true, false, List, [], ◌∷◌, ◌++◌, Decides, Option, Some, None, refl, ap, ◌∙◌, append_assoc, unwrap_or, append-nil, are_balanced, closes, Forest, none, tree, text, IsBalanced}
+use Rattle.vers_trees.proofs.Words.{◌≡◌, ℕ, zero, suc, Bool, true, false, List, [], ◌∷◌, ◌++◌, Decides, Option, Some, None, refl, ap, ◌∙◌, append_assoc, unwrap_or, append-nil, are_balanced, closes, Forest, none, tree, text, IsBalanced, arith}
 
 -- a forest written down closes what it opens
 closes-text : (F : Forest) (n : ℕ) (rest : List Bool) → closes n (text F ++ rest) ≡ closes n rest
@@ -31,6 +31,4 @@ balance_decides bits = (λ h. Closing-from bits 0 h, λ b. rw (← b.written, �
 
 -- a bit that is there, and is a one
 pub one_there : (got : Option Bool) → unwrap_or got false ≡ true → got ≡ Some true
-one_there None h = cc
-one_there (Some true) h = refl
-one_there (Some false) h = cc
+one_there got h = grind arith

@@ -146,9 +146,6 @@ close_is_paired F c d h b = let r = bit_is_paired F false c d h b in (r.0, subst
 pub closes_once : (l : List Bool) (v c d : ℕ) → Closes l v c → Closes l v d → c ≡ d
 closes_once l v c d p q = grind (arith, ints)
 
-pub opens_once : (l : List Bool) (v w c : ℕ) → Closes l v c → Closes l w c → v ≡ w
-opens_once l v w c p q = grind (arith, ints)
-
 -- an opening place rises, and a closing place falls
 pub closes_rises : (l : List Bool) (v c : ℕ) (d : Bool) → Closes l v c → get_or l v d ≡ true
 closes_rises l v c d p = open_from_rise l v d (omega arith) (p.above (v + 1) (omega arith) (omega arith))

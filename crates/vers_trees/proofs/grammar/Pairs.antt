@@ -30,9 +30,7 @@ contains_from_paired none v c p = absurd p
 contains_from_paired (tree X Y) v c (inl p) = rw (p.0, p.1) (contains_first (0, length (text X) + 1) (second X Y))
 contains_from_paired (tree X Y) v c (inr (inl p)) =
     let m = contains_map (moved 1) (pairs X) (p.0, p.1) (contains_from_paired X p.0 p.1 p.4) in
-    let a = Contains-append_left (map (moved 1) (pairs X)) (map (moved (length (text X) + 2)) (pairs Y)) (1 + p.0, 1 + p.1) m in
-    let ev : v ≡ 1 + p.0 = (let e = p.2 in omega arith) in let ec : c ≡ 1 + p.1 = (let e = p.3 in omega arith) in
-    rw (ev, ec) (contains_later (0, length (text X) + 1) (second X Y) (1 + p.0, 1 + p.1) a)
+    grind (arith, ints, Contains-append_left, contains_later)
 contains_from_paired (tree X Y) v c (inr (inr p)) =
     let m = contains_map (moved (length (text X) + 2)) (pairs Y) (p.0, p.1) (contains_from_paired Y p.0 p.1 p.4) in
     let a = Contains-append_right (map (moved 1) (pairs X)) (map (moved (length (text X) + 2)) (pairs Y)) (length (text X) + 2 + p.0, length (text X) + 2 + p.1) m in
@@ -84,9 +82,6 @@ count_tree p X Y = grind (arith, ints, count_by-cons, count_by-append, count_by-
 pub moved_lt : (n a x v : ℕ) → v ≡ n + x → ltb (n + a) v ≡ ltb a x
 moved_lt n a x v e = grind (arith, nat_tests)
 
-moved_gt : (n b y c : ℕ) → c ≡ n + y → ltb c (n + b) ≡ ltb y b
-moved_gt n b y c e = grind (arith, nat_tests)
-
 both : (a b c d : Bool) → a ≡ b → c ≡ d → (a && c) ≡ (b && d)
 both a b c d e f = cc
 
@@ -99,7 +94,7 @@ abbrev around : ℕ → Forest → ℕ → ℕ → ℕ
 around n F v c = count_by (λ q. strictly_contains (moved n q) (v, c)) (pairs F)
 
 around_moved : (n : ℕ) (F : Forest) (x y v c : ℕ) → v ≡ n + x → c ≡ n + y → around n F v c ≡ count_by (λ q. strictly_contains q (x, y)) (pairs F)
-around_moved n F x y v c e f = grind (arith, ints, count_agree, both, moved_lt, moved_gt)
+around_moved n F x y v c e f = grind (arith, ints, count_agree, both, moved_lt, nat_tests)
 
 -- none of the pairs that open at or after v, or close at or before c, is around (v, c)
 around_none : (n : ℕ) (F : Forest) (v c : ℕ) → (v ≤ n) ⊎ (n + length (text F) ≤ c + 1) → around n F v c ≡ 0

@@ -33,9 +33,7 @@ pub above_parent : (F : Forest) (v p : ℕ) → HasPair F v → IsAbove (text F)
 unfolding parent
 above_parent F v p h a =
     let r = above_is_around F v 1 p h a in
-    last_node F _ _ (λ w. proper_decides F w v) p r.2 (r.0, r.1) (λ w x k g.
-    let s = parent_is_nearest (text F) v p w (closing F w) a k.closes g.0 (omega arith) in
-    omega arith)
+    last_node F _ _ (λ w. proper_decides F w v) p r.2 (r.0, r.1) (grind (arith, parent_is_nearest))
 
 pub parent_is_search : (F : Forest) (v : ℕ) → HasPair F v → last_rise_before (text F) v (negsuc 0) ≡ parent F v
 unfolding parent

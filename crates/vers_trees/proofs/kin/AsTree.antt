@@ -25,15 +25,11 @@ root_by (x ∷ l) b o n s = same_place o (Some 0) (s (λ e. absurd (cc))) ∙ sy
 
 pub handle_by : (l : List Bool) → IsBalanced l → (i n : ℕ) → n ≡ select true l i → i < length (nodes (forest_of l)) → slice_get (nodes (forest_of l)) i ≡ Some n
 unfolding select
-handle_by l b i n e h =
-    let s = nodes_by l b in
-    ap (λ (xs : List ℕ). slice_get xs i) s ∙ slice_get-get_or (places true l) i (length l) (subst (λ (xs : List ℕ). i < length xs) s h) ∙ ap Some (sym e)
+handle_by l b i n e h = grind (arith, nodes_by, slice_get-get_or)
 
 pub handle_past : (l : List Bool) → IsBalanced l → (i n : ℕ) → n ≡ select true l i → length (nodes (forest_of l)) ≤ i → n ≡ length (text (forest_of l))
 unfolding select
-handle_past l b i n e h =
-    e ∙ get_or_past (places true l) i (length l) (subst (λ (xs : List ℕ). length xs ≤ i) (nodes_by l b) h)
-    ∙ ap (λ (xs : List Bool). length xs) (sym (text-forest_of l b))
+handle_past l b i n e h = grind (arith, get_or_past, nodes_by, text-forest_of)
 
 pub empty_by : (l : List Bool) → IsBalanced l → (r : Bool) → IsTrue r ↔ (l ≡ []) → r ≡ (length (nodes (forest_of l)) == 0)
 unfolding forest_of

@@ -61,9 +61,7 @@ last_child_is_search F v c h s x =
     let k = one_pair F p.0 (omega arith) (closes_rises (text F) p.0 c false q) in
     let pc = closes_to F p.0 c q in
     before_is (text F) c (negsuc 0) p.0 (before_from_closes (text F) p.0 c q)
-    ∙ sym (last_node F _ _ (λ w. option_decides (parent F w) (Some v)) p.0 k (above_parent F p.0 v k (last_child_above (text F) v c p.0 m q after)) (λ w y kw e.
-    let r = parent_around F w v kw e in
-    grind (arith, ints, nested, has_parent)))
+    ∙ sym (last_node F _ _ (λ w. option_decides (parent F w) (Some v)) p.0 k (above_parent F p.0 v k (last_child_above (text F) v c p.0 m q after)) (grind (arith, ints, parent_around, nested, has_parent)))
 
 -- ---- siblings
 next_sibling_found : (F : Forest) (v : ℕ) → HasPair F v → closing F v + 1 < length (text F) → get_or (text F) (closing F v + 1) false ≡ true → next_of (siblings F v) v ≡ Some (closing F v + 1)

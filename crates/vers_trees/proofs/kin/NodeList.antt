@@ -40,9 +40,7 @@ closing_is F v c p =
     same : (q : ℕ × ℕ) → Contains (pairs F) q → q.0 ≡ v → q ≡ (v, c)
     same q d e =
         let m = paired_closes F q.0 q.1 (paired_from_contains F q d) in
-        let m' : Closes (text F) v q.1 = subst (λ (k : ℕ). Closes (text F) k q.1) e m in
-        let o = closes_once (text F) v q.1 c m' (paired_closes F v c p) in
-        ap (λ (k : ℕ). (k, q.1)) e ∙ ap (λ (k : ℕ). (v, k)) o
+        grind (arith, closes_once, paired_closes)
 
 has_pair : (F : Forest) (v c : ℕ) → Paired F v c → HasPair F v
 has_pair F v c p = grind (arith, closing_is, contains_from_paired, paired_closes)

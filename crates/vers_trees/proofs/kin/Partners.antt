@@ -1,7 +1,7 @@
 -- From one place of a pair a search for an excess that is one less finds the other.
 use Rattle.vers_trees.proofs.Words.{◌≡◌, ℕ, ◌+◌, ◌-◌, ◌<◌, ◌≤◌, ◌≢◌, Bool, true, false, List, get_or, pos, negsuc, ◌+ℤ◌, arith, ◌⊎◌, length, neg_ℤ, ◌<ℤ◌, ⊎_elim, sym, ap, ◌↔◌, ints, excess, IsFirstRiseAfter, IsLastRiseBefore, cases_lt, cases_Bool, eq-or-lt_of_le, Forest, text}
 use Rattle.vers_trees.proofs.grammar.Excess.{above_until, above_since, excess-is_walk, excess_after_open, excess_after_close, open_from_rise}
-use Rattle.vers_trees.proofs.grammar.Paired.{Closes, closes_rises, closes_falls, paired_closes, open_is_paired, opens_once, close_is_paired, closes_once}
+use Rattle.vers_trees.proofs.grammar.Paired.{Closes, closes_rises, closes_falls, paired_closes, open_is_paired, close_is_paired, closes_once}
 
 pub after_from_closes : (l : List Bool) (v c : ℕ) → Closes l v c → IsFirstRiseAfter l v (negsuc 0) c
 after_from_closes l v c p =
@@ -40,7 +40,7 @@ closes_from_before l v c d o p =
 -- ---- the pairs around a node, and what a search backwards from it finds
 -- two pairs that overlap are one inside the other
 pub nested : (l : List Bool) (v c w d : ℕ) → Closes l v c → Closes l w d → v < w → w ≤ c → d < c
-nested l v c w d p q a b = grind (arith, ints, opens_once, Closes)
+nested l v c w d p q a b = grind (arith, ints, Closes)
 
 -- a pair that opens at or before the end of another and closes past it opens before it
 pub opens_around : (l : List Bool) (v c q e : ℕ) → Closes l v c → Closes l q e → q ≤ c → c < e → q < v
@@ -65,9 +65,7 @@ above_from_before F v t a h o p =
     let high : (j : ℕ) → a < j → j ≤ v → excess (text F) a <ℤ excess (text F) j =
     λ j x y. above_since (excess (text F)) (excess-is_walk (text F)) (excess (text F) a) j v y (omega (arith, ints)) (λ k g m e. p.last k (omega arith) m (omega (arith, ints))) in
     let bit = open_from_rise (text F) a false (omega arith) (high (a + 1) (omega arith) (omega arith)) in
-    let r = open_is_paired F a false (omega arith) bit in
-    let q = paired_closes F a r.0 r.1 in
-    grind (arith, ints, one_before)
+    grind (arith, ints, open_is_paired, paired_closes, one_before)
 
 -- a pair around v opens at or before the parent of v, and where the search finds nothing there is none
 pub parent_is_nearest : (l : List Bool) (v p q e : ℕ) → IsAbove l v 1 p → Closes l q e → q < v → v ≤ e → q ≤ p
@@ -102,9 +100,7 @@ last_of_siblings F v c p i b = grind (arith, ints, close_is_paired, paired_close
 -- likewise where what stands before it is an opening one
 pub first_of_siblings : (F : Forest) (v c : ℕ) → Closes (text F) (v + 1) c → get_or (text F) v false ≡ true → IsAbove (text F) (v + 1) 1 v
 first_of_siblings F v c p b =
-    let r = open_is_paired F v false (omega arith) b in
-    let m = paired_closes F v r.0 r.1 in
-    grind (arith, ints, excess_after_open, one_before, closes_rises)
+    grind (arith, ints, open_is_paired, paired_closes, excess_after_open, one_before, closes_rises)
 
 -- the first child opens right after the node
 pub first_child_above : (l : List Bool) (v c : ℕ) → Closes l v c → get_or l (v + 1) false ≡ true → IsAbove l (v + 1) 1 v

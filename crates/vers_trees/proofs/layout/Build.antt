@@ -12,9 +12,7 @@ covers_leaf blocks r s = ⊎_elim inside outside (cases_lt s (length blocks))
     inside h = grind (arith, ints, total_more)
 
     outside : length blocks ≤ s → Covers blocks s (s + 1) (get_or blocks s empty_node)
-    outside h =
-        let e : get_or blocks s empty_node ≡ empty_node = get_or_past blocks s empty_node h in
-        grind (arith, ints, total_past)
+    outside h = grind (arith, ints, get_or_past, total_past)
 
 pub covered_leaves : (first : ℕ) (nodes : List Node) → ((k : ℕ) → k < length (drop first nodes) → IsRange (get_or (drop first nodes) k empty_node)) → CoveredFrom first nodes first
 covered_leaves first nodes r m s e h p =
@@ -98,9 +96,7 @@ pub same_node : (a b : Node) → a.total ≡ b.total → a.least ≡ b.least →
 same_node a b p q r = λ i. record { total = p i; least = q i; greatest = r i }
 
 alone_shape : (x : Node) → IsRange x ⊎ (x ≡ empty_node) → combined x empty_node ≡ x
-alone_shape x (inl r) =
-    same_node (combined x empty_node) x (omega (arith, ints, clamps)) (omega (arith, ints, clamps)) (omega (arith, ints, clamps))
-alone_shape x (inr n) = rw n refl
+alone_shape x shape = grind (arith, ints, clamps, same_node)
 
 -- the children of a node, as the code has them
 record Pair (first : ℕ) (nodes : List Node) (i : ℕ) (x y : Node) : Type 0 where

@@ -12,9 +12,7 @@ leads_found first nodes from t place left m p =
 
 -- no block of a node out of range reaches the sum
 none_in : (blocks : List Node) (s e : ℕ) (x : Node) (t r : ℤ) → Covers blocks s e x → total_before blocks s +ℤ r ≡ t → (IsInRange x r → ⊥) → (k : ℕ) → s ≤ k → k < e → Reaches blocks k t → ⊥
-none_in blocks s e x t r c q o k a b w =
-    let lo = c.low k t a b w in let hi = c.high k t a b w in
-    o (record { low = omega (arith, ints); high = omega (arith, ints) })
+none_in blocks s e x t r c q o k a b w = grind (arith, ints)
 
 pub step_left : (first : ℕ) (nodes : List Node) (from : ℕ) (t : ℤ) (place child : ℕ) (left : ℤ) (x : Node) → LeadsTo first nodes from t place left → place < first → x ≡ get_or nodes (2 * place + 1) empty_node → child ≡ 2 * place + 1 → IsInRange x left → LeadsTo first nodes from t child left
 step_left first nodes from t place child left x p h e n i =
@@ -68,9 +66,7 @@ pub comes_to : (first : ℕ) (nodes : List Node) (from : ℕ) (t : ℤ) (place :
 comes_to first nodes from t place left next m p o = go o.zeros place p o.splits
   where
     go : (k place : ℕ) → PassedTo first nodes from t place left → place + 2 ≡ (next + 1) * 2 ^ k → ComesTo first nodes from t next left
-    go zero place p e =
-        let ends = o.ends in let here : place ≡ next - 1 = omega arith in
-        record { even = omega arith; passed = λ some. subst (λ (n : ℕ). PassedTo first nodes from t n left) here p; none = λ z. absurd (omega arith) }
+    go zero place p e = grind (arith, ints)
     go (suc k) place p e =
         let ends = o.ends in let most = le-mul_of_pos_right (next + 1) (pow_pos k) in
         let twice : (next + 1) * 2 ^ suc k ≡ (next + 1) * (2 * 2 ^ k) = ap (λ (x : ℕ). (next + 1) * x) (pow-succ' 2 k) in

@@ -14,9 +14,7 @@ combined_range x y p q (inl r) = let a = r.low in let b = r.high in let c = r.fi
 combined_range x y p q (inr r) = let a = r.low in let b = r.high in let c = r.first_low in let d = r.first_high in record { low = omega (arith, ints, clamps, p); high = omega (arith, ints, clamps, p); first_low = omega (arith, ints, clamps, p); first_high = omega (arith, ints, clamps, p) }
 
 combined_shape : (x y : Node) → IsRange x ⊎ (x ≡ empty_node) → IsRange y ⊎ (y ≡ empty_node) → IsRange (combined x y) ⊎ (combined x y ≡ empty_node)
-combined_shape x y (inl p) q = inl (combined_range x y (numbers x (inl p)) (numbers y q) (inl p))
-combined_shape x y (inr p) (inl q) = inl (combined_range x y (numbers x (inr p)) (numbers y (inl q)) (inr q))
-combined_shape x y (inr p) (inr q) = inr (rw (p, q) refl)
+combined_shape x y p q = grind (arith, ints, combined_range, numbers)
 
 -- a number in the range of both parts is in that of one
 split_range : (a : ℤ) (x y : Node) → Numbers x → Numbers y → (t : ℤ) → (a +ℤ (combined x y).least) ≤ℤ t → t ≤ℤ (a +ℤ (combined x y).greatest) → (((a +ℤ x.least) ≤ℤ t) × (t ≤ℤ (a +ℤ x.greatest))) ⊎ (((a +ℤ x.total +ℤ y.least) ≤ℤ t) × (t ≤ℤ (a +ℤ x.total +ℤ y.greatest)))
@@ -30,9 +28,7 @@ covers_combined blocks s m e x y sm me p q = record {
   shape = combined_shape x y p.shape q.shape;
   found = λ t lo hi. ⊎_elim
       (λ (r : ((total_before blocks s +ℤ x.least) ≤ℤ t) × (t ≤ℤ (total_before blocks s +ℤ x.greatest))). let f = p.found t r.0 r.1 in let b = f.2 in (f.0, f.1, omega arith, f.3))
-      (λ (r : ((total_before blocks s +ℤ x.total +ℤ y.least) ≤ℤ t) × (t ≤ℤ (total_before blocks s +ℤ x.total +ℤ y.greatest))).
-      let a = p.total in
-      let f = q.found t (omega (arith, ints)) (omega (arith, ints)) in let b = f.1 in (f.0, omega arith, f.2, f.3))
+      (grind (arith, ints))
       (split_range (total_before blocks s) x y (numbers x p.shape) (numbers y q.shape) t lo hi);
   low = λ k t a b r. ⊎_elim
       (λ (c : k < m). let g = p.low k t a c r in omega (arith, ints, clamps))
@@ -58,9 +54,7 @@ pub stands_children : (first i s e : ℕ) → StandsOver first i s e → i < fir
 stands_children first i s e p h = go p.height refl
   where
     go : (k : ℕ) → p.height ≡ k → HasChildren first i s e
-    go zero z =
-        let lv = p.levels in let pl = p.place in
-        grind (arith, ints)
+    go zero z = grind (arith, ints)
     go (suc k) z =
         let lv = p.levels in let ins = p.inside in let pl = p.place in let fr = p.from in let up = p.upto in
         let pw : 2 ^ p.height ≡ 2 * 2 ^ k = ap (λ (n : ℕ). 2 ^ n) z ∙ pow-succ' 2 k in
@@ -104,9 +98,7 @@ one_part : (first i s e s' e' : ℕ) → StandsOver first i s e → StandsOver f
 one_part first i s e s' e' p q =
     let a = pow_more p.level (p.level + 1) refl in let b = pow_more q.level (q.level + 1) refl in
     let c = pow_more (p.level + p.height) (p.level + p.height + 1) refl in let d = pow_more (q.level + q.height) (q.level + q.height + 1) refl in
-    let ab = order p.level q.level (omega arith) in let ba = order q.level p.level (omega arith) in
-    let cd = order (p.level + p.height) (q.level + q.height) (omega arith) in let dc = order (q.level + q.height) (p.level + p.height) (omega arith) in
-    grind (arith, ints)
+    grind (arith, ints, order)
 
 -- the parent of a child, with its other child
 parent_of : (first i j s e : ℕ) → StandsOver first i s e → (i ≡ 2 * j + 1) ⊎ (i ≡ 2 * j + 2) → (u : ℕ) × (v : ℕ) × StandsOver first j u v × HasChildren first j u v

@@ -19,24 +19,18 @@ from_lowest_one i n one h = record { zeros = i; splits = sym (zeros_below i n h)
 pub odd_most : (n odd : ℕ) → IsOddPart n odd → odd ≤ n
 odd_most n odd p = let a = le-mul_of_pos_right odd (pow_pos p.zeros) in omega arith
 
--- an odd number above 1 has as many digits as the number before it
-digits_odd : (n : ℕ) → 1 < n → n % 2 ≡ 1 → digits n ≡ digits (n - 1)
-digits_odd n some odd = grind (arith, digits_half)
-
 -- the node after the parent of a right child is a level up at least
 pub digits_after : (node odd : ℕ) → 0 < node → node % 2 ≡ 0 → IsOddPart ((node - 1) / 2 + 2) odd → digits odd + 1 ≤ digits (node + 1)
 digits_after node odd some even p =
     let most = odd_most _ _ p in
     let half = digits_half (node + 1) (omega arith) in
-    grind (arith, digits_up, digits_odd)
+    grind (arith, digits_up, digits_half)
 
 -- the node before the parent of a left child is a level up at least
 pub digits_before : (node odd : ℕ) → node % 2 ≡ 1 → IsOddPart ((node - 1) / 2 + 1) odd → digits (odd - 2 + 1) + 1 ≤ digits (node + 1)
 digits_before node odd left p =
     let most = odd_most _ _ p in
-    let half = digits_half (node + 1) (omega arith) in
-    let up = digits_up (odd - 2 + 1) ((node + 1) / 2) (omega arith) in
-    omega arith
+    grind (arith, digits_half, digits_up)
 
 -- ---- how many nodes a search reads: a level has a digit more than the one above it
 pub no_nodes : (a : Reads) (n : ℕ) → AddsAtMost a a (only_nodes n)
@@ -61,9 +55,7 @@ down_ends a b node first h p = grind (arith, digits_up, digits_child, adds_weake
 
 -- climbing: at most a node read at each level
 pub read_up : (a b c : Reads) (first node up : ℕ) → node ≤ 2 * first → digits (up + 1) + 1 ≤ digits (node + 1) → AddsAtMost a b (only_nodes (digits (2 * first + 1) - digits (node + 1))) → AddsAtMost b c (only_nodes 1) → AddsAtMost a c (only_nodes (digits (2 * first + 1) - digits (up + 1)))
-read_up a b c first node up h d p q =
-    let u = digits_up (node + 1) (2 * first + 1) (omega arith) in
-    adds_then p q (grind arith)
+read_up a b c first node up h d p q = grind (arith, digits_up, adds_then)
 
 pub up_ends : (a b : Reads) (first node : ℕ) → node ≤ 2 * first → AddsAtMost a b (only_nodes (digits (2 * first + 1) - digits (node + 1))) → AddsAtMost a b (only_nodes (2 * digits first))
 up_ends a b first node h p = grind (arith, digits_child, digit_some, adds_weaker)

@@ -114,9 +114,7 @@ few_over : (b : ℕ) → 0 < b → b + max 1 (2 ^ clog b - 1) < 3 * b
 few_over b h = ⊎_elim
     (λ (x : 0 < clog b).
     let low : 2 ^ (clog b - 1) < b = ⊎_elim (λ (y : 2 ^ (clog b - 1) < b). y) (λ (y : b ≤ 2 ^ (clog b - 1)). let z = clog_least b (clog b - 1) y in absurd (omega arith)) (cases_lt (2 ^ (clog b - 1)) b) in
-    let twice = pow_next (clog b - 1) in
-    let same : 2 ^ (clog b - 1 + 1) ≡ 2 ^ clog b = ap (λ (n : ℕ). 2 ^ n) (let g : clog b - 1 + 1 ≡ clog b = omega arith in g) in
-    omega arith)
+    grind (arith, pow_next))
     (λ (x : clog b ≤ 0).
     let one : 2 ^ clog b ≡ 1 = ap (λ (n : ℕ). 2 ^ n) (let z : clog b ≡ 0 = omega arith in z) in
     omega arith)

@@ -62,16 +62,12 @@ at_depth_decides F v t a = Decides-and (is_ancestor F a v) (eqb (depth F a + t) 
 
 pub no_steps_up : (F : Forest) (v : ℕ) → HasPair F v → level_ancestor F v 0 ≡ Some v
 unfolding level_ancestor
-no_steps_up F v h = first_node F _ _ (at_depth_decides F v 0) v h ((omega arith, omega arith), omega arith) (λ w x k g.
-    let dw = depth_is_excess F w k in let dv = depth_is_excess F v h in
-    grind (arith, ints))
+no_steps_up F v h = first_node F _ _ (at_depth_decides F v 0) v h ((omega arith, omega arith), omega arith) (grind (arith, ints, depth_is_excess))
 
 pub level_ancestor_is_search : (F : Forest) (v t : ℕ) → HasPair F v → 0 < t → last_rise_before (text F) v (neg_ℤ (pos t)) ≡ level_ancestor F v t
 unfolding level_ancestor
 level_ancestor_is_search F v t h some = by_answer (last_rise_before (text F) v (neg_ℤ (pos t)))
-    (λ e. e ∙ sym (no_first_node F _ _ (at_depth_decides F v t) (λ w k g.
-    let dw = depth_is_excess F w k in let dv = depth_is_excess F v h in let d = g.1 in
-    grind (arith, ints, before_none, inside, eq-or-lt_of_le))))
+    (λ e. e ∙ sym (no_first_node F _ _ (at_depth_decides F v t) (grind (arith, ints, depth_is_excess, before_none, inside, eq-or-lt_of_le))))
     (λ a e.
     let m = above_from_before F v t a some (opens F v h) (before_some (text F) v (neg_ℤ (pos t)) a e) in
     let r = above_is_around F v t a h m in

@@ -21,14 +21,8 @@ pub node_iff_one : (bits : List Bool) (v : ℕ) → IsBalanced bits → IsNode (
 node_iff_one bits v b =
     let n = node_iff_bit bits v b in grind (arith, slice_get-get_or, bit_inside, get_or_from_slice_get)
 
--- a bit read as a number
-got_one : (o : Option Bool) → (o ≡ Some true) ↔ (option_map bit_value o ≡ Some 1)
-got_one None = (λ h. absurd (cc), λ h. absurd (cc))
-got_one (Some true) = (λ h. refl, λ h. refl)
-got_one (Some false) = (λ h. absurd (cc), λ h. absurd (let e = same_Some 0 1 h in omega arith))
-
 pub node_iff_got : (bits : List Bool) (v : ℕ) → IsBalanced bits → IsNode (forest_of bits) v ↔ (option_map bit_value (slice_get bits v) ≡ Some 1)
-node_iff_got bits v b = grind (arith, node_iff_one, got_one)
+node_iff_got bits v b = grind (arith, node_iff_one, same_Some)
 
 -- ---- members that ascend, the first of them from n on
 abbrev pub AscendsFrom : ℕ → List ℕ → Type 0
@@ -103,9 +97,7 @@ member_passes p (x ∷ xs) i v e = go (member_passes p xs) (p x) refl i e
 
 passing_holds : (p : ℕ → Bool) (xs : List ℕ) (v : ℕ) → Contains xs v → p v ≡ true → Contains (filter p xs) v
 passing_holds p [] v (k, l, e) t = absurd (omega arith)
-passing_holds p (x ∷ xs) v (zero, l, e) t =
-    let s : p x ≡ true = subst (λ (k : ℕ). p k ≡ true) (sym e) t in
-    rw s (subst (Contains (x ∷ filter p xs)) e (contains_first x (filter p xs)))
+passing_holds p (x ∷ xs) v (zero, l, e) t = grind (arith, contains_first)
 passing_holds p (x ∷ xs) v (suc k, l, e) t = go (p x) (passing_holds p xs v (k, omega arith, e) t)
   where
     go : (b : Bool) → Contains (filter p xs) v → Contains (cond b (x ∷ filter p xs) (filter p xs)) v
@@ -126,9 +118,7 @@ level_ascends F d = filter_ascends (λ v. eqb (depth F v) d) 0 (nodes F) (nodes_
 
 level_member : (F : Forest) (d i v : ℕ) → slice_get (level F d) i ≡ Some v → IsNode F v × (depth F v ≡ d)
 unfolding level
-level_member F d i v e =
-    let r = member_passes (λ v. eqb (depth F v) d) (nodes F) i v e in
-    (r.0, (Decides-eqb (depth F v) d).0 r.1)
+level_member F d i v e = grind (arith, member_passes, Decides-eqb)
 
 pub level_iff_depth : (F : Forest) (d v : ℕ) → Contains (level F d) v ↔ (IsNode F v × (depth F v ≡ d))
 unfolding level

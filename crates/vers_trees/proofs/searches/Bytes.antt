@@ -39,13 +39,9 @@ entry_place entry ds least greatest x e a b h i =
     ap (λ (n : ℕ). n % 8) (sym (shr-shr entry 10 (3 * x))) ∙ ap (λ (n : ℕ). n / 2 ^ (3 * x) % 8) t ∙ octal-digit ds x h i
 
 -- ---- how the entry of a byte is met, step by step along its bits
-no_sum : (from_end : Bool) (bits : List Bool) → sum_along from_end bits 0 ≡ pos 0
-no_sum false bits = excess-zero bits
-no_sum true bits = omega (arith, ints)
-
 -- before the first step
 pub met_nothing : (from_end : Bool) (bits : List Bool) (places : List ℕ) → ((x : ℕ) → get_or places x 7 ≡ 7) → HasMet from_end bits 0 8 9 7 places
-met_nothing from_end bits places all = grind (arith, ints, no_sum)
+met_nothing from_end bits places all = grind (arith, ints, excess-zero)
 
 -- a step at a bit adds to the sum
 step_by : (from_end b : Bool) → step_along from_end b ≡ cond from_end (pos 0 -ℤ bit_step b) (bit_step b)
@@ -63,15 +59,12 @@ next_sum true bits n e h =
 pub bit_taken : (bits : List Bool) (byte place : ℕ) (b : Bool) → IsByte bits byte → bit_at byte place ≡ bit_value b → get_or bits place false ≡ b
 bit_taken bits byte place b is e = grind (arith, ints, bit_at-number)
 
-by_one : (from_end b : Bool) → (step_along from_end b ≡ pos 1) ⊎ (step_along from_end b ≡ negsuc 0)
-by_one from_end b = grind (arith, ints)
-
 -- what was met before stays so
 later : (from_end : Bool) (bits : List Bool) (n x p : ℕ) → IsFirstMet from_end bits n x p → IsFirstMet from_end bits (n + 1) x p
 later from_end bits n x p m = record { step = m.step; within = omega arith; sum = m.sum; first = m.first; place = m.place }
 
 pub up_or_down : (from_end b : Bool) (value next : ℕ) → pos next ≡ pos value +ℤ step_along from_end b → (next ≡ value + 1) ⊎ (next + 1 ≡ value)
-up_or_down from_end b value next u = grind (arith, ints, by_one)
+up_or_down from_end b value next u = grind (arith, ints)
 
 pub place_small : (from_end : Bool) (n : ℕ) → n < 8 → place_along from_end n < 8
 place_small true n h = omega arith
@@ -105,9 +98,7 @@ met_more from_end bits byte n value least greatest next place places least' grea
       high = λ k y. ⊎_elim (λ (z : k < n). let o = m.high k z in omega (arith, ints)) (λ (z : n ≤ k). let o = last k y z in omega (arith, ints)) (cases_lt k n);
       low = λ k y. ⊎_elim (λ (z : k < n). let o = m.low k z in omega (arith, ints)) (λ (z : n ≤ k). let o = last k y z in omega (arith, ints)) (cases_lt k n);
       met = λ x a c. ⊎_elim
-          (λ (q : ((next < least) ⊎ (greatest < next)) × (next ≡ x) × (get_or places' x 7 ≡ place)).
-          let at = q.1 in
-          record { step = n; within = omega arith; sum = omega (arith, ints); first = λ k y z. let l = m.low k y in let g = m.high k y in omega (arith, ints, q.0); place = q.2 ∙ e })
+          (grind (arith, ints))
           (λ (q : (((least ≤ next) × (next ≤ greatest)) ⊎ (next ≢ x)) × (get_or places' x 7 ≡ get_or places x 7)).
           rw q.1 (later from_end bits n x (get_or places x 7) (m.met x (omega (arith, m.around, near, q.0)) (omega (arith, m.around, near, q.0)))))
           (noted_at least greatest next place places least' greatest' places' w inside x);

@@ -22,9 +22,6 @@ abbrev before : Bool → List Bool → List Bool
 before p [] = []
 before p (b ∷ l) = p ∷ before b l
 
-or_values : (b p : Bool) → bit_or (bit_value b) (bit_value p) ≡ bit_value (b || p)
-or_values b p = grind (arith, ints)
-
 before_is : (p : Bool) (n : ℕ) (l : List Bool) → length l ≡ suc n → before p l ≡ p ∷ take n l
 before_is p n [] e = absurd (omega arith)
 before_is p zero (b ∷ []) e = refl
@@ -35,7 +32,7 @@ or_ones : (p : Bool) (l : List Bool) → count_ones (bit_or (number l) (number (
 or_ones p [] = let z = zero_ones in omega arith
 or_ones p (b ∷ l) =
     let a = or_block 1 (number l) (number (before b l)) (bit_value b) (bit_value p) (bit_small b) (bit_small p) in
-    grind (arith, ints, number_next, or_values, ones_next, or_ones b l)
+    grind (arith, ints, number_next, ones_next, or_ones b l)
 
 pub falls_counted : (l : List Bool) (word : ℕ) → length l ≡ 64 → word ≡ number l → falls false l + count_ones (bit_or word (word * 2 % 18446744073709551616)) ≡ 64
 falls_counted l word h e =

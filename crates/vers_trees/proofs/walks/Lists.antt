@@ -61,9 +61,7 @@ places-append bit (b ∷ k) l =
 -- the places of a tree written down, and of what follows it
 pub places-tree : (bit : Bool) (k l : List Bool) → places bit (true ∷ (k ++ false ∷ l))
     ≡ cond (is_bit bit true) (0 ∷ []) [] ++ (shifted 1 (places bit k) ++ (shifted (1 + length k) (cond (is_bit bit false) (0 ∷ []) []) ++ shifted (1 + length k + 1) (places bit l)))
-places-tree bit k l =
-    let e : 1 + (length k + 1) ≡ 1 + length k + 1 = omega arith in
-    rw (places-cons bit true (k ++ false ∷ l), places-append bit k (false ∷ l), places-cons bit false l) (simp (shifted-append, shifted-shifted, e))
+places-tree bit k l = grind (arith, places-cons, places-append, shifted-append, shifted-shifted)
 
 -- ---- what a test keeps
 -- tests of a thing and of what it is made into

@@ -46,9 +46,7 @@ reversed_first (x ∷ xs) =
 
 reversed_next : (xs : List ℕ) (i j w : ℕ) → AscendsFrom 0 xs → i + j + 1 ≡ length xs → slice_get xs j ≡ Some w → slice_get (reverse xs) (suc i) ≡ previous_of xs w
 reversed_next xs i zero w a h e = let r = length-reverse xs in slice_get_past (reverse xs) (suc i) (omega arith) ∙ sym (first_member_before 0 w xs a e)
-reversed_next xs i (suc j) w a h e =
-    let at : length xs - 1 - suc i ≡ j = omega arith in
-    reversed_at xs (suc i) (omega arith) ∙ ap (slice_get xs) at ∙ sym (member_before 0 j w xs a e)
+reversed_next xs i (suc j) w a h e = grind (arith, reversed_at, member_before)
 
 -- ---- children
 children_ascend : (F : Forest) (v : ℕ) → AscendsFrom 0 (children F v)
@@ -120,9 +118,7 @@ walk_goes_on l forward p v q w e = go (siblings_left l forward p) w (walk_short 
 
 walk_from : (l : List Bool) (forward : Bool) (p : ℕ) (vs : List ℕ) → MeetsJust (tree_beside l forward) p vs → length vs ≤ length l → (siblings_left l forward p ≡ vs) × IsWalkOfSiblings l forward p
 unfolding siblings_left
-walk_from l forward p vs m h =
-    let e = walk_is (tree_beside l forward) (length l) p vs m h in
-    (e, subst (MeetsJust (tree_beside l forward) p) (sym e) m)
+walk_from l forward p vs m h = grind (arith, walk_is)
 
 pub end_in : (l : List Bool) (v : ℕ) (o : Option ℕ) (c : ℕ) → IsBalanced l → IsNode (forest_of l) v → o ≡ first_rise_after l v (negsuc 0) → c ≡ unwrap_or o v → c ≡ closing (forest_of l) v
 end_in l v o c b n e d = d ∙ ap (λ (x : Option ℕ). unwrap_or x v) (e ∙ closing_by l b v n)
@@ -142,9 +138,7 @@ pub within_is : (l : List Bool) (v c : ℕ) → IsBalanced l → IsNode (forest_
 within_is l v c b n e = grind (arith, node_pair, subtree_size_is)
 
 pub subtree_inside : (bit : Bool) (l : List Bool) (v : ℕ) → IsBalanced l → IsNode (forest_of l) v → count bit l v + length (subtree (forest_of l) v) ≤ length (places bit l)
-subtree_inside bit l v b n =
-    let F = forest_of l in let h = node_pair (forest_of l) v n in
-    subst (λ (m : List Bool). count bit m v + length (subtree F v) ≤ length (places bit m)) (text-forest_of l b) (let p = part_size bit F v h in let q = subtree_size_is F v h in let i = part_inside bit F v h in omega arith)
+subtree_inside bit l v b n = grind (arith, node_pair, text-forest_of, part_size, subtree_size_is, part_inside)
 
 pub subtree_part : (l : List Bool) (v : ℕ) → IsBalanced l → IsNode (forest_of l) v → take (length (subtree (forest_of l) v)) (drop (count true l v) (places true l)) ≡ subtree (forest_of l) v
 subtree_part l v b n = grind (arith, subtree_is, node_pair, text-forest_of, as_part)
