@@ -8,6 +8,7 @@ pub mod BySize
 pub mod Items
 pub mod Ranges
 pub mod Nearest
+pub mod Trails
 pub mod Answered
 pub mod Sizes
 pub mod Gathering

@@ -1,16 +1,15 @@
 -- Members by size, from one level to the next.
-use Rattle.std.proofs.Common.{◌≡◌, ℕ, zero, suc, ◌+◌, ◌-◌, ◌*◌, ◌^◌, ◌&&◌, ◌<◌, ◌≤◌, Bool, true, false, cond, leb, ltb, List, [], ◌∷◌, length, get_or, drop, refl, sym, ap, ◌∙◌, subst, arith, inl, inr}
+use Rattle.std.proofs.Common.{◌≡◌, ℕ, ◌+◌, ◌-◌, ◌*◌, ◌^◌, ◌&&◌, ◌<◌, ◌≤◌, Bool, true, false, cond, leb, List, [], ◌∷◌, length, get_or, drop, refl, sym, ap, ◌∙◌, subst, arith, inl, inr}
 use Rattle.std.specs.Prelude.{Option, Some, None, option_map, slice_get, slice_range, IfSome, if◌then◌else◌}
-use Rattle.std.proofs.lemmas.Bool.{cases_lt, lt-ltb}
+use Rattle.std.proofs.lemmas.Bool.{cases_lt}
 use Rattle.std.proofs.lemmas.List.{length-take}
 use Rattle.std.proofs.lemmas.Option.{slice_get-get_or, slice_get_past}
 use Rattle.vers_bits.specs.Bits.{bit_value}
-use Rattle.vers_wavelet.specs.Levels.{value, values, next, under, KthOf, HasRoom}
+use Rattle.vers_wavelet.specs.Levels.{values, next, KthOf, HasRoom}
 use Rattle.vers_wavelet.specs.Batches.{member}
 use Rattle.vers_wavelet.specs.Symbols.{by_size}
-use Rattle.vers_wavelet.proofs.Values.{value-lt}
 use Rattle.vers_wavelet.proofs.BySize.{length-by_size, kth_at, at_kth}
-use Rattle.vers_wavelet.proofs.Steps.{kth_low, kth_high}
+use Rattle.vers_wavelet.proofs.Steps.{kth_low, kth_high, kth-lt}
 use Rattle.vers_wavelet.proofs.Lists.{length-values, length-part, kth_is, kth_of}
 use Rattle.vers_wavelet.proofs.Answering.{if_both, if_first_fails, if_second_fails}
 
@@ -29,20 +28,8 @@ member_is : (ls : List (List Bool)) (a b i x : ℕ) → a + i < b → KthOf ls a
 unfolding member
 member_is ls a b i x h kth = item_is ls b a b i x h (omega arith) kth
 
-under_all : (ls : List (List Bool)) (y n : ℕ) → 2 ^ length ls ≤ y → under ls y n ≡ n
-unfolding under
-under_all ls y zero h = refl
-under_all ls y (suc n) h =
-    let here : cond {A = ℕ} (ltb (value ls n) y) 1 0 ≡ 1 = ap {B = ℕ} (λ t. cond t 1 0) (lt-ltb (value ls n) y (omega (arith, value-lt ls n))) in
-    omega (arith, under_all ls y n h, here)
-
 member-lt : (ls : List (List Bool)) (a b i : ℕ) → a + i < b → member ls a b i < 2 ^ length ls
-member-lt ls a b i h =
-    let x : ℕ = member ls a b i in
-    elim (cases_lt x (2 ^ length ls)) [
-      | inl small ↦ small
-      | inr high ↦ absurd (omega (arith, (kth_member ls a b i h).less, under_all ls x a high, under_all ls x b high))
-    ]
+member-lt ls a b i h = kth-lt ls a b i (member ls a b i) (kth_member ls a b i h) h
 
 member_goes : (bit : Bool) (v : List Bool) (ls : List (List Bool)) (a b i j : ℕ) → a + i < b → b ≤ length v → next bit v a + j < next bit v b
     → j + cond bit (next false v b - next false v a) 0 ≡ i → next false v a ≤ next false v b

@@ -10,9 +10,9 @@ use Rattle.vers_bits.specs.Bits.{bit_value, is_bit, count}
 use Rattle.vers_bits.proofs.PublicLaws.{count_none, count_both, count_more_yes, count_more_no}
 use Rattle.vers_rank.specs.Queries.{index_size}
 use Rattle.vers_wavelet.specs.Symbols.{digit_list}
-use Rattle.vers_wavelet.specs.Levels.{start, next, value, values, hits, digit, AreLevels}
+use Rattle.vers_wavelet.specs.Levels.{start, next, value, values, hits, digit, Even, AreLevels}
 use Rattle.vers_wavelet.proofs.Values.{next_none, next_yes, next_no, value_is, value-lt}
-use Rattle.vers_wavelet.proofs.Steps.{Even, even_first, even_rest}
+use Rattle.vers_wavelet.proofs.Steps.{even_first, even_rest}
 use Rattle.vers_wavelet.proofs.Lists.{hits_same, length-values, get_or-values}
 
 hits_more : (q : ℕ → Bool) (n : ℕ) → hits q (n + 1) ≡ hits q n + cond (q n) 1 0

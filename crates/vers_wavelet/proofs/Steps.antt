@@ -1,17 +1,16 @@
 -- One level of a search.
-use Rattle.std.proofs.Common.{◌≡◌, ℕ, zero, suc, ◌+◌, ◌-◌, ◌*◌, ◌%◌, ◌^◌, ◌<◌, ◌≤◌, Bool, true, false, cond, List, [], ◌∷◌, length, drop, get_or, refl, sym, ap, ◌∙◌, subst, arith, add-one, inl, inr}
-use Rattle.std.specs.Prelude.{All}
+use Rattle.std.proofs.Common.{◌≡◌, ℕ, zero, suc, ◌+◌, ◌-◌, ◌*◌, ◌%◌, ◌^◌, ◌<◌, ◌≤◌, Bool, true, false, cond, List, [], ◌∷◌, length, take, drop, get_or, refl, sym, ap, ◌∙◌, subst, arith, add-one, inl, inr}
 use Rattle.std.proofs.Math.Seq.{drop-cons}
 use Rattle.std.proofs.Math.Nat.{pow-suc, mod-lt, mul-le-mul_right}
-use Rattle.std.proofs.lemmas.Bool.{cases_lt}
+use Rattle.std.proofs.lemmas.Bool.{cases_lt, lt-ltb, le-ltb}
 use Rattle.std.proofs.lemmas.Nat.{pow_pos}
-use Rattle.std.proofs.lemmas.List.{length-drop, drop_all}
+use Rattle.std.proofs.lemmas.List.{length-drop, drop_all, take_all}
 use Rattle.vers_bits.specs.Bits.{bit_value, count, select}
 use Rattle.vers_bits.proofs.PublicLaws.{select_holds}
 use Rattle.vers_tally.specs.Reads.{Reads, IsWithin, times}
-use Rattle.vers_wavelet.specs.Levels.{start, next, value, under, equal, way, digit, AreLevels, Narrowed, KthOf, Searched, Rises}
-use Rattle.vers_wavelet.proofs.Digits.{top_digit, room_none}
-use Rattle.vers_wavelet.proofs.Values.{same_bit, under_low, under_high, equal_under, under_none, next_none, next-up, next-le, none_under, all_equal, one_under, value_is, value_none, way_none, way_is, way-up, equal_more}
+use Rattle.vers_wavelet.specs.Levels.{start, next, value, under, equal, way, digit, Even, AreLevels, Narrowed, KthOf, HasRoom, Searched, Rises}
+use Rattle.vers_wavelet.proofs.Digits.{top_digit}
+use Rattle.vers_wavelet.proofs.Values.{same_bit, value-lt, one_more, under_all, under_low, under_high, equal_under, under_none, next_none, next-up, next-le, none_under, all_equal, one_under, value_is, value_none, way_none, way_is, way-up, equal_more}
 
 pub under_step : (bit : Bool) (l : List Bool) (ls : List (List Bool)) (s i : ℕ) → s ≤ 2 ^ length ls → i ≤ length l
     → under (l ∷ ls) (bit_value bit * 2 ^ length ls + s) i + under ls s (start bit l) ≡ cond bit (next false l i) 0 + under ls s (next bit l i)
@@ -53,6 +52,21 @@ kth_high l ls a b i j x ha hb e k =
       more = omega (arith, under_high l ls (x + 1) a ha, under_high l ls (x + 1) b hb, k.more, ap (λ y. under (l ∷ ls) y a) s, ap (λ y. under (l ∷ ls) y b) s);
     }
 
+pub kth-lt : (ls : List (List Bool)) (a b i x : ℕ) → KthOf ls a b i x → a + i < b → x < 2 ^ length ls
+kth-lt ls a b i x kth h =
+    elim (cases_lt x (2 ^ length ls)) [
+      | inl small ↦ small
+      | inr high ↦ absurd (omega (arith, h, kth.less, under_all ls x a high, under_all ls x b high))
+    ]
+
+-- the only member of a range
+kth_single : (ls : List (List Bool)) (a b : ℕ) → b ≡ a + 1 → KthOf ls a b 0 (value ls a)
+kth_single ls a b e =
+    let x : ℕ = value ls a in record {
+      less = omega (arith, ap (under ls x) e, one_more ls x a x false refl (le-ltb x x (omega arith)));
+      more = omega (arith, ap (under ls (x + 1)) e, one_more ls (x + 1) a x true refl (lt-ltb x (x + 1) (omega arith)));
+    }
+
 module _ (ls : List (List Bool)) (k : ℕ) (h : k < length ls) where
   pub level_at : (v : List Bool) → v ≡ get_or ls k v → drop k ls ≡ v ∷ drop (k + 1) ls
   level_at v at = drop-cons ls k v h ∙ ap (λ x. x ∷ drop (suc k) ls) (sym at) ∙ ap (λ n. v ∷ drop n ls) (sym (add-one k))
@@ -61,7 +75,7 @@ module _ (ls : List (List Bool)) (k : ℕ) (h : k < length ls) where
   levels_left = length-drop (k + 1) ls
 
 -- the digits of s from level k on: the first of them, and the others
-digit_from : (s m k : ℕ) → k < m → s % 2 ^ (m - k) ≡ bit_value (digit s (m - (k + 1))) * 2 ^ (m - (k + 1)) + s % 2 ^ (m - (k + 1))
+pub digit_from : (s m k : ℕ) → k < m → s % 2 ^ (m - k) ≡ bit_value (digit s (m - (k + 1))) * 2 ^ (m - (k + 1)) + s % 2 ^ (m - (k + 1))
 digit_from s m k h =
     let e : m - k ≡ m - (k + 1) + 1 = omega arith in
     ap (λ n. s % 2 ^ n) e ∙ top_digit s (m - (k + 1))
@@ -72,10 +86,6 @@ less_more true less ua ub va vb sa p q za zb order f g n = omega arith
 less_more false less ua ub va vb sa p q za zb order f g n = omega arith
 
 -- ---- the way down
-
--- all levels have n places
-abbrev pub Even : List (List Bool) → ℕ → Type 0
-Even ls n = All (λ l. length l ≡ n) ls
 
 pub even_rest : (l : List Bool) (ls : List (List Bool)) (n : ℕ) → Even (l ∷ ls) n → Even ls n
 even_rest l ls n even = λ k d h. even (suc k) d (omega arith)
@@ -126,7 +136,7 @@ way_high (l ∷ ls) n even s (suc k) =
     let down : next bit l n ≤ n = omega (arith, next-le bit l n, even_first l ls n even) in
     omega (arith, way_high ls n (even_rest l ls n even) s k, way-up ls s (next bit l n) n down, way_is l ls s n)
 
-even_drop : (ls : List (List Bool)) (n : ℕ) → Even ls n → (k : ℕ) → Even (drop k ls) n
+pub even_drop : (ls : List (List Bool)) (n : ℕ) → Even ls n → (k : ℕ) → Even (drop k ls) n
 even_drop ls n even zero = even
 even_drop [] n even (suc k) = even
 even_drop (l ∷ ls) n even (suc k) = even_drop ls n (even_rest l ls n even) k
@@ -276,6 +286,10 @@ module _ (ls : List (List Bool)) (k : ℕ) (h : k < length ls) (v : List Bool) (
       ∙ ap (λ n. bit_value bit * 2 ^ n + value (drop (k + 1) ls) (next bit v p)) (levels_left ls k h) in
       omega (arith, e, here)
 
+-- with no level read yet
+pub all_levels : (width k : ℕ) {number : ℕ} → HasRoom width k number → HasRoom width (k - 0) number
+all_levels width k {number} room = let e : k ≡ k - 0 = omega arith in subst (λ (j : ℕ). HasRoom width j number) e room
+
 pub searched_none : (ls : List (List Bool)) (from to i : ℕ) → Searched ls from to i 0 from to i 0
 searched_none ls from to i = record { each = λ x small k. let e : 0 + x ≡ x = omega arith in rw e k }
 
@@ -286,6 +300,15 @@ searched_all {ls} {from} {to} {th} {k} {a} {b} {i} {number} e s order =
     let kth : KthOf [] a b i 0 = record { less = omega (arith, none_under a, none_under b); more = omega (arith, one_under a, one_under b) } in
     let r : number + 0 ≡ number = omega arith in
     subst (KthOf ls from to th) r (s.each 0 (omega (arith, w)) (rw none kth))
+
+-- the levels from one on
+pub levels_from : (ls : List (List Bool)) (k : ℕ) → take (length ls - k) (drop k ls) ≡ drop k ls
+levels_from ls k = take_all (length ls - k) (drop k ls) (omega (arith, length-drop k ls))
+
+-- the symbol of the one place that is left
+pub searched_single : {ls : List (List Bool)} {from to th k a b number : ℕ} → b ≡ a + 1 → Searched ls from to th k a b 0 number → KthOf ls from to th (number + value (drop k ls) a)
+searched_single {ls} {from} {to} {th} {k} {a} {b} e s =
+    s.each (value (drop k ls) a) (subst (λ (i : ℕ). value (drop k ls) a < 2 ^ i) (length-drop k ls) (value-lt (drop k ls) a)) (kth_single (drop k ls) a b e)
 
 pub read_all : (ls : List (List Bool)) (k p number x : ℕ) → k ≡ length ls → number + value (drop k ls) p ≡ x → number ≡ x
 read_all ls k p number x e s = omega (arith, s, ap (λ m. value m p) (drop_all k ls (omega arith)) ∙ value_none p)
@@ -322,7 +345,7 @@ way_parts {ls} {n} levels s a b order within = omega (arith, way_equal ls n leve
 
 pub ruleset narrowing = (next-le, next-up, narrowed_none)
 
-pub ruleset searching = (searched_none, room_none, next-le, next-up)
+pub ruleset searching = (searched_none, next-le, next-up)
 
 pub way_within : {ls : List (List Bool)} {n : ℕ} → AreLevels ls n → (s : ℕ) → way ls s n ≤ n
 way_within {ls} {n} levels s = omega (arith, way_high ls n levels.even s (length ls), ap (λ m. way m s n) (drop_all (length ls) ls (omega arith)) ∙ way_none s n)

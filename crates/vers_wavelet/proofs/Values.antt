@@ -46,12 +46,20 @@ unders : (ls : List (List Bool)) (y n : ℕ) → under ls y (n + 1) ≡ under ls
 unfolding under
 unders ls y n = rw add-one refl
 
-one_more : (ls : List (List Bool)) (y n v : ℕ) (t : Bool) → value ls n ≡ v → ltb v y ≡ t → under ls y (n + 1) ≡ under ls y n + cond t 1 0
+pub one_more : (ls : List (List Bool)) (y n v : ℕ) (t : Bool) → value ls n ≡ v → ltb v y ≡ t → under ls y (n + 1) ≡ under ls y n + cond t 1 0
 one_more ls y n v t e f = unders ls y n ∙ ap (λ x. under ls y n + cond (ltb x y) 1 0) e ∙ ap (λ x. under ls y n + cond x 1 0) f
 
 pub under_none : (ls : List (List Bool)) (y : ℕ) → under ls y 0 ≡ 0
 unfolding under
 under_none ls y = refl
+
+-- all symbols are below what no number of so many digits reaches
+pub under_all : (ls : List (List Bool)) (y n : ℕ) → 2 ^ length ls ≤ y → under ls y n ≡ n
+unfolding under
+under_all ls y zero h = refl
+under_all ls y (suc n) h =
+    let here : cond {A = ℕ} (ltb (value ls n) y) 1 0 ≡ 1 = ap {B = ℕ} (λ t. cond t 1 0) (lt-ltb (value ls n) y (omega (arith, value-lt ls n))) in
+    omega (arith, under_all ls y n h, here)
 
 pub under_low : (l : List Bool) (ls : List (List Bool)) (y : ℕ) → y ≤ 2 ^ length ls → (i : ℕ) → i ≤ length l
     → under (l ∷ ls) y i ≡ under ls y (next false l i)
@@ -146,6 +154,17 @@ unfolding next
 next_both l a b order within = omega (arith, count_both l a, count_both l b, count_up true l a b order, count_up false l a b order)
 
 pub ruleset parts = (next_both, next-le, next-up)
+
+-- the zeros of a range of one place
+pub next_single : (l : List Bool) (i j : ℕ) (b : Bool) → j ≡ i + 1 → i < length l → b ≡ get_or l i false → next false l j ≡ cond b (next false l i) (next false l i + 1)
+next_single l i j true e h is = ap (next false l) e ∙ next_no false l i h (ap (is_bit false) (sym is))
+next_single l i j false e h is = ap (next false l) e ∙ next_yes false l i h (ap (is_bit false) (sym is))
+
+pub next-le_place : (l : List Bool) (i : ℕ) → next false l i ≤ i
+unfolding next
+next-le_place l i = omega (arith, count_le false l i)
+
+pub ruleset singles = (next-le_place)
 
 pub none_under : (i : ℕ) → under [] 0 i ≡ 0
 unfolding under

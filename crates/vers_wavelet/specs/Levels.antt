@@ -26,9 +26,13 @@ value (l ∷ ls) i = bit_value (slice_index_or l i false) * 2 ^ length ls + valu
 unfoldable pub values : List (List Bool) → ℕ → List ℕ
 values ls n = map (value ls) (range_with_len 0 n)
 
+-- all levels have n places
+abbrev pub Even : List (List Bool) → ℕ → Type 0
+Even ls n = All (λ l. length l ≡ n) ls
+
 -- all levels have n places, and no levels have none
 pub record AreLevels (ls : List (List Bool)) (n : ℕ) : Type 0 where
-  pub even : All (λ l. length l ≡ n) ls
+  pub even : Even ls n
   pub none : length ls ≡ 0 → n ≡ 0
   pub bounded : n ≤ 18446744073709551552
   pub narrow : length ls ≤ 65535

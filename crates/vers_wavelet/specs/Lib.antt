@@ -6,3 +6,4 @@ pub mod Makers
 pub mod Laws
 pub mod Batches
 pub mod Found
+pub mod Nearest

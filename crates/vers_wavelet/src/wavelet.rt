@@ -9,6 +9,7 @@ mod find;
 mod iter;
 mod level;
 mod make;
+mod nearest;
 mod neighbours;
 mod order;
 mod queries;

@@ -6,18 +6,12 @@ ghost use Rattle.vers_wavelet.specs.Symbols.{occurrences, ordered, by_size, rang
 ghost use Rattle.vers_wavelet.specs.Reads.{query_reads, walk_reads};
 
 use crate::wavelet::WaveletMatrix;
-use crate::wavelet::digits::{Digits, copy_digits};
+use crate::wavelet::digits::Digits;
+use crate::wavelet::nearest::find_nearest;
 use crate::wavelet::walk::{Equals, climb, descend, find_kth, narrow, read_symbol};
 use std::alloc::{AllocError, Allocator};
 use vers_bits::bit_vec::BitVec;
 use vers_tally::tally::Tally;
-
-// How many symbols of a range are below a symbol, and how many are it.
-#[derive(Clone, Copy, Drop)]
-struct Around {
-    below: usize,
-    equal: usize,
-}
 
 #[tactic(auto, using(crate::proofs::Lists::lists))]
 impl<A: Allocator + Copy> WaveletMatrix<A> {
@@ -153,34 +147,6 @@ impl<A: Allocator + Copy> WaveletMatrix<A> {
         Equals { from: i, count: 0 }
     }
 
-    // How many symbols of a range are below a symbol, and how many are it.
-    #[inline(always)]
-    fn count_around<D: Digits>(
-        &self,
-        symbol: &D,
-        start: usize,
-        end: usize,
-        tally: &mut Tally,
-    ) -> Around
-        requires order { start ≤ end }
-        requires within { end ≤ length self.now.items }
-        requires wide { self.now.width ≤ D.width symbol.now }
-        ensures below { result.below ≡ count_by (λ y.
-            nat_lt y (D.number symbol.now % 2 ^ self.now.width))
-            (slice_range self.now.items start end) }
-        ensures not_above { result.below + result.equal
-            ≡ count_by (λ y. nat_le y (D.number symbol.now % 2 ^ self.now.width))
-            (slice_range self.now.items start end) }
-        ensures few { result.below + result.equal ≤ end - start }
-        ensures adds { AddsAtMost tally.old tally.new (walk_reads self.now) }
-    {
-        let part = narrow(&self.levels, self.len, start, end, symbol, tally);
-        Around {
-            below: part.less,
-            equal: part.end - part.start,
-        }
-    }
-
     // Whether a range has a symbol that is not below a symbol, or, where `is_up` is false, one that
     // is not above it; and writes the nearest of these into a number that is 0. It is the symbol
     // itself, where the range has it.
@@ -206,17 +172,15 @@ impl<A: Allocator + Copy> WaveletMatrix<A> {
         ensures same { D.width answer.new ≡ D.width answer.old }
         ensures adds { AddsAtMost tally.old tally.new (times 2 (walk_reads self.now)) }
     {
-        let around = self.count_around(symbol, start, end, tally);
-        if around.equal > 0 {
-            copy_digits(symbol, self.bits_per_element(), answer);
-            return true;
-        }
-        let last = if is_up { end - start } else { 0 };
-        if around.below == last {
-            return false;
-        }
-        let i = around.below - usize::from(!is_up);
-        self.kth_in(start, end, i, answer, tally);
-        true
+        find_nearest(
+            &self.levels,
+            self.len,
+            start,
+            end,
+            is_up,
+            symbol,
+            answer,
+            tally,
+        )
     }
 }

@@ -1,28 +1,29 @@
-use Rattle.std.proofs.Common.{◌≡◌, ◌+◌, ◌-◌, ◌*◌, ◌%◌, ◌^◌, ℕ, arith, ap, ◌∙◌, refl, sym}
+use Rattle.std.proofs.Common.{◌≡◌, ◌+◌, ◌-◌, ◌*◌, ◌%◌, ◌^◌, ℕ, arith, ap, ◌∙◌, refl, sym, subst, ◌≤◌}
 use Rattle.vers_bits.specs.Bits.{bit_value}
+use Rattle.vers_wavelet.specs.Levels.{HasRoom}
 use Rattle.vers_wavelet.proofs.Digits.{room_none, room_left, room_more, top_digit}
 use Rattle.vers_wavelet.proofs.wavelet.digits.copy_digits.Goals as goal
 
 pub loop-i-init : goal.loop-i-init
 loop-i-init g c =
-    let e : c.args.k - 0 ≡ c.args.k = omega arith in
+    let e : c.args.high - 0 ≡ c.args.high = omega arith in
     record {
-      room = rw (c.requires.zero) (room_none (g.D.Digits.width c.args.to.now) (c.args.k - 0) (omega (arith, c.requires.to)));
+      room = rw (c.requires.zero) (room_none (g.D.Digits.width c.args.to.now) (c.args.high - 0) (omega (arith, c.requires.to)));
       same = refl;
       copied = omega (arith, c.requires.zero, ap (λ n. g.D.Digits.number c.args.from.now % 2 ^ n) e);
     }
 
 pub put_digit-requires-clause-room : goal.put_digit-requires-clause-room
-put_digit-requires-clause-room g c = room_left c.args.k c.loop-i.i c.loop-i-test.true c.loop-i.invariant.room
+put_digit-requires-clause-room g c = room_left c.args.high c.loop-i.i (omega arith) c.loop-i.invariant.room
 
 pub loop-i-preserved : goal.loop-i-preserved
 loop-i-preserved g c =
     let s : ℕ = g.D.Digits.number c.args.from.now in
-    let j : ℕ = c.args.k - (c.loop-i.i + 1) in
-    let e : c.args.k - c.loop-i.i ≡ j + 1 = omega arith in
-    let room = room_left c.args.k c.loop-i.i c.loop-i-test.true c.loop-i.invariant.room in
+    let j : ℕ = c.args.high - (c.loop-i.i + 1) in
+    let e : c.args.high - c.loop-i.i ≡ j + 1 = omega arith in
+    let room = room_left c.args.high c.loop-i.i (omega arith) c.loop-i.invariant.room in
     let put = c.put_digit.ensures in
-    let top : s % 2 ^ (c.args.k - c.loop-i.i) ≡ bit_value c.digit-bit.result * 2 ^ j + s % 2 ^ j =
+    let top : s % 2 ^ (c.args.high - c.loop-i.i) ≡ bit_value c.digit-bit.result * 2 ^ j + s % 2 ^ j =
     ap (λ n. s % 2 ^ n) e ∙ top_digit s j ∙ ap (λ b. bit_value b * 2 ^ j + s % 2 ^ j) (sym c.digit-bit.ensures) in
     record {
       room = rw (put.same, put.value) (room_more c.digit-bit.result _ _ _ room);
@@ -30,8 +31,15 @@ loop-i-preserved g c =
       copied = omega (arith, put.value, top, c.loop-i.invariant.copied);
     }
 
+last : (low high i : ℕ) → low ≤ high → i ≡ high - low → high - i ≡ low
+last low high i order e = omega arith
+
 pub returns-clause-value : goal.returns-clause-value
 returns-clause-value g c =
-    let e : c.args.k - c.loop-i.i ≡ 0 = omega arith in
-    let none : g.D.Digits.number c.args.from.now % 2 ^ (c.args.k - c.loop-i.i) ≡ 0 = ap (λ n. g.D.Digits.number c.args.from.now % 2 ^ n) e ∙ omega arith in
-    omega (arith, none, c.loop-i.invariant.copied)
+    let e : c.args.high - c.loop-i.i ≡ c.args.low = last c.args.low c.args.high c.loop-i.i c.requires.order (omega arith) in
+    omega (arith, ap (λ n. g.D.Digits.number c.args.from.now % 2 ^ n) e, c.loop-i.invariant.copied)
+
+pub returns-clause-room : goal.returns-clause-room
+returns-clause-room g c =
+    let e : c.args.high - c.loop-i.i ≡ c.args.low = last c.args.low c.args.high c.loop-i.i c.requires.order (omega arith) in
+    subst (λ (n : ℕ). HasRoom (g.D.Digits.width c.loop-i.to) n (g.D.Digits.number c.loop-i.to)) e c.loop-i.invariant.room

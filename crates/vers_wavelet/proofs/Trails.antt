@@ -1,0 +1,187 @@
+-- The way down to a nearest symbol, level by level, and what it finds.
+use Rattle.std.proofs.Common.{◌≡◌, ℕ, ◌+◌, ◌-◌, ◌*◌, ◌%◌, ◌^◌, ◌<◌, ◌≤◌, Bool, true, false, true≢false, not, cond, leb, ltb, List, length, get_or, drop, refl, sym, ap, subst, ◌∙◌, arith}
+use mathlib.Core.Bool.{beq}
+use Rattle.std.specs.Prelude.{slice_range, Some, None}
+use Rattle.std.specs.List.{count_by}
+use Rattle.std.proofs.lemmas.List.{length-drop}
+use Rattle.std.proofs.lemmas.List.Sums.{count_by-le-length}
+use Rattle.vers_bits.specs.Bits.{bit_value}
+use Rattle.vers_wavelet.specs.declared.wavelet.nearest.Trail.{Trail}
+use Rattle.vers_wavelet.specs.Levels.{next, under, way, values, digit, AreLevels, KthOf, Searched}
+use Rattle.vers_wavelet.specs.Nearest.{Leaves, Follows}
+use Rattle.vers_wavelet.specs.Symbols.{nearest, IsKth}
+use Rattle.vers_wavelet.proofs.Values.{next_both, next-le, next-up}
+use Rattle.vers_wavelet.proofs.Steps.{digit_from, narrowed_more, searched_more, narrowed_none, searched_none, kth-lt}
+use Rattle.vers_wavelet.proofs.BySize.{kth_place}
+use Rattle.vers_wavelet.proofs.Lists.{length-part, below_is, not_above_is, kth_is}
+use Rattle.vers_wavelet.proofs.Nearest.{nearest_same, nearest_is, nearest_none}
+
+-- where nothing is left beside, as many symbols as before are not beyond the digits that were followed
+passed_same : (up bit : Bool) (v : List Bool) (a b less c d more : ℕ) → a ≤ b → b ≤ length v → c ≡ next bit v a → d ≡ next bit v b → more ≡ less + cond bit (next false v b - next false v a) 0
+    → ((bit ≡ up → ⊥) → next up v a ≡ next up v b) → cond up (more + (d - c)) more ≡ cond up (less + (b - a)) less
+passed_same true true v a b less c d more order within e f g empty = omega (arith, next_both v a b order within, next-up true v a b order, next-up false v a b order)
+passed_same true false v a b less c d more order within e f g empty =
+    omega (arith, next_both v a b order within, next-up false v a b order, empty (λ q. true≢false (sym q)))
+passed_same false true v a b less c d more order within e f g empty = omega (arith, empty true≢false)
+passed_same false false v a b less c d more order within e f g empty = omega arith
+
+leaves_as : (up : Bool) (ls : List (List Bool)) (n s from to : ℕ) (t u : Trail) → u.beside ≡ t.beside
+    → cond up (u.part.less + (u.part.end - u.part.start)) u.part.less ≡ cond up (t.part.less + (t.part.end - t.part.start)) t.part.less
+    → Leaves up ls n s from to t → Leaves up ls n s from to u
+leaves_as true ls n s from to t u same e l = rw same (record { order = l.order; within = l.within; none = λ q. e ∙ l.none q; some = l.some; found = λ q number p. rw e (l.found q number p) })
+leaves_as false ls n s from to t u same e l = rw same (record { order = l.order; within = l.within; none = λ q. e ∙ l.none q; some = λ q. rw e (l.some q); found = λ q number p. rw e (l.found q number p) })
+
+-- what a comparison of two bits says
+pub same_bits : (b c : Bool) → beq b c ≡ true → b ≡ c
+same_bits true true e = refl
+same_bits true false e = sym e
+same_bits false true e = e
+same_bits false false e = refl
+
+pub other_bits : (b c : Bool) → beq b c ≡ false → b ≡ c → ⊥
+other_bits true true e q = true≢false e
+other_bits true false e q = true≢false q
+other_bits false true e q = true≢false (sym q)
+other_bits false false e q = true≢false e
+
+-- a bit that is not one is the other
+other_is : (b up : Bool) → (b ≡ up → ⊥) → b ≡ not up
+other_is true true e = absurd (e refl)
+other_is true false e = refl
+other_is false true e = refl
+other_is false false e = absurd (e refl)
+
+module _ (ls : List (List Bool)) (n s from to k : ℕ) (h : k < length ls) (v : List Bool) (at : v ≡ get_or ls k v) (long : length v ≡ n) (bit : Bool) (is : bit ≡ digit s (length ls - (k + 1))) where
+  abbrev m : ℕ
+  m = length ls
+
+  -- the digits followed so far make the number of one digit more
+  prefix_more : s % 2 ^ (m - k) ≤ s % 2 ^ m → (s % 2 ^ m - s % 2 ^ (m - k)) + bit_value bit * 2 ^ (m - (k + 1)) ≡ s % 2 ^ m - s % 2 ^ (m - (k + 1))
+  prefix_more low = omega (arith, digit_from s m k h, ap (λ d. bit_value d * 2 ^ (m - (k + 1))) is)
+
+  pub follows_more : (up : Bool) (t u : Trail) → Follows up ls n s from to k t → u.part.start ≡ next bit v t.part.start → u.part.end ≡ next bit v t.part.end
+      → u.part.less ≡ t.part.less + cond bit (next false v t.part.end - next false v t.part.start) 0 → u.part.start ≤ u.part.end
+      → u.part.less + (u.part.end - u.part.start) ≤ t.part.less + (t.part.end - t.part.start) → Leaves up ls n s from to u → Follows up ls n s from to (k + 1) u
+  follows_more up t u f first last less order few leaves = record {
+    order = order;
+    within = omega (arith, last, next-le bit v t.part.end);
+    few = omega (arith, few, f.few);
+    narrowed = rw (first, last, less) (narrowed_more ls s k h v at bit is (omega (arith, f.order, f.within)) (omega (arith, f.within)) f.order f.narrowed);
+    digits = omega (arith, f.digits, digit_from s m k h);
+    searched = λ j.
+        let z : ℕ = cond bit (next false v t.part.end - next false v t.part.start) 0 in
+        let th : u.part.less + j ≡ t.part.less + (j + z) = omega (arith, less) in
+        rw (th, first, last, ← prefix_more f.digits) (searched_more ls k h v at bit from to (t.part.less + (j + z)) t.part.start t.part.end (j + z) j (s % 2 ^ m - s % 2 ^ (m - k))
+        f.order (omega (arith, f.within)) refl (f.searched (j + z)));
+    leaves = leaves;
+  }
+
+  -- nothing new was left beside
+  pub leaves_kept : (up : Bool) (t u : Trail) → Follows up ls n s from to k t → u.part.start ≡ next bit v t.part.start → u.part.end ≡ next bit v t.part.end
+      → u.part.less ≡ t.part.less + cond bit (next false v t.part.end - next false v t.part.start) 0 → u.beside ≡ t.beside
+      → ((bit ≡ up → ⊥) → next up v t.part.start ≡ next up v t.part.end) → Leaves up ls n s from to u
+  leaves_kept up t u f first last less same empty =
+      leaves_as up ls n s from to t u same (passed_same up bit v t.part.start t.part.end t.part.less u.part.start u.part.end u.part.less f.order (omega (arith, f.within)) first last less empty) f.leaves
+
+  -- the other places were left beside
+  left_found : (up : Bool) (a b less c d more number : ℕ) → (bit ≡ up → ⊥) → a ≤ b → b ≤ length v → c ≡ next bit v a → d ≡ next bit v b
+      → more ≡ less + cond bit (next false v b - next false v a) 0 → next up v a < next up v b → number ≡ s % 2 ^ m - s % 2 ^ (m - k)
+      → ((j : ℕ) → Searched ls from to (less + j) k a b j (s % 2 ^ m - s % 2 ^ (m - k)))
+      → (0 < cond up 1 more) × Searched ls from to (cond up (more + (d - c)) (more - 1)) (k + 1) (next up v a) (next up v b) (cond up 0 (next up v b - next up v a - 1))
+      (number + bit_value up * 2 ^ (m - (k + 1)))
+  left_found true a b less c d more number other order within e f g some is' searched =
+      let off : bit ≡ false = other_is bit true other in
+      let z : ℕ = next false v b - next false v a in
+      let none : cond bit z 0 ≡ 0 = ap {B = ℕ} (λ t. cond t z 0) off in
+      let th : more + (d - c) ≡ less + z = omega (arith, g, none, e, f, ap (λ t. next t v a) off, ap (λ t. next t v b) off) in
+      let same : 0 + z ≡ z = omega arith in
+      (omega arith, rw (th, is') (searched_more ls k h v at true from to (less + z) a b z 0 (s % 2 ^ m - s % 2 ^ (m - k)) order within same (searched z)))
+  left_found false a b less c d more number other order within e f g some is' searched =
+      let on : bit ≡ true = other_is bit false other in
+      let z : ℕ = next false v b - next false v a in
+      let all : cond bit z 0 ≡ z = ap {B = ℕ} (λ t. cond t z 0) on in
+      let th : more - 1 ≡ less + (z - 1) = omega (arith, g, all, some) in
+      let same : z - 1 + 0 ≡ z - 1 = omega arith in
+      (omega (arith, g, all, some), rw (th, is') (searched_more ls k h v at false from to (less + (z - 1)) a b (z - 1) (z - 1) (s % 2 ^ m - s % 2 ^ (m - k)) order within same (searched (z - 1))))
+
+  pub leaves_new : (up : Bool) (t u : Trail) → Follows up ls n s from to k t → u.part.start ≡ next bit v t.part.start → u.part.end ≡ next bit v t.part.end
+      → u.part.less ≡ t.part.less + cond bit (next false v t.part.end - next false v t.part.start) 0
+      → u.beside.level ≡ k + 1 → u.beside.start ≡ next up v t.part.start → u.beside.end ≡ next up v t.part.end → (bit ≡ up → ⊥) → next up v t.part.start < next up v t.part.end → Leaves up ls n s from to u
+  leaves_new up t u f first last less deep left right other some =
+      let found = λ (number : ℕ) (e : number ≡ s % 2 ^ m - s % 2 ^ (m - k)). left_found up t.part.start t.part.end t.part.less u.part.start u.part.end u.part.less number other f.order (omega (arith, f.within)) first last less some e f.searched in
+      rw (deep, left, right) (record {
+        order = omega (arith, some);
+        within = omega (arith, next-le up v t.part.end);
+        none = λ q. absurd (omega (arith, q, some));
+        some = λ q. (omega arith, omega arith, (found (s % 2 ^ m - s % 2 ^ (m - k)) refl).0);
+        found = λ q number e.
+            let here : m - (k + 1) + 1 ≡ m - k = omega arith in
+            (found number (omega (arith, e, ap (λ i. s % 2 ^ i) here))).1;
+      })
+
+nothing_left : (up : Bool) (a : ℕ) → cond up (0 + a) 0 ≡ cond up a 0
+nothing_left true a = omega arith
+nothing_left false a = refl
+
+-- before the first level
+pub follows_none : (up : Bool) (ls : List (List Bool)) (n s from to : ℕ) → from ≤ to → to ≤ n
+    → Follows up ls n s from to 0 (record { part = record { start = from; end = to; less = 0 }; beside = record { level = 0; start = 0; end = 0 } })
+follows_none up ls n s from to order within =
+    let z : length ls - 0 ≡ length ls = omega arith in
+    let all : s % 2 ^ (length ls - 0) ≡ s % 2 ^ length ls = ap (λ i. s % 2 ^ i) z in
+    record {
+      order = order;
+      within = within;
+      few = omega arith;
+      narrowed = narrowed_none ls s from to;
+      digits = omega (arith, all);
+      searched = λ j.
+          let none : s % 2 ^ length ls - s % 2 ^ (length ls - 0) ≡ 0 = omega (arith, all) in
+          let same : 0 + j ≡ j = omega arith in
+          rw (none, same) (searched_none ls from to j);
+      leaves = record { order = omega arith; within = omega arith; none = λ q. nothing_left up (to - from); some = λ q. absurd (omega (arith, q)); found = λ q number e. absurd (omega (arith, q)) };
+    }
+
+-- ---- what is found
+
+-- the symbol itself
+pub found_same : {ls : List (List Bool)} {n : ℕ} → AreLevels ls n → (up : Bool) (s from to a b less x : ℕ) → from ≤ to → to ≤ n → a < b → a + way ls s to ≡ b + way ls s from
+    → less + under ls (s % 2 ^ length ls) from ≡ under ls (s % 2 ^ length ls) to → x + s % 2 ^ 0 ≡ s % 2 ^ length ls → nearest up (slice_range (values ls n) from to) (s % 2 ^ length ls) ≡ Some x
+found_same {ls} {n} levels up s from to a b less x order within some kept e is =
+    let none : s % 2 ^ 0 ≡ 0 = omega arith in
+    nearest_same up (slice_range (values ls n) from to) less (b - a) (s % 2 ^ length ls) x (below_is ls n from to (s % 2 ^ length ls) less order within e)
+    (not_above_is levels s from to less a b order within kept e) (omega arith) (omega (arith, none))
+
+module _ {ls : List (List Bool)} {n : ℕ} (levels : AreLevels ls n) (s from to : ℕ) (t : Trail) (order : from ≤ to) (within : to ≤ n) (last : t.part.end ≤ t.part.start) (sorted : t.part.start ≤ t.part.end) (kept : t.part.start + way ls s to ≡ t.part.end + way ls s from)
+    (e : t.part.less + under ls (s % 2 ^ length ls) from ≡ under ls (s % 2 ^ length ls) to) where
+  abbrev xs : List ℕ
+  xs = slice_range (values ls n) from to
+
+  low : t.part.less ≡ count_by (λ y. ltb y (s % 2 ^ length ls)) xs
+  low = below_is ls n from to (s % 2 ^ length ls) t.part.less order within e
+
+  high : t.part.less + (t.part.end - t.part.start) ≡ count_by (λ y. leb y (s % 2 ^ length ls)) xs
+  high = not_above_is levels s from to t.part.less t.part.start t.part.end order within kept e
+
+  -- there is none
+  pub found_none : (up : Bool) → Leaves up ls n s from to t → t.beside.start ≡ t.beside.end → nearest up xs (s % 2 ^ length ls) ≡ None
+  found_none true l empty = nearest_none true xs t.part.less (s % 2 ^ length ls) low (omega (arith, high, last)) (λ q. omega (arith, l.none empty, last, length-part ls n from to order within)) (λ q. absurd (true≢false q))
+  found_none false l empty = nearest_none false xs t.part.less (s % 2 ^ length ls) low (omega (arith, high, last)) (λ q. absurd (true≢false (sym q))) (λ q. l.none empty)
+
+  member_beside : (up : Bool) (number x : ℕ) → Leaves up ls n s from to t → t.beside.start < t.beside.end → number + s % 2 ^ (length ls - t.beside.level + 1) ≡ s % 2 ^ length ls
+      → KthOf (drop t.beside.level ls) t.beside.start t.beside.end (cond up 0 (t.beside.end - t.beside.start - 1)) x → t.beside.start + cond up 0 (t.beside.end - t.beside.start - 1) < t.beside.end
+      → IsKth xs (cond up (t.part.less + (t.part.end - t.part.start)) (t.part.less - 1)) (number + bit_value up * 2 ^ (length ls - t.beside.level) + x)
+  member_beside up number x l some is kth inside =
+      let small : x < 2 ^ (length ls - t.beside.level) = subst (λ (i : ℕ). x < 2 ^ i) (length-drop t.beside.level ls) (kth-lt (drop t.beside.level ls) _ _ _ x kth inside) in
+      kth_is ls n from to _ _ order within ((l.found some number is).each x small kth)
+
+  -- it was left beside
+  pub found_beside : (up : Bool) (number x : ℕ) → Leaves up ls n s from to t → t.beside.start < t.beside.end → number + s % 2 ^ (length ls - t.beside.level + 1) ≡ s % 2 ^ length ls
+      → KthOf (drop t.beside.level ls) t.beside.start t.beside.end (cond up 0 (t.beside.end - t.beside.start - 1)) x → nearest up xs (s % 2 ^ length ls) ≡ Some (number + bit_value up * 2 ^ (length ls - t.beside.level) + x)
+  found_beside true number x l some is kth =
+      let member = member_beside true number x l some is kth (omega (arith, some)) in
+      let same : t.part.less + (t.part.end - t.part.start) ≡ t.part.less = omega (arith, last) in
+      nearest_is true xs t.part.less (s % 2 ^ length ls) _ _ low (omega (arith, high, last)) (λ q. omega (arith, same, member.more, count_by-le-length (λ y. leb y (number + 1 * 2 ^ (length ls - t.beside.level) + x)) xs)) (λ q. absurd (true≢false q)) (omega (arith, same)) (kth_place _ _ _ member)
+  found_beside false number x l some is kth =
+      let member = member_beside false number x l some is kth (omega (arith, some)) in
+      nearest_is false xs t.part.less (s % 2 ^ length ls) _ _ low (omega (arith, high, last)) (λ q. absurd (true≢false (sym q))) (λ q. (l.some some).2) refl (kth_place _ _ _ member)

@@ -1,0 +1,11 @@
+use Rattle.std.proofs.Common.{◌*◌}
+use Rattle.vers_tally.specs.Reads.{AddsAtMost, times}
+use Rattle.vers_rank.specs.Queries.{rank_reads}
+use Rattle.vers_wavelet.specs.Nearest.{Follows}
+use Rattle.vers_wavelet.proofs.wavelet.nearest.follow.Given as goal
+
+abbrev pub invariant-loop-k : goal.invariant-loop-k
+invariant-loop-k g l = record {
+  follows : Follows l.is_up l.levels l.len (g.D.Digits.number l.symbol) l.start l.end l.k l.trail;
+  adds : AddsAtMost l.fn.tally l.tally (times (2 * l.k) rank_reads);
+}

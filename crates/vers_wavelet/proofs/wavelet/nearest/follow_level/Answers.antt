@@ -1,0 +1,37 @@
+use Rattle.std.proofs.Common.{◌≡◌, ◌+◌, ℕ, arith, length, ap, sym, ◌∙◌, refl}
+use Rattle.vers_wavelet.specs.declared.wavelet.nearest.Trail.{Trail}
+use Rattle.vers_wavelet.proofs.Values.{next-up}
+use Rattle.vers_wavelet.proofs.Trails.{same_bits, other_bits, follows_more, leaves_kept, leaves_new}
+use Rattle.vers_wavelet.proofs.wavelet.nearest.follow_level.Goals as goal
+use Rattle.vers_wavelet.proofs.wavelet.nearest.follow_level.Goals.{then-bit-is_up-via-then-bit-is_up, then-bit-is_up-via-else-bit-is_up+then-left}
+
+pub returns-then-bit-is_up-clause-follows : goal.returns-then-bit-is_up-clause-follows
+returns-then-bit-is_up-clause-follows g c = λ from to f.
+    let ls = c.args.levels.now in
+    let s : ℕ = g.D.Digits.number c.args.symbol.now in
+    let v = c.index-levels-k.result in
+    let long : length v ≡ c.args.len = ap length c.index-levels-k.is ∙ c.requires.levels.even c.args.k v c.requires.inside in
+    let part = c.part_of_bit-next in
+    let trail : Trail = record { part = part.result; beside = c.args.trail.beside } in
+    follows_more ls c.args.len s from to c.args.k c.requires.inside v c.index-levels-k.is long c.digit-bit.result c.digit-bit.ensures c.args.is_up c.args.trail trail f
+    part.ensures.start part.ensures.end part.ensures.less part.ensures.order part.ensures.few
+    (leaves_kept ls c.args.len s from to c.args.k c.requires.inside v c.index-levels-k.is long c.digit-bit.result c.digit-bit.ensures c.args.is_up c.args.trail trail f
+    part.ensures.start part.ensures.end part.ensures.less refl
+    (λ other. elim c.then-bit-is_up.branch [
+      | then-bit-is_up-via-then-bit-is_up w ↦ absurd (other (same_bits c.digit-bit.result c.args.is_up w.if-bit-is_up.true))
+      | then-bit-is_up-via-else-bit-is_up+then-left w ↦ sym c.chosen_place.ensures ∙ w.if-left.true ∙ c.chosen_place-2.ensures
+    ]))
+
+pub returns-clause-follows : goal.returns-clause-follows
+returns-clause-follows g c = λ from to f.
+    let ls = c.args.levels.now in
+    let s : ℕ = g.D.Digits.number c.args.symbol.now in
+    let v = c.index-levels-k.result in
+    let long : length v ≡ c.args.len = ap length c.index-levels-k.is ∙ c.requires.levels.even c.args.k v c.requires.inside in
+    let part = c.part_of_bit-next in
+    let trail : Trail = record { part = part.result; beside = record { level = c.args.k + 1; start = c.chosen_place.result; end = c.chosen_place-2.result } } in
+    follows_more ls c.args.len s from to c.args.k c.requires.inside v c.index-levels-k.is long c.digit-bit.result c.digit-bit.ensures c.args.is_up c.args.trail trail f
+    part.ensures.start part.ensures.end part.ensures.less part.ensures.order part.ensures.few
+    (leaves_new ls c.args.len s from to c.args.k c.requires.inside v c.index-levels-k.is long c.digit-bit.result c.digit-bit.ensures c.args.is_up c.args.trail trail f
+    part.ensures.start part.ensures.end part.ensures.less refl c.chosen_place.ensures c.chosen_place-2.ensures (other_bits c.digit-bit.result c.args.is_up c.if-bit-is_up.false)
+    (omega (arith, c.chosen_place.ensures, c.chosen_place-2.ensures, c.if-left.false, next-up c.args.is_up v c.args.trail.part.start c.args.trail.part.end f.order)))
