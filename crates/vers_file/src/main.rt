@@ -8,16 +8,20 @@ use std::env;
 use std::fs::File;
 use std::process::ExitCode;
 use vers_cli::{Device, fault_line as run_fault_line};
-use vers_files::{FilePlace, SaveFault, Shown, ask, fault_line, read, save_to, show};
+use vers_files::{
+    FilePlace, SaveFault, Shown, ask, ask_text, fault_line, read, save_to, show, text_fault_line,
+};
 
 const VERSION: &str = "vers_file 0.8.0";
 
 const HELP: &str = "Usage: vers_file save FILE < LINE
        vers_file ask FILE < LINES
+       vers_file text FILE < LINES
        vers_file show FILE
 
 save reads one load line, as \"bits 0110\", and puts its list into FILE, in the place of what stood there.
 ask answers query lines, as \"rank1 3\", where the list of FILE is held, and load lines.
+text answers lines about a text, as \"count 0 1\", where the symbols of FILE are the text, of 1 to 16 bits each.
 show tells which list FILE holds: its kind, its length, the bits of an item or of a tree's blocks, and the
 bytes of FILE.
 
@@ -28,6 +32,7 @@ vers_file --help prints this, and vers_file --version the version of the library
 enum Command<'a> {
     Save(&'a str),
     Ask(&'a str),
+    Text(&'a str),
     Show(&'a str),
     Help,
     Version,
@@ -43,6 +48,7 @@ fn command_of(words: &[String]) -> Option<Command<'_>> {
         [_, word, file] => match word.as_str() {
             "save" => Some(Command::Save(file.as_str())),
             "ask" => Some(Command::Ask(file.as_str())),
+            "text" => Some(Command::Text(file.as_str())),
             "show" => Some(Command::Show(file.as_str())),
             _ => None,
         },
@@ -78,6 +84,19 @@ fn ask_file(rt: &HostRuntime, path: &str) -> ExitCode {
         Ok(Ok(())) => ExitCode::SUCCESS,
         Ok(Err(error)) => fail(rt, run_fault_line(&error)),
         Err(fault) => fail_about(rt, path, fault_line(&fault)),
+    }
+}
+
+fn ask_text_file(rt: &HostRuntime, path: &str) -> ExitCode {
+    let Ok(mut file) = File::open(rt, path) else {
+        return fail_about(rt, path, "the file can't be opened");
+    };
+    let mut reader = Device::new(rt.stdin());
+    let mut writer = Device::new(rt.stdout());
+    match ask_text(rt.alloc(), &mut file, &mut reader, &mut writer) {
+        Ok(Ok(())) => ExitCode::SUCCESS,
+        Ok(Err(error)) => fail(rt, run_fault_line(&error)),
+        Err(fault) => fail_about(rt, path, text_fault_line(&fault)),
     }
 }
 
@@ -160,6 +179,7 @@ fn main(rt: HostRuntime) -> ExitCode {
     match command_of(words.as_slice()) {
         Some(Command::Save(path)) => save_file(&rt, path),
         Some(Command::Ask(path)) => ask_file(&rt, path),
+        Some(Command::Text(path)) => ask_text_file(&rt, path),
         Some(Command::Show(path)) => show_file(&rt, path),
         Some(Command::Help) => print_line(&rt, HELP),
         Some(Command::Version) => print_line(&rt, VERSION),

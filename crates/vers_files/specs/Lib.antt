@@ -2,3 +2,4 @@ pub mod Forms
 pub mod Asked
 pub mod SavedLines
 pub mod Shown
+pub mod TextFiles

@@ -1,5 +1,6 @@
 //! Lists of the line program in files: `save_to` puts the saved form of what a load line says in a place, whole or not
-//! at all, `ask` answers query lines about the list of a file, and `show` tells what a file holds.
+//! at all, `ask` answers query lines about the list of a file, `ask_text` lines about its text, and `show` tells what a
+//! file holds.
 #![tactic(auto)]
 
 mod asking;
@@ -7,9 +8,11 @@ mod loading;
 mod place;
 mod saving;
 mod showing;
+mod texts;
 
 pub use asking::ask;
 pub use loading::{fault_line, load, load_file, read};
 pub use place::{FilePlace, Place};
 pub use saving::{SaveFault, save, save_line, save_to};
 pub use showing::{Shown, show};
+pub use texts::{TextFault, ask_text, text_fault_line};

@@ -13,6 +13,10 @@ by_the_rules = answering_by replies_by_the_rules
 abbrev pub answers_to : Option (List ℕ) → List (List ℕ) → List ℕ
 answers_to held lines = answers_of by_the_rules held lines
 
--- what was written of the answers of the lines that were read, by how a run ends, where no text is held before them
+-- what was written of the answers of the lines that were read, with this text held before them, by how a run ends
+abbrev pub WrittenFrom : Option (List ℕ) → Result (Unit {0}) RunError → List (List ℕ) → List ℕ → Type 0
+WrittenFrom held result lines text = WrittenOf (answers_to held) result lines text
+
+-- the same, where no text is held before them
 abbrev pub WrittenAt : Result (Unit {0}) RunError → List (List ℕ) → List ℕ → Type 0
-WrittenAt result lines text = WrittenOf (answers_to None) result lines text
+WrittenAt result lines text = WrittenFrom None result lines text

@@ -3,7 +3,7 @@ ghost use Rattle.std.specs.Prelude.{◌≡◌, ◌<◌, ◌↔◌, IsTrue, List,
 ghost use Rattle.std.specs.Io.KnownBytes.{Appends, Consumes};
 ghost use Rattle.vers_engine.specs.Device.{FollowsReadFault, FollowsWriteFault};
 ghost use Rattle.vers_engine.specs.Answers.{AreLinesRead};
-ghost use Rattle.vers_texts.specs.Answers.{WrittenAt};
+ghost use Rattle.vers_texts.specs.Answers.{WrittenAt, WrittenFrom};
 
 use crate::store::Store;
 use std::alloc::Allocator;
@@ -49,5 +49,33 @@ pub fn run<A: Allocator + Copy, R: Source, W: Sink>(
     ensures write_cause { result ≡ Err RunError.Write
         → FollowsWriteFault W.write_gives writer.new.inner }
 {
-    answer_lines(alloc, Store::new(alloc), reader, writer)
+    run_from(alloc, Store::new(alloc), reader, writer)
+}
+
+/// Does what `run` does, where `store` says which text is held before the first line.
+///
+/// # Errors
+///
+/// As those of `run`.
+pub fn run_from<A: Allocator + Copy, R: Source, W: Sink>(
+    alloc: A,
+    store: Store<A>,
+    reader: &mut Device<R>,
+    writer: &mut Device<W>,
+) -> Result<(), RunError>
+    requires reader { reader.old.has_failed ≡ false }
+    requires writer { writer.old.has_failed ≡ false }
+    ensures answers { (read : List ℕ) × (written : List ℕ) × (lines : List (List ℕ))
+        × Consumes (R.remaining reader.old.inner) (R.remaining reader.new.inner) read
+        × Appends (W.contents writer.old.inner) (W.contents writer.new.inner) written
+        × AreLinesRead result (R.remaining reader.new.inner) read lines
+        × WrittenFrom store result lines written }
+    ensures read { (result ≡ Err RunError.Read) ↔ IsTrue reader.new.has_failed }
+    ensures write { (result ≡ Err RunError.Write) ↔ IsTrue writer.new.has_failed }
+    ensures read_cause { result ≡ Err RunError.Read → 0 < reader.new.reads_left
+        → FollowsReadFault R.read_gives reader.new.inner }
+    ensures write_cause { result ≡ Err RunError.Write
+        → FollowsWriteFault W.write_gives writer.new.inner }
+{
+    answer_lines(alloc, store, reader, writer)
 }

@@ -40,6 +40,14 @@ impl<A: Allocator + Copy> Store<A> {
         Store { alloc, held: None }
     }
 
+    /// The text of this index is held.
+    pub fn of(alloc: A, text: TextIndex<A>) -> Store<A>
+        ensures { result ≡ Some text.items }
+    {
+        let held = Some(text);
+        Store { alloc, held }
+    }
+
     // The reply of the load line `text K S..`. What was held is kept, unless the line is accepted.
     fn load(&mut self, arguments: &[u8]) -> Result<Reply<A>, AllocError>
         ensures reply { IfOk result (λ reply.

@@ -1,0 +1,187 @@
+//! Lines about the text of a file, which is saved as a list of symbols.
+ghost use Rattle.std.specs.Prelude.{◌≡◌, ◌<◌, ◌≤◌, ◌↔◌, ◌⊎◌, IsTrue, length, Some, false, IfOk, IfErr, OnErr};
+ghost use Rattle.vers_engine.specs.Device.{FollowsReadFault, FollowsWriteFault};
+ghost use Rattle.vers_wavelet.specs.Symbols.{Symbols};
+ghost use Rattle.text_index.specs.Makers.{IsSymbolWidth};
+ghost use Rattle.vers_cli.specs.Holding.{holding_of, SymbolsHeld};
+ghost use Rattle.vers_texts.specs.Answers.{by_the_rules};
+ghost use Rattle.vers_files.specs.Asked.{AnswersFrom};
+ghost use Rattle.vers_files.specs.TextFiles.{AreSymbolsOf, HasNoSymbols, IsNoText, text_fault_text};
+
+use crate::loading::{fault_line, load_file};
+use std::alloc::{AllocError, Allocator};
+use std::io::Read;
+use text_index::{MAX_LEN, TextError, TextIndex};
+use vers_cli::Held;
+use vers_saved::fault::LoadError;
+use vers_texts::{Device, RunError, Sink, Source, Store, run_from};
+use vers_wavelet::wavelet::WaveletMatrix;
+
+/// Why the lines about the text of a file were not answered. The first that applies is told.
+#[derive(Clone, Copy, PartialEq, Eq, Debug, Drop)]
+pub enum TextFault {
+    /// The file was not loaded.
+    File(LoadError),
+    /// Its list is none of symbols.
+    NoSymbols,
+    /// Its symbols have no bits, or more than 16.
+    OtherWidth,
+    /// There are more symbols than a text has.
+    TooLong,
+    /// The allocator has no memory for the symbols or the index.
+    Memory,
+}
+
+impl From<AllocError> for TextFault {
+    ghost use Rattle.vers_files.specs.declared.texts.TextFault.TheVariants.{Memory};
+
+    ghost from_gives = { λ _ e. e ≡ Memory };
+
+    fn from(_: AllocError) -> TextFault {
+        TextFault::Memory
+    }
+}
+
+// The symbols of a list, and how many bits each has.
+#[derive(Drop)]
+struct PlainSymbols<A: Allocator> {
+    width: u16,
+    items: Vec<u64, A>,
+}
+
+/// Reads lines to the end of the input and writes the answer of each, where the text is held before the first line
+/// that `file` is the saved form of, as a list of symbols of 1 to 16 bits. The answers are those of the program over
+/// texts, and so are the faults of reader and writer, which are the inner error. The text is indexed before the first
+/// line; what was loaded is let go before.
+///
+/// # Errors
+///
+/// Why the file is no text. No line was read then, and nothing was written.
+pub fn ask_text<A: Allocator + Copy, F: Read, R: Source, W: Sink>(
+    alloc: A,
+    file: &mut F,
+    reader: &mut Device<R>,
+    writer: &mut Device<W>,
+) -> Result<Result<(), RunError>, TextFault>
+    requires reader { reader.old.has_failed ≡ false }
+    requires writer { writer.old.has_failed ≡ false }
+    ensures answers { IfOk result (λ ended. (text : Symbols) × AreSymbolsOf (F.remaining file.old) text
+        × AnswersFrom by_the_rules (Some text.items) ended (R.remaining reader.old.inner) (R.remaining reader.new.inner)
+        (W.contents writer.old.inner) (W.contents writer.new.inner)) }
+    ensures read { IfOk result (λ ended. (ended ≡ Err RunError.Read) ↔ IsTrue reader.new.has_failed) }
+    ensures write { IfOk result (λ ended. (ended ≡ Err RunError.Write) ↔ IsTrue writer.new.has_failed) }
+    ensures read_cause { IfOk result (λ ended. ended ≡ Err RunError.Read → 0 < reader.new.reads_left
+        → FollowsReadFault R.read_gives reader.new.inner) }
+    ensures write_cause { IfOk result (λ ended. ended ≡ Err RunError.Write
+        → FollowsWriteFault W.write_gives writer.new.inner) }
+    ensures refused { IfErr result (λ e. IsNoText (F.remaining file.old) e) }
+    ensures reader { OnErr result (reader.new ≡ reader.old) }
+    ensures writer { OnErr result (writer.new ≡ writer.old) }
+{
+    match load_text(alloc, file) {
+        Ok(text) => Ok(run_from(alloc, Store::of(alloc, text), reader, writer)),
+        Err(fault) => Err(fault),
+    }
+}
+
+// The index of the text that all bytes of a reader are the saved form of.
+fn load_text<A: Allocator + Copy, F: Read>(
+    alloc: A,
+    file: &mut F,
+) -> Result<TextIndex<A>, TextFault>
+    ensures loaded { IfOk result (λ text. AreSymbolsOf (F.remaining file.old)
+        (record { width = text.width; items = text.items })) }
+    ensures refused { IfErr result (λ e. IsNoText (F.remaining file.old) e) }
+{
+    let symbols = load_symbols(alloc, file)?;
+    indexed(alloc, symbols.items.as_slice(), symbols.width)
+}
+
+// The symbols that all bytes of a reader are the saved form of. What finds them in the list is let go.
+fn load_symbols<A: Allocator + Copy, F: Read>(
+    alloc: A,
+    file: &mut F,
+) -> Result<PlainSymbols<A>, TextFault>
+    ensures loaded { IfOk result (λ symbols. AreSymbolsOf (F.remaining file.old)
+        (record { width = symbols.width; items = symbols.items.items })) }
+    ensures width { IfOk result (λ symbols. IsSymbolWidth symbols.width) }
+    ensures refused { IfErr result (λ e. IsNoText (F.remaining file.old) e) }
+{
+    match load_file(&alloc, file) {
+        Ok(store) => symbols_held(alloc, store.held()),
+        Err(fault) => Err(TextFault::File(fault)),
+    }
+}
+
+// The symbols of what is held.
+fn symbols_held<A: Allocator + Copy>(
+    alloc: A,
+    held: &Held<'_, A>,
+) -> Result<PlainSymbols<A>, TextFault>
+    ensures held { IfOk result (λ symbols. holding_of held.now
+        ≡ SymbolsHeld (record { width = symbols.width; items = symbols.items.items })) }
+    ensures width { IfOk result (λ symbols. IsSymbolWidth symbols.width) }
+    ensures refused { IfErr result (λ e. (e ≡ TextFault.Memory)
+        ⊎ ((e ≡ TextFault.NoSymbols) × HasNoSymbols (holding_of held.now))
+        ⊎ ((e ≡ TextFault.OtherWidth) × ((symbols : Symbols) × (holding_of held.now ≡ SymbolsHeld symbols)
+        × (IsSymbolWidth symbols.width → ⊥)))) }
+{
+    let Held::Symbols(symbols) = held else {
+        return Err(TextFault::NoSymbols);
+    };
+    let width = symbols.bit_len();
+    if width == 0 || width > 16 {
+        return Err(TextFault::OtherWidth);
+    }
+    Ok(PlainSymbols {
+        width,
+        items: items_of(alloc, symbols)?,
+    })
+}
+
+// The items of a list of symbols of at most 64 bits.
+fn items_of<A: Allocator + Copy>(
+    alloc: A,
+    symbols: &WaveletMatrix<A>,
+) -> Result<Vec<u64, A>, AllocError>
+    requires { symbols.now.width ≤ 64 }
+    ensures { IfOk result (λ items. items.items ≡ symbols.now.items) }
+{
+    let mut items = Vec::with_capacity(alloc, symbols.len())?;
+    for place in 0..symbols.len() {
+        items.push(symbols.get_u64_unchecked(place))?;
+    }
+    Ok(items)
+}
+
+// The index of a text of a width that texts have.
+fn indexed<A: Allocator + Copy>(
+    alloc: A,
+    symbols: &[u64],
+    width: u16,
+) -> Result<TextIndex<A>, TextFault>
+    requires { IsSymbolWidth width }
+    ensures width { IfOk result (λ text. text.width ≡ width) }
+    ensures items { IfOk result (λ text. text.items ≡ symbols.now) }
+    ensures refused { IfErr result (λ e. (e ≡ TextFault.Memory)
+        ⊎ ((e ≡ TextFault.TooLong) × (MAX_LEN < length symbols.now))) }
+{
+    match TextIndex::from_slice(alloc, symbols, width) {
+        Ok(text) => Ok(text),
+        Err(TextError::TooLong) => Err(TextFault::TooLong),
+        Err(_) => Err(TextFault::Memory),
+    }
+}
+
+/// What is to be said of a fault: its name, and what it means.
+pub fn text_fault_line(fault: &TextFault) -> &'static str
+    ensures { result.now ≡ text_fault_text fault.now }
+{
+    match fault {
+        TextFault::File(fault) => fault_line(fault),
+        TextFault::NoSymbols => "NoSymbols: the list of the file is none of symbols",
+        TextFault::OtherWidth => "OtherWidth: the symbols of a text have 1 to 16 bits",
+        TextFault::TooLong => "TooLong: a text has at most 4294967294 symbols",
+        TextFault::Memory => "Memory: out of memory",
+    }
+}
