@@ -2,6 +2,7 @@
 
 import bisect
 import copy
+import ctypes
 import pickle
 import random
 import re
@@ -295,7 +296,8 @@ class Owners(unittest.TestCase):
 
     def test_shared(self):
         made = vers.BitVec([1, 0, 1])
-        other = _library.Handle()
+        handles = _library.Handle(), _library.Handle()
+        other, empty = map(ctypes.addressof, handles)
         _library.done(_library.clone(made._at, other))
         with self.assertRaises(vers.Shared):
             made.append(1)
@@ -303,7 +305,7 @@ class Owners(unittest.TestCase):
             _library.done(_library.clone(made._at, other))
         _library.free(other)
         with self.assertRaises(vers.Vacant):
-            _library.done(_library.clone(other, _library.Handle()))
+            _library.done(_library.clone(other, empty))
         made.append(1)
         self.assertEqual(list(made), [1, 0, 1, 1])
 
