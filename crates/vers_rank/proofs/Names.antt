@@ -12,7 +12,7 @@ pub use Rattle.vers_bits.proofs.PublicLaws.{any_default, bit_item, count_at_sele
 pub use Rattle.vers_bits.specs.Bits.{bit_value, block_count, count, is_bit, limb, limb_count, places, select}
 pub use Rattle.vers_rank.specs.Queries.{select_reads, superblock_count}
 pub use Rattle.vers_rank.specs.inside.Batches.{Gives, IsIn, StandsFor, level_reads, number_of, superblock_reads}
-pub use Rattle.vers_rank.specs.inside.Index.{AreEntries, AreFirstSamples, HasPassed, IsAmongLimbs, IsIndexed, IsLimbWith, IsSample, held, held_before, held_in}
+pub use Rattle.vers_rank.specs.inside.Index.{AreEntries, AreFirstSamples, IsAmongLimbs, IsIndexed, IsLimbWith, IsSample, held, held_before, held_in}
 pub use Rattle.vers_rank.specs.inside.Offsets.{last_first, ones_below}
 pub use Rattle.vers_rank.specs.inside.Walks.{IsChunkWalkOf, IsMarked, IsReading, IsReadingBack, chunk_places_left, chunks_unread, marked}
 pub use Rattle.vers_tally.proofs.PublicLaws.{adds_then, digits_halved, digits_up, within_itself}

@@ -1,5 +1,5 @@
 -- From counts to places.
-use Rattle.vers_rank.proofs.Names.{◌≡◌, ℕ, ◌+◌, ◌-◌, ◌*◌, ◌/◌, ◌<◌, ◌≤◌, Bool, true, false, List, length, get_or, ap, ◌∙◌, refl, sym, inl, inr, arith, min, cases_lt, cases_Bool, is_bit, count, limb, limb_count, select, count_le_all, count_le, count_up, count_near, count_limb, count_both, count_past, select_at, select_past, count_at_select, count_more_yes, count_more_no, digits, digits_up, digits_halved, IsSample, IsLimbWith, IsAmongLimbs, HasPassed}
+use Rattle.vers_rank.proofs.Names.{◌≡◌, ℕ, ◌+◌, ◌-◌, ◌*◌, ◌/◌, ◌<◌, ◌≤◌, Bool, true, false, List, length, get_or, ap, ◌∙◌, refl, sym, inl, inr, arith, min, cases_lt, cases_Bool, is_bit, count, limb, limb_count, select, count_le_all, count_le, count_up, count_near, count_limb, count_both, count_past, select_at, select_past, count_at_select, count_more_yes, count_more_no, digits, digits_up, digits_halved, IsSample, IsLimbWith, IsAmongLimbs}
 use Rattle.vers_rank.specs.inside.Index.{held, held_in, held_of}
 use Rattle.vers_rank.proofs.Ranks.{count_at}
 use Rattle.vers_rank.proofs.Words.{ones_few}
@@ -170,27 +170,6 @@ pub ruleset halves_of_block = (count_at, all_limbs, one_limb)
 -- the greater half of n has a digit less
 pub half_left : (n : ℕ) → 1 < n → digits (n - n / 2 - 1) + 1 ≤ digits (n - 1)
 half_left n h = digits_halved (n - n / 2 - 1) (n - 1) (omega arith) (omega arith)
-
--- the superblock of number r, by which of the next three it has passed
-pub found_among : (b : Bool) (l : List Bool) (r first n x y z : ℕ) → n ≤ 4 → count b l (8192 * first) ≤ r → r < count b l (8192 * (first + n))
-    → HasPassed b l r (first + 1) x → HasPassed b l r (first + 2) y → HasPassed b l r (first + 3) z
-    → (count b l (8192 * (first + (x + y + z))) ≤ r) × (r < count b l (8192 * (first + (x + y + z) + 1)))
-found_among b l r first n x y z few from to second third fourth =
-    let up : (i j : ℕ) → i ≤ j → count b l (8192 * (first + i)) ≤ count b l (8192 * (first + j)) = λ i j h. count_up b l (8192 * (first + i)) (8192 * (first + j)) (omega arith) in
-    let is : (k : ℕ) → x + y + z ≡ k → count b l (8192 * (first + k)) ≤ r → r < count b l (8192 * (first + (k + 1))) → (count b l (8192 * (first + (x + y + z))) ≤ r) × (r < count b l (8192 * (first + (x + y + z) + 1))) =
-    λ k e low high. rw e (low, (let next : 8192 * (first + k + 1) ≡ 8192 * (first + (k + 1)) = omega arith in omega (arith, ap (count b l) next))) in
-    let off : (i j m : ℕ) → i ≤ j → r < count b l (8192 * (first + i)) → HasPassed b l r (first + j) m → m ≡ 0 = λ i j m order low at. elim (cases_lt 0 m) [ inl on ↦ absurd (omega (arith, at.yes on, up i j order)) | inr none ↦ omega arith ] in
-    let none : first + 0 ≡ first = omega arith in
-    elim (cases_lt 0 x) [
-      | inr stays ↦ is 0 (omega (arith, off 1 2 y (omega arith) (second.no (omega arith)) third, off 1 3 z (omega arith) (second.no (omega arith)) fourth)) (omega (arith, ap (λ i. count b l (8192 * i)) none)) (second.no (omega arith))
-      | inl one ↦ elim (cases_lt 0 y) [
-        | inr stays ↦ is 1 (omega (arith, second.few, off 2 3 z (omega arith) (third.no (omega arith)) fourth)) (second.yes one) (third.no (omega arith))
-        | inl two ↦ elim (cases_lt 0 z) [
-          | inr stays ↦ is 2 (omega (arith, second.few, third.few)) (third.yes two) (fourth.no (omega arith))
-          | inl three ↦ is 3 (omega (arith, second.few, third.few, fourth.few)) (fourth.yes three) (omega (arith, up n 4 few))
-        ]
-      ]
-    ]
 
 -- a few steps, and then halves
 pub ruleset steps = (digits_up)

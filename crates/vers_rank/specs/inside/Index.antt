@@ -54,12 +54,6 @@ pub record AreFirstSamples (b : Bool) (l : List Bool) (n : ℕ) (samples : List 
   pub counted : length samples ≡ n
   pub each : (j : ℕ) → j < n → IsSample b l j (slice_index samples j)
 
--- x is 1 where number r stands at or past the places of superblock s, and else 0
-pub record HasPassed (b : Bool) (l : List Bool) (r s x : ℕ) : Type 0 where
-  pub few : x ≤ 1
-  pub yes : 0 < x → count b l (SUPERBLOCK * s) ≤ r
-  pub no : x < 1 → r < count b l (SUPERBLOCK * s)
-
 -- among the limbs of a block up to number last, the one with number r of the block's places of the bit, or last; and how many of these places stand before it
 pub record IsLimbWith (b : Bool) (l : List Bool) (block r last limb before : ℕ) : Type 0 where
   pub start : 8 * block ≤ limb

@@ -3,7 +3,7 @@ ghost use Rattle.std.specs.Prelude.{◌≡◌, ℕ, ◌+◌, ◌-◌, ◌*◌, �
 ghost use Rattle.vers_bits.specs.Bits.{count, limb, select};
 ghost use Rattle.vers_tally.specs.Reads.{no_reads, one_more, only_block_entries, only_superblock_entries, only_data_words, digits, AddsAtMost};
 ghost use Rattle.vers_rank.specs.Queries.{superblock_count, select_reads};
-ghost use Rattle.vers_rank.specs.inside.Index.{held, held_in, IsSample, HasPassed, IsLimbWith, IsAmongLimbs};
+ghost use Rattle.vers_rank.specs.inside.Index.{held, held_in, IsSample, IsLimbWith, IsAmongLimbs};
 
 use super::{BLOCK, BLOCKS, LIMB, RsVec, SUPERBLOCK};
 use crate::lanes::{FAR_BELOW, FoundBlock, last_up_to};
@@ -367,8 +367,9 @@ impl<A: Allocator + Copy> RsVec<A> {
         self.superblock_among(bit, r, first, n - STEPS, tally)
     }
 
-    // The superblock of number `r` among the `n` from `first` on: by halves while there are many. Which
-    // superblocks are looked at next is no branch, so that nothing depends on a guess of it.
+    // The superblock of number `r` among the `n` from `first` on: by halves while there are many, and
+    // then one after the other. Which superblocks are looked at next is no branch, so that nothing
+    // depends on a guess of it.
     #[inline(always)]
     #[tactic(auto, using(crate::proofs::Selects::halves))]
     fn superblock_among(
@@ -399,74 +400,8 @@ impl<A: Allocator + Copy> RsVec<A> {
             }
             left -= half;
         }
-        self.superblock_of_few(bit, r, start, left, tally)
-    }
-
-    // The superblock of number `r` among the `n` from `first` on, which are few: as many further as don't
-    // pass the number. In the midst of a list all that may follow are looked at, with no branch on how
-    // many there are.
-    #[inline(always)]
-    fn superblock_of_few(
-        &self,
-        bit: bool,
-        r: usize,
-        first: usize,
-        n: usize,
-        tally: &mut Tally,
-    ) -> usize
-        requires few { (0 < n) × (n ≤ FEW) }
-        requires within { SUPERBLOCK * (first + n) < length self.now + SUPERBLOCK }
-        requires from { count bit self.now (SUPERBLOCK * first) ≤ r }
-        requires to { r < count bit self.now (SUPERBLOCK * (first + n)) }
-        ensures within { SUPERBLOCK * result < length self.now }
-        ensures from { count bit self.now (SUPERBLOCK * result) ≤ r }
-        ensures to { r < count bit self.now (SUPERBLOCK * (result + 1)) }
-        ensures adds { AddsAtMost tally.old tally.new (only_superblock_entries 3) }
-    {
-        let _ = &self.bits;
-        if first + FEW > self.superblocks.len() {
-            return self.superblock_up_to(bit, r, first, n, tally);
-        }
-        let second = self.passed(bit, r, first + 1, tally);
-        let third = self.passed(bit, r, first + 2, tally);
-        let fourth = self.passed(bit, r, first + 3, tally);
-        first + (second + third + fourth)
-    }
-
-    // 1 where number `r` stands in a superblock or past it, and else 0.
-    #[inline(always)]
-    fn passed(&self, bit: bool, r: usize, s: usize, tally: &mut Tally) -> usize
-        requires { SUPERBLOCK * s < length self.now }
-        ensures passed { HasPassed bit self.now r s result }
-        ensures adds { AddsAtMost tally.old tally.new (only_superblock_entries 1) }
-    {
-        let _ = &self.bits;
-        usize::from(self.count_at_superblock(bit, s, tally) <= r)
-    }
-
-    // The superblock of number `r` among the `n` from `first` on, which are few: one after the other.
-    #[inline(always)]
-    #[tactic(auto, using(crate::proofs::Selects::halves))]
-    fn superblock_up_to(
-        &self,
-        bit: bool,
-        r: usize,
-        first: usize,
-        n: usize,
-        tally: &mut Tally,
-    ) -> usize
-        requires few { (0 < n) × (n ≤ FEW) }
-        requires within { SUPERBLOCK * (first + n) < length self.now + SUPERBLOCK }
-        requires from { count bit self.now (SUPERBLOCK * first) ≤ r }
-        requires to { r < count bit self.now (SUPERBLOCK * (first + n)) }
-        ensures within { SUPERBLOCK * result < length self.now }
-        ensures from { count bit self.now (SUPERBLOCK * result) ≤ r }
-        ensures to { r < count bit self.now (SUPERBLOCK * (result + 1)) }
-        ensures adds { AddsAtMost tally.old tally.new (only_superblock_entries 3) }
-    {
-        let _ = &self.bits;
-        let mut found = first;
-        for s in first + 1..first + n {
+        let mut found = start;
+        for s in start + 1..start + left {
             if self.count_at_superblock(bit, s, tally) <= r {
                 found = s;
             }
