@@ -1,11 +1,5 @@
 -- How a run ends.
-use Rattle.std.proofs.Common.{◌≡◌, ℕ, List, [], ◌++◌, Option, Ok, Err, Result, refl, sym, inl, inr}
-use Rattle.std.specs.Io.KnownBytes.{IsAtEnd}
-use Rattle.vers_engine.specs.declared.engine.RunError.{RunError}
-use Rattle.vers_engine.specs.declared.engine.RunError.TheVariants.{Read, Write, Memory}
-use Rattle.vers_engine.specs.Lines.{whole_lines, lines_of}
-use Rattle.vers_engine.specs.Answers.{Answering, answers_of, AreLinesRead, WrittenOf}
-use Rattle.vers_engine.specs.inside.Session.{StandsAt, TakesOrFails, FinishesOrFails}
+use Rattle.vers_engine.proofs.Names.{◌≡◌, ℕ, List, [], ◌++◌, Option, Ok, Err, Result, refl, sym, inl, inr, IsAtEnd, RunError, Read, Write, Memory, whole_lines, lines_of, Answering, answers_of, AreLinesRead, WrittenOf, StandsAt, TakesOrFails, FinishesOrFails}
 use Rattle.vers_engine.proofs.Splits.{IsSplit-none}
 use Rattle.vers_engine.proofs.Steps.{whole_lines-IsSplit}
 

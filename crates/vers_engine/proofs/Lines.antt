@@ -1,6 +1,5 @@
 -- Lines answered one after another.
-use Rattle.std.proofs.Common.{◌≡◌, ℕ, List, [], ◌∷◌, ◌++◌, refl, sym, ap, ◌∙◌, append_assoc}
-use Rattle.vers_engine.specs.Answers.{Answering, answers_of, held_after}
+use Rattle.vers_engine.proofs.Names.{◌≡◌, ℕ, List, [], ◌∷◌, ◌++◌, refl, sym, ap, ◌∙◌, append_assoc, Answering, answers_of, held_after}
 
 -- the answers of some lines, and then others
 pub answers_of-append : {H : Type 0} (by : Answering H) (h : H) (ls ms : List (List ℕ)) → answers_of by h (ls ++ ms) ≡ answers_of by h ls ++ answers_of by (held_after by h ls) ms

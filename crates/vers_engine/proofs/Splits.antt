@@ -1,13 +1,7 @@
 -- A text split at a byte, as it grows.
-use Rattle.std.proofs.Common.{◌≡◌, ◌==◌, ℕ, List, [], ◌∷◌, ◌++◌, false, inl, inr, refl, sym, ap, ◌∙◌, append_assoc, rules}
-use Rattle.std.specs.List.{slice_split, All}
-use Rattle.std.proofs.lemmas.List.{append-nil}
+use Rattle.vers_engine.proofs.Names.{◌≡◌, ◌==◌, ℕ, List, [], ◌∷◌, ◌++◌, false, inl, inr, refl, sym, ap, ◌∙◌, append_assoc, rules, slice_split, All, append-nil, eq-eqb, eqb_tells, front, last_or, ended_by, IsSplit}
 use Rattle.std.proofs.lemmas.List.Elements.{All-push, All-append, All-head, All-tail}
 use Rattle.std.proofs.lemmas.List.Splits.{slice_split_at, slice_split_none}
-use Rattle.std.proofs.lemmas.Bool.{eq-eqb}
-use Rattle.std.proofs.lemmas.Bool.Decides.{eqb_tells}
-use Rattle.vers_engine.specs.Lines.{front, last_or}
-use Rattle.vers_engine.specs.inside.Session.{ended_by, IsSplit}
 
 -- one part more
 ended_by-push : (c : ℕ) (parts : List (List ℕ)) (l : List ℕ) → ended_by c (parts ++ l ∷ []) ≡ ended_by c parts ++ (l ++ c ∷ [])

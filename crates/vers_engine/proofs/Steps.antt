@@ -1,13 +1,5 @@
 -- What the parts of a session add to what it has read and answered.
-use Rattle.std.proofs.Common.{◌≡◌, ◌==◌, ℕ, List, [], ◌∷◌, ◌++◌, length, take, drop, false, Ok, Err, Result, OnOk, OnErr, IfErr, refl, sym, ap, ◌∙◌, append_assoc}
-use Rattle.std.proofs.lemmas.List.{append-nil, take-append-drop}
-use Rattle.std.specs.List.{filter, All}
-use Rattle.vers_words.specs.Text.{has_bytes}
-use Rattle.vers_engine.specs.declared.engine.RunError.{RunError}
-use Rattle.vers_engine.specs.declared.engine.RunError.TheVariants.{Read, Write, Memory}
-use Rattle.vers_engine.specs.Lines.{front, last_or, whole_lines, last_part, lines_of}
-use Rattle.vers_engine.specs.Answers.{Answering, answers_of, held_after, BeginsAnswer}
-use Rattle.vers_engine.specs.inside.Session.{IsSplit, AnswersOrStays, TakesOrFails, TakesSome, FinishesOrFails}
+use Rattle.vers_engine.proofs.Names.{◌≡◌, ◌==◌, ℕ, List, [], ◌∷◌, ◌++◌, length, take, drop, false, Ok, Err, Result, OnOk, OnErr, IfErr, refl, sym, ap, ◌∙◌, append_assoc, append-nil, take-append-drop, filter, All, has_bytes, RunError, Read, Write, Memory, front, last_or, whole_lines, last_part, lines_of, Answering, answers_of, held_after, BeginsAnswer, IsSplit, AnswersOrStays, TakesOrFails, TakesSome, FinishesOrFails}
 use Rattle.vers_engine.proofs.Splits.{IsSplit-end, IsSplit-others, IsSplit-more, slice_split-IsSplit, front-push, last_or-push}
 use Rattle.vers_engine.proofs.Lines.{answers_of-append, held_after-append}
 

@@ -1,5 +1,4 @@
-use Rattle.std.proofs.Common.{[], refl, inl}
-use Rattle.std.proofs.lemmas.Result.{err_from_is_err_and}
+use Rattle.vers_engine.proofs.Names.{[], refl, inl, err_from_is_err_and}
 use Rattle.vers_engine.proofs.Known.{Appends-none, Consumes-none}
 use Rattle.vers_engine.proofs.engine.answer_lines.Goals as goal
 

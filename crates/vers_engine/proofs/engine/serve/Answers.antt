@@ -1,6 +1,4 @@
-use Rattle.std.proofs.Common.{◌≡◌, ◌++◌, ◌<◌, ◌||◌, [], length, false, take, refl, ap, ◌∙◌, arith}
-use Rattle.std.proofs.lemmas.Result.{err_from_is_err_and}
-use Rattle.vers_engine.specs.Lines.{whole_lines, lines_of}
+use Rattle.vers_engine.proofs.Names.{◌≡◌, ◌++◌, ◌<◌, ◌||◌, [], length, false, take, refl, ap, ◌∙◌, arith, err_from_is_err_and, whole_lines, lines_of}
 use Rattle.vers_engine.proofs.Known.{Appends-none, Appends-then, Consumes-none, Consumes-then, Consumes-kept, Consumes-end}
 use Rattle.vers_engine.proofs.Ends.{StandsAt-start, ends, breaks, stops}
 use Rattle.vers_engine.proofs.engine.serve.Goals as goal

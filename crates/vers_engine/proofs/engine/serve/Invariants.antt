@@ -1,6 +1,4 @@
-use Rattle.std.proofs.Common.{◌≡◌, [], List, ℕ, false}
-use Rattle.std.specs.Io.KnownBytes.{Appends, Consumes}
-use Rattle.vers_engine.specs.inside.Session.{StandsAt}
+use Rattle.vers_engine.proofs.Names.{◌≡◌, [], List, ℕ, false, Appends, Consumes, StandsAt}
 use Rattle.vers_engine.proofs.engine.serve.Given as goal
 
 abbrev pub invariant-reads : goal.invariant-reads

@@ -1,6 +1,4 @@
-use Rattle.std.proofs.Common.{◌++◌, take, arith, append_assoc}
-use Rattle.std.proofs.lemmas.List.{take_rest, take-append-drop}
-use Rattle.std.proofs.lemmas.Bool.Decides.{nat_tests}
+use Rattle.vers_engine.proofs.Names.{◌++◌, take, arith, append_assoc, take_rest, take-append-drop, nat_tests}
 use Rattle.std.proofs.lemmas.Grind.{common_steps}
 use Rattle.vers_engine.proofs.Known.{Appends-then}
 use Rattle.vers_engine.proofs.engine.write_piece.Goals as goal

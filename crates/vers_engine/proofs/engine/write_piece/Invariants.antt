@@ -1,5 +1,4 @@
-use Rattle.std.proofs.Common.{◌≡◌, ◌++◌, List, ℕ, length}
-use Rattle.std.specs.Io.KnownBytes.{Appends}
+use Rattle.vers_engine.proofs.Names.{◌≡◌, ◌++◌, List, ℕ, length, Appends}
 use Rattle.vers_engine.proofs.engine.write_piece.Given as goal
 
 abbrev pub invariant-loop-rest : goal.invariant-loop-rest

@@ -1,6 +1,4 @@
-use Rattle.std.proofs.Common.{◌≡◌, ◌∷◌, [], Result, Ok, Err, OnOk, sym, ap, ◌∙◌, refl}
-use Rattle.std.proofs.lemmas.List.{append-nil}
-use Rattle.vers_words.specs.Text.{words_in, words_of}
+use Rattle.vers_engine.proofs.Names.{◌≡◌, ◌∷◌, [], Result, Ok, Err, OnOk, sym, ap, ◌∙◌, refl, append-nil, words_in, words_of}
 use Rattle.vers_engine.specs.Replies.{answer_to_words, holding_after_words}
 use Rattle.vers_engine.proofs.replier.append_answer.Goals as goal
 

@@ -1,6 +1,4 @@
-use Rattle.std.proofs.Common.{◌≡◌, length, sym, arith}
-use Rattle.std.proofs.lemmas.Bool.{eqb-true}
-use Rattle.std.proofs.lemmas.List.{nil_from_length}
+use Rattle.vers_engine.proofs.Names.{◌≡◌, length, sym, arith, eqb-true, nil_from_length}
 use Rattle.vers_engine.proofs.Steps.{AnswersOrStays-from}
 use Rattle.vers_engine.proofs.engine.Session.answer_line.Goals as goal
 

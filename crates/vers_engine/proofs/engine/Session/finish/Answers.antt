@@ -1,7 +1,4 @@
-use Rattle.std.proofs.Common.{◌≡◌, ◌==◌, ◌++◌, [], false, length, sym, ◌∙◌, arith}
-use Rattle.std.proofs.lemmas.Bool.{eqb-true, eqb-false, ne_eqb}
-use Rattle.std.proofs.lemmas.List.{append-nil, nil_from_length}
-use Rattle.std.proofs.lemmas.Result.{err_from_is_err_and}
+use Rattle.vers_engine.proofs.Names.{◌≡◌, ◌==◌, ◌++◌, [], false, length, sym, ◌∙◌, arith, eqb-true, eqb-false, ne_eqb, append-nil, nil_from_length, err_from_is_err_and}
 use Rattle.vers_engine.proofs.Known.{Appends-none}
 use Rattle.vers_engine.proofs.Steps.{FinishesOrFails-none, FinishesOrFails-stays, FinishesOrFails-line}
 use Rattle.vers_engine.proofs.engine.Session.finish.Goals as goal

@@ -1,8 +1,4 @@
-use Rattle.std.proofs.Common.{◌≡◌, ◌++◌, take, sym, ap, ◌∙◌, append_assoc}
-use Rattle.std.proofs.lemmas.Bool.{eqb-true}
-use Rattle.std.proofs.lemmas.List.{append-nil, nil_from_length, take_rest, take-append-drop}
-use Rattle.std.proofs.lemmas.Result.{err_from_is_err_and}
-use Rattle.vers_engine.specs.declared.engine.RunError.TheVariants.{Write, Memory}
+use Rattle.vers_engine.proofs.Names.{◌≡◌, ◌++◌, take, sym, ap, ◌∙◌, append_assoc, eqb-true, append-nil, nil_from_length, take_rest, take-append-drop, err_from_is_err_and, Write, Memory}
 use Rattle.vers_engine.proofs.Known.{Appends-then}
 use Rattle.vers_engine.proofs.Steps.{TakesOrFails-then, TakesOrFails-fails, TakesOrFails-cut}
 use Rattle.vers_engine.proofs.engine.Session.take_bytes.Goals as goal

@@ -1,6 +1,4 @@
-use Rattle.std.proofs.Common.{◌≡◌, ◌++◌, [], List, ℕ, length, Ok}
-use Rattle.std.specs.Io.KnownBytes.{Appends}
-use Rattle.vers_engine.specs.inside.Session.{TakesOrFails}
+use Rattle.vers_engine.proofs.Names.{◌≡◌, ◌++◌, [], List, ℕ, length, Ok, Appends, TakesOrFails}
 use Rattle.vers_engine.proofs.engine.Session.take_bytes.Given as goal
 
 abbrev pub invariant-loop-rest : goal.invariant-loop-rest

@@ -1,8 +1,5 @@
-use Rattle.std.proofs.Common.{◌≡◌, ◌==◌, [], take, Some, None, sym}
-use Rattle.std.specs.List.{position}
+use Rattle.vers_engine.proofs.Names.{◌≡◌, ◌==◌, [], take, Some, None, sym, position, append-nil, err_from_is_err_and}
 use Rattle.std.proofs.Math.Seq.{take-length}
-use Rattle.std.proofs.lemmas.List.{append-nil}
-use Rattle.std.proofs.lemmas.Result.{err_from_is_err_and}
 use Rattle.vers_words.proofs.PublicLaws.{lacks, lacks_before, through_byte}
 use Rattle.vers_engine.proofs.Steps.{TakesOrFails-line, TakesOrFails-pending, TakesOrFails-stays}
 use Rattle.vers_engine.proofs.engine.Session.take_line.Goals as goal

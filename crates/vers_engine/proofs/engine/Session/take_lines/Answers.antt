@@ -1,7 +1,4 @@
-use Rattle.std.proofs.Common.{◌≡◌, ◌+◌, ◌-◌, ◌≤◌, ◌<◌, ◌++◌, List, ℕ, length, take, drop, refl, sym, ap, ◌∙◌, append_assoc, arith}
-use Rattle.std.proofs.lemmas.List.{take_rest, take-append-drop, take-take, drop-take, length-drop}
-use Rattle.std.proofs.lemmas.Result.{err_from_is_err_and}
-use Rattle.vers_engine.specs.declared.engine.RunError.TheVariants.{Memory}
+use Rattle.vers_engine.proofs.Names.{◌≡◌, ◌+◌, ◌-◌, ◌≤◌, ◌<◌, ◌++◌, List, ℕ, length, take, drop, refl, sym, ap, ◌∙◌, append_assoc, arith, take_rest, take-append-drop, take-take, drop-take, length-drop, err_from_is_err_and, Memory}
 use Rattle.vers_engine.proofs.Steps.{TakesOrFails-then, TakesOrFails-fails}
 use Rattle.vers_engine.proofs.engine.Session.take_lines.Goals as goal
 

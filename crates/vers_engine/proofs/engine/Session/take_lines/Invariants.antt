@@ -1,5 +1,4 @@
-use Rattle.std.proofs.Common.{◌≡◌, ◌≤◌, ◌-◌, ◌++◌, List, ℕ, length, take, Ok}
-use Rattle.vers_engine.specs.inside.Session.{TakesOrFails}
+use Rattle.vers_engine.proofs.Names.{◌≡◌, ◌≤◌, ◌-◌, ◌++◌, List, ℕ, length, take, Ok, TakesOrFails}
 use Rattle.vers_engine.proofs.engine.Session.take_lines.Given as goal
 
 abbrev pub invariant-loop-taken : goal.invariant-loop-taken
