@@ -1,6 +1,5 @@
 -- Bounds on reads, one after another.
-use Rattle.std.proofs.Common.{ℕ, ◌+◌, ◌≤◌, arith}
-use Rattle.vers_tally.specs.Reads.{Reads, no_reads, Adds, AddsAtMost, IsWithin, plus}
+use Rattle.vers_tally.proofs.Names.{ℕ, ◌+◌, ◌≤◌, arith, Reads, no_reads, Adds, AddsAtMost, IsWithin, plus}
 
 adds_none : (a : ℕ) → Adds a a 0
 adds_none a = record { kept = omega arith; within = omega arith }

@@ -1,7 +1,5 @@
 -- How often a range can be halved.
-use Rattle.std.proofs.Common.{◌≡◌, ℕ, zero, suc, ◌+◌, ◌-◌, ◌/◌, ◌^◌, ◌<◌, ◌≤◌, ap, inl, inr, arith}
-use Rattle.std.proofs.lemmas.Int.Digits.{length-digits_of_step, length-digits_of-le}
-use Rattle.std.proofs.lemmas.Bool.{cases_lt}
+use Rattle.vers_tally.proofs.Names.{◌≡◌, ℕ, zero, suc, ◌+◌, ◌-◌, ◌/◌, ◌^◌, ◌<◌, ◌≤◌, ap, inl, inr, arith, length-digits_of_step, length-digits_of-le, cases_lt}
 use Rattle.vers_tally.specs.Reads.{digits}
 
 pub digits_half : (n : ℕ) → 0 < n → digits n ≡ digits (n / 2) + 1

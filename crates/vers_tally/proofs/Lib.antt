@@ -1,3 +1,4 @@
+pub mod Names
 pub mod Adding
 pub mod Halves
 pub mod Logs

@@ -1,12 +1,9 @@
 -- Binary digits and powers of two.
-use Rattle.std.proofs.Common.{◌≡◌, ℕ, zero, suc, ◌+◌, ◌-◌, ◌*◌, ◌/◌, ◌^◌, ◌<◌, ◌≤◌, ◌∙◌, inl, inr, arith, add-one}
-use Rattle.std.specs.Prelude.{◌↔◌}
+use Rattle.vers_tally.proofs.Names.{◌≡◌, ℕ, zero, suc, ◌+◌, ◌-◌, ◌*◌, ◌/◌, ◌^◌, ◌<◌, ◌≤◌, ◌∙◌, inl, inr, arith, add-one, ◌↔◌, number_lt, number_digits_of, all_below_base_digits_of, cases_lt, clog}
 use Rattle.std.specs.Int.Digits.{digits_of}
 use Rattle.std.proofs.Math.Nat.{pow-suc, pow-le-pow_right}
 use Rattle.std.proofs.lemmas.Nat.{pow_pos}
-use Rattle.std.proofs.lemmas.Int.Digits.{number_lt, number_digits_of, all_below_base_digits_of}
-use Rattle.std.proofs.lemmas.Bool.{cases_lt}
-use Rattle.vers_tally.specs.Reads.{digits, clog}
+use Rattle.vers_tally.specs.Reads.{digits}
 use Rattle.vers_tally.proofs.Halves.{digits_half, digits-le}
 
 pub digits-lt : (n : ℕ) → n < 2 ^ digits n

@@ -1,15 +1,8 @@
 -- The steps of iterators from both ends whose items take memory.
-use Rattle.std.proofs.Common.{◌≡◌, ℕ, ◌+◌, ◌-◌, ◌<◌, ◌≤◌, true≢false, List, [], ◌∷◌, Option, Some, None, Result, Ok, Err, length, min, refl, sym, ◌∙◌, ap, subst, arith, slice_get, reverse, take, inl, inr, suc, zero}
-use Rattle.std.specs.Prelude.{IfOk, IsSome}
-use Rattle.std.specs.List.{last_or}
+use Rattle.vers_tally.proofs.Names.{◌≡◌, ℕ, ◌+◌, ◌-◌, ◌<◌, ◌≤◌, true≢false, List, [], ◌∷◌, Option, Some, None, Result, Ok, Err, length, min, refl, sym, ◌∙◌, ap, subst, arith, slice_get, reverse, take, inl, inr, suc, zero, IfOk, IsSome, last_or, cases_lt, length-drop, length-take, length-reverse, slice_get_past, all_items, gave, gave_back, ended, ended_back, length-items_in, last_is, MakesNth, MakesNthBack, MayRefuse}
 use Rattle.std.specs.Iterator.{MakesProgress, item_count}
-use Rattle.std.proofs.lemmas.Bool.{cases_lt}
-use Rattle.std.proofs.lemmas.List.{length-drop, length-take, length-reverse}
-use Rattle.std.proofs.lemmas.Option.{slice_get_past}
 use Rattle.vers_bits.specs.declared.walk.Span.{Span}
 use Rattle.vers_bits.specs.Walk.{TakesNth, TakesNthBack, items_in}
-use Rattle.vers_bits.proofs.PublicLaws.{all_items, gave, gave_back, ended, ended_back, length-items_in, last_is}
-use Rattle.vers_tally.specs.Ends.{MakesNth, MakesNthBack, MayRefuse}
 
 -- the item at a place
 item_there : {X : Type 0} (xs : List X) (p : ℕ) → p < length xs → (x : X) × (slice_get xs p ≡ Some x)

@@ -1,7 +1,5 @@
 -- The laws that proofs of other crates may cite. A crate above imports this file and no other of this folder.
-use Rattle.std.proofs.Common.{◌≡◌, ℕ, ◌+◌, ◌-◌, ◌*◌, ◌/◌, ◌^◌, ◌<◌, ◌≤◌}
-use Rattle.std.specs.Prelude.{◌↔◌}
-use Rattle.vers_tally.specs.Reads.{Reads, no_reads, AddsAtMost, IsWithin, plus, digits, clog}
+use Rattle.vers_tally.proofs.Names.{◌≡◌, ℕ, ◌+◌, ◌-◌, ◌*◌, ◌/◌, ◌^◌, ◌<◌, ◌≤◌, ◌↔◌, Reads, no_reads, AddsAtMost, IsWithin, plus, digits, clog}
 use Rattle.vers_tally.proofs.Adding as Adding
 use Rattle.vers_tally.proofs.Halves as Halves
 use Rattle.vers_tally.proofs.Logs as Logs

@@ -1,11 +1,6 @@
 -- The steps of iterators from both ends whose items are read by a counter.
-use Rattle.std.proofs.Common.{◌≡◌, ℕ, ◌-◌, ◌<◌, ◌≤◌, List, [], ◌∷◌, length, get_or, reverse, refl, sym, ap, ◌∙◌, arith, Option, Some, None, slice_get}
-use Rattle.std.specs.Prelude.{All, IfSome}
-use Rattle.std.specs.List.{Contains}
+use Rattle.vers_tally.proofs.Names.{◌≡◌, ℕ, ◌-◌, ◌<◌, ◌≤◌, List, [], ◌∷◌, length, get_or, reverse, refl, sym, ap, ◌∙◌, arith, Option, Some, None, slice_get, All, IfSome, Contains, get_or-reverse, length-reverse, slice_get-get_or, slice_get_within, get_or_from_slice_get, all_items, length-items_in, last_is, yields_first, yields_last, goes_first, goes_last}
 use Rattle.std.specs.List.Sorted.{IsNonDecreasing}
-use Rattle.std.proofs.lemmas.List.{get_or-reverse, length-reverse}
-use Rattle.std.proofs.lemmas.Option.{slice_get-get_or, slice_get_within, get_or_from_slice_get}
-use Rattle.vers_bits.proofs.PublicLaws.{all_items, length-items_in, last_is, yields_first, yields_last, goes_first, goes_last}
 
 -- ---- the first of ascending numbers is the least, and the last the greatest
 

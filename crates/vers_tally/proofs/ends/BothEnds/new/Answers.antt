@@ -1,5 +1,4 @@
-use Rattle.std.proofs.Common.{subst, refl}
-use Rattle.vers_bits.proofs.PublicLaws.{all_items}
+use Rattle.vers_tally.proofs.Names.{subst, refl, all_items}
 use Rattle.vers_tally.proofs.ends.BothEnds.new.Goals as goal
 
 pub returns-clause-in_order : goal.returns-clause-in_order

@@ -1,6 +1,4 @@
-use Rattle.std.proofs.Common.{ap}
-use Rattle.vers_bits.proofs.PublicLaws.{ended_back, gave_back}
-use Rattle.vers_tally.specs.Ends.{Walking}
+use Rattle.vers_tally.proofs.Names.{ap, ended_back, gave_back, Walking}
 use Rattle.vers_tally.proofs.ends.BothEnds.nth_back_counted.Goals as goal
 
 pub returns-in_err-i-clause-steps : goal.returns-in_err-i-clause-steps

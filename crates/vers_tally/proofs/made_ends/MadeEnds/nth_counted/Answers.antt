@@ -1,6 +1,5 @@
-use Rattle.std.proofs.Common.{ap}
+use Rattle.vers_tally.proofs.Names.{ap, Walking}
 use Rattle.vers_tally.proofs.Made.{made_none, made}
-use Rattle.vers_tally.specs.Ends.{Walking}
 use Rattle.vers_tally.proofs.made_ends.MadeEnds.nth_counted.Goals as goal
 
 pub returns-in_err-i-clause-steps : goal.returns-in_err-i-clause-steps
