@@ -1,9 +1,5 @@
 -- The bits that digits write.
-use Rattle.std.proofs.Common.{◌≡◌, ◌==◌, ℕ, true, List, [], ◌∷◌, inl, inr, map, refl}
-use Rattle.std.specs.List.{list_all}
-use Rattle.std.specs.Prelude.{◌%◌}
-use Rattle.std.proofs.lemmas.Bool.{eqb-true, or_cases, and_parts}
-use Rattle.vers_words.specs.Arguments.{is_bit_digit, bits_of_digits}
+use Rattle.vers_cli.proofs.Names.{◌≡◌, ◌==◌, ℕ, true, List, [], ◌∷◌, inl, inr, map, refl, list_all, ◌%◌, eqb-true, or_cases, and_parts, is_bit_digit, bits_of_digits}
 
 -- the digits 0 and 1 are even and odd
 odd_digit : (b : ℕ) → is_bit_digit b ≡ true → (b % 2 == 1) ≡ (b == 49)

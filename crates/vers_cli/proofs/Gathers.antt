@@ -1,9 +1,7 @@
 -- What an iterator gives that takes the first of what it has left.
-use Rattle.std.proofs.Common.{◌≡◌, ℕ, List, Result, Ok, Err, IfOk, refl, sym, ap, ◌∙◌}
+use Rattle.vers_cli.proofs.Names.{◌≡◌, ℕ, List, Result, Ok, Err, IfOk, refl, sym, ap, ◌∙◌, YieldsList-from_first, map-id}
 use Rattle.std.specs.Iterator.{Drains, YieldsFirst}
 use Rattle.std.proofs.lemmas.Iterator.{items_from_drains}
-use Rattle.std.proofs.lemmas.Iterator.Consumers.{YieldsList-from_first}
-use Rattle.std.proofs.lemmas.List.{map-id}
 
 -- all that it has left
 pub items_left : {S : Type 0} {w : S} (s : S) (rest : S → List ℕ) (xs : List ℕ) → Drains (YieldsFirst rest) s xs → s ≡ w → xs ≡ rest w

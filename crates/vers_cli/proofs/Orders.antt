@@ -1,13 +1,6 @@
 -- What a load line of a sparse list gives.
-use Rattle.std.proofs.Common.{◌≡◌, ℕ, Bool, true, List, ◌∷◌, length, nat_lt, Some, sym, ap, ◌∙◌}
-use Rattle.std.specs.List.{list_all}
-use Rattle.std.proofs.lemmas.List.{map-id}
-use Rattle.vers_bits.specs.Bits.{places}
+use Rattle.vers_cli.proofs.Names.{◌≡◌, ℕ, Bool, true, List, ◌∷◌, length, nat_lt, Some, sym, ap, ◌∙◌, list_all, map-id, places, ones_at-places, each_next, Accepted, sparse_loaded}
 use Rattle.vers_sorted.specs.Ones.{ones_at}
-use Rattle.vers_sorted.proofs.PublicLaws.{ones_at-places}
-use Rattle.vers_sorted.specs.Sorted.{each_next}
-use Rattle.vers_words.specs.declared.loading.Loading.TheVariants.{Accepted}
-use Rattle.vers_cli.specs.SparseLines.{sparse_loaded}
 
 -- the places of the ones and the length tell the list
 pub ones_at-same : (bits : List Bool) (n : ℕ) (ones : List ℕ) → length bits ≡ n → places true bits ≡ ones → bits ≡ ones_at ones n

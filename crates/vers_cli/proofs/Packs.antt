@@ -1,20 +1,11 @@
 -- Numbers of a line, packed as bits.
-use Rattle.std.proofs.Common.{◌≡◌, ℕ, ◌*◌, ◌/◌, ◌%◌, ◌^◌, ◌<◌, ◌≤◌, Bool, true, List, [], ◌∷◌, ◌++◌, append_assoc, length, map, Option, Some, None, Result, Ok, Err, IfOk, refl, sym, ap, ◌∙◌, arith}
-use Rattle.std.specs.Prelude.{option_map, nat_le}
-use Rattle.std.specs.List.{range_with_len}
+use Rattle.vers_cli.proofs.Names.{◌≡◌, ℕ, ◌*◌, ◌/◌, ◌%◌, ◌^◌, ◌<◌, ◌≤◌, Bool, true, List, [], ◌∷◌, ◌++◌, append_assoc, length, map, Option, Some, None, Result, Ok, Err, IfOk, refl, sym, ap, ◌∙◌, arith, option_map, nat_le, range_with_len, ne_eqb, cond_some, same_Some, length-append, get_or-map, length-map, length-map-range_with_len, get_or-map-range_with_len, low_bits, number, pack, part, Symbols, Accepted, symbols_loaded}
 use Rattle.std.proofs.Math.Nat.{mul-div_cancel, mul-mod_left, suc-mul, add_comm}
-use Rattle.std.proofs.lemmas.Bool.{ne_eqb}
-use Rattle.std.proofs.lemmas.Option.{cond_some, same_Some}
-use Rattle.std.proofs.lemmas.List.{length-append, get_or-map, length-map}
-use Rattle.std.proofs.lemmas.List.FromFn.{length-map-range_with_len, get_or-map-range_with_len}
 use Rattle.std.proofs.lemmas.Grind.{same_number_lists}
-use Rattle.vers_bits.specs.Bits.{low_bits, number, pack, part, part_number}
+use Rattle.vers_bits.specs.Bits.{part_number}
 use Rattle.vers_bits.specs.Laws.{PackedElementsAreItems}
 use Rattle.vers_bits.proofs.PublicLaws.{length-low_bits}
-use Rattle.vers_wavelet.specs.Symbols.{Symbols}
 use Rattle.vers_wavelet.specs.Makers.{low_symbols, packed_symbols}
-use Rattle.vers_words.specs.declared.loading.Loading.TheVariants.{Accepted}
-use Rattle.vers_cli.specs.SymbolsLines.{symbols_loaded}
 
 -- bits, and then those of further numbers
 abbrev pub bits_then : List Bool → ℕ → Option (List ℕ) → Option (List Bool)

@@ -1,20 +1,11 @@
 -- Documents with their costs, as the numbers of a line write them.
-use Rattle.std.proofs.Common.{◌≡◌, ℕ, ◌≤◌, Bool, true, false, List, [], ◌∷◌, ◌++◌, length, append_assoc, Option, Some, None, unwrap_or, refl, ap, arith}
-use Rattle.std.specs.Prelude.{nat_lt, option_map, if◌then◌else◌}
-use Rattle.std.specs.Option.{option_and_then, is_some}
-use Rattle.std.proofs.lemmas.Option.{same_Some}
-use Rattle.std.proofs.lemmas.Bool.{le-leb}
+use Rattle.vers_cli.proofs.Names.{◌≡◌, ℕ, ◌≤◌, Bool, true, false, List, [], ◌∷◌, ◌++◌, length, append_assoc, Option, Some, None, unwrap_or, refl, ap, arith, nat_lt, option_map, if◌then◌else◌, option_and_then, is_some, same_Some, le-leb, each_next-rising, each_next, Numbers, Refused, is_accepted, posted_first, posted_of, postings_loaded, are_admitted, if_admitted, shared_reply}
 use Rattle.std.specs.List.Sorted.{IsStrictlyIncreasing}
 use Rattle.vers_rmq.specs.declared.rmq.fast_rmq.TheConstants.{MAX_LEN}
-use Rattle.vers_sorted.proofs.PublicLaws.{each_next-rising}
 use Rattle.postings.specs.Posted.{Posted, common}
 use Rattle.postings.specs.Makers.{IsRefusedFor}
 use Rattle.postings.specs.declared.fault.PostingsError.{PostingsError}
 use Rattle.postings.specs.declared.fault.PostingsError.TheVariants.{NotAscending}
-use Rattle.vers_sorted.specs.Sorted.{each_next}
-use Rattle.vers_words.specs.Reply.{Numbers, Refused}
-use Rattle.vers_cli.specs.Holding.{is_accepted}
-use Rattle.vers_cli.specs.PostingsLines.{posted_first, posted_of, postings_loaded, are_admitted, if_admitted, shared_reply}
 use Rattle.vers_cli.proofs.Rises.{rise_after, rise}
 
 -- documents with their costs, and then others

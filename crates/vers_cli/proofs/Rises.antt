@@ -1,18 +1,7 @@
 -- Numbers that ascend, read from the front.
-use Rattle.std.proofs.Common.{◌≡◌, ◌==◌, ◌<◌, ◌+◌, ◌-◌, ℕ, Bool, true, false, List, [], ◌∷◌, length, get_or, Option, Some, None, refl, sym, ap, ◌∙◌, arith}
-use Rattle.std.specs.Prelude.{◌||◌, ◌&&◌, All, nat_le, nat_lt, option_map, option_and_then, if◌then◌else◌}
-use Rattle.std.specs.List.{list_all}
-use Rattle.std.proofs.lemmas.Bool.{ne_eqb, and_parts, ltb-true}
+use Rattle.vers_cli.proofs.Names.{◌≡◌, ◌==◌, ◌<◌, ◌+◌, ◌-◌, ℕ, Bool, true, false, List, [], ◌∷◌, length, get_or, Option, Some, None, refl, sym, ap, ◌∙◌, arith, ◌||◌, ◌&&◌, All, nat_le, nat_lt, option_map, option_and_then, if◌then◌else◌, list_all, ne_eqb, and_parts, ltb-true, AllPass-from_list_all, same_Some, each_next, number_of, all_numbers, is_accepted, first_numbers, first_then, sparse_loaded}
 use Rattle.std.proofs.lemmas.Bool.Decides.{nat_tests}
-use Rattle.std.proofs.lemmas.List.Sums.{AllPass-from_list_all}
-use Rattle.std.proofs.lemmas.Option.{same_Some}
 use Rattle.vers_sorted.specs.Layout.{last_of}
-use Rattle.vers_sorted.specs.Sorted.{each_next}
-use Rattle.vers_words.specs.Text.{number_of}
-use Rattle.vers_words.specs.Arguments.{all_numbers}
-use Rattle.vers_cli.specs.Holding.{is_accepted}
-use Rattle.vers_cli.specs.SortedLines.{first_numbers, first_then}
-use Rattle.vers_cli.specs.SparseLines.{sparse_loaded}
 
 -- numbers after others of which the last is `last`: how many they are with those before them, and the last of all; None where they don't ascend
 abbrev pub rise_from : (ℕ → ℕ → Bool) → ℕ → ℕ → List ℕ → Option (ℕ × ℕ)

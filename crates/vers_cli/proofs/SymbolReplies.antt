@@ -1,15 +1,7 @@
 -- What queries of symbols find, as functions of the list.
-use Rattle.std.proofs.Common.{◌≡◌, ℕ, ◌-◌, ◌<◌, ◌≤◌, Bool, eqb, List, length, slice_get, Option, Some, None, refl, arith, inl, inr}
-use Rattle.std.specs.Prelude.{◌↔◌, slice_index, IsSome, IfSome}
-use Rattle.std.specs.List.{range_with_len}
-use Rattle.std.proofs.lemmas.Bool.{cases_lt, le-leb, lt-leb}
-use Rattle.std.proofs.lemmas.List.FromFn.{length-range_with_len}
-use Rattle.std.proofs.lemmas.List.Sums.{length-filter, count_by-le-length}
-use Rattle.std.proofs.lemmas.Option.{slice_get_past}
-use Rattle.vers_wavelet.specs.Symbols.{Symbols, occurrences, as_word}
+use Rattle.vers_cli.proofs.Names.{◌≡◌, ℕ, ◌-◌, ◌<◌, ◌≤◌, Bool, eqb, List, length, slice_get, Option, Some, None, refl, arith, inl, inr, ◌↔◌, slice_index, IsSome, IfSome, range_with_len, cases_lt, le-leb, lt-leb, length-range_with_len, length-filter, count_by-le-length, slice_get_past, Symbols, as_word, number_or_absent, if_numbers, low_bits_of, places_of, place_from}
+use Rattle.vers_wavelet.specs.Symbols.{occurrences}
 use Rattle.vers_wavelet.proofs.PublicLaws.{narrow_word, wide_word}
-use Rattle.vers_words.specs.Reply.{number_or_absent}
-use Rattle.vers_cli.specs.SymbolsLines.{if_numbers, low_bits_of, places_of, place_from}
 
 -- ---- replies
 

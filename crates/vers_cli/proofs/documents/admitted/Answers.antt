@@ -1,5 +1,4 @@
-use Rattle.std.proofs.Common.{ap, ◌∙◌}
-use Rattle.vers_cli.specs.PostingsLines.{if_admitted}
+use Rattle.vers_cli.proofs.Names.{ap, ◌∙◌, if_admitted}
 use Rattle.vers_cli.proofs.Pairs.{is_admitted, not_admitted}
 use Rattle.vers_cli.proofs.documents.admitted.Goals as goal
 

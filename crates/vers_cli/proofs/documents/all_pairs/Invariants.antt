@@ -1,8 +1,4 @@
-use Rattle.std.proofs.Common.{◌≡◌, length}
-use Rattle.std.specs.Option.{option_and_then}
-use Rattle.vers_words.specs.Text.{words_in}
-use Rattle.vers_words.specs.Arguments.{all_numbers}
-use Rattle.vers_cli.specs.PostingsLines.{posted_of}
+use Rattle.vers_cli.proofs.Names.{◌≡◌, length, option_and_then, words_in, all_numbers, posted_of}
 use Rattle.vers_cli.proofs.Pairs.{posted_then}
 use Rattle.vers_cli.proofs.documents.all_pairs.Given as goal
 

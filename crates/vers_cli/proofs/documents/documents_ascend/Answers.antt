@@ -1,8 +1,4 @@
-use Rattle.std.proofs.Common.{◌≡◌, true, sym, ap, ◌∙◌, nat_lt, arith}
-use Rattle.std.specs.Option.{option_and_then, is_some}
-use Rattle.vers_words.specs.Text.{words_in}
-use Rattle.vers_words.specs.Arguments.{all_numbers, no_arguments}
-use Rattle.vers_cli.specs.PostingsLines.{posted_of}
+use Rattle.vers_cli.proofs.Names.{◌≡◌, true, sym, ap, ◌∙◌, nat_lt, arith, option_and_then, is_some, words_in, all_numbers, no_arguments, posted_of}
 use Rattle.vers_cli.proofs.Rises.{rise_after, rise_after-more}
 use Rattle.vers_cli.proofs.Pairs.{documents_in, documents_in-first, documents_rise, none_left}
 use Rattle.vers_cli.proofs.documents.documents_ascend.Goals as goal

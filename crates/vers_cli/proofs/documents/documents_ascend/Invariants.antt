@@ -1,8 +1,4 @@
-use Rattle.std.proofs.Common.{◌≡◌, ◌+◌, ◌≤◌, length, nat_lt}
-use Rattle.std.specs.Option.{option_and_then}
-use Rattle.vers_words.specs.Text.{words_in}
-use Rattle.vers_words.specs.Arguments.{all_numbers}
-use Rattle.vers_cli.specs.PostingsLines.{posted_of}
+use Rattle.vers_cli.proofs.Names.{◌≡◌, ◌+◌, ◌≤◌, length, nat_lt, option_and_then, words_in, all_numbers, posted_of}
 use Rattle.vers_cli.proofs.Rises.{rise_after}
 use Rattle.vers_cli.proofs.Pairs.{documents_in}
 use Rattle.vers_cli.proofs.documents.documents_ascend.Given as goal

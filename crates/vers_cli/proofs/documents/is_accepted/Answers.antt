@@ -1,6 +1,4 @@
-use Rattle.std.proofs.Common.{sym, ◌∙◌}
-use Rattle.vers_words.specs.Text.{words_in}
-use Rattle.vers_words.specs.Arguments.{all_numbers}
+use Rattle.vers_cli.proofs.Names.{sym, ◌∙◌, words_in, all_numbers}
 use Rattle.vers_cli.proofs.Pairs.{postings_accepted}
 use Rattle.vers_cli.proofs.documents.is_accepted.Goals as goal
 

@@ -1,5 +1,4 @@
-use Rattle.std.proofs.Common.{ap}
-use Rattle.vers_words.specs.Reply.{Numbers}
+use Rattle.vers_cli.proofs.Names.{ap, Numbers}
 use Rattle.vers_cli.proofs.Gathers.{items_left}
 use Rattle.vers_cli.proofs.forest.all_nodes_reply.Goals as goal
 

@@ -1,6 +1,4 @@
-use Rattle.vers_sorted.proofs.PublicLaws.{each_next-ascending}
-use Rattle.vers_words.specs.Text.{words_in}
-use Rattle.vers_cli.specs.SortedLines.{first_numbers}
+use Rattle.vers_cli.proofs.Names.{each_next-ascending, words_in, first_numbers}
 use Rattle.vers_cli.proofs.sorted.load.Goals as goal
 
 pub members_of-requires-clause-ascending : goal.members_of-requires-clause-ascending

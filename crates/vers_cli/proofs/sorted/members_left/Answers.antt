@@ -1,6 +1,5 @@
-use Rattle.std.proofs.Common.{◌++◌, refl, ap, ◌∙◌}
+use Rattle.vers_cli.proofs.Names.{◌++◌, refl, ap, ◌∙◌, YieldsList-from_first}
 use Rattle.std.proofs.lemmas.Iterator.Adapters.{items_from_extend}
-use Rattle.std.proofs.lemmas.Iterator.Consumers.{YieldsList-from_first}
 use Rattle.vers_sorted.specs.Ends.{Walking}
 use Rattle.vers_cli.proofs.sorted.members_left.Goals as goal
 

@@ -1,7 +1,4 @@
-use Rattle.std.proofs.Common.{◌≡◌, Some, None, refl, sym, ◌∙◌, arith}
-use Rattle.vers_words.specs.Text.{number_of, words_in}
-use Rattle.vers_words.specs.Arguments.{all_numbers}
-use Rattle.vers_cli.specs.SortedLines.{in_order}
+use Rattle.vers_cli.proofs.Names.{◌≡◌, Some, None, refl, sym, ◌∙◌, arith, number_of, words_in, all_numbers, in_order}
 use Rattle.vers_cli.proofs.Rises.{rise_after-more, rise_after-none, told, not_told}
 use Rattle.vers_cli.proofs.sorted.rise_of.Goals as goal
 

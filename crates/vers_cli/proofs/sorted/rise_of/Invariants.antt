@@ -1,7 +1,4 @@
-use Rattle.std.proofs.Common.{◌≡◌, ◌+◌, ◌≤◌, length}
-use Rattle.vers_words.specs.Text.{words_in}
-use Rattle.vers_words.specs.Arguments.{all_numbers}
-use Rattle.vers_cli.specs.SortedLines.{in_order}
+use Rattle.vers_cli.proofs.Names.{◌≡◌, ◌+◌, ◌≤◌, length, words_in, all_numbers, in_order}
 use Rattle.vers_cli.proofs.Rises.{rise_after}
 use Rattle.vers_cli.proofs.sorted.rise_of.Given as goal
 

@@ -1,9 +1,4 @@
-use Rattle.std.proofs.Common.{◌≡◌, ◌∷◌, Some, true, refl, sym, ◌∙◌}
-use Rattle.std.specs.Prelude.{nat_lt}
-use Rattle.std.specs.List.{list_all}
-use Rattle.vers_words.specs.Text.{number_of, words_in}
-use Rattle.vers_words.specs.Arguments.{all_numbers}
-use Rattle.vers_cli.specs.SortedLines.{first_numbers}
+use Rattle.vers_cli.proofs.Names.{◌≡◌, ◌∷◌, Some, true, refl, sym, ◌∙◌, nat_lt, list_all, number_of, words_in, all_numbers, first_numbers}
 use Rattle.vers_cli.proofs.Rises.{all_below, places_accepted}
 use Rattle.vers_cli.proofs.sparse.is_accepted.Goals as goal
 

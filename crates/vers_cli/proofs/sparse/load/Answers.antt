@@ -1,11 +1,4 @@
-use Rattle.std.proofs.Common.{◌≡◌, ◌∷◌, Some, true, refl, sym, ◌∙◌, ap}
-use Rattle.std.specs.Prelude.{nat_lt}
-use Rattle.std.specs.List.{list_all}
-use Rattle.vers_words.specs.Text.{number_of, words_in}
-use Rattle.vers_words.specs.Arguments.{all_numbers}
-use Rattle.vers_sorted.proofs.PublicLaws.{each_next-ascending, each_next-rising}
-use Rattle.vers_cli.specs.SortedLines.{first_numbers}
-use Rattle.vers_cli.specs.SparseLines.{sparse_loaded}
+use Rattle.vers_cli.proofs.Names.{◌≡◌, ◌∷◌, Some, true, refl, sym, ◌∙◌, ap, nat_lt, list_all, number_of, words_in, all_numbers, each_next-ascending, each_next-rising, first_numbers, sparse_loaded}
 use Rattle.vers_cli.proofs.Orders.{sparse_accepted}
 use Rattle.vers_cli.proofs.Rises.{all_below, all_are_below, rising_ascends}
 use Rattle.vers_cli.proofs.sparse.load.Goals as goal

@@ -1,5 +1,4 @@
-use Rattle.std.proofs.Common.{◌≡◌, ◌∷◌, [], sym, ap, ◌∙◌, refl}
-use Rattle.vers_words.specs.Text.{words_in, words_of}
+use Rattle.vers_cli.proofs.Names.{◌≡◌, ◌∷◌, [], sym, ap, ◌∙◌, refl, words_in, words_of}
 use Rattle.vers_cli.specs.Rules.{line_loaded}
 use Rattle.vers_cli.proofs.store.load_line.Goals as goal
 

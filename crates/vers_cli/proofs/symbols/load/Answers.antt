@@ -1,9 +1,4 @@
-use Rattle.std.proofs.Common.{◌≡◌, ◌≤◌, ◌∷◌, Some, refl, sym, ap, ◌∙◌, arith}
-use Rattle.std.specs.Prelude.{option_map}
-use Rattle.std.proofs.lemmas.Bool.{le-leb}
-use Rattle.vers_words.specs.Text.{number_of, words_in}
-use Rattle.vers_words.specs.Arguments.{all_numbers}
-use Rattle.vers_cli.specs.SymbolsLines.{symbols_loaded}
+use Rattle.vers_cli.proofs.Names.{◌≡◌, ◌≤◌, ◌∷◌, Some, refl, sym, ap, ◌∙◌, arith, option_map, le-leb, number_of, words_in, all_numbers, symbols_loaded}
 use Rattle.vers_cli.proofs.Packs.{packed_whole, symbols_accepted}
 use Rattle.vers_cli.proofs.symbols.load.Goals as goal
 

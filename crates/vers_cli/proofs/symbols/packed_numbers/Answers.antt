@@ -1,6 +1,4 @@
-use Rattle.std.proofs.Common.{◌≡◌, Some, None, refl, sym, ap, ◌∙◌}
-use Rattle.std.proofs.lemmas.List.{append-nil}
-use Rattle.vers_words.specs.Text.{number_of}
+use Rattle.vers_cli.proofs.Names.{◌≡◌, Some, None, refl, sym, ap, ◌∙◌, append-nil, number_of}
 use Rattle.vers_cli.proofs.Packs.{bits_then-push}
 use Rattle.vers_cli.proofs.symbols.packed_numbers.Goals as goal
 

@@ -1,6 +1,4 @@
-use Rattle.std.proofs.Common.{◌≡◌, [], length}
-use Rattle.vers_words.specs.Text.{words_in}
-use Rattle.vers_words.specs.Arguments.{all_numbers}
+use Rattle.vers_cli.proofs.Names.{◌≡◌, [], length, words_in, all_numbers}
 use Rattle.vers_cli.proofs.Packs.{bits_then}
 use Rattle.vers_cli.proofs.symbols.packed_numbers.Given as goal
 

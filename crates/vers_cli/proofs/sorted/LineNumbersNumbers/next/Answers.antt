@@ -1,5 +1,4 @@
-use Rattle.std.proofs.Common.{◌≡◌, Some, None, refl, sym, ◌∙◌}
-use Rattle.vers_words.specs.Text.{number_of}
+use Rattle.vers_cli.proofs.Names.{◌≡◌, Some, None, refl, sym, ◌∙◌, number_of}
 use Rattle.vers_cli.proofs.sorted.LineNumbersNumbers.next.Goals as goal
 
 pub returns-in_err-value : goal.returns-in_err-value
