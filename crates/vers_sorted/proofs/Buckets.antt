@@ -19,7 +19,6 @@ module _ (s : List ℕ) (up : IsNonDecreasing s) where
   -- zero number h has as many ones below it as members have a high part below h
   pub start_at : (h : ℕ) → 0 < length s → h ≤ high_of s (last_of s) + 1 → (h ≤ select false (high_parts s) h) × IsStart s h (select false (high_parts s) h - h)
   start_at h some within =
-      let high : List Bool = high_parts s in
       let holds = hold_high s up in
       let q : ℕ = select false (high_parts s) h in
       let at = count_at_select false (high_parts s) h (omega (arith, zeros_counted some)) in

@@ -1,5 +1,5 @@
 -- What the high and low parts of an ascending list say of its members.
-use Rattle.vers_sorted.proofs.Names.{◌≡◌, ℕ, zero, suc, ◌+◌, ◌-◌, ◌*◌, ◌^◌, ◌<◌, true, List, [], ◌∷◌, ◌++◌, length, take, drop, ap, ◌∙◌, arith, slice_index, map, range_with_len, IsNonDecreasing, IsStrictlyIncreasing, mul_comm, same_number_lists, length-append, take-append-le, take_all, length-map, get_or-map, length-map-range_with_len, get_or-map-range_with_len, number, low_bits, pack, select, number-low_bits, length-low_bits, first_of, low_width, high_of, high_length, high_place, member, HoldHigh, HoldLow}
+use Rattle.vers_sorted.proofs.Names.{◌≡◌, ℕ, zero, suc, ◌+◌, ◌-◌, ◌*◌, ◌^◌, ◌<◌, true, List, [], ◌∷◌, ◌++◌, length, take, drop, ap, ◌∙◌, arith, slice_index, map, range_with_len, IsNonDecreasing, IsStrictlyIncreasing, mul_comm, same_number_lists, take-append-le, take_all, length-map, get_or-map, length-map-range_with_len, get_or-map-range_with_len, number, low_bits, pack, select, number-low_bits, length-low_bits, length-packed, first_of, low_width, high_of, high_length, high_place, member, HoldHigh, HoldLow}
 use Rattle.std.proofs.Math.Seq.{drop-append-add}
 use Rattle.vers_sorted.specs.Layout.{low_of, high_parts, low_parts}
 use Rattle.vers_sorted.specs.inside.Parts.{members}
@@ -35,8 +35,7 @@ hold_high s up =
 -- ---- the low parts
 
 pub length-pack : (xs : List ℕ) (w : ℕ) → length (pack xs w) ≡ w * length xs
-length-pack [] w = omega (arith, mul_comm w 0)
-length-pack (x ∷ xs) w = omega (arith, length-append (low_bits x w) (pack xs w), length-low_bits x w, length-pack xs w, mul_comm w (length xs), mul_comm w (length (x ∷ xs)))
+length-pack xs w = length-packed (λ v. v) w xs ∙ mul_comm (length xs) w
 
 part-pack : (xs : List ℕ) (w i : ℕ) → i < length xs → take w (drop (w * i) (pack xs w)) ≡ low_bits (slice_index xs i) w
 part-pack [] w i h = absurd (omega arith)

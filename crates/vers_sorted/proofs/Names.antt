@@ -1,8 +1,8 @@
 -- The names of specs/ and of other crates that many proofs use.
 pub use Rattle.std.proofs.Common.{Bool, List, None, Option, Some, [], add-one, ap, append_assoc, arith, cond, drop, eqb, false, get_or, inl, inr, length, ltb, max, min, nat_le, nat_lt, not, refl, rules, slice_get, subst, suc, sym, take, true, unwrap_or, zero, ℕ, ◌%◌, ◌*◌, ◌++◌, ◌+◌, ◌-◌, ◌/◌, ◌<◌, ◌==◌, ◌^◌, ◌∙◌, ◌∷◌, ◌≡◌, ◌≤◌, ◌⊎◌}
 pub use Rattle.std.proofs.Math.ListN.{replicate, set}
-pub use Rattle.std.proofs.Math.Nat.{div-add-mod, div-le_of_le-mul, mod-eq_of_lt, mul-le-mul_left, mul-mod_left, mul_comm, pow-le-pow_right, zero-div}
-pub use Rattle.std.proofs.lemmas.Bool.{and_parts, cases_Bool, cases_eq, cases_lt, eq-eqb, eqb-true, le-leb, le-ltb, leb-true, lt-leb, lt-ltb, ltb-false, ltb-true, ne_eqb}
+pub use Rattle.std.proofs.Math.Nat.{div-le_of_le-mul, mod-eq_of_lt, mul-le-mul_left, mul-mod_left, mul_comm, pow-le-pow_right, zero-div}
+pub use Rattle.std.proofs.lemmas.Bool.{and_parts, cases_Bool, cases_lt, eq-eqb, eqb-true, le-leb, leb-true, lt-leb, lt-ltb, ltb-true, ne_eqb}
 pub use Rattle.std.proofs.lemmas.Grind.{flat_map-append, same_number_lists}
 pub use Rattle.std.proofs.lemmas.List.{append-nil, drop-drop, drop-take, get_or-drop, get_or-map, get_or-replicate, get_or-set_other, get_or-set_same, get_or-take, get_or_append_left, get_or_default, get_or_past, length-append, length-drop, length-map, length-replicate, length-set, length-take, map-append, map-id, same_lists, take-append-le, take_all, take_more}
 pub use Rattle.std.proofs.lemmas.List.FromFn.{get_or-map-range_with_len, length-map-range_with_len, map-range_with_len_more}
@@ -16,8 +16,8 @@ pub use Rattle.std.specs.Int.Count.{trailing_of_zero}
 pub use Rattle.std.specs.List.{IsAllAdjacentAnswer, count_by, list_all, list_any, range_with_len}
 pub use Rattle.std.specs.List.Sorted.{IsNonDecreasing, IsStrictlyIncreasing}
 pub use Rattle.std.specs.Prelude.{All, IsTrue, bit_and, bit_or, if◌then◌else◌, map, option_and_then, slice_index, slice_index_or, ◌||◌, ◌↔◌}
-pub use Rattle.vers_bits.proofs.PublicLaws.{IsPlace, bit_at-number, count_at_select, count_both, count_le, count_more_no, count_more_yes, count_none, count_past, count_up, find_is, highest_bit, last_passing_is, length-low_bits, length-places, limb_bit, low_bits-add, low_bits_of_rest, none_passing, number-drop, number-low_bits, number-lt, part_bit, select_at, select_below, select_is_place, select_not_below, select_past, select_up, value_none, value_one}
-pub use Rattle.vers_bits.specs.Bits.{bit_value, block_count, count, is_bit, limb, limb_count, low_bits, number, pack, places, select}
+pub use Rattle.vers_bits.proofs.PublicLaws.{IsPlace, bit_at-number, count_at_select, count_both, count_le, count_more_no, count_more_yes, count_none, count_past, count_up, find_is, highest_bit, last_passing_is, length-low_bits, length-packed, length-places, limb_bit, low_bits-add, low_bits_of_rest, none_passing, number-drop, number-low_bits, number-lt, part_bit, select_at, select_below, select_is_place, select_not_below, select_past, select_up, value_none, value_one}
+pub use Rattle.vers_bits.specs.Bits.{bit_value, count, is_bit, limb, limb_count, low_bits, number, pack, places, select}
 pub use Rattle.vers_rank.proofs.PublicLaws.{adds_times, changed_all, changed_on}
 pub use Rattle.vers_rank.specs.Batches.{Changed}
 pub use Rattle.vers_rank.specs.Queries.{index_size, part_number_or_zero, select_reads, superblock_count}
