@@ -143,6 +143,7 @@ fn why_not_saved(fault: SaveFault) -> &'static str {
             "FILE.new can't be made; where it stands, another save has begun, or one was cut off",
         SaveFault::Sync => "FILE.new can't be synced",
         SaveFault::Put => "FILE.new can't be put in the place of FILE",
+        SaveFault::Settle => "FILE has the new list, but its folder can't be synced",
     }
 }
 

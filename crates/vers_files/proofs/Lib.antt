@@ -1,3 +1,4 @@
 pub mod OfLines
 pub mod Numbered
 pub mod TreeFiles
+pub mod Fronts

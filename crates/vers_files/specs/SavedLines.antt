@@ -1,12 +1,12 @@
 -- What is written of a load line.
-use Rattle.std.specs.Prelude.{◌≡◌, ⊤, Result, Ok, Err}
+use Rattle.std.specs.Prelude.{◌≡◌, ⊤, ◌⊎◌, Result, Ok, Err}
 use Rattle.vers_words.specs.declared.loading.Loading.{Loading}
 use Rattle.vers_words.specs.declared.loading.Loading.TheVariants.{Malformed, Inadmissible, Accepted}
 use Rattle.vers_saved.specs.declared.fault.SaveError.{SaveError}
 use Rattle.vers_saved.specs.declared.fault.SaveError.TheVariants as error
 use Rattle.vers_cli.specs.Holding.{Holding}
 use Rattle.vers_files.specs.declared.saving.SaveFault.{SaveFault}
-use Rattle.vers_files.specs.declared.saving.SaveFault.TheVariants.{BadLine, Refused, NoForm, OutOfMemory, Write}
+use Rattle.vers_files.specs.declared.saving.SaveFault.TheVariants.{BadLine, Refused, NoForm, OutOfMemory, Write, Begin, Sync, Put, Settle}
 use Rattle.vers_files.specs.Forms.{HasForm}
 
 -- what holds of what a load line writes, where it is accepted
@@ -28,3 +28,15 @@ line_saved (Ok u) = Ok u
 line_saved (Err error.NoForm) = Err NoForm
 line_saved (Err error.Memory) = Err OutOfMemory
 line_saved (Err error.Write) = Err Write
+
+-- a fault of a line or of a writer, and not of a place
+abbrev pub IsOfLine : SaveFault → Type 0
+IsOfLine Begin = ⊥
+IsOfLine Sync = ⊥
+IsOfLine Put = ⊥
+IsOfLine Settle = ⊥
+IsOfLine _ = ⊤
+
+-- the list was put in its place: the save ended well, or only what was put could not be settled
+abbrev pub IsPut : Result (Unit {0}) SaveFault → Type 0
+IsPut result = (result ≡ Ok tt) ⊎ (result ≡ Err Settle)

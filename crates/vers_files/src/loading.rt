@@ -3,15 +3,17 @@ ghost use Rattle.std.specs.Prelude.{◌≡◌, List, ℕ, ◌⊎◌, IfOk, IfErr
 ghost use Rattle.vers_saved.specs.Format.{bytes_word};
 ghost use Rattle.vers_saved.specs.Faults.{fault_of};
 ghost use Rattle.vers_saved.specs.Kinds.{tree_kind};
-ghost use Rattle.vers_files.specs.Forms.{saved_form, HasForm, form_fault, number_of_kind, IsFormOf, IsNoForm, fault_text};
+ghost use Rattle.vers_saved.specs.Streams.{IsRefused};
+ghost use Rattle.vers_files.specs.Forms.{saved_form, HasForm, form_fault, kind_numbered, number_of_kind, IsFormOf, IsNoForm, fault_text};
 
 use std::alloc::Allocator;
 use std::io::{ErrorKind, Read};
-use vers_cli::{Held, Store};
+use vers_cli::{Held, Source, Store};
 use vers_saved::fault::LoadError;
 use vers_saved::kind::{PARENTHESES, POSTINGS, SORTED, SPARSE, SYMBOLS, VALUES};
 use vers_saved::saved::load_from_slice;
-use vers_saved::trees::load_tree_from_slice;
+use vers_saved::stream::{fill, load as load_list};
+use vers_saved::trees::{load_tree, load_tree_from_slice};
 
 // The word of eight bytes.
 #[tactic(auto, unfolding(vers_saved::specs::Format::bytes_word))]
@@ -43,19 +45,55 @@ macro_rules! stored {
     };
 }
 
+// The same of a tree, for which memory is taken.
+macro_rules! stored_tree {
+    ($alloc:expr, $loaded:expr) => {
+        match $loaded {
+            Ok(tree) => match Box::new($alloc, tree) {
+                Ok(tree) => Ok(Store::of($alloc, Held::Tree(tree))),
+                Err(_) => Err(LoadError::Memory),
+            },
+            Err(fault) => Err(fault),
+        }
+    };
+}
+
+// What the load of a list of the kind with a number gives: of a tree one load, and of all others another.
+macro_rules! stored_by_kind {
+    ($alloc:expr, $number:expr, $list:expr, $tree:expr) => {
+        match $number {
+            SORTED => stored!($alloc, $list, Held::Sorted),
+            SYMBOLS => stored!($alloc, $list, Held::Symbols),
+            SPARSE => stored!($alloc, $list, Held::Sparse),
+            VALUES => stored!($alloc, $list, Held::Values),
+            PARENTHESES => $tree,
+            POSTINGS => stored!($alloc, $list, Held::Postings),
+            _ => stored!($alloc, $list, Held::Bits),
+        }
+    };
+}
+
 // A store that holds the tree that the bytes are the saved form of.
-fn load_tree<'a, A: Allocator + Copy>(alloc: &'a A, bytes: &[u8]) -> Result<Store<'a, A>, LoadError>
+fn tree_of_slice<'a, A: Allocator + Copy>(
+    alloc: &'a A,
+    bytes: &[u8],
+) -> Result<Store<'a, A>, LoadError>
     ensures loaded { IfOk result (λ held. (bytes.now ≡ saved_form held) × HasForm held) }
     ensures refused { IfErr result (λ e. (fault_of (tree_kind 512) bytes.now ≡ Some e)
         ⊎ ((e ≡ LoadError.Memory) × (fault_of (tree_kind 512) bytes.now ≡ None))) }
 {
-    match load_tree_from_slice(alloc, bytes) {
-        Ok(tree) => match Box::new(alloc, tree) {
-            Ok(tree) => Ok(Store::of(alloc, Held::Tree(tree))),
-            Err(_) => Err(LoadError::Memory),
-        },
-        Err(fault) => Err(fault),
-    }
+    stored_tree!(alloc, load_tree_from_slice(alloc, bytes))
+}
+
+// A store that holds the tree that all bytes of a reader are the saved form of.
+fn tree_of_reader<'a, A: Allocator + Copy, R: Source>(
+    alloc: &'a A,
+    reader: &mut R,
+) -> Result<Store<'a, A>, LoadError>
+    ensures loaded { IfOk result (λ held. IsFormOf (R.remaining reader.old) held) }
+    ensures refused { IfErr result (IsRefused (tree_kind 512) (R.remaining reader.old)) }
+{
+    stored_tree!(alloc, load_tree(alloc, reader))
 }
 
 /// A store that holds the list that the bytes are the saved form of. A fault is that of the bytes as a form of the
@@ -66,15 +104,30 @@ pub fn load<'a, A: Allocator + Copy>(alloc: &'a A, bytes: &[u8]) -> Result<Store
     ensures refused { IfErr result (λ e. (form_fault bytes.now ≡ Some e)
         ⊎ ((e ≡ LoadError.Memory) × (form_fault bytes.now ≡ None))) }
 {
-    match number_of_kind(bytes) {
-        SORTED => stored!(alloc, load_from_slice(*alloc, bytes), Held::Sorted),
-        SYMBOLS => stored!(alloc, load_from_slice(*alloc, bytes), Held::Symbols),
-        SPARSE => stored!(alloc, load_from_slice(*alloc, bytes), Held::Sparse),
-        VALUES => stored!(alloc, load_from_slice(*alloc, bytes), Held::Values),
-        PARENTHESES => load_tree(alloc, bytes),
-        POSTINGS => stored!(alloc, load_from_slice(*alloc, bytes), Held::Postings),
-        _ => stored!(alloc, load_from_slice(*alloc, bytes), Held::Bits),
-    }
+    stored_by_kind!(
+        alloc,
+        number_of_kind(bytes),
+        load_from_slice(*alloc, bytes),
+        tree_of_slice(alloc, bytes)
+    )
+}
+
+// A store that holds the list of the kind with a number that all bytes of a reader are the saved form of.
+#[tactic(auto, using(crate::proofs::Numbered::kinds))]
+fn load_numbered<'a, A: Allocator + Copy, R: Source>(
+    alloc: &'a A,
+    number: u64,
+    reader: &mut R,
+) -> Result<Store<'a, A>, LoadError>
+    ensures loaded { IfOk result (λ held. IsFormOf (R.remaining reader.old) held) }
+    ensures refused { IfErr result (IsRefused (kind_numbered number) (R.remaining reader.old)) }
+{
+    stored_by_kind!(
+        alloc,
+        number,
+        load_list(*alloc, reader),
+        tree_of_reader(alloc, reader)
+    )
 }
 
 /// All bytes that a reader has left.
@@ -90,7 +143,11 @@ pub fn read<A: Allocator, F: Read>(alloc: A, file: &mut F) -> Result<Vec<u8, A>,
     }
 }
 
-/// A store that holds the list that all bytes of a reader are the saved form of.
+// How many bytes a file has up to the end of the word that names its kind.
+const NAMED: usize = 24;
+
+/// A store that holds the list that all bytes of a reader are the saved form of. They are read by blocks, and their
+/// words alone are kept, with no copy of the bytes.
 pub fn load_file<'a, A: Allocator + Copy, F: Read>(
     alloc: &'a A,
     file: &mut F,
@@ -98,8 +155,10 @@ pub fn load_file<'a, A: Allocator + Copy, F: Read>(
     ensures loaded { IfOk result (λ held. IsFormOf (F.remaining file.old) held) }
     ensures refused { IfErr result (λ e. IsNoForm (F.remaining file.old) e) }
 {
-    let bytes = read(*alloc, file)?;
-    load(alloc, bytes.as_slice())
+    let mut block = [0; NAMED];
+    let filled = fill(file, &mut block)?;
+    let front = &block[..filled];
+    load_numbered(alloc, number_of_kind(front), &mut front.chain(file))
 }
 
 /// What is to be said of a fault: its name, and what it means.

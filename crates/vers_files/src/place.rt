@@ -3,9 +3,10 @@ ghost use Rattle.std.specs.Prelude.{◌≡◌, List, ℕ, Option, None, OnOk, On
 
 use std::fs::{File, Files};
 use std::io::Write;
+use std::path::Path;
 use std::{fs, io};
 
-/// A place whose bytes are replaced whole: new ones are written beside it, synced, and then put there.
+/// A place whose bytes are replaced whole: new ones are written beside it, synced, put there, and then settled.
 pub trait Place {
     /// What is written to beside the place.
     type Beside: Write + Drop;
@@ -18,6 +19,9 @@ pub trait Place {
 
     // The bytes beside it that were synced last, where they are known.
     ghost synced: { Self → Option (List ℕ) };
+
+    // The bytes that stay in the place whatever happens to the machine, where they are known.
+    ghost settled: { Self → Option (List ℕ) };
 
     /// Begins beside the place. Refused where something was begun there and not put or left.
     fn begin(&mut self) -> io::Result<Self::Beside>
@@ -33,6 +37,11 @@ pub trait Place {
     fn put(&mut self) -> io::Result<()>
         ensures put { OnOk result (bytes self.new ≡ synced self.old) }
         ensures kept { OnErr result (bytes self.new ≡ bytes self.old) };
+
+    /// Makes sure that what was put stays in the place.
+    fn settle(&mut self) -> io::Result<()>
+        ensures settled { OnOk result (settled self.new ≡ bytes self.old) }
+        ensures kept { bytes self.new ≡ bytes self.old };
 
     /// Takes away what was begun.
     fn leave(&mut self)
@@ -50,6 +59,14 @@ pub struct FilePlace<'a, R: Files<File = File>> {
     pub beside: &'a str,
 }
 
+// The folder that a file stands in.
+fn folder_of(path: &str) -> Path<'_> {
+    match Path::new(path).parent() {
+        Some(folder) if !folder.as_str().is_empty() => folder,
+        _ => Path::new("."),
+    }
+}
+
 impl<R: Files<File = File>> Place for FilePlace<'_, R> {
     type Beside = File;
 
@@ -58,6 +75,8 @@ impl<R: Files<File = File>> Place for FilePlace<'_, R> {
     ghost bytes = { λ _. None };
 
     ghost synced = { λ _. None };
+
+    ghost settled = { λ _. None };
 
     fn begin(&mut self) -> io::Result<File> {
         File::create_new(self.files, self.beside)
@@ -69,6 +88,10 @@ impl<R: Files<File = File>> Place for FilePlace<'_, R> {
 
     fn put(&mut self) -> io::Result<()> {
         fs::rename(self.files, self.beside, self.path)
+    }
+
+    fn settle(&mut self) -> io::Result<()> {
+        File::open(self.files, folder_of(self.path))?.sync_all()
     }
 
     fn leave(&mut self) {

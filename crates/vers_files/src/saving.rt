@@ -6,7 +6,7 @@ ghost use Rattle.vers_saved.specs.Streams.{Writes};
 ghost use Rattle.vers_cli.specs.Holding.{holding_of, is_accepted};
 ghost use Rattle.vers_cli.specs.Rules.{line_loaded};
 ghost use Rattle.vers_files.specs.Forms.{saved_form, HasForm};
-ghost use Rattle.vers_files.specs.SavedLines.{IfAccepted, SaysWhy, line_saved};
+ghost use Rattle.vers_files.specs.SavedLines.{IfAccepted, SaysWhy, IsOfLine, IsPut, line_saved};
 
 use crate::place::Place;
 use std::alloc::Allocator;
@@ -35,6 +35,9 @@ pub enum SaveFault {
     Sync,
     /// What was written could not be put in the place.
     Put,
+    /// What was put in the place could not be made sure of: it stands there, and after a failure of the machine
+    /// either it or what stood there before.
+    Settle,
 }
 
 // What a save of a list gives, as that of its line.
@@ -87,6 +90,7 @@ pub fn save_line<A: Allocator + Copy, W: Write>(
     ensures accepted { OnOk result (is_accepted (line_loaded (words_of line.now)) ≡ true) }
     ensures form { OnOk result (IfAccepted (line_loaded (words_of line.now)) HasForm) }
     ensures refused { IfErr result (λ e. SaysWhy e (line_loaded (words_of line.now))) }
+    ensures kind { IfErr result IsOfLine }
     ensures kept { IfErr result (λ e. (e ≡ SaveFault.Write)
         ⊎ Keeps (W.contents writer.old) (W.contents writer.new)) }
 {
@@ -98,30 +102,35 @@ pub fn save_line<A: Allocator + Copy, W: Write>(
     }
 }
 
-/// Puts the saved form of the list that a load line says in a place, whole or not at all.
+/// Puts the saved form of the list that a load line says in a place, whole or not at all, and makes sure that it
+/// stays there. After the fault `Settle` it stands in the place, and after another one what stood there before.
 pub fn save_to<A: Allocator + Copy, P: Place>(
     alloc: A,
     line: &[u8],
     place: &mut P,
 ) -> Result<(), SaveFault>
-    ensures whole { OnOk result (IfAccepted (line_loaded (words_of line.now)) (λ held.
-        Appends P.nothing (P.bytes place.new) (saved_form held))) }
-    ensures accepted { OnOk result (is_accepted (line_loaded (words_of line.now)) ≡ true) }
-    ensures form { OnOk result (IfAccepted (line_loaded (words_of line.now)) HasForm) }
+    ensures whole { IsPut result → IfAccepted (line_loaded (words_of line.now)) (λ held.
+        Appends P.nothing (P.bytes place.new) (saved_form held)) }
+    ensures accepted { IsPut result → is_accepted (line_loaded (words_of line.now)) ≡ true }
+    ensures form { IsPut result → IfAccepted (line_loaded (words_of line.now)) HasForm }
+    ensures settled { OnOk result (P.settled place.new ≡ P.bytes place.new) }
     ensures refused { IfErr result (λ e. SaysWhy e (line_loaded (words_of line.now))) }
-    ensures kept { OnErr result (P.bytes place.new ≡ P.bytes place.old) }
+    ensures kept { ¬ IsPut result → P.bytes place.new ≡ P.bytes place.old }
 {
     let Ok(mut beside) = place.begin() else {
         return Err(SaveFault::Begin);
     };
-    let result = put_line(alloc, line, place, &mut beside);
-    if result.is_err() {
+    if let Err(fault) = put_line(alloc, line, place, &mut beside) {
         place.leave();
+        return Err(fault);
     }
-    result
+    if place.settle().is_err() {
+        return Err(SaveFault::Settle);
+    }
+    Ok(())
 }
 
-// Writes the saved form of the list that a load line says beside a place, and puts it there.
+// Writes the saved form of the list that a load line says beside a place, and puts it there, with nothing settled.
 fn put_line<A: Allocator + Copy, P: Place>(
     alloc: A,
     line: &[u8],
@@ -133,6 +142,7 @@ fn put_line<A: Allocator + Copy, P: Place>(
     ensures accepted { OnOk result (is_accepted (line_loaded (words_of line.now)) ≡ true) }
     ensures form { OnOk result (IfAccepted (line_loaded (words_of line.now)) HasForm) }
     ensures refused { IfErr result (λ e. SaysWhy e (line_loaded (words_of line.now))) }
+    ensures kind { IfErr result (λ e. e ≢ SaveFault.Settle) }
     ensures kept { OnErr result (P.bytes place.new ≡ P.bytes place.old) }
 {
     save_line(alloc, line, beside)?;

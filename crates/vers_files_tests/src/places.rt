@@ -2,7 +2,7 @@
 ghost use Rattle.std.specs.Prelude.{[], IsErr, Some};
 
 use crate::files::{BITS, POSTINGS, SORTED, SPARSE, SYMBOLS, TREE, VALUES};
-use std::alloc::Global;
+use std::alloc::{AllocError, Global};
 use std::io;
 use std::io::Write;
 use vers_files::{Place, SaveFault, save_line, save_to};
@@ -44,18 +44,19 @@ fn other_lines_are_not_saved(rt: HostRuntime) {
 
 /// A place in memory, of which the call of number `fails_at` fails, a write too.
 #[derive(Drop)]
-struct Memory {
+pub struct Memory {
     alloc: Global,
-    bytes: Vec<u8>,
+    pub bytes: Vec<u8>,
     synced: Vec<u8>,
-    is_begun: bool,
+    pub settled: Vec<u8>,
+    pub is_begun: bool,
     fails_at: u64,
     calls: u64,
 }
 
-/// What is written beside it, whose write of number `fails_at` fails.
+/// What is written beside a place, whose write of number `fails_at` fails.
 #[derive(Drop)]
-struct Beside {
+pub struct Beside {
     bytes: Vec<u8>,
     fails_at: u64,
     writes: u64,
@@ -99,6 +100,8 @@ impl Place for Memory {
 
     ghost synced = { λ m. Some m.synced.items };
 
+    ghost settled = { λ m. Some m.settled.items };
+
     fn begin(&mut self) -> io::Result<Beside> {
         if is_call(&mut self.calls, self.fails_at) {
             return failure();
@@ -106,7 +109,7 @@ impl Place for Memory {
         self.is_begun = true;
         Ok(Beside {
             bytes: Vec::new(self.alloc),
-            fails_at: self.fails_at.saturating_sub(3),
+            fails_at: self.fails_at.saturating_sub(4),
             writes: 0,
         })
     }
@@ -134,40 +137,64 @@ impl Place for Memory {
         Ok(())
     }
 
+    fn settle(&mut self) -> io::Result<()> {
+        if is_call(&mut self.calls, self.fails_at) {
+            return failure();
+        }
+        match Vec::from_slice(self.alloc, self.bytes.as_slice()) {
+            Ok(bytes) => {
+                self.settled = bytes;
+                Ok(())
+            }
+            Err(_) => failure(),
+        }
+    }
+
     fn leave(&mut self) {
         self.is_begun = false;
     }
 }
 
-// Whether a save whose call of this number fails, if it comes so far, leaves the place as it was or fills it
-// whole, and leaves nothing beside it.
-fn is_whole_or_not_at_all(alloc: Global, fails_at: u64) -> bool {
-    let Ok(bytes) = Vec::from_slice(alloc, b"old") else {
-        return false;
-    };
-    let mut place = Memory {
+/// A place that holds these bytes, which are settled.
+pub fn holding(alloc: Global, bytes: &[u8], fails_at: u64) -> Result<Memory, AllocError> {
+    Ok(Memory {
         alloc,
-        bytes,
+        bytes: Vec::from_slice(alloc, bytes)?,
         synced: Vec::new(alloc),
+        settled: Vec::from_slice(alloc, bytes)?,
         is_begun: false,
         fails_at,
         calls: 0,
+    })
+}
+
+// Whether a save whose call of this number fails, if it comes so far, leaves the place as it was or fills it
+// whole, leaves nothing beside it, and is a save only where the place is settled.
+fn is_whole_or_not_at_all(alloc: Global, fails_at: u64) -> bool {
+    let Ok(mut place) = holding(alloc, b"old", fails_at) else {
+        return false;
     };
     let result = save_to(alloc, b"symbols 3 1 5 3", &mut place);
     let expected = match fails_at {
         1 => Err(SaveFault::Begin),
         2 => Err(SaveFault::Sync),
         3 => Err(SaveFault::Put),
-        4..=10 => Err(SaveFault::Write),
+        4 => Err(SaveFault::Settle),
+        5..=11 => Err(SaveFault::Write),
         _ => Ok(()),
     };
-    let file: &[u8] = if result.is_ok() { &SYMBOLS } else { b"old" };
-    result == expected && place.bytes.as_slice() == file && !place.is_begun
+    let is_put = result.is_ok() || result == Err(SaveFault::Settle);
+    let file: &[u8] = if is_put { &SYMBOLS } else { b"old" };
+    let settled: &[u8] = if result.is_ok() { &SYMBOLS } else { b"old" };
+    result == expected
+        && place.bytes.as_slice() == file
+        && place.settled.as_slice() == settled
+        && !place.is_begun
 }
 
 #[test]
 fn a_place_is_filled_whole_or_not_at_all(rt: HostRuntime) {
-    for fails_at in 1..13u64 {
+    for fails_at in 1..14u64 {
         assert!(rt; is_whole_or_not_at_all(rt.alloc(), fails_at));
     }
 }
@@ -175,14 +202,10 @@ fn a_place_is_filled_whole_or_not_at_all(rt: HostRuntime) {
 #[test]
 fn a_bad_line_leaves_the_place(rt: HostRuntime) {
     let alloc = rt.alloc();
-    let mut place = Memory {
-        alloc,
-        bytes: Vec::new(alloc),
-        synced: Vec::new(alloc),
-        is_begun: false,
-        fails_at: 0,
-        calls: 0,
+    let Ok(mut place) = holding(alloc, b"old", 0) else {
+        return;
     };
     assert!(rt; save_to(alloc, b"sorted 2 1", &mut place) == Err(SaveFault::Refused));
-    assert!(rt; place.bytes.is_empty() && !place.is_begun);
+    let old: &[u8] = b"old";
+    assert!(rt; place.bytes.as_slice() == old && !place.is_begun);
 }
