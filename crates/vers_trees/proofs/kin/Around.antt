@@ -1,5 +1,5 @@
 -- The nodes around a node: its parent, its depth, how many nodes are in its tree, and how many come before it.
-use Rattle.vers_trees.proofs.Words.{◌≡◌, ℕ, zero, suc, ◌+◌, ◌<◌, ◌≤◌, Bool, true, false, cond, ◌&&◌, List, [], ◌∷◌, take, ltb, leb, count_by, pos, negsuc, Option, Some, None, arith, ⊎_elim, sym, refl, ap, ◌∙◌, Decides, last_or, lt-ltb, le-ltb, le-leb, Decides-ltb, Decides-and, leb_tells, length-filter, count, is_bit, places, excess, last_rise_before, Forest, text, pairs, nodes, closing, is_ancestor, is_proper_ancestor, proper_ancestors, depth, parent, node_index}
+use Rattle.vers_trees.proofs.Words.{◌≡◌, ℕ, zero, suc, ◌+◌, ◌<◌, ◌≤◌, Bool, true, false, cond, ◌&&◌, List, [], ◌∷◌, take, ltb, leb, count_by, pos, negsuc, Some, arith, ⊎_elim, sym, refl, ap, ◌∙◌, Decides, lt-ltb, le-ltb, le-leb, Decides-ltb, Decides-and, leb_tells, length-filter, count, is_bit, places, excess, last_rise_before, Forest, text, pairs, nodes, closing, is_ancestor, is_proper_ancestor, depth, parent, node_index}
 use Rattle.vers_trees.proofs.walks.Lists.{shifted, places-cons}
 use Rattle.vers_trees.proofs.searches.Searches.{before_some, before_none, by_answer}
 use Rattle.vers_trees.proofs.grammar.Paired.{closes_rises, closes_paired}

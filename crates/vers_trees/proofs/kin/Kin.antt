@@ -1,5 +1,5 @@
 -- Children and siblings: where the nearest of them open.
-use Rattle.vers_trees.proofs.Words.{◌≡◌, ℕ, zero, suc, ◌+◌, ◌-◌, ◌<◌, ◌≤◌, ◌⊎◌, Bool, true, false, cond, List, [], ◌∷◌, length, get_or, eqb, negsuc, Option, Some, None, arith, ⊎_elim, subst, sym, refl, ap, ◌∙◌, filter, Decides, Contains, last_or, option_eq, ints, cases_lt, Decides-like, same_from_decides, get_or_past, eq-or-lt_of_le, last_rise_before, Forest, text, nodes, closing, is_proper_ancestor, parent, nodes_under, children, siblings, first_of, last_of, next_of, previous_of, get_or_default}
+use Rattle.vers_trees.proofs.Words.{◌≡◌, ℕ, zero, suc, ◌+◌, ◌-◌, ◌<◌, ◌≤◌, Bool, true, false, cond, List, [], ◌∷◌, length, get_or, negsuc, Option, Some, None, arith, ⊎_elim, subst, sym, refl, ap, ◌∙◌, filter, Contains, last_or, ints, cases_lt, Decides-like, same_from_decides, get_or_past, eq-or-lt_of_le, last_rise_before, Forest, text, nodes, closing, is_proper_ancestor, parent, nodes_under, children, siblings, first_of, last_of, next_of, previous_of, get_or_default}
 use Rattle.vers_trees.proofs.searches.Searches.{before_is}
 use Rattle.vers_trees.proofs.grammar.Excess.{excess_after_open, excess_after_close}
 use Rattle.vers_trees.proofs.grammar.Paired.{Closes, paired_closes, close_is_paired, closes_rises, closes_falls}

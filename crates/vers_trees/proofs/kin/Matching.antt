@@ -1,5 +1,5 @@
 -- The laws of parentheses.
-use Rattle.vers_trees.proofs.Words.{◌≡◌, ℕ, zero, suc, ◌<◌, ◌↔◌, Bool, true, false, List, [], ◌∷◌, length, get_or, ℤ, negsuc, Some, arith, Option, None, sym, ◌∙◌, slice_get, slice_get_within, get_or_from_slice_get, Contains, first_rise_after, last_rise_before, enclosing, Forest, text, pairs, IsFirstRiseAfter, IsLastRiseBefore, parent}
+use Rattle.vers_trees.proofs.Words.{◌≡◌, ℕ, ◌<◌, ◌↔◌, Bool, true, false, List, length, get_or, negsuc, Some, arith, Option, None, sym, ◌∙◌, slice_get, slice_get_within, get_or_from_slice_get, Contains, first_rise_after, last_rise_before, enclosing, Forest, text, pairs, parent}
 use Rattle.vers_trees.proofs.searches.Searches.{after_some, after_is, before_some, before_is, before_none, none_before}
 use Rattle.vers_trees.proofs.grammar.Paired.{paired_closes, closes_paired, open_is_paired, close_is_paired, Closes, closes_rises, closes_falls}
 use Rattle.vers_trees.proofs.grammar.Pairs.{contains_from_paired, paired_from_contains}

@@ -1,5 +1,5 @@
 -- Scans over the bits of a part, by stretches: a bit, a byte or a word at a time.
-use Rattle.vers_trees.proofs.Words.{◌≡◌, ◌≢◌, ℕ, zero, suc, ◌+◌, ◌-◌, ◌^◌, ◌<◌, ◌≤◌, Bool, true, false, List, length, get_or, ℤ, pos, negsuc, ◌+ℤ◌, ◌-ℤ◌, ◌≤ℤ◌, FitsSigned, to_z, of_z, arith, ⊎_elim, sym, ap, ◌∙◌, w64, int_min, int_max, ints, clamps, by_lt_z, to_z-of_z, cases_lt, Reads, AddsAtMost, adds_then, get_reads, Node, excess, bit_step, count, count_near, count_up, IsPart, IsFirstRise, HasNoRise, IsLastRise, HasNoRiseBefore, scan_reads}
+use Rattle.vers_trees.proofs.Words.{◌≡◌, ◌≢◌, ℕ, ◌+◌, ◌-◌, ◌^◌, ◌<◌, ◌≤◌, Bool, true, false, List, length, get_or, ℤ, pos, negsuc, ◌+ℤ◌, ◌-ℤ◌, ◌≤ℤ◌, FitsSigned, to_z, of_z, arith, ⊎_elim, sym, ap, ◌∙◌, w64, int_min, int_max, ints, clamps, by_lt_z, to_z-of_z, cases_lt, Reads, AddsAtMost, adds_then, get_reads, Node, excess, bit_step, count, count_near, count_up, IsPart, IsFirstRise, HasNoRise, IsLastRise, HasNoRiseBefore, scan_reads}
 use Rattle.vers_trees.proofs.grammar.Excess.{excess_after_bit}
 
 -- the excess changes by at most as much as there are places between

@@ -1,13 +1,13 @@
 -- The nodes of a node's tree are a part of all nodes, in preorder and in postorder.
-use Rattle.vers_trees.proofs.Words.{◌≡◌, ℕ, suc, ◌+◌, ◌*◌, ◌<◌, ◌≤◌, ◌⊎◌, inl, inr, Bool, true, false, ◌&&◌, List, [], ◌∷◌, map, length, take, drop, ltb, leb, count_by, negsuc, Option, arith, ⊎_elim, subst, sym, refl, ap, ◌∙◌, filter, All, Decides, unwrap_or, ints, cases_lt, lt-ltb, le-ltb, nat_tests, Decides-and, Decides-like, same_from_decides, All-head, All-tail, All-weaker, length-filter, count_by-le-length, eq-or-lt_of_le, is_bit, count, places, count_both, excess, Forest, text, nodes, closing, is_ancestor, subtree, opening_of, pairs_by_closing, postorder, subtree_post, not-true}
+use Rattle.vers_trees.proofs.Words.{◌≡◌, ℕ, suc, ◌+◌, ◌*◌, ◌<◌, ◌≤◌, ◌⊎◌, inl, inr, Bool, true, false, ◌&&◌, List, [], ◌∷◌, map, length, take, drop, ltb, leb, count_by, arith, ⊎_elim, subst, sym, refl, ap, ◌∙◌, filter, Decides, ints, cases_lt, lt-ltb, le-ltb, nat_tests, Decides-and, Decides-like, same_from_decides, All-weaker, length-filter, count_by-le-length, count, places, count_both, excess, Forest, text, nodes, closing, is_ancestor, subtree, opening_of, pairs_by_closing, postorder, subtree_post, not-true}
 use Rattle.vers_trees.proofs.grammar.Paired.{Paired, paired_closes, close_is_paired}
 use Rattle.vers_trees.proofs.kin.Partners.{before_from_closes, nested}
 use Rattle.vers_trees.proofs.searches.Searches.{before_is}
-use Rattle.vers_trees.proofs.kin.NodeList.{HasPair, nodes_are_ones, node_pair, closing_is, inside}
+use Rattle.vers_trees.proofs.kin.NodeList.{HasPair, nodes_are_ones, node_pair, closing_is}
 use Rattle.vers_trees.proofs.kin.Around.{Decides-leb, ancestor_decides, below_counted}
 use Rattle.vers_trees.proofs.grammar.Pairs.{one_if, count_by-cons}
 use Rattle.vers_trees.proofs.kin.Kin.{filter_agree}
-use Rattle.vers_trees.proofs.walks.Lists.{opening_places, closing_places, filter_mapped, HasBitAt, all_places, closing_is_zeros, closing_paired, mapped_all, postorder_opens}
+use Rattle.vers_trees.proofs.walks.Lists.{filter_mapped, HasBitAt, all_places, closing_is_zeros, closing_paired, mapped_all, postorder_opens}
 use Rattle.vers_trees.proofs.levels.NodeLaws.{AscendsFrom, places_ascend}
 
 -- ---- numbers from v up to c

@@ -1,4 +1,4 @@
-use Rattle.vers_trees.proofs.Words.{rules, ◌≤◌, ◌≡◌, Bool, not, ◌+◌, ◌-◌, ◌+ℤ◌, arith, w64, FitsSigned, to_z, of_z, ap, ◌∙◌, bool_byte, to_z-of_z, IsInRangeOrStart}
+use Rattle.vers_trees.proofs.Words.{rules, ◌≤◌, ◌≡◌, Bool, not, ◌+ℤ◌, arith, w64, FitsSigned, to_z, of_z, ap, ◌∙◌, bool_byte, to_z-of_z, IsInRangeOrStart}
 use Rattle.vers_trees.proofs.layout.Climbs.{back_fits, back_right, back_left, back_leaf}
 use Rattle.vers_trees.proofs.layout.Steps.{no_nodes, one_of_two, read_down, down_ends}
 use Rattle.vers_trees.proofs.trees.bp.min_max.MinMaxTree.descend_back_counted.Goals as goal
