@@ -1,5 +1,5 @@
 -- How first places of least items join.
-use Rattle.vers_rmq.proofs.Names.{◌≡◌, ℕ, ◌+◌, ◌-◌, ◌<◌, ◌≤◌, List, leb, get_or, sym, ap, ◌∙◌, subst, inl, inr, arith, cases_lt, cond-true, cond-false, le-leb, lt-leb, PlacedItem, IsFirstLeast, IsLeastItem, lesser_item}
+use Rattle.vers_rmq.proofs.Names.{◌≡◌, ℕ, ◌+◌, ◌-◌, ◌<◌, ◌≤◌, List, leb, get_or, subst, arith, cond-true, cond-false, le-leb, lt-leb, PlacedItem, IsFirstLeast, IsLeastItem, lesser_item}
 use Rattle.std.proofs.lemmas.Bool.Decides.{nat_tests}
 use Rattle.vers_rmq.specs.Minima.{lesser}
 

@@ -1,4 +1,4 @@
-use Rattle.std.proofs.Common.{rules, length, ap, arith}
+use Rattle.std.proofs.Common.{arith}
 use Rattle.vers_rmq.proofs.Gathers.{refused_long, refused_at}
 use Rattle.vers_rmq.proofs.rmq.gather.gathered.Goals as goal
 

@@ -1,4 +1,4 @@
-use Rattle.std.proofs.Common.{◌*◌, ◌/◌, arith}
+use Rattle.std.proofs.Common.{arith}
 use Rattle.vers_rmq.proofs.Blocks.{start_after}
 use Rattle.vers_rmq.proofs.Minima.{item_longer}
 use Rattle.vers_rmq.proofs.rmq.fast_rmq.FastRmq.least_up_to.Goals as goal

@@ -1,4 +1,4 @@
-use Rattle.vers_rmq.proofs.Names.{◌+◌, ◌-◌, ◌*◌, ◌^◌, refl, bit_or, arith, bit_at-zero}
+use Rattle.vers_rmq.proofs.Names.{◌-◌, ◌*◌, ◌^◌, refl, bit_or, arith, bit_at-zero}
 use Rattle.vers_rmq.proofs.Masks.{prefix_same, prefixes_none, prefixes_more, prefixes_to, none_above, few_bits}
 use Rattle.vers_rmq.proofs.rmq.fast_rmq.mask.more_prefixes.Goals as goal
 use Rattle.vers_rmq.proofs.rmq.fast_rmq.mask.more_prefixes.Goals.{then-here-value, else-here-value}
