@@ -59,14 +59,6 @@ kth-lt ls a b i x kth h =
       | inr high ↦ absurd (omega (arith, h, kth.less, under_all ls x a high, under_all ls x b high))
     ]
 
--- the only member of a range
-kth_single : (ls : List (List Bool)) (a b : ℕ) → b ≡ a + 1 → KthOf ls a b 0 (value ls a)
-kth_single ls a b e =
-    let x : ℕ = value ls a in record {
-      less = omega (arith, ap (under ls x) e, one_more ls x a x false refl (le-ltb x x (omega arith)));
-      more = omega (arith, ap (under ls (x + 1)) e, one_more ls (x + 1) a x true refl (lt-ltb x (x + 1) (omega arith)));
-    }
-
 module _ (ls : List (List Bool)) (k : ℕ) (h : k < length ls) where
   pub level_at : (v : List Bool) → v ≡ get_or ls k v → drop k ls ≡ v ∷ drop (k + 1) ls
   level_at v at = drop-cons ls k v h ∙ ap (λ x. x ∷ drop (suc k) ls) (sym at) ∙ ap (λ n. v ∷ drop n ls) (sym (add-one k))
@@ -304,11 +296,6 @@ searched_all {ls} {from} {to} {th} {k} {a} {b} {i} {number} e s order =
 -- the levels from one on
 pub levels_from : (ls : List (List Bool)) (k : ℕ) → take (length ls - k) (drop k ls) ≡ drop k ls
 levels_from ls k = take_all (length ls - k) (drop k ls) (omega (arith, length-drop k ls))
-
--- the symbol of the one place that is left
-pub searched_single : {ls : List (List Bool)} {from to th k a b number : ℕ} → b ≡ a + 1 → Searched ls from to th k a b 0 number → KthOf ls from to th (number + value (drop k ls) a)
-searched_single {ls} {from} {to} {th} {k} {a} {b} e s =
-    s.each (value (drop k ls) a) (subst (λ (i : ℕ). value (drop k ls) a < 2 ^ i) (length-drop k ls) (value-lt (drop k ls) a)) (kth_single (drop k ls) a b e)
 
 pub read_all : (ls : List (List Bool)) (k p number x : ℕ) → k ≡ length ls → number + value (drop k ls) p ≡ x → number ≡ x
 read_all ls k p number x e s = omega (arith, s, ap (λ m. value m p) (drop_all k ls (omega arith)) ∙ value_none p)
