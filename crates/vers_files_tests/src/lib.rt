@@ -6,6 +6,10 @@ mod asked;
 #[cfg(test)]
 mod files;
 #[cfg(test)]
+mod memory;
+#[cfg(test)]
 mod places;
 #[cfg(test)]
 mod shown;
+#[cfg(test)]
+mod texts;
