@@ -3,6 +3,7 @@
  *
  * Under `valgrind --tool=callgrind` the instructions of a query are those of a run with many places less those of a run with none, over the
  * count; `none` asks nothing, and its instructions for a place are the loop's. */
+#include "random.h"
 #include "vers.h"
 
 #include <stdio.h>
@@ -10,14 +11,6 @@
 #include <string.h>
 
 enum { ITEMS = 1000000 };
-
-static uint64_t next(void) {
-    static uint64_t seed = 88172645463325252u;
-    seed ^= seed << 13;
-    seed ^= seed >> 7;
-    seed ^= seed << 17;
-    return seed;
-}
 
 static uint64_t *random_numbers(size_t count, uint64_t most) {
     uint64_t *numbers = malloc((count + 1) * sizeof *numbers);

@@ -1,4 +1,5 @@
 /* Compares each call of vers.h with a plain loop over the list. Exits with 0 where all agree. */
+#include "random.h"
 #include "vers.h"
 
 #include <pthread.h>
@@ -29,14 +30,6 @@ static void found_if(const char *what, uint64_t at, vers_answer got, bool is_the
 static void is(const char *what, uint64_t got, uint64_t wanted) {
     vers_answer answer = {VERS_DONE, got};
     compare(what, 0, answer, VERS_DONE, wanted);
-}
-
-static uint64_t next(void) {
-    static uint64_t seed = 88172645463325252u;
-    seed ^= seed << 13;
-    seed ^= seed >> 7;
-    seed ^= seed << 17;
-    return seed;
 }
 
 static void *room(size_t count, size_t size) {
