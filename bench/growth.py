@@ -2,7 +2,7 @@
 """Measures how the time of a query and of a build grows with the size of a structure, here and in the crate vers-vecs.
 
 Each structure is made in several sizes. At each size the two drivers of `compare.py` run in turns, and the least time of each series
-counts. The times are printed as tables for docs/PERFORMANCE.md, which `plots.py` draws.
+counts. The times are printed as tables for docs/GROWTH.md, which `plots.py` draws.
 """
 import argparse
 import os
@@ -11,7 +11,7 @@ from collections import namedtuple
 
 import compare
 
-SOURCE = os.path.join(compare.TOP, "docs/PERFORMANCE.md")
+SOURCE = os.path.join(compare.TOP, "docs/GROWTH.md")
 # A structure: its name in the lines, the type, what its size counts, the base and the exponents of its sizes, and the queries.
 Growth = namedtuple("Growth", "structure type unit base exponents queries")
 GROWTHS = (
