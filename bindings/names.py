@@ -48,8 +48,7 @@ NAMES = (
     (r"TextIndex\.places_ascending", "places places places places"),
     (r"WaveletMatrix\.get_sorted_u64", "quantile quantile = quantile"),
     (r"WaveletMatrix\.rank_offset_u64", "rank_range rank_range = rank_range"),
-    (r"EliasFanoVec\.\w+_each|WaveletMatrix\.\w+_each", "each each - each"),
-    (r"RsVec\.select[01]_each", "each each = each"),
+    (r"(RsVec|EliasFanoVec|WaveletMatrix)\.\w+_each", "each each = each"),
 )
 # why calls have no name in C, C++ and Python: the first row that fits counts
 LEFT_OUT = (

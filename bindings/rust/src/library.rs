@@ -448,21 +448,26 @@ impl Owner {
         }));
     }
 
+    /// Puts in the stead of each number what is answered to it, and `other` where there is no answer.
+    pub fn ask_each_or(&self, query: Query, numbers: &mut [u64], other: u64) {
+        // SAFETY: the array has so many numbers.
+        done(self.with(|handle| unsafe {
+            vers_ask_each(handle, query as u32, numbers.as_mut_ptr(), numbers.len(), 0, 0, other)
+        }));
+    }
+
     /// Writes what is answered to a number and those after it, of which each must have an answer.
     pub fn ask_from(&self, query: Query, start: usize, into: &mut [u64]) {
         for (number, asked) in (start as u64..).zip(into.iter_mut()) {
             *asked = number;
         }
-        // SAFETY: the array has so many numbers.
-        done(
-            self.with(|handle| unsafe { vers_ask_each(handle, query as u32, into.as_mut_ptr(), into.len(), 0, 0, 0) }),
-        );
+        self.ask_each_or(query, into, 0);
     }
 
-    /// Puts in the first place of each row what is answered to it, which there must be.
-    pub fn ask_rows(&self, query: Query, rows: &mut [Row]) {
+    /// Puts in the first place of each row what is answered to it, and `other` where there is no answer.
+    pub fn ask_rows_or(&self, query: Query, rows: &mut [Row], other: u64) {
         // SAFETY: the array has so many rows.
-        done(self.with(|handle| unsafe { vers_ask_rows(handle, query as u32, rows.as_mut_ptr(), rows.len(), 0) }));
+        done(self.with(|handle| unsafe { vers_ask_rows(handle, query as u32, rows.as_mut_ptr(), rows.len(), other) }));
     }
 
     /// How many bytes the structure takes.

@@ -32,6 +32,30 @@ fn members_are_found() {
 }
 
 #[test]
+fn many_members_are_found_at_once() {
+    let mut random = Random::new(3);
+    for (length, bound) in [(0, 1), (1, 9), (300, 400), (1000, 1 << 40)] {
+        let mut members = random.numbers(length, bound);
+        members.sort_unstable();
+        let list = EliasFanoVec::from_slice(&members);
+        let places: Vec<u64> = (0..length as u64 + 3).rev().collect();
+        let mut answers = places.clone();
+        list.get_each(&mut answers, 77);
+        assert!(places.iter().map(|&it| list.get(it as usize).unwrap_or(77)).eq(answers));
+        let numbers = random.numbers(500, bound + 2);
+        let answered = |each: &dyn Fn(&mut [u64])| {
+            let mut answers = numbers.clone();
+            each(&mut answers);
+            answers
+        };
+        let single = |one: &dyn Fn(u64) -> u64| numbers.iter().map(|&it| one(it)).collect::<Vec<_>>();
+        assert_eq!(answered(&|it| list.rank_each(it)), single(&|it| list.rank(it)));
+        assert_eq!(answered(&|it| list.predecessor_each(it, 7)), single(&|it| list.predecessor(it).unwrap_or(7)));
+        assert_eq!(answered(&|it| list.successor_each(it, 7)), single(&|it| list.successor(it).unwrap_or(7)));
+    }
+}
+
+#[test]
 #[should_panic(expected = "must ascend")]
 fn falling_numbers_are_refused() {
     let _ = EliasFanoVec::from_slice(&[1, 3, 2]);

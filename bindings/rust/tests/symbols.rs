@@ -37,6 +37,36 @@ fn symbols_are_counted_found_and_sorted() {
     }
 }
 
+#[test]
+fn many_symbols_are_asked_at_once() {
+    let mut random = Random::new(5);
+    for (width, bound) in [(3, 8), (8, 20), (64, u64::MAX), (65, 5)] {
+        let length = 300;
+        let numbers = random.numbers(length, bound);
+        let list = made(&numbers, width);
+        let ends = random.numbers(500, length as u64 + 5);
+        let symbols: Vec<u64> = random.numbers(500, length as u64).iter().map(|&it| numbers[it as usize]).collect();
+        let starts = random.numbers(500, length as u64 + 5);
+        let ranges: Vec<_> = ends.iter().zip(&starts).map(|(&a, &b)| a as usize..b as usize).collect();
+        let answered = |each: &dyn Fn(&mut [u64])| {
+            let mut answers = ends.clone();
+            each(&mut answers);
+            answers
+        };
+        let single = |one: &dyn Fn(usize, usize) -> Option<u64>| {
+            ends.iter().enumerate().map(|(at, &end)| one(at, end as usize).unwrap_or(9)).collect::<Vec<_>>()
+        };
+        let wide = |count: Option<usize>| count.map(|it| it as u64);
+        assert_eq!(answered(&|it| list.get_u64_each(it, 9)), single(&|_, end| list.get_u64(end)));
+        let rank = |at: usize, end| wide(list.rank_u64(end, symbols[at]));
+        assert_eq!(answered(&|it| list.rank_u64_each(it, &symbols, 9)), single(&rank));
+        let select = |at: usize, end| wide(list.select_u64(end, symbols[at]));
+        assert_eq!(answered(&|it| list.select_u64_each(it, &symbols, 9)), single(&select));
+        let quantile = |at: usize, end| list.quantile_u64(ranges[at].clone(), end);
+        assert_eq!(answered(&|it| list.quantile_u64_each(it, &ranges, 9)), single(&quantile));
+    }
+}
+
 /// Compares the answers for some range and symbol.
 fn asked(random: &mut Random, numbers: &[u64], list: &WaveletMatrix) {
     let (length, width) = (numbers.len(), list.bits_per_element());

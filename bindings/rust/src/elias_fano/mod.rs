@@ -109,6 +109,26 @@ impl EliasFanoVec {
         self.owner.told(Query::Has, value as usize) == 1
     }
 
+    /// Puts in the stead of each place its `get`, and `other` where that is None, by one call of the library.
+    pub fn get_each(&self, places: &mut [u64], other: u64) {
+        self.owner.ask_each_or(Query::Get, places, other);
+    }
+
+    /// Puts in the stead of each value its `rank`, by one call of the library.
+    pub fn rank_each(&self, values: &mut [u64]) {
+        self.owner.ask_each_or(Query::Rank, values, 0);
+    }
+
+    /// Puts in the stead of each number its `predecessor`, and `other` where that is None, by one call of the library.
+    pub fn predecessor_each(&self, numbers: &mut [u64], other: u64) {
+        self.owner.ask_each_or(Query::Predecessor, numbers, other);
+    }
+
+    /// Puts in the stead of each number its `successor`, and `other` where that is None, by one call of the library.
+    pub fn successor_each(&self, numbers: &mut [u64], other: u64) {
+        self.owner.ask_each_or(Query::Successor, numbers, other);
+    }
+
     /// How many bytes the library keeps.
     #[must_use]
     pub fn heap_size(&self) -> usize {

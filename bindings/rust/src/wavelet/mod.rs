@@ -197,6 +197,55 @@ impl WaveletMatrix {
     }
 }
 
+/// Many queries by one call of the library, which answers them faster than one by one.
+impl WaveletMatrix {
+    /// Puts in the stead of each place its `get_u64`, and `other` where that is None.
+    pub fn get_u64_each(&self, places: &mut [u64], other: u64) {
+        match &self.symbols {
+            Symbols::Narrow { owner, .. } => owner.ask_each_or(Query::Get, places, other),
+            Symbols::Wide(_) => places.fill(other),
+        }
+    }
+
+    /// Puts in the stead of each end its `rank_u64` of the symbol at the same place, and `other` where that is None.
+    ///
+    /// # Panics
+    /// Where there are not as many symbols as ends.
+    pub fn rank_u64_each(&self, ends: &mut [u64], symbols: &[u64], other: u64) {
+        self.ask_each(Query::RankOf, ends, symbols, |a, &b| Row { a, b, c: 0 }, other);
+    }
+
+    /// Puts in the stead of each rank its `select_u64` of the symbol at the same place, and `other` where that is None.
+    ///
+    /// # Panics
+    /// Where there are not as many symbols as ranks.
+    pub fn select_u64_each(&self, ranks: &mut [u64], symbols: &[u64], other: u64) {
+        self.ask_each(Query::SelectOf, ranks, symbols, |a, &b| Row { a, b, c: 0 }, other);
+    }
+
+    /// Puts in the stead of each number `k` its `quantile_u64` of the range at the same place, and `other` where that is
+    /// None.
+    ///
+    /// # Panics
+    /// Where there are not as many ranges as numbers.
+    pub fn quantile_u64_each(&self, numbers: &mut [u64], ranges: &[Range<usize>], other: u64) {
+        let row = |c, range: &Range<usize>| Row { a: range.start as u64, b: range.end as u64, c };
+        self.ask_each(Query::Quantile, numbers, ranges, row, other);
+    }
+
+    fn ask_each<T>(&self, query: Query, numbers: &mut [u64], beside: &[T], row: impl Fn(u64, &T) -> Row, other: u64) {
+        assert_eq!(numbers.len(), beside.len(), "each query wants two things");
+        match &self.symbols {
+            Symbols::Narrow { owner, .. } => {
+                let mut rows: Vec<Row> = numbers.iter().zip(beside).map(|(&it, beside)| row(it, beside)).collect();
+                owner.ask_rows_or(query, &mut rows, other);
+                numbers.iter_mut().zip(rows).for_each(|(number, row)| *number = row.a);
+            }
+            Symbols::Wide(_) => numbers.fill(other),
+        }
+    }
+}
+
 /// How often a symbol stands somewhere.
 impl WaveletMatrix {
     fn ranked(&self, range: Range<usize>, symbol: &BitVec) -> usize {
@@ -644,7 +693,7 @@ impl WaveletMatrix {
         match &self.symbols {
             Symbols::Narrow { owner, len, .. } => {
                 let mut rows: Vec<Row> = numbers.map(|c| Row { a: 0, b: *len as u64, c }).collect();
-                owner.ask_rows(Query::Quantile, &mut rows);
+                owner.ask_rows_or(Query::Quantile, &mut rows, 0);
                 into.iter_mut().zip(rows).for_each(|(symbol, row)| *symbol = row.a);
             }
             Symbols::Wide(_) => into.iter_mut().zip(numbers).for_each(|(symbol, number)| *symbol = number),
