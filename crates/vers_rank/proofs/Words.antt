@@ -1,5 +1,5 @@
 -- How many bits of a part of a word are ones or zeros.
-use Rattle.vers_rank.proofs.Names.{zero, suc, sym, subst, pow-suc, pow_mono, ap, ◌∙◌, ◌+◌, ◌/◌, inl, inr, add_comm, ◌≡◌, ℕ, ◌-◌, ◌*◌, ◌%◌, ◌^◌, ◌<◌, ◌≤◌, Bool, true, false, refl, arith, count_ones, bit_and, and-not, and_mask, ones-le, mod_below, pow_pos, mod-pow-add, ones_cat, cases_lt}
+use Rattle.vers_rank.proofs.Names.{zero, suc, sym, subst, pow-suc, pow_mono, ap, ◌∙◌, ◌+◌, ◌/◌, inl, inr, add_comm, ◌≡◌, ℕ, ◌-◌, ◌*◌, ◌%◌, ◌^◌, ◌<◌, ◌≤◌, Bool, true, false, refl, arith, count_ones, bit_and, and-not, and_mask, ones-le, mod_below, pow_pos, mod-pow-add, ones_cat, cases_lt, marked}
 use lib.Count.{ones}
 use Rattle.vers_rank.specs.inside.Index.{held_in}
 
@@ -52,4 +52,9 @@ held_in_turned w j h hj =
     let low : (18446744073709551615 - w) % 2 ^ j ≡ 2 ^ j - 1 - w % 2 ^ j = omega (arith, both, and_mask (18446744073709551615 - w) j, and_mask w j) in
     omega (arith, ap count_ones low, flipped j (w % 2 ^ j) (mod_below w (2 ^ j) (pow_pos j)))
 
-pub ruleset turns = (held_in_turned)
+-- where the places that hold the bit are ones
+pub held_in_marked : (b : Bool) (w j : ℕ) → w < 18446744073709551616 → j ≤ 64 → held_in true (marked b w) j ≡ held_in b w j
+held_in_marked true w j h hj = refl
+held_in_marked false w j h hj = held_in_turned w j h hj
+
+pub ruleset turns = (held_in_marked)

@@ -281,7 +281,7 @@ impl<A: Allocator + Copy> CountedBits<A> {
 
     /// The number of the `n` bits from `place` on, one low part whatever the number of its limbs; 0
     /// for `n` 0, which counts as one too.
-    #[inline]
+    #[inline(always)]
     pub fn low_part(&self, place: usize, n: usize, tally: &mut Tally) -> u64
         requires few { n ≤ 64 }
         requires within { place + n ≤ length self.now }

@@ -7,9 +7,9 @@ ghost use Rattle.vers_tally.specs.Reads.{AddsAtMost};
 ghost use Rattle.vers_rank.specs.Walks.{chunk_count, chunk_reads};
 ghost use Rattle.vers_rank.specs.inside.Walks.{chunk_places_left, chunks_unread, IsChunkWalkOf};
 
-use super::reader::marks;
 use super::{LIMB, RsVec};
 use crate::offsets::{CHUNK, put_offsets, put_offsets_plainly};
+use crate::word::marks;
 use std::alloc::Allocator;
 use std::marker::Model;
 use vers_tally::tally::Tally;

@@ -4,8 +4,8 @@ ghost use Rattle.vers_bits.specs.Bits.{select};
 ghost use Rattle.vers_tally.specs.Reads.{AddsAtMost, one_more, times};
 ghost use Rattle.vers_rank.specs.Queries.{superblock_count, select_reads};
 
-use super::reader::marks;
 use super::{LIMB, RsVec};
+use crate::word::marks;
 use std::alloc::Allocator;
 use vers_tally::tally::Tally;
 

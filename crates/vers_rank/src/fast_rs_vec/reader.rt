@@ -3,10 +3,10 @@ ghost use Rattle.std.specs.Prelude.{◌≡◌, ◌+◌, ◌*◌, ◌<◌, ◌≤
 ghost use Rattle.vers_bits.specs.Bits.{count, select};
 ghost use Rattle.vers_tally.specs.Reads.{only_data_words, AddsAtMost};
 ghost use Rattle.vers_rank.specs.Queries.{superblock_count, select_reads};
-ghost use Rattle.vers_rank.specs.inside.Walks.{IsReading, IsReadingBack, marked};
+ghost use Rattle.vers_rank.specs.inside.Walks.{IsReading, IsReadingBack};
 
 use super::{LIMB, RsVec};
-use crate::word::place_in_word;
+use crate::word::{marks, place_in_word};
 use std::alloc::Allocator;
 use vers_tally::tally::Tally;
 
@@ -254,12 +254,4 @@ impl Reader {
         let edge = bits.count_at_block(bit, at.limb / 8, tally);
         self.edge = edge;
     }
-}
-
-// The word in which the places that hold the bit are ones.
-#[inline(always)]
-pub(super) fn marks(bit: bool, word: u64) -> u64
-    ensures { result ≡ marked bit word }
-{
-    if bit { word } else { !word }
 }

@@ -3,13 +3,13 @@ ghost use Rattle.std.specs.Prelude.{◌≡◌, ℕ, ◌+◌, ◌-◌, ◌*◌, �
 ghost use Rattle.vers_bits.specs.Bits.{count, limb, select};
 ghost use Rattle.vers_tally.specs.Reads.{no_reads, one_more, only_block_entries, only_superblock_entries, only_data_words, digits, AddsAtMost};
 ghost use Rattle.vers_rank.specs.Queries.{superblock_count, select_reads};
-ghost use Rattle.vers_rank.specs.inside.Index.{held, held_in, IsSample, IsLimbWith, IsAmongLimbs};
+ghost use Rattle.vers_rank.specs.inside.Index.{held, held_in, AreSamples, IsSample, IsLimbWith, IsAmongLimbs};
 
 use super::{BLOCK, BLOCKS, LIMB, RsVec, SUPERBLOCK};
 use crate::lanes::{FAR_BELOW, FoundBlock, last_up_to};
 use crate::word::{held_in_word, held_of, place_in_word};
 use std::alloc::Allocator;
-use vers_tally::tally::Tally;
+use vers_tally::tally::{SuperblockEntries, Tally};
 
 /// Up to how many superblocks a search looks at one after the other.
 const FEW: usize = 4;
@@ -96,10 +96,11 @@ impl<A: Allocator + Copy> RsVec<A> {
         self.select_counted(true, r, tally)
     }
 
-    // The place of number `r` of the zeros or the ones, or the length.
+    /// The same as `select0_counted` or `select1_counted`: the place of number `r`, counted from 0, of the
+    /// bits that are `bit`, or the length where there are no more.
     #[inline(always)]
     #[tactic(auto, using(crate::proofs::Selects::totals))]
-    pub(super) fn select_counted(&self, bit: bool, r: usize, tally: &mut Tally) -> usize
+    pub fn select_counted(&self, bit: bool, r: usize, tally: &mut Tally) -> usize
         ensures value { result ≡ select bit self.now r }
         ensures within { result ≤ length self.now }
         ensures counted { tally.new.rank_calls ≡ one_more tally.old.rank_calls }
@@ -150,7 +151,7 @@ impl<A: Allocator + Copy> RsVec<A> {
         let _ = &self.bits;
         let s = self.superblock_with(bit, r, tally);
         let r_in_superblock = self.number_in(bit, r, s, tally);
-        let at = if self.len() - SUPERBLOCK * s >= SUPERBLOCK {
+        let at = if s < self.len() / SUPERBLOCK {
             self.limb_of(bit, r_in_superblock, s, true, tally)
         } else {
             self.limb_of(bit, r_in_superblock, s, false, tally)
@@ -251,10 +252,20 @@ impl<A: Allocator + Copy> RsVec<A> {
         ensures value { IsSample bit self.now j result }
         ensures adds { AddsAtMost tally.old tally.new (only_superblock_entries 1) }
     {
+        self.samples(bit).read(j, tally) as usize
+    }
+
+    // The samples of the zeros or of the ones.
+    #[inline(always)]
+    fn samples(&self, bit: bool) -> &SuperblockEntries<A>
+        ensures { AreSamples bit self.now result.now }
+    {
+        let _ = &self.bits;
         if bit {
-            return self.one_samples.read(j, tally) as usize;
+            &self.one_samples
+        } else {
+            &self.zero_samples
         }
-        self.zero_samples.read(j, tally) as usize
     }
 
     // The superblock of number `r`.
@@ -367,9 +378,7 @@ impl<A: Allocator + Copy> RsVec<A> {
         self.superblock_among(bit, r, first, n - STEPS, tally)
     }
 
-    // The superblock of number `r` among the `n` from `first` on: by halves while there are many, and
-    // then one after the other. Which superblocks are looked at next is no branch, so that nothing
-    // depends on a guess of it.
+    // The superblock of number `r` among the `n` from `first` on, by halves.
     #[inline(always)]
     #[tactic(auto, using(crate::proofs::Selects::halves))]
     fn superblock_among(
@@ -394,19 +403,43 @@ impl<A: Allocator + Copy> RsVec<A> {
         let mut start = first;
         let mut left = n;
         while left > FEW {
-            let half = left / 2;
-            if self.count_at_superblock(bit, start + half, tally) <= r {
-                start += half;
-            }
-            left -= half;
+            start = self.superblock_half(bit, r, start, left, tally);
+            left -= left / 2;
         }
-        let mut found = start;
-        for s in start + 1..start + left {
-            if self.count_at_superblock(bit, s, tally) <= r {
-                found = s;
-            }
+        // Two halves more of at most four, whatever is left, so that nothing depends on a guess of it.
+        start = self.superblock_half(bit, r, start, left, tally);
+        left -= left / 2;
+        self.superblock_half(bit, r, start, left, tally)
+    }
+
+    // Where the half of `n` superblocks from `first` on begins in which number `r` stands: the second
+    // half where it has that number, and else the first. It is a choice of values, and no branch.
+    #[inline(always)]
+    #[tactic(auto, using(crate::proofs::Selects::halves))]
+    fn superblock_half(
+        &self,
+        bit: bool,
+        r: usize,
+        first: usize,
+        n: usize,
+        tally: &mut Tally,
+    ) -> usize
+        requires some { 0 < n }
+        requires within { SUPERBLOCK * (first + n) < length self.now + SUPERBLOCK }
+        requires from { count bit self.now (SUPERBLOCK * first) ≤ r }
+        requires to { r < count bit self.now (SUPERBLOCK * (first + n)) }
+        ensures within { SUPERBLOCK * (result + (n - n / 2)) < length self.now + SUPERBLOCK }
+        ensures from { count bit self.now (SUPERBLOCK * result) ≤ r }
+        ensures to { r < count bit self.now (SUPERBLOCK * (result + (n - n / 2))) }
+        ensures adds { AddsAtMost tally.old tally.new (only_superblock_entries 1) }
+    {
+        let _ = &self.bits;
+        let middle = first + n / 2;
+        if self.count_at_superblock(bit, middle, tally) <= r {
+            middle
+        } else {
+            first
         }
-        found
     }
 
     // The block of number `r` of a superblock.

@@ -33,7 +33,7 @@ impl Ahead {
 
 impl<A: Allocator + Copy> EliasFanoVec<A> {
     // The place of the one of a member, which most often was read ahead with those before it.
-    #[inline]
+    #[inline(always)]
     #[tactic(auto, using(crate::proofs::Aheads::steps))]
     pub(super) fn place_ahead(&self, i: usize, ahead: &mut Ahead, tally: &mut Tally) -> usize
         requires within { i < length self.now }
@@ -62,7 +62,7 @@ impl<A: Allocator + Copy> EliasFanoVec<A> {
     }
 
     // A member, by the place of its one.
-    #[inline]
+    #[inline(always)]
     pub(super) fn member_ahead(&self, i: usize, ahead: &mut Ahead, tally: &mut Tally) -> u64
         requires within { i < length self.now }
         requires ahead { IsAhead self.now i ahead.old }

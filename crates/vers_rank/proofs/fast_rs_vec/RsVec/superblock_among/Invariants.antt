@@ -14,13 +14,3 @@ invariant-loop-left g l =
 
 abbrev pub decreases-loop-left : goal.decreases-loop-left
 decreases-loop-left g l = l.left
-
-abbrev pub invariant-loop-s : goal.invariant-loop-s
-invariant-loop-s g l =
-    record {
-      begin : l.start ≤ l.found;
-      before : l.found < l.s;
-      from : count l.bit l.self (8192 * l.found) ≤ l.r;
-      to : l.found + 1 < l.s → l.r < count l.bit l.self (8192 * (l.found + 1));
-      adds : AddsAtMost l.fn.tally l.tally (only_superblock_entries (digits (l.n - 1) + (l.s - l.start - 1)));
-    }
