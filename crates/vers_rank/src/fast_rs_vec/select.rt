@@ -11,7 +11,7 @@ use crate::word::{held_in_word, held_of, place_in_word};
 use std::alloc::Allocator;
 use vers_tally::tally::{SuperblockEntries, Tally};
 
-/// Up to how many superblocks a search looks at one after the other.
+/// Among how many superblocks a search takes two halves, and no more.
 const FEW: usize = 4;
 
 /// How many superblocks from the one that is guessed a search looks at before it goes by halves.
@@ -282,6 +282,9 @@ impl<A: Allocator + Copy> RsVec<A> {
         let _ = &self.bits;
         let first = self.sample(bit, r / SUPERBLOCK, tally);
         let last = self.sample(bit, r / SUPERBLOCK + 1, tally);
+        if first == last {
+            return first;
+        }
         self.superblock_guessed(bit, r, first, last + 1 - first, tally)
     }
 

@@ -46,7 +46,7 @@ impl<A: Allocator + Copy> EliasFanoVec<A> {
             from: bucket.start,
             to: bucket.end,
         };
-        let count = bucket.end.saturating_sub(bucket.start);
+        let count = bucket.end - bucket.start;
         if count < MANY {
             return all;
         }
