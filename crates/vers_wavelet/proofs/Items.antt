@@ -46,7 +46,7 @@ list_item xs k i l h long is =
     let low : i < length xs = omega (arith, h, length-in_bits k xs) in
     slice_get-get_or (in_bits k xs) i [] h ∙ ap Some (get_or-map (λ y. low_bits y k) xs i 0 [] low ∙ ap (λ y. low_bits y k) (sym is) ∙ bits_of_number l k long)
 
-pub ruleset numbers = (length-ordered, number_item)
+pub ruleset numbers = (length-by_size, number_item)
 
 pub ruleset lists = (length-in_bits, length-ordered, list_item)
 

@@ -6,6 +6,7 @@ pub mod Lists
 pub mod Makes
 pub mod BySize
 pub mod Items
+pub mod Ways
 pub mod Ranges
 pub mod Nearest
 pub mod Trails

@@ -5,5 +5,5 @@ pub mod Levels
 pub mod Makers
 pub mod Laws
 pub mod Batches
-pub mod Found
+pub mod Ways
 pub mod Nearest

@@ -16,12 +16,13 @@ mod queries;
 mod read;
 mod sizes;
 mod walk;
+mod way;
 
 pub use batch::{GetQuery, QuantileQuery, RankQuery, SelectQuery};
 pub use iter::{
     BySize, InOrder, Lists, Matrix, Numbers, Order, SortedLists, SortedNumbers, SymbolLists,
-    SymbolNumbers, WaveletIter, WaveletNumIter, WaveletNumRefIter, WaveletRefIter,
-    WaveletSortedIter, WaveletSortedNumIter, WaveletSortedNumRefIter, WaveletSortedRefIter,
+    WaveletIter, WaveletNumIter, WaveletNumRefIter, WaveletRefIter, WaveletSortedIter,
+    WaveletSortedNumIter, WaveletSortedNumRefIter, WaveletSortedRefIter,
 };
 use std::alloc::Allocator;
 use std::marker::Model;

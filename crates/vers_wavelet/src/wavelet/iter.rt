@@ -4,7 +4,7 @@ ghost use Rattle.vers_wavelet.specs.Symbols.{Symbols, by_size, in_bits, ordered}
 ghost use Rattle.vers_wavelet.specs.Reads.{walk_reads};
 
 use crate::wavelet::WaveletMatrix;
-use crate::wavelet::walk::Equals;
+use crate::wavelet::way::{Found, Way};
 use std::alloc::{AllocError, Allocator};
 use std::marker::{Model, PhantomData};
 use vers_bits::bit_vec::BitVec;
@@ -80,55 +80,38 @@ impl Order for BySize {
     }
 }
 
-/// The symbols of a matrix as numbers, in the order `O`, which iterators read one by one. A symbol
-/// has at most 64 bits. It keeps the symbol that was found last, with the places where it stands in a
-/// walk by size.
+/// The symbols of a matrix as numbers, in their order, which iterators read one by one. A symbol has at
+/// most 64 bits.
 #[derive(Drop)]
-pub struct SymbolNumbers<O: Order, M: Matrix> {
+pub struct Numbers<M: Matrix> {
     matrix: M,
-    order: PhantomData<O>,
-    found: u64,
-    places: Equals,
 }
 
-/// The symbols of a matrix as numbers, in their order.
-pub type Numbers<M> = SymbolNumbers<InOrder, M>;
-
-/// The symbols of a matrix as numbers, by size.
-pub type SortedNumbers<M> = SymbolNumbers<BySize, M>;
-
-impl<O: Order, M: Matrix> Model for SymbolNumbers<O, M> {
+impl<M: Matrix> Model for Numbers<M> {
     ghost use Rattle.std.specs.Prelude.{◌≤◌};
     ghost use Rattle.vers_wavelet.specs.Symbols.{Symbols};
-    ghost use Rattle.vers_wavelet.specs.Found.{IsFoundAt};
 
     ghost Value = { Symbols };
 
     ghost view = { λ s. M.symbols s.matrix };
 
-    ghost invariant = { λ s. ((M.symbols s.matrix).width ≤ 64)
-        × IsFoundAt O.by_size (M.symbols s.matrix).items s.found s.places };
+    ghost invariant = { λ s. (M.symbols s.matrix).width ≤ 64 };
 }
 
-impl<O: Order, M: Matrix> SymbolNumbers<O, M> {
+impl<M: Matrix> Numbers<M> {
     fn new(matrix: M) -> Self
         requires { (M.symbols matrix).width ≤ 64 }
         ensures { result ≡ M.symbols matrix }
     {
-        SymbolNumbers {
-            matrix,
-            order: PhantomData,
-            found: 0,
-            places: Equals { from: 0, count: 0 },
-        }
+        Numbers { matrix }
     }
 }
 
 #[tactic(auto, using(crate::proofs::Items::numbers))]
-impl<O: Order, M: Matrix> Source for SymbolNumbers<O, M> {
+impl<M: Matrix> Source for Numbers<M> {
     type Item = u64;
 
-    ghost items = { λ symbols. ordered O.by_size symbols.items };
+    ghost items = { λ symbols. symbols.items };
 
     ghost step = { λ symbols. walk_reads symbols };
 
@@ -139,27 +122,99 @@ impl<O: Order, M: Matrix> Source for SymbolNumbers<O, M> {
 
     #[inline(always)]
     fn item_at(&mut self, i: usize, tally: &mut Tally) -> u64 {
-        if self.places.has(i) {
-            return self.found;
-        }
         let mut answer: u64 = 0;
-        let matrix = self.matrix.matrix();
-        self.places = matrix.member(O::is_by_size(), i, &mut answer, tally);
-        self.found = answer;
+        self.matrix.matrix().read_at(i, &mut answer, tally);
         answer
     }
 }
 
-impl<'a, O: Order, A: Allocator + Copy> Borrowing for SymbolNumbers<O, &'a WaveletMatrix<A>> {
+impl<'a, A: Allocator + Copy> Borrowing for Numbers<&'a WaveletMatrix<A>> {
     fn second(&self) -> Self {
-        SymbolNumbers::new(self.matrix)
+        Numbers::new(self.matrix)
     }
 }
 
-impl<O: Order, A: Allocator + Copy> Owning for SymbolNumbers<O, WaveletMatrix<A>> {
+impl<A: Allocator + Copy> Owning for Numbers<WaveletMatrix<A>> {
     fn second(&self) -> Result<Self, AllocError> {
         let matrix = self.matrix.clone()?;
-        Ok(SymbolNumbers::new(matrix))
+        Ok(Numbers::new(matrix))
+    }
+}
+
+/// The symbols of a matrix as numbers, by size, which iterators read one by one. A symbol has at most 64
+/// bits. It keeps the symbol that was found last, with the members that are equal to it, and the way down
+/// to it, from which the next one is found.
+#[derive(Drop)]
+pub struct SortedNumbers<M: Matrix> {
+    matrix: M,
+    way: Way,
+    found: Found,
+}
+
+impl<M: Matrix> Model for SortedNumbers<M> {
+    ghost use Rattle.std.specs.Prelude.{◌≤◌};
+    ghost use Rattle.vers_wavelet.specs.Symbols.{Symbols};
+    ghost use Rattle.vers_wavelet.specs.Ways.{IsFound, IsWayOf};
+
+    ghost Value = { Symbols };
+
+    ghost view = { λ s. M.symbols s.matrix };
+
+    ghost invariant = { λ s. ((M.symbols s.matrix).width ≤ 64)
+        × IsWayOf (M.symbols s.matrix) s.way × IsFound (M.symbols s.matrix).items s.found };
+}
+
+impl<M: Matrix> SortedNumbers<M> {
+    fn new(matrix: M) -> Self
+        requires { (M.symbols matrix).width ≤ 64 }
+        ensures { result ≡ M.symbols matrix }
+    {
+        SortedNumbers {
+            matrix,
+            way: Way::new(),
+            found: Found {
+                symbol: 0,
+                from: 0,
+                count: 0,
+            },
+        }
+    }
+}
+
+#[tactic(auto, using(crate::proofs::Items::numbers))]
+impl<M: Matrix> Source for SortedNumbers<M> {
+    type Item = u64;
+
+    ghost items = { λ symbols. by_size symbols.items };
+
+    ghost step = { λ symbols. walk_reads symbols };
+
+    #[inline]
+    fn count_items(&self) -> usize {
+        self.matrix.matrix().len()
+    }
+
+    #[inline(always)]
+    fn item_at(&mut self, i: usize, tally: &mut Tally) -> u64 {
+        if self.found.has(i) {
+            return self.found.symbol;
+        }
+        let matrix = self.matrix.matrix();
+        self.found = matrix.find_by_size(&mut self.way, i, tally);
+        self.found.symbol
+    }
+}
+
+impl<'a, A: Allocator + Copy> Borrowing for SortedNumbers<&'a WaveletMatrix<A>> {
+    fn second(&self) -> Self {
+        SortedNumbers::new(self.matrix)
+    }
+}
+
+impl<A: Allocator + Copy> Owning for SortedNumbers<WaveletMatrix<A>> {
+    fn second(&self) -> Result<Self, AllocError> {
+        let matrix = self.matrix.clone()?;
+        Ok(SortedNumbers::new(matrix))
     }
 }
 
@@ -303,7 +358,7 @@ impl<A: Allocator + Copy> WaveletMatrix<A> {
         if !self.fits_word() {
             return None;
         }
-        Some(BothEnds::new(SymbolNumbers::new(self)))
+        Some(BothEnds::new(Numbers::new(self)))
     }
 
     /// An iterator over the symbols, as numbers, which owns the matrix. None where they have more than
@@ -316,7 +371,7 @@ impl<A: Allocator + Copy> WaveletMatrix<A> {
         if !self.fits_word() {
             return None;
         }
-        Some(BothEnds::new(SymbolNumbers::new(self)))
+        Some(BothEnds::new(Numbers::new(self)))
     }
 
     /// An iterator over the symbols by size, as numbers. None where they have more than 64 bits.
@@ -328,7 +383,7 @@ impl<A: Allocator + Copy> WaveletMatrix<A> {
         if !self.fits_word() {
             return None;
         }
-        Some(BothEnds::new(SymbolNumbers::new(self)))
+        Some(BothEnds::new(SortedNumbers::new(self)))
     }
 
     /// An iterator over the symbols by size, as numbers, which owns the matrix. None where they have
@@ -341,7 +396,7 @@ impl<A: Allocator + Copy> WaveletMatrix<A> {
         if !self.fits_word() {
             return None;
         }
-        Some(BothEnds::new(SymbolNumbers::new(self)))
+        Some(BothEnds::new(SortedNumbers::new(self)))
     }
 }
 

@@ -4,11 +4,13 @@ ghost use Rattle.vers_bits.specs.Bits.{number};
 ghost use Rattle.vers_tally.specs.Reads.{AddsAtMost, times};
 ghost use Rattle.vers_wavelet.specs.Symbols.{occurrences, ordered, by_size, range_members, nearest};
 ghost use Rattle.vers_wavelet.specs.Reads.{query_reads, walk_reads};
+ghost use Rattle.vers_wavelet.specs.Ways.{IsFound, IsWayOf};
 
 use crate::wavelet::WaveletMatrix;
 use crate::wavelet::digits::Digits;
 use crate::wavelet::nearest::find_nearest;
-use crate::wavelet::walk::{Equals, climb, descend, find_kth, narrow, read_symbol};
+use crate::wavelet::walk::{climb, descend, find_kth, narrow, read_symbol};
+use crate::wavelet::way::{Found, Way};
 use std::alloc::{AllocError, Allocator};
 use vers_bits::bit_vec::BitVec;
 use vers_tally::tally::Tally;
@@ -96,8 +98,7 @@ impl<A: Allocator + Copy> WaveletMatrix<A> {
         read_symbol(&self.levels, self.len, place, answer, tally);
     }
 
-    // Writes member `i` of a range by size into a number that is 0, and answers which members are
-    // equal to it.
+    // Writes member `i` of a range by size into a number that is 0.
     #[inline(always)]
     pub(super) fn kth_in<D: Digits>(
         &self,
@@ -106,23 +107,36 @@ impl<A: Allocator + Copy> WaveletMatrix<A> {
         i: usize,
         answer: &mut D,
         tally: &mut Tally,
-    ) -> Equals
+    )
         requires order { start + i < end }
         requires within { end ≤ length self.now.items }
         requires zero { D.number answer.old ≡ 0 }
         requires wide { self.now.width ≤ D.width answer.old }
         ensures value { D.number answer.new
             ≡ slice_index (by_size (slice_range self.now.items start end)) i }
-        ensures equals { (j : ℕ) → j < result.count → D.number answer.new
-            ≡ slice_index (by_size (slice_range self.now.items start end)) (result.from + j) }
         ensures same { D.width answer.new ≡ D.width answer.old }
         ensures adds { AddsAtMost tally.old tally.new (walk_reads self.now) }
     {
-        find_kth(&self.levels, self.len, start, end, i, answer, tally)
+        find_kth(&self.levels, self.len, start, end, i, answer, tally);
+    }
+
+    // Member `i` of all symbols by size, and which others are equal to it. It goes on from the way down to
+    // the one that was found last.
+    #[inline(always)]
+    pub(super) fn find_by_size(&self, way: &mut Way, i: usize, tally: &mut Tally) -> Found
+        requires within { i < length self.now.items }
+        requires wide { self.now.width ≤ 64 }
+        requires way { IsWayOf self.now way.old }
+        ensures value { result.symbol ≡ slice_index (by_size self.now.items) i }
+        ensures found { IsFound self.now.items result }
+        ensures way { IsWayOf self.now way.new }
+        ensures adds { AddsAtMost tally.old tally.new (walk_reads self.now) }
+    {
+        way.find(&self.levels, self.len, i, tally)
     }
 
     // Writes into a number that is 0 member `i` of all symbols by size where that is asked, and else
-    // the symbol at place `i`; and answers which members are known to be equal to it.
+    // the symbol at place `i`.
     #[inline(always)]
     pub(super) fn member<D: Digits>(
         &self,
@@ -130,21 +144,19 @@ impl<A: Allocator + Copy> WaveletMatrix<A> {
         i: usize,
         answer: &mut D,
         tally: &mut Tally,
-    ) -> Equals
+    )
         requires within { i < length self.now.items }
         requires zero { D.number answer.old ≡ 0 }
         requires wide { self.now.width ≤ D.width answer.old }
         ensures value { D.number answer.new ≡ slice_index (ordered by_size self.now.items) i }
-        ensures equals { (j : ℕ) → j < result.count → D.number answer.new
-            ≡ slice_index (ordered by_size self.now.items) (result.from + j) }
         ensures same { D.width answer.new ≡ D.width answer.old }
         ensures adds { AddsAtMost tally.old tally.new (walk_reads self.now) }
     {
         if by_size {
-            return self.kth_in(0, self.len(), i, answer, tally);
+            self.kth_in(0, self.len(), i, answer, tally);
+            return;
         }
         self.read_at(i, answer, tally);
-        Equals { from: i, count: 0 }
     }
 
     // Whether a range has a symbol that is not below a symbol, or, where `is_up` is false, one that

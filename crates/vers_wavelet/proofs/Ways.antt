@@ -1,0 +1,109 @@
+-- The way down of a walk by size, and that a list of symbols has one list of levels.
+use Rattle.std.proofs.Common.{◌≡◌, ℕ, ◌+◌, ◌-◌, ◌*◌, ◌^◌, ◌<◌, ◌≤◌, Bool, true, false, List, [], ◌∷◌, length, get_or, set, refl, sym, ap, ◌∙◌, subst, arith, inl, inr}
+use Rattle.std.proofs.lemmas.Bool.{cases_eq, cases_lt}
+use Rattle.std.proofs.lemmas.List.{same_lists, get_or-set_same, get_or-set_other}
+use Rattle.std.specs.Prelude.{slice_range}
+use Rattle.vers_bits.specs.Bits.{bit_value, count, select}
+use Rattle.vers_bits.proofs.PublicLaws.{any_default, count_both, select_holds}
+use Rattle.vers_wavelet.specs.declared.wavelet.way.Node.{Node}
+use Rattle.vers_wavelet.specs.declared.wavelet.way.Way.{Way}
+use Rattle.vers_wavelet.specs.Levels.{start, next, value, values, Even, AreLevels, KthOf}
+use Rattle.vers_wavelet.specs.Symbols.{by_size}
+use Rattle.vers_wavelet.specs.Ways.{IsNode, IsWay}
+use Rattle.vers_wavelet.proofs.Digits.{room_none}
+use Rattle.vers_wavelet.proofs.Values.{same_bit, value_is, value-lt}
+use Rattle.vers_wavelet.proofs.Steps.{even_first, even_rest, searched_none}
+use Rattle.vers_wavelet.proofs.Lists.{length-values, get_or-values, kth_is}
+use Rattle.vers_wavelet.proofs.BySize.{kth_place}
+use Rattle.vers_wavelet.proofs.Items.{sorted_member}
+
+-- ---- one list of levels
+
+-- each place of a level is where a place of the level above goes on
+of_bit : (b : Bool) (l : List Bool) (r : ℕ) → r < count b l (length l) → (i : ℕ) × (i < length l) × (next (get_or l i false) l i ≡ start b l + r)
+unfolding next
+of_bit b l r h =
+    let at = select_holds b l r (length l) (omega arith) h in
+    let i : ℕ = select b l r in
+    (i, at.0, ap (λ c. start c l + count c l i) (same_bit b _ at.1) ∙ ap (λ n. start b l + n) at.2)
+
+from_above : (l : List Bool) (p : ℕ) → p < length l → (i : ℕ) × (i < length l) × (next (get_or l i false) l i ≡ p)
+from_above l p h =
+    let zeros : ℕ = count false l (length l) in
+    elim (cases_lt p zeros) [
+      | inl low ↦ let a = of_bit false l p low in (a.0, a.1, omega (arith, a.2))
+      | inr high ↦ let a = of_bit true l (p - zeros) (omega (arith, count_both l (length l))) in (a.0, a.1, omega (arith, a.2))
+    ]
+
+same_digits : (b c : Bool) (w x y : ℕ) → x < w → y < w → bit_value b * w + x ≡ bit_value c * w + y → (b ≡ c) × (x ≡ y)
+same_digits true true w x y h k e = (refl, omega arith)
+same_digits true false w x y h k e = absurd (omega arith)
+same_digits false true w x y h k e = absurd (omega arith)
+same_digits false false w x y h k e = (refl, omega arith)
+
+same_parts : (l m : List Bool) (ls ms : List (List Bool)) (i : ℕ) → length ls ≡ length ms → value (l ∷ ls) i ≡ value (m ∷ ms) i
+    → (get_or l i false ≡ get_or m i false) × (value ls (next (get_or l i false) l i) ≡ value ms (next (get_or m i false) m i))
+same_parts l m ls ms i long same =
+    let b : Bool = get_or l i false in
+    let c : Bool = get_or m i false in
+    let w : 2 ^ length ms ≡ 2 ^ length ls = ap (λ n. 2 ^ n) (sym long) in
+    same_digits b c (2 ^ length ls) _ _ (value-lt ls (next b l i)) (omega (arith, w, value-lt ms (next c m i)))
+    (sym (value_is l ls i b refl) ∙ same ∙ value_is m ms i c refl ∙ ap (λ n. bit_value c * n + value ms (next c m i)) w)
+
+same_levels : (ls ms : List (List Bool)) (n : ℕ) → Even ls n → Even ms n → length ls ≡ length ms → ((p : ℕ) → p < n → value ls p ≡ value ms p) → ls ≡ ms
+same_levels [] [] n even other long same = refl
+same_levels [] (m ∷ ms) n even other long same = absurd (omega arith)
+same_levels (l ∷ ls) [] n even other long same = absurd (omega arith)
+same_levels (l ∷ ls) (m ∷ ms) n even other long same =
+    let e : length ls ≡ length ms = omega arith in
+    let here : length l ≡ n = even_first l ls n even in
+    let there : length m ≡ n = even_first m ms n other in
+    let first : l ≡ m = same_lists l m (here ∙ sym there) (λ i d h.
+    any_default l i d false h ∙ (same_parts l m ls ms i e (same i (omega (arith, h, here)))).0 ∙ any_default m i false d (omega (arith, h, here, there))) in
+    let rest : ls ≡ ms = same_levels ls ms n (even_rest l ls n even) (even_rest m ms n other) e (λ p h.
+    let a = from_above l p (omega (arith, h, here)) in
+    ap (value ls) (sym a.2) ∙ (same_parts l m ls ms a.0 e (same a.0 (omega (arith, a.1, here)))).1
+    ∙ ap (λ v. value ms (next (get_or v a.0 false) v a.0)) (sym first) ∙ ap (value ms) a.2) in
+    ap (λ v. v ∷ ls) first ∙ ap (λ vs. m ∷ vs) rest
+
+-- a way through some levels is one through all that write the same symbols down
+pub same_way : {ls ms : List (List Bool)} {n m : ℕ} {way : Way} → AreLevels ls n → AreLevels ms m → length ms ≡ length ls → values ms m ≡ values ls n → IsWay ls n way → IsWay ms m way
+same_way {ls} {ms} {n} {m} {way} levels others long same is =
+    let e : n ≡ m = sym (length-values ls n) ∙ ap length (sym same) ∙ length-values ms m in
+    let even : Even ms n = subst (λ (k : ℕ). Even ms k) (sym e) others.even in
+    let f : ls ≡ ms = same_levels ls ms n levels.even even (sym long) (λ p h.
+    sym (get_or-values ls n p 0 h) ∙ ap (λ xs. get_or xs p 0) (sym same) ∙ get_or-values ms m p 0 (omega (arith, h, e))) in
+    subst (λ (k : ℕ). IsWay ms k way) e (subst (λ (vs : List (List Bool)). IsWay vs n way) f is)
+
+-- ---- nodes
+
+pub node_none : (ls : List (List Bool)) (n k : ℕ) → length ls ≤ 64 → IsNode ls n k (record { start = 0; end = 0; from = 0; number = 0 })
+node_none ls n k few = record {
+  order = omega arith;
+  within = omega arith;
+  room = room_none 64 (length ls - k) (omega arith);
+  searched = λ j. record { each = λ x small kth. absurd (omega (arith, kth.more)) };
+}
+
+pub node_all : (ls : List (List Bool)) (n : ℕ) → length ls ≤ 64 → IsNode ls n 0 (record { start = 0; end = n; from = 0; number = 0 })
+node_all ls n few = record {
+  order = omega arith;
+  within = omega arith;
+  room = room_none 64 (length ls - 0) (omega arith);
+  searched = λ j. let e : 0 + j ≡ j = omega arith in rw e (searched_none ls 0 n j);
+}
+
+-- one node more
+pub nodes_set : (ls : List (List Bool)) (n k : ℕ) (nodes : List Node) (node : Node) → k < length nodes
+    → ((j : ℕ) (d : Node) → j < 64 → IsNode ls n j (get_or nodes j d)) → IsNode ls n k node
+    → (j : ℕ) (d : Node) → j < 64 → IsNode ls n j (get_or (set nodes k node) j d)
+nodes_set ls n k nodes node inside each is j d h =
+    elim (cases_eq j k) [
+      | inl same ↦ rw same (rw (get_or-set_same nodes k node d inside) is)
+      | inr other ↦ rw (get_or-set_other nodes k j node d other) (each j d h)
+    ]
+
+-- member i of the levels is that of the symbols by size
+pub sorted_kth : (ls : List (List Bool)) (n i x : ℕ) → KthOf ls 0 n i x → x ≡ get_or (by_size (values ls n)) i 0
+sorted_kth ls n i x kth =
+    sorted_member (values ls n) i x n (sym (length-values ls n)) (kth_place (slice_range (values ls n) 0 n) i x (kth_is ls n 0 n i x (omega arith) (omega arith) kth))

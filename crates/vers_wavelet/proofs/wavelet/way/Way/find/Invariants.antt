@@ -1,0 +1,18 @@
+use Rattle.std.proofs.Common.{ℕ, ◌+◌, ◌-◌, ◌*◌, ◌≤◌, ◌<◌, length}
+use Rattle.vers_tally.specs.Reads.{AddsAtMost, times}
+use Rattle.vers_rank.specs.Queries.{rank_reads}
+use Rattle.vers_wavelet.specs.Levels.{Searched, HasRoom}
+use Rattle.vers_wavelet.specs.Ways.{IsWay}
+use Rattle.vers_wavelet.proofs.wavelet.way.Way.find.Given as goal
+
+abbrev pub invariant-loop-k : goal.invariant-loop-k
+invariant-loop-k g l = record {
+  order : l.choice.start + l.choice.left < l.choice.end;
+  within : l.choice.end ≤ l.len;
+  deep : l.k ≤ length l.levels;
+  room : HasRoom 64 (length l.levels - l.k) l.number;
+  kept : l.choice.left ≤ l.i;
+  searched : (j : ℕ) → Searched l.levels 0 l.len (l.i - l.choice.left + j) l.k l.choice.start l.choice.end j l.number;
+  way : IsWay l.levels l.len l.self;
+  adds : AddsAtMost l.fn.tally l.tally (times (2 * l.k) rank_reads);
+}
