@@ -11,13 +11,13 @@ pub use Rattle.std.specs.Option.{is_some, option_and_then}
 pub use Rattle.std.specs.Prelude.{All, IfSome, IsSome, if◌then◌else◌, nat_le, option_map, slice_index, ◌&&◌, ◌||◌, ◌↔◌}
 pub use Rattle.vers_bits.specs.Bits.{low_bits, number, pack, part, places}
 pub use Rattle.vers_cli.specs.Holding.{is_accepted}
-pub use Rattle.vers_cli.specs.PostingsLines.{are_admitted, if_admitted, posted_first, posted_of, postings_loaded, shared_reply}
+pub use Rattle.vers_cli.specs.PostingsLines.{are_admitted, if_admitted, posted_first, posted_of, rising_count, shared_reply}
 pub use Rattle.vers_cli.specs.SortedLines.{first_numbers, first_then, in_order}
 pub use Rattle.vers_cli.specs.SparseLines.{sparse_loaded}
-pub use Rattle.vers_cli.specs.SymbolsLines.{if_numbers, low_bits_of, place_from, places_of, symbols_loaded}
-pub use Rattle.vers_sorted.proofs.PublicLaws.{each_next-ascending, each_next-rising, ones_at-places}
+pub use Rattle.vers_cli.specs.SymbolsLines.{symbols_loaded}
+pub use Rattle.vers_sorted.proofs.PublicLaws.{each_next-ascending, each_next-rising, ones_at-same}
 pub use Rattle.vers_sorted.specs.Sorted.{each_next}
-pub use Rattle.vers_wavelet.specs.Symbols.{Symbols, as_word}
+pub use Rattle.vers_wavelet.specs.Symbols.{Symbols}
 pub use Rattle.vers_words.specs.Arguments.{all_numbers, bits_of_digits, is_bit_digit, no_arguments}
 pub use Rattle.vers_words.specs.Reply.{Numbers, Refused, number_or_absent}
 pub use Rattle.vers_words.specs.Text.{number_of, words_in, words_of}

@@ -1,12 +1,8 @@
--- What a load line of a sparse list gives.
-use Rattle.vers_cli.proofs.Names.{◌≡◌, ℕ, Bool, true, List, ◌∷◌, length, nat_lt, Some, sym, ap, ◌∙◌, list_all, map-id, places, ones_at-places, each_next, Accepted, sparse_loaded}
-use Rattle.vers_sorted.specs.Ones.{ones_at}
+-- What a load line gives under a condition.
+use Rattle.vers_cli.proofs.Names.{◌≡◌, Bool, true, false, refl, if◌then◌else◌, is_accepted, Accepted}
+use Rattle.vers_words.specs.declared.loading.Loading.TheVariants.{Inadmissible}
 
--- the places of the ones and the length tell the list
-pub ones_at-same : (bits : List Bool) (n : ℕ) (ones : List ℕ) → length bits ≡ n → places true bits ≡ ones → bits ≡ ones_at ones n
-ones_at-same bits n ones l p = rw (← l, ← p) (sym (map-id bits) ∙ sym (ones_at-places true bits))
-
--- what a load line gives that is accepted
-pub sparse_accepted : (len : ℕ) (ones : List ℕ) (bits : List Bool) → each_next nat_lt ones ≡ true → list_all (λ place. nat_lt place len) ones ≡ true
-    → length bits ≡ len → places true bits ≡ ones → Accepted bits ≡ sparse_loaded (Some (len ∷ ones))
-sparse_accepted len ones bits rises within l p = rw (rises, within) (ap Accepted (ones_at-same bits len ones l p))
+-- it is accepted where the condition holds
+pub accepted_if : {H : Type 0} (holds : Bool) (list : H) → holds ≡ is_accepted (if holds then Accepted list else Inadmissible)
+accepted_if true list = refl
+accepted_if false list = refl

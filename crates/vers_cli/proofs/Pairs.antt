@@ -1,12 +1,12 @@
 -- Documents with their costs, as the numbers of a line write them.
-use Rattle.vers_cli.proofs.Names.{◌≡◌, ℕ, ◌≤◌, Bool, true, false, List, [], ◌∷◌, ◌++◌, length, append_assoc, Option, Some, None, unwrap_or, refl, ap, arith, nat_lt, option_map, if◌then◌else◌, option_and_then, is_some, same_Some, le-leb, each_next-rising, each_next, Numbers, Refused, is_accepted, posted_first, posted_of, postings_loaded, are_admitted, if_admitted, shared_reply}
+use Rattle.vers_cli.proofs.Names.{◌≡◌, ◌==◌, ◌||◌, ℕ, ◌+◌, ◌≤◌, Bool, true, false, List, [], ◌∷◌, ◌++◌, length, append_assoc, Option, Some, None, unwrap_or, refl, ap, nat_lt, option_map, if◌then◌else◌, option_and_then, le-leb, each_next-rising, each_next, Numbers, Refused, posted_first, rising_count, are_admitted, if_admitted, shared_reply}
 use Rattle.std.specs.List.Sorted.{IsStrictlyIncreasing}
 use Rattle.vers_rmq.specs.declared.rmq.fast_rmq.TheConstants.{MAX_LEN}
 use Rattle.postings.specs.Posted.{Posted, common}
 use Rattle.postings.specs.Makers.{IsRefusedFor}
 use Rattle.postings.specs.declared.fault.PostingsError.{PostingsError}
 use Rattle.postings.specs.declared.fault.PostingsError.TheVariants.{NotAscending}
-use Rattle.vers_cli.proofs.Rises.{rise_after, rise}
+use Rattle.vers_cli.proofs.Rises.{rise_from, rise, fall}
 
 -- documents with their costs, and then others
 abbrev pub posted_then : List ℕ → List ℕ → Option Posted → Option Posted
@@ -22,47 +22,33 @@ posted_then-push documents costs d c None = refl
 posted_then-push documents costs d c (Some more) =
     rw (append_assoc documents (d ∷ []) more.documents, append_assoc costs (c ∷ []) more.costs) refl
 
--- the documents alone
-abbrev pub documents_in : Option Posted → Option (List ℕ)
-documents_in found = option_map (λ posted. posted.documents) found
+-- how documents ascend after others, as `rise_after` tells it of numbers
+abbrev pub documents_after : ℕ → ℕ → Option Posted → Option (ℕ × ℕ)
+documents_after len last found = option_and_then (λ posted. rise_from nat_lt len last posted.documents) found
 
-pub documents_in-first : (d c : ℕ) (others : Option Posted) → documents_in (option_map (posted_first d c) others) ≡ option_map (λ more. d ∷ more) (documents_in others)
-documents_in-first d c None = refl
-documents_in-first d c (Some more) = refl
+pub documents_after-next : (len last d c : ℕ) (others : Option Posted) (admits : Bool) → ((len == 0) || nat_lt last d) ≡ admits
+    → documents_after len last (option_map (posted_first d c) others) ≡ (if admits then documents_after (len + 1) d others else None)
+documents_after-next len last d c None true h = refl
+documents_after-next len last d c None false h = refl
+documents_after-next len last d c (Some more) admits h = rw h refl
 
--- where no words are left there are none
-pub none_left : (nothing : Option (Unit {0})) → is_some nothing ≡ true → documents_in (option_map (λ _. record { documents = []; costs = [] }) nothing) ≡ Some []
-none_left None some = cc
-none_left (Some nothing) some = refl
+-- where no words are left there are no more
+pub documents_after-end : (len last : ℕ) (nothing read : Option (Unit {0})) → nothing ≡ read
+    → documents_after len last (option_map (λ _. record { documents = []; costs = [] }) nothing) ≡ option_map (λ _. (len, last)) read
+documents_after-end len last None read is = ap (option_map (λ _. (len, last))) is
+documents_after-end len last (Some nothing) read is = ap (option_map (λ _. (len, last))) is
 
--- there are no more than numbers
-few_first : (d c : ℕ) (more : List ℕ) (others : Option Posted) (posted : Posted) → ((p : Posted) → others ≡ Some p → length p.documents ≤ length more)
-    → option_map (posted_first d c) others ≡ Some posted → length posted.documents ≤ length (d ∷ c ∷ more)
-few_first d c more None posted few h = cc
-few_first d c more (Some p) posted few h =
-    let n = few p refl in
-    rw (← ap (λ (o : Option Posted). length (unwrap_or o p).documents) h) (omega arith)
+-- their count, by how they ascend
+counted : (documents : List ℕ) (end : Option (ℕ × ℕ)) → rise_from nat_lt 0 0 documents ≡ end
+    → option_map (λ (e : ℕ × ℕ). e.0) end ≡ (if each_next nat_lt documents then Some (length documents) else None)
+counted documents None h = rw (fall nat_lt documents h) refl
+counted documents (Some end) h =
+    let r = rise nat_lt documents end h in
+    rw (r.0, r.1) refl
 
-pub few_documents : (numbers : List ℕ) (posted : Posted) → posted_of numbers ≡ Some posted → length posted.documents ≤ length numbers
-few_documents [] posted h = rw (← ap (λ (o : Option Posted). length (unwrap_or o posted).documents) h) (omega arith)
-few_documents (d ∷ []) posted h = cc
-few_documents (d ∷ c ∷ more) posted h = few_first d c more (posted_of more) posted (few_documents more) h
-
--- documents of which it is told how they ascend
-pub documents_rise : (end : ℕ × ℕ) (found : Option Posted) → rise_after nat_lt 0 0 (documents_in found) ≡ Some end
-    → (posted : Posted) × (found ≡ Some posted) × (each_next nat_lt posted.documents ≡ true)
-documents_rise end None h = cc
-documents_rise end (Some posted) h = (posted, refl, (rise nat_lt posted.documents end h).0)
-
--- a line of so many numbers is accepted
-pub postings_accepted : (found : Option (List ℕ)) (count : ℕ) → option_map length found ≡ Some count → count ≤ MAX_LEN
-    → ((posted : Posted) × (option_and_then posted_of found ≡ Some posted) × (each_next nat_lt posted.documents ≡ true))
-    → is_accepted (postings_loaded found) ≡ true
-postings_accepted None count many few rise = cc
-postings_accepted (Some numbers) count many few rise =
-    let fewer = few_documents numbers rise.0 rise.1 in
-    let all : length numbers ≡ count = same_Some (length numbers) count many in
-    rw (rise.1, rise.2, le-leb (length rise.0.documents) MAX_LEN (omega arith)) refl
+pub rising_counted : (found : Option Posted) (end : Option (ℕ × ℕ)) → documents_after 0 0 found ≡ end → option_map (λ (e : ℕ × ℕ). e.0) end ≡ rising_count found
+rising_counted None end h = rw (← h) refl
+rising_counted (Some posted) end h = counted posted.documents end h
 
 -- documents that ascend strictly and are not too many are admitted
 pub is_admitted : (posted : Posted) → IsStrictlyIncreasing posted.documents → length posted.documents ≤ MAX_LEN → Some posted ≡ if_admitted posted

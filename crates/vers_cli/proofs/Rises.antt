@@ -1,5 +1,5 @@
 -- Numbers that ascend, read from the front.
-use Rattle.vers_cli.proofs.Names.{◌≡◌, ◌==◌, ◌<◌, ◌+◌, ◌-◌, ℕ, Bool, true, false, List, [], ◌∷◌, length, get_or, Option, Some, None, refl, sym, ap, ◌∙◌, arith, ◌||◌, ◌&&◌, All, nat_le, nat_lt, option_map, option_and_then, if◌then◌else◌, list_all, ne_eqb, and_parts, ltb-true, AllPass-from_list_all, same_Some, each_next, number_of, all_numbers, is_accepted, first_numbers, first_then, sparse_loaded}
+use Rattle.vers_cli.proofs.Names.{◌≡◌, ◌==◌, ◌<◌, ◌+◌, ◌-◌, ℕ, Bool, true, false, List, [], ◌∷◌, length, get_or, Option, Some, None, refl, sym, ap, ◌∙◌, arith, ◌||◌, ◌&&◌, All, nat_le, nat_lt, option_map, option_and_then, if◌then◌else◌, list_all, ne_eqb, and_parts, ltb-true, AllPass-from_list_all, same_Some, each_next, number_of, all_numbers, first_numbers, first_then}
 use Rattle.std.proofs.lemmas.Bool.Decides.{nat_tests}
 use Rattle.vers_sorted.specs.Layout.{last_of}
 
@@ -12,15 +12,11 @@ rise_from order len last (n ∷ more) = if (len == 0) || order last n then rise_
 abbrev pub rise_after : (ℕ → ℕ → Bool) → ℕ → ℕ → Option (List ℕ) → Option (ℕ × ℕ)
 rise_after order len last found = option_and_then (rise_from order len last) found
 
-pub rise_after-more : (order : ℕ → ℕ → Bool) (len last n : ℕ) (others : Option (List ℕ)) → ((len == 0) || order last n) ≡ true
-    → rise_after order len last (option_map (λ more. n ∷ more) others) ≡ rise_after order (len + 1) n others
-rise_after-more order len last n None h = refl
-rise_after-more order len last n (Some more) h = rw h refl
-
-pub rise_after-none : (order : ℕ → ℕ → Bool) (len last n : ℕ) (others : Option (List ℕ)) → ((len == 0) || order last n) ≡ false
-    → rise_after order len last (option_map (λ more. n ∷ more) others) ≡ None
-rise_after-none order len last n None h = refl
-rise_after-none order len last n (Some more) h = rw h refl
+pub rise_after-next : (order : ℕ → ℕ → Bool) (len last n : ℕ) (others : Option (List ℕ)) (admits : Bool) → ((len == 0) || order last n) ≡ admits
+    → rise_after order len last (option_map (λ more. n ∷ more) others) ≡ (if admits then rise_after order (len + 1) n others else None)
+rise_after-next order len last n None true h = refl
+rise_after-next order len last n None false h = refl
+rise_after-next order len last n (Some more) admits h = rw h refl
 
 if_some : {X : Type 0} (b : Bool) (x : Option X) (v : X) → (if b then x else None) ≡ Some v → (b ≡ true) × (x ≡ Some v)
 if_some true x v h = (refl, h)
@@ -58,7 +54,7 @@ more_fall order len last (n ∷ more) some h =
       | false ↦ λ e. refl
     ] k
 
-fall : (order : ℕ → ℕ → Bool) (numbers : List ℕ) → rise_from order 0 0 numbers ≡ None → each_next order numbers ≡ false
+pub fall : (order : ℕ → ℕ → Bool) (numbers : List ℕ) → rise_from order 0 0 numbers ≡ None → each_next order numbers ≡ false
 fall order [] h = cc
 fall order (n ∷ more) h = more_fall order 1 n more (omega arith) h
 
@@ -122,7 +118,3 @@ rising_ascends (n ∷ next ∷ more) h =
     let parts = and_parts (nat_lt n next) (each_next nat_lt (next ∷ more)) h in
     let here : nat_le n next ≡ true = grind (arith, nat_tests, parts.0) in
     rw (here, rising_ascends (next ∷ more) parts.1) refl
-
--- places that ascend strictly below the length are accepted
-pub places_accepted : (len : ℕ) (ones : List ℕ) → each_next nat_lt ones ≡ true → list_all (λ place. nat_lt place len) ones ≡ true → is_accepted (sparse_loaded (Some (len ∷ ones))) ≡ true
-places_accepted len ones up within = rw (up, within) refl

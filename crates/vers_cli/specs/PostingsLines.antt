@@ -26,6 +26,11 @@ posted_of (document ∷ cost ∷ more) = option_map (posted_first document cost)
 abbrev pub are_admitted : List ℕ → Bool
 are_admitted documents = each_next nat_lt documents && nat_le (length documents) MAX_LEN
 
+-- how many documents there are, where they ascend strictly
+abbrev pub rising_count : Option Posted → Option ℕ
+rising_count None = None
+rising_count (Some posted) = if each_next nat_lt posted.documents then Some (length posted.documents) else None
+
 -- documents with their costs, where the documents are admitted
 abbrev pub if_admitted : Posted → Option Posted
 if_admitted posted = if are_admitted posted.documents then Some posted else None

@@ -4,13 +4,13 @@ use Rattle.std.specs.Fmt.{digits}
 use Rattle.vers_bits.specs.Bits.{count, places, select}
 use Rattle.vers_sorted.specs.Sorted.{below, least_not_below}
 use Rattle.vers_sorted.specs.Ones.{ones_at}
-use Rattle.vers_wavelet.specs.Symbols.{occurrences, range_members, kth_by_size, greatest_up_to, least_from}
+use Rattle.vers_wavelet.specs.Symbols.{occurrences, range_members, kth_by_size, greatest_up_to, least_from, as_word}
 use Rattle.vers_wavelet.specs.Makers.{low_symbols}
 use Rattle.vers_trees.specs.Excess.{excess, first_rise_after, last_rise_before, enclosing}
 use Rattle.vers_trees.specs.Forest.{forest_of}
 use Rattle.vers_trees.specs.Nodes.{closing, is_ancestor, is_proper_ancestor, depth, parent, nodes_under, level, level_ancestor, subtree, node_index}
 use Rattle.vers_trees.specs.Traversals.{subtree_post}
-use Rattle.vers_rmq.specs.Minima.{is_least as costs_least, first_least_of, least_place}
+use Rattle.vers_rmq.specs.Minima.{is_least as costs_least, first_least, first_least_of, least_place}
 use Rattle.postings.specs.Posted.{is_among, places_between as places_of_range, cheapest, common}
 use Rattle.vers_words.specs.Text.{number_of, signed_number_of}
 use Rattle.vers_engine.specs.Lines.{lines_of}
@@ -26,7 +26,6 @@ use Rattle.vers_cli.specs.declared.name.ForestQuery.TheVariants.{Level, LevelAnc
 use Rattle.vers_cli.specs.declared.name.LevelQuery.TheVariants.{LevelRightmost}
 use Rattle.vers_cli.specs.Name.{name_of}
 use Rattle.vers_cli.specs.Holding.{Holding, Nothing, BitsHeld, SortedHeld, SparseHeld, ValuesHeld, TreeHeld, SymbolsHeld, PostingsHeld}
-use Rattle.vers_cli.specs.ValuesLines.{first_least}
 use Rattle.vers_cli.specs.PostingsLines.{posted_of}
 use Rattle.vers_cli.specs.Answers.{answer_to, holding_after, answers_to}
 
@@ -242,32 +241,32 @@ unfolding answer_to_words digits
 answer-iter_sorted_u64 = refl
 
 pub answer-rank_u64_3_11 : answer_to held_153 (codes "rank_u64 3 11") ≡ ended (codes "1")
-unfolding answer_to_words number_of occurrences digits
+unfolding answer_to_words number_of occurrences digits as_word
 answer-rank_u64_3_11 = refl
 
 pub answer-select_u64_0_3 : answer_to held_153 (codes "select_u64 0 3") ≡ ended (codes "2")
-unfolding answer_to_words number_of occurrences digits
+unfolding answer_to_words number_of occurrences digits as_word
 answer-select_u64_0_3 = refl
 
 pub answer-predecessor_u64_4 : answer_to held_153 (codes "predecessor_u64 0 3 4") ≡ ended (codes "3")
-unfolding answer_to_words number_of range_members greatest_up_to digits
+unfolding answer_to_words number_of range_members greatest_up_to digits as_word
 answer-predecessor_u64_4 = refl
 
 pub answer-successor_u64_4 : answer_to held_153 (codes "successor_u64 0 3 4") ≡ ended (codes "5")
-unfolding answer_to_words number_of range_members least_from digits
+unfolding answer_to_words number_of range_members least_from digits as_word
 answer-successor_u64_4 = refl
 
 pub answer-range_median_u64_0_2 : answer_to held_153 (codes "range_median_u64 0 2") ≡ ended (codes "1")
-unfolding answer_to_words number_of range_members kth_by_size digits
+unfolding answer_to_words number_of range_members kth_by_size digits as_word
 answer-range_median_u64_0_2 = refl
 
 -- a range that begins past the last place, and one that ends before it begins
 pub answer-rank_range_u64_3_3 : answer_to held_153 (codes "rank_range_u64 3 3 1") ≡ ended (codes "none")
-unfolding answer_to_words number_of
+unfolding answer_to_words number_of as_word
 answer-rank_range_u64_3_3 = refl
 
 pub answer-range_max_u64_3_2 : answer_to held_153 (codes "range_max_u64 3 2") ≡ ended (codes "none")
-unfolding answer_to_words number_of range_members kth_by_size
+unfolding answer_to_words number_of range_members kth_by_size as_word
 answer-range_max_u64_3_2 = refl
 
 -- the nodes of a forest

@@ -1,6 +1,7 @@
 -- The lines of a list of symbols.
-use Rattle.std.specs.Prelude.{ℕ, ◌-◌, ◌/◌, ◌%◌, ◌^◌, ◌&&◌, nat_le, nat_lt, List, [], ◌∷◌, length, slice_get, Option, Some, None, if◌then◌else◌}
-use Rattle.vers_wavelet.specs.Symbols.{Symbols, occurrences, by_size, range_members, kth_by_size, greatest_up_to, least_from}
+use Rattle.std.specs.Prelude.{ℕ, ◌-◌, ◌/◌, nat_le, List, [], ◌∷◌, length, slice_get, Option, Some, None, if◌then◌else◌}
+use Rattle.vers_wavelet.specs.Symbols.{Symbols, by_size, range_members, kth_by_size, greatest_up_to, least_from, as_word}
+use Rattle.vers_wavelet.specs.Numbers.{low_bits_of, rank_before, rank_between, place_from}
 use Rattle.vers_wavelet.specs.Makers.{low_symbols}
 use Rattle.vers_words.specs.declared.loading.Loading.{Loading}
 use Rattle.vers_words.specs.declared.loading.Loading.TheVariants.{Malformed, Inadmissible, Accepted}
@@ -25,32 +26,9 @@ symbols_loaded (Some []) = Malformed
 symbols_loaded (Some (width ∷ numbers)) =
     if nat_le width 64 then Accepted (record { width = width; items = low_symbols numbers width }) else Inadmissible
 
--- the reply of a query of symbols as numbers, which have at most 64 bits
-abbrev pub if_numbers : Symbols → PlainReply → PlainReply
-if_numbers symbols reply = if nat_le symbols.width 64 then reply else Absent
-
--- the symbol that a number stands for, by its low bits
-abbrev pub low_bits_of : Symbols → ℕ → ℕ
-low_bits_of symbols s = s % 2 ^ symbols.width
-
--- the places from place a on, before place b, that hold the symbol of a number
-abbrev pub places_of : Symbols → ℕ → ℕ → ℕ → List ℕ
-places_of symbols a b s = occurrences symbols.items a b (low_bits_of symbols s)
-
--- how many of the first `end` places hold a symbol, where there are so many
-abbrev pub rank_before : Symbols → ℕ → ℕ → Option ℕ
-rank_before symbols end s = if nat_le end (length symbols.items) then Some (length (places_of symbols 0 end s)) else None
-
--- how many places of a range hold a symbol; the range begins at a place, and ends neither before that nor past the last one
-abbrev pub rank_between : Symbols → ℕ → ℕ → ℕ → Option ℕ
-rank_between symbols a b s =
-    if nat_lt a (length symbols.items) && (nat_le b (length symbols.items) && nat_le a b)
-    then Some (length (places_of symbols a b s))
-    else None
-
--- the place of occurrence r of a symbol, among those from place o on
-abbrev pub place_from : Symbols → ℕ → ℕ → ℕ → Option ℕ
-place_from symbols o r s = slice_get (places_of symbols o (length symbols.items) s) r
+-- the reply of what is found of symbols as numbers, which have at most 64 bits
+abbrev pub found_reply : Symbols → Option ℕ → PlainReply
+found_reply symbols found = number_or_absent (as_word symbols.width found)
 
 -- the symbols that a query of all of them lists
 abbrev pub all_listed : Symbols → AllQuery → List ℕ
@@ -78,19 +56,19 @@ within_found symbols SuccessorU64 a b s = least_from (range_members symbols.item
 
 -- the replies of the queries, by their arguments
 abbrev pub all_reply : Symbols → AllQuery → PlainReply
-all_reply symbols query = if_numbers symbols (Numbers (all_listed symbols query))
+all_reply symbols query = if nat_le symbols.width 64 then Numbers (all_listed symbols query) else Absent
 
 abbrev pub place_reply : Symbols → ℕ → PlainReply
-place_reply symbols i = if_numbers symbols (number_or_absent (slice_get symbols.items i))
+place_reply symbols i = found_reply symbols (slice_get symbols.items i)
 
 abbrev pub symbol_reply : Symbols → SymbolQuery → ℕ → ℕ → PlainReply
-symbol_reply symbols query i s = if_numbers symbols (number_or_absent (symbol_found symbols query i s))
+symbol_reply symbols query i s = found_reply symbols (symbol_found symbols query i s)
 
 abbrev pub range_reply : Symbols → RangeQuery → ℕ → ℕ → PlainReply
-range_reply symbols query a b = if_numbers symbols (number_or_absent (range_found symbols query a b))
+range_reply symbols query a b = found_reply symbols (range_found symbols query a b)
 
 abbrev pub within_reply : Symbols → WithinQuery → ℕ → ℕ → ℕ → PlainReply
-within_reply symbols query a b n = if_numbers symbols (number_or_absent (within_found symbols query a b n))
+within_reply symbols query a b n = found_reply symbols (within_found symbols query a b n)
 
 -- the query lines, where these symbols are held
 abbrev pub symbols_reply : Symbols → Query → List (List ℕ) → PlainReply

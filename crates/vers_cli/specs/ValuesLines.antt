@@ -1,6 +1,6 @@
 -- The lines of a list of values.
-use Rattle.std.specs.Prelude.{ℕ, ◌&&◌, nat_le, nat_lt, List, length, Option, Some, None, if◌then◌else◌}
-use Rattle.vers_rmq.specs.Minima.{least_place}
+use Rattle.std.specs.Prelude.{ℕ, nat_le, List, length, Option, Some, None, if◌then◌else◌}
+use Rattle.vers_rmq.specs.Minima.{first_least}
 use Rattle.vers_rmq.specs.declared.rmq.fast_rmq.TheConstants.{MAX_LEN}
 use Rattle.vers_words.specs.Arguments.{no_arguments, two_numbers}
 use Rattle.vers_words.specs.declared.loading.Loading.{Loading}
@@ -8,11 +8,6 @@ use Rattle.vers_words.specs.declared.loading.Loading.TheVariants.{Malformed, Ina
 use Rattle.vers_words.specs.Reply.{PlainReply, WrongStructure, Number, if_well_formed, number_or_refused}
 use Rattle.vers_cli.specs.declared.name.Query.{Query}
 use Rattle.vers_cli.specs.declared.name.Query.TheVariants.{Len, RangeMin}
-
--- the first place of a least value from i to j, where i is at most j and j is a place
-abbrev pub first_least : List ℕ → ℕ → ℕ → Option ℕ
-first_least values i j =
-    if nat_le i j && nat_lt j (length values) then Some (least_place values i j) else None
 
 -- the load line `values n ..`, for its numbers
 abbrev pub values_loaded : Option (List ℕ) → Loading (List ℕ)

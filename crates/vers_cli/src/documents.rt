@@ -1,13 +1,12 @@
 //! The lines of documents with costs.
-ghost use Rattle.std.specs.Prelude.{◌≡◌, ◌<◌, [], true, length, nat_lt, option_map, Some, IfOk, IfSome, MatchOption};
+ghost use Rattle.std.specs.Prelude.{◌≡◌, ◌<◌, [], length, option_map, IfOk, IfSome, MatchOption};
 ghost use Rattle.std.specs.Option.{option_and_then};
-ghost use Rattle.vers_sorted.specs.Sorted.{each_next};
 ghost use Rattle.vers_words.specs.Text.{words_in};
 ghost use Rattle.vers_words.specs.Arguments.{no_arguments as none_of, all_numbers as numbers_all};
 ghost use Rattle.vers_words.specs.Reply.{plain_reply, Numbers};
-ghost use Rattle.postings.specs.Posted.{Posted, common};
+ghost use Rattle.postings.specs.Posted.{common};
 ghost use Rattle.vers_cli.specs.Holding.{is_accepted as accepts};
-ghost use Rattle.vers_cli.specs.PostingsLines.{posted_first, posted_of, if_admitted, postings_loaded, postings_reply, shared_reply};
+ghost use Rattle.vers_cli.specs.PostingsLines.{posted_first, posted_of, if_admitted, postings_loaded, postings_reply, rising_count, shared_reply};
 
 use crate::name::Query;
 use crate::sorted::Rise;
@@ -19,13 +18,13 @@ use vers_words::loading::Loading;
 use vers_words::reply::Reply;
 use vers_words::text::{number, split_first_word};
 
-/// Whether it is certain that the load line `postings d c ..` is accepted.
+/// Whether the load line `postings d c ..` is accepted.
 pub fn is_accepted(arguments: &[u8]) -> bool
-    ensures { result ≡ true → accepts (postings_loaded (numbers_all (words_in arguments.now))) ≡ true }
+    ensures { result ≡ accepts (postings_loaded (numbers_all (words_in arguments.now))) }
 {
-    match count_numbers(arguments) {
+    match ascending_documents(arguments) {
         None => false,
-        Some(count) => count <= MAX_LEN && documents_ascend(arguments),
+        Some(count) => count <= MAX_LEN,
     }
 }
 
@@ -140,23 +139,25 @@ fn split_first_pair(text: &[u8]) -> Option<(u64, u64, &[u8])>
     Some((document, cost, more))
 }
 
-// Whether the words of a line are documents that ascend strictly, each with its cost.
-fn documents_ascend(arguments: &[u8]) -> bool
-    ensures { result ≡ true → (posted : Posted)
-        × (option_and_then posted_of (numbers_all (words_in arguments.now)) ≡ Some posted)
-        × (each_next nat_lt posted.documents ≡ true) }
+// How many documents a line writes, each with its cost. None where it writes no such, or they don't ascend
+// strictly.
+fn ascending_documents(arguments: &[u8]) -> Option<usize>
+    ensures { result ≡ rising_count (option_and_then posted_of (numbers_all (words_in arguments.now))) }
 {
     let mut rise = Rise { len: 0, last: 0 };
     let mut rest = arguments;
     while let Some((last, _, others)) = split_first_pair(rest) {
         if !rise.admits(last, true) {
-            return false;
+            return None;
         }
         let len = rise.len + 1;
         rise = Rise { len, last };
         rest = others;
     }
-    no_arguments(rest).is_some()
+    match no_arguments(rest) {
+        None => None,
+        Some(()) => Some(rise.len),
+    }
 }
 
 // Documents with their costs. None where the documents don't ascend strictly or are too many.

@@ -31,9 +31,9 @@ pub enum Held<'a, A: Allocator + Copy> {
     Postings(Postings<A>),
 }
 
-/// Whether it is certain that a load line is accepted. It takes no memory to tell.
+/// Whether a load line is accepted. It takes no memory to tell.
 pub fn is_accepted(load: Load, arguments: &[u8]) -> bool
-    ensures { result ≡ true → accepts (loaded load (words_in arguments.now)) ≡ true }
+    ensures { result ≡ accepts (loaded load (words_in arguments.now)) }
 {
     match load {
         Load::Bits => bits::is_accepted(arguments),

@@ -109,9 +109,9 @@ pub fn members_of<A: Allocator + Copy>(
     EliasFanoVec::from_numbers(alloc, LineNumbers { rest: arguments }, rise.len, rise.last)
 }
 
-/// Whether it is certain that the load line `sorted n ..` is accepted.
+/// Whether the load line `sorted n ..` is accepted.
 pub fn is_accepted(arguments: &[u8]) -> bool
-    ensures { result ≡ true → accepts (sorted_loaded (numbers_all (words_in arguments.now))) ≡ true }
+    ensures { result ≡ accepts (sorted_loaded (numbers_all (words_in arguments.now))) }
 {
     rise_of(arguments, false).is_some()
 }

@@ -15,16 +15,19 @@ use vers_words::loading::Loading;
 use vers_words::reply::Reply;
 use vers_words::text::{number, split_first_word};
 
-/// Whether it is certain that the load line `sparse LEN p ..` is accepted.
+/// Whether the load line `sparse LEN p ..` is accepted.
 pub fn is_accepted(arguments: &[u8]) -> bool
-    ensures { result ≡ true → accepts (sparse_loaded (numbers_all (words_in arguments.now))) ≡ true }
+    ensures { result ≡ accepts (sparse_loaded (numbers_all (words_in arguments.now))) }
 {
     let Some((word, places)) = split_first_word(arguments) else {
         return false;
     };
-    match (number(word), rise_of(places, true)) {
-        (Some(len), Some(rise)) => rise.is_below(len),
-        _ => false,
+    let Some(len) = number(word) else {
+        return false;
+    };
+    match rise_of(places, true) {
+        None => false,
+        Some(rise) => rise.is_below(len),
     }
 }
 

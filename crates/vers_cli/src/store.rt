@@ -69,8 +69,7 @@ impl<'a, A: Allocator + Copy> Store<'a, A> {
         }
     }
 
-    // Lets go of what is held where a load line is certain to be accepted, so that its room is there for what
-    // comes in its place.
+    // Lets go of what is held where a load line is accepted, so that its room is there for what comes in its place.
     fn make_room(&mut self, load: Load, arguments: &[u8])
         ensures { held_after self.new (loaded load (words_in arguments.now))
             ≡ held_after self.old (loaded load (words_in arguments.now)) }

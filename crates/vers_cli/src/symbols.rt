@@ -190,6 +190,7 @@ fn all_reply<A: Allocator + Copy>(
 }
 
 // The reply of a query of the symbol at a place.
+#[tactic(auto, unfolding(vers_wavelet::specs::Symbols::as_word))]
 fn place_reply<A: Allocator + Copy>(symbols: &WaveletMatrix<A>, i: usize) -> Reply<A>
     ensures { plain_reply result ≡ reply_at_place symbols.now i }
 {
@@ -197,6 +198,7 @@ fn place_reply<A: Allocator + Copy>(symbols: &WaveletMatrix<A>, i: usize) -> Rep
 }
 
 // The reply of a query of the places of a symbol.
+#[tactic(auto, unfolding(vers_wavelet::specs::Symbols::as_word))]
 fn symbol_reply<A: Allocator + Copy>(
     symbols: &WaveletMatrix<A>,
     query: SymbolQuery,
@@ -212,7 +214,6 @@ fn symbol_reply<A: Allocator + Copy>(
 }
 
 // The reply of a query of a range.
-#[tactic(auto, using(crate::proofs::SymbolReplies::word_replies))]
 fn range_reply<A: Allocator + Copy>(
     symbols: &WaveletMatrix<A>,
     query: RangeQuery,
@@ -229,7 +230,7 @@ fn range_reply<A: Allocator + Copy>(
 }
 
 // The reply of a query with three numbers.
-#[tactic(auto, using(crate::proofs::SymbolReplies::word_replies))]
+#[tactic(auto, unfolding(vers_wavelet::specs::Symbols::as_word))]
 fn within_reply<A: Allocator + Copy>(
     symbols: &WaveletMatrix<A>,
     query: WithinQuery,

@@ -1,10 +1,11 @@
 //! The lines of a list of values.
 ghost use Rattle.std.specs.Prelude.{◌≡◌, IfOk};
+ghost use Rattle.vers_rmq.specs.Minima.{first_least};
 ghost use Rattle.vers_words.specs.Text.{words_in};
 ghost use Rattle.vers_words.specs.Arguments.{all_numbers as numbers_all};
 ghost use Rattle.vers_words.specs.Reply.{plain_reply};
 ghost use Rattle.vers_cli.specs.Holding.{is_accepted as accepts};
-ghost use Rattle.vers_cli.specs.ValuesLines.{first_least, values_loaded, values_reply};
+ghost use Rattle.vers_cli.specs.ValuesLines.{values_loaded, values_reply};
 
 use crate::name::Query;
 use std::alloc::{AllocError, Allocator};

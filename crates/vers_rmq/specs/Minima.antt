@@ -1,5 +1,5 @@
 -- The first place of a least item in a range.
-use Rattle.std.specs.Prelude.{ℕ, ◌+◌, ◌-◌, ◌<◌, ◌≤◌, Bool, List, Option, find, slice_index, nat_le, if◌then◌else◌}
+use Rattle.std.specs.Prelude.{ℕ, ◌+◌, ◌-◌, ◌<◌, ◌≤◌, ◌&&◌, Bool, List, length, Option, Some, None, find, slice_index, nat_le, nat_lt, if◌then◌else◌}
 use Rattle.std.specs.List.{list_all, range_with_len}
 use Rattle.std.specs.Option.{unwrap_or}
 
@@ -25,3 +25,7 @@ first_least_of items places = find (is_least items places) places
 -- the first place of a least item from place i to place j, both included, and i where i is past j
 unfoldable pub least_place : List ℕ → ℕ → ℕ → ℕ
 least_place items i j = unwrap_or (first_least_of items (range_with_len i (j + 1 - i))) i
+
+-- the first place of a least item from place i to place j, both included, where i is at most j and j is a place
+abbrev pub first_least : List ℕ → ℕ → ℕ → Option ℕ
+first_least items i j = if nat_le i j && nat_lt j (length items) then Some (least_place items i j) else None

@@ -1,5 +1,5 @@
 -- The laws that proofs of other crates may cite. A crate above imports this file and no other of this folder.
-use Rattle.vers_sorted.proofs.Names.{◌≡◌, ℕ, ◌+◌, ◌-◌, ◌<◌, ◌≤◌, Bool, List, length, slice_get, None, refl, ◌↔◌, IsTrue, slice_index, map, nat_le, nat_lt, IsNonDecreasing, IsStrictlyIncreasing, is_bit, places, ones_at, each_next, below, greatest_not_above, least_not_below}
+use Rattle.vers_sorted.proofs.Names.{◌≡◌, ℕ, ◌+◌, ◌-◌, ◌<◌, ◌≤◌, Bool, true, List, length, slice_get, None, refl, ◌↔◌, IsTrue, slice_index, map, nat_le, nat_lt, IsNonDecreasing, IsStrictlyIncreasing, is_bit, places, ones_at, each_next, below, greatest_not_above, least_not_below}
 use Rattle.vers_sorted.proofs.Below as Below
 use Rattle.vers_sorted.proofs.Neighbours as Neighbours
 use Rattle.vers_sorted.proofs.Ones as Ones
@@ -49,3 +49,7 @@ greatest_not_above_none = Neighbours.pred_none
 -- the list whose ones stand at the places of a bit has a one wherever a list holds this bit
 pub ones_at-places : (bit : Bool) (bits : List Bool) → ones_at (places bit bits) (length bits) ≡ map (is_bit bit) bits
 ones_at-places = Ones.ones_at-places
+
+-- the list of so many bits whose ones stand at these places is one
+pub ones_at-same : (bits : List Bool) (n : ℕ) (ones : List ℕ) → length bits ≡ n → places true bits ≡ ones → bits ≡ ones_at ones n
+ones_at-same = Ones.ones_at-same

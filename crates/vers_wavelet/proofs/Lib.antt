@@ -11,6 +11,7 @@ pub mod Ranges
 pub mod Nearest
 pub mod Trails
 pub mod Answered
+pub mod Offsets
 pub mod Sizes
 pub mod Gathering
 pub mod Sources

@@ -7,3 +7,4 @@ pub mod Laws
 pub mod Batches
 pub mod Ways
 pub mod Nearest
+pub mod Numbers

@@ -1,5 +1,5 @@
 use Rattle.vers_cli.proofs.Names.{◌≡◌, Some, None, refl, sym, ◌∙◌, arith, number_of, words_in, all_numbers, in_order}
-use Rattle.vers_cli.proofs.Rises.{rise_after-more, rise_after-none, told, not_told}
+use Rattle.vers_cli.proofs.Rises.{rise_after-next, told, not_told}
 use Rattle.vers_cli.proofs.sorted.rise_of.Goals as goal
 
 pub returns-in_err-last-clause-none : goal.returns-in_err-last-clause-none
@@ -14,7 +14,7 @@ returns-then-not-admits-clause-none c =
     λ none numbers at.
     let some : number_of c.in-Some.word.now ≡ Some c.in_ok-last.last = sym c.number.ensures ∙ c.in_ok-last.was in
     not_told (in_order c.args.strictly) (all_numbers (words_in c.args.arguments.now)) numbers
-    (c.loop-word.invariant.after ∙ rw (c.in-Some.ensures.words, some) (rise_after-none (in_order c.args.strictly) c.loop-word.rise.len c.loop-word.rise.last c.in_ok-last.last (all_numbers (words_in c.in-Some.others.now)) (sym c.if-not-admits.ensures))) at
+    (c.loop-word.invariant.after ∙ rw (c.in-Some.ensures.words, some) (rise_after-next (in_order c.args.strictly) c.loop-word.rise.len c.loop-word.rise.last c.in_ok-last.last (all_numbers (words_in c.in-Some.others.now)) _ (sym c.if-not-admits.ensures))) at
 
 pub returns : goal.returns
 returns c =
@@ -31,6 +31,6 @@ pub loop-word-preserved : goal.loop-word-preserved
 loop-word-preserved c =
     let some : number_of c.in-Some.word.now ≡ Some c.in_ok-last.last = sym c.number.ensures ∙ c.in_ok-last.was in
     record {
-      after = c.loop-word.invariant.after ∙ rw (c.in-Some.ensures.words, some) (rise_after-more (in_order c.args.strictly) c.loop-word.rise.len c.loop-word.rise.last c.in_ok-last.last (all_numbers (words_in c.in-Some.others.now)) (sym c.if-not-admits.ensures));
+      after = c.loop-word.invariant.after ∙ rw (c.in-Some.ensures.words, some) (rise_after-next (in_order c.args.strictly) c.loop-word.rise.len c.loop-word.rise.last c.in_ok-last.last (all_numbers (words_in c.in-Some.others.now)) _ (sym c.if-not-admits.ensures));
       within = omega (arith, c.loop-word.invariant.within, c.in-Some.ensures.shorter);
     }

@@ -1,0 +1,26 @@
+-- What is found of a symbol that a number stands for.
+use Rattle.std.specs.Prelude.{ℕ, ◌%◌, ◌^◌, ◌&&◌, nat_le, nat_lt, List, length, slice_get, Option, Some, None, if◌then◌else◌}
+use Rattle.vers_wavelet.specs.Symbols.{Symbols, occurrences}
+
+-- the symbol that a number stands for, by its low bits
+abbrev pub low_bits_of : Symbols → ℕ → ℕ
+low_bits_of symbols s = s % 2 ^ symbols.width
+
+-- the places from place a on, before place b, that hold the symbol of a number
+abbrev pub places_of : Symbols → ℕ → ℕ → ℕ → List ℕ
+places_of symbols a b s = occurrences symbols.items a b (low_bits_of symbols s)
+
+-- how many of the first `end` places hold a symbol, where there are so many
+abbrev pub rank_before : Symbols → ℕ → ℕ → Option ℕ
+rank_before symbols end s = if nat_le end (length symbols.items) then Some (length (places_of symbols 0 end s)) else None
+
+-- how many places of a range hold a symbol; the range begins at a place, and ends neither before that nor past the last one
+abbrev pub rank_between : Symbols → ℕ → ℕ → ℕ → Option ℕ
+rank_between symbols a b s =
+    if nat_lt a (length symbols.items) && (nat_le b (length symbols.items) && nat_le a b)
+    then Some (length (places_of symbols a b s))
+    else None
+
+-- the place of occurrence r of a symbol, among those from place o on
+abbrev pub place_from : Symbols → ℕ → ℕ → ℕ → Option ℕ
+place_from symbols o r s = slice_get (places_of symbols o (length symbols.items) s) r
