@@ -1,15 +1,11 @@
 -- The queries of a list of values for the least of ranges, and of plain numbers.
-use Rattle.std.specs.Prelude.{ℕ, ◌&&◌, nat_le, nat_lt, List, length, slice_get, Option, Some, None, if◌then◌else◌}
+use Rattle.std.specs.Prelude.{ℕ, List, length, slice_get}
 use Rattle.vers_rmq.specs.Layout.{binary_heap_size, fast_heap_size}
-use Rattle.vers_rmq.specs.Minima.{least_place}
+use Rattle.vers_rmq.specs.Minima.{first_least}
 use Rattle.vers_c.specs.declared.answer.Answer.{Answer}
 use Rattle.vers_c.specs.declared.query.Query.{Query}
 use Rattle.vers_c.specs.declared.query.Query.TheVariants.{Len, Get, HeapSize, RangeMin}
 use Rattle.vers_c.specs.Answers.{found, found_or_absent, unknown}
-
--- the first place of a least value from i to j, where i is at most j and j is a place
-abbrev pub first_least : List ℕ → ℕ → ℕ → Option ℕ
-first_least values i j = if nat_le i j && nat_lt j (length values) then Some (least_place values i j) else None
 
 -- of values by blocks
 abbrev pub fast_answer : List ℕ → Query → ℕ → ℕ → ℕ → Answer

@@ -1,39 +1,17 @@
 -- The queries of a list of symbols, as numbers of at most 64 bits.
-use Rattle.std.specs.Prelude.{ℕ, ◌-◌, ◌/◌, ◌%◌, ◌^◌, ◌&&◌, nat_le, nat_lt, List, length, slice_get, Option, Some, None, if◌then◌else◌}
-use Rattle.vers_wavelet.specs.Symbols.{Symbols, occurrences, range_members, kth_by_size, greatest_up_to, least_from, matrix_size}
+use Rattle.std.specs.Prelude.{ℕ, ◌-◌, ◌/◌, length, slice_get, Option}
+use Rattle.vers_wavelet.specs.Symbols.{Symbols, range_members, kth_by_size, greatest_up_to, least_from, as_word, matrix_size}
+use Rattle.vers_wavelet.specs.Numbers.{low_bits_of, rank_before, rank_between, place_from}
 use Rattle.vers_c.specs.declared.answer.Answer.{Answer}
 use Rattle.vers_c.specs.declared.query.Query.{Query}
 use Rattle.vers_c.specs.declared.query.Query.TheVariants.{Len, Get, HeapSize, Width, Symbols as OfSymbols}
 use Rattle.vers_c.specs.declared.query.SymbolsQuery.{SymbolsQuery}
 use Rattle.vers_c.specs.declared.query.SymbolsQuery.TheVariants.{RankOf, SelectOf, RankRange, SelectFrom, Quantile, Least, Greatest, Median, Predecessor, Successor}
-use Rattle.vers_c.specs.Answers.{found, absent, found_or_absent, unknown}
+use Rattle.vers_c.specs.Answers.{found, found_or_absent, unknown}
 
 -- what is found of symbols of at most 64 bits; nothing of wider ones
 abbrev pub if_numbers : Symbols → Option ℕ → Answer
-if_numbers symbols answer = if nat_le symbols.width 64 then found_or_absent answer else absent
-
--- the symbol that a number stands for, by its low bits
-abbrev pub low_bits_of : Symbols → ℕ → ℕ
-low_bits_of symbols s = s % 2 ^ symbols.width
-
--- the places from place a on, before place b, that hold the symbol of a number
-abbrev pub places_of : Symbols → ℕ → ℕ → ℕ → List ℕ
-places_of symbols a b s = occurrences symbols.items a b (low_bits_of symbols s)
-
--- how many of the first `end` places hold a symbol, where there are so many
-abbrev pub rank_before : Symbols → ℕ → ℕ → Option ℕ
-rank_before symbols end s = if nat_le end (length symbols.items) then Some (length (places_of symbols 0 end s)) else None
-
--- how many places of a range hold a symbol; the range begins at a place, and ends neither before that nor past the last one
-abbrev pub rank_between : Symbols → ℕ → ℕ → ℕ → Option ℕ
-rank_between symbols a b s =
-    if nat_lt a (length symbols.items) && (nat_le b (length symbols.items) && nat_le a b)
-    then Some (length (places_of symbols a b s))
-    else None
-
--- the place of occurrence r of a symbol, among those from place o on
-abbrev pub place_from : Symbols → ℕ → ℕ → ℕ → Option ℕ
-place_from symbols o r s = slice_get (places_of symbols o (length symbols.items) s) r
+if_numbers symbols found = found_or_absent (as_word symbols.width found)
 
 -- what queries of symbols at places, and of places of symbols, find
 abbrev pub found_of_symbols : Symbols → SymbolsQuery → ℕ → ℕ → ℕ → Option ℕ

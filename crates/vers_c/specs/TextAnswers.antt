@@ -1,24 +1,19 @@
 -- Texts, in which patterns are found.
-use Rattle.std.specs.Prelude.{ℕ, ◌^◌, ◌==◌, ◌&&◌, min, Bool, not, nat_le, nat_lt, List, length, Option, Some, None, if◌then◌else◌}
-use Rattle.std.specs.List.{list_all, slice_range}
+use Rattle.std.specs.Prelude.{ℕ, ◌==◌, ◌&&◌, min, not, nat_le, List, length, Option, Some, None, if◌then◌else◌}
+use Rattle.std.specs.List.{slice_range}
 use Rattle.text_index.specs.Texts.{Text, places_of}
 use Rattle.text_index.specs.Sizes.{text_size}
-use Rattle.text_index.specs.declared.index.TheConstants.{MAX_LEN}
+use Rattle.text_index.specs.Makers.{is_text}
 use Rattle.vers_c.specs.declared.answer.Answer.{Answer}
 use Rattle.vers_c.specs.declared.query.Query.{Query}
 use Rattle.vers_c.specs.declared.query.Query.TheVariants.{Len, HeapSize, Width, Step}
 use Rattle.vers_c.specs.Answers.{found, unknown, vacant}
 use Rattle.vers_c.specs.Structures.{Structure, IndexedText, PlainNumbers}
 
--- whether a text is made of such symbols: they have from 1 to 16 bits, and are not too many, and one place is kept for each of some
-abbrev pub is_text : List ℕ → ℕ → ℕ → Bool
-is_text symbols width step =
-    nat_le 1 width && nat_le width 16 && not (step == 0) && nat_le (length symbols) MAX_LEN && list_all (λ s. nat_lt s (2 ^ width)) symbols
-
--- of symbols of a width, with one place kept for each so many
+-- of symbols of a width, with one place kept for each so many, of which there have to be some
 abbrev pub text_made : List ℕ → ℕ → ℕ → Option Structure
 text_made symbols width step =
-    if is_text symbols width step then Some (IndexedText (record { width = width; items = symbols; step = step })) else None
+    if is_text width symbols && not (step == 0) then Some (IndexedText (record { width = width; items = symbols; step = step })) else None
 
 -- the answer of each query by a code
 abbrev pub text_answer : Text → Query → ℕ → ℕ → ℕ → Answer

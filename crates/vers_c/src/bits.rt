@@ -1,5 +1,5 @@
 //! Lists of bits.
-ghost use Rattle.std.specs.Prelude.{◌≡◌, IfOk, length, take};
+ghost use Rattle.std.specs.Prelude.{◌≡◌, ◌<◌, ◌*◌, ◌↔◌, Err, IfOk, length, take};
 ghost use Rattle.vers_bits.specs.Bits.{pack};
 ghost use Rattle.vers_c.specs.BitsAnswers.{bits_answer, growing_answer};
 
@@ -7,12 +7,13 @@ use crate::answer::Answer;
 use crate::asked::Asked;
 use crate::query::Query;
 use std::alloc::Global;
-use vers_bits::bit_vec::{BitVec, GrowError};
+use vers_bits::bit_vec::{BitVec, GrowError, MAX_LEN};
 use vers_rank::fast_rs_vec::RsVec;
 
 /// The first `len` bits of words, or all where there are not so many.
 pub fn growing(alloc: Global, words: &[u64], len: usize) -> Result<BitVec<Global>, GrowError>
-    ensures { IfOk result (λ bits. bits ≡ take len (pack words.now 64)) }
+    ensures made { IfOk result (λ bits. bits ≡ take len (pack words.now 64)) }
+    ensures too_long { (result ≡ Err GrowError.TooLong) ↔ (MAX_LEN < 64 * length words.now) }
 {
     let mut bits = BitVec::from_limbs(alloc, words)?;
     bits.drop_last(bits.len().saturating_sub(len));
@@ -21,7 +22,8 @@ pub fn growing(alloc: Global, words: &[u64], len: usize) -> Result<BitVec<Global
 
 /// The first `len` bits of words, or all where there are not so many, with ranks and selects.
 pub fn bits(alloc: Global, words: &[u64], len: usize) -> Result<RsVec<Global>, GrowError>
-    ensures { IfOk result (λ bits. bits ≡ take len (pack words.now 64)) }
+    ensures made { IfOk result (λ bits. bits ≡ take len (pack words.now 64)) }
+    ensures too_long { (result ≡ Err GrowError.TooLong) ↔ (MAX_LEN < 64 * length words.now) }
 {
     Ok(RsVec::from_bit_vec(growing(alloc, words, len)?)?)
 }

@@ -6,10 +6,11 @@ ghost use Rattle.vers_c.specs.Structures.{contents, BlockValues, GrowingBits, In
 
 use crate::handle::VersHandle;
 use crate::kept::Kept;
-use crate::owners::fill;
+use crate::owners::{fill, fill_made};
+use crate::posted::posted;
 use crate::sparse::sparse;
 use crate::status::{NO_MEMORY, OCCUPIED, REFUSED};
-use crate::{bits, minima, posted, tree};
+use crate::{bits, minima, tree};
 use std::alloc::Global;
 use vers_sorted::elias_fano::EliasFanoVec;
 use vers_sorted::order::{are_below, is_ascending, is_strictly_ascending};
@@ -182,11 +183,5 @@ pub extern "C" fn vers_postings_build(
     if handle.is_built {
         return OCCUPIED;
     }
-    if documents.len() != costs.len() || !is_strictly_ascending(documents) {
-        return REFUSED;
-    }
-    match posted::posted(alloc, documents, costs) {
-        Ok(made) => fill(alloc, handle, Kept::Posted(made)),
-        Err(_) => NO_MEMORY,
-    }
+    fill_made(alloc, handle, posted(alloc, documents, costs))
 }

@@ -1,7 +1,10 @@
 //! Lists of values for the least of ranges, and plain numbers.
-ghost use Rattle.std.specs.Prelude.{◌≡◌, map, IfOk};
+ghost use Rattle.std.specs.Prelude.{◌≡◌, ◌<◌, ◌↔◌, Err, length, map, IfOk};
+ghost use Rattle.vers_rmq.specs.Minima.{first_least};
+ghost use Rattle.vers_rmq.specs.declared.rmq.binary_rmq.TheConstants as table;
+ghost use Rattle.vers_rmq.specs.declared.rmq.fast_rmq.TheConstants as blocks;
 ghost use Rattle.vers_c.specs.Batches.{told_row};
-ghost use Rattle.vers_c.specs.MinimaAnswers.{fast_answer, first_least, numbers_answer, table_answer};
+ghost use Rattle.vers_c.specs.MinimaAnswers.{fast_answer, numbers_answer, table_answer};
 
 use crate::answer::Answer;
 use crate::asked::{Asked, Row, answer_each};
@@ -14,7 +17,8 @@ use vers_rmq::rmq::{binary_rmq, fast_rmq};
 
 /// The values, as a `FastRmq`.
 pub fn fast(alloc: Global, values: &[u64]) -> Result<FastRmq<Global>, GrowError>
-    ensures { IfOk result (λ list. list ≡ values.now) }
+    ensures made { IfOk result (λ list. list ≡ values.now) }
+    ensures too_long { (result ≡ Err GrowError.TooLong) ↔ (blocks.MAX_LEN < length values.now) }
 {
     if values.len() > fast_rmq::MAX_LEN {
         return Err(GrowError::TooLong);
@@ -24,7 +28,8 @@ pub fn fast(alloc: Global, values: &[u64]) -> Result<FastRmq<Global>, GrowError>
 
 /// The values, as a `BinaryRmq`.
 pub fn binary(alloc: Global, values: &[u64]) -> Result<BinaryRmq<Global>, GrowError>
-    ensures { IfOk result (λ list. list ≡ values.now) }
+    ensures made { IfOk result (λ list. list ≡ values.now) }
+    ensures too_long { (result ≡ Err GrowError.TooLong) ↔ (table.MAX_LEN < length values.now) }
 {
     if values.len() > binary_rmq::MAX_LEN {
         return Err(GrowError::TooLong);

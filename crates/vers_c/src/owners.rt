@@ -21,12 +21,10 @@ pub fn taken(alloc: Global, handle: &mut VersHandle) -> Box<Owner, Global>
     ensures value { contents handle.old ≡ Some (structure_of result.value.value) }
     ensures left { handle.new.is_built ≡ false }
 {
-    let empty = VersHandle {
-        is_built: false,
-        held: Held::vacant(alloc),
-    };
-    let VersHandle { is_built: _, held } = mem::replace(handle, empty);
-    held.into_owner().into_box()
+    handle.is_built = false;
+    mem::replace(&mut handle.held, Held::vacant(alloc))
+        .into_owner()
+        .into_box()
 }
 
 /// Puts an owner into a handle that holds nothing.
@@ -35,12 +33,8 @@ pub fn put(handle: &mut VersHandle, owner: Box<Owner, Global>)
     requires { handle.old.is_built ≡ false }
     ensures { contents handle.new ≡ Some (structure_of owner.value.value) }
 {
-    let full = VersHandle {
-        is_built: true,
-        held: Held::of(Loose::of(owner)),
-    };
-    let VersHandle { is_built: _, held } = mem::replace(handle, full);
-    held.discard();
+    handle.is_built = true;
+    mem::replace(&mut handle.held, Held::of(Loose::of(owner))).discard();
 }
 
 // The first owner of a structure.

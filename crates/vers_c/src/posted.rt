@@ -1,24 +1,30 @@
 //! Documents with costs.
-ghost use Rattle.std.specs.Prelude.{◌≡◌, IfOk};
+ghost use Rattle.std.specs.Prelude.{◌≡◌, IfOk, IsErr, IsSome, option_map};
+ghost use Rattle.vers_c.specs.Makes.{posted_made};
 ghost use Rattle.vers_c.specs.PostingsAnswers.{posted_answer};
+ghost use Rattle.vers_c.specs.Structures.{structure_of};
 
 use crate::answer::Answer;
 use crate::asked::Asked;
+use crate::kept::Kept;
 use crate::query::Query;
-use postings::{Postings, PostingsError};
-use std::alloc::Global;
+use postings::Postings;
+use std::alloc::{AllocError, Global};
+use vers_sorted::order::is_strictly_ascending;
 
-/// The documents with their costs.
-pub fn posted(
-    alloc: Global,
-    documents: &[u64],
-    costs: &[u64],
-) -> Result<Postings<Global>, PostingsError>
-    ensures { IfOk result (λ list. list ≡ record { documents = documents.now; costs = costs.now }) }
+/// The documents with their costs. None where they don't ascend strictly, or the costs are of another number.
+pub fn posted(alloc: Global, documents: &[u64], costs: &[u64]) -> Result<Option<Kept>, AllocError>
+    ensures made { IfOk result (λ made. option_map structure_of made
+        ≡ posted_made documents.now costs.now) }
+    ensures some { IsErr result → IsSome (posted_made documents.now costs.now) }
 {
-    match Vec::from_slice(alloc, costs) {
-        Ok(costs) => Postings::from_sorted(documents, costs),
-        Err(_) => Err(PostingsError::Memory),
+    if documents.len() != costs.len() || !is_strictly_ascending(documents) {
+        return Ok(None);
+    }
+    // Neither is refused any more, so an error is of memory, or of more documents than it has room for.
+    match Postings::from_sorted(documents, Vec::from_slice(alloc, costs)?) {
+        Ok(made) => Ok(Some(Kept::Posted(made))),
+        Err(_) => Err(AllocError),
     }
 }
 

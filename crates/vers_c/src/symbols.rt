@@ -8,6 +8,7 @@ use crate::query::{Query, SymbolsQuery};
 use std::alloc::Global;
 use vers_wavelet::wavelet::WaveletMatrix;
 
+#[tactic(auto, unfolding(vers_wavelet::specs::Symbols::as_word))]
 impl Asked for WaveletMatrix<Global> {
     ghost answers = { symbols_answer };
 
@@ -25,7 +26,7 @@ impl Asked for WaveletMatrix<Global> {
 }
 
 // What symbols at places, and places of symbols, are answered.
-#[tactic(auto, using(crate::proofs::SymbolAnswers::word_answers))]
+#[tactic(auto, unfolding(vers_wavelet::specs::Symbols::as_word))]
 #[inline(always)]
 fn answer_of(
     symbols: &WaveletMatrix<Global>,

@@ -1,6 +1,7 @@
 //! Texts, in which patterns are found.
 ghost use Rattle.std.specs.Prelude.{◌≡◌, ◌^◌, ◌≤◌, IfOk};
-ghost use Rattle.vers_c.specs.TextAnswers.{is_text, text_answer};
+ghost use Rattle.text_index.specs.Makers.{is_text as are_text};
+ghost use Rattle.vers_c.specs.TextAnswers.{text_answer};
 
 use crate::answer::Answer;
 use crate::asked::Asked;
@@ -17,15 +18,11 @@ fn symbol_limit(width: u32) -> u64
     1 << width
 }
 
-/// Whether a text is made of such symbols: they have from 1 to 16 bits, and are not too many, and a step isn't 0.
-pub fn is_text(symbols: &[u64], width: u32, step: usize) -> bool
-    ensures { result ≡ is_text symbols.now width step }
+/// Whether these are a text whose symbols have so many bits: from 1 to 16, and they are not too many.
+pub fn is_text(width: u32, symbols: &[u64]) -> bool
+    ensures { result ≡ are_text width symbols.now }
 {
-    1 <= width
-        && width <= 16
-        && step != 0
-        && symbols.len() <= MAX_LEN
-        && are_below(symbols, symbol_limit(width))
+    1 <= width && width <= 16 && symbols.len() <= MAX_LEN && are_below(symbols, symbol_limit(width))
 }
 
 /// Places as plain numbers.

@@ -29,7 +29,7 @@ pub extern "C" fn vers_text_build(
     if handle.is_built {
         return OCCUPIED;
     }
-    if !is_text(symbols, width, step) {
+    if step == 0 || !is_text(width, symbols) {
         return REFUSED;
     }
     match TextIndex::with_step(alloc, symbols, width as u16, step) {
