@@ -1,6 +1,5 @@
 -- Lists that are written item by item, and group by group.
 use Rattle.std.proofs.Common.{◌≡◌, ℕ, ◌+◌, ◌-◌, ◌<◌, ◌≤◌, ◌++◌, ◌∙◌, List, [], ◌∷◌, length, map, take, drop, get_or, set, ap, refl, sym, arith, take-add}
-use Rattle.std.specs.List.{between}
 use Rattle.std.proofs.lemmas.List.{append_assoc, drop-drop, drop_at, drop_more, get_or-map, get_or_at, length-map, length-take-le, map-append, map_more, map_push, take_at, take_more_set}
 use Rattle.std.proofs.lemmas.List.Edits.{map_over_more}
 use borrow.Rule.Slice.PartMut.{put_mid}

@@ -1,5 +1,5 @@
 -- The saved form of what is held.
-use Rattle.std.specs.Prelude.{◌≡◌, ◌≢◌, ◌↔◌, ◌⊎◌, ℕ, ◌==◌, List, length, Option, Some, None, IsSome, slice_get, option_map}
+use Rattle.std.specs.Prelude.{◌≡◌, ◌≢◌, ◌↔◌, ◌⊎◌, ℕ, List, length, Option, Some, None, IsSome, slice_get, option_map}
 use Rattle.std.specs.Option.{option_and_then}
 use Rattle.vers_bits.specs.Bits.{limbs, pack}
 use Rattle.vers_saved.specs.Faults.{fault_of}

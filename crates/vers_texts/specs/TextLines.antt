@@ -1,17 +1,11 @@
 -- The lines of a text.
-use Rattle.std.specs.Prelude.{ℕ, ◌^◌, Bool, ◌&&◌, nat_le, nat_lt, List, [], ◌∷◌, length, slice_range, Option, Some, None, if◌then◌else◌}
-use Rattle.std.specs.List.{list_all}
+use Rattle.std.specs.Prelude.{ℕ, ◌&&◌, nat_le, List, [], ◌∷◌, length, slice_range, Option, Some, None, if◌then◌else◌}
 use Rattle.text_index.specs.Texts.{places_of}
-use Rattle.text_index.specs.declared.index.TheConstants.{MAX_LEN}
+use Rattle.text_index.specs.Makers.{is_text}
 use Rattle.vers_words.specs.Arguments.{no_arguments, two_numbers, all_numbers}
 use Rattle.vers_words.specs.Reply.{PlainReply, BadLine, Refused, Number, Absent, Numbers, if_well_formed}
 use Rattle.vers_texts.specs.declared.name.Query.{Query}
 use Rattle.vers_texts.specs.declared.name.Query.TheVariants.{Len, Count, Places, Extract}
-
--- whether these are a text whose symbols have so many bits: 1 to 16, not too many symbols, and none that has more bits
-abbrev pub is_text : ℕ → List ℕ → Bool
-is_text width symbols =
-    (nat_le 1 width && nat_le width 16) && (nat_le (length symbols) MAX_LEN && list_all (λ symbol. nat_lt symbol (2 ^ width)) symbols)
 
 -- the reply of the load line `text K S..`, for its numbers: how many symbols the text has
 abbrev pub text_reply : Option (List ℕ) → PlainReply

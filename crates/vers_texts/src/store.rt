@@ -1,9 +1,10 @@
 //! How a line is replied to, and what is held after it.
 ghost use Rattle.std.specs.Prelude.{◌≡◌, Some, None, IfOk, OnOk};
+ghost use Rattle.text_index.specs.Makers.{is_text as are_text};
 ghost use Rattle.vers_words.specs.Text.{words_in};
 ghost use Rattle.vers_words.specs.Arguments.{all_numbers as numbers_all};
 ghost use Rattle.vers_words.specs.Reply.{plain_reply};
-ghost use Rattle.vers_texts.specs.TextLines.{is_text as are_text, text_reply, held_after_text};
+ghost use Rattle.vers_texts.specs.TextLines.{text_reply, held_after_text};
 ghost use Rattle.vers_texts.specs.Rules.{replies_by_the_rules};
 
 use crate::name::Name;
