@@ -1,9 +1,11 @@
 -- The sum of words.
 use Rattle.std.proofs.Common.{◌≡◌, ℕ, ◌+◌, ◌*◌, ◌/◌, ◌%◌, ◌^◌, ◌<◌, ◌≤◌, drop, List, [], ◌∷◌, ◌++◌, length, get_or, take, refl, sym, ap, ◌∙◌, arith}
-use Rattle.std.specs.Prelude.{fold, map, bit_xor}
+use Rattle.std.specs.Prelude.{fold, flat_map, map, bit_xor}
+use Rattle.std.proofs.Math.ListN.{set}
 use Rattle.std.proofs.lemmas.Nat.{or_lt, mod_below, pow_pos, shr_le}
-use Rattle.std.proofs.lemmas.Grind.{fold-append}
-use Rattle.std.proofs.lemmas.List.{take-map, drop-map, append_assoc, append-nil, take_more, take_all, flat_map_more}
+use Rattle.std.proofs.lemmas.Grind.{fold-append, flat_map-append}
+use Rattle.std.proofs.lemmas.List.{take-map, drop-map, map-append, append_assoc, append-nil, take_more, take_more_set, take_all, flat_map_more}
+use Rattle.std.proofs.lemmas.List.Folds.{flat_map-map}
 use Rattle.std.proofs.Math.Seq.{take-add}
 use Rattle.vers_saved.specs.declared.TheConstants.{START, MAGIC, VERSION, FACTOR}
 use Rattle.std.specs.Simd.{first_chunks}
@@ -41,30 +43,28 @@ words_of-part bytes n m =
     sym (take-map bytes_word n (drop m (first_chunks 8 (length bytes / 8) bytes)))
     ∙ ap (take n) (sym (drop-map bytes_word m (first_chunks 8 (length bytes / 8) bytes)))
 
-pub one_more : (front ls : List ℕ) (k : ℕ) (x : ℕ) → k < length ls → x ≡ get_or ls k 0 → (front ++ take k ls) ++ x ∷ [] ≡ front ++ take (k + 1) ls
-one_more front ls k x h e =
-    append_assoc front (take k ls) (x ∷ []) ∙ ap (λ y. front ++ (take k ls ++ y ∷ [])) e ∙ ap (λ l. front ++ l) (sym (take_more ls k 0 h))
-
-pub ruleset appending = (one_more)
-
--- words one after another, and their bytes
-pub bytes_of-take_more : (out ws : List ℕ) (k : ℕ) → k < length ws → (out ++ bytes_of (take k ws)) ++ word_bytes (get_or ws k 0) ≡ out ++ bytes_of (take (k + 1) ws)
-bytes_of-take_more out ws k h = flat_map_more word_bytes out (take k ws) (get_or ws k 0) ∙ ap (λ l. out ++ bytes_of l) (sym (take_more ws k 0 h))
+-- words one after another, as bytes and mixed in
+pub bytes-take_more : (chunks : List (List ℕ)) (ws : List ℕ) (k : ℕ) → k < length chunks → k < length ws → take k chunks ≡ map word_bytes (take k ws)
+    → take (k + 1) (set chunks k (word_bytes (get_or ws k 0))) ≡ map word_bytes (take (k + 1) ws)
+bytes-take_more chunks ws k h i e =
+    take_more_set chunks k (word_bytes (get_or ws k 0)) h ∙ ap (λ l. l ++ word_bytes (get_or ws k 0) ∷ []) e
+    ∙ sym (ap (map word_bytes) (take_more ws k 0 i) ∙ map-append word_bytes (take k ws) (get_or ws k 0 ∷ []))
 
 pub fold-take_more : (sum : ℕ) (ws : List ℕ) (k : ℕ) → k < length ws → mix (fold mix sum (take k ws)) (get_or ws k 0) ≡ fold mix sum (take (k + 1) ws)
 fold-take_more sum ws k h = sym (ap (fold mix sum) (take_more ws k 0 h) ∙ fold-append mix sum (take k ws) (get_or ws k 0 ∷ []))
 
-pub bytes_of-take_all : (out ws : List ℕ) (k : ℕ) → length ws ≤ k → out ++ bytes_of (take k ws) ≡ out ++ bytes_of ws
-bytes_of-take_all out ws k h = ap (λ l. out ++ bytes_of l) (take_all k ws h)
+-- all of them
+pub bytes-take_all : (chunks : List (List ℕ)) (ws : List ℕ) (k : ℕ) → length ws ≤ k → take k chunks ≡ map word_bytes (take k ws) → flat_map (λ bytes. bytes) (take k chunks) ≡ bytes_of ws
+bytes-take_all chunks ws k h e =
+    ap (flat_map (λ bytes. bytes)) (e ∙ ap (map word_bytes) (take_all k ws h)) ∙ flat_map-map (λ bytes. bytes) word_bytes ws
 
 pub fold-take_all : (sum : ℕ) (ws : List ℕ) (k : ℕ) → length ws ≤ k → fold mix sum (take k ws) ≡ fold mix sum ws
 fold-take_all sum ws k h = ap (fold mix sum) (take_all k ws h)
 
-pub ruleset words = (bytes_of-take_more, fold-take_more, bytes_of-take_all, fold-take_all)
+pub ruleset words = (bytes-take_more, fold-take_more, bytes-take_all, fold-take_all)
 
 pub bytes_of-append : (us ws : List ℕ) → bytes_of (us ++ ws) ≡ bytes_of us ++ bytes_of ws
-bytes_of-append [] ws = refl
-bytes_of-append (u ∷ us) ws = ap (λ l. word_bytes u ++ l) (bytes_of-append us ws) ∙ sym (append_assoc (word_bytes u) (bytes_of us) (bytes_of ws))
+bytes_of-append us ws = flat_map-append word_bytes us ws
 
 -- n words more
 more : (front ls : List ℕ) (k n : ℕ) → (front ++ take k ls) ++ take n (drop k ls) ≡ front ++ take (k + n) ls

@@ -32,7 +32,13 @@ pub(crate) fn limb_of<A: Allocator + Copy>(bits: &RsVec<A>, k: usize) -> u64
 {
     let len = bits.len();
     let place = 64 * k;
-    bits.get_bits_unchecked(place, (len - place).min(64))
+    let left = len - place;
+    // Of a whole limb the compiler leaves no shift and no mask.
+    if left < 64 {
+        bits.get_bits_unchecked(place, left)
+    } else {
+        bits.get_bits_unchecked(place, 64)
+    }
 }
 
 #[tactic(auto, using(crate::proofs::BitLists::bits, crate::proofs::Sources::bits))]

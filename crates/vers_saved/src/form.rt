@@ -41,22 +41,6 @@ pub(crate) fn put_summed<B: Allocator>(out: &mut Vec<u8, B>, sum: u64, word: u64
     mixed(sum, word)
 }
 
-// Appends words, for which there is room. Returns the sum with them mixed in.
-#[tactic(auto, using(crate::proofs::Sums::words))]
-pub(crate) fn put_words<B: Allocator>(out: &mut Vec<u8, B>, sum: u64, words: &[u64]) -> u64
-    requires { vec_len out.old + 8 * length words.now ≤ vec_capacity out.old }
-    ensures items { out.new.items ≡ out.old.items ++ bytes_of words.now }
-    ensures len { vec_len out.new ≡ vec_len out.old + 8 * length words.now }
-    ensures capacity { vec_capacity out.old ≤ vec_capacity out.new }
-    ensures sum { result ≡ fold mix sum words.now }
-{
-    let mut mixed = sum;
-    for k in 0..words.len() {
-        mixed = put_summed(out, mixed, words[k]);
-    }
-    mixed
-}
-
 // Appends the head of a saved form, for which there is room. Returns its sum.
 #[tactic(auto, using(crate::proofs::Sums::heads))]
 pub(crate) fn put_head<B: Allocator>(out: &mut Vec<u8, B>, shape: Shape) -> u64

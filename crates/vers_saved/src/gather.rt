@@ -1,8 +1,8 @@
 //! Words of a saved form, gathered from any reader a block at a time.
-ghost use Rattle.std.specs.Prelude.{◌≡◌, ℕ, ◌+◌, ◌-◌, ◌*◌, ◌%◌, ◌<◌, ◌≤◌, ◌++◌, ◌⊎◌, [], List, length, take, drop, slice_index, OnOk, OnErr, IfOk, IfErr, IfSome, MatchResult, Some, None};
+ghost use Rattle.std.specs.Prelude.{◌≡◌, ℕ, ◌+◌, ◌-◌, ◌*◌, ◌%◌, ◌<◌, ◌≤◌, ◌++◌, ◌⊎◌, [], List, length, map, take, drop, slice_index, OnOk, OnErr, IfOk, IfErr, IfSome, MatchResult, Some, None};
 ghost use Rattle.std.specs.Io.KnownBytes.{Consumes, IsAtEnd, prepend_known};
 ghost use Rattle.vers_bits.specs.Bits.{limb_count};
-ghost use Rattle.vers_saved.specs.Format.{bytes_of, saved};
+ghost use Rattle.vers_saved.specs.Format.{bytes_of, bytes_word, saved};
 ghost use Rattle.vers_saved.specs.Faults.{first_failing, fault_of, head_tests, bits_said, item_bits, words_among};
 ghost use Rattle.vers_saved.specs.Kinds.{AreWords, IsWhole};
 ghost use Rattle.vers_engine.specs.Device.{FollowsReadFault};
@@ -12,7 +12,7 @@ use crate::fault::LoadError;
 use crate::form::{Form, HEAD, Head, Shape, head_of, test_body};
 use crate::kind::Kind;
 use crate::numbers::are_words;
-use crate::words::{Chunks, FRAME, Words};
+use crate::words::{FRAME, word_of};
 use std::alloc::{AllocError, Allocator};
 use std::io;
 use vers_bits::bit_vec::MAX_LEN;
@@ -69,22 +69,11 @@ fn make_room<A: Allocator>(
     words.reserve_exact(words.len().max(more).min(missing))
 }
 
-// Appends so many words.
-#[tactic(auto, using(crate::proofs::Sums::appending))]
-fn append_words<W: Words, A: Allocator>(
-    words: &mut Vec<u64, A>,
-    more: &W,
-    count: usize,
-) -> Result<(), AllocError>
-    requires { count ≡ length (W.words more.now) }
-    ensures { OnOk result (words.new.items ≡ words.old.items ++ W.words more.now) }
+// Appends the words of chunks of eight bytes.
+fn append_words<A: Allocator>(words: &mut Vec<u64, A>, chunks: &[[u8; 8]]) -> Result<(), AllocError>
+    ensures { OnOk result (words.new.items ≡ words.old.items ++ map bytes_word chunks.now) }
 {
-    for k in 0..count {
-        if words.push(more.word(k)).is_err() {
-            return Err(AllocError);
-        }
-    }
-    Ok(())
+    words.extend(chunks.iter().map(|chunk| word_of(*chunk)))
 }
 
 // All items of a slice are bytes.
@@ -118,7 +107,7 @@ fn gather_piece<R: Source, A: Allocator>(
     are_bytes(piece);
     make_room(words, size / 8, missing)?;
     let (chunks, _) = piece.as_chunks::<8>();
-    append_words(words, &Chunks { chunks }, size / 8)?;
+    append_words(words, chunks)?;
     Ok(())
 }
 

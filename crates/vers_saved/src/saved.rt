@@ -6,9 +6,9 @@ ghost use Rattle.vers_saved.specs.Faults.{fault_of};
 ghost use Rattle.vers_saved.specs.Kinds.{IsWhole};
 
 use crate::fault::{LoadError, SaveError};
-use crate::form::{Form, Shape, count_words, form_of, put_head, put_words};
+use crate::form::{Form, Shape, count_words, form_of, put_head};
 use crate::kind::Kind;
-use crate::words::{FRAME, put_word};
+use crate::words::{FRAME, GROUP, put_word, put_words};
 use std::alloc::{AllocError, Allocator};
 
 /// A list that has a saved form, by its words. A list of which `IsWhole` and `Fits` hold is loaded
@@ -87,9 +87,6 @@ pub fn saved_size<S: Saved>(list: &S) -> Option<usize>
     let shape = list.shape()?;
     Some(8 * (count_words(&S::kind(), shape) + FRAME))
 }
-
-// How many words are copied out of a list at once.
-pub(crate) const GROUP: usize = 512;
 
 // Appends `n` words of a list from a place on, for which there is room. Returns the sum with them mixed in.
 pub(crate) fn put_group<S: Saved, B: Allocator>(

@@ -10,8 +10,8 @@ use crate::fault::{LoadError, SaveError};
 use crate::form::{Form, Shape, count_words, put_head};
 pub use crate::gather::fill;
 use crate::gather::{BLOCK, form_from};
-use crate::saved::{GROUP, Loaded, Saved, put_group};
-use crate::words::put_word;
+use crate::saved::{Loaded, Saved, put_group};
+use crate::words::{GROUP, put_word};
 use std::alloc::Allocator;
 use vers_engine::{Sink, Source};
 
