@@ -12,6 +12,7 @@ mod documents;
 mod lists;
 mod minima;
 mod report;
+mod saved;
 mod sorted;
 mod sparse;
 mod symbols;
@@ -76,6 +77,7 @@ fn run_limbs(report: &Report, limbs: &[u64]) -> io::Result<()> {
         "bits" => bits::run(report, limbs),
         "walks" => walks::run(report, limbs),
         "list" => lists::run(report, limbs),
+        "saved" => saved::run_limbs(report, limbs),
         _ => sparse::run(report, limbs),
     }
 }
@@ -114,8 +116,8 @@ fn run_lengths(report: &Report, percents: &[u64]) -> io::Result<()> {
 }
 
 // All structures.
-const STRUCTURES: [&str; 10] = [
-    "bits", "walks", "list", "sorted", "sparse", "wavelet", "rmq", "tree", "postings", "batches",
+const STRUCTURES: [&str; 11] = [
+    "bits", "walks", "list", "sorted", "sparse", "wavelet", "rmq", "tree", "postings", "batches", "saved",
 ];
 
 // Runs the series of a structure.
@@ -130,6 +132,10 @@ fn run_structure(report: &Report) -> io::Result<()> {
         "tree" => trees::run(report),
         "postings" => documents::run(report),
         "batches" => batches::run(report),
+        "saved" => {
+            run_lengths(report, &[50])?;
+            saved::run(report)
+        }
         _ => Ok(()),
     }
 }

@@ -71,6 +71,13 @@ pub struct Timed {
     checksum: u64,
 }
 
+impl Timed {
+    /// The same run with another checksum, which is known after its time.
+    pub fn with_checksum(self, checksum: u64) -> Timed {
+        Timed { checksum, ..self }
+    }
+}
+
 /// What is measured: a structure over some data. Each of its series prints a line.
 #[derive(Clone, Copy)]
 pub struct Report<'a> {

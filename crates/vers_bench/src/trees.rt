@@ -16,7 +16,8 @@ use vers_trees::trees::bp::BpTree;
 
 type Bits = BitVec<Global>;
 
-type Tree = BpTree<512, Global>;
+/// The trees that are measured, in blocks of 512 bits.
+pub type Tree = BpTree<512, Global>;
 
 // The trees that are measured.
 #[derive(Clone, Copy)]
@@ -197,7 +198,8 @@ fn bits_of(alloc: Global, shape: Shape, count: usize) -> Result<Bits, GrowError>
     }
 }
 
-fn random_bits(alloc: Global, count: usize) -> Result<Bits, GrowError> {
+/// The parentheses of a random tree, as many as told.
+pub fn random_bits(alloc: Global, count: usize) -> Result<Bits, GrowError> {
     let limbs = parentheses(alloc, count)?;
     let mut bits = BitVec::from_limbs(alloc, limbs.as_slice())?;
     bits.drop_last(bits.len().saturating_sub(count));
@@ -271,11 +273,13 @@ fn ends_of(alloc: Global, tree: &Tree, nodes: &[usize]) -> Result<Vec<usize>, Al
     Ok(ends)
 }
 
-fn tree_of(bits: Bits) -> Result<Tree, AllocError> {
+/// The tree of parentheses.
+pub fn tree_of(bits: Bits) -> Result<Tree, AllocError> {
     or_refused(BpTree::from_bit_vector(bits))
 }
 
-fn copied(_alloc: Global, bits: &Bits) -> Result<Bits, AllocError> {
+/// A copy of parentheses.
+pub fn copied(_alloc: Global, bits: &Bits) -> Result<Bits, AllocError> {
     bits.clone()
 }
 
