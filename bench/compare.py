@@ -7,8 +7,8 @@ time of each series counts. Exit status 1 where a checksum differs: the answers 
 
 `--checksums` builds the original's driver alone, runs its small workload, and compares its checksums with the stored run
 of `crates/vers_bench`, so it needs no Rattle toolchain. Series that only one of the two has are listed: the original has no
-`postings` and `saved`, whose rows have no ratio, and whose checksums `plain.py` computes. Nor has it batches (`_each_` and a size):
-their rows stand beside its single calls.
+`postings`, `saved` and `texts`, whose rows have no ratio, and whose checksums `plain.py` computes. Nor has it batches (`_each_` and
+a size): their rows stand beside its single calls.
 
 `--instructions` counts, under valgrind's callgrind and with a sixteenth of the sizes, the instructions of one pass over the queries of
 each series, with its loop and its checksum. In both drivers such a pass is a function of its own, whose name ends in `_pass`.

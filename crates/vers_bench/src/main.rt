@@ -16,6 +16,7 @@ mod saved;
 mod sorted;
 mod sparse;
 mod symbols;
+mod texts;
 mod trees;
 mod walks;
 mod workload;
@@ -116,8 +117,9 @@ fn run_lengths(report: &Report, percents: &[u64]) -> io::Result<()> {
 }
 
 // All structures.
-const STRUCTURES: [&str; 11] = [
-    "bits", "walks", "list", "sorted", "sparse", "wavelet", "rmq", "tree", "postings", "batches", "saved",
+const STRUCTURES: [&str; 12] = [
+    "bits", "walks", "list", "sorted", "sparse", "wavelet", "rmq", "tree", "postings", "batches",
+    "saved", "texts",
 ];
 
 // Runs the series of a structure.
@@ -136,6 +138,7 @@ fn run_structure(report: &Report) -> io::Result<()> {
             run_lengths(report, &[50])?;
             saved::run(report)
         }
+        "texts" => texts::run(report),
         _ => Ok(()),
     }
 }

@@ -200,6 +200,60 @@ pub fn symbols(alloc: Global, count: usize, width: u16) -> Result<Vec<u64>, Allo
     Random::new(4).many(alloc, count, &Highest(shift))
 }
 
+/// Bases: symbols of 2 bits, the highest bits of numbers of 64.
+pub fn bases(alloc: Global, count: usize, seed: u64) -> Result<Vec<u64>, AllocError> {
+    Random::new(seed).many(alloc, count, &Highest(62))
+}
+
+/// A text of made words, letter by letter, with a space before each word.
+///
+/// There are 2,047 words, in eleven groups of 1, 2, 4 up to 1,024, numbered from 1 on. Each group is as likely as any other, and
+/// each word as any other of its group: the group is `2^below(11)` words from as many on, and the word a number below that. So word
+/// `k` is drawn once in some `8 * k` times, as words of a language are. A generator that begins at 1,000 and the word's number
+/// tells the word: at first its length, 2 and a number below 8, and then of each letter two numbers below 26, of which the
+/// lesser is the letter, `a` for 0.
+#[derive(Drop)]
+struct Spelling {
+    choices: Random,
+    letters: Random,
+    /// How many letters of the word are to come.
+    left: u64,
+}
+
+impl Spelling {
+    // The next symbol.
+    fn symbol(&mut self) -> u64 {
+        if self.left == 0 {
+            self.begin_word();
+            return 32;
+        }
+        self.left = self.left.wrapping_sub(1);
+        let one = self.letters.below(26);
+        one.min(self.letters.below(26)).wrapping_add(97)
+    }
+
+    fn begin_word(&mut self) {
+        let group = 1u64 << self.choices.below(11).min(10);
+        let word = self.choices.below(group).wrapping_add(group);
+        self.letters = Random::new(word.wrapping_add(1000));
+        self.left = self.letters.below(8).wrapping_add(2);
+    }
+}
+
+/// A text of made words, of `count` symbols of 8 bits.
+pub fn words(alloc: Global, count: usize, seed: u64) -> Result<Vec<u64>, AllocError> {
+    let mut spelling = Spelling {
+        choices: Random::new(seed),
+        letters: Random::new(0),
+        left: 0,
+    };
+    let mut symbols = Vec::with_capacity(alloc, count)?;
+    for _ in 0..count {
+        symbols.push(spelling.symbol())?;
+    }
+    Ok(symbols)
+}
+
 /// How far members that follow each other are apart: `least` and a number below `span`.
 #[derive(Clone, Copy)]
 struct Gaps {
