@@ -1,5 +1,5 @@
 -- Steps of iterators from both ends, for items of every type.
-use Rattle.vers_bits.proofs.Names.{◌≡◌, ℕ, ◌+◌, ◌-◌, ◌<◌, ◌≤◌, List, [], ◌∷◌, ◌++◌, Bool, false, map, Option, Some, None, length, get_or, min, take, drop, reverse, refl, sym, ◌∙◌, ap, arith, inl, inr, last_or, YieldsFirst, YieldsLast, MakesProgress, item_count, length-map, length-take, length-drop, get_or-take, get_or-drop, get_or-reverse, length-reverse, drop-drop, drop-take, drop_all, take_all, take_more, take_at, take-take, take-append-drop, length_push, reverse-append, reverse-reverse, append-nil, cases_lt, slice_get-map, slice_get_past, slice_get_cases, slice_get-get_or, get_or_from_slice_get, slice_get_within, bit_value, limb, limbs}
+use Rattle.vers_bits.proofs.Names.{◌≡◌, ℕ, ◌+◌, ◌-◌, ◌<◌, ◌≤◌, List, [], ◌∷◌, ◌++◌, Bool, false, map, Option, Some, None, length, get_or, min, take, drop, reverse, refl, sym, ◌∙◌, ap, arith, inl, inr, last_or, YieldsFirst, YieldsLast, MakesProgress, item_count, length-map, length-take, length-drop, get_or-take, get_or-drop, get_or-reverse, length-reverse, drop-drop, drop-take, drop_all, take_all, take_more, take_at, take-take, take-append-drop, length_push, reverse-append, reverse-reverse, append-nil, cases_lt, slice_get-map, slice_get_past, slice_get_cases, slice_get-get_or, get_or_from_slice_get, slice_get_within, bit_value, limb, limbs, ints}
 use Rattle.std.proofs.Common.{option_map, slice_get, append_assoc}
 use Rattle.std.specs.Option.{option_to_list}
 use Rattle.std.proofs.lemmas.Slice.{between_from_start}
@@ -32,12 +32,6 @@ module _ {X : Type 0} where
   drop-items_in xs s t n m e from to =
       let z : t.to - t.from ≡ m = omega arith in
       rw (← e, z, from, drop-take n m (drop s.from xs), drop-drop) refl
-
-  take-items_in : (xs : List X) (s t : Span) (n : ℕ) → s.from + n ≤ s.to → t.from ≡ s.from → t.to ≡ s.from + n → take n (items_in xs s) ≡ items_in xs t
-  unfolding items_in
-  take-items_in xs s t n h from to =
-      let z : t.to - t.from ≡ n = omega arith in
-      rw (z, from) (take-take n (s.to - s.from) (drop s.from xs) (omega arith))
 
   -- ---- what a span that drops and gives makes of its items, where an iterator is seen as these
   pub all_items : (xs : List X) (s : Span) → s.from ≡ 0 → s.to ≡ length xs → items_in xs s ≡ xs
@@ -75,6 +69,7 @@ module _ {X : Type 0} where
 
   pub gave_back : (n : ℕ) (xs : List X) (s t : Span) {old : List X} {p : ℕ} {x : X} → items_in xs s ≡ old → s.to ≤ length xs
       → (p + n + 1 ≡ s.to) × (s.from ≤ p) × (t.from ≡ s.from) × (t.to ≡ p) → slice_get xs p ≡ Some x → TakesNthBack n old (Some x) (items_in xs t)
+  unfolding items_in
   gave_back n xs s t {p = p} {x = x} view within some is =
       let long : length (items_in xs s) ≡ s.to - s.from = length-items_in xs s within in
       let inside : n < length (items_in xs s) = omega (arith, some.0, some.1) in
@@ -86,7 +81,7 @@ module _ {X : Type 0} where
       ∙ ap (λ k. get_or xs k x) place ∙ get_or_from_slice_get xs p x x is in
       rw (← view) (record {
         given = sym (slice_get-get_or (reverse (items_in xs s)) n x (omega (arith, length-reverse (items_in xs s))) ∙ ap Some at);
-        left = sym (ap (λ k. take k (items_in xs s)) kept ∙ take-items_in xs s t (p - s.from) (omega (arith, some.0, some.1)) some.2 (omega (arith, some.1, some.3)));
+        left = sym (ap (λ k. take k (items_in xs s)) kept ∙ (grind (arith, ints, take-take)));
       })
 
   -- ---- what the traits ask of `next` and `next_back`
@@ -95,12 +90,6 @@ module _ {X : Type 0} where
   yields_first [] (Some x) new h = cc (h.given)
   yields_first (y ∷ ys) None new h = cc (h.given)
   yields_first (y ∷ ys) (Some x) new h = cc (h.given, h.left)
-
-  -- the last item, split off
-  last_split : (xs : List X) (d : X) → 0 < length xs → xs ≡ take (length xs - 1) xs ++ get_or xs (length xs - 1) d ∷ []
-  last_split xs d h =
-      let all : length xs - 1 + 1 ≡ length xs = omega arith in
-      sym (take_all (length xs) xs (omega arith)) ∙ ap (λ k. take k xs) (sym all) ∙ take_more xs (length xs - 1) d (omega arith)
 
   last_none : (xs : List X) → None ≡ slice_get (reverse xs) 0 → xs ≡ []
   last_none [] h = refl
@@ -114,7 +103,7 @@ module _ {X : Type 0} where
       let long : 0 < length xs = omega (arith, length-reverse xs) in
       let same : length xs - 1 - 0 ≡ length xs - 1 = omega arith in
       let at : get_or xs (length xs - 1) x ≡ x = ap (λ k. get_or xs k x) (sym same) ∙ sym (get_or-reverse xs 0 x long) ∙ get_or_from_slice_get (reverse xs) 0 x x (sym h) in
-      last_split xs x long ∙ ap (λ y. take (length xs - 1) xs ++ y ∷ []) at
+      (grind (arith, ints, take_all, take_more)) ∙ ap (λ y. take (length xs - 1) xs ++ y ∷ []) at
 
   pub yields_last : (old : List X) (r : Option X) (new : List X) → TakesLast old r new → YieldsLast (λ (s : List X). s) old r new
   yields_last old None new h =

@@ -1,5 +1,5 @@
 -- Words that hold a list of bits: what an edit of the words does to the list.
-use Rattle.vers_bits.proofs.Names.{◌≡◌, ℕ, ◌+◌, ◌-◌, ◌*◌, ◌/◌, ◌%◌, ◌^◌, ◌<◌, ◌≤◌, max, Bool, false, eqb, List, [], ◌∷◌, ◌++◌, length, get_or, set, take, replicate, refl, sym, ap, ◌∙◌, inl, inr, arith, bit_at, bit_or, cases_lt, cases_eq, shr-shr, pow_pos, bit_at-lt, bit_at_or, bit_at_above, bit_at_cat_low, bit_at_cat_high, bit_at-zero, get_or_past, get_or_push, get_or_append_left, get_or-append_right, length-append, length-replicate, get_or-replicate, length_push, length-set, take_all, bit_value, low_bits, limb_count, word_bit, word_bits, HoldsBits, Holds}
+use Rattle.vers_bits.proofs.Names.{◌≡◌, ℕ, ◌+◌, ◌-◌, ◌*◌, ◌/◌, ◌%◌, ◌^◌, ◌<◌, ◌≤◌, max, Bool, false, eqb, List, [], ◌∷◌, ◌++◌, length, get_or, set, take, replicate, refl, sym, ap, ◌∙◌, inl, inr, arith, bit_at, bit_or, cases_lt, cases_eq, shr-shr, pow_pos, bit_at-lt, bit_at_or, bit_at_above, bit_at_cat_low, bit_at_cat_high, bit_at-zero, get_or_past, get_or_push, get_or_append_left, get_or-append_right, length-append, length-replicate, get_or-replicate, length_push, length-set, take_all, bit_value, low_bits, limb_count, word_bit, word_bits, HoldsBits, Holds, ints}
 use Rattle.vers_bits.proofs.Words.{length-word_bits, get_or-word_bits, word_bits_are, past_words, set_here, set_apart}
 use Rattle.vers_bits.proofs.LowBits.{length-low_bits, get_or-low_bits, bit_at_mod, bit_value_test}
 
@@ -16,10 +16,6 @@ held {ws} {n} {l} holds = record {
 -- a digit that is 0 makes a zero
 zero_bit : (x i : ℕ) → bit_at x i ≡ 0 → eqb (bit_at x i) 1 ≡ false
 zero_bit x i e = ap (λ m. eqb m 1) e
-
--- and the other way round
-zero_digit : (x i : ℕ) → eqb (bit_at x i) 1 ≡ false → bit_at x i ≡ 0
-zero_digit x i e = sym (bit_value_test (bit_at x i) (bit_at-lt x i)) ∙ ap bit_value e
 
 same_default : {X : Type 0} (k i : ℕ) (d : X) → get_or (replicate k d) i d ≡ d
 same_default k i d = elim (cases_lt i k) [ inl h ↦ get_or-replicate k i d d h | inr h ↦ get_or_past (replicate k d) i d (omega (arith, length-replicate k d)) ]
@@ -106,7 +102,7 @@ module _ (ws : List ℕ) (n v k : ℕ) (holds : HoldsBits ws n) (small : v < 2 ^
       ap (λ p. eqb (bit_at (get_or ws (n / 64) 0) p) 1) (sym place) ∙ ap (λ q. eqb (bit_at (get_or ws q 0) ((64 * (n / 64) + i) % 64)) 1) (sym word)
       ∙ holds.padded (64 * (n / 64) + i) (omega arith) in
       bit_at_or (get_or ws (n / 64) 0) (v * 2 ^ (n % 64) % 2 ^ 64) i
-      ∙ ap (λ m. max m (bit_at (v * 2 ^ (n % 64) % 2 ^ 64) i)) (zero_digit _ i off)
+      ∙ ap (λ m. max m (bit_at (v * 2 ^ (n % 64) % 2 ^ 64) i)) (grind (arith, ints, bit_value_test, bit_at-lt))
       ∙ ap (max 0) (bit_at_mod (v * 2 ^ (n % 64)) 64 i h ∙ some) ∙ omega arith
 
   -- any words that begin with the old ones, with the last word so changed, agree up to its end

@@ -1,15 +1,8 @@
 -- A list of bits made of limbs.
-use Rattle.vers_bits.proofs.Names.{◌≡◌, ℕ, suc, ◌-◌, ◌*◌, ◌/◌, ◌%◌, ◌<◌, ◌≤◌, false, List, [], ◌∷◌, ◌++◌, length, get_or, sym, ap, ◌∙◌, refl, inl, inr, arith, eqb, bit_at, cases_lt, get_or_append_left, get_or-append_right, length-append, low_bits, word_bit, word_bits, HoldsBits}
+use Rattle.vers_bits.proofs.Names.{◌≡◌, ℕ, suc, ◌-◌, ◌*◌, ◌/◌, ◌%◌, ◌<◌, ◌≤◌, false, List, [], ◌∷◌, ◌++◌, length, get_or, sym, ap, ◌∙◌, refl, inl, inr, arith, eqb, bit_at, cases_lt, get_or_append_left, get_or-append_right, length-append, low_bits, word_bit, word_bits, HoldsBits, ints}
 use Rattle.std.specs.Prelude.{flat_map}
 use Rattle.vers_bits.proofs.LowBits.{length-low_bits, get_or-low_bits}
 use Rattle.vers_bits.proofs.Words.{word_bits_are, length-word_bits, get_or-word_bits, past_words}
-
--- the first word apart
-word_bit_first : (w : ℕ) (ws : List ℕ) (i : ℕ) → i < 64 → word_bit (w ∷ ws) i ≡ eqb (bit_at w i) 1
-word_bit_first w ws i h =
-    let word : i / 64 ≡ 0 = omega arith in
-    let place : i % 64 ≡ i = omega arith in
-    rw (word, place) refl
 
 word_bit_rest : (w : ℕ) (ws : List ℕ) (i : ℕ) → 64 ≤ i → word_bit (w ∷ ws) i ≡ word_bit ws (i - 64)
 word_bit_rest w ws i h =
@@ -25,7 +18,7 @@ whole_words (w ∷ ws) =
     word_bits_are (w ∷ ws) (64 * suc (length ws)) (low_bits w 64 ++ flat_map (λ v. low_bits v 64) ws)
     (length-append (low_bits w 64) (flat_map (λ v. low_bits v 64) ws) ∙ omega (arith, length-low_bits w 64, length-word_bits ws (64 * length ws), ap length rest))
     (λ i h. elim (cases_lt i 64) [
-      | inl small ↦ word_bit_first w ws i small
+      | inl small ↦ grind (arith, ints)
           ∙ sym (get_or_append_left (low_bits w 64) (flat_map (λ v. low_bits v 64) ws) false i (omega (arith, length-low_bits w 64)) ∙ get_or-low_bits w 64 i small)
       | inr large ↦ word_bit_rest w ws i large
           ∙ sym (get_or-append_right (low_bits w 64) (flat_map (λ v. low_bits v 64) ws) 64 i false (length-low_bits w 64) large

@@ -19,13 +19,10 @@ pub test_bit_value : (b : Bool) → eqb (bit_value b) 1 ≡ b
 test_bit_value true = refl
 test_bit_value false = refl
 
-below_two : (b : ℕ) → b < 2 → min b 1 ≡ b
-below_two b h = omega arith
-
 -- a number cut to its low w digits has those and no other
 pub bit_at_mod : (x w i : ℕ) → i < w → bit_at (x % 2 ^ w) i ≡ bit_at x i
 bit_at_mod x w i h =
-    ap (λ m. bit_at m i) (sym (and_mask x w)) ∙ bit_at_and x (2 ^ w - 1) i ∙ ap (min (bit_at x i)) (bit_at_ones w i h) ∙ below_two (bit_at x i) (bit_at-lt x i)
+    ap (λ m. bit_at m i) (sym (and_mask x w)) ∙ bit_at_and x (2 ^ w - 1) i ∙ ap (min (bit_at x i)) (bit_at_ones w i h) ∙ omega arith
 
 pub bit_at_mod_above : (x w i : ℕ) → w ≤ i → bit_at (x % 2 ^ w) i ≡ 0
 bit_at_mod_above x w i h = bit_at_above (x % 2 ^ w) w i (mod_below x (2 ^ w) (pow_pos w)) h

@@ -16,11 +16,7 @@ element (v ∷ items) k (suc e) h =
     ∙ ap (take k) (sym (drop-drop (e * k) k (low_bits v k ++ pack items k)) ∙ ap (drop (e * k)) (drop_at (low_bits v k) (pack items k) k (length-low_bits v k)))
     ∙ element items k e (omega arith)
 
--- it lies inside
-element_fits : (n k e : ℕ) → e < n → e * k + k ≤ n * k
-element_fits n k e h = row_fits e k n k h (omega arith)
-
 pub packed_element : (items : List ℕ) (k e : ℕ) → 1 ≤ k → k ≤ 64 → e < length items → part_number (pack items k) (e * k) k ≡ Some (get_or items e 0 % 2 ^ k)
 packed_element items k e some few h =
-    let fits : e * k + k ≤ length (pack items k) = omega (arith, length-packed (λ v. v) k items, element_fits (length items) k e h) in
+    let fits : e * k + k ≤ length (pack items k) = grind (arith, length-packed (λ v. v) k items, row_fits) in
     part_number_some (pack items k) (e * k) k some few fits ∙ ap (λ l. Some (number l)) (element items k e h) ∙ ap Some (number-low_bits (get_or items e 0) k)

@@ -1,5 +1,5 @@
 -- The bits that words hold.
-use Rattle.vers_bits.proofs.Names.{◌≡◌, ℕ, ◌+◌, ◌*◌, ◌/◌, ◌%◌, ◌^◌, ◌<◌, ◌≤◌, Bool, true, false, List, [], ◌∷◌, ◌++◌, length, take, drop, get_or, set, refl, sym, ap, ◌∙◌, arith, eqb, Some, None, inl, inr, bit_at, bit_and, cases_lt, bool_byte, pow-le-pow_right, bit_at-lt, bit_at-zero, bit_at_lowest, shr_and_one, same_from_bits_below, bit_at_above, ext_get_or, get_or-take, get_or-drop, get_or_past, get_or_push, get_or_append_left, get_or-set_same, get_or-set_other, length_push, length-take, length-map-range_with_len, get_or-map-range_with_len, take-map-range_with_len, map-range_with_len_more, slice_get-get_or, slice_get_past, bit_value, word_bit, HoldsBits, AddsBit}
+use Rattle.vers_bits.proofs.Names.{◌≡◌, ℕ, ◌+◌, ◌*◌, ◌/◌, ◌%◌, ◌^◌, ◌<◌, ◌≤◌, Bool, true, false, List, [], ◌∷◌, ◌++◌, length, take, drop, get_or, set, refl, sym, ap, ◌∙◌, arith, eqb, Some, None, inl, inr, bit_at, bit_and, cases_lt, bool_byte, pow-le-pow_right, bit_at-lt, bit_at-zero, bit_at_lowest, shr_and_one, same_from_bits_below, bit_at_above, ext_get_or, get_or-take, get_or-drop, get_or_past, get_or_push, get_or_append_left, get_or-set_same, get_or-set_other, length_push, length-take, length-map-range_with_len, get_or-map-range_with_len, take-map-range_with_len, map-range_with_len_more, slice_get-get_or, slice_get_past, bit_value, word_bit, HoldsBits, AddsBit, ints}
 use Rattle.std.specs.List.{slice_get}
 use Rattle.std.specs.Prelude.{option_map}
 use Rattle.vers_bits.specs.Bits.{limb}
@@ -19,10 +19,6 @@ get_or-word_bits ws n i d h = get_or-map-range_with_len (word_bit ws) 0 n i i d 
 pub take-word_bits : (ws : List ℕ) (n k : ℕ) → k ≤ n → take k (word_bits ws n) ≡ word_bits ws k
 unfolding word_bits
 take-word_bits ws n k h = take-map-range_with_len (word_bit ws) 0 n k h
-
-pub word_bits_more : (ws : List ℕ) (n : ℕ) → word_bits ws (n + 1) ≡ word_bits ws n ++ word_bit ws n ∷ []
-unfolding word_bits
-word_bits_more ws n = map-range_with_len_more (word_bit ws) 0 n n (omega arith)
 
 -- the words hold the list that they hold place by place
 pub word_bits_are : (ws : List ℕ) (n : ℕ) (l : List Bool) → length l ≡ n → ((i : ℕ) → i < n → word_bit ws i ≡ get_or l i false) → word_bits ws n ≡ l
@@ -53,13 +49,6 @@ bit_value_of-word_bits ws n i h =
     let w : ℕ = get_or ws (i / 64) 0 in
     rw (shr_and_one) (ap bit_value (get_or-word_bits ws n i false h) ∙ bit_value_test (bit_at w (i % 64)) (bit_at-lt w (i % 64)))
 
--- place i of word k
-word_bit_at : (ws : List ℕ) (k i : ℕ) → i < 64 → word_bit ws (64 * k + i) ≡ eqb (bit_at (get_or ws k 0) i) 1
-word_bit_at ws k i small =
-    let word : (64 * k + i) / 64 ≡ k = omega arith in
-    let place : (64 * k + i) % 64 ≡ i = omega arith in
-    rw (word, place) refl
-
 -- where one word was changed
 pub set_here : (ws : List ℕ) (k x i : ℕ) → k < length ws → i / 64 ≡ k → word_bit (set ws k x) i ≡ eqb (bit_at x (i % 64)) 1
 set_here ws k x i within same = rw (same, get_or-set_same ws k x 0 within) refl
@@ -73,7 +62,7 @@ bit_of_limb : (ws : List ℕ) (n k i : ℕ) → HoldsBits ws n → i < 64
 unfolding limb
 bit_of_limb ws n k i holds small =
     let w : ℕ = get_or ws k 0 in
-    let here : bit_value (word_bit ws (64 * k + i)) ≡ bit_at w i = ap bit_value (word_bit_at ws k i small) ∙ bit_value_test (bit_at w i) (bit_at-lt w i) in
+    let here : bit_value (word_bit ws (64 * k + i)) ≡ bit_at w i = ap bit_value (grind (arith, ints)) ∙ bit_value_test (bit_at w i) (bit_at-lt w i) in
     let place : get_or (take 64 (drop (64 * k) (word_bits ws n))) i false ≡ get_or (word_bits ws n) (64 * k + i) false =
     get_or-take 64 (drop (64 * k) (word_bits ws n)) i false small ∙ get_or-drop (64 * k) (word_bits ws n) i false in
     bit_at-number (take 64 (drop (64 * k) (word_bits ws n))) i ∙ ap bit_value place ∙ elim (cases_lt (64 * k + i) n) [
@@ -100,8 +89,9 @@ past_words ws i h =
     rw zero_bit refl
 
 pub added_bits : {ws vs : List ℕ} {n : ℕ} {b : Bool} → AddsBit ws vs n b → word_bits vs (n + 1) ≡ word_bits ws n ++ b ∷ []
+unfolding word_bits
 added_bits {ws} {vs} {n} {b} adds =
-    word_bits_more vs n ∙ ap (λ x. word_bits vs n ++ x ∷ []) adds.here
+    (map-range_with_len_more (word_bit vs) 0 n n (omega arith)) ∙ ap (λ x. word_bits vs n ++ x ∷ []) adds.here
     ∙ ap (λ l. l ++ b ∷ []) (word_bits_are vs n (word_bits ws n) (length-word_bits ws n)
     (λ i h. adds.others i (omega arith) ∙ sym (get_or-word_bits ws n i false h)))
 
