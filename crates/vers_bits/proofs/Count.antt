@@ -1,5 +1,5 @@
 -- How many of the first places hold a bit.
-use Rattle.vers_bits.proofs.Names.{◌≡◌, ℕ, ◌+◌, ◌-◌, ◌*◌, ◌%◌, ◌^◌, ◌≤◌, min, Bool, true, false, cond, List, [], ◌∷◌, length, take, drop, refl, sym, ap, ◌∙◌, arith, inl, inr, count_by, count_ones, length-take, take_all, take-take, sum_by-cons, sum_by-append, count_by-le-length, take-add, cases_lt, number, is_bit}
+use Rattle.vers_bits.proofs.Names.{◌≡◌, ℕ, ◌+◌, ◌-◌, ◌*◌, ◌%◌, ◌^◌, ◌≤◌, min, Bool, true, false, cond, List, [], ◌∷◌, length, take, drop, refl, sym, ap, ◌∙◌, arith, inl, inr, count_by, count_ones, length-take, take_all, take-take, sum_by-cons, sum_by-append, count_by-le-length, take-add, cases_lt, number, is_bit, ints, rules}
 use Rattle.vers_bits.specs.Bits.{count, limb}
 use Rattle.vers_bits.proofs.Num.{number-take, ones-number}
 
@@ -17,9 +17,7 @@ count_to b l i j h = ap (count b l) (let e : j ≡ i + (j - i) = omega arith in 
 
 pub count_le : (b : Bool) (l : List Bool) (i : ℕ) → (count b l i ≤ i) × (count b l i ≤ length l)
 unfolding count
-count_le b l i =
-    let few : count_by (is_bit b) (take i l) ≤ length (take i l) = count_by-le-length (is_bit b) (take i l) in
-    (omega (arith, length-take i l), omega (arith, length-take i l))
+count_le b l i = grind (arith, ints, count_by-le-length, length-take)
 
 pub count_up : (b : Bool) (l : List Bool) (i j : ℕ) → i ≤ j → count b l i ≤ count b l j
 count_up b l i j h = omega (arith, count_to b l i j h)
@@ -34,8 +32,8 @@ count_past b l i h = ap (count_by (is_bit b)) (take_all i l h ∙ sym (take_all 
 
 both_of : (l : List Bool) → count_by (is_bit false) l + count_by (is_bit true) l ≡ length l
 both_of [] = refl
-both_of (true ∷ l) = omega (arith, both_of l, sum_by-cons (λ x. cond (is_bit true x) 1 0) true l, sum_by-cons (λ x. cond (is_bit false x) 1 0) true l)
-both_of (false ∷ l) = omega (arith, both_of l, sum_by-cons (λ x. cond (is_bit true x) 1 0) false l, sum_by-cons (λ x. cond (is_bit false x) 1 0) false l)
+both_of (true ∷ l) = search (rules, sum_by-cons, both_of l)
+both_of (false ∷ l) = search (rules, sum_by-cons, both_of l)
 
 -- each place below the length holds one of the two
 pub count_both : (l : List Bool) (i : ℕ) → count false l i + count true l i ≡ min i (length l)
@@ -47,7 +45,7 @@ pub count_limb : (l : List Bool) (k r : ℕ) → r ≤ 64 → count true l (64 *
 unfolding limb count
 count_limb l k r h =
     let few : number (take r (drop (64 * k) l)) ≡ number (take 64 (drop (64 * k) l)) % 2 ^ r =
-    sym (ap number (take-take r 64 (drop (64 * k) l) h)) ∙ number-take r (take 64 (drop (64 * k) l)) in
+    sym (ap number (search (rules, take-take))) ∙ number-take r (take 64 (drop (64 * k) l)) in
     count_split true l (64 * k) r ∙ ap (λ x. count true l (64 * k) + x) (sym (ones-number (take r (drop (64 * k) l))) ∙ ap count_ones few)
 
 pub count_limb_whole : (l : List Bool) (k : ℕ) → count true l (64 * k + 64) ≡ count true l (64 * k) + count_ones (limb l k)

@@ -39,10 +39,8 @@ parts_add : (l : List Bool) (p m n : ℕ) → m ≤ n → p + n ≤ length l
     → number (take n (drop p l)) ≡ number (take m (drop p l)) + 2 ^ m * number (take (n - m) (drop (p + m) l))
 parts_add l p m n h within =
     let whole : n ≡ m + (n - m) = omega arith in
-    let long : length (take m (drop p l)) ≡ m = omega (arith, length-take m (drop p l), length-drop p l) in
-    ap (λ k. number (take k (drop p l))) whole ∙ ap number (take-add m (n - m) (drop p l)) ∙ number-append (take m (drop p l)) (take (n - m) (drop m (drop p l)))
-    ∙ ap (λ k. number (take m (drop p l)) + 2 ^ k * number (take (n - m) (drop m (drop p l)))) long
-    ∙ ap (λ xs. number (take m (drop p l)) + 2 ^ m * number (take (n - m) xs)) (drop-drop m p l)
+    let long : length (take m (drop p l)) ≡ m = grind (arith, ints, length-take, length-drop) in
+    grind (arith, ints, take-add, number-append, drop-drop)
 
 pub parts_join : (l : List Bool) (p m n : ℕ) → m ≤ n → n ≤ 64 → p + n ≤ length l
     → number (take n (drop p l)) ≡ bit_or (number (take m (drop p l))) (number (take (n - m) (drop (p + m) l)) * 2 ^ m % 18446744073709551616)
@@ -50,15 +48,15 @@ parts_join l p m n h few within =
     let low : ℕ = number (take m (drop p l)) in
     let high : ℕ = number (take (n - m) (drop (p + m) l)) in
     let fits : high * 2 ^ m % 2 ^ 64 ≡ high * 2 ^ m = shl_whole high (n - m) m 64 (number_part_lt l (p + m) (n - m)) (omega arith) in
-    parts_add l p m n h within ∙ sym (ap (bit_or low) fits ∙ or_comm low (high * 2 ^ m) ∙ or_shifted high m low (number_part_lt l p m) ∙ omega (arith, mul_comm high (2 ^ m)))
+    grind (arith, ints, parts_add, or_comm, or_shifted, number_part_lt, mul_comm)
 
 -- the low digits of two joined numbers, where they lie in the lower one, and where they reach into the other
 joined_low : (c a m n : ℕ) → n ≤ m → (c * 2 ^ m + a) % 2 ^ n ≡ a % 2 ^ n
 joined_low c a m n h =
     let wide : m ≡ (m - n) + n = omega arith in
     let split : c * 2 ^ m ≡ c * 2 ^ (m - n) * 2 ^ n =
-    ap (λ k. c * 2 ^ k) wide ∙ ap (λ x. c * x) (pow-add 2 (m - n) n) ∙ sym (mul_assoc c (2 ^ (m - n)) (2 ^ n)) in
-    ap (λ x. (x + a) % 2 ^ n) split ∙ mul-add-mod_self_right (c * 2 ^ (m - n)) (2 ^ n) a
+    ap (λ k. c * 2 ^ k) wide ∙ ap (λ x. c * x) (pow-add 2 (m - n) n) ∙ sym (grind (arith, ints, mul_assoc)) in
+    grind (arith, ints, mul-add-mod_self_right)
 
 -- two limbs, the second shifted up to where the first ends
 two_limbs : (x y s : ℕ) → s < 64 → x < 2 ^ 64

@@ -7,7 +7,7 @@ use Rattle.vers_bits.proofs.LowBits.{bit_at_mod, bit_at_mod_above}
 
 pub cut_bits : {ws vs : List ℕ} {m : ℕ} → CutsTo ws vs m → (n : ℕ) → m ≤ n → word_bits vs m ≡ take m (word_bits ws n)
 cut_bits {ws} {vs} {m} cuts n h =
-    word_bits_are vs m (word_bits ws m) (length-word_bits ws m) (λ i below. cuts.below i below ∙ sym (get_or-word_bits ws m i false below))
+    word_bits_are vs m (word_bits ws m) (length-word_bits ws m) (λ i below. grind (arith, ints, get_or-word_bits))
     ∙ sym (take-word_bits ws n m h)
 
 pub cut_holds : {ws vs : List ℕ} {m : ℕ} → CutsTo ws vs m → m ≤ 18446744073709551552 → HoldsBits vs m
@@ -27,29 +27,11 @@ module _ (ws : List ℕ) (n : ℕ) (enough : limb_count n ≤ length ws) where
 
   pub cut_whole : n % 64 ≡ 0 → CutsTo ws (take (limb_count n) ws) n
   unfolding front
-  cut_whole whole = record {
-    counted = length-front;
-    below = front_bit;
-    padded = λ i h. past_words front i (omega (arith, length-front));
-  }
+  cut_whole whole = grind (arith, ints, length-front, front_bit, past_words)
 
   pub cut_part : 0 < n % 64 → CutsTo ws (set (take (limb_count n) ws) (n / 64) (get_or (take (limb_count n) ws) (n / 64) 0 % 2 ^ (n % 64))) n
   unfolding front
-  cut_part part =
-      let w : ℕ = get_or front (n / 64) 0 in
-      let v : ℕ = w % 2 ^ (n % 64) in
-      let within : n / 64 < length front = omega (arith, length-front) in
-      record {
-        counted = length-set front (n / 64) v ∙ length-front;
-        below = λ i h. elim (cases_eq (i / 64) (n / 64)) [
-          | inl e ↦ set_here front (n / 64) v i within e ∙ ap (λ m. eqb m 1) (bit_at_mod w (n % 64) (i % 64) (omega arith)) ∙ ap (λ q. eqb (bit_at (get_or front q 0) (i % 64)) 1) (sym e) ∙ front_bit i h
-          | inr e ↦ set_apart front (n / 64) v i e ∙ front_bit i h
-        ];
-        padded = λ i h. elim (cases_eq (i / 64) (n / 64)) [
-          | inl e ↦ set_here front (n / 64) v i within e ∙ ap (λ m. eqb m 1) (bit_at_mod_above w (n % 64) (i % 64) (omega arith))
-          | inr e ↦ set_apart front (n / 64) v i e ∙ past_words front i (omega (arith, length-front))
-        ];
-      }
+  cut_part part = grind (arith, ints, length-front, length-set, cases_eq, set_here, bit_at_mod, front_bit, set_apart, bit_at_mod_above, past_words)
 
 -- ---- a bit put at a place
 
@@ -57,29 +39,18 @@ pub put_bits : {ws vs : List ℕ} {p : ℕ} {b : Bool} → Puts ws vs p b → (n
 put_bits {ws} {vs} {p} {b} puts n within =
     word_bits_are vs n (set (word_bits ws n) p b) (length-set (word_bits ws n) p b ∙ length-word_bits ws n)
     (λ i h. elim (cases_eq i p) [
-      | inl e ↦ ap (word_bit vs) e ∙ puts.here ∙ sym (ap (λ j. get_or (set (word_bits ws n) p b) j false) e ∙ get_or-set_same (word_bits ws n) p b false (omega (arith, length-word_bits ws n)))
-      | inr e ↦ puts.others i e ∙ sym (get_or-set_other (word_bits ws n) p i b false e ∙ get_or-word_bits ws n i false h)
+      | inl e ↦ grind (arith, ints, get_or-set_same, length-word_bits)
+      | inr e ↦ grind (arith, ints, get_or-set_other, get_or-word_bits)
     ])
 
 pub put_holds : {ws vs : List ℕ} {p : ℕ} {b : Bool} → Puts ws vs p b → (n : ℕ) → p < n → HoldsBits ws n → HoldsBits vs n
-put_holds {ws} {vs} {p} {b} puts n within holds = record {
-  counted = puts.counted ∙ holds.counted;
-  bounded = holds.bounded;
-  padded = λ i h. puts.others i (omega arith) ∙ holds.padded i h;
-}
+put_holds {ws} {vs} {p} {b} puts n within holds = grind (arith, ints)
 
 module _ (ws : List ℕ) (p x : ℕ) (b : Bool) (within : p / 64 < length ws) where
   -- by another word at its limb, with that bit and else the same
   puts_by : eqb (bit_at x (p % 64)) 1 ≡ b → ((i : ℕ) → i < 64 → (i ≡ p % 64 → ⊥) → bit_at x i ≡ bit_at (get_or ws (p / 64) 0) i)
       → Puts ws (set ws (p / 64) x) p b
-  puts_by on off = record {
-    counted = length-set ws (p / 64) x;
-    here = set_here ws (p / 64) x p within refl ∙ on;
-    others = λ i other. elim (cases_eq (i / 64) (p / 64)) [
-      | inl e ↦ set_here ws (p / 64) x i within e ∙ ap (λ m. eqb m 1) (off (i % 64) (omega arith) (omega arith)) ∙ ap (λ q. eqb (bit_at (get_or ws q 0) (i % 64)) 1) (sym e)
-      | inr e ↦ set_apart ws (p / 64) x i e
-    ];
-  }
+  puts_by on off = grind (arith, ints, length-set, set_here, cases_eq, set_apart)
 
 module _ (ws : List ℕ) (p : ℕ) (within : p / 64 < length ws) where
   abbrev word : ℕ
@@ -107,10 +78,7 @@ module _ (ws : List ℕ) (p : ℕ) (within : p / 64 < length ws) where
 
 pub adds_by_set : (ws : List ℕ) (n w : ℕ) (b : Bool) → HoldsBits ws n → 0 < n % 64 → w ≡ get_or ws (n / 64) w → b ≡ true
     → AddsBit ws (set ws (n / 64) (bit_or w (1 * 2 ^ (n % 64) % 2 ^ 64))) n b
-adds_by_set ws n w b holds part read on =
-    let within : n / 64 < length ws = omega (arith, holds.counted) in
-    let one = puts_one ws n within in
-    rw (read ∙ get_or_default_zero ws (n / 64) w within, on) (record { counted = omega (arith, one.counted, holds.counted); here = one.here; others = one.others })
+adds_by_set ws n w b holds part read on = grind (arith, ints, puts_one, get_or_default_zero)
 
 -- a false bit is there already
 pub adds_by_none : (ws : List ℕ) (n : ℕ) (b : Bool) → HoldsBits ws n → 0 < n % 64 → b ≡ false → AddsBit ws ws n b

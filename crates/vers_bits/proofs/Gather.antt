@@ -1,6 +1,6 @@
 -- Bits that are gathered in a word.
-use Rattle.vers_bits.proofs.Names.{◌≡◌, ℕ, suc, ◌+◌, ◌-◌, ◌*◌, ◌/◌, ◌%◌, ◌^◌, ◌<◌, ◌≤◌, Bool, true, false, List, [], ◌∷◌, ◌++◌, length, map, take, drop, get_or, refl, sym, ap, ◌∙◌, arith, bit_or, pow-le-pow_right, drop-cons, length-append, length-map, length_push, map-append, take-append-drop, div-mul-add, mod-mul-add, pow-add, shl_whole, bool_byte, bit_value, number}
-use Rattle.std.proofs.Common.{append_assoc}
+use Rattle.vers_bits.proofs.Names.{◌≡◌, ℕ, suc, ◌+◌, ◌-◌, ◌*◌, ◌/◌, ◌%◌, ◌^◌, ◌<◌, ◌≤◌, Bool, true, false, List, [], ◌∷◌, ◌++◌, length, map, take, drop, get_or, refl, sym, ap, ◌∙◌, arith, bit_or, pow-le-pow_right, drop-cons, length-append, length-map, length_push, map-append, take-append-drop, div-mul-add, mod-mul-add, pow-add, shl_whole, bool_byte, bit_value, number, ints}
+use Rattle.std.proofs.Common.{append_assoc, rules}
 use Rattle.std.specs.Int.Bits.{or_shifted_r}
 use Rattle.vers_bits.specs.Bits.{low_bits}
 use Rattle.vers_bits.proofs.Num.{number-lt, bit_value_le}
@@ -31,14 +31,14 @@ pub limb_gathered : {X : Type 0} (f : X → Bool) (l more : List Bool) (rest fro
     → w ≡ number (map f front) → more ≡ l ++ low_bits w (length front) → more ++ map f back ≡ l ++ map f rest
 limb_gathered f l more rest front back m w first last word grown =
     let long : length front ≡ length (map f front) = sym (length-map front f) in
-    let read : low_bits w (length front) ≡ map f front = ap (λ v. low_bits v (length front)) word ∙ ap (low_bits (number (map f front))) long ∙ low_bits_of_number (map f front) in
+    let read : low_bits w (length front) ≡ map f front = grind (arith, ints, low_bits_of_number) in
     ap (λ xs. xs ++ map f back) (grown ∙ ap (λ xs. l ++ xs) read) ∙ append_assoc l (map f front) (map f back)
     ∙ ap (λ xs. l ++ xs) (sym (map-append f front back) ∙ ap (map f) (ap (λ xs. xs ++ back) first ∙ ap (λ xs. take m rest ++ xs) last ∙ take-append-drop m rest))
 
 -- one more digit above the others
 pub digit_added : (w n : ℕ) (b : Bool) → n < 64 → w < 2 ^ n → bit_or w (bit_value b * 2 ^ n % 18446744073709551616) ≡ bit_value b * 2 ^ n + w
 digit_added w n b short small =
-    ap (bit_or w) (shl_whole (bit_value b) 1 n 64 (omega (arith, bit_value_le b)) (omega arith)) ∙ or_shifted_r (bit_value b) n w small
+    ap (bit_or w) (search (rules, shl_whole, bit_value_le)) ∙ or_shifted_r (bit_value b) n w small
 
 low_bits_of_bit : (b : Bool) → low_bits (bit_value b) 1 ≡ b ∷ []
 unfolding low_bits
@@ -46,11 +46,7 @@ low_bits_of_bit true = refl
 low_bits_of_bit false = refl
 
 pub digits_gathered : (w n : ℕ) (b : Bool) → n < 64 → w < 2 ^ n → low_bits (bit_or w (bit_value b * 2 ^ n % 18446744073709551616)) (n + 1) ≡ low_bits w n ++ b ∷ []
-digits_gathered w n b short small =
-    let v : ℕ = bit_value b * 2 ^ n + w in
-    let low : low_bits v n ≡ low_bits w n = sym (low_bits_of_rest v n) ∙ ap (λ x. low_bits x n) (mod-mul-add (bit_value b) (2 ^ n) w small) in
-    let high : low_bits (v / 2 ^ n) 1 ≡ b ∷ [] = ap (λ x. low_bits x 1) (div-mul-add (bit_value b) (2 ^ n) w small) ∙ low_bits_of_bit b in
-    ap (λ x. low_bits x (n + 1)) (digit_added w n b short small) ∙ low_bits-add v n 1 ∙ ap (λ l. l ++ low_bits (v / 2 ^ n) 1) low ∙ ap (λ l. low_bits w n ++ l) high
+digits_gathered w n b short small = grind (arith, ints, low_bits_of_rest, mod-mul-add, div-mul-add, low_bits_of_bit, digit_added, low_bits-add)
 
 sum_below : (w n : ℕ) (b : Bool) → w < 2 ^ n → bit_value b * 2 ^ n + w < 2 ^ (n + 1)
 sum_below w n true small = omega (arith, pow-add 2 n 1)
@@ -62,7 +58,6 @@ gathered_below w n b short small = rw (digit_added w n b short small) (sum_below
 -- where the digits fill the last limb, one bit more begins a limb
 pub limb_begun : (l more : List Bool) (w n room : ℕ) (b : Bool) → n ≤ room → room ≤ n → room ≡ (64 - length l % 64) % 64 → more ≡ (l ++ low_bits w n) ++ b ∷ []
     → 63 ≡ (64 - length more % 64) % 64
-limb_begun l more w n room b within full last grown =
-    omega (arith, ap length grown, length_push (l ++ low_bits w n) b, length-append l (low_bits w n), length-low_bits w n)
+limb_begun l more w n room b within full last grown = grind (arith, ints, length_push, length-append, length-low_bits)
 
 pub ruleset digits = (byte_value, digits_gathered, gathered_below)

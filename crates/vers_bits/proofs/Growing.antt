@@ -1,5 +1,5 @@
 -- A list that grows by the parts of another, 64 bits at a time.
-use Rattle.vers_bits.proofs.Names.{◌≡◌, ℕ, ◌+◌, ◌-◌, ◌*◌, ◌^◌, ◌<◌, ◌≤◌, Bool, false, List, [], ◌∷◌, replicate, ◌++◌, length, take, drop, sym, ap, ◌∙◌, arith, take-add, length-take, length-drop, drop-drop, take_all, append-nil, length-append, number, low_bits}
+use Rattle.vers_bits.proofs.Names.{◌≡◌, ℕ, ◌+◌, ◌-◌, ◌*◌, ◌^◌, ◌<◌, ◌≤◌, Bool, false, List, [], ◌∷◌, replicate, ◌++◌, length, take, drop, sym, ap, ◌∙◌, arith, take-add, length-take, length-drop, drop-drop, take_all, append-nil, length-append, number, low_bits, ints}
 use Rattle.std.proofs.lemmas.List.{append_assoc}
 use Rattle.std.specs.Prelude.{flat_map}
 use Rattle.vers_bits.proofs.LowBits.{low_bits_of_number, low_bits_of_rest, low_bits_none, low_bits_past, length-low_bits}
@@ -7,8 +7,8 @@ use Rattle.vers_bits.proofs.LowBits.{low_bits_of_number, low_bits_of_rest, low_b
 -- a part as low digits of its number
 pub low_bits_of_part : (l : List Bool) (p n : ℕ) → p + n ≤ length l → low_bits (number (take n (drop p l))) n ≡ take n (drop p l)
 low_bits_of_part l p n within =
-    let long : length (take n (drop p l)) ≡ n = omega (arith, length-take n (drop p l), length-drop p l) in
-    ap (low_bits (number (take n (drop p l)))) (sym long) ∙ low_bits_of_number (take n (drop p l))
+    let long : length (take n (drop p l)) ≡ n = grind (arith, ints, length-take, length-drop) in
+    grind (arith, ints, low_bits_of_number)
 
 -- 64 bits more
 pub next_limb : (l : List Bool) (s k : ℕ) → s + 64 * k + 64 ≤ length l
@@ -22,7 +22,7 @@ next_limb l s k within =
 pub last_bits : (l : List Bool) (s m n : ℕ) → s + m + n ≡ length l
     → take m (drop s l) ++ low_bits (number (take n (drop (s + m) l))) n ≡ drop s l
 last_bits l s m n all =
-    ap (λ xs. take m (drop s l) ++ xs) (low_bits_of_part l (s + m) n (omega arith) ∙ sym (ap (take n) (drop-drop m s l)))
+    ap (λ xs. take m (drop s l) ++ xs) (grind (arith, ints, low_bits_of_part, drop-drop))
     ∙ sym (take-add m n (drop s l)) ∙ take_all (m + n) (drop s l) (omega (arith, length-drop s l))
 
 pub add_none : (l : List Bool) (v n : ℕ) → n ≡ 0 → l ++ low_bits v n ≡ l
@@ -32,12 +32,11 @@ add_none l v n none = ap (λ k. l ++ low_bits v k) none ∙ ap (λ xs. l ++ xs) 
 pub long_digits : (l : List Bool) (v n : ℕ) → v < 2 ^ 64 → 64 ≤ n → (l ++ low_bits v 64) ++ replicate (n - 64) false ≡ l ++ low_bits v n
 long_digits l v n small long =
     let whole : 64 + (n - 64) ≡ n = omega arith in
-    append_assoc l (low_bits v 64) (replicate (n - 64) false) ∙ ap (λ xs. l ++ xs) (sym (low_bits_past v 64 (n - 64) small) ∙ ap (low_bits v) whole)
+    grind (arith, ints, append_assoc, low_bits_past)
 
 -- a packed list has as many bits an item
 pub length-packed : {X : Type 0} (f : X → ℕ) (k : ℕ) (xs : List X) → length (flat_map (λ x. low_bits (f x) k) xs) ≡ length xs * k
 length-packed f k [] = omega arith
-length-packed f k (x ∷ xs) =
-    length-append (low_bits (f x) k) (flat_map (λ y. low_bits (f y) k) xs) ∙ omega (arith, length-low_bits (f x) k, length-packed f k xs)
+length-packed f k (x ∷ xs) = grind (arith, ints, length-append, length-low_bits, length-packed f k xs)
 
 pub ruleset growth = (low_bits_of_rest, add_none)

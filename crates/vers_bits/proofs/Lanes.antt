@@ -1,5 +1,5 @@
 -- Words compared by lanes.
-use Rattle.vers_bits.proofs.Names.{◌≡◌, ℕ, ◌-◌, ◌%◌, ◌^◌, ◌≤◌, Bool, cond, not, List, [], ◌∷◌, length, eqb, map, refl, sym, ap, ap₂, ◌∙◌, inl, inr, arith, w64, Decides, bit_value, cases_eq, eq-eqb, eqb-true, ne_eqb}
+use Rattle.vers_bits.proofs.Names.{◌≡◌, ℕ, ◌-◌, ◌%◌, ◌^◌, ◌≤◌, Bool, cond, not, List, [], ◌∷◌, length, eqb, map, refl, sym, ap, ap₂, ◌∙◌, inl, inr, arith, w64, Decides, bit_value, cases_eq, eq-eqb, eqb-true, ne_eqb, ints}
 use lib.Lanes.{mask_l, top, zip2}
 use Rattle.std.proofs.lemmas.Simd.{tops_compared, mask_l-mod, length-zip2}
 
@@ -11,28 +11,21 @@ abbrev pub other_lanes : List ℕ → List ℕ → ℕ
 other_lanes xs ys = mask_l (zip2 is_other xs ys)
 
 none_other : (x y : ℕ) → bit_value (is_other x y) ≡ 0 → x ≡ y
-none_other x y h = elim (cases_eq x y) [
-  | inl same ↦ same
-  | inr other ↦ let one : ℕ = 1 in let none : one ≡ 0 = sym (ap (λ b. bit_value (not b)) (ne_eqb x y other)) ∙ h in absurd (omega (arith, none))
-]
+none_other x y h = grind (arith, ints, cases_eq, ne_eqb)
 
 same_lanes : (xs ys : List ℕ) → length xs ≡ length ys → other_lanes xs ys ≡ 0 → xs ≡ ys
 same_lanes [] [] e h = refl
 same_lanes [] (y ∷ ys) e h = absurd (omega (arith, e))
 same_lanes (x ∷ xs) [] e h = absurd (omega (arith, e))
-same_lanes (x ∷ xs) (y ∷ ys) e h =
-    ap₂ (λ z zs. z ∷ zs) (none_other x y (omega (arith, h))) (same_lanes xs ys (omega (arith, e)) (omega (arith, h)))
+same_lanes (x ∷ xs) (y ∷ ys) e h = grind (arith, ints, ap₂, none_other, same_lanes xs ys (omega (arith, e)) (omega (arith, h)))
 
 lanes_of_same : (xs : List ℕ) → other_lanes xs xs ≡ 0
 lanes_of_same [] = refl
-lanes_of_same (x ∷ xs) =
-    let first : bit_value (is_other x x) ≡ 0 = ap (λ b. bit_value (not b)) (eq-eqb x x refl) in
-    omega (arith, first, lanes_of_same xs)
+lanes_of_same (x ∷ xs) = grind (arith, ints, eq-eqb, lanes_of_same xs)
 
 -- lists of one length are the same where no lane differs
 pub lanes_decide : (xs ys : List ℕ) → length xs ≡ length ys → Decides (eqb (other_lanes xs ys) 0) (xs ≡ ys)
-lanes_decide xs ys e =
-    ((λ t. same_lanes xs ys e (eqb-true (other_lanes xs ys) 0 t)), (λ s. eq-eqb (other_lanes xs ys) 0 (ap (λ zs. other_lanes xs zs) (sym s) ∙ lanes_of_same xs)))
+lanes_decide xs ys e = grind (arith, ints, same_lanes, eqb-true, eq-eqb, lanes_of_same)
 
 -- the mask that a comparison of lanes gives
 pub compared : (xs ys : List ℕ) → length xs ≡ length ys → length xs ≤ 64

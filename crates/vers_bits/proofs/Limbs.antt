@@ -5,10 +5,7 @@ use Rattle.vers_bits.proofs.LowBits.{length-low_bits, get_or-low_bits}
 use Rattle.vers_bits.proofs.Words.{word_bits_are, length-word_bits, get_or-word_bits, past_words}
 
 word_bit_rest : (w : ℕ) (ws : List ℕ) (i : ℕ) → 64 ≤ i → word_bit (w ∷ ws) i ≡ word_bit ws (i - 64)
-word_bit_rest w ws i h =
-    let word : i / 64 ≡ suc ((i - 64) / 64) = omega arith in
-    let place : i % 64 ≡ (i - 64) % 64 = omega arith in
-    rw (word, place) refl
+word_bit_rest w ws i h = grind (arith, ints)
 
 pub whole_words : (ws : List ℕ) → word_bits ws (64 * length ws) ≡ flat_map (λ w. low_bits w 64) ws
 whole_words [] = word_bits_are [] 0 [] refl (λ i h. absurd (omega arith))

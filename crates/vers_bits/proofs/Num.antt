@@ -1,5 +1,5 @@
 -- Lists of bits as numbers, and counts of their bits.
-use Rattle.vers_bits.proofs.Names.{◌≡◌, ℕ, zero, suc, ◌/◌, ◌%◌, ◌^◌, ◌<◌, ◌≤◌, Bool, true, false, cond, List, [], ◌∷◌, length, take, drop, get_or, refl, sym, ap, ◌+◌, ◌*◌, ◌∙◌, arith, count_by, bit_at, count_ones, shr-shr, mod-pow-add, bit_at_lowest, bit_at-suc, bit_at-zero, sum_by-cons, pow-suc, get_or-take, get_or-drop, bit_value, number, is_bit}
+use Rattle.vers_bits.proofs.Names.{◌≡◌, ℕ, zero, suc, ◌/◌, ◌%◌, ◌^◌, ◌<◌, ◌≤◌, Bool, true, false, cond, List, [], ◌∷◌, length, take, drop, get_or, refl, sym, ap, ◌+◌, ◌*◌, ◌∙◌, arith, count_by, bit_at, count_ones, shr-shr, mod-pow-add, bit_at_lowest, bit_at-suc, bit_at-zero, sum_by-cons, pow-suc, get_or-take, get_or-drop, bit_value, number, is_bit, ints, rules}
 use lib.Count.{ones_step, ones-ones}
 use Rattle.vers_bits.specs.Bits.{limb}
 
@@ -27,7 +27,7 @@ value_one false e = absurd (omega arith)
 
 pub number-lt : (l : List Bool) → number l < 2 ^ length l
 number-lt [] = omega arith
-number-lt (b ∷ l) = omega (arith, number-lt l, bit_value_le b, pow-suc 2 (length l))
+number-lt (b ∷ l) = search (rules, bit_value_le, pow-suc, number-lt l)
 
 pub number-drop : (k : ℕ) (l : List Bool) → number (drop k l) ≡ number l / 2 ^ k
 number-drop zero l = omega arith
@@ -42,13 +42,13 @@ number-take (suc k) (b ∷ l) = grind (arith, number-take k l, number_half b l, 
 -- digit i of the number is place i of the list
 pub bit_at-number : (l : List Bool) (i : ℕ) → bit_at (number l) i ≡ bit_value (get_or l i false)
 bit_at-number [] i = bit_at-zero i
-bit_at-number (b ∷ l) zero = bit_at_lowest (number (b ∷ l)) ∙ number_odd b l
-bit_at-number (b ∷ l) (suc i) = bit_at-suc (number (b ∷ l)) i ∙ (rw number_half (bit_at-number l i))
+bit_at-number (b ∷ l) zero = grind (arith, ints, bit_at_lowest, number_odd)
+bit_at-number (b ∷ l) (suc i) = grind (arith, ints, bit_at-suc, number_half, bit_at-number l i)
 
 -- as many digits of the number are 1 as places of the list are true
 pub ones-number : (l : List Bool) → count_ones (number l) ≡ count_by (is_bit true) l
 ones-number [] = ones-ones 0
-ones-number (b ∷ l) = ones_step (number (b ∷ l)) ∙ (rw (number_odd, number_half, ones-number l) (sym (sum_by-cons (λ x. cond x 1 0) b l)))
+ones-number (b ∷ l) = ones_step (number (b ∷ l)) ∙ (rw (number_odd, number_half, ones-number l) (search (rules, sum_by-cons)))
 
 -- a bit of the part from p on, by the part's number
 pub part_bit : (l : List Bool) (p n i : ℕ) → i < n → bit_at (number (take n (drop p l))) i ≡ bit_value (get_or l (p + i) false)

@@ -1,5 +1,5 @@
 -- The bits that words hold.
-use Rattle.vers_bits.proofs.Names.{◌≡◌, ℕ, ◌+◌, ◌*◌, ◌/◌, ◌%◌, ◌^◌, ◌<◌, ◌≤◌, Bool, true, false, List, [], ◌∷◌, ◌++◌, length, take, drop, get_or, set, refl, sym, ap, ◌∙◌, arith, eqb, Some, None, inl, inr, bit_at, bit_and, cases_lt, bool_byte, pow-le-pow_right, bit_at-lt, bit_at-zero, bit_at_lowest, shr_and_one, same_from_bits_below, bit_at_above, ext_get_or, get_or-take, get_or-drop, get_or_past, get_or_push, get_or_append_left, get_or-set_same, get_or-set_other, length_push, length-take, length-map-range_with_len, get_or-map-range_with_len, take-map-range_with_len, map-range_with_len_more, slice_get-get_or, slice_get_past, bit_value, word_bit, HoldsBits, AddsBit, ints}
+use Rattle.vers_bits.proofs.Names.{◌≡◌, ℕ, ◌+◌, ◌*◌, ◌/◌, ◌%◌, ◌^◌, ◌<◌, ◌≤◌, Bool, true, false, List, [], ◌∷◌, ◌++◌, length, take, drop, get_or, set, refl, sym, ap, ◌∙◌, arith, eqb, Some, None, inl, inr, bit_at, bit_and, cases_lt, bool_byte, pow-le-pow_right, bit_at-lt, bit_at-zero, bit_at_lowest, shr_and_one, same_from_bits_below, bit_at_above, ext_get_or, get_or-take, get_or-drop, get_or_past, get_or_push, get_or_append_left, get_or-set_same, get_or-set_other, length_push, length-take, length-map-range_with_len, get_or-map-range_with_len, take-map-range_with_len, map-range_with_len_more, slice_get-get_or, slice_get_past, bit_value, word_bit, HoldsBits, AddsBit, ints, rules}
 use Rattle.std.specs.List.{slice_get}
 use Rattle.std.specs.Prelude.{option_map}
 use Rattle.vers_bits.specs.Bits.{limb}
@@ -37,17 +37,13 @@ slice_get_past-word_bits ws n i h = slice_get_past _ i (omega (arith, length-wor
 
 pub bit_value_at-word_bits : (ws : List ℕ) (n i : ℕ) → i < n
     → option_map bit_value (slice_get (word_bits ws n) i) ≡ Some (bit_and (get_or ws (i / 64) 0 / 2 ^ (i % 64)) 1)
-bit_value_at-word_bits ws n i h =
-    let w : ℕ = get_or ws (i / 64) 0 in
-    rw (slice_get-word_bits ws n i h, shr_and_one) (ap (λ m. Some m) (bit_value_test (bit_at w (i % 64)) (bit_at-lt w (i % 64))))
+bit_value_at-word_bits ws n i h = grind (arith, ints, slice_get-word_bits, shr_and_one, bit_value_test, bit_at-lt)
 
 pub slice_index-word_bits : (ws : List ℕ) (n i : ℕ) → i < n → get_or (word_bits ws n) i false ≡ eqb (bit_and (get_or ws (i / 64) 0 / 2 ^ (i % 64)) 1) 1
 slice_index-word_bits ws n i h = rw shr_and_one (get_or-word_bits ws n i false h)
 
 pub bit_value_of-word_bits : (ws : List ℕ) (n i : ℕ) → i < n → bit_value (get_or (word_bits ws n) i false) ≡ bit_and (get_or ws (i / 64) 0 / 2 ^ (i % 64)) 1
-bit_value_of-word_bits ws n i h =
-    let w : ℕ = get_or ws (i / 64) 0 in
-    rw (shr_and_one) (ap bit_value (get_or-word_bits ws n i false h) ∙ bit_value_test (bit_at w (i % 64)) (bit_at-lt w (i % 64)))
+bit_value_of-word_bits ws n i h = grind (arith, ints, shr_and_one, get_or-word_bits, bit_value_test, bit_at-lt)
 
 -- where one word was changed
 pub set_here : (ws : List ℕ) (k x i : ℕ) → k < length ws → i / 64 ≡ k → word_bit (set ws k x) i ≡ eqb (bit_at x (i % 64)) 1
@@ -76,17 +72,13 @@ unfolding limb
 limb-lt l k = le_trans_lt (number-lt (take 64 (drop (64 * k) l))) (pow-le-pow_right {n = 2} (omega arith) {i = length (take 64 (drop (64 * k) l))} {j = 64} (omega (arith, length-take 64 (drop (64 * k) l))))
 
 pub limb-word_bits : (ws : List ℕ) (n k : ℕ) → HoldsBits ws n → get_or ws k 0 < 2 ^ 64 → limb (word_bits ws n) k ≡ get_or ws k 0
-limb-word_bits ws n k holds fits =
-    same_from_bits_below 64 _ _ (limb-lt (word_bits ws n) k) fits (λ i small. bit_of_limb ws n k i holds small)
+limb-word_bits ws n k holds fits = search (rules, same_from_bits_below, limb-lt, bit_of_limb)
 
 -- ---- one bit more
 
 -- past the words each place is false
 pub past_words : (ws : List ℕ) (i : ℕ) → 64 * length ws ≤ i → word_bit ws i ≡ false
-past_words ws i h =
-    let none : get_or ws (i / 64) 0 ≡ 0 = get_or_past ws (i / 64) 0 (omega arith) in
-    let zero_bit : bit_at (get_or ws (i / 64) 0) (i % 64) ≡ 0 = ap (λ x. bit_at x (i % 64)) none ∙ bit_at-zero (i % 64) in
-    rw zero_bit refl
+past_words ws i h = grind (arith, ints, get_or_past, bit_at-zero)
 
 pub added_bits : {ws vs : List ℕ} {n : ℕ} {b : Bool} → AddsBit ws vs n b → word_bits vs (n + 1) ≡ word_bits ws n ++ b ∷ []
 unfolding word_bits
@@ -96,11 +88,7 @@ added_bits {ws} {vs} {n} {b} adds =
     (λ i h. adds.others i (omega arith) ∙ sym (get_or-word_bits ws n i false h)))
 
 pub added_holds : {ws vs : List ℕ} {n : ℕ} {b : Bool} → AddsBit ws vs n b → HoldsBits ws n → n < 18446744073709551552 → HoldsBits vs (n + 1)
-added_holds {ws} {vs} {n} {b} adds holds small = record {
-  counted = adds.counted;
-  bounded = omega arith;
-  padded = λ i h. adds.others i (omega arith) ∙ holds.padded i (omega arith);
-}
+added_holds {ws} {vs} {n} {b} adds holds small = grind (arith, ints)
 
 bit_value_lowest : (b : Bool) → eqb (bit_value b % 2) 1 ≡ b
 bit_value_lowest true = refl
@@ -109,7 +97,6 @@ bit_value_lowest false = refl
 -- by a new word
 adds_by_number : (ws : List ℕ) (n : ℕ) (b : Bool) → HoldsBits ws n → n % 64 ≡ 0 → AddsBit ws (ws ++ bit_value b ∷ []) n b
 adds_by_number ws n b holds whole =
-    let full : n ≡ 64 * length ws = omega (arith, holds.counted) in
     record {
       counted = omega (arith, length_push ws (bit_value b));
       here =
