@@ -95,14 +95,7 @@ fn run_list<
     I: Copy + Drop,
     M: FnOnce(Global, I) -> Result<S, AllocError> + Copy,
     L: FnOnce(Global, &[u8]) -> Result<S, LoadError> + Copy,
->(
-    report: &Report,
-    kind: &str,
-    count: usize,
-    source: I,
-    make: M,
-    load: L,
-) -> io::Result<()>
+>(report: &Report, kind: &str, count: usize, source: I, make: M, load: L) -> io::Result<()>
     requires make { M.IsAlwaysCallable make }
     requires load { L.IsAlwaysCallable load }
 {
@@ -111,7 +104,12 @@ fn run_list<
     let count = count as u64;
     report.builds("build", count, count, source, make)?;
     let made = make(report.alloc(), source);
-    asked(&report, (), made, |report, _, list| run_made(report, count, list, load))
+    asked(
+        &report,
+        (),
+        made,
+        |report, _, list| run_made(report, count, list, load),
+    )
 }
 
 /// Runs the series over lists of bits.
