@@ -165,7 +165,14 @@ all_limbs b l block r = record {
   to = λ h. absurd (omega arith);
 }
 
-pub ruleset halves_of_block = (count_at, all_limbs, one_limb)
+-- half of a block: the second where the places of the first don't pass number r, and else the first
+pub block_half : (b : Bool) (l : List Bool) (block r ones : ℕ) → count true l (64 * (8 * block)) + ones ≡ count true l (64 * (8 * block + 4)) → ones ≤ 256
+    → (held_of b ones 256 ≤ r → IsAmongLimbs b l block r 4 (8 * block + 4) (held_of b ones 256)) × (r < held_of b ones 256 → IsAmongLimbs b l block r 4 (8 * block) 0)
+block_half b l block r ones counts few =
+    let none : 0 + held_of b ones 256 ≡ held_of b ones 256 = omega arith in
+    rw none at (half_of b l block r 4 (8 * block) 0 ones (all_limbs b l block r) counts few)
+
+pub ruleset halves_of_block = (count_at, one_limb)
 
 -- the greater half of n has a digit less
 pub half_left : (n : ℕ) → 1 < n → digits (n - n / 2 - 1) + 1 ≤ digits (n - 1)

@@ -24,6 +24,13 @@ struct FoundLimb {
     before: usize,
 }
 
+// Half of a block by its first limb, and the ones of its first two limbs.
+#[derive(Clone, Copy)]
+struct FoundHalf {
+    found: FoundLimb,
+    ones: usize,
+}
+
 // A limb, and the number in it that a number of a block is.
 #[derive(Clone, Copy)]
 pub(super) struct InLimb {
@@ -282,10 +289,11 @@ impl<A: Allocator + Copy> RsVec<A> {
         let _ = &self.bits;
         let first = self.sample(bit, r / SUPERBLOCK, tally);
         let last = self.sample(bit, r / SUPERBLOCK + 1, tally);
-        if first == last {
+        let n = last + 1 - first;
+        if n == 1 {
             return first;
         }
-        self.superblock_guessed(bit, r, first, last + 1 - first, tally)
+        self.superblock_guessed(bit, r, first, n, tally)
     }
 
     // The superblock of number `r` among the `n` from `first` on: where there are many, it is
@@ -603,6 +611,7 @@ impl<A: Allocator + Copy> RsVec<A> {
     // The limb of number `r` among the 8 of a block, or the last of them: by halves, with no branch
     // on what they hold, which would be guessed wrong.
     #[inline(always)]
+    #[tactic(auto, using(crate::proofs::Selects::halves_of_block))]
     fn limb_by_halves(&self, bit: bool, r: usize, block: usize, tally: &mut Tally) -> FoundLimb
         requires within { BLOCK * block + 448 < length self.now }
         ensures found { IsLimbWith bit self.now block r (8 * block + 7) result.limb result.before }
@@ -610,13 +619,57 @@ impl<A: Allocator + Copy> RsVec<A> {
     {
         let _ = self.len();
         let limb = 8 * block;
-        let all = FoundLimb { limb, before: 0 };
-        let ones = self.ones_of_pair(limb, tally) + self.ones_of_pair(limb + 2, tally);
-        let half = self.half_of(bit, r, block, all, 4, ones);
-        let ones = self.ones_of_pair(half.limb, tally);
-        let quarter = self.half_of(bit, r, block, half, 2, ones);
+        let first = self.ones_of_pair(limb, tally);
+        let two = first + self.ones_of_pair(limb + 2, tally);
+        let third = self.ones_of_pair(limb + 4, tally);
+        let half = self.half_of_block(bit, r, block, first, two, third);
+        let quarter = self.half_of(bit, r, block, half.found, 2, half.ones);
         let ones = self.ones_of_limb(quarter.limb, tally);
         self.half_of(bit, r, block, quarter, 1, ones)
+    }
+
+    // The half of a block that has number `r`, by the ones of its first pair of limbs, of its first two
+    // pairs, and of its third pair. It is a choice of values, and no branch.
+    #[inline(always)]
+    fn half_of_block(
+        &self,
+        bit: bool,
+        r: usize,
+        block: usize,
+        first: usize,
+        two: usize,
+        third: usize,
+    ) -> FoundHalf
+        requires within { BLOCK * block < length self.now }
+        requires first { count true self.now (64 * (8 * block)) + first
+            ≡ count true self.now (64 * (8 * block + 2)) }
+        requires two { count true self.now (64 * (8 * block)) + two
+            ≡ count true self.now (64 * (8 * block + 4)) }
+        requires third { count true self.now (64 * (8 * block + 4)) + third
+            ≡ count true self.now (64 * (8 * block + 4 + 2)) }
+        requires few { (first ≤ 128) × (two ≤ 256) × (third ≤ 128) }
+        ensures found { IsAmongLimbs bit self.now block r 4 result.found.limb result.found.before }
+        ensures ones { count true self.now (64 * result.found.limb) + result.ones
+            ≡ count true self.now (64 * (result.found.limb + 2)) }
+        ensures few { result.ones ≤ 128 }
+    {
+        let _ = self.len();
+        let limb = 8 * block;
+        let before = held_of(bit, two, BLOCK / 2);
+        if before <= r {
+            FoundHalf {
+                found: FoundLimb {
+                    limb: limb + 4,
+                    before,
+                },
+                ones: third,
+            }
+        } else {
+            FoundHalf {
+                found: FoundLimb { limb, before: 0 },
+                ones: first,
+            }
+        }
     }
 
     // The half of number `r` among twice `n` limbs: the second where the places of the first, of which
