@@ -1,23 +1,9 @@
 -- What bytes with no fault hold.
-use Rattle.std.proofs.Common.{◌≡◌, ℕ, ◌+◌, ◌-◌, ◌*◌, ◌%◌, ◌^◌, ◌<◌, ◌≤◌, Bool, true, false, cond, List, [], ◌∷◌, ◌++◌, length, get_or, take, drop, refl, sym, ap, subst, ◌∙◌, inl, inr, arith}
-use Rattle.std.specs.Prelude.{Option, None, Some}
-use Rattle.std.proofs.lemmas.Bool.{cases_eq, eqb-true, leb-true}
-use Rattle.std.proofs.lemmas.Bool.Decides.{nat_tests}
-use Rattle.std.proofs.lemmas.List.{take-append-drop, take-take, drop-take, drop_more, drop_all}
-use Rattle.vers_bits.specs.Bits.{limb_count}
-use Rattle.vers_saved.specs.declared.TheConstants.{MAGIC, VERSION}
-use Rattle.vers_saved.specs.declared.fault.LoadError.{LoadError}
-use Rattle.vers_saved.specs.Format.{bytes_of, words_of, check_sum, head, with_sum, saved, saved_size}
-use Rattle.vers_saved.specs.declared.kind.Kind.{Kind}
-use Rattle.vers_saved.specs.Faults.{first_failing, takes_width, takes_count, item_bits, is_padded, is_summed, in_order, words_among, bits_said, tests_of, fault_of}
-use Rattle.vers_saved.specs.Kinds.{EndsPadded, IsWhole}
+use Rattle.vers_saved.proofs.Names.{◌≡◌, ℕ, ◌+◌, ◌-◌, ◌*◌, ◌%◌, ◌^◌, ◌<◌, ◌≤◌, Bool, true, false, List, [], ◌∷◌, ◌++◌, length, get_or, take, drop, refl, sym, ap, ◌∙◌, inl, inr, arith, None, cases_eq, nat_tests, take-append-drop, take-take, drop-take, drop_more, limb_count, MAGIC, VERSION, LoadError, bytes_of, words_of, check_sum, head, with_sum, saved, saved_size, Kind, first_failing, takes_width, takes_count, item_bits, is_padded, is_summed, in_order, words_among, bits_said, tests_of, fault_of, EndsPadded, IsWhole, AreWords}
+use Rattle.std.proofs.lemmas.Bool.{eqb-true, leb-true}
+use Rattle.std.proofs.lemmas.List.{drop_all}
 use Rattle.vers_saved.proofs.Orders.{length-words_among, get_or-words_among}
 use Rattle.vers_saved.proofs.WordBytes.{length-words_of, bytes_of-words_of, words_of-fit, fit_take, fit_drop}
-
--- a test that was passed, and those after it
-passes : (b : Bool) (o : Option LoadError) (e : LoadError) → cond b o (Some e) ≡ None → (b ≡ true) × (o ≡ None)
-passes true o e h = (refl, h)
-passes false o e h = cc
 
 -- each test was passed
 abbrev pub AllPassed : List (Bool × LoadError) → Type 0
@@ -26,7 +12,8 @@ AllPassed (t ∷ tests) = (t.0 ≡ true) × AllPassed tests
 
 pub all_passed : (tests : List (Bool × LoadError)) → first_failing tests ≡ None → AllPassed tests
 all_passed [] h = tt
-all_passed (t ∷ tests) h = let p : (t.0 ≡ true) × (first_failing tests ≡ None) = passes t.0 (first_failing tests) t.1 h in (p.0, all_passed tests p.1)
+all_passed ((true, e) ∷ tests) h = (refl, all_passed tests h)
+all_passed ((false, e) ∷ tests) h = cc
 
 -- what the tests say of so many bytes that hold these words
 pub record IsForm (kind : Kind) (size n : ℕ) (words : List ℕ) : Type 0 where
@@ -41,10 +28,9 @@ pub record IsForm (kind : Kind) (size n : ℕ) (words : List ℕ) : Type 0 where
   pub padded : is_padded n words ≡ true
   pub ordered : in_order kind.order (words_among n words) ≡ true
 
-pub no_fault : (kind : Kind) (bytes : List ℕ) → fault_of kind bytes ≡ None → IsForm kind (length bytes) (bits_said kind (words_of bytes)) (words_of bytes)
-unfolding fault_of
-no_fault kind bytes h =
-    let p : AllPassed (tests_of kind (length bytes) (words_of bytes)) = all_passed (tests_of kind (length bytes) (words_of bytes)) h in
+pub no_fault : (kind : Kind) (size : ℕ) (words : List ℕ) → first_failing (tests_of kind size words) ≡ None → IsForm kind size (bits_said kind words) words
+no_fault kind size words h =
+    let p : AllPassed (tests_of kind size words) = all_passed (tests_of kind size words) h in
     record {
       ours = eqb-true _ _ p.1.0;
       version = eqb-true _ _ p.1.1.0;
@@ -57,10 +43,6 @@ no_fault kind bytes h =
       padded = p.1.1.1.1.1.1.1.1.1.1.0;
       ordered = p.1.1.1.1.1.1.1.1.1.1.1.0;
     }
-
--- bytes with no fault are whole words
-pub whole_words : (kind : Kind) (n : ℕ) (bytes : List ℕ) → IsForm kind (length bytes) n (words_of bytes) → length (words_of bytes) ≡ limb_count n + 6
-whole_words kind n bytes form = length-words_of bytes ∙ omega (arith, form.exact)
 
 -- the words between a head and a sum end padded
 ends_padded : (n : ℕ) (words : List ℕ) → is_padded n words ≡ true → EndsPadded n (words_among n words)
@@ -99,46 +81,36 @@ framed kind size n words form long =
     ∙ ap (λ l. l ++ drop (limb_count n + 5) words) front
     ∙ ap (λ l. (head kind.number (get_or words 4 0) (get_or words 3 0) ++ words_among n words) ++ l) (last ∙ ap (λ w. w ∷ []) sum)
 
-pub form_is : (kind : Kind) (n : ℕ) (bytes : List ℕ) → ((i : ℕ) → get_or bytes i 0 < 256) → IsForm kind (length bytes) n (words_of bytes)
-    → bytes ≡ saved kind.number (get_or (words_of bytes) 4 0) (get_or (words_of bytes) 3 0) (words_among n (words_of bytes))
+-- what is made of words with no fault
+pub loaded_words : (kind : Kind) (count width n : ℕ) (all words : List ℕ) → AreWords all → first_failing (tests_of kind (8 * length all) all) ≡ None
+    → count ≡ get_or all 4 0 → width ≡ get_or all 3 0 → n ≡ count * item_bits kind width → words ≡ words_among n all
+    → (bytes_of all ≡ saved kind.number count width words) × IsWhole kind count width words
 unfolding saved
-form_is kind n bytes are_bytes form =
-    let long : length (words_of bytes) ≡ limb_count n + 6 = whole_words kind n bytes form in
-    let whole : length bytes % 8 ≡ 0 = omega (arith, form.exact) in
-    sym (bytes_of-words_of bytes whole are_bytes) ∙ ap bytes_of (framed kind (length bytes) n (words_of bytes) form long)
-
--- the words are whole
-pub whole_form : (kind : Kind) (bytes : List ℕ) → ((i : ℕ) → get_or bytes i 0 < 256)
-    → IsForm kind (length bytes) (bits_said kind (words_of bytes)) (words_of bytes)
-    → IsWhole kind (get_or (words_of bytes) 4 0) (get_or (words_of bytes) 3 0) (words_among (bits_said kind (words_of bytes)) (words_of bytes))
-whole_form kind bytes are_bytes form =
-    let n : ℕ = bits_said kind (words_of bytes) in
-    record {
-      wide = form.width;
-      many = form.count;
-      small = form.small;
-      counted = length-words_among n (words_of bytes) (whole_words kind n bytes form);
-      fit = fit_take (limb_count n) (drop 5 (words_of bytes)) (fit_drop 5 (words_of bytes) (words_of-fit bytes are_bytes));
-      padded = ends_padded n (words_of bytes) form.padded;
-      ordered = form.ordered;
-    }
+loaded_words kind count width n all words fit none is_count is_width is_n are_words =
+    let form : IsForm kind (8 * length all) (bits_said kind all) all = no_fault kind (8 * length all) all none in
+    let many : n ≡ bits_said kind all = rw (is_n, is_count, is_width) refl in
+    let long : length all ≡ limb_count (bits_said kind all) + 6 = omega (arith, form.exact) in
+    rw (are_words, many, is_count, is_width) (
+      ap bytes_of (framed kind (8 * length all) (bits_said kind all) all form long),
+      record {
+        wide = form.width;
+        many = form.count;
+        small = form.small;
+        counted = length-words_among (bits_said kind all) all long;
+        fit = fit_take (limb_count (bits_said kind all)) (drop 5 all) (fit_drop 5 all fit);
+        padded = ends_padded (bits_said kind all) all form.padded;
+        ordered = form.ordered;
+      },
+    )
 
 -- what is made of bytes with no fault
 pub loaded_is : (kind : Kind) (count width n : ℕ) (bytes words : List ℕ) → ((i : ℕ) → get_or bytes i 0 < 256) → fault_of kind bytes ≡ None
     → count ≡ get_or (words_of bytes) 4 0 → width ≡ get_or (words_of bytes) 3 0 → n ≡ count * item_bits kind width → words ≡ words_among n (words_of bytes)
     → (bytes ≡ saved kind.number count width words) × IsWhole kind count width words
+unfolding fault_of
 loaded_is kind count width n bytes words are_bytes none is_count is_width is_n are_words =
-    let form : IsForm kind (length bytes) (bits_said kind (words_of bytes)) (words_of bytes) = no_fault kind bytes none in
-    let many : n ≡ bits_said kind (words_of bytes) =
-    is_n ∙ ap (λ m. m * item_bits kind width) is_count ∙ ap (λ m. get_or (words_of bytes) 4 0 * item_bits kind m) is_width in
-    let same : words_among (bits_said kind (words_of bytes)) (words_of bytes) ≡ words =
-    ap (λ m. words_among m (words_of bytes)) (sym many) ∙ sym are_words in
-    let whole : bytes ≡ saved kind.number (get_or (words_of bytes) 4 0) (get_or (words_of bytes) 3 0) (words_among (bits_said kind (words_of bytes)) (words_of bytes)) =
-    form_is kind (bits_said kind (words_of bytes)) bytes are_bytes form in (
-      whole ∙ ap (λ m. saved kind.number m (get_or (words_of bytes) 3 0) (words_among (bits_said kind (words_of bytes)) (words_of bytes))) (sym is_count)
-          ∙ ap (λ m. saved kind.number count m (words_among (bits_said kind (words_of bytes)) (words_of bytes))) (sym is_width)
-          ∙ ap (saved kind.number count width) same,
-      subst (λ l. IsWhole kind count width l) same
-          (subst (λ m. IsWhole kind count m (words_among (bits_said kind (words_of bytes)) (words_of bytes))) (sym is_width)
-          (subst (λ m. IsWhole kind m (get_or (words_of bytes) 3 0) (words_among (bits_said kind (words_of bytes)) (words_of bytes))) (sym is_count) (whole_form kind bytes are_bytes form))),
-    )
+    let form : IsForm kind (length bytes) (bits_said kind (words_of bytes)) (words_of bytes) = no_fault kind (length bytes) (words_of bytes) none in
+    let whole : length bytes ≡ 8 * length (words_of bytes) = omega (arith, form.exact, length-words_of bytes) in
+    let p = loaded_words kind count width n (words_of bytes) words (words_of-fit bytes are_bytes)
+    (ap (λ m. first_failing (tests_of kind m (words_of bytes))) (sym whole) ∙ none) is_count is_width is_n are_words in
+    (sym (bytes_of-words_of bytes (omega (arith, whole)) are_bytes) ∙ p.0, p.1)

@@ -1,3 +1,4 @@
+pub mod Names
 pub mod WordBytes
 pub mod Sums
 pub mod Orders

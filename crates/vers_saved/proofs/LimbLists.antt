@@ -1,18 +1,11 @@
 -- The limbs of bits that were made of limbs.
-use Rattle.std.proofs.Common.{◌≡◌, ℕ, zero, suc, ◌+◌, ◌-◌, ◌*◌, ◌%◌, ◌^◌, ◌<◌, ◌≤◌, Bool, List, [], ◌∷◌, ◌++◌, length, get_or, take, drop, refl, sym, ap, ◌∙◌, inl, inr, arith}
-use Rattle.std.proofs.lemmas.Bool.{cases_lt, cases_eq}
-use Rattle.std.proofs.lemmas.List.{get_or_past, same_lists, places, take_at, drop_at, drop-drop, drop_more, take-take, take_all, take-append-le, drop-take, length-take, length-drop, length-append}
-use Rattle.std.proofs.lemmas.Nat.{pow_pos}
-use Rattle.std.proofs.Math.Nat.{mod-eq_of_lt, pow-le-pow_right}
+use Rattle.vers_saved.proofs.Names.{◌≡◌, ℕ, zero, suc, ◌+◌, ◌-◌, ◌*◌, ◌%◌, ◌^◌, ◌<◌, ◌≤◌, Bool, List, [], ◌∷◌, ◌++◌, length, get_or, take, drop, refl, sym, ap, ◌∙◌, inl, inr, arith, cases_lt, cases_eq, get_or_past, same_lists, take_at, drop_at, drop-drop, drop_more, take-take, take_all, drop-take, length-take, length-drop, pow_pos, mod-eq_of_lt, number, low_bits, limb, limbs, limb_count, pack, length-low_bits, number-low_bits, number_below, number-take, length-limbs, length-packed, get_or-limbs, EndsPadded}
+use Rattle.std.proofs.lemmas.List.{places, take-append-le}
 use Rattle.std.proofs.Math.Seq.{drop-nil}
-use Rattle.vers_bits.specs.Bits.{number, low_bits, limb, limbs, limb_count, pack}
-use Rattle.vers_bits.proofs.PublicLaws.{length-low_bits, number-low_bits, number-lt, number-take, length-limbs, get_or-limbs}
-use Rattle.vers_saved.specs.Kinds.{EndsPadded}
 use Rattle.vers_saved.proofs.WordBytes.{AreWords}
 
 pub length-pack : (ws : List ℕ) → length (pack ws 64) ≡ 64 * length ws
-length-pack [] = refl
-length-pack (w ∷ ws) = length-append (low_bits w 64) (pack ws 64) ∙ omega (arith, length-low_bits w 64, length-pack ws)
+length-pack ws = length-packed (λ w. w) 64 ws ∙ omega arith
 
 -- without the bits of the first k words
 drop-pack : (k : ℕ) (ws : List ℕ) → drop (64 * k) (pack ws 64) ≡ pack (drop k ws) 64
@@ -52,13 +45,11 @@ limb-first ws n k inside from h small =
     ap (λ l. number (take 64 l)) rest ∙ first_limb (get_or ws k 0) (n - 64 * k) (drop (k + 1) ws) h small
 
 ends_small : (ws : List ℕ) (n k : ℕ) → k < limb_count n → EndsPadded n ws → n - 64 * k < 64 → get_or ws k 0 < 2 ^ (n - 64 * k)
-ends_small ws n k h padded few = elim padded [
-  | inl whole ↦ absurd (omega arith)
-  | inr small ↦
-      let last : limb_count n - 1 ≡ k = omega arith in
-      let rest : n % 64 ≡ n - 64 * k = omega arith in
-      rw (last, rest) at small
-]
+ends_small ws n k h (inl whole) few = absurd (omega arith)
+ends_small ws n k h (inr small) few =
+    let last : limb_count n - 1 ≡ k = omega arith in
+    let rest : n % 64 ≡ n - 64 * k = omega arith in
+    rw (last, rest) at small
 
 pub length-first : (ws : List ℕ) (n : ℕ) → length ws ≡ limb_count n → length (take n (pack ws 64)) ≡ n
 length-first ws n e = length-take n (pack ws 64) ∙ omega (arith, length-pack ws)
@@ -75,23 +66,16 @@ limbs-first ws n e h padded =
     get_or-limbs l k (omega arith) ∙ limb-first ws n k inside (omega arith) (h k) (ends_small ws n k (omega arith) padded) in
     grind (arith, places))
 
--- a number below a power is below a greater one
-le_pow : {m j k : ℕ} → m < 2 ^ j → j ≤ k → m < 2 ^ k
-le_pow {m} {j} {k} h le = omega (arith, pow-le-pow_right {n = 2} (omega arith) le)
-
 -- a limb is a word, and the last is no longer than the bits in it
 limb_fits : (l : List Bool) (k : ℕ) → limb l k < 2 ^ 64
 unfolding limb
-limb_fits l k =
-    let few : length (take 64 (drop (64 * k) l)) ≤ 64 = omega (arith, length-take 64 (drop (64 * k) l)) in
-    le_pow (number-lt (take 64 (drop (64 * k) l))) few
+limb_fits l k = number_below (take 64 (drop (64 * k) l)) 64 (omega (arith, length-take 64 (drop (64 * k) l)))
 
 last_fits : (l : List Bool) → (length l % 64 ≡ 0 → ⊥) → limb l (limb_count (length l) - 1) < 2 ^ (length l % 64)
 unfolding limb
 last_fits l part =
     let k : ℕ = limb_count (length l) - 1 in
-    let few : length (take 64 (drop (64 * k) l)) ≤ length l % 64 = omega (arith, length-take 64 (drop (64 * k) l), length-drop (64 * k) l) in
-    le_pow (number-lt (take 64 (drop (64 * k) l))) few
+    number_below (take 64 (drop (64 * k) l)) (length l % 64) (omega (arith, length-take 64 (drop (64 * k) l), length-drop (64 * k) l))
 
 -- the limbs of a list are words, and end padded
 pub limbs_fit : (l : List Bool) → AreWords (limbs l)

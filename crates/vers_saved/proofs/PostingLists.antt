@@ -1,16 +1,7 @@
 -- Saved forms of documents with costs.
-use Rattle.std.proofs.Common.{◌≡◌, ℕ, ◌-◌, ◌*◌, ◌/◌, ◌<◌, ◌≤◌, List, ◌++◌, length, get_or, take, drop, refl, sym, ap, subst, ◌∙◌, inl, inr, arith}
-use Rattle.std.specs.Prelude.{All}
-use Rattle.std.specs.List.Sorted.{IsStrictlyIncreasing}
-use Rattle.std.proofs.lemmas.Bool.{cases_lt}
-use Rattle.std.proofs.lemmas.Bool.Decides.{nat_tests}
-use Rattle.std.proofs.lemmas.List.{get_or_append_left, get_or-append_right, get_or_past, take_at, take-append-drop, length-append, length-take}
+use Rattle.vers_saved.proofs.Names.{◌≡◌, ℕ, ◌-◌, ◌*◌, ◌/◌, ◌<◌, ◌≤◌, List, ◌++◌, length, get_or, take, drop, refl, sym, ap, subst, ◌∙◌, inl, inr, arith, All, IsStrictlyIncreasing, cases_lt, nat_tests, get_or_append_left, get_or-append_right, get_or_past, take_at, take-append-drop, length-append, length-take, each_next-rising, POSTING_LISTS, posting_words, IsWhole}
 use Rattle.std.proofs.lemmas.List.Elements.{All-get_or}
-use Rattle.vers_sorted.proofs.PublicLaws.{each_next-rising}
 use Rattle.postings.specs.Posted.{Posted, ArePaired}
-use Rattle.vers_saved.specs.declared.kind.TheConstants.{POSTING_LISTS}
-use Rattle.vers_saved.specs.Format.{posting_words}
-use Rattle.vers_saved.specs.Kinds.{IsWhole}
 use Rattle.vers_saved.proofs.WordBytes.{AreWords, fit_append}
 use Rattle.vers_saved.proofs.BitLists.{within}
 

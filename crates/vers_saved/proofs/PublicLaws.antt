@@ -1,10 +1,5 @@
 -- The laws that proofs of other crates may cite. A crate above imports this file and no other of this folder.
-use Rattle.std.proofs.Common.{◌≡◌, ℕ, List, length, refl, arith}
-use Rattle.vers_saved.specs.declared.kind.Kind.{Kind}
-use Rattle.vers_saved.specs.declared.kind.TheConstants.{BIT_LISTS, SORTED_LISTS, SYMBOL_LISTS, SPARSE_LISTS, TABLE_VALUES, BLOCK_VALUES, POSTING_LISTS}
-use Rattle.vers_bits.specs.Bits.{limbs, pack}
-use Rattle.vers_saved.specs.Format.{saved, sparse_words, posting_words}
-use Rattle.vers_saved.specs.Kinds.{IsWhole, tree_kind}
+use Rattle.vers_saved.proofs.Names.{◌≡◌, ℕ, List, length, refl, arith, Kind, BIT_LISTS, SORTED_LISTS, SYMBOL_LISTS, SPARSE_LISTS, TABLE_VALUES, BLOCK_VALUES, POSTING_LISTS, limbs, pack, saved, sparse_words, posting_words, IsWhole, tree_kind}
 use Rattle.vers_saved.specs.Laws as Laws
 use Rattle.vers_saved.specs.inside.Telling.{bits_tell, numbers_tell, sparse_tell, same_symbols, postings_tell}
 use Rattle.vers_saved.proofs.RoundTrips.{AreBounds, no_fault_back, one_form}

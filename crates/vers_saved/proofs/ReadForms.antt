@@ -1,23 +1,12 @@
 -- What a reader had at first, by what was read of it.
-use Rattle.std.proofs.Common.{◌≡◌, ℕ, suc, ◌+◌, ◌*◌, ◌/◌, ◌^◌, ◌<◌, ◌≤◌, List, [], ◌∷◌, ◌++◌, length, get_or, take, drop, Option, Some, None, refl, sym, ap, subst, ◌∙◌, inl, inr, append_assoc, arith}
-use Rattle.std.specs.Prelude.{IfSome, OnOk, IfErr, Result, Ok, Err, map, ◌⊎◌}
-use Rattle.std.specs.Simd.{first_chunks}
-use Rattle.std.specs.Io.KnownBytes.{Consumes, IsAtEnd, prepend_known}
-use Rattle.std.proofs.Math.Seq.{take-add}
-use Rattle.std.proofs.lemmas.List.{append-nil, take_at, drop_at, length-append, get_or_append_left}
-use Rattle.vers_bits.specs.Bits.{limb_count}
-use Rattle.vers_saved.specs.declared.kind.Kind.{Kind}
-use Rattle.vers_saved.specs.declared.fault.LoadError.{LoadError}
-use Rattle.vers_saved.specs.declared.fault.LoadError.TheVariants.{TooShort, BadLength, Read, Memory}
-use Rattle.vers_saved.specs.Format.{word_bytes, bytes_word, bytes_of, words_of, saved, saved_size}
-use Rattle.vers_saved.specs.Faults.{first_failing, head_tests, body_tests, tests_of, fault_of, bits_said, item_bits, words_among}
-use Rattle.vers_saved.specs.Kinds.{IsWhole}
-use Rattle.vers_saved.specs.Streams.{IsRefused}
-use Rattle.vers_saved.proofs.WordBytes.{AreWords, length-word_bytes, bytes_word-word_bytes, length-bytes_of, words_of-bytes_of, bytes_fit}
-use Rattle.vers_saved.proofs.Forms.{loaded_is}
+use Rattle.vers_saved.proofs.Names.{◌≡◌, ℕ, ◌+◌, ◌*◌, ◌<◌, ◌≤◌, List, [], ◌∷◌, ◌++◌, length, get_or, take, drop, Option, Some, None, refl, sym, ap, subst, ◌∙◌, inl, inr, arith, Result, Ok, Err, Consumes, prepend_known, take-add, append-nil, length-append, get_or_append_left, limb_count, Kind, LoadError, TooShort, BadLength, bytes_of, words_of, saved, saved_size, first_failing, head_tests, body_tests, tests_of, fault_of, bits_said, item_bits, words_among, IsWhole, IsRefused, Consumes-trans}
+use Rattle.std.specs.Prelude.{IfSome, OnOk, IfErr, ◌⊎◌}
+use Rattle.std.specs.Io.KnownBytes.{IsAtEnd}
+use Rattle.vers_saved.specs.declared.fault.LoadError.TheVariants.{Read, Memory}
+use Rattle.vers_saved.proofs.WordBytes.{AreWords, length-bytes_of, words_of-bytes_of, words_first}
+use Rattle.vers_saved.proofs.Forms.{loaded_words}
 use Rattle.vers_saved.proofs.Tests.{fault_is, few_bytes, bad_head, too_short, too_long, by_body}
 use Rattle.vers_saved.proofs.Sums.{bytes_of-append}
-use Rattle.vers_saved.proofs.Streams.{Consumes-then}
 
 -- what was read is a beginning of what there was
 pub known : (old new : Option (List ℕ)) (text : List ℕ) (P : List ℕ → Type 0) → Consumes old new text → ((rest : List ℕ) → P (text ++ rest)) → IfSome old P
@@ -37,44 +26,17 @@ before None new text P h p = tt
 before (Some xs) None text P h p = absurd h
 before (Some xs) (Some ys) text P h p = subst P (sym h) p
 
--- one part of what was read behind another
-pub after_part : (old new : Option (List ℕ)) (first text : List ℕ) (P : List ℕ → Type 0) → Consumes old new text → ((rest : List ℕ) → P (first ++ (text ++ rest)))
-    → IfSome (prepend_known first old) P
-after_part None new first text P h f = tt
-after_part (Some xs) None first text P h f = absurd h
-after_part (Some xs) (Some ys) first text P h f = subst (λ l. P (first ++ l)) (sym h) (f ys)
-
-pub after_end : (old new : Option (List ℕ)) (first text : List ℕ) (P : List ℕ → Type 0) → Consumes old new text → IsAtEnd new → P (first ++ text)
-    → IfSome (prepend_known first old) P
-after_end None new first text P h e p = tt
-after_end (Some xs) None first text P h e p = absurd h
-after_end (Some xs) (Some ys) first text P h e p = subst (λ l. P (first ++ l)) (sym (h ∙ ap (λ l. text ++ l) e ∙ append-nil text)) p
+-- what holds of what comes after a first part
+behind : (old : Option (List ℕ)) (first : List ℕ) (P : List ℕ → Type 0) → IfSome old (λ l. P (first ++ l)) → IfSome (prepend_known first old) P
+behind None first P p = tt
+behind (Some xs) first P p = p
 
 -- a block that was filled further
 pub filled_more : (old mid new : Option (List ℕ)) (first after : List ℕ) (filled n : ℕ) → Consumes old mid (take filled first) → take filled after ≡ take filled first
     → Consumes mid new (take n (drop filled after)) → Consumes old new (take (filled + n) after)
 filled_more old mid new first after filled n c front d =
     subst (Consumes old new) (ap (λ l. l ++ take n (drop filled after)) (sym front) ∙ sym (take-add filled n after))
-    (Consumes-then old mid new (take filled first) (take n (drop filled after)) c d)
-
--- the words of bytes that begin with those of a word
-one_word : (w : ℕ) (rest : List ℕ) → w < 2 ^ 64 → words_of (word_bytes w ++ rest) ≡ w ∷ words_of rest
-unfolding words_of
-one_word w rest h =
-    let first : take 8 (word_bytes w ++ rest) ≡ word_bytes w = take_at (word_bytes w) rest 8 (length-word_bytes w) in
-    let after : drop 8 (word_bytes w ++ rest) ≡ rest = drop_at (word_bytes w) rest 8 (length-word_bytes w) in
-    let many : length (word_bytes w ++ rest) / 8 ≡ suc (length rest / 8) = omega (arith, length-append (word_bytes w) rest, length-word_bytes w) in
-    ap (λ k. map bytes_word (first_chunks 8 k (word_bytes w ++ rest))) many
-    ∙ ap (λ l. bytes_word l ∷ map bytes_word (first_chunks 8 (length rest / 8) (drop 8 (word_bytes w ++ rest)))) first
-    ∙ ap (λ l. bytes_word (word_bytes w) ∷ map bytes_word (first_chunks 8 (length rest / 8) l)) after
-    ∙ ap (λ x. x ∷ map bytes_word (first_chunks 8 (length rest / 8) rest)) (bytes_word-word_bytes w h)
-
-pub words_first : (ws rest : List ℕ) → AreWords ws → words_of (bytes_of ws ++ rest) ≡ ws ++ words_of rest
-words_first [] rest h = refl
-words_first (w ∷ ws) rest h =
-    ap words_of (append_assoc (word_bytes w) (bytes_of ws) rest)
-    ∙ one_word w (bytes_of ws ++ rest) (h 0)
-    ∙ ap (λ l. w ∷ l) (words_first ws rest (λ k. h (suc k)))
+    (Consumes-trans old mid new (take filled first) (take n (drop filled after)) c d)
 
 -- what a head says is said by its words alone
 same_head : (kind : Kind) (ws more : List ℕ) → 5 ≤ length ws → head_tests kind (ws ++ more) ≡ head_tests kind ws
@@ -114,22 +76,22 @@ ended_short kind n old new ws text fit long none said c e few =
     let all : List ℕ = bytes_of ws ++ text in
     let many : length (bytes_of ws ++ text) ≡ 8 * length ws + length text = omega (arith, length-append (bytes_of ws) text, length-bytes_of ws) in
     let size : saved_size (bits_said kind (words_of (bytes_of ws ++ text))) ≡ saved_size n = ap saved_size (said_holds kind ws text fit (omega arith) ∙ sym said) in
-    after_end old new (bytes_of ws) text (λ bytes. fault_of kind bytes ≡ Some TooShort) c e
-    (fault_is kind all ∙ too_short kind (length all) (words_of all) (omega arith) (head_holds kind ws text fit (omega arith) ∙ none) (omega arith))
+    behind old (bytes_of ws) (λ bytes. fault_of kind bytes ≡ Some TooShort) (known_end old new text (λ l. fault_of kind (bytes_of ws ++ l) ≡ Some TooShort) c e
+    (fault_is kind all ∙ too_short kind (length all) (words_of all) (omega arith) (head_holds kind ws text fit (omega arith) ∙ none) (omega arith)))
 
 -- one that had more
 pub goes_on : (kind : Kind) (n : ℕ) (old mid new : Option (List ℕ)) (ws more text : List ℕ) → AreWords ws → length ws ≡ 6 → first_failing (head_tests kind ws) ≡ None
     → n ≡ bits_said kind ws → Consumes old mid (bytes_of more) → length (ws ++ more) ≡ limb_count n + 6 → Consumes mid new text → 0 < length text
     → IfSome (prepend_known (bytes_of ws) old) (λ bytes. fault_of kind bytes ≡ Some BadLength)
 goes_on kind n old mid new ws more text fit long none said c exact d some =
-    after_part old new (bytes_of ws) (bytes_of more ++ text) (λ bytes. fault_of kind bytes ≡ Some BadLength) (Consumes-then old mid new (bytes_of more) text c d) (λ rest.
+    behind old (bytes_of ws) (λ bytes. fault_of kind bytes ≡ Some BadLength) (known old new (bytes_of more ++ text) (λ l. fault_of kind (bytes_of ws ++ l) ≡ Some BadLength) (Consumes-trans old mid new (bytes_of more) text c d) (λ rest.
     let tail : List ℕ = (bytes_of more ++ text) ++ rest in
     let all : List ℕ = bytes_of ws ++ ((bytes_of more ++ text) ++ rest) in
     let size : saved_size (bits_said kind (words_of (bytes_of ws ++ ((bytes_of more ++ text) ++ rest)))) ≡ saved_size n =
     ap saved_size (said_holds kind ws ((bytes_of more ++ text) ++ rest) fit (omega arith) ∙ sym said) in
     let many : 8 * (length ws + length more) + length text ≤ length (bytes_of ws ++ ((bytes_of more ++ text) ++ rest)) =
     omega (arith, length-append (bytes_of ws) ((bytes_of more ++ text) ++ rest), length-append (bytes_of more ++ text) rest, length-append (bytes_of more) text, length-bytes_of ws, length-bytes_of more) in
-    fault_is kind all ∙ too_long kind (length all) (words_of all) (omega (arith, length-append ws more)) (head_holds kind ws tail fit (omega arith) ∙ none) (omega (arith, length-append ws more)))
+    fault_is kind all ∙ too_long kind (length all) (words_of all) (omega (arith, length-append ws more)) (head_holds kind ws tail fit (omega arith) ∙ none) (omega (arith, length-append ws more))))
 
 -- bytes that are as many as the head says have the fault of what comes after it
 pub rest_tells : (kind : Kind) (n : ℕ) (ws more : List ℕ) → AreWords (ws ++ more) → 5 ≤ length ws → first_failing (head_tests kind ws) ≡ None
@@ -147,35 +109,25 @@ pub at_some : (left : Option (List ℕ)) (bytes : List ℕ) (P : List ℕ → Ty
 at_some left bytes P is p = subst (λ o. IfSome o P) is p
 
 pub refused_none : (kind : Kind) (left : Option (List ℕ)) (bytes : List ℕ) (e : LoadError) → left ≡ Some bytes → fault_of kind bytes ≡ None → IsRefused kind left e → (e ≡ Read) ⊎ (e ≡ Memory)
-refused_none kind left bytes e is none refused = elim refused [
-  | inl read ↦ inl read
-  | inr rest ↦ elim rest [
-    | inl memory ↦ inr memory
-    | inr some ↦ let here : fault_of kind bytes ≡ Some e = at_some left bytes (λ b. fault_of kind b ≡ Some e) is some in cc
-  ]
-]
+refused_none kind left bytes e is none (inl read) = inl read
+refused_none kind left bytes e is none (inr (inl memory)) = inr memory
+refused_none kind left bytes e is none (inr (inr some)) = let here : fault_of kind bytes ≡ Some e = at_some left bytes (λ b. fault_of kind b ≡ Some e) is some in cc
 
 -- why a reader of which a part was to be gathered did not give it
 pub stopped_early : (kind : Kind) (left : Option (List ℕ)) (e : LoadError) → (e ≡ TooShort) ⊎ ((e ≡ Memory) ⊎ (e ≡ Read))
     → (e ≡ TooShort → IfSome left (λ bytes. fault_of kind bytes ≡ Some TooShort)) → IsRefused kind left e
-stopped_early kind left e which short = elim which [
-  | inl is ↦ inr (inr (subst (λ f. IfSome left (λ bytes. fault_of kind bytes ≡ Some f)) (sym is) (short is)))
-  | inr rest ↦ elim rest [
-    | inl memory ↦ inr (inl memory)
-    | inr read ↦ inl read
-  ]
-]
+stopped_early kind left e (inl is) short = inr (inr (subst (λ f. IfSome left (λ bytes. fault_of kind bytes ≡ Some f)) (sym is) (short is)))
+stopped_early kind left e (inr (inl memory)) short = inr (inl memory)
+stopped_early kind left e (inr (inr read)) short = inl read
 
 pub not_ended : (kind : Kind) (left : Option (List ℕ)) (e : LoadError) → (e ≡ BadLength) ⊎ (e ≡ Read)
     → (e ≡ BadLength → IfSome left (λ bytes. fault_of kind bytes ≡ Some BadLength)) → IsRefused kind left e
-not_ended kind left e which long = elim which [
-  | inl is ↦ inr (inr (subst (λ f. IfSome left (λ bytes. fault_of kind bytes ≡ Some f)) (sym is) (long is)))
-  | inr read ↦ inl read
-]
+not_ended kind left e (inl is) long = inr (inr (subst (λ f. IfSome left (λ bytes. fault_of kind bytes ≡ Some f)) (sym is) (long is)))
+not_ended kind left e (inr read) long = inl read
 
 -- nothing was read at the end
 pub then_none : (old mid new : Option (List ℕ)) (text : List ℕ) → Consumes old mid text → Consumes mid new [] → Consumes old new text
-then_none old mid new text c d = subst (Consumes old new) (append-nil text) (Consumes-then old mid new text [] c d)
+then_none old mid new text c d = subst (Consumes old new) (append-nil text) (Consumes-trans old mid new text [] c d)
 
 -- what all words tell, where those of the head have no fault
 pub all_tell : (kind : Kind) (n : ℕ) (ws more all : List ℕ) → all ≡ ws ++ more → AreWords all → length ws ≡ 6 → first_failing (head_tests kind ws) ≡ None
@@ -190,18 +142,14 @@ pub rest_fault : (kind : Kind) (n : ℕ) (old new : Option (List ℕ)) (ws more 
     → first_failing (head_tests kind ws) ≡ None → n ≡ bits_said kind ws → length all ≡ limb_count n + 6 → Consumes old new (bytes_of more) → IsAtEnd new
     → first_failing (body_tests kind.order n all) ≡ Some e → IsRefused kind (prepend_known (bytes_of ws) old) e
 rest_fault kind n old new ws more all e is fit long none said exact c end bad =
-    inr (inr (after_end old new (bytes_of ws) (bytes_of more) (λ bytes. fault_of kind bytes ≡ Some e) c end
-    (ap (fault_of kind) (sym (bytes_of-append ws more) ∙ ap bytes_of (sym is)) ∙ all_tell kind n ws more all is fit long none said exact ∙ bad)))
+    inr (inr (behind old (bytes_of ws) (λ bytes. fault_of kind bytes ≡ Some e) (known_end old new (bytes_of more) (λ l. fault_of kind (bytes_of ws ++ l) ≡ Some e) c end
+    (ap (fault_of kind) (sym (bytes_of-append ws more) ∙ ap bytes_of (sym is)) ∙ all_tell kind n ws more all is fit long none said exact ∙ bad))))
 
 -- a fault of what comes after a part that was read is one of all that there was
 pub refused_before : (kind : Kind) (old new : Option (List ℕ)) (text : List ℕ) (e : LoadError) → Consumes old new text → IsRefused kind (prepend_known text new) e → IsRefused kind old e
-refused_before kind old new text e c refused = elim refused [
-  | inl read ↦ inl read
-  | inr rest ↦ elim rest [
-    | inl memory ↦ inr (inl memory)
-    | inr some ↦ inr (inr (before old new text (λ bytes. fault_of kind bytes ≡ Some e) c some))
-  ]
-]
+refused_before kind old new text e c (inl read) = inl read
+refused_before kind old new text e c (inr (inl memory)) = inr (inl memory)
+refused_before kind old new text e c (inr (inr some)) = inr (inr (before old new text (λ bytes. fault_of kind bytes ≡ Some e) c some))
 
 -- what follows of each case
 pub on_ok : {T E : Type 0} (r : Result T E) (P Q : Type 0) → (P → Q) → OnOk r P → OnOk r Q
@@ -216,9 +164,9 @@ if_err (Err e) P Q f p = f e p
 pub gathered_is : (kind : Kind) (count width n : ℕ) (all words : List ℕ) → AreWords all → fault_of kind (bytes_of all) ≡ None → count ≡ get_or all 4 0 → width ≡ get_or all 3 0
     → n ≡ count * item_bits kind width → words ≡ words_among n all → (bytes_of all ≡ saved kind.number count width words) × IsWhole kind count width words
 gathered_is kind count width n all words fit none is_count is_width is_n are_words =
-    let back : words_of (bytes_of all) ≡ all = words_of-bytes_of all fit in
-    loaded_is kind count width n (bytes_of all) words (bytes_fit all) none (is_count ∙ ap (λ l. get_or l 4 0) (sym back)) (is_width ∙ ap (λ l. get_or l 3 0) (sym back)) is_n
-    (are_words ∙ ap (words_among n) (sym back))
+    loaded_words kind count width n all words fit
+    (ap (λ m. first_failing (tests_of kind m all)) (sym (length-bytes_of all)) ∙ ap (λ l. first_failing (tests_of kind (length (bytes_of all)) l)) (sym (words_of-bytes_of all fit)) ∙ sym (fault_is kind (bytes_of all)) ∙ none)
+    is_count is_width is_n are_words
 
 -- a reader of a head and of what comes after it, up to its end
 pub form_gathered : (kind : Kind) (count width n : ℕ) (old mid new : Option (List ℕ)) (ws more all words : List ℕ) → Consumes old mid (bytes_of ws) → length ws ≡ 6
@@ -228,7 +176,7 @@ pub form_gathered : (kind : Kind) (count width n : ℕ) (old mid new : Option (L
 form_gathered kind count width n old mid new ws more all words c long d end is fit none is_count is_width is_n are_words =
     let p = gathered_is kind count width n all words fit none (is_count ∙ sym (ap (λ l. get_or l 4 0) is ∙ get_or_append_left ws more 0 4 (omega arith)))
     (is_width ∙ sym (ap (λ l. get_or l 3 0) is ∙ get_or_append_left ws more 0 3 (omega arith))) is_n are_words in (
-      known_end old new (bytes_of ws ++ bytes_of more) (λ bytes. bytes ≡ saved kind.number count width words) (Consumes-then old mid new (bytes_of ws) (bytes_of more) c d) end
+      known_end old new (bytes_of ws ++ bytes_of more) (λ bytes. bytes ≡ saved kind.number count width words) (Consumes-trans old mid new (bytes_of ws) (bytes_of more) c d) end
           (sym (bytes_of-append ws more) ∙ ap bytes_of (sym is) ∙ p.0),
       p.1,
     )

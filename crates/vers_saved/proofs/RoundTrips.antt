@@ -1,12 +1,5 @@
 -- What was saved is loaded.
-use Rattle.std.proofs.Common.{◌≡◌, ℕ, ◌*◌, ◌+◌, ◌^◌, ◌<◌, ◌≤◌, Bool, true, false, List, length, sym, ap, ◌∙◌, arith}
-use Rattle.std.specs.Prelude.{None, ◌&&◌, nat_le}
-use Rattle.std.proofs.lemmas.Bool.{leb-true}
-use Rattle.vers_bits.specs.Bits.{limb_count}
-use Rattle.vers_saved.specs.declared.kind.Kind.{Kind}
-use Rattle.vers_saved.specs.Format.{saved}
-use Rattle.vers_saved.specs.Faults.{item_bits, fault_of}
-use Rattle.vers_saved.specs.Kinds.{IsWhole}
+use Rattle.vers_saved.proofs.Names.{◌≡◌, ℕ, ◌*◌, ◌+◌, ◌^◌, ◌<◌, ◌≤◌, List, length, sym, ap, ◌∙◌, arith, None, nat_tests, limb_count, Kind, saved, item_bits, fault_of, IsWhole}
 use Rattle.vers_saved.proofs.WordBytes.{length-bytes_of}
 use Rattle.vers_saved.proofs.SavedForms.{all_words, length-all_words, saved_has_no_fault, same_words}
 
@@ -14,17 +7,11 @@ use Rattle.vers_saved.proofs.SavedForms.{all_words, length-all_words, saved_has_
 abbrev pub AreBounds : Kind → Type 0
 AreBounds kind = (kind.number < 2 ^ 64) × (kind.greatest_width < 2 ^ 64) × (kind.greatest_count < 2 ^ 64)
 
-and_second : (b c : Bool) → (b && c) ≡ true → c ≡ true
-and_second true c h = h
-and_second false c h = cc
-
 pub width_lt : (kind : Kind) (count width : ℕ) (words : List ℕ) → AreBounds kind → IsWhole kind count width words → width < 2 ^ 64
-width_lt kind count width words bounds whole =
-    omega (arith, bounds.1, leb-true width kind.greatest_width (and_second (nat_le kind.least_width width) (nat_le width kind.greatest_width) whole.wide))
+width_lt kind count width words bounds whole = grind (arith, nat_tests, bounds.1, whole.wide)
 
 pub count_lt : (kind : Kind) (count width : ℕ) (words : List ℕ) → AreBounds kind → IsWhole kind count width words → count < 2 ^ 64
-count_lt kind count width words bounds whole =
-    omega (arith, bounds.2, leb-true count kind.greatest_count (and_second (nat_le kind.least_count count) (nat_le count kind.greatest_count) whole.many))
+count_lt kind count width words bounds whole = grind (arith, nat_tests, bounds.2, whole.many)
 
 -- a form has no fault
 pub no_fault_back : (kind : Kind) (bytes : List ℕ) (count width : ℕ) (words : List ℕ) → AreBounds kind → IsWhole kind count width words
@@ -48,14 +35,12 @@ length-saved kind count width words = length-bytes_of (all_words kind count widt
 -- as many words as the shape says
 pub count_is : (kind told : Kind) (count width c w : ℕ) (words : List ℕ) → IsWhole kind count width words → told ≡ kind → c ≡ count → w ≡ width
     → limb_count (c * item_bits told w) ≡ length words
-count_is kind told count width c w words whole is_kind is_count is_width =
-    ap (λ k. limb_count (c * item_bits k w)) is_kind ∙ ap (λ m. limb_count (m * item_bits kind w)) is_count ∙ ap (λ m. limb_count (count * item_bits kind m)) is_width ∙ sym whole.counted
+count_is kind told count width c w words whole is_kind is_count is_width = rw (is_kind, is_count, is_width) (sym whole.counted)
 
 pub said_small : (kind told : Kind) (count width c w : ℕ) (words : List ℕ) → IsWhole kind count width words → told ≡ kind → c ≡ count → w ≡ width
     → c * item_bits told w ≤ 18446744073709551552
-said_small kind told count width c w words whole is_kind is_count is_width =
-    rw (is_kind, is_count, is_width) whole.small
+said_small kind told count width c w words whole is_kind is_count is_width = rw (is_kind, is_count, is_width) whole.small
 
-pub ruleset sizes = (length-saved, count_is, said_small)
+pub ruleset sizes = (length-saved)
 
 pub ruleset counts = (count_is, said_small)

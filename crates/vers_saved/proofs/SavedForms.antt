@@ -1,18 +1,11 @@
 -- Saved forms have no fault, and tell what they are of.
-use Rattle.std.proofs.Common.{◌≡◌, ℕ, ◌+◌, ◌-◌, ◌*◌, ◌%◌, ◌^◌, ◌<◌, ◌||◌, Bool, true, false, List, [], ◌∷◌, ◌++◌, length, get_or, refl, sym, ap, ◌∙◌, inl, inr, arith}
-use Rattle.std.specs.Prelude.{None}
-use Rattle.std.proofs.lemmas.Bool.{cases_eq, eq-eqb, le-leb, lt-ltb}
-use Rattle.std.proofs.lemmas.List.{take_at, get_or_push, get_or-append_right, get_or_append_left, length-append, same_from_push}
-use Rattle.vers_bits.specs.Bits.{limb_count}
-use Rattle.vers_saved.specs.declared.TheConstants.{MAGIC, VERSION}
-use Rattle.vers_saved.specs.declared.fault.LoadError.{LoadError}
-use Rattle.vers_saved.specs.Format.{bytes_of, words_of, check_sum, head, with_sum, saved, saved_size}
-use Rattle.vers_saved.specs.declared.kind.Kind.{Kind}
-use Rattle.vers_saved.specs.Faults.{first_failing, item_bits, is_padded, is_summed, in_order, words_among, tests_of, fault_of}
-use Rattle.vers_saved.specs.Kinds.{EndsPadded, IsWhole}
+use Rattle.vers_saved.proofs.Names.{◌≡◌, ℕ, ◌+◌, ◌-◌, ◌*◌, ◌%◌, ◌^◌, ◌<◌, Bool, true, List, [], ◌∷◌, ◌++◌, length, get_or, refl, sym, ap, ◌∙◌, inl, inr, arith, None, cases_eq, le-leb, nat_tests, take_at, get_or_push, get_or-append_right, get_or_append_left, length-append, limb_count, MAGIC, VERSION, LoadError, bytes_of, words_of, check_sum, head, with_sum, saved, saved_size, Kind, first_failing, item_bits, is_padded, is_summed, in_order, words_among, tests_of, fault_of, EndsPadded, IsWhole}
+use Rattle.std.proofs.lemmas.Bool.{eq-eqb}
+use Rattle.std.proofs.lemmas.List.{same_from_push}
 use Rattle.vers_saved.proofs.WordBytes.{AreWords, length-bytes_of, words_of-bytes_of, fit_cons, fit_append, fit_none}
 use Rattle.vers_saved.proofs.Sums.{check_sum-lt}
 use Rattle.vers_saved.proofs.Forms.{AllPassed}
+use Rattle.vers_saved.proofs.Tests.{later_tests}
 
 -- where each test is passed there is no fault
 pub none_failing : (tests : List (Bool × LoadError)) → AllPassed tests → first_failing tests ≡ None
@@ -44,13 +37,6 @@ all_summed kind count width n words e =
     eq-eqb _ _ (get_or_push (head kind count width ++ words) (check_sum (head kind count width ++ words)) 0 (limb_count n + 5) long
     ∙ sym (ap check_sum (take_at (head kind count width ++ words) (check_sum (head kind count width ++ words) ∷ []) (limb_count n + 5) long)))
 
-or_left : (b c : Bool) → b ≡ true → (b || c) ≡ true
-or_left b c h = rw h refl
-
-or_right : (b c : Bool) → c ≡ true → (b || c) ≡ true
-or_right true c h = refl
-or_right false c h = h
-
 last_word : (kind count width n : ℕ) (words : List ℕ) → length words ≡ limb_count n → 0 < limb_count n
     → get_or (all_words kind count width words) (limb_count n + 4) 0 ≡ get_or words (limb_count n - 1) 0
 unfolding with_sum
@@ -61,19 +47,17 @@ last_word kind count width n words e some =
     ∙ ap (λ m. get_or words m 0) place
 
 small_end : (n : ℕ) (words : List ℕ) → EndsPadded n words → (n % 64 ≡ 0 → ⊥) → get_or words (limb_count n - 1) 0 < 2 ^ (n % 64)
-small_end n words padded part = elim padded [
-  | inl whole ↦ absurd (part whole)
-  | inr small ↦ small
-]
+small_end n words (inl whole) part = absurd (part whole)
+small_end n words (inr small) part = small
 
 all_padded : (kind count width n : ℕ) (words : List ℕ) → length words ≡ limb_count n → EndsPadded n words → is_padded n (all_words kind count width words) ≡ true
 unfolding is_padded
 all_padded kind count width n words e padded = elim (cases_eq (n % 64) 0) [
-  | inl whole ↦ or_left _ _ (eq-eqb _ _ whole)
+  | inl whole ↦ grind (arith, nat_tests)
   | inr part ↦
       let small : get_or (all_words kind count width words) (limb_count n + 4) 0 < 2 ^ (n % 64) =
       rw (last_word kind count width n words e (omega arith)) (small_end n words padded part) in
-      or_right _ _ (lt-ltb _ _ small)
+      grind (arith, nat_tests)
 ]
 
 -- the words between the head and the sum
@@ -87,28 +71,10 @@ all_pass : (kind : Kind) (count width : ℕ) (words : List ℕ) → IsWhole kind
     → in_order kind.order (words_among (count * item_bits kind width) (all_words kind.number count width words)) ≡ true
     → AllPassed (tests_of kind (saved_size (count * item_bits kind width)) (all_words kind.number count width words))
 unfolding with_sum
-all_pass kind count width words whole summed padded ordered = (
-  le-leb _ _ (omega arith),
-  (
-    refl,
-    (
-      refl,
-      (
-        eq-eqb kind.number kind.number refl,
-        (
-          whole.wide,
-          (
-            whole.many,
-            (
-              le-leb _ _ whole.small,
-              (le-leb _ _ (omega arith), (le-leb _ _ (omega arith), (summed, (padded, (ordered, tt))))),
-            ),
-          ),
-        ),
-      ),
-    ),
-  ),
-)
+all_pass kind count width words whole summed padded ordered =
+    let rest : AllPassed (later_tests kind (saved_size (count * item_bits kind width)) (all_words kind.number count width words)) =
+    (le-leb _ _ (omega arith), (le-leb _ _ (omega arith), (summed, (padded, (ordered, tt))))) in
+    (le-leb _ _ (omega arith), (refl, (refl, (eq-eqb kind.number kind.number refl, (whole.wide, (whole.many, (le-leb _ _ whole.small, rest)))))))
 
 pub saved_has_no_fault : (kind : Kind) (count width : ℕ) (words : List ℕ) → kind.number < 2 ^ 64 → count < 2 ^ 64 → width < 2 ^ 64 → IsWhole kind count width words
     → fault_of kind (saved kind.number count width words) ≡ None

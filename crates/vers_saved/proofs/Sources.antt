@@ -1,9 +1,5 @@
 -- The words of lists of bits.
-use Rattle.std.proofs.Common.{◌≡◌, ℕ, ◌-◌, ◌*◌, ◌<◌, min, Bool, List, length, get_or, take, drop, refl, sym, ap, ◌∙◌, inl, inr, arith}
-use Rattle.std.proofs.lemmas.Bool.{cases_lt}
-use Rattle.std.proofs.lemmas.List.{take_all, length-drop}
-use Rattle.vers_bits.specs.Bits.{number, part, limb, limbs}
-use Rattle.vers_bits.proofs.PublicLaws.{length-limbs, get_or-limbs}
+use Rattle.vers_saved.proofs.Names.{◌≡◌, ℕ, ◌-◌, ◌*◌, ◌<◌, min, Bool, List, length, get_or, take, drop, refl, sym, ap, ◌∙◌, inl, inr, arith, cases_lt, take_all, length-drop, number, part, limb, limbs, length-limbs, get_or-limbs}
 
 -- limb k of a list begins inside it
 pub limb_inside : (bits : List Bool) (k : ℕ) → k < length (limbs bits) → (limbs bits ≡ limbs bits) × (64 * k < length bits)

@@ -1,16 +1,9 @@
 -- Saved forms of lists of bits with few ones.
-use Rattle.std.proofs.Common.{◌≡◌, ℕ, suc, ◌+◌, ◌-◌, ◌^◌, ◌<◌, ◌≤◌, Bool, true, zero, List, [], ◌∷◌, ◌++◌, length, get_or, take, refl, sym, ap, subst, ◌∙◌, inl, inr, arith}
-use Rattle.std.specs.Prelude.{All}
-use Rattle.std.specs.List.Sorted.{IsStrictlyIncreasing}
-use Rattle.std.proofs.lemmas.Bool.{cases_lt}
-use Rattle.std.proofs.lemmas.Bool.Decides.{nat_tests}
-use Rattle.std.proofs.lemmas.List.{get_or_push, get_or_append_left, get_or_past, get_or-take, get_or_default, length-append, length-take, take_more, take_all}
-use Rattle.vers_bits.specs.Bits.{count, places, select}
+use Rattle.vers_saved.proofs.Names.{◌≡◌, ℕ, ◌+◌, ◌-◌, ◌^◌, ◌<◌, ◌≤◌, Bool, true, List, [], ◌∷◌, ◌++◌, length, get_or, take, refl, sym, ap, subst, ◌∙◌, inl, inr, arith, All, IsStrictlyIncreasing, cases_lt, nat_tests, get_or_push, get_or_append_left, get_or_past, get_or-take, length-append, length-take, take_more, take_all, count, each_next-rising, SPARSE_LISTS, sparse_words, IsWhole}
+use Rattle.std.proofs.lemmas.List.{get_or_default}
+use Rattle.std.proofs.lemmas.List.Kept.{AllPairs-from_increasing}
+use Rattle.vers_bits.specs.Bits.{places, select}
 use Rattle.vers_bits.proofs.PublicLaws.{length-places, count_at_select, select_up, select_past, any_default}
-use Rattle.vers_sorted.proofs.PublicLaws.{each_next-rising}
-use Rattle.vers_saved.specs.declared.kind.TheConstants.{SPARSE_LISTS}
-use Rattle.vers_saved.specs.Format.{sparse_words}
-use Rattle.vers_saved.specs.Kinds.{IsWhole}
 use Rattle.vers_saved.proofs.WordBytes.{AreWords}
 use Rattle.vers_saved.proofs.BitLists.{within}
 use Rattle.vers_saved.proofs.WordLists.{whole_numbers}
@@ -64,16 +57,6 @@ sparse_shape c w words whole =
 pub too_many_ones : (bits : List Bool) → 288230376151711743 ≤ count true bits (length bits) → IsWhole SPARSE_LISTS (length (sparse_words bits)) 64 (sparse_words bits) → ⊥
 too_many_ones bits many whole = omega (arith, length-sparse bits, (sparse_shape (length (sparse_words bits)) 64 (sparse_words bits) whole).3)
 
--- what a strictly ascending list says of its beginning
-rising_to : (words : List ℕ) (i m : ℕ) → IsStrictlyIncreasing words → i + suc m < length words → get_or words i 0 < get_or words (i + suc m) 0
-rising_to words i zero up h =
-    let next : i + 1 ≡ i + suc zero = omega arith in
-    subst (λ j. get_or words i 0 < get_or words j 0) next (up i (omega arith))
-rising_to words i (suc m) up h =
-    let next : i + suc m + 1 ≡ i + suc (suc m) = omega arith in
-    let step : get_or words (i + suc m) 0 < get_or words (i + suc m + 1) 0 = up (i + suc m) (omega arith) in
-    subst (λ j. get_or words i 0 < get_or words j 0) next (omega (arith, rising_to words i m up (omega arith)))
-
 pub first_rise : (c w : ℕ) (words ones : List ℕ) → IsWhole SPARSE_LISTS c w words → ones ≡ take (length words - 1) words → IsStrictlyIncreasing ones
 first_rise c w words ones whole is =
     subst IsStrictlyIncreasing (sym is) (λ k h.
@@ -86,11 +69,8 @@ pub first_below : (c w : ℕ) (words ones : List ℕ) (last : ℕ) → IsWhole S
 first_below c w words ones last whole is is_last =
     subst (All (λ place. place < last)) (sym is) (λ k d h.
     let inside : k < length words - 1 = omega (arith, length-take (length words - 1) words) in
-    let gap : k + suc (length words - 1 - (k + 1)) ≡ length words - 1 = omega arith in
-    let less : get_or words k 0 < get_or words (k + suc (length words - 1 - (k + 1))) 0 =
-    rising_to words k (length words - 1 - (k + 1)) ((each_next-rising words).0 whole.ordered) (omega arith) in
     rw (get_or_default (take (length words - 1) words) k d 0 h, get_or-take (length words - 1) words k 0 inside, is_last)
-    (subst (λ j. get_or words k 0 < get_or words j 0) gap less))
+    (AllPairs-from_increasing words ((each_next-rising words).0 whole.ordered) k (length words - 1) 0 inside (omega arith)))
 
 pub sparse_again : (c w : ℕ) (words ones : List ℕ) (last : ℕ) (v : List Bool) → IsWhole SPARSE_LISTS c w words → ones ≡ take (length words - 1) words → last ≡ get_or words (length words - 1) 0
     → length v ≡ last → places true v ≡ ones → sparse_words v ≡ words

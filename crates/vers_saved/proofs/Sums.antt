@@ -1,15 +1,8 @@
 -- The sum of words.
-use Rattle.std.proofs.Common.{◌≡◌, ℕ, ◌+◌, ◌*◌, ◌/◌, ◌%◌, ◌^◌, ◌<◌, ◌≤◌, drop, List, [], ◌∷◌, ◌++◌, length, get_or, take, refl, sym, ap, ◌∙◌, arith}
-use Rattle.std.specs.Prelude.{fold, flat_map, map, bit_xor}
-use Rattle.std.proofs.Math.ListN.{set}
-use Rattle.std.proofs.lemmas.Nat.{or_lt, mod_below, pow_pos, shr_le}
-use Rattle.std.proofs.lemmas.Grind.{fold-append, flat_map-append}
-use Rattle.std.proofs.lemmas.List.{take-map, drop-map, map-append, append_assoc, append-nil, take_more, take_more_set, take_all, flat_map_more}
-use Rattle.std.proofs.lemmas.List.Folds.{flat_map-map}
-use Rattle.std.proofs.Math.Seq.{take-add}
-use Rattle.vers_saved.specs.declared.TheConstants.{START, MAGIC, VERSION, FACTOR}
-use Rattle.std.specs.Simd.{first_chunks}
-use Rattle.vers_saved.specs.Format.{mix, check_sum, words_of, bytes_word, word_bytes, bytes_of, head, saved, with_sum}
+use Rattle.vers_saved.proofs.Names.{◌≡◌, ℕ, ◌+◌, ◌*◌, ◌/◌, ◌%◌, ◌^◌, ◌<◌, ◌≤◌, drop, List, [], ◌∷◌, ◌++◌, length, get_or, take, refl, sym, ap, ◌∙◌, arith, fold, map, bit_xor, mod_below, pow_pos, fold-append, append_assoc, append-nil, take_more, take_all, take-add, START, MAGIC, VERSION, FACTOR, first_chunks, mix, check_sum, words_of, bytes_word, word_bytes, bytes_of, head, saved, with_sum}
+use Rattle.std.proofs.lemmas.Nat.{or_lt, shr_le}
+use Rattle.std.proofs.lemmas.Grind.{flat_map-append}
+use Rattle.std.proofs.lemmas.List.{take-map, drop-map, flat_map_more}
 
 pub check_sum-none : check_sum [] ≡ START
 unfolding check_sum
@@ -43,25 +36,20 @@ words_of-part bytes n m =
     sym (take-map bytes_word n (drop m (first_chunks 8 (length bytes / 8) bytes)))
     ∙ ap (take n) (sym (drop-map bytes_word m (first_chunks 8 (length bytes / 8) bytes)))
 
--- words one after another, as bytes and mixed in
-pub bytes-take_more : (chunks : List (List ℕ)) (ws : List ℕ) (k : ℕ) → k < length chunks → k < length ws → take k chunks ≡ map word_bytes (take k ws)
-    → take (k + 1) (set chunks k (word_bytes (get_or ws k 0))) ≡ map word_bytes (take (k + 1) ws)
-bytes-take_more chunks ws k h i e =
-    take_more_set chunks k (word_bytes (get_or ws k 0)) h ∙ ap (λ l. l ++ word_bytes (get_or ws k 0) ∷ []) e
-    ∙ sym (ap (map word_bytes) (take_more ws k 0 i) ∙ map-append word_bytes (take k ws) (get_or ws k 0 ∷ []))
+-- words one after another, and their bytes
+pub bytes_of-take_more : (out ws : List ℕ) (k : ℕ) → k < length ws → (out ++ bytes_of (take k ws)) ++ word_bytes (get_or ws k 0) ≡ out ++ bytes_of (take (k + 1) ws)
+bytes_of-take_more out ws k h = flat_map_more word_bytes out (take k ws) (get_or ws k 0) ∙ ap (λ l. out ++ bytes_of l) (sym (take_more ws k 0 h))
 
 pub fold-take_more : (sum : ℕ) (ws : List ℕ) (k : ℕ) → k < length ws → mix (fold mix sum (take k ws)) (get_or ws k 0) ≡ fold mix sum (take (k + 1) ws)
 fold-take_more sum ws k h = sym (ap (fold mix sum) (take_more ws k 0 h) ∙ fold-append mix sum (take k ws) (get_or ws k 0 ∷ []))
 
--- all of them
-pub bytes-take_all : (chunks : List (List ℕ)) (ws : List ℕ) (k : ℕ) → length ws ≤ k → take k chunks ≡ map word_bytes (take k ws) → flat_map (λ bytes. bytes) (take k chunks) ≡ bytes_of ws
-bytes-take_all chunks ws k h e =
-    ap (flat_map (λ bytes. bytes)) (e ∙ ap (map word_bytes) (take_all k ws h)) ∙ flat_map-map (λ bytes. bytes) word_bytes ws
+pub bytes_of-take_all : (out ws : List ℕ) (k : ℕ) → length ws ≤ k → out ++ bytes_of (take k ws) ≡ out ++ bytes_of ws
+bytes_of-take_all out ws k h = ap (λ l. out ++ bytes_of l) (take_all k ws h)
 
 pub fold-take_all : (sum : ℕ) (ws : List ℕ) (k : ℕ) → length ws ≤ k → fold mix sum (take k ws) ≡ fold mix sum ws
 fold-take_all sum ws k h = ap (fold mix sum) (take_all k ws h)
 
-pub ruleset words = (bytes-take_more, fold-take_more, bytes-take_all, fold-take_all)
+pub ruleset words = (bytes_of-take_more, fold-take_more, bytes_of-take_all, fold-take_all)
 
 pub bytes_of-append : (us ws : List ℕ) → bytes_of (us ++ ws) ≡ bytes_of us ++ bytes_of ws
 bytes_of-append us ws = flat_map-append word_bytes us ws

@@ -1,26 +1,18 @@
 -- Saved forms of lists of symbols.
-use Rattle.std.proofs.Common.{◌≡◌, ℕ, zero, suc, ◌+◌, ◌-◌, ◌*◌, ◌/◌, ◌%◌, ◌^◌, ◌<◌, ◌≤◌, Bool, List, [], ◌∷◌, ◌++◌, length, get_or, take, drop, refl, sym, ap, subst, ◌∙◌, inl, inr, append_assoc, pow-add, below_more, get_or-set_same, get_or-set_other, ◌≢◌, arith}
-use Rattle.std.specs.Prelude.{map, All, Option, None, Result, Ok, Err, IfOk, nat_le, slice_get, unwrap_or, if◌then◌else◌}
+use Rattle.vers_saved.proofs.Names.{◌≡◌, ℕ, zero, suc, ◌+◌, ◌-◌, ◌*◌, ◌/◌, ◌%◌, ◌^◌, ◌<◌, ◌≤◌, Bool, List, [], ◌∷◌, ◌++◌, length, get_or, take, drop, refl, sym, ap, subst, ◌∙◌, inl, inr, append_assoc, arith, map, All, Option, None, Result, Ok, Err, nat_le, slice_get, unwrap_or, take-add, mod-eq_of_lt, set, cases_lt, le-leb, nat_tests, drop-drop, take_all, take_at, drop_at, take-take, drop-take, length-take, length-map, get_or_past, slice_get-get_or, slice_get_past, mod_below, number, low_bits, part, limbs, limb_count, pack, length-low_bits, number-low_bits, number-take, length-packed, SYMBOL_LISTS, IsWhole}
+use Rattle.std.proofs.Common.{pow-add, below_more, get_or-set_same, get_or-set_other, ◌≢◌}
+use Rattle.std.specs.Prelude.{IfOk, if◌then◌else◌}
 use Rattle.std.specs.List.{range_with_len}
-use Rattle.std.proofs.Math.Seq.{take-add}
-use Rattle.std.proofs.Math.Nat.{pow-le-pow_right, mul-le-mul_left, mod-eq_of_lt, mod-eq-sub-div-mul, div-mul-le_self}
-use Rattle.std.proofs.Math.ListN.{set}
-use Rattle.std.proofs.lemmas.Bool.{cases_lt, le-leb}
-use Rattle.std.proofs.lemmas.Bool.Decides.{nat_tests}
-use Rattle.std.proofs.lemmas.List.{drop-drop, take_all, take_at, drop_at, take-take, drop-take, length-take, length-map, map-set, get_or-map, get_or_past}
-use Rattle.std.proofs.lemmas.Option.{slice_get-get_or, slice_get_past}
+use Rattle.std.proofs.Math.Nat.{pow-le-pow_right, mul-le-mul_left, mod-eq-sub-div-mul, div-mul-le_self}
+use Rattle.std.proofs.lemmas.List.{map-set, get_or-map}
 use Rattle.std.proofs.lemmas.List.FromFn.{length-map-range_with_len, get_or-map-range_with_len}
 use Rattle.std.proofs.lemmas.List.Elements.{All-from_get_or}
-use Rattle.std.proofs.lemmas.Nat.{div-mul-add, mod-mul-add, mod_below}
-use Rattle.vers_bits.specs.Bits.{number, low_bits, part, limbs, limb_count, pack}
-use Rattle.vers_bits.proofs.PublicLaws.{length-low_bits, low_bits-add, number-low_bits, number-take, number-drop, number-lt, length-limbs, length-packed, low_bits_of_part}
+use Rattle.std.proofs.lemmas.Nat.{div-mul-add, mod-mul-add}
+use Rattle.vers_bits.proofs.PublicLaws.{low_bits-add, number-drop, number-lt, low_bits_of_part}
 use Rattle.vers_wavelet.specs.Symbols.{Symbols}
 use Rattle.vers_wavelet.specs.declared.wavelet.batch.get.GetQuery.{GetQuery}
 use Rattle.vers_wavelet.specs.Makers.{packed_symbols}
-use Rattle.vers_saved.specs.declared.kind.TheConstants.{SYMBOL_LISTS}
-use Rattle.vers_saved.specs.Kinds.{EndsPadded, IsWhole}
-use Rattle.vers_saved.proofs.LimbLists.{limbs_fit, limbs_padded, limbs-first, length-first}
-use Rattle.vers_saved.proofs.BitLists.{within}
+use Rattle.vers_saved.proofs.BitLists.{within, whole_bits}
 
 pub length-packed_items : (items : List ℕ) (k : ℕ) → length (pack items k) ≡ length items * k
 length-packed_items items k = length-packed (λ v. v) k items
@@ -69,7 +61,7 @@ item_inside items w item h = elim (cases_lt item (length items)) [
 ]
 
 -- the bits of a symbol before those whose number is known
-bits_before : (items : List ℕ) (w item place end start word symbol new : ℕ) → item * w < place → place ≤ item * w + w → item * w ≤ start → start < place → place ≤ end
+pub bits_before : (items : List ℕ) (w item place end start word symbol new : ℕ) → item * w < place → place ≤ item * w + w → item * w ≤ start → start < place → place ≤ end
     → end ≤ length (pack items w) → symbol ≡ get_or items item 0 → word ≡ number (take (end - place) (drop place (pack items w)))
     → new ≡ symbol / 2 ^ (start - item * w) % 2 ^ (place - start) + 2 ^ (place - start) * word → new ≡ number (take (end - start) (drop start (pack items w)))
 bits_before items w item place end start word symbol new low high above below inside whole is_symbol is_word is_new =
@@ -104,14 +96,6 @@ in_group w k item place some low high above below =
       | inr more ↦ absurd (omega (arith, times_le (64 * (k / w) + 64) item w more))
     ] in
     omega arith
-
--- the same, where the width has another name
-pub bits_before_as : (items : List ℕ) (w v item place end start word symbol new : ℕ) → v ≡ w → item * w < place → place ≤ item * w + w → item * w ≤ start → start < place → place ≤ end
-    → end ≤ length (pack items w) → symbol ≡ get_or items item 0 → word ≡ number (take (end - place) (drop place (pack items w)))
-    → new ≡ symbol / 2 ^ (start - item * v) % 2 ^ (place - start) + 2 ^ (place - start) * word → new ≡ number (take (end - start) (drop start (pack items w)))
-bits_before_as items w v item place end start word symbol new is low high above below inside whole is_symbol is_word is_new =
-    bits_before items w item place end start word symbol new low high above below inside whole is_symbol is_word
-    (subst (λ m. new ≡ symbol / 2 ^ (start - item * m) % 2 ^ (place - start) + 2 ^ (place - start) * word) is is_new)
 
 -- before the first bit of a symbol stands the last one of the symbol before it
 pub symbol_before : (w item start : ℕ) → 1 ≤ w → start ≡ item * w → 0 < start → ((item - 1) * w < start) × (start ≤ (item - 1) * w + w)
@@ -182,16 +166,8 @@ le_times n k some = grind arith
 
 pub whole_symbols : (k : ℕ) (items : List ℕ) → 1 ≤ k → k ≤ 64 → length items * k ≤ 18446744073709551552 → IsWhole SYMBOL_LISTS (length items) k (limbs (pack items k))
 whole_symbols k items some few small =
-    let long : length (pack items k) ≡ length items * k = length-packed_items items k in
-    record {
-      wide = within 1 64 k some few;
-      many = within 0 18446744073709551552 (length items) (omega arith) (omega (arith, le_times (length items) k some));
-      small = small;
-      counted = length-limbs (pack items k) ∙ ap limb_count long;
-      fit = limbs_fit (pack items k);
-      padded = subst (λ n. EndsPadded n (limbs (pack items k))) long (limbs_padded (pack items k));
-      ordered = refl;
-    }
+    whole_bits SYMBOL_LISTS (length items) k (pack items k) (within 1 64 k some few) (within 0 18446744073709551552 (length items) (omega arith) (omega (arith, le_times (length items) k some)))
+    (length-packed_items items k) (omega (arith, length-packed_items items k)) refl
 
 pub symbols_shape : (count k : ℕ) (words : List ℕ) → IsWhole SYMBOL_LISTS count k words
     → (1 ≤ k) × (k ≤ 64) × (count * k ≤ 18446744073709551552) × (length words ≡ limb_count (count * k))
@@ -204,17 +180,13 @@ pub whole_number : (count k : ℕ) (bits : List Bool) → 1 ≤ k → length bit
 whole_number count k bits some e =
     let more : length bits ≡ count * k + 0 = omega arith in ap (λ m. m % k) more ∙ mod-mul-add count k 0 some
 
--- words that were loaded are symbols
-pub loaded_symbols : (count k : ℕ) (words : List ℕ) (bits : List Bool) (items : List ℕ) → IsWhole SYMBOL_LISTS count k words
-    → bits ≡ take (count * k) (pack words 64) → items ≡ packed_symbols bits k
-    → (length items ≡ count) × (limbs (pack items k) ≡ words) × All (λ y. y < 2 ^ k) items
-loaded_symbols count k words bits items whole are is =
-    let shape = symbols_shape count k words whole in
-    let long : length bits ≡ count * k = ap length are ∙ length-first words (count * k) whole.counted in
-    let same : limbs bits ≡ words = ap limbs are ∙ limbs-first words (count * k) whole.counted whole.fit whole.padded in
-    let again : pack items k ≡ bits = ap (λ l. pack l k) is ∙ pack-packed_symbols bits k count shape.0 long in
-    let many : length items ≡ count = ap length is ∙ length-packed_symbols bits k count shape.0 long in
-    (many, ap limbs again ∙ same, subst (λ l. All (λ y. y < 2 ^ k) l) (sym is) (symbols_fit bits k))
+-- what a matrix of the symbols that bits hold has
+pub loaded_matrix : (count k w : ℕ) (bits : List Bool) (v : Symbols) → 1 ≤ k → length bits ≡ count * k → v.width ≡ w → w ≡ k → v.items ≡ packed_symbols bits w
+    → (length v.items ≡ count) × (v.width ≡ k) × (limbs (pack v.items v.width) ≡ limbs bits) × All (λ y. y < 2 ^ v.width) v.items
+loaded_matrix count k w bits v some long wide is_width is =
+    let same : v.width ≡ k = wide ∙ is_width in
+    let are : v.items ≡ packed_symbols bits k = is ∙ ap (packed_symbols bits) is_width in
+    rw (same, are) (length-packed_symbols bits k count some long, refl, ap limbs (pack-packed_symbols bits k count some long), symbols_fit bits k)
 
 pub count_small : (count k a b : ℕ) (words : List ℕ) → IsWhole SYMBOL_LISTS count k words → a ≡ count → b ≡ k → a * b ≤ 18446744073709551552
 count_small count k a b words whole is_count is_width = rw (is_count, is_width) whole.small
@@ -225,15 +197,6 @@ all_bits items k a b is_count is_width = rw (is_count, is_width) (sym (length-pa
 pub few_symbols : (n a b w : ℕ) → a ≡ n → b ≡ w → a ≤ 18446744073709551552 / b → n * w ≤ 18446744073709551552
 few_symbols n a b w is_count is_width h =
     rw (← is_count, ← is_width) (omega (arith, times_le a (18446744073709551552 / b) b h, div-mul-le_self 18446744073709551552 b))
-
--- what a matrix of loaded symbols has
-pub loaded_matrix : (count k w : ℕ) (words : List ℕ) (bits : List Bool) (v : Symbols) → IsWhole SYMBOL_LISTS count k words → bits ≡ take (count * k) (pack words 64)
-    → v.width ≡ w → w ≡ k → v.items ≡ packed_symbols bits w
-    → (length v.items ≡ count) × (v.width ≡ k) × (limbs (pack v.items v.width) ≡ words) × All (λ y. y < 2 ^ v.width) v.items
-loaded_matrix count k w words bits v whole are wide is_width is =
-    let p = loaded_symbols count k words bits v.items whole are (is ∙ ap (packed_symbols bits) is_width) in
-    let same : v.width ≡ k = wide ∙ is_width in
-    (p.0, same, ap (λ m. limbs (pack v.items m)) same ∙ p.1, subst (λ m. All (λ y. y < 2 ^ m) v.items) (sym same) p.2)
 
 pub if_ok : {E : Type 0} (r : Result Symbols E) (P Q R : Symbols → Type 0) → ((v : Symbols) → P v → Q v → R v) → IfOk r P → IfOk r Q → IfOk r R
 if_ok (Ok v) P Q R f p q = f v p q

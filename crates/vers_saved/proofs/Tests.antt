@@ -1,41 +1,24 @@
 -- The fault of bytes, by the tests in turn.
-use Rattle.std.proofs.Common.{◌≡◌, ℕ, ◌/◌, ◌<◌, ◌≤◌, Bool, true, false, cond, List, [], ◌∷◌, ◌++◌, length, refl, sym, ap, ◌∙◌, arith}
-use Rattle.std.specs.Prelude.{Option, None, Some, nat_le, map}
-use Rattle.std.specs.Simd.{first_chunks}
-use Rattle.std.proofs.lemmas.Bool.{le-leb}
-use Rattle.std.proofs.lemmas.Bool.Decides.{nat_tests}
-use Rattle.vers_saved.specs.declared.kind.Kind.{Kind}
-use Rattle.vers_saved.specs.declared.fault.LoadError.{LoadError}
-use Rattle.vers_saved.specs.declared.fault.LoadError.TheVariants.{TooShort, BadLength}
-use Rattle.vers_saved.specs.Format.{words_of, bytes_word, saved_size}
-use Rattle.vers_saved.specs.Faults.{first_failing, head_tests, body_tests, tests_of, fault_of, bits_said}
+use Rattle.vers_saved.proofs.Names.{◌≡◌, ℕ, ◌/◌, ◌<◌, ◌≤◌, Bool, true, false, List, [], ◌∷◌, ◌++◌, length, refl, sym, ap, ◌∙◌, arith, None, Some, nat_le, map, first_chunks, le-leb, nat_tests, Kind, LoadError, TooShort, BadLength, words_of, bytes_word, saved_size, first_failing, head_tests, body_tests, tests_of, fault_of, bits_said}
 use Rattle.vers_saved.proofs.WordBytes.{length-words_of}
 
 -- a test that fails, and one that holds
 fails : (b : Bool) (e : LoadError) (tests : List (Bool × LoadError)) → b ≡ false → first_failing ((b, e) ∷ tests) ≡ Some e
-fails true e tests h = cc
-fails false e tests h = refl
+fails b e tests h = rw h refl
 
 holds : (b : Bool) (e : LoadError) (tests : List (Bool × LoadError)) → b ≡ true → first_failing ((b, e) ∷ tests) ≡ first_failing tests
-holds true e tests h = refl
-holds false e tests h = cc
+holds b e tests h = rw h refl
 
 -- tests, and then others
-some_first : (b : Bool) (f e : LoadError) (rest more : Option LoadError) → (rest ≡ Some e → more ≡ Some e) → cond b rest (Some f) ≡ Some e → cond b more (Some f) ≡ Some e
-some_first true f e rest more step h = step h
-some_first false f e rest more step h = h
-
 fault_first : (xs ys : List (Bool × LoadError)) (e : LoadError) → first_failing xs ≡ Some e → first_failing (xs ++ ys) ≡ Some e
 fault_first [] ys e h = cc
-fault_first (x ∷ xs) ys e h = some_first x.0 x.1 e (first_failing xs) (first_failing (xs ++ ys)) (λ p. fault_first xs ys e p) h
-
-none_first : (b : Bool) (f : LoadError) (rest more last : Option LoadError) → (rest ≡ None → more ≡ last) → cond b rest (Some f) ≡ None → cond b more (Some f) ≡ last
-none_first true f rest more last step h = step h
-none_first false f rest more last step h = cc
+fault_first ((true, f) ∷ xs) ys e h = fault_first xs ys e h
+fault_first ((false, f) ∷ xs) ys e h = h
 
 fault_then : (xs ys : List (Bool × LoadError)) → first_failing xs ≡ None → first_failing (xs ++ ys) ≡ first_failing ys
 fault_then [] ys h = refl
-fault_then (x ∷ xs) ys h = none_first x.0 x.1 (first_failing xs) (first_failing (xs ++ ys)) (first_failing ys) (λ p. fault_then xs ys p) h
+fault_then ((true, f) ∷ xs) ys h = fault_then xs ys h
+fault_then ((false, f) ∷ xs) ys h = cc
 
 not_le : (m n : ℕ) → n < m → nat_le m n ≡ false
 not_le m n h = grind (arith, nat_tests)

@@ -1,14 +1,6 @@
 -- Saved forms of lists of numbers.
-use Rattle.std.proofs.Common.{◌≡◌, ℕ, ◌-◌, ◌*◌, ◌^◌, ◌<◌, ◌≤◌, true, List, length, get_or, refl, ap, inl, inr, arith}
-use Rattle.std.specs.List.Sorted.{IsNonDecreasing}
-use Rattle.std.proofs.lemmas.Bool.{cases_lt}
-use Rattle.std.proofs.lemmas.Bool.Decides.{nat_tests}
-use Rattle.std.proofs.lemmas.List.{get_or_past}
+use Rattle.vers_saved.proofs.Names.{◌≡◌, ℕ, ◌-◌, ◌*◌, ◌^◌, ◌<◌, ◌≤◌, true, List, length, get_or, refl, ap, inl, inr, arith, IsNonDecreasing, cases_lt, nat_tests, get_or_past, Kind, SORTED_LISTS, TABLE_VALUES, BLOCK_VALUES, takes_width, takes_count, item_bits, in_order, IsWhole}
 use Rattle.vers_sorted.proofs.PublicLaws.{each_next-ascending}
-use Rattle.vers_saved.specs.declared.kind.Kind.{Kind}
-use Rattle.vers_saved.specs.declared.kind.TheConstants.{SORTED_LISTS, TABLE_VALUES, BLOCK_VALUES}
-use Rattle.vers_saved.specs.Faults.{takes_width, takes_count, item_bits, in_order}
-use Rattle.vers_saved.specs.Kinds.{IsWhole}
 use Rattle.vers_saved.proofs.WordBytes.{AreWords}
 use Rattle.vers_saved.proofs.BitLists.{within}
 

@@ -72,7 +72,7 @@ impl<A: Allocator + Copy> Loaded<A> for BitVec<A> {
     ghost use Rattle.vers_saved.specs.inside.Telling.{bits_tell};
 
     fn make(of: Shape, held: &mut Vec<u64, A>) -> Result<Self, AllocError> {
-        Ok(bits_of(of.count, taken(held)))
+        Ok(bits_of(&BIT_LISTS, of, taken(held)))
     }
 
     ghost tells = { bits_tell 1 };
@@ -109,7 +109,7 @@ impl<A: Allocator + Copy> Loaded<A> for RsVec<A> {
     ghost use Rattle.vers_saved.specs.inside.Telling.{bits_tell};
 
     fn make(of: Shape, held: &mut Vec<u64, A>) -> Result<Self, AllocError> {
-        RsVec::from_bit_vec(bits_of(of.count, taken(held)))
+        RsVec::from_bit_vec(bits_of(&BIT_LISTS, of, taken(held)))
     }
 
     ghost tells = { bits_tell 1 };

@@ -1,7 +1,7 @@
 //! The saved form of any list: a head, words and a sum.
 ghost use Rattle.std.specs.Prelude.{◌≡◌, ℕ, List, ◌+◌, ◌*◌, ◌<◌, ◌≤◌, ◌++◌, ◌⊎◌, length, take, drop, fold, map, slice_index, vec_len, vec_capacity, OnOk, OnErr, IfOk, IfErr, MatchResult, Some, None};
 ghost use Rattle.vers_saved.specs.Format.{word_bytes, bytes_of, bytes_word, check_sum, mix, head, words_of, saved, saved_size};
-ghost use Rattle.vers_bits.specs.Bits.{limb_count, pack};
+ghost use Rattle.vers_bits.specs.Bits.{limb_count, limbs, pack};
 ghost use Rattle.vers_saved.specs.Faults.{first_failing, fault_of, item_bits, head_tests, body_tests, words_among};
 ghost use Rattle.vers_saved.specs.Kinds.{IsWhole};
 
@@ -41,6 +41,22 @@ pub(crate) fn put_summed<B: Allocator>(out: &mut Vec<u8, B>, sum: u64, word: u64
     mixed(sum, word)
 }
 
+// Appends words, for which there is room. Returns the sum with them mixed in.
+#[tactic(auto, using(crate::proofs::Sums::words))]
+pub(crate) fn put_words<B: Allocator>(out: &mut Vec<u8, B>, sum: u64, words: &[u64]) -> u64
+    requires { vec_len out.old + 8 * length words.now ≤ vec_capacity out.old }
+    ensures items { out.new.items ≡ out.old.items ++ bytes_of words.now }
+    ensures len { vec_len out.new ≡ vec_len out.old + 8 * length words.now }
+    ensures capacity { vec_capacity out.old ≤ vec_capacity out.new }
+    ensures sum { result ≡ fold mix sum words.now }
+{
+    let mut mixed = sum;
+    for k in 0..words.len() {
+        mixed = put_summed(out, mixed, words[k]);
+    }
+    mixed
+}
+
 // Appends the head of a saved form, for which there is room. Returns its sum.
 #[tactic(auto, using(crate::proofs::Sums::heads))]
 pub(crate) fn put_head<B: Allocator>(out: &mut Vec<u8, B>, shape: Shape) -> u64
@@ -55,14 +71,6 @@ pub(crate) fn put_head<B: Allocator>(out: &mut Vec<u8, B>, shape: Shape) -> u64
     let sum = put_summed(out, sum, shape.kind);
     let sum = put_summed(out, sum, shape.width as u64);
     put_summed(out, sum, shape.count as u64)
-}
-
-// How many words the items of a shape fill.
-pub(crate) fn count_words(kind: &Kind, shape: Shape) -> usize
-    requires { shape.count * item_bits kind.now shape.width ≤ MAX_LEN }
-    ensures { result ≡ limb_count (shape.count * item_bits kind.now shape.width) }
-{
-    (shape.count * kind.bits_of_item(shape.width)).div_ceil(64)
 }
 
 /// What the head of a form says: the shape of the list, and how many bits its items have.
@@ -212,7 +220,7 @@ pub(crate) fn taken<A: Allocator + Copy>(held: &mut Vec<u64, A>) -> Vec<u64, A>
 
 // The first `len` bits that words hold, which are no more than so many need.
 #[tactic(auto, using(crate::proofs::BitLists::cuts))]
-pub(crate) fn bits_of<A: Allocator + Copy>(len: usize, words: Vec<u64, A>) -> BitVec<A>
+fn first_bits<A: Allocator + Copy>(len: usize, words: Vec<u64, A>) -> BitVec<A>
     requires small { len ≤ MAX_LEN }
     requires counted { length words.items ≡ limb_count len }
     ensures value { result ≡ take len (pack words.items 64) }
@@ -222,4 +230,14 @@ pub(crate) fn bits_of<A: Allocator + Copy>(len: usize, words: Vec<u64, A>) -> Bi
     let past = bits.len() - len;
     bits.drop_last(past);
     bits
+}
+
+// The bits of the items that words hold, of a list of that kind and shape.
+#[tactic(auto, using(crate::proofs::RoundTrips::counts))]
+pub(crate) fn bits_of<A: Allocator + Copy>(kind: &Kind, of: Shape, words: Vec<u64, A>) -> BitVec<A>
+    requires { IsWhole kind.now of.count of.width words.items }
+    ensures len { length result ≡ of.count * item_bits kind.now of.width }
+    ensures limbs { limbs result ≡ words.items }
+{
+    first_bits(of.count * kind.bits_of_item(of.width), words)
 }

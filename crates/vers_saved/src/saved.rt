@@ -6,9 +6,9 @@ ghost use Rattle.vers_saved.specs.Faults.{fault_of};
 ghost use Rattle.vers_saved.specs.Kinds.{IsWhole};
 
 use crate::fault::{LoadError, SaveError};
-use crate::form::{Form, Shape, count_words, form_of, put_head};
+use crate::form::{Form, Shape, form_of, put_head, put_words};
 use crate::kind::Kind;
-use crate::words::{FRAME, GROUP, put_word, put_words};
+use crate::words::{FRAME, put_word};
 use std::alloc::{AllocError, Allocator};
 
 /// A list that has a saved form, by its words. A list of which `IsWhole` and `Fits` hold is loaded
@@ -75,6 +75,18 @@ pub trait Loaded<A: Allocator>: Saved + Sized {
         → Self.width x ≡ Self.width y → Self.words x ≡ Self.words y → x ≡ y };
 }
 
+// How many words a list of that shape has.
+#[tactic(auto, using(crate::proofs::RoundTrips::counts))]
+pub(crate) fn count_words<S: Saved>(list: &S, shape: Shape) -> usize
+    requires count { shape.count ≡ S.count list.now }
+    requires width { shape.width ≡ S.width list.now }
+    requires whole { IsWhole S.kind (S.count list.now) (S.width list.now) (S.words list.now) }
+    ensures count { result ≡ length (S.words list.now) }
+    ensures small { result ≤ 288230376151711743 }
+{
+    (shape.count * S::kind().bits_of_item(shape.width)).div_ceil(64)
+}
+
 /// How many bytes the saved form of a list has. None where the list has none.
 #[tactic(auto, using(crate::proofs::RoundTrips::sizes))]
 pub fn saved_size<S: Saved>(list: &S) -> Option<usize>
@@ -85,8 +97,11 @@ pub fn saved_size<S: Saved>(list: &S) -> Option<usize>
         → ¬ IsWhole S.kind (S.count list.now) (S.width list.now) (S.words list.now) }
 {
     let shape = list.shape()?;
-    Some(8 * (count_words(&S::kind(), shape) + FRAME))
+    Some(8 * (count_words(list, shape) + FRAME))
 }
+
+// How many words are copied out of a list at once.
+pub(crate) const GROUP: usize = 512;
 
 // Appends `n` words of a list from a place on, for which there is room. Returns the sum with them mixed in.
 pub(crate) fn put_group<S: Saved, B: Allocator>(
@@ -112,7 +127,6 @@ pub(crate) fn put_group<S: Saved, B: Allocator>(
 }
 
 // Appends the saved form of a list with that shape. Out of memory leaves the bytes as they were.
-#[tactic(auto, using(crate::proofs::RoundTrips::counts))]
 fn append_saved<S: Saved, B: Allocator>(
     list: &S,
     shape: Shape,
@@ -125,7 +139,7 @@ fn append_saved<S: Saved, B: Allocator>(
         ≡ out.old.items ++ saved shape.kind shape.count shape.width (S.words list.now)) }
     ensures kept { OnErr result (out.new.items ≡ out.old.items) }
 {
-    let count = count_words(&S::kind(), shape);
+    let count = count_words(list, shape);
     out.reserve(8 * (count + FRAME))?;
     let mut sum = put_head(out, shape);
     let mut done = 0;

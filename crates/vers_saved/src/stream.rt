@@ -7,11 +7,11 @@ ghost use Rattle.vers_engine.specs.Device.{FollowsReadFault, FollowsWriteFault};
 ghost use Rattle.vers_saved.specs.Streams.{Writes, IsRefused};
 
 use crate::fault::{LoadError, SaveError};
-use crate::form::{Form, Shape, count_words, put_head};
+use crate::form::{Form, Shape, put_head};
 pub use crate::gather::fill;
 use crate::gather::{BLOCK, form_from};
-use crate::saved::{Loaded, Saved, put_group};
-use crate::words::{GROUP, put_word};
+use crate::saved::{GROUP, Loaded, Saved, count_words, put_group};
+use crate::words::put_word;
 use std::alloc::Allocator;
 use vers_engine::{Sink, Source};
 
@@ -55,7 +55,6 @@ fn make_room<W: Sink, A: Allocator>(
 }
 
 // Writes the saved form of a list with that shape, by a buffer.
-#[tactic(auto, using(crate::proofs::RoundTrips::counts))]
 fn write_words<S: Saved, W: Sink, A: Allocator>(
     writer: &mut W,
     mut buffer: Vec<u8, A>,
@@ -72,7 +71,7 @@ fn write_words<S: Saved, W: Sink, A: Allocator>(
     ensures kind { IfErr result (λ e. e ≡ SaveError.Write) }
     ensures cause { OnErr result (FollowsWriteFault W.write_gives writer.new) }
 {
-    let count = count_words(&S::kind(), shape);
+    let count = count_words(list, shape);
     let mut sum = put_head(&mut buffer, shape);
     let mut done = 0;
     while done < count {

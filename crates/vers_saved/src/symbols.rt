@@ -185,7 +185,7 @@ impl<A: Allocator + Copy> Loaded<A> for WaveletMatrix<A> {
     ghost use Rattle.vers_saved.specs.inside.Telling.{symbols_tell};
 
     fn make(of: Shape, held: &mut Vec<u64, A>) -> Result<Self, AllocError> {
-        let bits = bits_of(of.count * of.width, taken(held));
+        let bits = bits_of(&SYMBOL_LISTS, of, taken(held));
         WaveletMatrix::from_bit_vec(&bits, of.width as u16)
     }
 

@@ -75,7 +75,7 @@ fn parentheses_of<A: Allocator + Copy>(size: usize, of: Shape, words: Vec<u64, A
     ensures width { size ≡ of.width }
     ensures limbs { limbs result ≡ words.items }
 {
-    bits_of(of.count, words)
+    bits_of(&tree_kind(size), of, words)
 }
 
 // The tree of the parentheses that words hold. The words are taken out of the vector.

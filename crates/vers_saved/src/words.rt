@@ -1,6 +1,6 @@
 //! Words of 64 bits, as bytes, and their sum.
-ghost use Rattle.std.specs.Prelude.{◌≡◌, ℕ, List, ◌+◌, ◌*◌, ◌<◌, ◌≤◌, ◌++◌, length, fold, map, take, slice_index, vec_len, vec_capacity, IfOk, ◌^◌};
-ghost use Rattle.vers_saved.specs.Format.{word_bytes, bytes_of, bytes_word, mix, check_sum};
+ghost use Rattle.std.specs.Prelude.{◌≡◌, ℕ, List, ◌+◌, ◌*◌, ◌<◌, ◌≤◌, ◌++◌, length, map, take, slice_index, vec_len, vec_capacity, IfOk, ◌^◌};
+ghost use Rattle.vers_saved.specs.Format.{word_bytes, bytes_word, mix, check_sum};
 ghost use Rattle.vers_saved.specs.Faults.{is_padded, is_summed, in_order, ordered_words, stands, words_among};
 ghost use Rattle.vers_bits.specs.Bits.{limb_count};
 
@@ -10,9 +10,6 @@ use std::alloc::{AllocError, Allocator};
 
 /// How many words a head and a sum have.
 pub(crate) const FRAME: usize = 6;
-
-/// How many words are copied out of a list, or appended as bytes, at once.
-pub(crate) const GROUP: usize = 512;
 
 /// Words, one after another.
 pub(crate) trait Words {
@@ -67,45 +64,17 @@ pub(crate) fn word_of(bytes: [u8; 8]) -> u64
     u64::from_le_bytes(bytes)
 }
 
-// The eight bytes of a word.
-#[inline(always)]
-#[tactic(auto, unfolding(crate::specs::Format::word_bytes))]
-fn bytes_of_word(word: u64) -> [u8; 8]
-    ensures { result ≡ word_bytes word }
-{
-    word.to_le_bytes()
-}
-
 // Appends the bytes of a word, for which there is room.
 #[inline(always)]
+#[tactic(auto, unfolding(crate::specs::Format::word_bytes))]
 pub(crate) fn put_word<A: Allocator>(out: &mut Vec<u8, A>, word: u64)
     requires { vec_len out.old + 8 ≤ vec_capacity out.old }
     ensures items { out.new.items ≡ out.old.items ++ word_bytes word }
     ensures len { vec_len out.new ≡ vec_len out.old + 8 }
     ensures capacity { vec_capacity out.old ≤ vec_capacity out.new }
 {
-    out.extend_from_slice(&bytes_of_word(word)).unwrap()
-}
-
-// Appends words, no more than a group of them, for which there is room. Returns the sum with them mixed in.
-#[tactic(auto, using(crate::proofs::Sums::words))]
-pub(crate) fn put_words<A: Allocator>(out: &mut Vec<u8, A>, sum: u64, words: &[u64]) -> u64
-    requires few { length words.now ≤ 512 }
-    requires room { vec_len out.old + 8 * length words.now ≤ vec_capacity out.old }
-    ensures items { out.new.items ≡ out.old.items ++ bytes_of words.now }
-    ensures len { vec_len out.new ≡ vec_len out.old + 8 * length words.now }
-    ensures capacity { vec_capacity out.old ≤ vec_capacity out.new }
-    ensures sum { result ≡ fold mix sum words.now }
-{
-    let mut bytes = [[0; 8]; GROUP];
-    let mut sum = sum;
-    for k in 0..words.len() {
-        bytes[k] = bytes_of_word(words[k]);
-        sum = mixed(sum, words[k]);
-    }
-    out.extend_from_slice(bytes[..words.len()].as_flattened())
-        .unwrap();
-    sum
+    let bytes = word.to_le_bytes();
+    out.extend_from_slice(&bytes).unwrap()
 }
 
 // The words, in a vector.
@@ -181,8 +150,8 @@ pub(crate) fn is_in_order<W: Words>(order: Order, n: usize, words: &W) -> bool
 {
     let end = count_ordered(order, n.div_ceil(64));
     let mut holds = true;
-    for k in 1..end.max(1) {
-        holds = holds & stands(order, words.word(k + 4), words.word(k + 5));
+    for k in 0..end.saturating_sub(1) {
+        holds = holds & stands(order, words.word(k + 5), words.word(k + 6));
     }
     holds
 }

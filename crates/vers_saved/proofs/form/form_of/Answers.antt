@@ -1,4 +1,4 @@
-use Rattle.std.proofs.Common.{◌∙◌, arith}
+use Rattle.vers_saved.proofs.Names.{◌∙◌, arith}
 use Rattle.vers_saved.proofs.Forms.{loaded_is}
 use Rattle.vers_saved.proofs.RoundTrips.{no_fault_back, one_form}
 use Rattle.vers_saved.proofs.form.form_of.Goals as goal

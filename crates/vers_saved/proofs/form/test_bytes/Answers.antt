@@ -1,6 +1,4 @@
-use Rattle.std.proofs.Common.{◌≡◌, arith, rules}
-use Rattle.std.specs.Prelude.{Some}
-use Rattle.vers_saved.specs.Faults.{fault_of}
+use Rattle.vers_saved.proofs.Names.{◌≡◌, arith, rules, Some, fault_of}
 use Rattle.vers_saved.proofs.Tests.{bad_bytes}
 use Rattle.vers_saved.proofs.form.test_bytes.Goals as goal
 

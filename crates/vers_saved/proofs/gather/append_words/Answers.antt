@@ -1,8 +1,7 @@
-use Rattle.std.proofs.Common.{rules}
+use Rattle.vers_saved.proofs.Names.{rules, bytes_word}
 use Rattle.std.proofs.lemmas.Iterator.{YieldsList-from_map, YieldsList-from_slice}
 use Rattle.std.proofs.lemmas.Iterator.Consumers.{YieldsList-at}
 use Rattle.std.proofs.lemmas.Iterator.Adapters.{items_from_extend}
-use Rattle.vers_saved.specs.Format.{bytes_word}
 use Rattle.vers_saved.proofs.gather.append_words.Goals as goal
 
 pub returns : goal.returns

@@ -1,4 +1,4 @@
-use Rattle.std.proofs.Common.{arith}
+use Rattle.vers_saved.proofs.Names.{arith}
 use Rattle.vers_saved.proofs.gather.are_bytes.Goals as goal
 
 pub returns : goal.returns

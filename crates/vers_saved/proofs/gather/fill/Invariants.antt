@@ -1,5 +1,4 @@
-use Rattle.std.proofs.Common.{◌-◌, ◌≤◌, length, take}
-use Rattle.std.specs.Io.KnownBytes.{Consumes}
+use Rattle.vers_saved.proofs.Names.{◌-◌, ◌≤◌, length, take, Consumes}
 use Rattle.vers_saved.proofs.gather.fill.Given as goal
 
 -- what was read stands at the front of the block

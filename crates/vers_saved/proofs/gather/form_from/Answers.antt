@@ -1,5 +1,4 @@
-use Rattle.std.proofs.Common.{refl, arith}
-use Rattle.vers_saved.specs.Format.{saved}
+use Rattle.vers_saved.proofs.Names.{refl, arith, saved}
 use Rattle.vers_saved.proofs.RoundTrips.{no_fault_back, one_form}
 use Rattle.vers_saved.proofs.ReadForms.{refused_none, at_some}
 use Rattle.vers_saved.proofs.gather.form_from.Goals as goal

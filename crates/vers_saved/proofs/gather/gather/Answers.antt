@@ -1,8 +1,5 @@
-use Rattle.std.proofs.Common.{◌++◌, length, ap, arith}
-use Rattle.std.proofs.lemmas.List.{length-append}
-use Rattle.vers_saved.specs.Format.{bytes_of}
+use Rattle.vers_saved.proofs.Names.{◌++◌, length, ap, arith, length-append, bytes_of, Consumes-trans}
 use Rattle.vers_saved.proofs.WordBytes.{length-bytes_of}
-use Rattle.vers_saved.proofs.Streams.{Consumes-then}
 use Rattle.vers_saved.proofs.gather.gather.Goals as goal
 
 pub returns-in-Err-clause-short : goal.returns-in-Err-clause-short
@@ -10,7 +7,7 @@ returns-in-Err-clause-short g c = λ is.
     let s = c.in-Err.ensures.short is in
     let i = c.loop-words.invariant in (
       bytes_of i.gathered.0 ++ s.0,
-      Consumes-then _ _ _ _ _ i.gathered.1 s.1,
+      Consumes-trans _ _ _ _ _ i.gathered.1 s.1,
       s.2,
       omega (
         arith,

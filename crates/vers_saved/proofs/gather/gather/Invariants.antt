@@ -1,6 +1,4 @@
-use Rattle.std.proofs.Common.{◌≡◌, ◌-◌, ◌≤◌, ◌++◌, List, ℕ, length}
-use Rattle.std.specs.Io.KnownBytes.{Consumes}
-use Rattle.vers_saved.specs.Format.{bytes_of}
+use Rattle.vers_saved.proofs.Names.{◌≡◌, ◌-◌, ◌≤◌, ◌++◌, List, ℕ, length, Consumes, bytes_of}
 use Rattle.vers_saved.proofs.gather.gather.Given as goal
 
 -- what was read was gathered as words, and no more than are wanted

@@ -1,11 +1,4 @@
-use Rattle.std.proofs.Common.{◌≡◌, ◌+◌, ◌++◌, ◌∙◌, length, ap, subst, arith}
-use Rattle.std.specs.Prelude.{None, Some}
-use Rattle.std.specs.Io.KnownBytes.{prepend_known}
-use Rattle.vers_bits.specs.Bits.{limb_count}
-use Rattle.vers_saved.specs.Format.{bytes_of}
-use Rattle.vers_saved.specs.Faults.{first_failing, body_tests, fault_of}
-use Rattle.vers_saved.specs.Kinds.{AreWords}
-use Rattle.vers_saved.specs.Streams.{IsRefused}
+use Rattle.vers_saved.proofs.Names.{◌≡◌, ◌+◌, ◌++◌, ◌∙◌, length, ap, subst, arith, None, Some, prepend_known, limb_count, bytes_of, first_failing, body_tests, fault_of, AreWords, IsRefused}
 use Rattle.vers_saved.proofs.ReadForms.{stopped_early, not_ended, ended_short, goes_on, all_tell, rest_fault, then_none, on_ok, if_err}
 use Rattle.vers_saved.proofs.gather.gather_body.Goals as goal
 

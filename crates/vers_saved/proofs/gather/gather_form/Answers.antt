@@ -1,4 +1,4 @@
-use Rattle.vers_saved.specs.Format.{bytes_of}
+use Rattle.vers_saved.proofs.Names.{bytes_of}
 use Rattle.vers_saved.proofs.ReadForms.{form_gathered, refused_before}
 use Rattle.vers_saved.proofs.gather.gather_form.Goals as goal
 

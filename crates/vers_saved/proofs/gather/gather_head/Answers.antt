@@ -1,10 +1,4 @@
-use Rattle.std.proofs.Common.{◌≡◌, ◌++◌, ◌∙◌, sym, ap, subst, inr, arith}
-use Rattle.std.specs.Prelude.{Some}
-use Rattle.std.specs.Io.KnownBytes.{Consumes}
-use Rattle.vers_saved.specs.Format.{bytes_of}
-use Rattle.vers_saved.specs.Faults.{first_failing, head_tests}
-use Rattle.vers_saved.specs.Kinds.{AreWords}
-use Rattle.vers_saved.specs.Streams.{IsRefused}
+use Rattle.vers_saved.proofs.Names.{◌≡◌, ◌++◌, ◌∙◌, sym, ap, subst, inr, arith, Some, Consumes, bytes_of, first_failing, head_tests, AreWords, IsRefused}
 use Rattle.vers_saved.proofs.ReadForms.{stopped_early, ended_early, head_fault, if_err}
 use Rattle.vers_saved.proofs.gather.gather_head.Goals as goal
 

@@ -1,7 +1,4 @@
-use Rattle.std.proofs.Common.{◌≡◌, ◌++◌, ◌∙◌, take, sym, ap, subst, take_all, arith}
-use Rattle.std.specs.Io.KnownBytes.{Consumes}
-use Rattle.vers_saved.specs.Format.{bytes_of, words_of, bytes_word}
-use Rattle.std.specs.Prelude.{map}
+use Rattle.vers_saved.proofs.Names.{◌≡◌, ◌++◌, ◌∙◌, take, sym, ap, subst, take_all, arith, Consumes, bytes_of, words_of, bytes_word, map}
 use Rattle.vers_saved.proofs.WordBytes.{bytes_of-words_of, length-words_of}
 use Rattle.vers_saved.proofs.Tests.{words_are}
 use Rattle.vers_saved.proofs.gather.gather_piece.Goals as goal

@@ -1,4 +1,4 @@
-use Rattle.std.proofs.Common.{arith}
+use Rattle.vers_saved.proofs.Names.{arith}
 use Rattle.vers_saved.proofs.numbers.are_words.Goals as goal
 
 pub returns : goal.returns

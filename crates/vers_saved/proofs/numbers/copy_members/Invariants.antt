@@ -1,5 +1,4 @@
-use Rattle.std.proofs.Common.{◌≡◌, ◌+◌, ◌-◌, ◌<◌, ◌≤◌, ◌++◌, ℕ, length, drop}
-use Rattle.std.specs.Prelude.{slice_index}
+use Rattle.vers_saved.proofs.Names.{◌≡◌, ◌+◌, ◌-◌, ◌<◌, ◌≤◌, ◌++◌, ℕ, length, drop, slice_index}
 use Rattle.vers_saved.proofs.numbers.copy_members.Given as goal
 
 -- the words so far were copied, and the walk stands before the next one, but for those that it skips

@@ -1,17 +1,6 @@
-use Rattle.std.proofs.Common.{◌≡◌, ◌++◌, length, ap, ◌∙◌, arith}
-use Rattle.std.specs.Prelude.{fold}
-use Rattle.vers_saved.specs.Format.{bytes_of, word_bytes, mix, head}
-use Rattle.std.proofs.Common.{take, drop}
+use Rattle.vers_saved.proofs.Names.{◌++◌, ap, ◌∙◌, arith, fold, bytes_of, word_bytes, mix, head, take, drop}
 use Rattle.vers_saved.proofs.Sums.{written_more, summed_more, written_all}
-use Rattle.vers_saved.proofs.RoundTrips.{count_is}
 use Rattle.vers_saved.proofs.saved.append_saved.Goals as goal
-
-pub put_group-sum-requires-clause-within : goal.put_group-sum-requires-clause-within
-put_group-sum-requires-clause-within g c =
-    let all : c.count_words-count.result ≡ length (g.S.Saved.words c.args.list.now) =
-    c.count_words-count.ensures ∙ count_is g.S.Saved.kind c.kind.result (g.S.Saved.count c.args.list.now) (g.S.Saved.width c.args.list.now) c.args.shape.count c.args.shape.width
-    (g.S.Saved.words c.args.list.now) c.requires.whole c.kind.ensures c.requires.count c.requires.width in
-    omega (arith, all)
 
 pub loop-done-preserved : goal.loop-done-preserved
 loop-done-preserved g c = record {
@@ -25,9 +14,6 @@ loop-done-preserved g c = record {
 
 pub returns-clause-saved : goal.returns-clause-saved
 returns-clause-saved g c =
-    let all : c.count_words-count.result ≡ length (g.S.Saved.words c.args.list.now) =
-    c.count_words-count.ensures ∙ count_is g.S.Saved.kind c.kind.result (g.S.Saved.count c.args.list.now) (g.S.Saved.width c.args.list.now) c.args.shape.count c.args.shape.width
-    (g.S.Saved.words c.args.list.now) c.requires.whole c.kind.ensures c.requires.count c.requires.width in
     c.put_word.ensures.items ∙ ap (λ l. l ++ word_bytes c.loop-done.sum) c.loop-done.invariant.written
     ∙ written_all c.args.out.now.items c.args.shape.kind c.args.shape.count c.args.shape.width c.loop-done.done c.loop-done.sum (g.S.Saved.words c.args.list.now)
-    (omega (arith, all)) c.loop-done.invariant.summed
+    (omega arith) c.loop-done.invariant.summed

@@ -1,4 +1,4 @@
-use Rattle.std.proofs.Common.{◌∙◌, rules}
+use Rattle.vers_saved.proofs.Names.{◌∙◌, rules}
 use Rattle.vers_saved.proofs.saved.load_from_slice.Goals as goal
 
 pub returns-in_err-shape-clause-back : goal.returns-in_err-shape-clause-back

@@ -1,7 +1,4 @@
-use Rattle.std.proofs.Common.{◌≡◌, ◌+◌, ◌*◌, ◌<◌, ◌++◌, length, take, drop, sym, ap, subst, ◌∙◌}
-use Rattle.std.specs.Prelude.{fold, vec_len}
-use Rattle.std.proofs.lemmas.List.{length-take-le}
-use Rattle.vers_saved.specs.Format.{bytes_of, mix}
+use Rattle.vers_saved.proofs.Names.{◌≡◌, ◌+◌, ◌*◌, ◌<◌, ◌++◌, length, take, drop, sym, ap, subst, ◌∙◌, fold, vec_len, length-take-le, bytes_of, mix}
 use Rattle.vers_saved.proofs.Copies.{copied}
 use Rattle.vers_saved.proofs.saved.put_group.Goals as goal
 

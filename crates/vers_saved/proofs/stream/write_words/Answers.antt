@@ -1,9 +1,6 @@
-use Rattle.std.proofs.Common.{◌≡◌, ◌++◌, length, take, drop, sym, ap, ◌∙◌, arith}
-use Rattle.std.specs.Prelude.{fold}
-use Rattle.vers_saved.specs.Format.{mix, head}
+use Rattle.vers_saved.proofs.Names.{◌++◌, take, drop, sym, ap, ◌∙◌, arith, fold, mix, head, Appends-trans}
 use Rattle.vers_saved.proofs.Sums.{summed_more}
-use Rattle.vers_saved.proofs.RoundTrips.{count_is}
-use Rattle.vers_saved.proofs.Streams.{Appends-then, left_of, stopped, went_on, ended}
+use Rattle.vers_saved.proofs.Streams.{left_of, stopped, went_on, ended}
 use Rattle.vers_saved.proofs.stream.write_words.Goals as goal
 
 pub returns-in-Err-clause-written : goal.returns-in-Err-clause-written
@@ -12,17 +9,10 @@ returns-in-Err-clause-written g c =
     let m = c.in-Err.ensures.written in (
       i.0 ++ m.0,
       m.1 ++ left_of c.args.shape.kind c.args.shape.count c.args.shape.width c.loop-done.done (g.S.Saved.words c.args.list.now),
-      Appends-then _ _ _ _ _ i.1 m.2,
+      Appends-trans _ _ _ _ _ i.1 m.2,
       stopped c.args.shape.kind c.args.shape.count c.args.shape.width c.loop-done.done (g.S.Saved.words c.args.list.now) i.0 c.loop-done.buffer.items m.0 m.1 i.2 m.3,
       tt,
     )
-
-pub put_group-sum-requires-clause-within : goal.put_group-sum-requires-clause-within
-put_group-sum-requires-clause-within g c =
-    let all : c.count_words-count.result ≡ length (g.S.Saved.words c.args.list.now) =
-    c.count_words-count.ensures ∙ count_is g.S.Saved.kind c.kind.result (g.S.Saved.count c.args.list.now) (g.S.Saved.width c.args.list.now) c.args.shape.count c.args.shape.width
-    (g.S.Saved.words c.args.list.now) c.requires.whole c.kind.ensures c.requires.count c.requires.width in
-    omega (arith, all)
 
 pub loop-done-preserved : goal.loop-done-preserved
 loop-done-preserved g c =
@@ -31,7 +21,7 @@ loop-done-preserved g c =
     record {
       written = (
         i.0 ++ m.0,
-        Appends-then _ _ _ _ _ i.1 m.2,
+        Appends-trans _ _ _ _ _ i.1 m.2,
         went_on (head c.args.shape.kind c.args.shape.count c.args.shape.width) (g.S.Saved.words c.args.list.now) i.0 c.loop-done.buffer.items m.0 m.1 c.make_room.new.buffer.items
             c.put_group-sum.new.out.items c.loop-done.done c.min-n.result i.2 m.3 m.4 c.put_group-sum.ensures.items,
       );
@@ -44,15 +34,12 @@ loop-done-preserved g c =
 
 pub returns-clause-written : goal.returns-clause-written
 returns-clause-written g c =
-    let all : c.count_words-count.result ≡ length (g.S.Saved.words c.args.list.now) =
-    c.count_words-count.ensures ∙ count_is g.S.Saved.kind c.kind.result (g.S.Saved.count c.args.list.now) (g.S.Saved.width c.args.list.now) c.args.shape.count c.args.shape.width
-    (g.S.Saved.words c.args.list.now) c.requires.whole c.kind.ensures c.requires.count c.requires.width in
     let i = c.loop-done.invariant.written in
     let p = c.write_piece.ensures.written in (
       i.0 ++ p.0,
       p.1,
-      Appends-then _ _ _ _ _ i.1 p.2,
+      Appends-trans _ _ _ _ _ i.1 p.2,
       ended c.args.shape.kind c.args.shape.count c.args.shape.width c.loop-done.done c.loop-done.sum (g.S.Saved.words c.args.list.now) i.0 c.loop-done.buffer.items c.put_word.new.out.items p.0 p.1
-          i.2 c.put_word.ensures.items (sym c.as_slice.ensures.value ∙ p.3) (omega (arith, all)) c.loop-done.invariant.summed,
+          i.2 c.put_word.ensures.items (sym c.as_slice.ensures.value ∙ p.3) (omega arith) c.loop-done.invariant.summed,
       p.4,
     )

@@ -1,6 +1,4 @@
-use Rattle.std.proofs.Common.{◌≡◌, ◌+◌, ◌-◌, ◌≤◌, ◌++◌, List, ℕ, take, vec_len, vec_capacity}
-use Rattle.std.specs.Io.KnownBytes.{Appends}
-use Rattle.vers_saved.specs.Format.{bytes_of, check_sum, head}
+use Rattle.vers_saved.proofs.Names.{◌≡◌, ◌+◌, ◌-◌, ◌≤◌, ◌++◌, List, ℕ, take, vec_len, vec_capacity, Appends, bytes_of, check_sum, head}
 use Rattle.vers_saved.proofs.stream.write_words.Given as goal
 
 -- the head and the words so far are written or gathered, and summed, and there is room for the sum

@@ -1,5 +1,4 @@
-use Rattle.std.proofs.Common.{◌∙◌, ◌*◌, arith}
-use Rattle.std.proofs.lemmas.List.{length-set}
+use Rattle.vers_saved.proofs.Names.{◌∙◌, ◌*◌, arith, length-set}
 use Rattle.vers_saved.proofs.SymbolLists.{place_next, answered}
 use Rattle.vers_saved.proofs.symbols.ask_group.Goals as goal
 

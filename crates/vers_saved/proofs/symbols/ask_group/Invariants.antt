@@ -1,5 +1,4 @@
-use Rattle.std.proofs.Common.{◌≡◌, ◌+◌, ◌*◌, ◌<◌, ℕ, length, get_or}
-use Rattle.std.specs.Prelude.{map}
+use Rattle.vers_saved.proofs.Names.{◌≡◌, ◌+◌, ◌*◌, ◌<◌, ℕ, length, get_or, map}
 use Rattle.vers_saved.proofs.symbols.ask_group.Given as goal
 
 -- the places so far are those of the group

@@ -1,5 +1,4 @@
-use Rattle.std.proofs.Common.{◌≡◌, ◌+◌, ◌<◌, ℕ, length, get_or}
-use Rattle.vers_bits.specs.Bits.{limbs, pack}
+use Rattle.vers_saved.proofs.Names.{◌≡◌, ◌+◌, ◌<◌, ℕ, length, get_or, limbs, pack}
 use Rattle.vers_saved.specs.inside.Groups.{IsGroup}
 use Rattle.vers_saved.proofs.symbols.copy_limbs.Given as goal
 

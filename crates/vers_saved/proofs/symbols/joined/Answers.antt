@@ -1,5 +1,4 @@
-use Rattle.std.proofs.Common.{◌^◌, arith}
-use Rattle.std.proofs.lemmas.Nat.{pow_pos, mod_below}
+use Rattle.vers_saved.proofs.Names.{◌^◌, arith, pow_pos, mod_below}
 use Rattle.vers_saved.proofs.SymbolLists.{times_room, power_word}
 use Rattle.vers_saved.proofs.symbols.joined.Goals as goal
 

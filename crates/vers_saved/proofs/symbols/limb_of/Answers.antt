@@ -1,9 +1,6 @@
-use Rattle.std.proofs.Common.{◌≡◌, ◌-◌, ◌+◌, ◌*◌, ◌/◌, ◌%◌, ◌<◌, ◌≤◌, min, max, length, get_or, take, drop, refl, ap, subst, sym, ◌∙◌, arith}
-use Rattle.std.proofs.lemmas.List.{length-take}
-use Rattle.vers_bits.specs.Bits.{number, limbs, pack}
-use Rattle.vers_bits.proofs.PublicLaws.{length-limbs, number_below}
+use Rattle.vers_saved.proofs.Names.{◌≡◌, ◌-◌, ◌+◌, ◌*◌, ◌/◌, ◌%◌, ◌<◌, ◌≤◌, min, max, length, get_or, take, drop, refl, ap, subst, sym, ◌∙◌, arith, length-take, number, limbs, pack, length-limbs, number_below}
 use Rattle.vers_saved.proofs.Parentheses.{last_limb, none_yet}
-use Rattle.vers_saved.proofs.SymbolLists.{symbols_shape, item_of, in_group, bits_before_as, symbol_before}
+use Rattle.vers_saved.proofs.SymbolLists.{symbols_shape, item_of, in_group, bits_before, symbol_before}
 use Rattle.vers_saved.proofs.symbols.limb_of.Goals as goal
 
 pub overflow_sub-item : goal.overflow_sub-item
@@ -41,10 +38,9 @@ loop-place-preserved g c =
     let symbol = c.requires.group (c.loop-place.item % 64) (omega arith)
     ∙ ap (λ p. get_or c.args.list.now.items p 0) (in_group c.args.list.now.width c.args.k c.loop-place.item c.loop-place.place s.0 at.0 at.1 (omega arith) (omega (arith, c.loop-place.invariant.below))) in
     record {
-      word = bits_before_as c.args.list.now.items c.args.list.now.width c.bits_per_element-width.result c.loop-place.item c.loop-place.place
-          (min (length (pack c.args.list.now.items c.args.list.now.width)) (64 * c.args.k + 64)) c.max-start.result c.loop-place.word _ c.joined-word.result
-          c.bits_per_element-width.ensures.value at.0 at.1 (omega (arith, first)) (omega (arith, first, at.0)) c.loop-place.invariant.below (omega arith)
-          symbol c.loop-place.invariant.word c.joined-word.ensures;
+      word = bits_before c.args.list.now.items c.args.list.now.width c.loop-place.item c.loop-place.place
+          (min (length (pack c.args.list.now.items c.args.list.now.width)) (64 * c.args.k + 64)) c.max-start.result c.loop-place.word _ c.joined-word.result at.0 at.1 (omega (arith, first)) (omega (arith, first, at.0)) c.loop-place.invariant.below (omega arith)
+          symbol c.loop-place.invariant.word (rw c.bits_per_element-width.ensures.value at c.joined-word.ensures);
       above = omega (arith, first);
       below = omega (arith, first, at.0, c.loop-place.invariant.below);
       item = λ more. subst (λ q. (q * c.args.list.now.width < c.max-start.result) × (c.max-start.result ≤ q * c.args.list.now.width + c.args.list.now.width))

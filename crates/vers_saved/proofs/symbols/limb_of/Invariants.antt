@@ -1,5 +1,4 @@
-use Rattle.std.proofs.Common.{◌≡◌, ◌-◌, ◌+◌, ◌*◌, ◌<◌, ◌≤◌, min, length, take, drop}
-use Rattle.vers_bits.specs.Bits.{number, pack}
+use Rattle.vers_saved.proofs.Names.{◌≡◌, ◌-◌, ◌+◌, ◌*◌, ◌<◌, ◌≤◌, min, length, take, drop, number, pack}
 use Rattle.vers_saved.proofs.symbols.limb_of.Given as goal
 
 -- the number of the bits so far, from the last one back, and the symbol that the bit before them lies in

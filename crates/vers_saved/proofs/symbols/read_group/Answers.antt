@@ -1,6 +1,4 @@
-use Rattle.std.proofs.Common.{◌∙◌, ◌+◌, ◌*◌, ap, arith}
-use Rattle.std.specs.Prelude.{unwrap_or}
-use Rattle.std.proofs.lemmas.List.{length-set}
+use Rattle.vers_saved.proofs.Names.{◌∙◌, ◌+◌, ◌*◌, ap, arith, unwrap_or, length-set}
 use Rattle.vers_saved.proofs.SymbolLists.{symbol_next, given_symbol}
 use Rattle.vers_saved.proofs.symbols.read_group.Goals as goal
 

@@ -1,4 +1,4 @@
-use Rattle.std.proofs.Common.{◌≡◌, ◌+◌, ◌*◌, ◌<◌, ℕ, length, get_or}
+use Rattle.vers_saved.proofs.Names.{◌≡◌, ◌+◌, ◌*◌, ◌<◌, ℕ, length, get_or}
 use Rattle.vers_saved.proofs.symbols.read_group.Given as goal
 
 -- the symbols so far are those of the group

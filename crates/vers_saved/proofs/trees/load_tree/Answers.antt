@@ -1,6 +1,4 @@
-use Rattle.std.proofs.Common.{length, ◌∙◌, rules}
-use Rattle.vers_bits.specs.Bits.{limbs}
-use Rattle.vers_bits.proofs.PublicLaws.{equal_limbs}
+use Rattle.vers_saved.proofs.Names.{length, ◌∙◌, rules, limbs, equal_limbs}
 use Rattle.vers_saved.proofs.trees.load_tree.Goals as goal
 
 pub returns-in_err-shape-clause-back : goal.returns-in_err-shape-clause-back

@@ -1,5 +1,4 @@
-use Rattle.std.proofs.Common.{◌≡◌, take}
-use Rattle.vers_saved.specs.Format.{check_sum}
+use Rattle.vers_saved.proofs.Names.{◌≡◌, take, check_sum}
 use Rattle.vers_saved.proofs.words.sum_before.Given as goal
 
 -- the sum of the words so far

@@ -1,4 +1,4 @@
-use Rattle.std.proofs.Common.{arith}
+use Rattle.vers_saved.proofs.Names.{arith}
 use Rattle.vers_saved.proofs.BitLists.{whole_limbs}
 use Rattle.vers_saved.proofs.bits.RsVecSaved.shape.Goals as goal
 

@@ -1,4 +1,4 @@
-use Rattle.std.proofs.Common.{subst, arith}
+use Rattle.vers_saved.proofs.Names.{subst, arith}
 use Rattle.vers_saved.proofs.WordBytes.{AreWords}
 use Rattle.vers_saved.proofs.PostingLists.{whole_postings}
 use Rattle.vers_saved.proofs.documents.PostingsSaved.shape.Goals as goal

@@ -1,5 +1,4 @@
-use Rattle.std.proofs.Common.{sym, subst}
-use Rattle.std.specs.List.Sorted.{IsNonDecreasing}
+use Rattle.vers_saved.proofs.Names.{sym, subst, IsNonDecreasing}
 use Rattle.vers_saved.proofs.WordLists.{sorted_up}
 use Rattle.vers_saved.proofs.numbers.EliasFanoVecLoaded.make.Goals as goal
 

@@ -1,4 +1,4 @@
-use Rattle.std.proofs.Common.{arith}
+use Rattle.vers_saved.proofs.Names.{arith}
 use Rattle.vers_saved.proofs.WordLists.{whole_sorted}
 use Rattle.vers_saved.proofs.numbers.EliasFanoVecSaved.shape.Goals as goal
 

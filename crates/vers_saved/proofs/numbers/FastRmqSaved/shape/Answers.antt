@@ -1,4 +1,4 @@
-use Rattle.std.proofs.Common.{subst, arith}
+use Rattle.vers_saved.proofs.Names.{subst, arith}
 use Rattle.vers_saved.proofs.WordBytes.{AreWords}
 use Rattle.vers_saved.proofs.WordLists.{whole_blocks}
 use Rattle.vers_saved.proofs.numbers.FastRmqSaved.shape.Goals as goal

@@ -1,5 +1,4 @@
-use Rattle.std.proofs.Common.{◌≡◌, ◌+◌, ◌<◌, ℕ, length}
-use Rattle.std.specs.Prelude.{slice_index}
+use Rattle.vers_saved.proofs.Names.{◌≡◌, ◌+◌, ◌<◌, ℕ, length, slice_index}
 use Rattle.vers_saved.proofs.saved.Saved.copy_words.Given as goal
 
 -- the words so far were copied

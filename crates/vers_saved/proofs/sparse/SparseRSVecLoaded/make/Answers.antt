@@ -1,4 +1,4 @@
-use Rattle.std.proofs.Common.{◌-◌, ap, length, get_or, take}
+use Rattle.vers_saved.proofs.Names.{◌-◌, ap, length, get_or, take}
 use Rattle.vers_saved.proofs.SparseLists.{first_below}
 use Rattle.vers_saved.proofs.sparse.SparseRSVecLoaded.make.Goals as goal
 

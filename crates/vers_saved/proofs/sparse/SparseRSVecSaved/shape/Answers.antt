@@ -1,6 +1,4 @@
-use Rattle.std.proofs.Common.{◌≡◌, ◌∙◌, ap, length, arith}
-use Rattle.vers_bits.specs.Bits.{count}
-use Rattle.std.specs.Prelude.{true}
+use Rattle.vers_saved.proofs.Names.{◌≡◌, ◌∙◌, ap, length, arith, count, true}
 use Rattle.vers_saved.proofs.SparseLists.{whole_sparse}
 use Rattle.vers_saved.proofs.sparse.SparseRSVecSaved.shape.Goals as goal
 

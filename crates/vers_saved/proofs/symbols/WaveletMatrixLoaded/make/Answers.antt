@@ -1,5 +1,4 @@
-use Rattle.std.proofs.Common.{◌∙◌, ◌*◌, ap, take, arith}
-use Rattle.vers_bits.specs.Bits.{pack}
+use Rattle.vers_saved.proofs.Names.{◌∙◌, arith}
 use Rattle.vers_saved.proofs.SymbolLists.{if_ok, symbols_shape, loaded_matrix}
 use Rattle.vers_saved.proofs.symbols.WaveletMatrixLoaded.make.Goals as goal
 
@@ -7,6 +6,5 @@ pub returns : goal.returns
 returns g c =
     let s = symbols_shape c.args.of.count c.args.of.width c.args.held.now.items c.requires in
     if_ok c.from_bit_vec.result _ _ _
-    (λ v w i. loaded_matrix c.args.of.count c.args.of.width _ c.args.held.now.items c.bits_of-bits.result v c.requires
-    (c.bits_of-bits.ensures.value ∙ ap (λ l. take (c.args.of.count * c.args.of.width) (pack l 64)) c.taken.ensures) w (omega (arith, s.1)) i)
-    c.from_bit_vec.ensures.width c.from_bit_vec.ensures.items
+    (λ v w i. let p = loaded_matrix c.args.of.count c.args.of.width _ c.bits_of-bits.result v s.0 c.bits_of-bits.ensures.len w (omega (arith, s.1)) i in
+    (p.0, p.1, p.2 ∙ c.bits_of-bits.ensures.limbs ∙ c.taken.ensures, p.3)) c.from_bit_vec.ensures.width c.from_bit_vec.ensures.items

@@ -1,4 +1,4 @@
-use Rattle.std.proofs.Common.{length, arith}
+use Rattle.vers_saved.proofs.Names.{length, arith}
 use Rattle.vers_saved.proofs.SymbolLists.{whole_symbols, few_symbols}
 use Rattle.vers_saved.proofs.symbols.WaveletMatrixSaved.shape.Goals as goal
 

@@ -1,4 +1,4 @@
-use Rattle.std.proofs.Common.{arith}
+use Rattle.vers_saved.proofs.Names.{arith}
 use Rattle.vers_saved.proofs.Parentheses.{whole_tree}
 use Rattle.vers_saved.proofs.trees.BpTreeSaved.shape.Goals as goal
 
