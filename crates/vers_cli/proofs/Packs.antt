@@ -1,10 +1,10 @@
 -- Numbers of a line, packed as bits.
-use Rattle.vers_cli.proofs.Names.{◌≡◌, ℕ, ◌*◌, ◌/◌, ◌%◌, ◌^◌, ◌<◌, ◌≤◌, Bool, true, List, [], ◌∷◌, ◌++◌, append_assoc, length, map, Option, Some, None, Result, Ok, Err, IfOk, refl, sym, ap, ◌∙◌, arith, option_map, nat_le, range_with_len, ne_eqb, cond_some, same_Some, length-append, get_or-map, length-map, length-map-range_with_len, get_or-map-range_with_len, low_bits, number, pack, part, Symbols, Accepted, symbols_loaded}
-use Rattle.std.proofs.Math.Nat.{mul-div_cancel, mul-mod_left, suc-mul, add_comm}
+use Rattle.vers_cli.proofs.Names.{◌≡◌, ℕ, ◌*◌, ◌/◌, ◌%◌, ◌^◌, ◌<◌, ◌≤◌, Bool, true, List, [], ◌∷◌, ◌++◌, append_assoc, length, map, Option, Some, None, Result, Ok, Err, IfOk, refl, sym, ap, ◌∙◌, arith, option_map, nat_le, range_with_len, ne_eqb, cond_some, same_Some, get_or-map, length-map, length-map-range_with_len, get_or-map-range_with_len, low_bits, number, pack, part, Symbols, Accepted, symbols_loaded}
+use Rattle.std.proofs.Math.Nat.{mul-div_cancel, mul-mod_left}
 use Rattle.std.proofs.lemmas.Grind.{same_number_lists}
 use Rattle.vers_bits.specs.Bits.{part_number}
 use Rattle.vers_bits.specs.Laws.{PackedElementsAreItems}
-use Rattle.vers_bits.proofs.PublicLaws.{length-low_bits}
+use Rattle.vers_bits.proofs.PublicLaws.{length-packed}
 use Rattle.vers_wavelet.specs.Makers.{low_symbols, packed_symbols}
 
 -- bits, and then those of further numbers
@@ -16,19 +16,12 @@ pub bits_then-push : (bits : List Bool) (v k : ℕ) (others : Option (List ℕ))
 bits_then-push bits v k None = refl
 bits_then-push bits v k (Some more) = ap Some (sym (append_assoc bits (low_bits v k) (pack more k)))
 
--- as many bits as items have together
-length-pack : (items : List ℕ) (k : ℕ) → length (pack items k) ≡ length items * k
-length-pack [] k = omega arith
-length-pack (v ∷ items) k =
-    length-append (low_bits v k) (pack items k) ∙ rw (length-low_bits v k, length-pack items k)
-    (add_comm k (length items * k) ∙ sym (suc-mul (length items) k))
-
--- they are whole items
+-- the bits of packed items are whole items
 pub whole_items : (items : List ℕ) (k : ℕ) → length (pack items k) % k ≡ 0
-whole_items items k = ap (λ n. n % k) (length-pack items k) ∙ mul-mod_left (length items) k
+whole_items items k = ap (λ n. n % k) (length-packed (λ v. v) k items) ∙ mul-mod_left (length items) k
 
 how_many : (items : List ℕ) (k : ℕ) → 1 ≤ k → length (pack items k) / k ≡ length items
-how_many items k some = ap (λ n. n / k) (length-pack items k) ∙ mul-div_cancel (length items) some
+how_many items k some = ap (λ n. n / k) (length-packed (λ v. v) k items) ∙ mul-div_cancel (length items) some
 
 -- a part that has a number has this one
 number_of_part : (bits : List Bool) (p n v : ℕ) → part_number bits p n ≡ Some v → number (part bits p n) ≡ v
