@@ -360,7 +360,7 @@ impl<A: Allocator + Copy> FastRmq<A> {
     }
 
     /// The first place of a least item from place `i` to place `j`, both included.
-    #[inline]
+    #[inline(always)]
     pub fn range_min(&self, i: usize, j: usize) -> usize
         requires order { i ≤ j }
         requires inside { j < length self.now }
