@@ -45,7 +45,6 @@ parts_add l p m n h within =
 pub parts_join : (l : List Bool) (p m n : ℕ) → m ≤ n → n ≤ 64 → p + n ≤ length l
     → number (take n (drop p l)) ≡ bit_or (number (take m (drop p l))) (number (take (n - m) (drop (p + m) l)) * 2 ^ m % 18446744073709551616)
 parts_join l p m n h few within =
-    let low : ℕ = number (take m (drop p l)) in
     let high : ℕ = number (take (n - m) (drop (p + m) l)) in
     let fits : high * 2 ^ m % 2 ^ 64 ≡ high * 2 ^ m = shl_whole high (n - m) m 64 (number_part_lt l (p + m) (n - m)) (omega arith) in
     grind (arith, ints, parts_add, or_comm, or_shifted, number_part_lt, mul_comm)

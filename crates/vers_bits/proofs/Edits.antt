@@ -1,5 +1,5 @@
 -- What an edit of the words does to the list that they hold.
-use Rattle.vers_bits.proofs.Names.{◌≡◌, ℕ, ◌+◌, ◌*◌, ◌/◌, ◌%◌, ◌^◌, ◌<◌, ◌≤◌, Bool, true, false, not, eqb, List, length, get_or, set, take, refl, sym, ap, ◌∙◌, inl, inr, arith, w64, bit_at, bit_not, bit_and, bit_or, bit_xor, cases_eq, get_or_default_zero, one_shl, bit_at-lt, bit_at_xor, bit_at-pow_same, bit_at-pow_other, bit_at_set_same, bit_at_set_other, bit_at_clear_same, bit_at_clear_other, get_or-take, get_or-set_same, get_or-set_other, length-take, length-set, limb_count, word_bit, word_bits, HoldsBits, AddsBit, CutsTo, Puts, agree_below_at, ints}
+use Rattle.vers_bits.proofs.Names.{◌≡◌, ℕ, ◌+◌, ◌*◌, ◌/◌, ◌%◌, ◌^◌, ◌<◌, ◌≤◌, Bool, true, false, not, eqb, List, length, get_or, set, take, refl, sym, ap, ◌∙◌, inl, inr, arith, w64, bit_at, bit_not, bit_and, bit_or, bit_xor, cases_eq, get_or_default_zero, one_shl, bit_at-lt, bit_at_xor, bit_at-pow_same, bit_at-pow_other, bit_at_set_same, bit_at_set_other, bit_at_clear_same, bit_at_clear_other, get_or-take, get_or-set_same, get_or-set_other, length-take, length-set, limb_count, word_bit, word_bits, HoldsBits, AddsBit, CutsTo, Puts, agree_below_at, ints, rules}
 use Rattle.vers_bits.proofs.Words.{length-word_bits, get_or-word_bits, word_bits_are, take-word_bits, past_words, set_here, set_apart}
 use Rattle.vers_bits.proofs.LowBits.{bit_at_mod, bit_at_mod_above}
 
@@ -37,11 +37,8 @@ module _ (ws : List ℕ) (n : ℕ) (enough : limb_count n ≤ length ws) where
 
 pub put_bits : {ws vs : List ℕ} {p : ℕ} {b : Bool} → Puts ws vs p b → (n : ℕ) → p < n → word_bits vs n ≡ set (word_bits ws n) p b
 put_bits {ws} {vs} {p} {b} puts n within =
-    word_bits_are vs n (set (word_bits ws n) p b) (length-set (word_bits ws n) p b ∙ length-word_bits ws n)
-    (λ i h. elim (cases_eq i p) [
-      | inl e ↦ grind (arith, ints, get_or-set_same, length-word_bits)
-      | inr e ↦ grind (arith, ints, get_or-set_other, get_or-word_bits)
-    ])
+    word_bits_are vs n (set (word_bits ws n) p b) (grind (arith, ints, length-set, length-word_bits))
+    (λ i h. grind (arith, ints, cases_eq, get_or-set_same, length-word_bits, get_or-set_other, get_or-word_bits))
 
 pub put_holds : {ws vs : List ℕ} {p : ℕ} {b : Bool} → Puts ws vs p b → (n : ℕ) → p < n → HoldsBits ws n → HoldsBits vs n
 put_holds {ws} {vs} {p} {b} puts n within holds = grind (arith, ints)
@@ -70,9 +67,7 @@ module _ (ws : List ℕ) (p : ℕ) (within : p / 64 < length ws) where
   puts_other =
       let one : 1 * 2 ^ (p % 64) % 2 ^ 64 ≡ 2 ^ (p % 64) = one_shl (p % 64) 64 (omega arith) in
       let digit = λ (i : ℕ). bit_at_xor word (1 * 2 ^ (p % 64) % 2 ^ 64) i ∙ ap (λ m. (bit_at word i + bit_at m i) % 2) one in
-      puts_by ws p (bit_xor word (1 * 2 ^ (p % 64) % 2 ^ 64)) (not (word_bit ws p)) within
-      (ap (λ m. eqb m 1) (digit (p % 64) ∙ ap (λ m. (bit_at word (p % 64) + m) % 2) (bit_at-pow_same (p % 64))) ∙ (grind (arith, ints, agree_below_at)))
-      (λ i h e. digit i ∙ ap (λ m. (bit_at word i + m) % 2) (bit_at-pow_other (p % 64) i e) ∙ omega (arith, bit_at-lt word i))
+      search (rules, puts_by, bit_at-pow_same, agree_below_at, bit_at-pow_other, bit_at-lt)
 
 -- ---- one bit more, in the last word
 

@@ -32,7 +32,7 @@ pub limb_gathered : {X : Type 0} (f : X → Bool) (l more : List Bool) (rest fro
 limb_gathered f l more rest front back m w first last word grown =
     let long : length front ≡ length (map f front) = sym (length-map front f) in
     let read : low_bits w (length front) ≡ map f front = grind (arith, ints, low_bits_of_number) in
-    ap (λ xs. xs ++ map f back) (grown ∙ ap (λ xs. l ++ xs) read) ∙ append_assoc l (map f front) (map f back)
+    ap (λ xs. xs ++ map f back) (grind (arith, ints)) ∙ append_assoc l (map f front) (map f back)
     ∙ ap (λ xs. l ++ xs) (sym (map-append f front back) ∙ ap (map f) (ap (λ xs. xs ++ back) first ∙ ap (λ xs. take m rest ++ xs) last ∙ take-append-drop m rest))
 
 -- one more digit above the others
@@ -54,10 +54,5 @@ sum_below w n false small = omega (arith, pow-add 2 n 1)
 
 pub gathered_below : (w n : ℕ) (b : Bool) → n < 64 → w < 2 ^ n → bit_or w (bit_value b * 2 ^ n % 18446744073709551616) < 2 ^ (n + 1)
 gathered_below w n b short small = rw (digit_added w n b short small) (sum_below w n b small)
-
--- where the digits fill the last limb, one bit more begins a limb
-pub limb_begun : (l more : List Bool) (w n room : ℕ) (b : Bool) → n ≤ room → room ≤ n → room ≡ (64 - length l % 64) % 64 → more ≡ (l ++ low_bits w n) ++ b ∷ []
-    → 63 ≡ (64 - length more % 64) % 64
-limb_begun l more w n room b within full last grown = grind (arith, ints, length_push, length-append, length-low_bits)
 
 pub ruleset digits = (byte_value, digits_gathered, gathered_below)

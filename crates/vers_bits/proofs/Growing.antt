@@ -28,12 +28,6 @@ last_bits l s m n all =
 pub add_none : (l : List Bool) (v n : ℕ) → n ≡ 0 → l ++ low_bits v n ≡ l
 add_none l v n none = ap (λ k. l ++ low_bits v k) none ∙ ap (λ xs. l ++ xs) (low_bits_none v) ∙ append-nil l
 
--- a number of 64 bits with zeros behind them
-pub long_digits : (l : List Bool) (v n : ℕ) → v < 2 ^ 64 → 64 ≤ n → (l ++ low_bits v 64) ++ replicate (n - 64) false ≡ l ++ low_bits v n
-long_digits l v n small long =
-    let whole : 64 + (n - 64) ≡ n = omega arith in
-    grind (arith, ints, append_assoc, low_bits_past)
-
 -- a packed list has as many bits an item
 pub length-packed : {X : Type 0} (f : X → ℕ) (k : ℕ) (xs : List X) → length (flat_map (λ x. low_bits (f x) k) xs) ≡ length xs * k
 length-packed f k [] = omega arith

@@ -9,5 +9,4 @@ pub highest_bit : (w : ℕ) → 0 < w → w < 18446744073709551616
     → (count_leading_zeros 64 w < 64) × (bit_at w (63 - count_leading_zeros 64 w) ≡ 1) × ((i : ℕ) → 63 - count_leading_zeros 64 w < i → bit_at w i ≡ 0)
 highest_bit w some fits =
     let top = leading_top 64 w some fits in
-    let e : 63 - count_leading_zeros 64 w ≡ top.0 = omega (arith, top.1) in
     grind (arith, ints, top_bit, bit_at_above)

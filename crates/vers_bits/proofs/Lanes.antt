@@ -10,14 +10,11 @@ is_other x y = not (eqb x y)
 abbrev pub other_lanes : List ℕ → List ℕ → ℕ
 other_lanes xs ys = mask_l (zip2 is_other xs ys)
 
-none_other : (x y : ℕ) → bit_value (is_other x y) ≡ 0 → x ≡ y
-none_other x y h = grind (arith, ints, cases_eq, ne_eqb)
-
 same_lanes : (xs ys : List ℕ) → length xs ≡ length ys → other_lanes xs ys ≡ 0 → xs ≡ ys
 same_lanes [] [] e h = refl
 same_lanes [] (y ∷ ys) e h = absurd (omega (arith, e))
 same_lanes (x ∷ xs) [] e h = absurd (omega (arith, e))
-same_lanes (x ∷ xs) (y ∷ ys) e h = grind (arith, ints, ap₂, none_other, same_lanes xs ys (omega (arith, e)) (omega (arith, h)))
+same_lanes (x ∷ xs) (y ∷ ys) e h = grind (arith, ints, ap₂, cases_eq, ne_eqb, same_lanes xs ys (omega (arith, e)) (omega (arith, h)))
 
 lanes_of_same : (xs : List ℕ) → other_lanes xs xs ≡ 0
 lanes_of_same [] = refl

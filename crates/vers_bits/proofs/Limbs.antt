@@ -4,9 +4,6 @@ use Rattle.std.specs.Prelude.{flat_map}
 use Rattle.vers_bits.proofs.LowBits.{length-low_bits, get_or-low_bits}
 use Rattle.vers_bits.proofs.Words.{word_bits_are, length-word_bits, get_or-word_bits, past_words}
 
-word_bit_rest : (w : ℕ) (ws : List ℕ) (i : ℕ) → 64 ≤ i → word_bit (w ∷ ws) i ≡ word_bit ws (i - 64)
-word_bit_rest w ws i h = grind (arith, ints)
-
 pub whole_words : (ws : List ℕ) → word_bits ws (64 * length ws) ≡ flat_map (λ w. low_bits w 64) ws
 whole_words [] = word_bits_are [] 0 [] refl (λ i h. absurd (omega arith))
 whole_words (w ∷ ws) =
@@ -17,7 +14,7 @@ whole_words (w ∷ ws) =
     (λ i h. elim (cases_lt i 64) [
       | inl small ↦ grind (arith, ints)
           ∙ sym (get_or_append_left (low_bits w 64) (flat_map (λ v. low_bits v 64) ws) false i (omega (arith, length-low_bits w 64)) ∙ get_or-low_bits w 64 i small)
-      | inr large ↦ word_bit_rest w ws i large
+      | inr large ↦ grind (arith, ints)
           ∙ sym (get_or-append_right (low_bits w 64) (flat_map (λ v. low_bits v 64) ws) 64 i false (length-low_bits w 64) large
           ∙ sym (ap (λ l. get_or l (i - 64) false) rest) ∙ get_or-word_bits ws (64 * length ws) (i - 64) false (omega arith))
     ])

@@ -17,4 +17,4 @@ element (v ∷ items) k (suc e) h =
 pub packed_element : (items : List ℕ) (k e : ℕ) → 1 ≤ k → k ≤ 64 → e < length items → part_number (pack items k) (e * k) k ≡ Some (get_or items e 0 % 2 ^ k)
 packed_element items k e some few h =
     let fits : e * k + k ≤ length (pack items k) = grind (arith, length-packed (λ v. v) k items, row_fits) in
-    part_number_some (pack items k) (e * k) k some few fits ∙ ap (λ l. Some (number l)) (element items k e h) ∙ ap Some (number-low_bits (get_or items e 0) k)
+    grind (arith, ints, part_number_some, element, number-low_bits)

@@ -61,11 +61,7 @@ bit_of_limb ws n k i holds small =
     let here : bit_value (word_bit ws (64 * k + i)) ≡ bit_at w i = ap bit_value (grind (arith, ints)) ∙ bit_value_test (bit_at w i) (bit_at-lt w i) in
     let place : get_or (take 64 (drop (64 * k) (word_bits ws n))) i false ≡ get_or (word_bits ws n) (64 * k + i) false =
     get_or-take 64 (drop (64 * k) (word_bits ws n)) i false small ∙ get_or-drop (64 * k) (word_bits ws n) i false in
-    bit_at-number (take 64 (drop (64 * k) (word_bits ws n))) i ∙ ap bit_value place ∙ elim (cases_lt (64 * k + i) n) [
-      | inl within ↦ ap bit_value (get_or-word_bits ws n (64 * k + i) false within) ∙ here
-      | inr past ↦ ap bit_value (get_or_past (word_bits ws n) (64 * k + i) false (omega (arith, length-word_bits ws n)))
-          ∙ ap bit_value (sym (holds.padded (64 * k + i) past)) ∙ here
-    ]
+    grind (arith, ints, bit_at-number, cases_lt, get_or-word_bits, get_or_past, length-word_bits)
 
 pub limb-lt : (l : List Bool) (k : ℕ) → limb l k < 2 ^ 64
 unfolding limb
@@ -85,7 +81,7 @@ unfolding word_bits
 added_bits {ws} {vs} {n} {b} adds =
     (map-range_with_len_more (word_bit vs) 0 n n (omega arith)) ∙ ap (λ x. word_bits vs n ++ x ∷ []) adds.here
     ∙ ap (λ l. l ++ b ∷ []) (word_bits_are vs n (word_bits ws n) (length-word_bits ws n)
-    (λ i h. adds.others i (omega arith) ∙ sym (get_or-word_bits ws n i false h)))
+    (λ i h. grind (arith, ints, get_or-word_bits)))
 
 pub added_holds : {ws vs : List ℕ} {n : ℕ} {b : Bool} → AddsBit ws vs n b → HoldsBits ws n → n < 18446744073709551552 → HoldsBits vs (n + 1)
 added_holds {ws} {vs} {n} {b} adds holds small = grind (arith, ints)
@@ -104,7 +100,7 @@ adds_by_number ws n b holds whole =
           let place : n % 64 ≡ 0 = whole in
           rw (place, word, get_or_push ws (bit_value b) 0 (length ws) refl, bit_at_lowest) (bit_value_lowest b);
       others = λ i other. elim (cases_lt i n) [
-        | inl below ↦ ap (λ w. eqb (bit_at w (i % 64)) 1) (get_or_append_left ws (bit_value b ∷ []) 0 (i / 64) (omega arith))
+        | inl below ↦ grind (arith, ints, get_or_append_left)
         | inr above ↦ elim (cases_lt i (n + 64)) [
           | inl same_word ↦
               let word : i / 64 ≡ length ws = omega arith in

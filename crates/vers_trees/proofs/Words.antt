@@ -5,7 +5,7 @@ pub use Rattle.std.proofs.Math.Nat.{eq-or-lt_of_le, div-lt_iff_lt-mul, mul-le-mu
 pub use Rattle.std.proofs.Math.Seq.{take-append_seam, drop-cons}
 pub use Rattle.std.proofs.lemmas.Bool.{ne_eqb, not-true, cases_lt, cases_order, lt-ltb, le-ltb, and_from, and_left, and_right, le-leb, lt-leb, cases_Bool, eq-eqb, eqb-true, true_from_ne_false, false_from_ne_true}
 pub use Rattle.std.proofs.lemmas.Bool.Decides.{nat_tests, Decides-ltb, Decides-and, leb_tells, Decides-eqb, Decides-like, same_from_decides, Decides-int_eq}
-pub use Rattle.std.proofs.lemmas.Grind.{div_ceil_times}
+pub use Rattle.std.proofs.lemmas.Grind.{common_steps, div_ceil_times}
 pub use Rattle.std.proofs.lemmas.Int.{ints, by_lt_z, clamps, to_z-of_z, to_z_pos}
 pub use Rattle.std.proofs.lemmas.List.{append-nil, get_or_append_left, get_or_at, get_or-append-add, get_or-map, length-map, get_or_past, map-append, get_or-set_same, get_or-set_other, get_or-drop, drop-set-lt, length_push, take_more, take_all, take-append-drop, length-take-le, drop-take, drop_all, length-set, map-id, get_or-reverse, length-reverse, length-take, get_or-take, drop-drop, get_or_default, take-append-le}
 pub use Rattle.std.proofs.lemmas.List.Elements.{Contains-get_or, Contains-append_left, Contains-append_right, Contains-append_cases, All-nil, All-cons, All-head, All-tail, All-append, All-map, All-weaker}

@@ -1,12 +1,10 @@
 -- Parentheses that are balanced, read from the left, and where their nodes open.
-use Rattle.vers_trees.proofs.Words.{◌≡◌, ℕ, zero, suc, Bool, true, false, List, [], ◌∷◌, ◌++◌, Decides, Option, Some, refl, ap, ◌∙◌, append_assoc, unwrap_or, append-nil, are_balanced, closes, Forest, none, tree, text, IsBalanced, arith}
+use Rattle.vers_trees.proofs.Words.{◌≡◌, ℕ, zero, suc, Bool, true, false, List, [], ◌∷◌, ◌++◌, Decides, Option, Some, refl, ap, ◌∙◌, append_assoc, unwrap_or, append-nil, are_balanced, closes, Forest, none, tree, text, IsBalanced, arith, ints}
 
 -- a forest written down closes what it opens
 closes-text : (F : Forest) (n : ℕ) (rest : List Bool) → closes n (text F ++ rest) ≡ closes n rest
 closes-text none n rest = refl
-closes-text (tree X Y) n rest =
-    ap (closes (suc n)) (append_assoc (text X) (false ∷ text Y) rest)
-    ∙ closes-text X (suc n) (false ∷ (text Y ++ rest)) ∙ closes-text Y n rest
+closes-text (tree X Y) n rest = grind (arith, ints, append_assoc, closes-text X (suc n) (false ∷ (text Y ++ rest)), closes-text Y n rest)
 
 -- a forest, a zero that closes what was open before, and then the same for the others that are open
 abbrev Closing : ℕ → List Bool → Type 0
@@ -20,15 +18,11 @@ Closing-tree (suc n) F rest c =
     (tree F c.0, c.1, rw (← c.2) (ap (λ l. true ∷ l) (append_assoc (text F) (false ∷ text c.0) (false ∷ c.1))), c.3)
 
 Closing-from : (bits : List Bool) (n : ℕ) → closes n bits ≡ true → Closing n bits
-Closing-from [] zero h = record { forest = none; written = refl }
+Closing-from [] zero h = grind (arith, ints)
 Closing-from [] (suc n) h = cc
-Closing-from (true ∷ bits) n h = let c = Closing-from bits (suc n) h in rw (← c.2) (Closing-tree n c.0 c.1 c.3)
+Closing-from (true ∷ bits) n h = grind (arith, ints, Closing-tree, Closing-from bits (suc n) h)
 Closing-from (false ∷ bits) zero h = cc
 Closing-from (false ∷ bits) (suc n) h = (none, bits, refl, Closing-from bits n h)
 
 pub balance_decides : (bits : List Bool) → Decides (are_balanced bits) (IsBalanced bits)
 balance_decides bits = (λ h. Closing-from bits 0 h, λ b. rw (← b.written, ← append-nil (text b.forest)) (closes-text b.forest 0 []))
-
--- a bit that is there, and is a one
-pub one_there : (got : Option Bool) → unwrap_or got false ≡ true → got ≡ Some true
-one_there got h = grind arith

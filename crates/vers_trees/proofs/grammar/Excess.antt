@@ -1,5 +1,5 @@
 -- Functions to the integers that change by at most one at each step.
-use Rattle.vers_trees.proofs.Words.{ℕ, zero, suc, ◌+◌, ◌<◌, ◌≤◌, ◌≢◌, ℤ, pos, ◌+ℤ◌, ◌-ℤ◌, ◌≤ℤ◌, ◌<ℤ◌, arith, subst, ◌≡◌, Bool, true, false, cond, List, [], ◌∷◌, ◌++◌, length, take, get_or, add-one, zero-add, suc-add, sym, refl, ints, sum_by-cons, count, is_bit, excess, bit_step, count_near, count_up, eq-or-lt_of_le, ⊎_elim, take-append-le}
+use Rattle.vers_trees.proofs.Words.{ℕ, zero, suc, ◌+◌, ◌<◌, ◌≤◌, ◌≢◌, ℤ, pos, ◌+ℤ◌, ◌-ℤ◌, ◌≤ℤ◌, ◌<ℤ◌, arith, subst, ◌≡◌, Bool, true, false, cond, List, [], ◌∷◌, ◌++◌, length, take, get_or, add-one, zero-add, suc-add, sym, refl, ints, sum_by-cons, count, is_bit, excess, bit_step, count_near, count_up, eq-or-lt_of_le, ⊎_elim, take-append-le, common_steps}
 
 pub record IsWalk (f : ℕ → ℤ) : Type 0 where
   pub up : (i : ℕ) → f (i + 1) ≤ℤ (f i +ℤ pos 1)
@@ -7,7 +7,7 @@ pub record IsWalk (f : ℕ → ℤ) : Type 0 where
 
 -- a walk that begins above x, or ends above it, and is never x between stays above it
 pub above_until : (f : ℕ → ℤ) → IsWalk f → (x : ℤ) (a b : ℕ) → a ≤ b → x <ℤ f a → ((k : ℕ) → a < k → k ≤ b → f k ≢ x) → x <ℤ f b
-above_until f w x a zero le h ne = subst (λ (n : ℕ). x <ℤ f n) (omega arith) h
+above_until f w x a zero le h ne = grind (arith, ints)
 above_until f w x a (suc b) le h ne = ⊎_elim
     (λ (e : a ≡ suc b). subst (λ (n : ℕ). x <ℤ f n) e h)
     (λ (l : a < suc b).
@@ -16,7 +16,7 @@ above_until f w x a (suc b) le h ne = ⊎_elim
     (eq-or-lt_of_le le)
 
 pub above_since : (f : ℕ → ℤ) → IsWalk f → (x : ℤ) (a b : ℕ) → a ≤ b → x <ℤ f b → ((k : ℕ) → a ≤ k → k < b → f k ≢ x) → x <ℤ f a
-above_since f w x a zero le h ne = subst (λ (n : ℕ). x <ℤ f n) (omega arith) h
+above_since f w x a zero le h ne = grind (arith, ints)
 above_since f w x a (suc b) le h ne = ⊎_elim
     (λ (e : a ≡ suc b). subst (λ (n : ℕ). x <ℤ f n) (sym e) h)
     (λ (l : a < suc b).
@@ -30,11 +30,11 @@ turned f w = record { up = λ i. let d = w.down i in omega (arith, ints); down =
 
 pub below_until : (f : ℕ → ℤ) → IsWalk f → (x : ℤ) (a b : ℕ) → a ≤ b → f a <ℤ x → ((k : ℕ) → a < k → k ≤ b → f k ≢ x) → f b <ℤ x
 below_until f w x a b le h ne =
-    omega (arith, ints, above_until (λ i. pos 0 -ℤ f i) (turned f w) (pos 0 -ℤ x) a b le (omega (arith, ints)) (λ k g m e. ne k g m (omega (arith, ints))))
+    omega (arith, ints, above_until (λ i. pos 0 -ℤ f i) (turned f w) (pos 0 -ℤ x) a b le (omega (arith, ints)) (λ k g m e. grind (arith, ints)))
 
 pub below_since : (f : ℕ → ℤ) → IsWalk f → (x : ℤ) (a b : ℕ) → a ≤ b → f b <ℤ x → ((k : ℕ) → a ≤ k → k < b → f k ≢ x) → f a <ℤ x
 below_since f w x a b le h ne =
-    omega (arith, ints, above_since (λ i. pos 0 -ℤ f i) (turned f w) (pos 0 -ℤ x) a b le (omega (arith, ints)) (λ k g m e. ne k g m (omega (arith, ints))))
+    omega (arith, ints, above_since (λ i. pos 0 -ℤ f i) (turned f w) (pos 0 -ℤ x) a b le (omega (arith, ints)) (λ k g m e. grind (arith, ints)))
 
 -- ---- what the excess is along a list
 pub excess-zero : (l : List Bool) → excess l 0 ≡ pos 0
@@ -49,8 +49,8 @@ excess-nil (suc i) = refl
 -- past its first bit a list's excess is that bit's step more
 pub excess-cons : (b : Bool) (l : List Bool) (i : ℕ) → excess (b ∷ l) (suc i) ≡ excess l i +ℤ bit_step b
 unfolding excess count
-excess-cons true l i = omega (arith, ints, sum_by-cons (λ b. cond (is_bit true b) 1 0) true (take i l), sum_by-cons (λ b. cond (is_bit false b) 1 0) true (take i l))
-excess-cons false l i = omega (arith, ints, sum_by-cons (λ b. cond (is_bit true b) 1 0) false (take i l), sum_by-cons (λ b. cond (is_bit false b) 1 0) false (take i l))
+excess-cons true l i = grind (arith, common_steps, sum_by-cons)
+excess-cons false l i = grind (arith, common_steps, sum_by-cons)
 
 -- along a list the excess is a walk
 pub excess-is_walk : (l : List Bool) → IsWalk (excess l)
@@ -63,7 +63,7 @@ excess-is_walk l = record {
 -- past a one the excess is one more, past a zero one less
 pub excess_after_bit : (l : List Bool) (i : ℕ) (d : Bool) → i < length l → excess l (i + 1) ≡ excess l i +ℤ bit_step (get_or l i d)
 excess_after_bit [] i d h = absurd (omega arith)
-excess_after_bit (b ∷ l) zero d h = let e = excess-cons b l 0 in let z = excess-zero l in let y = excess-zero (b ∷ l) in omega (arith, ints)
+excess_after_bit (b ∷ l) zero d h = grind (arith, ints, excess-cons, excess-zero)
 excess_after_bit (b ∷ l) (suc i) d h = let ih = rw add-one at (excess_after_bit l i d (omega arith)) in let e = excess-cons b l i in let r = excess-cons b l (suc i) in rw add-one (omega (arith, ints))
 
 pub excess_after_open : (l : List Bool) (i : ℕ) (d : Bool) → i < length l → get_or l i d ≡ true → excess l (i + 1) ≡ excess l i +ℤ pos 1
@@ -78,7 +78,7 @@ unfolding excess count
 excess-append_left k l i h = rw (take-append-le i k l h)
 
 pub excess-append_right : (k l : List Bool) (i : ℕ) → excess (k ++ l) (length k + i) ≡ excess k (length k) +ℤ excess l i
-excess-append_right [] l i = let z = excess-zero [] in rw (zero-add) (omega (arith, ints))
+excess-append_right [] l i = grind (arith, ints, excess-zero, zero-add)
 excess-append_right (b ∷ k) l i = let ih = excess-append_right k l i in let e = excess-cons b (k ++ l) (length k + i) in let r = excess-cons b k (length k) in rw (suc-add) (omega (arith, ints))
 
 -- which bit stands where the excess rises, and where it falls

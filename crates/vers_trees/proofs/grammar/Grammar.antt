@@ -26,7 +26,7 @@ forest_of-text F = ap (λ (m : List Bool). (parse m).0) (sym (append-nil (text F
 -- with d ones still open before it, a list whose excess never falls below what they allow, and uses it up, closes them all and no more
 closes_from_excess : (l : List Bool) (d : ℕ) → ((i : ℕ) → i ≤ length l → pos 0 ≤ℤ (excess l i +ℤ pos d)) → excess l (length l) +ℤ pos d ≡ pos 0 → closes d l ≡ true
 closes_from_excess [] zero a t = refl
-closes_from_excess [] (suc d) a t = let z = excess-zero [] in absurd (omega (arith, ints))
+closes_from_excess [] (suc d) a t = grind (arith, ints, excess-zero)
 closes_from_excess (true ∷ l) d a t = closes_from_excess l (suc d)
     (λ i x. let g = a (suc i) (omega arith) in let e = excess-cons true l i in omega (arith, ints))
     (let e = excess-cons true l (length l) in omega (arith, ints))

@@ -46,8 +46,8 @@ excess_in_rest X Y i = rest_from_zero X Y i (total_is_zero X)
 
 -- the excess of a forest is nowhere negative
 pub never_negative : (F : Forest) (i : ℕ) → i ≤ length (text F) → pos 0 ≤ℤ excess (text F) i
-never_negative none i h = let e = excess-nil i in omega (arith, ints)
-never_negative (tree X Y) zero h = let e = excess-zero (text (tree X Y)) in omega (arith, ints)
+never_negative none i h = grind (arith, ints, excess-nil)
+never_negative (tree X Y) zero h = grind (arith, ints, excess-zero)
 never_negative (tree X Y) (suc i) h = ⊎_elim
     (λ (a : length (text X) < i).
     let len = length-tree X Y in
@@ -60,7 +60,7 @@ never_negative (tree X Y) (suc i) h = ⊎_elim
 
 -- each pair closes as the excess says
 closes_root : (X Y : Forest) → Closes (text (tree X Y)) 0 (length (text X) + 1)
-closes_root X Y = record { after = omega arith; inside = let len = length-tree X Y in omega arith; back = back; above = above }
+closes_root X Y = record { after = omega arith; inside = grind (arith, ints, length-tree); back = back; above = above }
   where
     start : excess (text (tree X Y)) 0 ≡ pos 0
     start = excess-zero (text (tree X Y))
@@ -74,7 +74,7 @@ closes_root X Y = record { after = omega arith; inside = let len = length-tree X
     above j h k =
         let r = excess_in_first X Y (j - 1) (omega arith) in
         let n = never_negative X (j - 1) (omega arith) in
-        let e : excess (text (tree X Y)) (j - 1 + 1) ≡ excess (text (tree X Y)) j = ap (excess (text (tree X Y))) (omega arith) in
+        let e : excess (text (tree X Y)) (j - 1 + 1) ≡ excess (text (tree X Y)) j = grind (arith, ints) in
         omega (arith, ints, start)
 
 -- what closes in a list closes where that stands in another, along which the excess goes on as along it
@@ -89,12 +89,12 @@ closes_moved l m p x y h at c =
     }
 
 closes_first : (X Y : Forest) (x y : ℕ) → Closes (text X) x y → Closes (text (tree X Y)) (1 + x) (1 + y)
-closes_first X Y x y = closes_moved (text (tree X Y)) (text X) 1 x y (let len = length-tree X Y in omega arith) (λ j h.
+closes_first X Y x y = closes_moved (text (tree X Y)) (text X) 1 x y (grind (arith, ints, length-tree)) (λ j h.
     let r = excess_in_first X Y j h in let s = excess_in_first X Y 0 (omega arith) in let z = excess-zero (text X) in
     grind (arith, ints))
 
 closes_rest : (X Y : Forest) (x y : ℕ) → Closes (text Y) x y → Closes (text (tree X Y)) (length (text X) + 2 + x) (length (text X) + 2 + y)
-closes_rest X Y x y = closes_moved (text (tree X Y)) (text Y) (length (text X) + 2) x y (let len = length-tree X Y in omega arith) (λ j h.
+closes_rest X Y x y = closes_moved (text (tree X Y)) (text Y) (length (text X) + 2) x y (grind (arith, ints, length-tree)) (λ j h.
     let r = excess_in_rest X Y j in let s = excess_in_rest X Y 0 in let z = excess-zero (text Y) in
     grind (arith, ints))
 

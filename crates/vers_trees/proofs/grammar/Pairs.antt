@@ -1,5 +1,5 @@
 -- The list of a forest's pairs has just the places that open and close a tree.
-use Rattle.vers_trees.proofs.Words.{◌≡◌, ℕ, suc, ◌+◌, ◌<◌, ◌⊎◌, inl, inr, List, ◌∷◌, ◌++◌, map, length, get_or, arith, ⊎_elim, subst, sym, refl, ap, ◌∙◌, ◌≤◌, Bool, false, ◌&&◌, cond, [], ltb, count_by, pos, Contains, get_or-map, length-map, Contains-get_or, Contains-append_left, Contains-append_right, Contains-append_cases, Forest, none, tree, text, moved, pairs, ints, nat_tests, lt-ltb, le-ltb, and_from, and_left, and_right, sum_by-cons, sum_by-append, excess}
+use Rattle.vers_trees.proofs.Words.{◌≡◌, ℕ, suc, ◌+◌, ◌<◌, ◌⊎◌, inl, inr, List, ◌∷◌, ◌++◌, map, length, get_or, arith, ⊎_elim, subst, sym, refl, ap, ◌∙◌, ◌≤◌, Bool, false, ◌&&◌, cond, [], ltb, count_by, pos, Contains, get_or-map, length-map, Contains-get_or, Contains-append_left, Contains-append_right, Contains-append_cases, Forest, none, tree, text, moved, pairs, ints, nat_tests, lt-ltb, le-ltb, and_from, and_left, and_right, sum_by-cons, sum_by-append, excess, rules}
 use Rattle.vers_trees.proofs.grammar.Paired.{Paired, paired_closes, excess_in_first, excess_in_rest}
 use Rattle.vers_trees.proofs.grammar.Excess.{excess-zero}
 
@@ -8,9 +8,6 @@ contains_first x xs = (0, omega arith, refl)
 
 pub contains_later : {X : Type 0} → (y : X) (xs : List X) (x : X) → Contains xs x → Contains (y ∷ xs) x
 contains_later y xs x c = (suc c.0, omega arith, c.2)
-
-pub contains_cons_cases : {X : Type 0} → (y : X) (xs : List X) (x : X) → Contains (y ∷ xs) x → (y ≡ x) ⊎ Contains xs x
-contains_cons_cases y xs x c = grind (arith, ints)
 
 pub contains_map : {X Y : Type 0} → (f : X → Y) (xs : List X) (x : X) → Contains xs x → Contains (map f xs) (f x)
 contains_map f xs x c = (c.0, (let l = length-map xs f in omega arith), get_or-map f xs c.0 x (f x) c.1 ∙ ap f c.2)
@@ -27,7 +24,7 @@ second X Y = map (moved 1) (pairs X) ++ map (moved (length (text X) + 2)) (pairs
 -- the list of pairs holds just what `Paired` says
 pub contains_from_paired : (F : Forest) (v c : ℕ) → Paired F v c → Contains (pairs F) (v, c)
 contains_from_paired none v c p = absurd p
-contains_from_paired (tree X Y) v c (inl p) = rw (p.0, p.1) (contains_first (0, length (text X) + 1) (second X Y))
+contains_from_paired (tree X Y) v c (inl p) = grind (arith, ints, contains_first)
 contains_from_paired (tree X Y) v c (inr (inl p)) =
     let m = contains_map (moved 1) (pairs X) (p.0, p.1) (contains_from_paired X p.0 p.1 p.4) in
     grind (arith, ints, Contains-append_left, contains_later)
@@ -47,7 +44,7 @@ paired_from_contains (tree X Y) q h = ⊎_elim
     (λ (c : Contains (map (moved 1) (pairs X)) q). let m = contains_map_cases (moved 1) (pairs X) (0, 0) q c in subst (PairedIn (tree X Y)) m.2 (inr (inl (m.0.0, m.0.1, omega arith, omega arith, paired_from_contains X m.0 m.1))))
     (λ (c : Contains (map (moved (length (text X) + 2)) (pairs Y)) q). let m = contains_map_cases (moved (length (text X) + 2)) (pairs Y) (0, 0) q c in subst (PairedIn (tree X Y)) m.2 (inr (inr (m.0.0, m.0.1, refl, refl, paired_from_contains Y m.0 m.1))))
     (Contains-append_cases (map (moved 1) (pairs X)) (map (moved (length (text X) + 2)) (pairs Y)) q c))
-    (contains_cons_cases (0, length (text X) + 1) (second X Y) q h)
+    (grind (arith, ints))
 
 -- ---- how many pairs of a forest are around a pair, by its places
 abbrev pub one_if : Bool → ℕ
@@ -61,18 +58,16 @@ count_by-append p xs ys = sum_by-append (λ y. one_if (p y)) xs ys
 
 pub count_by-map : {X Y : Type 0} → (p : Y → Bool) (f : X → Y) (xs : List X) → count_by p (map f xs) ≡ count_by (λ x. p (f x)) xs
 count_by-map p f [] = refl
-count_by-map p f (x ∷ xs) =
-    let ih = count_by-map p f xs in
-    count_by-cons p (f x) (map f xs) ∙ ap (λ (n : ℕ). one_if (p (f x)) + n) ih ∙ sym (count_by-cons (λ y. p (f y)) x xs)
+count_by-map p f (x ∷ xs) = search (rules, count_by-cons, count_by-map p f xs)
 
 -- tests that agree at each element count the same
 pub count_agree : {X : Type 0} → (p q : X → Bool) (xs : List X) → ((x : X) → Contains xs x → p x ≡ q x) → count_by p xs ≡ count_by q xs
 count_agree p q [] h = refl
-count_agree p q (x ∷ xs) h = let ih = count_agree p q xs (λ y c. h y (contains_later x xs y c)) in grind (arith, ints, contains_later, contains_first, count_by-cons)
+count_agree p q (x ∷ xs) h = grind (arith, ints, contains_later, contains_first, count_by-cons, count_agree p q xs (λ y c. h y (contains_later x xs y c)))
 
 pub count_none : {X : Type 0} → (p : X → Bool) (xs : List X) → ((x : X) → Contains xs x → p x ≡ false) → count_by p xs ≡ 0
 count_none p [] h = refl
-count_none p (x ∷ xs) h = let ih = count_none p xs (λ y c. h y (contains_later x xs y c)) in grind (arith, ints, contains_later, contains_first, count_by-cons)
+count_none p (x ∷ xs) h = grind (arith, ints, contains_later, contains_first, count_by-cons, count_none p xs (λ y c. h y (contains_later x xs y c)))
 
 -- a count over the pairs of a tree and what follows it
 pub count_tree : (p : ℕ × ℕ → Bool) (X Y : Forest) → count_by p (pairs (tree X Y)) ≡ one_if (p (0, length (text X) + 1)) + (count_by (λ q. p (moved 1 q)) (pairs X) + count_by (λ q. p (moved (length (text X) + 2) q)) (pairs Y))
@@ -98,14 +93,14 @@ around_moved n F x y v c e f = grind (arith, ints, count_agree, both, moved_lt, 
 
 -- none of the pairs that open at or after v, or close at or before c, is around (v, c)
 around_none : (n : ℕ) (F : Forest) (v c : ℕ) → (v ≤ n) ⊎ (n + length (text F) ≤ c + 1) → around n F v c ≡ 0
-around_none n F v c (inl h) = count_none (λ q. strictly_contains (moved n q) (v, c)) (pairs F) (λ q _. and_left _ _ (le-ltb (n + q.0) v (omega arith)))
+around_none n F v c (inl h) = grind (arith, ints, count_none, and_left, le-ltb)
 around_none n F v c (inr h) = count_none (λ q. strictly_contains (moved n q) (v, c)) (pairs F) (λ q i. and_right _ _ (le-ltb c (n + q.1) (let w = (paired_closes F q.0 q.1 (paired_from_contains F q i)).inside in omega arith)))
 
 -- the depth of a node is the excess before it
 pub pairs_around : (F : Forest) (v c : ℕ) → Paired F v c → pos (count_by (λ q. strictly_contains q (v, c)) (pairs F)) ≡ excess (text F) v
 pairs_around none v c p = absurd p
 pairs_around (tree X Y) v c (inl p) =
-    let ev = p.0 in let ec = p.1 in
+    let ec = p.1 in
     let t = count_tree (λ q. strictly_contains q (v, c)) X Y in
     let a : one_if (strictly_contains (0, length (text X) + 1) (v, c)) ≡ 0 = ap one_if (and_left (ltb 0 v) (ltb c (length (text X) + 1)) (le-ltb 0 v (omega arith))) in
     let b = around_none 1 X v c (inl (omega arith)) in

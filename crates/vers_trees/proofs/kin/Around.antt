@@ -1,5 +1,5 @@
 -- The nodes around a node: its parent, its depth, how many nodes are in its tree, and how many come before it.
-use Rattle.vers_trees.proofs.Words.{◌≡◌, ℕ, zero, suc, ◌+◌, ◌<◌, ◌≤◌, Bool, true, false, cond, ◌&&◌, List, [], ◌∷◌, take, ltb, leb, count_by, pos, negsuc, Some, arith, ⊎_elim, sym, refl, ap, ◌∙◌, Decides, lt-ltb, le-ltb, le-leb, Decides-ltb, Decides-and, leb_tells, length-filter, count, is_bit, places, excess, last_rise_before, Forest, text, pairs, nodes, closing, is_ancestor, is_proper_ancestor, depth, parent, node_index}
+use Rattle.vers_trees.proofs.Words.{◌≡◌, ℕ, zero, suc, ◌+◌, ◌<◌, ◌≤◌, Bool, true, false, cond, ◌&&◌, List, [], ◌∷◌, take, ltb, leb, count_by, pos, negsuc, Some, arith, ⊎_elim, sym, refl, ap, ◌∙◌, Decides, lt-ltb, le-ltb, le-leb, Decides-ltb, Decides-and, leb_tells, length-filter, count, is_bit, places, excess, last_rise_before, Forest, text, pairs, nodes, closing, is_ancestor, is_proper_ancestor, depth, parent, node_index, ints, rules, common_steps}
 use Rattle.vers_trees.proofs.walks.Lists.{shifted, places-cons}
 use Rattle.vers_trees.proofs.searches.Searches.{before_some, before_none, by_answer}
 use Rattle.vers_trees.proofs.grammar.Paired.{closes_rises, closes_paired}
@@ -27,7 +27,7 @@ above_is_around F v t a h p =
     let b = p.before in
     let e = closes_to F a p.close q in
     let n = nested (text F) a p.close v (closing F v) q h.closes b (omega arith) in
-    (b, omega arith, one_pair F a (omega arith) (closes_rises (text F) a p.close false q))
+    grind (arith, ints, one_pair, closes_rises)
 
 pub above_parent : (F : Forest) (v p : ℕ) → HasPair F v → IsAbove (text F) v 1 p → parent F v ≡ Some p
 unfolding parent
@@ -38,12 +38,11 @@ above_parent F v p h a =
 pub parent_is_search : (F : Forest) (v : ℕ) → HasPair F v → last_rise_before (text F) v (negsuc 0) ≡ parent F v
 unfolding parent
 parent_is_search F v h = by_answer (last_rise_before (text F) v (negsuc 0))
-    (λ e. e ∙ sym (no_last_node F _ _ (λ w. proper_decides F w v) (λ w k g. no_parent (text F) v w (closing F w) (before_none (text F) v (negsuc 0) (inside F v h) e) k.closes g.0 (omega arith))))
+    (λ e. e ∙ sym (no_last_node F _ _ (λ w. proper_decides F w v) (λ w k g. no_parent (text F) v w (closing F w) (search (rules, before_none, inside)) k.closes g.0 (omega arith))))
     (λ p e. e ∙ sym (above_parent F v p h (above_from_before F v 1 p (omega arith) (opens F v h) (before_some (text F) v (negsuc 0) p e))))
 
 pub parent_above : (F : Forest) (v p : ℕ) → HasPair F v → parent F v ≡ Some p → IsAbove (text F) v 1 p
-parent_above F v p h e =
-    above_from_before F v 1 p (omega arith) (closes_rises (text F) v (closing F v) false h.closes) (before_some (text F) v (negsuc 0) p (parent_is_search F v h ∙ e))
+parent_above F v p h e = search (rules, above_from_before, closes_rises, before_some, parent_is_search)
 
 -- the parent is around, and each node around v is at or before it
 pub parent_around : (F : Forest) (v p : ℕ) → HasPair F v → parent F v ≡ Some p → (p < v) × (closing F v < closing F p) × HasPair F p
@@ -51,7 +50,6 @@ parent_around F v p h e = above_is_around F v 1 p h (parent_above F v p h e)
 
 pub has_parent : (F : Forest) (v q : ℕ) → HasPair F v → HasPair F q → q < v → closing F v < closing F q → (p : ℕ) × (parent F v ≡ Some p) × (q ≤ p)
 has_parent F v q h k x y =
-    let ha = h.closes.after in
     by_answer (last_rise_before (text F) v (negsuc 0))
     (λ e. absurd (no_parent (text F) v q (closing F q) (before_none (text F) v (negsuc 0) (omega arith) e) k.closes x (omega arith)))
     (λ p e.
@@ -70,19 +68,9 @@ depth_is_excess F v h =
 -- of the places of a bit, those before place v
 pub below_counted : (bit : Bool) (l : List Bool) (v : ℕ) → count_by (λ w. ltb w v) (places bit l) ≡ count bit l v
 unfolding count places
-below_counted bit l zero = count_none (λ w. ltb w 0) (places bit l) (λ w i. le-ltb w 0 (omega arith))
+below_counted bit l zero = grind (arith, ints, count_none, le-ltb)
 below_counted bit [] (suc v) = refl
-below_counted bit (b ∷ l) (suc v) =
-    let ih = below_counted bit l v in
-    let first : List ℕ = cond (is_bit bit b) (0 ∷ []) [] in
-    let rest = count_by-map (λ w. ltb w (suc v)) (λ x. 1 + x) (places bit l) ∙ count_agree (λ x. ltb (1 + x) (suc v)) (λ x. ltb x v) (places bit l) (λ x i. moved_lt 1 x v (suc v) (omega arith)) in
-    let s = here v (is_bit bit b) in
-    let c = count_by-cons (is_bit bit) b (take v l) in
-    ap (λ (xs : List ℕ). count_by (λ w. ltb w (suc v)) xs) (places-cons bit b l) ∙ count_by-append (λ w. ltb w (suc v)) first (shifted 1 (places bit l)) ∙ (let e : count_by (λ w. ltb w (suc v)) first + count_by (λ w. ltb w (suc v)) (shifted 1 (places bit l)) ≡ count_by (is_bit bit) (take (suc v) (b ∷ l)) = omega arith in e)
-  where
-    here : (v : ℕ) (t : Bool) → count_by (λ w. ltb w (suc v)) (cond t (0 ∷ []) []) ≡ one_if t
-    here v true = rw (lt-ltb 0 (suc v) (omega arith)) refl
-    here v false = refl
+below_counted bit (b ∷ l) (suc v) = grind (arith, common_steps, count_by-map, count_agree, moved_lt, count_by-cons, places-cons, count_by-append, lt-ltb, below_counted bit l v)
 
 pub index_is_rank : (F : Forest) (v : ℕ) → node_index F v ≡ count true (text F) v
 unfolding node_index

@@ -1,5 +1,5 @@
 -- What a tree of balanced parentheses answers, in the words of any tree.
-use Rattle.vers_trees.proofs.Words.{◌≡◌, ◌≢◌, ◌↔◌, ℕ, ◌<◌, ◌≤◌, Bool, true, false, List, [], ◌∷◌, length, Option, Some, None, arith, sym, refl, ap, ◌∙◌, IsTrue, slice_get, option_map, ◌==◌, slice_get-get_or, get_or_past, count, places, select, length-places, Forest, none, tree, text, IsBalanced, forest_of, nodes, first_of, ne_eqb}
+use Rattle.vers_trees.proofs.Words.{◌≡◌, ◌≢◌, ◌↔◌, ℕ, ◌<◌, ◌≤◌, Bool, true, false, List, [], ◌∷◌, length, Option, Some, None, arith, sym, refl, ap, ◌∙◌, IsTrue, slice_get, option_map, ◌==◌, slice_get-get_or, get_or_past, count, places, select, length-places, Forest, none, tree, text, IsBalanced, forest_of, nodes, first_of, ne_eqb, ints}
 use Rattle.vers_trees.proofs.grammar.Grammar.{text-forest_of}
 use Rattle.vers_trees.proofs.kin.NodeList.{nodes_are_ones}
 
@@ -27,10 +27,6 @@ pub handle_by : (l : List Bool) → IsBalanced l → (i n : ℕ) → n ≡ selec
 unfolding select
 handle_by l b i n e h = grind (arith, nodes_by, slice_get-get_or)
 
-pub handle_past : (l : List Bool) → IsBalanced l → (i n : ℕ) → n ≡ select true l i → length (nodes (forest_of l)) ≤ i → n ≡ length (text (forest_of l))
-unfolding select
-handle_past l b i n e h = grind (arith, get_or_past, nodes_by, text-forest_of)
-
 pub empty_by : (l : List Bool) → IsBalanced l → (r : Bool) → IsTrue r ↔ (l ≡ []) → r ≡ (length (nodes (forest_of l)) == 0)
 unfolding forest_of
 empty_by [] b r h = h.1 refl
@@ -39,4 +35,4 @@ empty_by (x ∷ l) b r h = go (forest_of (x ∷ l)) (text-forest_of (x ∷ l) b)
     go : (F : Forest) → text F ≡ x ∷ l → (r : Bool) → IsTrue r ↔ (x ∷ l ≡ []) → r ≡ (length (nodes F) == 0)
     go none e r h = absurd (cc)
     go (tree X Y) e true h = let f = h.0 refl in absurd (cc)
-    go (tree X Y) e false h = sym (ne_eqb (length (nodes (tree X Y))) 0 (λ q. omega arith))
+    go (tree X Y) e false h = sym (grind (arith, ints, ne_eqb))

@@ -1,5 +1,5 @@
 -- What the calls on a node of balanced parentheses answer, by the searches that they make.
-use Rattle.vers_trees.proofs.Words.{Option, None, Some, ◌≡◌, ℕ, ◌+◌, ◌-◌, ◌/◌, ◌%◌, min, ◌<◌, ◌≤◌, ◌↔◌, ◌&&◌, leb, Bool, true, false, List, [], ◌∷◌, length, get_or, pos, negsuc, neg_ℤ, arith, sym, refl, ap, ◌∙◌, IsTrue, is_some, not, ints, le-leb, lt-leb, count, count_both, excess, first_rise_after, last_rise_before, Forest, text, IsBalanced, forest_of, IsNode, closing, parent, depth, subtree, is_ancestor, node_index, children, siblings, level, level_ancestor, first_of, last_of, next_of, previous_of, opened_after}
+use Rattle.vers_trees.proofs.Words.{Option, None, Some, ◌≡◌, ℕ, ◌+◌, ◌-◌, ◌/◌, ◌%◌, min, ◌<◌, ◌≤◌, ◌↔◌, ◌&&◌, leb, Bool, true, false, List, [], ◌∷◌, length, get_or, pos, negsuc, neg_ℤ, arith, sym, refl, ap, ◌∙◌, IsTrue, is_some, not, ints, le-leb, lt-leb, count, count_both, excess, first_rise_after, last_rise_before, Forest, text, IsBalanced, forest_of, IsNode, closing, parent, depth, subtree, is_ancestor, node_index, children, siblings, level, level_ancestor, first_of, last_of, next_of, previous_of, opened_after, rules}
 use Rattle.vers_trees.proofs.searches.Searches.{after_is}
 use Rattle.vers_trees.proofs.grammar.Grammar.{text-forest_of}
 use Rattle.vers_trees.proofs.grammar.Paired.{Closes}
@@ -108,13 +108,9 @@ pub closes_within : (F : Forest) (a d outer inner : ℕ) → closing F a ≡ out
 unfolding is_ancestor
 closes_within F a d outer inner e f h = grind (arith, ints, le-leb)
 
-pub opens_before : (F : Forest) (a d : ℕ) → d < a → leb a d ≡ is_ancestor F a d
-unfolding is_ancestor
-opens_before F a d h = lt-leb a d h ∙ sym (ap (λ (b : Bool). b && leb (closing F d) (closing F a)) (lt-leb a d h))
-
 -- a list is empty where it has no first
 pub leaf_by : (xs : List ℕ) (o : Option ℕ) (r : Bool) → is_some o ≡ not r → o ≡ first_of xs → IsTrue r ↔ (xs ≡ [])
-leaf_by [] o true e f = (λ h. refl, λ h. refl)
-leaf_by [] o false e f = let g : is_some o ≡ false = ap is_some f in absurd (cc)
+leaf_by [] o true e f = search rules
+leaf_by [] o false e f = cc
 leaf_by (x ∷ xs) o true e f = let g : is_some o ≡ true = ap is_some f in absurd (cc)
 leaf_by (x ∷ xs) o false e f = (λ h. absurd (cc), λ h. absurd (cc))

@@ -4,14 +4,14 @@ use Rattle.vers_trees.proofs.searches.Searches.{before_is}
 use Rattle.vers_trees.proofs.grammar.Excess.{excess_after_open, excess_after_close}
 use Rattle.vers_trees.proofs.grammar.Paired.{Closes, paired_closes, close_is_paired, closes_rises, closes_falls}
 use Rattle.vers_trees.proofs.grammar.Pairs.{contains_first, contains_later}
-use Rattle.vers_trees.proofs.kin.Partners.{before_from_closes, nested, opens_around, same_around, last_of_siblings, first_of_siblings, first_child_above, last_child_closes, last_child_above}
+use Rattle.vers_trees.proofs.kin.Partners.{before_from_closes, nested, opens_around, same_around, first_of_siblings, first_child_above, last_child_closes, last_child_above}
 use Rattle.vers_trees.proofs.kin.NodeList.{HasPair, one_pair, node_pair, closes_to, opens, inside, first_in, no_first_in, last_node, no_last_node, next_in, no_next_in, previous_in, no_previous_in, option_decides}
 use Rattle.vers_trees.proofs.kin.Around.{proper_decides, parent_around, above_parent, has_parent}
 
 -- tests that agree at each element keep the same elements
 pub filter_agree : {X : Type 0} → (p q : X → Bool) (xs : List X) → ((x : X) → Contains xs x → p x ≡ q x) → filter p xs ≡ filter q xs
 filter_agree {X = X} p q [] h = refl
-filter_agree {X = X} p q (x ∷ xs) h = let ih = filter_agree p q xs (λ y c. h y (contains_later x xs y c)) in grind (arith, ints, contains_later, contains_first)
+filter_agree {X = X} p q (x ∷ xs) h = grind (arith, ints, contains_later, contains_first, filter_agree p q xs (λ y c. h y (contains_later x xs y c)))
 
 -- a node inside the tree of v has its parent at v or after it, so not the parent of v
 not_beside : (F : Forest) (v w : ℕ) → HasPair F v → HasPair F w → v < w → w ≤ closing F v → parent F w ≡ parent F v → ⊥
@@ -27,7 +27,7 @@ unfolding parent
 same_parent F v h k =
     ap (last_or None) (filter_agree (λ a. is_proper_ancestor F a (closing F v + 1)) (λ a. is_proper_ancestor F a v) (nodes F) (λ a i.
     let s = same_around (text F) v (closing F v) (closing F (closing F v + 1)) a (closing F a) h.closes k.closes (node_pair F a i).closes in
-    same_from_decides _ _ (Decides-like (is_proper_ancestor F a (closing F v + 1)) s.1 s.0 (proper_decides F a (closing F v + 1))) (proper_decides F a v)))
+    same_from_decides _ _ (grind (arith, ints, Decides-like, proper_decides)) (proper_decides F a v)))
 
 -- ---- children
 first_child_found : (F : Forest) (v : ℕ) → HasPair F v → get_or (text F) (v + 1) false ≡ true → first_of (children F v) ≡ Some (v + 1)
@@ -59,7 +59,6 @@ last_child_is_search F v c h s x =
     let q = paired_closes F p.0 c p.1 in
     let after = opens_around (text F) p.0 c v (c + 1) q m (omega arith) (omega arith) in
     let k = one_pair F p.0 (omega arith) (closes_rises (text F) p.0 c false q) in
-    let pc = closes_to F p.0 c q in
     before_is (text F) c (negsuc 0) p.0 (before_from_closes (text F) p.0 c q)
     ∙ sym (last_node F _ _ (λ w. option_decides (parent F w) (Some v)) p.0 k (above_parent F p.0 v k (last_child_above (text F) v c p.0 m q after)) (grind (arith, ints, parent_around, nested, has_parent)))
 
@@ -73,7 +72,7 @@ next_sibling_found F v h i b =
 -- what a tree's parent closes right after it has no later child
 last_beside : (F : Forest) (v w : ℕ) → HasPair F v → closing F v + 1 < length (text F) → get_or (text F) (closing F v + 1) false ≡ false → HasPair F w → closing F v < w → parent F w ≡ parent F v → ⊥
 last_beside F v w h i b k x e =
-    let s = last_of_siblings F v (closing F v) h.closes i b in
+    let s : (q : ℕ) × Closes (text F) q ((closing F v) + 1) × (q < v) = grind (arith, ints, close_is_paired, paired_closes, opens_around) in
     let m = s.1 in let z = s.2 in
     let q = one_pair F s.0 (omega arith) (closes_rises (text F) s.0 (closing F v + 1) false m) in
     let qc = closes_to F s.0 (closing F v + 1) m in

@@ -1,5 +1,5 @@
 -- The laws of parentheses.
-use Rattle.vers_trees.proofs.Words.{◌≡◌, ℕ, ◌<◌, ◌↔◌, Bool, true, false, List, length, get_or, negsuc, Some, arith, Option, None, sym, ◌∙◌, slice_get, slice_get_within, get_or_from_slice_get, Contains, first_rise_after, last_rise_before, enclosing, Forest, text, pairs, parent}
+use Rattle.vers_trees.proofs.Words.{◌≡◌, ℕ, ◌<◌, ◌↔◌, Bool, true, false, List, length, get_or, negsuc, Some, arith, Option, None, sym, ◌∙◌, slice_get, slice_get_within, get_or_from_slice_get, Contains, first_rise_after, last_rise_before, enclosing, Forest, text, pairs, parent, ints, rules}
 use Rattle.vers_trees.proofs.searches.Searches.{after_some, after_is, before_some, before_is, before_none, none_before}
 use Rattle.vers_trees.proofs.grammar.Paired.{paired_closes, closes_paired, open_is_paired, close_is_paired, Closes, closes_rises, closes_falls}
 use Rattle.vers_trees.proofs.grammar.Pairs.{contains_from_paired, paired_from_contains}
@@ -15,13 +15,13 @@ has_bit l i b e = (slice_get_within l i b e, get_or_from_slice_get l i b false e
 
 pub close_pair : (F : Forest) (v c : ℕ) → slice_get (text F) v ≡ Some true → (first_rise_after (text F) v (negsuc 0) ≡ Some c) ↔ Contains (pairs F) (v, c)
 close_pair F v c h = (
-  λ e. contains_from_paired F v c (closes_paired F v c (closes_from_after (text F) v c false (has_bit (text F) v true h).1 (after_some (text F) v (negsuc 0) c e))),
+  λ e. contains_from_paired F v c (grind (arith, ints, closes_paired, closes_from_after, has_bit, after_some)),
   λ k. after_is (text F) v (negsuc 0) c (after_from_closes (text F) v c (paired_closes F v c (paired_from_contains F (v, c) k))),
 )
 
 pub open_pair : (F : Forest) (v c : ℕ) → slice_get (text F) c ≡ Some false → (last_rise_before (text F) c (negsuc 0) ≡ Some v) ↔ Contains (pairs F) (v, c)
 open_pair F v c h = (
-  λ e. contains_from_paired F v c (closes_paired F v c (closes_from_before (text F) v c false (has_bit (text F) c false h).1 (before_some (text F) c (negsuc 0) v e))),
+  λ e. contains_from_paired F v c (grind (arith, ints, closes_paired, closes_from_before, has_bit, before_some)),
   λ k. before_is (text F) c (negsuc 0) v (before_from_closes (text F) v c (paired_closes F v c (paired_from_contains F (v, c) k))),
 )
 
@@ -37,8 +37,7 @@ close_of_open F c h =
 -- from the closing bracket of a pair two less is found where one less is from the opening one
 found_at_close : (l : List Bool) (v c : ℕ) → Closes l v c → (o : Option ℕ) → last_rise_before l v (negsuc 0) ≡ o → last_rise_before l c (negsuc 1) ≡ o
 found_at_close l v c q None e = none_before l c (negsuc 1) (λ k x h. let b = before_pair l v c q k x h in before_none l v (negsuc 0) (omega arith) e k b.0 b.1)
-found_at_close l v c q (Some p) e =
-    before_is l c (negsuc 1) p (enclose_at_close l v c p q (before_some l v (negsuc 0) p e))
+found_at_close l v c q (Some p) e = search (rules, before_is, enclose_at_close, before_some)
 
 pub enclosed_by_parent : (F : Forest) (v c : ℕ) → Contains (pairs F) (v, c) → (enclosing (text F) v ≡ parent F v) × (enclosing (text F) c ≡ parent F v)
 enclosed_by_parent F v c k =

@@ -1,5 +1,5 @@
 -- The nodes of a forest are the places of the ones that it is written down with.
-use Rattle.vers_trees.proofs.Words.{◌≡◌, ℕ, zero, suc, ◌+◌, ◌<◌, Bool, true, false, ◌&&◌, List, [], ◌∷◌, map, length, get_or, Option, Some, None, eqb, ltb, arith, subst, sym, refl, ap, ◌∙◌, find, filter, slice_get, unwrap_or, option_map, Decides, option_eq, Contains, range_with_len, last_or, Decides-eqb, Decides-ltb, Decides-and, is_bit, places, Forest, none, tree, text, moved, pairs, nodes, IsNode, closing, first_of, next_of, previous_of, map-append}
+use Rattle.vers_trees.proofs.Words.{◌≡◌, ℕ, zero, suc, ◌+◌, ◌<◌, Bool, true, false, ◌&&◌, List, [], ◌∷◌, map, length, get_or, Option, Some, None, eqb, ltb, arith, subst, sym, refl, ap, ◌∙◌, find, filter, slice_get, unwrap_or, option_map, Decides, option_eq, Contains, range_with_len, last_or, Decides-eqb, Decides-ltb, Decides-and, is_bit, places, Forest, none, tree, text, moved, pairs, nodes, IsNode, closing, first_of, next_of, previous_of, map-append, ints}
 use Rattle.vers_trees.proofs.walks.Lists.{opening_moved, places-tree}
 use Rattle.vers_trees.proofs.searches.Searches.{find_is, none_find, last_is, none_last}
 use Rattle.vers_trees.proofs.grammar.Paired.{Closes, Paired, paired_closes, closes_paired, open_is_paired, closes_once, closes_rises}
@@ -20,7 +20,7 @@ pub record HasPair (F : Forest) (v : ℕ) : Type 0 where
   pub closes : Closes (text F) v (closing F v)
 
 find_only : {X : Type 0} → (test : X → Bool) (xs : List X) (y : X) → Contains xs y → test y ≡ true → ((x : X) → Contains xs x → test x ≡ true → x ≡ y) → find test xs ≡ Some y
-find_only {X = X} test [] y c t h = let l = c.1 in absurd (omega arith)
+find_only {X = X} test [] y c t h = grind (arith, ints)
 find_only {X = X} test (x ∷ xs) y c t h = go (find_only test xs y) (test x) refl
   where
     later : Contains (x ∷ xs) y → test x ≡ false → Contains xs y
@@ -35,7 +35,7 @@ pub closing_is : (F : Forest) (v c : ℕ) → Paired F v c → closing F v ≡ c
 unfolding closing
 closing_is F v c p =
     let f = find_only (λ (q : ℕ × ℕ). eqb q.0 v) (pairs F) (v, c) (contains_from_paired F v c p) ((Decides-eqb v v).1 refl) (λ q d t. same q d ((Decides-eqb q.0 v).0 t)) in
-    ap (λ (o : Option (ℕ × ℕ)). unwrap_or (option_map (λ (q : ℕ × ℕ). q.1) o) v) f
+    grind (arith, ints)
   where
     same : (q : ℕ × ℕ) → Contains (pairs F) q → q.0 ≡ v → q ≡ (v, c)
     same q d e =
@@ -55,10 +55,7 @@ pub node_pair : (F : Forest) (v : ℕ) → IsNode F v → HasPair F v
 node_pair F v n =
     let m = contains_map_cases (λ (q : ℕ × ℕ). q.0) (pairs F) (0, 0) v n in
     let p = paired_from_contains F m.0 m.1 in
-    subst (HasPair F) m.2 (has_pair F m.0.0 m.0.1 p)
-
-pub pair_node : (F : Forest) (v : ℕ) → HasPair F v → IsNode F v
-pair_node F v h = contains_map (λ (q : ℕ × ℕ). q.0) (pairs F) (v, closing F v) h.is_pair
+    grind (arith, ints, has_pair)
 
 -- ---- the first and the last node that pass a test
 pub find_filtered : {X : Type 0} → (p t : X → Bool) (xs : List X) → find t (filter p xs) ≡ find (λ x. p x && t x) xs
@@ -97,7 +94,7 @@ inside F v h = omega arith
 module _ (F : Forest) (t : ℕ → Bool) (P : ℕ → Type 0) (d : (w : ℕ) → Decides (t w) (P w)) where
   pub first_node : (v : ℕ) → HasPair F v → P v → ((w : ℕ) → w < v → HasPair F w → P w → ⊥) → find t (nodes F) ≡ Some v
   first_node v h p n =
-      find_node F t ∙ find_is (node_test F t) _ (at_one F t P d) 0 (length (text F)) v (record { from = omega arith; below = omega arith; holds = (opens F v h, p); first = λ k x y q. n k y (one_pair F k (omega arith) q.0) q.1 })
+      find_node F t ∙ find_is (node_test F t) _ (at_one F t P d) 0 (length (text F)) v (grind (arith, ints, opens, one_pair))
 
   pub no_first_node : ((w : ℕ) → HasPair F w → P w → ⊥) → find t (nodes F) ≡ None
   no_first_node n = find_node F t ∙ none_find (node_test F t) _ (at_one F t P d) 0 (length (text F)) (λ k x y q. n k (one_pair F k (omega arith) q.0) q.1)

@@ -5,7 +5,7 @@ use Rattle.vers_trees.proofs.grammar.Paired.{Closes, closes_rises, closes_falls,
 
 pub after_from_closes : (l : List Bool) (v c : ℕ) → Closes l v c → IsFirstRiseAfter l v (negsuc 0) c
 after_from_closes l v c p =
-    let a = p.after in let i = p.inside in
+    let i = p.inside in
     let r = excess_after_open l v false (omega arith) (closes_rises l v c false p) in
     grind (arith, ints)
 
@@ -22,7 +22,7 @@ closes_from_after l v c d o p =
 
 pub before_from_closes : (l : List Bool) (v c : ℕ) → Closes l v c → IsLastRiseBefore l c (negsuc 0) v
 before_from_closes l v c p =
-    let a = p.after in let i = p.inside in
+    let i = p.inside in
     let r = excess_after_close l c true i (closes_falls l v c true p) in
     grind (arith, ints)
 
@@ -61,9 +61,8 @@ pub record IsAbove (l : List Bool) (v t a : ℕ) : Type 0 where
 pub above_from_before : (F : Forest) (v t a : ℕ) → 0 < t → get_or (text F) v false ≡ true → IsLastRiseBefore (text F) v (neg_ℤ (pos t)) a → IsAbove (text F) v t a
 above_from_before F v t a h o p =
     let b = p.before in
-    let sum : excess (text F) a +ℤ pos t ≡ excess (text F) v = omega (arith, ints) in
     let high : (j : ℕ) → a < j → j ≤ v → excess (text F) a <ℤ excess (text F) j =
-    λ j x y. above_since (excess (text F)) (excess-is_walk (text F)) (excess (text F) a) j v y (omega (arith, ints)) (λ k g m e. p.last k (omega arith) m (omega (arith, ints))) in
+    λ j x y. above_since (excess (text F)) (excess-is_walk (text F)) (excess (text F) a) j v y (omega (arith, ints)) (λ k g m e. grind (arith, ints)) in
     let bit = open_from_rise (text F) a false (omega arith) (high (a + 1) (omega arith) (omega arith)) in
     grind (arith, ints, open_is_paired, paired_closes, one_before)
 
@@ -93,10 +92,6 @@ enclose_at_close l v c p q b =
 pub same_around : (l : List Bool) (v c d q e : ℕ) → Closes l v c → Closes l (c + 1) d → Closes l q e → ((q < v) × (c < e)) ↔ ((q < c + 1) × (d < e))
 same_around l v c d q e p n m = grind (arith, ints)
 
--- where what follows a tree is a closing bracket, its pair is around the tree and around nothing later
-pub last_of_siblings : (F : Forest) (v c : ℕ) → Closes (text F) v c → c + 1 < length (text F) → get_or (text F) (c + 1) false ≡ false → (q : ℕ) × Closes (text F) q (c + 1) × (q < v)
-last_of_siblings F v c p i b = grind (arith, ints, close_is_paired, paired_closes, opens_around)
-
 -- likewise where what stands before it is an opening one
 pub first_of_siblings : (F : Forest) (v c : ℕ) → Closes (text F) (v + 1) c → get_or (text F) v false ≡ true → IsAbove (text F) (v + 1) 1 v
 first_of_siblings F v c p b =
@@ -112,7 +107,6 @@ first_child_above l v c p b =
 pub last_child_closes : (l : List Bool) (v c : ℕ) → Closes l v (c + 1) → v < c → get_or l c false ≡ false
 last_child_closes l v c p h =
     let i = p.inside in
-    let g = p.above c h (omega arith) in
     let f = excess_after_close l (c + 1) false i (closes_falls l v (c + 1) false p) in
     grind (arith, ints, excess_after_open, cases_Bool)
 
@@ -120,4 +114,4 @@ pub last_child_above : (l : List Bool) (v c w : ℕ) → Closes l v (c + 1) → 
 last_child_above l v c w p q h =
     let i = p.inside in
     let f = excess_after_close l (c + 1) false i (closes_falls l v (c + 1) false p) in
-    record { before = h; shallower = omega (arith, ints); close = c + 1; pair = p; around = omega arith }
+    grind (arith, ints)

@@ -95,9 +95,6 @@ children_fit blocks s m e x y a sm p q = record { total = λ h. fit y.total (low
 pub same_node : (a b : Node) → a.total ≡ b.total → a.least ≡ b.least → a.greatest ≡ b.greatest → a ≡ b
 same_node a b p q r = λ i. record { total = p i; least = q i; greatest = r i }
 
-alone_shape : (x : Node) → IsRange x ⊎ (x ≡ empty_node) → combined x empty_node ≡ x
-alone_shape x shape = grind (arith, ints, clamps, same_node)
-
 -- the children of a node, as the code has them
 record Pair (first : ℕ) (nodes : List Node) (i : ℕ) (x y : Node) : Type 0 where
   pub start : ℕ
@@ -124,7 +121,7 @@ code_step first h nodes i x y r lv a b n c ex ey both alone =
     let p = pair_at first h nodes (i - 1) x y lv (omega arith) c' ex ey in
     let e : r ≡ combined x y = ⊎_elim
     (λ (s : IsRange y). both (omega (arith, ints)))
-    (λ (n : y ≡ empty_node). alone (rw n (omega (arith, ints))) ∙ sym (alone_shape x p.left.shape) ∙ ap (combined x) (sym n))
+    (λ (n : y ≡ empty_node). alone (rw n (omega (arith, ints))) ∙ sym (grind (arith, ints, clamps, same_node)) ∙ ap (combined x) (sym n))
     p.right.shape in
     rw (e, ex, ey) (covered_step first nodes (i - 1) (omega arith) (omega arith) c')
 

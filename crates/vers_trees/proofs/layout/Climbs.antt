@@ -117,10 +117,6 @@ too_far_after first nodes from t place left x m c some e misses long k a w =
     (cases_lt k b.stop)
 
 -- ---- the steps of a search backwards in a tree of excesses
--- a sum in the range, with the start, is that of the start or in the range
-split_start : (x : Node) (r : ℤ) → IsRange x ⊎ (x ≡ empty_node) → IsInRangeOrStart x r → (r ≡ pos 0) ⊎ IsInRange x r
-split_start x r shape i = grind (arith, ints)
-
 -- what the range of a node says is met in its part
 range_found : (blocks : List Node) (s e : ℕ) (x : Node) (t r : ℤ) → s < e → Covers blocks s e x → total_before blocks s +ℤ r ≡ t → IsInRangeOrStart x r → (k : ℕ) × (s ≤ k) × (k < e) × Meets blocks k t
 range_found blocks s e x t r h c q i = ⊎_elim
@@ -128,7 +124,7 @@ range_found blocks s e x t r h c q i = ⊎_elim
     (λ (i : IsInRange x r).
     let f = c.found t (omega (arith, ints)) (omega (arith, ints)) in
     (f.0, f.1, f.2, inr f.3))
-    (split_start x r c.shape i)
+    (grind (arith, ints))
 
 -- and what is met in its part its range says
 range_meets : (blocks : List Node) (s e : ℕ) (x : Node) (t r : ℤ) → Covers blocks s e x → ((k : ℕ) → k < length blocks → IsRange (get_or blocks k empty_node)) → total_before blocks s +ℤ r ≡ t → (k : ℕ) → s ≤ k → k < e → k < length blocks → Meets blocks k t → IsInRangeOrStart x r
@@ -205,16 +201,12 @@ rise_same first nodes to t place left p odd =
     let u = parent_of_left first ((place - 1) / 2) p.start p.stop (subst (λ (n : ℕ). StandsOver first n p.start p.stop) here p.stands) in
     record { start = p.start; stop = u.0; stands = u.1; before = p.before; within = p.within; remains = p.remains; none = p.none }
 
-rise_root : (first : ℕ) (nodes : List Node) (to : ℕ) (t : ℤ) (place : ℕ) (left : ℤ) → PassedBack first nodes to t place left → place ≡ 0 → (k : ℕ) → k < to → Meets (drop first nodes) k t → ⊥
-rise_root first nodes to t place left p root k a w =
-    p.none k (omega (arith, (root_stands first p.start p.stop (subst (λ (n : ℕ). StandsOver first n p.start p.stop) root p.stands)).0)) a w
-
 -- up past the left children that the passed part begins with
 pub comes_back : (first : ℕ) (nodes : List Node) (to : ℕ) (t : ℤ) (place : ℕ) (left : ℤ) (odd : ℕ) → PassedBack first nodes to t place left → IsOddPart (place + 1) odd → ComesBack first nodes to t (odd - 2) left
 comes_back first nodes to t place left odd p o = go o.zeros place p o.splits
   where
     go : (k place : ℕ) → PassedBack first nodes to t place left → place + 1 ≡ odd * 2 ^ k → ComesBack first nodes to t (odd - 2) left
-    go zero place p e = grind (arith, ints, rise_root)
+    go zero place p e = grind (arith, ints, root_stands)
     go (suc k) place p e =
         let twice : odd * 2 ^ suc k ≡ odd * (2 * 2 ^ k) = ap (λ (x : ℕ). odd * x) (pow-succ' 2 k) in
         go k ((place - 1) / 2) (rise_same first nodes to t place left p (λ u. omega arith)) (omega arith)

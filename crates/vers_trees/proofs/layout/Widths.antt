@@ -98,10 +98,6 @@ tree_made l size first leaves nodes so some short w b n e c =
       few = (let e = (some_counted size (length l) some).1 in let d = ap digits same in let m = w.least in omega arith);
     }
 
-pub empty_indexed : (l : List Bool) (size first : ℕ) (nodes : List Node) → length l ≡ 0 → nodes ≡ [] → 0 < size → size ≤ 4294967296 → IsIndexed l size first nodes
-empty_indexed l size first nodes z e so b =
-    record { short = omega arith; some = so; bounded = b; counted = no_nodes_counted size (length l) nodes z e; over = λ h. absurd (omega arith) }
-
 pub indexed : (l : List Bool) (size first : ℕ) (nodes : List Node) → length l < 9223372036854775808 → 0 < size → size ≤ 4294967296 → length nodes ≡ node_count size (length l) → IsTreeOf l size first nodes → IsIndexed l size first nodes
 indexed l size first nodes h so b n t = record { short = h; some = so; bounded = b; counted = n; over = λ x. t }
 

@@ -1,9 +1,9 @@
 -- The laws of the nodes of a forest.
-use Rattle.vers_trees.proofs.Words.{◌≡◌, ℕ, zero, suc, ◌+◌, ◌-◌, ◌<◌, ◌≤◌, ◌↔◌, Bool, true, false, cond, not, List, [], ◌∷◌, length, get_or, ltb, eqb, Option, None, Some, arith, ⊎_elim, subst, sym, refl, ap, ◌∙◌, ◌++◌, take, slice_get, option_map, find, filter, Contains, last_or, range_with_len, get_or_from_slice_get, slice_get-get_or, slice_get_within, get_or_past, take_more, cases_lt, lt-ltb, le-ltb, same_Some, find_is, none_passing, last_passing_is, Decides-eqb, length-filter_both, bit_value, places, Forest, text, IsBalanced, forest_of, nodes, IsNode, closing, depth, level, last_of, next_of, previous_of, IsAlongLevel}
+use Rattle.vers_trees.proofs.Words.{◌≡◌, ℕ, zero, suc, ◌+◌, ◌-◌, ◌<◌, ◌≤◌, ◌↔◌, Bool, true, false, cond, not, List, [], ◌∷◌, length, get_or, ltb, eqb, Option, None, Some, arith, ⊎_elim, subst, sym, refl, ap, ◌∙◌, ◌++◌, take, slice_get, option_map, find, filter, Contains, last_or, range_with_len, get_or_from_slice_get, slice_get-get_or, slice_get_within, get_or_past, take_more, cases_lt, lt-ltb, le-ltb, same_Some, find_is, none_passing, last_passing_is, Decides-eqb, length-filter_both, bit_value, places, Forest, text, IsBalanced, forest_of, nodes, IsNode, closing, depth, level, last_of, next_of, previous_of, IsAlongLevel, pairs}
 use Rattle.vers_trees.proofs.grammar.Grammar.{text-forest_of}
 use Rattle.vers_trees.proofs.grammar.Paired.{closes_rises}
-use Rattle.vers_trees.proofs.grammar.Pairs.{contains_first, contains_later}
-use Rattle.vers_trees.proofs.kin.NodeList.{nodes_are_ones, one_pair, node_pair, pair_node}
+use Rattle.vers_trees.proofs.grammar.Pairs.{contains_first, contains_later, contains_map}
+use Rattle.vers_trees.proofs.kin.NodeList.{nodes_are_ones, one_pair, node_pair}
 
 -- ---- nodes and ones
 bit_inside : (l : List Bool) (v : ℕ) → get_or l v false ≡ true → v < length l
@@ -14,7 +14,7 @@ node_iff_bit bits v b =
     let F = forest_of bits in
     subst (λ (m : List Bool). IsNode F v ↔ (get_or m v false ≡ true)) (text-forest_of bits b) (
       λ n. closes_rises (text F) v (closing F v) false (node_pair F v n).closes,
-      λ e. pair_node F v (one_pair F v (bit_inside (text F) v e) e),
+      λ e. (contains_map (λ (q : ℕ × ℕ). q.0) (pairs F) (v, closing F v) (one_pair F v (bit_inside (text F) v e) e).is_pair),
     )
 
 pub node_iff_one : (bits : List Bool) (v : ℕ) → IsBalanced bits → IsNode (forest_of bits) v ↔ (slice_get bits v ≡ Some true)

@@ -33,11 +33,6 @@ octal-digit (d ∷ ds) (suc x) h i =
     let s = shr-shr (octal (d ∷ ds)) 3 (3 * x) in
     grind (arith, ints)
 
-pub entry_place : (entry : ℕ) (ds : List ℕ) (least greatest x : ℕ) → entry ≡ 1024 * octal ds + 32 * least + greatest → least < 32 → greatest < 32 → AreOctal ds → x < length ds → place_in entry x ≡ get_or ds x 7
-entry_place entry ds least greatest x e a b h i =
-    let t : entry / 2 ^ 10 ≡ octal ds = omega arith in
-    ap (λ (n : ℕ). n % 8) (sym (shr-shr entry 10 (3 * x))) ∙ ap (λ (n : ℕ). n / 2 ^ (3 * x) % 8) t ∙ octal-digit ds x h i
-
 -- ---- how the entry of a byte is met, step by step along its bits
 -- before the first step
 pub met_nothing : (from_end : Bool) (bits : List Bool) (places : List ℕ) → ((x : ℕ) → get_or places x 7 ≡ 7) → HasMet from_end bits 0 8 9 7 places
@@ -54,10 +49,6 @@ next_sum true bits n e h =
     let a : excess bits (7 - n + 1) ≡ excess bits (8 - n) = ap (excess bits) (omega arith) in
     let b : excess bits (8 - (n + 1)) ≡ excess bits (7 - n) = ap (excess bits) (omega arith) in
     omega (arith, ints)
-
--- the bit that the code takes
-pub bit_taken : (bits : List Bool) (byte place : ℕ) (b : Bool) → IsByte bits byte → bit_at byte place ≡ bit_value b → get_or bits place false ≡ b
-bit_taken bits byte place b is e = grind (arith, ints, bit_at-number)
 
 -- what was met before stays so
 later : (from_end : Bool) (bits : List Bool) (n x p : ℕ) → IsFirstMet from_end bits n x p → IsFirstMet from_end bits (n + 1) x p
@@ -87,7 +78,7 @@ pub met_more : (from_end : Bool) (bits : List Bool) (byte n value least greatest
     → HasMet from_end bits (n + 1) next least' greatest' places'
 met_more from_end bits byte n value least greatest next place places least' greatest' places' is h m e u inside w =
     let bit : get_or bits (place_along from_end n) false ≡ nat_eq (byte / 2 ^ place % 2) 1 =
-    bit_taken bits byte (place_along from_end n) _ is (subst (λ (q : ℕ). bit_at byte q ≡ bit_value (nat_eq (byte / 2 ^ place % 2) 1)) e (sym (bit_value_test (byte / 2 ^ place % 2) (omega arith)))) in
+    (grind (arith, ints, bit_at-number)) in
     let s = next_sum from_end bits n is.eight h ∙ ap (λ (c : Bool). sum_along from_end bits n +ℤ step_along from_end c) bit in
     let sum : pos next ≡ sum_along from_end bits (n + 1) +ℤ pos 8 = omega (arith, ints) in
     let near = up_or_down from_end _ value next u in
@@ -114,9 +105,6 @@ few_more least greatest next p places least' greatest' places' w inside small ol
     (λ (q : ((next < least) ⊎ (greatest < next)) × (next ≡ x) × (get_or places' x 7 ≡ p)). let e = q.2 in omega arith)
     (λ (q : (((least ≤ next) × (next ≤ greatest)) ⊎ (next ≢ x)) × (get_or places' x 7 ≡ get_or places x 7)). let e = q.1 in omega arith)
     (noted_at least greatest next p places least' greatest' places' w inside x)
-
-pub as_many : (least greatest next p : ℕ) (places : List ℕ) (least' greatest' : ℕ) (places' : List ℕ) → IsNoted least greatest next p places least' greatest' places' → length places' ≡ length places
-as_many least greatest next p places least' greatest' places' w = grind (arith, ints, length-set)
 
 -- no place met
 abbrev pub all_seven : ℕ → List ℕ

@@ -18,12 +18,6 @@ left_is r rise left f g d = rw d.1 (to_z-of_z w64 _ d.0 ∙ ap (λ (z : ℤ). z 
 pub none_past : (l : List Bool) (i : ℕ) (r : ℤ) → length l ≤ i → None ≡ first_rise_after l i r
 none_past l i r h = sym (none_after l i r (λ k a b. absurd (omega arith)))
 
-pub none_first : (l : List Bool) (r : ℤ) → None ≡ last_rise_before l 0 r
-none_first l r = sym (none_before l 0 r (λ k a. absurd (omega arith)))
-
-pub found_first : (l : List Bool) (i end : ℕ) (r : ℤ) (place : ℕ) → end ≤ length l → IsFirstRise l (i + 1) end r place → Some place ≡ first_rise_after l i r
-found_first l i end r place h p = grind (arith, ints, after_is)
-
 pub found_last : (l : List Bool) (from i : ℕ) (r : ℤ) (place : ℕ) → i < length l → IsLastRise l from i r place → Some place ≡ last_rise_before l i r
 found_last l from i r place h p = sym (before_is l i r place (record { before = p.inside; inside = h; sum = p.sum; last = p.last }))
 

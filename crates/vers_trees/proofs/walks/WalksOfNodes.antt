@@ -63,12 +63,9 @@ pub children_few : (F : Forest) (v : ℕ) → length (children F v) ≤ length (
 unfolding nodes_under
 children_few F v = grind (arith, length-filter, count_by-le-length, nodes_are_ones, length-places, count_le)
 
-not_here : (l : List Bool) (p : ℕ) → opened_here l p ≡ None → tree_from l p ≡ None
-not_here l p e = grind arith
-
 pub meets_forwards : (F : Forest) (v : ℕ) → HasPair F v → MeetsJust (tree_from (text F)) (v + 1) (children F v)
 meets_forwards F v h = steps_meet (tree_from (text F)) (children F v) (λ p i. slice_get (children F v) i ≡ opened_here (text F) p)
-    (λ p i a e. not_here (text F) p (sym a ∙ e))
+    (λ p i a e. (grind arith))
     (λ p i w a e.
     let m = child_member F v i w e in let k = m.0 in
     let at : p ≡ w = (cond_some (get_or (text F) p false) p w (sym a ∙ e)).1 in (

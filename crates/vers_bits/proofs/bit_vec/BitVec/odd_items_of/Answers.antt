@@ -1,9 +1,8 @@
-use Rattle.vers_bits.proofs.Names.{rules, ◌≡◌, ◌++◌, ◌∷◌, ◌≤◌, [], length, map, Err, ap, sym, ◌∙◌, arith, err_from_is_err_and, length-map, append-nil, map-append, low_bits}
+use Rattle.vers_bits.proofs.Names.{rules, ◌≡◌, ◌++◌, ◌∷◌, ◌≤◌, [], length, map, Err, ap, sym, ◌∙◌, arith, err_from_is_err_and, length-map, append-nil, map-append, low_bits, ints, length_push, length-append}
 use Rattle.vers_bits.specs.declared.bit_vec.fault.GrowError.TheVariants.{TooLong}
 use Rattle.vers_bits.specs.declared.bit_vec.TheConstants.{MAX_LEN}
 use Rattle.vers_bits.proofs.Words.{length-word_bits}
-use Rattle.vers_bits.proofs.LowBits.{low_bits_none}
-use Rattle.vers_bits.proofs.Gather.{limb_begun}
+use Rattle.vers_bits.proofs.LowBits.{low_bits_none, length-low_bits}
 use Rattle.vers_bits.proofs.bit_vec.BitVec.odd_items_of.Goals as goal
 
 pub loop-item-init : goal.loop-item-init
@@ -32,8 +31,7 @@ loop-item-preserved g c =
       small = omega arith;
       within = omega arith;
       room =
-          limb_begun c.loop-item.list c.append.new.self c.loop-item.word c.loop-item.gathered c.loop-item.room bit c.loop-item.invariant.within c.if-gathered-room.false
-          c.loop-item.invariant.room (grown ∙ ap (λ l. l ++ bit ∷ []) full);
+          grind (arith, ints, length_push, length-append, length-low_bits);
     }
 
 pub returns-in_err-append-clause-refused : goal.returns-in_err-append-clause-refused

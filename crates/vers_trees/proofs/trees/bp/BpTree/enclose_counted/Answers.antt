@@ -1,11 +1,13 @@
-use Rattle.vers_trees.proofs.Words.{false, Bool, List, length, get_or, arith, sym, ap, ◌∙◌, last_rise_before}
-use Rattle.vers_trees.proofs.searches.Beside.{enclosing_open, enclosing_close, enclosing_past}
+use Rattle.vers_trees.proofs.Words.{false, Bool, List, length, get_or, arith, sym, ap, ◌∙◌, last_rise_before, ints, enclosing}
+use Rattle.vers_trees.proofs.searches.Beside.{enclosing_open, enclosing_close}
+use Rattle.vers_trees.proofs.searches.Searches.{before_past}
 use Rattle.vers_trees.proofs.trees.bp.BpTree.enclose_counted.Goals as goal
 use Rattle.vers_trees.proofs.trees.bp.BpTree.enclose_counted.Goals.{then-is_one_counted, else-is_one_counted}
 
 pub returns-then-i-len-clause-value : goal.returns-then-i-len-clause-value
+unfolding enclosing
 returns-then-i-len-clause-value g c =
-    enclosing_past c.args.self.now c.args.i (omega (arith, c.if-i-len.true, c.len.ensures.value ∙ ap (λ (l : List Bool). length l) c.self.view_is))
+    grind (arith, ints, before_past)
 
 pub returns-clause-value : goal.returns-clause-value
 returns-clause-value g c =

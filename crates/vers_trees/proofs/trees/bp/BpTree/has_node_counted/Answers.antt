@@ -1,9 +1,8 @@
-use Rattle.std.proofs.Common.{refl}
-use Rattle.vers_trees.proofs.grammar.Balance.{one_there}
+use Rattle.std.proofs.Common.{refl, arith}
 use Rattle.vers_trees.proofs.levels.NodeLaws.{node_iff_one}
 use Rattle.vers_trees.proofs.trees.bp.BpTree.has_node_counted.Goals as goal
 
 pub returns-then-is_balanced_counted-clause-node : goal.returns-then-is_balanced_counted-clause-node
 returns-then-is_balanced_counted-clause-node g c =
     λ one. (node_iff_one c.args.self.now c.args.place (c.if-is_balanced_counted.ensures.grammar.0 refl)).1
-    (one_there _ (rw (← c.is_open_counted.ensures.value, ← c.unwrap_or.ensures) one))
+    (grind arith)

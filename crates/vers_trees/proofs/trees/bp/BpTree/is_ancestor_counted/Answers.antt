@@ -1,5 +1,5 @@
-use Rattle.vers_trees.proofs.Words.{Some, arith, ap, forest_of}
-use Rattle.vers_trees.proofs.kin.Handles.{always_closes, closing_found, closes_within, opens_before}
+use Rattle.vers_trees.proofs.Words.{Some, arith, ap, forest_of, ints, is_ancestor, lt-leb}
+use Rattle.vers_trees.proofs.kin.Handles.{always_closes, closing_found, closes_within}
 use Rattle.vers_trees.proofs.trees.bp.BpTree.is_ancestor_counted.Goals as goal
 
 pub returns-in_err-outer-clause-value : goal.returns-in_err-outer-clause-value
@@ -12,4 +12,5 @@ pub returns-then-ancestor-descendant-clause-value : goal.returns-then-ancestor-d
 returns-then-ancestor-descendant-clause-value g c = ap Some (closes_within (forest_of c.args.self.now) c.args.ancestor c.args.descendant c.in_ok-outer.outer c.in_ok-inner.inner (closing_found c.args.self.now c.requires.balanced c.args.ancestor c.requires.ancestor c.in_ok-outer.outer (let a = c.in_ok-outer.ensures in a.value)) (closing_found c.args.self.now c.requires.balanced c.args.descendant c.requires.descendant c.in_ok-inner.inner (let a = c.in_ok-inner.ensures in a.value)) c.if-ancestor-descendant.true)
 
 pub returns-else-ancestor-descendant-clause-value : goal.returns-else-ancestor-descendant-clause-value
-returns-else-ancestor-descendant-clause-value g c = ap Some (opens_before (forest_of c.args.self.now) c.args.ancestor c.args.descendant (let t = c.if-ancestor-descendant.false in omega arith))
+unfolding is_ancestor
+returns-else-ancestor-descendant-clause-value g c = ap Some (grind (arith, ints, lt-leb))

@@ -1,5 +1,6 @@
 use Rattle.std.proofs.Common.{◌<◌, arith, refl, ◌∙◌, subst, sym}
-use Rattle.vers_trees.proofs.searches.Bytes.{IsNoted, as_many, met_nothing, sevens, met_more, few_more, place_small, up_or_down}
+use Rattle.vers_trees.proofs.searches.Bytes.{IsNoted, met_nothing, sevens, met_more, few_more, place_small, up_or_down}
+use Rattle.vers_trees.proofs.Words.{length-set, ints}
 use Rattle.vers_trees.proofs.trees.bp.bytes.entry_of.Goals as goal
 
 pub loop-step-init : goal.loop-step-init
@@ -26,6 +27,6 @@ loop-step-preserved c =
       high = omega arith;
       least = omega arith;
       greatest = omega arith;
-      many = as_many _ _ _ _ _ _ _ _ w ∙ n;
+      many = (grind (arith, ints, length-set)) ∙ n;
       few = few_more _ _ _ _ c.loop-step.met.places _ _ _ w (omega arith) (subst (λ q. q < 8) (sym c.place_of-place.ensures) (place_small c.args.from_end c.loop-step.step (omega arith))) i.few;
     }

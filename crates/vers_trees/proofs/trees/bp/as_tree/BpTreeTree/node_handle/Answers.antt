@@ -1,5 +1,8 @@
-use Rattle.vers_trees.proofs.kin.AsTree.{handle_past}
+use Rattle.vers_trees.proofs.kin.AsTree.{nodes_by}
+use Rattle.vers_trees.proofs.Words.{get_or_past, arith, select}
+use Rattle.vers_trees.proofs.grammar.Grammar.{text-forest_of}
 use Rattle.vers_trees.proofs.trees.bp.as_tree.BpTreeTree.node_handle.Goals as goal
 
 pub returns-clause-past : goal.returns-clause-past
-returns-clause-past g c = λ h. handle_past c.args.self.now c.requires.stands c.args.index c.node_handle.result c.node_handle.ensures h
+unfolding select
+returns-clause-past g c = λ h. (grind (arith, get_or_past, nodes_by, text-forest_of))

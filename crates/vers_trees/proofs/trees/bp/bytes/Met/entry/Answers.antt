@@ -1,8 +1,9 @@
 use Rattle.std.proofs.Common.{rules, ◌≡◌, ◌+◌, ◌*◌, ℕ, length, arith, ap}
-use Rattle.vers_trees.proofs.searches.Bytes.{entry_place}
+use Rattle.vers_trees.proofs.searches.Bytes.{octal-digit}
+use Rattle.vers_trees.proofs.Words.{◌/◌, ◌∙◌, ◌%◌, ◌^◌, sym, shr-shr, octal}
 use Rattle.vers_trees.proofs.trees.bp.bytes.Met.entry.Goals as goal
 
 pub returns-clause-places : goal.returns-clause-places
 returns-clause-places c = λ x i.
     let n : length c.args.self.now.places ≡ 17 = search rules in
-    entry_place _ c.args.self.now.places c.args.self.now.least c.args.self.now.greatest x (ap (λ (o : ℕ). 1024 * o + 32 * c.args.self.now.least + c.args.self.now.greatest) c.number_of.ensures.value) c.requires.least c.requires.greatest c.requires.places (omega arith)
+    let t : _ / 2 ^ 10 ≡ octal c.args.self.now.places = omega arith in ap (λ (n : ℕ). n % 8) (sym (shr-shr _ 10 (3 * x))) ∙ ap (λ (n : ℕ). n / 2 ^ (3 * x) % 8) t ∙ octal-digit c.args.self.now.places x c.requires.places (omega arith)

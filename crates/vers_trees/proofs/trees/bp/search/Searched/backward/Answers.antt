@@ -1,13 +1,13 @@
-use Rattle.vers_trees.proofs.Words.{arith, w64, ◌-◌, sym, ◌∙◌, to_z-of_z}
-use Rattle.vers_trees.proofs.searches.Searches.{before_past}
-use Rattle.vers_trees.proofs.searches.Finds.{found_last, previous_ends, previous_answer, none_previous, none_far_back, none_first}
+use Rattle.vers_trees.proofs.Words.{arith, w64, ◌-◌, sym, ◌∙◌, to_z-of_z, ints}
+use Rattle.vers_trees.proofs.searches.Searches.{before_past, none_before}
+use Rattle.vers_trees.proofs.searches.Finds.{found_last, previous_ends, previous_answer, none_previous, none_far_back}
 use Rattle.vers_trees.proofs.trees.bp.search.Searched.backward.Goals as goal
 use Rattle.vers_trees.proofs.trees.bp.search.Searched.backward.Goals.{then-i-eq0-via-then-i-eq0, then-i-eq0-via-else-i-eq0+then-i-len}
 
 pub returns-then-i-eq0-clause-value : goal.returns-then-i-eq0-clause-value
 returns-then-i-eq0-clause-value g c =
     elim c.then-i-eq0.branch [
-      | then-i-eq0-via-then-i-eq0 w ↦ rw w.if-i-eq0.true (none_first c.args.self.bits.now c.args.r)
+      | then-i-eq0-via-then-i-eq0 w ↦ rw w.if-i-eq0.true (grind (arith, ints, none_before))
       | then-i-eq0-via-else-i-eq0+then-i-len w ↦ sym (before_past c.args.self.bits.now c.args.i c.args.r (let t = w.if-i-len.true in let v = w.len.ensures.value in omega arith))
     ]
 

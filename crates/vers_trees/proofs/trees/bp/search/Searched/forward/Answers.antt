@@ -1,5 +1,6 @@
-use Rattle.vers_trees.proofs.Words.{arith, w64, ◌∙◌, to_z-of_z}
-use Rattle.vers_trees.proofs.searches.Finds.{first_end, next_inside, found_first, next_answer, none_next, none_far, none_past}
+use Rattle.vers_trees.proofs.Words.{arith, w64, ◌∙◌, to_z-of_z, ints}
+use Rattle.vers_trees.proofs.searches.Finds.{first_end, next_inside, next_answer, none_next, none_far, none_past}
+use Rattle.vers_trees.proofs.searches.Searches.{after_is}
 use Rattle.vers_trees.proofs.trees.bp.search.Searched.forward.Goals as goal
 
 pub returns-then-i-len-clause-value : goal.returns-then-i-len-clause-value
@@ -10,7 +11,7 @@ scan_forward-requires-clause-order g c =
     omega (arith, first_end c.args.self.bits.now g.row.BLOCK_SIZE c.args.i c.requires.some (omega arith))
 
 pub returns-in-Ok-clause-value : goal.returns-in-Ok-clause-value
-returns-in-Ok-clause-value g c = found_first _ _ _ _ _ (omega arith) (rw (to_z-of_z w64 c.args.r c.ranges.r) at c.in-Ok.ensures.value)
+returns-in-Ok-clause-value g c = grind (arith, ints, after_is)
 
 pub returns-in_err-left-clause-value : goal.returns-in_err-left-clause-value
 returns-in_err-left-clause-value g c =
