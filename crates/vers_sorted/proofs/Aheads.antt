@@ -81,10 +81,6 @@ read_maybe {s} i p n w (Some v) packed h e read is some =
     let P : ℕ → Type 0 = λ x. HasRead s (i + 1) (record { place = p + 1; len = n; word = x }) in
     subst P (sym is) (read_after i p n v packed h e (sym read))
 
--- the place after what was read stands among the bits
-pub read_fits : {s : List ℕ} {high low : List Bool} {first last width : ℕ} (i : ℕ) (a : Ahead) → IsPacked s high low first last width → HasRead s i a → a.place + a.len ≤ length high
-read_fits i a packed read = rw (high_same packed) read.within
-
 pub place_fits : {s : List ℕ} {high low : List Bool} {first last width : ℕ} (i : ℕ) → IsPacked s high low first last width → i < length s → select true high i < length high
 place_fits {s} {high} i packed h = (count_at_select true high i (omega (arith, packed.high_parts.ones))).0
 

@@ -1,13 +1,9 @@
 -- The bounds of batches.
 use Rattle.vers_sorted.proofs.Names.{◌≡◌, ℕ, ◌+◌, List, length, arith, IsWithin, plus, times, only_low_parts, digits, select_reads, superblock_count, high_length, search_reads, reads}
 
--- a select, the bits after its place or another one, and a low part
-pub begun_reads : (k n bits m : ℕ) → k ≡ n → bits ≡ m → IsWithin (plus (times k (select_reads (superblock_count bits))) (times n (reads 1 2 m))) (times n (reads 1 3 m))
-begun_reads k n bits m e f = rw (e, f) (grind (arith))
-
 -- and the search after it
 pub rank_reads : (k n : ℕ) (s : List ℕ) → k ≡ n → IsWithin (plus (times k (reads 1 3 (high_length s))) (times n (only_low_parts (digits (length s) + 4)))) (times n (search_reads s))
-rank_reads k n s e = rw e (grind (arith))
+rank_reads k n s e = rw e (grind arith)
 
 pub neighbour_reads : (k n : ℕ) (s : List ℕ) → k ≡ n → IsWithin (plus (times k (reads 1 3 (high_length s))) (times n (reads (digits (length s) + 5) 2 (high_length s)))) (times n (search_reads s))
-neighbour_reads k n s e = rw e (grind (arith))
+neighbour_reads k n s e = rw e (grind arith)

@@ -8,12 +8,6 @@ use Rattle.vers_sorted.proofs.Split.{high_up}
 pub inside : (s : List ℕ) (v : ℕ) → first_of s < v → v ≤ last_of s → IsInside s v
 inside s v from to = grind (arith, last_none)
 
--- the places of zeros whose numbers are the first n of a list
-pub place_each : (high : List Bool) (numbers places rest : List ℕ) (n j : ℕ) → places ≡ map (select false high) (take n numbers) → n ≤ length numbers → j < n
-    → slice_index (places ++ rest) j ≡ select false high (slice_index numbers j)
-place_each high numbers places rest n j e few h =
-    grind (arith, length-take, length-map, get_or_append_left, get_or-map, get_or-take)
-
 -- the first of the members with the high part of v, or the one after where there are none
 pub first_within : (s : List ℕ) (v before : ℕ) → IsNonDecreasing s → IsInside s v → before ≡ select false (high_parts s) (high_of s v)
     → (high_of s v ≤ before) × (before - high_of s v < length s)

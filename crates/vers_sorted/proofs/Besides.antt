@@ -55,15 +55,12 @@ module _ (l : List Bool) (to w : ℕ) (far : 64 ≤ to) (read : part_number_or_z
 
 -- ---- the ones beside a bucket
 
-start_unique : (s : List ℕ) (h a b : ℕ) → IsStart s h a → IsStart s h b → a ≡ b
-start_unique s h a b first second = grind (arith)
-
 -- up to the zero with number h, and past it, as many ones stand as members have a high part below h
 ones_around : (s : List ℕ) (h start : ℕ) → IsNonDecreasing s → 0 < length s → h ≤ high_of s (last_of s) + 1 → IsStart s h start
     → (count true (high_parts s) (h + start) ≡ start) × (count true (high_parts s) (h + start + 1) ≡ start) × (h + start < length (high_parts s))
 ones_around s h start up some within is =
     let zero = start_at s up h some within in
-    let same : start ≡ select false (high_parts s) h - h = start_unique s h start (select false (high_parts s) h - h) is zero.1 in
+    let same : start ≡ select false (high_parts s) h - h = grind arith in
     let place : h + start ≡ select false (high_parts s) h = omega (arith, zero.0) in
     let at = count_at_select false (high_parts s) h (omega (arith, zeros_counted s up some)) in
     rw place (omega (arith, at.0, at.1, count_both (high_parts s) (select false (high_parts s) h)), omega (arith, at.0, at.2, count_both (high_parts s) (select false (high_parts s) h + 1)), at.0)

@@ -18,15 +18,11 @@ shifted part n few =
     let whole : 18446744073709551616 ≡ 2 ^ (64 - n + n) = ap (λ e. 2 ^ e) (let sum : 64 ≡ 64 - n + n = omega arith in sum) in
     rw (whole, mod-pow-add, shl-shr, mul-mod_left) (omega arith)
 
--- the word with a part above its n digits
-part_above : (word part n : ℕ) → n ≤ 64 → word < 2 ^ n → bit_or word (part * 2 ^ n % 18446744073709551616) ≡ part % 2 ^ (64 - n) * 2 ^ n + word
-part_above word part n few small = ap (bit_or word) (shifted part n few) ∙ or_shifted_r (part % 2 ^ (64 - n)) n word small
-
 -- its digits are those of both, as many as fit
 digits_of_both : (word part n m : ℕ) → n ≤ 64 → word < 2 ^ n → m ≤ 64 - n
     → low_bits (bit_or word (part * 2 ^ n % 18446744073709551616)) (n + m) ≡ low_bits word n ++ low_bits part m
 digits_of_both word part n m few small fits =
-    grind (arith, low_bits_of_rest, mod-mul-add, div-mul-add, first_digits, part_above, low_bits-add)
+    grind (arith, low_bits_of_rest, mod-mul-add, div-mul-add, first_digits, shifted, or_shifted_r, low_bits-add)
 
 -- a part that fits stays in the word
 pub stays_small : (word part n w : ℕ) → word < 2 ^ n → part < 2 ^ w → n + w ≤ 64 → bit_or word (part * 2 ^ n % 18446744073709551616) < 2 ^ (n + w)

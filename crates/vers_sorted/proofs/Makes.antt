@@ -1,9 +1,9 @@
 -- How high and low parts are made.
-use Rattle.vers_sorted.proofs.Names.{◌≡◌, ◌==◌, ℕ, ◌+◌, ◌-◌, ◌*◌, ◌/◌, ◌^◌, ◌<◌, ◌≤◌, true, false, Bool, List, [], ◌∷◌, ◌++◌, length, take, drop, Option, Some, None, unwrap_or, refl, sym, ap, ◌∙◌, arith, inl, inr, set, replicate, mul-le-mul_left, mul_comm, zero-div, slice_index, slice_get, map, if◌then◌else◌, range_with_len, IsNonDecreasing, cases_lt, get_or_past, append-nil, map-append, take_all, take_more, length-map, length-take, length-drop, drop-drop, get_or-drop, slice_get-get_or, slice_get_past, get_or_from_slice_get, map-range_with_len_more, flat_map-append, low_bits, pack, ones_at, first_of, last_of, width, high_place}
+use Rattle.vers_sorted.proofs.Names.{◌≡◌, ◌==◌, ℕ, ◌+◌, ◌-◌, ◌*◌, ◌/◌, ◌^◌, ◌<◌, ◌≤◌, true, false, Bool, List, [], ◌∷◌, ◌++◌, length, take, drop, Option, Some, None, unwrap_or, refl, sym, ap, ◌∙◌, arith, inl, inr, set, replicate, mul-le-mul_left, mul_comm, zero-div, slice_index, slice_get, map, if◌then◌else◌, range_with_len, IsNonDecreasing, cases_lt, get_or_past, append-nil, map-append, take_all, take_more, length-map, length-take, length-drop, drop-drop, get_or-drop, slice_get-get_or, slice_get_past, get_or_from_slice_get, map-range_with_len_more, flat_map-append, low_bits, pack, ones_at, first_of, last_of, width, high_place, get_or-replicate, length-replicate, same_lists}
 use Rattle.vers_bits.specs.Walk.{TakesFirst}
 use Rattle.vers_sorted.specs.Layout.{low_width, high_of, high_length, high_parts, low_parts}
 use Rattle.vers_sorted.specs.inside.Parts.{first_high_parts, first_low_parts}
-use Rattle.vers_sorted.proofs.Ones.{length-ones_at, ones_at_none, ones_at_more}
+use Rattle.vers_sorted.proofs.Ones.{length-ones_at, ones_at_more, get_or-ones_at}
 use Rattle.vers_sorted.proofs.Split.{high_zeros, member_from}
 use Rattle.vers_sorted.proofs.Holds.{place_within, length-pack}
 use Rattle.vers_sorted.proofs.Lengths.{high_fits}
@@ -32,7 +32,7 @@ high_part_is s v first width f w = ap (λ k. (v - first) / 2 ^ k) w ∙ ap (λ k
 
 pub high_start : (s : List ℕ) (n : ℕ) → n ≡ high_length s → replicate n false ≡ first_high_parts s 0
 unfolding first_high_parts
-high_start s n e = ap (λ k. replicate k false) e ∙ sym (ones_at_none (high_length s))
+high_start s n e = ap (λ k. replicate k false) e ∙ sym (grind (arith, same_lists, length-ones_at, length-replicate, get_or-ones_at, get_or-replicate))
 
 pub high_next : (s : List ℕ) (i : ℕ) → IsNonDecreasing s → i < length s → set (first_high_parts s i) (high_place s i) true ≡ first_high_parts s (i + 1)
 unfolding first_high_parts
@@ -115,12 +115,6 @@ one_more s rest new high set_high i v first width up f w here t is put =
     let at = taken_at s rest new i v here t in
     put ∙ ap (λ p. set high p true) (one_place s rest new i v first width up f w here t).0
     ∙ ap (λ l. set l (high_place s i) true) is ∙ high_next s i up at.0
-
-pub low_more : (s rest new : List ℕ) (low more_low : List Bool) (i v first width : ℕ) → first ≡ first_of s → width ≡ low_width s → rest ≡ drop i s → TakesFirst rest (Some v) new
-    → low ≡ first_low_parts s i → more_low ≡ low ++ low_bits (v - first) width → more_low ≡ first_low_parts s (i + 1)
-low_more s rest new low more_low i v first width f w here t is put =
-    let at = taken_at s rest new i v here t in
-    grind (arith, taken_at, low_next)
 
 -- ---- lengths
 

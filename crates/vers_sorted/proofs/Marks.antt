@@ -1,7 +1,7 @@
 -- The ones or the zeros of a limb, from the lowest up.
-use Rattle.vers_sorted.proofs.Names.{◌≡◌, ℕ, ◌+◌, ◌-◌, ◌*◌, ◌/◌, ◌%◌, ◌^◌, ◌<◌, ◌≤◌, Bool, true, false, List, [], ◌∷◌, ◌++◌, length, take, get_or, not, refl, sym, ap, subst, ◌∙◌, arith, inl, inr, min, w64, bit_at, bit_not, trailing_zeros, trailing_of_zero, cases_lt, shr-shr, bit_at-zero, bit_at-trailing_zeros, bit_at_not, bit_value, is_bit, count, places, limb, AreMarked, value_none, value_one, limb_bit}
+use Rattle.vers_sorted.proofs.Names.{◌≡◌, ℕ, ◌+◌, ◌-◌, ◌*◌, ◌/◌, ◌%◌, ◌^◌, ◌<◌, ◌≤◌, Bool, true, false, List, [], ◌∷◌, ◌++◌, length, take, get_or, not, refl, sym, ap, subst, ◌∙◌, arith, inl, inr, min, w64, bit_at, bit_not, trailing_zeros, trailing_of_zero, cases_lt, shr-shr, bit_at-zero, bit_at-trailing_zeros, bit_at_not, bit_value, is_bit, count, places, limb, AreMarked, value_none, value_one, limb_bit, count_past}
 use Rattle.vers_sorted.proofs.Scans.{count_stays}
-use Rattle.vers_sorted.proofs.SparseBits.{first_places_more, first_places_limb}
+use Rattle.vers_sorted.proofs.SparseBits.{first_places_more}
 
 -- ---- a limb
 
@@ -79,6 +79,6 @@ pub limb_done : (b : Bool) (l : List Bool) (k p e w : ℕ) → 64 * k < length l
 limb_done b l k p e w some from to is fits marked past =
     let whole : p + (e - p) ≡ e = omega arith in
     places_all b l p (e - p) w (omega arith) (omega arith) fits marked past
-    ∙ ap (λ q. take (count b l q) (places b l)) whole ∙ sym (first_places_limb b l k e is some)
+    ∙ ap (λ q. take (count b l q) (places b l)) whole ∙ sym (grind (arith, count_past))
 
 pub ruleset limbs = (ones_marked, zeros_marked)

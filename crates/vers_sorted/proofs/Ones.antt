@@ -1,5 +1,5 @@
 -- The bits whose ones stand at given places: their counts, their places, and how they come about.
-use Rattle.vers_sorted.proofs.Names.{◌≡◌, ℕ, zero, suc, ◌+◌, ◌-◌, ◌<◌, ◌≤◌, Bool, true, false, ◌⊎◌, List, [], ◌∷◌, ◌++◌, length, get_or, refl, sym, ap, ◌∙◌, arith, inl, inr, eqb, set, replicate, slice_index, map, ◌||◌, list_any, IsNonDecreasing, IsStrictlyIncreasing, cases_lt, cases_Bool, ne_eqb, eq-eqb, eqb-true, same_number_lists, same_lists, get_or-set_same, get_or-set_other, length-set, length-replicate, get_or-replicate, get_or-map, length-map, length-map-range_with_len, map-id, get_or-map-range_with_len, get_or_default, is_bit, count, places, count_none, count_up, count_more_yes, count_more_no, select_at, length-places, select_is_place, select_up, IsPlace, below}
+use Rattle.vers_sorted.proofs.Names.{◌≡◌, ℕ, zero, suc, ◌+◌, ◌-◌, ◌<◌, ◌≤◌, Bool, true, false, ◌⊎◌, List, [], ◌∷◌, ◌++◌, length, get_or, refl, sym, ap, ◌∙◌, arith, inl, inr, eqb, set, replicate, slice_index, map, ◌||◌, list_any, IsNonDecreasing, IsStrictlyIncreasing, cases_lt, cases_Bool, ne_eqb, eq-eqb, eqb-true, same_number_lists, same_lists, get_or-set_same, get_or-set_other, length-set, length-replicate, get_or-replicate, get_or-map, length-map, length-map-range_with_len, map-id, get_or-map-range_with_len, get_or_default, is_bit, count, places, count_none, count_up, count_more_yes, count_more_no, select_at, length-places, select_is_place, select_up, IsPlace, below, ints}
 use Rattle.std.proofs.lemmas.List.Folds.{list_any-from_Any, Any-from_list_any, list_any_none, list_any-append}
 use Rattle.std.proofs.lemmas.List.Kept.{AllPairs-from_increasing}
 use Rattle.vers_bits.specs.Bits.{select}
@@ -40,9 +40,6 @@ or_no false b e = rw e refl
 -- ---- numbers that rise
 
 module _ (s : List ℕ) (up : IsStrictlyIncreasing s) where
-  rises_to : (i j : ℕ) → i < j → j < length s → slice_index s i < slice_index s j
-  rises_to i j h short = AllPairs-from_increasing s up i j 0 h short
-
   pub ascends : IsNonDecreasing s
   ascends i j d h short = elim (cases_lt i j) [
     | inl less ↦ omega (arith, AllPairs-from_increasing s up i j d less short)
@@ -51,7 +48,7 @@ module _ (s : List ℕ) (up : IsStrictlyIncreasing s) where
 
   -- as many are below a member as stand before it
   pub below_member : (r : ℕ) → r < length s → below s (slice_index s r) ≡ r
-  below_member r h = below_at s (slice_index s r) r ascends (omega arith) (λ some. rises_to (r - 1) r (omega arith) h) (λ _. omega arith)
+  below_member r h = below_at s (slice_index s r) r ascends (omega arith) (λ some. grind (arith, ints, AllPairs-from_increasing)) (λ _. omega arith)
 
   -- a number that is a member
   below_held : (v : ℕ) → below s v < length s → slice_index s (below s v) ≡ v → below s (v + 1) ≡ below s v + 1
@@ -98,9 +95,6 @@ module _ (s : List ℕ) (up : IsStrictlyIncreasing s) where
       get_or_default (places true (ones_at s n)) k 0 (length (ones_at s n)) h ∙ select-ones_at n k short least)
 
 -- ---- how such bits come about
-
-pub ones_at_none : (n : ℕ) → ones_at [] n ≡ replicate n false
-ones_at_none n = grind (arith, same_lists, length-ones_at, length-replicate, get_or-ones_at, get_or-replicate)
 
 pub ones_at_more : (s : List ℕ) (n p : ℕ) → p < n → ones_at (s ++ p ∷ []) n ≡ set (ones_at s n) p true
 ones_at_more s n p within =

@@ -23,11 +23,8 @@ high_same packed = packed.laid_out
 
 -- ---- the low part
 
-mul_step : (w i n : ℕ) → i < n → w * i + w ≤ w * n
-mul_step w i n h = omega (arith, mul-le-mul_left {m = i + 1} {n = n} w (omega arith), mul_comm w (i + 1), mul_comm w i)
-
 pub low_within : {s : List ℕ} {high low : List Bool} {first last width : ℕ} (i : ℕ) → IsPacked s high low first last width → i < length s → i * width + width ≤ length low
-low_within {s} {width} i packed h = grind (arith, mul_step)
+low_within {s} {width} i packed h = grind (arith, mul-le-mul_left, mul_comm)
 
 pub low_read : {s : List ℕ} {high low : List Bool} {first last width : ℕ} (i : ℕ) → IsPacked s high low first last width → i < length s
     → number (take width (drop (i * width) low)) ≡ low_of s (slice_index s i)

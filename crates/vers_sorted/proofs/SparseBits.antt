@@ -1,5 +1,5 @@
 -- The queries of a sparse list of bits, by those of the list of its ones' places.
-use Rattle.vers_sorted.proofs.Names.{◌≡◌, ℕ, ◌+◌, ◌-◌, ◌*◌, ◌<◌, ◌≤◌, Bool, true, false, List, [], ◌∷◌, ◌++◌, length, take, get_or, eqb, refl, sym, ap, ◌∙◌, arith, inl, inr, min, Some, None, slice_index, slice_get, map, IsNonDecreasing, cases_lt, eq-eqb, ne_eqb, get_or_default, map-id, take_more, take_all, slice_get-get_or, slice_get_past, slice_get_within, get_or_from_slice_get, is_bit, count, places, count_none, count_both, count_past, count_up, select_at, select_past, length-places, count_more_yes, below, least_not_below, ones_at, AreSparse}
+use Rattle.vers_sorted.proofs.Names.{◌≡◌, ℕ, ◌+◌, ◌-◌, ◌*◌, ◌<◌, ◌≤◌, Bool, true, false, List, [], ◌∷◌, ◌++◌, length, take, get_or, eqb, refl, sym, ap, ◌∙◌, arith, inl, inr, min, Some, None, slice_index, slice_get, map, IsNonDecreasing, cases_lt, eq-eqb, ne_eqb, get_or_default, map-id, take_more, take_all, slice_get-get_or, slice_get_past, slice_get_within, get_or_from_slice_get, is_bit, count, places, count_none, count_both, count_past, count_up, select_at, select_past, length-places, count_more_yes, below, least_not_below, ones_at, AreSparse, ints}
 use Rattle.vers_bits.specs.Bits.{select}
 use Rattle.vers_sorted.proofs.Below.{below_le, below_from, below_to, below_after, all_below}
 use Rattle.vers_sorted.proofs.Neighbours.{succ_is}
@@ -82,17 +82,9 @@ first_places_more b l i h on =
     let at : get_or (places b l) (count b l i) (length l) ≡ i = select_at b l (count b l i) i h on refl in
     grind (arith, count_more_yes, length-places, count_up, select_at, take_more)
 
-pub first_places_all : (b : Bool) (l : List Bool) → take (count b l (length l)) (places b l) ≡ places b l
-first_places_all b l = take_all (count b l (length l)) (places b l) (omega (arith, length-places b l))
-
--- the places of a limb that ends at e, which is its own end or the list's
-pub first_places_limb : (b : Bool) (l : List Bool) (k e : ℕ) → e ≡ 64 * k + min (length l - 64 * k) 64 → 64 * k < length l
-    → take (count b l (64 * k + 64)) (places b l) ≡ take (count b l e) (places b l)
-first_places_limb b l k e is h = grind (arith, count_past)
-
 -- past the last limb
 pub first_places_end : (b : Bool) (l : List Bool) (i : ℕ) → length l ≤ i → take (count b l i) (places b l) ≡ places b l
-first_places_end b l i h = ap (λ n. take n (places b l)) (count_past b l i h) ∙ first_places_all b l
+first_places_end b l i h = ap (λ n. take n (places b l)) (count_past b l i h) ∙ grind (arith, ints, take_all, length-places)
 
 pub zeros_are : (l : List Bool) (i : ℕ) → min i (length l) - count true l i ≡ count false l i
 zeros_are l i = omega (arith, count_both l i)

@@ -1,12 +1,13 @@
 use Rattle.std.proofs.Common.{refl, arith}
-use Rattle.vers_sorted.proofs.Aheads.{step_fits, step_read, read_maybe, read_fits}
+use Rattle.vers_sorted.proofs.Aheads.{step_fits, step_read, read_maybe}
+use Rattle.vers_sorted.proofs.Packed.{high_same}
 use Rattle.vers_sorted.proofs.elias_fano.EliasFanoVec.place_ahead.Goals as goal
 
 pub overflow_add-ahead-then-ahead-ne0 : goal.overflow_add-ahead-then-ahead-ne0
 overflow_add-ahead-then-ahead-ne0 g c =
     let packed = rw c.self.view_is at c.self.invariant in
     let read = c.requires.ahead (omega arith) in
-    record { fits = omega (arith, read_fits c.args.i c.args.ahead.now packed read, step_fits c.args.self.now c.args.i c.args.ahead.now packed.ascending read (omega arith)) }
+    record { fits = grind (arith, high_same, step_fits c.args.self.now c.args.i c.args.ahead.now packed.ascending read (omega arith)) }
 
 pub returns-then-ahead-ne0-clause-ahead : goal.returns-then-ahead-ne0-clause-ahead
 returns-then-ahead-ne0-clause-ahead g c =
