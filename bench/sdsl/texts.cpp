@@ -1,7 +1,7 @@
 // The series `texts` of crates/vers_bench over indexes of sdsl-lite: the same texts, patterns and lines. Build and run:
 //
 //     g++ -std=c++17 -O3 -march=x86-64-v2 -DNDEBUG bench/sdsl/texts.cpp -lsdsl -ldivsufsort -ldivsufsort64 -o texts
-//     ./texts NAME [--small] [--reps N] [KIND..]
+//     ./texts NAME [--small] [--reps N] [--size N] [KIND..]
 //
 // A kind is one of the names of INDEXES below, and all are run where none is told. Symbols of bases count from 1 there, since
 // sdsl ends a text with a 0. Each count is compared with a plain scan (memmem) for some patterns, whose time is told as `scan_16`.
@@ -74,6 +74,7 @@ struct Settings {
     std::string name;
     std::size_t divisor = 1;
     int repetitions = 5;
+    std::size_t size = 0;
     std::vector<std::string> kinds;
 };
 
@@ -93,6 +94,9 @@ static void line(const std::string& index, const char* operation, const std::str
     std::fflush(stdout);
 }
 
+// A run is a function of its own in the machine code, so that a profiler counts its instructions.
+[[gnu::noinline]] static u64 timed_pass(const std::function<u64()>& run) { return run(); }
+
 // The median time of a run, which returns a checksum, for `count` operations.
 static void timed(const std::string& index, const char* operation, const std::string& parameters, std::size_t count,
                   const std::function<u64()>& run)
@@ -101,7 +105,7 @@ static void timed(const std::string& index, const char* operation, const std::st
     u64 sum = 0;
     for (int i = 0; i < settings.repetitions; ++i) {
         double start = now();
-        sum = run();
+        sum = timed_pass(run);
         times.push_back((now() - start) / double(count));
     }
     std::sort(times.begin(), times.end());
@@ -221,6 +225,7 @@ int main(int count, char** arguments)
         std::string it = arguments[i];
         if (it == "--small") settings.divisor = 16;
         else if (it == "--reps" && i + 1 < count) settings.repetitions = std::atoi(arguments[++i]);
+        else if (it == "--size" && i + 1 < count) settings.size = std::strtoull(arguments[++i], nullptr, 10);
         else if (settings.name.empty()) settings.name = it;
         else settings.kinds.push_back(it);
     }
@@ -228,7 +233,7 @@ int main(int count, char** arguments)
         bool is_asked = settings.kinds.empty();
         for (const std::string& it : settings.kinds) is_asked |= it == kind.name;
         if (!is_asked) continue;
-        run_size(kind, 1000000 / settings.divisor);
-        run_size(kind, 10000000 / settings.divisor);
+        run_size(kind, settings.size ? settings.size : 1000000 / settings.divisor);
+        if (!settings.size) run_size(kind, 10000000 / settings.divisor);
     }
 }
