@@ -207,11 +207,11 @@ pub fn bases(alloc: Global, count: usize, seed: u64) -> Result<Vec<u64>, AllocEr
 
 /// A text of made words, letter by letter, with a space before each word.
 ///
-/// There are 2,047 words, numbered from 1 on, in eleven groups: one of `2^k` words from number `2^k` on for each `k`
-/// below 11. Each group is as likely as any other, and each word as any other of its group, so word `k` is drawn once in
-/// some `8 * k` times, as words of a language are. A generator that begins at 1,000 and the word's number tells the word: at
-/// first its length, 2 and a number below 8, and then for each letter two numbers below 26, of which the lesser is the
-/// letter, 0 for `a`.
+/// There are 2,047 words, numbered from 1 on, in eleven groups: one of `2^k` words from number `2^k` on for each
+/// `k` below 11. Each group is as likely as any other, and each word as any other of its group, so word `k` is
+/// drawn once in some `8 * k` times, as words of a language are. A generator that begins at 1,000 and the word's
+/// number tells the word: at first its length, 2 and a number below 8, and then for each letter two numbers below
+/// 26, of which the lesser is the letter, 0 for `a`.
 #[derive(Drop)]
 struct Spelling {
     choices: Random,
