@@ -1,5 +1,5 @@
 -- The ones of the high parts that were read ahead.
-use Rattle.vers_sorted.proofs.Names.{◌≡◌, ℕ, ◌+◌, ◌-◌, ◌/◌, ◌^◌, ◌<◌, ◌≤◌, Bool, true, false, List, length, take, drop, get_or, sym, ap, subst, ◌∙◌, arith, Option, Some, None, w64, unwrap_or, trailing_zeros, IsNonDecreasing, pow-le-pow_right, get_or_past, length-take, drop-take, drop-drop, bit_at-trailing_zeros, number, count, select, bit_at-number, number-lt, number-drop, select_at, count_at_select, count_more_yes, part_bit, value_none, value_one, part_number_or_zero, high_parts, high_place, IsPacked}
+use Rattle.vers_sorted.proofs.Names.{◌≡◌, ℕ, ◌+◌, ◌-◌, ◌/◌, ◌^◌, ◌<◌, ◌≤◌, Bool, true, false, List, length, take, drop, get_or, sym, ap, subst, ◌∙◌, arith, Option, Some, None, w64, unwrap_or, trailing_zeros, IsNonDecreasing, pow-le-pow_right, get_or_past, length-take, drop-take, drop-drop, bit_at-trailing_zeros, number, count, select, bit_at-number, number-lt, number-drop, select_at, count_at_select, count_more_yes, part_bit, value_none, value_one, part_number_or_zero, high_parts, high_place, IsPacked, ints, rules}
 use Rattle.vers_sorted.specs.declared.elias_fano.ahead.Ahead.{Ahead}
 use Rattle.vers_sorted.specs.inside.Ahead.{HasRead, IsAhead}
 use Rattle.vers_sorted.proofs.Holds.{hold_high}
@@ -8,9 +8,7 @@ use Rattle.vers_sorted.proofs.Scans.{count_stays, part_of, counted_past}
 
 module _ (l : List Bool) (p n : ℕ) (within : p + n ≤ length l) (few : n ≤ 64) (some : 0 < number (take n (drop p l))) where
   pub small : number (take n (drop p l)) < 18446744073709551616
-  small =
-      let long : length (take n (drop p l)) ≤ 64 = omega (arith, length-take n (drop p l)) in
-      omega (arith, number-lt (take n (drop p l)), pow-le-pow_right {n = 2} (omega arith) {i = length (take n (drop p l))} {j = 64} long)
+  small = search (rules, length-take, number-lt, pow-le-pow_right)
 
   -- the lowest one of the number is within the part, and no place before it holds a one
   pub lowest : (trailing_zeros w64 (number (take n (drop p l))) < n)
@@ -30,7 +28,7 @@ module _ (l : List Bool) (p n : ℕ) (within : p + n ≤ length l) (few : n ≤ 
   rest t low =
       let e : t + 1 + (n - (t + 1)) ≡ n = omega arith in
       ap (λ x. x / 2 ^ 1) (sym (number-drop t (take n (drop p l))))
-      ∙ sym (number-drop 1 (drop t (take n (drop p l))))
+      ∙ sym (grind (arith, ints, number-drop))
       ∙ ap number (drop-drop 1 t (take n (drop p l)))
       ∙ ap (λ k. number (drop (t + 1) (take k (drop p l)))) (sym e)
       ∙ ap number (drop-take (t + 1) (n - (t + 1)) (drop p l))
@@ -63,7 +61,6 @@ module _ (s : List ℕ) (i : ℕ) (a : Ahead) (up : IsNonDecreasing s) (read : H
       let t : ℕ = trailing_zeros w64 (number (take a.len (drop a.place (high_parts s)))) in
       let t_is : trailing_zeros w64 a.word ≡ t = same_zeros in
       let low : t < a.len = found.0 in
-      let len_is : b.len ≡ a.len - (t + 1) = omega (arith, len, t_is) in
       let past : a.place + (t + 1) ≡ a.place + t + 1 = omega arith in
       grind (arith, lowest, one_left, same_zeros, count_more_yes, rest)
 

@@ -23,7 +23,7 @@ module _ {s : List ℕ} {n : ℕ} (sparse : AreSparse s n) where
   select_none r e =
       elim (cases_lt r (length s)) [
         | inl h ↦ let some = slice_get-get_or s r 0 h in absurd (cc (e, some))
-        | inr past ↦ select_past true (ones_at s n) r (omega (arith, all_ones s sparse.rising n last_within)) ∙ length-ones_at s n
+        | inr past ↦ grind (arith, ints, select_past, all_ones, last_within, length-ones_at)
       ]
 
   -- the bit at a place, by the least member that is not below it
@@ -41,7 +41,7 @@ module _ {s : List ℕ} {n : ℕ} (sparse : AreSparse s n) where
 
   pub bit_none : (p : ℕ) → p < n → least_not_below s p ≡ None → get_or (ones_at s n) p false ≡ false
   bit_none p within e =
-      let at : slice_get s (below s p) ≡ None = sym (succ_is s p (ascends s sparse.rising)) ∙ e in
+      let at : slice_get s (below s p) ≡ None = grind (arith, ints, succ_is, ascends) in
       elim (cases_lt (below s p) (length s)) [
         | inl h ↦ let some = slice_get-get_or s (below s p) 0 h in absurd (cc (at, some))
         | inr past ↦
@@ -53,8 +53,7 @@ pub members_few : {s : List ℕ} {n : ℕ} → AreSparse s n → length s ≤ le
 members_few {s} {n} sparse = omega (arith, all_ones s sparse.rising n (last_within sparse), count_both (ones_at s n) (length (ones_at s n)))
 
 pub member_few : {s : List ℕ} {n : ℕ} → AreSparse s n → (r v : ℕ) → slice_get s r ≡ Some v → v ≤ length (ones_at s n)
-member_few {s} {n} sparse r v e =
-    omega (arith, sparse.within r 0 (slice_get_within s r v e), get_or_from_slice_get s r v 0 e, length-ones_at s n)
+member_few {s} {n} sparse r v e = grind (arith, ints, slice_get_within, get_or_from_slice_get, length-ones_at)
 
 -- ---- from the places of a list's bits
 
@@ -78,8 +77,7 @@ pub first_places_more : (b : Bool) (l : List Bool) (i : ℕ) → i < length l �
     → take (count b l (i + 1)) (places b l) ≡ take (count b l i) (places b l) ++ i ∷ []
 unfolding select
 first_places_more b l i h on =
-    let more : count b l (i + 1) ≡ count b l i + 1 = count_more_yes b l i h on in
-    let at : get_or (places b l) (count b l i) (length l) ≡ i = select_at b l (count b l i) i h on refl in
+    let at : get_or (places b l) (count b l i) (length l) ≡ i = grind (arith, ints, select_at) in
     grind (arith, count_more_yes, length-places, count_up, select_at, take_more)
 
 -- past the last limb
