@@ -100,28 +100,11 @@ pub two_parts : (xs ys : List ℕ) (i j m n : ℕ) (a b r : PlacedItem) → xs �
     → a.place ≡ m → a.value ≡ get_or xs m 0 → b.place ≡ n → b.value ≡ get_or xs n 0 → r ≡ lesser_item a b → IsLeastItem ys i j r
 two_parts xs ys i j m n a b r e next inside left right pa va pb vb v = grind (arith, item_join, item_at)
 
--- the bounds of the blocks between may be spelled otherwise
-pub block_bounds : (xs : List ℕ) (i j : ℕ) (c : PlacedItem) → i / 128 + 1 < j / 128 → IsLeastItem xs (128 * (i / 128 + 1)) (128 * (j / 128 - 1) + 127) c → IsLeastItem xs (128 * (i / 128) + 128) (128 * (j / 128) - 1) c
-block_bounds xs i j c next h = grind (arith, item_ends)
-
--- the least item of a block is below none of its items
-pub block_least : (xs ys mi pl : List ℕ) (ms : List BlockMasks) (b v p : ℕ) → AreAllBlocks xs mi pl ms → xs ≡ ys → v ≡ get_or mi b 0 → 128 * b ≤ p → p < 128 * b + 128 → p < length ys → v ≤ get_or ys p 0
-block_least xs ys mi pl ms b v p h e ev from to inside =
-    let Q : List ℕ → Type 0 = λ zs. v ≤ get_or zs p 0 in
-    let here = block_of xs mi pl ms b h (omega (arith, ap length e)) in
-    subst Q e (omega (arith, ev, here.value, here.best.least p from (omega (arith, ap length e))))
-
 -- the end of a block before what comes after it
 pub end_before : (xs ys : List ℕ) (i m e : ℕ) (a b r : PlacedItem) → xs ≡ ys → 128 * (i / 128) + 128 ≤ length ys
     → IsFirstLeast ys i (min (128 * (i / 128) + 128) (length ys) - 1) m → a.place ≡ m → a.value ≡ get_or xs m 0 → r ≡ lesser_item a b
     → IsLeastItem ys (128 * (i / 128) + 128) e b → IsLeastItem ys i e r
 end_before xs ys i m e a b r same inside left pa va v after = grind (arith, item_join, item_at)
-
--- the start of a block after what comes before it
-pub start_after : (xs ys : List ℕ) (f j m : ℕ) (a b r : PlacedItem) → xs ≡ ys → 128 ≤ j
-    → IsFirstLeast ys (128 * (j / 128)) j m → b.place ≡ m → b.value ≡ get_or xs m 0 → r ≡ lesser_item a b
-    → IsLeastItem ys f (128 * (j / 128) - 1) a → IsLeastItem ys f j r
-start_after xs ys f j m a b r same later right pb vb v before = grind (arith, item_join, item_at)
 
 -- ---- ranges over parts of a block
 -- a whole part more

@@ -148,11 +148,6 @@ some_bit n i h = elim (cases_lt 0 n) [ inl y ↦ y | inr z ↦ let e : n ≡ 0 =
 shifted_bit : (n i d : ℕ) → bit_at n (i + d) ≡ bit_at (n / 2 ^ i) d
 shifted_bit n i d = sym (ap (λ m. m % 2) (shr-shr n i d))
 
-last_from : (mask low j : ℕ) → 0 < low → low < 2 ^ 128 → ((q : ℕ) → q ≤ j → bit_at low q ≡ bit_at mask q) → ((q : ℕ) → j < q → bit_at low q ≡ 0) → IsLastSet mask j (127 - count_leading_zeros 128 low)
-last_from mask low j some few same over =
-    let t = leading_top 128 low some few in
-    grind (arith, top_bit, bit_at_above)
-
 -- the low part of a mask up to j, and the place of its highest 1
 pub last_is : (mask v j : ℕ) → j < 128 → bit_at mask 0 ≡ 1 → mask < 2 ^ 128 → v ≡ 2 ^ (j + 1) - 1 → IsLastSet mask j (127 - count_leading_zeros 128 (bit_and mask v))
 last_is mask v j h first fits ev =
@@ -160,7 +155,7 @@ last_is mask v j h first fits ev =
     let over : (q : ℕ) → j < q → bit_at (bit_and mask v) q ≡ 0 = λ q l. bit_at_and mask v q ∙ omega (arith, ap (λ r. bit_at r q) ev, bit_at_ones_above (j + 1) q (omega arith)) in
     let some : 0 < bit_and mask v = some_bit (bit_and mask v) 0 (same 0 (omega arith) ∙ first) in
     let few : bit_and mask v < 2 ^ 128 = omega (arith, and_le_l mask v, fits) in
-    last_from mask (bit_and mask v) j some few same over
+    let t = leading_top 128 (bit_and mask v) some few in grind (arith, top_bit, bit_at_above)
 
 pub first_is : (mask i : ℕ) → 0 < mask / 2 ^ i → mask < 2 ^ 128 → IsFirstSet mask i (i + trailing_zeros w128 (mask / 2 ^ i))
 first_is mask i some fits =
@@ -183,9 +178,6 @@ pub few_bits : (bits n o : ℕ) → n + o ≤ 128 → ((q : ℕ) → n ≤ q →
 few_bits bits n o room none = omega (arith, shl_below bits n o (narrow bits n none), pow-le-pow_right {n = 2} (omega arith) {i = n + o} {j = 128} room)
 
 -- ---- the loops over a part
-pub prefixes_none : (xs : List ℕ) (s f k mask o least : ℕ) → PrefixUpTo xs s f k mask least → PrefixUpTo xs s f k (bit_or mask (0 * 2 ^ o)) least
-prefixes_none xs s f k mask o least u = rw (merged_none mask o) u
-
 pub prefixes_more : (xs : List ℕ) (s f from k mask bits more least : ℕ) → s ≤ from → from ≤ k → PrefixUpTo xs s f k (bit_or mask (bits * 2 ^ (from - s))) least
     → get_or xs k 0 < get_or xs least 0 → AddsOne bits more (k - from) → PrefixUpTo xs s f (k + 1) (bit_or mask (more * 2 ^ (from - s))) k
 prefixes_more xs s f from k mask bits more least sf fk u lt a =
@@ -193,9 +185,6 @@ prefixes_more xs s f from k mask bits more least sf fk u lt a =
 
 pub prefixes_to : (xs : List ℕ) (s f k e mask more least : ℕ) → k ≡ e → more ≡ mask → PrefixUpTo xs s f k mask least → PrefixUpTo xs s f e more least
 prefixes_to xs s f k e mask more least ek em u = grind arith
-
-pub suffixes_none : (xs : List ℕ) (s k e mask o least : ℕ) → SuffixFrom xs s k e mask least → SuffixFrom xs s k e (bit_or mask (0 * 2 ^ o)) least
-suffixes_none xs s k e mask o least u = rw (merged_none mask o) u
 
 pub suffixes_more : (xs : List ℕ) (s from k n e mask bits more least : ℕ) → s ≤ from → from ≤ k → n ≡ k + 1 → SuffixFrom xs s n e (bit_or mask (bits * 2 ^ (from - s))) least
     → get_or xs k 0 ≤ get_or xs least 0 → AddsOne bits more (k - from) → SuffixFrom xs s k e (bit_or mask (more * 2 ^ (from - s))) k
@@ -292,12 +281,6 @@ suffix_part xs s c k e mask part least aligned next ke m u =
     }
 
 -- ---- single ones
-pub adds_one : (bits d : ℕ) → d < 64 → AddsOne bits (bit_or bits (1 * 2 ^ d % 2 ^ 64)) d
-adds_one bits d h = record { here = bit_at_set_same w64 bits d h; others = λ q ne. bit_at_set_other w64 bits d h q ne }
-
-pub only_one : (d : ℕ) → d < 128 → AddsOne 0 (1 * 2 ^ d % 2 ^ 128) d
-only_one d h = rw (one_shl d 128 h) (record { here = bit_at-pow_same d; others = λ q ne. bit_at-pow_other d q ne ∙ sym (bit_at-zero q) })
-
 -- a mask with a 1 from i on
 pub some_from : (mask i d : ℕ) → i ≤ d → bit_at mask d ≡ 1 → 0 < mask / 2 ^ i
 some_from mask i d h on = some_bit (mask / 2 ^ i) (d - i) (let e : d ≡ i + (d - i) = omega arith in sym (shifted_bit mask i (d - i)) ∙ ap (bit_at mask) (sym e) ∙ on)

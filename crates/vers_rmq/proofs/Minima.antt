@@ -50,14 +50,6 @@ item_at xs i j m c a place value = grind arith
 pub item_join : (xs : List ℕ) (i k h j : ℕ) (a b r : PlacedItem) → IsLeastItem xs i k a → IsLeastItem xs h j b → i ≤ h → h ≤ k + 1 → k ≤ j → r ≡ lesser_item a b → IsLeastItem xs i j r
 item_join xs i k h j a b r left right ih hk kj e = grind (arith, item_at, least_earlier, candidate_second, least_longer, cond-true, le-leb)
 
--- a range begins earlier, at items that are above its least one
-pub item_earlier : (xs : List ℕ) (i h j v : ℕ) (c : PlacedItem) → i ≤ h → c.value < v → ((p : ℕ) → i ≤ p → p < h → v ≤ get_or xs p 0) → IsLeastItem xs h j c → IsLeastItem xs i j c
-item_earlier xs i h j v c ih lt above found = grind arith
-
--- a range goes on over items that are not below its least one
-pub item_longer : (xs : List ℕ) (i k j v : ℕ) (c : PlacedItem) → k ≤ j + 1 → c.value ≤ v → ((p : ℕ) → k ≤ p → p ≤ j → v ≤ get_or xs p 0) → 0 < k → IsLeastItem xs i (k - 1) c → IsLeastItem xs i j c
-item_longer xs i k j v c kj le above some found = grind arith
-
 -- the ends of a range may be spelled otherwise
 pub item_ends : (xs : List ℕ) (i j k : ℕ) (c : PlacedItem) → j ≡ k → IsLeastItem xs i j c → IsLeastItem xs i k c
 item_ends xs i j k c e a = let P : ℕ → Type 0 = λ n. IsLeastItem xs i n c in subst P e a

@@ -58,22 +58,11 @@ table_is xs table k few holds counted up down = record {
   ];
 }
 
-pub entry_is : (xs ys table t : List ℕ) (k i n : ℕ) → IsTable xs table → xs ≡ ys → t ≡ table → i + 2 ^ k ≤ length ys → n ≡ length xs
-    → IsFirstLeast ys i (i + 2 ^ k - 1) (get_or t (n * k + i) 0)
-entry_is xs ys table t k i n holds e et h en = grind (arith, level_inside, least_ends, pow_pos)
-
-pub room_is : (xs table t : List ℕ) (k i n : ℕ) → IsTable xs table → t ≡ table → i + 2 ^ k ≤ length xs → n ≡ length xs → n * k + i < length t
-room_is xs table t k i n holds e h en = rw e (room_of xs table k i n holds h en)
-
 -- a query from two entries
 pub asked : (xs ys : List ℕ) (k i j w h m n : ℕ) (a b r : PlacedItem) → xs ≡ ys → i ≤ j → w ≡ 2 ^ k → 2 ^ k ≤ j - i + 1 → j - i + 1 < 2 * 2 ^ k → h ≡ j + 1 - w
     → IsFirstLeast ys i (i + 2 ^ k - 1) m → IsFirstLeast ys h (h + 2 ^ k - 1) n → a.place ≡ m → a.value ≡ get_or xs m 0 → b.place ≡ n → b.value ≡ get_or xs n 0
     → r ≡ lesser_item a b → IsLeastItem ys i j r
 asked xs ys k i j w h m n a b r e ij ew low high eh left right pa va pb vb v = grind (arith, item_at, item_ends)
-
-pub next_is : (xs table : List ℕ) (k i w m n r : ℕ) → HoldsPlaces xs table → length xs * k + length xs ≤ length table → w ≡ 2 ^ k → i + w < length xs
-    → r ≡ lesser xs (get_or table (length xs * k + i) 0) (get_or table (length xs * k + (i + w)) 0) → IsFirstLeast xs i (reach (length xs) (k + 1) i) r
-next_is xs table k i w m n r holds room ew inside v = rw (v, ew) (next_joined xs table k i holds room (omega arith))
 
 -- the room that is asked for is a number of the machine
 pub room_fits : (n r : ℕ) → n < 2 ^ 32 → r ≤ 33 → n * r < 2 ^ 64

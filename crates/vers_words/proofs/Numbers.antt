@@ -43,10 +43,6 @@ pub number_of-large : (w : List ℕ) → 2 ^ 64 ≤ digits_value 10 w → number
 unfolding number_of
 number_of-large w h = rw (le-ltb (digits_value 10 w) (2 ^ 64) h, and_false, and_false) refl
 
-pub number_of-small : (w : List ℕ) → (length w == 0) ≡ false → list_all is_ascii_digit w ≡ true → digits_value 10 w < 2 ^ 64 → number_of w ≡ Some (digits_value 10 w)
-unfolding number_of
-number_of-small w e a h = rw (lt-ltb (digits_value 10 w) (2 ^ 64) h, a, e) refl
-
 -- numbers, and then those of further words
 abbrev pub numbers_then : List ℕ → Option (List ℕ) → Option (List ℕ)
 numbers_then numbers others = option_map (λ more. numbers ++ more) others

@@ -20,15 +20,12 @@ plus_from n z (Some x) e h =
     let less : n < 2 ^ 63 = fits.sfits in
     rw (lt-ltb n (2 ^ 63) less) (ap Some (h.1 ∙ e))
 
-past : (n : ℕ) → 2 ^ 63 ≤ n → 2 ^ 63 < suc n
-past n h = omega arith
-
 minus_from : (n : ℕ) (z : ℤ) (r : Option ℤ) → z ≡ neg_ℤ (pos n) → SomeIff r (FitsSigned w64 z) z → r ≡ with_sign true n
 minus_from zero z None e h = absurd (h (rw e (record { sfits = omega arith })))
 minus_from zero z (Some x) e h = ap Some (h.1 ∙ e)
 minus_from (suc n) z None e h = elim (cases_lt n (2 ^ 63)) [
   | inl less ↦ absurd (h (rw e (record { sfits = less })))
-  | inr more ↦ rw (lt-leb (suc n) (2 ^ 63) (past n more)) refl
+  | inr more ↦ rw (lt-leb (suc n) (2 ^ 63) (omega arith)) refl
 ]
 minus_from (suc n) z (Some x) e h =
     let fits : FitsSigned w64 (negsuc n) = rw e at h.0 in
@@ -45,28 +42,14 @@ plus_checked n r h = plus_from n (pos 0 +ℤ pos n) r (omega (arith, ints)) h
 pub minus_checked : (n : ℕ) (r : Option ℤ) → SomeIff r (FitsSigned w64 (pos 0 -ℤ pos n)) (pos 0 -ℤ pos n) → r ≡ with_sign true n
 minus_checked n r h = minus_from n (pos 0 -ℤ pos n) r (zero_minus n) h
 
--- a word that begins with a minus, and others
-pub signed-minus : (bytes : List ℕ) → signed_number_of (45 ∷ bytes) ≡ option_and_then (with_sign true) (number_of bytes)
-unfolding signed_number_of
-signed-minus bytes = refl
-
 pub signed-other : (byte : ℕ) (bytes : List ℕ) → (byte == 45) ≡ false → signed_number_of (byte ∷ bytes) ≡ option_and_then (with_sign false) (number_of (byte ∷ bytes))
 unfolding signed_number_of
 signed-other byte bytes h = rw h refl
 
 -- the two from the parts of a word
 pub signed_of-minus : (word bytes : List ℕ) (first : ℕ) (n : Option ℕ) → word ≡ first ∷ bytes → first ≡ 45 → n ≡ number_of bytes → option_and_then (with_sign true) n ≡ signed_number_of word
-signed_of-minus word bytes first n w m e = rw (w, m, e) (sym (signed-minus bytes))
-
-other_byte : (byte : ℕ) → (byte ≡ 45 → ⊥) → (byte == 45) ≡ false
-other_byte byte h = elim (eqb_tells byte 45) [
-  | inl e ↦ absurd (h e.1)
-  | inr e ↦ e.0
-]
+unfolding signed_number_of
+signed_of-minus word bytes first n w m e = rw (w, m, e) refl
 
 pub signed_of-other : (word bytes : List ℕ) (first : ℕ) (n : Option ℕ) → word ≡ first ∷ bytes → (first ≡ 45 → ⊥) → n ≡ number_of word → option_and_then (with_sign false) n ≡ signed_number_of word
-signed_of-other word bytes first n w m e = rw (e, w) (sym (signed-other first bytes (other_byte first m)))
-
-pub signed_of-none : (word : List ℕ) → length word ≡ 0 → signed_number_of word ≡ None
-unfolding signed_number_of
-signed_of-none word h = rw (nil_from_length word h) refl
+signed_of-other word bytes first n w m e = rw (e, w) (sym (signed-other first bytes (grind (arith, ints, eqb_tells))))

@@ -9,6 +9,7 @@ use Rattle.std.proofs.lemmas.List.Quantifiers.{position-Some}
 use Rattle.std.proofs.lemmas.List.Splits.{slice_split_at, slice_split_none}
 use Rattle.vers_words.specs.Text.{has_bytes, words_in}
 use Rattle.vers_words.proofs.Places.{position-None, lacks, lacks_before, byte_at, from_byte}
+use Rattle.std.proofs.lemmas.Int.{ints}
 
 abbrev pub is_other : ℕ → Bool
 is_other b = not (b == 32)
@@ -37,10 +38,6 @@ words_in-from t i h = words_in-after_spaces t ∙ ap (λ n. words_in (drop n t))
 first_kept : (w : List ℕ) (ws : List (List ℕ)) → 0 < length w → filter has_bytes (w ∷ ws) ≡ w ∷ filter has_bytes ws
 first_kept w ws some = rw (ne_eqb (length w) 0 (λ e. omega arith)) refl
 
--- a text without spaces is one word
-words_in-one : (t : List ℕ) → 0 < length t → position (λ b. b == 32) t ≡ None → words_in t ≡ t ∷ []
-words_in-one t some h = ap (filter has_bytes) (slice_split_none (λ b. b == 32) t (lacks 32 t h)) ∙ first_kept t [] some
-
 -- else a word ends at the first space
 words_in-word : (t : List ℕ) (n : ℕ) → 0 < n → position (λ b. b == 32) t ≡ Some n → words_in t ≡ take n t ∷ words_in (drop n t)
 words_in-word t n some h =
@@ -62,6 +59,6 @@ pub words_in-first : (t : List ℕ) (place : Option ℕ) (n : ℕ) → position 
     → 0 < length t → is_other (get_or t 0 0) ≡ true → (0 < n) × (words_in t ≡ take n t ∷ words_in (drop n t))
 words_in-first t None n h e some other =
     let all : length t ≤ length t = omega arith in
-    rw e (some, rw (take_all (length t) t all, drop_all (length t) t all) (words_in-one t some h))
+    rw e (some, rw (take_all (length t) t all, drop_all (length t) t all) (grind (arith, ints, slice_split_none, lacks, first_kept)))
 words_in-first t (Some m) n h e some other =
     let first = above_zero t m h other in rw e (first, words_in-word t m first h)

@@ -1,9 +1,13 @@
-use Rattle.std.proofs.Common.{sym, ◌∙◌}
-use Rattle.vers_words.proofs.Signed.{signed_of-minus, signed_of-other, signed_of-none, plus_checked, minus_checked}
+use Rattle.std.proofs.Common.{sym, ◌∙◌, arith}
+use Rattle.vers_words.proofs.Signed.{signed_of-minus, signed_of-other, plus_checked, minus_checked}
+use Rattle.std.proofs.lemmas.Int.{ints}
+use Rattle.vers_words.specs.Text.{signed_number_of}
+use Rattle.std.proofs.lemmas.List.{nil_from_length}
 use Rattle.vers_words.proofs.text.signed_number.Goals as goal
 
 pub returns-in_err-first : goal.returns-in_err-first
-returns-in_err-first c = c.from_residual.ensures ∙ sym (signed_of-none c.args.word.now c.in_err-first.ensures.cases)
+unfolding signed_number_of
+returns-in_err-first c = c.from_residual.ensures ∙ sym (grind (arith, ints, nil_from_length))
 
 pub returns-in_err-number : goal.returns-in_err-number
 returns-in_err-number c =

@@ -1,10 +1,9 @@
 use Rattle.std.proofs.Common.{arith}
 use Rattle.vers_rmq.proofs.Blocks.{end_before}
-use Rattle.vers_rmq.proofs.Minima.{item_earlier}
 use Rattle.vers_rmq.proofs.rmq.fast_rmq.FastRmq.least_from.Goals as goal
 
 pub returns-then-after-least-clause-value : goal.returns-then-after-least-clause-value
-returns-then-after-least-clause-value g c to found = grind (arith, item_earlier)
+returns-then-after-least-clause-value g c to found = grind arith
 
 pub returns-clause-value : goal.returns-clause-value
 returns-clause-value g c to found =
