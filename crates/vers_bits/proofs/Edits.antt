@@ -1,5 +1,5 @@
 -- What an edit of the words does to the list that they hold.
-use Rattle.vers_bits.proofs.Names.{◌≡◌, ℕ, ◌+◌, ◌*◌, ◌/◌, ◌%◌, ◌^◌, ◌<◌, ◌≤◌, Bool, true, false, not, eqb, List, length, get_or, set, take, refl, sym, ap, ◌∙◌, inl, inr, arith, w64, bit_at, bit_not, bit_and, bit_or, bit_xor, cases_eq, get_or_default_zero, one_shl, bit_at-lt, bit_at_xor, bit_at-pow_same, bit_at-pow_other, bit_at_set_same, bit_at_set_other, bit_at_clear_same, bit_at_clear_other, get_or-take, get_or-set_same, get_or-set_other, length-take, length-set, limb_count, word_bit, word_bits, HoldsBits, AddsBit, CutsTo, Puts, agree_below_at, ints, rules}
+use Rattle.vers_bits.proofs.Names.{◌≡◌, ℕ, ◌+◌, ◌*◌, ◌/◌, ◌%◌, ◌^◌, ◌<◌, ◌≤◌, Bool, true, false, not, eqb, List, length, get_or, set, take, refl, sym, ap, ◌∙◌, arith, w64, bit_at, bit_not, bit_and, bit_or, bit_xor, cases_eq, get_or_default_zero, one_shl, bit_at-lt, bit_at_xor, bit_at-pow_same, bit_at-pow_other, bit_at_set_same, bit_at_set_other, bit_at_clear_same, bit_at_clear_other, get_or-take, get_or-set_same, get_or-set_other, length-take, length-set, limb_count, word_bit, word_bits, HoldsBits, AddsBit, CutsTo, Puts, agree_below_at, ints, rules}
 use Rattle.vers_bits.proofs.Words.{length-word_bits, get_or-word_bits, word_bits_are, take-word_bits, past_words, set_here, set_apart}
 use Rattle.vers_bits.proofs.LowBits.{bit_at_mod, bit_at_mod_above}
 

@@ -1,10 +1,10 @@
 -- Bits that are gathered in a word.
-use Rattle.vers_bits.proofs.Names.{◌≡◌, ℕ, suc, ◌+◌, ◌-◌, ◌*◌, ◌/◌, ◌%◌, ◌^◌, ◌<◌, ◌≤◌, Bool, true, false, List, [], ◌∷◌, ◌++◌, length, map, take, drop, get_or, refl, sym, ap, ◌∙◌, arith, bit_or, pow-le-pow_right, drop-cons, length-append, length-map, length_push, map-append, take-append-drop, div-mul-add, mod-mul-add, pow-add, shl_whole, bool_byte, bit_value, number, ints}
+use Rattle.vers_bits.proofs.Names.{◌≡◌, ℕ, suc, ◌+◌, ◌*◌, ◌%◌, ◌^◌, ◌<◌, ◌≤◌, Bool, true, false, List, [], ◌∷◌, ◌++◌, length, map, take, drop, get_or, refl, sym, ap, ◌∙◌, arith, bit_or, pow-le-pow_right, drop-cons, length-map, map-append, take-append-drop, div-mul-add, mod-mul-add, pow-add, shl_whole, bool_byte, bit_value, number, ints}
 use Rattle.std.proofs.Common.{append_assoc, rules}
 use Rattle.std.specs.Int.Bits.{or_shifted_r}
 use Rattle.vers_bits.specs.Bits.{low_bits}
 use Rattle.vers_bits.proofs.Num.{number-lt, bit_value_le}
-use Rattle.vers_bits.proofs.LowBits.{length-low_bits, low_bits-add, low_bits_of_number, low_bits_of_rest}
+use Rattle.vers_bits.proofs.LowBits.{low_bits-add, low_bits_of_number, low_bits_of_rest}
 
 pub le_trans_lt : {a b c : ℕ} → a < b → b ≤ c → a < c
 le_trans_lt h k = omega arith

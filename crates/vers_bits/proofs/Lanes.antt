@@ -1,5 +1,5 @@
 -- Words compared by lanes.
-use Rattle.vers_bits.proofs.Names.{◌≡◌, ℕ, ◌-◌, ◌%◌, ◌^◌, ◌≤◌, Bool, cond, not, List, [], ◌∷◌, length, eqb, map, refl, sym, ap, ap₂, ◌∙◌, inl, inr, arith, w64, Decides, bit_value, cases_eq, eq-eqb, eqb-true, ne_eqb, ints}
+use Rattle.vers_bits.proofs.Names.{◌≡◌, ℕ, ◌-◌, ◌%◌, ◌^◌, ◌≤◌, Bool, cond, not, List, [], ◌∷◌, length, eqb, map, refl, ap, ap₂, ◌∙◌, arith, w64, Decides, cases_eq, eq-eqb, eqb-true, ne_eqb, ints}
 use lib.Lanes.{mask_l, top, zip2}
 use Rattle.std.proofs.lemmas.Simd.{tops_compared, mask_l-mod, length-zip2}
 

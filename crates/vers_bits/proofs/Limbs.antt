@@ -1,5 +1,5 @@
 -- A list of bits made of limbs.
-use Rattle.vers_bits.proofs.Names.{◌≡◌, ℕ, suc, ◌-◌, ◌*◌, ◌/◌, ◌%◌, ◌<◌, ◌≤◌, false, List, [], ◌∷◌, ◌++◌, length, get_or, sym, ap, ◌∙◌, refl, inl, inr, arith, eqb, bit_at, cases_lt, get_or_append_left, get_or-append_right, length-append, low_bits, word_bit, word_bits, HoldsBits, ints}
+use Rattle.vers_bits.proofs.Names.{◌≡◌, ℕ, suc, ◌-◌, ◌*◌, ◌≤◌, false, List, [], ◌∷◌, ◌++◌, length, get_or, sym, ap, ◌∙◌, refl, inl, inr, arith, cases_lt, get_or_append_left, get_or-append_right, length-append, low_bits, word_bits, HoldsBits, ints}
 use Rattle.std.specs.Prelude.{flat_map}
 use Rattle.vers_bits.proofs.LowBits.{length-low_bits, get_or-low_bits}
 use Rattle.vers_bits.proofs.Words.{word_bits_are, length-word_bits, get_or-word_bits, past_words}

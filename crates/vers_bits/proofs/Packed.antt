@@ -1,5 +1,5 @@
 -- The elements of a packed list.
-use Rattle.vers_bits.proofs.Names.{◌≡◌, ℕ, zero, suc, ◌+◌, ◌*◌, ◌%◌, ◌^◌, ◌<◌, ◌≤◌, List, [], ◌∷◌, ◌++◌, length, take, drop, get_or, Some, sym, ap, ◌∙◌, arith, take_at, drop_at, drop-drop, row_fits, number, low_bits, pack, part_number, ints}
+use Rattle.vers_bits.proofs.Names.{◌≡◌, ℕ, zero, suc, ◌+◌, ◌*◌, ◌%◌, ◌^◌, ◌<◌, ◌≤◌, List, [], ◌∷◌, ◌++◌, length, take, drop, get_or, Some, sym, ap, ◌∙◌, arith, take_at, drop_at, drop-drop, row_fits, low_bits, pack, part_number, ints}
 use Rattle.vers_bits.proofs.LowBits.{length-low_bits, number-low_bits}
 use Rattle.vers_bits.proofs.Growing.{length-packed}
 use Rattle.vers_bits.proofs.Counting.{part_number_some}
