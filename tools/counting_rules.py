@@ -43,6 +43,7 @@ TABLES = {
     "Packed.bits": "&'a BitVec<A>", "Way.nodes": "[Node; 64]", "Blocks.minima": "Vec<u64, A>", "Blocks.places": "Vec<u8, A>",
     "Blocks.masks": "Vec<BlockMasks, A>", "ByteTables.forward": "[u64; 256]", "ByteTables.backward": "[u64; 256]",
     "ChunkWalk.offsets": "[u8; CHUNK]", "SliceNumbers.rest": "&'a [u64]", "Parts.high": "BitVec<A>", "Parts.low": "BitVec<A>",
+    "Asked.numbers": "[usize; GROUP]", "Group.slots": "[usize; GROUP]",
 }
 # The calls that bodies have to make: public calls those of their kernels, and kernels those that make them kernels.
 CALLS = {

@@ -65,9 +65,6 @@ become_map {Q} {B} {R} f g (x ∷ xs) (y ∷ ys) change same =
 pub still : {Q : Type 0} {R : Q → Q → Type 0} (P : Q → Type 0) {xs ys : List Q} {j : ℕ} → All P xs → Changed R xs ys j → j < length xs → (x : Q) → x ≡ get_or ys j x → P x
 still P {xs} {ys} {j} all before inside x at = subst P (sym (before.others j x (omega arith)) ∙ sym at) (all j x inside)
 
-pub still_next : {Q : Type 0} {R : Q → Q → Type 0} (P : Q → Type 0) {xs ys : List Q} {j : ℕ} → All P xs → Changed R xs ys j → j < length xs → (d : Q) → P (get_or ys j d)
-still_next P {xs} {ys} {j} all before inside d = still P all before inside (get_or ys j d) (any_default ys j d (get_or ys j d) (omega (arith, before.long)))
-
 -- the same change by what follows from the relation
 pub become_weaker : {Q : Type 0} {R S : Q → Q → Type 0} {xs ys : List Q} → Become R xs ys → ((x y : Q) → R x y → S x y) → Become S xs ys
 become_weaker change follows = record { long = change.long; each = λ p d h. follows _ _ (change.each p d h) }

@@ -17,6 +17,7 @@ pub mod Gathering
 pub mod Sources
 pub mod Counting
 pub mod Batches
+pub mod Groups
 pub mod Answering
 pub mod Quantiles
 pub mod Statements

@@ -1,6 +1,10 @@
 -- Lists whose items are changed one by one.
-use Rattle.std.specs.Prelude.{◌≡◌, ℕ, ◌<◌, ◌≤◌, Bool, List, length, slice_index, slice_index_or, slice_range, Option, IsSome, IfSome}
-use Rattle.vers_wavelet.specs.Levels.{way, values, Rises}
+use Rattle.std.specs.Prelude.{◌≡◌, ℕ, ◌+◌, ◌-◌, ◌<◌, ◌≤◌, Bool, cond, List, length, slice_index, slice_index_or, slice_range, Option, Some, None, IsSome, IfSome}
+use Rattle.vers_bits.specs.Bits.{select}
+use Rattle.vers_wavelet.specs.declared.wavelet.batch.group.Asked.{Asked}
+use Rattle.vers_wavelet.specs.declared.wavelet.batch.group.Group.{Group}
+use Rattle.vers_wavelet.specs.declared.wavelet.batch.select.SelectQuery.{SelectQuery}
+use Rattle.vers_wavelet.specs.Levels.{digit, start, way, values, Rises}
 use Rattle.vers_wavelet.specs.Symbols.{by_size}
 
 -- each item of xs has become one of ys that the relation allows
@@ -22,3 +26,27 @@ pub record Seeks (ls : List (List Bool)) (n s target k : ℕ) (kept : Option ℕ
 -- member i by size of the symbols at the places from a up to b
 unfoldable pub member : List (List Bool) → ℕ → ℕ → ℕ → ℕ
 member ls a b i = slice_index (by_size (slice_range (values ls b) a b)) i
+
+-- a query whose answer so far is its place on level k
+abbrev pub Rising : List (List Bool) → ℕ → ℕ → SelectQuery → Type 0
+Rising ls n k q = Seeks ls n q.symbol (way ls q.symbol 0 + q.rank) k q.answer
+
+-- what a list of queries doesn't have
+abbrev pub no_query : SelectQuery
+no_query = record { rank = 0; symbol = 0; answer = None }
+
+-- what a group asks of the ones of a level, or of the zeros
+abbrev pub asked : Bool → Group → Asked
+asked bit group = cond bit group.ones group.zeros
+
+-- query j of a group, of which level v has digit i, has a slot with the number of its place among the bits of its kind
+pub record HasNumber (v : List Bool) (i : ℕ) (q : SelectQuery) (j : ℕ) (group : Group) : Type 0 where
+  pub slot : slice_index group.slots j < (asked (digit q.symbol i) group).count
+  pub number : (p : ℕ) → q.answer ≡ Some p → start (digit q.symbol i) v ≤ p
+      → slice_index (asked (digit q.symbol i) group).numbers (slice_index group.slots j) ≡ p - start (digit q.symbol i) v
+
+-- the slot has the place of that number
+pub record HasPlace (v : List Bool) (i : ℕ) (q : SelectQuery) (j : ℕ) (group : Group) : Type 0 where
+  pub slot : slice_index group.slots j < 64
+  pub place : (p : ℕ) → q.answer ≡ Some p → start (digit q.symbol i) v ≤ p
+      → slice_index (asked (digit q.symbol i) group).numbers (slice_index group.slots j) ≡ select (digit q.symbol i) v (p - start (digit q.symbol i) v)

@@ -6,6 +6,7 @@ ghost use Rattle.vers_wavelet.specs.Levels.{AreLevels};
 ghost use Rattle.vers_wavelet.specs.Batches.{Become};
 
 mod get;
+mod group;
 mod quantile;
 mod rank;
 mod select;

@@ -1,16 +1,19 @@
 //! The places of many occurrences.
-ghost use Rattle.std.specs.Prelude.{◌≡◌, ℕ, ◌+◌, ◌%◌, ◌^◌, ◌<◌, ◌≤◌, List, Bool, Option, Some, None, length, map, nat_le, slice_get, option_map, All, IfSome, if◌then◌else◌};
+ghost use Rattle.std.specs.Prelude.{◌≡◌, ℕ, ◌+◌, ◌-◌, ◌%◌, ◌^◌, ◌<◌, ◌≤◌, List, Bool, Option, Some, None, length, map, nat_le, slice_get, slice_index_or, option_map, All, IfSome, if◌then◌else◌};
 ghost use Rattle.vers_tally.specs.Reads.{AddsAtMost, times};
 ghost use Rattle.vers_rank.specs.Queries.{select_reads, superblock_count};
-ghost use Rattle.vers_wavelet.specs.Batches.{Become, Seeks};
-ghost use Rattle.vers_wavelet.specs.Levels.{values, way, AreLevels};
+ghost use Rattle.vers_wavelet.specs.Batches.{Become, Seeks, Rising, no_query};
+ghost use Rattle.vers_rank.specs.Batches.{Changed};
+ghost use Rattle.vers_bits.specs.Bits.{select};
+ghost use Rattle.vers_wavelet.specs.Levels.{digit, start, values, way, AreLevels};
 ghost use Rattle.vers_wavelet.specs.Symbols.{occurrences};
 ghost use Rattle.vers_wavelet.specs.Reads.{query_reads};
 
 use crate::wavelet::WaveletMatrix;
+use crate::wavelet::batch::group::{GROUP, Group};
 use crate::wavelet::batch::{Query, ask_each};
 use crate::wavelet::digits::Digits;
-use crate::wavelet::level::{is_of_bit, next_place, place_above};
+use crate::wavelet::level::{is_of_bit, next_place};
 use std::alloc::Allocator;
 use vers_rank::fast_rs_vec::RsVec;
 use vers_tally::tally::Tally;
@@ -69,32 +72,49 @@ impl SelectQuery {
         }
     }
 
-    // The query one level up, on level `k`. Where another symbol's place was reached, no answer is left.
+    // The number of the query's place among the zeros or the ones of the level above.
+    #[inline(always)]
+    pub(super) fn number_above<A: Allocator + Copy>(self, level: &RsVec<A>, bit: bool) -> usize
+        ensures { (p : ℕ) → self.answer ≡ Some p → start bit level.now ≤ p
+            → result ≡ p - start bit level.now }
+    {
+        let Some(place) = self.answer else {
+            return 0;
+        };
+        if bit {
+            place.saturating_sub(level.zeros())
+        } else {
+            place
+        }
+    }
+
+    // The query one level up, on level `k`, from the place of its number there. Where another symbol's place was
+    // reached, no answer is left.
     #[inline(always)]
     fn rise<A: Allocator + Copy>(
         self,
         levels: &[RsVec<A>],
         len: usize,
         k: usize,
-        tally: &mut Tally,
+        above: usize,
     ) -> Self
         requires levels { AreLevels levels.now len }
         requires few { length levels.now ≤ 64 }
         requires within { k < length levels.now }
-        requires seeks { Seeks levels.now len self.symbol
-            (way levels.now self.symbol 0 + self.rank) (k + 1) self.answer }
+        requires seeks { Rising levels.now len (k + 1) self }
+        requires above { (v : List Bool) (p : ℕ) → v ≡ slice_index_or levels.now k v
+            → self.answer ≡ Some p → start (digit self.symbol (length levels.now - (k + 1))) v ≤ p
+            → above ≡ select (digit self.symbol (length levels.now - (k + 1))) v
+            (p - start (digit self.symbol (length levels.now - (k + 1))) v) }
         ensures rank { result.rank ≡ self.rank }
         ensures symbol { result.symbol ≡ self.symbol }
-        ensures seeks { Seeks levels.now len result.symbol
-            (way levels.now result.symbol 0 + result.rank) k result.answer }
-        ensures adds { AddsAtMost tally.old tally.new (select_reads (superblock_count len)) }
+        ensures seeks { Rising levels.now len k result }
     {
         let Some(place) = self.answer else {
             return self;
         };
-        let level = &levels[k];
         let bit = self.symbol.digit(levels.len() - (k + 1));
-        if !is_of_bit(level, bit, place) {
+        if !is_of_bit(&levels[k], bit, place) {
             return SelectQuery {
                 rank: self.rank,
                 symbol: self.symbol,
@@ -104,7 +124,7 @@ impl SelectQuery {
         SelectQuery {
             rank: self.rank,
             symbol: self.symbol,
-            answer: Some(place_above(level, bit, place, tally)),
+            answer: Some(above),
         }
     }
 }
@@ -155,7 +175,41 @@ fn turn_each(queries: &mut [SelectQuery], len: usize)
     }
 }
 
-// Leads each query one level up, on level `k`.
+// Leads `n` queries one level up, to level `k`, from number `from` on.
+#[inline(always)]
+fn rise_group<A: Allocator + Copy>(
+    levels: &[RsVec<A>],
+    len: usize,
+    k: usize,
+    queries: &mut [SelectQuery],
+    from: usize,
+    n: usize,
+    tally: &mut Tally,
+)
+    requires levels { AreLevels levels.now len }
+    requires few { length levels.now ≤ 64 }
+    requires within { k < length levels.now }
+    requires group { n ≤ 64 }
+    requires inside { from + n ≤ length queries.old }
+    requires seeks { (j : ℕ) → j < n → Rising levels.now len (k + 1)
+        (slice_index_or queries.old (from + j) no_query) }
+    ensures each { Changed no_query (λ q r. (r.rank ≡ q.rank) × (r.symbol ≡ q.symbol)
+        × Rising levels.now len k r) from n queries.old queries.new }
+    ensures adds { AddsAtMost tally.old tally.new
+        (times n (select_reads (superblock_count len))) }
+{
+    let i = levels.len() - (k + 1);
+    let level = &levels[k];
+    let mut group = Group::new(level, i, queries, from, n);
+    group.find_all(n, level, tally);
+    for j in 0..n {
+        let query = queries[from + j];
+        let above = group.found(j, query.symbol.digit(i));
+        queries[from + j] = query.rise(levels, len, k, above);
+    }
+}
+
+// Leads the queries one level up, to level `k`, group by group.
 #[inline(always)]
 fn rise_each<A: Allocator + Copy>(
     levels: &[RsVec<A>],
@@ -167,16 +221,18 @@ fn rise_each<A: Allocator + Copy>(
     requires levels { AreLevels levels.now len }
     requires few { length levels.now ≤ 64 }
     requires within { k < length levels.now }
-    requires seeks { All (λ q. Seeks levels.now len q.symbol
-        (way levels.now q.symbol 0 + q.rank) (k + 1) q.answer) queries.old }
+    requires seeks { All (Rising levels.now len (k + 1)) queries.old }
     ensures each { Become (λ q r. (r.rank ≡ q.rank) × (r.symbol ≡ q.symbol)
-        × Seeks levels.now len r.symbol (way levels.now r.symbol 0 + r.rank) k r.answer)
-        queries.old queries.new }
+        × Rising levels.now len k r) queries.old queries.new }
     ensures adds { AddsAtMost tally.old tally.new
         (times (length queries.old) (select_reads (superblock_count len))) }
 {
-    for j in 0..queries.len() {
-        queries[j] = queries[j].rise(levels, len, k, tally);
+    let many = queries.len();
+    let mut from = 0;
+    while from < many {
+        let n = GROUP.min(many - from);
+        rise_group(levels, len, k, queries, from, n, tally);
+        from += n;
     }
 }
 

@@ -1,21 +1,27 @@
-use Rattle.std.proofs.Common.{◌+◌, arith, rules, None}
-use Rattle.vers_wavelet.specs.Levels.{way}
-use Rattle.vers_wavelet.specs.Batches.{Seeks}
-use Rattle.vers_wavelet.proofs.Batches.{changed_none, changed_next, changed_all, still_next, adds_once_more}
+use Rattle.std.proofs.Common.{◌≡◌, ℕ, ◌+◌, arith, sym, subst, length}
+use Rattle.vers_tally.specs.Reads.{AddsAtMost, times}
+use Rattle.vers_rank.specs.Queries.{select_reads, superblock_count}
+use Rattle.vers_rank.proofs.PublicLaws.{changed_on, adds_times}
+use Rattle.vers_wavelet.specs.Batches.{Rising, no_query}
+use Rattle.vers_wavelet.proofs.Groups.{become_changed}
 use Rattle.vers_wavelet.proofs.wavelet.batch.select.rise_each.Goals as goal
 
-pub loop-j-init : goal.loop-j-init
-loop-j-init g c = record { changed = changed_none _ _; adds = search rules }
+pub rise_group-requires-clause-seeks : goal.rise_group-requires-clause-seeks
+rise_group-requires-clause-seeks g c = λ j h.
+    subst (Rising c.args.levels.now c.args.len (c.args.k + 1)) (sym (c.loop-from.invariant.changed.after (c.loop-from.from + j) (omega arith)))
+    (c.requires.seeks (c.loop-from.from + j) no_query (omega arith))
 
-pub rise-requires-clause-seeks : goal.rise-requires-clause-seeks
-rise-requires-clause-seeks g c =
-    still_next (λ q. Seeks c.args.levels.now c.args.len q.symbol (way c.args.levels.now q.symbol 0 + q.rank) (c.args.k + 1) q.answer) c.requires.seeks c.loop-j.invariant.changed c.loop-j-test.true (record { rank = 0; symbol = 0; answer = None })
-
-pub loop-j-preserved : goal.loop-j-preserved
-loop-j-preserved g c = record {
-  changed = changed_next c.loop-j.invariant.changed c.loop-j-test.true (record { rank = 0; symbol = 0; answer = None }) c.rise.result (c.rise.ensures.rank, c.rise.ensures.symbol, c.rise.ensures.seeks);
-  adds = adds_once_more c.loop-j.j c.loop-j.invariant.adds c.rise.ensures.adds;
+pub loop-from-preserved : goal.loop-from-preserved
+loop-from-preserved g c = record {
+  within = omega arith;
+  changed = changed_on c.loop-from.invariant.changed c.rise_group.ensures.each;
+  adds = adds_times _ _ (select_reads (superblock_count c.args.len)) c.loop-from.invariant.adds c.rise_group.ensures.adds;
 }
 
 pub returns-clause-each : goal.returns-clause-each
-returns-clause-each g c = changed_all c.loop-j.invariant.changed (omega arith)
+returns-clause-each g c = become_changed c.loop-from.invariant.changed (omega arith)
+
+pub returns-clause-adds : goal.returns-clause-adds
+returns-clause-adds g c =
+    let e : c.loop-from.from ≡ length c.args.queries.now = omega arith in
+    subst (λ (n : ℕ). AddsAtMost c.args.tally.now c.loop-from.tally (times n (select_reads (superblock_count c.args.len)))) e c.loop-from.invariant.adds

@@ -1,13 +1,16 @@
-use Rattle.std.proofs.Common.{◌≡◌, ◌+◌}
+use Rattle.std.proofs.Common.{◌≡◌, ◌-◌, ◌≤◌, length}
 use Rattle.vers_tally.specs.Reads.{AddsAtMost, times}
+use Rattle.vers_rank.specs.Batches.{Changed}
 use Rattle.vers_rank.specs.Queries.{select_reads, superblock_count}
-use Rattle.vers_wavelet.specs.Levels.{way}
-use Rattle.vers_wavelet.specs.Batches.{Changed, Seeks}
+use Rattle.vers_wavelet.specs.Batches.{Rising, no_query}
 use Rattle.vers_wavelet.proofs.wavelet.batch.select.rise_each.Given as goal
 
-abbrev pub invariant-loop-j : goal.invariant-loop-j
-invariant-loop-j g l = record {
-  changed : Changed (λ q r. (r.rank ≡ q.rank) × (r.symbol ≡ q.symbol)
-      × Seeks l.levels l.len r.symbol (way l.levels r.symbol 0 + r.rank) l.k r.answer) l.fn.queries l.queries l.j;
-  adds : AddsAtMost l.fn.tally l.tally (times l.j (select_reads (superblock_count l.len)));
+abbrev pub invariant-loop-from : goal.invariant-loop-from
+invariant-loop-from g l = record {
+  within : l.from ≤ l.many;
+  changed : Changed no_query (λ q r. (r.rank ≡ q.rank) × (r.symbol ≡ q.symbol) × Rising l.levels l.len l.k r) 0 l.from l.fn.queries l.queries;
+  adds : AddsAtMost l.fn.tally l.tally (times l.from (select_reads (superblock_count l.len)));
 }
+
+abbrev pub decreases-loop-from : goal.decreases-loop-from
+decreases-loop-from g l = l.many - l.from

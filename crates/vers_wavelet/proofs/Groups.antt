@@ -1,0 +1,120 @@
+-- Groups of queries that ask a level together.
+use Rattle.std.proofs.Common.{◌≡◌, ◌≢◌, ℕ, ◌+◌, ◌-◌, ◌<◌, ◌≤◌, Bool, true, false, cond, not, List, length, get_or, set, refl, sym, ap, ◌∙◌, subst, arith, Some, inl, inr}
+use Rattle.std.proofs.lemmas.Bool.{cases_lt}
+use Rattle.std.proofs.lemmas.List.{get_or-set_same, get_or-set_other, length-set}
+use Rattle.vers_bits.proofs.PublicLaws.{any_default}
+use Rattle.vers_rank.specs.Batches.{Changed}
+use Rattle.vers_rank.proofs.PublicLaws.{each_at}
+use Rattle.vers_bits.specs.Bits.{select}
+use Rattle.vers_wavelet.specs.declared.wavelet.batch.select.SelectQuery.{SelectQuery}
+use Rattle.vers_wavelet.specs.declared.wavelet.batch.group.Asked.{Asked}
+use Rattle.vers_wavelet.specs.declared.wavelet.batch.group.Group.{Group}
+use Rattle.vers_wavelet.specs.Levels.{start, digit}
+use Rattle.vers_wavelet.specs.Batches.{Become, HasNumber, HasPlace, asked}
+
+-- a number that was appended to those of its kind
+module _ (bit : Bool) (zeros ones more_zeros more_ones : Asked) (slot number : ℕ) (is : slot ≡ (cond bit ones zeros).count) where
+  pub slot_put : more_zeros.count ≡ zeros.count + cond (not bit) 1 0 → more_ones.count ≡ ones.count + cond bit 1 0 → slot < (cond bit more_ones more_zeros).count
+  slot_put z o = by bit is z o
+    where
+      by : (b : Bool) → slot ≡ (cond b ones zeros).count → more_zeros.count ≡ zeros.count + cond (not b) 1 0 → more_ones.count ≡ ones.count + cond b 1 0 → slot < (cond b more_ones more_zeros).count
+      by true e z o = omega arith
+      by false e z o = omega arith
+
+  pub number_put : (not bit ≡ true → get_or more_zeros.numbers zeros.count 0 ≡ number) → (bit ≡ true → get_or more_ones.numbers ones.count 0 ≡ number) → get_or (cond bit more_ones more_zeros).numbers slot 0 ≡ number
+  number_put z o = by bit is z o
+    where
+      by : (b : Bool) → slot ≡ (cond b ones zeros).count → (not b ≡ true → get_or more_zeros.numbers zeros.count 0 ≡ number) → (b ≡ true → get_or more_ones.numbers ones.count 0 ≡ number)
+          → get_or (cond b more_ones more_zeros).numbers slot 0 ≡ number
+      by true e z o = rw e (o refl)
+      by false e z o = rw e (z refl)
+
+-- and those before it
+pub counts_put : (zeros ones more_zeros more_ones : Asked) → zeros.count ≤ more_zeros.count → ones.count ≤ more_ones.count → (b : Bool) → (cond b ones zeros).count ≤ (cond b more_ones more_zeros).count
+counts_put zeros ones more_zeros more_ones z o true = o
+counts_put zeros ones more_zeros more_ones z o false = z
+
+pub before_put : (zeros ones more_zeros more_ones : Asked) → ((s : ℕ) → s < zeros.count → get_or more_zeros.numbers s 0 ≡ get_or zeros.numbers s 0)
+    → ((s : ℕ) → s < ones.count → get_or more_ones.numbers s 0 ≡ get_or ones.numbers s 0)
+    → (b : Bool) (s : ℕ) → s < (cond b ones zeros).count → get_or (cond b more_ones more_zeros).numbers s 0 ≡ get_or (cond b ones zeros).numbers s 0
+before_put zeros ones more_zeros more_ones z o true = o
+before_put zeros ones more_zeros more_ones z o false = z
+
+pub few_asked : (zeros ones : Asked) (n : ℕ) → zeros.count + ones.count ≡ n → n ≤ 64 → (b : Bool) → (cond b ones zeros).count ≤ 64
+few_asked zeros ones n all few true = omega arith
+few_asked zeros ones n all few false = omega arith
+
+-- what is found for both kinds
+pub both_found : (v : List Bool) (zeros ones more_zeros more_ones : Asked)
+    → ((s : ℕ) → s < zeros.count → get_or more_zeros.numbers s 0 ≡ select false v (get_or zeros.numbers s 0))
+    → ((s : ℕ) → s < ones.count → get_or more_ones.numbers s 0 ≡ select true v (get_or ones.numbers s 0))
+    → (b : Bool) (s : ℕ) → s < (cond b ones zeros).count → get_or (cond b more_ones more_zeros).numbers s 0 ≡ select b v (get_or (cond b ones zeros).numbers s 0)
+both_found v zeros ones more_zeros more_ones z o true = o
+both_found v zeros ones more_zeros more_ones z o false = z
+
+-- what a query asked is kept while others ask
+pub number_kept : {v : List Bool} {i j : ℕ} {q : SelectQuery} {old new : Group} → get_or new.slots j 0 ≡ get_or old.slots j 0
+    → ((b : Bool) → (asked b old).count ≤ (asked b new).count)
+    → ((b : Bool) (s : ℕ) → s < (asked b old).count → get_or (asked b new).numbers s 0 ≡ get_or (asked b old).numbers s 0)
+    → HasNumber v i q j old → HasNumber v i q j new
+number_kept {v} {i} {j} {q} {old} {new} slots counts before has = record {
+  slot = rw slots (omega (arith, has.slot, counts (digit q.symbol i)));
+  number = λ p is from. rw slots (before (digit q.symbol i) _ has.slot ∙ has.number p is from);
+}
+
+-- what a query asks
+pub number_new : {v : List Bool} {i j : ℕ} {q : SelectQuery} {new : Group} (bit : Bool) (number : ℕ) → bit ≡ digit q.symbol i → get_or new.slots j 0 < (asked bit new).count
+    → get_or (asked bit new).numbers (get_or new.slots j 0) 0 ≡ number → ((p : ℕ) → q.answer ≡ Some p → start bit v ≤ p → number ≡ p - start bit v) → HasNumber v i q j new
+number_new {v} {i} {j} {q} {new} bit number e slot at is =
+    let P : Bool → Type 0 = λ b. (get_or new.slots j 0 < (asked b new).count)
+    × ((p : ℕ) → q.answer ≡ Some p → start b v ≤ p → get_or (asked b new).numbers (get_or new.slots j 0) 0 ≡ p - start b v) in
+    let both = subst P e (slot, λ p some from. at ∙ is p some from) in
+    record { slot = both.0; number = both.1 }
+
+-- the place of what it asked
+pub place_found : {v : List Bool} {i j : ℕ} {q : SelectQuery} {old new : Group} → new.slots ≡ old.slots
+    → ((b : Bool) → (asked b old).count ≤ 64)
+    → ((b : Bool) (s : ℕ) → s < (asked b old).count → get_or (asked b new).numbers s 0 ≡ select b v (get_or (asked b old).numbers s 0))
+    → HasNumber v i q j old → HasPlace v i q j new
+place_found {v} {i} {j} {q} {old} {new} slots counts found has =
+    let bit : Bool = digit q.symbol i in
+    record {
+      slot = rw slots (omega (arith, has.slot, counts bit));
+      place = λ p is from. rw slots (found bit _ has.slot ∙ ap (select bit v) (has.number p is from));
+    }
+
+-- all items of a list have changed
+pub become_changed : {Q : Type 0} {d : Q} {R : Q → Q → Type 0} {n : ℕ} {xs ys : List Q} → Changed d R 0 n xs ys → length xs ≤ n → Become R xs ys
+become_changed {Q} {d} {R} {n} {xs} {ys} is all = record {
+  long = is.long;
+  each = λ p e h.
+      let at : R (get_or xs p d) (get_or ys p d) = each_at is p (omega arith) (omega arith) in
+      subst (λ (x : Q). R x (get_or ys p e)) (any_default xs p d e h) (subst (λ (y : Q). R (get_or xs p d) y) (any_default ys p d e (omega (arith, h, is.long))) at);
+}
+
+-- what was found for a query
+pub place_above : {v w : List Bool} {i j : ℕ} {q : SelectQuery} {group : Group} (above p : ℕ) (bit : Bool) → w ≡ v → HasPlace v i q j group
+    → above ≡ get_or (asked bit group).numbers (get_or group.slots j 0) 0 → bit ≡ digit q.symbol i → q.answer ≡ Some p → start (digit q.symbol i) w ≤ p
+    → above ≡ select (digit q.symbol i) w (p - start (digit q.symbol i) w)
+place_above {v} {w} {i} {j} {q} {group} above p bit same has at e some from =
+    let P : List Bool → Type 0 = λ u. start (digit q.symbol i) u ≤ p → above ≡ select (digit q.symbol i) u (p - start (digit q.symbol i) u) in
+    subst P (sym same) (λ h. at ∙ ap (λ b. get_or (asked b group).numbers (get_or group.slots j 0) 0) e ∙ has.place p some h) from
+
+-- one item more has changed
+pub changed_item : {Q : Type 0} {d : Q} {R : Q → Q → Type 0} {from n : ℕ} {xs ys : List Q} → Changed d R from n xs ys → from + n < length xs → (y : Q) → R (get_or ys (from + n) d) y
+    → Changed d R from (n + 1) xs (set ys (from + n) y)
+changed_item {Q} {d} {R} {from} {n} {xs} {ys} is inside y becomes =
+    let i : ℕ = from + n in
+    let zs : List Q = set ys i y in
+    let other : (p : ℕ) → p ≢ i → get_or zs p d ≡ get_or ys p d = λ p ne. get_or-set_other ys i p y d ne in
+    let same : get_or zs i d ≡ y = get_or-set_same ys i y d (omega (arith, inside, is.long)) in
+    let here : R (get_or xs i d) (get_or zs i d) = subst (λ (x : Q). R x (get_or zs i d)) (is.after i (omega arith)) (subst (λ (z : Q). R (get_or ys i d) z) (sym same) becomes) in
+    record {
+      long = length-set ys i y ∙ is.long;
+      each = λ j h. elim (cases_lt j n) [
+        | inl lower ↦ subst (λ (z : Q). R (get_or xs (from + j) d) z) (sym (other (from + j) (omega arith))) (is.each j lower)
+        | inr last ↦ let e : n ≡ j = omega arith in subst (λ (m : ℕ). R (get_or xs (from + m) d) (get_or zs (from + m) d)) e here
+      ];
+      before = λ j h. other j (omega arith) ∙ is.before j h;
+      after = λ j h. other j (omega arith) ∙ is.after j (omega arith);
+    }

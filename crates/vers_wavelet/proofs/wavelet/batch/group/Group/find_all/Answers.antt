@@ -1,0 +1,15 @@
+use Rattle.std.proofs.Common.{◌≡◌, ℕ, ◌+◌, subst, refl, length}
+use Rattle.vers_tally.specs.Reads.{AddsAtMost, times}
+use Rattle.vers_rank.specs.Queries.{select_reads, superblock_count}
+use Rattle.vers_rank.proofs.PublicLaws.{adds_times}
+use Rattle.vers_wavelet.proofs.Groups.{few_asked, both_found, place_found}
+use Rattle.vers_wavelet.proofs.wavelet.batch.group.Group.find_all.Goals as goal
+
+pub returns-clause-places : goal.returns-clause-places
+returns-clause-places g c = λ i j q has.
+    place_found refl (few_asked _ _ c.args.n c.requires.all c.requires.few) (both_found c.args.level.now _ _ _ _ c.find_each.ensures.found c.find_each-2.ensures.found) has
+
+pub returns-clause-adds : goal.returns-clause-adds
+returns-clause-adds g c =
+    subst (λ (n : ℕ). AddsAtMost c.args.tally.now c.find_each-2.new.tally (times n (select_reads (superblock_count (length c.args.level.now))))) c.requires.all
+    (adds_times _ _ (select_reads (superblock_count (length c.args.level.now))) c.find_each.ensures.adds c.find_each-2.ensures.adds)

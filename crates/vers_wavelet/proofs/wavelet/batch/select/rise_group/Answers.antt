@@ -1,0 +1,43 @@
+use Rattle.std.proofs.Common.{◌≡◌, ℕ, ◌+◌, ◌-◌, Bool, List, length, get_or, ap, sym, subst, ◌∙◌, arith}
+use Rattle.vers_bits.proofs.PublicLaws.{any_default}
+use Rattle.vers_tally.specs.Reads.{AddsAtMost, times}
+use Rattle.vers_rank.specs.Batches.{Changed}
+use Rattle.vers_rank.specs.Queries.{select_reads, superblock_count}
+use Rattle.vers_wavelet.specs.declared.wavelet.batch.select.SelectQuery.{SelectQuery}
+use Rattle.vers_wavelet.specs.Batches.{HasPlace, Rising, no_query}
+use Rattle.vers_wavelet.proofs.Groups.{changed_item, place_above}
+use Rattle.vers_wavelet.proofs.wavelet.batch.select.rise_group.Goals as goal
+
+pub found-above-requires-clause-slot : goal.found-above-requires-clause-slot
+found-above-requires-clause-slot g c =
+    (c.find_all.ensures.places (length c.args.levels.now - (c.args.k + 1)) c.loop-j.j _ (c.new-group.ensures.numbers c.loop-j.j c.loop-j-test.true)).slot
+
+pub rise-requires-clause-seeks : goal.rise-requires-clause-seeks
+rise-requires-clause-seeks g c =
+    subst (Rising c.args.levels.now c.args.len (c.args.k + 1)) (sym (c.loop-j.invariant.after (c.args.from + c.loop-j.j) (omega arith)))
+    (c.requires.seeks c.loop-j.j c.loop-j-test.true)
+
+pub rise-requires-clause-above : goal.rise-requires-clause-above
+rise-requires-clause-above g c = λ v p at some from.
+    let level : List Bool = c.index-levels-k.result in
+    let i : ℕ = length c.args.levels.now - (c.args.k + 1) in
+    let same : v ≡ level = at ∙ any_default c.args.levels.now c.args.k v level c.requires.within ∙ sym c.index-levels-k.is in
+    let placed = c.find_all.ensures.places i c.loop-j.j _ (c.new-group.ensures.numbers c.loop-j.j c.loop-j-test.true) in
+    let here : HasPlace level i (get_or c.loop-j.queries (c.args.from + c.loop-j.j) no_query) c.loop-j.j c.find_all.new.self =
+    subst (λ (q : SelectQuery). HasPlace level i q c.loop-j.j c.find_all.new.self) (sym (c.loop-j.invariant.after (c.args.from + c.loop-j.j) (omega arith))) placed in
+    place_above c.found-above.result p c.digit.result same here c.found-above.ensures c.digit.ensures some from
+
+pub loop-j-preserved : goal.loop-j-preserved
+loop-j-preserved g c =
+    changed_item c.loop-j.invariant (omega (arith, c.requires.inside, c.loop-j-test.true)) c.rise.result (c.rise.ensures.rank, c.rise.ensures.symbol, c.rise.ensures.seeks)
+
+pub returns-clause-each : goal.returns-clause-each
+returns-clause-each g c =
+    let e : c.loop-j.j ≡ c.args.n = omega arith in
+    subst (λ (m : ℕ). Changed no_query (λ q r. (r.rank ≡ q.rank) × (r.symbol ≡ q.symbol) × Rising c.args.levels.now c.args.len c.args.k r) c.args.from m c.args.queries.now c.loop-j.queries) e c.loop-j.invariant
+
+pub returns-clause-adds : goal.returns-clause-adds
+returns-clause-adds g c =
+    let v : List Bool = c.index-levels-k.result in
+    let long : length v ≡ c.args.len = ap length c.index-levels-k.is ∙ c.requires.levels.even c.args.k v c.requires.within in
+    subst (λ (m : ℕ). AddsAtMost c.args.tally.now c.find_all.new.tally (times c.args.n (select_reads (superblock_count m)))) long c.find_all.ensures.adds
