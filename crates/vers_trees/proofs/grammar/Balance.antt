@@ -1,5 +1,5 @@
 -- Parentheses that are balanced, read from the left, and where their nodes open.
-use Rattle.vers_trees.proofs.Words.{◌≡◌, ℕ, zero, suc, Bool, true, false, List, [], ◌∷◌, ◌++◌, Decides, Option, Some, refl, ap, ◌∙◌, append_assoc, unwrap_or, append-nil, are_balanced, closes, Forest, none, tree, text, IsBalanced, arith, ints}
+use Rattle.vers_trees.proofs.Words.{◌≡◌, ℕ, zero, suc, Bool, true, false, List, [], ◌∷◌, ◌++◌, Decides, refl, ap, append_assoc, append-nil, are_balanced, closes, Forest, none, tree, text, IsBalanced, arith, ints}
 
 -- a forest written down closes what it opens
 closes-text : (F : Forest) (n : ℕ) (rest : List Bool) → closes n (text F ++ rest) ≡ closes n rest

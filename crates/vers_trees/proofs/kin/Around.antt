@@ -1,9 +1,9 @@
 -- The nodes around a node: its parent, its depth, how many nodes are in its tree, and how many come before it.
-use Rattle.vers_trees.proofs.Words.{◌≡◌, ℕ, zero, suc, ◌+◌, ◌<◌, ◌≤◌, Bool, true, false, cond, ◌&&◌, List, [], ◌∷◌, take, ltb, leb, count_by, pos, negsuc, Some, arith, ⊎_elim, sym, refl, ap, ◌∙◌, Decides, lt-ltb, le-ltb, le-leb, Decides-ltb, Decides-and, leb_tells, length-filter, count, is_bit, places, excess, last_rise_before, Forest, text, pairs, nodes, closing, is_ancestor, is_proper_ancestor, depth, parent, node_index, ints, rules, common_steps}
-use Rattle.vers_trees.proofs.walks.Lists.{shifted, places-cons}
+use Rattle.vers_trees.proofs.Words.{◌≡◌, ℕ, zero, suc, ◌<◌, ◌≤◌, Bool, true, false, ◌&&◌, List, [], ◌∷◌, ltb, leb, count_by, pos, negsuc, Some, arith, ⊎_elim, sym, refl, ap, ◌∙◌, Decides, lt-ltb, le-ltb, le-leb, Decides-ltb, Decides-and, leb_tells, length-filter, count, places, excess, last_rise_before, Forest, text, pairs, nodes, closing, is_ancestor, is_proper_ancestor, depth, parent, node_index, ints, rules, common_steps}
+use Rattle.vers_trees.proofs.walks.Lists.{places-cons}
 use Rattle.vers_trees.proofs.searches.Searches.{before_some, before_none, by_answer}
 use Rattle.vers_trees.proofs.grammar.Paired.{closes_rises, closes_paired}
-use Rattle.vers_trees.proofs.grammar.Pairs.{paired_from_contains, one_if, count_by-cons, count_by-append, count_by-map, count_agree, count_none, moved_lt, strictly_contains, pairs_around}
+use Rattle.vers_trees.proofs.grammar.Pairs.{paired_from_contains, count_by-cons, count_by-append, count_by-map, count_agree, count_none, moved_lt, strictly_contains, pairs_around}
 use Rattle.vers_trees.proofs.kin.Partners.{nested, IsAbove, above_from_before, parent_is_nearest, no_parent}
 use Rattle.vers_trees.proofs.kin.NodeList.{HasPair, one_pair, closes_to, closing_is, nodes_are_ones, opens, inside, last_node, no_last_node}
 

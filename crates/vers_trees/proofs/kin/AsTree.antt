@@ -1,5 +1,5 @@
 -- What a tree of balanced parentheses answers, in the words of any tree.
-use Rattle.vers_trees.proofs.Words.{◌≡◌, ◌≢◌, ◌↔◌, ℕ, ◌<◌, ◌≤◌, Bool, true, false, List, [], ◌∷◌, length, Option, Some, None, arith, sym, refl, ap, ◌∙◌, IsTrue, slice_get, option_map, ◌==◌, slice_get-get_or, get_or_past, count, places, select, length-places, Forest, none, tree, text, IsBalanced, forest_of, nodes, first_of, ne_eqb, ints}
+use Rattle.vers_trees.proofs.Words.{◌≡◌, ◌≢◌, ◌↔◌, ℕ, ◌<◌, Bool, true, false, List, [], ◌∷◌, length, Option, Some, None, arith, sym, refl, ap, ◌∙◌, IsTrue, slice_get, option_map, ◌==◌, slice_get-get_or, count, places, select, length-places, Forest, none, tree, text, IsBalanced, forest_of, nodes, first_of, ne_eqb, ints}
 use Rattle.vers_trees.proofs.grammar.Grammar.{text-forest_of}
 use Rattle.vers_trees.proofs.kin.NodeList.{nodes_are_ones}
 

@@ -1,5 +1,5 @@
 -- What the calls on a node of balanced parentheses answer, by the searches that they make.
-use Rattle.vers_trees.proofs.Words.{Option, None, Some, ◌≡◌, ℕ, ◌+◌, ◌-◌, ◌/◌, ◌%◌, min, ◌<◌, ◌≤◌, ◌↔◌, ◌&&◌, leb, Bool, true, false, List, [], ◌∷◌, length, get_or, pos, negsuc, neg_ℤ, arith, sym, refl, ap, ◌∙◌, IsTrue, is_some, not, ints, le-leb, lt-leb, count, count_both, excess, first_rise_after, last_rise_before, Forest, text, IsBalanced, forest_of, IsNode, closing, parent, depth, subtree, is_ancestor, node_index, children, siblings, level, level_ancestor, first_of, last_of, next_of, previous_of, opened_after, rules}
+use Rattle.vers_trees.proofs.Words.{Option, None, Some, ◌≡◌, ℕ, ◌+◌, ◌-◌, ◌/◌, ◌%◌, min, ◌<◌, ◌≤◌, ◌↔◌, leb, Bool, true, false, List, [], ◌∷◌, length, get_or, pos, negsuc, neg_ℤ, arith, sym, ap, ◌∙◌, IsTrue, is_some, not, ints, le-leb, count, count_both, excess, first_rise_after, last_rise_before, Forest, text, IsBalanced, forest_of, IsNode, closing, parent, depth, subtree, is_ancestor, node_index, children, siblings, level, level_ancestor, first_of, last_of, next_of, previous_of, opened_after, rules}
 use Rattle.vers_trees.proofs.searches.Searches.{after_is}
 use Rattle.vers_trees.proofs.grammar.Grammar.{text-forest_of}
 use Rattle.vers_trees.proofs.grammar.Paired.{Closes}

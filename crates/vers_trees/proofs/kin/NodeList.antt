@@ -1,9 +1,9 @@
 -- The nodes of a forest are the places of the ones that it is written down with.
-use Rattle.vers_trees.proofs.Words.{◌≡◌, ℕ, zero, suc, ◌+◌, ◌<◌, Bool, true, false, ◌&&◌, List, [], ◌∷◌, map, length, get_or, Option, Some, None, eqb, ltb, arith, subst, sym, refl, ap, ◌∙◌, find, filter, slice_get, unwrap_or, option_map, Decides, option_eq, Contains, range_with_len, last_or, Decides-eqb, Decides-ltb, Decides-and, is_bit, places, Forest, none, tree, text, moved, pairs, nodes, IsNode, closing, first_of, next_of, previous_of, map-append, ints}
+use Rattle.vers_trees.proofs.Words.{◌≡◌, ℕ, zero, suc, ◌+◌, ◌<◌, Bool, true, false, ◌&&◌, List, [], ◌∷◌, map, length, get_or, Option, Some, None, eqb, ltb, arith, subst, sym, refl, ap, ◌∙◌, find, filter, slice_get, Decides, option_eq, Contains, range_with_len, last_or, Decides-eqb, Decides-ltb, Decides-and, is_bit, places, Forest, none, tree, text, moved, pairs, nodes, IsNode, closing, first_of, next_of, previous_of, map-append, ints}
 use Rattle.vers_trees.proofs.walks.Lists.{opening_moved, places-tree}
 use Rattle.vers_trees.proofs.searches.Searches.{find_is, none_find, last_is, none_last}
 use Rattle.vers_trees.proofs.grammar.Paired.{Closes, Paired, paired_closes, closes_paired, open_is_paired, closes_once, closes_rises}
-use Rattle.vers_trees.proofs.grammar.Pairs.{contains_first, contains_later, contains_map, contains_map_cases, contains_from_paired, paired_from_contains}
+use Rattle.vers_trees.proofs.grammar.Pairs.{contains_first, contains_later, contains_map_cases, contains_from_paired, paired_from_contains}
 
 -- the nodes are the places of ones, so they ascend
 pub nodes_are_ones : (F : Forest) → nodes F ≡ places true (text F)

@@ -1,5 +1,5 @@
 -- Building a tree of excesses from its leaves up to its root.
-use Rattle.vers_trees.proofs.Words.{◌≡◌, ℕ, ◌+◌, ◌-◌, ◌*◌, ◌/◌, ◌^◌, ◌<◌, ◌≤◌, ◌≢◌, ◌⊎◌, Bool, List, [], ◌∷◌, length, get_or, set, drop, ℤ, ◌+ℤ◌, ◌-ℤ◌, ◌≤ℤ◌, ◌<ℤ◌, arith, ⊎_elim, subst, sym, refl, ap, ◌∙◌, FitsSigned, ◌↔◌, w64, ints, clamps, cases_lt, get_or_past, get_or-set_same, get_or-set_other, get_or-drop, drop-set-lt, eq-or-lt_of_le, Node, excess, combined, CoveredFrom, AreLeaves, JoinFits, total_before, empty_node, Reaches, Covers, StandsOver, IsPart, AreBlocks, IsRange, IsLevel, IsBalanced, IsIndexed}
+use Rattle.vers_trees.proofs.Words.{◌≡◌, ℕ, ◌+◌, ◌-◌, ◌*◌, ◌/◌, ◌^◌, ◌<◌, ◌≤◌, ◌≢◌, Bool, List, [], ◌∷◌, length, get_or, set, drop, ℤ, ◌+ℤ◌, ◌-ℤ◌, ◌≤ℤ◌, ◌<ℤ◌, arith, ⊎_elim, subst, sym, refl, ap, ◌∙◌, FitsSigned, ◌↔◌, w64, ints, clamps, cases_lt, get_or_past, get_or-set_same, get_or-set_other, get_or-drop, drop-set-lt, eq-or-lt_of_le, Node, excess, combined, CoveredFrom, AreLeaves, JoinFits, total_before, empty_node, Reaches, Covers, StandsOver, IsPart, AreBlocks, IsRange, IsLevel, IsBalanced, IsIndexed}
 use Rattle.vers_trees.proofs.grammar.Excess.{excess-zero}
 use Rattle.vers_trees.proofs.layout.MinMax.{covers_combined, HasChildren, stands_children, stands_every, leaf_stands, root}
 use Rattle.vers_trees.proofs.layout.Blocks.{block_inside, reached_at, total_more, total_past, total_start, reaches_iff, sum_before_block, balanced_iff_root}

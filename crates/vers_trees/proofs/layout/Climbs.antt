@@ -1,5 +1,5 @@
 -- The steps of a search in a tree of excesses.
-use Rattle.vers_trees.proofs.Words.{◌≡◌, ℕ, zero, suc, ◌+◌, ◌-◌, ◌*◌, ◌/◌, ◌%◌, ◌^◌, ◌<◌, ◌≤◌, List, length, get_or, drop, ℤ, ◌+ℤ◌, ◌-ℤ◌, arith, ⊎_elim, subst, refl, ap, FitsSigned, to_z, of_z, ◌⊎◌, inl, inr, pos, w64, ints, to_z-of_z, clamps, cases_lt, pow-succ', le-mul_of_pos_right, eq-or-lt_of_le, pow_pos, Node, IsInRange, total_before, empty_node, Reaches, Covers, StandsOver, IsMinMax, IsNextFrom, IsOddPart, LeadsTo, PassedTo, ComesTo, IsInRangeOrStart, Meets, IsRange, LeadsBack, PassedBack, ComesBack, IsPreviousBefore}
+use Rattle.vers_trees.proofs.Words.{◌≡◌, ℕ, zero, suc, ◌+◌, ◌-◌, ◌*◌, ◌/◌, ◌%◌, ◌^◌, ◌<◌, ◌≤◌, List, length, get_or, drop, ℤ, ◌+ℤ◌, ◌-ℤ◌, arith, ⊎_elim, subst, refl, ap, FitsSigned, to_z, of_z, inl, inr, pos, w64, ints, to_z-of_z, clamps, cases_lt, pow-succ', le-mul_of_pos_right, eq-or-lt_of_le, pow_pos, Node, IsInRange, total_before, empty_node, Reaches, Covers, StandsOver, IsMinMax, IsNextFrom, IsOddPart, LeadsTo, PassedTo, ComesTo, IsInRangeOrStart, Meets, IsRange, LeadsBack, PassedBack, ComesBack, IsPreviousBefore}
 use Rattle.vers_trees.proofs.layout.MinMax.{stands_children, parent_of_left, parent_of_right, stands_leaf, leaf_stands, root_stands, covers_at, stands_some}
 use Rattle.vers_trees.proofs.searches.Scans.{as_stored}
 use Rattle.vers_trees.proofs.layout.Blocks.{total_more}

@@ -1,4 +1,4 @@
-use Rattle.std.proofs.Common.{sym, ◌∙◌, arith}
+use Rattle.std.proofs.Common.{arith}
 use Rattle.vers_trees.proofs.layout.Widths.{no_nodes_counted}
 use Rattle.std.proofs.lemmas.Int.{ints}
 use Rattle.vers_trees.proofs.trees.bp.min_max.MinMaxTree.over.Goals as goal
