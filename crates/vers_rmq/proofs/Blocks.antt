@@ -1,5 +1,5 @@
 -- Blocks of 128 items.
-use Rattle.vers_rmq.proofs.Names.{◌≡◌, ℕ, ◌+◌, ◌-◌, ◌*◌, ◌/◌, ◌%◌, ◌^◌, ◌<◌, ◌≤◌, min, List, [], ◌∷◌, ◌++◌, length, get_or, sym, ap, ◌∙◌, subst, inl, inr, arith, bit_at, cases_lt, length_push, get_or_push, get_or_append_left, PlacedItem, IsFirstLeast, IsLeastItem, lesser_item, IsLastSet, IsFirstSet, AreMasks, part_end, binary_heap_size}
+use Rattle.vers_rmq.proofs.Names.{◌≡◌, ℕ, ◌+◌, ◌-◌, ◌*◌, ◌/◌, ◌%◌, ◌^◌, ◌<◌, ◌≤◌, min, List, [], ◌∷◌, ◌++◌, length, get_or, sym, ap, ◌∙◌, inl, inr, arith, bit_at, cases_lt, length_push, get_or_push, get_or_append_left, PlacedItem, IsFirstLeast, IsLeastItem, lesser_item, IsLastSet, IsFirstSet, AreMasks, part_end, binary_heap_size}
 use Rattle.vers_rmq.specs.declared.rmq.fast_rmq.TheConstants.{MAX_LEN}
 use Rattle.vers_rmq.specs.declared.rmq.fast_rmq.mask.Masks.{Masks}
 use Rattle.vers_rmq.specs.declared.rmq.fast_rmq.block.BlockMasks.{BlockMasks}

@@ -1,5 +1,5 @@
 -- What searches begin with.
-use Rattle.vers_sorted.proofs.Names.{◌≡◌, ℕ, ◌-◌, ◌<◌, ◌≤◌, Bool, false, List, ◌++◌, length, take, arith, map, slice_index, IsNonDecreasing, get_or_append_left, get_or-map, get_or-take, length-map, length-take, select, first_of, last_of, high_of, high_parts, IsInside}
+use Rattle.vers_sorted.proofs.Names.{◌≡◌, ℕ, ◌-◌, ◌<◌, ◌≤◌, false, List, length, arith, IsNonDecreasing, select, first_of, last_of, high_of, high_parts, IsInside}
 use Rattle.vers_sorted.proofs.Buckets.{start_at}
 use Rattle.vers_sorted.proofs.Makes.{last_none}
 use Rattle.vers_sorted.proofs.Split.{high_up}

@@ -1,5 +1,5 @@
 -- The ones or the zeros of a limb, from the lowest up.
-use Rattle.vers_sorted.proofs.Names.{◌≡◌, ℕ, ◌+◌, ◌-◌, ◌*◌, ◌/◌, ◌%◌, ◌^◌, ◌<◌, ◌≤◌, Bool, true, false, List, [], ◌∷◌, ◌++◌, length, take, get_or, not, refl, sym, ap, subst, ◌∙◌, arith, inl, inr, min, w64, bit_at, bit_not, trailing_zeros, trailing_of_zero, cases_lt, shr-shr, bit_at-zero, bit_at-trailing_zeros, bit_at_not, bit_value, is_bit, count, places, limb, AreMarked, value_none, value_one, limb_bit, count_past, ints, rules}
+use Rattle.vers_sorted.proofs.Names.{◌≡◌, ℕ, ◌+◌, ◌-◌, ◌*◌, ◌/◌, ◌%◌, ◌^◌, ◌<◌, ◌≤◌, Bool, true, false, List, [], ◌∷◌, ◌++◌, length, take, get_or, not, refl, sym, ap, subst, ◌∙◌, arith, inl, inr, min, w64, bit_at, bit_not, trailing_zeros, trailing_of_zero, cases_lt, shr-shr, bit_at-trailing_zeros, bit_at_not, bit_value, is_bit, count, places, limb, AreMarked, value_none, value_one, limb_bit, count_past, ints, rules}
 use Rattle.vers_sorted.proofs.Scans.{count_stays}
 use Rattle.vers_sorted.proofs.SparseBits.{first_places_more}
 

@@ -1,5 +1,5 @@
 -- Numbers that stand in an order, each to the next.
-use Rattle.vers_sorted.proofs.Names.{◌≡◌, ℕ, zero, suc, ◌<◌, Bool, true, false, List, [], ◌∷◌, length, get_or, nat_le, nat_lt, refl, sym, ◌∙◌, arith, add-one, ◌↔◌, All, IsTrue, IsAllAdjacentAnswer, list_all, IsNonDecreasing, IsStrictlyIncreasing, leb-true, le-leb, ltb-true, lt-ltb, get_or_default, IsNonDecreasingBy-from_all_adjacent, AllPass-from_list_all, list_all-from_AllPass, each_next, ints}
+use Rattle.vers_sorted.proofs.Names.{◌≡◌, ℕ, zero, suc, ◌<◌, Bool, true, false, List, [], ◌∷◌, length, get_or, nat_le, nat_lt, refl, sym, arith, add-one, ◌↔◌, All, IsTrue, IsAllAdjacentAnswer, list_all, IsNonDecreasing, IsStrictlyIncreasing, leb-true, le-leb, ltb-true, lt-ltb, get_or_default, IsNonDecreasingBy-from_all_adjacent, AllPass-from_list_all, list_all-from_AllPass, each_next, ints}
 use Rattle.std.proofs.Math.Bool.{◌&&◌, and-false}
 
 -- number k and the next

@@ -1,4 +1,4 @@
-use Rattle.vers_sorted.proofs.Names.{false, length, ap, ◌∙◌, arith, slice_index, select, high_of, get_or-map, get_or-take, length-map, length-take, get_or_append_left}
+use Rattle.vers_sorted.proofs.Names.{false, ap, ◌∙◌, arith, slice_index, select, high_of, get_or-map, get_or-take, length-map, length-take, get_or_append_left}
 use Rattle.vers_sorted.proofs.Packed.{high_counted, high_same}
 use Rattle.vers_sorted.proofs.elias_fano.EliasFanoVec.begin_each.Goals as goal
 

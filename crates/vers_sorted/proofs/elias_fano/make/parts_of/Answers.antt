@@ -1,4 +1,4 @@
-use Rattle.vers_sorted.proofs.Names.{◌≡◌, ◌+◌, ◌*◌, length, ap, ◌∙◌, arith, low_width, first_high_parts, first_low_parts, low_bits, ints}
+use Rattle.vers_sorted.proofs.Names.{◌≡◌, ◌+◌, ◌*◌, length, ap, ◌∙◌, arith, low_width, first_high_parts, first_low_parts, ints}
 use Rattle.vers_sorted.proofs.Lengths.{high_fits, low_fits}
 use Rattle.vers_sorted.proofs.Gathers.{none_gathered, so_many}
 use Rattle.vers_sorted.proofs.Makes.{taken_at, all_taken, taken_above, one_place, one_more, high_len_is, high_sum_fits, high_start, high_all, length-first_high_parts, low_start, low_length, low_all, low_next}
