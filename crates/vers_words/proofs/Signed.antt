@@ -1,12 +1,11 @@
 -- Signed numbers.
-use Rattle.std.proofs.Common.{◌≡◌, ◌==◌, ◌^◌, ◌<◌, ◌≤◌, ℕ, ℤ, pos, neg_ℤ, ◌+ℤ◌, ◌-ℤ◌, negsuc, zero, suc, true, false, List, ◌∷◌, length, Option, Some, None, sym, ap, ◌∙◌, refl, inl, inr, arith}
+use Rattle.std.proofs.Common.{◌≡◌, ◌==◌, ◌^◌, ◌<◌, ℕ, ℤ, pos, neg_ℤ, ◌+ℤ◌, ◌-ℤ◌, negsuc, zero, suc, true, false, List, ◌∷◌, Option, Some, None, sym, ap, ◌∙◌, refl, inl, inr, arith}
 use Rattle.std.specs.Prelude.{FitsSigned, option_and_then}
 use Rattle.std.specs.Int.{w64}
 use Rattle.std.specs.Option.{SomeIff}
 use Rattle.std.proofs.lemmas.Int.{ints}
 use Rattle.std.proofs.lemmas.Bool.{cases_lt, lt-ltb, le-ltb, le-leb, lt-leb}
 use Rattle.std.proofs.lemmas.Bool.Decides.{eqb_tells}
-use Rattle.std.proofs.lemmas.List.{nil_from_length}
 use Rattle.vers_words.specs.Text.{number_of, with_sign, signed_number_of}
 
 -- what a checked sum and a checked difference with 0 answer
