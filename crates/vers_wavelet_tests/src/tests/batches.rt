@@ -1,7 +1,7 @@
 //! Many queries at once, compared with worked values, with a plain list and with single queries.
 use crate::tests::compared::{LISTS, count, found, kth};
-use crate::tests::numbers::symbols_of;
-use std::alloc::Allocator;
+use crate::tests::numbers::{WIDTH, falling_numbers, symbols_of};
+use std::alloc::{AllocError, Allocator, Global};
 use test_alloc::{Check, is_made_right};
 use vers_wavelet::wavelet::{GetQuery, QuantileQuery, RankQuery, SelectQuery, WaveletMatrix};
 
@@ -193,4 +193,36 @@ impl<A: Allocator + Copy> Check<WaveletMatrix<A>> for Worked {
 #[test]
 fn batches_with_worked_answers(rt: HostRuntime) {
     assert!(rt; is_made_right(symbols_of(rt.alloc(), LISTS[0], 3), &Worked));
+}
+
+// Falling numbers from 64 on, each of them there twice.
+#[derive(Drop)]
+struct Twice;
+
+// More queries than ask a level together, some of which are for symbols that are not there.
+impl<A: Allocator + Copy> Check<WaveletMatrix<A>> for Twice {
+    fn is_right(&self, list: &mut WaveletMatrix<A>) -> bool {
+        let mut queries = [SelectQuery::new(0, 0); 200];
+        for (i, query) in queries.iter_mut().enumerate() {
+            *query = SelectQuery::new(i / 70, i as u64 % 70);
+        }
+        list.select_u64_each(&mut queries);
+        for (i, query) in queries.iter().enumerate() {
+            let place = (128 + i / 70).checked_sub(i % 70 * 2);
+            if query.answer != if i / 70 < 2 { place } else { None } {
+                return false;
+            }
+        }
+        true
+    }
+}
+
+fn twice_is_right(alloc: Global) -> Result<bool, AllocError> {
+    let numbers = falling_numbers(alloc, 130)?;
+    Ok(is_made_right(symbols_of(alloc, numbers.as_slice(), WIDTH), &Twice))
+}
+
+#[test]
+fn batches_of_several_groups(rt: HostRuntime) {
+    assert!(rt; matches!(twice_is_right(rt.alloc()), Ok(true)));
 }
