@@ -6,6 +6,7 @@ pub mod ByteOnes
 pub mod BytePlaces
 pub mod Ranks
 pub mod Selects
+pub mod Tables
 pub mod BlockLanes
 pub mod Builds
 pub mod Parts

@@ -1,9 +1,11 @@
 -- Offsets of the ones of a few bits, in a buffer that is read from its end.
-use Rattle.vers_rank.proofs.Names.{zero, suc, ◌≡◌, ℕ, ◌+◌, ◌-◌, ◌*◌, ◌/◌, ◌%◌, ◌^◌, ◌<◌, ◌≤◌, Bool, true, false, cond, List, [], ◌∷◌, ◌++◌, map, filter, range_with_len, bytes_eq, ltb, set, replicate, length, get_or, eqb, ne_eqb, refl, sym, ap, ◌∙◌, inl, inr, arith, count_ones, bit_and, bit_at, All, ltb-true, cases_eq, cases_Bool, agree_below_at, map-id, length-set, get_or-set_same, get_or-set_other, bit_at-zero, bit_at_cat_low, shr_and_one, length-zip2, length-put_chunk, length-chunk, get_or-chunk, get_or-zip2, get_or-replicate, get_or-put_chunk_at, get_or-put_chunk_below, chunk, put_chunk, zip2, last_first, ones_below, shr-shr}
+use Rattle.vers_rank.proofs.Names.{zero, suc, ◌≡◌, ℕ, ◌+◌, ◌-◌, ◌*◌, ◌/◌, ◌%◌, ◌^◌, ◌<◌, ◌≤◌, Bool, true, false, cond, List, [], ◌∷◌, ◌++◌, map, filter, range_with_len, bytes_eq, ltb, ◌&&◌, and_parts, set, replicate, length, get_or, eqb, ne_eqb, refl, sym, ap, ◌∙◌, inl, inr, arith, count_ones, bit_and, bit_at, All, ltb-true, cases_eq, cases_Bool, agree_below_at, map-id, length-set, get_or-set_same, get_or-set_other, bit_at-zero, bit_at_cat_low, shr_and_one, length-zip2, length-put_chunk, length-chunk, get_or-chunk, get_or-zip2, get_or-replicate, get_or-put_chunk_at, get_or-put_chunk_below, chunk, put_chunk, zip2, last_first, ones_below, shr-shr}
 use Rattle.std.proofs.lemmas.List.Elements.{All-filter, All-from_get_or, All-head, All-tail, filter-append}
 use Rattle.std.proofs.lemmas.List.FromFn.{length-range_with_len, get_or-range_with_len}
 use Rattle.std.proofs.lemmas.Slice.Eq.{bytes_eq-Decides}
+use Rattle.std.proofs.lemmas.Bool.{agree_below}
 use lib.Count.{ones}
+use Rattle.vers_rank.proofs.Tables.{tried, tries}
 use Rattle.vers_rank.specs.declared.offsets.TheConstants.{OFFSETS}
 
 -- ---- numbers that are read from the end
@@ -86,18 +88,23 @@ two_bytes c =
 abbrev entry : ℕ → List ℕ
 entry v = chunk (8 * v) 8 OFFSETS
 
-lists_ones : ℕ → Bool
-lists_ones v = bytes_eq (last_first 0 (entry v) (count_ones v)) (ones_below 8 v)
+lists_ones : ℕ → List ℕ → Bool
+lists_ones v entries = bytes_eq (last_first 0 entries (count_ones v)) (ones_below 8 v) && agree_below (λ j. ltb (get_or entries j 0) 8) (λ _. true) 8
+
+entry_passes : (v : ℕ) → v < 256 → lists_ones v (entry v) ≡ true
+unfolding lists_ones tries ones
+entry_passes v h = tried lists_ones 256 v OFFSETS refl h
 
 pub entry_listed : (v : ℕ) → v < 256 → last_first 0 (entry v) (count_ones v) ≡ ones_below 8 v
-unfolding lists_ones ones
-entry_listed v h = (bytes_eq-Decides (last_first 0 (entry v) (count_ones v)) (ones_below 8 v)).0 (agree_below_at lists_ones (λ _. true) 256 v refl h)
+unfolding lists_ones
+entry_listed v h = (bytes_eq-Decides (last_first 0 (entry v) (count_ones v)) (ones_below 8 v)).0 (and_parts _ _ (entry_passes v h)).0
 
 pub entry_long : (v : ℕ) → v < 256 → length (entry v) ≡ 8
 entry_long v h = length-chunk (8 * v) 8 OFFSETS (let size : length OFFSETS ≡ 2048 = refl in omega (arith, size))
 
 pub entry_small : (v : ℕ) → v < 256 → (j : ℕ) → j < 8 → get_or (entry v) j 0 < 8
-entry_small v h j small = omega (arith, get_or-chunk (8 * v) 8 OFFSETS j 0 small, ltb-true _ _ (agree_below_at (λ i. ltb (get_or OFFSETS i 0) 8) (λ _. true) 2048 (8 * v + j) refl (omega (arith, small))))
+unfolding lists_ones
+entry_small v h j small = ltb-true _ _ (agree_below_at (λ j. ltb (get_or (entry v) j 0) 8) (λ _. true) 8 j (and_parts _ _ (entry_passes v h)).1 small)
 
 pub ruleset table = (entry_listed, entry_long)
 
