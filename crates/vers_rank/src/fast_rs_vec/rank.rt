@@ -105,9 +105,10 @@ impl<A: Allocator + Copy> RsVec<A> {
             + self.superblocks.read(block / BLOCKS, tally) as usize
     }
 
-    // The ones from the start of a block up to a place in it: up to its quarter, its limb there, and in
-    // that limb. In a whole block 8 limbs are read, with no branch on the place, which would be guessed
-    // wrong: each is left out of the sum where the place does not lie past it. In the last block, which
+    // The ones from the start of a block up to a place in it: up to its half, its quarter there, its limb
+    // there, and in that limb. In a whole block 8 limbs are read, with no branch on the place, which would
+    // be guessed wrong: each is left out of the sum where the place does not lie past it. None lies in a
+    // half past the place's own, which may stand in another line of the cache. In the last block, which
     // may have fewer limbs, those that are left out are not read.
     #[inline(always)]
     fn ones_in_block(&self, block: usize, place: usize, is_whole: bool, tally: &mut Tally) -> usize
@@ -117,16 +118,16 @@ impl<A: Allocator + Copy> RsVec<A> {
         ensures value { count true self.now (BLOCK * block) + result ≡ count true self.now place }
         ensures adds { AddsAtMost tally.old tally.new (only_data_words 8) }
     {
-        let quarters = self.ones_before_quarter(block, place, is_whole, tally);
-        let limbs = self.ones_before_limb(place, is_whole, tally);
-        quarters + limbs + self.ones_of_part(place, tally)
+        let half = self.ones_before_half(block, place, is_whole, tally);
+        let quarter = self.ones_before_quarter(place, is_whole, tally);
+        let limb = self.ones_before_limb(place, is_whole, tally);
+        half + quarter + limb + self.ones_of_part(place, tally)
     }
 
-    // The ones from the start of a block up to a place's quarter of it, which are those of its first 2,
-    // 4 or 6 limbs.
+    // The ones from the start of a block up to a place's half of it.
     #[inline(always)]
     #[tactic(auto, using(crate::proofs::Ranks::parts))]
-    fn ones_before_quarter(
+    fn ones_before_half(
         &self,
         block: usize,
         place: usize,
@@ -137,22 +138,28 @@ impl<A: Allocator + Copy> RsVec<A> {
             × (place < length self.now) }
         requires whole { IsTrue is_whole → BLOCK * block + BLOCK ≤ length self.now }
         ensures value { count true self.now (BLOCK * block) + result
-            ≡ count true self.now (128 * (place / 128)) }
-        ensures few { result ≤ 384 }
-        ensures adds { AddsAtMost tally.old tally.new (only_data_words 6) }
+            ≡ count true self.now (256 * (place / 256)) }
+        ensures few { result ≤ 256 }
+        ensures adds { AddsAtMost tally.old tally.new (only_data_words 4) }
     {
-        let from = 8 * block;
-        let two = self.ones_of_pair_before(from, place, is_whole, tally);
-        let four = two + self.ones_of_pair_before(from + 2, place, is_whole, tally);
-        let six = four + self.ones_of_pair_before(from + 4, place, is_whole, tally);
-        let is_second_quarter = place / 128 % 2 == 1;
-        if place / 256 % 2 == 0 {
-            if is_second_quarter { two } else { 0 }
-        } else if is_second_quarter {
-            six
-        } else {
-            four
-        }
+        let two = self.ones_of_pair_before(8 * block, place, is_whole, tally);
+        let four = two + self.ones_of_pair_before(8 * block + 2, place, is_whole, tally);
+        if place / 256 % 2 == 1 { four } else { 0 }
+    }
+
+    // The ones from the start of a place's half of a block up to its quarter.
+    #[inline(always)]
+    #[tactic(auto, using(crate::proofs::Ranks::parts))]
+    fn ones_before_quarter(&self, place: usize, is_whole: bool, tally: &mut Tally) -> usize
+        requires within { place < length self.now }
+        requires whole { IsTrue is_whole → BLOCK * (place / BLOCK) + BLOCK ≤ length self.now }
+        ensures value { count true self.now (256 * (place / 256)) + result
+            ≡ count true self.now (128 * (place / 128)) }
+        ensures few { result ≤ 128 }
+        ensures adds { AddsAtMost tally.old tally.new (only_data_words 2) }
+    {
+        let two = self.ones_of_pair_before(place / 256 * 4, place, is_whole, tally);
+        if place / 128 % 2 == 1 { two } else { 0 }
     }
 
     // The ones of two limbs, where a place lies past them. In a list that may end in them they are read
