@@ -124,8 +124,8 @@ def longest_ways(crates, asked):
 
 
 def prove_all(crates, names, commands, tell=lambda text: None):
-    """Proves crates with those below them. The two with the longest ways up of those that are being proved have as many jobs as there are
-    processors, and the others two each; each uses what those with a longer way leave idle."""
+    """Proves crates with those below them, each by as many jobs as there are processors. The shorter a crate's way up beside the longest of those that
+    are being proved, the more it yields."""
     asked = {it for name in names for it in [*crates.below(name), name]}
     ways, order = longest_ways(crates, asked), TopologicalSorter({it: crates.uses(it) for it in asked})
     order.prepare()
@@ -133,8 +133,8 @@ def prove_all(crates, names, commands, tell=lambda text: None):
     with ThreadPoolExecutor(commands.count) as pool:
         while order.is_active():
             for name in sorted(order.get_ready(), key=ways.get, reverse=True):
-                ahead = sum(ways[it] > ways[name] for it in running.values())
-                running[pool.submit(prove, crates, name, ahead, commands)] = name
+                longest = max(ways[it] for it in [name, *running.values()])
+                running[pool.submit(prove, crates, name, 10 - 10 * ways[name] // longest, commands)] = name
             for done in wait(running, return_when=FIRST_COMPLETED).done:
                 done.result()
                 name = running.pop(done)
@@ -142,12 +142,11 @@ def prove_all(crates, names, commands, tell=lambda text: None):
                 tell(f"{name} is proved")
 
 
-def prove(crates, name, ahead, commands):
-    """Proves a crate in a repository of its own, after some that go ahead: a library is built for those above it, a program is built and asked
-    its version."""
+def prove(crates, name, niceness, commands):
+    """Proves a crate in a repository of its own: a library is built for those above it, a program is built and asked its version."""
     with tempfile.TemporaryDirectory(prefix="proof-") as room:
         crates.copy_to(room, name, "out")
-        command = ["nice", "-n", str(5 * ahead), "rt", "run" if crates.is_program(name) else "lib", "--jobs", str(2 if ahead > 1 else commands.count)]
+        command = ["nice", "-n", str(niceness), "rt", "run" if crates.is_program(name) else "lib", "--jobs", str(commands.count)]
         command += ["--", "--version"] if crates.is_program(name) else []
         said, status = commands.run((name, "proof"), command, f"{room}/crates/{name}")
         if status:
