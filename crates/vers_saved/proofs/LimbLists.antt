@@ -7,14 +7,14 @@ use Rattle.vers_saved.proofs.WordBytes.{AreWords}
 pub length-pack : (ws : List ℕ) → length (pack ws 64) ≡ 64 * length ws
 length-pack ws = length-packed (λ w. w) 64 ws ∙ omega arith
 
--- without the bits of the first k words
-drop-pack : (k : ℕ) (ws : List ℕ) → drop (64 * k) (pack ws 64) ≡ pack (drop k ws) 64
-drop-pack zero ws = refl
-drop-pack (suc k) [] = drop-nil (64 * suc k)
-drop-pack (suc k) (w ∷ ws) =
-    let place : 64 * suc k ≡ 64 + 64 * k = omega arith in
-    ap (λ p. drop p (low_bits w 64 ++ pack ws 64)) place
-    ∙ sym (drop-drop (64 * k) 64 (low_bits w 64 ++ pack ws 64)) ∙ ap (drop (64 * k)) (drop_at (low_bits w 64) (pack ws 64) 64 (length-low_bits w 64)) ∙ drop-pack k ws
+-- the bits from item k on are those of the items from it on
+pub drop-packed : (w k : ℕ) (items : List ℕ) → drop (k * w) (pack items w) ≡ pack (drop k items) w
+drop-packed w zero items = let none : 0 * w ≡ 0 = omega arith in ap (λ p. drop p (pack items w)) none
+drop-packed w (suc k) [] = drop-nil (suc k * w)
+drop-packed w (suc k) (y ∷ items) =
+    let more : suc k * w ≡ w + k * w = grind arith in
+    ap (λ p. drop p (low_bits y w ++ pack items w)) more
+    ∙ sym (drop-drop (k * w) w (low_bits y w ++ pack items w)) ∙ ap (drop (k * w)) (drop_at (low_bits y w) (pack items w) w (length-low_bits y w)) ∙ drop-packed w k items
 
 -- the number of the low r bits of a word that is no longer
 low_part : (w r : ℕ) → w < 2 ^ 64 → r ≤ 64 → w < 2 ^ r → number (take r (low_bits w 64)) ≡ w
@@ -39,9 +39,10 @@ limb-first : (ws : List ℕ) (n k : ℕ) → k < length ws → 64 * k ≤ n → 
 unfolding limb
 limb-first ws n k inside from h small =
     let whole : 64 * k + (n - 64 * k) ≡ n = omega arith in
+    let place : 64 * k ≡ k * 64 = omega arith in
     let rest : drop (64 * k) (take n (pack ws 64)) ≡ take (n - 64 * k) (low_bits (get_or ws k 0) 64 ++ pack (drop (k + 1) ws) 64) =
     sym (ap (λ m. drop (64 * k) (take m (pack ws 64))) whole) ∙ drop-take (64 * k) (n - 64 * k) (pack ws 64)
-    ∙ ap (take (n - 64 * k)) (drop-pack k ws ∙ ap (λ l. pack l 64) (drop_more ws k 0 inside)) in
+    ∙ ap (take (n - 64 * k)) (ap (λ p. drop p (pack ws 64)) place ∙ drop-packed 64 k ws ∙ ap (λ l. pack l 64) (drop_more ws k 0 inside)) in
     ap (λ l. number (take 64 l)) rest ∙ first_limb (get_or ws k 0) (n - 64 * k) (drop (k + 1) ws) h small
 
 ends_small : (ws : List ℕ) (n k : ℕ) → k < limb_count n → EndsPadded n ws → n - 64 * k < 64 → get_or ws k 0 < 2 ^ (n - 64 * k)

@@ -1,18 +1,20 @@
 -- Saved forms of lists of symbols.
-use Rattle.vers_saved.proofs.Names.{◌≡◌, ℕ, zero, suc, ◌+◌, ◌-◌, ◌*◌, ◌/◌, ◌%◌, ◌^◌, ◌<◌, ◌≤◌, Bool, List, [], ◌∷◌, ◌++◌, length, get_or, take, drop, refl, sym, ap, subst, ◌∙◌, inl, inr, append_assoc, arith, map, All, Option, None, Result, Ok, Err, nat_le, slice_get, unwrap_or, take-add, mod-eq_of_lt, set, cases_lt, le-leb, nat_tests, drop-drop, take_all, take_at, drop_at, take-take, drop-take, length-take, length-map, get_or_past, slice_get-get_or, slice_get_past, mod_below, number, low_bits, part, limbs, limb_count, pack, length-low_bits, number-low_bits, number-take, length-packed, SYMBOL_LISTS, IsWhole}
+use Rattle.vers_saved.proofs.Names.{◌≡◌, ℕ, zero, suc, ◌+◌, ◌-◌, ◌*◌, ◌/◌, ◌%◌, ◌^◌, ◌<◌, ◌≤◌, Bool, List, [], ◌∷◌, ◌++◌, length, get_or, take, drop, refl, sym, ap, subst, ◌∙◌, inl, inr, append_assoc, arith, map, All, Option, None, Result, Ok, Err, nat_le, slice_get, unwrap_or, take-add, mod-eq_of_lt, set, cases_lt, le-leb, nat_tests, drop-drop, drop_more, take_all, take_at, drop_at, take-take, drop-take, length-take, length-map, get_or_past, slice_get-get_or, slice_get_past, mod_below, number, low_bits, part, limbs, limb_count, pack, length-low_bits, number-low_bits, number-take, length-packed, SYMBOL_LISTS, IsWhole}
 use Rattle.std.proofs.Common.{pow-add, below_more, get_or-set_same, get_or-set_other, ◌≢◌}
 use Rattle.std.specs.Prelude.{IfOk, if◌then◌else◌}
 use Rattle.std.specs.List.{range_with_len}
 use Rattle.std.proofs.Math.Nat.{pow-le-pow_right, mul-le-mul_left, mod-eq-sub-div-mul, div-mul-le_self}
 use Rattle.std.proofs.lemmas.List.{map-set, get_or-map}
-use Rattle.std.proofs.lemmas.List.FromFn.{length-map-range_with_len, get_or-map-range_with_len}
+use Rattle.std.proofs.lemmas.List.FromFn.{length-map-range_with_len, get_or-map-range_with_len, map-range_with_len_more}
 use Rattle.std.proofs.lemmas.List.Elements.{All-from_get_or}
 use Rattle.std.proofs.lemmas.Nat.{div-mul-add, mod-mul-add}
 use Rattle.vers_bits.proofs.PublicLaws.{low_bits-add, number-drop, number-lt, low_bits_of_part}
 use Rattle.vers_wavelet.specs.Symbols.{Symbols}
 use Rattle.vers_wavelet.specs.declared.wavelet.batch.get.GetQuery.{GetQuery}
-use Rattle.vers_wavelet.specs.Makers.{packed_symbols}
+use Rattle.vers_wavelet.specs.Makers.{low_symbols, packed_symbols}
+use Rattle.vers_wavelet.proofs.PublicLaws.{small_numbers_stay}
 use Rattle.vers_saved.proofs.BitLists.{within, whole_bits}
+use Rattle.vers_saved.proofs.LimbLists.{drop-packed}
 
 pub length-packed_items : (items : List ℕ) (k : ℕ) → length (pack items k) ≡ length items * k
 length-packed_items items k = length-packed (λ v. v) k items
@@ -21,15 +23,6 @@ times_le : (n q w : ℕ) → n ≤ q → n * w ≤ q * w
 times_le n q w h = grind (arith, h)
 
 -- ---- bits of packed symbols
-
--- the bits from a symbol on are its own, and those of the symbols after it
-drop_packed : (items : List ℕ) (w q : ℕ) → q < length items → drop (q * w) (pack items w) ≡ low_bits (get_or items q 0) w ++ pack (drop (suc q) items) w
-drop_packed [] w q h = absurd (omega arith)
-drop_packed (y ∷ items) w zero h = let none : 0 * w ≡ 0 = omega arith in ap (λ p. drop p (low_bits y w ++ pack items w)) none
-drop_packed (y ∷ items) w (suc q) h =
-    let more : suc q * w ≡ w + q * w = grind arith in
-    ap (λ p. drop p (low_bits y w ++ pack items w)) more ∙ sym (drop-drop (q * w) w (low_bits y w ++ pack items w))
-    ∙ ap (drop (q * w)) (drop_at (low_bits y w) (pack items w) w (length-low_bits y w)) ∙ drop_packed items w q (omega arith)
 
 -- n of the bits of a symbol, from one of them on
 symbol_part : (symbol r n m : ℕ) (rest : List Bool) → take n (drop r (low_bits symbol (r + (n + m)) ++ rest)) ≡ low_bits (symbol / 2 ^ r) n
@@ -44,8 +37,9 @@ symbol_part symbol r n m rest =
 part_number : (items : List ℕ) (w q r n m : ℕ) → q < length items → w ≡ r + (n + m) → number (take n (drop (q * w + r) (pack items w))) ≡ get_or items q 0 / 2 ^ r % 2 ^ n
 part_number items w q r n m h is =
     ap (λ l. number (take n l)) (sym (drop-drop r (q * w) (pack items w)))
-    ∙ ap (λ l. number (take n (drop r l))) (drop_packed items w q h ∙ ap (λ k. low_bits (get_or items q 0) k ++ pack (drop (suc q) items) w) is)
-    ∙ ap number (symbol_part (get_or items q 0) r n m (pack (drop (suc q) items) w)) ∙ number-low_bits (get_or items q 0 / 2 ^ r) n
+    ∙ ap (λ l. number (take n (drop r l)))
+    (drop-packed w q items ∙ ap (λ l. pack l w) (drop_more items q 0 h) ∙ ap (λ k. low_bits (get_or items q 0) k ++ pack (drop (q + 1) items) w) is)
+    ∙ ap number (symbol_part (get_or items q 0) r n m (pack (drop (q + 1) items) w)) ∙ number-low_bits (get_or items q 0 / 2 ^ r) n
 
 -- the number of bits, by that of the first of them and that of the others
 number_split : (bits : List Bool) (n k : ℕ) → number (take (n + k) bits) ≡ number (take n bits) + 2 ^ n * number (take k (drop n bits))
@@ -180,13 +174,36 @@ pub whole_number : (count k : ℕ) (bits : List Bool) → 1 ≤ k → length bit
 whole_number count k bits some e =
     let more : length bits ≡ count * k + 0 = omega arith in ap (λ m. m % k) more ∙ mod-mul-add count k 0 some
 
--- what a matrix of the symbols that bits hold has
-pub loaded_matrix : (count k w : ℕ) (bits : List Bool) (v : Symbols) → 1 ≤ k → length bits ≡ count * k → v.width ≡ w → w ≡ k → v.items ≡ packed_symbols bits w
-    → (length v.items ≡ count) × (v.width ≡ k) × (limbs (pack v.items v.width) ≡ limbs bits) × All (λ y. y < 2 ^ v.width) v.items
-loaded_matrix count k w bits v some long wide is_width is =
-    let same : v.width ≡ k = wide ∙ is_width in
-    let are : v.items ≡ packed_symbols bits k = is ∙ ap (packed_symbols bits) is_width in
-    rw (same, are) (length-packed_symbols bits k count some long, refl, ap limbs (pack-packed_symbols bits k count some long), symbols_fit bits k)
+-- the first n of the numbers of k bits each that bits hold
+abbrev pub first_numbers : List Bool → ℕ → ℕ → List ℕ
+first_numbers bits k n = map (λ e. number (part bits (e * k) k)) (range_with_len 0 n)
+
+pub more_numbers : (bits : List Bool) (k n : ℕ) → first_numbers bits k (n + 1) ≡ first_numbers bits k n ++ number (part bits (n * k) k) ∷ []
+more_numbers bits k n = map-range_with_len_more (λ e. number (part bits (e * k) k)) 0 n n (omega arith)
+
+pub all_numbers : (bits : List Bool) (k n : ℕ) → n ≡ length bits / k → first_numbers bits k n ≡ packed_symbols bits k
+unfolding packed_symbols
+all_numbers bits k n is = ap (first_numbers bits k) is
+
+pub number_inside : (bits : List Bool) (k e : ℕ) → e < length bits / k → e * k + k ≤ length bits
+number_inside bits k e h =
+    let next : (e + 1) * k ≡ e * k + k = grind arith in
+    omega (arith, next, times_le (e + 1) (length bits / k) k (omega arith), div-mul-le_self (length bits) k)
+
+pub ruleset unpacking = (more_numbers, all_numbers, number_inside)
+
+-- what the symbols that bits hold have
+pub loaded_symbols : (count k : ℕ) (bits : List Bool) (items : List ℕ) → 1 ≤ k → length bits ≡ count * k → items ≡ packed_symbols bits k
+    → (length items ≡ count) × (limbs (pack items k) ≡ limbs bits) × All (λ y. y < 2 ^ k) items
+loaded_symbols count k bits items some long is = rw is (length-packed_symbols bits k count some long, ap limbs (pack-packed_symbols bits k count some long), symbols_fit bits k)
+
+-- and a matrix of them
+pub loaded_matrix : (count k w : ℕ) (symbols words : List ℕ) (v : Symbols) → 1 ≤ k → w ≡ k → length symbols ≡ count → limbs (pack symbols k) ≡ words → All (λ y. y < 2 ^ k) symbols
+    → v.width ≡ w → v.items ≡ low_symbols symbols w → (length v.items ≡ count) × (v.width ≡ k) × (limbs (pack v.items v.width) ≡ words) × All (λ y. y < 2 ^ v.width) v.items
+loaded_matrix count k w symbols words v some is_width long same fit wide low =
+    let is : v.items ≡ symbols = low ∙ ap (low_symbols symbols) is_width ∙ small_numbers_stay symbols k some fit in
+    let are : v.width ≡ k = wide ∙ is_width in
+    rw (is, are) (long, refl, same, fit)
 
 pub count_small : (count k a b : ℕ) (words : List ℕ) → IsWhole SYMBOL_LISTS count k words → a ≡ count → b ≡ k → a * b ≤ 18446744073709551552
 count_small count k a b words whole is_count is_width = rw (is_count, is_width) whole.small

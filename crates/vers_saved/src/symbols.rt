@@ -1,6 +1,7 @@
 //! Lists of symbols, saved by the limbs of their bits, one symbol after another.
-ghost use Rattle.std.specs.Prelude.{◌≡◌, ℕ, ◌+◌, ◌-◌, ◌*◌, ◌/◌, ◌%◌, ◌<◌, ◌≤◌, ◌^◌, All, None, length, map, slice_get, slice_index, slice_index_or, unwrap_or};
+ghost use Rattle.std.specs.Prelude.{◌≡◌, ℕ, ◌+◌, ◌-◌, ◌*◌, ◌/◌, ◌%◌, ◌<◌, ◌≤◌, ◌^◌, All, IfOk, None, length, map, slice_get, slice_index, slice_index_or, unwrap_or};
 ghost use Rattle.vers_bits.specs.Bits.{limbs, pack};
+ghost use Rattle.vers_wavelet.specs.Makers.{low_symbols, packed_symbols};
 ghost use Rattle.vers_saved.specs.declared.kind.TheConstants.{SYMBOL_LISTS};
 ghost use Rattle.vers_saved.specs.Kinds.{IsWhole};
 ghost use Rattle.vers_saved.specs.inside.Groups.{IsGroup};
@@ -9,7 +10,7 @@ use crate::form::{Shape, bits_of, taken};
 use crate::kind::{Kind, SYMBOL_LISTS, SYMBOLS};
 use crate::saved::{Loaded, Saved};
 use std::alloc::{AllocError, Allocator};
-use vers_bits::bit_vec::MAX_LEN;
+use vers_bits::bit_vec::{BitVec, MAX_LEN};
 use vers_wavelet::wavelet::{GetQuery, WaveletMatrix};
 
 /// How many symbols are read at once. Their bits fill as many words as a symbol has bits.
@@ -137,6 +138,54 @@ fn copy_limbs<A: Allocator + Copy>(list: &WaveletMatrix<A>, from: usize, out: &m
     }
 }
 
+// The numbers of so many bits each that a list of bits holds, one after another.
+#[tactic(auto, using(crate::proofs::SymbolLists::unpacking))]
+fn unpacked<A: Allocator + Copy>(bits: &BitVec<A>, width: usize) -> Result<Vec<u64, A>, AllocError>
+    requires some { 1 ≤ width }
+    requires few { width ≤ 64 }
+    ensures { IfOk result (λ v. v.items ≡ packed_symbols bits.now width) }
+{
+    let count = bits.len() / width;
+    let mut numbers = Vec::with_capacity(bits.allocator(), count)?;
+    for e in 0..count {
+        numbers.push(bits.unpack_element_unchecked(e, width))?;
+    }
+    Ok(numbers)
+}
+
+// The symbols that words hold.
+#[tactic(auto, using(crate::proofs::SymbolLists::symbols))]
+fn symbols_of<A: Allocator + Copy>(of: Shape, words: Vec<u64, A>) -> Result<Vec<u64, A>, AllocError>
+    requires { IsWhole SYMBOL_LISTS of.count of.width words.items }
+    ensures count { IfOk result (λ v. length v.items ≡ of.count) }
+    ensures limbs { IfOk result (λ v. limbs (pack v.items of.width) ≡ words.items) }
+    ensures fit { IfOk result (λ v. All (λ y. y < 2 ^ of.width) v.items) }
+{
+    let bits = bits_of(&SYMBOL_LISTS, of, words);
+    unpacked(&bits, of.width)
+}
+
+/// Up to this width symbols are counted by their prefixes, and wider ones sorted.
+const COUNTED_WIDTH: u16 = 8;
+
+// The matrix of symbols of a width, by the maker that is faster there.
+fn matrix_of<A: Allocator + Copy>(
+    alloc: A,
+    symbols: &[u64],
+    width: u16,
+) -> Result<WaveletMatrix<A>, AllocError>
+    requires some { 1 ≤ width }
+    requires few { width ≤ 64 }
+    ensures width { IfOk result (λ w. w.width ≡ width) }
+    ensures items { IfOk result (λ w. w.items ≡ low_symbols symbols.now width) }
+{
+    if width <= COUNTED_WIDTH {
+        WaveletMatrix::from_slice_pc(alloc, symbols, width)
+    } else {
+        WaveletMatrix::from_slice(alloc, symbols, width)
+    }
+}
+
 #[tactic(auto, using(crate::proofs::SymbolLists::symbols))]
 impl<A: Allocator + Copy> Saved for WaveletMatrix<A> {
     ghost kind = { SYMBOL_LISTS };
@@ -185,8 +234,9 @@ impl<A: Allocator + Copy> Loaded<A> for WaveletMatrix<A> {
     ghost use Rattle.vers_saved.specs.inside.Telling.{symbols_tell};
 
     fn make(of: Shape, held: &mut Vec<u64, A>) -> Result<Self, AllocError> {
-        let bits = bits_of(&SYMBOL_LISTS, of, taken(held));
-        WaveletMatrix::from_bit_vec(&bits, of.width as u16)
+        let alloc = *held.allocator();
+        let symbols = symbols_of(of, taken(held))?;
+        matrix_of(alloc, symbols.as_slice(), of.width as u16)
     }
 
     ghost tells = { symbols_tell };
