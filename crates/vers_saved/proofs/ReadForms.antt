@@ -1,9 +1,9 @@
 -- What a reader had at first, by what was read of it.
-use Rattle.vers_saved.proofs.Names.{◌≡◌, ℕ, ◌+◌, ◌*◌, ◌<◌, ◌≤◌, List, [], ◌∷◌, ◌++◌, length, get_or, take, drop, Option, Some, None, refl, sym, ap, subst, ◌∙◌, inl, inr, arith, Result, Ok, Err, Consumes, prepend_known, take-add, append-nil, length-append, get_or_append_left, limb_count, Kind, LoadError, TooShort, BadLength, bytes_of, words_of, saved, saved_size, first_failing, head_tests, body_tests, tests_of, fault_of, bits_said, item_bits, words_among, IsWhole, IsRefused, Consumes-trans}
-use Rattle.std.specs.Prelude.{IfSome, OnOk, IfErr, ◌⊎◌}
+use Rattle.vers_saved.proofs.Names.{◌≡◌, ℕ, ◌+◌, ◌*◌, ◌<◌, ◌≤◌, List, [], ◌∷◌, ◌++◌, length, get_or, take, drop, Option, Some, None, refl, sym, ap, subst, ◌∙◌, inl, inr, append_assoc, arith, Consumes, prepend_known, set, take-add, append-nil, length-append, get_or_append_left, limb_count, Kind, LoadError, TooShort, BadLength, bytes_of, words_of, saved, saved_size, first_failing, head_tests, body_tests, tests_of, fault_of, bits_said, item_bits, words_among, IsWhole, IsRefused, Consumes-trans}
+use Rattle.std.specs.Prelude.{IfSome, ◌⊎◌}
 use Rattle.std.specs.Io.KnownBytes.{IsAtEnd}
 use Rattle.vers_saved.specs.declared.fault.LoadError.TheVariants.{Read, Memory}
-use Rattle.vers_saved.proofs.WordBytes.{AreWords, length-bytes_of, words_of-bytes_of, words_first}
+use Rattle.vers_saved.proofs.WordBytes.{AreWords, length-bytes_of, words_of-bytes_of, words_first, fit_append}
 use Rattle.vers_saved.proofs.Forms.{loaded_words}
 use Rattle.vers_saved.proofs.Tests.{fault_is, few_bytes, bad_head, too_short, too_long, by_body}
 use Rattle.vers_saved.proofs.Sums.{bytes_of-append}
@@ -19,6 +19,12 @@ pub known_end : (old new : Option (List ℕ)) (text : List ℕ) (P : List ℕ �
 known_end None new text P h e p = tt
 known_end (Some xs) None text P h e p = absurd h
 known_end (Some xs) (Some ys) text P h e p = subst P (sym (h ∙ ap (λ l. text ++ l) e ∙ append-nil text)) p
+
+-- the words of a head, and the one behind them
+pub six_words : (ws rest : List ℕ) (a b c d e f : ℕ) → length ws ≡ 6 → a ≡ get_or ws 0 a → b ≡ get_or ws 1 b → c ≡ get_or ws 2 c → d ≡ get_or ws 3 d → e ≡ get_or ws 4 e
+    → f ≡ get_or ws 5 f → rest ≡ take 1 (set ws 0 f) → a ∷ b ∷ c ∷ d ∷ e ∷ rest ≡ ws
+six_words (u ∷ v ∷ w ∷ x ∷ y ∷ z ∷ []) rest a b c d e f six p q r s t o is = cc
+six_words _ rest a b c d e f six p q r s t o is = absurd (omega arith)
 
 -- what there was before a first part was read
 pub before : (old new : Option (List ℕ)) (text : List ℕ) (P : List ℕ → Type 0) → Consumes old new text → IfSome (prepend_known text new) P → IfSome old P
@@ -94,7 +100,7 @@ goes_on kind n old mid new ws more text fit long none said c exact d some =
     fault_is kind all ∙ too_long kind (length all) (words_of all) (omega (arith, length-append ws more)) (head_holds kind ws tail fit (omega arith) ∙ none) (omega (arith, length-append ws more))))
 
 -- bytes that are as many as the head says have the fault of what comes after it
-pub rest_tells : (kind : Kind) (n : ℕ) (ws more : List ℕ) → AreWords (ws ++ more) → 5 ≤ length ws → first_failing (head_tests kind ws) ≡ None
+rest_tells : (kind : Kind) (n : ℕ) (ws more : List ℕ) → AreWords (ws ++ more) → 5 ≤ length ws → first_failing (head_tests kind ws) ≡ None
     → n ≡ bits_said kind ws → length (ws ++ more) ≡ limb_count n + 6 → fault_of kind (bytes_of (ws ++ more)) ≡ first_failing (body_tests kind.order n (ws ++ more))
 rest_tells kind n ws more fit long none said exact =
     let words : words_of (bytes_of (ws ++ more)) ≡ ws ++ more = words_of-bytes_of (ws ++ more) fit in
@@ -129,36 +135,33 @@ not_ended kind left e (inr read) long = inl read
 pub then_none : (old mid new : Option (List ℕ)) (text : List ℕ) → Consumes old mid text → Consumes mid new [] → Consumes old new text
 then_none old mid new text c d = subst (Consumes old new) (append-nil text) (Consumes-trans old mid new text [] c d)
 
--- what all words tell, where those of the head have no fault
-pub all_tell : (kind : Kind) (n : ℕ) (ws more all : List ℕ) → all ≡ ws ++ more → AreWords all → length ws ≡ 6 → first_failing (head_tests kind ws) ≡ None
-    → n ≡ bits_said kind ws → length all ≡ limb_count n + 6 → fault_of kind (bytes_of all) ≡ first_failing (body_tests kind.order n all)
-all_tell kind n ws more all is fit long none said exact =
-    ap (λ l. fault_of kind (bytes_of l)) is
-    ∙ rest_tells kind n ws more (subst AreWords is fit) (omega arith) none said (sym (ap length is) ∙ exact)
-    ∙ ap (λ l. first_failing (body_tests kind.order n l)) (sym is)
+-- what a head and the words after it tell, of which one was read with the head
+pub parts_tell : (kind : Kind) (n : ℕ) (head first more after rest : List ℕ) → rest ≡ after → AreWords head → AreWords rest → length head ≡ 5 → length first ≡ 1
+    → after ≡ first ++ more → first_failing (head_tests kind (head ++ first)) ≡ None → n ≡ bits_said kind (head ++ first) → length after ≡ limb_count n + 1
+    → AreWords (head ++ after) × (head ++ after ≡ (head ++ first) ++ more) × (fault_of kind (bytes_of (head ++ after)) ≡ first_failing (body_tests kind.order n (head ++ rest)))
+parts_tell kind n head first more after rest same fit_head fit_rest five one is none said long =
+    let all : head ++ after ≡ (head ++ first) ++ more = ap (λ l. head ++ l) is ∙ sym (append_assoc head first more) in
+    let fit : AreWords (head ++ after) = fit_append head after fit_head (subst AreWords same fit_rest) in
+    let exact : length (head ++ after) ≡ limb_count n + 6 = omega (arith, length-append head after) in (
+      fit,
+      all,
+      ap (λ l. fault_of kind (bytes_of l)) all
+          ∙ rest_tells kind n (head ++ first) more (subst AreWords all fit) (omega (arith, length-append head first)) none said (sym (ap length all) ∙ exact)
+          ∙ ap (λ l. first_failing (body_tests kind.order n l)) (sym all ∙ ap (λ l. head ++ l) (sym same)),
+    )
 
 -- a reader whose words have a fault after the head
-pub rest_fault : (kind : Kind) (n : ℕ) (old new : Option (List ℕ)) (ws more all : List ℕ) (e : LoadError) → all ≡ ws ++ more → AreWords all → length ws ≡ 6
-    → first_failing (head_tests kind ws) ≡ None → n ≡ bits_said kind ws → length all ≡ limb_count n + 6 → Consumes old new (bytes_of more) → IsAtEnd new
-    → first_failing (body_tests kind.order n all) ≡ Some e → IsRefused kind (prepend_known (bytes_of ws) old) e
-rest_fault kind n old new ws more all e is fit long none said exact c end bad =
+pub rest_fault : (kind : Kind) (old new : Option (List ℕ)) (ws more : List ℕ) (e : LoadError) → Consumes old new (bytes_of more) → IsAtEnd new
+    → fault_of kind (bytes_of (ws ++ more)) ≡ Some e → IsRefused kind (prepend_known (bytes_of ws) old) e
+rest_fault kind old new ws more e c end bad =
     inr (inr (behind old (bytes_of ws) (λ bytes. fault_of kind bytes ≡ Some e) (known_end old new (bytes_of more) (λ l. fault_of kind (bytes_of ws ++ l) ≡ Some e) c end
-    (ap (fault_of kind) (sym (bytes_of-append ws more) ∙ ap bytes_of (sym is)) ∙ all_tell kind n ws more all is fit long none said exact ∙ bad))))
+    (ap (fault_of kind) (sym (bytes_of-append ws more)) ∙ bad))))
 
 -- a fault of what comes after a part that was read is one of all that there was
 pub refused_before : (kind : Kind) (old new : Option (List ℕ)) (text : List ℕ) (e : LoadError) → Consumes old new text → IsRefused kind (prepend_known text new) e → IsRefused kind old e
 refused_before kind old new text e c (inl read) = inl read
 refused_before kind old new text e c (inr (inl memory)) = inr (inl memory)
 refused_before kind old new text e c (inr (inr some)) = inr (inr (before old new text (λ bytes. fault_of kind bytes ≡ Some e) c some))
-
--- what follows of each case
-pub on_ok : {T E : Type 0} (r : Result T E) (P Q : Type 0) → (P → Q) → OnOk r P → OnOk r Q
-on_ok (Ok v) P Q f p = f p
-on_ok (Err e) P Q f p = tt
-
-pub if_err : {T E : Type 0} (r : Result T E) (P Q : E → Type 0) → ((e : E) → P e → Q e) → IfErr r P → IfErr r Q
-if_err (Ok v) P Q f p = tt
-if_err (Err e) P Q f p = f e p
 
 -- what was gathered, where it has no fault
 pub gathered_is : (kind : Kind) (count width n : ℕ) (all words : List ℕ) → AreWords all → fault_of kind (bytes_of all) ≡ None → count ≡ get_or all 4 0 → width ≡ get_or all 3 0

@@ -12,7 +12,7 @@ use crate::fault::LoadError;
 use crate::form::{Form, HEAD, Head, Shape, head_of, test_body};
 use crate::kind::Kind;
 use crate::numbers::are_words;
-use crate::words::{FRAME, word_of};
+use crate::words::{FRAME, TwoParts, word_of};
 use std::alloc::{AllocError, Allocator};
 use std::io;
 use vers_bits::bit_vec::MAX_LEN;
@@ -186,48 +186,54 @@ fn gather_head<R: Source, A: Allocator>(
     head_of(kind, words)
 }
 
-// The words after those of a head, up to the sum, of the form that a reader has.
+// The words of a head, taken off the words of which they are the first. One more word is left.
+fn cut_head<A: Allocator>(words: &mut Vec<u64, A>) -> [u64; HEAD]
+    requires { length words.old.items ≡ 6 }
+    ensures same { result ++ words.new.items ≡ words.old.items }
+    ensures five { length result ≡ 5 }
+    ensures one { length words.new.items ≡ 1 }
+{
+    let head = [words[0], words[1], words[2], words[3], words[4]];
+    words[0] = words[5];
+    words.truncate(1);
+    head
+}
+
+// The words after those of a head, up to the sum, of the form that a reader has. The head stands apart, and one
+// word after it was gathered.
 fn gather_body<R: Source, A: Allocator>(
     kind: &Kind,
     n: usize,
+    head: &[u64],
     reader: &mut R,
     block: &mut [u8],
     words: &mut Vec<u64, A>,
 ) -> Result<(), LoadError>
     requires block { length block.old ≡ 65536 }
-    requires begun { length words.old.items ≡ 6 }
-    requires fit { AreWords words.old.items }
-    requires head { first_failing (head_tests kind.now words.old.items) ≡ None }
-    requires said { n ≡ bits_said kind.now words.old.items }
+    requires five { length head.now ≡ 5 }
+    requires begun { length words.old.items ≡ 1 }
+    requires fit { AreWords (head.now ++ words.old.items) }
+    requires head { first_failing (head_tests kind.now (head.now ++ words.old.items)) ≡ None }
+    requires said { n ≡ bits_said kind.now (head.now ++ words.old.items) }
     requires small { n ≤ MAX_LEN }
     ensures gathered { OnOk result ((more : List ℕ)
         × Consumes (R.remaining reader.old) (R.remaining reader.new) (bytes_of more)
         × (words.new.items ≡ words.old.items ++ more) × IsAtEnd (R.remaining reader.new)) }
-    ensures len { OnOk result (length words.new.items ≡ limb_count n + 6) }
-    ensures fit { OnOk result (AreWords words.new.items) }
-    ensures none { OnOk result (fault_of kind.now (bytes_of words.new.items) ≡ None) }
+    ensures fit { OnOk result (AreWords (head.now ++ words.new.items)) }
+    ensures none { OnOk result (fault_of kind.now (bytes_of (head.now ++ words.new.items)) ≡ None) }
     ensures refused { IfErr result (IsRefused kind.now
-        (prepend_known (bytes_of words.old.items) (R.remaining reader.old))) }
+        (prepend_known (bytes_of (head.now ++ words.old.items)) (R.remaining reader.old))) }
     ensures cause { IfErr result (λ e. e ≡ LoadError.Read → FollowsReadFault R.read_gives reader.new) }
 {
-    if let Err(fault) = gather(reader, block, words, n.div_ceil(64) + FRAME) {
+    if let Err(fault) = gather(reader, block, words, n.div_ceil(64) + 1) {
         return Err(fault);
     }
     if let Err(fault) = test_end(reader, block) {
         return Err(fault);
     }
-    are_words(words.as_slice());
-    test_body(kind.order, n, words)
-}
-
-// Takes the head and the sum off the words of a form of `n` bits.
-fn cut_frame<A: Allocator>(n: usize, words: &mut Vec<u64, A>)
-    requires { length words.old.items ≡ limb_count n + 6 }
-    ensures { words.new.items ≡ words_among n words.old.items }
-{
-    let end = words.len() - 1;
-    words.as_mut_slice().copy_within(HEAD..end, 0);
-    words.truncate(end - HEAD);
+    let rest = words.as_slice();
+    are_words(rest);
+    test_body(kind.order, n, &TwoParts { front: head, rest })
 }
 
 // The shape of the list that the bytes up to the end of a reader are the saved form of, of a list of that
@@ -248,12 +254,13 @@ fn gather_form<R: Source, A: Allocator>(
     ensures refused { IfErr result (IsRefused kind.now (R.remaining reader.old)) }
     ensures cause { IfErr result (λ e. e ≡ LoadError.Read → FollowsReadFault R.read_gives reader.new) }
 {
-    let head = gather_head(kind, reader, block, words)?;
-    if let Err(fault) = gather_body(kind, head.bits, reader, block, words) {
+    let said = gather_head(kind, reader, block, words)?;
+    let head = cut_head(words);
+    if let Err(fault) = gather_body(kind, said.bits, &head, reader, block, words) {
         return Err(fault);
     }
-    cut_frame(head.bits, words);
-    Ok(head.shape)
+    words.truncate(said.bits.div_ceil(64));
+    Ok(said.shape)
 }
 
 // The shape and the words that the bytes up to the end of a reader are the saved form of, of a list

@@ -46,6 +46,27 @@ impl<A: Allocator> Words for Vec<u64, A> {
     }
 }
 
+/// Words in two parts, one after the other.
+#[derive(Clone, Copy)]
+pub(crate) struct TwoParts<'a> {
+    pub(crate) front: &'a [u64],
+    pub(crate) rest: &'a [u64],
+}
+
+impl<'a> Words for TwoParts<'a> {
+    ghost words = { λ p. p.front.now ++ p.rest.now };
+
+    #[inline]
+    fn word(&self, k: usize) -> u64 {
+        let count = self.front.len();
+        if k < count {
+            self.front[k]
+        } else {
+            self.rest[k - count]
+        }
+    }
+}
+
 // A sum with one more word mixed in.
 #[inline(always)]
 #[tactic(auto, unfolding(crate::specs::Format::mix))]

@@ -1,5 +1,6 @@
 use Rattle.vers_saved.proofs.Names.{◌≡◌, ◌++◌, ◌∙◌, sym, ap, subst, inr, arith, Some, Consumes, bytes_of, first_failing, head_tests, AreWords, IsRefused}
-use Rattle.vers_saved.proofs.ReadForms.{stopped_early, ended_early, head_fault, if_err}
+use Rattle.std.proofs.lemmas.Result.{IfErr-weaker}
+use Rattle.vers_saved.proofs.ReadForms.{stopped_early, ended_early, head_fault}
 use Rattle.vers_saved.proofs.gather.gather_head.Goals as goal
 
 pub returns-in-Err-clause-refused : goal.returns-in-Err-clause-refused
@@ -13,6 +14,6 @@ returns-clause-refused g c =
     let m = c.in_default.ensures in
     let is : c.gather.new.words.items ≡ m.gathered.0 = m.gathered.2 ∙ ap (λ l. l ++ m.gathered.0) c.requires.none in
     let read = subst (λ l. Consumes (g.R.Read.remaining c.args.reader.now) (g.R.Read.remaining c.gather.new.reader) (bytes_of l)) (sym is) m.gathered.1 in
-    if_err c.head_of.result (λ e. first_failing (head_tests c.args.kind.now c.gather.new.words.items) ≡ Some e) (IsRefused c.args.kind.now (g.R.Read.remaining c.args.reader.now))
+    IfErr-weaker c.head_of.result (λ e. first_failing (head_tests c.args.kind.now c.gather.new.words.items) ≡ Some e) (IsRefused c.args.kind.now (g.R.Read.remaining c.args.reader.now))
     (λ e bad. inr (inr (head_fault c.args.kind.now (g.R.Read.remaining c.args.reader.now) (g.R.Read.remaining c.gather.new.reader) c.gather.new.words.items e
     (subst AreWords c.as_slice.ensures.value c.are_words.ensures) m.len read bad))) c.head_of.ensures.fault
