@@ -11,32 +11,28 @@ copied words out from n long few each =
     each k (omega (arith, long)) ∙ sym (get_or-take n (drop from words) k 0 (omega (arith, long)) ∙ get_or-drop from words k 0) in
     grind (arith, places))
 
--- a walk along xs that has come to word `from + k` of xs and ys, but for `skip` words, gives that word, or where it gives none, it is one of ys
-pub both_word : (xs ys left : List ℕ) (from k skip place x : ℕ) (given : Option ℕ) → left ≡ drop (from + k - skip) xs → skip ≤ from + k → given ≡ slice_get left skip
-    → place ≡ from + k - length xs → x ≡ unwrap_or given (get_or ys place 0) → x ≡ get_or (xs ++ ys) (from + k) 0
-both_word xs ys left from k skip place x given is few is_given is_place is_x =
-    let long : length left ≡ length xs - (from + k - skip) = ap length is ∙ length-drop (from + k - skip) xs in
-    elim (cases_lt (from + k) (length xs)) [
+-- a walk along xs that has come to place p of xs and ys gives the word there, or where it gives none, it is one of ys
+pub both_word : (xs ys left : List ℕ) (p n x : ℕ) (given : Option ℕ) → left ≡ drop p xs → n ≡ length xs → given ≡ slice_get left 0 → x ≡ unwrap_or given (get_or ys (p - n) 0)
+    → x ≡ get_or (xs ++ ys) p 0
+both_word xs ys left p n x given is is_count is_given is_word =
+    let long : length left ≡ length xs - p = ap length is ∙ length-drop p xs in
+    elim (cases_lt p (length xs)) [
       | inl inside ↦
-          let there : from + k - skip + skip ≡ from + k = omega arith in
-          is_x ∙ ap (λ g. unwrap_or g (get_or ys place 0)) (is_given ∙ slice_get-get_or left skip 0 (omega (arith, long)))
-          ∙ ap (λ l. get_or l skip 0) is ∙ get_or-drop (from + k - skip) xs skip 0 ∙ ap (λ p. get_or xs p 0) there ∙ sym (get_or_append_left xs ys 0 (from + k) inside)
+          let there : p + 0 ≡ p = omega arith in
+          is_word ∙ ap (λ g. unwrap_or g (get_or ys (p - n) 0)) (is_given ∙ slice_get-get_or left 0 0 (omega (arith, long)))
+          ∙ ap (λ l. get_or l 0 0) is ∙ get_or-drop p xs 0 0 ∙ ap (λ q. get_or xs q 0) there ∙ sym (get_or_append_left xs ys 0 p inside)
       | inr past ↦
-          is_x ∙ ap (λ g. unwrap_or g (get_or ys place 0)) (is_given ∙ slice_get_past left skip (omega (arith, long)))
-          ∙ ap (λ p. get_or ys p 0) is_place ∙ sym (get_or-append_right xs ys (length xs) (from + k) 0 refl past)
+          is_word ∙ ap (λ g. unwrap_or g (get_or ys (p - n) 0)) (is_given ∙ slice_get_past left 0 (omega (arith, long)))
+          ∙ sym (get_or-append_right xs ys n p 0 (sym is_count) (omega arith))
     ]
 
--- and then ys has it
-pub both_past : (xs ys left : List ℕ) (from k skip place : ℕ) (given : Option ℕ) → left ≡ drop (from + k - skip) xs → skip ≤ from + k → given ≡ slice_get left skip
-    → place ≡ from + k - length xs → from + k < length (xs ++ ys) → given ≡ None → place < length ys
-both_past xs ys left from k skip place given is few is_given is_place inside none =
-    let long : length left ≡ length xs - (from + k - skip) = ap length is ∙ length-drop (from + k - skip) xs in
-    elim (cases_lt skip (length left)) [
-      | inl given_one ↦ let some : given ≡ Some (get_or left skip 0) = is_given ∙ slice_get-get_or left skip 0 given_one in cc
-      | inr past ↦ omega (arith, long, length-append xs ys)
-    ]
+-- where it gives none, it has come past xs
+pub both_past : (xs left : List ℕ) (p : ℕ) (given : Option ℕ) → left ≡ drop p xs → given ≡ slice_get left 0 → given ≡ None → length xs ≤ p
+both_past xs left p given is is_given none = elim (cases_lt p (length xs)) [
+  | inl inside ↦
+      let some : given ≡ Some (get_or left 0 0) = is_given ∙ slice_get-get_or left 0 0 (omega (arith, ap length is, length-drop p xs)) in cc
+  | inr past ↦ past
+]
 
-pub walked_on : (words left : List ℕ) (from k skip : ℕ) → left ≡ drop (from + k - skip) words → skip ≤ from + k → drop (skip + 1) left ≡ drop (from + (k + 1) - 0) words
-walked_on words left from k skip is few =
-    let there : from + k - skip + (skip + 1) ≡ from + (k + 1) - 0 = omega arith in
-    ap (drop (skip + 1)) is ∙ drop-drop (skip + 1) (from + k - skip) words ∙ ap (λ p. drop p words) there
+pub walked_on : (words left : List ℕ) (from k : ℕ) → left ≡ drop (from + k) words → drop (0 + 1) left ≡ drop (from + (k + 1)) words
+walked_on words left from k is = let there : from + k + 1 ≡ from + (k + 1) = omega arith in ap (drop 1) is ∙ drop-drop 1 (from + k) words ∙ ap (λ p. drop p words) there

@@ -1,5 +1,5 @@
 //! Lists of numbers, saved as they are, each as a word.
-ghost use Rattle.std.specs.Prelude.{◌≡◌, ◌<◌, ◌≤◌, ◌+◌, ◌++◌, ◌^◌, ⊤, ℕ, None, length, slice_index, unwrap_or};
+ghost use Rattle.std.specs.Prelude.{◌≡◌, ◌<◌, ◌≤◌, ◌+◌, ◌-◌, ◌++◌, ◌^◌, ⊤, ℕ, None, drop, length, slice_index, unwrap_or};
 ghost use Rattle.vers_saved.specs.declared.kind.TheConstants.{SORTED_LISTS, TABLE_VALUES, BLOCK_VALUES};
 
 use crate::form::{Shape, taken};
@@ -40,14 +40,26 @@ fn read_last<A: Allocator + Copy>(list: &EliasFanoVec<A>)
     let _last = list.get_unchecked(count - 1);
 }
 
-// The number that a walk gave, or where it gave none, that at a place of others.
-fn given_or(given: Option<u64>, others: &[u64], place: usize) -> u64
-    requires { given ≡ None → place < length others.now }
-    ensures { result ≡ unwrap_or given (slice_index others.now place) }
+// Drops the first members that a walk has left, so many of them.
+#[inline(always)]
+fn drop_first<A: Allocator + Copy>(members: &mut EliasFanoRefIter<'_, A>, n: usize)
+    ensures { members.new.left ≡ drop n members.old.left }
+{
+    if n > 0 {
+        members.nth(n - 1);
+    }
+}
+
+// The number that a walk gave, or where it gave none, that at a place of the others, which come after `count`.
+#[inline(always)]
+fn given_or(given: Option<u64>, others: &[u64], place: usize, count: usize) -> u64
+    requires some { given ≡ None → count ≤ place }
+    requires within { given ≡ None → place < count + length others.now }
+    ensures { result ≡ unwrap_or given (slice_index others.now (place - count)) }
 {
     match given {
         Some(number) => number,
-        None => others[place],
+        None => others[place - count],
     }
 }
 
@@ -64,11 +76,9 @@ pub(crate) fn copy_members<A: Allocator + Copy>(
         → slice_index out.new j ≡ slice_index (members.entry.left ++ others.now) (from + j) }
 {
     let count = members.len();
-    let mut skip = from;
+    drop_first(&mut members, from);
     for k in 0..out.len() {
-        let place = (from + k).saturating_sub(count);
-        out[k] = given_or(members.nth(skip), others, place);
-        skip = 0;
+        out[k] = given_or(members.next(), others, from + k, count);
     }
 }
 

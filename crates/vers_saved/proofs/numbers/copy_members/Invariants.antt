@@ -1,11 +1,10 @@
-use Rattle.vers_saved.proofs.Names.{◌≡◌, ◌+◌, ◌-◌, ◌<◌, ◌≤◌, ◌++◌, ℕ, length, drop, slice_index}
+use Rattle.vers_saved.proofs.Names.{◌≡◌, ◌+◌, ◌<◌, ◌++◌, ℕ, length, drop, slice_index}
 use Rattle.vers_saved.proofs.numbers.copy_members.Given as goal
 
--- the words so far were copied, and the walk stands before the next one, but for those that it skips
+-- the words so far were copied, and the walk stands before the next one
 abbrev pub invariant-loop-k : goal.invariant-loop-k
 invariant-loop-k g l = record {
   len : length l.out ≡ length l.initial.out;
-  copied : (j : ℕ) → j < l.k → slice_index l.out j ≡ slice_index (l.initial.members.left ++ l.others) (l.from + j);
-  left : l.members.left ≡ drop (l.from + l.k - l.skip) l.initial.members.left;
-  skip : l.skip ≤ l.from + l.k;
+  copied : (j : ℕ) → j < l.k → slice_index l.out j ≡ slice_index (l.fn.members.left ++ l.others) (l.from + j);
+  left : l.members.left ≡ drop (l.from + l.k) l.fn.members.left;
 }
