@@ -1,5 +1,6 @@
 -- Saved forms of lists of bits.
-use Rattle.vers_saved.proofs.Names.{◌≡◌, ℕ, ◌-◌, ◌*◌, ◌≤◌, Bool, true, ◌&&◌, List, length, take, refl, ap, subst, ◌∙◌, arith, nat_le, le-leb, nat_tests, limbs, limb_count, pack, length-limbs, Kind, BIT_LISTS, takes_width, takes_count, item_bits, in_order, EndsPadded, IsWhole}
+use Rattle.vers_saved.proofs.Names.{◌≡◌, ℕ, ◌-◌, ◌*◌, ◌≤◌, Bool, true, List, length, take, refl, ap, subst, ◌∙◌, arith, limbs, limb_count, pack, length-limbs, Kind, BIT_LISTS, item_bits, in_order, EndsPadded, IsWhole, may_be_saved}
+use Rattle.vers_saved.proofs.Shapes.{bounds_are, within_bounds}
 use Rattle.vers_saved.proofs.LimbLists.{length-pack, length-first, limbs-first, limbs_fit, limbs_padded}
 
 -- the bits that words hold are no fewer than are kept, and no more than a list may have
@@ -14,20 +15,11 @@ pub limbs_of_whole : (kind : Kind) (count width len : ℕ) (words : List ℕ) (v
 limbs_of_whole kind count width len words v whole all is =
     ap limbs (is ∙ ap (λ m. take m (pack words 64)) all) ∙ limbs-first words (count * item_bits kind width) whole.counted whole.fit whole.padded
 
--- a number from one to another
-both : (b c : Bool) → b ≡ true → c ≡ true → (b && c) ≡ true
-both b c h i = rw (h, i) refl
-
-pub within : (a b n : ℕ) → a ≤ n → n ≤ b → (nat_le a n && nat_le n b) ≡ true
-within a b n h i = both (nat_le a n) (nat_le n b) (le-leb a n h) (le-leb n b i)
-
 -- the limbs of bits are whole as those of a kind with no order
-pub whole_bits : (kind : Kind) (count width : ℕ) (bits : List Bool) → takes_width kind width ≡ true → takes_count kind count ≡ true → length bits ≡ count * item_bits kind width
-    → length bits ≤ 18446744073709551552 → in_order kind.order (limbs bits) ≡ true → IsWhole kind count width (limbs bits)
-whole_bits kind count width bits wide many all small ordered = record {
-  wide = wide;
-  many = many;
-  small = omega arith;
+pub whole_bits : (kind : Kind) (count width : ℕ) (bits : List Bool) → may_be_saved kind count width ≡ true → length bits ≡ count * item_bits kind width
+    → in_order kind.order (limbs bits) ≡ true → IsWhole kind count width (limbs bits)
+whole_bits kind count width bits may all ordered = record {
+  may = may;
   counted = length-limbs bits ∙ ap limb_count all;
   fit = limbs_fit bits;
   padded = subst (λ n. EndsPadded n (limbs bits)) all (limbs_padded bits);
@@ -36,10 +28,9 @@ whole_bits kind count width bits wide many all small ordered = record {
 
 pub whole_limbs : (bits : List Bool) → length bits ≤ 18446744073709551552 → IsWhole BIT_LISTS (length bits) 1 (limbs bits)
 whole_limbs bits small =
-    let one : length bits ≡ length bits * 1 = omega arith in
-    whole_bits BIT_LISTS (length bits) 1 bits refl (within 0 18446744073709551552 (length bits) (omega arith) small) one small refl
+    whole_bits BIT_LISTS (length bits) 1 bits (within_bounds BIT_LISTS (length bits) 1 (omega arith) (omega arith) (omega arith) small (omega arith)) (omega arith) refl
 
 pub of_one_width : (count width : ℕ) (words : List ℕ) → IsWhole BIT_LISTS count width words → 1 ≡ width
-of_one_width count width words whole = grind (arith, nat_tests, whole.wide)
+of_one_width count width words whole = let b = bounds_are BIT_LISTS count width words whole in omega (arith, b.0, b.1)
 
 pub ruleset bits = (whole_limbs, of_one_width)

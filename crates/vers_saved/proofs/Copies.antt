@@ -1,5 +1,5 @@
 -- Words that are copied one after another.
-use Rattle.vers_saved.proofs.Names.{◌≡◌, ℕ, ◌+◌, ◌-◌, ◌<◌, ◌≤◌, List, ◌++◌, length, get_or, take, drop, Option, Some, None, refl, sym, ap, ◌∙◌, inl, inr, arith, slice_get, unwrap_or, cases_lt, same_lists, length-take, length-drop, length-append, get_or-take, get_or-drop, get_or_append_left, get_or-append_right, drop-drop, slice_get-get_or, slice_get_past}
+use Rattle.vers_saved.proofs.Names.{◌≡◌, ℕ, ◌+◌, ◌-◌, ◌<◌, ◌≤◌, List, ◌++◌, length, get_or, take, drop, Option, Some, None, sym, ap, ◌∙◌, inl, inr, arith, slice_get, unwrap_or, cases_lt, same_lists, length-take, length-drop, get_or-take, get_or-drop, get_or_append_left, get_or-append_right, drop-drop, slice_get-get_or, slice_get_past}
 use Rattle.std.proofs.lemmas.List.{places}
 
 -- n words, each of which is that at its place

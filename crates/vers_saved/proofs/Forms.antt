@@ -1,6 +1,6 @@
 -- What bytes with no fault hold.
-use Rattle.vers_saved.proofs.Names.{◌≡◌, ℕ, ◌+◌, ◌-◌, ◌*◌, ◌%◌, ◌^◌, ◌<◌, ◌≤◌, Bool, true, false, List, [], ◌∷◌, ◌++◌, length, get_or, take, drop, refl, sym, ap, ◌∙◌, inl, inr, arith, None, cases_eq, nat_tests, take-append-drop, take-take, drop-take, drop_more, limb_count, MAGIC, VERSION, LoadError, bytes_of, words_of, check_sum, head, with_sum, saved, saved_size, Kind, first_failing, takes_width, takes_count, item_bits, is_padded, is_summed, in_order, words_among, bits_said, tests_of, fault_of, EndsPadded, IsWhole, AreWords}
-use Rattle.std.proofs.lemmas.Bool.{eqb-true, leb-true}
+use Rattle.vers_saved.proofs.Names.{◌≡◌, ℕ, ◌+◌, ◌-◌, ◌*◌, ◌%◌, ◌^◌, ◌<◌, ◌≤◌, Bool, true, false, List, [], ◌∷◌, ◌++◌, length, get_or, take, drop, refl, sym, ap, ◌∙◌, inl, inr, arith, None, cases_eq, le-leb, nat_tests, take-append-drop, take-take, drop-take, drop_more, limb_count, MAGIC, VERSION, LoadError, bytes_of, words_of, check_sum, head, with_sum, saved, saved_size, Kind, first_failing, takes_width, takes_count, item_bits, is_padded, is_summed, in_order, words_among, bits_said, tests_of, fault_of, EndsPadded, IsWhole, AreWords}
+use Rattle.std.proofs.lemmas.Bool.{eqb-true, leb-true, and_from}
 use Rattle.std.proofs.lemmas.List.{drop_all}
 use Rattle.vers_saved.proofs.Orders.{length-words_among, get_or-words_among}
 use Rattle.vers_saved.proofs.WordBytes.{length-words_of, bytes_of-words_of, words_of-fit, fit_take, fit_drop}
@@ -93,9 +93,7 @@ loaded_words kind count width n all words fit none is_count is_width is_n are_wo
     rw (are_words, many, is_count, is_width) (
       ap bytes_of (framed kind (8 * length all) (bits_said kind all) all form long),
       record {
-        wide = form.width;
-        many = form.count;
-        small = form.small;
+        may = and_from _ _ form.width (and_from _ _ form.count (le-leb _ _ form.small));
         counted = length-words_among (bits_said kind all) all long;
         fit = fit_take (limb_count (bits_said kind all)) (drop 5 all) (fit_drop 5 all fit);
         padded = ends_padded (bits_said kind all) all form.padded;

@@ -1,4 +1,5 @@
 pub mod Names
+pub mod Shapes
 pub mod WordBytes
 pub mod Sums
 pub mod Orders

@@ -22,7 +22,7 @@ unfoldable pub use Rattle.vers_saved.specs.Faults.{fault_of, is_padded, is_summe
 pub use Rattle.vers_saved.specs.Faults.{bits_said, body_tests, first_failing, head_tests, in_order, item_bits, stands, takes_count, takes_width, tests_of, words_among}
 unfoldable pub use Rattle.vers_saved.specs.Format.{bytes_word, check_sum, mix, saved, with_sum, word_bytes, words_of}
 pub use Rattle.vers_saved.specs.Format.{bytes_of, head, posting_words, saved_size, sparse_words}
-pub use Rattle.vers_saved.specs.Kinds.{AreWords, EndsPadded, IsWhole, tree_kind}
+pub use Rattle.vers_saved.specs.Kinds.{AreWords, EndsPadded, IsWhole, may_be_saved, tree_kind}
 pub use Rattle.vers_saved.specs.Streams.{IsRefused}
 pub use Rattle.vers_saved.specs.declared.TheConstants.{FACTOR, MAGIC, START, VERSION}
 pub use Rattle.vers_saved.specs.declared.fault.LoadError.{LoadError}

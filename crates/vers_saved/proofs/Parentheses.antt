@@ -1,6 +1,7 @@
 -- Saved forms of parentheses.
-use Rattle.vers_saved.proofs.Names.{◌≡◌, ℕ, ◌+◌, ◌-◌, ◌*◌, ◌<◌, ◌≤◌, min, max, Bool, List, length, get_or, take, drop, sym, ap, refl, ◌∙◌, arith, nat_tests, number, limbs, length-limbs, IsWhole, tree_kind}
-use Rattle.vers_saved.proofs.BitLists.{within, whole_bits}
+use Rattle.vers_saved.proofs.Names.{◌≡◌, ℕ, ◌+◌, ◌-◌, ◌*◌, ◌<◌, ◌≤◌, min, Bool, List, length, get_or, take, drop, sym, ap, refl, ◌∙◌, arith, number, limbs, length-limbs, IsWhole, tree_kind}
+use Rattle.vers_saved.proofs.Shapes.{bounds_are, within_bounds}
+use Rattle.vers_saved.proofs.BitLists.{whole_bits}
 use Rattle.vers_saved.proofs.Sources.{limb_part}
 
 pub last_limb : (bits : List Bool) (k end : ℕ) → k < length (limbs bits) → end ≡ min (length bits) (64 * k + 64) → number (take (end - 64 * k) (drop (64 * k) bits)) ≡ get_or (limbs bits) k 0
@@ -13,19 +14,11 @@ none_yet bits p = let none : p - p ≡ 0 = omega arith in ap (λ m. number (take
 
 pub whole_tree : (size : ℕ) (bits : List Bool) → 1 ≤ size → size ≤ 4294967296 → length bits ≤ 9223372036854775807 → IsWhole (tree_kind size) (length bits) size (limbs bits)
 whole_tree size bits some few small =
-    let one : length bits ≡ length bits * 1 = omega arith in
-    whole_bits (tree_kind size) (length bits) size bits (within (max size 1) (min size 4294967296) size (omega arith) (omega arith)) (within 0 9223372036854775807 (length bits) (omega arith) small) one (omega arith) refl
+    whole_bits (tree_kind size) (length bits) size bits (within_bounds (tree_kind size) (length bits) size (omega arith) (omega arith) (omega arith) small (omega arith)) (omega arith) refl
 
 pub tree_size : (size count width : ℕ) (words : List ℕ) → IsWhole (tree_kind size) count width words → (1 ≤ size) × (size ≤ 4294967296) × (size ≡ width)
 tree_size size count width words whole =
-    let low : max size 1 ≤ width = grind (arith, nat_tests, whole.wide) in
-    let high : width ≤ min size 4294967296 = grind (arith, nat_tests, whole.wide) in
-    (omega arith, omega arith, omega arith)
+    let b = bounds_are (tree_kind size) count width words whole in
+    (omega (arith, b.0, b.1), omega (arith, b.0, b.1), omega (arith, b.0, b.1))
 
-pub no_tree : (size count : ℕ) (words : List ℕ) → size ≡ 0 → IsWhole (tree_kind size) count size words → ⊥
-no_tree size count words none whole = omega (arith, (tree_size size count size words whole).0)
-
-pub too_large : (size count : ℕ) (words : List ℕ) → 4294967296 < size → IsWhole (tree_kind size) count size words → ⊥
-too_large size count words many whole = omega (arith, (tree_size size count size words whole).1)
-
-pub ruleset trees = (whole_tree, tree_size, no_tree, too_large)
+pub ruleset trees = (whole_tree, tree_size)

@@ -1,9 +1,9 @@
 -- Saved forms of documents with costs.
-use Rattle.vers_saved.proofs.Names.{◌≡◌, ℕ, ◌-◌, ◌*◌, ◌/◌, ◌<◌, ◌≤◌, List, ◌++◌, length, get_or, take, drop, refl, sym, ap, subst, ◌∙◌, inl, inr, arith, All, IsStrictlyIncreasing, cases_lt, nat_tests, get_or_append_left, get_or-append_right, get_or_past, take_at, take-append-drop, length-append, length-take, each_next-rising, POSTING_LISTS, posting_words, IsWhole}
+use Rattle.vers_saved.proofs.Names.{◌≡◌, ℕ, ◌-◌, ◌*◌, ◌/◌, ◌<◌, ◌≤◌, List, ◌++◌, length, get_or, take, drop, sym, ap, subst, ◌∙◌, inl, inr, arith, All, IsStrictlyIncreasing, cases_lt, get_or_append_left, get_or-append_right, get_or_past, take_at, take-append-drop, length-append, length-take, each_next-rising, POSTING_LISTS, posting_words, IsWhole}
 use Rattle.std.proofs.lemmas.List.Elements.{All-get_or}
 use Rattle.postings.specs.Posted.{Posted, ArePaired}
 use Rattle.vers_saved.proofs.WordBytes.{AreWords, fit_append}
-use Rattle.vers_saved.proofs.BitLists.{within}
+use Rattle.vers_saved.proofs.Shapes.{bounds_are, within_bounds}
 
 -- word k is a document, or the cost of one
 pub document_word : (posted : Posted) (k : ℕ) → k < length posted.documents → get_or posted.documents k 0 ≡ get_or (posting_words posted) k 0
@@ -31,9 +31,7 @@ pub whole_postings : (posted : Posted) → length posted.documents ≤ 549755813
 whole_postings posted few paired fit =
     let long : length (posting_words posted) ≡ 2 * length posted.documents = length-posting posted paired in
     record {
-      wide = refl;
-      many = within 0 549755813760 (length posted.documents) (omega arith) few;
-      small = omega arith;
+      may = within_bounds POSTING_LISTS (length posted.documents) 128 (omega arith) (omega arith) (omega arith) few (omega arith);
       counted = omega (arith, long);
       fit = fit_append posted.documents posted.costs (documents_fit posted.documents paired.numbers) fit;
       padded = inl (omega arith);
@@ -43,12 +41,7 @@ whole_postings posted few paired fit =
 
 pub postings_shape : (c w : ℕ) (words : List ℕ) → IsWhole POSTING_LISTS c w words → (length words ≡ 2 * c) × (c ≤ 549755813760) × (128 ≡ w)
 postings_shape c w words whole =
-    let wide : 128 ≡ w = grind (arith, nat_tests, whole.wide) in
-    let few : c ≤ 549755813760 = grind (arith, nat_tests, whole.many) in
-    (omega (arith, whole.counted), few, wide)
-
-pub too_many_documents : (c w : ℕ) (words : List ℕ) → 549755813760 < c → IsWhole POSTING_LISTS c w words → ⊥
-too_many_documents c w words many whole = omega (arith, (postings_shape c w words whole).1)
+    let b = bounds_are POSTING_LISTS c w words whole in (omega (arith, whole.counted), b.3, omega (arith, b.0, b.1))
 
 -- what was saved of documents is loaded as their two lists
 pub postings_again : (c w : ℕ) (words documents costs : List ℕ) → IsWhole POSTING_LISTS c w words → documents ≡ take c words → costs ≡ drop c words
@@ -58,4 +51,4 @@ postings_again c w words documents costs whole are_documents are_costs = (
   ap (λ l. l ++ costs) are_documents ∙ ap (λ l. take c words ++ l) are_costs ∙ take-append-drop c words,
 )
 
-pub ruleset postings = (document_word, cost_word, whole_postings, postings_shape, too_many_documents, postings_again)
+pub ruleset postings = (document_word, cost_word, whole_postings, postings_shape, postings_again)

@@ -1,8 +1,9 @@
 -- The laws that proofs of other crates may cite. A crate above imports this file and no other of this folder.
-use Rattle.vers_saved.proofs.Names.{◌≡◌, ℕ, List, length, refl, arith, Kind, BIT_LISTS, SORTED_LISTS, SYMBOL_LISTS, SPARSE_LISTS, TABLE_VALUES, BLOCK_VALUES, POSTING_LISTS, limbs, pack, saved, sparse_words, posting_words, IsWhole, tree_kind}
+use Rattle.vers_saved.proofs.Names.{◌≡◌, ℕ, ◌*◌, ◌≤◌, List, length, refl, arith, Kind, BIT_LISTS, SORTED_LISTS, SYMBOL_LISTS, SPARSE_LISTS, TABLE_VALUES, BLOCK_VALUES, POSTING_LISTS, limbs, pack, item_bits, saved, sparse_words, posting_words, IsWhole, tree_kind}
 use Rattle.vers_saved.specs.Laws as Laws
 use Rattle.vers_saved.specs.inside.Telling.{bits_tell, numbers_tell, sparse_tell, same_symbols, postings_tell}
 use Rattle.vers_saved.proofs.RoundTrips.{AreBounds, no_fault_back, one_form}
+use Rattle.vers_saved.proofs.Shapes as Shapes
 use Rattle.vers_saved.proofs.BitLists.{whole_limbs}
 use Rattle.vers_saved.proofs.WordLists.{whole_sorted, whole_table, whole_blocks}
 use Rattle.vers_saved.proofs.SymbolLists.{whole_symbols}
@@ -21,6 +22,11 @@ goes_round kind MayBeSaved count width words bounds whole tell = λ x may. (
       let one = one_form kind (saved kind.number (count x) (width x) (words x)) (count x) (width x) (count y) (width y) (words x) (words y) bounds (whole x may) (whole y may') refl same in
       tell x y may may' one.0 one.1 one.2,
 )
+
+-- what the shape of a whole list has to meet
+pub bounds_are : (kind : Kind) (count width : ℕ) (words : List ℕ) → IsWhole kind count width words
+    → (kind.least_width ≤ width) × (width ≤ kind.greatest_width) × (kind.least_count ≤ count) × (count ≤ kind.greatest_count) × (count * item_bits kind width ≤ 18446744073709551552)
+bounds_are = Shapes.bounds_are
 
 pub bits_go_round : Laws.BitsGoRound
 bits_go_round =

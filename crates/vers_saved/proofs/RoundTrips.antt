@@ -1,5 +1,6 @@
 -- What was saved is loaded.
-use Rattle.vers_saved.proofs.Names.{◌≡◌, ℕ, ◌*◌, ◌+◌, ◌^◌, ◌<◌, ◌≤◌, List, length, sym, ap, ◌∙◌, arith, None, nat_tests, limb_count, Kind, saved, item_bits, fault_of, IsWhole}
+use Rattle.vers_saved.proofs.Names.{◌≡◌, ℕ, ◌*◌, ◌+◌, ◌^◌, ◌<◌, ◌≤◌, List, length, sym, ap, ◌∙◌, arith, None, limb_count, Kind, saved, item_bits, fault_of, IsWhole}
+use Rattle.vers_saved.proofs.Shapes.{bounds_are}
 use Rattle.vers_saved.proofs.WordBytes.{length-bytes_of}
 use Rattle.vers_saved.proofs.SavedForms.{all_words, length-all_words, saved_has_no_fault, same_words}
 
@@ -8,10 +9,10 @@ abbrev pub AreBounds : Kind → Type 0
 AreBounds kind = (kind.number < 2 ^ 64) × (kind.greatest_width < 2 ^ 64) × (kind.greatest_count < 2 ^ 64)
 
 pub width_lt : (kind : Kind) (count width : ℕ) (words : List ℕ) → AreBounds kind → IsWhole kind count width words → width < 2 ^ 64
-width_lt kind count width words bounds whole = grind (arith, nat_tests, bounds.1, whole.wide)
+width_lt kind count width words bounds whole = omega (arith, bounds.1, (bounds_are kind count width words whole).1)
 
 pub count_lt : (kind : Kind) (count width : ℕ) (words : List ℕ) → AreBounds kind → IsWhole kind count width words → count < 2 ^ 64
-count_lt kind count width words bounds whole = grind (arith, nat_tests, bounds.2, whole.many)
+count_lt kind count width words bounds whole = omega (arith, bounds.2, (bounds_are kind count width words whole).3)
 
 -- a form has no fault
 pub no_fault_back : (kind : Kind) (bytes : List ℕ) (count width : ℕ) (words : List ℕ) → AreBounds kind → IsWhole kind count width words
@@ -39,7 +40,7 @@ count_is kind told count width c w words whole is_kind is_count is_width = rw (i
 
 pub said_small : (kind told : Kind) (count width c w : ℕ) (words : List ℕ) → IsWhole kind count width words → told ≡ kind → c ≡ count → w ≡ width
     → c * item_bits told w ≤ 18446744073709551552
-said_small kind told count width c w words whole is_kind is_count is_width = rw (is_kind, is_count, is_width) whole.small
+said_small kind told count width c w words whole is_kind is_count is_width = rw (is_kind, is_count, is_width) (bounds_are kind count width words whole).4
 
 pub ruleset sizes = (length-saved)
 

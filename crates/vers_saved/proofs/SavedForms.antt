@@ -5,6 +5,7 @@ use Rattle.std.proofs.lemmas.List.{same_from_push}
 use Rattle.vers_saved.proofs.WordBytes.{AreWords, length-bytes_of, words_of-bytes_of, fit_cons, fit_append, fit_none}
 use Rattle.vers_saved.proofs.Sums.{check_sum-lt}
 use Rattle.vers_saved.proofs.Forms.{AllPassed}
+use Rattle.vers_saved.proofs.Shapes.{parts_of}
 use Rattle.vers_saved.proofs.Tests.{later_tests}
 
 -- where each test is passed there is no fault
@@ -74,7 +75,8 @@ unfolding with_sum
 all_pass kind count width words whole summed padded ordered =
     let rest : AllPassed (later_tests kind (saved_size (count * item_bits kind width)) (all_words kind.number count width words)) =
     (le-leb _ _ (omega arith), (le-leb _ _ (omega arith), (summed, (padded, (ordered, tt))))) in
-    (le-leb _ _ (omega arith), (refl, (refl, (eq-eqb kind.number kind.number refl, (whole.wide, (whole.many, (le-leb _ _ whole.small, rest)))))))
+    let p = parts_of kind count width whole.may in
+    (le-leb _ _ (omega arith), (refl, (refl, (eq-eqb kind.number kind.number refl, (p.0, (p.1, (le-leb _ _ p.2, rest)))))))
 
 pub saved_has_no_fault : (kind : Kind) (count width : ℕ) (words : List ℕ) → kind.number < 2 ^ 64 → count < 2 ^ 64 → width < 2 ^ 64 → IsWhole kind count width words
     → fault_of kind (saved kind.number count width words) ≡ None

@@ -1,11 +1,11 @@
 -- Saved forms of lists of bits with few ones.
-use Rattle.vers_saved.proofs.Names.{◌≡◌, ℕ, ◌+◌, ◌-◌, ◌^◌, ◌<◌, ◌≤◌, Bool, true, List, [], ◌∷◌, ◌++◌, length, get_or, take, refl, sym, ap, subst, ◌∙◌, inl, inr, arith, All, IsStrictlyIncreasing, cases_lt, nat_tests, get_or_push, get_or_append_left, get_or_past, get_or-take, length-append, length-take, take_more, take_all, count, each_next-rising, SPARSE_LISTS, sparse_words, IsWhole}
+use Rattle.vers_saved.proofs.Names.{◌≡◌, ℕ, ◌+◌, ◌-◌, ◌^◌, ◌<◌, ◌≤◌, Bool, true, List, [], ◌∷◌, ◌++◌, length, get_or, take, refl, sym, ap, subst, ◌∙◌, inl, inr, arith, All, IsStrictlyIncreasing, cases_lt, get_or_push, get_or_append_left, get_or_past, get_or-take, length-append, length-take, take_more, take_all, count, each_next-rising, SPARSE_LISTS, sparse_words, IsWhole}
 use Rattle.std.proofs.lemmas.List.{get_or_default}
 use Rattle.std.proofs.lemmas.List.Kept.{AllPairs-from_increasing}
 use Rattle.vers_bits.specs.Bits.{places, select}
 use Rattle.vers_bits.proofs.PublicLaws.{length-places, count_at_select, select_up, select_past, any_default}
 use Rattle.vers_saved.proofs.WordBytes.{AreWords}
-use Rattle.vers_saved.proofs.BitLists.{within}
+use Rattle.vers_saved.proofs.Shapes.{bounds_are, within_bounds, as_many}
 use Rattle.vers_saved.proofs.WordLists.{whole_numbers}
 
 pub length-sparse : (bits : List Bool) → length (sparse_words bits) ≡ count true bits (length bits) + 1
@@ -43,19 +43,15 @@ sparse_fit bits small k = elim (cases_lt k (length (sparse_words bits))) [
 
 pub whole_sparse : (bits : List Bool) → length bits < 2 ^ 64 → count true bits (length bits) < 288230376151711743 → IsWhole SPARSE_LISTS (length (sparse_words bits)) 64 (sparse_words bits)
 whole_sparse bits small few =
+    let long = length-sparse bits in
     whole_numbers SPARSE_LISTS (sparse_words bits) refl
-    (within 1 288230376151711743 (length (sparse_words bits)) (omega (arith, length-sparse bits)) (omega (arith, length-sparse bits))) refl
-    (omega (arith, length-sparse bits)) (sparse_fit bits small) ((each_next-rising (sparse_words bits)).1 (sparse_rises bits))
+    (within_bounds SPARSE_LISTS (length (sparse_words bits)) 64 (omega arith) (omega arith) (omega (arith, long)) (omega (arith, long)) (omega (arith, long))) (sparse_fit bits small) ((each_next-rising (sparse_words bits)).1 (sparse_rises bits))
 
 pub sparse_shape : (c w : ℕ) (words : List ℕ) → IsWhole SPARSE_LISTS c w words → (c ≡ length words) × (1 ≤ length words) × (64 ≡ w) × (c ≤ 288230376151711743)
 sparse_shape c w words whole =
-    let wide : 64 ≡ w = grind (arith, nat_tests, whole.wide) in
-    let some : 1 ≤ c = grind (arith, nat_tests, whole.many) in
-    let same : c ≡ length words = omega (arith, whole.counted, whole.small) in
-    (same, omega arith, wide, omega (arith, whole.small))
-
-pub too_many_ones : (bits : List Bool) → 288230376151711743 ≤ count true bits (length bits) → IsWhole SPARSE_LISTS (length (sparse_words bits)) 64 (sparse_words bits) → ⊥
-too_many_ones bits many whole = omega (arith, length-sparse bits, (sparse_shape (length (sparse_words bits)) 64 (sparse_words bits) whole).3)
+    let b = bounds_are SPARSE_LISTS c w words whole in
+    let same : c ≡ length words = as_many SPARSE_LISTS c w words refl whole in
+    (same, omega (arith, b.2), omega (arith, b.0, b.1), b.3)
 
 pub first_rise : (c w : ℕ) (words ones : List ℕ) → IsWhole SPARSE_LISTS c w words → ones ≡ take (length words - 1) words → IsStrictlyIncreasing ones
 first_rise c w words ones whole is =
@@ -80,4 +76,4 @@ sparse_again c w words ones last v whole is is_last long same =
     ap (λ l. l ++ length v ∷ []) (same ∙ is) ∙ ap (λ n. take (length words - 1) words ++ n ∷ []) (long ∙ is_last)
     ∙ sym (take_more words (length words - 1) 0 (omega arith)) ∙ ap (λ m. take m words) back ∙ take_all (length words) words (omega arith)
 
-pub ruleset sparse = (length-sparse, sparse_word, whole_sparse, sparse_shape, too_many_ones, first_rise, first_below, sparse_again)
+pub ruleset sparse = (length-sparse, sparse_word, whole_sparse, sparse_shape, first_rise, first_below, sparse_again)

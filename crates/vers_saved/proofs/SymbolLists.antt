@@ -1,5 +1,5 @@
 -- Saved forms of lists of symbols.
-use Rattle.vers_saved.proofs.Names.{◌≡◌, ℕ, zero, suc, ◌+◌, ◌-◌, ◌*◌, ◌/◌, ◌%◌, ◌^◌, ◌<◌, ◌≤◌, Bool, List, [], ◌∷◌, ◌++◌, length, get_or, take, drop, refl, sym, ap, subst, ◌∙◌, inl, inr, append_assoc, arith, map, All, Option, None, Result, Ok, Err, nat_le, slice_get, unwrap_or, take-add, mod-eq_of_lt, set, cases_lt, le-leb, nat_tests, drop-drop, drop_more, take_all, take_at, drop_at, take-take, drop-take, length-take, length-map, get_or_past, slice_get-get_or, slice_get_past, mod_below, number, low_bits, part, limbs, limb_count, pack, length-low_bits, number-low_bits, number-take, length-packed, SYMBOL_LISTS, IsWhole}
+use Rattle.vers_saved.proofs.Names.{◌≡◌, ℕ, zero, suc, ◌+◌, ◌-◌, ◌*◌, ◌/◌, ◌%◌, ◌^◌, ◌<◌, ◌≤◌, Bool, List, [], ◌∷◌, ◌++◌, length, get_or, take, drop, refl, sym, ap, subst, ◌∙◌, inl, inr, append_assoc, arith, map, All, Option, None, Result, Ok, Err, nat_le, slice_get, unwrap_or, take-add, mod-eq_of_lt, set, cases_lt, le-leb, drop-drop, drop_more, take_all, take_at, drop_at, take-take, drop-take, length-take, length-map, get_or_past, slice_get-get_or, slice_get_past, mod_below, number, low_bits, part, limbs, limb_count, pack, length-low_bits, number-low_bits, number-take, length-packed, SYMBOL_LISTS, IsWhole}
 use Rattle.std.proofs.Common.{pow-add, below_more, get_or-set_same, get_or-set_other, ◌≢◌}
 use Rattle.std.specs.Prelude.{IfOk, if◌then◌else◌}
 use Rattle.std.specs.List.{range_with_len}
@@ -13,7 +13,8 @@ use Rattle.vers_wavelet.specs.Symbols.{Symbols}
 use Rattle.vers_wavelet.specs.declared.wavelet.batch.get.GetQuery.{GetQuery}
 use Rattle.vers_wavelet.specs.Makers.{low_symbols, packed_symbols}
 use Rattle.vers_wavelet.proofs.PublicLaws.{small_numbers_stay}
-use Rattle.vers_saved.proofs.BitLists.{within, whole_bits}
+use Rattle.vers_saved.proofs.Shapes.{bounds_are, within_bounds}
+use Rattle.vers_saved.proofs.BitLists.{whole_bits}
 use Rattle.vers_saved.proofs.LimbLists.{drop-packed}
 
 pub length-packed_items : (items : List ℕ) (k : ℕ) → length (pack items k) ≡ length items * k
@@ -160,15 +161,13 @@ le_times n k some = grind arith
 
 pub whole_symbols : (k : ℕ) (items : List ℕ) → 1 ≤ k → k ≤ 64 → length items * k ≤ 18446744073709551552 → IsWhole SYMBOL_LISTS (length items) k (limbs (pack items k))
 whole_symbols k items some few small =
-    whole_bits SYMBOL_LISTS (length items) k (pack items k) (within 1 64 k some few) (within 0 18446744073709551552 (length items) (omega arith) (omega (arith, le_times (length items) k some)))
-    (length-packed_items items k) (omega (arith, length-packed_items items k)) refl
+    whole_bits SYMBOL_LISTS (length items) k (pack items k)
+    (within_bounds SYMBOL_LISTS (length items) k some few (omega arith) (omega (arith, le_times (length items) k some)) small) (length-packed_items items k) refl
 
 pub symbols_shape : (count k : ℕ) (words : List ℕ) → IsWhole SYMBOL_LISTS count k words
     → (1 ≤ k) × (k ≤ 64) × (count * k ≤ 18446744073709551552) × (length words ≡ limb_count (count * k))
 symbols_shape count k words whole =
-    let some : 1 ≤ k = grind (arith, nat_tests, whole.wide) in
-    let few : k ≤ 64 = grind (arith, nat_tests, whole.wide) in
-    (some, few, whole.small, whole.counted)
+    let b = bounds_are SYMBOL_LISTS count k words whole in (b.0, b.1, b.4, whole.counted)
 
 pub whole_number : (count k : ℕ) (bits : List Bool) → 1 ≤ k → length bits ≡ count * k → length bits % k ≡ 0
 whole_number count k bits some e =
@@ -206,7 +205,7 @@ loaded_matrix count k w symbols words v some is_width long same fit wide low =
     rw (is, are) (long, refl, same, fit)
 
 pub count_small : (count k a b : ℕ) (words : List ℕ) → IsWhole SYMBOL_LISTS count k words → a ≡ count → b ≡ k → a * b ≤ 18446744073709551552
-count_small count k a b words whole is_count is_width = rw (is_count, is_width) whole.small
+count_small count k a b words whole is_count is_width = rw (is_count, is_width) (bounds_are SYMBOL_LISTS count k words whole).4
 
 pub all_bits : (items : List ℕ) (k a b : ℕ) → a ≡ length items → b ≡ k → a * b ≡ length (pack items k)
 all_bits items k a b is_count is_width = rw (is_count, is_width) (sym (length-packed_items items k))

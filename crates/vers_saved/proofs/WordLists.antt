@@ -1,35 +1,25 @@
 -- Saved forms of lists of numbers.
-use Rattle.vers_saved.proofs.Names.{◌≡◌, ℕ, ◌-◌, ◌*◌, ◌^◌, ◌<◌, ◌≤◌, true, List, length, get_or, refl, ap, inl, inr, arith, IsNonDecreasing, cases_lt, nat_tests, get_or_past, Kind, SORTED_LISTS, TABLE_VALUES, BLOCK_VALUES, takes_width, takes_count, item_bits, in_order, IsWhole}
+use Rattle.vers_saved.proofs.Names.{◌≡◌, ℕ, ◌-◌, ◌*◌, ◌^◌, ◌<◌, ◌≤◌, true, List, length, get_or, refl, ap, inl, inr, arith, IsNonDecreasing, cases_lt, get_or_past, Kind, SORTED_LISTS, TABLE_VALUES, BLOCK_VALUES, item_bits, in_order, IsWhole, may_be_saved}
 use Rattle.vers_sorted.proofs.PublicLaws.{each_next-ascending}
 use Rattle.vers_saved.proofs.WordBytes.{AreWords}
-use Rattle.vers_saved.proofs.BitLists.{within}
+use Rattle.vers_saved.proofs.Shapes.{bounds_are, within_bounds, as_many}
 
 -- numbers of 64 bits, as words of a kind
-pub whole_numbers : (kind : Kind) (numbers : List ℕ) → takes_width kind 64 ≡ true → takes_count kind (length numbers) ≡ true → item_bits kind 64 ≡ 64
-    → length numbers ≤ 288230376151711743 → AreWords numbers → in_order kind.order numbers ≡ true → IsWhole kind (length numbers) 64 numbers
-whole_numbers kind numbers wide many each few fit ordered =
+pub whole_numbers : (kind : Kind) (numbers : List ℕ) → item_bits kind 64 ≡ 64 → may_be_saved kind (length numbers) 64 ≡ true → AreWords numbers → in_order kind.order numbers ≡ true
+    → IsWhole kind (length numbers) 64 numbers
+whole_numbers kind numbers each may fit ordered =
     let all : length numbers * item_bits kind 64 ≡ length numbers * 64 = ap (λ m. length numbers * m) each in
-    record {
-      wide = wide;
-      many = many;
-      small = omega (arith, all);
-      counted = omega (arith, all);
-      fit = fit;
-      padded = inl (omega (arith, all));
-      ordered = ordered;
-    }
+    record { may = may; counted = omega (arith, all); fit = fit; padded = inl (omega (arith, all)); ordered = ordered }
 
 pub whole_sorted : (members : List ℕ) → length members ≤ 288230376151711743 → AreWords members → IsNonDecreasing members → IsWhole SORTED_LISTS (length members) 64 members
 whole_sorted members few fit up =
-    whole_numbers SORTED_LISTS members refl (within 0 288230376151711743 (length members) (omega arith) few) refl few fit ((each_next-ascending members).1 up)
+    whole_numbers SORTED_LISTS members refl (within_bounds SORTED_LISTS (length members) 64 (omega arith) (omega arith) (omega arith) few (omega arith)) fit ((each_next-ascending members).1 up)
 
 pub whole_table : (items : List ℕ) → length items ≤ 4294967295 → AreWords items → IsWhole TABLE_VALUES (length items) 64 items
-whole_table items few fit =
-    whole_numbers TABLE_VALUES items refl (within 0 4294967295 (length items) (omega arith) few) refl (omega arith) fit refl
+whole_table items few fit = whole_numbers TABLE_VALUES items refl (within_bounds TABLE_VALUES (length items) 64 (omega arith) (omega arith) (omega arith) few (omega arith)) fit refl
 
 pub whole_blocks : (items : List ℕ) → length items ≤ 549755813760 → AreWords items → IsWhole BLOCK_VALUES (length items) 64 items
-whole_blocks items few fit =
-    whole_numbers BLOCK_VALUES items refl (within 0 549755813760 (length items) (omega arith) few) refl (omega arith) fit refl
+whole_blocks items few fit = whole_numbers BLOCK_VALUES items refl (within_bounds BLOCK_VALUES (length items) 64 (omega arith) (omega arith) (omega arith) few (omega arith)) fit refl
 
 -- members that ascend to a word are words
 pub words_to_last : (members : List ℕ) (last : ℕ) → IsNonDecreasing members → last ≡ get_or members (length members - 1) 0 → last < 2 ^ 64 → AreWords members
@@ -41,29 +31,21 @@ words_to_last members last up is small k = elim (cases_lt k (length members)) [
 pub no_words : (members : List ℕ) → length members ≡ 0 → AreWords members
 no_words members none k = rw (get_or_past members k 0 (omega arith)) (omega arith)
 
--- how many words there may be
+-- how many words there may be, and how wide they are
 pub sorted_few : (members : List ℕ) (count width : ℕ) → IsWhole SORTED_LISTS count width members → (count ≡ length members) × (count ≤ 288230376151711743) × (64 ≡ width)
 sorted_few members count width whole =
-    let wide : 64 ≡ width = grind (arith, nat_tests, whole.wide) in
-    (omega (arith, whole.counted, whole.small), omega (arith, whole.small), wide)
+    let b = bounds_are SORTED_LISTS count width members whole in (as_many SORTED_LISTS count width members refl whole, b.3, omega (arith, b.0, b.1))
 
 pub table_few : (items : List ℕ) (count width : ℕ) → IsWhole TABLE_VALUES count width items → (count ≡ length items) × (count ≤ 4294967295) × (64 ≡ width)
 table_few items count width whole =
-    let wide : 64 ≡ width = grind (arith, nat_tests, whole.wide) in
-    let few : count ≤ 4294967295 = grind (arith, nat_tests, whole.many) in
-    (omega (arith, whole.counted, whole.small), few, wide)
+    let b = bounds_are TABLE_VALUES count width items whole in (as_many TABLE_VALUES count width items refl whole, b.3, omega (arith, b.0, b.1))
 
 pub blocks_few : (items : List ℕ) (count width : ℕ) → IsWhole BLOCK_VALUES count width items → (count ≡ length items) × (count ≤ 549755813760) × (64 ≡ width)
 blocks_few items count width whole =
-    let wide : 64 ≡ width = grind (arith, nat_tests, whole.wide) in
-    let few : count ≤ 549755813760 = grind (arith, nat_tests, whole.many) in
-    (omega (arith, whole.counted, whole.small), few, wide)
+    let b = bounds_are BLOCK_VALUES count width items whole in (as_many BLOCK_VALUES count width items refl whole, b.3, omega (arith, b.0, b.1))
 
 -- words that are loaded ascend
 pub sorted_up : (members : List ℕ) (count width : ℕ) → IsWhole SORTED_LISTS count width members → IsNonDecreasing members
 sorted_up members count width whole = (each_next-ascending members).0 whole.ordered
 
-pub too_many : (members : List ℕ) (count width : ℕ) → 288230376151711743 < length members → count ≡ length members → IsWhole SORTED_LISTS count width members → ⊥
-too_many members count width many is whole = omega (arith, (sorted_few members count width whole).1)
-
-pub ruleset numbers = (whole_sorted, whole_table, whole_blocks, sorted_few, table_few, blocks_few, sorted_up, too_many, no_words, words_to_last)
+pub ruleset numbers = (whole_sorted, whole_table, whole_blocks, sorted_few, table_few, blocks_few, sorted_up, no_words, words_to_last)

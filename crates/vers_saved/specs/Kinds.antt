@@ -1,5 +1,5 @@
 -- What a saved form of a kind holds.
-use Rattle.std.specs.Prelude.{min, max, ◌≡◌, ℕ, ◌-◌, ◌*◌, ◌%◌, ◌^◌, ◌<◌, ◌≤◌, ◌⊎◌, true, List, length, slice_index}
+use Rattle.std.specs.Prelude.{min, max, ◌≡◌, ℕ, ◌-◌, ◌*◌, ◌%◌, ◌^◌, ◌<◌, ◌&&◌, ◌⊎◌, Bool, true, nat_le, List, length, slice_index}
 use Rattle.vers_bits.specs.Bits.{limb_count}
 use Rattle.vers_bits.specs.declared.bit_vec.TheConstants.{MAX_LEN}
 use Rattle.vers_saved.specs.declared.kind.Kind.{Kind}
@@ -16,11 +16,13 @@ EndsPadded n words = (n % 64 ≡ 0) ⊎ (slice_index words (limb_count n - 1) < 
 abbrev pub AreWords : List ℕ → Type 0
 AreWords words = (k : ℕ) → slice_index words k < 2 ^ 64
 
--- the kind has lists of so many items of that width, and the words are as many as these fill, hold no one past them, and stand in the order of the kind
+-- whether the kind has lists of so many items of that width
+abbrev pub may_be_saved : Kind → (count width : ℕ) → Bool
+may_be_saved kind count width = takes_width kind width && (takes_count kind count && nat_le (count * item_bits kind width) MAX_LEN)
+
+-- the kind has such lists, and the words are as many as their items fill, hold no one past them, and stand in the order of the kind
 pub record IsWhole (kind : Kind) (count width : ℕ) (words : List ℕ) : Type 0 where
-  pub wide : takes_width kind width ≡ true
-  pub many : takes_count kind count ≡ true
-  pub small : count * item_bits kind width ≤ MAX_LEN
+  pub may : may_be_saved kind count width ≡ true
   pub counted : length words ≡ limb_count (count * item_bits kind width)
   pub fit : AreWords words
   pub padded : EndsPadded (count * item_bits kind width) words

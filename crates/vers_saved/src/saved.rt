@@ -1,9 +1,9 @@
 //! What has a saved form: lists that are saved to bytes and loaded from them.
-ghost use Rattle.std.specs.Prelude.{◌≡◌, ◌<◌, ◌≤◌, ◌+◌, ◌*◌, ℕ, List, ◌++◌, ◌⊎◌, length, take, drop, fold, slice_index, vec_len, vec_capacity, OnOk, OnErr, IfOk, IfErr, IfSome, MatchResult, Some, None, IsErr};
+ghost use Rattle.std.specs.Prelude.{◌≡◌, ◌<◌, ◌≤◌, ◌+◌, ◌*◌, ℕ, List, ◌++◌, ◌⊎◌, length, take, drop, fold, slice_index, vec_len, vec_capacity, OnOk, OnErr, IfOk, IfErr, IfSome, MatchResult, Some, None, false};
 ghost use Rattle.vers_saved.specs.declared.kind.Kind.{Kind};
 ghost use Rattle.vers_saved.specs.Format.{bytes_of, mix, saved};
 ghost use Rattle.vers_saved.specs.Faults.{fault_of};
-ghost use Rattle.vers_saved.specs.Kinds.{IsWhole};
+ghost use Rattle.vers_saved.specs.Kinds.{IsWhole, may_be_saved};
 
 use crate::fault::{LoadError, SaveError};
 use crate::form::{Form, Shape, form_of, put_head, put_words};
@@ -40,8 +40,7 @@ pub trait Saved {
         ensures whole { IfSome result (λ _.
             IsWhole kind (count self.now) (width self.now) (words self.now)) }
         ensures fits { IfSome result (λ _. Fits self.now) }
-        ensures none { result ≡ None
-            → ¬ IsWhole kind (count self.now) (width self.now) (words self.now) };
+        ensures none { result ≡ None → may_be_saved kind (count self.now) (width self.now) ≡ false };
 
     /// The word at a place, of a list that has a saved form.
     fn word(&self, k: usize) -> u64
@@ -93,8 +92,7 @@ pub fn saved_size<S: Saved>(list: &S) -> Option<usize>
     ensures some { IfSome result (λ size. size
         ≡ length (saved S.kind.number (S.count list.now) (S.width list.now) (S.words list.now))) }
     ensures whole { IfSome result (λ _. IsWhole S.kind (S.count list.now) (S.width list.now) (S.words list.now)) }
-    ensures none { result ≡ None
-        → ¬ IsWhole S.kind (S.count list.now) (S.width list.now) (S.words list.now) }
+    ensures none { result ≡ None → may_be_saved S.kind (S.count list.now) (S.width list.now) ≡ false }
 {
     let shape = list.shape()?;
     Some(8 * (count_words(list, shape) + FRAME))
@@ -160,7 +158,7 @@ pub fn save_to_vec<S: Saved, B: Allocator>(list: &S, out: &mut Vec<u8, B>) -> Re
         (IsWhole S.kind (S.count list.now) (S.width list.now) (S.words list.now) × S.Fits list.now) }
     ensures kept { OnErr result (out.new.items ≡ out.old.items) }
     ensures refused { IfErr result (λ e. (e ≡ SaveError.Memory) ⊎ ((e ≡ SaveError.NoForm)
-        × ¬ IsWhole S.kind (S.count list.now) (S.width list.now) (S.words list.now))) }
+        × (may_be_saved S.kind (S.count list.now) (S.width list.now) ≡ false))) }
 {
     let Some(shape) = list.shape() else {
         return Err(SaveError::NoForm);

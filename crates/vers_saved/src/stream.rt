@@ -1,8 +1,8 @@
 //! Saved forms, written to any writer and read from any reader.
-ghost use Rattle.std.specs.Prelude.{◌≡◌, ◌≢◌, ℕ, ◌+◌, ◌≤◌, ◌++◌, List, vec_len, vec_capacity, OnOk, IfOk, IfErr, IfSome, Some, Err, OnErr, MatchResult, ◌⊎◌};
+ghost use Rattle.std.specs.Prelude.{◌≡◌, ◌≢◌, ℕ, ◌+◌, ◌≤◌, ◌++◌, List, vec_len, vec_capacity, OnOk, IfOk, IfErr, IfSome, Some, Err, OnErr, MatchResult, ◌⊎◌, false};
 ghost use Rattle.std.specs.Io.KnownBytes.{Appends, IsAtEnd, Keeps};
 ghost use Rattle.vers_saved.specs.Format.{saved};
-ghost use Rattle.vers_saved.specs.Kinds.{IsWhole};
+ghost use Rattle.vers_saved.specs.Kinds.{IsWhole, may_be_saved};
 ghost use Rattle.vers_engine.specs.Device.{FollowsReadFault, FollowsWriteFault};
 ghost use Rattle.vers_saved.specs.Streams.{Writes, IsRefused};
 
@@ -101,7 +101,7 @@ pub fn save<S: Saved, A: Allocator, W: Sink>(
     ensures whole { OnOk result
         (IsWhole S.kind (S.count list.now) (S.width list.now) (S.words list.now) × S.Fits list.now) }
     ensures none { IfErr result (λ e. e ≡ SaveError.NoForm
-        → ¬ IsWhole S.kind (S.count list.now) (S.width list.now) (S.words list.now)) }
+        → may_be_saved S.kind (S.count list.now) (S.width list.now) ≡ false) }
     ensures cause { result ≡ Err SaveError.Write → FollowsWriteFault W.write_gives writer.new }
 {
     let Some(shape) = list.shape() else {

@@ -1,0 +1,29 @@
+-- The shapes of lists that have a saved form.
+use Rattle.vers_saved.proofs.Names.{◌≡◌, ℕ, ◌*◌, ◌≤◌, true, List, length, ap, arith, nat_tests, le-leb, Kind, item_bits, takes_width, takes_count, may_be_saved, IsWhole}
+use Rattle.std.proofs.lemmas.Bool.{and_from, and_parts, leb-true}
+
+-- what a shape has to meet, test by test
+pub parts_of : (kind : Kind) (count width : ℕ) → may_be_saved kind count width ≡ true
+    → (takes_width kind width ≡ true) × (takes_count kind count ≡ true) × (count * item_bits kind width ≤ 18446744073709551552)
+parts_of kind count width may =
+    let p = and_parts _ _ may in
+    let q = and_parts _ _ p.1 in
+    (p.0, q.0, leb-true _ _ q.1)
+
+-- and bound by bound
+pub bounds_are : (kind : Kind) (count width : ℕ) (words : List ℕ) → IsWhole kind count width words
+    → (kind.least_width ≤ width) × (width ≤ kind.greatest_width) × (kind.least_count ≤ count) × (count ≤ kind.greatest_count) × (count * item_bits kind width ≤ 18446744073709551552)
+bounds_are kind count width words whole =
+    let p = parts_of kind count width whole.may in
+    (grind (arith, nat_tests, p.0), grind (arith, nat_tests, p.0), grind (arith, nat_tests, p.1), grind (arith, nat_tests, p.1), p.2)
+
+pub within_bounds : (kind : Kind) (count width : ℕ) → kind.least_width ≤ width → width ≤ kind.greatest_width → kind.least_count ≤ count → count ≤ kind.greatest_count
+    → count * item_bits kind width ≤ 18446744073709551552 → may_be_saved kind count width ≡ true
+within_bounds kind count width low high some few small =
+    and_from _ _ (and_from _ _ (le-leb _ _ low) (le-leb _ _ high)) (and_from _ _ (and_from _ _ (le-leb _ _ some) (le-leb _ _ few)) (le-leb _ _ small))
+
+-- of items of 64 bits there are as many as words
+pub as_many : (kind : Kind) (count width : ℕ) (words : List ℕ) → item_bits kind width ≡ 64 → IsWhole kind count width words → count ≡ length words
+as_many kind count width words each whole =
+    let all : count * item_bits kind width ≡ count * 64 = ap (λ m. count * m) each in
+    omega (arith, all, whole.counted, (bounds_are kind count width words whole).4)
