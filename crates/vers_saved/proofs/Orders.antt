@@ -1,5 +1,5 @@
 -- Words in an order.
-use Rattle.vers_saved.proofs.Names.{◌≡◌, ℕ, zero, suc, ◌+◌, ◌-◌, ◌/◌, ◌<◌, ◌&&◌, Bool, true, List, [], ◌∷◌, length, get_or, take, drop, refl, sym, ap, ◌∙◌, arith, get_or-take, get_or-drop, length-take, length-drop, take_all, limb_count, each_next, words_among, stands, in_order}
+use Rattle.vers_saved.proofs.Names.{◌≡◌, ℕ, zero, suc, ◌+◌, ◌-◌, ◌/◌, ◌<◌, ◌&&◌, Bool, true, List, [], ◌∷◌, ◌++◌, length, get_or, take, drop, refl, sym, ap, ◌∙◌, arith, take_more, get_or-take, get_or-drop, length-take, length-drop, take_all, limb_count, each_next, words_among, stands, in_order}
 use Rattle.std.proofs.Math.Bool.{and_assoc, and_comm}
 use Rattle.vers_saved.specs.declared.kind.Order.{Order}
 use Rattle.vers_saved.specs.Faults.{ordered_words}
@@ -26,6 +26,13 @@ pub get_or-words_among : (n : ℕ) (words : List ℕ) (k : ℕ) → k < limb_cou
 get_or-words_among n words k h =
     let place : 5 + k ≡ k + 5 = omega arith in
     get_or-take (limb_count n) (drop 5 words) k 0 h ∙ get_or-drop 5 words k 0 ∙ ap (λ p. get_or words p 0) place
+
+-- one word more
+pub copied_more : (n : ℕ) (words : List ℕ) (k : ℕ) (kept : List ℕ) (word : ℕ) → length words ≡ limb_count n + 6 → k < limb_count n → kept ≡ take k (words_among n words)
+    → word ≡ get_or words (k + 5) 0 → kept ++ word ∷ [] ≡ take (k + 1) (words_among n words)
+copied_more n words k kept word long h is is_word =
+    ap (λ l. l ++ word ∷ []) is ∙ ap (λ w. take k (words_among n words) ++ w ∷ []) (is_word ∙ sym (get_or-words_among n words k h))
+    ∙ sym (take_more (words_among n words) k 0 (omega (arith, length-words_among n words long)))
 
 -- the next word of a form
 pub ordered_more : (o : ℕ → ℕ → Bool) (n : ℕ) (words : List ℕ) (k : ℕ) (holds : Bool) (before next : ℕ) → length words ≡ limb_count n + 6 → suc k < limb_count n

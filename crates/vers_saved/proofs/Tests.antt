@@ -1,5 +1,7 @@
 -- The fault of bytes, by the tests in turn.
-use Rattle.vers_saved.proofs.Names.{◌≡◌, ℕ, ◌/◌, ◌<◌, ◌≤◌, Bool, true, false, List, [], ◌∷◌, ◌++◌, length, refl, sym, ap, ◌∙◌, arith, None, Some, nat_le, map, first_chunks, le-leb, nat_tests, Kind, LoadError, TooShort, BadLength, words_of, bytes_word, saved_size, first_failing, head_tests, body_tests, tests_of, fault_of, bits_said}
+use Rattle.vers_saved.proofs.Names.{◌≡◌, ℕ, ◌/◌, ◌<◌, ◌≤◌, Bool, true, false, List, [], ◌∷◌, ◌++◌, length, refl, sym, ap, subst, ◌∙◌, inl, inr, arith, Option, None, Some, nat_le, map, first_chunks, le-leb, nat_tests, Kind, LoadError, TooShort, BadLength, words_of, bytes_word, saved_size, first_failing, head_tests, body_tests, tests_of, fault_of, bits_said}
+use Rattle.std.specs.Prelude.{◌⊎◌}
+use Rattle.vers_saved.specs.declared.fault.LoadError.TheVariants.{Memory}
 use Rattle.vers_saved.proofs.WordBytes.{length-words_of}
 
 -- a test that fails, and one that holds
@@ -83,3 +85,17 @@ pub bad_bytes : (kind : Kind) (bytes : List ℕ) (e : LoadError) (chunks : List 
 bad_bytes kind bytes e chunks same long bad =
     fault_is kind bytes ∙ bad_head kind (length bytes) (words_of bytes) e long
     (ap (λ l. first_failing (head_tests kind l)) (sym (ap (map bytes_word) same ∙ words_are bytes)) ∙ bad)
+
+-- where bytes have the fault of what comes after the head, or memory is lacking
+pub told_of : (kind : Kind) (bytes : List ℕ) (n : ℕ) (e : LoadError) (chunks : List (List ℕ)) → chunks ≡ first_chunks 8 (length bytes / 8) bytes
+    → fault_of kind bytes ≡ first_failing (body_tests kind.order n (words_of bytes))
+    → (first_failing (body_tests kind.order n (map bytes_word chunks)) ≡ Some e) ⊎ ((e ≡ Memory) × (first_failing (body_tests kind.order n (map bytes_word chunks)) ≡ None))
+    → (fault_of kind bytes ≡ Some e) ⊎ ((e ≡ Memory) × (fault_of kind bytes ≡ None))
+told_of kind bytes n e chunks same body =
+    subst (λ o. (o ≡ Some e) ⊎ ((e ≡ Memory) × (o ≡ None)) → (fault_of kind bytes ≡ Some e) ⊎ ((e ≡ Memory) × (fault_of kind bytes ≡ None)))
+    (body ∙ ap (λ l. first_failing (body_tests kind.order n l)) (sym (ap (map bytes_word) same ∙ words_are bytes))) (λ told. told)
+
+-- where there is no fault, memory alone can be lacking
+pub memory_alone : (fault : Option LoadError) (e : LoadError) → (fault ≡ Some e) ⊎ ((e ≡ Memory) × (fault ≡ None)) → fault ≡ None → e ≡ Memory
+memory_alone fault e (inl is) none = cc
+memory_alone fault e (inr memory) none = memory.0

@@ -8,7 +8,7 @@ ghost use Rattle.vers_saved.specs.Kinds.{IsWhole};
 use crate::fault::LoadError;
 use crate::kind::{Kind, Order};
 use crate::words::{
-    Chunks, FRAME, Words, is_in_order, is_padded, is_summed, mixed, put_word, words_in,
+    Chunks, FRAME, Words, copy_summed, is_in_order, is_padded, mixed, put_word, sum_before,
 };
 use crate::{MAGIC, START, VERSION};
 use std::alloc::{AllocError, Allocator};
@@ -121,13 +121,16 @@ pub(crate) fn head_of<W: Words>(kind: &Kind, words: &W) -> Result<Head, LoadErro
     Ok(Head { shape, bits })
 }
 
-// The tests of what comes after a head that says `n` bits, of as many words as they fill.
-pub(crate) fn test_body<W: Words>(order: Order, n: usize, words: &W) -> Result<(), LoadError>
-    requires { length (W.words words.now) ≡ limb_count n + FRAME }
+// The tests of what comes after a head that says `n` bits, of as many words as they fill, where those before the
+// last one have this sum.
+#[tactic(auto, unfolding(crate::specs::Faults::is_summed))]
+fn test_summed<W: Words>(order: Order, n: usize, sum: u64, words: &W) -> Result<(), LoadError>
+    requires long { length (W.words words.now) ≡ limb_count n + FRAME }
+    requires sum { sum ≡ check_sum (take (limb_count n + 5) (W.words words.now)) }
     ensures none { OnOk result (first_failing (body_tests order n (W.words words.now)) ≡ None) }
     ensures fault { IfErr result (λ e. first_failing (body_tests order n (W.words words.now)) ≡ Some e) }
 {
-    if !is_summed(n, words) {
+    if words.word(n.div_ceil(64) + FRAME - 1) != sum {
         return Err(LoadError::BadSum);
     }
     if !is_padded(n, words) {
@@ -139,10 +142,44 @@ pub(crate) fn test_body<W: Words>(order: Order, n: usize, words: &W) -> Result<(
     Ok(())
 }
 
-// What the head of bytes says, where they are the saved form of a list of that kind.
+// The same tests, with the sum.
+pub(crate) fn test_body<W: Words>(order: Order, n: usize, words: &W) -> Result<(), LoadError>
+    requires { length (W.words words.now) ≡ limb_count n + FRAME }
+    ensures none { OnOk result (first_failing (body_tests order n (W.words words.now)) ≡ None) }
+    ensures fault { IfErr result (λ e. first_failing (body_tests order n (W.words words.now)) ≡ Some e) }
+{
+    let sum = sum_before(n.div_ceil(64) + FRAME - 1, words);
+    test_summed(order, n, sum, words)
+}
+
+// The words that hold `n` bits, of words that pass these tests. They are copied in the same pass in which they are
+// summed; where there is no memory for them, they are tested all the same.
+fn tested_words<W: Words, A: Allocator>(
+    alloc: A,
+    order: Order,
+    n: usize,
+    words: &W,
+) -> Result<Vec<u64, A>, LoadError>
+    requires { length (W.words words.now) ≡ limb_count n + FRAME }
+    ensures words { IfOk result (λ v. v.items ≡ words_among n (W.words words.now)) }
+    ensures none { OnOk result (first_failing (body_tests order n (W.words words.now)) ≡ None) }
+    ensures refused { IfErr result (λ e. (first_failing (body_tests order n (W.words words.now)) ≡ Some e)
+        ⊎ ((e ≡ LoadError.Memory) × (first_failing (body_tests order n (W.words words.now)) ≡ None))) }
+{
+    let Ok(mut kept) = Vec::with_capacity(alloc, n.div_ceil(64)) else {
+        test_body(order, n, words)?;
+        return Err(LoadError::Memory);
+    };
+    let sum = copy_summed(n, words, &mut kept);
+    test_summed(order, n, sum, words)?;
+    Ok(kept)
+}
+
+// What the head of bytes says, where they are as many as it says. Their faults are then those of what comes after it.
 #[tactic(auto, using(crate::proofs::Tests::whole))]
 fn test_bytes(kind: &Kind, bytes: &[u8]) -> Result<Head, LoadError>
-    ensures none { OnOk result (fault_of kind.now bytes.now ≡ None) }
+    ensures body { IfOk result (λ h. fault_of kind.now bytes.now
+        ≡ first_failing (body_tests kind.now.order h.bits (words_of bytes.now))) }
     ensures fault { IfErr result (λ e. fault_of kind.now bytes.now ≡ Some e) }
     ensures said { IfOk result (λ h. (h.shape.kind ≡ kind.now.number)
         × (h.shape.count ≡ slice_index (words_of bytes.now) 4)
@@ -163,20 +200,7 @@ fn test_bytes(kind: &Kind, bytes: &[u8]) -> Result<Head, LoadError>
     if bytes.len() > size {
         return Err(LoadError::BadLength);
     }
-    test_body(kind.order, head.bits, &words)?;
     Ok(head)
-}
-
-// The words in the saved form of `n` bits, as bytes.
-fn words_among(n: usize, bytes: &[u8]) -> &[[u8; 8]]
-    requires { length bytes.now ≡ saved_size n }
-    ensures words { map bytes_word result.now ≡ words_among n (words_of bytes.now) }
-    ensures len { length result.now ≡ limb_count n }
-{
-    let (words, _) = bytes.as_chunks::<8>();
-    let (_, rest) = words.split_at(HEAD);
-    let (words, _) = rest.split_at(n.div_ceil(64));
-    words
 }
 
 /// A shape, and the words that hold its items.
@@ -203,7 +227,8 @@ pub(crate) fn form_of<A: Allocator>(
         (λ e. e ≡ LoadError.Memory) }
 {
     let head = test_bytes(&kind, bytes)?;
-    let words = words_in(alloc, words_among(head.bits, bytes))?;
+    let (chunks, _) = bytes.as_chunks::<8>();
+    let words = tested_words(alloc, kind.order, head.bits, &Chunks { chunks })?;
     Ok(Form {
         shape: head.shape,
         words,

@@ -1,12 +1,12 @@
 //! Words of 64 bits, as bytes, and their sum.
-ghost use Rattle.std.specs.Prelude.{◌≡◌, ℕ, List, ◌+◌, ◌*◌, ◌<◌, ◌≤◌, ◌++◌, length, map, take, slice_index, vec_len, vec_capacity, IfOk, ◌^◌};
+ghost use Rattle.std.specs.Prelude.{◌≡◌, ℕ, List, ◌+◌, ◌*◌, ◌<◌, ◌≤◌, ◌++◌, [], length, map, take, slice_index, vec_len, vec_capacity};
 ghost use Rattle.vers_saved.specs.Format.{word_bytes, bytes_word, mix, check_sum};
-ghost use Rattle.vers_saved.specs.Faults.{is_padded, is_summed, in_order, ordered_words, stands, words_among};
+ghost use Rattle.vers_saved.specs.Faults.{is_padded, in_order, ordered_words, stands, words_among};
 ghost use Rattle.vers_bits.specs.Bits.{limb_count};
 
 use crate::kind::Order;
 use crate::{FACTOR, START, TURN};
-use std::alloc::{AllocError, Allocator};
+use std::alloc::Allocator;
 
 /// How many words a head and a sum have.
 pub(crate) const FRAME: usize = 6;
@@ -98,17 +98,9 @@ pub(crate) fn put_word<A: Allocator>(out: &mut Vec<u8, A>, word: u64)
     out.extend_from_slice(&bytes).unwrap()
 }
 
-// The words, in a vector.
-pub(crate) fn words_in<A: Allocator>(alloc: A, words: &[[u8; 8]]) -> Result<Vec<u64, A>, AllocError>
-    ensures items { IfOk result (λ v. v.items ≡ map bytes_word words.now) }
-    ensures fit { IfOk result (λ v. (k : ℕ) → slice_index v.items k < 2 ^ 64) }
-{
-    words.iter().map(|word| word_of(*word)).collect(alloc)
-}
-
 // The sum of the words before a place.
 #[tactic(auto, using(crate::proofs::Sums::sums))]
-fn sum_before<W: Words>(end: usize, words: &W) -> u64
+pub(crate) fn sum_before<W: Words>(end: usize, words: &W) -> u64
     requires { end ≤ length (W.words words.now) }
     ensures { result ≡ check_sum (take end (W.words words.now)) }
 {
@@ -119,14 +111,26 @@ fn sum_before<W: Words>(end: usize, words: &W) -> u64
     sum
 }
 
-// Whether the word after those of `n` bits is the sum of the words before it.
-#[tactic(auto, unfolding(crate::specs::Faults::is_summed))]
-pub(crate) fn is_summed<W: Words>(n: usize, words: &W) -> bool
-    requires { length (W.words words.now) ≡ limb_count n + FRAME }
-    ensures { result ≡ is_summed n (W.words words.now) }
+// Copies the words that hold `n` bits, for which there is room. Returns the sum of the words before that of the form.
+pub(crate) fn copy_summed<W: Words, A: Allocator>(
+    n: usize,
+    words: &W,
+    kept: &mut Vec<u64, A>,
+) -> u64
+    requires long { length (W.words words.now) ≡ limb_count n + FRAME }
+    requires none { kept.old.items ≡ [] }
+    requires empty { vec_len kept.old ≡ 0 }
+    requires room { limb_count n ≤ vec_capacity kept.old }
+    ensures items { kept.new.items ≡ words_among n (W.words words.now) }
+    ensures sum { result ≡ check_sum (take (limb_count n + 5) (W.words words.now)) }
 {
-    let end = n.div_ceil(64) + FRAME - 1;
-    words.word(end) == sum_before(end, words)
+    let mut sum = sum_before(5, words);
+    for k in 0..n.div_ceil(64) {
+        let word = words.word(k + 5);
+        kept.push_reserved(word);
+        sum = mixed(sum, word);
+    }
+    sum
 }
 
 // Whether the word that the last of `n` bits lies in holds no one past them.

@@ -1,5 +1,5 @@
 //! Each request for memory refused, and heads that say more than there is.
-use crate::stored::{BITS, HOSTILE, POSTINGS, SORTED, SPARSE, SYMBOLS, VALUES};
+use crate::stored::{BITS, HOSTILE, PADDING, POSTINGS, SORTED, SPARSE, SYMBOLS, VALUES};
 use postings::Postings;
 use std::alloc::{AllocError, Allocator, Global};
 use test_alloc::{Ending, Refusing, done_if, out_of_memory_if};
@@ -87,6 +87,28 @@ fn each_request_refused(rt: HostRuntime) {
     assert!(rt; ends_well(rt.alloc(), |heap: &Heap| tried_blocks(heap)));
     assert!(rt; ends_well(rt.alloc(), |heap: &Heap| tried_symbols(heap)));
     assert!(rt; ends_well(rt.alloc(), |heap: &Heap| tried_documents(heap)));
+}
+
+// The fault of a load from a slice whose first request is refused.
+fn fault_without_memory<'a>(heap: &'a Heap, bytes: &[u8]) -> Option<LoadError> {
+    heap.start();
+    let loaded: Result<BitVec<&'a Heap>, LoadError> = load_from_slice(heap, bytes);
+    loaded.err()
+}
+
+#[test]
+fn faults_are_told_where_no_memory_is(rt: HostRuntime) {
+    let mut other = BITS;
+    other[40] ^= 1;
+    for (bytes, fault) in [
+        (BITS, LoadError::Memory),
+        (other, LoadError::BadSum),
+        (PADDING, LoadError::BadPadding),
+    ] {
+        let heap = Refusing::after_start(rt.alloc(), 1);
+        assert!(rt; fault_without_memory(&heap, &bytes) == Some(fault));
+        assert!(rt; heap.refused() == 1);
+    }
 }
 
 // How a load from a reader ends where a request is refused.
