@@ -51,9 +51,9 @@ pub mod rmq {
 /// Lists of symbols of one width.
 pub mod wavelet {
     pub use vers_wavelet::wavelet::{
-        GetQuery, QuantileQuery, RankQuery, SelectQuery, WaveletIter, WaveletMatrix,
-        WaveletNumIter, WaveletNumRefIter, WaveletRefIter, WaveletSortedIter, WaveletSortedNumIter,
-        WaveletSortedNumRefIter, WaveletSortedRefIter,
+        Gathered, GatheredQuery, GetQuery, QuantileQuery, RankQuery, SelectQuery, WaveletIter,
+        WaveletMatrix, WaveletNumIter, WaveletNumRefIter, WaveletRefIter, WaveletSortedIter,
+        WaveletSortedNumIter, WaveletSortedNumRefIter, WaveletSortedRefIter,
     };
 }
 

@@ -31,6 +31,13 @@ top_digit s k =
     let e : k + 1 ≡ 1 + k = omega arith in
     ap (λ n. s % 2 ^ n) e ∙ mod-pow-add s 1 k ∙ ap (λ d. d * 2 ^ k + s % 2 ^ k) (sym (digit_value s k))
 
+-- a digit and what is less than its weight are told apart in their sum
+pub one_split : (b c : Bool) (w x y : ℕ) → x < w → y < w → bit_value b * w + x ≡ bit_value c * w + y → (b ≡ c) × (x ≡ y)
+one_split true true w x y less fewer e = (refl, omega (arith, e))
+one_split true false w x y less fewer e = absurd (omega (arith, e, less, fewer))
+one_split false true w x y less fewer e = absurd (omega (arith, e, less, fewer))
+one_split false false w x y less fewer e = (refl, omega (arith, e))
+
 clear_digit : (s k : ℕ) → s % 2 ^ (k + 1) ≡ 0 → digit s k ≡ false
 clear_digit s k clear = off (digit s k) (omega (arith, top_digit s k))
   where

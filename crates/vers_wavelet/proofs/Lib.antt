@@ -3,6 +3,7 @@ pub mod Values
 pub mod Steps
 pub mod Members
 pub mod Lists
+pub mod Gathered
 pub mod Makes
 pub mod BySize
 pub mod Items

@@ -60,7 +60,7 @@ over_places ls n a b t order within =
     omega (arith, range_hits q a (b - a), ap (hits q) e, low, high)
 
 -- a count over the members of a range
-first_hits : (t : ℕ → Bool) (ls : List (List Bool)) (n i : ℕ) → i ≤ n → count_by t (take i (values ls n)) ≡ hits (λ p. t (value ls p)) i
+pub first_hits : (t : ℕ → Bool) (ls : List (List Bool)) (n i : ℕ) → i ≤ n → count_by t (take i (values ls n)) ≡ hits (λ p. t (value ls p)) i
 first_hits t ls n zero h = refl
 first_hits t ls n (suc i) h =
     let more : count_by t (take (i + 1) (values ls n)) ≡ count_by t (take i (values ls n)) + cond (t (get_or (values ls n) i 0)) 1 0 =

@@ -1,7 +1,7 @@
 -- One level of a search.
 use Rattle.std.proofs.Common.{◌≡◌, ℕ, zero, suc, ◌+◌, ◌-◌, ◌*◌, ◌%◌, ◌^◌, ◌<◌, ◌≤◌, Bool, true, false, cond, List, [], ◌∷◌, length, take, drop, get_or, refl, sym, ap, ◌∙◌, subst, arith, add-one, inl, inr}
 use Rattle.std.proofs.Math.Seq.{drop-cons}
-use Rattle.std.proofs.Math.Nat.{pow-suc, mod-lt, mul-le-mul_right}
+use Rattle.std.proofs.Math.Nat.{pow-suc, mod-lt, mod-eq_of_lt, mul-le-mul_right}
 use Rattle.std.proofs.lemmas.Bool.{cases_lt}
 use Rattle.std.proofs.lemmas.Nat.{pow_pos}
 use Rattle.std.proofs.lemmas.List.{length-drop, drop_all, take_all}
@@ -9,7 +9,7 @@ use Rattle.vers_bits.specs.Bits.{bit_value, count, select}
 use Rattle.vers_bits.proofs.PublicLaws.{select_holds}
 use Rattle.vers_tally.specs.Reads.{Reads, IsWithin, times}
 use Rattle.vers_wavelet.specs.Levels.{start, next, value, under, equal, way, digit, Even, AreLevels, Narrowed, KthOf, HasRoom, Searched, Rises}
-use Rattle.vers_wavelet.proofs.Digits.{top_digit}
+use Rattle.vers_wavelet.proofs.Digits.{top_digit, one_split}
 use Rattle.vers_wavelet.proofs.Values.{same_bit, value-lt, one_more, under_all, under_low, under_high, equal_under, under_none, next_none, next-up, next-le, none_under, all_equal, one_under, value_is, value_none, way_none, way_is, way-up, equal_more}
 
 pub under_step : (bit : Bool) (l : List Bool) (ls : List (List Bool)) (s i : ℕ) → s ≤ 2 ^ length ls → i ≤ length l
@@ -85,7 +85,7 @@ even_rest l ls n even = λ k d h. even (suc k) d (omega arith)
 pub even_first : (l : List Bool) (ls : List (List Bool)) (n : ℕ) → Even (l ∷ ls) n → length l ≡ n
 even_first l ls n even = even zero l (omega arith)
 
-start_le : (bit : Bool) (l : List Bool) → start bit l ≤ length l
+pub start_le : (bit : Bool) (l : List Bool) → start bit l ≤ length l
 start_le bit l = omega (arith, next_none bit l, next-le bit l 0)
 
 -- the places that hold s before a place are as far apart below the last level
@@ -269,16 +269,27 @@ module _ (ls : List (List Bool)) (k : ℕ) (h : k < length ls) (v : List Bool) (
       rw (same, r) (searched_low (omega arith) within s)
 
   -- one level of the symbol at a place
+  read_here : (bit : Bool) (p : ℕ) → get_or v p false ≡ bit → value (drop k ls) p ≡ bit_value bit * weight + value (drop (k + 1) ls) (next bit v p)
+  read_here bit p is =
+      ap (λ m. value m p) (level_at ls k h v at) ∙ value_is v (drop (k + 1) ls) p bit is
+      ∙ ap (λ n. bit_value bit * 2 ^ n + value (drop (k + 1) ls) (next bit v p)) (levels_left ls k h)
+
   pub read_more : (bit : Bool) (p number x : ℕ) → get_or v p false ≡ bit
       → number + value (drop k ls) p ≡ x
       → number + bit_value bit * weight + value (drop (k + 1) ls) (next bit v p) ≡ x
-  read_more bit p number x is e =
-      let here : value (drop k ls) p ≡ bit_value bit * weight + value (drop (k + 1) ls) (next bit v p) =
-      ap (λ m. value m p) (level_at ls k h v at) ∙ value_is v (drop (k + 1) ls) p bit is
-      ∙ ap (λ n. bit_value bit * 2 ^ n + value (drop (k + 1) ls) (next bit v p)) (levels_left ls k h) in
-      omega (arith, e, here)
+  read_more bit p number x is e = omega (arith, e, read_here bit p is)
+
+  -- where the digits of s from the level on are held, the bit is the first of them, and the next level holds the others
+  pub held_more : (bit : Bool) (s p : ℕ) → get_or v p false ≡ bit → value (drop k ls) p ≡ s % 2 ^ (length ls - k)
+      → (bit ≡ digit s (length ls - (k + 1))) × (value (drop (k + 1) ls) (next bit v p) ≡ s % 2 ^ (length ls - (k + 1)))
+  held_more bit s p is holds =
+      let small : value (drop (k + 1) ls) (next bit v p) < weight = omega (arith, value-lt (drop (k + 1) ls) (next bit v p), ap (λ n. 2 ^ n) (levels_left ls k h)) in
+      one_split bit (digit s (length ls - (k + 1))) weight _ _ small (mod-lt s (pow_pos (length ls - (k + 1)))) (sym (read_here bit p is) ∙ holds ∙ digit_from s (length ls) k h)
 
 -- with no level read yet
+pub held_all : (ls : List (List Bool)) (p : ℕ) → value ls p ≡ value ls p % 2 ^ (length ls - 0)
+held_all ls p = let e : length ls - 0 ≡ length ls = omega arith in sym (ap (λ n. value ls p % 2 ^ n) e ∙ mod-eq_of_lt (value-lt ls p))
+
 pub all_levels : (width k : ℕ) {number : ℕ} → HasRoom width k number → HasRoom width (k - 0) number
 all_levels width k {number} room = let e : k ≡ k - 0 = omega arith in subst (λ (j : ℕ). HasRoom width j number) e room
 

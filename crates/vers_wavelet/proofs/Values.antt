@@ -108,7 +108,7 @@ under_high l ls y (suc i) h =
           omega (arith, before, more, stays, goes)
     ])
 
-tests_add : (v s : ℕ) → cond (eqb v s) 1 0 + cond (ltb v s) 1 0 ≡ cond (ltb v (s + 1)) 1 0
+pub tests_add : (v s : ℕ) → cond (eqb v s) 1 0 + cond (ltb v s) 1 0 ≡ cond (ltb v (s + 1)) 1 0
 tests_add v s = grind (arith, nat_tests)
 
 -- those that hold s are those below s + 1 and not below s
@@ -193,11 +193,11 @@ next_other l i h = omega (arith, count_both l i)
 pub ruleset others = (next_other, next-le)
 
 -- the places of the next level from the first of the ones on are those of the ones, and those before it those of the zeros
-next_true_all : (l : List Bool) → next true l (length l) ≡ length l
+pub next_true_all : (l : List Bool) → next true l (length l) ≡ length l
 unfolding next
 next_true_all l = omega (arith, count_both l (length l))
 
-next_false_all : (l : List Bool) → next false l (length l) ≡ count false l (length l)
+pub next_false_all : (l : List Bool) → next false l (length l) ≡ count false l (length l)
 unfolding next
 next_false_all l = omega arith
 

@@ -1,6 +1,6 @@
 -- Lists of symbols: where a symbol stands in a range of them, and the members of a range by size.
 -- A symbol is a number; a range from a to b has the members at the places from a on, before b.
-use Rattle.std.specs.Prelude.{ℕ, ◌-◌, ◌<◌, ◌≤◌, ◌==◌, Bool, true, false, List, [], ◌∷◌, length, slice_index, slice_get, slice_range, filter, find, map, count_by, min, nat_lt, nat_le, All, Contains, Option, None, if◌then◌else◌}
+use Rattle.std.specs.Prelude.{ℕ, zero, suc, ◌+◌, ◌-◌, ◌*◌, ◌<◌, ◌≤◌, ◌==◌, Bool, true, false, List, [], ◌∷◌, length, slice_index, slice_get, slice_range, filter, find, map, count_by, min, nat_lt, nat_le, All, Contains, Option, None, if◌then◌else◌}
 use Rattle.std.specs.Int.{bit_at}
 use Rattle.std.specs.List.{range_with_len, sum_by, last_or}
 use Rattle.vers_bits.specs.Bits.{low_bits}
@@ -14,6 +14,19 @@ pub record Symbols : Type 0 where
 -- the places of a range that hold the symbol s, ascending
 unfoldable pub occurrences : List ℕ → ℕ → ℕ → ℕ → List ℕ
 occurrences items a b s = filter (λ p. slice_index items p == s) (range_with_len a (b - a))
+
+-- the number that the k lowest digits of s make where they are read from the lowest to the highest
+unfoldable pub turned : ℕ → ℕ → ℕ
+turned zero s = 0
+turned (suc k) s = 2 * turned k s + bit_at s k
+
+-- how many symbols come before each s where symbols are put in the order of their digits from the lowest to the highest: equal ones are gathered there
+abbrev pub gathered_before : Symbols → ℕ → ℕ
+gathered_before symbols s = count_by (λ y. nat_lt (turned symbols.width y) (turned symbols.width s)) symbols.items
+
+-- where the first s from a place on goes in that order, in which equal symbols keep the order of their places
+abbrev pub gathered : Symbols → ℕ → ℕ → ℕ
+gathered symbols place s = gathered_before symbols s + length (occurrences symbols.items 0 place s)
 
 -- a is a place of the list, and b lies from a up to the length of the list
 abbrev pub BeginsInside : ℕ → ℕ → List ℕ → Type 0

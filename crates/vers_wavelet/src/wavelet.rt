@@ -6,6 +6,7 @@ mod batch;
 mod count;
 pub(crate) mod digits;
 mod find;
+mod gathered;
 mod iter;
 mod level;
 mod make;
@@ -18,7 +19,8 @@ mod sizes;
 mod walk;
 mod way;
 
-pub use batch::{GetQuery, QuantileQuery, RankQuery, SelectQuery};
+pub use batch::{GatheredQuery, GetQuery, QuantileQuery, RankQuery, SelectQuery};
+pub use gathered::Gathered;
 pub use iter::{
     BySize, InOrder, Lists, Matrix, Numbers, Order, SortedLists, SortedNumbers, SymbolLists,
     WaveletIter, WaveletNumIter, WaveletNumRefIter, WaveletRefIter, WaveletSortedIter,

@@ -5,12 +5,14 @@ ghost use Rattle.vers_rank.specs.Queries.{rank_reads};
 ghost use Rattle.vers_wavelet.specs.Levels.{AreLevels};
 ghost use Rattle.vers_wavelet.specs.Batches.{Become};
 
+mod gathered;
 mod get;
 mod group;
 mod quantile;
 mod rank;
 mod select;
 
+pub use gathered::GatheredQuery;
 pub use get::GetQuery;
 pub use quantile::QuantileQuery;
 pub use rank::RankQuery;

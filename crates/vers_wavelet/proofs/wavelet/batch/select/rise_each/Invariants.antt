@@ -1,4 +1,4 @@
-use Rattle.std.proofs.Common.{◌≡◌, ◌-◌, ◌≤◌, length}
+use Rattle.std.proofs.Common.{◌≡◌, ◌-◌, ◌≤◌}
 use Rattle.vers_tally.specs.Reads.{AddsAtMost, times}
 use Rattle.vers_rank.specs.Batches.{Changed}
 use Rattle.vers_rank.specs.Queries.{select_reads, superblock_count}

@@ -1,4 +1,4 @@
-use Rattle.std.proofs.Common.{◌≡◌, ℕ, ◌+◌, subst, refl, length}
+use Rattle.std.proofs.Common.{ℕ, subst, refl, length}
 use Rattle.vers_tally.specs.Reads.{AddsAtMost, times}
 use Rattle.vers_rank.specs.Queries.{select_reads, superblock_count}
 use Rattle.vers_rank.proofs.PublicLaws.{adds_times}

@@ -1,0 +1,175 @@
+-- Where the way down of a symbol ends: behind the symbols whose digits from the lowest to the highest make a lesser number, and those that are equal and stand before.
+use Rattle.std.proofs.Common.{◌≡◌, ℕ, zero, suc, ◌+◌, ◌-◌, ◌*◌, ◌%◌, ◌^◌, ◌<◌, ◌≤◌, Bool, true, false, cond, ltb, eqb, List, [], ◌∷◌, length, get_or, refl, sym, ap, ◌∙◌, arith, add-one, inl, inr}
+use Rattle.std.proofs.Math.Nat.{mod-lt, mod-eq_of_lt}
+use Rattle.std.specs.Prelude.{filter, slice_get, Some}
+use Rattle.std.specs.List.{count_by, range_with_len}
+use Rattle.std.proofs.lemmas.Bool.{cases_Bool, cases_eq, eq-eqb, ne_eqb}
+use Rattle.std.proofs.lemmas.Bool.Decides.{nat_tests}
+use Rattle.std.proofs.lemmas.List.{take_all}
+use Rattle.std.proofs.lemmas.Nat.{pow_pos}
+use Rattle.vers_bits.specs.Bits.{bit_value, is_bit}
+use Rattle.vers_wavelet.specs.Levels.{start, next, value, values, hits, equal, way, digit, Even, AreLevels}
+use Rattle.vers_wavelet.specs.Symbols.{turned, gathered, occurrences}
+use Rattle.vers_wavelet.proofs.Answering.{get_begins}
+use Rattle.vers_wavelet.proofs.Counting.{split_apart}
+use Rattle.vers_wavelet.proofs.Digits.{digit_value, top_digit, one_split}
+use Rattle.vers_wavelet.proofs.Lists.{count_is, first_hits, length-values}
+use Rattle.vers_wavelet.proofs.Steps.{even_rest, even_first, start_le, way_equal}
+use Rattle.vers_wavelet.proofs.Values.{next_none, next_yes, next_no, next_true_all, next_false_all, tests_add, value-lt, value_is, way_none, way_is, way-up}
+
+-- ---- numbers by their digits from the lowest on
+
+top : (s k : ℕ) → s % 2 ^ suc k ≡ bit_value (digit s k) * 2 ^ k + s % 2 ^ k
+top s k = ap (λ m. s % 2 ^ m) (sym (add-one k)) ∙ top_digit s k
+
+turned_more : (k s : ℕ) → turned (suc k) s ≡ 2 * turned k s + bit_value (digit s k)
+unfolding turned
+turned_more k s = ap (λ d. 2 * turned k s + d) (sym (digit_value s k))
+
+-- they tell the digits, and the digits them
+turned_same : (k s t : ℕ) → s % 2 ^ k ≡ t % 2 ^ k → turned k s ≡ turned k t
+unfolding turned
+turned_same zero s t e = refl
+turned_same (suc k) s t e =
+    let parts = one_split (digit s k) (digit t k) (2 ^ k) _ _ (mod-lt s (pow_pos k)) (mod-lt t (pow_pos k)) (sym (top s k) ∙ e ∙ top t k) in
+    turned_more k s ∙ ap (λ d. 2 * turned k s + bit_value d) parts.0 ∙ ap (λ x. 2 * x + bit_value (digit t k)) (turned_same k s t parts.1) ∙ sym (turned_more k t)
+
+turned_apart : (k s t : ℕ) → turned k s ≡ turned k t → s % 2 ^ k ≡ t % 2 ^ k
+turned_apart zero s t e =
+    let none : (x : ℕ) → x % 2 ^ 0 ≡ 0 = λ x. omega arith in
+    none s ∙ sym (none t)
+turned_apart (suc k) s t e =
+    let parts = split_apart (turned k t) (turned k s) (digit t k) (digit s k) (sym (turned_more k s) ∙ e ∙ turned_more k t) in
+    top s k ∙ ap (λ d. bit_value d * 2 ^ k + s % 2 ^ k) parts.1 ∙ ap (λ r. bit_value (digit t k) * 2 ^ k + r) (turned_apart k s t parts.0) ∙ sym (top t k)
+
+turned_tests : (k v s : ℕ) → v < 2 ^ k → eqb (turned k v) (turned k s) ≡ eqb v (s % 2 ^ k)
+turned_tests k v s small =
+    elim (cases_eq v (s % 2 ^ k)) [
+      | inl same ↦ eq-eqb _ _ (turned_same k v s (mod-eq_of_lt small ∙ same)) ∙ sym (eq-eqb _ _ same)
+      | inr other ↦ ne_eqb _ _ (λ e. other (sym (mod-eq_of_lt small) ∙ turned_apart k v s e)) ∙ sym (ne_eqb _ _ other)
+    ]
+
+-- a symbol's first digit becomes its last
+turned_value : (l : List Bool) (ls : List (List Bool)) (p : ℕ) (b : Bool) → get_or l p false ≡ b → turned (suc (length ls)) (value (l ∷ ls) p) ≡ 2 * turned (length ls) (value ls (next b l p)) + bit_value b
+turned_value l ls p b is =
+    let k : ℕ = length ls in
+    let v : ℕ = value (l ∷ ls) p in
+    let w : ℕ = value ls (next b l p) in
+    let small : w < 2 ^ k = value-lt ls (next b l p) in
+    let parts = one_split (digit v k) b (2 ^ k) (v % 2 ^ k) w (mod-lt v (pow_pos k)) small (sym (top v k) ∙ mod-eq_of_lt (value-lt (l ∷ ls) p) ∙ value_is l ls p b is) in
+    turned_more k v ∙ ap (λ d. 2 * turned k v + bit_value d) parts.0 ∙ ap (λ x. 2 * x + bit_value b) (turned_same k v w (parts.1 ∙ sym (mod-eq_of_lt small)))
+
+low_test : (bit : Bool) (a t : ℕ) → ltb (2 * a + 0) (2 * t + bit_value bit) ≡ ltb a (t + bit_value bit)
+low_test true a t = grind (arith, nat_tests)
+low_test false a t = grind (arith, nat_tests)
+
+high_test : (bit : Bool) (a t : ℕ) → ltb (2 * a + 1) (2 * t + bit_value bit) ≡ ltb a t
+high_test true a t = grind (arith, nat_tests)
+high_test false a t = grind (arith, nat_tests)
+
+-- ---- counts over the places of a level
+
+-- the zeros and the ones of a level go to places of their own in the next
+split_hits : (l : List Bool) (h f g : ℕ → Bool) → ((p : ℕ) → get_or l p false ≡ false → h p ≡ f (next false l p)) → ((p : ℕ) → get_or l p false ≡ true → h p ≡ g (next true l p))
+    → (i : ℕ) → i ≤ length l → hits h i + hits g (start true l) ≡ hits f (next false l i) + hits g (next true l i)
+split_hits l h f g low high zero within =
+    let none : next false l 0 ≡ 0 = next_none false l in
+    omega (arith, ap (hits f) none, ap (hits g) (next_none true l))
+split_hits l h f g low high (suc i) within =
+    let before = split_hits l h f g low high i (omega (arith, within)) in
+    let inside : i < length l = omega (arith, within) in
+    rw (← add-one i) (elim (cases_Bool (get_or l i false)) [
+      | inl on ↦
+          let here : cond {A = ℕ} (h i) 1 0 ≡ cond (g (next true l i)) 1 0 = ap {B = ℕ} (λ t. cond t 1 0) (high i on) in
+          let goes : next true l (i + 1) ≡ suc (next true l i) = next_yes true l i inside (ap (is_bit true) on) ∙ add-one _ in
+          let stays : next false l (i + 1) ≡ next false l i = next_no false l i inside (ap (is_bit false) on) in
+          let more : hits h (i + 1) ≡ hits h i + cond (h i) 1 0 = ap (hits h) (add-one i) in
+          omega (arith, before, here, more, ap (hits g) goes, ap (hits f) stays)
+      | inr off ↦
+          let here : cond {A = ℕ} (h i) 1 0 ≡ cond (f (next false l i)) 1 0 = ap {B = ℕ} (λ t. cond t 1 0) (low i off) in
+          let goes : next false l (i + 1) ≡ suc (next false l i) = next_yes false l i inside (ap (is_bit false) off) ∙ add-one _ in
+          let stays : next true l (i + 1) ≡ next true l i = next_no true l i inside (ap (is_bit true) off) in
+          let more : hits h (i + 1) ≡ hits h i + cond (h i) 1 0 = ap (hits h) (add-one i) in
+          omega (arith, before, here, more, ap (hits f) goes, ap (hits g) stays)
+    ])
+
+-- whether a place holds a symbol whose digits make a number below t from the lowest to the highest
+abbrev lies_before : List (List Bool) → ℕ → ℕ → Bool
+lies_before ls t p = ltb (turned (length ls) (value ls p)) t
+
+or_equal : (ls : List (List Bool)) (s n : ℕ) → hits (lies_before ls (turned (length ls) s + 1)) n ≡ hits (lies_before ls (turned (length ls) s)) n + equal ls (s % 2 ^ length ls) n
+unfolding equal
+or_equal ls s zero = refl
+or_equal ls s (suc n) =
+    let same : cond {A = ℕ} (eqb (turned (length ls) (value ls n)) (turned (length ls) s)) 1 0 ≡ cond (eqb (value ls n) (s % 2 ^ length ls)) 1 0 =
+    ap {B = ℕ} (λ t. cond t 1 0) (turned_tests (length ls) (value ls n) s (value-lt ls n)) in
+    omega (arith, or_equal ls s n, same, tests_add (turned (length ls) (value ls n)) (turned (length ls) s))
+
+-- those of the zeros lie before s too where they are equal to it but for a first digit that is 1
+with_zeros : (bit : Bool) (l : List Bool) (ls : List (List Bool)) (s : ℕ)
+    → hits (lies_before ls (turned (length ls) s + bit_value bit)) (start true l) ≡ hits (lies_before ls (turned (length ls) s)) (start true l) + equal ls (s % 2 ^ length ls) (start bit l)
+unfolding equal
+with_zeros true l ls s = or_equal ls s (start true l)
+with_zeros false l ls s =
+    let same : turned (length ls) s + 0 ≡ turned (length ls) s = omega arith in
+    ap (λ t. hits (lies_before ls t) (start true l)) same ∙ omega arith
+
+none_before : (s n : ℕ) → hits (lies_before [] (turned 0 s)) n ≡ 0
+unfolding turned
+none_before s zero = refl
+none_before s (suc n) = omega (arith, none_before s n)
+
+way_first : (ls : List (List Bool)) (n : ℕ) → Even ls n → (s : ℕ) → way ls s 0 ≡ hits (lies_before ls (turned (length ls) s)) n
+way_first [] n even s = way_none s 0 ∙ sym (none_before s n)
+way_first (l ∷ ls) n even s =
+    let k : ℕ = length ls in
+    let bit : Bool = digit s k in
+    let t : ℕ = turned k s in
+    let rest = even_rest l ls n even in
+    let long : length l ≡ n = even_first l ls n even in
+    let test : (p : ℕ) (b : Bool) → get_or l p false ≡ b → lies_before (l ∷ ls) (turned (suc k) s) p ≡ ltb (2 * turned k (value ls (next b l p)) + bit_value b) (2 * t + bit_value bit) =
+    λ p b is. ap (λ x. ltb x (turned (suc k) s)) (turned_value l ls p b is) ∙ ap (λ x. ltb (2 * turned k (value ls (next b l p)) + bit_value b) x) (turned_more k s) in
+    let parts = split_hits l (lies_before (l ∷ ls) (turned (suc k) s)) (lies_before ls (t + bit_value bit)) (lies_before ls t)
+    (λ p off. test p false off ∙ low_test bit (turned k (value ls (next false l p))) t)
+    (λ p on. test p true on ∙ high_test bit (turned k (value ls (next true l p))) t) n (omega (arith, long)) in
+    let zeros : next false l n ≡ start true l = ap (next false l) (sym long) ∙ next_false_all l in
+    let ones : next true l n ≡ n = ap (next true l) (sym long) ∙ next_true_all l ∙ long in
+    omega (
+      arith,
+      parts,
+      ap (hits (lies_before ls (t + bit_value bit))) zeros,
+      ap (hits (lies_before ls t)) ones,
+      with_zeros bit l ls s,
+      way_first ls n rest s,
+      way_equal ls n rest s (start bit l) (omega (arith, start_le bit l, long)),
+      way_is l ls s 0,
+      ap (way ls s) (next_none bit l),
+    )
+
+-- where the way down of a symbol from a place on ends
+pub gathered_is : {ls : List (List Bool)} {n : ℕ} → AreLevels ls n → (s p to : ℕ) → p ≤ n → to ≡ way ls s p
+    → to ≡ gathered (record { width = length ls; items = values ls n }) p (s % 2 ^ length ls)
+gathered_is {ls} {n} levels s p to within leads =
+    let k : ℕ = length ls in
+    let c : ℕ = s % 2 ^ k in
+    let t : ℕ = turned k c in
+    let same : t ≡ turned k s = turned_same k c s (mod-eq_of_lt (mod-lt s (pow_pos k))) in
+    let counted : count_by (λ y. ltb (turned k y) t) (values ls n) ≡ hits (lies_before ls t) n =
+    ap (λ (l : List ℕ). count_by (λ y. ltb (turned k y) t) l) (sym (take_all n (values ls n) (omega (arith, length-values ls n)))) ∙ first_hits (λ y. ltb (turned k y) t) ls n n (omega arith) in
+    let first : way ls s 0 ≡ hits (lies_before ls t) n = way_first ls n levels.even s ∙ ap (λ x. hits (lies_before ls x) n) (sym same) in
+    omega (arith, leads, counted, first, count_is levels s 0 p (way ls s 0) (way ls s p) (omega arith) within (omega arith), way-up ls s 0 p (omega arith))
+
+-- the same of the symbol at the place
+pub gathered_here : {ls : List (List Bool)} {n : ℕ} → AreLevels ls n → (p to c : ℕ) → p < n → to ≡ way ls (value ls p) p → c ≡ 0 + value ls p
+    → (slice_get (values ls n) p ≡ Some c) × (to ≡ gathered (record { width = length ls; items = values ls n }) p c)
+gathered_here {ls} {n} levels p to c within leads is = (
+  sym (ap Some is ∙ get_begins ls n p within),
+  gathered_is levels (value ls p) p to (omega (arith, within)) leads ∙ ap (gathered (record { width = length ls; items = values ls n }) p) (mod-eq_of_lt (value-lt ls p) ∙ omega (arith, is)),
+)
+
+-- a range that ends before it begins has no places
+pub no_places : (items : List ℕ) (a b s : ℕ) → b ≤ a → length (occurrences items a b s) ≡ 0
+unfolding occurrences
+no_places items a b s past =
+    let none : b - a ≡ 0 = omega (arith, past) in
+    ap (λ k. length (filter (λ p. eqb (get_or items p 0) s) (range_with_len a k))) none

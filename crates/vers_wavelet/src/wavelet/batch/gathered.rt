@@ -1,0 +1,107 @@
+//! Where symbols are gathered, asked many times.
+ghost use Rattle.std.specs.Prelude.{◌≡◌, ℕ, ◌%◌, ◌^◌, ◌≤◌, ◌&&◌, List, Bool, Option, Some, None, length, map, nat_le, option_map, IfSome, if◌then◌else◌};
+ghost use Rattle.vers_tally.specs.Reads.{AddsAtMost, times};
+ghost use Rattle.vers_wavelet.specs.Levels.{values, way};
+ghost use Rattle.vers_wavelet.specs.Numbers.{low_bits_of};
+ghost use Rattle.vers_wavelet.specs.Symbols.{gathered};
+ghost use Rattle.vers_wavelet.specs.Reads.{walk_reads};
+
+use crate::wavelet::WaveletMatrix;
+use crate::wavelet::batch::{Query, ask_each};
+use crate::wavelet::digits::Digits;
+use crate::wavelet::level::next_place;
+use std::alloc::Allocator;
+use vers_rank::fast_rs_vec::RsVec;
+use vers_tally::tally::Tally;
+
+/// A place and a symbol that is to be gathered from there on, and the answer.
+#[derive(Clone, Copy, Drop)]
+pub struct GatheredQuery {
+    /// The place.
+    pub place: usize,
+    /// The symbol, of which the low digits count.
+    pub symbol: u64,
+    /// Where the first such symbol from the place on goes, once the query is answered.
+    pub answer: Option<usize>,
+}
+
+impl GatheredQuery {
+    /// A query for where the first of a symbol from a place on goes.
+    #[inline]
+    pub fn new(place: usize, symbol: u64) -> Self
+        ensures place { result.place ≡ place }
+        ensures symbol { result.symbol ≡ symbol }
+        ensures answer { result.answer ≡ None }
+    {
+        GatheredQuery {
+            place,
+            symbol,
+            answer: None,
+        }
+    }
+}
+
+impl Query for GatheredQuery {
+    ghost keeps = { λ n k q. IfSome q.answer (λ p. (p ≤ n) × (k ≤ 64)) };
+
+    ghost stays = { λ q. (q.place, q.symbol) };
+
+    ghost outcome = { λ ls q. option_map (λ p. way ls q.symbol p) q.answer };
+
+    ghost meaning = { λ ls n q. if nat_le (length ls) 64 && nat_le q.place (length (values ls n))
+        then Some (gathered (record { width = length ls; items = values ls n }) q.place
+        (q.symbol % 2 ^ length ls))
+        else None };
+
+    #[inline(always)]
+    fn begin(self, levels: usize, len: usize) -> Self {
+        let is_known = levels <= 64 && self.place <= len;
+        GatheredQuery {
+            place: self.place,
+            symbol: self.symbol,
+            answer: if is_known { Some(self.place) } else { None },
+        }
+    }
+
+    #[inline(always)]
+    #[tactic(auto, using(crate::proofs::Values::parts))]
+    fn step<A: Allocator + Copy>(self, level: &RsVec<A>, i: usize, tally: &mut Tally) -> Self {
+        let Some(place) = self.answer else {
+            return self;
+        };
+        let bit = self.symbol.digit(i);
+        GatheredQuery {
+            place: self.place,
+            symbol: self.symbol,
+            answer: Some(next_place(level, bit, place, tally)),
+        }
+    }
+}
+
+#[tactic(auto, using(crate::proofs::Lists::lists))]
+impl<A: Allocator + Copy> WaveletMatrix<A> {
+    /// Where the first of many symbols go, each from a place on, as `gathered_u64` answers: none takes memory, and all
+    /// are asked level by level, which is faster than one after the other where there are many.
+    pub fn gathered_u64_each(&self, queries: &mut [GatheredQuery])
+        ensures { map (λ q. q.answer) queries.new ≡ map (λ q.
+            if nat_le self.now.width 64 && nat_le q.place (length self.now.items)
+            then Some (gathered self.now q.place (low_bits_of self.now q.symbol))
+            else None) queries.old }
+    {
+        let mut tally = Tally::new();
+        self.gathered_u64_each_counted(queries, &mut tally)
+    }
+
+    /// The same as `gathered_u64_each`, by at most two ranks of each level for each query.
+    #[inline(always)]
+    pub fn gathered_u64_each_counted(&self, queries: &mut [GatheredQuery], tally: &mut Tally)
+        ensures value { map (λ q. q.answer) queries.new ≡ map (λ q.
+            if nat_le self.now.width 64 && nat_le q.place (length self.now.items)
+            then Some (gathered self.now q.place (low_bits_of self.now q.symbol))
+            else None) queries.old }
+        ensures adds { AddsAtMost tally.old tally.new
+            (times (length queries.old) (walk_reads self.now)) }
+    {
+        ask_each(&self.levels, self.len, queries, tally);
+    }
+}
