@@ -3,6 +3,7 @@
 //! An `assert!` of an `==` is faster to prove than an `assert_eq!`, which prints both sides.
 mod batches;
 mod compared;
+mod gathered;
 mod iterators;
 mod lists;
 mod makers;

@@ -124,7 +124,12 @@ fn has_none<A: Allocator + Copy>(list: &WaveletMatrix<A>, rows: &[(Query, Option
             return false;
         }
     }
-    list.iter_u64().is_none() && list.iter_sorted_u64().is_none() && batches_have_none(list)
+    list.iter_u64().is_none()
+        && list.iter_sorted_u64().is_none()
+        && list.get_gathered_u64(0).is_none()
+        && list.gathered_u64(0, 5).is_none()
+        && list.gathered_range_u64(0..6, 5).is_none()
+        && batches_have_none(list)
 }
 
 // Whether no query of a batch has an answer, also where it had one before.
