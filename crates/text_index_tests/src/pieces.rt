@@ -93,7 +93,7 @@ fn reads_of_pieces(alloc: Global) -> Result<(u64, u64, u64), TextError> {
 fn a_piece_reads_within_its_bound(rt: HostRuntime) {
     match reads_of_pieces(rt.alloc()) {
         Ok((rank_calls, items, low_parts)) => {
-            assert!(rt; rank_calls <= (32 + 10) * (4 * 3) && items <= 32 + 10 && low_parts == 1);
+            assert!(rt; rank_calls <= (32 + 10) * (2 * 3) && items <= 32 + 10 && low_parts == 1);
         }
         Err(_) => assert!(rt; false),
     }
