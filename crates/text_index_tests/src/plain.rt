@@ -1,24 +1,12 @@
 //! Texts beside a plain scan, and what the counted calls read.
-use crate::shared::{are_counted, are_listed, periodic};
-use std::alloc::{AllocError, Allocator, Global};
+use crate::shared::{are_counted, are_listed, periodic, scattered};
+use std::alloc::Global;
 use test_alloc::asked;
 use text_index::{TextError, TextIndex};
 use vers_tally::tally::Tally;
 
 // Of how many places one is kept.
 const STEPS: [usize; 4] = [1, 3, 32, usize::MAX];
-
-// Numbers from 0 to 3 that follow no rule that is easily seen.
-fn scattered<A: Allocator + Copy>(alloc: A, n: usize) -> Result<Vec<u64, A>, AllocError> {
-    let mut symbols = Vec::new(alloc);
-    let mut state: u64 = 88172645463325252;
-    for _ in 0..n {
-        state ^= state >> 12;
-        state = state.wrapping_mul(2685821657736338717);
-        symbols.push(state >> 62)?;
-    }
-    Ok(symbols)
-}
 
 // Whether a text of these symbols answers queries of its patterns as a plain scan does.
 fn is_counted_plainly(alloc: Global, symbols: &[u64]) -> bool {
@@ -44,14 +32,14 @@ fn is_listed_plainly(alloc: Global, symbols: &[u64]) -> bool {
 }
 
 fn scattered_is_right(alloc: Global, n: usize) -> bool {
-    match scattered(alloc, n) {
+    match scattered(alloc, n, 2) {
         Ok(symbols) => is_counted_plainly(alloc, symbols.as_slice()),
         Err(_) => false,
     }
 }
 
 fn scattered_is_listed(alloc: Global, n: usize) -> bool {
-    match scattered(alloc, n) {
+    match scattered(alloc, n, 2) {
         Ok(symbols) => is_listed_plainly(alloc, symbols.as_slice()),
         Err(_) => false,
     }
@@ -123,8 +111,8 @@ fn reads_of_one_symbol(
 fn counts_and_places_read_within_their_bounds(rt: HostRuntime) {
     match reads_of_one_symbol(rt.alloc(), 20000) {
         Ok((count, place)) => {
-            assert!(rt; count.0 <= 5 * 4 * 2 && count.1 <= 2 * 5);
-            assert!(rt; place.0 <= 32 * (1 + 4 * 2) + 2 && place.1 <= 32 && place.2 == 1);
+            assert!(rt; count.0 <= 5 * 2 * 2 && count.1 <= 5);
+            assert!(rt; place.0 <= 32 * (1 + 2 * 2) + 2 && place.1 <= 32 && place.2 == 1);
         }
         Err(_) => assert!(rt; false),
     }

@@ -1,8 +1,8 @@
 //! Sizes that a text tells, compared with the memory that it and its clone hold.
-use crate::shared::periodic;
+use crate::shared::{periodic, scattered};
 use std::alloc::{Allocator, Global};
 use std::mem::size_of;
-use test_alloc::{Refusing, Size, Sizing, Spare, first_wrong_size, spare_of};
+use test_alloc::{Refusing, Size, Sizing, Spare, asked, first_wrong_size, spare_of};
 use text_index::TextIndex;
 use vers_rank::fast_rs_vec::RsVec;
 
@@ -58,4 +58,41 @@ impl Sizing<Global> for Kept {
 fn sizes_told_are_held(rt: HostRuntime) {
     let steps = [Kept { step: 1 }, Kept { step: 32 }];
     assert!(rt; first_wrong_size(rt.alloc(), &LENGTHS, &steps).is_none());
+}
+
+// Lengths of texts that are made, up to one whose vectors would show that they grow by doubling.
+const MADE: [usize; 7] = [0, 1, 2, 99, 100, 10_000, 100_000];
+
+// The most bytes held while a text is made: 24 for each place and for each symbol that there may be, and some for each
+// level and the text.
+fn most_at_work(len: usize, width: u16) -> usize {
+    let level: usize = 200;
+    level
+        .wrapping_mul(width as usize)
+        .wrapping_add(24usize.wrapping_mul(len.wrapping_add(1)))
+        .wrapping_add(24usize << width.min(16))
+        .wrapping_add(400)
+}
+
+// Whether no more is held while a text is made.
+fn is_made_within(inner: Global, len: usize, width: u16, step: usize) -> bool {
+    let Ok(symbols) = scattered(inner, len, width) else {
+        return false;
+    };
+    let heap = Refusing::none(inner);
+    let made = asked(
+        TextIndex::with_step(&heap, symbols.as_slice(), width, step),
+        |text: &TextIndex<&Heap>| text.len() == len,
+    );
+    made == Ok(true) && heap.most_held_bytes() <= most_at_work(len, width)
+}
+
+#[test]
+fn texts_are_made_within_their_memory(rt: HostRuntime) {
+    for len in MADE {
+        for width in [2, 8, 16] {
+            assert!(rt; is_made_within(rt.alloc(), len, width, 32));
+        }
+        assert!(rt; is_made_within(rt.alloc(), len, 2, 1));
+    }
 }
