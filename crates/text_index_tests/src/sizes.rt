@@ -87,12 +87,28 @@ fn is_made_within(inner: Global, len: usize, width: u16, step: usize) -> bool {
     made == Ok(true) && heap.most_held_bytes() <= most_at_work(len, width)
 }
 
-#[test]
-fn texts_are_made_within_their_memory(rt: HostRuntime) {
+// Whether texts of all lengths are.
+fn are_made_within(inner: Global, width: u16, step: usize) -> bool {
     for len in MADE {
-        for width in [2, 8, 16] {
-            assert!(rt; is_made_within(rt.alloc(), len, width, 32));
+        if !is_made_within(inner, len, width, step) {
+            return false;
         }
-        assert!(rt; is_made_within(rt.alloc(), len, 2, 1));
     }
+    true
+}
+
+#[test]
+fn bases_are_made_within_their_memory(rt: HostRuntime) {
+    assert!(rt; are_made_within(rt.alloc(), 2, 1));
+    assert!(rt; are_made_within(rt.alloc(), 2, 32));
+}
+
+#[test]
+fn bytes_are_made_within_their_memory(rt: HostRuntime) {
+    assert!(rt; are_made_within(rt.alloc(), 8, 32));
+}
+
+#[test]
+fn wide_symbols_are_made_within_their_memory(rt: HostRuntime) {
+    assert!(rt; are_made_within(rt.alloc(), 16, 32));
 }
