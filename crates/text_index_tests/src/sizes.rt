@@ -63,6 +63,9 @@ fn sizes_told_are_held(rt: HostRuntime) {
 // Lengths of texts that are made, up to one whose vectors would show that they grow by doubling.
 const MADE: [usize; 7] = [0, 1, 2, 99, 100, 10_000, 100_000];
 
+// The same of texts with so many symbols that each takes long to make.
+const WIDE: [usize; 3] = [0, 100, 100_000];
+
 // The most bytes held while a text is made: 24 for each place and for each symbol that there may be, and some for each
 // level and the text.
 fn most_at_work(len: usize, width: u16) -> usize {
@@ -87,10 +90,10 @@ fn is_made_within(inner: Global, len: usize, width: u16, step: usize) -> bool {
     made == Ok(true) && heap.most_held_bytes() <= most_at_work(len, width)
 }
 
-// Whether texts of all lengths are.
-fn are_made_within(inner: Global, width: u16, step: usize) -> bool {
-    for len in MADE {
-        if !is_made_within(inner, len, width, step) {
+// Whether that is so of texts of all lengths.
+fn are_made_within(inner: Global, lengths: &[usize], width: u16, step: usize) -> bool {
+    for len in lengths {
+        if !is_made_within(inner, *len, width, step) {
             return false;
         }
     }
@@ -99,16 +102,16 @@ fn are_made_within(inner: Global, width: u16, step: usize) -> bool {
 
 #[test]
 fn bases_are_made_within_their_memory(rt: HostRuntime) {
-    assert!(rt; are_made_within(rt.alloc(), 2, 1));
-    assert!(rt; are_made_within(rt.alloc(), 2, 32));
+    assert!(rt; are_made_within(rt.alloc(), &MADE, 2, 1));
+    assert!(rt; are_made_within(rt.alloc(), &MADE, 2, 32));
 }
 
 #[test]
 fn bytes_are_made_within_their_memory(rt: HostRuntime) {
-    assert!(rt; are_made_within(rt.alloc(), 8, 32));
+    assert!(rt; are_made_within(rt.alloc(), &MADE, 8, 32));
 }
 
 #[test]
 fn wide_symbols_are_made_within_their_memory(rt: HostRuntime) {
-    assert!(rt; are_made_within(rt.alloc(), 16, 32));
+    assert!(rt; are_made_within(rt.alloc(), &WIDE, 16, 32));
 }
