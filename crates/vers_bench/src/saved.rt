@@ -65,7 +65,9 @@ fn loaded<S: Saved + Drop, L: FnOnce(Global, &[u8]) -> Result<S, LoadError> + Co
 ) -> io::Result<Timed>
     requires { L.IsAlwaysCallable load }
 {
-    let _ = load(report.alloc(), bytes).is_ok();
+    if load(report.alloc(), bytes).is_err() {
+        return Err(no_form());
+    }
     let start = report.rt.thread_cpu_time()?;
     let Ok(list) = load(report.alloc(), bytes) else {
         return Err(no_form());
