@@ -1,24 +1,36 @@
 -- The laws that proofs of other crates may cite. A crate above imports this file and no other of this folder.
-use Rattle.vers_trees.proofs.Words.{◌≡◌, ℕ, ◌+◌, ◌-◌, ◌*◌, ◌<◌, ◌≤◌, ◌↔◌, Decides, Bool, true, false, List, [], ◌∷◌, ◌++◌, map, length, get_or, Option, Some, None, slice_get, option_map, Contains, bit_value, are_balanced, enclosing, Forest, text, pairs, IsBalanced, forest_of, block_count, node_count, nodes, IsNode, parent, depth, level, first_of, last_of, next_of, previous_of, IsAlongLevel, arith, refl, sym, ap, ◌∙◌, take, slice_get_within, length_push, map-append, take_all}
-use Rattle.vers_trees.proofs.kin.Matching as Matching
+use Rattle.vers_trees.proofs.Words.{◌≡◌, ℕ, suc, ◌+◌, ◌-◌, ◌*◌, ◌^◌, ◌<◌, ◌≤◌, ◌↔◌, ⊎_elim, Decides, Bool, true, false, not, List, [], ◌∷◌, ◌++◌, map, length, get_or, eqb, max, Option, Some, None, slice_get, option_map, Contains, bit_value, are_balanced, enclosing, Forest, text, pairs, IsBalanced, forest_of, block_count, clog, node_count, nodes, IsNode, closing, parent, depth, level, first_of, last_of, next_of, previous_of, IsAlongLevel, arith, refl, sym, subst, ap, ◌∙◌, cases_lt, take, get_or_past, same_Some, slice_get-get_or, get_or_from_slice_get, slice_get_within, length_push, map-append, take_all, take_more, Decides-eqb, length-filter_both, clog_least, pow_next}
 use Rattle.vers_trees.proofs.grammar.Balance as Balance
 use Rattle.vers_trees.proofs.grammar.Grammar as Grammar
-use Rattle.vers_trees.proofs.levels.NodeLaws as NodeLaws
-use Rattle.vers_trees.proofs.layout.Widths as Widths
+use Rattle.vers_trees.proofs.grammar.Paired.{closes_rises, closes_falls, paired_closes}
+use Rattle.vers_trees.proofs.grammar.Pairs.{contains_map, paired_from_contains}
+use Rattle.vers_trees.proofs.kin.Around.{parent_is_search}
+use Rattle.vers_trees.proofs.kin.Matching.{found_at_close}
+use Rattle.vers_trees.proofs.kin.NodeList.{one_pair, node_pair, opens}
+use Rattle.vers_trees.proofs.layout.Widths.{some_counted, one_at_least}
+use Rattle.vers_trees.proofs.levels.NodeLaws.{AscendsFrom, nodes_ascend, filter_ascends, next_member, member_before, first_member_before, last_by_number, member_passes, passing_holds}
+use Rattle.vers_trees.proofs.searches.Beside.{enclosing_open, enclosing_close}
 
 -- ---- nodes
 
--- in a balanced list a node opens at each place that holds a one, and nowhere else
-pub node_iff_one : (bits : List Bool) (v : ℕ) → IsBalanced bits → IsNode (forest_of bits) v ↔ (slice_get bits v ≡ Some true)
-node_iff_one = NodeLaws.node_iff_one
+bit_inside : (l : List Bool) (v : ℕ) → get_or l v false ≡ true → v < length l
+bit_inside l v e = ⊎_elim (λ (h : v < length l). h) (λ (h : length l ≤ v). let p = get_or_past l v false h in absurd (cc)) (cases_lt v (length l))
 
--- the same, where a place past the end counts as a zero
+-- in a balanced list a node opens at each place that holds a one, where a place past the end counts as a zero, and nowhere else
 pub node_iff_bit : (bits : List Bool) (v : ℕ) → IsBalanced bits → IsNode (forest_of bits) v ↔ (get_or bits v false ≡ true)
-node_iff_bit = NodeLaws.node_iff_bit
+node_iff_bit bits v b = (
+  λ n. opens bits v (node_pair bits b v n),
+  λ e. contains_map (λ (q : ℕ × ℕ). q.0) (pairs (forest_of bits)) (v, closing (forest_of bits) v) (one_pair bits b v (bit_inside bits v e) e).is_pair,
+)
+
+-- the same, by what stands at the place
+pub node_iff_one : (bits : List Bool) (v : ℕ) → IsBalanced bits → IsNode (forest_of bits) v ↔ (slice_get bits v ≡ Some true)
+node_iff_one bits v b =
+    let n = node_iff_bit bits v b in grind (arith, slice_get-get_or, bit_inside, get_or_from_slice_get)
 
 -- the same, by what `get` answers
 pub node_iff_got : (bits : List Bool) (v : ℕ) → IsBalanced bits → IsNode (forest_of bits) v ↔ (option_map bit_value (slice_get bits v) ≡ Some 1)
-node_iff_got = NodeLaws.node_iff_got
+node_iff_got bits v b = grind (arith, node_iff_one, same_Some)
 
 -- ---- balance
 
@@ -30,7 +42,14 @@ balance_decides = Balance.balance_decides
 
 -- of both places of a pair, the nearest pair around it opens at the parent of its node
 pub enclosed_by_parent : (F : Forest) (v c : ℕ) → Contains (pairs F) (v, c) → (enclosing (text F) v ≡ parent F v) × (enclosing (text F) c ≡ parent F v)
-enclosed_by_parent = Matching.enclosed_by_parent
+enclosed_by_parent F v c k =
+    let q = paired_closes F v c (paired_from_contains F (v, c) k) in
+    let opens = closes_rises (text F) v c false q in
+    let b : IsBalanced (text F) = record { forest = F; written = refl } in
+    let s = rw (Grammar.forest_of-text F) at (parent_is_search (text F) b v (one_pair (text F) b v (omega arith) opens)) in (
+      sym (enclosing_open (text F) v opens) ∙ s,
+      sym (enclosing_close (text F) c (closes_falls (text F) v c false q)) ∙ found_at_close (text F) v c q (parent F v) s,
+    )
 
 -- the forest of a balanced list writes down that list again
 pub text-forest_of : (bits : List Bool) → IsBalanced bits → text (forest_of bits) ≡ bits
@@ -38,32 +57,66 @@ text-forest_of = Grammar.text-forest_of
 
 -- ---- the tree over the blocks
 
+few_over : (b : ℕ) → 0 < b → b + max 1 (2 ^ clog b - 1) < 3 * b
+few_over b h = ⊎_elim
+    (λ (x : 0 < clog b).
+    let low : 2 ^ (clog b - 1) < b = ⊎_elim (λ (y : 2 ^ (clog b - 1) < b). y) (λ (y : b ≤ 2 ^ (clog b - 1)). let z = clog_least b (clog b - 1) y in absurd (omega arith)) (cases_lt (2 ^ (clog b - 1)) b) in
+    grind (arith, pow_next))
+    (λ (x : clog b ≤ 0).
+    let one : 2 ^ clog b ≡ 1 = ap (λ (n : ℕ). 2 ^ n) (let z : clog b ≡ 0 = omega arith in z) in
+    omega arith)
+    (cases_lt 0 (clog b))
+
 -- it has fewer than three nodes a block
 pub few_nodes : (size n : ℕ) → 0 < size → 0 < n → node_count size n < 3 * block_count size n
-few_nodes = Widths.few_nodes
+few_nodes size n s h = rw (some_counted size n h).0 (few_over (block_count size n) (one_at_least n size s h))
 
 -- ---- levels
 
+level_ascends : (F : Forest) (d : ℕ) → AscendsFrom 0 (level F d)
+unfolding level
+level_ascends F d = filter_ascends (λ v. eqb (depth F v) d) 0 (nodes F) (nodes_ascend F)
+
+level_member : (F : Forest) (d i v : ℕ) → slice_get (level F d) i ≡ Some v → IsNode F v × (depth F v ≡ d)
+unfolding level
+level_member F d i v e = grind (arith, member_passes, Decides-eqb)
+
 -- a level holds the nodes of its depth, and nothing else
 pub level_iff_depth : (F : Forest) (d v : ℕ) → Contains (level F d) v ↔ (IsNode F v × (depth F v ≡ d))
-level_iff_depth = NodeLaws.level_iff_depth
+unfolding level
+level_iff_depth F d v = (
+  λ c. level_member F d c.0 v (slice_get-get_or (level F d) c.0 v c.1 ∙ ap Some c.2),
+  λ h. passing_holds (λ v. eqb (depth F v) d) (nodes F) v h.0 ((Decides-eqb (depth F v) d).1 h.1),
+)
 
 -- the member of number i of a level is a node of its depth, and the next one on the level is the member after it
 pub levels_go_on : (F : Forest) (d i v : ℕ) → slice_get (level F d) i ≡ Some v
     → IsNode F v × (depth F v ≡ d) × (next_of (level F d) v ≡ slice_get (level F d) (i + 1))
-levels_go_on = NodeLaws.levels_go_on
+levels_go_on F d i v e =
+    let m = level_member F d i v e in
+    let s : suc i ≡ i + 1 = omega arith in
+    (m.0, m.1, next_member 0 i v (level F d) (level_ascends F d) e ∙ ap (slice_get (level F d)) s)
 
 -- the one before on the level is the member before it, and before the first there is none; the last has the greatest number
 pub levels_go_back : (F : Forest) (d : ℕ) → (last_of (level F d) ≡ slice_get (level F d) (length (level F d) - 1))
     × ((v : ℕ) → slice_get (level F d) 0 ≡ Some v → previous_of (level F d) v ≡ None)
     × ((i v : ℕ) → slice_get (level F d) (i + 1) ≡ Some v → previous_of (level F d) v ≡ slice_get (level F d) i)
-levels_go_back = NodeLaws.levels_go_back
+levels_go_back F d = (
+  last_by_number (level F d),
+  λ v e. first_member_before 0 v (level F d) (level_ascends F d) e,
+  λ i v e. let s : i + 1 ≡ suc i = omega arith in member_before 0 i v (level F d) (level_ascends F d) (subst (λ (k : ℕ). slice_get (level F d) k ≡ Some v) s e),
+)
 
 -- no level has more members than the forest has nodes
 pub levels_are_parts : (F : Forest) (d : ℕ) → length (level F d) ≤ length (nodes F)
-levels_are_parts = NodeLaws.levels_are_parts
+unfolding level
+levels_are_parts F d =
+    omega (arith, length-filter_both (λ v. eqb (depth F v) d) (λ v. not (eqb (depth F v) d)) (λ v. refl) (nodes F))
 
 -- ---- walks along a level by handles: what a loop by `level_leftmost` and `level_next` keeps
+
+member_met : {H : Type 0} {place : H → ℕ} {F : Forest} {d : ℕ} {met : List H} {next : Option H} {v : H} → IsAlongLevel place F d met next → next ≡ Some v → slice_get (level F d) (length met) ≡ Some (place v)
+member_met {place = place} h e = sym h.then ∙ ap (option_map place) e
 
 -- from the first node of the level
 pub walk_begins : {H : Type 0} {place : H → ℕ} {F : Forest} {d : ℕ} {next : Option H} → option_map place next ≡ first_of (level F d) → IsAlongLevel place F d [] next
@@ -71,17 +124,17 @@ walk_begins e = record { first = refl; then = e }
 
 -- the handle that comes next names a node
 pub walk_meets_nodes : {H : Type 0} {place : H → ℕ} {F : Forest} {d : ℕ} {met : List H} {next : Option H} {v : H} → IsAlongLevel place F d met next → next ≡ Some v → IsNode F (place v)
-walk_meets_nodes {place = place} {F = F} {d = d} {met = met} {v = v} h e = (NodeLaws.levels_go_on F d (length met) (place v) (NodeLaws.member_met h e)).0
+walk_meets_nodes {place = place} {F = F} {d = d} {met = met} {v = v} h e = (levels_go_on F d (length met) (place v) (member_met h e)).0
 
 -- it is met, and the next node of its depth comes next
 pub walk_goes_on : {H : Type 0} {place : H → ℕ} {F : Forest} {d : ℕ} {met all : List H} {next after : Option H} {v : H} → IsAlongLevel place F d met next → next ≡ Some v
     → all ≡ met ++ v ∷ [] → option_map place after ≡ next_of (level F (depth F (place v))) (place v) → IsAlongLevel place F d all after
 walk_goes_on {place = place} {F = F} {d = d} {met = met} {all = all} {v = v} h e a n =
-    let m = NodeLaws.member_met h e in
-    let g = NodeLaws.levels_go_on F d (length met) (place v) m in
+    let m = member_met h e in
+    let g = levels_go_on F d (length met) (place v) m in
     let long : length all ≡ length met + 1 = ap (λ (vs : List _). length vs) a ∙ length_push met v in
     record {
-      first = ap (map place) a ∙ map-append place met (v ∷ []) ∙ ap (λ (vs : List ℕ). vs ++ place v ∷ []) h.first ∙ sym (NodeLaws.take_next (level F d) (length met) (place v) m) ∙ ap (λ (k : ℕ). take k (level F d)) (sym long);
+      first = ap (map place) a ∙ map-append place met (v ∷ []) ∙ ap (λ (vs : List ℕ). vs ++ place v ∷ []) h.first ∙ sym (take_more (level F d) (length met) 0 (slice_get_within (level F d) (length met) (place v) m) ∙ ap (λ (y : ℕ). take (length met) (level F d) ++ y ∷ []) (get_or_from_slice_get (level F d) (length met) (place v) 0 m)) ∙ ap (λ (k : ℕ). take k (level F d)) (sym long);
       then = n ∙ ap (λ (k : ℕ). next_of (level F k) (place v)) g.1 ∙ g.2 ∙ ap (slice_get (level F d)) (sym long);
     }
 
@@ -94,4 +147,5 @@ walk_comes_nearer {place = place} {F = F} {d = d} {met = met} {all = all} {v = v
 -- where none comes next, all of the level were met
 pub walk_ends : {H : Type 0} {place : H → ℕ} {F : Forest} {d : ℕ} {met : List H} {next : Option H} → IsAlongLevel place F d met next → next ≡ None → map place met ≡ level F d
 walk_ends {place = place} {F = F} {d = d} {met = met} h e =
-    h.first ∙ take_all (length met) (level F d) (NodeLaws.none_past (level F d) (length met) (sym h.then ∙ ap (option_map place) e))
+    let past = ⊎_elim (λ (i : length met < length (level F d)). let f = sym (slice_get-get_or (level F d) (length met) 0 i) ∙ sym h.then ∙ ap (option_map place) e in absurd (cc)) (λ (i : length (level F d) ≤ length met). i) (cases_lt (length met) (length (level F d))) in
+    h.first ∙ take_all (length met) (level F d) past

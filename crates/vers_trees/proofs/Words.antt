@@ -52,7 +52,7 @@ pub use Rattle.vers_trees.specs.WalkReads.{post_reads}
 pub use Rattle.vers_trees.specs.declared.trees.bp.min_max.Node.{Node}
 pub use Rattle.vers_trees.specs.inside.Bytes.{octal, AreEntries, HasMet, step_along}
 pub use Rattle.vers_trees.specs.inside.Closed.{closed_by}
-pub use Rattle.vers_trees.specs.inside.Index.{IsIndexed, IsBuilding, IsWidth, IsGrowing, AreFirstBlocks, IsTreeOf}
+pub use Rattle.vers_trees.specs.inside.Index.{IsIndexed, IsBuilding, IsWidth, IsGrowing, AreFirstBlocks, IsTreeOf, IsPassedAfter, IsPassedBefore}
 pub use Rattle.vers_trees.specs.inside.MinMax.{total_before, empty_node, Reaches, IsPart, AreBlocks, IsRange, Meets, AreLeaves, CoveredFrom, IsMinMax, combined, JoinFits, Covers, StandsOver, IsLevel, IsInRange, IsNextFrom, IsOddPart, LeadsTo, PassedTo, ComesTo, IsInRangeOrStart, LeadsBack, PassedBack, ComesBack, IsPreviousBefore}
 pub use Rattle.vers_trees.specs.inside.Scans.{opened_after, IsFirstRise, HasNoRise, IsLastRise, HasNoRiseBefore, scan_reads, falls, is_not_closed, rises}
 pub use lib.Count.{ones_step, ones-ones}

@@ -62,7 +62,7 @@ pub fn reading_decides_balance()
 {}
 
 /// The tree over the blocks of a list with some bits has fewer than three nodes a block.
-#[tactic(auto, using(crate::proofs::layout::Widths::few_nodes))]
+#[tactic(auto, using(crate::proofs::PublicLaws::few_nodes))]
 pub fn nodes_are_few()
     ensures { NodesAreFew }
 {}
@@ -86,7 +86,7 @@ pub fn ones_are_nodes()
 {}
 
 /// In balanced parentheses a node opens at each place that holds a one, and nowhere else.
-#[tactic(auto, using(crate::proofs::levels::NodeLaws::node_iff_one))]
+#[tactic(auto, using(crate::proofs::PublicLaws::node_iff_one))]
 pub fn node_iff_one()
     ensures { NodeIffOne }
 {}
@@ -109,7 +109,7 @@ pub fn levels_go_back()
 {}
 
 /// No level has more members than the forest has nodes.
-#[tactic(auto, using(crate::proofs::levels::NodeLaws::levels_are_parts))]
+#[tactic(auto, using(crate::proofs::PublicLaws::levels_are_parts))]
 pub fn levels_are_parts()
     ensures { LevelsAreParts }
 {}

@@ -7,7 +7,7 @@ pub record IsWalk (f : ℕ → ℤ) : Type 0 where
 
 -- a walk that begins above x, or ends above it, and is never x between stays above it
 pub above_until : (f : ℕ → ℤ) → IsWalk f → (x : ℤ) (a b : ℕ) → a ≤ b → x <ℤ f a → ((k : ℕ) → a < k → k ≤ b → f k ≢ x) → x <ℤ f b
-above_until f w x a zero le h ne = grind (arith, ints)
+above_until f w x a zero le h ne = subst (λ (n : ℕ). x <ℤ f n) (let e : a ≡ 0 = omega arith in e) h
 above_until f w x a (suc b) le h ne = ⊎_elim
     (λ (e : a ≡ suc b). subst (λ (n : ℕ). x <ℤ f n) e h)
     (λ (l : a < suc b).
@@ -16,7 +16,7 @@ above_until f w x a (suc b) le h ne = ⊎_elim
     (eq-or-lt_of_le le)
 
 pub above_since : (f : ℕ → ℤ) → IsWalk f → (x : ℤ) (a b : ℕ) → a ≤ b → x <ℤ f b → ((k : ℕ) → a ≤ k → k < b → f k ≢ x) → x <ℤ f a
-above_since f w x a zero le h ne = grind (arith, ints)
+above_since f w x a zero le h ne = subst (λ (n : ℕ). x <ℤ f n) (let e : 0 ≡ a = omega arith in e) h
 above_since f w x a (suc b) le h ne = ⊎_elim
     (λ (e : a ≡ suc b). subst (λ (n : ℕ). x <ℤ f n) (sym e) h)
     (λ (l : a < suc b).
@@ -30,11 +30,11 @@ turned f w = record { up = λ i. let d = w.down i in omega (arith, ints); down =
 
 pub below_until : (f : ℕ → ℤ) → IsWalk f → (x : ℤ) (a b : ℕ) → a ≤ b → f a <ℤ x → ((k : ℕ) → a < k → k ≤ b → f k ≢ x) → f b <ℤ x
 below_until f w x a b le h ne =
-    omega (arith, ints, above_until (λ i. pos 0 -ℤ f i) (turned f w) (pos 0 -ℤ x) a b le (omega (arith, ints)) (λ k g m e. grind (arith, ints)))
+    omega (arith, ints, above_until (λ i. pos 0 -ℤ f i) (turned f w) (pos 0 -ℤ x) a b le (omega (arith, ints)) (λ k g m e. ne k g m (omega (arith, ints))))
 
 pub below_since : (f : ℕ → ℤ) → IsWalk f → (x : ℤ) (a b : ℕ) → a ≤ b → f b <ℤ x → ((k : ℕ) → a ≤ k → k < b → f k ≢ x) → f a <ℤ x
 below_since f w x a b le h ne =
-    omega (arith, ints, above_since (λ i. pos 0 -ℤ f i) (turned f w) (pos 0 -ℤ x) a b le (omega (arith, ints)) (λ k g m e. grind (arith, ints)))
+    omega (arith, ints, above_since (λ i. pos 0 -ℤ f i) (turned f w) (pos 0 -ℤ x) a b le (omega (arith, ints)) (λ k g m e. ne k g m (omega (arith, ints))))
 
 -- ---- what the excess is along a list
 pub excess-zero : (l : List Bool) → excess l 0 ≡ pos 0
@@ -63,7 +63,7 @@ excess-is_walk l = record {
 -- past a one the excess is one more, past a zero one less
 pub excess_after_bit : (l : List Bool) (i : ℕ) (d : Bool) → i < length l → excess l (i + 1) ≡ excess l i +ℤ bit_step (get_or l i d)
 excess_after_bit [] i d h = absurd (omega arith)
-excess_after_bit (b ∷ l) zero d h = grind (arith, ints, excess-cons, excess-zero)
+excess_after_bit (b ∷ l) zero d h = let e = excess-cons b l 0 in let z = excess-zero l in let y = excess-zero (b ∷ l) in omega (arith, ints)
 excess_after_bit (b ∷ l) (suc i) d h = let ih = rw add-one at (excess_after_bit l i d (omega arith)) in let e = excess-cons b l i in let r = excess-cons b l (suc i) in rw add-one (omega (arith, ints))
 
 pub excess_after_open : (l : List Bool) (i : ℕ) (d : Bool) → i < length l → get_or l i d ≡ true → excess l (i + 1) ≡ excess l i +ℤ pos 1

@@ -1,15 +1,12 @@
 -- What a tree of balanced parentheses answers, in the words of any tree.
 use Rattle.vers_trees.proofs.Words.{◌≡◌, ◌≢◌, ◌↔◌, ℕ, ◌<◌, Bool, true, false, List, [], ◌∷◌, length, Option, Some, None, arith, sym, refl, ap, ◌∙◌, IsTrue, slice_get, option_map, ◌==◌, slice_get-get_or, count, places, select, length-places, Forest, none, tree, text, IsBalanced, forest_of, nodes, first_of, ne_eqb, ints}
 use Rattle.vers_trees.proofs.grammar.Grammar.{text-forest_of}
-use Rattle.vers_trees.proofs.kin.NodeList.{nodes_are_ones}
+use Rattle.vers_trees.proofs.kin.NodeList.{nodes_by}
 
 -- a handle is the place itself
 pub same_place : (o p : Option ℕ) → o ≡ p → option_map (λ v. v) o ≡ p
 same_place None p e = e
 same_place (Some x) p e = e
-
-pub nodes_by : (l : List Bool) → IsBalanced l → nodes (forest_of l) ≡ places true l
-nodes_by l b = nodes_are_ones (forest_of l) ∙ ap (places true) (text-forest_of l b)
 
 pub size_by : (l : List Bool) → IsBalanced l → (n : ℕ) → n ≡ count true l (length l) → n ≡ length (nodes (forest_of l))
 size_by l b n e = e ∙ sym (length-places true l) ∙ ap (λ (xs : List ℕ). length xs) (sym (nodes_by l b))

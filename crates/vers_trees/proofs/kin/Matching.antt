@@ -5,9 +5,6 @@ use Rattle.vers_trees.proofs.grammar.Paired.{paired_closes, closes_paired, open_
 use Rattle.vers_trees.proofs.grammar.Pairs.{contains_from_paired, paired_from_contains}
 use Rattle.vers_trees.proofs.kin.Partners.{after_from_closes, closes_from_after, before_from_closes, closes_from_before, before_pair, enclose_at_close}
 use Rattle.vers_trees.proofs.grammar.Grammar.{one_forest, text-forest_of}
-use Rattle.vers_trees.proofs.kin.Around.{parent_is_search}
-use Rattle.vers_trees.proofs.kin.NodeList.{one_pair}
-use Rattle.vers_trees.proofs.searches.Beside.{enclosing_open, enclosing_close}
 
 -- what a list has at a place
 has_bit : (l : List Bool) (i : ℕ) (b : Bool) → slice_get l i ≡ Some b → (i < length l) × (get_or l i false ≡ b)
@@ -35,17 +32,8 @@ close_of_open F c h =
 
 -- ---- what encloses a pair of a forest written down, and what the forest of a balanced list writes down
 -- from the closing bracket of a pair two less is found where one less is from the opening one
-found_at_close : (l : List Bool) (v c : ℕ) → Closes l v c → (o : Option ℕ) → last_rise_before l v (negsuc 0) ≡ o → last_rise_before l c (negsuc 1) ≡ o
+pub found_at_close : (l : List Bool) (v c : ℕ) → Closes l v c → (o : Option ℕ) → last_rise_before l v (negsuc 0) ≡ o → last_rise_before l c (negsuc 1) ≡ o
 found_at_close l v c q None e = none_before l c (negsuc 1) (λ k x h. let b = before_pair l v c q k x h in before_none l v (negsuc 0) (omega arith) e k b.0 b.1)
 found_at_close l v c q (Some p) e = search (rules, before_is, enclose_at_close, before_some)
-
-pub enclosed_by_parent : (F : Forest) (v c : ℕ) → Contains (pairs F) (v, c) → (enclosing (text F) v ≡ parent F v) × (enclosing (text F) c ≡ parent F v)
-enclosed_by_parent F v c k =
-    let q = paired_closes F v c (paired_from_contains F (v, c) k) in
-    let opens = closes_rises (text F) v c false q in
-    let s = parent_is_search F v (one_pair F v (omega arith) opens) in (
-      sym (enclosing_open (text F) v opens) ∙ s,
-      sym (enclosing_close (text F) c (closes_falls (text F) v c false q)) ∙ found_at_close (text F) v c q (parent F v) s,
-    )
 
 pub ruleset written = (text-forest_of)

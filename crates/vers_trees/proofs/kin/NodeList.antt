@@ -1,8 +1,9 @@
 -- The nodes of a forest are the places of the ones that it is written down with.
-use Rattle.vers_trees.proofs.Words.{◌≡◌, ℕ, zero, suc, ◌+◌, ◌<◌, Bool, true, false, ◌&&◌, List, [], ◌∷◌, map, length, get_or, Option, Some, None, eqb, ltb, arith, subst, sym, refl, ap, ◌∙◌, find, filter, slice_get, Decides, option_eq, Contains, range_with_len, last_or, Decides-eqb, Decides-ltb, Decides-and, is_bit, places, Forest, none, tree, text, moved, pairs, nodes, IsNode, closing, first_of, next_of, previous_of, map-append, ints}
+use Rattle.vers_trees.proofs.Words.{◌≡◌, ℕ, zero, suc, ◌+◌, ◌<◌, Bool, true, false, ◌&&◌, List, [], ◌∷◌, map, length, get_or, Option, Some, None, eqb, ltb, arith, subst, sym, refl, ap, ◌∙◌, find, filter, slice_get, Decides, option_eq, Contains, range_with_len, last_or, Decides-eqb, Decides-ltb, Decides-and, is_bit, places, Forest, IsBalanced, forest_of, none, tree, text, moved, pairs, nodes, IsNode, closing, first_of, next_of, previous_of, map-append, ints}
 use Rattle.vers_trees.proofs.walks.Lists.{opening_moved, places-tree}
 use Rattle.vers_trees.proofs.searches.Searches.{find_is, none_find, last_is, none_last}
-use Rattle.vers_trees.proofs.grammar.Paired.{Closes, Paired, paired_closes, closes_paired, open_is_paired, closes_once, closes_rises}
+use Rattle.vers_trees.proofs.grammar.Grammar.{text-forest_of}
+use Rattle.vers_trees.proofs.grammar.Paired.{Closes, Paired, paired_closes, closes_paired, open_is_paired, close_is_paired, closes_once, closes_rises}
 use Rattle.vers_trees.proofs.grammar.Pairs.{contains_first, contains_later, contains_map_cases, contains_from_paired, paired_from_contains}
 
 -- the nodes are the places of ones, so they ascend
@@ -14,11 +15,7 @@ nodes_are_ones (tree X Y) =
     let e : length (text X) + 2 ≡ 1 + length (text X) + 1 = omega arith in
     rw (map-append (λ (p : ℕ × ℕ). p.0) (map (moved 1) (pairs X)) (map (moved n) (pairs Y)), opening_moved 1 (pairs X), opening_moved n (pairs Y), nodes_are_ones X, nodes_are_ones Y, e) (sym (places-tree true (text X) (text Y)))
 
--- ---- a node and its pair
-pub record HasPair (F : Forest) (v : ℕ) : Type 0 where
-  pub is_pair : Contains (pairs F) (v, closing F v)
-  pub closes : Closes (text F) v (closing F v)
-
+-- ---- where a node of a balanced list closes
 find_only : {X : Type 0} → (test : X → Bool) (xs : List X) (y : X) → Contains xs y → test y ≡ true → ((x : X) → Contains xs x → test x ≡ true → x ≡ y) → find test xs ≡ Some y
 find_only {X = X} test [] y c t h = grind (arith, ints)
 find_only {X = X} test (x ∷ xs) y c t h = go (find_only test xs y) (test x) refl
@@ -42,20 +39,46 @@ closing_is F v c p =
         let m = paired_closes F q.0 q.1 (paired_from_contains F q d) in
         grind (arith, closes_once, paired_closes)
 
-has_pair : (F : Forest) (v c : ℕ) → Paired F v c → HasPair F v
-has_pair F v c p = grind (arith, closing_is, contains_from_paired, paired_closes)
+pub closes_here : (l : List Bool) (b : IsBalanced l) (v c : ℕ) → Paired (forest_of l) v c → Closes l v c
+closes_here l b v c p = rw (text-forest_of l b) at (paired_closes (forest_of l) v c p)
 
-pub closes_to : (F : Forest) (v c : ℕ) → Closes (text F) v c → closing F v ≡ c
-closes_to F v c p = closing_is F v c (closes_paired F v c p)
+pub paired_here : (l : List Bool) (b : IsBalanced l) (v c : ℕ) → Closes l v c → Paired (forest_of l) v c
+paired_here l b v c p = closes_paired (forest_of l) v c (rw (text-forest_of l b) p)
 
-pub one_pair : (F : Forest) (v : ℕ) → v < length (text F) → get_or (text F) v false ≡ true → HasPair F v
-one_pair F v i b = let p = open_is_paired F v false i b in has_pair F v p.0 p.1
+pub closes_to : (l : List Bool) (b : IsBalanced l) (v c : ℕ) → Closes l v c → closing (forest_of l) v ≡ c
+closes_to l b v c p = closing_is (forest_of l) v c (paired_here l b v c p)
 
-pub node_pair : (F : Forest) (v : ℕ) → IsNode F v → HasPair F v
-node_pair F v n =
-    let m = contains_map_cases (λ (q : ℕ × ℕ). q.0) (pairs F) (0, 0) v n in
-    let p = paired_from_contains F m.0 m.1 in
-    grind (arith, ints, has_pair)
+pub record HasPair (l : List Bool) (v : ℕ) : Type 0 where
+  pub is_pair : Contains (pairs (forest_of l)) (v, closing (forest_of l) v)
+  pub closes : Closes l v (closing (forest_of l) v)
+
+pub has_pair : (l : List Bool) (b : IsBalanced l) (v c : ℕ) → Paired (forest_of l) v c → HasPair l v
+has_pair l b v c p =
+    let e = closing_is (forest_of l) v c p in
+    record { is_pair = rw e (contains_from_paired (forest_of l) v c p); closes = rw e (closes_here l b v c p) }
+
+-- a one opens a node, a zero closes one, and each node opens at a one
+pub one_pair : (l : List Bool) (b : IsBalanced l) (v : ℕ) → v < length l → get_or l v false ≡ true → HasPair l v
+one_pair l b v i o = let p = open_is_paired (forest_of l) v false (rw (text-forest_of l b) i) (rw (text-forest_of l b) o) in has_pair l b v p.0 p.1
+
+pub zero_pair : (l : List Bool) (b : IsBalanced l) (c : ℕ) → c < length l → get_or l c false ≡ false → (v : ℕ) × HasPair l v × (closing (forest_of l) v ≡ c) × Closes l v c
+zero_pair l b c i o =
+    let p = close_is_paired (forest_of l) c false (rw (text-forest_of l b) i) (rw (text-forest_of l b) o) in
+    (p.0, has_pair l b p.0 c p.1, closing_is (forest_of l) p.0 c p.1, closes_here l b p.0 c p.1)
+
+pub node_pair : (l : List Bool) (b : IsBalanced l) (v : ℕ) → IsNode (forest_of l) v → HasPair l v
+node_pair l b v n =
+    let m = contains_map_cases (λ (q : ℕ × ℕ). q.0) (pairs (forest_of l)) (0, 0) v n in
+    subst (HasPair l) m.2 (has_pair l b m.0.0 m.0.1 (paired_from_contains (forest_of l) m.0 m.1))
+
+pub opens : (l : List Bool) (v : ℕ) → HasPair l v → get_or l v false ≡ true
+opens l v h = closes_rises l v (closing (forest_of l) v) false h.closes
+
+pub inside : (l : List Bool) (v : ℕ) → HasPair l v → v < length l
+inside l v h = omega arith
+
+pub nodes_by : (l : List Bool) → IsBalanced l → nodes (forest_of l) ≡ places true l
+nodes_by l b = nodes_are_ones (forest_of l) ∙ ap (places true) (text-forest_of l b)
 
 -- ---- the first and the last node that pass a test
 pub find_filtered : {X : Type 0} → (p t : X → Bool) (xs : List X) → find t (filter p xs) ≡ find (λ x. p x && t x) xs
@@ -70,66 +93,60 @@ pub first_filtered : {X : Type 0} → (t : X → Bool) (xs : List X) → slice_g
 first_filtered {X = X} t [] = refl
 first_filtered {X = X} t (x ∷ xs) = grind (arith, first_filtered t xs)
 
-abbrev node_test : Forest → (ℕ → Bool) → ℕ → Bool
-node_test F t v = get_or (text F) v false && t v
+abbrev node_test : List Bool → (ℕ → Bool) → ℕ → Bool
+node_test l t v = get_or l v false && t v
 
-at_one : (F : Forest) (t : ℕ → Bool) (P : ℕ → Type 0) → ((w : ℕ) → Decides (t w) (P w)) → (w : ℕ) → Decides (node_test F t w) ((get_or (text F) w false ≡ true) × P w)
-at_one F t P d w = Decides-and (get_or (text F) w false) (t w) (λ e. e, λ e. e) (d w)
+at_one : (l : List Bool) (t : ℕ → Bool) (P : ℕ → Type 0) → ((w : ℕ) → Decides (t w) (P w)) → (w : ℕ) → Decides (node_test l t w) ((get_or l w false ≡ true) × P w)
+at_one l t P d w = Decides-and (get_or l w false) (t w) (λ e. e, λ e. e) (d w)
 
-find_node : (F : Forest) (t : ℕ → Bool) → find t (nodes F) ≡ find (node_test F t) (range_with_len 0 (length (text F)))
+find_node : (l : List Bool) → IsBalanced l → (t : ℕ → Bool) → find t (nodes (forest_of l)) ≡ find (node_test l t) (range_with_len 0 (length l))
 unfolding places
-find_node F t = ap (find t) (nodes_are_ones F) ∙ find_filtered (λ p. is_bit true (get_or (text F) p false)) t (range_with_len 0 (length (text F)))
+find_node l b t = ap (find t) (nodes_by l b) ∙ find_filtered (λ p. is_bit true (get_or l p false)) t (range_with_len 0 (length l))
 
-nodes_filtered : (F : Forest) (t : ℕ → Bool) → filter t (nodes F) ≡ filter (node_test F t) (range_with_len 0 (length (text F)))
+nodes_filtered : (l : List Bool) → IsBalanced l → (t : ℕ → Bool) → filter t (nodes (forest_of l)) ≡ filter (node_test l t) (range_with_len 0 (length l))
 unfolding places
-nodes_filtered F t = ap (filter t) (nodes_are_ones F) ∙ filter_filtered (λ p. is_bit true (get_or (text F) p false)) t (range_with_len 0 (length (text F)))
-
-pub opens : (F : Forest) (v : ℕ) → HasPair F v → get_or (text F) v false ≡ true
-opens F v h = closes_rises (text F) v (closing F v) false h.closes
-
-pub inside : (F : Forest) (v : ℕ) → HasPair F v → v < length (text F)
-inside F v h = omega arith
+nodes_filtered l b t = ap (filter t) (nodes_by l b) ∙ filter_filtered (λ p. is_bit true (get_or l p false)) t (range_with_len 0 (length l))
 
 -- v is the first, and the last, of the nodes that have P, by a test that decides it
-module _ (F : Forest) (t : ℕ → Bool) (P : ℕ → Type 0) (d : (w : ℕ) → Decides (t w) (P w)) where
-  pub first_node : (v : ℕ) → HasPair F v → P v → ((w : ℕ) → w < v → HasPair F w → P w → ⊥) → find t (nodes F) ≡ Some v
+module _ (l : List Bool) (b : IsBalanced l) (t : ℕ → Bool) (P : ℕ → Type 0) (d : (w : ℕ) → Decides (t w) (P w)) where
+  pub first_node : (v : ℕ) → HasPair l v → P v → ((w : ℕ) → w < v → HasPair l w → P w → ⊥) → find t (nodes (forest_of l)) ≡ Some v
   first_node v h p n =
-      find_node F t ∙ find_is (node_test F t) _ (at_one F t P d) 0 (length (text F)) v (grind (arith, ints, opens, one_pair))
+      find_node l b t ∙ find_is (node_test l t) _ (at_one l t P d) 0 (length l) v (grind (arith, ints, opens, one_pair))
 
-  pub no_first_node : ((w : ℕ) → HasPair F w → P w → ⊥) → find t (nodes F) ≡ None
-  no_first_node n = find_node F t ∙ none_find (node_test F t) _ (at_one F t P d) 0 (length (text F)) (λ k x y q. n k (one_pair F k (omega arith) q.0) q.1)
+  pub no_first_node : ((w : ℕ) → HasPair l w → P w → ⊥) → find t (nodes (forest_of l)) ≡ None
+  no_first_node n = find_node l b t ∙ none_find (node_test l t) _ (at_one l t P d) 0 (length l) (λ k x y q. n k (one_pair l b k (omega arith) q.0) q.1)
 
-  pub last_node : (v : ℕ) → HasPair F v → P v → ((w : ℕ) → v < w → HasPair F w → P w → ⊥) → last_or None (filter t (nodes F)) ≡ Some v
-  last_node v h p n = ap (last_or None) (nodes_filtered F t) ∙ last_is (node_test F t) _ (at_one F t P d) (length (text F)) v (record { below = inside F v h; holds = (opens F v h, p); last = λ k x y q. n k x (one_pair F k y q.0) q.1 })
+  pub last_node : (v : ℕ) → HasPair l v → P v → ((w : ℕ) → v < w → HasPair l w → P w → ⊥) → last_or None (filter t (nodes (forest_of l))) ≡ Some v
+  last_node v h p n = ap (last_or None) (nodes_filtered l b t) ∙ last_is (node_test l t) _ (at_one l t P d) (length l) v (record { below = inside l v h; holds = (opens l v h, p); last = λ k x y q. n k x (one_pair l b k y q.0) q.1 })
 
-  pub no_last_node : ((w : ℕ) → HasPair F w → P w → ⊥) → last_or None (filter t (nodes F)) ≡ None
-  no_last_node n = ap (last_or None) (nodes_filtered F t) ∙ none_last (node_test F t) _ (at_one F t P d) (length (text F)) (λ k y q. n k (one_pair F k y q.0) q.1)
+  pub no_last_node : ((w : ℕ) → HasPair l w → P w → ⊥) → last_or None (filter t (nodes (forest_of l))) ≡ None
+  no_last_node n = ap (last_or None) (nodes_filtered l b t) ∙ none_last (node_test l t) _ (at_one l t P d) (length l) (λ k y q. n k (one_pair l b k y q.0) q.1)
 
-  pub first_in : (v : ℕ) → HasPair F v → P v → ((w : ℕ) → w < v → HasPair F w → P w → ⊥) → first_of (filter t (nodes F)) ≡ Some v
-  first_in v h p n = first_filtered t (nodes F) ∙ first_node v h p n
+  pub first_in : (v : ℕ) → HasPair l v → P v → ((w : ℕ) → w < v → HasPair l w → P w → ⊥) → first_of (filter t (nodes (forest_of l))) ≡ Some v
+  first_in v h p n = first_filtered t (nodes (forest_of l)) ∙ first_node v h p n
 
-  pub no_first_in : ((w : ℕ) → HasPair F w → P w → ⊥) → first_of (filter t (nodes F)) ≡ None
-  no_first_in n = first_filtered t (nodes F) ∙ no_first_node n
+  pub no_first_in : ((w : ℕ) → HasPair l w → P w → ⊥) → first_of (filter t (nodes (forest_of l))) ≡ None
+  no_first_in n = first_filtered t (nodes (forest_of l)) ∙ no_first_node n
 
 -- the nearest of them after u, and before u
-module _ (F : Forest) (t : ℕ → Bool) (P : ℕ → Type 0) (d : (w : ℕ) → Decides (t w) (P w)) (u : ℕ) where
+module _ (l : List Bool) (b : IsBalanced l) (t : ℕ → Bool) (P : ℕ → Type 0) (d : (w : ℕ) → Decides (t w) (P w)) (u : ℕ) where
   after_test : (w : ℕ) → Decides (t w && ltb u w) (P w × (u < w))
   after_test w = Decides-and (t w) (ltb u w) (d w) (Decides-ltb u w)
 
   before_test : (w : ℕ) → Decides (t w && ltb w u) (P w × (w < u))
   before_test w = Decides-and (t w) (ltb w u) (d w) (Decides-ltb w u)
 
-  pub next_in : (v : ℕ) → HasPair F v → P v → u < v → ((w : ℕ) → u < w → w < v → HasPair F w → P w → ⊥) → next_of (filter t (nodes F)) u ≡ Some v
-  next_in v h p x n = find_filtered t (λ w. ltb u w) (nodes F) ∙ first_node F _ _ after_test v h (p, x) (λ w y k q. n w q.1 y k q.0)
+  pub next_in : (v : ℕ) → HasPair l v → P v → u < v → ((w : ℕ) → u < w → w < v → HasPair l w → P w → ⊥) → next_of (filter t (nodes (forest_of l))) u ≡ Some v
+  next_in v h p x n = find_filtered t (λ w. ltb u w) (nodes (forest_of l)) ∙ first_node l b _ _ after_test v h (p, x) (λ w y k q. n w q.1 y k q.0)
 
-  pub no_next_in : ((w : ℕ) → u < w → HasPair F w → P w → ⊥) → next_of (filter t (nodes F)) u ≡ None
-  no_next_in n = find_filtered t (λ w. ltb u w) (nodes F) ∙ no_first_node F _ _ after_test (λ w k q. n w q.1 k q.0)
+  pub no_next_in : ((w : ℕ) → u < w → HasPair l w → P w → ⊥) → next_of (filter t (nodes (forest_of l))) u ≡ None
+  no_next_in n = find_filtered t (λ w. ltb u w) (nodes (forest_of l)) ∙ no_first_node l b _ _ after_test (λ w k q. n w q.1 k q.0)
 
-  pub previous_in : (v : ℕ) → HasPair F v → P v → v < u → ((w : ℕ) → v < w → w < u → HasPair F w → P w → ⊥) → previous_of (filter t (nodes F)) u ≡ Some v
-  previous_in v h p x n = ap (last_or None) (filter_filtered t (λ w. ltb w u) (nodes F)) ∙ last_node F _ _ before_test v h (p, x) (λ w y k q. n w y q.1 k q.0)
+  pub previous_in : (v : ℕ) → HasPair l v → P v → v < u → ((w : ℕ) → v < w → w < u → HasPair l w → P w → ⊥) → previous_of (filter t (nodes (forest_of l))) u ≡ Some v
+  previous_in v h p x n = ap (last_or None) (filter_filtered t (λ w. ltb w u) (nodes (forest_of l))) ∙ last_node l b _ _ before_test v h (p, x) (λ w y k q. n w y q.1 k q.0)
 
-  pub no_previous_in : ((w : ℕ) → w < u → HasPair F w → P w → ⊥) → previous_of (filter t (nodes F)) u ≡ None
-  no_previous_in n = ap (last_or None) (filter_filtered t (λ w. ltb w u) (nodes F)) ∙ no_last_node F _ _ before_test (λ w k q. n w q.1 k q.0)
+  pub no_previous_in : ((w : ℕ) → w < u → HasPair l w → P w → ⊥) → previous_of (filter t (nodes (forest_of l))) u ≡ None
+  no_previous_in n = ap (last_or None) (filter_filtered t (λ w. ltb w u) (nodes (forest_of l))) ∙ no_last_node l b _ _ before_test (λ w k q. n w q.1 k q.0)
 
 -- whether two numbers or none are the same
 pub option_decides : (a b : Option ℕ) → Decides (option_eq eqb a b) (a ≡ b)

@@ -47,7 +47,7 @@ pub opens_around : (l : List Bool) (v c q e : ℕ) → Closes l v c → Closes l
 opens_around l v c q e p m h x = grind (arith, ints, closes_once, Closes, nested)
 
 -- a one at or before the place where a pair closes stands before it
-one_before : (l : List Bool) (v c w : ℕ) → Closes l v c → get_or l w false ≡ true → w ≤ c → w < c
+pub one_before : (l : List Bool) (v c w : ℕ) → Closes l v c → get_or l w false ≡ true → w ≤ c → w < c
 one_before l v c w p b h = grind (arith, ints, closes_falls, eq-or-lt_of_le)
 
 -- t levels up: what the backward search from a node finds is a pair around it
@@ -57,14 +57,6 @@ pub record IsAbove (l : List Bool) (v t a : ℕ) : Type 0 where
   pub close : ℕ
   pub pair : Closes l a close
   pub around : v < close
-
-pub above_from_before : (F : Forest) (v t a : ℕ) → 0 < t → get_or (text F) v false ≡ true → IsLastRiseBefore (text F) v (neg_ℤ (pos t)) a → IsAbove (text F) v t a
-above_from_before F v t a h o p =
-    let b = p.before in
-    let high : (j : ℕ) → a < j → j ≤ v → excess (text F) a <ℤ excess (text F) j =
-    λ j x y. above_since (excess (text F)) (excess-is_walk (text F)) (excess (text F) a) j v y (omega (arith, ints)) (λ k g m e. grind (arith, ints)) in
-    let bit = open_from_rise (text F) a false (omega arith) (high (a + 1) (omega arith) (omega arith)) in
-    grind (arith, ints, open_is_paired, paired_closes, one_before)
 
 -- a pair around v opens at or before the parent of v, and where the search finds nothing there is none
 pub parent_is_nearest : (l : List Bool) (v p q e : ℕ) → IsAbove l v 1 p → Closes l q e → q < v → v ≤ e → q ≤ p
@@ -91,11 +83,6 @@ enclose_at_close l v c p q b =
 -- a tree and the one that opens right after it lie between the same pairs
 pub same_around : (l : List Bool) (v c d q e : ℕ) → Closes l v c → Closes l (c + 1) d → Closes l q e → ((q < v) × (c < e)) ↔ ((q < c + 1) × (d < e))
 same_around l v c d q e p n m = grind (arith, ints)
-
--- likewise where what stands before it is an opening one
-pub first_of_siblings : (F : Forest) (v c : ℕ) → Closes (text F) (v + 1) c → get_or (text F) v false ≡ true → IsAbove (text F) (v + 1) 1 v
-first_of_siblings F v c p b =
-    grind (arith, ints, open_is_paired, paired_closes, excess_after_open, one_before, closes_rises)
 
 -- the first child opens right after the node
 pub first_child_above : (l : List Bool) (v c : ℕ) → Closes l v c → get_or l (v + 1) false ≡ true → IsAbove l (v + 1) 1 v

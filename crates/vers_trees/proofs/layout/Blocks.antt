@@ -55,7 +55,10 @@ sum_before_block l size blocks b (suc k) h =
     let ih = sum_before_block l size blocks b k (omega arith) in
     let p = b.part k (omega arith) in
     let m = rw add-one at (total_more blocks k (omega arith)) in
-    grind (arith, ints)
+    let j1 = p.least.1 in let j2 = p.least.2 in
+    let here : excess l (min (k * size) (length l)) ≡ excess l (k * size) = ap (excess l) (omega arith) in
+    let next : excess l (min (suc k * size) (length l)) ≡ excess l (min (k * size + size) (length l)) = ap (excess l) (omega arith) in
+    omega (arith, ints)
 
 pub reaches_iff : (l : List Bool) (size : ℕ) (blocks : List Node) → AreBlocks l size blocks → (k : ℕ) (t : ℤ) → k < length blocks → Reaches blocks k t ↔ ((j : ℕ) × (k * size < j) × (j ≤ min (k * size + size) (length l)) × (excess l j ≡ t))
 reaches_iff l size blocks b k t h = (there, back)
@@ -82,7 +85,12 @@ balanced_iff_root l x p = (there, back)
         (omega (arith, ints), omega (arith, ints))
 
     back : (x.total ≡ pos 0) × (pos 0 ≤ℤ x.least) → IsBalanced l
-    back h = grind (arith, ints, excess-zero, balanced_from_excess)
+    back h =
+        let z = excess-zero l in let t = p.total in let h0 = h.0 in let h1 = h.1 in
+        balanced_from_excess l (omega (arith, ints)) (λ i u. ⊎_elim
+        (λ (o : 0 < i). let lo = p.low i o u in omega (arith, ints))
+        (λ (o : i ≤ 0). let e : excess l i ≡ excess l 0 = ap (excess l) (omega arith) in omega (arith, ints))
+        (cases_lt 0 i))
 
 -- ---- a tree of excesses over the blocks of a list meets what the searches ask of it
 -- the sum before a block is the excess before some place
@@ -100,18 +108,15 @@ met_place : (l : List Bool) (size : ℕ) (blocks : List Node) → AreBlocks l si
 met_place l size blocks b k t h (inl z) = let p = sum_place l size blocks b k in (p.0, p.1, sym p.2 ∙ z)
 met_place l size blocks b k t h (inr w) = let j = (reaches_iff l size blocks b k t h).0 w in (j.0, omega arith, j.3)
 
-near_sum : (l : List Bool) (size : ℕ) (blocks : List Node) → AreBlocks l size blocks → length l < 2 ^ 63 → (s k : ℕ) (t : ℤ) → k < length blocks → Meets blocks k t → FitsSigned w64 (t -ℤ total_before blocks s)
+pub near_sum : (l : List Bool) (size : ℕ) (blocks : List Node) → AreBlocks l size blocks → length l < 2 ^ 63 → (s k : ℕ) (t : ℤ) → k < length blocks → Meets blocks k t → FitsSigned w64 (t -ℤ total_before blocks s)
 near_sum l size blocks b short s k t h m =
     let p = sum_place l size blocks b s in let q = met_place l size blocks b k t h m in
     rise_fits l p.0 q.0 (t -ℤ total_before blocks s) short p.1 q.1 (omega (arith, ints))
 
-block_range : (l : List Bool) (size : ℕ) (blocks : List Node) → AreBlocks l size blocks → (k : ℕ) → k < length blocks → IsRange (get_or blocks k empty_node)
+pub block_range : (l : List Bool) (size : ℕ) (blocks : List Node) → AreBlocks l size blocks → (k : ℕ) → k < length blocks → IsRange (get_or blocks k empty_node)
 block_range l size blocks b k h =
     let p = b.part k h in
     part_range l (k * size) (min (k * size + size) (length l)) _ (omega arith) p
-
-pub leaves_of : (l : List Bool) (size : ℕ) (blocks : List Node) → AreBlocks l size blocks → length l < 2 ^ 63 → AreLeaves blocks
-leaves_of l size blocks b short = record { range = block_range l size blocks b; small = λ s k t a w. near_sum l size blocks b short s k t w.inside (inr w) }
 
 pub minmax_of : (l : List Bool) (size first h : ℕ) (nodes : List Node) → 2 ^ h ≡ first + 1 → length (drop first nodes) ≤ first + 1 → first < length nodes → first < 2 ^ 63 → length l < 2 ^ 63 → AreBlocks l size (drop first nodes) → CoveredFrom first nodes 0 → IsMinMax first nodes
 minmax_of l size first h nodes lv fi ab sh short b c = record {
@@ -134,7 +139,7 @@ pub block_inside : (l : List Bool) (size : ℕ) (blocks : List Node) → AreBloc
 block_inside l size blocks b p h = let so = b.some in (div-lt_iff_lt-mul so).1 (omega arith)
 
 pub div_up : (a p size : ℕ) → 0 < size → a * size ≤ p → a ≤ p / size
-div_up a p size so h = grind (arith, ints, mul-le-mul_right, block_of)
+div_up a p size so h = ⊎_elim (λ (z : p / size < a). let w = (div-lt_iff_lt-mul so).0 z in absurd (omega arith)) (λ (z : a ≤ p / size). z) (cases_lt (p / size) a)
 
 pub start_is : (l : List Bool) (size : ℕ) (blocks : List Node) → AreBlocks l size blocks → (k : ℕ) → k < length blocks → (total_before blocks k ≡ excess l (k * size)) × (k * size < length l)
 start_is l size blocks b k h =
@@ -148,4 +153,9 @@ reached_at l size blocks b p h =
 
 -- and meets the sum before it
 pub met_at : (l : List Bool) (size : ℕ) (blocks : List Node) → AreBlocks l size blocks → (p : ℕ) → p < length l → Meets blocks (p / size) (excess l p)
-met_at l size blocks b p h = grind (arith, ints, start_is, block_inside, reaches_iff)
+met_at l size blocks b p h =
+    let k = block_inside l size blocks b p h in let so = b.some in
+    ⊎_elim
+    (λ (z : p / size * size < p). inr ((reaches_iff l size blocks b (p / size) (excess l p) k).1 (p, z, omega arith, refl)))
+    (λ (z : p ≤ p / size * size). inl ((start_is l size blocks b (p / size) k).0 ∙ ap (excess l) (omega arith)))
+    (cases_lt (p / size * size) p)

@@ -6,13 +6,10 @@ use Rattle.vers_trees.proofs.layout.Blocks.{block_inside, reached_at, total_more
 
 -- a leaf covers its block, and one past the blocks nothing
 covers_leaf : (blocks : List Node) → ((k : ℕ) → k < length blocks → IsRange (get_or blocks k empty_node)) → (s : ℕ) → Covers blocks s (s + 1) (get_or blocks s empty_node)
-covers_leaf blocks r s = ⊎_elim inside outside (cases_lt s (length blocks))
-  where
-    inside : s < length blocks → Covers blocks s (s + 1) (get_or blocks s empty_node)
-    inside h = grind (arith, ints, total_more)
-
-    outside : length blocks ≤ s → Covers blocks s (s + 1) (get_or blocks s empty_node)
-    outside h = grind (arith, ints, get_or_past, total_past)
+covers_leaf blocks r s = ⊎_elim
+    (λ (h : s < length blocks). grind (arith, ints, total_more))
+    (λ (h : length blocks ≤ s). grind (arith, ints, get_or_past, total_past))
+    (cases_lt s (length blocks))
 
 pub covered_leaves : (first : ℕ) (nodes : List Node) → ((k : ℕ) → k < length (drop first nodes) → IsRange (get_or (drop first nodes) k empty_node)) → CoveredFrom first nodes first
 covered_leaves first nodes r m s e h p =
@@ -74,7 +71,7 @@ root_is_part l size blocks e x b some le c = record {
 
 -- the sums of a node's two parts fit, and where the second has no place the first node serves for both
 children_fit : (blocks : List Node) (s m e : ℕ) (x y : Node) → AreLeaves blocks → s ≤ m → Covers blocks s m x → Covers blocks m e y → JoinFits x y
-children_fit blocks s m e x y a sm p q = record { total = λ h. fit y.total (low_total h) (high_total h); least = λ h. fit y.least (omega (arith, ints)) h; greatest = λ h. fit y.greatest h (omega (arith, ints)) }
+children_fit blocks s m e x y a sm p q = record { total = λ h. fit y.total (shape h).low (shape h).high; least = λ h. fit y.least (omega (arith, ints)) h; greatest = λ h. fit y.greatest h (omega (arith, ints)) }
   where
     fit : (z : ℤ) → y.least ≤ℤ z → z ≤ℤ y.greatest → FitsSigned w64 (x.total +ℤ z)
     fit z lo hi =
@@ -85,12 +82,6 @@ children_fit blocks s m e x y a sm p q = record { total = λ h. fit y.total (low
 
     shape : y.least ≤ℤ y.greatest → IsRange y
     shape h = ⊎_elim (λ (r : IsRange y). r) (λ (n : y ≡ empty_node). let h' = rw n at h in absurd (omega (arith, ints))) q.shape
-
-    low_total : y.least ≤ℤ y.greatest → y.least ≤ℤ y.total
-    low_total h = (shape h).low
-
-    high_total : y.least ≤ℤ y.greatest → y.total ≤ℤ y.greatest
-    high_total h = (shape h).high
 
 pub same_node : (a b : Node) → a.total ≡ b.total → a.least ≡ b.least → a.greatest ≡ b.greatest → a ≡ b
 same_node a b p q r = λ i. record { total = p i; least = q i; greatest = r i }

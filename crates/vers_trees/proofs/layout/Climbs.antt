@@ -1,6 +1,6 @@
 -- The steps of a search in a tree of excesses.
-use Rattle.vers_trees.proofs.Words.{◌≡◌, ℕ, zero, suc, ◌+◌, ◌-◌, ◌*◌, ◌/◌, ◌%◌, ◌^◌, ◌<◌, ◌≤◌, List, length, get_or, drop, ℤ, ◌+ℤ◌, ◌-ℤ◌, arith, ⊎_elim, subst, refl, ap, FitsSigned, to_z, of_z, inl, inr, pos, w64, ints, to_z-of_z, clamps, cases_lt, pow-succ', le-mul_of_pos_right, eq-or-lt_of_le, pow_pos, Node, IsInRange, total_before, empty_node, Reaches, Covers, StandsOver, IsMinMax, IsNextFrom, IsOddPart, LeadsTo, PassedTo, ComesTo, IsInRangeOrStart, Meets, IsRange, LeadsBack, PassedBack, ComesBack, IsPreviousBefore}
-use Rattle.vers_trees.proofs.layout.MinMax.{stands_children, parent_of_left, parent_of_right, stands_leaf, leaf_stands, root_stands, covers_at, stands_some}
+use Rattle.vers_trees.proofs.Words.{◌≡◌, ℕ, zero, suc, ◌+◌, ◌-◌, ◌*◌, ◌/◌, ◌%◌, ◌^◌, ◌<◌, ◌≤◌, List, length, get_or, drop, ℤ, ◌+ℤ◌, ◌-ℤ◌, arith, ⊎_elim, subst, refl, ap, FitsSigned, to_z, of_z, inl, inr, pos, w64, ints, to_z-of_z, clamps, by_lt_z, cases_lt, pow-succ', le-mul_of_pos_right, eq-or-lt_of_le, pow_pos, Node, IsInRange, total_before, empty_node, Reaches, Covers, StandsOver, IsMinMax, IsNextFrom, IsOddPart, LeadsTo, PassedTo, ComesTo, IsInRangeOrStart, Meets, IsRange, LeadsBack, PassedBack, ComesBack, IsPreviousBefore}
+use Rattle.vers_trees.proofs.layout.MinMax.{numbers, stands_children, parent_of_left, parent_of_right, stands_leaf, leaf_stands, root_stands, covers_at, stands_some}
 use Rattle.vers_trees.proofs.searches.Scans.{as_stored}
 use Rattle.vers_trees.proofs.layout.Blocks.{total_more}
 
@@ -12,7 +12,9 @@ leads_found first nodes from t place left m p =
 
 -- no block of a node out of range reaches the sum
 none_in : (blocks : List Node) (s e : ℕ) (x : Node) (t r : ℤ) → Covers blocks s e x → total_before blocks s +ℤ r ≡ t → (IsInRange x r → ⊥) → (k : ℕ) → s ≤ k → k < e → Reaches blocks k t → ⊥
-none_in blocks s e x t r c q o k a b w = grind (arith, ints)
+none_in blocks s e x t r c q o k a b w =
+    let lo = c.low k t a b w in let hi = c.high k t a b w in
+    o (record { low = omega (arith, ints); high = omega (arith, ints) })
 
 pub step_left : (first : ℕ) (nodes : List Node) (from : ℕ) (t : ℤ) (place child : ℕ) (left : ℤ) (x : Node) → LeadsTo first nodes from t place left → place < first → x ≡ get_or nodes (2 * place + 1) empty_node → child ≡ 2 * place + 1 → IsInRange x left → LeadsTo first nodes from t child left
 step_left first nodes from t place child left x p h e n i =
@@ -66,7 +68,7 @@ pub comes_to : (first : ℕ) (nodes : List Node) (from : ℕ) (t : ℤ) (place :
 comes_to first nodes from t place left next m p o = go o.zeros place p o.splits
   where
     go : (k place : ℕ) → PassedTo first nodes from t place left → place + 2 ≡ (next + 1) * 2 ^ k → ComesTo first nodes from t next left
-    go zero place p e = grind (arith, ints)
+    go zero place p e = let ends = o.ends in record { even = omega arith; passed = λ some. subst (λ (n : ℕ). PassedTo first nodes from t n left) (omega arith) p; none = λ z. absurd (omega arith) }
     go (suc k) place p e =
         let ends = o.ends in let most = le-mul_of_pos_right (next + 1) (pow_pos k) in
         let twice : (next + 1) * 2 ^ suc k ≡ (next + 1) * (2 * 2 ^ k) = ap (λ (x : ℕ). (next + 1) * x) (pow-succ' 2 k) in
@@ -99,7 +101,10 @@ reaches_after first nodes from t place left x m c some e i =
     record { start = p.stop; stop = b.stop; stands = b.stands; after = p.after; remains = p.remains; none = p.none; range = rw e at i }
 
 none_right : (first : ℕ) (nodes : List Node) (from : ℕ) (t : ℤ) (place : ℕ) (left : ℤ) (x : Node) → (b : Right first nodes from t place left x) → (IsInRange x left → ⊥) → (k : ℕ) → from ≤ k → k < b.stop → Reaches (drop first nodes) k t → ⊥
-none_right first nodes from t place left x b misses k a c w = grind (arith, ints, none_in)
+none_right first nodes from t place left x b misses k a c w = ⊎_elim
+    (λ (u : k < b.passed.stop). b.passed.none k a u w)
+    (λ (u : b.passed.stop ≤ k). none_in (drop first nodes) b.passed.stop b.stop x t left b.covers b.passed.remains misses k u c w)
+    (cases_lt k b.passed.stop)
 
 pub goes_on_after : (first : ℕ) (nodes : List Node) (from : ℕ) (t : ℤ) (place : ℕ) (left : ℤ) (x : Node) (next : ℕ) → IsMinMax first nodes → ComesTo first nodes from t place left → 0 < place → x ≡ get_or nodes place empty_node → (IsInRange x left → ⊥) → IsOddPart ((place - 1) / 2 + 2) (next + 1) → ComesTo first nodes from t next (left -ℤ x.total)
 goes_on_after first nodes from t place left x next m c some e misses o =
@@ -124,7 +129,9 @@ range_found blocks s e x t r h c q i = ⊎_elim
     (λ (i : IsInRange x r).
     let f = c.found t (omega (arith, ints)) (omega (arith, ints)) in
     (f.0, f.1, f.2, inr f.3))
-    (grind (arith, ints))
+    (by_lt_z r x.least
+    (λ u. inl (omega (arith, ints, clamps, numbers x c.shape)))
+    (λ u. by_lt_z x.greatest r (λ v. inl (omega (arith, ints, clamps, numbers x c.shape))) (λ v. inr (record { low = u; high = v }))))
 
 -- and what is met in its part its range says
 range_meets : (blocks : List Node) (s e : ℕ) (x : Node) (t r : ℤ) → Covers blocks s e x → ((k : ℕ) → k < length blocks → IsRange (get_or blocks k empty_node)) → total_before blocks s +ℤ r ≡ t → (k : ℕ) → s ≤ k → k < e → k < length blocks → Meets blocks k t → IsInRangeOrStart x r
@@ -206,7 +213,13 @@ pub comes_back : (first : ℕ) (nodes : List Node) (to : ℕ) (t : ℤ) (place :
 comes_back first nodes to t place left odd p o = go o.zeros place p o.splits
   where
     go : (k place : ℕ) → PassedBack first nodes to t place left → place + 1 ≡ odd * 2 ^ k → ComesBack first nodes to t (odd - 2) left
-    go zero place p e = grind (arith, ints, root_stands)
+    go zero place p e =
+        let ends = o.ends in
+        record {
+          odd = λ some. omega arith;
+          passed = λ some. subst (λ (n : ℕ). PassedBack first nodes to t n left) (omega arith) p;
+          none = λ z k a w. p.none k (omega (arith, (root_stands first p.start p.stop (subst (λ (n : ℕ). StandsOver first n p.start p.stop) (let g : place ≡ 0 = omega arith in g) p.stands)).0)) a w;
+        }
     go (suc k) place p e =
         let twice : odd * 2 ^ suc k ≡ odd * (2 * 2 ^ k) = ap (λ (x : ℕ). odd * x) (pow-succ' 2 k) in
         go k ((place - 1) / 2) (rise_same first nodes to t place left p (λ u. omega arith)) (omega arith)

@@ -2,10 +2,10 @@
 use Rattle.vers_trees.proofs.Words.{◌≡◌, ℕ, zero, suc, ◌+◌, ◌-◌, ◌*◌, ◌/◌, ◌%◌, ◌^◌, ◌<◌, ◌≤◌, ◌⊎◌, inl, inr, List, length, get_or, drop, ℤ, pos, negsuc, ◌+ℤ◌, ◌≤ℤ◌, arith, ⊎_elim, subst, refl, ap, ◌∙◌, pow-succ', pow-le-pow_right, ints, clamps, by_lt_z, cases_lt, pow_pos, Node, combined, total_before, empty_node, IsRange, Covers, StandsOver, IsMinMax}
 
 -- what a node may be, in numbers
-abbrev Numbers : Node → Type 0
+abbrev pub Numbers : Node → Type 0
 Numbers x = ((x.least ≤ℤ x.total) × (x.total ≤ℤ x.greatest) × (x.least ≤ℤ pos 1) × (negsuc 0 ≤ℤ x.greatest)) ⊎ ((x.total ≡ pos 0) × (x.least ≡ pos 1) × (x.greatest ≡ negsuc 0))
 
-numbers : (x : Node) → IsRange x ⊎ (x ≡ empty_node) → Numbers x
+pub numbers : (x : Node) → IsRange x ⊎ (x ≡ empty_node) → Numbers x
 numbers x (inl p) = inl (p.low, p.high, p.first_low, p.first_high)
 numbers x (inr p) = rw p (inr (refl, refl, refl))
 

@@ -1,7 +1,7 @@
 -- The width of a tree, and its nodes put together.
 use Rattle.vers_trees.proofs.Words.{◌≡◌, ℕ, zero, suc, ◌+◌, ◌-◌, ◌*◌, ◌^◌, ◌<◌, ◌≤◌, ◌⊎◌, inl, inr, min, max, Bool, List, [], ◌∷◌, ◌++◌, length, get_or, take, drop, arith, ⊎_elim, subst, sym, refl, ap, ◌∙◌, length-append, length-drop, cases_lt, div_ceil_times, get_or_append_left, get_or_at, get_or-drop, take-append_seam, pow-le-pow_right, digits, digits-le, digits_up, digits_pow, digits_below_pow, clog_least, pow_next, Node, IsPart, AreBlocks, CoveredFrom, AreLeaves, empty_node, block_count, clog, levels, node_count, IsWidth, IsGrowing, AreFirstBlocks, IsTreeOf, IsIndexed}
 use Rattle.vers_trees.proofs.layout.Steps.{digit_some}
-use Rattle.vers_trees.proofs.layout.Blocks.{minmax_of, leaves_of}
+use Rattle.vers_trees.proofs.layout.Blocks.{minmax_of, near_sum, block_range}
 
 pub grow_start : (leaves : ℕ) → IsGrowing leaves 2
 grow_start leaves = record { exponent = 0; power = refl; short = inl refl }
@@ -47,7 +47,7 @@ width_is leaves w h =
     (grind arith)
     (cases_lt 0 (clog leaves))
 
-some_counted : (size n : ℕ) → 0 < n → (node_count size n ≡ block_count size n + max 1 (2 ^ clog (block_count size n) - 1)) × (levels size n ≡ max 1 (clog (block_count size n)) + 1)
+pub some_counted : (size n : ℕ) → 0 < n → (node_count size n ≡ block_count size n + max 1 (2 ^ clog (block_count size n) - 1)) × (levels size n ≡ max 1 (clog (block_count size n)) + 1)
 unfolding node_count levels
 some_counted size zero h = absurd (omega arith)
 some_counted size (suc n) h = (refl, refl)
@@ -81,9 +81,11 @@ are_blocks : (l : List Bool) (size first : ℕ) (nodes : List Node) → 0 < size
 are_blocks l size first nodes so b = grind (arith, length-drop, get_or-drop)
 
 pub blocks_are_leaves : (l : List Bool) (size first : ℕ) (nodes : List Node) → 0 < size → length l < 2 ^ 63 → AreFirstBlocks l size first (block_count size (length l)) nodes → AreLeaves (drop first nodes)
-blocks_are_leaves l size first nodes so short b = leaves_of l size (drop first nodes) (are_blocks l size first nodes so b) short
+blocks_are_leaves l size first nodes so short b =
+    let a = are_blocks l size first nodes so b in
+    record { range = block_range l size (drop first nodes) a; small = λ s k t h w. near_sum l size (drop first nodes) a short s k t w.inside (inr w) }
 
-one_at_least : (n size : ℕ) → 0 < size → 0 < n → 0 < block_count size n
+pub one_at_least : (n size : ℕ) → 0 < size → 0 < n → 0 < block_count size n
 one_at_least n size so h = grind (arith, div_ceil_times)
 
 pub tree_made : (l : List Bool) (size first : ℕ) (leaves nodes : List Node) → 0 < size → 0 < length l → length l < 2 ^ 63 → IsWidth (block_count size (length l)) (first + 1) → AreFirstBlocks l size first (block_count size (length l)) leaves → length nodes ≡ length leaves → drop first nodes ≡ drop first leaves → CoveredFrom first nodes 0 → IsTreeOf l size first nodes
@@ -104,17 +106,3 @@ indexed l size first nodes h so b n t = record { short = h; some = so; bounded =
 -- what is written through a slice of a vector is what the vector holds
 pub written_back : (new old : List Node) (n : ℕ) → n ≡ length new → take n (new ++ drop (length new) old) ≡ new
 written_back new old n e = ap (λ (m : ℕ). take m (new ++ drop (length new) old)) e ∙ take-append_seam new _
-
--- ---- how few nodes there are
-few_over : (b : ℕ) → 0 < b → b + max 1 (2 ^ clog b - 1) < 3 * b
-few_over b h = ⊎_elim
-    (λ (x : 0 < clog b).
-    let low : 2 ^ (clog b - 1) < b = ⊎_elim (λ (y : 2 ^ (clog b - 1) < b). y) (λ (y : b ≤ 2 ^ (clog b - 1)). let z = clog_least b (clog b - 1) y in absurd (omega arith)) (cases_lt (2 ^ (clog b - 1)) b) in
-    grind (arith, pow_next))
-    (λ (x : clog b ≤ 0).
-    let one : 2 ^ clog b ≡ 1 = ap (λ (n : ℕ). 2 ^ n) (let z : clog b ≡ 0 = omega arith in z) in
-    omega arith)
-    (cases_lt 0 (clog b))
-
-pub few_nodes : (size n : ℕ) → 0 < size → 0 < n → node_count size n < 3 * block_count size n
-few_nodes size n s h = rw (some_counted size n h).0 (few_over (block_count size n) (one_at_least n size s h))

@@ -1,11 +1,11 @@
 -- The nodes of one depth: which of them the searches find.
-use Rattle.vers_trees.proofs.Words.{◌≡◌, ℕ, ◌+◌, ◌-◌, ◌<◌, ◌≤◌, ◌≢◌, Bool, true, false, ◌&&◌, List, length, get_or, eqb, ℤ, pos, negsuc, neg_ℤ, ◌+ℤ◌, ◌≤ℤ◌, ◌<ℤ◌, Some, None, arith, ⊎_elim, sym, refl, ap, ◌∙◌, Decides, ints, cases_lt, Decides-eqb, Decides-and, eq-or-lt_of_le, count_le, excess, first_rise_after, last_rise_before, Forest, none, tree, text, closing, is_ancestor, depth, level, level_ancestor, first_of, last_of, next_of, previous_of}
+use Rattle.vers_trees.proofs.Words.{◌≡◌, ℕ, ◌+◌, ◌-◌, ◌<◌, ◌≤◌, ◌≢◌, Bool, true, false, ◌&&◌, List, length, get_or, eqb, ℤ, pos, negsuc, neg_ℤ, ◌+ℤ◌, ◌≤ℤ◌, ◌<ℤ◌, Some, None, arith, ⊎_elim, sym, refl, ap, ◌∙◌, Decides, ints, cases_lt, Decides-eqb, Decides-and, eq-or-lt_of_le, count_le, excess, first_rise_after, last_rise_before, Forest, IsBalanced, forest_of, true_from_ne_false, false_from_ne_true, closing, is_ancestor, depth, level, level_ancestor, first_of, last_of, next_of, previous_of}
 use Rattle.vers_trees.proofs.searches.Searches.{by_answer, after_some, after_none, before_some, before_is, before_none}
 use Rattle.vers_trees.proofs.grammar.Excess.{below_until, below_since, excess-zero, excess-is_walk, excess_after_open, excess_after_close, open_from_rise, close_from_fall}
-use Rattle.vers_trees.proofs.grammar.Paired.{paired_closes, close_is_paired, closes_rises, total_is_zero, never_negative}
-use Rattle.vers_trees.proofs.kin.Partners.{before_from_closes, above_from_before}
-use Rattle.vers_trees.proofs.kin.NodeList.{HasPair, one_pair, opens, inside, first_node, no_first_node, first_in, no_first_in, last_node, no_last_node, next_in, no_next_in, previous_in, no_previous_in}
-use Rattle.vers_trees.proofs.kin.Around.{ancestor_decides, above_is_around, depth_is_excess}
+use Rattle.vers_trees.proofs.grammar.Grammar.{balanced_total, balanced_above}
+use Rattle.vers_trees.proofs.kin.Partners.{before_from_closes}
+use Rattle.vers_trees.proofs.kin.NodeList.{HasPair, one_pair, zero_pair, opens, inside, first_node, no_first_node, first_in, no_first_in, last_node, no_last_node, next_in, no_next_in, previous_in, no_previous_in}
+use Rattle.vers_trees.proofs.kin.Around.{ancestor_decides, above_from_before, above_is_around, depth_is_excess}
 
 -- ---- places where the excess is x, below which it stands at a place before or after
 -- after c the first of them is past a one
@@ -26,29 +26,28 @@ not_between : (l : List Bool) (c v u : ℕ) (x : ℤ) → ((k : ℕ) → c < k �
 not_between l c v u x n ne a b i o e = grind (arith, ints, excess_after_open, eq-or-lt_of_le)
 
 -- the tree that closes there
-record Opened (F : Forest) (v c : ℕ) (r : ℤ) : Type 0 where
+record Opened (l : List Bool) (v c : ℕ) (r : ℤ) : Type 0 where
   pub place : ℕ
-  pub pair : HasPair F place
-  pub found : last_rise_before (text F) c (negsuc 0) ≡ Some place
-  pub level : excess (text F) place +ℤ pos 1 ≡ excess (text F) v +ℤ r
+  pub pair : HasPair l place
+  pub found : last_rise_before l c (negsuc 0) ≡ Some place
+  pub level : excess l place +ℤ pos 1 ≡ excess l v +ℤ r
   pub before : place < v
-  pub last : (u : ℕ) → place < u → u < v → HasPair F u → excess (text F) u +ℤ pos 1 ≢ excess (text F) v +ℤ r
+  pub last : (u : ℕ) → place < u → u < v → HasPair l u → excess l u +ℤ pos 1 ≢ excess l v +ℤ r
 
-opened_before : (F : Forest) (v c : ℕ) (r : ℤ) → pos 0 <ℤ r → last_rise_before (text F) v r ≡ Some c → Opened F v c r
-opened_before F v c r some e =
-    let q = before_some (text F) v r c e in let qb = q.before in let qi = q.inside in let s = q.sum in
-    let f = closes_at (text F) c v (excess (text F) v +ℤ r) (omega (arith, ints)) qb qi s q.last in
-    let p = close_is_paired F c false (omega arith) f in
-    let m = paired_closes F p.0 c p.1 in
-    let fall = excess_after_close (text F) c false (omega arith) f in
+opened_before : (l : List Bool) (b : IsBalanced l) (v c : ℕ) (r : ℤ) → pos 0 <ℤ r → last_rise_before l v r ≡ Some c → Opened l v c r
+opened_before l b v c r some e =
+    let q = before_some l v r c e in let qb = q.before in let qi = q.inside in let s = q.sum in
+    let f = closes_at l c v (excess l v +ℤ r) (omega (arith, ints)) qb qi s q.last in
+    let p = zero_pair l b c (omega arith) f in let m = p.3 in
+    let fall = excess_after_close l c false (omega arith) f in
     record {
       place = p.0;
-      pair = one_pair F p.0 (omega arith) (closes_rises (text F) p.0 c false m);
-      found = before_is (text F) c (negsuc 0) p.0 (before_from_closes (text F) p.0 c m);
+      pair = p.1;
+      found = before_is l c (negsuc 0) p.0 (before_from_closes l p.0 c m);
       level = omega (arith, ints);
       before = omega arith;
-      last = λ u a b k t. ⊎_elim
-          (λ (z : c < u). not_between (text F) c v u _ q.last (omega (arith, ints)) (omega arith) b (omega arith) (opens F u k) t)
+      last = λ u a y k t. ⊎_elim
+          (λ (z : c < u). not_between l c v u _ q.last (omega (arith, ints)) (omega arith) y (omega arith) (opens l u k) t)
           (λ (z : u ≤ c). let w = m.above u a z in omega (arith, ints))
           (cases_lt c u);
     }
@@ -60,138 +59,132 @@ at_depth F v t a = is_ancestor F a v && eqb (depth F a + t) (depth F v)
 at_depth_decides : (F : Forest) (v t a : ℕ) → Decides (at_depth F v t a) (((a ≤ v) × (closing F v ≤ closing F a)) × (depth F a + t ≡ depth F v))
 at_depth_decides F v t a = Decides-and (is_ancestor F a v) (eqb (depth F a + t) (depth F v)) (ancestor_decides F a v) (Decides-eqb (depth F a + t) (depth F v))
 
-pub no_steps_up : (F : Forest) (v : ℕ) → HasPair F v → level_ancestor F v 0 ≡ Some v
+pub no_steps_up : (l : List Bool) (b : IsBalanced l) (v : ℕ) → HasPair l v → level_ancestor (forest_of l) v 0 ≡ Some v
 unfolding level_ancestor
-no_steps_up F v h = first_node F _ _ (at_depth_decides F v 0) v h ((omega arith, omega arith), omega arith) (grind (arith, ints, depth_is_excess))
+no_steps_up l b v h = first_node l b _ _ (at_depth_decides (forest_of l) v 0) v h ((omega arith, omega arith), omega arith) (grind (arith, ints, depth_is_excess))
 
-pub level_ancestor_is_search : (F : Forest) (v t : ℕ) → HasPair F v → 0 < t → last_rise_before (text F) v (neg_ℤ (pos t)) ≡ level_ancestor F v t
+pub level_ancestor_is_search : (l : List Bool) (b : IsBalanced l) (v t : ℕ) → HasPair l v → 0 < t → last_rise_before l v (neg_ℤ (pos t)) ≡ level_ancestor (forest_of l) v t
 unfolding level_ancestor
-level_ancestor_is_search F v t h some = by_answer (last_rise_before (text F) v (neg_ℤ (pos t)))
-    (λ e. e ∙ sym (no_first_node F _ _ (at_depth_decides F v t) (grind (arith, ints, depth_is_excess, before_none, inside, eq-or-lt_of_le))))
+level_ancestor_is_search l b v t h some = by_answer (last_rise_before l v (neg_ℤ (pos t)))
+    (λ e. e ∙ sym (no_first_node l b _ _ (at_depth_decides (forest_of l) v t) (grind (arith, ints, depth_is_excess, before_none, inside, eq-or-lt_of_le))))
     (λ a e.
-    let m = above_from_before F v t a some (opens F v h) (before_some (text F) v (neg_ℤ (pos t)) a e) in
-    let r = above_is_around F v t a h m in
+    let m = above_from_before l b v t a some (opens l v h) (before_some l v (neg_ℤ (pos t)) a e) in
+    let r = above_is_around l b v t a h m in
     let k = r.2 in
-    let da = depth_is_excess F a k in let dv = depth_is_excess F v h in
-    e ∙ sym (first_node F _ _ (at_depth_decides F v t) a k ((omega arith, omega arith), omega (arith, ints)) (grind (arith, ints, depth_is_excess))))
+    let da = depth_is_excess l b a k in let dv = depth_is_excess l b v h in
+    e ∙ sym (first_node l b _ _ (at_depth_decides (forest_of l) v t) a k ((omega arith, omega arith), omega (arith, ints)) (grind (arith, ints, depth_is_excess))))
 
 -- no node is so deep
-depth_small : (F : Forest) (v : ℕ) → HasPair F v → depth F v < length (text F)
+depth_small : (l : List Bool) (b : IsBalanced l) (v : ℕ) → HasPair l v → depth (forest_of l) v < length l
 unfolding excess
-depth_small F v h = grind (arith, ints, depth_is_excess, inside, count_le)
+depth_small l b v h = grind (arith, ints, depth_is_excess, inside, count_le)
 
-pub too_far_up : (F : Forest) (v t : ℕ) → HasPair F v → length (text F) ≤ t → level_ancestor F v t ≡ None
+pub too_far_up : (l : List Bool) (b : IsBalanced l) (v t : ℕ) → HasPair l v → length l ≤ t → level_ancestor (forest_of l) v t ≡ None
 unfolding level_ancestor
-too_far_up F v t h far = no_first_node F _ _ (at_depth_decides F v t) (λ w k g. let s = depth_small F v h in omega arith)
+too_far_up l b v t h far = no_first_node l b _ _ (at_depth_decides (forest_of l) v t) (λ w k g. let s = depth_small l b v h in omega arith)
 
 -- ---- the neighbours on a level
 -- ones of one depth have one excess
-same_excess : (F : Forest) (v w : ℕ) → HasPair F v → HasPair F w → depth F w ≡ depth F v → excess (text F) w ≡ excess (text F) v
-same_excess F v w h k e = sym (depth_is_excess F w k) ∙ ap pos e ∙ depth_is_excess F v h
+same_excess : (l : List Bool) (b : IsBalanced l) (v w : ℕ) → HasPair l v → HasPair l w → depth (forest_of l) w ≡ depth (forest_of l) v → excess l w ≡ excess l v
+same_excess l b v w h k e = sym (depth_is_excess l b w k) ∙ ap pos e ∙ depth_is_excess l b v h
 
 -- what opens after v at its depth opens past its tree
-past_tree : (F : Forest) (v w : ℕ) → HasPair F v → HasPair F w → depth F w ≡ depth F v → v < w → (closing F v < w → excess (text F) (w + 1) ≢ excess (text F) (closing F v + 1) +ℤ pos 1) → ⊥
-past_tree F v w h k g x n =
-    let s = same_excess F v w h k g in
-    let r = excess_after_open (text F) w false (inside F w k) (opens F w k) in
-    ⊎_elim (λ (z : closing F v < w). n z (omega (arith, ints))) (λ (z : w ≤ closing F v). let r = h.closes.above w x z in omega (arith, ints)) (cases_lt (closing F v) w)
+past_tree : (l : List Bool) (b : IsBalanced l) (v w : ℕ) → HasPair l v → HasPair l w → depth (forest_of l) w ≡ depth (forest_of l) v → v < w → (closing (forest_of l) v < w → excess l (w + 1) ≢ excess l (closing (forest_of l) v + 1) +ℤ pos 1) → ⊥
+past_tree l b v w h k g x n =
+    let s = same_excess l b v w h k g in
+    let r = excess_after_open l w false (inside l w k) (opens l w k) in
+    ⊎_elim (λ (z : closing (forest_of l) v < w). n z (omega (arith, ints))) (λ (z : w ≤ closing (forest_of l) v). let r = h.closes.above w x z in omega (arith, ints)) (cases_lt (closing (forest_of l) v) w)
 
-pub level_next_is_search : (F : Forest) (v : ℕ) → HasPair F v → first_rise_after (text F) (closing F v) (pos 1) ≡ next_of (level F (depth F v)) v
+pub level_next_is_search : (l : List Bool) (b : IsBalanced l) (v : ℕ) → HasPair l v → first_rise_after l (closing (forest_of l) v) (pos 1) ≡ next_of (level (forest_of l) (depth (forest_of l) v)) v
 unfolding level
-level_next_is_search F v h = by_answer (first_rise_after (text F) (closing F v) (pos 1))
-    (λ e. e ∙ sym (no_next_in F _ _ (λ w. Decides-eqb (depth F w) (depth F v)) v (λ w x k g. past_tree F v w h k g x (λ z. after_none (text F) (closing F v) (pos 1) e w z (inside F w k)))))
+level_next_is_search l b v h = by_answer (first_rise_after l (closing (forest_of l) v) (pos 1))
+    (λ e. e ∙ sym (no_next_in l b _ _ (λ w. Decides-eqb (depth (forest_of l) w) (depth (forest_of l) v)) v (λ w x k g. past_tree l b v w h k g x (λ z. after_none l (closing (forest_of l) v) (pos 1) e w z (inside l w k)))))
     (λ u e.
-    let q = after_some (text F) (closing F v) (pos 1) u e in
-    let r = opens_at (text F) (closing F v) u (excess (text F) (closing F v + 1) +ℤ pos 1) (omega (arith, ints)) q.after q.inside q.sum q.first in
-    let k = one_pair F u q.inside r.0 in
-    let du = depth_is_excess F u k in let dv = depth_is_excess F v h in
-    e ∙ sym (next_in F _ _ (λ w. Decides-eqb (depth F w) (depth F v)) v u k (omega (arith, ints)) (omega arith) (λ w x y kw g. past_tree F v w h kw g x (λ z. q.first w z y))))
+    let q = after_some l (closing (forest_of l) v) (pos 1) u e in
+    let r = opens_at l (closing (forest_of l) v) u (excess l (closing (forest_of l) v + 1) +ℤ pos 1) (omega (arith, ints)) q.after q.inside q.sum q.first in
+    let k = one_pair l b u q.inside r.0 in
+    let du = depth_is_excess l b u k in let dv = depth_is_excess l b v h in
+    e ∙ sym (next_in l b _ _ (λ w. Decides-eqb (depth (forest_of l) w) (depth (forest_of l) v)) v u k (omega (arith, ints)) (omega arith) (λ w x y kw g. past_tree l b v w h kw g x (λ z. q.first w z y))))
 
-pub no_level_prev_found : (F : Forest) (v : ℕ) → HasPair F v → last_rise_before (text F) v (pos 1) ≡ None → previous_of (level F (depth F v)) v ≡ None
+pub no_level_prev_found : (l : List Bool) (b : IsBalanced l) (v : ℕ) → HasPair l v → last_rise_before l v (pos 1) ≡ None → previous_of (level (forest_of l) (depth (forest_of l) v)) v ≡ None
 unfolding level
-no_level_prev_found F v h e = no_previous_in F _ _ (λ w. Decides-eqb (depth F w) (depth F v)) v (λ w x k g.
-    let s = same_excess F v w h k g in let i = inside F v h in
-    not_between (text F) 0 v w (excess (text F) v +ℤ pos 1) (λ k y z. before_none (text F) v (pos 1) i e k z) (omega (arith, ints)) (omega arith) x (omega arith) (opens F w k) (omega (arith, ints)))
+no_level_prev_found l b v h e = no_previous_in l b _ _ (λ w. Decides-eqb (depth (forest_of l) w) (depth (forest_of l) v)) v (λ w x k g.
+    let s = same_excess l b v w h k g in let i = inside l v h in
+    not_between l 0 v w (excess l v +ℤ pos 1) (λ k y z. before_none l v (pos 1) i e k z) (omega (arith, ints)) (omega arith) x (omega arith) (opens l w k) (omega (arith, ints)))
 
-pub level_prev_is_search : (F : Forest) (v c : ℕ) → HasPair F v → last_rise_before (text F) v (pos 1) ≡ Some c → last_rise_before (text F) c (negsuc 0) ≡ previous_of (level F (depth F v)) v
+pub level_prev_is_search : (l : List Bool) (b : IsBalanced l) (v c : ℕ) → HasPair l v → last_rise_before l v (pos 1) ≡ Some c → last_rise_before l c (negsuc 0) ≡ previous_of (level (forest_of l) (depth (forest_of l) v)) v
 unfolding level
-level_prev_is_search F v c h e =
-    let o = opened_before F v c (pos 1) (omega (arith, ints)) e in
-    let du = depth_is_excess F o.place o.pair in let dv = depth_is_excess F v h in
-    o.found ∙ sym (previous_in F _ _ (λ w. Decides-eqb (depth F w) (depth F v)) v o.place o.pair (omega (arith, ints)) o.before (λ w x y k g. let s = same_excess F v w h k g in o.last w x y k (omega (arith, ints))))
+level_prev_is_search l b v c h e =
+    let o = opened_before l b v c (pos 1) (omega (arith, ints)) e in
+    let du = depth_is_excess l b o.place o.pair in let dv = depth_is_excess l b v h in
+    o.found ∙ sym (previous_in l b _ _ (λ w. Decides-eqb (depth (forest_of l) w) (depth (forest_of l) v)) v o.place o.pair (omega (arith, ints)) o.before (λ w x y k g. let s = same_excess l b v w h k g in o.last w x y k (omega (arith, ints))))
 
 -- ---- the ends of a level
 -- a forest with a node opens at 0 and closes at its end
-opens_first : (F : Forest) → 0 < length (text F) → HasPair F 0
-opens_first none h = absurd (omega arith)
-opens_first (tree X Y) h = one_pair (tree X Y) 0 h refl
+opens_first : (l : List Bool) (b : IsBalanced l) → 0 < length l → HasPair l 0
+opens_first l b h = one_pair l b 0 h (true_from_ne_false _ (λ e. let r = excess_after_close l 0 false h e in let z = excess-zero l in let a = balanced_above l b (0 + 1) (omega arith) in omega (arith, ints)))
 
-closes_last : (F : Forest) (n : ℕ) → length (text F) ≡ n + 1 → get_or (text F) n false ≡ false
-closes_last F n e =
-    let t : excess (text F) (n + 1) ≡ pos 0 = ap (excess (text F)) (sym e) ∙ total_is_zero F in
-    let a = never_negative F n (omega arith) in
-    go t a (get_or (text F) n false) refl
-  where
-    go : excess (text F) (n + 1) ≡ pos 0 → pos 0 ≤ℤ excess (text F) n → (b : Bool) → get_or (text F) n false ≡ b → b ≡ false
-    go t a false e' = refl
-    go t a true e' = let r = excess_after_open (text F) n false (omega arith) e' in absurd (omega (arith, ints))
+closes_last : (l : List Bool) (b : IsBalanced l) (n : ℕ) → length l ≡ n + 1 → get_or l n false ≡ false
+closes_last l b n e =
+    let t : excess l (n + 1) ≡ pos 0 = ap (excess l) (sym e) ∙ balanced_total l b in
+    let a = balanced_above l b n (omega arith) in
+    false_from_ne_true _ (λ o. let r = excess_after_open l n false (omega arith) o in omega (arith, ints))
 
-pub first_root : (F : Forest) → 0 < length (text F) → first_of (level F 0) ≡ Some 0
+pub first_root : (l : List Bool) (b : IsBalanced l) → 0 < length l → first_of (level (forest_of l) 0) ≡ Some 0
 unfolding level
-first_root F h =
-    let k = opens_first F h in let z = excess-zero (text F) in let d = depth_is_excess F 0 k in
-    first_in F _ _ (λ w. Decides-eqb (depth F w) 0) 0 k (omega (arith, ints)) (λ w x k g. omega arith)
+first_root l b h =
+    let k = opens_first l b h in let z = excess-zero l in let d = depth_is_excess l b 0 k in
+    first_in l b _ _ (λ w. Decides-eqb (depth (forest_of l) w) 0) 0 k (omega (arith, ints)) (λ w x k g. omega arith)
 
 -- no node is as deep as a forest is long
-pub too_deep : (F : Forest) (t : ℕ) → length (text F) ≤ t → (first_of (level F t) ≡ None) × (last_of (level F t) ≡ None)
+pub too_deep : (l : List Bool) (b : IsBalanced l) (t : ℕ) → length l ≤ t → (first_of (level (forest_of l) t) ≡ None) × (last_of (level (forest_of l) t) ≡ None)
 unfolding level
-too_deep F t far = (no_first_in F _ _ (λ w. Decides-eqb (depth F w) t) (λ w k g. let s = depth_small F w k in omega arith), no_last_node F _ _ (λ w. Decides-eqb (depth F w) t) (λ w k g. let s = depth_small F w k in omega arith))
+too_deep l b t far = (no_first_in l b _ _ (λ w. Decides-eqb (depth (forest_of l) w) t) (λ w k g. let s = depth_small l b w k in omega arith), no_last_node l b _ _ (λ w. Decides-eqb (depth (forest_of l) w) t) (λ w k g. let s = depth_small l b w k in omega arith))
 
 -- below the first root a node opens where the excess rises from there
-below_first : (F : Forest) (t w : ℕ) → 0 < t → HasPair F w → depth F w ≡ t → (0 < w) × (excess (text F) (w + 1) ≡ excess (text F) (0 + 1) +ℤ pos t)
-below_first F t w some k e =
-    let z = excess-zero (text F) in let d = depth_is_excess F w k in let i = inside F w k in
-    let one = excess_after_open (text F) 0 false (omega arith) (opens F 0 (opens_first F (omega arith))) in
-    let r = excess_after_open (text F) w false i (opens F w k) in
-    (⊎_elim (λ (s : w < 1). let g : excess (text F) w ≡ excess (text F) 0 = ap (excess (text F)) (omega arith) in absurd (omega (arith, ints))) (λ (s : 1 ≤ w). s) (cases_lt w 1), omega (arith, ints))
+below_first : (l : List Bool) (b : IsBalanced l) (t w : ℕ) → 0 < t → HasPair l w → depth (forest_of l) w ≡ t → (0 < w) × (excess l (w + 1) ≡ excess l (0 + 1) +ℤ pos t)
+below_first l b t w some k e =
+    let z = excess-zero l in let d = depth_is_excess l b w k in let i = inside l w k in
+    let one = excess_after_open l 0 false (omega arith) (opens l 0 (opens_first l b (omega arith))) in
+    let r = excess_after_open l w false i (opens l w k) in
+    (⊎_elim (λ (s : w < 1). let g : excess l w ≡ excess l 0 = ap (excess l) (omega arith) in absurd (omega (arith, ints))) (λ (s : 1 ≤ w). s) (cases_lt w 1), omega (arith, ints))
 
-pub level_leftmost_is_search : (F : Forest) (t : ℕ) → 0 < t → first_rise_after (text F) 0 (pos t) ≡ first_of (level F t)
+pub level_leftmost_is_search : (l : List Bool) (b : IsBalanced l) (t : ℕ) → 0 < t → first_rise_after l 0 (pos t) ≡ first_of (level (forest_of l) t)
 unfolding level
-level_leftmost_is_search F t some = by_answer (first_rise_after (text F) 0 (pos t))
-    (λ e. e ∙ sym (no_first_in F _ _ (λ w. Decides-eqb (depth F w) t) (λ w k g. let b = below_first F t w some k g in after_none (text F) 0 (pos t) e w b.0 (inside F w k) b.1)))
+level_leftmost_is_search l b t some = by_answer (first_rise_after l 0 (pos t))
+    (λ e. e ∙ sym (no_first_in l b _ _ (λ w. Decides-eqb (depth (forest_of l) w) t) (λ w k g. let m = below_first l b t w some k g in after_none l 0 (pos t) e w m.0 (inside l w k) m.1)))
     (λ u e.
-    let q = after_some (text F) 0 (pos t) u e in
-    let r = opens_at (text F) 0 u (excess (text F) (0 + 1) +ℤ pos t) (omega (arith, ints)) q.after q.inside q.sum q.first in
-    let k = one_pair F u q.inside r.0 in let d = depth_is_excess F u k in let z = excess-zero (text F) in
-    let one = excess_after_open (text F) 0 false (omega arith) (opens F 0 (opens_first F (omega arith))) in
-    e ∙ sym (first_in F _ _ (λ w. Decides-eqb (depth F w) t) u k (omega (arith, ints)) (λ w x kw g. let b = below_first F t w some kw g in q.first w b.0 x b.1)))
+    let q = after_some l 0 (pos t) u e in
+    let r = opens_at l 0 u (excess l (0 + 1) +ℤ pos t) (omega (arith, ints)) q.after q.inside q.sum q.first in
+    let k = one_pair l b u q.inside r.0 in let d = depth_is_excess l b u k in let z = excess-zero l in
+    let one = excess_after_open l 0 false (omega arith) (opens l 0 (opens_first l b (omega arith))) in
+    e ∙ sym (first_in l b _ _ (λ w. Decides-eqb (depth (forest_of l) w) t) u k (omega (arith, ints)) (λ w x kw g. let m = below_first l b t w some kw g in q.first w m.0 x m.1)))
 
 -- the last root closes at the end
-pub last_root_is_search : (F : Forest) (n : ℕ) → length (text F) ≡ n + 1 → last_rise_before (text F) n (negsuc 0) ≡ last_of (level F 0)
+pub last_root_is_search : (l : List Bool) (b : IsBalanced l) (n : ℕ) → length l ≡ n + 1 → last_rise_before l n (negsuc 0) ≡ last_of (level (forest_of l) 0)
 unfolding level
-last_root_is_search F n e =
-    let p = close_is_paired F n false (omega arith) (closes_last F n e) in
-    let q = paired_closes F p.0 n p.1 in
-    let t : excess (text F) (n + 1) ≡ pos 0 = ap (excess (text F)) (sym e) ∙ total_is_zero F in
-    let k = one_pair F p.0 (omega arith) (closes_rises (text F) p.0 n false q) in let d = depth_is_excess F p.0 k in
-    before_is (text F) n (negsuc 0) p.0 (before_from_closes (text F) p.0 n q)
-    ∙ sym (last_node F _ _ (λ w. Decides-eqb (depth F w) 0) p.0 k (omega (arith, ints)) (λ w x k g. let u = q.above w x (omega arith) in let d = depth_is_excess F w k in omega (arith, ints)))
+last_root_is_search l b n e =
+    let p = zero_pair l b n (omega arith) (closes_last l b n e) in let k = p.1 in let q = p.3 in
+    let t : excess l (n + 1) ≡ pos 0 = ap (excess l) (sym e) ∙ balanced_total l b in
+    let d = depth_is_excess l b p.0 k in
+    before_is l n (negsuc 0) p.0 (before_from_closes l p.0 n q)
+    ∙ sym (last_node l b _ _ (λ w. Decides-eqb (depth (forest_of l) w) 0) p.0 k (omega (arith, ints)) (λ w x k g. let u = q.above w x (omega arith) in let d = depth_is_excess l b w k in omega (arith, ints)))
 
-end_is_one : (F : Forest) (n : ℕ) → length (text F) ≡ n + 1 → excess (text F) n ≡ pos 1
-end_is_one F n e =
-    let t : excess (text F) (n + 1) ≡ pos 0 = ap (excess (text F)) (sym e) ∙ total_is_zero F in
-    let r = excess_after_close (text F) n false (omega arith) (closes_last F n e) in
+end_is_one : (l : List Bool) (b : IsBalanced l) (n : ℕ) → length l ≡ n + 1 → excess l n ≡ pos 1
+end_is_one l b n e =
+    let t : excess l (n + 1) ≡ pos 0 = ap (excess l) (sym e) ∙ balanced_total l b in
+    let r = excess_after_close l n false (omega arith) (closes_last l b n e) in
     omega (arith, ints)
 
-pub no_level_rightmost : (F : Forest) (n t : ℕ) → length (text F) ≡ n + 1 → 0 < t → last_rise_before (text F) n (pos t) ≡ None → last_of (level F t) ≡ None
+pub no_level_rightmost : (l : List Bool) (b : IsBalanced l) (n t : ℕ) → length l ≡ n + 1 → 0 < t → last_rise_before l n (pos t) ≡ None → last_of (level (forest_of l) t) ≡ None
 unfolding level
-no_level_rightmost F n t e some missing = no_last_node F _ _ (λ w. Decides-eqb (depth F w) t) (λ w k g.
-    let one = end_is_one F n e in let d = depth_is_excess F w k in
-    not_between (text F) 0 n w (excess (text F) n +ℤ pos t) (λ k y z. before_none (text F) n (pos t) (omega arith) missing k z) (omega (arith, ints)) (omega arith) (omega arith) (omega arith) (opens F w k) (omega (arith, ints)))
+no_level_rightmost l b n t e some missing = no_last_node l b _ _ (λ w. Decides-eqb (depth (forest_of l) w) t) (λ w k g.
+    let one = end_is_one l b n e in let d = depth_is_excess l b w k in
+    not_between l 0 n w (excess l n +ℤ pos t) (λ k y z. before_none l n (pos t) (omega arith) missing k z) (omega (arith, ints)) (omega arith) (omega arith) (omega arith) (opens l w k) (omega (arith, ints)))
 
-pub level_rightmost_is_search : (F : Forest) (n t j : ℕ) → length (text F) ≡ n + 1 → 0 < t → last_rise_before (text F) n (pos t) ≡ Some j → last_rise_before (text F) j (negsuc 0) ≡ last_of (level F t)
+pub level_rightmost_is_search : (l : List Bool) (b : IsBalanced l) (n t j : ℕ) → length l ≡ n + 1 → 0 < t → last_rise_before l n (pos t) ≡ Some j → last_rise_before l j (negsuc 0) ≡ last_of (level (forest_of l) t)
 unfolding level
-level_rightmost_is_search F n t j e some found =
-    let o = opened_before F n j (pos t) (omega (arith, ints)) found in
-    let one = end_is_one F n e in let d = depth_is_excess F o.place o.pair in
-    o.found ∙ sym (last_node F _ _ (λ w. Decides-eqb (depth F w) t) o.place o.pair (omega (arith, ints)) (λ w x k g. let d = depth_is_excess F w k in o.last w x (omega arith) k (omega (arith, ints))))
+level_rightmost_is_search l b n t j e some found =
+    let o = opened_before l b n j (pos t) (omega (arith, ints)) found in
+    let one = end_is_one l b n e in let d = depth_is_excess l b o.place o.pair in
+    o.found ∙ sym (last_node l b _ _ (λ w. Decides-eqb (depth (forest_of l) w) t) o.place o.pair (omega (arith, ints)) (λ w x k g. let d = depth_is_excess l b w k in o.last w x (omega arith) k (omega (arith, ints))))

@@ -1,28 +1,9 @@
--- The laws of the nodes of a forest.
+-- Numbers that ascend, and those of a list that pass a test.
 use Rattle.vers_trees.proofs.Words.{◌≡◌, ℕ, zero, suc, ◌+◌, ◌-◌, ◌<◌, ◌≤◌, ◌↔◌, Bool, true, false, cond, not, List, [], ◌∷◌, length, get_or, ltb, eqb, Option, None, Some, arith, ⊎_elim, subst, sym, refl, ap, ◌∙◌, ◌++◌, take, slice_get, option_map, find, filter, Contains, last_or, range_with_len, get_or_from_slice_get, slice_get-get_or, slice_get_within, get_or_past, take_more, cases_lt, lt-ltb, le-ltb, same_Some, find_is, none_passing, last_passing_is, Decides-eqb, length-filter_both, bit_value, places, Forest, text, IsBalanced, forest_of, nodes, IsNode, closing, depth, level, last_of, next_of, previous_of, IsAlongLevel, pairs}
 use Rattle.vers_trees.proofs.grammar.Grammar.{text-forest_of}
 use Rattle.vers_trees.proofs.grammar.Paired.{closes_rises}
 use Rattle.vers_trees.proofs.grammar.Pairs.{contains_first, contains_later, contains_map}
 use Rattle.vers_trees.proofs.kin.NodeList.{nodes_are_ones, one_pair, node_pair}
-
--- ---- nodes and ones
-bit_inside : (l : List Bool) (v : ℕ) → get_or l v false ≡ true → v < length l
-bit_inside l v e = ⊎_elim (λ (h : v < length l). h) (λ (h : length l ≤ v). let p = get_or_past l v false h in absurd (cc)) (cases_lt v (length l))
-
-pub node_iff_bit : (bits : List Bool) (v : ℕ) → IsBalanced bits → IsNode (forest_of bits) v ↔ (get_or bits v false ≡ true)
-node_iff_bit bits v b =
-    let F = forest_of bits in
-    subst (λ (m : List Bool). IsNode F v ↔ (get_or m v false ≡ true)) (text-forest_of bits b) (
-      λ n. closes_rises (text F) v (closing F v) false (node_pair F v n).closes,
-      λ e. (contains_map (λ (q : ℕ × ℕ). q.0) (pairs F) (v, closing F v) (one_pair F v (bit_inside (text F) v e) e).is_pair),
-    )
-
-pub node_iff_one : (bits : List Bool) (v : ℕ) → IsBalanced bits → IsNode (forest_of bits) v ↔ (slice_get bits v ≡ Some true)
-node_iff_one bits v b =
-    let n = node_iff_bit bits v b in grind (arith, slice_get-get_or, bit_inside, get_or_from_slice_get)
-
-pub node_iff_got : (bits : List Bool) (v : ℕ) → IsBalanced bits → IsNode (forest_of bits) v ↔ (option_map bit_value (slice_get bits v) ≡ Some 1)
-node_iff_got bits v b = grind (arith, node_iff_one, same_Some)
 
 -- ---- members that ascend, the first of them from n on
 abbrev pub AscendsFrom : ℕ → List ℕ → Type 0
@@ -95,7 +76,7 @@ member_passes p (x ∷ xs) i v e = go (member_passes p xs) (p x) refl i e
     go ih true t (suc j) f = let r = ih j v f in (contains_later x xs v r.0, r.1)
     go ih false t j f = let r = ih j v f in (contains_later x xs v r.0, r.1)
 
-passing_holds : (p : ℕ → Bool) (xs : List ℕ) (v : ℕ) → Contains xs v → p v ≡ true → Contains (filter p xs) v
+pub passing_holds : (p : ℕ → Bool) (xs : List ℕ) (v : ℕ) → Contains xs v → p v ≡ true → Contains (filter p xs) v
 passing_holds p [] v (k, l, e) t = absurd (omega arith)
 passing_holds p (x ∷ xs) v (zero, l, e) t = grind (arith, contains_first)
 passing_holds p (x ∷ xs) v (suc k, l, e) t = go (p x) (passing_holds p xs v (k, omega arith, e) t)
@@ -111,49 +92,3 @@ places_ascend bit l = filter_ascends _ 0 (range_with_len 0 (length l)) (range_as
 
 pub nodes_ascend : (F : Forest) → AscendsFrom 0 (nodes F)
 nodes_ascend F = subst (AscendsFrom 0) (sym (nodes_are_ones F)) (places_ascend true (text F))
-
-level_ascends : (F : Forest) (d : ℕ) → AscendsFrom 0 (level F d)
-unfolding level
-level_ascends F d = filter_ascends (λ v. eqb (depth F v) d) 0 (nodes F) (nodes_ascend F)
-
-level_member : (F : Forest) (d i v : ℕ) → slice_get (level F d) i ≡ Some v → IsNode F v × (depth F v ≡ d)
-unfolding level
-level_member F d i v e = grind (arith, member_passes, Decides-eqb)
-
-pub level_iff_depth : (F : Forest) (d v : ℕ) → Contains (level F d) v ↔ (IsNode F v × (depth F v ≡ d))
-unfolding level
-level_iff_depth F d v = (
-  λ c. level_member F d c.0 v (slice_get-get_or (level F d) c.0 v c.1 ∙ ap Some c.2),
-  λ h. passing_holds (λ v. eqb (depth F v) d) (nodes F) v h.0 ((Decides-eqb (depth F v) d).1 h.1),
-)
-
-pub levels_go_on : (F : Forest) (d i v : ℕ) → slice_get (level F d) i ≡ Some v
-    → IsNode F v × (depth F v ≡ d) × (next_of (level F d) v ≡ slice_get (level F d) (i + 1))
-levels_go_on F d i v e =
-    let m = level_member F d i v e in
-    let s : suc i ≡ i + 1 = omega arith in
-    (m.0, m.1, next_member 0 i v (level F d) (level_ascends F d) e ∙ ap (slice_get (level F d)) s)
-
-pub levels_go_back : (F : Forest) (d : ℕ) → (last_of (level F d) ≡ slice_get (level F d) (length (level F d) - 1))
-    × ((v : ℕ) → slice_get (level F d) 0 ≡ Some v → previous_of (level F d) v ≡ None)
-    × ((i v : ℕ) → slice_get (level F d) (i + 1) ≡ Some v → previous_of (level F d) v ≡ slice_get (level F d) i)
-levels_go_back F d = (
-  last_by_number (level F d),
-  λ v e. first_member_before 0 v (level F d) (level_ascends F d) e,
-  λ i v e. let s : i + 1 ≡ suc i = omega arith in member_before 0 i v (level F d) (level_ascends F d) (subst (λ (k : ℕ). slice_get (level F d) k ≡ Some v) s e),
-)
-
-pub levels_are_parts : (F : Forest) (d : ℕ) → length (level F d) ≤ length (nodes F)
-unfolding level
-levels_are_parts F d =
-    omega (arith, length-filter_both (λ v. eqb (depth F v) d) (λ v. not (eqb (depth F v) d)) (λ v. refl) (nodes F))
-
--- ---- a walk along a level, by any handles of nodes
-pub take_next : (xs : List ℕ) (n x : ℕ) → slice_get xs n ≡ Some x → take (n + 1) xs ≡ take n xs ++ x ∷ []
-take_next xs n x e = take_more xs n 0 (slice_get_within xs n x e) ∙ ap (λ (y : ℕ). take n xs ++ y ∷ []) (get_or_from_slice_get xs n x 0 e)
-
-pub none_past : (xs : List ℕ) (n : ℕ) → slice_get xs n ≡ None → length xs ≤ n
-none_past xs n e = ⊎_elim (λ (h : n < length xs). let f = sym (slice_get-get_or xs n 0 h) ∙ e in absurd (cc)) (λ (h : length xs ≤ n). h) (cases_lt n (length xs))
-
-pub member_met : {H : Type 0} {place : H → ℕ} {F : Forest} {d : ℕ} {met : List H} {next : Option H} {v : H} → IsAlongLevel place F d met next → next ≡ Some v → slice_get (level F d) (length met) ≡ Some (place v)
-member_met {place = place} h e = sym h.then ∙ ap (option_map place) e

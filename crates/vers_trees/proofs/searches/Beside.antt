@@ -55,3 +55,6 @@ negated n h = grind (arith, ints, fits_small, with_sign, to_z-of_z)
 
 pub closes_there : (l : List Bool) (p : ℕ) → get_or l (p + 1) false ≡ false → None ≡ opened_after l p
 closes_there l p e = rw e refl
+
+pub opens_there : (l : List Bool) (p : ℕ) → get_or l (p + 1) false ≡ true → Some (p + 1) ≡ opened_after l p
+opens_there l p e = rw e refl

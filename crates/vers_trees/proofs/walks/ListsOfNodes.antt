@@ -1,9 +1,10 @@
 -- The nodes of a node's tree are a part of all nodes, in preorder and in postorder.
-use Rattle.vers_trees.proofs.Words.{◌≡◌, ℕ, suc, ◌+◌, ◌*◌, ◌<◌, ◌≤◌, ◌⊎◌, inl, inr, Bool, true, false, ◌&&◌, List, [], ◌∷◌, map, length, take, drop, ltb, leb, count_by, arith, ⊎_elim, subst, sym, refl, ap, ◌∙◌, filter, Decides, ints, cases_lt, lt-ltb, le-ltb, nat_tests, Decides-and, Decides-like, same_from_decides, All-weaker, length-filter, count_by-le-length, count, places, count_both, excess, Forest, text, nodes, closing, is_ancestor, subtree, opening_of, pairs_by_closing, postorder, subtree_post, not-true}
-use Rattle.vers_trees.proofs.grammar.Paired.{Paired, paired_closes, close_is_paired}
+use Rattle.vers_trees.proofs.Words.{◌≡◌, ℕ, suc, ◌+◌, ◌*◌, ◌<◌, ◌≤◌, ◌⊎◌, inl, inr, Bool, true, false, ◌&&◌, List, [], ◌∷◌, map, length, take, drop, ltb, leb, count_by, arith, ⊎_elim, subst, sym, refl, ap, ◌∙◌, filter, Decides, ints, cases_lt, lt-ltb, le-ltb, nat_tests, Decides-and, Decides-like, same_from_decides, All-weaker, length-filter, count_by-le-length, count, places, count_both, excess, Forest, text, IsBalanced, forest_of, nodes, closing, is_ancestor, subtree, opening_of, pairs_by_closing, postorder, subtree_post, not-true}
+use Rattle.vers_trees.proofs.grammar.Grammar.{text-forest_of}
+use Rattle.vers_trees.proofs.grammar.Paired.{Paired, Closes}
 use Rattle.vers_trees.proofs.kin.Partners.{before_from_closes, nested}
 use Rattle.vers_trees.proofs.searches.Searches.{before_is}
-use Rattle.vers_trees.proofs.kin.NodeList.{HasPair, nodes_are_ones, node_pair, closing_is}
+use Rattle.vers_trees.proofs.kin.NodeList.{HasPair, nodes_by, node_pair, zero_pair, closing_is}
 use Rattle.vers_trees.proofs.kin.Around.{Decides-leb, ancestor_decides, below_counted}
 use Rattle.vers_trees.proofs.grammar.Pairs.{one_if, count_by-cons}
 use Rattle.vers_trees.proofs.kin.Kin.{filter_agree}
@@ -58,51 +59,54 @@ between_is_part v c n (x ∷ xs) a =
 
 -- ---- the tree of a node is what opens, and what closes, from where it opens up to where it closes
 -- the places of a bit in it, and how many they are
-pub places_in : Bool → Forest → ℕ → List ℕ
-places_in bit F v = filter (between v (closing F v)) (places bit (text F))
+pub places_in : Bool → List Bool → ℕ → List ℕ
+places_in bit l v = filter (between v (closing (forest_of l) v)) (places bit l)
 
-pub as_part : (bit : Bool) (F : Forest) (v : ℕ) → places_in bit F v ≡ take (length (places_in bit F v)) (drop (count bit (text F) v) (places bit (text F)))
+pub as_part : (bit : Bool) (l : List Bool) (v : ℕ) → places_in bit l v ≡ take (length (places_in bit l v)) (drop (count bit l v) (places bit l))
 unfolding places_in
-as_part bit F v =
-    subst (λ (k : ℕ). filter (between v (closing F v)) (places bit (text F)) ≡ take (length (filter (between v (closing F v)) (places bit (text F)))) (drop k (places bit (text F)))) (below_counted bit (text F) v) (between_is_part v (closing F v) 0 (places bit (text F)) (places_ascend bit (text F)))
+as_part bit l v =
+    subst (λ (k : ℕ). places_in bit l v ≡ take (length (places_in bit l v)) (drop k (places bit l))) (below_counted bit l v) (between_is_part v (closing (forest_of l) v) 0 (places bit l) (places_ascend bit l))
 
-pub part_counted : (bit : Bool) (F : Forest) (v : ℕ) → HasPair F v → length (places_in bit F v) + count bit (text F) v ≡ count bit (text F) (closing F v + 1)
+pub part_counted : (bit : Bool) (l : List Bool) (v : ℕ) → HasPair l v → length (places_in bit l v) + count bit l v ≡ count bit l (closing (forest_of l) v + 1)
 unfolding places_in
-part_counted bit F v h =
-    let l = length-filter (between v (closing F v)) (places bit (text F)) in let a = h.closes.after in
-    let k = count_between v (closing F v) (places bit (text F)) (omega arith) in
-    let x = below_counted bit (text F) v in let y = below_counted bit (text F) (closing F v + 1) in
+part_counted bit l v h =
+    let n = length-filter (between v (closing (forest_of l) v)) (places bit l) in let a = h.closes.after in
+    let k = count_between v (closing (forest_of l) v) (places bit l) (omega arith) in
+    let x = below_counted bit l v in let y = below_counted bit l (closing (forest_of l) v + 1) in
     omega arith
 
-pub part_inside : (bit : Bool) (F : Forest) (v : ℕ) → HasPair F v → count bit (text F) v + length (places_in bit F v) ≤ length (places bit (text F))
-part_inside bit F v h = grind (arith, ints, part_counted, below_counted, count_by-le-length)
+pub part_inside : (bit : Bool) (l : List Bool) (v : ℕ) → HasPair l v → count bit l v + length (places_in bit l v) ≤ length (places bit l)
+part_inside bit l v h = grind (arith, ints, part_counted, below_counted, count_by-le-length)
 
 -- twice as many are the places from the opening bracket to the closing one
-pub part_size : (bit : Bool) (F : Forest) (v : ℕ) → HasPair F v → 2 * length (places_in bit F v) + v ≡ closing F v + 1
+pub part_size : (bit : Bool) (l : List Bool) (v : ℕ) → HasPair l v → 2 * length (places_in bit l v) + v ≡ closing (forest_of l) v + 1
 unfolding excess
-part_size bit F v h = grind (arith, ints, count_both, part_counted, places_in)
+part_size bit l v h = grind (arith, ints, count_both, part_counted, places_in)
 
 -- the nodes of the tree of v, in preorder
-pub subtree_is : (F : Forest) (v : ℕ) → HasPair F v → subtree F v ≡ places_in true F v
+pub subtree_is : (l : List Bool) (b : IsBalanced l) (v : ℕ) → HasPair l v → subtree (forest_of l) v ≡ places_in true l v
 unfolding subtree places_in
-subtree_is F v h = filter_agree (λ w. is_ancestor F v w) (between v (closing F v)) (nodes F) (λ w i. agree w (node_pair F w i)) ∙ ap (filter (between v (closing F v))) (nodes_are_ones F)
+subtree_is l b v h = filter_agree (λ w. is_ancestor (forest_of l) v w) (between v (closing (forest_of l) v)) (nodes (forest_of l)) (λ w i. agree w (node_pair l b w i)) ∙ ap (filter (between v (closing (forest_of l) v))) (nodes_by l b)
   where
-    agree : (w : ℕ) → HasPair F w → is_ancestor F v w ≡ between v (closing F v) w
+    agree : (w : ℕ) → HasPair l w → is_ancestor (forest_of l) v w ≡ between v (closing (forest_of l) v) w
     agree w k = grind (arith, ints, same_from_decides, Decides-like, ancestor_decides, between_decides)
 
-pub subtree_size_is : (F : Forest) (v : ℕ) → HasPair F v → 2 * length (subtree F v) + v ≡ closing F v + 1
-subtree_size_is F v h = let s = ap (λ (xs : List ℕ). length xs) (subtree_is F v h) in let p = part_size true F v h in omega arith
+pub subtree_size_is : (l : List Bool) (b : IsBalanced l) (v : ℕ) → HasPair l v → 2 * length (subtree (forest_of l) v) + v ≡ closing (forest_of l) v + 1
+subtree_size_is l b v h = let s = ap (λ (xs : List ℕ). length xs) (subtree_is l b v h) in let p = part_size true l v h in omega arith
 
 -- in postorder
-pub subtree_post_is : (F : Forest) (v : ℕ) → HasPair F v → subtree_post F v ≡ map (opening_of (text F)) (places_in false F v)
+pub postorder_by : (l : List Bool) → IsBalanced l → map (opening_of l) (places false l) ≡ postorder (forest_of l)
+postorder_by l b = subst (λ (m : List Bool). map (opening_of m) (places false m) ≡ postorder (forest_of l)) (text-forest_of l b) (postorder_opens (forest_of l))
+
+pub subtree_post_is : (l : List Bool) (b : IsBalanced l) (v : ℕ) → HasPair l v → subtree_post (forest_of l) v ≡ map (opening_of l) (places_in false l v)
 unfolding subtree_post places_in
-subtree_post_is F v h =
-    ap (filter (λ w. is_ancestor F v w)) (sym (postorder_opens F))
-    ∙ filter_mapped (λ w. is_ancestor F v w) (between v (closing F v)) (opening_of (text F)) (places false (text F)) (All-weaker (HasBitAt false (text F)) (λ k. is_ancestor F v (opening_of (text F) k) ≡ between v (closing F v) k) (λ k b. agree k (close_is_paired F k false b.inside (not-true _ b.holds))) (places false (text F)) (all_places false (text F)))
+subtree_post_is l b v h =
+    ap (filter (λ w. is_ancestor (forest_of l) v w)) (sym (postorder_by l b))
+    ∙ filter_mapped (λ w. is_ancestor (forest_of l) v w) (between v (closing (forest_of l) v)) (opening_of l) (places false l) (All-weaker (HasBitAt false l) (λ k. is_ancestor (forest_of l) v (opening_of l k) ≡ between v (closing (forest_of l) v) k) (λ k y. agree k (zero_pair l b k y.inside (not-true _ y.holds))) (places false l) (all_places false l))
   where
-    agree : (k : ℕ) → (w : ℕ) × Paired F w k → is_ancestor F v (opening_of (text F) k) ≡ between v (closing F v) k
+    agree : (k : ℕ) → (w : ℕ) × HasPair l w × (closing (forest_of l) w ≡ k) × Closes l w k → is_ancestor (forest_of l) v (opening_of l k) ≡ between v (closing (forest_of l) v) k
     agree k p =
-        grind (arith, ints, paired_closes, closing_is, before_is, before_from_closes, same_from_decides, Decides-like, nested, ancestor_decides, between_decides)
+        grind (arith, ints, before_is, before_from_closes, same_from_decides, Decides-like, nested, ancestor_decides, between_decides)
 
 -- ---- the orders
 pub closes_in_order : (F : Forest) → map (closing F) (postorder F) ≡ places false (text F)

@@ -2,13 +2,10 @@
 use Rattle.vers_trees.proofs.Words.{◌≡◌, ℕ, zero, suc, ◌+◌, ◌-◌, ◌<◌, ◌≤◌, Bool, true, false, List, [], ◌∷◌, length, reverse, get_or, eqb, negsuc, Option, Some, None, arith, sym, refl, ap, ◌∙◌, ◌/◌, map, take, drop, subst, slice_get, unwrap_or, Contains, option_eq, slice_get_within, slice_get_past, cond_some, slice_get-get_or, get_or_from_slice_get, get_or-reverse, length-reverse, length-map, length-take, length-drop, get_or-map, get_or-take, get_or-drop, take_all, length-filter, count_by-le-length, count, places, select, length-places, count_le, first_rise_after, Forest, text, IsBalanced, forest_of, nodes, closing, parent, nodes_under, children, siblings, last_of, next_of, previous_of, IsNode, subtree, tree_to, opened, tree_from, tree_before, met, walked, MeetsJust, opening_of, tree_beside, siblings_left, IsWalkOfSiblings, Contains-get_or, TakesFirst, postorder, subtree_post, closed_by}
 use Rattle.vers_trees.proofs.searches.Searches.{after_is}
 use Rattle.vers_trees.proofs.kin.Partners.{after_from_closes}
-use Rattle.vers_trees.proofs.kin.Handles.{closing_by}
-use Rattle.vers_trees.proofs.kin.NodeList.{HasPair, node_pair, nodes_are_ones, opens, option_decides}
+use Rattle.vers_trees.proofs.kin.NodeList.{HasPair, node_pair, nodes_by, opens, option_decides}
 use Rattle.vers_trees.proofs.levels.NodeLaws.{AscendsFrom, nodes_ascend, filter_ascends, next_member, member_before, first_member_before, last_by_number, member_passes}
 use Rattle.vers_trees.proofs.kin.Kin.{opened_here, closed_before, first_child_is, last_child_is, next_sibling_is, previous_sibling_is}
-use Rattle.vers_trees.proofs.grammar.Grammar.{text-forest_of}
-use Rattle.vers_trees.proofs.walks.Lists.{postorder_opens}
-use Rattle.vers_trees.proofs.walks.ListsOfNodes.{places_in, as_part, part_inside, part_size, subtree_is, subtree_size_is, subtree_post_is}
+use Rattle.vers_trees.proofs.walks.ListsOfNodes.{postorder_by, places_in, as_part, part_inside, part_size, subtree_is, subtree_size_is, subtree_post_is}
 
 -- a walk that ends meets what `walked` says, if it is given enough steps
 pub walk_is : (step : ℕ → Option (ℕ × ℕ)) (n p : ℕ) (vs : List ℕ) → MeetsJust step p vs → length vs ≤ n → walked step n p ≡ vs
@@ -53,48 +50,48 @@ children_ascend : (F : Forest) (v : ℕ) → AscendsFrom 0 (children F v)
 unfolding nodes_under
 children_ascend F v = filter_ascends _ 0 (nodes F) (nodes_ascend F)
 
-child_member : (F : Forest) (v i w : ℕ) → slice_get (children F v) i ≡ Some w → HasPair F w × (siblings F w ≡ children F v)
+child_member : (l : List Bool) (b : IsBalanced l) (v i w : ℕ) → slice_get (children (forest_of l) v) i ≡ Some w → HasPair l w × (siblings (forest_of l) w ≡ children (forest_of l) v)
 unfolding nodes_under
-child_member F v i w e =
-    let r = member_passes (λ w. option_eq eqb (parent F w) (Some v)) (nodes F) i w e in
-    (node_pair F w r.0, ap (nodes_under F) ((option_decides (parent F w) (Some v)).0 r.1))
+child_member l b v i w e =
+    let r = member_passes (λ w. option_eq eqb (parent (forest_of l) w) (Some v)) (nodes (forest_of l)) i w e in
+    (node_pair l b w r.0, ap (nodes_under (forest_of l)) ((option_decides (parent (forest_of l) w) (Some v)).0 r.1))
 
-pub children_few : (F : Forest) (v : ℕ) → length (children F v) ≤ length (text F)
+children_few : (l : List Bool) (b : IsBalanced l) (v : ℕ) → length (children (forest_of l) v) ≤ length l
 unfolding nodes_under
-children_few F v = grind (arith, length-filter, count_by-le-length, nodes_are_ones, length-places, count_le)
+children_few l b v = grind (arith, length-filter, count_by-le-length, nodes_by, length-places, count_le)
 
-pub meets_forwards : (F : Forest) (v : ℕ) → HasPair F v → MeetsJust (tree_from (text F)) (v + 1) (children F v)
-meets_forwards F v h = steps_meet (tree_from (text F)) (children F v) (λ p i. slice_get (children F v) i ≡ opened_here (text F) p)
+meets_forwards : (l : List Bool) (b : IsBalanced l) (v : ℕ) → HasPair l v → MeetsJust (tree_from l) (v + 1) (children (forest_of l) v)
+meets_forwards l b v h = steps_meet (tree_from l) (children (forest_of l) v) (λ p i. slice_get (children (forest_of l) v) i ≡ opened_here l p)
     (λ p i a e. (grind arith))
     (λ p i w a e.
-    let m = child_member F v i w e in let k = m.0 in
-    let at : p ≡ w = (cond_some (get_or (text F) p false) p w (sym a ∙ e)).1 in (
-      closing F w + 1,
-      rw (at, opens F w k) (ap (tree_to w) (after_is (text F) w (negsuc 0) (closing F w) (after_from_closes (text F) w (closing F w) k.closes))),
-      sym (next_member 0 i w (children F v) (children_ascend F v) e) ∙ ap (λ (vs : List ℕ). next_of vs w) (sym m.1) ∙ sym (next_sibling_is F w k),
+    let m = child_member l b v i w e in let k = m.0 in
+    let at : p ≡ w = (cond_some (get_or l p false) p w (sym a ∙ e)).1 in (
+      closing (forest_of l) w + 1,
+      rw (at, opens l w k) (ap (tree_to w) (after_is l w (negsuc 0) (closing (forest_of l) w) (after_from_closes l w (closing (forest_of l) w) k.closes))),
+      sym (next_member 0 i w (children (forest_of l) v) (children_ascend (forest_of l) v) e) ∙ ap (λ (vs : List ℕ). next_of vs w) (sym m.1) ∙ sym (next_sibling_is l b w k),
     ))
     (v + 1)
-    (sym (first_child_is F v h))
+    (sym (first_child_is l b v h))
 
 before_step : (l : List Bool) (p : ℕ) → tree_before l p ≡ opened (closed_before l p)
 before_step l p = grind arith
 
-pub meets_backwards : (F : Forest) (v : ℕ) → HasPair F v → MeetsJust (tree_before (text F)) (closing F v) (reverse (children F v))
-meets_backwards F v h = steps_meet (tree_before (text F)) (reverse xs) (λ p i. slice_get (reverse xs) i ≡ closed_before (text F) p)
-    (λ p i a e. before_step (text F) p ∙ ap opened (sym a ∙ e))
+meets_backwards : (l : List Bool) (b : IsBalanced l) (v : ℕ) → HasPair l v → MeetsJust (tree_before l) (closing (forest_of l) v) (reverse (children (forest_of l) v))
+meets_backwards l b v h = steps_meet (tree_before l) (reverse xs) (λ p i. slice_get (reverse xs) i ≡ closed_before l p)
+    (λ p i a e. before_step l p ∙ ap opened (sym a ∙ e))
     (λ p i w a e.
     let r = length-reverse xs in let n = slice_get_within (reverse xs) i w e in
     let at = sym (reversed_at xs i (omega arith)) ∙ e in
-    let m = child_member F v (length xs - 1 - i) w at in (
+    let m = child_member l b v (length xs - 1 - i) w at in (
       w,
-      before_step (text F) p ∙ ap opened (sym a ∙ e),
-      reversed_next xs i (length xs - 1 - i) w (children_ascend F v) (omega arith) at ∙ ap (λ (vs : List ℕ). previous_of vs w) (sym m.1) ∙ sym (previous_sibling_is F w m.0),
+      before_step l p ∙ ap opened (sym a ∙ e),
+      reversed_next xs i (length xs - 1 - i) w (children_ascend (forest_of l) v) (omega arith) at ∙ ap (λ (vs : List ℕ). previous_of vs w) (sym m.1) ∙ sym (previous_sibling_is l b w m.0),
     ))
-    (closing F v)
-    (reversed_first xs ∙ sym (last_child_is F v h))
+    (closing (forest_of l) v)
+    (reversed_first xs ∙ sym (last_child_is l b v h))
   where
     xs : List ℕ
-    xs = children F v
+    xs = children (forest_of l) v
 
 -- ---- the walks over nodes meet the lists of their definitions
 -- ---- steps among siblings
@@ -117,40 +114,31 @@ walk_from : (l : List Bool) (forward : Bool) (p : ℕ) (vs : List ℕ) → Meets
 unfolding siblings_left
 walk_from l forward p vs m h = grind (arith, walk_is)
 
-pub end_in : (l : List Bool) (v : ℕ) (o : Option ℕ) (c : ℕ) → IsBalanced l → IsNode (forest_of l) v → o ≡ first_rise_after l v (negsuc 0) → c ≡ unwrap_or o v → c ≡ closing (forest_of l) v
-end_in l v o c b n e d = d ∙ ap (λ (x : Option ℕ). unwrap_or x v) (e ∙ closing_by l b v n)
-
 pub forwards : (l : List Bool) (v : ℕ) → IsBalanced l → IsNode (forest_of l) v → (siblings_left l true (v + 1) ≡ children (forest_of l) v) × IsWalkOfSiblings l true (v + 1)
-forwards l v b n = subst (λ (m : List Bool). (siblings_left m true (v + 1) ≡ children (forest_of l) v) × IsWalkOfSiblings m true (v + 1)) (text-forest_of l b) (walk_from (text (forest_of l)) true (v + 1) (children (forest_of l) v) (meets_forwards (forest_of l) v (node_pair (forest_of l) v n)) (children_few (forest_of l) v))
+forwards l v b n = walk_from l true (v + 1) (children (forest_of l) v) (meets_forwards l b v (node_pair l b v n)) (children_few l b v)
 
 pub backwards : (l : List Bool) (v c : ℕ) → IsBalanced l → IsNode (forest_of l) v → c ≡ closing (forest_of l) v → (siblings_left l false c ≡ reverse (children (forest_of l) v)) × IsWalkOfSiblings l false c
 backwards l v c b n e =
-    let F = forest_of l in let few : length (reverse (children F v)) ≤ length (text F) = (let r = length-reverse (children F v) in let f = children_few F v in omega arith) in
-    subst (λ (k : ℕ). (siblings_left l false k ≡ reverse (children F v)) × IsWalkOfSiblings l false k) (sym e)
-    (subst (λ (m : List Bool). (siblings_left m false (closing F v) ≡ reverse (children F v)) × IsWalkOfSiblings m false (closing F v)) (text-forest_of l b)
-    (walk_from (text F) false (closing F v) (reverse (children F v)) (meets_backwards F v (node_pair F v n)) few))
+    let xs = children (forest_of l) v in let r = length-reverse xs in let f = children_few l b v in
+    subst (λ (k : ℕ). (siblings_left l false k ≡ reverse xs) × IsWalkOfSiblings l false k) (sym e) (walk_from l false (closing (forest_of l) v) (reverse xs) (meets_backwards l b v (node_pair l b v n)) (omega arith))
 
 -- ---- the tree of a node
-pub within_is : (l : List Bool) (v c : ℕ) → IsBalanced l → IsNode (forest_of l) v → c ≡ closing (forest_of l) v → (v ≤ c) × ((c - v) / 2 + 1 ≡ length (subtree (forest_of l) v))
-within_is l v c b n e = grind (arith, node_pair, subtree_size_is)
-
 pub subtree_inside : (bit : Bool) (l : List Bool) (v : ℕ) → IsBalanced l → IsNode (forest_of l) v → count bit l v + length (subtree (forest_of l) v) ≤ length (places bit l)
-subtree_inside bit l v b n = grind (arith, node_pair, text-forest_of, part_size, subtree_size_is, part_inside)
+subtree_inside bit l v b n = grind (arith, node_pair, part_size, subtree_size_is, part_inside)
 
 pub subtree_part : (l : List Bool) (v : ℕ) → IsBalanced l → IsNode (forest_of l) v → take (length (subtree (forest_of l) v)) (drop (count true l v) (places true l)) ≡ subtree (forest_of l) v
-subtree_part l v b n = grind (arith, subtree_is, node_pair, text-forest_of, as_part)
+subtree_part l v b n = grind (arith, subtree_is, node_pair, as_part)
 
 pub subtree_post_part : (l : List Bool) (v : ℕ) → IsBalanced l → IsNode (forest_of l) v → map (opening_of l) (take (length (subtree (forest_of l) v)) (drop (count false l v) (places false l))) ≡ subtree_post (forest_of l) v
 subtree_post_part l v b n =
-    grind (arith, node_pair, places_in, part_size, subtree_size_is, text-forest_of, as_part, subtree_post_is)
+    grind (arith, node_pair, places_in, part_size, subtree_size_is, as_part, subtree_post_is)
 
 -- ---- handles
 pub ones_are_nodes : (bits : List Bool) (i : ℕ) → IsBalanced bits → i < count true bits (length bits) → IsNode (forest_of bits) (select true bits i)
 unfolding select
 ones_are_nodes bits i b h =
-    let e : nodes (forest_of bits) ≡ places true bits = nodes_are_ones (forest_of bits) ∙ ap (places true) (text-forest_of bits b) in
     let n = length-places true bits in
-    subst (λ (vs : List ℕ). Contains vs (get_or (places true bits) i (length bits))) (sym e) (Contains-get_or (places true bits) i (length bits) (omega arith))
+    subst (λ (vs : List ℕ). Contains vs (get_or (places true bits) i (length bits))) (sym (nodes_by bits b)) (Contains-get_or (places true bits) i (length bits) (omega arith))
 
 -- ---- the nodes that zeros close, as a source of items
 length-zeros_from : (l : List Bool) (k n : ℕ) → k + n ≤ length (places false l) → length (take n (drop k (places false l))) ≡ n
@@ -176,6 +164,6 @@ closed_item l k n i c h low at =
 
 -- the nodes that all zeros close are those of the forest, each after those below it
 pub closed_by_all : (l : List Bool) (n : ℕ) → IsBalanced l → n ≡ length (places false l) → closed_by l 0 n ≡ postorder (forest_of l)
-closed_by_all l n b e = ap (map (opening_of l)) (take_all n (places false l) (omega (arith, e))) ∙ subst (λ (m : List Bool). map (opening_of m) (places false m) ≡ postorder (forest_of l)) (text-forest_of l b) (postorder_opens (forest_of l))
+closed_by_all l n b e = ap (map (opening_of l)) (take_all n (places false l) (omega (arith, e))) ∙ postorder_by l b
 
 pub ruleset closed = (length-closed_by, zero_inside, zeros_fit, closed_item)

@@ -1,9 +1,10 @@
 -- What a list with its tree of excesses is made of.
-use Rattle.std.specs.Prelude.{◌≡◌, ℕ, ◌+◌, ◌-◌, ◌*◌, ◌^◌, ◌<◌, ◌≤◌, ◌⊎◌, max, min, slice_index_or, Bool, List, length, drop, ℤ}
-use Rattle.vers_tally.specs.Reads.{digits}
+use Rattle.std.specs.Prelude.{◌≡◌, ℕ, ◌+◌, ◌-◌, ◌*◌, ◌/◌, ◌^◌, ◌<◌, ◌≤◌, ◌⊎◌, max, min, slice_index_or, Bool, List, length, drop, ℤ}
+use Rattle.vers_tally.specs.Reads.{Reads, no_reads, digits}
 use Rattle.vers_trees.specs.Excess.{excess}
 use Rattle.vers_trees.specs.declared.trees.bp.min_max.Node.{Node}
 use Rattle.vers_trees.specs.inside.MinMax.{IsMinMax, AreBlocks, IsPart, empty_node}
+use Rattle.vers_trees.specs.inside.Scans.{HasNoRise, HasNoRiseBefore}
 use Rattle.vers_trees.specs.Layout.{clog, node_count, levels}
 
 -- the tree over the blocks of a list that has some bits
@@ -25,6 +26,23 @@ pub record IsIndexed (l : List Bool) (size first : ℕ) (nodes : List Node) : Ty
   pub bounded : size ≤ 4294967296
   pub counted : length nodes ≡ node_count size (length l)
   pub over : 0 < length l → IsTreeOf l size first nodes
+
+-- in a list with its tree the block of the place i has no place after i past which the excess is r more than past i, and up to its end it rises by `rise`
+pub record IsPassedAfter (l : List Bool) (size first : ℕ) (nodes : List Node) (i : ℕ) (r rise : ℤ) : Type 0 where
+  pub indexed : IsIndexed l size first nodes
+  pub inside : i < length l
+  pub passed : HasNoRise l (i + 1) (min (i / size * size + size) (length l)) r rise
+
+-- the block of the place before i has no place before which the excess is r more than before i, and before its start it is `rise` more
+pub record IsPassedBefore (l : List Bool) (size first : ℕ) (nodes : List Node) (i : ℕ) (r rise : ℤ) : Type 0 where
+  pub indexed : IsIndexed l size first nodes
+  pub some : 0 < i
+  pub inside : i < length l
+  pub passed : HasNoRiseBefore l ((i - 1) / size * size) i r rise
+
+-- what a search adds at most once the block that it begins in is passed: four nodes a level, a block begun, and each of its bits once
+abbrev pub past_reads : ℕ → ℕ → Reads
+past_reads size n = record no_reads { data_words = size; rank_calls = size; blocks = 1; nodes = 4 * levels size n }
 
 -- w is the least power of two, from 2, that is not below the number of leaves
 pub record IsWidth (leaves w : ℕ) : Type 0 where

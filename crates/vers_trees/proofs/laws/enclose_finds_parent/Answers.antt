@@ -1,4 +1,4 @@
-use Rattle.vers_trees.proofs.kin.Matching.{enclosed_by_parent}
+use Rattle.vers_trees.proofs.PublicLaws.{enclosed_by_parent}
 use Rattle.vers_trees.proofs.laws.enclose_finds_parent.Goals as goal
 
 pub returns : goal.returns

@@ -1,4 +1,4 @@
-use Rattle.vers_trees.proofs.levels.NodeLaws.{level_iff_depth}
+use Rattle.vers_trees.proofs.PublicLaws.{level_iff_depth}
 use Rattle.vers_trees.proofs.laws.level_iff_depth.Goals as goal
 
 pub returns : goal.returns

@@ -1,4 +1,4 @@
-use Rattle.vers_trees.proofs.levels.NodeLaws.{levels_go_back}
+use Rattle.vers_trees.proofs.PublicLaws.{levels_go_back}
 use Rattle.vers_trees.proofs.laws.levels_go_back.Goals as goal
 
 pub returns : goal.returns

@@ -185,7 +185,7 @@ impl<const BLOCK_SIZE: usize, A: Allocator + Copy> BpTree<BLOCK_SIZE, A> {
           step = enclose_reads BLOCK_SIZE (length self.now);
         } }
     {
-        let end = self.close(node).unwrap_or(node);
+        let end = self.end(node);
         Siblings::new(self.searched(), false, end)
     }
 }

@@ -60,6 +60,7 @@ impl<const BLOCK_SIZE: usize, A: Allocator + Copy> BpTree<BLOCK_SIZE, A> {
     }
 
     /// The same as `level_next`, by the reads of two searches.
+    #[tactic(auto, using(crate::proofs::levels::LevelNodes::level_next_is_search, crate::proofs::kin::NodeList::node_pair))]
     #[inline(always)]
     pub fn level_next_counted(&self, node: usize, tally: &mut Tally) -> Option<usize>
         requires balanced { IsBalanced self.now }
@@ -69,7 +70,7 @@ impl<const BLOCK_SIZE: usize, A: Allocator + Copy> BpTree<BLOCK_SIZE, A> {
         ensures adds { AddsAtMost tally.old tally.new
             (two_searches_reads BLOCK_SIZE (length self.now)) }
     {
-        let close = self.close_counted(node, tally)?;
+        let close = self.end_counted(node, tally);
         self.fwd_search_counted(close, 1, tally)
     }
 

@@ -1,16 +1,15 @@
 //! From a node of balanced parentheses to its parent, its children and its siblings; its depth and its
 //! tree.
-ghost use Rattle.std.specs.Prelude.{◌+◌, ◌<◌, ◌≤◌, ◌≡◌, ◌↔◌, [], length, IsTrue, Some};
+ghost use Rattle.std.specs.Prelude.{◌<◌, ◌≡◌, ◌↔◌, [], length, IsTrue, Some};
 ghost use Rattle.vers_tally.specs.Reads.{AddsAtMost};
 ghost use Rattle.vers_rank.specs.Queries.{get_reads, rank_reads};
 ghost use Rattle.vers_trees.specs.Forest.{IsBalanced, forest_of};
-ghost use Rattle.vers_trees.specs.Nodes.{IsNode, parent, children, siblings, first_of, last_of, next_of, previous_of, node_index, depth, subtree, is_ancestor};
+ghost use Rattle.vers_trees.specs.Nodes.{IsNode, parent, children, siblings, first_of, last_of, next_of, previous_of, node_index, depth, subtree, is_ancestor, closing};
 ghost use Rattle.vers_trees.specs.inside.Scans.{opened_after};
 ghost use Rattle.vers_trees.specs.Layout.{search_reads, enclose_reads, two_searches_reads};
 
-use super::{BpTree, MAX_LEN};
+use super::BpTree;
 use std::alloc::Allocator;
-use vers_rank::fast_rs_vec::RsVec;
 use vers_tally::tally::Tally;
 
 impl<const BLOCK_SIZE: usize, A: Allocator + Copy> BpTree<BLOCK_SIZE, A> {
@@ -28,6 +27,7 @@ impl<const BLOCK_SIZE: usize, A: Allocator + Copy> BpTree<BLOCK_SIZE, A> {
     }
 
     /// The same as `parent`, by the reads of one search.
+    #[tactic(auto, using(crate::proofs::kin::Around::parent_is_search, crate::proofs::kin::NodeList::node_pair))]
     #[inline(always)]
     pub fn parent_counted(&self, node: usize, tally: &mut Tally) -> Option<usize>
         requires balanced { IsBalanced self.now }
@@ -59,7 +59,7 @@ impl<const BLOCK_SIZE: usize, A: Allocator + Copy> BpTree<BLOCK_SIZE, A> {
         ensures value { result ≡ first_of (children (forest_of self.now) node) }
         ensures adds { AddsAtMost tally.old tally.new get_reads }
     {
-        opens_after(&self.bits, node, tally)
+        self.opens_after(node, tally)
     }
 
     /// The last child of a node. None for a leaf.
@@ -84,7 +84,7 @@ impl<const BLOCK_SIZE: usize, A: Allocator + Copy> BpTree<BLOCK_SIZE, A> {
         ensures adds { AddsAtMost tally.old tally.new
             (two_searches_reads BLOCK_SIZE (length self.now)) }
     {
-        let close = self.close_counted(node, tally)?;
+        let close = self.end_counted(node, tally);
         let last = close - 1;
         if last == node {
             return None;
@@ -106,6 +106,7 @@ impl<const BLOCK_SIZE: usize, A: Allocator + Copy> BpTree<BLOCK_SIZE, A> {
     }
 
     /// The same as `next_sibling`, by one bit read and the reads of one search.
+    #[tactic(auto, using(crate::proofs::kin::Kin::next_sibling_is, crate::proofs::kin::NodeList::node_pair))]
     #[inline(always)]
     pub fn next_sibling_counted(&self, node: usize, tally: &mut Tally) -> Option<usize>
         requires balanced { IsBalanced self.now }
@@ -113,8 +114,8 @@ impl<const BLOCK_SIZE: usize, A: Allocator + Copy> BpTree<BLOCK_SIZE, A> {
         ensures value { result ≡ next_of (siblings (forest_of self.now) node) node }
         ensures adds { AddsAtMost tally.old tally.new (enclose_reads BLOCK_SIZE (length self.now)) }
     {
-        let close = self.close_counted(node, tally)?;
-        opens_after(&self.bits, close, tally)
+        let close = self.end_counted(node, tally);
+        self.opens_after(close, tally)
     }
 
     /// The node before with the same parent; roots are siblings. None for the first of them.
@@ -235,6 +236,7 @@ impl<const BLOCK_SIZE: usize, A: Allocator + Copy> BpTree<BLOCK_SIZE, A> {
     }
 
     /// The same as `subtree_size`, by the reads of one search.
+    #[tactic(auto, using(crate::proofs::walks::ListsOfNodes::subtree_size_is, crate::proofs::kin::NodeList::node_pair))]
     #[inline(always)]
     pub fn subtree_size_counted(&self, node: usize, tally: &mut Tally) -> Option<usize>
         requires balanced { IsBalanced self.now }
@@ -242,7 +244,7 @@ impl<const BLOCK_SIZE: usize, A: Allocator + Copy> BpTree<BLOCK_SIZE, A> {
         ensures value { result ≡ Some (length (subtree (forest_of self.now) node)) }
         ensures adds { AddsAtMost tally.old tally.new (search_reads BLOCK_SIZE (length self.now)) }
     {
-        let close = self.close_counted(node, tally)?;
+        let close = self.end_counted(node, tally);
         let places = close - node;
         Some(places.div_ceil(2))
     }
@@ -276,31 +278,52 @@ impl<const BLOCK_SIZE: usize, A: Allocator + Copy> BpTree<BLOCK_SIZE, A> {
         ensures adds { AddsAtMost tally.old tally.new
             (two_searches_reads BLOCK_SIZE (length self.now)) }
     {
-        let outer = self.close_counted(ancestor, tally)?;
-        let inner = self.close_counted(descendant, tally)?;
+        let outer = self.end_counted(ancestor, tally);
+        let inner = self.end_counted(descendant, tally);
         Some(ancestor <= descendant && inner <= outer)
     }
-}
 
-// The place after another, where a one stands there.
-#[inline(always)]
-fn opens_after<A: Allocator + Copy>(
-    bits: &RsVec<A>,
-    place: usize,
-    tally: &mut Tally,
-) -> Option<usize>
-    requires inside { place < length bits.now }
-    requires short { length bits.now ≤ MAX_LEN }
-    ensures value { result ≡ opened_after bits.now place }
-    ensures adds { AddsAtMost tally.old tally.new get_reads }
-{
-    let next = place + 1;
-    if next >= bits.len() {
-        return None;
+    // Where the tree of a node closes.
+    #[inline]
+    pub(super) fn end(&self, node: usize) -> usize
+        requires balanced { IsBalanced self.now }
+        requires node { IsNode (forest_of self.now) node }
+        ensures value { result ≡ closing (forest_of self.now) node }
+        ensures after { node < result }
+    {
+        let mut tally = Tally::new();
+        self.end_counted(node, &mut tally)
     }
-    if bits.is_one_counted(next, tally) {
-        Some(next)
-    } else {
-        None
+
+    // The same as `end`, by the reads of one search.
+    #[inline(always)]
+    pub(super) fn end_counted(&self, node: usize, tally: &mut Tally) -> usize
+        requires balanced { IsBalanced self.now }
+        requires node { IsNode (forest_of self.now) node }
+        ensures value { result ≡ closing (forest_of self.now) node }
+        ensures after { node < result }
+        ensures inside { result < length self.now }
+        ensures adds { AddsAtMost tally.old tally.new (search_reads BLOCK_SIZE (length self.now)) }
+    {
+        self.close_counted(node, tally).unwrap_or(node)
+    }
+
+    // The place after another, where a one stands there.
+    #[inline(always)]
+    fn opens_after(&self, place: usize, tally: &mut Tally) -> Option<usize>
+        requires { place < length self.now }
+        ensures value { result ≡ opened_after self.now place }
+        ensures adds { AddsAtMost tally.old tally.new get_reads }
+    {
+        let len = self.len();
+        let next = place + 1;
+        if next >= len {
+            return None;
+        }
+        if self.bits.is_one_counted(next, tally) {
+            Some(next)
+        } else {
+            None
+        }
     }
 }

@@ -3,7 +3,7 @@ ghost use Rattle.std.specs.Prelude.{◌≡◌, ◌↔◌, ◌+◌, ◌-◌, ◌^
 ghost use Rattle.vers_rank.specs.Queries.{get_reads};
 ghost use Rattle.vers_tally.specs.Reads.{AddsAtMost};
 ghost use Rattle.vers_trees.specs.Excess.{first_rise_after, last_rise_before};
-ghost use Rattle.vers_trees.specs.inside.Index.{IsIndexed};
+ghost use Rattle.vers_trees.specs.inside.Index.{IsIndexed, IsPassedAfter, IsPassedBefore, past_reads};
 ghost use Rattle.vers_trees.specs.Layout.{search_reads};
 
 use crate::trees::bp::min_max::MinMaxTree;
@@ -68,14 +68,23 @@ impl<'a, const BLOCK_SIZE: usize, A: Allocator + Copy> Searched<'a, BLOCK_SIZE, 
         }
         let block = i / BLOCK_SIZE;
         let end = (block * BLOCK_SIZE + BLOCK_SIZE).min(len);
-        let rise = match scan_forward(self.bits, &self.tree.tables, i + 1, end, r, tally) {
-            Ok(place) => return Some(place),
-            Err(rise) => rise,
-        };
+        match scan_forward(self.bits, &self.tree.tables, i + 1, end, r, tally) {
+            Ok(place) => Some(place),
+            Err(rise) => self.forward_past(i, r, rise, tally),
+        }
+    }
+
+    // The same where the block of `i` has no such place and rises by `rise` to its end.
+    #[inline(always)]
+    fn forward_past(self, i: usize, r: i64, rise: i64, tally: &mut Tally) -> Option<usize>
+        requires { IsPassedAfter self.bits.now BLOCK_SIZE self.tree.now.first self.tree.now.nodes i r rise }
+        ensures value { result ≡ first_rise_after self.entry.bits.now i r }
+        ensures adds { AddsAtMost tally.old tally.new (past_reads BLOCK_SIZE (length self.entry.bits.now)) }
+    {
         let left = r.checked_sub(rise)?;
-        let (next, rest) = self.tree.next_block_counted(block, left, tally)?;
+        let (next, rest) = self.tree.next_block_counted(i / BLOCK_SIZE, left, tally)?;
         let start = next * BLOCK_SIZE;
-        let stop = (start + BLOCK_SIZE).min(len);
+        let stop = (start + BLOCK_SIZE).min(self.bits.len());
         scan_forward(self.bits, &self.tree.tables, start, stop, rest, tally).ok()
     }
 
@@ -95,21 +104,25 @@ impl<'a, const BLOCK_SIZE: usize, A: Allocator + Copy> Searched<'a, BLOCK_SIZE, 
         }
         let block = (i - 1) / BLOCK_SIZE;
         let begin = block * BLOCK_SIZE;
-        let rise = match scan_backward(self.bits, &self.tree.tables, begin, i, r, tally) {
-            Ok(place) => return Some(place),
-            Err(rise) => rise,
-        };
+        match scan_backward(self.bits, &self.tree.tables, begin, i, r, tally) {
+            Ok(place) => Some(place),
+            Err(rise) => self.backward_past(i, r, rise, tally),
+        }
+    }
+
+    // The same where the block of the place before `i` has no such place and is `rise` higher at its
+    // start.
+    #[inline(always)]
+    fn backward_past(self, i: usize, r: i64, rise: i64, tally: &mut Tally) -> Option<usize>
+        requires { IsPassedBefore self.bits.now BLOCK_SIZE self.tree.now.first self.tree.now.nodes i r rise }
+        ensures value { result ≡ last_rise_before self.entry.bits.now i r }
+        ensures adds { AddsAtMost tally.old tally.new (past_reads BLOCK_SIZE (length self.entry.bits.now)) }
+    {
         let left = r.checked_sub(rise)?;
+        let block = (i - 1) / BLOCK_SIZE;
         let (previous, rest) = self.tree.previous_block_counted(block, left, tally)?;
         let start = previous * BLOCK_SIZE;
-        scan_backward(
-            self.bits,
-            &self.tree.tables,
-            start,
-            start + BLOCK_SIZE,
-            rest,
-            tally,
-        )
-        .ok()
+        let end = start + BLOCK_SIZE;
+        scan_backward(self.bits, &self.tree.tables, start, end, rest, tally).ok()
     }
 }

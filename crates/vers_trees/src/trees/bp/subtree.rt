@@ -54,7 +54,7 @@ impl<const BLOCK_SIZE: usize, A: Allocator + Copy> BpTree<BLOCK_SIZE, A> {
         requires is_node { IsNode (forest_of self.now) node }
         ensures { result ≡ length (subtree (forest_of self.now) node) }
     {
-        let end = self.close(node).unwrap_or(node);
+        let end = self.end(node);
         (end - node) / 2 + 1
     }
 }

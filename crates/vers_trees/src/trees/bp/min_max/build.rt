@@ -1,5 +1,5 @@
 //! Building the tree of excesses of a list, from its blocks up to the root.
-ghost use Rattle.std.specs.Prelude.{◌≡◌, ℕ, ◌+◌, ◌*◌, ◌<◌, ◌≤◌, ◌≤ℤ◌, ◌<ℤ◌, ◌^◌, length, drop, slice_index_or, IfOk};
+ghost use Rattle.std.specs.Prelude.{◌≡◌, ℕ, ◌+◌, ◌*◌, ◌<◌, ◌≤◌, ◌≤ℤ◌, ◌<ℤ◌, ◌^◌, length, drop, slice_index_or, vec_len, IfOk, OnOk};
 ghost use Rattle.vers_trees.specs.inside.Index.{CanBeIndexed, IsTreeOf, IsWidth, AreFirstBlocks};
 ghost use Rattle.vers_trees.specs.Layout.{block_count, node_count};
 ghost use Rattle.vers_trees.specs.inside.MinMax.{JoinFits, AreLeaves, CoveredFrom, combined, empty_node};
@@ -23,7 +23,6 @@ pub(super) fn width(leaves: usize) -> usize
 }
 
 // The nodes of the blocks of `size` bits, after `first` nodes that are still to be filled.
-#[tactic(auto, using(crate::proofs::layout::Widths::no_blocks, crate::proofs::layout::Widths::block_added))]
 fn leaves_of<A: Allocator + Copy>(
     bits: &BitVec<A>,
     size: usize,
@@ -33,15 +32,33 @@ fn leaves_of<A: Allocator + Copy>(
     ensures { IfOk result (λ v. AreFirstBlocks bits.now size first
         (block_count size (length bits.now)) v.items) }
 {
-    let len = bits.len();
-    let leaves = len.div_ceil(size);
+    let leaves = bits.len().div_ceil(size);
     let mut nodes = Vec::with_capacity(bits.allocator(), first.saturating_add(leaves))?;
     nodes.resize(first, Node::empty())?;
+    push_blocks(&mut nodes, bits, size, first)?;
+    Ok(nodes)
+}
+
+// Appends the nodes of the blocks of `size` bits to `first` others.
+#[tactic(auto, using(crate::proofs::layout::Widths::no_blocks, crate::proofs::layout::Widths::block_added))]
+fn push_blocks<A: Allocator + Copy>(
+    nodes: &mut Vec<Node, A>,
+    bits: &BitVec<A>,
+    size: usize,
+    first: usize,
+) -> Result<(), AllocError>
+    requires can { CanBeIndexed bits.now size }
+    requires before { vec_len nodes.old ≡ first }
+    ensures { OnOk result (AreFirstBlocks bits.now size first
+        (block_count size (length bits.now)) nodes.new.items) }
+{
+    let len = bits.len();
+    let leaves = len.div_ceil(size);
     for block in 0..leaves {
         let end = (block * size + size).min(len);
         nodes.push(node_of(bits, block * size, end))?;
     }
-    Ok(nodes)
+    Ok(())
 }
 
 // The nodes of the tree over the blocks of `size` bits of a list that has some bits.

@@ -1,5 +1,5 @@
 use Rattle.std.proofs.Common.{refl, arith}
-use Rattle.vers_trees.proofs.levels.NodeLaws.{node_iff_one}
+use Rattle.vers_trees.proofs.PublicLaws.{node_iff_one}
 use Rattle.vers_trees.proofs.trees.bp.BpTree.has_node_counted.Goals as goal
 
 pub returns-then-is_balanced_counted-clause-node : goal.returns-then-is_balanced_counted-clause-node

@@ -1,16 +1,20 @@
 use Rattle.vers_trees.proofs.Words.{ℕ, ◌-◌, length, negsuc, to_z, arith, sym, ap, ◌∙◌, w64, forest_of, last_rise_before, level, last_of}
 use Rattle.vers_trees.proofs.searches.Beside.{with_sign}
-use Rattle.vers_trees.proofs.kin.Handles.{last_root_by, no_level_so_deep, no_level_rightmost, level_rightmost_by}
+use Rattle.vers_trees.proofs.levels.LevelNodes.{too_deep, last_root_is_search, no_level_rightmost, level_rightmost_is_search}
 use Rattle.vers_trees.proofs.trees.bp.BpTree.level_rightmost_counted.Goals as goal
 
 pub returns-then-depth-len-clause-value : goal.returns-then-depth-len-clause-value
-returns-then-depth-len-clause-value g c = let t = c.if-depth-len.true in let v = c.len-len.ensures.value in sym ((no_level_so_deep c.args.self.now c.requires.balanced c.args.depth (omega arith)).1)
+returns-then-depth-len-clause-value g c = sym (too_deep c.args.self.now c.requires.balanced c.args.depth (omega arith)).1
 
 pub returns-then-depth-eq0-clause-value : goal.returns-then-depth-eq0-clause-value
-returns-then-depth-eq0-clause-value g c = let v = c.len-len.ensures.value in let b = c.len-len.ensures.bounded in let t = c.if-depth-len.false in c.open_counted.ensures.value ∙ ap (λ (n : ℕ). last_rise_before c.args.self.now (n - 1) (negsuc 0)) v ∙ last_root_by c.args.self.now c.requires.balanced (omega arith) ∙ ap (λ (d : ℕ). last_of (level (forest_of c.args.self.now) d)) (sym c.if-depth-eq0.true)
+returns-then-depth-eq0-clause-value g c = c.open_counted.ensures.value ∙ last_root_is_search c.args.self.now c.requires.balanced (c.len-len.result - 1) (omega arith) ∙ ap (λ (d : ℕ). last_of (level (forest_of c.args.self.now) d)) (sym c.if-depth-eq0.true)
 
 pub returns-in_err-close-clause-value : goal.returns-in_err-close-clause-value
-returns-in_err-close-clause-value g c = let v = c.len-len.ensures.value in let b = c.len-len.ensures.bounded in let t = c.if-depth-len.false in let z = c.if-depth-eq0.false in let m = (let a = c.in_err-close.ensures in a.value) ∙ ap (λ (n : ℕ). last_rise_before c.args.self.now (n - 1) (to_z w64 c.args.depth)) v ∙ ap (last_rise_before c.args.self.now (length c.args.self.now - 1)) (with_sign c.args.depth (omega arith)) in c.from_residual.ensures ∙ sym (no_level_rightmost c.args.self.now c.requires.balanced c.args.depth (omega arith) (omega arith) (sym m))
+returns-in_err-close-clause-value g c =
+    let m = (let a = c.in_err-close.ensures in a.value) ∙ ap (last_rise_before c.args.self.now (c.len-len.result - 1)) (with_sign c.args.depth (omega arith)) in
+    c.from_residual.ensures ∙ sym (no_level_rightmost c.args.self.now c.requires.balanced (c.len-len.result - 1) c.args.depth (omega arith) (omega arith) (sym m))
 
 pub returns-clause-value : goal.returns-clause-value
-returns-clause-value g c = let v = c.len-len.ensures.value in let b = c.len-len.ensures.bounded in let t = c.if-depth-len.false in let z = c.if-depth-eq0.false in let m = (let a = c.in_ok-close.ensures in a.value) ∙ ap (λ (n : ℕ). last_rise_before c.args.self.now (n - 1) (to_z w64 c.args.depth)) v ∙ ap (last_rise_before c.args.self.now (length c.args.self.now - 1)) (with_sign c.args.depth (omega arith)) in c.open_counted-2.ensures.value ∙ level_rightmost_by c.args.self.now c.requires.balanced c.args.depth c.in_ok-close.close (omega arith) (omega arith) (sym m)
+returns-clause-value g c =
+    let m = (let a = c.in_ok-close.ensures in a.value) ∙ ap (last_rise_before c.args.self.now (c.len-len.result - 1)) (with_sign c.args.depth (omega arith)) in
+    c.open_counted-2.ensures.value ∙ level_rightmost_is_search c.args.self.now c.requires.balanced (c.len-len.result - 1) c.args.depth c.in_ok-close.close (omega arith) (omega arith) (sym m)

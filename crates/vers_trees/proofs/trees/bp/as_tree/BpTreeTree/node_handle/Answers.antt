@@ -1,4 +1,4 @@
-use Rattle.vers_trees.proofs.kin.AsTree.{nodes_by}
+use Rattle.vers_trees.proofs.kin.NodeList.{nodes_by}
 use Rattle.vers_trees.proofs.Words.{get_or_past, arith, select}
 use Rattle.vers_trees.proofs.grammar.Grammar.{text-forest_of}
 use Rattle.vers_trees.proofs.trees.bp.as_tree.BpTreeTree.node_handle.Goals as goal

@@ -1,6 +1,7 @@
-use Rattle.vers_trees.proofs.Words.{arith, w64, ◌-◌, sym, ◌∙◌, to_z-of_z, ints}
+use Rattle.vers_trees.proofs.Words.{rules, arith, w64, ◌-◌, sym, to_z-of_z, ints}
 use Rattle.vers_trees.proofs.searches.Searches.{before_past, none_before}
-use Rattle.vers_trees.proofs.searches.Finds.{found_last, previous_ends, previous_answer, none_previous, none_far_back}
+use Rattle.vers_trees.proofs.searches.Scans.{rise_is}
+use Rattle.vers_trees.proofs.searches.Finds.{found_last}
 use Rattle.vers_trees.proofs.trees.bp.search.Searched.backward.Goals as goal
 use Rattle.vers_trees.proofs.trees.bp.search.Searched.backward.Goals.{then-i-eq0-via-then-i-eq0, then-i-eq0-via-else-i-eq0+then-i-len}
 
@@ -14,27 +15,10 @@ returns-then-i-eq0-clause-value g c =
 pub returns-in-Ok-clause-value : goal.returns-in-Ok-clause-value
 returns-in-Ok-clause-value g c = found_last _ _ _ _ _ (omega arith) (rw (to_z-of_z w64 c.args.r c.ranges.r) at c.in-Ok.ensures.value)
 
-pub returns-in_err-left-clause-value : goal.returns-in_err-left-clause-value
-returns-in_err-left-clause-value g c =
-    c.from_residual.ensures ∙ none_far_back c.args.self.bits.now g.row.BLOCK_SIZE c.args.self.tree.now.first c.args.self.tree.now.nodes c.requires _ _ c.in-Err.rise (omega arith) (omega arith) c.ranges.r (rw (to_z-of_z w64 c.args.r c.ranges.r) at c.in-Err.ensures.value) c.in_err-left.ensures
+pub backward_past-requires : goal.backward_past-requires
+backward_past-requires g c =
+    let n = c.in-Err.ensures.value in
+    (search rules, record { indexed = c.requires; some = omega arith; inside = omega arith; passed = rw (rise_is c.args.self.bits.now c.args.i _ c.in-Err.rise c.requires.short (omega arith) (omega arith) n.risen) n })
 
-pub returns-in_err-previous-clause-value : goal.returns-in_err-previous-clause-value
-returns-in_err-previous-clause-value g c =
-    c.from_residual-in_err-previous.ensures ∙ none_previous c.args.self.bits.now g.row.BLOCK_SIZE c.args.self.tree.now.first c.args.self.tree.now.nodes c.requires _ _ c.in-Err.rise (omega arith) (omega arith) c.ranges.r (rw (to_z-of_z w64 c.args.r c.ranges.r) at c.in-Err.ensures.value) c.in_ok-left.left c.in_ok-left.ensures (let a = c.in_err-previous.ensures in a.value)
-
-pub overflow_mul-start : goal.overflow_mul-start
-overflow_mul-start g c =
-    record { fits = omega (arith, previous_ends _ g.row.BLOCK_SIZE (c.args.i - 1) _ c.in_ok-previous.previous _ (let a = c.in_ok-previous.ensures in a.value)) }
-
-pub overflow_add-start : goal.overflow_add-start
-overflow_add-start g c =
-    record { fits = omega (arith, previous_ends _ g.row.BLOCK_SIZE (c.args.i - 1) _ c.in_ok-previous.previous _ (let a = c.in_ok-previous.ensures in a.value)) }
-
-pub scan_backward-requires-2-clause-inside : goal.scan_backward-requires-2-clause-inside
-scan_backward-requires-2-clause-inside g c =
-    omega (arith, previous_ends _ g.row.BLOCK_SIZE (c.args.i - 1) _ c.in_ok-previous.previous _ (let a = c.in_ok-previous.ensures in a.value))
-
-pub returns-clause-value : goal.returns-clause-value
-returns-clause-value g c =
-    c.ok.ensures.value
-    ∙ previous_answer c.args.self.bits.now g.row.BLOCK_SIZE c.args.self.tree.now.first c.args.self.tree.now.nodes c.requires _ _ c.in-Err.rise (omega arith) (omega arith) c.ranges.r (rw (to_z-of_z w64 c.args.r c.ranges.r) at c.in-Err.ensures.value) c.in_ok-left.left c.in_ok-left.ensures c.in_ok-previous.previous c.in_ok-previous.rest _ (let a = c.in_ok-previous.ensures in a.value) c.scan_backward-2.ensures.value
+pub returns-in-Err-clause-value : goal.returns-in-Err-clause-value
+returns-in-Err-clause-value g c = rw (to_z-of_z w64 c.args.r c.ranges.r) at c.backward_past.ensures.value

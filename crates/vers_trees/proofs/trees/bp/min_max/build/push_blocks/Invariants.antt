@@ -1,5 +1,5 @@
 use Rattle.vers_trees.specs.inside.Index.{AreFirstBlocks}
-use Rattle.vers_trees.proofs.trees.bp.min_max.build.leaves_of.Given as goal
+use Rattle.vers_trees.proofs.trees.bp.min_max.build.push_blocks.Given as goal
 
 abbrev pub invariant-loop-block : goal.invariant-loop-block
 invariant-loop-block g l = AreFirstBlocks l.bits l.size l.first l.block l.nodes.items

@@ -1,6 +1,6 @@
 use Rattle.vers_trees.proofs.Words.{◌≡◌, ℕ, List, [], ◌∷◌, ◌++◌, ◌+◌, ◌*◌, min, length, arith, sym, subst, ap, ◌∙◌, Node, IsPart, block_count, AreFirstBlocks}
 use Rattle.vers_trees.proofs.layout.Widths.{block_added}
-use Rattle.vers_trees.proofs.trees.bp.min_max.build.leaves_of.Goals as goal
+use Rattle.vers_trees.proofs.trees.bp.min_max.build.push_blocks.Goals as goal
 
 pub loop-block-preserved : goal.loop-block-preserved
 loop-block-preserved g c =
