@@ -1,15 +1,16 @@
 -- The laws that proofs of other crates may cite. A crate above imports this file and no other of this folder.
-use Rattle.vers_trees.proofs.Words.{◌≡◌, ℕ, suc, ◌+◌, ◌-◌, ◌*◌, ◌^◌, ◌<◌, ◌≤◌, ◌↔◌, ⊎_elim, Decides, Bool, true, false, not, List, [], ◌∷◌, ◌++◌, map, length, get_or, eqb, max, Option, Some, None, slice_get, option_map, Contains, bit_value, are_balanced, enclosing, Forest, text, pairs, IsBalanced, forest_of, block_count, clog, node_count, nodes, IsNode, closing, parent, depth, level, first_of, last_of, next_of, previous_of, IsAlongLevel, arith, refl, sym, subst, ap, ◌∙◌, cases_lt, take, get_or_past, same_Some, slice_get-get_or, get_or_from_slice_get, slice_get_within, length_push, map-append, take_all, take_more, Decides-eqb, length-filter_both, clog_least, pow_next}
+use Rattle.vers_trees.proofs.Words.{◌≡◌, ℕ, suc, ◌+◌, ◌-◌, ◌*◌, ◌^◌, ◌<◌, ◌≤◌, ◌↔◌, ⊎_elim, Decides, Bool, true, false, not, List, [], ◌∷◌, ◌++◌, map, length, get_or, eqb, max, Option, Some, None, slice_get, option_map, Contains, bit_value, are_balanced, enclosing, Forest, text, pairs, IsBalanced, forest_of, block_count, clog, node_count, nodes, IsNode, closing, parent, depth, level, first_of, last_of, next_of, previous_of, IsAlongLevel, arith, refl, sym, subst, ap, ◌∙◌, cases_lt, take, get_or_past, same_Some, slice_get-get_or, get_or_from_slice_get, slice_get_within, length_push, map-append, take_all, take_more, Decides-eqb, length-filter_both, clog_least, pow_next, negsuc, first_rise_after, last_rise_before, ints, rules, Reads, AddsAtMost, IsWithin, superblock_count, get_reads, rank_reads, select_reads, levels, search_reads, enclose_reads, two_searches_reads, post_reads, tree_reads}
 use Rattle.vers_trees.proofs.grammar.Balance as Balance
 use Rattle.vers_trees.proofs.grammar.Grammar as Grammar
-use Rattle.vers_trees.proofs.grammar.Paired.{closes_rises, closes_falls, paired_closes}
-use Rattle.vers_trees.proofs.grammar.Pairs.{contains_map, paired_from_contains}
-use Rattle.vers_trees.proofs.kin.Around.{parent_is_search}
-use Rattle.vers_trees.proofs.kin.Matching.{found_at_close}
+use Rattle.vers_trees.proofs.grammar.Paired.{closes_rises, closes_falls, paired_closes, closes_paired, open_is_paired, close_is_paired, Closes}
+use Rattle.vers_trees.proofs.grammar.Pairs.{contains_map, paired_from_contains, contains_from_paired}
+use Rattle.vers_trees.proofs.kin.Kin.{parent_is_search}
 use Rattle.vers_trees.proofs.kin.NodeList.{one_pair, node_pair, opens}
 use Rattle.vers_trees.proofs.layout.Widths.{some_counted, one_at_least}
 use Rattle.vers_trees.proofs.levels.NodeLaws.{AscendsFrom, nodes_ascend, filter_ascends, next_member, member_before, first_member_before, last_by_number, member_passes, passing_holds}
 use Rattle.vers_trees.proofs.searches.Beside.{enclosing_open, enclosing_close}
+use Rattle.vers_trees.proofs.searches.Searches.{after_some, after_is, before_some, before_is, before_none, none_before}
+use Rattle.vers_trees.proofs.kin.Partners.{after_from_closes, closes_from_after, before_from_closes, closes_from_before, before_pair, enclose_at_close}
 
 -- ---- nodes
 
@@ -40,6 +41,35 @@ balance_decides = Balance.balance_decides
 
 -- ---- pairs
 
+-- what a list has at a place
+has_bit : (l : List Bool) (i : ℕ) (b : Bool) → slice_get l i ≡ Some b → (i < length l) × (get_or l i false ≡ b)
+has_bit l i b e = (slice_get_within l i b e, get_or_from_slice_get l i b false e)
+
+pub close_pair : (F : Forest) (v c : ℕ) → slice_get (text F) v ≡ Some true → (first_rise_after (text F) v (negsuc 0) ≡ Some c) ↔ Contains (pairs F) (v, c)
+close_pair F v c h = (
+  λ e. contains_from_paired F v c (grind (arith, ints, closes_paired, closes_from_after, has_bit, after_some)),
+  λ k. after_is (text F) v (negsuc 0) c (after_from_closes (text F) v c (paired_closes F v c (paired_from_contains F (v, c) k))),
+)
+
+pub open_pair : (F : Forest) (v c : ℕ) → slice_get (text F) c ≡ Some false → (last_rise_before (text F) c (negsuc 0) ≡ Some v) ↔ Contains (pairs F) (v, c)
+open_pair F v c h = (
+  λ e. contains_from_paired F v c (grind (arith, ints, closes_paired, closes_from_before, has_bit, before_some)),
+  λ k. before_is (text F) c (negsuc 0) v (before_from_closes (text F) v c (paired_closes F v c (paired_from_contains F (v, c) k))),
+)
+
+pub open_of_close : (F : Forest) (v : ℕ) → slice_get (text F) v ≡ Some true → (c : ℕ) × (first_rise_after (text F) v (negsuc 0) ≡ Some c) × (last_rise_before (text F) c (negsuc 0) ≡ Some v)
+open_of_close F v h =
+    grind (arith, has_bit, open_is_paired, paired_closes, after_is, after_from_closes, before_is, before_from_closes)
+
+pub close_of_open : (F : Forest) (c : ℕ) → slice_get (text F) c ≡ Some false → (v : ℕ) × (last_rise_before (text F) c (negsuc 0) ≡ Some v) × (first_rise_after (text F) v (negsuc 0) ≡ Some c)
+close_of_open F c h =
+    grind (arith, has_bit, close_is_paired, paired_closes, before_is, before_from_closes, after_is, after_from_closes)
+
+-- from the closing bracket of a pair two less is found where one less is from the opening one
+pub found_at_close : (l : List Bool) (v c : ℕ) → Closes l v c → (o : Option ℕ) → last_rise_before l v (negsuc 0) ≡ o → last_rise_before l c (negsuc 1) ≡ o
+found_at_close l v c q None e = none_before l c (negsuc 1) (λ k x h. let b = before_pair l v c q k x h in before_none l v (negsuc 0) (omega arith) e k b.0 b.1)
+found_at_close l v c q (Some p) e = search (rules, before_is, enclose_at_close, before_some)
+
 -- of both places of a pair, the nearest pair around it opens at the parent of its node
 pub enclosed_by_parent : (F : Forest) (v c : ℕ) → Contains (pairs F) (v, c) → (enclosing (text F) v ≡ parent F v) × (enclosing (text F) c ≡ parent F v)
 enclosed_by_parent F v c k =
@@ -54,6 +84,8 @@ enclosed_by_parent F v c k =
 -- the forest of a balanced list writes down that list again
 pub text-forest_of : (bits : List Bool) → IsBalanced bits → text (forest_of bits) ≡ bits
 text-forest_of = Grammar.text-forest_of
+
+pub ruleset written = (text-forest_of)
 
 -- ---- the tree over the blocks
 
@@ -149,3 +181,23 @@ pub walk_ends : {H : Type 0} {place : H → ℕ} {F : Forest} {d : ℕ} {met : L
 walk_ends {place = place} {F = F} {d = d} {met = met} h e =
     let past = ⊎_elim (λ (i : length met < length (level F d)). let f = sym (slice_get-get_or (level F d) (length met) 0 i) ∙ sym h.then ∙ ap (option_map place) e in absurd (cc)) (λ (i : length (level F d) ≤ length met). i) (cases_lt (length met) (length (level F d))) in
     h.first ∙ take_all (length met) (level F d) past
+
+-- ---- what calls read
+module _ (size n : ℕ) where
+  pub calls_within :
+      IsWithin (search_reads size n) (tree_reads size n)
+      × IsWithin (enclose_reads size n) (tree_reads size n)
+      × IsWithin (two_searches_reads size n) (tree_reads size n)
+      × IsWithin (post_reads size n) (tree_reads size n)
+      × IsWithin get_reads (tree_reads size n)
+      × IsWithin rank_reads (tree_reads size n)
+      × IsWithin (select_reads (superblock_count n)) (tree_reads size n)
+  calls_within = grind arith
+
+  pub calls_few : (old new : Reads) → AddsAtMost old new (tree_reads size n)
+      → (new.blocks ≤ old.blocks + 4) × (new.nodes ≤ old.nodes + 8 * levels size n) × (new.data_words ≤ old.data_words + (4 * size + 32))
+  calls_few old new h = (h.blocks.within, h.nodes.within, h.data_words.within)
+
+  pub searches_few : (old new : Reads) → AddsAtMost old new (search_reads size n)
+      → (new.blocks ≤ old.blocks + 2) × (new.nodes ≤ old.nodes + 4 * levels size n) × (new.data_words ≤ old.data_words + (2 * size + 4))
+  searches_few old new h = (h.blocks.within, h.nodes.within, h.data_words.within)

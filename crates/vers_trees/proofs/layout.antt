@@ -5,4 +5,3 @@ pub mod Widths
 pub mod Climbs
 pub mod Steps
 pub mod Building
-pub mod ReadLaws

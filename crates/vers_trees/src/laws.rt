@@ -33,13 +33,13 @@ pub fn open_finds_pair()
 {}
 
 /// In a forest written down, what opens for the zero that closes a one is that one.
-#[tactic(auto, using(crate::proofs::kin::Matching::open_of_close))]
+#[tactic(auto, using(crate::proofs::PublicLaws::open_of_close))]
 pub fn open_undoes_close()
     ensures { OpenUndoesClose }
 {}
 
 /// In a forest written down, what closes the one that opens for a zero is that zero.
-#[tactic(auto, using(crate::proofs::kin::Matching::close_of_open))]
+#[tactic(auto, using(crate::proofs::PublicLaws::close_of_open))]
 pub fn close_undoes_open()
     ensures { CloseUndoesOpen }
 {}
@@ -50,7 +50,7 @@ pub fn enclose_finds_parent()
 {}
 
 /// The forest of a balanced list writes down that list again.
-#[tactic(auto, using(crate::proofs::kin::Matching::written))]
+#[tactic(auto, using(crate::proofs::PublicLaws::written))]
 pub fn forest_writes_its_list()
     ensures { ForestWritesItsList }
 {}
@@ -116,21 +116,21 @@ pub fn levels_are_parts()
 
 /// Each bound that the contract of a counted call names, or of a step of a walk, is within one bound,
 /// `tree_reads`.
-#[tactic(auto, using(crate::proofs::layout::ReadLaws::calls_within))]
+#[tactic(auto, using(crate::proofs::PublicLaws::calls_within))]
 pub fn calls_are_within_one_bound()
     ensures { CallsAreWithinOneBound }
 {}
 
 /// What adds at most `tree_reads` begins at most four blocks, and reads at most eight nodes a level,
 /// and as data words four times the bits of a block and 32.
-#[tactic(auto, using(crate::proofs::layout::ReadLaws::calls_few))]
+#[tactic(auto, using(crate::proofs::PublicLaws::calls_few))]
 pub fn calls_read_few()
     ensures { CallsReadFew }
 {}
 
 /// A search begins at most two blocks, and reads at most four nodes a level, and as data words twice
 /// the bits of a block and four.
-#[tactic(auto, using(crate::proofs::layout::ReadLaws::searches_few))]
+#[tactic(auto, using(crate::proofs::PublicLaws::searches_few))]
 pub fn searches_read_few()
     ensures { SearchesReadFew }
 {}

@@ -5,7 +5,7 @@ use Rattle.vers_trees.proofs.grammar.Excess.{below_until, below_since, excess-ze
 use Rattle.vers_trees.proofs.grammar.Grammar.{balanced_total, balanced_above}
 use Rattle.vers_trees.proofs.kin.Partners.{before_from_closes}
 use Rattle.vers_trees.proofs.kin.NodeList.{HasPair, one_pair, zero_pair, opens, inside, first_node, no_first_node, first_in, no_first_in, last_node, no_last_node, next_in, no_next_in, previous_in, no_previous_in}
-use Rattle.vers_trees.proofs.kin.Around.{ancestor_decides, above_from_before, above_is_around, depth_is_excess}
+use Rattle.vers_trees.proofs.kin.Kin.{ancestor_decides, above_from_before, above_is_around, depth_is_excess}
 
 -- ---- places where the excess is x, below which it stands at a place before or after
 -- after c the first of them is past a one

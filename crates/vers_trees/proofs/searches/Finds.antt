@@ -15,12 +15,6 @@ Difference r rise left = FitsSigned w64 (stored r -ℤ stored rise) × (left ≡
 left_is : (r rise left : ℤ) → FitsSigned w64 r → FitsSigned w64 rise → Difference r rise left → stored left ≡ r -ℤ rise
 left_is r rise left f g d = rw d.1 (to_z-of_z w64 _ d.0 ∙ ap (λ (z : ℤ). z -ℤ stored rise) (to_z-of_z w64 r f) ∙ ap (λ (z : ℤ). r -ℤ z) (to_z-of_z w64 rise g))
 
-pub none_past : (l : List Bool) (i : ℕ) (r : ℤ) → length l ≤ i → None ≡ first_rise_after l i r
-none_past l i r h = sym (none_after l i r (λ k a b. absurd (omega arith)))
-
-pub found_last : (l : List Bool) (from i : ℕ) (r : ℤ) (place : ℕ) → i < length l → IsLastRise l from i r place → Some place ≡ last_rise_before l i r
-found_last l from i r place h p = sym (before_is l i r place (record { before = p.inside; inside = h; sum = p.sum; last = p.last }))
-
 pub first_end : (l : List Bool) (size i : ℕ) → 0 < size → i < length l → i + 1 ≤ min (i / size * size + size) (length l)
 first_end l size i so h = omega arith
 

@@ -1,4 +1,4 @@
-use Rattle.vers_trees.proofs.kin.Matching.{close_pair}
+use Rattle.vers_trees.proofs.PublicLaws.{close_pair}
 use Rattle.vers_trees.proofs.laws.close_finds_pair.Goals as goal
 
 pub returns : goal.returns

@@ -27,7 +27,7 @@ impl<const BLOCK_SIZE: usize, A: Allocator + Copy> BpTree<BLOCK_SIZE, A> {
     }
 
     /// The same as `parent`, by the reads of one search.
-    #[tactic(auto, using(crate::proofs::kin::Around::parent_is_search, crate::proofs::kin::NodeList::node_pair))]
+    #[tactic(auto, using(crate::proofs::kin::Kin::parent_is_search, crate::proofs::kin::NodeList::node_pair))]
     #[inline(always)]
     pub fn parent_counted(&self, node: usize, tally: &mut Tally) -> Option<usize>
         requires balanced { IsBalanced self.now }

@@ -1,7 +1,6 @@
 use Rattle.vers_trees.proofs.Words.{rules, arith, w64, ◌-◌, sym, to_z-of_z, ints}
-use Rattle.vers_trees.proofs.searches.Searches.{before_past, none_before}
+use Rattle.vers_trees.proofs.searches.Searches.{before_past, before_is, none_before}
 use Rattle.vers_trees.proofs.searches.Scans.{rise_is}
-use Rattle.vers_trees.proofs.searches.Finds.{found_last}
 use Rattle.vers_trees.proofs.trees.bp.search.Searched.backward.Goals as goal
 use Rattle.vers_trees.proofs.trees.bp.search.Searched.backward.Goals.{then-i-eq0-via-then-i-eq0, then-i-eq0-via-else-i-eq0+then-i-len}
 
@@ -13,7 +12,9 @@ returns-then-i-eq0-clause-value g c =
     ]
 
 pub returns-in-Ok-clause-value : goal.returns-in-Ok-clause-value
-returns-in-Ok-clause-value g c = found_last _ _ _ _ _ (omega arith) (rw (to_z-of_z w64 c.args.r c.ranges.r) at c.in-Ok.ensures.value)
+returns-in-Ok-clause-value g c =
+    let p = rw (to_z-of_z w64 c.args.r c.ranges.r) at c.in-Ok.ensures.value in
+    sym (before_is c.args.self.bits.now c.args.i c.args.r c.in-Ok.place (record { before = p.inside; inside = omega arith; sum = p.sum; last = p.last }))
 
 pub backward_past-requires : goal.backward_past-requires
 backward_past-requires g c =

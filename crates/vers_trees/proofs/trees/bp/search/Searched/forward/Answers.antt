@@ -1,11 +1,11 @@
 use Rattle.vers_trees.proofs.Words.{rules, ◌≡◌, ℕ, ◌+◌, ◌*◌, ◌/◌, min, length, to_z, of_z, HasNoRise, arith, w64, subst, sym, ◌∙◌, to_z-of_z, ints}
-use Rattle.vers_trees.proofs.searches.Finds.{first_end, none_past}
+use Rattle.vers_trees.proofs.searches.Finds.{first_end}
 use Rattle.vers_trees.proofs.searches.Scans.{rise_is}
-use Rattle.vers_trees.proofs.searches.Searches.{after_is}
+use Rattle.vers_trees.proofs.searches.Searches.{after_is, none_after}
 use Rattle.vers_trees.proofs.trees.bp.search.Searched.forward.Goals as goal
 
 pub returns-then-i-len-clause-value : goal.returns-then-i-len-clause-value
-returns-then-i-len-clause-value g c = none_past _ _ _ (omega arith)
+returns-then-i-len-clause-value g c = sym (none_after c.args.self.bits.now c.args.i c.args.r (λ k a b. absurd (omega arith)))
 
 pub scan_forward-requires-clause-order : goal.scan_forward-requires-clause-order
 scan_forward-requires-clause-order g c =
