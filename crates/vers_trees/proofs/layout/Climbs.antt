@@ -49,10 +49,6 @@ leads_leaf first nodes from t place left m p h =
     record { after = omega arith; remains = rw s0 at p.remains; reaches = subst (λ (n : ℕ). Reaches (drop first nodes) n t) here f.3; first = λ k x y w. p.none k x (omega arith) w }
 
 -- ---- climbing
-pub passed_start : (first : ℕ) (nodes : List Node) (begin : ℕ) (r : ℤ) → IsMinMax first nodes → begin < length (drop first nodes) → PassedTo first nodes (begin + 1) (total_before (drop first nodes) (begin + 1) +ℤ r) (first + begin) r
-passed_start first nodes begin r m h =
-    record { start = begin; stop = begin + 1; stands = stands_leaf first nodes m begin h; after = omega arith; remains = refl; none = λ k a b w. omega arith }
-
 passed_right : (first : ℕ) (nodes : List Node) (from : ℕ) (t : ℤ) (place : ℕ) (left : ℤ) → PassedTo first nodes from t place left → 0 < place → (place % 2 ≡ 1 → ⊥) → PassedTo first nodes from t ((place - 1) / 2) left
 passed_right first nodes from t place left p some even =
     let here : place ≡ 2 * ((place - 1) / 2) + 2 = omega arith in
@@ -64,7 +60,7 @@ passed_root first nodes from t place left m p root k a w =
     p.none k a (omega (arith, (root_stands first p.start p.stop (subst (λ (n : ℕ). StandsOver first n p.start p.stop) root p.stands)).1)) w
 
 -- up past the right children that the passed part ends with
-pub comes_to : (first : ℕ) (nodes : List Node) (from : ℕ) (t : ℤ) (place : ℕ) (left : ℤ) (next : ℕ) → IsMinMax first nodes → PassedTo first nodes from t place left → IsOddPart (place + 2) (next + 1) → ComesTo first nodes from t next left
+comes_to : (first : ℕ) (nodes : List Node) (from : ℕ) (t : ℤ) (place : ℕ) (left : ℤ) (next : ℕ) → IsMinMax first nodes → PassedTo first nodes from t place left → IsOddPart (place + 2) (next + 1) → ComesTo first nodes from t next left
 comes_to first nodes from t place left next m p o = go o.zeros place p o.splits
   where
     go : (k place : ℕ) → PassedTo first nodes from t place left → place + 2 ≡ (next + 1) * 2 ^ k → ComesTo first nodes from t next left
@@ -76,6 +72,11 @@ comes_to first nodes from t place left next m p o = go o.zeros place p o.splits
         (λ (root : place < 1). record { even = omega arith; passed = λ some. absurd (omega arith); none = λ z. passed_root first nodes from t place left m p (omega arith) })
         (λ (some : 1 ≤ place). go k ((place - 1) / 2) (passed_right first nodes from t place left p some (λ u. omega arith)) (omega arith))
         (cases_lt place 1)
+
+-- from a block on
+pub comes_from : (first : ℕ) (nodes : List Node) (begin : ℕ) (r : ℤ) (next : ℕ) → IsMinMax first nodes → begin < length (drop first nodes) → IsOddPart (first + begin + 2) (next + 1) → ComesTo first nodes (begin + 1) (total_before (drop first nodes) (begin + 1) +ℤ r) next r
+comes_from first nodes begin r next m h =
+    comes_to first nodes (begin + 1) (total_before (drop first nodes) (begin + 1) +ℤ r) (first + begin) r next m (record { start = begin; stop = begin + 1; stands = stands_leaf first nodes m begin h; after = omega arith; remains = refl; none = λ k a b w. omega arith })
 
 -- a right child, beside the passed part
 record Right (first : ℕ) (nodes : List Node) (from : ℕ) (t : ℤ) (place : ℕ) (left : ℤ) (x : Node) : Type 0 where
@@ -198,10 +199,6 @@ back_leaf first nodes to t place left m p h =
     record { before = omega arith; remains = rw end at p.remains; meets = subst (λ (n : ℕ). Meets (drop first nodes) n t) here p.meets; last = λ k x y w. p.none k (omega arith) y w }
 
 -- ---- climbing
-pub rise_start : (first : ℕ) (nodes : List Node) (begin : ℕ) (r : ℤ) → IsMinMax first nodes → begin < length (drop first nodes) → PassedBack first nodes begin (total_before (drop first nodes) begin +ℤ r) (first + begin) r
-rise_start first nodes begin r m h =
-    record { start = begin; stop = begin + 1; stands = stands_leaf first nodes m begin h; before = omega arith; within = omega arith; remains = refl; none = λ k a b w. omega arith }
-
 rise_same : (first : ℕ) (nodes : List Node) (to : ℕ) (t : ℤ) (place : ℕ) (left : ℤ) → PassedBack first nodes to t place left → (place % 2 ≡ 0 → ⊥) → PassedBack first nodes to t ((place - 1) / 2) left
 rise_same first nodes to t place left p odd =
     let here : place ≡ 2 * ((place - 1) / 2) + 1 = omega arith in
@@ -209,7 +206,7 @@ rise_same first nodes to t place left p odd =
     record { start = p.start; stop = u.0; stands = u.1; before = p.before; within = p.within; remains = p.remains; none = p.none }
 
 -- up past the left children that the passed part begins with
-pub comes_back : (first : ℕ) (nodes : List Node) (to : ℕ) (t : ℤ) (place : ℕ) (left : ℤ) (odd : ℕ) → PassedBack first nodes to t place left → IsOddPart (place + 1) odd → ComesBack first nodes to t (odd - 2) left
+comes_back : (first : ℕ) (nodes : List Node) (to : ℕ) (t : ℤ) (place : ℕ) (left : ℤ) (odd : ℕ) → PassedBack first nodes to t place left → IsOddPart (place + 1) odd → ComesBack first nodes to t (odd - 2) left
 comes_back first nodes to t place left odd p o = go o.zeros place p o.splits
   where
     go : (k place : ℕ) → PassedBack first nodes to t place left → place + 1 ≡ odd * 2 ^ k → ComesBack first nodes to t (odd - 2) left
@@ -223,6 +220,11 @@ comes_back first nodes to t place left odd p o = go o.zeros place p o.splits
     go (suc k) place p e =
         let twice : odd * 2 ^ suc k ≡ odd * (2 * 2 ^ k) = ap (λ (x : ℕ). odd * x) (pow-succ' 2 k) in
         go k ((place - 1) / 2) (rise_same first nodes to t place left p (λ u. omega arith)) (omega arith)
+
+-- from a block on
+pub comes_back_from : (first : ℕ) (nodes : List Node) (begin : ℕ) (r : ℤ) (odd : ℕ) → IsMinMax first nodes → begin < length (drop first nodes) → IsOddPart (first + begin + 1) odd → ComesBack first nodes begin (total_before (drop first nodes) begin +ℤ r) (odd - 2) r
+comes_back_from first nodes begin r odd m h =
+    comes_back first nodes begin (total_before (drop first nodes) begin +ℤ r) (first + begin) r odd (record { start = begin; stop = begin + 1; stands = stands_leaf first nodes m begin h; before = omega arith; within = omega arith; remains = refl; none = λ k a b w. omega arith })
 
 -- a left child, beside the passed part
 record Left (first : ℕ) (nodes : List Node) (to : ℕ) (t : ℤ) (place : ℕ) (left : ℤ) (x : Node) : Type 0 where

@@ -1,5 +1,5 @@
 use Rattle.vers_trees.proofs.Words.{rules, ◌-ℤ◌, w64, FitsSigned, to_z, arith, to_z-of_z}
-use Rattle.vers_trees.proofs.layout.Climbs.{passed_start, comes_to, reaches_after, goes_on_after, too_far_after}
+use Rattle.vers_trees.proofs.layout.Climbs.{comes_from, reaches_after, goes_on_after, too_far_after}
 use Rattle.vers_trees.proofs.searches.Scans.{rest_is}
 use Rattle.vers_trees.proofs.layout.Steps.{odd_most, digits_after, no_nodes, read_up, up_ends, up_then_down, up_then_none}
 use Rattle.vers_trees.proofs.trees.bp.min_max.MinMaxTree.next_block_counted.Goals as goal
@@ -9,10 +9,9 @@ returns-then-begin-self-clause-value g c = λ k a w. let i = w.inside in omega a
 
 pub loop-node-init : goal.loop-node-init
 loop-node-init g c =
-    let p = passed_start c.args.self.now.first c.args.self.now.nodes c.args.begin c.args.left c.requires.tree c.requires.begins in
     let o = c.node_after-node.ensures in
     let most = odd_most _ _ o in
-    record { comes = rw (to_z-of_z w64 c.args.left c.ranges.left) (comes_to _ _ _ _ _ _ _ c.requires.tree p o); within = omega arith; reads = no_nodes _ _ }
+    record { comes = rw (to_z-of_z w64 c.args.left c.ranges.left) (comes_from c.args.self.now.first c.args.self.now.nodes c.args.begin c.args.left _ c.requires.tree c.requires.begins o); within = omega arith; reads = no_nodes _ _ }
 
 pub returns : goal.returns
 returns g c = record {

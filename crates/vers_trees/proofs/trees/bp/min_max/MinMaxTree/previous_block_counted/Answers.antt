@@ -1,15 +1,14 @@
 use Rattle.vers_trees.proofs.Words.{rules, ◌+ℤ◌, w64, FitsSigned, to_z, arith, to_z-of_z}
-use Rattle.vers_trees.proofs.layout.Climbs.{rise_start, comes_back, meets_before, goes_on_before, too_far_before}
+use Rattle.vers_trees.proofs.layout.Climbs.{comes_back_from, meets_before, goes_on_before, too_far_before}
 use Rattle.vers_trees.proofs.searches.Scans.{rest_is}
 use Rattle.vers_trees.proofs.layout.Steps.{odd_most, digits_before, no_nodes, read_up, up_ends, up_then_down, up_then_none}
 use Rattle.vers_trees.proofs.trees.bp.min_max.MinMaxTree.previous_block_counted.Goals as goal
 
 pub loop-node-init : goal.loop-node-init
 loop-node-init g c =
-    let p = rise_start c.args.self.now.first c.args.self.now.nodes c.args.begin c.args.left c.requires.tree c.requires.begins in
     let o = c.node_before-node.ensures in let at = o.2 in
     let most = odd_most _ _ o.1 in
-    record { comes = rw (to_z-of_z w64 c.args.left c.ranges.left, at) (comes_back _ _ _ _ _ _ _ p o.1); within = omega arith; reads = no_nodes _ _ }
+    record { comes = rw (to_z-of_z w64 c.args.left c.ranges.left, at) (comes_back_from c.args.self.now.first c.args.self.now.nodes c.args.begin c.args.left _ c.requires.tree c.requires.begins o.1); within = omega arith; reads = no_nodes _ _ }
 
 pub returns : goal.returns
 returns g c = record {
