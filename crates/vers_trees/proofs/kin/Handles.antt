@@ -1,9 +1,9 @@
 -- What the calls on a node of balanced parentheses answer, by the searches that they make.
-use Rattle.vers_trees.proofs.Words.{Option, None, Some, ◌≡◌, ℕ, ◌+◌, ◌-◌, ◌<◌, ◌≤◌, ◌↔◌, leb, Bool, true, false, List, [], ◌∷◌, length, get_or, negsuc, arith, sym, ap, ◌∙◌, IsTrue, is_some, not, ints, le-leb, count, count_both, excess, first_rise_after, last_rise_before, Forest, IsBalanced, forest_of, IsNode, closing, depth, is_ancestor, children, siblings, first_of, last_of, previous_of, rules, ◌≢◌, refl, slice_get, option_map, ◌==◌, slice_get-get_or, places, select, length-places, none, tree, text, nodes, ne_eqb}
+use Rattle.vers_trees.proofs.Words.{Option, None, Some, ◌≡◌, ℕ, ◌+◌, ◌-◌, ◌<◌, ◌≤◌, ◌↔◌, Bool, true, false, List, [], ◌∷◌, length, negsuc, arith, sym, ap, ◌∙◌, IsTrue, is_some, not, ints, count, count_both, excess, first_rise_after, Forest, IsBalanced, forest_of, IsNode, closing, depth, siblings, first_of, previous_of, rules, ◌≢◌, refl, slice_get, option_map, ◌==◌, slice_get-get_or, select, length-places, none, tree, text, nodes, ne_eqb}
 use Rattle.vers_trees.proofs.searches.Searches.{after_is}
 use Rattle.vers_trees.proofs.kin.Partners.{after_from_closes}
 use Rattle.vers_trees.proofs.kin.NodeList.{node_pair, nodes_by}
-use Rattle.vers_trees.proofs.kin.Kin.{depth_is_excess, closed_before, last_child_is_search, previous_sibling_is}
+use Rattle.vers_trees.proofs.kin.Kin.{depth_is_excess, closed_before, previous_sibling_is}
 use Rattle.vers_trees.proofs.grammar.Grammar.{text-forest_of}
 
 module _ (l : List Bool) (b : IsBalanced l) (v : ℕ) (n : IsNode (forest_of l) v) where

@@ -1,5 +1,5 @@
 -- The nodes around a node of a balanced list: its parent, its depth, how many come before it, and where its nearest children and siblings open.
-use Rattle.vers_trees.proofs.Words.{◌≡◌, ℕ, zero, suc, ◌+◌, ◌-◌, ◌<◌, ◌≤◌, ◌<ℤ◌, Bool, true, false, ◌&&◌, List, [], ◌∷◌, get_or, ltb, leb, count_by, pos, negsuc, neg_ℤ, Some, arith, ⊎_elim, sym, refl, ap, ◌∙◌, Decides, lt-ltb, le-ltb, le-leb, Decides-ltb, Decides-and, leb_tells, length-filter, count, places, excess, last_rise_before, Forest, text, pairs, IsBalanced, forest_of, nodes, closing, is_ancestor, is_proper_ancestor, depth, parent, node_index, IsLastRiseBefore, ints, rules, common_steps, cond, length, Option, None, subst, filter, Contains, last_or, cases_lt, Decides-like, same_from_decides, get_or_past, eq-or-lt_of_le, nodes_under, children, siblings, first_of, last_of, next_of, previous_of, get_or_default}
+use Rattle.vers_trees.proofs.Words.{◌≡◌, ℕ, zero, suc, ◌+◌, ◌-◌, ◌<◌, ◌≤◌, ◌<ℤ◌, Bool, true, false, ◌&&◌, List, [], ◌∷◌, get_or, ltb, leb, count_by, pos, negsuc, neg_ℤ, Some, arith, ⊎_elim, sym, refl, ap, ◌∙◌, Decides, lt-ltb, le-ltb, le-leb, Decides-ltb, Decides-and, leb_tells, length-filter, count, places, excess, last_rise_before, Forest, pairs, IsBalanced, forest_of, nodes, closing, is_ancestor, is_proper_ancestor, depth, parent, node_index, IsLastRiseBefore, ints, rules, common_steps, cond, length, Option, None, subst, filter, Contains, last_or, cases_lt, Decides-like, same_from_decides, get_or_past, eq-or-lt_of_le, nodes_under, children, siblings, first_of, last_of, next_of, previous_of, get_or_default}
 use Rattle.vers_trees.proofs.walks.Lists.{places-cons}
 use Rattle.vers_trees.proofs.searches.Searches.{before_some, before_none, by_answer, before_is}
 use Rattle.vers_trees.proofs.grammar.Excess.{above_since, excess-is_walk, open_from_rise, excess_after_open, excess_after_close}

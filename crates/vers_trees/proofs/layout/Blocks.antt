@@ -1,5 +1,5 @@
 -- A block reaches a sum exactly where one of its places has it.
-use Rattle.vers_trees.proofs.Words.{◌≡◌, ℕ, zero, suc, ◌+◌, ◌-◌, ◌*◌, ◌<◌, ◌≤◌, ◌↔◌, min, Bool, List, [], ◌∷◌, length, get_or, ℤ, pos, ◌+ℤ◌, ◌-ℤ◌, ◌≤ℤ◌, arith, add-one, ⊎_elim, sym, refl, ap, ◌∙◌, ◌/◌, ◌^◌, inl, inr, drop, FitsSigned, w64, ints, by_lt_z, cases_lt, Node, excess, IsBalanced, total_before, empty_node, Reaches, IsPart, AreBlocks, IsRange, Meets, AreLeaves, CoveredFrom, IsMinMax, div-lt_iff_lt-mul, mul-le-mul_right}
+use Rattle.vers_trees.proofs.Words.{◌≡◌, ℕ, zero, suc, ◌+◌, ◌-◌, ◌*◌, ◌<◌, ◌≤◌, ◌↔◌, min, Bool, List, [], ◌∷◌, length, get_or, ℤ, pos, ◌+ℤ◌, ◌-ℤ◌, ◌≤ℤ◌, arith, add-one, ⊎_elim, sym, refl, ap, ◌∙◌, ◌/◌, ◌^◌, inl, inr, drop, FitsSigned, w64, ints, by_lt_z, cases_lt, Node, excess, IsBalanced, total_before, empty_node, Reaches, IsPart, AreBlocks, IsRange, Meets, CoveredFrom, IsMinMax, div-lt_iff_lt-mul}
 use Rattle.vers_trees.proofs.grammar.Excess.{IsWalk, turned, excess-zero, excess-is_walk}
 use Rattle.vers_trees.proofs.grammar.Grammar.{balanced_from_excess, balanced_total, balanced_above}
 use Rattle.vers_trees.proofs.searches.Scans.{rise_fits}

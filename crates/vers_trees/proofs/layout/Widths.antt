@@ -1,5 +1,5 @@
 -- The width of a tree, and its nodes put together.
-use Rattle.vers_trees.proofs.Words.{◌≡◌, ℕ, zero, suc, ◌+◌, ◌-◌, ◌*◌, ◌^◌, ◌<◌, ◌≤◌, ◌⊎◌, inl, inr, min, max, Bool, List, [], ◌∷◌, ◌++◌, length, get_or, take, drop, arith, ⊎_elim, subst, sym, refl, ap, ◌∙◌, length-append, length-drop, cases_lt, div_ceil_times, get_or_append_left, get_or_at, get_or-drop, take-append_seam, pow-le-pow_right, digits, digits-le, digits_up, digits_pow, digits_below_pow, clog_least, pow_next, Node, IsPart, AreBlocks, CoveredFrom, AreLeaves, empty_node, block_count, clog, levels, node_count, IsWidth, IsGrowing, AreFirstBlocks, IsTreeOf, IsIndexed}
+use Rattle.vers_trees.proofs.Words.{◌≡◌, ℕ, zero, suc, ◌+◌, ◌-◌, ◌*◌, ◌^◌, ◌<◌, ◌≤◌, ◌⊎◌, inl, inr, min, max, Bool, List, [], ◌∷◌, ◌++◌, length, get_or, take, drop, arith, ⊎_elim, subst, sym, refl, ap, ◌∙◌, length-append, length-drop, cases_lt, div_ceil_times, get_or_append_left, get_or_at, get_or-drop, take-append_seam, pow-le-pow_right, digits, digits-le, digits_up, digits_pow, digits_below_pow, Node, IsPart, AreBlocks, CoveredFrom, AreLeaves, empty_node, block_count, clog, levels, node_count, IsWidth, IsGrowing, AreFirstBlocks, IsTreeOf, IsIndexed}
 use Rattle.vers_trees.proofs.layout.Steps.{digit_some}
 use Rattle.vers_trees.proofs.layout.Blocks.{minmax_of, near_sum, block_range}
 

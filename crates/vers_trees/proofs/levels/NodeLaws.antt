@@ -1,9 +1,7 @@
 -- Numbers that ascend, and those of a list that pass a test.
-use Rattle.vers_trees.proofs.Words.{◌≡◌, ℕ, zero, suc, ◌+◌, ◌-◌, ◌<◌, ◌≤◌, ◌↔◌, Bool, true, false, cond, not, List, [], ◌∷◌, length, get_or, ltb, eqb, Option, None, Some, arith, ⊎_elim, subst, sym, refl, ap, ◌∙◌, ◌++◌, take, slice_get, option_map, find, filter, Contains, last_or, range_with_len, get_or_from_slice_get, slice_get-get_or, slice_get_within, get_or_past, take_more, cases_lt, lt-ltb, le-ltb, same_Some, find_is, none_passing, last_passing_is, Decides-eqb, length-filter_both, bit_value, places, Forest, text, IsBalanced, forest_of, nodes, IsNode, closing, depth, level, last_of, next_of, previous_of, IsAlongLevel, pairs}
-use Rattle.vers_trees.proofs.grammar.Grammar.{text-forest_of}
-use Rattle.vers_trees.proofs.grammar.Paired.{closes_rises}
-use Rattle.vers_trees.proofs.grammar.Pairs.{contains_first, contains_later, contains_map}
-use Rattle.vers_trees.proofs.kin.NodeList.{nodes_are_ones, one_pair, node_pair}
+use Rattle.vers_trees.proofs.Words.{◌≡◌, ℕ, zero, suc, ◌+◌, ◌-◌, ◌<◌, ◌≤◌, Bool, true, false, cond, List, [], ◌∷◌, length, get_or, ltb, Option, None, Some, arith, subst, sym, refl, ap, ◌∙◌, slice_get, find, filter, Contains, last_or, range_with_len, get_or_from_slice_get, slice_get_within, lt-ltb, le-ltb, same_Some, find_is, none_passing, last_passing_is, places, Forest, text, nodes, last_of}
+use Rattle.vers_trees.proofs.grammar.Pairs.{contains_first, contains_later}
+use Rattle.vers_trees.proofs.kin.NodeList.{nodes_are_ones}
 
 -- ---- members that ascend, the first of them from n on
 abbrev pub AscendsFrom : ℕ → List ℕ → Type 0

@@ -1,5 +1,5 @@
 -- The searches forwards and backwards: the scan of a block, what the tree answers, and the scan of that block.
-use Rattle.vers_trees.proofs.Words.{◌≡◌, ℕ, ◌+◌, ◌-◌, ◌*◌, ◌/◌, ◌<◌, ◌≤◌, ◌≢◌, inl, min, Bool, List, length, drop, ℤ, ◌+ℤ◌, ◌-ℤ◌, FitsSigned, to_z, of_z, Some, None, Result, Ok, Err, MatchResult, arith, ⊎_elim, subst, sym, ap, ◌∙◌, w64, result_ok, ints, to_z-of_z, cases_lt, div-mul-le_self, div-lt_iff_lt-mul, mul-le-mul_right, Node, excess, first_rise_after, last_rise_before, IsFirstRise, HasNoRise, IsLastRise, HasNoRiseBefore, total_before, Reaches, Meets, IsNextFrom, IsPreviousBefore, IsTreeOf, IsPassedAfter, IsPassedBefore}
+use Rattle.vers_trees.proofs.Words.{◌≡◌, ℕ, ◌+◌, ◌-◌, ◌*◌, ◌/◌, ◌<◌, ◌≤◌, ◌≢◌, inl, min, Bool, List, length, drop, ℤ, ◌+ℤ◌, ◌-ℤ◌, FitsSigned, to_z, of_z, None, Result, Ok, Err, MatchResult, arith, ⊎_elim, subst, sym, ap, ◌∙◌, w64, result_ok, ints, to_z-of_z, cases_lt, div-mul-le_self, div-lt_iff_lt-mul, mul-le-mul_right, Node, excess, first_rise_after, last_rise_before, IsFirstRise, HasNoRise, IsLastRise, HasNoRiseBefore, total_before, Reaches, Meets, IsNextFrom, IsPreviousBefore, IsTreeOf, IsPassedAfter, IsPassedBefore}
 use Rattle.vers_trees.proofs.searches.Searches.{after_is, none_after, before_is, none_before}
 use Rattle.vers_trees.proofs.searches.Scans.{rise_fits}
 use Rattle.vers_trees.proofs.layout.Blocks.{reaches_iff, sum_before_block, block_inside, block_of, div_up, start_is, reached_at, met_at}

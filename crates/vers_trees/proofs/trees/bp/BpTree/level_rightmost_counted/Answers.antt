@@ -1,4 +1,4 @@
-use Rattle.vers_trees.proofs.Words.{ℕ, ◌-◌, length, negsuc, to_z, arith, sym, ap, ◌∙◌, w64, forest_of, last_rise_before, level, last_of}
+use Rattle.vers_trees.proofs.Words.{ℕ, ◌-◌, arith, sym, ap, ◌∙◌, forest_of, last_rise_before, level, last_of}
 use Rattle.vers_trees.proofs.searches.Beside.{with_sign}
 use Rattle.vers_trees.proofs.levels.LevelNodes.{too_deep, last_root_is_search, no_level_rightmost, level_rightmost_is_search}
 use Rattle.vers_trees.proofs.trees.bp.BpTree.level_rightmost_counted.Goals as goal

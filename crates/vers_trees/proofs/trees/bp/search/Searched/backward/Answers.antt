@@ -1,4 +1,4 @@
-use Rattle.vers_trees.proofs.Words.{rules, arith, w64, ◌-◌, sym, to_z-of_z, ints}
+use Rattle.vers_trees.proofs.Words.{rules, arith, w64, sym, to_z-of_z, ints}
 use Rattle.vers_trees.proofs.searches.Searches.{before_past, before_is, none_before}
 use Rattle.vers_trees.proofs.searches.Scans.{rise_is}
 use Rattle.vers_trees.proofs.trees.bp.search.Searched.backward.Goals as goal

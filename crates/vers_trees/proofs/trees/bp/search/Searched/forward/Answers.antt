@@ -1,4 +1,4 @@
-use Rattle.vers_trees.proofs.Words.{rules, ◌≡◌, ℕ, ◌+◌, ◌*◌, ◌/◌, min, length, to_z, of_z, HasNoRise, arith, w64, subst, sym, ◌∙◌, to_z-of_z, ints}
+use Rattle.vers_trees.proofs.Words.{rules, ◌≡◌, ◌+◌, ◌*◌, ◌/◌, min, length, arith, w64, sym, to_z-of_z, ints}
 use Rattle.vers_trees.proofs.searches.Finds.{first_end}
 use Rattle.vers_trees.proofs.searches.Scans.{rise_is}
 use Rattle.vers_trees.proofs.searches.Searches.{after_is, none_after}
