@@ -34,6 +34,7 @@ fn plain_answer<A: Allocator + Copy>(plain: &PlainList<A>, query: Query) -> Opti
         Query::GetBits(place, n) => plain.get_bits(place, n),
         Query::Rank0(place) => Some(plain.rank(false, place) as u64),
         Query::Rank1(place) => Some(plain.rank(true, place) as u64),
+        Query::Select(bit, r) => Some(plain.select(bit, r) as u64),
         Query::Select0(r) | Query::Select0Each(r) => Some(plain.select(false, r) as u64),
         Query::Select1(r) | Query::Select1Each(r) => Some(plain.select(true, r) as u64),
         Query::ZeroPairFirst(r) => Some(plain.select(false, r) as u64),
@@ -58,6 +59,19 @@ fn are_right_at<A: Allocator + Copy>(list: &RsVec<A>, plain: &PlainList<A>, plac
     true
 }
 
+// Whether the first number of a bit, the last and later ones stand where the plain list has them, by a
+// select that is told the bit.
+fn are_right_ends<A: Allocator + Copy>(list: &RsVec<A>, plain: &PlainList<A>, bit: bool) -> bool {
+    let total = plain.rank(bit, plain.len());
+    for r in [0, total.saturating_sub(1), total, usize::MAX] {
+        let query = Query::Select(bit, r);
+        if !is_right(list, query, plain_answer(plain, query)) {
+            return false;
+        }
+    }
+    true
+}
+
 // The first place with a wrong query, up to two past the end and at the greatest place of all.
 fn first_wrong_place<A: Allocator + Copy>(plain: &PlainList<A>, list: &RsVec<A>) -> Option<usize> {
     for place in 0..plain.len().saturating_add(3) {
@@ -65,7 +79,10 @@ fn first_wrong_place<A: Allocator + Copy>(plain: &PlainList<A>, list: &RsVec<A>)
             return Some(place);
         }
     }
-    if are_right_at(list, plain, usize::MAX) {
+    if are_right_at(list, plain, usize::MAX)
+        && are_right_ends(list, plain, false)
+        && are_right_ends(list, plain, true)
+    {
         return None;
     }
     Some(usize::MAX)

@@ -11,13 +11,15 @@ use vers_tally::tally::{
 };
 
 // A query, and what it counts at the least.
-const LEAST: [(Query, [u64; 9]); 10] = [
+const LEAST: [(Query, [u64; 9]); 12] = [
     (Query::Get(9999), [1, 0, 0, 0, 1, 0, 0, 0, 0]),
     (Query::GetBits(63, 2), [2, 0, 0, 0, 1, 0, 0, 0, 0]),
     (Query::Rank0(10_001), [1, 1, 1, 0, 1, 0, 0, 0, 0]),
     (Query::Rank1(10_001), [1, 1, 1, 0, 1, 0, 0, 0, 0]),
     (Query::Select0(5000), [1, 1, 1, 0, 1, 0, 0, 0, 0]),
     (Query::Select1(5000), [1, 1, 1, 0, 1, 0, 0, 0, 0]),
+    (Query::Select(false, 5000), [1, 1, 1, 0, 1, 0, 0, 0, 0]),
+    (Query::Select(true, 5000), [1, 1, 1, 0, 1, 0, 0, 0, 0]),
     (Query::ZeroPairSecond(5000), [1, 1, 1, 0, 1, 0, 0, 0, 0]),
     (Query::PairSecond(5000), [1, 1, 1, 0, 1, 0, 0, 0, 0]),
     (Query::Successor1(5000), [1, 1, 1, 0, 1, 0, 0, 0, 0]),

@@ -17,6 +17,7 @@ pub enum Query {
     Rank1(usize),
     Select0(usize),
     Select1(usize),
+    Select(bool, usize),
     Select0Each(usize),
     Select1Each(usize),
     ZeroPairFirst(usize),
@@ -51,8 +52,8 @@ pub fn answer<A: Allocator + Copy>(list: &RsVec<A>, query: Query) -> Option<u64>
         Query::GetBits(place, n) => list.get_bits(place, n),
         Query::Rank0(place) => Some(list.rank0(place) as u64),
         Query::Rank1(place) => Some(list.rank1(place) as u64),
-        Query::Select0(r) => Some(list.select0(r) as u64),
-        Query::Select1(r) => Some(list.select1(r) as u64),
+        Query::Select0(r) | Query::Select(false, r) => Some(list.select0(r) as u64),
+        Query::Select1(r) | Query::Select(true, r) => Some(list.select1(r) as u64),
         Query::Select0Each(r) => {
             let mut numbers = batch_with(r);
             list.select0_each(&mut numbers);
@@ -87,6 +88,7 @@ pub fn counted<A: Allocator + Copy>(
         Query::Rank1(place) => Some(list.rank1_counted(place, tally) as u64),
         Query::Select0(r) => Some(list.select0_counted(r, tally) as u64),
         Query::Select1(r) => Some(list.select1_counted(r, tally) as u64),
+        Query::Select(bit, r) => Some(list.select_counted(bit, r, tally) as u64),
         Query::Select0Each(r) => {
             let mut numbers = batch_with(r);
             list.select0_each_counted(&mut numbers, tally);
@@ -136,7 +138,9 @@ pub fn bounds<A: Allocator + Copy>(list: &RsVec<A>, query: Query) -> [u64; 9] {
         Query::Get(_) => [1, 0, 0, 0, 1, 0, 0, 0, 0],
         Query::GetBits(..) => [2, 0, 0, 0, 1, 0, 0, 0, 0],
         Query::Rank0(_) | Query::Rank1(_) => [8, 1, 1, 0, 1, 0, 0, 0, 0],
-        Query::Select0(_) | Query::Select1(_) => [8, 17, superblocks, 0, 1, 0, 0, 0, 0],
+        Query::Select0(_) | Query::Select1(_) | Query::Select(..) => {
+            [8, 17, superblocks, 0, 1, 0, 0, 0, 0]
+        }
         Query::Select0Each(_) | Query::Select1Each(_) => {
             [24, 51, superblocks.wrapping_mul(3), 0, 3, 0, 0, 0, 0]
         }
