@@ -1,11 +1,13 @@
 //! Lists of parentheses.
-ghost use Rattle.std.specs.Prelude.{◌≡◌, ◌==◌, ◌⊎◌, length, take, Some, None, IfOk, IfErr, OnOk};
+ghost use Rattle.std.specs.Prelude.{◌≡◌, ◌==◌, ◌<◌, ◌*◌, ◌↔◌, ◌⊎◌, length, take, Some, None, Err, IfOk, IfErr, OnOk};
 ghost use Rattle.vers_bits.specs.Bits.{pack};
+ghost use Rattle.vers_bits.specs.declared.bit_vec.TheConstants as list;
 ghost use Rattle.vers_saved.specs.Faults.{fault_of};
 ghost use Rattle.vers_saved.specs.Format.{saved_parentheses};
 ghost use Rattle.vers_saved.specs.Kinds.{tree_kind};
 ghost use Rattle.vers_trees.specs.Forest.{IsBalanced, forest_of};
 ghost use Rattle.vers_trees.specs.Nodes.{IsNode, children};
+ghost use Rattle.vers_trees.specs.declared.trees.bp.TheConstants as parentheses;
 ghost use Rattle.vers_c.specs.TreeAnswers.{any_tree_answer as answer_of_any, level_end_of, measure_of, relative_of, tree_answer};
 
 use crate::answer::Answer;
@@ -23,14 +25,18 @@ pub type Parentheses = BpTree<512, Global>;
 
 /// The first `len` bits of words, or all where there are not so many, as parentheses.
 pub fn tree(alloc: Global, words: &[u64], len: usize) -> Result<Box<Parentheses, Global>, GrowError>
-    ensures { IfOk result (λ tree. tree.value ≡ take len (pack words.now 64)) }
+    ensures made { IfOk result (λ tree. tree.value ≡ take len (pack words.now 64)) }
+    ensures too_long { result ≡ Err GrowError.TooLong
+        → (list.MAX_LEN < 64 * length words.now)
+        ⊎ (parentheses.MAX_LEN < length (take len (pack words.now 64))) }
 {
     boxed(alloc, growing(alloc, words, len)?)
 }
 
 // The tree of a list of bits.
 fn boxed(alloc: Global, bits: BitVec<Global>) -> Result<Box<Parentheses, Global>, GrowError>
-    ensures { IfOk result (λ tree. tree.value ≡ bits) }
+    ensures made { IfOk result (λ tree. tree.value ≡ bits) }
+    ensures too_long { (result ≡ Err GrowError.TooLong) ↔ (parentheses.MAX_LEN < length bits) }
 {
     match BpTree::from_bit_vector(bits) {
         Ok(tree) => in_box(alloc, tree),
@@ -54,7 +60,8 @@ pub fn load_parentheses(alloc: Global, bytes: &[u8]) -> Result<Box<Parentheses, 
 
 // A tree in a box.
 fn in_box(alloc: Global, tree: Parentheses) -> Result<Box<Parentheses, Global>, GrowError>
-    ensures { IfOk result (λ made. made.value ≡ tree) }
+    ensures made { IfOk result (λ made. made.value ≡ tree) }
+    ensures memory { IfErr result (λ e. e ≡ GrowError.Memory) }
 {
     match Box::new(alloc, tree) {
         Ok(made) => Ok(made),
