@@ -1,5 +1,5 @@
 -- The word that a walk over places is reading.
-use Rattle.vers_rank.proofs.Names.{◌≡◌, ℕ, ◌+◌, ◌-◌, ◌*◌, ◌/◌, ◌%◌, ◌^◌, ◌<◌, ◌≤◌, Bool, true, List, length, sym, ap, refl, arith, inl, inr, w64, count_ones, bit_and, bit_at, bit_not, trailing_zeros, cases_lt, bit_at-trailing_zeros, count, limb, select, count_up, count_past, count_none, count_le, count_le_all, select_at, select_is_place, count_more_yes, IsReading, marked}
+use Rattle.vers_rank.proofs.Names.{◌≡◌, ℕ, ◌+◌, ◌-◌, ◌*◌, ◌/◌, ◌%◌, ◌^◌, ◌<◌, ◌≤◌, Bool, true, List, length, sym, ap, refl, arith, inl, inr, w64, count_ones, bit_and, bit_at, bit_not, trailing_zeros, cases_lt, bit_at-trailing_zeros, count, limb, select, count_up, count_past, count_none, count_le_all, select_at, select_is_place, count_more_yes, IsReading, marked}
 use Rattle.vers_rank.specs.declared.fast_rs_vec.reader.Reader.{Reader}
 use Rattle.vers_rank.specs.inside.Index.{held_in}
 use Rattle.vers_rank.specs.inside.Walks.{IsWithin}
@@ -102,10 +102,8 @@ module _ (b : Bool) (l : List Bool) (reader : Reader) (r : ℕ) (here : reader.n
       (omega (arith, ap (count b l) e, count_more_yes b l (64 * reader.limb + lowest) at_lowest.0.inside at_lowest.0.holds, at_lowest.1)) (omega arith)
 
   -- the place lies in a list, and a list is not as long as a word can count
-  pub lowest_fits : {m : List Bool} → length m ≤ 18446744073709551552 → m ≡ l → (64 * reader.limb + trailing_zeros w64 reader.word < 18446744073709551552) × (reader.next < 18446744073709551552)
-  lowest_fits bounded view = (omega (arith, ap length view, at_lowest.0.inside), omega (arith, ap length view, (count_le b l (length l)).1))
-
-pub ruleset lowests = (lowest_at, lowest_fits, rest_at)
+  pub lowest_fits : {m : List Bool} → length m ≤ 18446744073709551552 → m ≡ l → 64 * reader.limb + trailing_zeros w64 reader.word < 18446744073709551552
+  lowest_fits bounded view = omega (arith, ap length view, at_lowest.0.inside)
 
 -- ---- a limb anew
 pub new_reading : (b : Bool) (l : List Bool) (r k q edge : ℕ) → r < count b l (length l) → 64 * k + q ≡ select b l r → q < 64 → edge ≡ count b l (512 * (k / 8 + 1))

@@ -39,7 +39,6 @@ impl Reader {
     // The place of number `r`: mostly from the word at hand, else from a word of the same block, and
     // else by a select.
     #[inline(always)]
-    #[tactic(auto, using(crate::proofs::Reading::lowests))]
     pub(super) fn place<A: Allocator + Copy>(
         &mut self,
         bit: bool,

@@ -1,5 +1,5 @@
-use Rattle.std.proofs.Common.{arith}
-use Rattle.vers_rank.proofs.Builds.{index_is}
+use Rattle.vers_rank.proofs.Names.{arith, length, ◌∙◌}
+use Rattle.vers_rank.proofs.Builds.{superblocks_are, index_is}
 use Rattle.vers_rank.proofs.fast_rs_vec.RsVec.from_bit_vec.Goals as goal
 
 pub invariant_of-result : goal.invariant_of-result
@@ -13,3 +13,15 @@ invariant_of-result g c =
     c.in_ok-one_samples.ensures
     (omega (arith, c.max.ensures, c.len.ensures.value))
     )
+
+pub samples-requires-clause-counted : goal.samples-requires-clause-counted
+samples-requires-clause-counted g c = rw c.deref.ensures.value (c.in_ok-zeros.ensures.entries.superblocks_counted ∙ superblocks_are (length c.args.bits))
+
+pub samples-requires-clause-entries : goal.samples-requires-clause-entries
+samples-requires-clause-entries g c = rw c.deref.ensures.value c.in_ok-zeros.ensures.entries.superblock_at
+
+pub samples-requires-2-clause-counted : goal.samples-requires-2-clause-counted
+samples-requires-2-clause-counted g c = rw c.deref-2.ensures.value (c.in_ok-zeros.ensures.entries.superblocks_counted ∙ superblocks_are (length c.args.bits))
+
+pub samples-requires-2-clause-entries : goal.samples-requires-2-clause-entries
+samples-requires-2-clause-entries g c = rw c.deref-2.ensures.value c.in_ok-zeros.ensures.entries.superblock_at

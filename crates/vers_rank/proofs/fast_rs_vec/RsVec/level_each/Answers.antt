@@ -1,0 +1,31 @@
+use Rattle.vers_rank.proofs.Names.{◌≡◌, ℕ, ◌+◌, ◌<◌, List, length, set, get_or, sym, subst, ◌∙◌, inl, inr, arith, rules, cases_lt, get_or-set_other, get_or-set_same, length-set, adds_then, plus, times, Reads}
+use Rattle.vers_tally.specs.Reads.{IsWithin}
+use Rattle.vers_rank.specs.Batches.{Changed}
+use Rattle.vers_rank.proofs.fast_rs_vec.RsVec.level_each.Goals as goal
+
+-- one item more
+changed_more : (R : ℕ → ℕ → Type 0) (from n y : ℕ) (xs ys : List ℕ) → Changed 0 R from n xs ys → from + n < length xs → R (get_or ys (from + n) 0) y → Changed 0 R from (n + 1) xs (set ys (from + n) y)
+changed_more R from n y xs ys old inside becomes = record {
+  long = length-set ys (from + n) y ∙ old.long;
+  each = λ j h. elim (cases_lt j n) [
+    | inl lower ↦ subst (λ (z : ℕ). R (get_or xs (from + j) 0) z) (sym (get_or-set_other ys (from + n) (from + j) y 0 (omega arith))) (old.each j lower)
+    | inr last ↦
+        let e : n ≡ j = omega arith in
+        let to = subst (λ (z : ℕ). R (get_or ys (from + n) 0) z) (sym (get_or-set_same ys (from + n) y 0 (omega (arith, old.long)))) becomes in
+        subst (λ (i : ℕ). R (get_or xs (from + i) 0) (get_or (set ys (from + n) y) (from + i) 0)) e (subst (λ (x : ℕ). R x (get_or (set ys (from + n) y) (from + n) 0)) (old.after (from + n) (omega arith)) to)
+  ];
+  before = λ j h. get_or-set_other ys (from + n) j y 0 (omega arith) ∙ old.before j h;
+  after = λ j h. get_or-set_other ys (from + n) j y 0 (omega arith) ∙ old.after j (omega arith);
+}
+
+one_more : (n : ℕ) (p : Reads) → IsWithin (plus (times n p) p) (times (n + 1) p)
+one_more n p = search rules
+
+pub at_level-requires : goal.at_level-requires
+at_level-requires g c = rw (c.loop-j.invariant.changed.after (c.args.from + c.loop-j.j) (omega arith)) (c.requires.each c.loop-j.j (omega arith))
+
+pub loop-j-preserved : goal.loop-j-preserved
+loop-j-preserved g c = record {
+  changed = changed_more _ c.args.from c.loop-j.j _ _ _ c.loop-j.invariant.changed (omega (arith, c.requires.within)) c.at_level.ensures.value;
+  adds = adds_then c.loop-j.invariant.adds c.at_level.ensures.adds (one_more _ _);
+}
