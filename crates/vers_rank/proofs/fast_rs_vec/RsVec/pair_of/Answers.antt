@@ -1,6 +1,56 @@
-use Rattle.vers_rank.proofs.Names.{◌≡◌, ◌+◌, ◌<◌, ap, ◌∙◌, arith, rules, count, length, limb, marked}
-use Rattle.vers_rank.proofs.Pairs.{none_after}
+use Rattle.vers_rank.proofs.Names.{◌≡◌, ℕ, ◌+◌, ◌/◌, ◌<◌, ap, sym, ◌∙◌, arith, rules, count, length, limb, marked, select, select_reads, adds_then, digits, plus, times}
+use Rattle.vers_tally.specs.Reads.{Reads, IsWithin, no_reads, only_rank_calls}
+use Rattle.vers_tally.proofs.PublicLaws.{adds_weaker}
+use Rattle.vers_rank.proofs.Pairs.{none_after, no_places}
 use Rattle.vers_rank.proofs.fast_rs_vec.RsVec.pair_of.Goals as goal
+
+abbrev place_reads : ℕ → Reads
+place_reads m = record no_reads { data_words = 8; block_entries = 16; superblock_entries = digits m + 11 }
+
+call_alone : (m : ℕ) → IsWithin (only_rank_calls 1) (times 2 (select_reads m))
+call_alone m = search rules
+
+one_place : (m : ℕ) → IsWithin (plus (only_rank_calls 1) (place_reads m)) (select_reads m)
+one_place m = search rules
+
+two_places : (m : ℕ) → IsWithin (plus (select_reads m) (place_reads m)) (times 2 (select_reads m))
+two_places m = search rules
+
+pub returns-then-r-total-clause-first : goal.returns-then-r-total-clause-first
+returns-then-r-total-clause-first g c =
+    c.len-len.ensures.value ∙ sym (no_places c.args.bit c.args.self.now c.args.r (omega (arith, c.total-total.ensures, c.if-r-total.true))).0
+
+pub returns-then-r-total-clause-second : goal.returns-then-r-total-clause-second
+returns-then-r-total-clause-second g c =
+    c.len-len.ensures.value ∙ sym (no_places c.args.bit c.args.self.now c.args.r (omega (arith, c.total-total.ensures, c.if-r-total.true))).1
+
+pub returns-then-r-total-clause-adds : goal.returns-then-r-total-clause-adds
+returns-then-r-total-clause-adds g c = adds_weaker c.add_rank_call.ensures.adds (call_alone _)
+
+pub returns-then-number-r-clause-second : goal.returns-then-number-r-clause-second
+returns-then-number-r-clause-second g c =
+    let is : c.loop-number.number ≡ c.args.r + 1 = omega (arith, c.loop-number.invariant.to, c.if-number-r.true) in
+    c.locate-at.ensures.value ∙ ap (select c.args.bit c.args.self.now) is
+
+pub returns-then-number-r-clause-adds : goal.returns-then-number-r-clause-adds
+returns-then-number-r-clause-adds g c = adds_then c.loop-number.invariant.adds c.locate-at.ensures.adds (two_places _)
+
+pub returns-then-number-r-clause-near : goal.returns-then-number-r-clause-near
+returns-then-number-r-clause-near g c = λ inside same.
+    let is : c.loop-number.number ≡ c.args.r + 1 = omega (arith, c.loop-number.invariant.to, c.if-number-r.true) in
+    absurd (c.loop-number.invariant.apart c.if-number-r.true (same ∙ ap (λ p. p / 64) (c.locate-at.ensures.value ∙ ap (select c.args.bit c.args.self.now) is)))
+
+pub returns-then-after-ne0-clause-adds : goal.returns-then-after-ne0-clause-adds
+returns-then-after-ne0-clause-adds g c = adds_then c.loop-number.invariant.adds c.locate-at.ensures.adds (two_places _)
+
+pub returns-then-after-ne0-clause-near : goal.returns-then-after-ne0-clause-near
+returns-then-after-ne0-clause-near g c = λ inside same. adds_then (c.loop-number.invariant.begun c.if-number-r.false) c.locate-at.ensures.adds (one_place _)
+
+pub returns-then-number-total-clause-adds : goal.returns-then-number-total-clause-adds
+returns-then-number-total-clause-adds g c = adds_then c.loop-number.invariant.adds c.locate-at.ensures.adds (two_places _)
+
+pub returns-then-number-total-clause-near : goal.returns-then-number-total-clause-near
+returns-then-number-total-clause-near g c = λ inside same. adds_then (c.loop-number.invariant.begun c.if-number-r.false) c.locate-at.ensures.adds (one_place _)
 
 pub loop-number-preserved : goal.loop-number-preserved
 loop-number-preserved g c =
@@ -18,5 +68,5 @@ loop-number-preserved g c =
       apart = λ _. none_after c.args.bit c.args.self.now c.args.r _ _ at.within.1 more place (rw word at c.if-after-ne0.false);
       counted = omega (arith, c.loop-number.invariant.counted, at.adds.rank_calls);
       begun = λ again. absurd (omega (arith, again));
-      adds = search rules;
+      adds = adds_then begun at.adds (one_place _);
     }
