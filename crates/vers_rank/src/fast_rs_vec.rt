@@ -160,7 +160,6 @@ impl<A: Allocator + Copy> RsVec<A> {
     }
 
     /// The bytes that the bits and their index take, beside those of the `RsVec` itself.
-    #[tactic(auto, using(crate::proofs::Ranks::sums))]
     pub fn heap_size(&self) -> usize
         ensures { result ≡ index_size self.now }
     {

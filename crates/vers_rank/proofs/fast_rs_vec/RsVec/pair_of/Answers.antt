@@ -1,7 +1,8 @@
 use Rattle.vers_rank.proofs.Names.{◌≡◌, ℕ, ◌+◌, ◌/◌, ◌<◌, ap, sym, ◌∙◌, arith, rules, count, length, limb, marked, select, select_reads, adds_then, digits, plus, times}
 use Rattle.vers_tally.specs.Reads.{Reads, IsWithin, no_reads, only_rank_calls}
 use Rattle.vers_tally.proofs.PublicLaws.{adds_weaker}
-use Rattle.vers_rank.proofs.Pairs.{none_after, no_places}
+use Rattle.vers_rank.proofs.Pairs.{none_after, no_places, place_after}
+use Rattle.vers_rank.proofs.Selects.{select_le}
 use Rattle.vers_rank.proofs.fast_rs_vec.RsVec.pair_of.Goals as goal
 
 abbrev place_reads : ℕ → Reads
@@ -32,6 +33,12 @@ returns-then-number-r-clause-second g c =
     let is : c.loop-number.number ≡ c.args.r + 1 = omega (arith, c.loop-number.invariant.to, c.if-number-r.true) in
     c.locate-at.ensures.value ∙ ap (select c.args.bit c.args.self.now) is
 
+pub returns-then-number-r-clause-within : goal.returns-then-number-r-clause-within
+returns-then-number-r-clause-within g c =
+    let at = c.locate-at.ensures.value in
+    let l = c.args.self.now in
+    (omega (arith, c.loop-number.invariant.first_is c.if-number-r.true, select_le c.args.bit l c.args.r), omega (arith, at, select_le c.args.bit l c.loop-number.number))
+
 pub returns-then-number-r-clause-adds : goal.returns-then-number-r-clause-adds
 returns-then-number-r-clause-adds g c = adds_then c.loop-number.invariant.adds c.locate-at.ensures.adds (two_places _)
 
@@ -40,11 +47,28 @@ returns-then-number-r-clause-near g c = λ inside same.
     let is : c.loop-number.number ≡ c.args.r + 1 = omega (arith, c.loop-number.invariant.to, c.if-number-r.true) in
     absurd (c.loop-number.invariant.apart c.if-number-r.true (same ∙ ap (λ p. p / 64) (c.locate-at.ensures.value ∙ ap (select c.args.bit c.args.self.now) is)))
 
+pub returns-then-after-ne0-clause-second : goal.returns-then-after-ne0-clause-second
+returns-then-after-ne0-clause-second g c =
+    let at = c.locate-at.ensures in
+    let is : c.loop-number.number ≡ c.args.r = omega (arith, c.loop-number.invariant.from, c.if-number-r.false) in
+    let word : c.marks.result ≡ marked c.args.bit (limb c.args.self.now c.locate-at.result.limb) = c.marks.ensures ∙ ap (marked c.args.bit) at.word in
+    let some = rw is at c.loop-number.invariant.some in
+    let after = rw word at c.if-after-ne0.true in
+    c.min.ensures ∙ rw (c.len-len.ensures.value, word) (place_after c.args.bit c.args.self.now c.args.r c.locate-at.result.limb c.locate-at.result.place some (rw is at at.value) (omega (arith, after)))
+
+pub returns-then-after-ne0-clause-within : goal.returns-then-after-ne0-clause-within
+returns-then-after-ne0-clause-within g c =
+    (omega (arith, c.locate-at.ensures.value, select_le c.args.bit c.args.self.now c.loop-number.number), omega (arith, c.min.ensures, c.len-len.ensures.value))
+
 pub returns-then-after-ne0-clause-adds : goal.returns-then-after-ne0-clause-adds
 returns-then-after-ne0-clause-adds g c = adds_then c.loop-number.invariant.adds c.locate-at.ensures.adds (two_places _)
 
 pub returns-then-after-ne0-clause-near : goal.returns-then-after-ne0-clause-near
 returns-then-after-ne0-clause-near g c = λ inside same. adds_then (c.loop-number.invariant.begun c.if-number-r.false) c.locate-at.ensures.adds (one_place _)
+
+pub returns-then-number-total-clause-within : goal.returns-then-number-total-clause-within
+returns-then-number-total-clause-within g c =
+    (omega (arith, c.locate-at.ensures.value, select_le c.args.bit c.args.self.now c.loop-number.number), omega (arith, c.len-len.ensures.value))
 
 pub returns-then-number-total-clause-adds : goal.returns-then-number-total-clause-adds
 returns-then-number-total-clause-adds g c = adds_then c.loop-number.invariant.adds c.locate-at.ensures.adds (two_places _)

@@ -1,0 +1,37 @@
+use Rattle.vers_rank.proofs.Names.{◌≡◌, ℕ, ◌+◌, ◌-◌, ◌*◌, ◌<◌, ◌≤◌, ap, arith, rules, count, adds_then, digits_up, plus, only_superblock_entries}
+use Rattle.vers_tally.specs.Reads.{IsWithin}
+use Rattle.vers_rank.proofs.fast_rs_vec.RsVec.superblock_from.Goals as goal
+
+step_reads : (s : ℕ) → 0 < s → IsWithin (plus (only_superblock_entries (s - 1)) (only_superblock_entries 1)) (only_superblock_entries (s + 1 - 1))
+step_reads s some = search rules
+
+all_reads : (s d e : ℕ) → s ≤ 5 → d ≤ e → IsWithin (plus (only_superblock_entries (s - 1)) (only_superblock_entries (d + 3))) (only_superblock_entries (e + 7))
+all_reads s d e few up = search rules
+
+pub loop-step-preserved : goal.loop-step-preserved
+loop-step-preserved g c =
+    let e : c.args.first + (c.loop-step.step + 1 - 1) ≡ c.args.first + c.loop-step.step = omega arith in
+    record {
+      some = omega (arith, c.if-step-n.false);
+      from = omega (arith, c.count_at_superblock.ensures.value, c.if-count_at_superblock-r.false, ap (λ k. count c.args.bit c.args.self.now (8192 * k)) e);
+      adds = adds_then c.loop-step.invariant.adds c.count_at_superblock.ensures.adds (step_reads c.loop-step.step (omega arith));
+    }
+
+pub returns-then-step-n-clause-from : goal.returns-then-step-n-clause-from
+returns-then-step-n-clause-from g c =
+    let e : c.args.first + (c.loop-step.step - 1) ≡ c.args.first + c.loop-step.step - 1 = omega arith in
+    omega (arith, c.loop-step.invariant.from, ap (λ k. count c.args.bit c.args.self.now (8192 * k)) e)
+
+pub superblock_among-requires-clause-from : goal.superblock_among-requires-clause-from
+superblock_among-requires-clause-from g c =
+    let e : c.args.first + (c.loop-step.step - 1) ≡ c.args.first + 4 = omega arith in
+    omega (arith, c.loop-step.invariant.from, ap (λ k. count c.args.bit c.args.self.now (8192 * k)) e)
+
+pub superblock_among-requires-clause-to : goal.superblock_among-requires-clause-to
+superblock_among-requires-clause-to g c =
+    let e : c.args.first + 4 + (c.args.n - 4) ≡ c.args.first + c.args.n = omega arith in
+    rw e c.requires.to
+
+pub returns-clause-adds : goal.returns-clause-adds
+returns-clause-adds g c =
+    adds_then c.loop-step.invariant.adds c.superblock_among.ensures.adds (all_reads c.loop-step.step _ _ (omega arith) (digits_up (c.args.n - 4 - 1) (c.args.n - 1) (omega arith)))
