@@ -18,14 +18,11 @@ changed_more R from n y xs ys old inside becomes = record {
   after = λ j h. get_or-set_other ys (from + n) j y 0 (omega arith) ∙ old.after j (omega arith);
 }
 
-one_more : (n : ℕ) (p : Reads) → IsWithin (plus (times n p) p) (times (n + 1) p)
-one_more n p = search rules
-
-pub at_level-requires : goal.at_level-requires
-at_level-requires g c = rw (c.loop-j.invariant.changed.after (c.args.from + c.loop-j.j) (omega arith)) (c.requires.each c.loop-j.j (omega arith))
+times_more : (n : ℕ) (p : Reads) → IsWithin (plus (times n p) p) (times (n + 1) p)
+times_more n p = search rules
 
 pub loop-j-preserved : goal.loop-j-preserved
 loop-j-preserved g c = record {
   changed = changed_more _ c.args.from c.loop-j.j _ _ _ c.loop-j.invariant.changed (omega (arith, c.requires.within)) c.at_level.ensures.value;
-  adds = adds_then c.loop-j.invariant.adds c.at_level.ensures.adds (one_more _ _);
+  adds = adds_then c.loop-j.invariant.adds c.at_level.ensures.adds (times_more _ _);
 }
