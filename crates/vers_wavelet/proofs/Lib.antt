@@ -2,6 +2,7 @@ pub mod Digits
 pub mod Values
 pub mod Steps
 pub mod Members
+pub mod Walks
 pub mod Lists
 pub mod Gathered
 pub mod Makes

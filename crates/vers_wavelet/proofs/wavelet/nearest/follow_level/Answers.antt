@@ -2,6 +2,7 @@ use Rattle.std.proofs.Common.{◌≡◌, ◌+◌, ℕ, arith, length, ap, sym, �
 use Rattle.vers_wavelet.specs.declared.wavelet.nearest.Trail.{Trail}
 use Rattle.vers_wavelet.proofs.Values.{next-up}
 use Rattle.vers_wavelet.proofs.Trails.{same_bits, other_bits, follows_more, leaves_kept, leaves_new}
+use Rattle.vers_wavelet.proofs.Walks.{level_length}
 use Rattle.vers_wavelet.proofs.wavelet.nearest.follow_level.Goals as goal
 use Rattle.vers_wavelet.proofs.wavelet.nearest.follow_level.Goals.{then-bit-is_up-via-then-bit-is_up, then-bit-is_up-via-else-bit-is_up+then-left}
 
@@ -35,3 +36,60 @@ returns-clause-follows g c = λ from to f.
     (leaves_new ls c.args.len s from to c.args.k c.requires.inside v c.index-levels-k.is long c.digit-bit.result c.digit-bit.ensures c.args.is_up c.args.trail trail f
     part.ensures.start part.ensures.end part.ensures.less refl c.chosen_place.ensures c.chosen_place-2.ensures (other_bits c.digit-bit.result c.args.is_up c.if-bit-is_up.false)
     (omega (arith, c.chosen_place.ensures, c.chosen_place-2.ensures, c.if-left.false, next-up c.args.is_up v c.args.trail.part.start c.args.trail.part.end f.order)))
+
+pub offset_bounds-levels-k : goal.offset_bounds-levels-k
+offset_bounds-levels-k g c = omega arith
+
+pub bounds-levels-k : goal.bounds-levels-k
+bounds-levels-k g c = c.requires.inside
+
+pub overflow_add-k : goal.overflow_add-k
+overflow_add-k g c = omega arith
+
+pub overflow_sub-levels : goal.overflow_sub-levels
+overflow_sub-levels g c = omega arith
+
+pub digit-bit-requires : goal.digit-bit-requires
+digit-bit-requires g c = omega arith
+
+pub zeros_before_both-zeros-requires-clause-order : goal.zeros_before_both-zeros-requires-clause-order
+zeros_before_both-zeros-requires-clause-order g c = c.requires.order
+
+pub zeros_before_both-zeros-requires-clause-within : goal.zeros_before_both-zeros-requires-clause-within
+zeros_before_both-zeros-requires-clause-within g c = omega (arith, c.requires.order, c.requires.within, level_length c.args.levels.now c.args.len c.args.k c.index-levels-k.result c.requires.levels.even c.index-levels-k.is c.requires.inside)
+
+pub overflow_add-left : goal.overflow_add-left
+overflow_add-left g c = omega arith
+
+pub chosen_place-requires-clause-within : goal.chosen_place-requires-clause-within
+chosen_place-requires-clause-within g c = omega (arith, c.requires.order, c.requires.within, level_length c.args.levels.now c.args.len c.args.k c.index-levels-k.result c.requires.levels.even c.index-levels-k.is c.requires.inside)
+
+pub chosen_place-requires-clause-zeros : goal.chosen_place-requires-clause-zeros
+chosen_place-requires-clause-zeros g c = c.zeros_before_both-zeros.ensures.first
+
+pub chosen_place-requires-2-clause-within : goal.chosen_place-requires-2-clause-within
+chosen_place-requires-2-clause-within g c = omega (arith, c.requires.order, c.requires.within, level_length c.args.levels.now c.args.len c.args.k c.index-levels-k.result c.requires.levels.even c.index-levels-k.is c.requires.inside)
+
+pub chosen_place-requires-2-clause-zeros : goal.chosen_place-requires-2-clause-zeros
+chosen_place-requires-2-clause-zeros g c = c.zeros_before_both-zeros.ensures.last
+
+pub part_of_bit-next-requires-clause-order : goal.part_of_bit-next-requires-clause-order
+part_of_bit-next-requires-clause-order g c = c.requires.order
+
+pub part_of_bit-next-requires-clause-within : goal.part_of_bit-next-requires-clause-within
+part_of_bit-next-requires-clause-within g c = omega (arith, c.requires.order, c.requires.within, level_length c.args.levels.now c.args.len c.args.k c.index-levels-k.result c.requires.levels.even c.index-levels-k.is c.requires.inside)
+
+pub part_of_bit-next-requires-clause-few : goal.part_of_bit-next-requires-clause-few
+part_of_bit-next-requires-clause-few g c = omega arith
+
+pub part_of_bit-next-requires-clause-first : goal.part_of_bit-next-requires-clause-first
+part_of_bit-next-requires-clause-first g c = c.zeros_before_both-zeros.ensures.first
+
+pub part_of_bit-next-requires-clause-last : goal.part_of_bit-next-requires-clause-last
+part_of_bit-next-requires-clause-last g c = c.zeros_before_both-zeros.ensures.last
+
+pub returns-then-bit-is_up-clause-adds : goal.returns-then-bit-is_up-clause-adds
+returns-then-bit-is_up-clause-adds g c = c.zeros_before_both-zeros.ensures.adds
+
+pub returns-clause-adds : goal.returns-clause-adds
+returns-clause-adds g c = c.zeros_before_both-zeros.ensures.adds

@@ -1,9 +1,55 @@
-use Rattle.std.proofs.Common.{arith}
+use Rattle.std.proofs.Common.{ℕ, ◌+◌, ◌-◌, ◌<◌, ◌≤◌, Bool, List, length, get_or, arith}
+use Rattle.vers_wavelet.specs.declared.wavelet.way.Node.{Node}
+use Rattle.vers_wavelet.specs.declared.wavelet.way.Way.{Way}
+use Rattle.vers_wavelet.specs.Ways.{IsWay}
 use Rattle.vers_wavelet.proofs.Ways.{node_all}
 use Rattle.vers_wavelet.proofs.wavelet.way.Way.begin.Goals as goal
+
+node_order : {ls : List (List Bool)} {n : ℕ} {way : Way} → IsWay ls n way → length ls ≤ 64 → (j : ℕ) (d : Node) → j < length ls
+    → (get_or way.nodes (length ls - (j + 1)) d).start ≤ (get_or way.nodes (length ls - (j + 1)) d).end
+node_order {ls} w few j d h = (w.each (length ls - (j + 1)) d (omega arith)).order
 
 pub returns-then-has_member-clause-node : goal.returns-then-has_member-clause-node
 returns-then-has_member-clause-node g c = c.requires.way.each _ _ (omega (arith, c.requires.few))
 
 pub returns-clause-node : goal.returns-clause-node
 returns-clause-node g c = node_all c.args.levels.now c.args.len c.requires.few
+
+pub overflow_add-level : goal.overflow_add-level
+overflow_add-level g c = omega arith
+
+pub overflow_sub-level : goal.overflow_sub-level
+overflow_sub-level g c = omega arith
+
+pub offset_bounds-self-level : goal.offset_bounds-self-level
+offset_bounds-self-level g c = omega arith
+
+pub bounds-self-level : goal.bounds-self-level
+bounds-self-level g c = omega arith
+
+pub has_member-requires : goal.has_member-requires
+has_member-requires g c = node_order c.requires.way c.requires.few c.loop-j.j _ c.loop-j-test.true
+
+pub returns-then-has_member-clause-level : goal.returns-then-has_member-clause-level
+returns-then-has_member-clause-level g c = omega arith
+
+pub returns-then-has_member-clause-from : goal.returns-then-has_member-clause-from
+returns-then-has_member-clause-from g c = (c.has_member.ensures.0 c.if-has_member.true).0
+
+pub returns-then-has_member-clause-inside : goal.returns-then-has_member-clause-inside
+returns-then-has_member-clause-inside g c = (c.has_member.ensures.0 c.if-has_member.true).1
+
+pub returns-clause-level : goal.returns-clause-level
+returns-clause-level g c = omega arith
+
+pub returns-clause-from : goal.returns-clause-from
+returns-clause-from g c = omega arith
+
+pub returns-clause-inside : goal.returns-clause-inside
+returns-clause-inside g c = omega arith
+
+pub loop-j-init : goal.loop-j-init
+loop-j-init g c = tt
+
+pub loop-j-preserved : goal.loop-j-preserved
+loop-j-preserved g c = tt

@@ -1,9 +1,10 @@
-use Rattle.std.proofs.Common.{rules, ◌≡◌, ◌+◌, ◌-◌, ℕ, arith, cond, false, length, ap, ◌∙◌, refl, subst}
+use Rattle.std.proofs.Common.{◌≡◌, ◌+◌, ◌-◌, ◌*◌, ℕ, arith, cond, false, length, ap, ◌∙◌, refl, subst}
 use Rattle.std.proofs.lemmas.List.{length-set}
 use Rattle.vers_wavelet.specs.Levels.{KthOf, next}
 use Rattle.vers_wavelet.proofs.Digits.{room_left, room_more}
 use Rattle.vers_wavelet.proofs.Steps.{searched_more, searched_all}
 use Rattle.vers_wavelet.proofs.Ways.{nodes_set}
+use Rattle.vers_wavelet.proofs.Walks.{adds_none, adds_fewer, adds_level, level_length}
 use Rattle.vers_wavelet.proofs.wavelet.way.Way.find.Goals as goal
 
 pub loop-k-init : goal.loop-k-init
@@ -19,7 +20,7 @@ loop-k-init g c =
           let same : c.args.i - (c.args.i - from.result.node.from) + j ≡ from.result.node.from + j = omega (arith, from.ensures.from) in
           rw same (from.ensures.node.searched j);
       way = c.requires.way;
-      adds = search rules;
+      adds = adds_none _ _;
     }
 
 pub put_digit-requires-clause-room : goal.put_digit-requires-clause-room
@@ -49,7 +50,7 @@ loop-k-preserved g c =
         each = nodes_set c.args.levels.now c.args.len c.loop-k.k _ _ (omega (arith, c.requires.few, i.way.long)) i.way.each
             (record { order = omega (arith, i.order); within = i.within; room = i.room; searched = i.searched });
       };
-      adds = search rules;
+      adds = adds_level c.loop-k.k i.adds to.ensures.adds;
     }
 
 pub returns-clause-value : goal.returns-clause-value
@@ -60,3 +61,57 @@ returns-clause-value g c =
 
 pub returns-clause-equals : goal.returns-clause-equals
 returns-clause-equals g c = λ j h. searched_all (omega (arith, c.loop-k.invariant.deep)) (c.loop-k.invariant.searched j) (omega (arith, c.loop-k.invariant.order))
+
+pub begin-from-requires-clause-few : goal.begin-from-requires-clause-few
+begin-from-requires-clause-few g c = c.requires.few
+
+pub begin-from-requires-clause-within : goal.begin-from-requires-clause-within
+begin-from-requires-clause-within g c = c.requires.within
+
+pub begin-from-requires-clause-way : goal.begin-from-requires-clause-way
+begin-from-requires-clause-way g c = c.requires.way
+
+pub overflow_sub-choice : goal.overflow_sub-choice
+overflow_sub-choice g c = c.begin-from.ensures.from
+
+pub overflow_sub-self : goal.overflow_sub-self
+overflow_sub-self g c = c.loop-k.invariant.kept
+
+pub offset_bounds-self-k : goal.offset_bounds-self-k
+offset_bounds-self-k g c = omega arith
+
+pub bounds-self-k : goal.bounds-self-k
+bounds-self-k g c = omega arith
+
+pub offset_bounds-levels-k : goal.offset_bounds-levels-k
+offset_bounds-levels-k g c = omega arith
+
+pub bounds-levels-k : goal.bounds-levels-k
+bounds-levels-k g c = c.loop-k-test.true
+
+pub choose_level-choice-requires-clause-order : goal.choose_level-choice-requires-clause-order
+choose_level-choice-requires-clause-order g c = c.loop-k.invariant.order
+
+pub choose_level-choice-requires-clause-within : goal.choose_level-choice-requires-clause-within
+choose_level-choice-requires-clause-within g c = omega (arith, c.loop-k.invariant.within, level_length c.args.levels.now c.args.len c.loop-k.k c.index-levels-k.result c.requires.levels c.index-levels-k.is c.loop-k-test.true)
+
+pub overflow_add-k : goal.overflow_add-k
+overflow_add-k g c = omega arith
+
+pub overflow_sub-levels : goal.overflow_sub-levels
+overflow_sub-levels g c = omega arith
+
+pub put_digit-requires-clause-within : goal.put_digit-requires-clause-within
+put_digit-requires-clause-within g c = omega arith
+
+pub overflow_sub-result : goal.overflow_sub-result
+overflow_sub-result g c = c.loop-k.invariant.kept
+
+pub overflow_sub-result-2 : goal.overflow_sub-result-2
+overflow_sub-result-2 g c = omega arith
+
+pub returns-clause-way : goal.returns-clause-way
+returns-clause-way g c = c.loop-k.invariant.way
+
+pub returns-clause-adds : goal.returns-clause-adds
+returns-clause-adds g c = adds_fewer (2 * c.loop-k.k) (2 * length c.args.levels.now) (omega arith) c.loop-k.invariant.adds

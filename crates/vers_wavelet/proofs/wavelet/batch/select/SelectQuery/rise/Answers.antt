@@ -3,6 +3,7 @@ use Rattle.vers_bits.specs.Bits.{select}
 use Rattle.vers_wavelet.specs.Levels.{next, start, way}
 use Rattle.vers_wavelet.proofs.Members.{both_ways}
 use Rattle.vers_wavelet.proofs.Steps.{rise_inside, rise_to}
+use Rattle.vers_wavelet.proofs.Walks.{level_length}
 use Rattle.vers_wavelet.proofs.wavelet.batch.select.SelectQuery.rise.Goals as goal
 
 pub returns-clause-seeks : goal.returns-clause-seeks
@@ -35,3 +36,44 @@ returns-then-not-is_of_bit-clause-seeks g c =
           c.args.len c.requires.levels.even (way ls s 0 + c.args.self.rank) c.in-Some.place up (omega arith) h in
           both_ways c.is_of_bit.result c.if-not-is_of_bit.true (c.is_of_bit.ensures.1 (inside.0, omega (arith, inside.1, ap (next c.digit-bit.result v) long)));
     }
+
+pub returns-in_default-clause-rank : goal.returns-in_default-clause-rank
+returns-in_default-clause-rank g c = refl
+
+pub returns-in_default-clause-symbol : goal.returns-in_default-clause-symbol
+returns-in_default-clause-symbol g c = refl
+
+pub returns-in_default-clause-seeks : goal.returns-in_default-clause-seeks
+returns-in_default-clause-seeks g c = record { rises = rw (c.in_default.is) tt; some = c.requires.seeks.some }
+
+pub overflow_add-k : goal.overflow_add-k
+overflow_add-k g c = omega arith
+
+pub overflow_sub-levels : goal.overflow_sub-levels
+overflow_sub-levels g c = omega arith
+
+pub digit-bit-requires : goal.digit-bit-requires
+digit-bit-requires g c = omega arith
+
+pub offset_bounds-levels-k : goal.offset_bounds-levels-k
+offset_bounds-levels-k g c = omega arith
+
+pub bounds-levels-k : goal.bounds-levels-k
+bounds-levels-k g c = c.requires.within
+
+pub is_of_bit-requires : goal.is_of_bit-requires
+is_of_bit-requires g c =
+    let up = rw (c.in-Some.is) at c.requires.seeks.rises in
+    omega (arith, up.within, level_length c.args.levels.now c.args.len c.args.k c.index-levels-k.result c.requires.levels.even c.index-levels-k.is c.requires.within)
+
+pub returns-then-not-is_of_bit-clause-rank : goal.returns-then-not-is_of_bit-clause-rank
+returns-then-not-is_of_bit-clause-rank g c = refl
+
+pub returns-then-not-is_of_bit-clause-symbol : goal.returns-then-not-is_of_bit-clause-symbol
+returns-then-not-is_of_bit-clause-symbol g c = refl
+
+pub returns-clause-rank : goal.returns-clause-rank
+returns-clause-rank g c = refl
+
+pub returns-clause-symbol : goal.returns-clause-symbol
+returns-clause-symbol g c = refl

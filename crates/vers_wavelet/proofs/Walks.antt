@@ -1,0 +1,50 @@
+-- The length of a walk's level, and what walks read.
+use Rattle.std.proofs.Common.{◌≡◌, ℕ, ◌+◌, ◌-◌, ◌*◌, ◌%◌, ◌^◌, ◌<◌, ◌≤◌, Bool, List, length, drop, get_or, ap, subst, ◌∙◌, arith}
+use Rattle.vers_tally.specs.Reads.{Reads, AddsAtMost, times}
+use Rattle.vers_tally.proofs.PublicLaws.{adds_nothing, adds_then, adds_weaker}
+use Rattle.vers_rank.specs.Queries.{rank_reads, select_reads}
+use Rattle.vers_rank.proofs.PublicLaws.{adds_times}
+use Rattle.vers_wavelet.specs.Levels.{under, way, Even, Narrowed}
+use Rattle.vers_wavelet.proofs.Steps.{times_less}
+
+pub level_length : (ls : List (List Bool)) (n k : ℕ) (v : List Bool) → Even ls n → v ≡ get_or ls k v → k < length ls → length v ≡ n
+level_length ls n k v even at h = ap length at ∙ even k v h
+
+pub adds_fewer : {a b : Reads} (m n : ℕ) → m ≤ n → AddsAtMost a b (times m rank_reads) → AddsAtMost a b (times n rank_reads)
+adds_fewer m n h adds = adds_weaker adds (times_less m n rank_reads h)
+
+pub adds_none : (a : Reads) (n : ℕ) → AddsAtMost a a (times n rank_reads)
+adds_none a n = adds_fewer 0 n (omega arith) (adds_nothing a)
+
+-- two ranks more, for one level more
+pub adds_level : {a b c : Reads} (k : ℕ) → AddsAtMost a b (times (2 * k) rank_reads) → AddsAtMost b c (times 2 rank_reads) → AddsAtMost a c (times (2 * (k + 1)) rank_reads)
+adds_level k before more = adds_fewer (2 * k + 2) (2 * (k + 1)) (omega arith) (adds_times (2 * k) 2 rank_reads before more)
+
+-- a walk down and one back up are within four selects of each level
+pub adds_back : {a b c : Reads} (k s : ℕ) → AddsAtMost a b (times k rank_reads) → AddsAtMost b c (times k (select_reads s)) → AddsAtMost a c (times (4 * k) (select_reads s))
+adds_back k s down up = adds_then down up (record { data_words = omega arith; block_entries = omega arith; superblock_entries = omega arith; low_parts = omega arith; rank_calls = omega arith; items = omega arith; blocks = omega arith; nodes = omega arith; chunks = omega arith })
+
+pub adds_down : {a b : Reads} (k s : ℕ) → AddsAtMost a b (times k rank_reads) → AddsAtMost a b (times (4 * k) (select_reads s))
+adds_down k s down = adds_weaker down (record { data_words = omega arith; block_entries = omega arith; superblock_entries = omega arith; low_parts = omega arith; rank_calls = omega arith; items = omega arith; blocks = omega arith; nodes = omega arith; chunks = omega arith })
+
+pub adds_twice : {a b : Reads} (k : ℕ) → AddsAtMost a b (times (4 * k) rank_reads) → AddsAtMost a b (times 2 (times (2 * k) rank_reads))
+adds_twice k adds = adds_weaker adds (record { data_words = omega arith; block_entries = omega arith; superblock_entries = omega arith; low_parts = omega arith; rank_calls = omega arith; items = omega arith; blocks = omega arith; nodes = omega arith; chunks = omega arith })
+
+-- the same of n queries, which are asked level by level
+pub adds_each : {a b : Reads} (k n : ℕ) → AddsAtMost a b (times k (times n (times 2 rank_reads))) → AddsAtMost a b (times n (times (2 * k) rank_reads))
+adds_each k n adds = adds_weaker adds (record { data_words = omega arith; block_entries = omega arith; superblock_entries = omega arith; low_parts = omega arith; rank_calls = omega arith; items = omega arith; blocks = omega arith; nodes = omega arith; chunks = omega arith })
+
+pub adds_each_down : {a b : Reads} (k n s : ℕ) → AddsAtMost a b (times k (times n (times 2 rank_reads))) → AddsAtMost a b (times n (times (4 * k) (select_reads s)))
+adds_each_down k n s down = adds_weaker down (record { data_words = omega arith; block_entries = omega arith; superblock_entries = omega arith; low_parts = omega arith; rank_calls = omega arith; items = omega arith; blocks = omega arith; nodes = omega arith; chunks = omega arith })
+
+pub adds_each_back : {a b c : Reads} (k n m s : ℕ) → m ≡ n → AddsAtMost a b (times k (times n (times 2 rank_reads))) → AddsAtMost b c (times k (times m (select_reads s)))
+    → AddsAtMost a c (times n (times (4 * k) (select_reads s)))
+adds_each_back {a} {b} {c} k n m s e down up =
+    let same : AddsAtMost b c (times k (times n (select_reads s))) = subst (λ (i : ℕ). AddsAtMost b c (times k (times i (select_reads s)))) e up in
+    adds_then down same (record { data_words = omega arith; block_entries = omega arith; superblock_entries = omega arith; low_parts = omega arith; rank_calls = omega arith; items = omega arith; blocks = omega arith; nodes = omega arith; chunks = omega arith })
+
+-- where no place is left, the ends are as far apart as those of the way down
+pub narrowed_ended : {ls : List (List Bool)} {s from to k a b less : ℕ} → a ≡ b → Narrowed ls s from to k a b less
+    → (less + under ls (s % 2 ^ length ls) from ≡ under ls (s % 2 ^ length ls) to) × (a + way ls s to ≡ b + way ls s from)
+narrowed_ended {ls} {s} {from} {to} {k} {a} {b} {less} e n =
+    (omega (arith, n.less_is, ap (under (drop k ls) (s % 2 ^ (length ls - k))) e), omega (arith, ap (way (drop k ls) s) e, n.from_is, n.to_is))
