@@ -12,23 +12,15 @@ pub returns-clause-none : goal.returns-clause-none
 returns-clause-none g c = λ f.
     rw (members_inside c.args.self.now.items c.args.start c.args.end c.requires.within, ← c.self.view_is, ← c.deref.ensures.value) (c.find_nearest.ensures.none f)
 
-pub find_nearest-requires-clause-levels : goal.find_nearest-requires-clause-levels
-find_nearest-requires-clause-levels g c = rw (c.deref.ensures.value) c.self.invariant
-
-pub find_nearest-requires-clause-order : goal.find_nearest-requires-clause-order
-find_nearest-requires-clause-order g c = c.requires.order
-
-pub find_nearest-requires-clause-within : goal.find_nearest-requires-clause-within
-find_nearest-requires-clause-within g c = omega (arith, rw (← c.self.view_is) at c.requires.within, length-values c.self.inside.levels.items c.self.inside.len)
-
-pub find_nearest-requires-clause-symbol : goal.find_nearest-requires-clause-symbol
-find_nearest-requires-clause-symbol g c = omega (arith, rw (← c.self.view_is) at c.requires.symbol, ap length c.deref.ensures.value)
-
-pub find_nearest-requires-clause-zero : goal.find_nearest-requires-clause-zero
-find_nearest-requires-clause-zero g c = c.requires.zero
-
-pub find_nearest-requires-clause-wide : goal.find_nearest-requires-clause-wide
-find_nearest-requires-clause-wide g c = omega (arith, rw (← c.self.view_is) at c.requires.wide, ap length c.deref.ensures.value)
+pub find_nearest-requires : goal.find_nearest-requires
+find_nearest-requires g c = record {
+  levels = rw (c.deref.ensures.value) c.self.invariant;
+  order = c.requires.order;
+  within = omega (arith, rw (← c.self.view_is) at c.requires.within, length-values c.self.inside.levels.items c.self.inside.len);
+  symbol = omega (arith, rw (← c.self.view_is) at c.requires.symbol, ap length c.deref.ensures.value);
+  zero = c.requires.zero;
+  wide = omega (arith, rw (← c.self.view_is) at c.requires.wide, ap length c.deref.ensures.value);
+}
 
 pub returns-clause-same : goal.returns-clause-same
 returns-clause-same g c = c.find_nearest.ensures.same

@@ -1,6 +1,9 @@
-use Rattle.std.proofs.Common.{◌≡◌, ◌+◌, ◌-◌, ◌*◌, ◌^◌, ◌<◌, ℕ, arith, length, ap, ◌∙◌, Some}
+use Rattle.std.proofs.Common.{◌≡◌, ◌+◌, ◌-◌, ◌*◌, ◌^◌, ◌<◌, ℕ, arith, length, ap, refl, sym, true≢false, ◌∙◌, Some}
 use Rattle.vers_bits.specs.Bits.{bit_value}
+use Rattle.vers_rank.specs.Queries.{rank_reads}
+use Rattle.vers_rank.proofs.PublicLaws.{adds_times}
 use Rattle.vers_wavelet.proofs.Trails.{found_same, found_none, found_beside}
+use Rattle.vers_wavelet.proofs.Walks.{adds_fewer}
 use Rattle.vers_wavelet.proofs.wavelet.nearest.find_nearest.Goals as goal
 
 pub returns-then-trail-clause-found : goal.returns-then-trail-clause-found
@@ -32,3 +35,36 @@ returns-clause-found g c = λ t.
     let whole : from + x ≡ g.D.Digits.number c.write_beside.new.answer = omega (arith, wrote.2) in
     found_beside c.requires.levels (g.D.Digits.number c.args.symbol.now) c.args.start c.args.end trail.result c.requires.order c.requires.within c.if-trail.false trail.ensures.order trail.ensures.kept
     trail.ensures.less c.args.is_up wrote.0 x leaves some wrote.1 wrote.3 ∙ ap Some whole
+
+pub follow-trail-requires : goal.follow-trail-requires
+follow-trail-requires g c = record { levels = c.requires.levels; order = c.requires.order; within = c.requires.within; wide = c.requires.symbol }
+
+pub copy_digits-requires : goal.copy_digits-requires
+copy_digits-requires g c = record { order = omega arith; from = c.requires.symbol; to = c.requires.wide; zero = c.requires.zero }
+
+pub returns-then-trail-clause-none : goal.returns-then-trail-clause-none
+returns-then-trail-clause-none g c = λ f. absurd (true≢false f)
+
+pub returns-then-trail-clause-same : goal.returns-then-trail-clause-same
+returns-then-trail-clause-same g c = c.copy_digits.ensures.same
+
+pub returns-then-trail-clause-adds : goal.returns-then-trail-clause-adds
+returns-then-trail-clause-adds g c = adds_fewer (2 * length c.args.levels.now) (4 * length c.args.levels.now) (omega arith) c.follow-trail.ensures.adds
+
+pub returns-then-beside-clause-found : goal.returns-then-beside-clause-found
+returns-then-beside-clause-found g c = λ t. absurd (true≢false (sym t))
+
+pub returns-then-beside-clause-same : goal.returns-then-beside-clause-same
+returns-then-beside-clause-same g c = refl
+
+pub returns-then-beside-clause-adds : goal.returns-then-beside-clause-adds
+returns-then-beside-clause-adds g c = adds_fewer (2 * length c.args.levels.now) (4 * length c.args.levels.now) (omega arith) c.follow-trail.ensures.adds
+
+pub returns-clause-none : goal.returns-clause-none
+returns-clause-none g c = λ f. absurd (true≢false f)
+
+pub returns-clause-same : goal.returns-clause-same
+returns-clause-same g c = c.write_beside.ensures.same
+
+pub returns-clause-adds : goal.returns-clause-adds
+returns-clause-adds g c = adds_fewer (2 * length c.args.levels.now + 2 * length c.args.levels.now) (4 * length c.args.levels.now) (omega arith) (adds_times (2 * length c.args.levels.now) (2 * length c.args.levels.now) rank_reads c.follow-trail.ensures.adds c.write_beside.ensures.adds)

@@ -52,41 +52,35 @@ overflow_sub-levels g c = omega arith
 pub digit-bit-requires : goal.digit-bit-requires
 digit-bit-requires g c = omega arith
 
-pub zeros_before_both-zeros-requires-clause-order : goal.zeros_before_both-zeros-requires-clause-order
-zeros_before_both-zeros-requires-clause-order g c = c.requires.order
-
-pub zeros_before_both-zeros-requires-clause-within : goal.zeros_before_both-zeros-requires-clause-within
-zeros_before_both-zeros-requires-clause-within g c = omega (arith, c.requires.order, c.requires.within, level_length c.args.levels.now c.args.len c.args.k c.index-levels-k.result c.requires.levels.even c.index-levels-k.is c.requires.inside)
+pub zeros_before_both-zeros-requires : goal.zeros_before_both-zeros-requires
+zeros_before_both-zeros-requires g c = record {
+  order = c.requires.order;
+  within = omega (arith, c.requires.order, c.requires.within, level_length c.args.levels.now c.args.len c.args.k c.index-levels-k.result c.requires.levels.even c.index-levels-k.is c.requires.inside);
+}
 
 pub overflow_add-left : goal.overflow_add-left
 overflow_add-left g c = omega arith
 
-pub chosen_place-requires-clause-within : goal.chosen_place-requires-clause-within
-chosen_place-requires-clause-within g c = omega (arith, c.requires.order, c.requires.within, level_length c.args.levels.now c.args.len c.args.k c.index-levels-k.result c.requires.levels.even c.index-levels-k.is c.requires.inside)
+pub chosen_place-requires : goal.chosen_place-requires
+chosen_place-requires g c = record {
+  within = omega (arith, c.requires.order, c.requires.within, level_length c.args.levels.now c.args.len c.args.k c.index-levels-k.result c.requires.levels.even c.index-levels-k.is c.requires.inside);
+  zeros = c.zeros_before_both-zeros.ensures.first;
+}
 
-pub chosen_place-requires-clause-zeros : goal.chosen_place-requires-clause-zeros
-chosen_place-requires-clause-zeros g c = c.zeros_before_both-zeros.ensures.first
+pub chosen_place-requires-2 : goal.chosen_place-requires-2
+chosen_place-requires-2 g c = record {
+  within = omega (arith, c.requires.order, c.requires.within, level_length c.args.levels.now c.args.len c.args.k c.index-levels-k.result c.requires.levels.even c.index-levels-k.is c.requires.inside);
+  zeros = c.zeros_before_both-zeros.ensures.last;
+}
 
-pub chosen_place-requires-2-clause-within : goal.chosen_place-requires-2-clause-within
-chosen_place-requires-2-clause-within g c = omega (arith, c.requires.order, c.requires.within, level_length c.args.levels.now c.args.len c.args.k c.index-levels-k.result c.requires.levels.even c.index-levels-k.is c.requires.inside)
-
-pub chosen_place-requires-2-clause-zeros : goal.chosen_place-requires-2-clause-zeros
-chosen_place-requires-2-clause-zeros g c = c.zeros_before_both-zeros.ensures.last
-
-pub part_of_bit-next-requires-clause-order : goal.part_of_bit-next-requires-clause-order
-part_of_bit-next-requires-clause-order g c = c.requires.order
-
-pub part_of_bit-next-requires-clause-within : goal.part_of_bit-next-requires-clause-within
-part_of_bit-next-requires-clause-within g c = omega (arith, c.requires.order, c.requires.within, level_length c.args.levels.now c.args.len c.args.k c.index-levels-k.result c.requires.levels.even c.index-levels-k.is c.requires.inside)
-
-pub part_of_bit-next-requires-clause-few : goal.part_of_bit-next-requires-clause-few
-part_of_bit-next-requires-clause-few g c = omega arith
-
-pub part_of_bit-next-requires-clause-first : goal.part_of_bit-next-requires-clause-first
-part_of_bit-next-requires-clause-first g c = c.zeros_before_both-zeros.ensures.first
-
-pub part_of_bit-next-requires-clause-last : goal.part_of_bit-next-requires-clause-last
-part_of_bit-next-requires-clause-last g c = c.zeros_before_both-zeros.ensures.last
+pub part_of_bit-next-requires : goal.part_of_bit-next-requires
+part_of_bit-next-requires g c = record {
+  order = c.requires.order;
+  within = omega (arith, c.requires.order, c.requires.within, level_length c.args.levels.now c.args.len c.args.k c.index-levels-k.result c.requires.levels.even c.index-levels-k.is c.requires.inside);
+  few = omega arith;
+  first = c.zeros_before_both-zeros.ensures.first;
+  last = c.zeros_before_both-zeros.ensures.last;
+}
 
 pub returns-then-bit-is_up-clause-adds : goal.returns-then-bit-is_up-clause-adds
 returns-then-bit-is_up-clause-adds g c = c.zeros_before_both-zeros.ensures.adds

@@ -9,11 +9,16 @@ node_order : {ls : List (List Bool)} {n : ℕ} {way : Way} → IsWay ls n way �
     → (get_or way.nodes (length ls - (j + 1)) d).start ≤ (get_or way.nodes (length ls - (j + 1)) d).end
 node_order {ls} w few j d h = (w.each (length ls - (j + 1)) d (omega arith)).order
 
-pub returns-then-has_member-clause-node : goal.returns-then-has_member-clause-node
-returns-then-has_member-clause-node g c = c.requires.way.each _ _ (omega (arith, c.requires.few))
+pub returns-then-has_member : goal.returns-then-has_member
+returns-then-has_member g c = record {
+  level = omega arith;
+  node = c.requires.way.each _ _ (omega (arith, c.requires.few));
+  from = (c.has_member.ensures.0 c.if-has_member.true).0;
+  inside = (c.has_member.ensures.0 c.if-has_member.true).1;
+}
 
-pub returns-clause-node : goal.returns-clause-node
-returns-clause-node g c = node_all c.args.levels.now c.args.len c.requires.few
+pub returns : goal.returns
+returns g c = record { level = omega arith; node = node_all c.args.levels.now c.args.len c.requires.few; from = omega arith; inside = omega arith }
 
 pub overflow_add-level : goal.overflow_add-level
 overflow_add-level g c = omega arith
@@ -29,24 +34,6 @@ bounds-self-level g c = omega arith
 
 pub has_member-requires : goal.has_member-requires
 has_member-requires g c = node_order c.requires.way c.requires.few c.loop-j.j _ c.loop-j-test.true
-
-pub returns-then-has_member-clause-level : goal.returns-then-has_member-clause-level
-returns-then-has_member-clause-level g c = omega arith
-
-pub returns-then-has_member-clause-from : goal.returns-then-has_member-clause-from
-returns-then-has_member-clause-from g c = (c.has_member.ensures.0 c.if-has_member.true).0
-
-pub returns-then-has_member-clause-inside : goal.returns-then-has_member-clause-inside
-returns-then-has_member-clause-inside g c = (c.has_member.ensures.0 c.if-has_member.true).1
-
-pub returns-clause-level : goal.returns-clause-level
-returns-clause-level g c = omega arith
-
-pub returns-clause-from : goal.returns-clause-from
-returns-clause-from g c = omega arith
-
-pub returns-clause-inside : goal.returns-clause-inside
-returns-clause-inside g c = omega arith
 
 pub loop-j-init : goal.loop-j-init
 loop-j-init g c = tt

@@ -23,8 +23,8 @@ loop-k-init g c =
       adds = adds_none _ _;
     }
 
-pub put_digit-requires-clause-room : goal.put_digit-requires-clause-room
-put_digit-requires-clause-room g c = room_left (length c.args.levels.now) c.loop-k.k c.loop-k-test.true c.loop-k.invariant.room
+pub put_digit-requires : goal.put_digit-requires
+put_digit-requires g c = record { within = omega arith; room = room_left (length c.args.levels.now) c.loop-k.k c.loop-k-test.true c.loop-k.invariant.room }
 
 pub loop-k-preserved : goal.loop-k-preserved
 loop-k-preserved g c =
@@ -62,14 +62,8 @@ returns-clause-value g c =
 pub returns-clause-equals : goal.returns-clause-equals
 returns-clause-equals g c = λ j h. searched_all (omega (arith, c.loop-k.invariant.deep)) (c.loop-k.invariant.searched j) (omega (arith, c.loop-k.invariant.order))
 
-pub begin-from-requires-clause-few : goal.begin-from-requires-clause-few
-begin-from-requires-clause-few g c = c.requires.few
-
-pub begin-from-requires-clause-within : goal.begin-from-requires-clause-within
-begin-from-requires-clause-within g c = c.requires.within
-
-pub begin-from-requires-clause-way : goal.begin-from-requires-clause-way
-begin-from-requires-clause-way g c = c.requires.way
+pub begin-from-requires : goal.begin-from-requires
+begin-from-requires g c = record { few = c.requires.few; within = c.requires.within; way = c.requires.way }
 
 pub overflow_sub-choice : goal.overflow_sub-choice
 overflow_sub-choice g c = c.begin-from.ensures.from
@@ -89,20 +83,17 @@ offset_bounds-levels-k g c = omega arith
 pub bounds-levels-k : goal.bounds-levels-k
 bounds-levels-k g c = c.loop-k-test.true
 
-pub choose_level-choice-requires-clause-order : goal.choose_level-choice-requires-clause-order
-choose_level-choice-requires-clause-order g c = c.loop-k.invariant.order
-
-pub choose_level-choice-requires-clause-within : goal.choose_level-choice-requires-clause-within
-choose_level-choice-requires-clause-within g c = omega (arith, c.loop-k.invariant.within, level_length c.args.levels.now c.args.len c.loop-k.k c.index-levels-k.result c.requires.levels c.index-levels-k.is c.loop-k-test.true)
+pub choose_level-choice-requires : goal.choose_level-choice-requires
+choose_level-choice-requires g c = record {
+  order = c.loop-k.invariant.order;
+  within = omega (arith, c.loop-k.invariant.within, level_length c.args.levels.now c.args.len c.loop-k.k c.index-levels-k.result c.requires.levels c.index-levels-k.is c.loop-k-test.true);
+}
 
 pub overflow_add-k : goal.overflow_add-k
 overflow_add-k g c = omega arith
 
 pub overflow_sub-levels : goal.overflow_sub-levels
 overflow_sub-levels g c = omega arith
-
-pub put_digit-requires-clause-within : goal.put_digit-requires-clause-within
-put_digit-requires-clause-within g c = omega arith
 
 pub overflow_sub-result : goal.overflow_sub-result
 overflow_sub-result g c = c.loop-k.invariant.kept

@@ -37,14 +37,8 @@ returns-then-not-is_of_bit-clause-seeks g c =
           both_ways c.is_of_bit.result c.if-not-is_of_bit.true (c.is_of_bit.ensures.1 (inside.0, omega (arith, inside.1, ap (next c.digit-bit.result v) long)));
     }
 
-pub returns-in_default-clause-rank : goal.returns-in_default-clause-rank
-returns-in_default-clause-rank g c = refl
-
-pub returns-in_default-clause-symbol : goal.returns-in_default-clause-symbol
-returns-in_default-clause-symbol g c = refl
-
-pub returns-in_default-clause-seeks : goal.returns-in_default-clause-seeks
-returns-in_default-clause-seeks g c = record { rises = rw (c.in_default.is) tt; some = c.requires.seeks.some }
+pub returns-in_default : goal.returns-in_default
+returns-in_default g c = record { rank = refl; symbol = refl; seeks = record { rises = rw (c.in_default.is) tt; some = c.requires.seeks.some } }
 
 pub overflow_add-k : goal.overflow_add-k
 overflow_add-k g c = omega arith
