@@ -1,4 +1,5 @@
-use Rattle.vers_wavelet.proofs.Makes.{are_levels, symbols_made}
+use Rattle.std.proofs.Common.{length, ap, ◌∙◌}
+use Rattle.vers_wavelet.proofs.Makes.{length-levels_of, are_levels, symbols_made}
 use Rattle.vers_wavelet.proofs.wavelet.WaveletMatrix.sorted.Goals as goal
 
 pub invariant_of-result : goal.invariant_of-result
@@ -6,3 +7,6 @@ invariant_of-result g c = are_levels _ _ _ _ _ c.in_ok-levels.ensures c.len-len.
 
 pub returns-clause-items : goal.returns-clause-items
 returns-clause-items g c = symbols_made _ _ _ _ _ c.in_ok-levels.ensures c.len-len.ensures.value
+
+pub returns-clause-width : goal.returns-clause-width
+returns-clause-width g c = ap length c.in_ok-levels.ensures ∙ length-levels_of _ _ _
