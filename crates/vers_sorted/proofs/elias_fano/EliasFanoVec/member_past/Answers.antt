@@ -1,13 +1,41 @@
-use Rattle.std.proofs.Common.{arith}
+use Rattle.vers_sorted.proofs.Names.{arith, high_length}
 use Rattle.vers_sorted.proofs.Besides.{ones_past}
+use Rattle.vers_sorted.proofs.Bounds.{part_after}
+use Rattle.vers_sorted.proofs.Packed.{high_counted}
 use Rattle.vers_sorted.proofs.elias_fano.EliasFanoVec.member_past.Goals as goal
 
 pub overflow_add-bucket : goal.overflow_add-bucket
 overflow_add-bucket g c =
     let packed = rw c.self.view_is at c.self.invariant in
-    record { fits = omega (arith, (ones_past packed c.args.v c.args.bucket c.requires.from c.requires.to c.requires.bucket c.requires.more).0) }
+    omega (arith, (ones_past packed c.args.v c.args.bucket c.requires.from c.requires.to c.requires.bucket c.requires.more).0, c.len.ensures.value, c.len.ensures.bounded)
 
 pub overflow_add-bucket-2 : goal.overflow_add-bucket-2
 overflow_add-bucket-2 g c =
     let packed = rw c.self.view_is at c.self.invariant in
-    record { fits = omega (arith, (ones_past packed c.args.v c.args.bucket c.requires.from c.requires.to c.requires.bucket c.requires.more).0) }
+    omega (arith, (ones_past packed c.args.v c.args.bucket c.requires.from c.requires.to c.requires.bucket c.requires.more).0, c.len.ensures.value, c.len.ensures.bounded)
+
+pub one_from-place-requires-clause-within : goal.one_from-place-requires-clause-within
+one_from-place-requires-clause-within g c = omega (arith, (rw c.self.view_is at c.self.invariant).high_parts.ones, c.requires.more)
+
+pub one_from-place-requires-clause-before : goal.one_from-place-requires-clause-before
+one_from-place-requires-clause-before g c =
+    (ones_past (rw c.self.view_is at c.self.invariant) c.args.v c.args.bucket c.requires.from c.requires.to c.requires.bucket c.requires.more).1
+
+pub overflow_sub-place : goal.overflow_sub-place
+overflow_sub-place g c =
+    omega (arith, c.one_from-place.ensures.value, (rw c.self.view_is at c.self.invariant).high_parts.place c.args.bucket.end c.requires.more)
+
+pub overflow_sub-place-2 : goal.overflow_sub-place-2
+overflow_sub-place-2 g c =
+    omega (arith, c.one_from-place.ensures.value, (rw c.self.view_is at c.self.invariant).high_parts.place c.args.bucket.end c.requires.more)
+
+pub with_low_part-requires-clause-high : goal.with_low_part-requires-clause-high
+with_low_part-requires-clause-high g c =
+    omega (arith, c.one_from-place.ensures.value, (rw c.self.view_is at c.self.invariant).high_parts.place c.args.bucket.end c.requires.more)
+
+pub returns-clause-value : goal.returns-clause-value
+returns-clause-value g c = c.with_low_part.ensures.value
+
+pub returns-clause-adds : goal.returns-clause-adds
+returns-clause-adds g c =
+    part_after 2 (high_length c.args.self.now) (rw (high_counted (rw c.self.view_is at c.self.invariant)) at c.one_from-place.ensures.adds) c.with_low_part.ensures.adds
