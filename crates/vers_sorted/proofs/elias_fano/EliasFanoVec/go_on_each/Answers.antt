@@ -26,14 +26,14 @@ loop-j-preserved g c =
     let adds = c.loop-j.invariant.adds in
     elim c.if-is_inside.branch [
       | then-is_inside w ↦ rw (w.after-is, w.parts-is, w.tally-is) (record {
-          begun = begun_more s asked c.args.before.now _ _ c.loop-j.j _ _ (omega arith) (omega arith) begun
+        begun = begun_more s asked c.args.before.now _ _ c.loop-j.j _ _ (omega arith) (omega arith) begun
             (record { before_is = c.requires.before c.loop-j.j (omega arith); after_is = w.zero_past.ensures.value; part_is = w.first_part.ensures.value });
-          adds = adds_then adds (part_after 2 (high_length c.args.self.now) w.zero_past.ensures.adds w.first_part.ensures.adds) (grind arith);
-        })
+        adds = adds_then adds (part_after 2 (high_length c.args.self.now) w.zero_past.ensures.adds w.first_part.ensures.adds) (grind arith);
+      })
       | else-is_inside w ↦ rw (w.after-is, w.parts-is, w.tally-is) (record {
-          begun = below_more _ _ begun (λ inside. absurd (omega (arith, c.is_inside.ensures.outside w.if-is_inside.false inside.from, inside.to)));
-          adds = adds_weaker adds (grind arith);
-        })
+        begun = below_more _ _ begun (λ inside. absurd (omega (arith, c.is_inside.ensures.outside w.if-is_inside.false inside.from, inside.to)));
+        adds = adds_weaker adds (grind arith);
+      })
     ]
 
 pub returns-clause-begun : goal.returns-clause-begun
