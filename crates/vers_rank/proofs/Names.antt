@@ -11,7 +11,7 @@ pub use Rattle.std.specs.Prelude.{bit_and, count_by, count_ones}
 pub use Rattle.vers_bits.proofs.PublicLaws.{any_default, bit_item, count_at_select, count_both, count_le, count_le_all, count_limb, count_limb_whole, count_more_no, count_more_yes, count_near, count_none, count_past, count_up, goes_first, highest_bit, length-bits, length-places, limb_bit, number-lt, select_at, select_holds, select_is_place, select_past, select_up, value_none, value_one, yields_first}
 pub use Rattle.vers_bits.specs.Bits.{bit_value, block_count, count, is_bit, limb, limb_count, places, select}
 pub use Rattle.vers_rank.specs.Queries.{select_reads, superblock_count}
-pub use Rattle.vers_rank.specs.inside.Batches.{Gives, IsIn, StandsFor, level_reads, number_of, superblock_reads}
+pub use Rattle.vers_rank.specs.inside.Batches.{IsIn, StandsFor, number_of, superblock_reads}
 pub use Rattle.vers_rank.specs.inside.Index.{AreEntries, AreFirstSamples, IsAmongLimbs, IsIndexed, IsLimbWith, IsSample, held, held_before, held_in}
 pub use Rattle.vers_rank.specs.inside.Offsets.{last_first, ones_below}
 pub use Rattle.vers_rank.specs.inside.Walks.{IsChunkWalkOf, IsMarked, IsReading, IsReadingBack, chunk_places_left, chunks_unread, marked}

@@ -1,10 +1,10 @@
 //! The places of many zeros or ones at once.
-ghost use Rattle.std.specs.Prelude.{◌≡◌, ℕ, ◌+◌, ◌*◌, ◌/◌, ◌<◌, ◌≤◌, length, map, slice_index, true, false};
+ghost use Rattle.std.specs.Prelude.{◌≡◌, ℕ, ◌+◌, ◌*◌, ◌/◌, ◌<◌, ◌≤◌, Bool, List, length, map, slice_index, true, false};
 ghost use Rattle.vers_bits.specs.Bits.{count, select};
-ghost use Rattle.vers_tally.specs.Reads.{only_block_entries, only_data_words, times, AddsAtMost};
+ghost use Rattle.vers_tally.specs.Reads.{only_block_entries, only_data_words, times, AddsAtMost, Reads};
 ghost use Rattle.vers_rank.specs.Queries.{superblock_count, select_reads};
 ghost use Rattle.vers_rank.specs.Batches.{Changed};
-ghost use Rattle.vers_rank.specs.inside.Batches.{Gives, IsIn, level_reads, Needs, StandsFor, superblock_reads};
+ghost use Rattle.vers_rank.specs.inside.Batches.{IsIn, StandsFor, superblock_reads};
 
 use super::select::InLimb;
 use super::{BLOCK, BLOCKS, LIMB, RsVec, SUPERBLOCK};
@@ -15,13 +15,28 @@ use vers_tally::tally::Tally;
 /// their reads in flight at once, and so few that what they read stays near.
 const GROUP: usize = 64;
 
-// What a level finds of the place of a number: its superblock, then its block, its limb, and the place.
-#[derive(Clone, Copy)]
-enum Level {
-    Superblock,
-    Block,
-    Limb,
-    Place,
+// A level that numbers are led through, each from a place that stands for it to one nearer to its own.
+pub(super) trait Level {
+    // What a level needs to know of the place that it is given.
+    ghost needs: { Bool → List Bool → ℕ → Type 0 };
+
+    // What it makes of the place.
+    ghost gives: { Bool → List Bool → ℕ → ℕ → Type 0 };
+
+    // What it adds at most, by the number of superblocks.
+    ghost reads: { ℕ → Reads };
+
+    // Leads a number through the level.
+    fn lead<A: Allocator + Copy>(
+        bits: &RsVec<A>,
+        bit: bool,
+        number: usize,
+        tally: &mut Tally,
+    ) -> usize
+        requires { needs bit bits.now number }
+        ensures value { gives bit bits.now number result }
+        ensures adds { AddsAtMost tally.old tally.new
+            (reads (superblock_count (length bits.now))) };
 }
 
 impl<A: Allocator + Copy> RsVec<A> {
@@ -50,7 +65,7 @@ impl<A: Allocator + Copy> RsVec<A> {
         ensures adds { AddsAtMost tally.old tally.new
             (times (length numbers.old) (select_reads (superblock_count (length self.now)))) }
     {
-        self.select_each(false, numbers, tally)
+        self.select_each::<false>(numbers, tally)
     }
 
     /// The same as `select1_each`, by at most the reads of as many calls of `select1`.
@@ -60,13 +75,14 @@ impl<A: Allocator + Copy> RsVec<A> {
         ensures adds { AddsAtMost tally.old tally.new
             (times (length numbers.old) (select_reads (superblock_count (length self.now)))) }
     {
-        self.select_each(true, numbers, tally)
+        self.select_each::<true>(numbers, tally)
     }
 
-    // Puts in the stead of each number its place, group by group.
+    // Puts in the stead of each number its place, group by group. The bit is a const parameter, so that
+    // the compiler makes a search for ones and one for zeros, neither of which asks which it is.
     #[inline(always)]
-    fn select_each(&self, bit: bool, numbers: &mut [usize], tally: &mut Tally)
-        ensures value { numbers.new ≡ map (select bit self.now) numbers.old }
+    fn select_each<const BIT: bool>(&self, numbers: &mut [usize], tally: &mut Tally)
+        ensures value { numbers.new ≡ map (select BIT self.now) numbers.old }
         ensures adds { AddsAtMost tally.old tally.new
             (times (length numbers.old) (select_reads (superblock_count (length self.now)))) }
     {
@@ -74,35 +90,12 @@ impl<A: Allocator + Copy> RsVec<A> {
         let mut from = 0;
         while from < len {
             let n = GROUP.min(len - from);
-            self.select_group(bit, numbers, from, n, tally);
+            self.levels_each::<BIT>(numbers, from, n, tally);
             from += n;
         }
     }
 
-    // Puts in the stead of each of `n` numbers its place.
-    #[inline(always)]
-    fn select_group(
-        &self,
-        bit: bool,
-        numbers: &mut [usize],
-        from: usize,
-        n: usize,
-        tally: &mut Tally,
-    )
-        requires { from + n ≤ length numbers.old }
-        ensures value { Changed 0 (λ r p. p ≡ select bit self.now r) from n numbers.old numbers.new }
-        ensures adds { AddsAtMost tally.old tally.new
-            (times n (select_reads (superblock_count (length self.now)))) }
-    {
-        if bit {
-            self.levels_each::<true>(numbers, from, n, tally);
-        } else {
-            self.levels_each::<false>(numbers, from, n, tally);
-        }
-    }
-
-    // The same, all of them level by level. The bit is a const parameter, so that the compiler makes
-    // a search for ones and one for zeros, neither of which asks at each step which it is.
+    // Puts in the stead of each of `n` numbers its place, all of them level by level.
     #[inline(always)]
     fn levels_each<const BIT: bool>(
         &self,
@@ -116,17 +109,16 @@ impl<A: Allocator + Copy> RsVec<A> {
         ensures adds { AddsAtMost tally.old tally.new
             (times n (select_reads (superblock_count (length self.now)))) }
     {
-        self.level_each(Level::Superblock, BIT, numbers, from, n, tally);
-        self.level_each(Level::Block, BIT, numbers, from, n, tally);
-        self.level_each(Level::Limb, BIT, numbers, from, n, tally);
-        self.level_each(Level::Place, BIT, numbers, from, n, tally);
+        self.level_each::<Superblock>(BIT, numbers, from, n, tally);
+        self.level_each::<Block>(BIT, numbers, from, n, tally);
+        self.level_each::<Limb>(BIT, numbers, from, n, tally);
+        self.level_each::<Place>(BIT, numbers, from, n, tally);
     }
 
     // Leads each of `n` numbers through one level.
     #[inline(always)]
-    fn level_each(
+    fn level_each<L: Level>(
         &self,
-        level: Level,
         bit: bool,
         numbers: &mut [usize],
         from: usize,
@@ -135,103 +127,127 @@ impl<A: Allocator + Copy> RsVec<A> {
     )
         requires within { from + n ≤ length numbers.old }
         requires each { (j : ℕ) → j < n
-            → Needs level bit self.now (slice_index numbers.old (from + j)) }
-        ensures value { Changed 0 (Gives level bit self.now) from n numbers.old numbers.new }
+            → L.needs bit self.now (slice_index numbers.old (from + j)) }
+        ensures value { Changed 0 (L.gives bit self.now) from n numbers.old numbers.new }
         ensures adds { AddsAtMost tally.old tally.new
-            (times n (level_reads level (superblock_count (length self.now)))) }
+            (times n (L.reads (superblock_count (length self.now)))) }
     {
         for j in 0..n {
             let number = numbers[from + j];
-            numbers[from + j] = self.at_level(level, bit, number, tally);
+            numbers[from + j] = L::lead(self, bit, number, tally);
         }
     }
+}
 
-    // Leads a number through one level.
-    #[inline(always)]
-    #[tactic(auto, unfolding(crate::specs::inside::Batches::Needs, crate::specs::inside::Batches::Gives, crate::specs::inside::Batches::level_reads))]
-    fn at_level(&self, level: Level, bit: bool, number: usize, tally: &mut Tally) -> usize
-        requires { Needs level bit self.now number }
-        ensures value { Gives level bit self.now number result }
-        ensures adds { AddsAtMost tally.old tally.new
-            (level_reads level (superblock_count (length self.now))) }
-    {
-        match level {
-            Level::Superblock => self.in_superblock(bit, number, tally),
-            Level::Block => self.in_block(bit, number, tally),
-            Level::Limb => self.in_limb(bit, number, tally),
-            Level::Place => self.at_place(bit, number, tally),
-        }
-    }
+// As far into its superblock as the number in it that a number is.
+pub(super) struct Superblock;
 
-    // As far into its superblock as the number in it that number `r` is.
+impl Level for Superblock {
+    ghost needs = { λ _ _ _. Unit {0} };
+
+    ghost gives = { StandsFor 8192 };
+
+    ghost reads = { superblock_reads };
+
     #[inline(always)]
     #[tactic(auto, using(crate::proofs::Selects::totals))]
-    fn in_superblock(&self, bit: bool, r: usize, tally: &mut Tally) -> usize
-        ensures value { StandsFor 8192 bit self.now r result }
-        ensures adds { AddsAtMost tally.old tally.new
-            (superblock_reads (superblock_count (length self.now))) }
-    {
+    fn lead<A: Allocator + Copy>(
+        bits: &RsVec<A>,
+        bit: bool,
+        number: usize,
+        tally: &mut Tally,
+    ) -> usize {
         tally.add_rank_call();
-        let len = self.len();
-        if r >= self.total(bit) {
+        let len = bits.len();
+        if number >= bits.total(bit) {
             return len;
         }
-        let s = self.superblock_with(bit, r, tally);
-        SUPERBLOCK * s + self.number_in(bit, r, s, tally) as usize
+        let s = bits.superblock_with(bit, number, tally);
+        SUPERBLOCK * s + bits.number_in(bit, number, s, tally) as usize
     }
+}
 
-    // As far into its block as the number in it that a number of a superblock is.
+// As far into its block as the number in it that a number of a superblock is.
+pub(super) struct Block;
+
+impl Level for Block {
+    ghost needs = { IsIn 8192 };
+
+    ghost gives = { λ bit bits p q. (r : ℕ) → StandsFor 8192 bit bits r p → StandsFor 512 bit bits r q };
+
+    ghost reads = { λ _. only_block_entries 16 };
+
     #[inline(always)]
-    fn in_block(&self, bit: bool, place: usize, tally: &mut Tally) -> usize
-        requires { IsIn 8192 bit self.now place }
-        ensures value { (r : ℕ) → StandsFor 8192 bit self.now r place
-            → StandsFor 512 bit self.now r result }
-        ensures adds { AddsAtMost tally.old tally.new (only_block_entries 16) }
-    {
-        let len = self.len();
+    fn lead<A: Allocator + Copy>(
+        bits: &RsVec<A>,
+        bit: bool,
+        place: usize,
+        tally: &mut Tally,
+    ) -> usize {
+        let len = bits.len();
         if place >= len {
             return place;
         }
         let s = place / SUPERBLOCK;
         let is_whole = len - SUPERBLOCK * s >= SUPERBLOCK;
-        let found = self.block_with(bit, (place % SUPERBLOCK) as u16, s, is_whole, tally);
+        let found = bits.block_with(bit, (place % SUPERBLOCK) as u16, s, is_whole, tally);
         BLOCK * (BLOCKS * s + found.block as usize) + found.rest as usize
     }
+}
 
-    // As far into its limb as the number in it that a number of a block is.
+// As far into its limb as the number in it that a number of a block is.
+pub(super) struct Limb;
+
+impl Level for Limb {
+    ghost needs = { IsIn 512 };
+
+    ghost gives = { λ bit bits p q. (r : ℕ) → StandsFor 512 bit bits r p → StandsFor 64 bit bits r q };
+
+    ghost reads = { λ _. only_data_words 7 };
+
     #[inline(always)]
-    fn in_limb(&self, bit: bool, place: usize, tally: &mut Tally) -> usize
-        requires { IsIn 512 bit self.now place }
-        ensures value { (r : ℕ) → StandsFor 512 bit self.now r place
-            → StandsFor 64 bit self.now r result }
-        ensures adds { AddsAtMost tally.old tally.new (only_data_words 7) }
-    {
-        let len = self.len();
+    fn lead<A: Allocator + Copy>(
+        bits: &RsVec<A>,
+        bit: bool,
+        place: usize,
+        tally: &mut Tally,
+    ) -> usize {
+        let len = bits.len();
         if place >= len {
             return place;
         }
         let block = place / BLOCK;
         let is_whole = len - BLOCK * block >= BLOCK;
-        let at = self.limb_in_block(bit, place % BLOCK, block, is_whole, tally);
+        let at = bits.limb_in_block(bit, place % BLOCK, block, is_whole, tally);
         LIMB * at.limb + at.rest
     }
+}
 
-    // The place of a number of a limb.
+// The place of a number of a limb.
+pub(super) struct Place;
+
+impl Level for Place {
+    ghost needs = { IsIn 64 };
+
+    ghost gives = { λ bit bits p q. (r : ℕ) → StandsFor 64 bit bits r p → q ≡ select bit bits r };
+
+    ghost reads = { λ _. only_data_words 1 };
+
     #[inline(always)]
-    fn at_place(&self, bit: bool, place: usize, tally: &mut Tally) -> usize
-        requires { IsIn 64 bit self.now place }
-        ensures value { (r : ℕ) → StandsFor 64 bit self.now r place
-            → result ≡ select bit self.now r }
-        ensures adds { AddsAtMost tally.old tally.new (only_data_words 1) }
-    {
-        if place >= self.len() {
+    fn lead<A: Allocator + Copy>(
+        bits: &RsVec<A>,
+        bit: bool,
+        place: usize,
+        tally: &mut Tally,
+    ) -> usize {
+        if place >= bits.len() {
             return place;
         }
         let number = InLimb {
             limb: place / LIMB,
             rest: place % LIMB,
         };
-        let at = self.place_in_limb(bit, number, tally);
+        let at = bits.place_in_limb(bit, number, tally);
         LIMB * at.limb + at.place
     }
 }

@@ -23,6 +23,6 @@ times_more n p = search rules
 
 pub loop-j-preserved : goal.loop-j-preserved
 loop-j-preserved g c = record {
-  changed = changed_more _ c.args.from c.loop-j.j _ _ _ c.loop-j.invariant.changed (omega (arith, c.requires.within)) c.at_level.ensures.value;
-  adds = adds_then c.loop-j.invariant.adds c.at_level.ensures.adds (times_more _ _);
+  changed = changed_more _ c.args.from c.loop-j.j _ _ _ c.loop-j.invariant.changed (omega (arith, c.requires.within)) c.lead.ensures.value;
+  adds = adds_then c.loop-j.invariant.adds c.lead.ensures.adds (times_more _ _);
 }
