@@ -29,7 +29,6 @@ pub use Rattle.vers_sorted.specs.declared.elias_fano.search.Bucket.{Bucket}
 pub use Rattle.vers_sorted.specs.inside.Begun.{IsBegun, IsInside}
 pub use Rattle.vers_sorted.specs.inside.Buckets.{IsBucket}
 pub use Rattle.vers_sorted.specs.inside.Parts.{HoldHigh, HoldLow, IsPacked, IsStart, first_high_parts, first_low_parts, member, reads}
-pub use Rattle.vers_sorted.specs.inside.Sides.{bound, neighbour}
 pub use Rattle.vers_tally.proofs.PublicLaws.{adds_then, clog_is_least, clog_least, clog_most, digits-le, digits_half, digits_halved, digits_is, digits_up}
 pub use Rattle.vers_tally.specs.Reads.{AddsAtMost, IsWithin, digits, only_low_parts, plus, times}
 pub use mir.Syntax.{w64}

@@ -2,6 +2,5 @@
 pub mod Parts
 pub mod Buckets
 pub mod Begun
-pub mod Sides
 pub mod Ahead
 pub mod Gathered

@@ -155,7 +155,7 @@ impl<A: Allocator + Copy> EliasFanoVec<A> {
         let mut before = [0; GROUP];
         let mut after = [0; GROUP];
         let mut parts = [0; GROUP];
-        self.begin_each(
+        self.begin_each::<u64>(
             &numbers[from..from + n],
             &mut before,
             &mut after,

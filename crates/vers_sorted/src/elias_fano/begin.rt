@@ -36,9 +36,10 @@ impl<A: Allocator + Copy> EliasFanoVec<A> {
     }
 
     // For each number inside the list, the places of the zeros before and after the members with its
-    // high part, and the low part of the first of these.
+    // high part, and the low part of the first of these. Each caller names a type of its own: so each has
+    // a copy that no one else calls, which is compiled into it and leaves nothing of the counter.
     #[inline(always)]
-    pub(super) fn begin_each(
+    pub(super) fn begin_each<Caller>(
         &self,
         asked: &[u64],
         before: &mut [usize; GROUP],

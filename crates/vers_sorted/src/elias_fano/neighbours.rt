@@ -1,5 +1,5 @@
 //! The members beside many numbers at once.
-ghost use Rattle.std.specs.Prelude.{◌≡◌, ℕ, ◌+◌, ◌<◌, ◌≤◌, ◌^◌, length, map, slice_index, slice_index_or, option_and_then, Some, None};
+ghost use Rattle.std.specs.Prelude.{◌≡◌, ℕ, ◌+◌, ◌<◌, ◌≤◌, ◌^◌, List, Option, length, map, slice_index, slice_index_or, option_and_then, Some, None};
 ghost use Rattle.std.specs.List.Sorted.{IsNonDecreasing};
 ghost use Rattle.vers_tally.specs.Reads.{digits, times, AddsAtMost};
 ghost use Rattle.vers_rank.specs.Batches.{Changed};
@@ -7,44 +7,101 @@ ghost use Rattle.vers_sorted.specs.Sorted.{greatest_not_above, least_not_below};
 ghost use Rattle.vers_sorted.specs.Layout.{high_length, search_reads};
 ghost use Rattle.vers_sorted.specs.inside.Parts.{reads};
 ghost use Rattle.vers_sorted.specs.inside.Begun.{IsBegun, IsInside};
-ghost use Rattle.vers_sorted.specs.inside.Sides.{bound, neighbour};
 
 use super::EliasFanoVec;
 use super::batch::GROUP;
 use std::alloc::Allocator;
 use vers_tally::tally::Tally;
 
-// On which side of a number a member is looked for.
-#[derive(Clone, Copy)]
-enum Side {
-    Before,
-    After,
+// A side of a number, on which a member is looked for.
+pub(super) trait Side {
+    // The number below which members are counted.
+    ghost bound: { ℕ → ℕ };
+
+    // The member that is looked for.
+    ghost neighbour: { List ℕ → ℕ → Option ℕ };
+
+    // That number, where the machine has it.
+    fn limit(v: u64) -> u64
+        ensures { bound v < 2 ^ 64 → result ≡ bound v };
+
+    // That member, by what the search began with.
+    fn begun<A: Allocator + Copy>(
+        list: &EliasFanoVec<A>,
+        v: u64,
+        before: usize,
+        after: usize,
+        part: u64,
+        tally: &mut Tally,
+    ) -> Option<u64>
+        requires { IsInside list.now (bound v) → IsBegun list.now (bound v) before after part }
+        ensures value { result ≡ neighbour list.now v }
+        ensures adds { AddsAtMost tally.old tally.new
+            (reads (digits (length list.now) + 5) 2 (high_length list.now)) };
 }
 
-impl Side {
-    // The number below which members are counted.
+// The greatest member that is not above a number.
+pub(super) struct Before;
+
+impl Side for Before {
+    ghost bound = { λ v. v + 1 };
+
+    ghost neighbour = { greatest_not_above };
+
     #[inline(always)]
-    #[tactic(auto, unfolding(crate::specs::inside::Sides::bound))]
-    fn bound(self, v: u64) -> u64
-        ensures { bound self v < 2 ^ 64 → result ≡ bound self v }
-    {
-        match self {
-            Side::Before => v.saturating_add(1),
-            Side::After => v,
-        }
+    fn limit(v: u64) -> u64 {
+        v.saturating_add(1)
+    }
+
+    #[inline(always)]
+    fn begun<A: Allocator + Copy>(
+        list: &EliasFanoVec<A>,
+        v: u64,
+        before: usize,
+        after: usize,
+        part: u64,
+        tally: &mut Tally,
+    ) -> Option<u64> {
+        list.predecessor_begun(v, before, after, part, tally)
+    }
+}
+
+// The least member that is not below a number.
+pub(super) struct After;
+
+impl Side for After {
+    ghost bound = { λ v. v };
+
+    ghost neighbour = { least_not_below };
+
+    #[inline(always)]
+    fn limit(v: u64) -> u64 {
+        v
+    }
+
+    #[inline(always)]
+    fn begun<A: Allocator + Copy>(
+        list: &EliasFanoVec<A>,
+        v: u64,
+        before: usize,
+        after: usize,
+        part: u64,
+        tally: &mut Tally,
+    ) -> Option<u64> {
+        list.successor_begun(v, before, after, part, tally)
     }
 }
 
 // For each of `n` values the number below which members are counted.
 #[inline(always)]
-fn bounds_each(side: Side, values: &[Option<u64>], from: usize, n: usize, asked: &mut [u64; GROUP])
+fn bounds_each<S: Side>(values: &[Option<u64>], from: usize, n: usize, asked: &mut [u64; GROUP])
     requires within { from + n ≤ length values.now }
     requires few { n ≤ GROUP }
     ensures { (j : ℕ) → j < n → (v : ℕ) → slice_index_or values.now (from + j) None ≡ Some v
-        → bound side v < 2 ^ 64 → slice_index asked.new j ≡ bound side v }
+        → S.bound v < 2 ^ 64 → slice_index asked.new j ≡ S.bound v }
 {
     for j in 0..n {
-        asked[j] = side.bound(values[from + j].unwrap_or(0));
+        asked[j] = S::limit(values[from + j].unwrap_or(0));
     }
 }
 
@@ -68,7 +125,7 @@ impl<A: Allocator + Copy> EliasFanoVec<A> {
             (times (length values.old) (search_reads self.now)) }
     {
         let _ = self.len();
-        self.neighbour_each(Side::Before, values, tally)
+        self.neighbour_each::<Before>(values, tally)
     }
 
     /// Puts in the stead of each number the least member that is not below it: the answers of
@@ -90,13 +147,13 @@ impl<A: Allocator + Copy> EliasFanoVec<A> {
             (times (length values.old) (search_reads self.now)) }
     {
         let _ = self.len();
-        self.neighbour_each(Side::After, values, tally)
+        self.neighbour_each::<After>(values, tally)
     }
 
     // Puts in the stead of each number its neighbour on one side, group by group.
     #[inline(always)]
-    fn neighbour_each(&self, side: Side, values: &mut [Option<u64>], tally: &mut Tally)
-        ensures value { values.new ≡ map (option_and_then (neighbour side self.now)) values.old }
+    fn neighbour_each<S: Side>(&self, values: &mut [Option<u64>], tally: &mut Tally)
+        ensures value { values.new ≡ map (option_and_then (S.neighbour self.now)) values.old }
         ensures adds { AddsAtMost tally.old tally.new
             (times (length values.old) (search_reads self.now)) }
     {
@@ -104,16 +161,15 @@ impl<A: Allocator + Copy> EliasFanoVec<A> {
         let mut from = 0;
         while from < len {
             let n = GROUP.min(len - from);
-            self.neighbour_group(side, values, from, n, tally);
+            self.neighbour_group::<S>(values, from, n, tally);
             from += n;
         }
     }
 
     // The same for `n` numbers: what all searches begin with, and then the rest of each.
     #[inline(always)]
-    fn neighbour_group(
+    fn neighbour_group<S: Side>(
         &self,
-        side: Side,
         values: &mut [Option<u64>],
         from: usize,
         n: usize,
@@ -121,7 +177,7 @@ impl<A: Allocator + Copy> EliasFanoVec<A> {
     )
         requires within { from + n ≤ length values.old }
         requires few { n ≤ GROUP }
-        ensures value { Changed None (λ x y. y ≡ option_and_then (neighbour side self.now) x)
+        ensures value { Changed None (λ x y. y ≡ option_and_then (S.neighbour self.now) x)
             from n values.old values.new }
         ensures adds { AddsAtMost tally.old tally.new (times n (search_reads self.now)) }
     {
@@ -130,16 +186,15 @@ impl<A: Allocator + Copy> EliasFanoVec<A> {
         let mut before = [0; GROUP];
         let mut after = [0; GROUP];
         let mut parts = [0; GROUP];
-        bounds_each(side, values, from, n, &mut asked);
-        self.begin_each(&asked[..n], &mut before, &mut after, &mut parts, tally);
-        self.neighbours_each(side, values, from, n, &before, &after, &parts, tally);
+        bounds_each::<S>(values, from, n, &mut asked);
+        self.begin_each::<S>(&asked[..n], &mut before, &mut after, &mut parts, tally);
+        self.neighbours_each::<S>(values, from, n, &before, &after, &parts, tally);
     }
 
     // The same by what the searches began with.
     #[inline(always)]
-    fn neighbours_each(
+    fn neighbours_each<S: Side>(
         &self,
-        side: Side,
         values: &mut [Option<u64>],
         from: usize,
         n: usize,
@@ -151,17 +206,16 @@ impl<A: Allocator + Copy> EliasFanoVec<A> {
         requires within { from + n ≤ length values.old }
         requires few { n ≤ GROUP }
         requires begun { (j : ℕ) → j < n → (v : ℕ)
-            → slice_index_or values.old (from + j) None ≡ Some v → IsInside self.now (bound side v)
-            → IsBegun self.now (bound side v) (slice_index before.now j) (slice_index after.now j)
+            → slice_index_or values.old (from + j) None ≡ Some v → IsInside self.now (S.bound v)
+            → IsBegun self.now (S.bound v) (slice_index before.now j) (slice_index after.now j)
             (slice_index parts.now j) }
-        ensures value { Changed None (λ x y. y ≡ option_and_then (neighbour side self.now) x)
+        ensures value { Changed None (λ x y. y ≡ option_and_then (S.neighbour self.now) x)
             from n values.old values.new }
         ensures adds { AddsAtMost tally.old tally.new
             (times n (reads (digits (length self.now) + 5) 2 (high_length self.now))) }
     {
         for j in 0..n {
-            values[from + j] = self.neighbour(
-                side,
+            values[from + j] = self.neighbour::<S>(
                 values[from + j],
                 before[j],
                 after[j],
@@ -173,29 +227,24 @@ impl<A: Allocator + Copy> EliasFanoVec<A> {
 
     // The neighbour of a number, by what the search began with.
     #[inline(always)]
-    #[tactic(auto, unfolding(crate::specs::inside::Sides::bound, crate::specs::inside::Sides::neighbour))]
-    fn neighbour(
+    fn neighbour<S: Side>(
         &self,
-        side: Side,
         value: Option<u64>,
         before: usize,
         after: usize,
         part: u64,
         tally: &mut Tally,
     ) -> Option<u64>
-        requires { (v : ℕ) → value ≡ Some v → IsInside self.now (bound side v)
-            → IsBegun self.now (bound side v) before after part }
-        ensures value { result ≡ option_and_then (neighbour side self.now) value }
+        requires { (v : ℕ) → value ≡ Some v → IsInside self.now (S.bound v)
+            → IsBegun self.now (S.bound v) before after part }
+        ensures value { result ≡ option_and_then (S.neighbour self.now) value }
         ensures adds { AddsAtMost tally.old tally.new
             (reads (digits (length self.now) + 5) 2 (high_length self.now)) }
     {
         let Some(v) = value else {
             return None;
         };
-        match side {
-            Side::Before => self.predecessor_begun(v, before, after, part, tally),
-            Side::After => self.successor_begun(v, before, after, part, tally),
-        }
+        S::begun(self, v, before, after, part, tally)
     }
 
     // The predecessor of a number, by what the search began with.

@@ -1,7 +1,5 @@
-use Rattle.vers_sorted.specs.inside.Sides.{neighbour}
 use Rattle.vers_sorted.proofs.elias_fano.EliasFanoVec.predecessor_each_counted.Goals as goal
 
 pub returns-clause-value : goal.returns-clause-value
-unfolding neighbour
 returns-clause-value g c =
     c.neighbour_each.ensures.value
