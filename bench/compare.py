@@ -139,7 +139,7 @@ def instructions_of(program, driver, structure):
         ]
         lines = [line.split("\t")[1:] for line in output_of(command).splitlines()]
         counts = list(counts_of(path))
-    passes = [line for line in lines if not line[1].startswith(("build", "heap_"))]
+    passes = [line for line in lines if not line[1].startswith(("build", "copy", "heap_", "load", "save"))]
     if len(counts) != len(passes):
         sys.exit(f"{driver}, {structure}: {len(passes)} passes were printed, and {len(counts)} were counted")
     for (*name, _, checksum), count in zip(passes, counts):
