@@ -115,17 +115,16 @@ class Commands:
 
 
 def longest_ways(crates, asked):
-    """Returns of each crate how long the longest way is that leads up from it, in bytes of all that is proved on it."""
+    """Returns of each crate how long the longest way up is, in bytes of proofs, and 200,000 a crate for what one process reads and writes."""
     ways = {}
     for name in reversed(list(TopologicalSorter({it: crates.uses(it) for it in asked}).static_order())):
         files = (f"{folder}/{file}" for part in PARTS for folder, _, files in os.walk(f"{crates.folder(name)}/{part}") for file in files)
-        ways[name] = sum(map(os.path.getsize, files)) + max((ways[it] for it in asked if name in crates.uses(it)), default=0)
+        ways[name] = 200_000 + sum(map(os.path.getsize, files)) + max((ways[it] for it in asked if name in crates.uses(it)), default=0)
     return ways
 
 
 def prove_all(crates, names, commands, tell=lambda text: None):
-    """Proves crates with those below them, each by as many jobs as there are processors. The shorter a crate's way up beside the longest of those that
-    are being proved, the more it yields."""
+    """Proves crates with those below them, each by all processors. The shorter a crate's way up beside the longest begun, the more it yields."""
     asked = {it for name in names for it in [*crates.below(name), name]}
     ways, order = longest_ways(crates, asked), TopologicalSorter({it: crates.uses(it) for it in asked})
     order.prepare()
