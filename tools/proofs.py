@@ -138,7 +138,7 @@ def prove_all(crates, names, commands, tell=lambda text: None):
                 done.result()
                 name = running.pop(done)
                 order.done(name)
-                tell(f"{name} is proved")
+                tell(f"{name} is proved by {commands.seconds[name, 'proof']:.0f} processor seconds")
 
 
 def prove(crates, name, niceness, commands):
