@@ -4,7 +4,7 @@ pub use Rattle.std.specs.Prelude.{Contains, IsTrue, ◌==◌, is_some}
 pub use Rattle.std.proofs.Math.Nat.{eq-or-lt_of_le, div-lt_iff_lt-mul, mul-le-mul_right, pow-succ', le-mul_of_pos_right, pow-le-pow_right, mod-eq_of_lt, div-mul-le_self}
 pub use Rattle.std.proofs.Math.Seq.{take-append_seam, drop-cons}
 pub use Rattle.std.proofs.lemmas.Bool.{ne_eqb, not-true, cases_lt, cases_order, lt-ltb, le-ltb, and_from, and_left, and_right, le-leb, lt-leb, cases_Bool, eq-eqb, eqb-true, true_from_ne_false, false_from_ne_true}
-pub use Rattle.std.proofs.lemmas.Bool.Decides.{nat_tests, Decides-ltb, Decides-and, leb_tells, Decides-eqb, Decides-like, same_from_decides, Decides-int_eq}
+pub use Rattle.std.proofs.lemmas.Bool.Decides.{nat_tests, Decides-ltb, Decides-and, leb_tells, Decides-eqb, Decides-like, not_from_Decides, same_from_decides, Decides-int_eq}
 pub use Rattle.std.proofs.lemmas.Grind.{common_steps, div_ceil_times}
 pub use Rattle.std.proofs.lemmas.Int.{ints, by_lt_z, clamps, to_z-of_z, to_z_pos}
 pub use Rattle.std.proofs.lemmas.List.{append-nil, get_or_append_left, get_or_at, get_or-append-add, get_or-map, length-map, get_or_past, map-append, get_or-set_same, get_or-set_other, get_or-drop, drop-set-lt, length_push, take_more, take_all, take-append-drop, length-take-le, drop-take, drop_all, length-set, map-id, get_or-reverse, length-reverse, length-take, get_or-take, drop-drop, get_or_default, take-append-le}
@@ -53,7 +53,7 @@ pub use Rattle.vers_trees.specs.declared.trees.bp.min_max.Node.{Node}
 pub use Rattle.vers_trees.specs.inside.Bytes.{octal, AreEntries, HasMet, step_along}
 pub use Rattle.vers_trees.specs.inside.Closed.{closed_by}
 pub use Rattle.vers_trees.specs.inside.Index.{IsIndexed, IsBuilding, IsWidth, IsGrowing, AreFirstBlocks, IsTreeOf, IsPassedAfter, IsPassedBefore}
-pub use Rattle.vers_trees.specs.inside.MinMax.{total_before, empty_node, Reaches, IsPart, AreBlocks, IsRange, Meets, AreLeaves, CoveredFrom, IsMinMax, combined, JoinFits, Covers, StandsOver, IsLevel, IsInRange, IsNextFrom, IsOddPart, LeadsTo, PassedTo, ComesTo, IsInRangeOrStart, LeadsBack, PassedBack, ComesBack, IsPreviousBefore}
-pub use Rattle.vers_trees.specs.inside.Scans.{opened_after, IsFirstRise, HasNoRise, IsLastRise, HasNoRiseBefore, scan_reads, falls, is_not_closed, rises}
+pub use Rattle.vers_trees.specs.inside.MinMax.{empty_node, IsPart, combined, JoinFits, IsLevel, IsInRange, IsInRangeOrStart, start_of, Covers, StandsOver, CoveredFrom, AreLeaves, IsMinMax, Sought, target, edge, IsAfter, IsBetween, Passed, HasNone, HasPlace, IsAhead, BeginsAt, LeadsTo, PassedTo, IsOddPart, IsBeside, near_child, far_child, IsFarChild, beside_far, ComesTo, IsMet, left_past}
+pub use Rattle.vers_trees.specs.inside.Scans.{sum_past, opened_after, IsFirstRise, HasNoRise, IsLastRise, HasNoRiseBefore, scan_reads, falls, is_not_closed, rises}
 pub use lib.Count.{ones_step, ones-ones}
 pub use mir.Val.{bool_byte}

@@ -1,7 +1,8 @@
--- A block reaches a sum exactly where one of its places has it.
-use Rattle.vers_trees.proofs.Words.{◌≡◌, ℕ, zero, suc, ◌+◌, ◌-◌, ◌*◌, ◌<◌, ◌≤◌, ◌↔◌, min, Bool, List, [], ◌∷◌, length, get_or, ℤ, pos, ◌+ℤ◌, ◌-ℤ◌, ◌≤ℤ◌, arith, add-one, ⊎_elim, sym, refl, ap, ◌∙◌, ◌/◌, ◌^◌, inl, inr, drop, FitsSigned, w64, ints, by_lt_z, cases_lt, Node, excess, IsBalanced, total_before, empty_node, Reaches, IsPart, AreBlocks, IsRange, Meets, CoveredFrom, IsMinMax, div-lt_iff_lt-mul}
+-- What a node tells of the places of its part.
+use Rattle.vers_trees.proofs.Words.{◌≡◌, ℕ, zero, suc, ◌+◌, ◌-◌, ◌*◌, ◌<◌, ◌≤◌, ◌≢◌, ◌↔◌, Bool, true, false, List, length, ℤ, pos, ◌+ℤ◌, ◌-ℤ◌, ◌≤ℤ◌, arith, ⊎_elim, subst, refl, ap, ◌∙◌, ◌^◌, FitsSigned, w64, ints, clamps, by_lt_z, cases_lt, eq-or-lt_of_le, Node, excess, sum_past, IsBalanced, empty_node, IsPart, start_of, Covers, Sought, target, edge, Passed, HasPlace, HasNone, IsInRange, IsInRangeOrStart, IsLevel, IsMet, left_past}
 use Rattle.vers_trees.proofs.grammar.Excess.{IsWalk, turned, excess-zero, excess-is_walk}
 use Rattle.vers_trees.proofs.grammar.Grammar.{balanced_from_excess, balanced_total, balanced_above}
+use Rattle.vers_trees.proofs.layout.MinMax.{starts_up, part_inside, total_of_part}
 use Rattle.vers_trees.proofs.searches.Scans.{rise_fits}
 
 -- a walk takes each value between two of its values
@@ -24,138 +25,93 @@ part_meets l a b x t p lo hi = let i = p.least in let j = p.greatest in let i2 =
     (λ (h : j.0 ≤ i.0). let r = met_downward (excess l) (excess-is_walk l) t j.0 (i.0 - j.0) i.0 (omega arith) (omega (arith, ints)) (omega (arith, ints)) in let r1 = r.1 in let r2 = r.2 in (r.0, omega arith, omega arith, r.3))
     (cases_lt i.0 j.0)
 
--- a block's range is one that a node may have
-pub part_range : (l : List Bool) (a b : ℕ) (x : Node) → a < b → IsPart l a b x → IsRange x
-part_range l a b x h p =
-    let lo = p.low b h (omega arith) in let hi = p.high b h (omega arith) in
-    let lo1 = p.low (a + 1) (omega arith) (omega arith) in let hi1 = p.high (a + 1) (omega arith) (omega arith) in
+-- ---- what a node tells of its part
+-- the same of the places before which the sum is looked for, among them the part's first and not the one past it
+part_meets_before : (l : List Bool) (a b : ℕ) (x : Node) (t left : ℤ) → IsPart l a b x → excess l b +ℤ left ≡ t → excess l b ≢ t → IsInRangeOrStart x (left +ℤ x.total) → (k : ℕ) × (a ≤ k) × (k < b) × (excess l k ≡ t)
+part_meets_before l a b x t left p q n i =
+    let pt = p.total in let l1 = p.least.1 in let l2 = p.least.2 in
+    let lo = p.low (a + 1) (omega arith) (omega arith) in let hi = p.high (a + 1) (omega arith) (omega arith) in
     let u = (excess-is_walk l).up a in let d = (excess-is_walk l).down a in
-    record { low = omega (arith, ints); high = omega (arith, ints); first_low = omega (arith, ints); first_high = omega (arith, ints) }
+    by_lt_z (left +ℤ x.total) x.least
+    (λ y. (a, omega arith, omega arith, omega (arith, ints, clamps)))
+    (λ y. by_lt_z x.greatest (left +ℤ x.total)
+    (λ z. (a, omega arith, omega arith, omega (arith, ints, clamps)))
+    (λ z.
+    let j = part_meets l a b x t p (omega (arith, ints)) (omega (arith, ints)) in let j1 = j.1 in
+    (j.0, omega arith, ⊎_elim (λ (e : j.0 ≡ b). absurd (n (subst (λ (m : ℕ). excess l m ≡ t) e j.3))) (λ (h : j.0 < b). h) (eq-or-lt_of_le j.2), j.3)))
 
-pub total_start : (blocks : List Node) → total_before blocks 0 ≡ pos 0
-total_start [] = refl
-total_start (x ∷ xs) = refl
+-- where a node over the blocks from i up to e, before which a search has passed all, is met, a place of them has the sum
+pub place_in : (back : Bool) (s : Sought) (i e : ℕ) (x : Node) (left : ℤ) → Covers s.bits s.size i e x → i ≤ e → Passed back s (start_of s.bits s.size (edge back i e)) left → IsMet back x left → HasPlace back s i e
+place_in false s i e x left c le p m = ⊎_elim
+    (λ (q : IsPart s.bits (start_of s.bits s.size i) (start_of s.bits s.size e) x).
+    let r = p.remains in let j = part_meets s.bits _ _ x (target s) q (omega (arith, ints)) (omega (arith, ints)) in let j1 = j.1 in let j2 = j.2 in
+    (j.0 - 1, omega arith, omega arith, ap (excess s.bits) (omega arith) ∙ j.3))
+    (λ (q : (length s.bits ≤ i * s.size) × (x ≡ empty_node)). let g = subst (λ (y : Node). IsInRange y left) q.1 m in absurd (omega (arith, ints)))
+    c.part
+place_in true s i e x left c le p m =
+    let u = starts_up s.bits s.size i e le in
+    part_meets_before s.bits _ _ x (target s) left (part_inside s.bits s.size i e x c (omega arith)) p.remains (p.none (start_of s.bits s.size e) (omega arith, p.after)) m
 
--- the sum before block k is the excess before its first place
-pub total_more : (blocks : List Node) (k : ℕ) → k < length blocks → total_before blocks (k + 1) ≡ total_before blocks k +ℤ (get_or blocks k empty_node).total
-total_more [] k h = absurd (omega arith)
-total_more (x ∷ xs) zero h = let z = total_start xs in omega (arith, ints)
-total_more (x ∷ xs) (suc k) h = let ih = rw add-one at (total_more xs k (omega arith)) in rw add-one (omega (arith, ints))
+-- and where a place has it the node is met
+met_by_place : (back : Bool) (s : Sought) (i e : ℕ) (x : Node) (left : ℤ) → Covers s.bits s.size i e x → Passed back s (start_of s.bits s.size (edge back i e)) left → HasPlace back s i e → IsMet back x left
+met_by_place false s i e x left c p f =
+    let r = p.remains in let a = f.1 in let b = f.2 in let g = f.3 in let q = part_inside s.bits s.size i e x c (omega arith) in
+    let lo = q.low (f.0 + 1) (omega arith) (omega arith) in let hi = q.high (f.0 + 1) (omega arith) (omega arith) in
+    record { low = omega (arith, ints); high = omega (arith, ints) }
+met_by_place true s i e x left c p f =
+    let r = p.remains in let a = f.1 in let b = f.2 in let g = f.3 in let q = part_inside s.bits s.size i e x c (omega arith) in let t = q.total in ⊎_elim
+    (λ (w : start_of s.bits s.size i ≡ f.0). let same = ap (excess s.bits) w in record { low = omega (arith, ints, clamps); high = omega (arith, ints, clamps) })
+    (λ (w : start_of s.bits s.size i < f.0). let lo = q.low f.0 w (omega arith) in let hi = q.high f.0 w (omega arith) in record { low = omega (arith, ints, clamps); high = omega (arith, ints, clamps) })
+    (eq-or-lt_of_le a)
 
-pub total_past : (blocks : List Node) (k : ℕ) → length blocks ≤ k → total_before blocks k ≡ total_before blocks (length blocks)
-total_past [] k h = refl
-total_past (x ∷ xs) zero h = absurd (omega arith)
-total_past (x ∷ xs) (suc k) h = ap (λ (z : ℤ). x.total +ℤ z) (total_past xs k (omega arith))
+-- where it isn't met the search passes it
+pub passed_over : (back : Bool) (s : Sought) (i e : ℕ) (x : Node) (left : ℤ) → Covers s.bits s.size i e x → i ≤ e → Passed back s (start_of s.bits s.size (edge back i e)) left → (IsMet back x left → ⊥) → Passed back s (start_of s.bits s.size (edge back e i)) (left_past back left x)
+passed_over false s i e x left c le p o =
+    let u = starts_up s.bits s.size i e le in let t = total_of_part s.bits s.size i e x c le in let r = p.remains in
+    record {
+      inside = p.inside;
+      after = omega arith;
+      remains = omega (arith, ints);
+      none = λ k b q. ⊎_elim
+          (λ (w : k < start_of s.bits s.size i). p.none k (b.0, w) q)
+          (λ (w : start_of s.bits s.size i ≤ k). o (met_by_place false s i e x left c p (k, w, b.1, q)))
+          (cases_lt k (start_of s.bits s.size i));
+    }
+passed_over true s i e x left c le p o =
+    let u = starts_up s.bits s.size i e le in let t = total_of_part s.bits s.size i e x c le in let r = p.remains in
+    record {
+      inside = p.inside;
+      after = omega arith;
+      remains = omega (arith, ints);
+      none = λ k b q. ⊎_elim
+          (λ (w : k < start_of s.bits s.size e). o (met_by_place true s i e x left c p (k, b.0, w, q)))
+          (λ (w : start_of s.bits s.size e ≤ k). p.none k (w, b.1) q)
+          (cases_lt k (start_of s.bits s.size e));
+    }
 
-pub sum_before_block : (l : List Bool) (size : ℕ) (blocks : List Node) → AreBlocks l size blocks → (k : ℕ) → k ≤ length blocks → total_before blocks k ≡ excess l (min (k * size) (length l))
-sum_before_block l size blocks b zero h =
-    let e : excess l (min (0 * size) (length l)) ≡ excess l 0 = ap (excess l) (omega arith) in
-    total_start blocks ∙ sym (e ∙ excess-zero l)
-sum_before_block l size blocks b (suc k) h =
-    let ih = sum_before_block l size blocks b k (omega arith) in
-    let p = b.part k (omega arith) in
-    let m = rw add-one at (total_more blocks k (omega arith)) in
-    let j1 = p.least.1 in let j2 = p.least.2 in
-    let here : excess l (min (k * size) (length l)) ≡ excess l (k * size) = ap (excess l) (omega arith) in
-    let next : excess l (min (suc k * size) (length l)) ≡ excess l (min (k * size + size) (length l)) = ap (excess l) (omega arith) in
-    omega (arith, ints)
+-- what is left to a place that has the sum fits, and where what would be left at some place doesn't, no place has it
+pub left_fits : (back : Bool) (s : Sought) (p : ℕ) (left : ℤ) (k : ℕ) → length s.bits < 2 ^ 63 → p ≤ length s.bits → excess s.bits p +ℤ left ≡ target s → k < length s.bits → sum_past back s.bits k ≡ target s → FitsSigned w64 left
+left_fits false s p left k short i r h q = rise_fits s.bits p (k + 1) left short i (omega arith) (omega (arith, ints))
+left_fits true s p left k short i r h q = rise_fits s.bits p k left short i (omega arith) (omega (arith, ints))
 
-pub reaches_iff : (l : List Bool) (size : ℕ) (blocks : List Node) → AreBlocks l size blocks → (k : ℕ) (t : ℤ) → k < length blocks → Reaches blocks k t ↔ ((j : ℕ) × (k * size < j) × (j ≤ min (k * size + size) (length l)) × (excess l j ≡ t))
-reaches_iff l size blocks b k t h = (there, back)
-  where
-    start : total_before blocks k ≡ excess l (k * size)
-    start =
-        let p = b.part k h in
-        sum_before_block l size blocks b k (omega arith) ∙ ap (excess l) (omega arith)
-
-    there : Reaches blocks k t → (j : ℕ) × (k * size < j) × (j ≤ min (k * size + size) (length l)) × (excess l j ≡ t)
-    there r = let lo = r.low in let hi = r.high in part_meets l (k * size) (min (k * size + size) (length l)) (get_or blocks k empty_node) t (b.part k h) (omega (arith, ints, start)) (omega (arith, ints, start))
-
-    back : (j : ℕ) × (k * size < j) × (j ≤ min (k * size + size) (length l)) × (excess l j ≡ t) → Reaches blocks k t
-    back j = let p = b.part k h in let lo = p.low j.0 j.1 j.2 in let hi = p.high j.0 j.1 j.2 in record { inside = h; low = omega (arith, ints, start); high = omega (arith, ints, start) }
+pub too_far : (back : Bool) (s : Sought) (p q : ℕ) (left rest : ℤ) → length s.bits < 2 ^ 63 → Passed back s p left → q ≤ length s.bits → excess s.bits q +ℤ rest ≡ target s → (FitsSigned w64 rest → ⊥) → HasNone back s
+too_far false s p q left rest short h i r long = λ k a b e. long (left_fits false s q rest k short i r b e)
+too_far true s p q left rest short h i r long = λ k a e. let n = h.inside in long (left_fits true s q rest k short i r (omega arith) e)
 
 -- the node over the whole list tells whether it is balanced
-pub balanced_iff_root : (l : List Bool) (x : Node) → IsPart l 0 (length l) x → IsBalanced l ↔ ((x.total ≡ pos 0) × (pos 0 ≤ℤ x.least))
+pub balanced_iff_root : (l : List Bool) (x : Node) → IsPart l 0 (length l) x → IsBalanced l ↔ IsLevel x
 balanced_iff_root l x p = (there, back)
   where
-    there : IsBalanced l → (x.total ≡ pos 0) × (pos 0 ≤ℤ x.least)
+    there : IsBalanced l → IsLevel x
     there b =
         let z = excess-zero l in let t = p.total in let s = balanced_total l b in
         let i = p.least in let a = balanced_above l b i.0 i.2 in
-        (omega (arith, ints), omega (arith, ints))
+        record { total = omega (arith, ints); least = omega (arith, ints) }
 
-    back : (x.total ≡ pos 0) × (pos 0 ≤ℤ x.least) → IsBalanced l
+    back : IsLevel x → IsBalanced l
     back h =
-        let z = excess-zero l in let t = p.total in let h0 = h.0 in let h1 = h.1 in
+        let z = excess-zero l in let t = p.total in let h0 = h.total in let h1 = h.least in
         balanced_from_excess l (omega (arith, ints)) (λ i u. ⊎_elim
         (λ (o : 0 < i). let lo = p.low i o u in omega (arith, ints))
         (λ (o : i ≤ 0). let e : excess l i ≡ excess l 0 = ap (excess l) (omega arith) in omega (arith, ints))
         (cases_lt 0 i))
-
--- ---- a tree of excesses over the blocks of a list meets what the searches ask of it
--- the sum before a block is the excess before some place
-sum_place : (l : List Bool) (size : ℕ) (blocks : List Node) → AreBlocks l size blocks → (s : ℕ) → (i : ℕ) × (i ≤ length l) × (total_before blocks s ≡ excess l i)
-sum_place l size blocks b s = ⊎_elim
-    (λ (h : s < length blocks). (min (s * size) (length l), omega arith, sum_before_block l size blocks b s (omega arith)))
-    (λ (h : length blocks ≤ s). (
-      min (length blocks * size) (length l),
-      omega arith,
-      total_past blocks s h ∙ sum_before_block l size blocks b (length blocks) (omega arith),
-    ))
-    (cases_lt s (length blocks))
-
-met_place : (l : List Bool) (size : ℕ) (blocks : List Node) → AreBlocks l size blocks → (k : ℕ) (t : ℤ) → k < length blocks → Meets blocks k t → (i : ℕ) × (i ≤ length l) × (excess l i ≡ t)
-met_place l size blocks b k t h (inl z) = let p = sum_place l size blocks b k in (p.0, p.1, sym p.2 ∙ z)
-met_place l size blocks b k t h (inr w) = let j = (reaches_iff l size blocks b k t h).0 w in (j.0, omega arith, j.3)
-
-pub near_sum : (l : List Bool) (size : ℕ) (blocks : List Node) → AreBlocks l size blocks → length l < 2 ^ 63 → (s k : ℕ) (t : ℤ) → k < length blocks → Meets blocks k t → FitsSigned w64 (t -ℤ total_before blocks s)
-near_sum l size blocks b short s k t h m =
-    let p = sum_place l size blocks b s in let q = met_place l size blocks b k t h m in
-    rise_fits l p.0 q.0 (t -ℤ total_before blocks s) short p.1 q.1 (omega (arith, ints))
-
-pub block_range : (l : List Bool) (size : ℕ) (blocks : List Node) → AreBlocks l size blocks → (k : ℕ) → k < length blocks → IsRange (get_or blocks k empty_node)
-block_range l size blocks b k h =
-    let p = b.part k h in
-    part_range l (k * size) (min (k * size + size) (length l)) _ (omega arith) p
-
-pub minmax_of : (l : List Bool) (size first h : ℕ) (nodes : List Node) → 2 ^ h ≡ first + 1 → length (drop first nodes) ≤ first + 1 → first < length nodes → first < 2 ^ 63 → length l < 2 ^ 63 → AreBlocks l size (drop first nodes) → CoveredFrom first nodes 0 → IsMinMax first nodes
-minmax_of l size first h nodes lv fi ab sh short b c = record {
-  height = h;
-  levels = lv;
-  fits = fi;
-  covers = λ i s e p. c i s e (omega arith) p;
-  small = λ s k t a w. near_sum l size (drop first nodes) b short s k t w.inside (inr w);
-  near = near_sum l size (drop first nodes) b short;
-  range = block_range l size (drop first nodes) b;
-  short = sh;
-  above = ab;
-}
-
--- ---- a place's block
-pub block_of : (p size : ℕ) → 0 < size → (p / size * size ≤ p) × (p < p / size * size + size)
-block_of p size so = (omega arith, omega arith)
-
-pub block_inside : (l : List Bool) (size : ℕ) (blocks : List Node) → AreBlocks l size blocks → (p : ℕ) → p < length l → p / size < length blocks
-block_inside l size blocks b p h = let so = b.some in (div-lt_iff_lt-mul so).1 (omega arith)
-
-pub div_up : (a p size : ℕ) → 0 < size → a * size ≤ p → a ≤ p / size
-div_up a p size so h = ⊎_elim (λ (z : p / size < a). let w = (div-lt_iff_lt-mul so).0 z in absurd (omega arith)) (λ (z : a ≤ p / size). z) (cases_lt (p / size) a)
-
-pub start_is : (l : List Bool) (size : ℕ) (blocks : List Node) → AreBlocks l size blocks → (k : ℕ) → k < length blocks → (total_before blocks k ≡ excess l (k * size)) × (k * size < length l)
-start_is l size blocks b k h =
-    let p = b.part k h in
-    (sum_before_block l size blocks b k (omega arith) ∙ ap (excess l) (omega arith), omega arith)
-
--- the block of a place reaches the sum after it
-pub reached_at : (l : List Bool) (size : ℕ) (blocks : List Node) → AreBlocks l size blocks → (p : ℕ) → p < length l → Reaches blocks (p / size) (excess l (p + 1))
-reached_at l size blocks b p h =
-    (reaches_iff l size blocks b (p / size) (excess l (p + 1)) (block_inside l size blocks b p h)).1 (p + 1, omega arith, omega arith, refl)
-
--- and meets the sum before it
-pub met_at : (l : List Bool) (size : ℕ) (blocks : List Node) → AreBlocks l size blocks → (p : ℕ) → p < length l → Meets blocks (p / size) (excess l p)
-met_at l size blocks b p h =
-    let k = block_inside l size blocks b p h in let so = b.some in
-    ⊎_elim
-    (λ (z : p / size * size < p). inr ((reaches_iff l size blocks b (p / size) (excess l p) k).1 (p, z, omega arith, refl)))
-    (λ (z : p ≤ p / size * size). inl ((start_is l size blocks b (p / size) k).0 ∙ ap (excess l) (omega arith)))
-    (cases_lt (p / size * size) p)

@@ -1,48 +1,50 @@
 -- The parts of the nodes of a tree, and what a node made of two says.
-use Rattle.vers_trees.proofs.Words.{◌≡◌, ℕ, zero, suc, ◌+◌, ◌-◌, ◌*◌, ◌/◌, ◌%◌, ◌^◌, ◌<◌, ◌≤◌, ◌⊎◌, inl, inr, List, length, get_or, drop, ℤ, pos, negsuc, ◌+ℤ◌, ◌≤ℤ◌, arith, ⊎_elim, subst, refl, ap, ◌∙◌, pow-succ', pow-le-pow_right, ints, clamps, by_lt_z, cases_lt, pow_pos, Node, combined, total_before, empty_node, IsRange, Covers, StandsOver, IsMinMax}
+use Rattle.vers_trees.proofs.Words.{◌≡◌, ℕ, zero, suc, ◌+◌, ◌-◌, ◌*◌, ◌/◌, ◌%◌, ◌^◌, ◌<◌, ◌≤◌, ◌⊎◌, inl, inr, Bool, List, length, ◌+ℤ◌, ◌≤ℤ◌, ◌<ℤ◌, arith, ⊎_elim, subst, refl, ap, ◌∙◌, pow-succ', pow-le-pow_right, pow_next, mul-le-mul_right, ints, cases_lt, pow_pos, excess, Node, combined, JoinFits, empty_node, IsPart, start_of, Covers, StandsOver}
+use Rattle.vers_trees.proofs.searches.Scans.{rise_fits, part_joined}
 
--- what a node may be, in numbers
-abbrev pub Numbers : Node → Type 0
-Numbers x = ((x.least ≤ℤ x.total) × (x.total ≤ℤ x.greatest) × (x.least ≤ℤ pos 1) × (negsuc 0 ≤ℤ x.greatest)) ⊎ ((x.total ≡ pos 0) × (x.least ≡ pos 1) × (x.greatest ≡ negsuc 0))
+-- a later block begins no earlier
+pub starts_up : (l : List Bool) (size i e : ℕ) → i ≤ e → start_of l size i ≤ start_of l size e
+starts_up l size i e h = let m : i * size ≤ e * size = mul-le-mul_right size h in omega arith
 
-pub numbers : (x : Node) → IsRange x ⊎ (x ≡ empty_node) → Numbers x
-numbers x (inl p) = inl (p.low, p.high, p.first_low, p.first_high)
-numbers x (inr p) = rw p (inr (refl, refl, refl))
+-- the part of a node that begins inside the list has a place, and every part has the node's total
+pub part_inside : (l : List Bool) (size i e : ℕ) (x : Node) → Covers l size i e x → i * size < length l → IsPart l (start_of l size i) (start_of l size e) x
+part_inside l size i e x c h = ⊎_elim (λ (p : IsPart l (start_of l size i) (start_of l size e) x). p) (λ (q : (length l ≤ i * size) × (x ≡ empty_node)). absurd (omega arith)) c.part
 
-combined_range : (x y : Node) → Numbers x → Numbers y → IsRange x ⊎ IsRange y → IsRange (combined x y)
-combined_range x y p q (inl r) = let a = r.low in let b = r.high in let c = r.first_low in let d = r.first_high in record { low = omega (arith, ints, clamps, q); high = omega (arith, ints, clamps, q); first_low = omega (arith, ints, clamps, q); first_high = omega (arith, ints, clamps, q) }
-combined_range x y p q (inr r) = let a = r.low in let b = r.high in let c = r.first_low in let d = r.first_high in record { low = omega (arith, ints, clamps, p); high = omega (arith, ints, clamps, p); first_low = omega (arith, ints, clamps, p); first_high = omega (arith, ints, clamps, p) }
+pub total_of_part : (l : List Bool) (size i e : ℕ) (x : Node) → Covers l size i e x → i ≤ e → excess l (start_of l size e) ≡ excess l (start_of l size i) +ℤ x.total
+total_of_part l size i e x c h = ⊎_elim
+    (λ (p : IsPart l (start_of l size i) (start_of l size e) x). p.total)
+    (λ (q : (length l ≤ i * size) × (x ≡ empty_node)).
+    let m = starts_up l size i e h in
+    let same : excess l (start_of l size e) ≡ excess l (start_of l size i) = ap (excess l) (omega arith) in rw q.1 (omega (arith, ints)))
+    c.part
 
-combined_shape : (x y : Node) → IsRange x ⊎ (x ≡ empty_node) → IsRange y ⊎ (y ≡ empty_node) → IsRange (combined x y) ⊎ (combined x y ≡ empty_node)
-combined_shape x y p q = grind (arith, ints, combined_range, numbers)
+-- the node over both of two neighbouring parts, of which the second may be empty
+pub covers_joined : (l : List Bool) (size i m e : ℕ) (x y r : Node) → i ≤ m → m ≤ e → Covers l size i m x → Covers l size m e y → (y.least ≤ℤ y.greatest → r ≡ combined x y) → (y.greatest <ℤ y.least → r ≡ x) → Covers l size i e r
+covers_joined l size i m e x y r im me c d both alone =
+    let a = starts_up l size i m im in let b = starts_up l size m e me in ⊎_elim
+    (λ (q : IsPart l (start_of l size m) (start_of l size e) y).
+    let q1 = q.least.1 in let q2 = q.least.2 in let lo = q.low q.greatest.0 q.greatest.1 q.greatest.2 in let g = q.greatest.3 in
+    record { part = inl (rw (both (omega (arith, ints))) (part_joined l (start_of l size i) (start_of l size m) (start_of l size e) x y (part_inside l size i m x c (omega arith)) q)) })
+    (λ (q : (length l ≤ m * size) × (y ≡ empty_node)).
+    let same : start_of l size m ≡ start_of l size e = omega arith in
+    rw (alone (rw q.1 (omega (arith, ints)))) (record { part = subst (λ (n : ℕ). IsPart l (start_of l size i) n x ⊎ ((length l ≤ i * size) × (x ≡ empty_node))) same c.part }))
+    d.part
 
--- a number in the range of both parts is in that of one
-split_range : (a : ℤ) (x y : Node) → Numbers x → Numbers y → (t : ℤ) → (a +ℤ (combined x y).least) ≤ℤ t → t ≤ℤ (a +ℤ (combined x y).greatest) → (((a +ℤ x.least) ≤ℤ t) × (t ≤ℤ (a +ℤ x.greatest))) ⊎ (((a +ℤ x.total +ℤ y.least) ≤ℤ t) × (t ≤ℤ (a +ℤ x.total +ℤ y.greatest)))
-split_range a x y p q t lo hi =
-    by_lt_z t (a +ℤ x.least) (λ u. inr (omega (arith, ints, clamps, p, q), omega (arith, ints, clamps, p, q))) (λ u. by_lt_z (a +ℤ x.greatest) t (λ v. inr (omega (arith, ints, clamps, p, q), omega (arith, ints, clamps, p, q))) (λ v. inl (u, v)))
-
--- two nodes over neighbouring parts make the node over both
-pub covers_combined : (blocks : List Node) (s m e : ℕ) (x y : Node) → s ≤ m → m ≤ e → Covers blocks s m x → Covers blocks m e y → Covers blocks s e (combined x y)
-covers_combined blocks s m e x y sm me p q = record {
-  total = let a = p.total in let b = q.total in omega (arith, ints);
-  shape = combined_shape x y p.shape q.shape;
-  found = λ t lo hi. ⊎_elim
-      (λ (r : ((total_before blocks s +ℤ x.least) ≤ℤ t) × (t ≤ℤ (total_before blocks s +ℤ x.greatest))). let f = p.found t r.0 r.1 in let b = f.2 in (f.0, f.1, omega arith, f.3))
-      (grind (arith, ints))
-      (split_range (total_before blocks s) x y (numbers x p.shape) (numbers y q.shape) t lo hi);
-  low = λ k t a b r. ⊎_elim
-      (λ (c : k < m). let g = p.low k t a c r in omega (arith, ints, clamps))
-      (λ (c : m ≤ k). let g = q.low k t c b r in let h = p.total in omega (arith, ints, clamps))
-      (cases_lt k m);
-  high = λ k t a b r. ⊎_elim
-      (λ (c : k < m). let g = p.high k t a c r in omega (arith, ints, clamps))
-      (λ (c : m ≤ k). let g = q.high k t c b r in let h = p.total in omega (arith, ints, clamps))
-      (cases_lt k m);
+-- the sums of a node's two parts fit
+pub children_fit : (l : List Bool) (size i m e : ℕ) (x y : Node) → length l < 2 ^ 63 → i ≤ m → Covers l size i m x → Covers l size m e y → JoinFits x y
+children_fit l size i m e x y short im c d = record {
+  total = λ h. let p = parts h in let q = p.1 in let pt = p.0.total in rise_fits l (start_of l size i) (start_of l size e) (x.total +ℤ y.total) short (omega arith) (omega arith) (omega (arith, ints));
+  least = λ h. let p = parts h in let q = p.1.least in let q2 = q.2 in let q3 = q.3 in let pt = p.0.total in rise_fits l (start_of l size i) q.0 (x.total +ℤ y.least) short (omega arith) (omega arith) (omega (arith, ints));
+  greatest = λ h. let p = parts h in let q = p.1.greatest in let q2 = q.2 in let q3 = q.3 in let pt = p.0.total in rise_fits l (start_of l size i) q.0 (x.total +ℤ y.greatest) short (omega arith) (omega arith) (omega (arith, ints));
 }
+  where
+    parts : y.least ≤ℤ y.greatest → IsPart l (start_of l size i) (start_of l size m) x × IsPart l (start_of l size m) (start_of l size e) y
+    parts h = ⊎_elim
+        (λ (q : IsPart l (start_of l size m) (start_of l size e) y). let q1 = q.least.1 in let q2 = q.least.2 in let u = starts_up l size i m im in (part_inside l size i m x c (omega arith), q))
+        (λ (q : (length l ≤ m * size) × (y ≡ empty_node)). let g = rw q.1 at h in absurd (omega (arith, ints)))
+        d.part
 
-pow_more : (k l : ℕ) → l ≡ k + 1 → 2 ^ l ≡ 2 * 2 ^ k
-pow_more k l e = ap (λ (n : ℕ). 2 ^ n) (let g : l ≡ suc k = omega arith in g) ∙ pow-succ' 2 k
-
+-- ---- the parts of the nodes
 pub record HasChildren (first i s e : ℕ) : Type 0 where
   pub middle : ℕ
   pub after : s ≤ middle
@@ -58,7 +60,7 @@ stands_children first i s e p h = go p.height refl
     go (suc k) z =
         let lv = p.levels in let ins = p.inside in let pl = p.place in let fr = p.from in let up = p.upto in
         let pw : 2 ^ p.height ≡ 2 * 2 ^ k = ap (λ (n : ℕ). 2 ^ n) z ∙ pow-succ' 2 k in
-        let pl2 = pow_more p.level (p.level + 1) refl in
+        let pl2 = pow_next p.level in
         let lv' : 2 ^ (p.level + 1 + k) ≡ first + 1 = ap (λ (n : ℕ). 2 ^ n) (let g : p.level + 1 + k ≡ p.level + p.height = omega arith in g) ∙ lv in
         let fr' : s ≡ p.offset * (2 * 2 ^ k) = fr ∙ ap (λ (n : ℕ). p.offset * n) pw in
         let up' : e ≡ p.offset * (2 * 2 ^ k) + 2 * 2 ^ k = up ∙ ap (λ (n : ℕ). p.offset * n + n) pw in
@@ -96,8 +98,7 @@ order a b h = ⊎_elim (λ (u : b < a). let le : 2 ^ (b + 1) ≤ 2 ^ a = pow-le-
 
 one_part : (first i s e s' e' : ℕ) → StandsOver first i s e → StandsOver first i s' e' → (s ≡ s') × (e ≡ e')
 one_part first i s e s' e' p q =
-    let a = pow_more p.level (p.level + 1) refl in let b = pow_more q.level (q.level + 1) refl in
-    let c = pow_more (p.level + p.height) (p.level + p.height + 1) refl in let d = pow_more (q.level + q.height) (q.level + q.height + 1) refl in
+    let a = pow_next p.level in let b = pow_next q.level in let c = pow_next (p.level + p.height) in let d = pow_next (q.level + q.height) in
     grind (arith, ints, order)
 
 -- the parent of a child, with its other child
@@ -119,8 +120,8 @@ parent_of_right first j s e p = let q = parent_of first (2 * j + 2) j s e p (inr
 leaf : (first h i : ℕ) → 2 ^ h ≡ first + 1 → first ≤ i → i ≤ 2 * first → StandsOver first i (i - first) (i - first + 1)
 leaf first h i lv a b = record { level = h; height = 0; offset = i - first; levels = ap (λ (n : ℕ). 2 ^ n) (let g : h + 0 ≡ h = omega arith in g) ∙ lv; inside = omega arith; place = omega arith; from = omega arith; upto = omega arith }
 
-pub stands_leaf : (first : ℕ) (nodes : List Node) → IsMinMax first nodes → (k : ℕ) → k < length (drop first nodes) → StandsOver first (first + k) k (k + 1)
-stands_leaf first nodes t k h = let e : first + k - first ≡ k = omega arith in rw e at (leaf first t.height (first + k) t.levels (omega arith) (omega arith))
+pub stands_leaf : (first h k : ℕ) → 2 ^ h ≡ first + 1 → k ≤ first → StandsOver first (first + k) k (k + 1)
+stands_leaf first h k lv b = let e : first + k - first ≡ k = omega arith in rw e at (leaf first h (first + k) lv (omega arith) (omega arith))
 
 pub leaf_stands : (first i s e : ℕ) → StandsOver first i s e → first ≤ i → (s ≡ i - first) × (e ≡ s + 1)
 leaf_stands first i s e p h =
@@ -133,6 +134,3 @@ stands_some first i s e p = let some = pow_pos p.height in omega arith
 
 pub root_stands : (first s e : ℕ) → StandsOver first 0 s e → (s ≡ 0) × (e ≡ first + 1)
 root_stands first s e p = one_part first 0 _ _ _ _ p (root first (p.level + p.height) p.levels)
-
-pub covers_at : (first : ℕ) (nodes : List Node) (i s e : ℕ) (x : Node) → IsMinMax first nodes → x ≡ get_or nodes i empty_node → StandsOver first i s e → Covers (drop first nodes) s e x
-covers_at first nodes i s e x m q p = rw q (m.covers i s e p)

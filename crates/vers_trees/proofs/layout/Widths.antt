@@ -1,7 +1,6 @@
 -- The width of a tree, and its nodes put together.
-use Rattle.vers_trees.proofs.Words.{◌≡◌, ℕ, zero, suc, ◌+◌, ◌-◌, ◌*◌, ◌^◌, ◌<◌, ◌≤◌, ◌⊎◌, inl, inr, min, max, Bool, List, [], ◌∷◌, ◌++◌, length, get_or, take, drop, arith, ⊎_elim, subst, sym, refl, ap, ◌∙◌, length-append, length-drop, cases_lt, div_ceil_times, get_or_append_left, get_or_at, get_or-drop, take-append_seam, pow-le-pow_right, digits, digits-le, digits_up, digits_pow, digits_below_pow, Node, IsPart, AreBlocks, CoveredFrom, AreLeaves, empty_node, block_count, clog, levels, node_count, IsWidth, IsGrowing, AreFirstBlocks, IsTreeOf, IsIndexed}
+use Rattle.vers_trees.proofs.Words.{◌≡◌, ℕ, zero, suc, ◌+◌, ◌-◌, ◌*◌, ◌^◌, ◌<◌, ◌≤◌, ◌⊎◌, inl, inr, min, max, Bool, List, [], ◌∷◌, ◌++◌, length, get_or, take, drop, arith, ⊎_elim, subst, sym, refl, ap, ◌∙◌, length-append, cases_lt, div_ceil_times, get_or_append_left, get_or_at, take-append_seam, pow-le-pow_right, mul-le-mul_right, digits, digits-le, digits_up, digits_pow, digits_below_pow, Node, IsPart, CoveredFrom, empty_node, block_count, clog, levels, node_count, IsWidth, IsGrowing, AreFirstBlocks, IsTreeOf, IsIndexed}
 use Rattle.vers_trees.proofs.layout.Steps.{digit_some}
-use Rattle.vers_trees.proofs.layout.Blocks.{minmax_of, near_sum, block_range}
 
 pub grow_start : (leaves : ℕ) → IsGrowing leaves 2
 grow_start leaves = record { exponent = 0; power = refl; short = inl refl }
@@ -77,28 +76,15 @@ block_added l size first n nodes x b p =
           (cases_lt k n);
     }
 
-are_blocks : (l : List Bool) (size first : ℕ) (nodes : List Node) → 0 < size → AreFirstBlocks l size first (block_count size (length l)) nodes → AreBlocks l size (drop first nodes)
-are_blocks l size first nodes so b = grind (arith, length-drop, get_or-drop)
-
-pub blocks_are_leaves : (l : List Bool) (size first : ℕ) (nodes : List Node) → 0 < size → length l < 2 ^ 63 → AreFirstBlocks l size first (block_count size (length l)) nodes → AreLeaves (drop first nodes)
-blocks_are_leaves l size first nodes so short b =
-    let a = are_blocks l size first nodes so b in
-    record { range = block_range l size (drop first nodes) a; small = λ s k t h w. near_sum l size (drop first nodes) a short s k t w.inside (inr w) }
-
 pub one_at_least : (n size : ℕ) → 0 < size → 0 < n → 0 < block_count size n
 one_at_least n size so h = grind (arith, div_ceil_times)
 
-pub tree_made : (l : List Bool) (size first : ℕ) (leaves nodes : List Node) → 0 < size → 0 < length l → length l < 2 ^ 63 → IsWidth (block_count size (length l)) (first + 1) → AreFirstBlocks l size first (block_count size (length l)) leaves → length nodes ≡ length leaves → drop first nodes ≡ drop first leaves → CoveredFrom first nodes 0 → IsTreeOf l size first nodes
-tree_made l size first leaves nodes so some short w b n e c =
-    let d = length-drop first nodes in
-    let r = one_at_least (length l) size so some in
-    let same : first + 1 - 1 ≡ first = omega arith in
-    let blocks : AreBlocks l size (drop first nodes) = subst (λ (m : List Node). AreBlocks l size m) (sym e) (are_blocks l size first leaves so b) in
-    record {
-      tree = minmax_of l size first w.exponent nodes w.power (omega arith) (omega arith) (omega arith) short blocks c;
-      blocks = blocks;
-      few = (let e = (some_counted size (length l) some).1 in let d = ap digits same in let m = w.least in omega arith);
-    }
+pub tree_made : (l : List Bool) (size first : ℕ) (nodes : List Node) → 0 < size → 0 < length l → length l < 2 ^ 63 → IsWidth (block_count size (length l)) (first + 1) → CoveredFrom l size first nodes 0 → IsTreeOf l size first nodes
+tree_made l size first nodes so some short w c =
+    let d = (div_ceil_times (length l) size so).0 in let e = w.enough in let b = w.bounded in let m = w.least in
+    let u : block_count size (length l) * size ≤ (first + 1) * size = mul-le-mul_right size e in
+    let same : digits (first + 1 - 1) ≡ digits first = ap digits (omega arith) in let n = (some_counted size (length l) some).1 in
+    record { tree = record { height = w.exponent; levels = w.power; fits = omega arith; covered = c; some = so; short = short; small = omega arith }; few = omega arith }
 
 pub indexed : (l : List Bool) (size first : ℕ) (nodes : List Node) → length l < 9223372036854775808 → 0 < size → size ≤ 4294967296 → length nodes ≡ node_count size (length l) → IsTreeOf l size first nodes → IsIndexed l size first nodes
 indexed l size first nodes h so b n t = record { short = h; some = so; bounded = b; counted = n; over = λ x. t }

@@ -1,5 +1,5 @@
 -- Whole bytes of a scan, by the entries of their tables.
-use Rattle.vers_trees.proofs.Words.{◌≡◌, ◌≢◌, ℕ, ◌+◌, ◌-◌, ◌*◌, ◌/◌, ◌%◌, ◌^◌, ◌<◌, ◌≤◌, Bool, true, false, List, length, take, drop, ℤ, pos, negsuc, ◌+ℤ◌, ◌-ℤ◌, ◌≤ℤ◌, arith, sym, ap, refl, Option, Some, FitsSigned, to_z, of_z, ◌∙◌, w64, count_ones, is_some, ints, nat_tests, mod-pow-add, take-append-drop, length-take-le, length-drop, drop-take, drop-drop, take_all, mod-eq_of_lt, number, part, count, limb, number_below, number-drop, count_limb, count_both, count_none, number-take, part_number_or_zero, excess, IsByte, IsEntry, sum_along, place_along, place_in, least_in, greatest_in, IsFirstRise, HasNoRise, IsLastRise, HasNoRiseBefore}
+use Rattle.vers_trees.proofs.Words.{◌≡◌, ◌≢◌, ℕ, ◌+◌, ◌-◌, ◌*◌, ◌/◌, ◌%◌, ◌^◌, ◌<◌, ◌≤◌, Bool, true, false, List, length, take, drop, ℤ, pos, negsuc, ◌+ℤ◌, ◌-ℤ◌, ◌≤ℤ◌, arith, sym, ap, refl, Option, Some, FitsSigned, to_z, of_z, ◌∙◌, w64, count_ones, is_some, ints, nat_tests, mod-pow-add, take-append-drop, length-take-le, length-drop, drop-take, drop-drop, take_all, mod-eq_of_lt, number, part, count, limb, number_below, number-drop, count_limb, count_both, count_none, number-take, part_number_or_zero, excess, sum_past, IsByte, IsEntry, sum_along, place_along, place_in, least_in, greatest_in, IsFirstRise, HasNoRise, IsLastRise, HasNoRiseBefore}
 use Rattle.vers_trees.proofs.searches.Scans.{Misses, forward_found, forward_more, backward_found, backward_more}
 use Rattle.vers_trees.proofs.grammar.Excess.{excess-append_left, excess-append_right}
 
@@ -75,10 +75,6 @@ byte_read l s n m o word e f few h i = record {
 }
 
 -- ---- the sums met along a byte, from one of its ends: past a place, and at the end that the scan comes from
-abbrev sum_past : Bool → List Bool → ℕ → ℤ
-sum_past false l k = excess l (k + 1)
-sum_past true l k = excess l k
-
 abbrev sum_from : Bool → List Bool → ℕ → ℤ
 sum_from false l p = excess l p
 sum_from true l p = excess l (p + 8)

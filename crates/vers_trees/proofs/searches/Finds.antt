@@ -1,8 +1,8 @@
 -- The searches forwards and backwards: the scan of a block, what the tree answers, and the scan of that block.
-use Rattle.vers_trees.proofs.Words.{◌≡◌, ℕ, ◌+◌, ◌-◌, ◌*◌, ◌/◌, ◌<◌, ◌≤◌, ◌≢◌, inl, min, Bool, List, length, drop, ℤ, ◌+ℤ◌, ◌-ℤ◌, FitsSigned, to_z, of_z, None, Result, Ok, Err, MatchResult, arith, ⊎_elim, subst, sym, ap, ◌∙◌, w64, result_ok, ints, to_z-of_z, cases_lt, div-mul-le_self, div-lt_iff_lt-mul, mul-le-mul_right, Node, excess, first_rise_after, last_rise_before, IsFirstRise, HasNoRise, IsLastRise, HasNoRiseBefore, total_before, Reaches, Meets, IsNextFrom, IsPreviousBefore, IsTreeOf, IsPassedAfter, IsPassedBefore}
+use Rattle.vers_trees.proofs.Words.{◌≡◌, ℕ, ◌+◌, ◌-◌, ◌*◌, ◌/◌, ◌<◌, ◌≤◌, ◌^◌, min, Bool, true, false, List, length, ℤ, ◌-ℤ◌, ◌+ℤ◌, FitsSigned, to_z, of_z, None, Result, Ok, Err, MatchResult, arith, ⊎_elim, refl, sym, ap, ◌∙◌, w64, result_ok, ints, to_z-of_z, cases_lt, Node, excess, first_rise_after, last_rise_before, IsFirstRise, HasNoRise, IsLastRise, HasNoRiseBefore, start_of, edge, Sought, Passed, HasNone, IsAhead, BeginsAt, IsTreeOf, IsPassedAfter, IsPassedBefore}
 use Rattle.vers_trees.proofs.searches.Searches.{after_is, none_after, before_is, none_before}
 use Rattle.vers_trees.proofs.searches.Scans.{rise_fits}
-use Rattle.vers_trees.proofs.layout.Blocks.{reaches_iff, sum_before_block, block_inside, block_of, div_up, start_is, reached_at, met_at}
+use Rattle.vers_trees.proofs.layout.Blocks.{left_fits, too_far}
 
 -- a number as the machine has it
 abbrev stored : ℤ → ℤ
@@ -18,157 +18,122 @@ left_is r rise left f g d = rw d.1 (to_z-of_z w64 _ d.0 ∙ ap (λ (z : ℤ). z 
 pub first_end : (l : List Bool) (size i : ℕ) → 0 < size → i < length l → i + 1 ≤ min (i / size * size + size) (length l)
 first_end l size i so h = omega arith
 
--- the block before that of a place ends no later than the place
-pub previous_ends : (blocks : List Node) (size p : ℕ) (t : ℤ) (j : ℕ) (rest : ℤ) → IsPreviousBefore blocks (p / size) t j rest → j * size + size ≤ p
-previous_ends blocks size p t j rest n = grind (arith, ints, mul-le-mul_right, div-mul-le_self)
+-- what is left at the block in which a search ends
+rest_is : (back : Bool) (s : Sought) (j : ℕ) (rest : ℤ) → length s.bits < 2 ^ 63 → IsAhead back s j (j + 1) rest → stored rest ≡ rest
+rest_is back s j rest short a = let k = a.place in let k2 = k.2 in to_z-of_z w64 rest (left_fits back s (start_of s.bits s.size (edge back j (j + 1))) rest k.0 short (omega arith) a.passed.remains (omega arith) k.3)
 
 -- ---- forwards: in a list with its tree, where the block of i has no such place
 module _ (l : List Bool) (size first : ℕ) (nodes : List Node) (i : ℕ) (r rise : ℤ) (s : IsPassedAfter l size first nodes i r rise) where
-  tree : IsTreeOf l size first nodes
-  tree = s.indexed.over (omega arith)
+  abbrev pub after : Sought
+  after = record { bits = l; size = size; from = i + 1; rise = r }
 
-  pub next_inside : (from : ℕ) (t : ℤ) (j : ℕ) (rest : ℤ) → IsNextFrom (drop first nodes) from t j rest → j * size < length l
-  next_inside from t j rest n = (start_is l size (drop first nodes) tree.blocks j n.reaches.inside).1
+  passed : (left : ℤ) → left ≡ r -ℤ rise → Passed false after (start_of l size (i / size + 1)) left
+  passed left e =
+      let so = s.indexed.some in let t = s.passed.risen in
+      let same : excess l (start_of l size (i / size + 1)) ≡ excess l (min (i / size * size + size) (length l)) = ap (excess l) (omega arith) in
+      record { inside = omega arith; after = omega arith; remains = omega (arith, ints); none = λ k b. s.passed.none k b.0 (let y = b.1 in omega arith) }
 
   module _ (f : FitsSigned w64 r) where
     risen : FitsSigned w64 rise
     risen = rise_fits l (i + 1) (min (i / size * size + size) (length l)) rise s.indexed.short (omega arith) (omega arith) s.passed.risen
 
     pub none_far : (FitsSigned w64 (stored r -ℤ stored rise) → ⊥) → None ≡ first_rise_after l i r
-    none_far long = sym (none_after l i r (λ k a b z. ⊎_elim
-        (λ (w : k < min (i / size * size + size) (length l)). s.passed.none k (omega arith) w z)
-        (λ (w : min (i / size * size + size) (length l) ≤ k). long (rw (to_z-of_z w64 r f, to_z-of_z w64 rise risen) (rise_fits l (min (i / size * size + size) (length l)) (k + 1) (r -ℤ rise) s.indexed.short (omega arith) (omega arith) (omega (arith, ints)))))
-        (cases_lt k (min (i / size * size + size) (length l)))))
+    none_far long =
+        let p = passed (r -ℤ rise) refl in
+        sym (none_after l i r (λ k a b. too_far false after _ (start_of l size (i / size + 1)) _ (r -ℤ rise) s.indexed.short p (omega arith) p.remains (λ g. long (rw (to_z-of_z w64 r f, to_z-of_z w64 rise risen) g)) k (omega arith) b))
 
-    -- the sum that the tree is asked for
+    -- the tree is asked for what is left
     module _ (left : ℤ) (d : Difference r rise left) where
-      asked : total_before (drop first nodes) (i / size + 1) +ℤ stored left ≡ excess l (i + 1) +ℤ r
-      asked =
-          let li = left_is r rise left f risen d in
-          let u = sum_before_block l size (drop first nodes) tree.blocks (i / size + 1) (let g = block_inside l size (drop first nodes) tree.blocks i s.inside in omega arith) in
-          let same : excess l (min ((i / size + 1) * size) (length l)) ≡ excess l (min (i / size * size + size) (length l)) = ap (excess l) (omega arith) in
-          omega (arith, ints)
+      pub begins : BeginsAt false after first nodes (i / size) (stored left)
+      begins = record { tree = (s.indexed.over (omega arith)).tree; some = (let so = s.indexed.some in omega arith); passed = passed (stored left) (left_is r rise left f risen d) }
 
-      -- a later place of that sum lies in a later block that reaches it
-      later : (k : ℕ) → min (i / size * size + size) (length l) ≤ k → k < length l → excess l (k + 1) ≡ excess l (i + 1) +ℤ r → (i / size + 1 ≤ k / size) × Reaches (drop first nodes) (k / size) (total_before (drop first nodes) (i / size + 1) +ℤ stored left)
-      later k w y z = (div_up (i / size + 1) k size tree.blocks.some (omega arith), subst (Reaches (drop first nodes) (k / size)) (z ∙ sym asked) (reached_at l size (drop first nodes) tree.blocks k y))
+      pub none_next : ((q : Sought) → BeginsAt false q first nodes (i / size) (stored left) → HasNone false q) → None ≡ first_rise_after l i r
+      none_next none = sym (none_after l i r (λ k a b. none after begins k (omega arith) b))
 
-      pub none_next : ((k : ℕ) → i / size + 1 ≤ k → Reaches (drop first nodes) k (total_before (drop first nodes) (i / size + 1) +ℤ stored left) → ⊥) → None ≡ first_rise_after l i r
-      none_next nowhere = sym (none_after l i r (λ k a b z. ⊎_elim (λ (w : k < min (i / size * size + size) (length l)). s.passed.none k (omega arith) w z) (λ (w : min (i / size * size + size) (length l) ≤ k). let q = later k w b z in nowhere (k / size) q.0 q.1) (cases_lt k (min (i / size * size + size) (length l)))))
+      -- the block that it answers has such a place, and its scan ends the search
+      module _ (j : ℕ) (rest : ℤ) (found : (q : Sought) → BeginsAt false q first nodes (i / size) (stored left) → IsAhead false q j (j + 1) rest) where
+        ahead : IsAhead false after j (j + 1) rest
+        ahead = found after begins
 
-      -- the block that the tree answers has such a place, and its scan ends the search
-      pub next_answer : (j : ℕ) (rest : ℤ) (next_end : ℕ) (o : Result ℕ ℤ) → IsNextFrom (drop first nodes) (i / size + 1) (total_before (drop first nodes) (i / size + 1) +ℤ stored left) j rest → next_end ≡ min (j * size + size) (length l)
-          → MatchResult o (λ place. IsFirstRise l (j * size) next_end (stored rest) place) (λ past. HasNoRise l (j * size) next_end (stored rest) past) → result_ok o ≡ first_rise_after l i r
-      next_answer j rest next_end o n ne = go o
-        where
-          start : (total_before (drop first nodes) j ≡ excess l (j * size)) × (j * size < length l)
-          start = start_is l size (drop first nodes) tree.blocks j n.reaches.inside
+        pub next_inside : j * size < length l
+        next_inside = let k1 = ahead.place.1 in let k2 = ahead.place.2 in omega arith
 
-          whole : stored rest ≡ rest
-          whole =
-              let u : total_before (drop first nodes) (i / size + 1) +ℤ stored left -ℤ total_before (drop first nodes) j ≡ rest = omega (arith, ints) in
-              to_z-of_z w64 rest (rw u at (tree.tree.small j j _ (omega arith) n.reaches))
+        start : excess l (start_of l size j) ≡ excess l (j * size)
+        start = ap (excess l) (let h = next_inside in omega arith)
 
-          go : (o : Result ℕ ℤ) → MatchResult o (λ place. IsFirstRise l (j * size) next_end (stored rest) place) (λ past. HasNoRise l (j * size) next_end (stored rest) past) → result_ok o ≡ first_rise_after l i r
-          go (Ok place) q =
-              let af = n.after in let re = n.remains in let s0 = start.0 in let s1 = start.1 in let ask = asked in
-              let lo = q.low in let hi = q.inside in let su = q.sum in let wh = whole in
-              let far : (i / size + 1) * size ≤ j * size = mul-le-mul_right size af in
-              sym (after_is l i r place (record {
-                after = omega arith;
-                inside = omega arith;
-                sum = omega (arith, ints);
-                first = λ k a b z. ⊎_elim
-                    (λ (w : k < min (i / size * size + size) (length l)). s.passed.none k (omega arith) w z)
-                    (λ (w : min (i / size * size + size) (length l) ≤ k). ⊎_elim
-                    (λ (v : k < j * size). let m = later k w (omega arith) z in n.first (k / size) m.0 ((div-lt_iff_lt-mul tree.blocks.some).1 v) m.1)
-                    (λ (v : j * size ≤ k). q.first k v b (omega (arith, ints)))
-                    (cases_lt k (j * size)))
-                    (cases_lt k (min (i / size * size + size) (length l)));
-              }))
-          go (Err past) q =
-              let re = n.remains in let s0 = start.0 in let wh = whole in
-              let w = (reaches_iff l size (drop first nodes) tree.blocks j _ n.reaches.inside).0 n.reaches in let w1 = w.1 in let w2 = w.2 in let w3 = w.3 in
-              let here : excess l (w.0 - 1 + 1) ≡ excess l w.0 = ap (excess l) (omega arith) in
-              absurd (q.none (w.0 - 1) (omega arith) (omega arith) (omega (arith, ints)))
+        pub next_answer : (next_end : ℕ) (o : Result ℕ ℤ) → next_end ≡ min (j * size + size) (length l)
+            → MatchResult o (λ place. IsFirstRise l (j * size) next_end (stored rest) place) (λ past. HasNoRise l (j * size) next_end (stored rest) past) → result_ok o ≡ first_rise_after l i r
+        next_answer next_end (Ok place) ne q =
+            let af = ahead.passed.after in let re = ahead.passed.remains in let h = next_inside in let st = start in let wh = rest_is false after j rest s.indexed.short ahead in
+            let lo = q.low in let hi = q.inside in let su = q.sum in
+            sym (after_is l i r place (record {
+              after = omega arith;
+              inside = omega arith;
+              sum = omega (arith, ints);
+              first = λ k x y z. ⊎_elim
+                  (λ (w : k < j * size). ahead.passed.none k (omega arith, omega arith) z)
+                  (λ (w : j * size ≤ k). q.first k w y (omega (arith, ints)))
+                  (cases_lt k (j * size));
+            }))
+        next_answer next_end (Err past) ne q =
+            let re = ahead.passed.remains in let h = next_inside in let st = start in let wh = rest_is false after j rest s.indexed.short ahead in
+            let k1 = ahead.place.1 in let k2 = ahead.place.2 in let k3 = ahead.place.3 in
+            absurd (q.none ahead.place.0 (omega arith) (omega arith) (omega (arith, ints)))
 
 -- ---- backwards: where the block of the place before i has no such place
-module _ (l : List Bool) (size first : ℕ) (nodes : List Node) (i : ℕ) (r rise : ℤ) (s : IsPassedBefore l size first nodes i r rise) (f : FitsSigned w64 r) where
-  tree_back : IsTreeOf l size first nodes
-  tree_back = s.indexed.over (omega arith)
+module _ (l : List Bool) (size first : ℕ) (nodes : List Node) (i : ℕ) (r rise : ℤ) (s : IsPassedBefore l size first nodes i r rise) where
+  abbrev pub before : Sought
+  before = record { bits = l; size = size; from = i; rise = r }
 
-  here : (total_before (drop first nodes) ((i - 1) / size) ≡ excess l ((i - 1) / size * size)) × ((i - 1) / size * size < i) × ((i - 1) / size < length (drop first nodes))
-  here = grind (arith, ints, tree_back, block_inside, block_of, start_is)
+  block : (i - 1) / size * size ≤ i - 1
+  block = let so = s.indexed.some in omega arith
 
-  fallen : FitsSigned w64 rise
-  fallen = rise_fits l i ((i - 1) / size * size) rise s.indexed.short (omega arith) (omega arith) s.passed.risen
+  passed_back : (left : ℤ) → left ≡ r -ℤ rise → Passed true before (start_of l size ((i - 1) / size)) left
+  passed_back left e =
+      let b = block in let t = s.passed.risen in
+      let same : excess l (start_of l size ((i - 1) / size)) ≡ excess l ((i - 1) / size * size) = ap (excess l) (omega arith) in
+      record { inside = omega arith; after = omega arith; remains = omega (arith, ints); none = λ k b. s.passed.none k (let x = b.0 in omega arith) b.1 }
 
-  pub none_far_back : (FitsSigned w64 (stored r -ℤ stored rise) → ⊥) → None ≡ last_rise_before l i r
-  none_far_back long = sym (none_before l i r (λ k a z. ⊎_elim
-      (λ (w : k < (i - 1) / size * size). let o = here.1 in long (rw (to_z-of_z w64 r f, to_z-of_z w64 rise fallen) (rise_fits l ((i - 1) / size * size) k (r -ℤ rise) s.indexed.short (omega arith) (omega arith) (omega (arith, ints)))))
-      (λ (w : (i - 1) / size * size ≤ k). s.passed.none k w a z)
-      (cases_lt k ((i - 1) / size * size))))
+  module _ (f : FitsSigned w64 r) where
+    fallen : FitsSigned w64 rise
+    fallen = let b = block in rise_fits l i ((i - 1) / size * size) rise s.indexed.short (omega arith) (omega arith) s.passed.risen
 
-  module _ (left : ℤ) (d : Difference r rise left) where
-    asked_back : total_before (drop first nodes) ((i - 1) / size) +ℤ stored left ≡ excess l i +ℤ r
-    asked_back = let li = left_is r rise left f fallen d in let s0 = here.0 in omega (arith, ints)
+    pub none_far_back : (FitsSigned w64 (stored r -ℤ stored rise) → ⊥) → None ≡ last_rise_before l i r
+    none_far_back long =
+        let p = passed_back (r -ℤ rise) refl in
+        sym (none_before l i r (too_far true before _ (start_of l size ((i - 1) / size)) _ (r -ℤ rise) s.indexed.short p (omega arith) p.remains (λ g. long (rw (to_z-of_z w64 r f, to_z-of_z w64 rise fallen) g))))
 
-    -- an earlier place of that sum lies in an earlier block that meets it
-    earlier : (k : ℕ) → k < (i - 1) / size * size → excess l k ≡ excess l i +ℤ r → (k / size < (i - 1) / size) × Meets (drop first nodes) (k / size) (total_before (drop first nodes) ((i - 1) / size) +ℤ stored left)
-    earlier k w z = ((div-lt_iff_lt-mul s.indexed.some).1 w, subst (Meets (drop first nodes) (k / size)) (z ∙ sym asked_back) (met_at l size (drop first nodes) tree_back.blocks k (omega arith)))
+    module _ (left : ℤ) (d : Difference r rise left) where
+      pub begins_back : BeginsAt true before first nodes ((i - 1) / size) (stored left)
+      begins_back = record { tree = (s.indexed.over (omega arith)).tree; some = (let b = block in omega arith); passed = passed_back (stored left) (left_is r rise left f fallen d) }
 
-    pub none_previous : ((k : ℕ) → k < (i - 1) / size → Meets (drop first nodes) k (total_before (drop first nodes) ((i - 1) / size) +ℤ stored left) → ⊥) → None ≡ last_rise_before l i r
-    none_previous nowhere = sym (none_before l i r (λ k a z. ⊎_elim (λ (w : k < (i - 1) / size * size). let q = earlier k w z in nowhere (k / size) q.0 q.1) (λ (w : (i - 1) / size * size ≤ k). s.passed.none k w a z) (cases_lt k ((i - 1) / size * size))))
+      pub none_previous : ((q : Sought) → BeginsAt true q first nodes ((i - 1) / size) (stored left) → HasNone true q) → None ≡ last_rise_before l i r
+      none_previous none = sym (none_before l i r (none before begins_back))
 
-    pub previous_answer : (j : ℕ) (rest : ℤ) (o : Result ℕ ℤ) → IsPreviousBefore (drop first nodes) ((i - 1) / size) (total_before (drop first nodes) ((i - 1) / size) +ℤ stored left) j rest
-        → MatchResult o (λ place. IsLastRise l (j * size) (j * size + size) (stored rest) place) (λ past. HasNoRiseBefore l (j * size) (j * size + size) (stored rest) past) → result_ok o ≡ last_rise_before l i r
-    previous_answer j rest o n = go o
-      where
-        ends : (total_before (drop first nodes) (j + 1) ≡ excess l (j * size + size)) × (j * size + size ≤ (i - 1) / size * size)
-        ends =
-            let b = n.before in let g = here.2 in
-            let m : (j + 1) * size ≤ (i - 1) / size * size = mul-le-mul_right size (omega arith) in
-            ((start_is l size (drop first nodes) tree_back.blocks (j + 1) (omega arith)).0 ∙ ap (excess l) (omega arith), omega arith)
+      module _ (j : ℕ) (rest : ℤ) (found : (q : Sought) → BeginsAt true q first nodes ((i - 1) / size) (stored left) → IsAhead true q j (j + 1) rest) where
+        ahead_back : IsAhead true before j (j + 1) rest
+        ahead_back = found before begins_back
 
-        whole : stored rest ≡ rest
-        whole =
-            let re = n.remains in let b = n.before in let g = here.2 in
-            let u : total_before (drop first nodes) ((i - 1) / size) +ℤ stored left -ℤ total_before (drop first nodes) (j + 1) ≡ rest = omega (arith, ints) in
-            to_z-of_z w64 rest (rw u at (tree_back.tree.near (j + 1) j _ (omega arith) n.meets))
+        pub previous_ends : j * size + size < i
+        previous_ends = let h = ahead_back.passed.after in omega arith
 
-        -- the sum after the block is not the one asked for
-        not_at_end : excess l (j * size + size) ≢ excess l i +ℤ r
-        not_at_end z =
-            let b = n.before in let ask = asked_back in let e0 = ends.0 in let s0 = here.0 in
-            ⊎_elim
-            (λ (w : j + 1 < (i - 1) / size). n.last (j + 1) (omega arith) w (inl (omega (arith, ints))))
-            (λ (w : (i - 1) / size ≤ j + 1). let same : total_before (drop first nodes) (j + 1) ≡ total_before (drop first nodes) ((i - 1) / size) = ap (total_before (drop first nodes)) (omega arith) in s.passed.none ((i - 1) / size * size) (omega arith) here.1 (omega (arith, ints)))
-            (cases_lt (j + 1) ((i - 1) / size))
+        end : excess l (start_of l size (j + 1)) ≡ excess l (j * size + size)
+        end = ap (excess l) (let h = previous_ends in omega arith)
 
-        go : (o : Result ℕ ℤ) → MatchResult o (λ place. IsLastRise l (j * size) (j * size + size) (stored rest) place) (λ past. HasNoRiseBefore l (j * size) (j * size + size) (stored rest) past) → result_ok o ≡ last_rise_before l i r
-        go (Ok place) q =
-            let re = n.remains in let e0 = ends.0 in let e1 = ends.1 in let ask = asked_back in let wh = whole in let o1 = here.1 in
+        pub previous_answer : (o : Result ℕ ℤ) → MatchResult o (λ place. IsLastRise l (j * size) (j * size + size) (stored rest) place) (λ past. HasNoRiseBefore l (j * size) (j * size + size) (stored rest) past) → result_ok o ≡ last_rise_before l i r
+        previous_answer (Ok place) q =
+            let h = previous_ends in let re = ahead_back.passed.remains in let en = end in let wh = rest_is true before j rest s.indexed.short ahead_back in
+            let hi = q.inside in let su = q.sum in
             sym (before_is l i r place (record {
               before = omega arith;
               inside = s.inside;
               sum = omega (arith, ints);
-              last = λ k a b z. ⊎_elim
-                  (λ (w : k < (i - 1) / size * size). ⊎_elim
-                  (λ (v : k < j * size + size). q.last k a v (omega (arith, ints)))
-                  (λ (v : j * size + size ≤ k). let m = earlier k w z in n.last (k / size) (let t = div_up (j + 1) k size s.indexed.some (omega arith) in omega arith) m.0 m.1)
-                  (cases_lt k (j * size + size)))
-                  (λ (w : (i - 1) / size * size ≤ k). s.passed.none k w b z)
-                  (cases_lt k ((i - 1) / size * size));
+              last = λ k x y z. ⊎_elim
+                  (λ (w : k < j * size + size). q.last k x w (omega (arith, ints)))
+                  (λ (w : j * size + size ≤ k). ahead_back.passed.none k (omega arith, y) z)
+                  (cases_lt k (j * size + size));
             }))
-        go (Err past) q =
-            let re = n.remains in let g = here.2 in let e0 = ends.0 in let ask = asked_back in let wh = whole in let so = s.indexed.some in
-            let s0 = (start_is l size (drop first nodes) tree_back.blocks j (omega arith)).0 in
-            absurd (⊎_elim
-            (λ (z : total_before (drop first nodes) j ≡ total_before (drop first nodes) ((i - 1) / size) +ℤ stored left). q.none (j * size) (omega arith) (omega arith) (omega (arith, ints)))
-            (λ (w : Reaches (drop first nodes) j (total_before (drop first nodes) ((i - 1) / size) +ℤ stored left)).
-            let m = (reaches_iff l size (drop first nodes) tree_back.blocks j _ (omega arith)).0 w in
-            ⊎_elim
-            (λ (v : m.0 < j * size + size). q.none m.0 (omega arith) v (omega (arith, ints)))
-            (λ (v : j * size + size ≤ m.0). let same : excess l m.0 ≡ excess l (j * size + size) = ap (excess l) (omega arith) in not_at_end (omega (arith, ints)))
-            (cases_lt m.0 (j * size + size)))
-            n.meets)
+        previous_answer (Err past) q =
+            let h = previous_ends in let re = ahead_back.passed.remains in let en = end in let wh = rest_is true before j rest s.indexed.short ahead_back in
+            let k1 = ahead_back.place.1 in let k2 = ahead_back.place.2 in let k3 = ahead_back.place.3 in
+            absurd (q.none ahead_back.place.0 (omega arith) (omega arith) (omega (arith, ints)))

@@ -1,5 +1,5 @@
 -- Scans over the bits of a part, by stretches: a bit, a byte or a word at a time.
-use Rattle.vers_trees.proofs.Words.{◌≡◌, ◌≢◌, ℕ, ◌+◌, ◌-◌, ◌^◌, ◌<◌, ◌≤◌, Bool, true, false, List, length, get_or, ℤ, pos, negsuc, ◌+ℤ◌, ◌-ℤ◌, ◌≤ℤ◌, FitsSigned, to_z, of_z, arith, ⊎_elim, sym, ap, ◌∙◌, w64, int_min, int_max, ints, clamps, by_lt_z, to_z-of_z, cases_lt, Reads, AddsAtMost, adds_then, get_reads, Node, excess, bit_step, count, count_near, count_up, IsPart, IsFirstRise, HasNoRise, IsLastRise, HasNoRiseBefore, scan_reads}
+use Rattle.vers_trees.proofs.Words.{◌≡◌, ◌≢◌, ℕ, ◌+◌, ◌-◌, ◌^◌, ◌<◌, ◌≤◌, Bool, true, false, List, length, get_or, ℤ, pos, negsuc, ◌+ℤ◌, ◌-ℤ◌, ◌≤ℤ◌, FitsSigned, to_z, of_z, arith, ⊎_elim, sym, ap, ◌∙◌, w64, ints, clamps, by_lt_z, to_z-of_z, cases_lt, Reads, AddsAtMost, adds_then, get_reads, Node, combined, excess, bit_step, count, count_near, count_up, IsPart, IsFirstRise, HasNoRise, IsLastRise, HasNoRiseBefore, scan_reads}
 use Rattle.vers_trees.proofs.grammar.Excess.{excess_after_bit}
 
 -- the excess changes by at most as much as there are places between
@@ -84,24 +84,30 @@ one_more_read a b c n m e p q = adds_then p q (grind arith)
 pub part_start : (l : List Bool) (a : ℕ) (d : ℤ) → excess l (a + 1) ≡ excess l a +ℤ d → IsPart l a (a + 1) (record { total = d; least = d; greatest = d })
 part_start l a d s = grind (arith, ints)
 
-pub part_more : (l : List Bool) (a p : ℕ) (x : Node) (d : ℤ) → IsPart l a p x → a < p → excess l (p + 1) ≡ excess l a +ℤ (x.total +ℤ d) → IsPart l a (p + 1) (record { total = x.total +ℤ d; least = int_min x.least (x.total +ℤ d); greatest = int_max x.greatest (x.total +ℤ d) })
-part_more l a p x d h o s = record {
-  total = s;
-  low = λ j u v. ⊎_elim
-      (λ (w : p < j). let same : excess l j ≡ excess l (p + 1) = ap (excess l) (omega arith) in omega (arith, ints, clamps))
-      (λ (w : j ≤ p). let m = h.low j u w in omega (arith, ints, clamps))
-      (cases_lt p j);
-  high = λ j u v. ⊎_elim
-      (λ (w : p < j). let same : excess l j ≡ excess l (p + 1) = ap (excess l) (omega arith) in omega (arith, ints, clamps))
-      (λ (w : j ≤ p). let m = h.high j u w in omega (arith, ints, clamps))
-      (cases_lt p j);
-  least = by_lt_z (x.total +ℤ d) x.least
-      (λ w. (p + 1, omega arith, omega arith, omega (arith, ints, clamps)))
-      (λ w. let k = h.least in let k1 = k.1 in let k2 = k.2 in let k3 = k.3 in (k.0, k1, omega arith, omega (arith, ints, clamps)));
-  greatest = by_lt_z x.greatest (x.total +ℤ d)
-      (λ w. (p + 1, omega arith, omega arith, omega (arith, ints, clamps)))
-      (λ w. let k = h.greatest in let k1 = k.1 in let k2 = k.2 in let k3 = k.3 in (k.0, k1, omega arith, omega (arith, ints, clamps)));
-}
+-- the node over two neighbouring parts
+pub part_joined : (l : List Bool) (a m b : ℕ) (x y : Node) → IsPart l a m x → IsPart l m b y → IsPart l a b (combined x y)
+part_joined l a m b x y p q =
+    let pt = p.total in let p1 = p.least.1 in let p2 = p.least.2 in let q1 = q.least.1 in let q2 = q.least.2 in
+    record {
+      total = omega (arith, ints);
+      low = λ j u v. ⊎_elim
+          (λ (w : m < j). let h = q.low j w v in omega (arith, ints, clamps))
+          (λ (w : j ≤ m). let h = p.low j u w in omega (arith, ints, clamps))
+          (cases_lt m j);
+      high = λ j u v. ⊎_elim
+          (λ (w : m < j). let h = q.high j w v in omega (arith, ints, clamps))
+          (λ (w : j ≤ m). let h = p.high j u w in omega (arith, ints, clamps))
+          (cases_lt m j);
+      least = by_lt_z (x.total +ℤ y.least) x.least
+          (λ w. let e = q.least.3 in (q.least.0, omega arith, q2, omega (arith, ints, clamps)))
+          (λ w. let e = p.least.3 in (p.least.0, p1, omega arith, omega (arith, ints, clamps)));
+      greatest = by_lt_z x.greatest (x.total +ℤ y.greatest)
+          (λ w. let g1 = q.greatest.1 in let e = q.greatest.3 in (q.greatest.0, omega arith, q.greatest.2, omega (arith, ints, clamps)))
+          (λ w. let g2 = p.greatest.2 in let e = p.greatest.3 in (p.greatest.0, p.greatest.1, omega arith, omega (arith, ints, clamps)));
+    }
+
+pub part_more : (l : List Bool) (a p : ℕ) (x : Node) (d : ℤ) → IsPart l a p x → excess l (p + 1) ≡ excess l p +ℤ d → IsPart l a (p + 1) (combined x (record { total = d; least = d; greatest = d }))
+part_more l a p x d h s = part_joined l a p (p + 1) x _ h (part_start l p d s)
 
 pub part_fits : (l : List Bool) (a p : ℕ) (x : Node) → IsPart l a p x → length l < 2 ^ 63 → a ≤ p → p ≤ length l → FitsSigned w64 x.total × FitsSigned w64 x.least × FitsSigned w64 x.greatest
 part_fits l a p x h short o i = grind (arith, ints, rise_fits)

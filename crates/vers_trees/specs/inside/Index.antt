@@ -1,16 +1,15 @@
 -- What a list with its tree of excesses is made of.
-use Rattle.std.specs.Prelude.{◌≡◌, ℕ, ◌+◌, ◌-◌, ◌*◌, ◌/◌, ◌^◌, ◌<◌, ◌≤◌, ◌⊎◌, max, min, slice_index_or, Bool, List, length, drop, ℤ}
+use Rattle.std.specs.Prelude.{◌≡◌, ℕ, ◌+◌, ◌-◌, ◌*◌, ◌/◌, ◌^◌, ◌<◌, ◌≤◌, ◌⊎◌, max, min, slice_index_or, Bool, List, length, ℤ}
 use Rattle.vers_tally.specs.Reads.{Reads, no_reads, digits}
 use Rattle.vers_trees.specs.Excess.{excess}
 use Rattle.vers_trees.specs.declared.trees.bp.min_max.Node.{Node}
-use Rattle.vers_trees.specs.inside.MinMax.{IsMinMax, AreBlocks, IsPart, empty_node}
+use Rattle.vers_trees.specs.inside.MinMax.{IsMinMax, IsPart, empty_node}
 use Rattle.vers_trees.specs.inside.Scans.{HasNoRise, HasNoRiseBefore}
 use Rattle.vers_trees.specs.Layout.{clog, node_count, levels}
 
 -- the tree over the blocks of a list that has some bits
 pub record IsTreeOf (l : List Bool) (size first : ℕ) (nodes : List Node) : Type 0 where
-  pub tree : IsMinMax first nodes
-  pub blocks : AreBlocks l size (drop first nodes)
+  pub tree : IsMinMax l size first nodes
   pub few : digits first ≤ levels size (length l)
 
 -- a list that is not too long, to be divided into blocks of a size that is allowed

@@ -1,8 +1,9 @@
--- A tree of excesses: what its nodes say of the blocks below them.
-use Rattle.std.specs.Prelude.{Bool, min, ◌≡◌, ℕ, zero, suc, ◌+◌, ◌*◌, ◌-◌, ◌%◌, ◌^◌, ◌<◌, ◌≤◌, ◌⊎◌, List, [], ◌∷◌, length, drop, slice_index_or, ℤ, pos, negsuc, ◌+ℤ◌, ◌-ℤ◌, ◌≤ℤ◌, FitsSigned}
+-- A tree of excesses: what its nodes say of the parts of a list below them.
+use Rattle.std.specs.Prelude.{Bool, true, false, min, ◌≡◌, ◌≢◌, ℕ, ◌+◌, ◌*◌, ◌-◌, ◌%◌, ◌^◌, ◌<◌, ◌≤◌, ◌⊎◌, List, length, slice_index_or, ℤ, pos, negsuc, ◌+ℤ◌, ◌-ℤ◌, ◌≤ℤ◌, FitsSigned}
 use mir.Syntax.{w64}
 use Rattle.std.specs.Int.{int_min, int_max}
 use Rattle.vers_trees.specs.Excess.{excess}
+use Rattle.vers_trees.specs.inside.Scans.{sum_past}
 use Rattle.vers_trees.specs.declared.trees.bp.min_max.Node.{Node}
 
 -- the node over two neighbouring parts
@@ -30,40 +31,25 @@ pub record IsLevel (x : Node) : Type 0 where
   pub total : x.total ≡ pos 0
   pub least : pos 0 ≤ℤ x.least
 
--- the excess before block k
-abbrev pub total_before : List Node → ℕ → ℤ
-total_before [] k = pos 0
-total_before (x ∷ xs) zero = pos 0
-total_before (x ∷ xs) (suc k) = x.total +ℤ total_before xs k
-
 -- what a node over no block holds: its range is empty
 abbrev pub empty_node : Node
 empty_node = record { total = pos 0; least = pos 1; greatest = negsuc 0 }
 
--- some place of block k has the prefix sum t after it
-pub record Reaches (blocks : List Node) (k : ℕ) (t : ℤ) : Type 0 where
-  pub inside : k < length blocks
-  pub low : (total_before blocks k +ℤ (slice_index_or blocks k empty_node).least) ≤ℤ t
-  pub high : t ≤ℤ (total_before blocks k +ℤ (slice_index_or blocks k empty_node).greatest)
+-- x holds the total, least and greatest excess of the places from a up to b, which are some
+pub record IsPart (l : List Bool) (a b : ℕ) (x : Node) : Type 0 where
+  pub total : excess l b ≡ excess l a +ℤ x.total
+  pub low : (j : ℕ) → a < j → j ≤ b → (excess l a +ℤ x.least) ≤ℤ excess l j
+  pub high : (j : ℕ) → a < j → j ≤ b → excess l j ≤ℤ (excess l a +ℤ x.greatest)
+  pub least : (j : ℕ) × (a < j) × (j ≤ b) × (excess l j ≡ excess l a +ℤ x.least)
+  pub greatest : (j : ℕ) × (a < j) × (j ≤ b) × (excess l j ≡ excess l a +ℤ x.greatest)
 
--- some place of block k has the prefix sum t before it, or t is the sum at its end
-abbrev pub Meets : List Node → ℕ → ℤ → Type 0
-Meets blocks k t = (total_before blocks k ≡ t) ⊎ Reaches blocks k t
+-- where block k of `size` bits begins, or the end of the list
+abbrev pub start_of : List Bool → ℕ → ℕ → ℕ
+start_of l size k = min (k * size) (length l)
 
--- the range of a part with a bit holds its total, and 1 or a number below, -1 or a number above
-pub record IsRange (x : Node) : Type 0 where
-  pub low : x.least ≤ℤ x.total
-  pub high : x.total ≤ℤ x.greatest
-  pub first_low : x.least ≤ℤ pos 1
-  pub first_high : negsuc 0 ≤ℤ x.greatest
-
--- x is the node over the blocks from s up to e
-pub record Covers (blocks : List Node) (s e : ℕ) (x : Node) : Type 0 where
-  pub total : total_before blocks e ≡ total_before blocks s +ℤ x.total
-  pub shape : IsRange x ⊎ (x ≡ empty_node)
-  pub found : (t : ℤ) → (total_before blocks s +ℤ x.least) ≤ℤ t → t ≤ℤ (total_before blocks s +ℤ x.greatest) → (k : ℕ) × (s ≤ k) × (k < e) × Reaches blocks k t
-  pub low : (k : ℕ) (t : ℤ) → s ≤ k → k < e → Reaches blocks k t → (total_before blocks s +ℤ x.least) ≤ℤ t
-  pub high : (k : ℕ) (t : ℤ) → s ≤ k → k < e → Reaches blocks k t → t ≤ℤ (total_before blocks s +ℤ x.greatest)
+-- x is the node over the blocks from i up to e, and over none past the end of the list
+pub record Covers (l : List Bool) (size i e : ℕ) (x : Node) : Type 0 where
+  pub part : IsPart l (start_of l size i) (start_of l size e) x ⊎ ((length l ≤ i * size) × (x ≡ empty_node))
 
 -- in a tree with `first` nodes above its leaves, node i stands over the leaves from s up to e
 pub record StandsOver (first i s e : ℕ) : Type 0 where
@@ -76,97 +62,90 @@ pub record StandsOver (first i s e : ℕ) : Type 0 where
   pub from : s ≡ offset * 2 ^ height
   pub upto : e ≡ offset * 2 ^ height + 2 ^ height
 
--- the nodes are a tree over the blocks that stand from `first` on, and no sum that a search meets is too long
-pub record IsMinMax (first : ℕ) (nodes : List Node) : Type 0 where
+-- from node i on each node covers its part
+abbrev pub CoveredFrom : List Bool → ℕ → ℕ → List Node → ℕ → Type 0
+CoveredFrom l size first nodes i = (m s e : ℕ) → i ≤ m → StandsOver first m s e → Covers l size s e (slice_index_or nodes m empty_node)
+
+-- the leaves of a list that is not too long cover its blocks
+pub record AreLeaves (l : List Bool) (size first : ℕ) (nodes : List Node) : Type 0 where
+  pub short : length l < 2 ^ 63
+  pub covered : CoveredFrom l size first nodes first
+
+-- the nodes are a tree over the blocks of the list
+pub record IsMinMax (l : List Bool) (size first : ℕ) (nodes : List Node) : Type 0 where
   pub height : ℕ
   pub levels : 2 ^ height ≡ first + 1
-  pub fits : length (drop first nodes) ≤ first + 1
-  pub covers : (i s e : ℕ) → StandsOver first i s e → Covers (drop first nodes) s e (slice_index_or nodes i empty_node)
-  pub small : (s k : ℕ) (t : ℤ) → s ≤ k → Reaches (drop first nodes) k t → FitsSigned w64 (t -ℤ total_before (drop first nodes) s)
-  pub near : (s k : ℕ) (t : ℤ) → k < length (drop first nodes) → Meets (drop first nodes) k t → FitsSigned w64 (t -ℤ total_before (drop first nodes) s)
-  pub range : (k : ℕ) → k < length (drop first nodes) → IsRange (slice_index_or (drop first nodes) k empty_node)
-  pub short : first < 2 ^ 63
-  pub above : first < length nodes
-
--- block j is the first from `from` on that reaches the sum t, which is `left` above the sum before j
-pub record IsNextFrom (blocks : List Node) (from : ℕ) (t : ℤ) (j : ℕ) (left : ℤ) : Type 0 where
-  pub after : from ≤ j
-  pub remains : total_before blocks j +ℤ left ≡ t
-  pub reaches : Reaches blocks j t
-  pub first : (k : ℕ) → from ≤ k → k < j → Reaches blocks k t → ⊥
-
--- the first block from `from` on that reaches the sum t is below the node at `place`, and t is `left` above the sum before that node's part
-pub record LeadsTo (first : ℕ) (nodes : List Node) (from : ℕ) (t : ℤ) (place : ℕ) (left : ℤ) : Type 0 where
-  pub start : ℕ
-  pub stop : ℕ
-  pub stands : StandsOver first place start stop
-  pub after : from ≤ start
-  pub remains : total_before (drop first nodes) start +ℤ left ≡ t
-  pub none : (k : ℕ) → from ≤ k → k < start → Reaches (drop first nodes) k t → ⊥
-  pub range : IsInRange (slice_index_or nodes place empty_node) left
-
--- up to the end of the part of the node at `place` no block from `from` on reaches the sum t, which is `left` above the sum at that end
-pub record PassedTo (first : ℕ) (nodes : List Node) (from : ℕ) (t : ℤ) (place : ℕ) (left : ℤ) : Type 0 where
-  pub start : ℕ
-  pub stop : ℕ
-  pub stands : StandsOver first place start stop
-  pub after : from ≤ stop
-  pub remains : total_before (drop first nodes) stop +ℤ left ≡ t
-  pub none : (k : ℕ) → from ≤ k → k < stop → Reaches (drop first nodes) k t → ⊥
-
--- x holds the total, least and greatest excess of the places from a up to b, which are some
-pub record IsPart (l : List Bool) (a b : ℕ) (x : Node) : Type 0 where
-  pub total : excess l b ≡ excess l a +ℤ x.total
-  pub low : (j : ℕ) → a < j → j ≤ b → (excess l a +ℤ x.least) ≤ℤ excess l j
-  pub high : (j : ℕ) → a < j → j ≤ b → excess l j ≤ℤ (excess l a +ℤ x.greatest)
-  pub least : (j : ℕ) × (a < j) × (j ≤ b) × (excess l j ≡ excess l a +ℤ x.least)
-  pub greatest : (j : ℕ) × (a < j) × (j ≤ b) × (excess l j ≡ excess l a +ℤ x.greatest)
-
--- the nodes are those of the list's blocks of `size` bits, the last perhaps shorter
-pub record AreBlocks (l : List Bool) (size : ℕ) (blocks : List Node) : Type 0 where
+  pub fits : length l ≤ (first + 1) * size
+  pub covered : CoveredFrom l size first nodes 0
   pub some : 0 < size
-  pub enough : length l ≤ length blocks * size
-  pub part : (k : ℕ) → k < length blocks → IsPart l (k * size) (min (k * size + size) (length l)) (slice_index_or blocks k empty_node)
+  pub short : length l < 2 ^ 63
+  pub small : first < 2 ^ 63
 
--- from node i on each node covers its part
-abbrev pub CoveredFrom : ℕ → List Node → ℕ → Type 0
-CoveredFrom first nodes i = (m s e : ℕ) → i ≤ m → StandsOver first m s e → Covers (drop first nodes) s e (slice_index_or nodes m empty_node)
+-- what a search looks for in a list in blocks of `size` bits: a sum that is `rise` above the one before the place `from`
+pub record Sought : Type 0 where
+  pub bits : List Bool
+  pub size : ℕ
+  pub from : ℕ
+  pub rise : ℤ
 
--- the blocks' ranges hold, and no sum of one after another is too long
-pub record AreLeaves (blocks : List Node) : Type 0 where
-  pub range : (k : ℕ) → k < length blocks → IsRange (slice_index_or blocks k empty_node)
-  pub small : (s k : ℕ) (t : ℤ) → s ≤ k → Reaches blocks k t → FitsSigned w64 (t -ℤ total_before blocks s)
+abbrev pub target : Sought → ℤ
+target s = excess s.bits s.from +ℤ s.rise
 
--- block j is the last before `to` that meets the sum t, which is `left` above the sum after j
-pub record IsPreviousBefore (blocks : List Node) (to : ℕ) (t : ℤ) (j : ℕ) (left : ℤ) : Type 0 where
-  pub before : j < to
-  pub remains : total_before blocks (j + 1) +ℤ left ≡ t
-  pub meets : Meets blocks j t
-  pub last : (k : ℕ) → j < k → k < to → Meets blocks k t → ⊥
+-- of two ends of a part the one that a search meets first
+abbrev pub edge : (back : Bool) → ℕ → ℕ → ℕ
+edge false a b = a
+edge true a b = b
 
--- the last block before `to` that meets the sum t is below the node at `place`, and t is `left` above the sum after that node's part
-pub record LeadsBack (first : ℕ) (nodes : List Node) (to : ℕ) (t : ℤ) (place : ℕ) (left : ℤ) : Type 0 where
+-- place p is one that a search has come to, and place k one that it has passed then
+abbrev pub IsAfter : (back : Bool) → ℕ → ℕ → Type 0
+IsAfter false from p = from ≤ p
+IsAfter true from p = p < from
+
+abbrev pub IsBetween : (back : Bool) → ℕ → ℕ → ℕ → Type 0
+IsBetween false from p k = (from ≤ k) × (k < p)
+IsBetween true from p k = (p ≤ k) × (k < from)
+
+-- a search has passed the places up to p, none of which has its sum, which is `left` above the one before p
+pub record Passed (back : Bool) (s : Sought) (p : ℕ) (left : ℤ) : Type 0 where
+  pub inside : s.from ≤ length s.bits
+  pub after : IsAfter back s.from p
+  pub remains : excess s.bits p +ℤ left ≡ target s
+  pub none : (k : ℕ) → IsBetween back s.from p k → sum_past back s.bits k ≢ target s
+
+-- no place that a search can come to has its sum
+abbrev pub HasNone : (back : Bool) → Sought → Type 0
+HasNone false s = (k : ℕ) → s.from ≤ k → k < length s.bits → sum_past false s.bits k ≢ target s
+HasNone true s = (k : ℕ) → k < s.from → sum_past true s.bits k ≢ target s
+
+-- a place of the blocks from i up to e has the sum
+abbrev pub HasPlace : (back : Bool) → Sought → ℕ → ℕ → Type 0
+HasPlace back s i e = (k : ℕ) × (start_of s.bits s.size i ≤ k) × (k < start_of s.bits s.size e) × (sum_past back s.bits k ≡ target s)
+
+-- the first place with the sum is in the blocks from i up to e, before which the search has passed all
+pub record IsAhead (back : Bool) (s : Sought) (i e : ℕ) (left : ℤ) : Type 0 where
+  pub passed : Passed back s (start_of s.bits s.size (edge back i e)) left
+  pub place : HasPlace back s i e
+
+-- a search has passed the block `begin`
+pub record BeginsAt (back : Bool) (s : Sought) (first : ℕ) (nodes : List Node) (begin : ℕ) (left : ℤ) : Type 0 where
+  pub tree : IsMinMax s.bits s.size first nodes
+  pub some : begin * s.size < length s.bits
+  pub passed : Passed back s (start_of s.bits s.size (edge back (begin + 1) begin)) left
+
+-- the first place with the sum is below the node at `place`
+pub record LeadsTo (back : Bool) (s : Sought) (first : ℕ) (nodes : List Node) (place : ℕ) (left : ℤ) : Type 0 where
+  pub tree : IsMinMax s.bits s.size first nodes
   pub start : ℕ
   pub stop : ℕ
   pub stands : StandsOver first place start stop
-  pub before : stop ≤ to
-  pub within : to ≤ length (drop first nodes)
-  pub remains : total_before (drop first nodes) stop +ℤ left ≡ t
-  pub none : (k : ℕ) → stop ≤ k → k < to → Meets (drop first nodes) k t → ⊥
-  pub found : ℕ
-  pub from : start ≤ found
-  pub below : found < stop
-  pub meets : Meets (drop first nodes) found t
+  pub ahead : IsAhead back s start stop left
 
--- from the start of the part of the node at `place` no block before `to` meets the sum t, which is `left` above the sum at that start
-pub record PassedBack (first : ℕ) (nodes : List Node) (to : ℕ) (t : ℤ) (place : ℕ) (left : ℤ) : Type 0 where
+-- a search has passed the part of the node at `place`
+pub record PassedTo (back : Bool) (s : Sought) (first place : ℕ) (left : ℤ) : Type 0 where
   pub start : ℕ
   pub stop : ℕ
   pub stands : StandsOver first place start stop
-  pub before : start ≤ to
-  pub within : to ≤ length (drop first nodes)
-  pub remains : total_before (drop first nodes) start +ℤ left ≡ t
-  pub none : (k : ℕ) → start ≤ k → k < to → Meets (drop first nodes) k t → ⊥
+  pub passed : Passed back s (start_of s.bits s.size (edge back stop start)) left
 
 -- `odd` is `number` without the zeros at its end
 pub record IsOddPart (number odd : ℕ) : Type 0 where
@@ -174,14 +153,40 @@ pub record IsOddPart (number odd : ℕ) : Type 0 where
   pub splits : number ≡ odd * 2 ^ zeros
   pub ends : odd % 2 ≡ 1
 
--- no block from `from` on reaches the sum t before the part of the node at `place`, a right child, and t is `left` above the sum there; at place 0 none does at all
-pub record ComesTo (first : ℕ) (nodes : List Node) (from : ℕ) (t : ℤ) (place : ℕ) (left : ℤ) : Type 0 where
-  pub even : place % 2 ≡ 0
-  pub passed : 0 < place → PassedTo first nodes from t (place - 1) left
-  pub none : place ≡ 0 → (k : ℕ) → from ≤ k → Reaches (drop first nodes) k t → ⊥
+-- `next` is the node over the blocks right past those of `node`, or 0 where there are none
+abbrev pub IsBeside : (back : Bool) → ℕ → ℕ → Type 0
+IsBeside false node next = IsOddPart (node + 2) (next + 1)
+IsBeside true node next = (odd : ℕ) × IsOddPart (node + 1) odd × (next ≡ odd - 2)
 
--- no block before `to` meets the sum t past the part of the node at `place`, a left child, and t is `left` above the sum there; at place 0 none does at all
-pub record ComesBack (first : ℕ) (nodes : List Node) (to : ℕ) (t : ℤ) (place : ℕ) (left : ℤ) : Type 0 where
-  pub odd : 0 < place → place % 2 ≡ 1
-  pub passed : 0 < place → PassedBack first nodes to t (place + 1) left
-  pub none : place ≡ 0 → (k : ℕ) → k < to → Meets (drop first nodes) k t → ⊥
+-- the child of a node that a search comes to first, the other child, and of that other child the first
+abbrev pub near_child : (back : Bool) → ℕ → ℕ
+near_child false node = 2 * node + 1
+near_child true node = 2 * node + 2
+
+abbrev pub far_child : (back : Bool) → ℕ → ℕ
+far_child false node = 2 * node + 2
+far_child true node = 2 * node + 1
+
+abbrev pub IsFarChild : (back : Bool) → ℕ → Type 0
+IsFarChild false place = place % 2 ≡ 0
+IsFarChild true place = place % 2 ≡ 1
+
+abbrev pub beside_far : (back : Bool) → ℕ → ℕ
+beside_far false place = place - 1
+beside_far true place = place + 1
+
+-- a search comes to the node at `place`, a far child, and has passed the part of the near one; at place 0 there is nothing left to pass
+pub record ComesTo (back : Bool) (s : Sought) (first : ℕ) (nodes : List Node) (place : ℕ) (left : ℤ) : Type 0 where
+  pub tree : IsMinMax s.bits s.size first nodes
+  pub far : 0 < place → IsFarChild back place
+  pub passed : 0 < place → PassedTo back s first (beside_far back place) left
+  pub none : place ≡ 0 → HasNone back s
+
+-- a node tells that its part has a sum, which is `left` above the one at the end that a search meets first; and what is left past the part
+abbrev pub IsMet : (back : Bool) → Node → ℤ → Type 0
+IsMet false x left = IsInRange x left
+IsMet true x left = IsInRangeOrStart x (left +ℤ x.total)
+
+abbrev pub left_past : (back : Bool) → ℤ → Node → ℤ
+left_past false left x = left -ℤ x.total
+left_past true left x = left +ℤ x.total

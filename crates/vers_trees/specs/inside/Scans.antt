@@ -4,6 +4,11 @@ use Rattle.vers_bits.specs.Bits.{bit_value}
 use Rattle.vers_tally.specs.Reads.{Reads, no_reads}
 use Rattle.vers_trees.specs.Excess.{excess}
 
+-- the sum past a place, on the side that a search goes to
+abbrev pub sum_past : (back : Bool) → List Bool → ℕ → ℤ
+sum_past false l k = excess l (k + 1)
+sum_past true l k = excess l k
+
 -- place is the first from `from` on and before `end` after which the excess is r above that before `from`
 pub record IsFirstRise (l : List Bool) (from end : ℕ) (r : ℤ) (place : ℕ) : Type 0 where
   pub low : from ≤ place

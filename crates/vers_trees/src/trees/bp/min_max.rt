@@ -1,8 +1,8 @@
 //! The tree of excesses over the blocks of a list.
-ghost use Rattle.std.specs.Prelude.{◌≡◌, ℕ, ℤ, ◌+◌, ◌-◌, ◌*◌, ◌<◌, ◌≤◌, ◌^◌, ◌+ℤ◌, length, drop, min, slice_index_or, IfOk, MatchOption, Decides};
+ghost use Rattle.std.specs.Prelude.{◌≡◌, ◌+◌, ◌*◌, ◌<◌, ◌≤◌, ◌^◌, true, false, length, min, slice_index_or, IfOk, MatchOption, Decides};
 ghost use Rattle.vers_tally.specs.Reads.{AddsAtMost, only_nodes, digits};
 ghost use Rattle.vers_trees.specs.inside.Index.{IsIndexed};
-ghost use Rattle.vers_trees.specs.inside.MinMax.{IsInRange, IsInRangeOrStart, IsLevel, empty_node, total_before, Reaches, Meets, IsMinMax, IsOddPart, LeadsTo, LeadsBack, IsNextFrom, IsPreviousBefore};
+ghost use Rattle.vers_trees.specs.inside.MinMax.{IsInRange, IsInRangeOrStart, IsLevel, empty_node, Sought, BeginsAt, LeadsTo, IsAhead, HasNone, IsOddPart, IsBeside};
 
 mod build;
 
@@ -141,17 +141,14 @@ impl<A: Allocator + Copy> MinMaxTree<A> {
         self.node_counted(0, tally)
     }
 
-    // The first block below the node at `place` that reaches a sum, given what remains to it there; and what
-    // remains at that block.
+    // The first block below the node at `place` that has a place with the sum of a search, given what is left to it
+    // there; and what is left at that block.
     #[inline(always)]
     fn descend_counted(&self, place: usize, mut left: i64, tally: &mut Tally) -> (usize, i64)
-        requires tree { IsMinMax self.now.first self.now.nodes }
         requires within { place ≤ 2 * self.now.first }
-        requires leads { (from : ℕ) × (t : ℤ)
-            × LeadsTo self.now.first self.now.nodes from t place left }
-        ensures found { (from : ℕ) (t : ℤ) →
-            LeadsTo self.now.first self.now.nodes from t place left →
-            IsNextFrom (drop self.now.first self.now.nodes) from t result.0 result.1 }
+        requires leads { (s : Sought) × LeadsTo false s self.now.first self.now.nodes place left }
+        ensures found { (s : Sought) → LeadsTo false s self.now.first self.now.nodes place left
+            → IsAhead false s result.0 (result.0 + 1) result.1 }
         ensures adds { AddsAtMost tally.old tally.new (only_nodes (digits self.now.first)) }
     {
         let mut node = place;
@@ -165,8 +162,8 @@ impl<A: Allocator + Copy> MinMaxTree<A> {
         (node - self.first, left)
     }
 
-    // The first block after `begin` that reaches `left` above the sum after `begin`, and what remains
-    // to it at that block's start.
+    // The first block after `begin` that has a place with the sum of a search, which is `left` above that past
+    // `begin`; and what is left at that block's start.
     #[inline(always)]
     pub(super) fn next_block_counted(
         &self,
@@ -174,13 +171,9 @@ impl<A: Allocator + Copy> MinMaxTree<A> {
         mut left: i64,
         tally: &mut Tally,
     ) -> Option<(usize, i64)>
-        requires tree { IsMinMax self.now.first self.now.nodes }
-        requires begins { begin < length (drop self.now.first self.now.nodes) }
-        ensures value { let t = total_before (drop self.now.first self.now.nodes) (begin + 1) +ℤ left in
-            MatchOption
-            result
-            ((k : ℕ) → begin + 1 ≤ k → Reaches (drop self.now.first self.now.nodes) k t → ⊥)
-            (λ p. IsNextFrom (drop self.now.first self.now.nodes) (begin + 1) t p.0 p.1) }
+        requires begins { (s : Sought) × BeginsAt false s self.now.first self.now.nodes begin left }
+        ensures value { (s : Sought) → BeginsAt false s self.now.first self.now.nodes begin left
+            → MatchOption result (HasNone false s) (λ p. IsAhead false s p.0 (p.0 + 1) p.1) }
         ensures adds { AddsAtMost tally.old tally.new (only_nodes (2 * digits self.now.first)) }
     {
         if begin >= self.first {
@@ -199,17 +192,14 @@ impl<A: Allocator + Copy> MinMaxTree<A> {
         None
     }
 
-    // The last block below the node at `place` that meets a sum, given what remains to it at the node's
-    // end; and what remains at that block's end.
+    // The last block below the node at `place` that has a place with the sum of a search, given what is left to it at
+    // the node's end; and what is left at that block's end.
     #[inline(always)]
     fn descend_back_counted(&self, place: usize, mut left: i64, tally: &mut Tally) -> (usize, i64)
-        requires tree { IsMinMax self.now.first self.now.nodes }
         requires within { place ≤ 2 * self.now.first }
-        requires leads { (to : ℕ) × (t : ℤ) × LeadsBack self.now.first self.now.nodes to t place
-            left }
-        ensures found { (to : ℕ) (t : ℤ) →
-            LeadsBack self.now.first self.now.nodes to t place left →
-            IsPreviousBefore (drop self.now.first self.now.nodes) to t result.0 result.1 }
+        requires leads { (s : Sought) × LeadsTo true s self.now.first self.now.nodes place left }
+        ensures found { (s : Sought) → LeadsTo true s self.now.first self.now.nodes place left
+            → IsAhead true s result.0 (result.0 + 1) result.1 }
         ensures adds { AddsAtMost tally.old tally.new (only_nodes (digits self.now.first)) }
     {
         let mut node = place;
@@ -223,8 +213,8 @@ impl<A: Allocator + Copy> MinMaxTree<A> {
         (node - self.first, left)
     }
 
-    // The last block before `begin` that meets `left` above the sum before `begin`, and what remains to
-    // it at that block's end.
+    // The last block before `begin` that has a place with the sum of a search, which is `left` above that before
+    // `begin`; and what is left at that block's end.
     #[inline(always)]
     pub(super) fn previous_block_counted(
         &self,
@@ -232,13 +222,9 @@ impl<A: Allocator + Copy> MinMaxTree<A> {
         mut left: i64,
         tally: &mut Tally,
     ) -> Option<(usize, i64)>
-        requires tree { IsMinMax self.now.first self.now.nodes }
-        requires begins { begin < length (drop self.now.first self.now.nodes) }
-        ensures value { let t = total_before (drop self.now.first self.now.nodes) begin +ℤ left in
-            MatchOption
-            result
-            ((k : ℕ) → k < begin → Meets (drop self.now.first self.now.nodes) k t → ⊥)
-            (λ p. IsPreviousBefore (drop self.now.first self.now.nodes) begin t p.0 p.1) }
+        requires begins { (s : Sought) × BeginsAt true s self.now.first self.now.nodes begin left }
+        ensures value { (s : Sought) → BeginsAt true s self.now.first self.now.nodes begin left
+            → MatchOption result (HasNone true s) (λ p. IsAhead true s p.0 (p.0 + 1) p.1) }
         ensures adds { AddsAtMost tally.old tally.new (only_nodes (2 * digits self.now.first)) }
     {
         let mut node = node_before(self.first + begin);
@@ -261,7 +247,7 @@ impl<A: Allocator + Copy> MinMaxTree<A> {
 #[inline(always)]
 fn node_after(node: usize) -> usize
     requires { node + 2 < 2 ^ 64 }
-    ensures { IsOddPart (node + 2) (result + 1) }
+    ensures { IsBeside false node result }
 {
     odd_part(node + 2) - 1
 }
@@ -271,7 +257,7 @@ fn node_after(node: usize) -> usize
 #[inline(always)]
 fn node_before(node: usize) -> usize
     requires { node + 1 < 2 ^ 64 }
-    ensures { (odd : ℕ) × IsOddPart (node + 1) odd × (result ≡ odd - 2) }
+    ensures { IsBeside true node result }
 {
     odd_part(node + 1).saturating_sub(2)
 }

@@ -1,5 +1,5 @@
 //! Building the tree of excesses of a list, from its blocks up to the root.
-ghost use Rattle.std.specs.Prelude.{◌≡◌, ℕ, ◌+◌, ◌*◌, ◌<◌, ◌≤◌, ◌≤ℤ◌, ◌<ℤ◌, ◌^◌, length, drop, slice_index_or, vec_len, IfOk, OnOk};
+ghost use Rattle.std.specs.Prelude.{◌≡◌, ℕ, Bool, List, ◌+◌, ◌*◌, ◌<◌, ◌≤◌, ◌≤ℤ◌, ◌<ℤ◌, ◌^◌, length, slice_index_or, vec_len, IfOk, OnOk};
 ghost use Rattle.vers_trees.specs.inside.Index.{CanBeIndexed, IsTreeOf, IsWidth, AreFirstBlocks};
 ghost use Rattle.vers_trees.specs.Layout.{block_count, node_count};
 ghost use Rattle.vers_trees.specs.inside.MinMax.{JoinFits, AreLeaves, CoveredFrom, combined, empty_node};
@@ -108,11 +108,11 @@ fn node_or_empty(nodes: &[Node], i: usize) -> Node
 // Fills the `first` nodes above the leaves.
 fn fill(nodes: &mut [Node], first: usize)
     requires levels { (h : ℕ) × (2 ^ h ≡ first + 1) }
-    requires leaves { AreLeaves (drop first nodes.old) }
+    requires leaves { (bits : List Bool) × (size : ℕ) × AreLeaves bits size first nodes.old }
     requires room { first < length nodes.old }
     requires short { first < 2 ^ 63 }
-    ensures blocks { drop first nodes.new ≡ drop first nodes.old }
-    ensures covers { CoveredFrom first nodes.new 0 }
+    ensures { (bits : List Bool) (size : ℕ) → AreLeaves bits size first nodes.old
+        → CoveredFrom bits size first nodes.new 0 }
 {
     let mut i = first;
     while i > 0 {

@@ -22,4 +22,4 @@ loop-place-preserved g c =
     let t : to_z w64 (of_z w64 (to_z w64 (of_z w64 c.loop-place.node.total) +ℤ to_z w64 (of_z w64 c.step.result))) ≡ c.loop-place.node.total +ℤ c.step.result = rw (to_z-of_z w64 c.step.result (step_fits _ _ c.step.ensures), to_z-of_z w64 c.loop-place.node.total p.0) (to_z-of_z w64 _ h) in
     let m : to_z w64 (of_z w64 c.min.result) ≡ int_min c.loop-place.node.least (c.loop-place.node.total +ℤ c.step.result) = to_z-of_z w64 c.min.result (search rules) ∙ (rw (t, to_z-of_z w64 _ h, to_z-of_z w64 c.loop-place.node.least p.1) at c.min.ensures.value) in
     let n : to_z w64 (of_z w64 c.max.result) ≡ int_max c.loop-place.node.greatest (c.loop-place.node.total +ℤ c.step.result) = to_z-of_z w64 c.max.result (search rules) ∙ (rw (t, to_z-of_z w64 _ h, to_z-of_z w64 c.loop-place.node.greatest p.2) at c.max.ensures.value) in
-    subst (λ (x : Node). IsPart c.args.bits.now c.args.from (c.loop-place.place + 1) x) (sym (same_node _ _ t m n)) (part_more _ _ _ c.loop-place.node c.step.result c.loop-place.invariant (omega arith) s)
+    subst (λ (x : Node). IsPart c.args.bits.now c.args.from (c.loop-place.place + 1) x) (sym (same_node _ _ t m n)) (part_more _ _ _ c.loop-place.node c.step.result c.loop-place.invariant e)

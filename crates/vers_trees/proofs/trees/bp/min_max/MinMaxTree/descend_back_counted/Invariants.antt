@@ -1,9 +1,9 @@
-use Rattle.vers_trees.proofs.Words.{ℕ, ℤ, ◌-◌, ◌*◌, ◌≤◌, ◌+◌, AddsAtMost, only_nodes, digits, LeadsBack}
+use Rattle.vers_trees.proofs.Words.{true, ◌-◌, ◌*◌, ◌≤◌, ◌+◌, AddsAtMost, only_nodes, digits, Sought, LeadsTo}
 use Rattle.vers_trees.proofs.trees.bp.min_max.MinMaxTree.descend_back_counted.Given as goal
 
 abbrev pub invariant-loop-node : goal.invariant-loop-node
 invariant-loop-node g l = record {
-  every : (to : ℕ) (t : ℤ) → LeadsBack l.self.first l.self.nodes to t l.fn.place l.fn.left → LeadsBack l.self.first l.self.nodes to t l.node l.left;
+  every : (s : Sought) → LeadsTo true s l.self.first l.self.nodes l.fn.place l.fn.left → LeadsTo true s l.self.first l.self.nodes l.node l.left;
   within : l.node ≤ 2 * l.self.first;
   reads : AddsAtMost l.fn.tally l.tally (only_nodes (digits (l.node + 1) - 1));
 }

@@ -1,9 +1,9 @@
-use Rattle.vers_trees.proofs.Words.{◌-◌, ◌*◌, ◌≤◌, ◌+◌, ◌+ℤ◌, drop, AddsAtMost, only_nodes, digits, ComesTo, total_before}
+use Rattle.vers_trees.proofs.Words.{false, ◌-◌, ◌*◌, ◌≤◌, ◌+◌, AddsAtMost, only_nodes, digits, Sought, BeginsAt, ComesTo}
 use Rattle.vers_trees.proofs.trees.bp.min_max.MinMaxTree.next_block_counted.Given as goal
 
 abbrev pub invariant-loop-node : goal.invariant-loop-node
 invariant-loop-node g l = record {
-  comes : ComesTo l.self.first l.self.nodes (l.begin + 1) (total_before (drop l.self.first l.self.nodes) (l.begin + 1) +ℤ l.fn.left) l.node l.left;
+  comes : (s : Sought) → BeginsAt false s l.self.first l.self.nodes l.begin l.fn.left → ComesTo false s l.self.first l.self.nodes l.node l.left;
   within : l.node ≤ 2 * l.self.first;
   reads : AddsAtMost l.fn.tally l.tally (only_nodes (digits (2 * l.self.first + 1) - digits (l.node + 1)));
 }

@@ -1,9 +1,9 @@
-use Rattle.vers_trees.proofs.Words.{◌-◌, ◌*◌, ◌≤◌, ◌+◌, ◌+ℤ◌, drop, AddsAtMost, only_nodes, digits, ComesBack, total_before}
+use Rattle.vers_trees.proofs.Words.{true, ◌-◌, ◌*◌, ◌≤◌, ◌+◌, AddsAtMost, only_nodes, digits, Sought, BeginsAt, ComesTo}
 use Rattle.vers_trees.proofs.trees.bp.min_max.MinMaxTree.previous_block_counted.Given as goal
 
 abbrev pub invariant-loop-node : goal.invariant-loop-node
 invariant-loop-node g l = record {
-  comes : ComesBack l.self.first l.self.nodes l.begin (total_before (drop l.self.first l.self.nodes) l.begin +ℤ l.fn.left) l.node l.left;
+  comes : (s : Sought) → BeginsAt true s l.self.first l.self.nodes l.begin l.fn.left → ComesTo true s l.self.first l.self.nodes l.node l.left;
   within : l.node ≤ 2 * l.self.first;
   reads : AddsAtMost l.fn.tally l.tally (only_nodes (digits (2 * l.self.first + 1) - digits (l.node + 1)));
 }
