@@ -5,7 +5,7 @@ use Rattle.vers_trees.proofs.grammar.Grammar as Grammar
 use Rattle.vers_trees.proofs.grammar.Paired.{closes_rises, closes_falls, paired_closes, closes_paired, open_is_paired, close_is_paired, Closes}
 use Rattle.vers_trees.proofs.grammar.Pairs.{contains_map, paired_from_contains, contains_from_paired}
 use Rattle.vers_trees.proofs.kin.Kin.{parent_is_search}
-use Rattle.vers_trees.proofs.kin.NodeList.{one_pair, node_pair, opens}
+use Rattle.vers_trees.proofs.kin.NodeList.{one_pair, bit_inside, node_pair, opens}
 use Rattle.vers_trees.proofs.layout.Widths.{some_counted, one_at_least}
 use Rattle.vers_trees.proofs.levels.NodeLaws.{AscendsFrom, nodes_ascend, filter_ascends, next_member, member_before, first_member_before, last_by_number, member_passes, passing_holds}
 use Rattle.vers_trees.proofs.searches.Beside.{enclosing_open, enclosing_close}
@@ -13,9 +13,6 @@ use Rattle.vers_trees.proofs.searches.Searches.{after_some, after_is, before_som
 use Rattle.vers_trees.proofs.kin.Partners.{after_from_closes, closes_from_after, before_from_closes, closes_from_before, before_pair, enclose_at_close}
 
 -- ---- nodes
-
-bit_inside : (l : List Bool) (v : ℕ) → get_or l v false ≡ true → v < length l
-bit_inside l v e = ⊎_elim (λ (h : v < length l). h) (λ (h : length l ≤ v). let p = get_or_past l v false h in absurd (cc)) (cases_lt v (length l))
 
 -- in a balanced list a node opens at each place that holds a one, where a place past the end counts as a zero, and nowhere else
 pub node_iff_bit : (bits : List Bool) (v : ℕ) → IsBalanced bits → IsNode (forest_of bits) v ↔ (get_or bits v false ≡ true)

@@ -1,14 +1,14 @@
 -- The words that these proofs are written in: those of the definitions, and the lemmas of the crates below.
-pub use Rattle.std.proofs.Common.{◌≡◌, ℕ, ◌+◌, ◌-◌, ◌*◌, ◌<◌, ◌≤◌, ◌↔◌, Decides, Bool, true, false, List, [], ◌∷◌, ◌++◌, map, length, get_or, Option, Some, None, slice_get, option_map, zero, suc, refl, ap, ◌∙◌, append_assoc, unwrap_or, ◌≢◌, ℤ, pos, ◌+ℤ◌, ◌-ℤ◌, ◌≤ℤ◌, ◌<ℤ◌, arith, subst, cond, take, count_by, negsuc, add-one, zero-add, suc-add, sym, ◌⊎◌, inl, inr, length-append, ⊎_elim, ◌&&◌, ltb, leb, eqb, ◌/◌, ◌%◌, min, neg_ℤ, not, filter, find, ◌^◌, drop, FitsSigned, w64, set, to_z, of_z, max, length-drop, nat_eq, count_ones, replicate, pow-suc, Result, Ok, Err, MatchResult, MatchOption, ◌||◌, bit_or, bit_and, slice_index_or, rules, All, reverse}
+pub use Rattle.std.proofs.Common.{◌≡◌, ℕ, ◌+◌, ◌-◌, ◌*◌, ◌<◌, ◌≤◌, ◌↔◌, Decides, Bool, true, false, List, [], ◌∷◌, ◌++◌, map, length, get_or, Option, Some, None, slice_get, option_map, zero, suc, refl, ap, ◌∙◌, append_assoc, add_assoc, unwrap_or, ◌≢◌, ℤ, pos, ◌+ℤ◌, ◌-ℤ◌, ◌≤ℤ◌, ◌<ℤ◌, arith, subst, cond, take, count_by, negsuc, add-one, zero-add, suc-add, sym, ◌⊎◌, inl, inr, length-append, ⊎_elim, ◌&&◌, ltb, leb, eqb, ◌/◌, ◌%◌, min, neg_ℤ, not, filter, find, ◌^◌, drop, FitsSigned, w64, set, to_z, of_z, max, length-drop, nat_eq, count_ones, replicate, pow-suc, Result, Ok, Err, MatchResult, MatchOption, ◌||◌, bit_or, bit_and, slice_index_or, rules, All, reverse}
 pub use Rattle.std.specs.Prelude.{Contains, IsTrue, ◌==◌, is_some}
 pub use Rattle.std.proofs.Math.Nat.{eq-or-lt_of_le, div-lt_iff_lt-mul, mul-le-mul_right, pow-succ', le-mul_of_pos_right, pow-le-pow_right, mod-eq_of_lt, div-mul-le_self}
 pub use Rattle.std.proofs.Math.Seq.{take-append_seam, drop-cons}
-pub use Rattle.std.proofs.lemmas.Bool.{ne_eqb, not-true, cases_lt, cases_order, lt-ltb, le-ltb, and_from, and_left, and_right, le-leb, lt-leb, cases_Bool, eq-eqb, eqb-true, true_from_ne_false, false_from_ne_true}
+pub use Rattle.std.proofs.lemmas.Bool.{ne_eqb, not-true, cond_both, cases_lt, cases_order, lt-ltb, le-ltb, and_from, and_left, and_right, le-leb, lt-leb, cases_Bool, eq-eqb, eqb-true, true_from_ne_false, false_from_ne_true}
 pub use Rattle.std.proofs.lemmas.Bool.Decides.{nat_tests, Decides-ltb, Decides-and, leb_tells, Decides-eqb, Decides-like, not_from_Decides, same_from_decides, Decides-int_eq}
 pub use Rattle.std.proofs.lemmas.Grind.{common_steps, div_ceil_times}
 pub use Rattle.std.proofs.lemmas.Int.{ints, by_lt_z, clamps, to_z-of_z, to_z_pos}
 pub use Rattle.std.proofs.lemmas.List.{append-nil, get_or_append_left, get_or_at, get_or-append-add, get_or-map, length-map, get_or_past, map-append, get_or-set_same, get_or-set_other, get_or-drop, drop-set-lt, length_push, take_more, take_all, take-append-drop, length-take-le, drop-take, drop_all, length-set, map-id, get_or-reverse, length-reverse, length-take, get_or-take, drop-drop, get_or_default, take-append-le}
-pub use Rattle.std.proofs.lemmas.List.Elements.{Contains-get_or, Contains-append_left, Contains-append_right, Contains-append_cases, All-nil, All-cons, All-head, All-tail, All-append, All-map, All-weaker}
+pub use Rattle.std.proofs.lemmas.List.Elements.{Contains-get_or, Contains-append_left, Contains-append_right, Contains-append_cases, All-contains_itself, All-filter, All-get_or, filter_passes, All-nil, All-cons, All-head, All-tail, All-append, All-map, All-weaker}
 pub use Rattle.std.proofs.lemmas.List.Filters.{length-filter_both}
 pub use Rattle.std.proofs.lemmas.List.FromFn.{filter_of_map_range_with_len_more}
 pub use Rattle.std.proofs.lemmas.List.Sums.{sum_by-cons, sum_by-append, length-filter, count_by-le-length}
@@ -16,6 +16,7 @@ pub use Rattle.std.proofs.lemmas.Nat.{ones-le, pow_pos, shr-shr, mod-pow-add, or
 pub use Rattle.std.proofs.lemmas.Nat.Bits.{bit_at_lowest, bit_at-suc, bit_at-trailing_zeros}
 pub use Rattle.std.proofs.lemmas.Option.{slice_get-get_or, get_or_from_slice_get, slice_get_within, slice_get_past, same_Some, cond_some}
 pub use Rattle.std.proofs.lemmas.Result.{IfOk-weaker}
+pub use Rattle.std.proofs.lemmas.Simd.{map-map}
 pub use Rattle.std.specs.Int.{bit_at, int_min, int_max}
 pub use Rattle.std.specs.Int.Signed.{lt_z}
 pub use Rattle.std.specs.List.{last_or, range_with_len}

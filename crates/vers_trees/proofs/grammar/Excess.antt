@@ -1,5 +1,5 @@
 -- Functions to the integers that change by at most one at each step.
-use Rattle.vers_trees.proofs.Words.{ℕ, zero, suc, ◌+◌, ◌<◌, ◌≤◌, ◌≢◌, ℤ, pos, ◌+ℤ◌, ◌-ℤ◌, ◌≤ℤ◌, ◌<ℤ◌, arith, subst, ◌≡◌, Bool, true, false, List, [], ◌∷◌, ◌++◌, length, get_or, add-one, zero-add, suc-add, sym, refl, ints, sum_by-cons, count, excess, bit_step, count_near, count_up, eq-or-lt_of_le, ⊎_elim, take-append-le, common_steps}
+use Rattle.vers_trees.proofs.Words.{ℕ, zero, suc, ◌+◌, ◌<◌, ◌≤◌, ◌≢◌, ℤ, pos, ◌+ℤ◌, ◌-ℤ◌, ◌≤ℤ◌, ◌<ℤ◌, arith, subst, ◌≡◌, Bool, true, false, List, [], ◌∷◌, ◌++◌, length, get_or, add-one, zero-add, suc-add, sym, refl, ints, sum_by-cons, count, excess, bit_step, count_near, count_up, eq-or-lt_of_le, ⊎_elim, take-append-le, common_steps, true_from_ne_false, false_from_ne_true}
 
 pub record IsWalk (f : ℕ → ℤ) : Type 0 where
   pub up : (i : ℕ) → f (i + 1) ≤ℤ (f i +ℤ pos 1)
@@ -83,15 +83,7 @@ excess-append_right (b ∷ k) l i = let ih = excess-append_right k l i in let e 
 
 -- which bit stands where the excess rises, and where it falls
 pub open_from_rise : (l : List Bool) (i : ℕ) (d : Bool) → i < length l → excess l i <ℤ excess l (i + 1) → get_or l i d ≡ true
-open_from_rise l i d h r = go (get_or l i d) (excess_after_bit l i d h)
-  where
-    go : (b : Bool) → excess l (i + 1) ≡ excess l i +ℤ bit_step b → b ≡ true
-    go true e = refl
-    go false e = absurd (omega (arith, ints))
+open_from_rise l i d h r = true_from_ne_false _ (λ b. let e = rw b at (excess_after_bit l i d h) in omega (arith, ints))
 
 pub close_from_fall : (l : List Bool) (i : ℕ) (d : Bool) → i < length l → excess l (i + 1) <ℤ excess l i → get_or l i d ≡ false
-close_from_fall l i d h r = go (get_or l i d) (excess_after_bit l i d h)
-  where
-    go : (b : Bool) → excess l (i + 1) ≡ excess l i +ℤ bit_step b → b ≡ false
-    go true e = absurd (omega (arith, ints))
-    go false e = refl
+close_from_fall l i d h r = false_from_ne_true _ (λ b. let e = rw b at (excess_after_bit l i d h) in omega (arith, ints))

@@ -1,5 +1,5 @@
 -- The nodes around a node of a balanced list: its parent, its depth, how many come before it, and where its nearest children and siblings open.
-use Rattle.vers_trees.proofs.Words.{◌≡◌, ℕ, zero, suc, ◌+◌, ◌-◌, ◌<◌, ◌≤◌, ◌<ℤ◌, Bool, true, false, ◌&&◌, List, [], ◌∷◌, get_or, ltb, leb, count_by, pos, negsuc, neg_ℤ, Some, arith, ⊎_elim, sym, refl, ap, ◌∙◌, Decides, lt-ltb, le-ltb, le-leb, Decides-ltb, Decides-and, leb_tells, length-filter, count, places, excess, last_rise_before, Forest, pairs, IsBalanced, forest_of, nodes, closing, is_ancestor, is_proper_ancestor, depth, parent, node_index, IsLastRiseBefore, ints, rules, common_steps, cond, length, Option, None, subst, filter, Contains, last_or, cases_lt, Decides-like, same_from_decides, get_or_past, eq-or-lt_of_le, nodes_under, children, siblings, first_of, last_of, next_of, previous_of, get_or_default}
+use Rattle.vers_trees.proofs.Words.{◌≡◌, ℕ, zero, suc, ◌+◌, ◌-◌, ◌<◌, ◌≤◌, ◌<ℤ◌, Bool, true, false, ◌&&◌, List, [], ◌∷◌, get_or, ltb, leb, count_by, pos, negsuc, neg_ℤ, Some, arith, ⊎_elim, sym, refl, ap, ◌∙◌, Decides, lt-ltb, le-ltb, le-leb, Decides-ltb, Decides-and, leb_tells, length-filter, count, places, excess, last_rise_before, Forest, pairs, IsBalanced, forest_of, nodes, closing, is_ancestor, is_proper_ancestor, depth, parent, node_index, IsLastRiseBefore, ints, rules, common_steps, cond, length, Option, None, subst, filter, Contains, last_or, cases_lt, Decides-like, same_from_decides, cond_both, eq-or-lt_of_le, nodes_under, children, siblings, first_of, last_of, next_of, previous_of, get_or_default}
 use Rattle.vers_trees.proofs.walks.Lists.{places-cons}
 use Rattle.vers_trees.proofs.searches.Searches.{before_some, before_none, by_answer, before_is}
 use Rattle.vers_trees.proofs.grammar.Excess.{above_since, excess-is_walk, open_from_rise, excess_after_open, excess_after_close}
@@ -7,7 +7,7 @@ use Rattle.vers_trees.proofs.grammar.Grammar.{text-forest_of}
 use Rattle.vers_trees.proofs.grammar.Paired.{closes_rises, Closes, closes_falls}
 use Rattle.vers_trees.proofs.grammar.Pairs.{paired_from_contains, count_by-cons, count_by-append, count_by-map, count_agree, count_none, moved_lt, strictly_contains, pairs_around, contains_first, contains_later}
 use Rattle.vers_trees.proofs.kin.Partners.{nested, IsAbove, one_before, parent_is_nearest, no_parent, before_from_closes, opens_around, same_around, first_child_above, last_child_closes, last_child_above}
-use Rattle.vers_trees.proofs.kin.NodeList.{HasPair, one_pair, paired_here, closes_to, closing_is, nodes_by, opens, inside, last_node, no_last_node, zero_pair, node_pair, first_in, no_first_in, next_in, no_next_in, previous_in, no_previous_in, option_decides}
+use Rattle.vers_trees.proofs.kin.NodeList.{HasPair, one_pair, bit_inside, paired_here, closes_to, closing_is, nodes_by, opens, inside, zero_pair, node_pair, IsFirstNode, first_in, last_node, next_in, previous_in, option_decides}
 
 -- ---- what a test tells
 pub Decides-leb : (a b : ℕ) → Decides (leb a b) (a ≤ b)
@@ -44,13 +44,13 @@ pub above_parent : (l : List Bool) (b : IsBalanced l) (v p : ℕ) → HasPair l 
 unfolding parent
 above_parent l b v p h a =
     let r = above_is_around l b v 1 p h a in
-    last_node l b _ _ (λ w. proper_decides (forest_of l) w v) p r.2 (r.0, r.1) (grind (arith, parent_is_nearest))
+    last_node l b _ _ (λ w. proper_decides (forest_of l) w v) (Some p) (r.2, (r.0, r.1), grind (arith, parent_is_nearest))
 
 pub parent_is_search : (l : List Bool) (b : IsBalanced l) (v : ℕ) → HasPair l v → last_rise_before l v (negsuc 0) ≡ parent (forest_of l) v
 unfolding parent
-parent_is_search l b v h = by_answer (last_rise_before l v (negsuc 0))
-    (λ e. e ∙ sym (no_last_node l b _ _ (λ w. proper_decides (forest_of l) w v) (λ w k g. no_parent l v w (closing (forest_of l) w) (search (rules, before_none, inside)) k.closes g.0 (omega arith))))
-    (λ p e. e ∙ sym (above_parent l b v p h (above_from_before l b v 1 p (omega arith) (opens l v h) (before_some l v (negsuc 0) p e))))
+parent_is_search l b v h = by_answer (λ o. o ≡ parent (forest_of l) v) (last_rise_before l v (negsuc 0))
+    (λ e. sym (last_node l b _ _ (λ w. proper_decides (forest_of l) w v) None (λ w k g. no_parent l v w (closing (forest_of l) w) (search (rules, before_none, inside)) k.closes g.0 (omega arith))))
+    (λ p e. sym (above_parent l b v p h (above_from_before l b v 1 p (omega arith) (opens l v h) (before_some l v (negsuc 0) p e))))
 
 pub parent_above : (l : List Bool) (b : IsBalanced l) (v p : ℕ) → HasPair l v → parent (forest_of l) v ≡ Some p → IsAbove l v 1 p
 parent_above l b v p h e = search (rules, above_from_before, closes_rises, before_some, parent_is_search)
@@ -61,7 +61,7 @@ parent_around l b v p h e = above_is_around l b v 1 p h (parent_above l b v p h 
 
 pub has_parent : (l : List Bool) (b : IsBalanced l) (v q : ℕ) → HasPair l v → HasPair l q → q < v → closing (forest_of l) v < closing (forest_of l) q → (p : ℕ) × (parent (forest_of l) v ≡ Some p) × (q ≤ p)
 has_parent l b v q h k x y =
-    by_answer (last_rise_before l v (negsuc 0))
+    by_answer (λ o. (p : ℕ) × (parent (forest_of l) v ≡ Some p) × (q ≤ p)) (last_rise_before l v (negsuc 0))
     (λ e. absurd (no_parent l v q (closing (forest_of l) q) (before_none l v (negsuc 0) (omega arith) e) k.closes x (omega arith)))
     (λ p e.
     let f : parent (forest_of l) v ≡ Some p = sym (parent_is_search l b v h) ∙ e in
@@ -110,25 +110,15 @@ same_parent l b v h k =
     same_from_decides _ _ (grind (arith, ints, Decides-like, proper_decides)) (proper_decides (forest_of l) a v)))
 
 -- ---- children
-first_child_found : (l : List Bool) (b : IsBalanced l) (v : ℕ) → HasPair l v → get_or l (v + 1) false ≡ true → first_of (children (forest_of l) v) ≡ Some (v + 1)
-unfolding nodes_under
-first_child_found l b v h o =
-    let k = one_pair l b (v + 1) (omega arith) o in
-    first_in l b _ _ (λ w. option_decides (parent (forest_of l) w) (Some v)) (v + 1) k (above_parent l b (v + 1) v k (first_child_above l v (closing (forest_of l) v) h.closes o)) (λ w x k e. let r = (parent_around l b w v k e).0 in omega arith)
-
 -- nothing opens inside a tree that closes right after it opens
 no_child : (l : List Bool) (b : IsBalanced l) (v w : ℕ) → HasPair l v → get_or l (v + 1) false ≡ false → HasPair l w → parent (forest_of l) w ≡ Some v → ⊥
 no_child l b v w h o k e =
     let up = excess_after_open l v false (omega arith) (opens l v h) in
     grind (arith, ints, excess_after_close, parent_around)
 
-first_child_none : (l : List Bool) (b : IsBalanced l) (v : ℕ) → HasPair l v → get_or l (v + 1) false ≡ false → first_of (children (forest_of l) v) ≡ None
-unfolding nodes_under
-first_child_none l b v h o = no_first_in l b _ _ (λ w. option_decides (parent (forest_of l) w) (Some v)) (λ w k e. no_child l b v w h o k e)
-
 pub last_child_none : (l : List Bool) (b : IsBalanced l) (v : ℕ) → HasPair l v → closing (forest_of l) v ≡ v + 1 → last_of (children (forest_of l) v) ≡ None
 unfolding nodes_under
-last_child_none l b v h s = no_last_node l b _ _ (λ w. option_decides (parent (forest_of l) w) (Some v)) (λ w k e. no_child l b v w h (rw s at (closes_falls l v (closing (forest_of l) v) false h.closes)) k e)
+last_child_none l b v h s = last_node l b _ _ (λ w. option_decides (parent (forest_of l) w) (Some v)) None (λ w k e. no_child l b v w h (rw s at (closes_falls l v (closing (forest_of l) v) false h.closes)) k e)
 
 -- the last child closes right before the node
 pub last_child_is_search : (l : List Bool) (b : IsBalanced l) (v c : ℕ) → HasPair l v → closing (forest_of l) v ≡ c + 1 → v < c → last_rise_before l c (negsuc 0) ≡ last_of (children (forest_of l) v)
@@ -138,15 +128,9 @@ last_child_is_search l b v c h s x =
     let p = zero_pair l b c (omega arith) (last_child_closes l v c m x) in let k = p.1 in let q = p.3 in
     let after = opens_around l p.0 c v (c + 1) q m (omega arith) (omega arith) in
     before_is l c (negsuc 0) p.0 (before_from_closes l p.0 c q)
-    ∙ sym (last_node l b _ _ (λ w. option_decides (parent (forest_of l) w) (Some v)) p.0 k (above_parent l b p.0 v k (last_child_above l v c p.0 m q after)) (grind (arith, ints, parent_around, nested, has_parent)))
+    ∙ sym (last_node l b _ _ (λ w. option_decides (parent (forest_of l) w) (Some v)) (Some p.0) (k, above_parent l b p.0 v k (last_child_above l v c p.0 m q after), grind (arith, ints, parent_around, nested, has_parent)))
 
 -- ---- siblings
-next_sibling_found : (l : List Bool) (b : IsBalanced l) (v : ℕ) → HasPair l v → closing (forest_of l) v + 1 < length l → get_or l (closing (forest_of l) v + 1) false ≡ true → next_of (siblings (forest_of l) v) v ≡ Some (closing (forest_of l) v + 1)
-unfolding nodes_under
-next_sibling_found l b v h i o =
-    let k = one_pair l b (closing (forest_of l) v + 1) i o in
-    next_in l b _ _ (λ w. option_decides (parent (forest_of l) w) (parent (forest_of l) v)) v (closing (forest_of l) v + 1) k (same_parent l b v h k) (omega arith) (λ w y x k e. not_beside l b v w h k y (omega arith) e)
-
 -- what a tree's parent closes right after it has no later child
 last_beside : (l : List Bool) (b : IsBalanced l) (v w : ℕ) → HasPair l v → closing (forest_of l) v + 1 < length l → get_or l (closing (forest_of l) v + 1) false ≡ false → HasPair l w → closing (forest_of l) v < w → parent (forest_of l) w ≡ parent (forest_of l) v → ⊥
 last_beside l b v w h i o k x e =
@@ -156,17 +140,13 @@ last_beside l b v w h i o k x e =
     let r = parent_around l b w g.0 k (e ∙ g.1) in
     grind (arith, ints, parent_around, nested, eq-or-lt_of_le)
 
-next_sibling_none : (l : List Bool) (b : IsBalanced l) (v : ℕ) → HasPair l v → get_or l (closing (forest_of l) v + 1) false ≡ false → next_of (siblings (forest_of l) v) v ≡ None
-unfolding nodes_under
-next_sibling_none l b v h o = no_next_in l b _ _ (λ w. option_decides (parent (forest_of l) w) (parent (forest_of l) v)) v (λ w y k e. ⊎_elim (λ (t : closing (forest_of l) v < w). last_beside l b v w h (let i = inside l w k in omega arith) o k t e) (λ (t : w ≤ closing (forest_of l) v). not_beside l b v w h k y t e) (cases_lt (closing (forest_of l) v) w))
-
 pub previous_sibling_none : (l : List Bool) (b : IsBalanced l) (v : ℕ) → HasPair l v → 0 < v → get_or l (v - 1) false ≡ true → previous_of (siblings (forest_of l) v) v ≡ None
 unfolding nodes_under
 previous_sibling_none l b v h some o =
     let e : v - 1 + 1 ≡ v = omega arith in
     let k : HasPair l (v - 1 + 1) = rw e h in
     let p : parent (forest_of l) v ≡ Some (v - 1) = rw e at (above_parent l b (v - 1 + 1) (v - 1) k (first_child_above l (v - 1) (closing (forest_of l) (v - 1)) (one_pair l b (v - 1) (omega arith) o).closes (opens l (v - 1 + 1) k))) in
-    no_previous_in l b _ _ (λ w. option_decides (parent (forest_of l) w) (parent (forest_of l) v)) v (λ w y k g. let r = (parent_around l b w (v - 1) k (g ∙ p)).0 in omega arith)
+    previous_in l b _ _ (λ w. option_decides (parent (forest_of l) w) (parent (forest_of l) v)) v None (λ w k g. let y = g.1 in let r = (parent_around l b w (v - 1) k (g.0 ∙ p)).0 in omega arith)
 
 pub previous_sibling_is_search : (l : List Bool) (b : IsBalanced l) (v : ℕ) → HasPair l v → 0 < v → get_or l (v - 1) false ≡ false → last_rise_before l (v - 1) (negsuc 0) ≡ previous_of (siblings (forest_of l) v) v
 unfolding nodes_under
@@ -175,7 +155,7 @@ previous_sibling_is_search l b v h some o =
     let at : closing (forest_of l) p.0 + 1 ≡ v = omega arith in
     let same : parent (forest_of l) v ≡ parent (forest_of l) p.0 = ap (parent (forest_of l)) (sym at) ∙ same_parent l b p.0 k (subst (HasPair l) (sym at) h) in
     before_is l (v - 1) (negsuc 0) p.0 (before_from_closes l p.0 (v - 1) q)
-    ∙ sym (previous_in l b _ _ (λ w. option_decides (parent (forest_of l) w) (parent (forest_of l) v)) v p.0 k (sym same) (omega arith) (λ w y x kw e. not_beside l b p.0 w k kw y (omega arith) (e ∙ same)))
+    ∙ sym (previous_in l b _ _ (λ w. option_decides (parent (forest_of l) w) (parent (forest_of l) v)) v (Some p.0) (k, (sym same, omega arith), λ w y kw e. let x = e.1 in not_beside l b p.0 w k kw y (omega arith) (e.0 ∙ same)))
 
 -- ---- by one bit: what opens at a place, and what closes right before it
 abbrev pub opened_here : List Bool → ℕ → Option ℕ
@@ -189,15 +169,27 @@ same_bit : (l : List Bool) (i : ℕ) → i < length l → get_or l i true ≡ ge
 same_bit l i h = get_or_default l i true false h
 
 pub first_child_is : (l : List Bool) (b : IsBalanced l) (v : ℕ) → HasPair l v → opened_here l (v + 1) ≡ first_of (children (forest_of l) v)
-first_child_is l b v h = grind (arith, ints, first_child_found, first_child_none)
+unfolding nodes_under
+first_child_is l b v h = sym (first_in l b _ _ (λ w. option_decides (parent (forest_of l) w) (Some v)) (opened_here l (v + 1)) (cond_both (get_or l (v + 1) false) (Some (v + 1)) None (IsFirstNode l (λ w. parent (forest_of l) w ≡ Some v))
+    (λ o.
+    let k = one_pair l b (v + 1) (omega arith) o in
+    (k, above_parent l b (v + 1) v k (first_child_above l v (closing (forest_of l) v) h.closes o), λ w x k e. let r = (parent_around l b w v k e).0 in omega arith))
+    (λ o w k e. no_child l b v w h o k e)))
 
 pub next_sibling_is : (l : List Bool) (b : IsBalanced l) (v : ℕ) → HasPair l v → opened_here l (closing (forest_of l) v + 1) ≡ next_of (siblings (forest_of l) v) v
-next_sibling_is l b v h = grind (arith, ints, get_or_past, next_sibling_found, next_sibling_none)
+unfolding nodes_under
+next_sibling_is l b v h =
+    let c = closing (forest_of l) v in
+    sym (next_in l b _ _ (λ w. option_decides (parent (forest_of l) w) (parent (forest_of l) v)) v (opened_here l (c + 1)) (cond_both (get_or l (c + 1) false) (Some (c + 1)) None (IsFirstNode l (λ w. (parent (forest_of l) w ≡ parent (forest_of l) v) × (v < w)))
+    (λ o.
+    let k = one_pair l b (c + 1) (bit_inside l (c + 1) o) o in
+    (k, (same_parent l b v h k, omega arith), λ w x kw e. not_beside l b v w h kw e.1 (omega arith) e.0))
+    (λ o w k e. ⊎_elim (λ (t : c < w). last_beside l b v w h (let i = inside l w k in omega arith) o k t e.0) (λ (t : w ≤ c). not_beside l b v w h k e.1 t e.0) (cases_lt c w))))
 
 pub last_child_is : (l : List Bool) (b : IsBalanced l) (v : ℕ) → HasPair l v → closed_before l (closing (forest_of l) v) ≡ last_of (children (forest_of l) v)
 last_child_is l b v h = grind (arith, ints, same_bit, last_child_closes, last_child_is_search, closes_rises, last_child_none)
 
 pub previous_sibling_is : (l : List Bool) (b : IsBalanced l) (v : ℕ) → HasPair l v → closed_before l v ≡ previous_of (siblings (forest_of l) v) v
 unfolding nodes_under
-previous_sibling_is l b zero h = sym (no_previous_in l b _ _ (λ w. option_decides (parent (forest_of l) w) (parent (forest_of l) 0)) 0 (λ w y k e. omega arith))
+previous_sibling_is l b zero h = sym (previous_in l b _ _ (λ w. option_decides (parent (forest_of l) w) (parent (forest_of l) 0)) 0 None (λ w k e. let y = e.1 in omega arith))
 previous_sibling_is l b (suc u) h = grind (arith, ints, inside, previous_sibling_none, same_bit, previous_sibling_is_search)

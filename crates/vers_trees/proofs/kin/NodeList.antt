@@ -1,5 +1,5 @@
 -- The nodes of a forest are the places of the ones that it is written down with.
-use Rattle.vers_trees.proofs.Words.{◌≡◌, ℕ, zero, suc, ◌+◌, ◌<◌, Bool, true, false, ◌&&◌, List, [], ◌∷◌, map, length, get_or, Option, Some, None, eqb, ltb, arith, subst, sym, refl, ap, ◌∙◌, find, filter, slice_get, Decides, option_eq, Contains, range_with_len, last_or, Decides-eqb, Decides-ltb, Decides-and, is_bit, places, Forest, IsBalanced, forest_of, none, tree, text, moved, pairs, nodes, IsNode, closing, first_of, next_of, previous_of, map-append, ints}
+use Rattle.vers_trees.proofs.Words.{◌≡◌, ℕ, zero, suc, ◌+◌, ◌<◌, ◌≤◌, Bool, true, false, ◌&&◌, List, [], ◌∷◌, map, length, get_or, Option, Some, None, MatchOption, eqb, ltb, arith, subst, sym, refl, ap, ◌∙◌, find, filter, slice_get, Decides, option_eq, Contains, range_with_len, last_or, Decides-eqb, Decides-ltb, Decides-and, is_bit, places, Forest, IsBalanced, forest_of, none, tree, text, moved, pairs, nodes, IsNode, closing, first_of, next_of, previous_of, map-append, ints, cond_both, ⊎_elim, cases_lt, get_or_past}
 use Rattle.vers_trees.proofs.walks.Lists.{opening_moved, places-tree}
 use Rattle.vers_trees.proofs.searches.Searches.{find_is, none_find, last_is, none_last}
 use Rattle.vers_trees.proofs.grammar.Grammar.{text-forest_of}
@@ -18,15 +18,11 @@ nodes_are_ones (tree X Y) =
 -- ---- where a node of a balanced list closes
 find_only : {X : Type 0} → (test : X → Bool) (xs : List X) (y : X) → Contains xs y → test y ≡ true → ((x : X) → Contains xs x → test x ≡ true → x ≡ y) → find test xs ≡ Some y
 find_only {X = X} test [] y c t h = grind (arith, ints)
-find_only {X = X} test (x ∷ xs) y c t h = go (find_only test xs y) (test x) refl
+find_only {X = X} test (x ∷ xs) y c t h = cond_both (test x) (Some x) (find test xs) (λ (o : Option X). o ≡ Some y) (λ e. ap Some (h x (contains_first x xs) e)) (λ e. find_only test xs y (later c e) t (λ z d g. h z (contains_later x xs z d) g))
   where
     later : Contains (x ∷ xs) y → test x ≡ false → Contains xs y
     later (zero, l, e) f = let g : test y ≡ false = subst (λ (z : X). test z ≡ false) e f in absurd (cc)
     later (suc k, l, e) f = (k, omega arith, e)
-
-    go : (Contains xs y → test y ≡ true → ((z : X) → Contains xs z → test z ≡ true → z ≡ y) → find test xs ≡ Some y) → (b : Bool) → test x ≡ b → find test (x ∷ xs) ≡ Some y
-    go ih true e = rw e (ap Some (h x (contains_first x xs) e))
-    go ih false e = rw e (ih (later c e) t (λ z d g. h z (contains_later x xs z d) g))
 
 pub closing_is : (F : Forest) (v c : ℕ) → Paired F v c → closing F v ≡ c
 unfolding closing
@@ -60,6 +56,10 @@ has_pair l b v c p =
 -- a one opens a node, a zero closes one, and each node opens at a one
 pub one_pair : (l : List Bool) (b : IsBalanced l) (v : ℕ) → v < length l → get_or l v false ≡ true → HasPair l v
 one_pair l b v i o = let p = open_is_paired (forest_of l) v false (rw (text-forest_of l b) i) (rw (text-forest_of l b) o) in has_pair l b v p.0 p.1
+
+-- past the end no bit is a one
+pub bit_inside : (l : List Bool) (v : ℕ) → get_or l v false ≡ true → v < length l
+bit_inside l v e = ⊎_elim (λ (h : v < length l). h) (λ (h : length l ≤ v). let p = get_or_past l v false h in absurd (cc)) (cases_lt v (length l))
 
 pub zero_pair : (l : List Bool) (b : IsBalanced l) (c : ℕ) → c < length l → get_or l c false ≡ false → (v : ℕ) × HasPair l v × (closing (forest_of l) v ≡ c) × Closes l v c
 zero_pair l b c i o =
@@ -107,46 +107,35 @@ nodes_filtered : (l : List Bool) → IsBalanced l → (t : ℕ → Bool) → fil
 unfolding places
 nodes_filtered l b t = ap (filter t) (nodes_by l b) ∙ filter_filtered (λ p. is_bit true (get_or l p false)) t (range_with_len 0 (length l))
 
--- v is the first, and the last, of the nodes that have P, by a test that decides it
+-- the first, and the last, of the nodes that have P, or none
+abbrev pub IsFirstNode : List Bool → (ℕ → Type 0) → Option ℕ → Type 0
+IsFirstNode l P o = MatchOption o ((w : ℕ) → HasPair l w → P w → ⊥) (λ v. HasPair l v × P v × ((w : ℕ) → w < v → HasPair l w → P w → ⊥))
+
+abbrev pub IsLastNode : List Bool → (ℕ → Type 0) → Option ℕ → Type 0
+IsLastNode l P o = MatchOption o ((w : ℕ) → HasPair l w → P w → ⊥) (λ v. HasPair l v × P v × ((w : ℕ) → v < w → HasPair l w → P w → ⊥))
+
+-- what a filter by a test that decides P answers
 module _ (l : List Bool) (b : IsBalanced l) (t : ℕ → Bool) (P : ℕ → Type 0) (d : (w : ℕ) → Decides (t w) (P w)) where
-  pub first_node : (v : ℕ) → HasPair l v → P v → ((w : ℕ) → w < v → HasPair l w → P w → ⊥) → find t (nodes (forest_of l)) ≡ Some v
-  first_node v h p n =
-      find_node l b t ∙ find_is (node_test l t) _ (at_one l t P d) 0 (length l) v (grind (arith, ints, opens, one_pair))
+  pub first_node : (o : Option ℕ) → IsFirstNode l P o → find t (nodes (forest_of l)) ≡ o
+  first_node None n = find_node l b t ∙ none_find (node_test l t) _ (at_one l t P d) 0 (length l) (λ k x y q. n k (one_pair l b k (omega arith) q.0) q.1)
+  first_node (Some v) n =
+      let i = inside l v n.0 in
+      find_node l b t ∙ find_is (node_test l t) _ (at_one l t P d) 0 (length l) v (record { from = omega arith; below = omega arith; holds = (opens l v n.0, n.1); first = λ k x y q. n.2 k y (one_pair l b k (omega arith) q.0) q.1 })
 
-  pub no_first_node : ((w : ℕ) → HasPair l w → P w → ⊥) → find t (nodes (forest_of l)) ≡ None
-  no_first_node n = find_node l b t ∙ none_find (node_test l t) _ (at_one l t P d) 0 (length l) (λ k x y q. n k (one_pair l b k (omega arith) q.0) q.1)
+  pub last_node : (o : Option ℕ) → IsLastNode l P o → last_or None (filter t (nodes (forest_of l))) ≡ o
+  last_node None n = ap (last_or None) (nodes_filtered l b t) ∙ none_last (node_test l t) _ (at_one l t P d) (length l) (λ k y q. n k (one_pair l b k y q.0) q.1)
+  last_node (Some v) n = ap (last_or None) (nodes_filtered l b t) ∙ last_is (node_test l t) _ (at_one l t P d) (length l) v (record { below = inside l v n.0; holds = (opens l v n.0, n.1); last = λ k x y q. n.2 k x (one_pair l b k y q.0) q.1 })
 
-  pub last_node : (v : ℕ) → HasPair l v → P v → ((w : ℕ) → v < w → HasPair l w → P w → ⊥) → last_or None (filter t (nodes (forest_of l))) ≡ Some v
-  last_node v h p n = ap (last_or None) (nodes_filtered l b t) ∙ last_is (node_test l t) _ (at_one l t P d) (length l) v (record { below = inside l v h; holds = (opens l v h, p); last = λ k x y q. n k x (one_pair l b k y q.0) q.1 })
-
-  pub no_last_node : ((w : ℕ) → HasPair l w → P w → ⊥) → last_or None (filter t (nodes (forest_of l))) ≡ None
-  no_last_node n = ap (last_or None) (nodes_filtered l b t) ∙ none_last (node_test l t) _ (at_one l t P d) (length l) (λ k y q. n k (one_pair l b k y q.0) q.1)
-
-  pub first_in : (v : ℕ) → HasPair l v → P v → ((w : ℕ) → w < v → HasPair l w → P w → ⊥) → first_of (filter t (nodes (forest_of l))) ≡ Some v
-  first_in v h p n = first_filtered t (nodes (forest_of l)) ∙ first_node v h p n
-
-  pub no_first_in : ((w : ℕ) → HasPair l w → P w → ⊥) → first_of (filter t (nodes (forest_of l))) ≡ None
-  no_first_in n = first_filtered t (nodes (forest_of l)) ∙ no_first_node n
+  pub first_in : (o : Option ℕ) → IsFirstNode l P o → first_of (filter t (nodes (forest_of l))) ≡ o
+  first_in o n = first_filtered t (nodes (forest_of l)) ∙ first_node o n
 
 -- the nearest of them after u, and before u
 module _ (l : List Bool) (b : IsBalanced l) (t : ℕ → Bool) (P : ℕ → Type 0) (d : (w : ℕ) → Decides (t w) (P w)) (u : ℕ) where
-  after_test : (w : ℕ) → Decides (t w && ltb u w) (P w × (u < w))
-  after_test w = Decides-and (t w) (ltb u w) (d w) (Decides-ltb u w)
+  pub next_in : (o : Option ℕ) → IsFirstNode l (λ w. P w × (u < w)) o → next_of (filter t (nodes (forest_of l))) u ≡ o
+  next_in o n = find_filtered t (λ w. ltb u w) (nodes (forest_of l)) ∙ first_node l b _ _ (λ w. Decides-and (t w) (ltb u w) (d w) (Decides-ltb u w)) o n
 
-  before_test : (w : ℕ) → Decides (t w && ltb w u) (P w × (w < u))
-  before_test w = Decides-and (t w) (ltb w u) (d w) (Decides-ltb w u)
-
-  pub next_in : (v : ℕ) → HasPair l v → P v → u < v → ((w : ℕ) → u < w → w < v → HasPair l w → P w → ⊥) → next_of (filter t (nodes (forest_of l))) u ≡ Some v
-  next_in v h p x n = find_filtered t (λ w. ltb u w) (nodes (forest_of l)) ∙ first_node l b _ _ after_test v h (p, x) (λ w y k q. n w q.1 y k q.0)
-
-  pub no_next_in : ((w : ℕ) → u < w → HasPair l w → P w → ⊥) → next_of (filter t (nodes (forest_of l))) u ≡ None
-  no_next_in n = find_filtered t (λ w. ltb u w) (nodes (forest_of l)) ∙ no_first_node l b _ _ after_test (λ w k q. n w q.1 k q.0)
-
-  pub previous_in : (v : ℕ) → HasPair l v → P v → v < u → ((w : ℕ) → v < w → w < u → HasPair l w → P w → ⊥) → previous_of (filter t (nodes (forest_of l))) u ≡ Some v
-  previous_in v h p x n = ap (last_or None) (filter_filtered t (λ w. ltb w u) (nodes (forest_of l))) ∙ last_node l b _ _ before_test v h (p, x) (λ w y k q. n w y q.1 k q.0)
-
-  pub no_previous_in : ((w : ℕ) → w < u → HasPair l w → P w → ⊥) → previous_of (filter t (nodes (forest_of l))) u ≡ None
-  no_previous_in n = ap (last_or None) (filter_filtered t (λ w. ltb w u) (nodes (forest_of l))) ∙ no_last_node l b _ _ before_test (λ w k q. n w q.1 k q.0)
+  pub previous_in : (o : Option ℕ) → IsLastNode l (λ w. P w × (w < u)) o → previous_of (filter t (nodes (forest_of l))) u ≡ o
+  previous_in o n = ap (last_or None) (filter_filtered t (λ w. ltb w u) (nodes (forest_of l))) ∙ last_node l b _ _ (λ w. Decides-and (t w) (ltb w u) (d w) (Decides-ltb w u)) o n
 
 -- whether two numbers or none are the same
 pub option_decides : (a b : Option ℕ) → Decides (option_eq eqb a b) (a ≡ b)

@@ -1,5 +1,5 @@
 -- Numbers that ascend, and those of a list that pass a test.
-use Rattle.vers_trees.proofs.Words.{◌≡◌, ℕ, zero, suc, ◌+◌, ◌-◌, ◌<◌, ◌≤◌, Bool, true, false, cond, List, [], ◌∷◌, length, get_or, ltb, Option, None, Some, arith, subst, sym, refl, ap, ◌∙◌, slice_get, find, filter, Contains, last_or, range_with_len, get_or_from_slice_get, slice_get_within, lt-ltb, le-ltb, same_Some, find_is, none_passing, last_passing_is, places, Forest, text, nodes, last_of}
+use Rattle.vers_trees.proofs.Words.{◌≡◌, ℕ, zero, suc, ◌+◌, ◌-◌, ◌<◌, ◌≤◌, Bool, true, List, [], ◌∷◌, length, get_or, ltb, Option, None, Some, arith, subst, sym, refl, ap, ◌∙◌, slice_get, find, filter, Contains, last_or, range_with_len, get_or_from_slice_get, slice_get_within, lt-ltb, le-ltb, cond_both, All-get_or, All-filter, All-contains_itself, filter_passes, find_is, none_passing, last_passing_is, places, Forest, text, nodes, last_of}
 use Rattle.vers_trees.proofs.grammar.Pairs.{contains_first, contains_later}
 use Rattle.vers_trees.proofs.kin.NodeList.{nodes_are_ones}
 
@@ -18,11 +18,9 @@ range_ascends a (suc n) = (omega arith, range_ascends (a + 1) n)
 
 pub filter_ascends : (p : ℕ → Bool) (n : ℕ) (xs : List ℕ) → AscendsFrom n xs → AscendsFrom n (filter p xs)
 filter_ascends p n [] a = tt
-filter_ascends p n (x ∷ xs) a = go (p x) (filter_ascends p (x + 1) xs a.1)
-  where
-    go : (b : Bool) → AscendsFrom (x + 1) (filter p xs) → AscendsFrom n (cond b (x ∷ filter p xs) (filter p xs))
-    go true r = (a.0, r)
-    go false r = ascends_lower n (x + 1) (filter p xs) (omega arith) r
+filter_ascends p n (x ∷ xs) a =
+    let r = filter_ascends p (x + 1) xs a.1 in
+    cond_both (p x) (x ∷ filter p xs) (filter p xs) (AscendsFrom n) (λ e. (a.0, r)) (λ e. ascends_lower n (x + 1) (filter p xs) (omega arith) r)
 
 -- they rise by one at least from each to the next
 member_from : (n i : ℕ) (xs : List ℕ) → AscendsFrom n xs → i < length xs → n + i ≤ get_or xs i 0
@@ -66,22 +64,16 @@ last_by_number (x ∷ xs) = last_member None x xs ∙ ap (slice_get (x ∷ xs)) 
 
 -- ---- members that pass a test
 pub member_passes : (p : ℕ → Bool) (xs : List ℕ) (i v : ℕ) → slice_get (filter p xs) i ≡ Some v → Contains xs v × (p v ≡ true)
-member_passes p [] i v e = absurd (cc)
-member_passes p (x ∷ xs) i v e = go (member_passes p xs) (p x) refl i e
-  where
-    go : ((j w : ℕ) → slice_get (filter p xs) j ≡ Some w → Contains xs w × (p w ≡ true)) → (b : Bool) → p x ≡ b → (j : ℕ) → slice_get (cond b (x ∷ filter p xs) (filter p xs)) j ≡ Some v → Contains (x ∷ xs) v × (p v ≡ true)
-    go ih true t zero f = let s = same_Some x v f in (subst (Contains (x ∷ xs)) s (contains_first x xs), subst (λ (k : ℕ). p k ≡ true) s t)
-    go ih true t (suc j) f = let r = ih j v f in (contains_later x xs v r.0, r.1)
-    go ih false t j f = let r = ih j v f in (contains_later x xs v r.0, r.1)
+member_passes p xs i v e =
+    let m = slice_get_within (filter p xs) i v e in let g = get_or_from_slice_get (filter p xs) i v 0 e in
+    (subst (Contains xs) g (All-get_or (Contains xs) (filter p xs) i 0 m (All-filter p (Contains xs) xs (All-contains_itself xs))), subst (λ (k : ℕ). p k ≡ true) g (All-get_or (λ x. p x ≡ true) (filter p xs) i 0 m (filter_passes p xs)))
 
 pub passing_holds : (p : ℕ → Bool) (xs : List ℕ) (v : ℕ) → Contains xs v → p v ≡ true → Contains (filter p xs) v
 passing_holds p [] v (k, l, e) t = absurd (omega arith)
 passing_holds p (x ∷ xs) v (zero, l, e) t = grind (arith, contains_first)
-passing_holds p (x ∷ xs) v (suc k, l, e) t = go (p x) (passing_holds p xs v (k, omega arith, e) t)
-  where
-    go : (b : Bool) → Contains (filter p xs) v → Contains (cond b (x ∷ filter p xs) (filter p xs)) v
-    go true c = contains_later x (filter p xs) v c
-    go false c = c
+passing_holds p (x ∷ xs) v (suc k, l, e) t =
+    let c = passing_holds p xs v (k, omega arith, e) t in
+    cond_both (p x) (x ∷ filter p xs) (filter p xs) (λ (ys : List ℕ). Contains ys v) (λ e. contains_later x (filter p xs) v c) (λ e. c)
 
 -- ---- levels
 pub places_ascend : (bit : Bool) (l : List Bool) → AscendsFrom 0 (places bit l)

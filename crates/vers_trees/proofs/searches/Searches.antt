@@ -23,9 +23,9 @@ none_is None N Is m n = refl
 none_is (Some i) N Is m n = absurd (n i m)
 
 -- what follows from an answer that is none, and from one that is a place
-pub by_answer : {P : Type 0} → (o : Option ℕ) → (o ≡ None → P) → ((j : ℕ) → o ≡ Some j → P) → P
-by_answer None n s = n refl
-by_answer (Some j) n s = s j refl
+pub by_answer : (P : Option ℕ → Type 0) (o : Option ℕ) → (o ≡ None → P None) → ((j : ℕ) → o ≡ Some j → P (Some j)) → P o
+by_answer P None n s = n refl
+by_answer P (Some j) n s = s j refl
 
 -- a search by a test that decides P
 pub find_first : (test : ℕ → Bool) (P : ℕ → Type 0) → ((k : ℕ) → Decides (test k) (P k)) → (a n : ℕ) → MatchOption (find test (range_with_len a n)) ((k : ℕ) → a ≤ k → k < a + n → P k → ⊥) (λ j. IsFirst P a (a + n) j)

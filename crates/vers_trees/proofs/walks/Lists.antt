@@ -1,5 +1,5 @@
 -- Lists of places: moved to the right, and those of a list that follows another.
-use Rattle.vers_trees.proofs.Words.{◌≡◌, ℕ, zero, suc, ◌+◌, ◌<◌, Bool, true, false, cond, List, [], ◌∷◌, ◌++◌, map, length, get_or, arith, subst, sym, refl, ap, ◌∙◌, negsuc, inl, inr, filter, All, range_with_len, map-append, append_assoc, All-nil, All-cons, All-head, All-tail, All-append, All-map, All-weaker, is_bit, places, moved, Forest, none, tree, text, opening_of, pairs_by_closing, postorder, Option, unwrap_or}
+use Rattle.vers_trees.proofs.Words.{◌≡◌, ℕ, zero, suc, ◌+◌, ◌<◌, Bool, true, false, cond, List, [], ◌∷◌, ◌++◌, map, length, get_or, arith, subst, sym, refl, ap, ◌∙◌, negsuc, inl, inr, filter, All, range_with_len, map-append, append_assoc, All-nil, All-cons, All-head, All-tail, All-append, All-map, All-weaker, is_bit, places, moved, Forest, none, tree, text, opening_of, pairs_by_closing, postorder, Option, unwrap_or, add_assoc, cond_both, map-map}
 use Rattle.vers_trees.proofs.grammar.Paired.{Paired, paired_closes}
 use Rattle.vers_trees.proofs.grammar.Pairs.{PairedIn}
 use Rattle.vers_trees.proofs.kin.Partners.{before_from_closes}
@@ -17,16 +17,13 @@ abbrev pub closing_places : List (ℕ × ℕ) → List ℕ
 closing_places qs = map (λ q. q.1) qs
 
 pub opening_moved : (n : ℕ) (qs : List (ℕ × ℕ)) → opening_places (map (moved n) qs) ≡ shifted n (opening_places qs)
-opening_moved n [] = refl
-opening_moved n (q ∷ qs) = ap (λ (xs : List ℕ). (n + q.0) ∷ xs) (opening_moved n qs)
+opening_moved n qs = map-map (λ (q : ℕ × ℕ). q.0) (moved n) qs ∙ sym (map-map (λ v. n + v) (λ (q : ℕ × ℕ). q.0) qs)
 
 pub closing_moved : (n : ℕ) (qs : List (ℕ × ℕ)) → closing_places (map (moved n) qs) ≡ shifted n (closing_places qs)
-closing_moved n [] = refl
-closing_moved n (q ∷ qs) = ap (λ (xs : List ℕ). (n + q.1) ∷ xs) (closing_moved n qs)
+closing_moved n qs = map-map (λ (q : ℕ × ℕ). q.1) (moved n) qs ∙ sym (map-map (λ v. n + v) (λ (q : ℕ × ℕ). q.1) qs)
 
 pub shifted-shifted : (m n : ℕ) (xs : List ℕ) → shifted m (shifted n xs) ≡ shifted (m + n) xs
-shifted-shifted m n [] = refl
-shifted-shifted m n (x ∷ xs) = let e : m + (n + x) ≡ m + n + x = omega arith in rw (e, shifted-shifted m n xs) refl
+shifted-shifted m n xs = map-map (λ v. m + v) (λ v. n + v) xs ∙ simp add_assoc
 
 pub shifted-append : (n : ℕ) (xs ys : List ℕ) → shifted n (xs ++ ys) ≡ shifted n xs ++ shifted n ys
 shifted-append n xs ys = map-append (λ v. n + v) xs ys
@@ -38,14 +35,12 @@ filter_next p q a (suc n) h = grind (arith, filter_next p q (a + 1) n h)
 
 pub places-cons : (bit b : Bool) (l : List Bool) → places bit (b ∷ l) ≡ cond (is_bit bit b) (0 ∷ []) [] ++ shifted 1 (places bit l)
 unfolding places
-places-cons bit b l = go (is_bit bit b) refl
+places-cons bit b l =
+    let more : List ℕ = filter (λ p. is_bit bit (get_or (b ∷ l) p false)) (range_with_len 1 (length l)) in
+    elim (is_bit bit b) as (λ (t : Bool). cond t (0 ∷ more) more ≡ cond t (0 ∷ []) [] ++ shifted 1 (places bit l)) [ true ↦ ap (λ (xs : List ℕ). 0 ∷ xs) rest | false ↦ rest ]
   where
     rest : filter (λ p. is_bit bit (get_or (b ∷ l) p false)) (range_with_len 1 (length l)) ≡ shifted 1 (places bit l)
     rest = filter_next (λ p. is_bit bit (get_or (b ∷ l) p false)) (λ p. is_bit bit (get_or l p false)) 0 (length l) (λ i. ap (λ (m : ℕ). is_bit bit (get_or (b ∷ l) m false)) (let e : i + 1 ≡ suc i = omega arith in e))
-
-    go : (t : Bool) → is_bit bit b ≡ t → filter (λ p. is_bit bit (get_or (b ∷ l) p false)) (range_with_len 0 (length (b ∷ l))) ≡ cond (is_bit bit b) (0 ∷ []) [] ++ shifted 1 (places bit l)
-    go true e = rw e (ap (λ (xs : List ℕ). 0 ∷ xs) rest)
-    go false e = rw e rest
 
 shifted-zero : (xs : List ℕ) → shifted 0 xs ≡ xs
 shifted-zero [] = refl
@@ -67,11 +62,9 @@ places-tree bit k l = grind (arith, places-cons, places-append, shifted-append, 
 -- tests of a thing and of what it is made into
 pub filter_mapped : {X Y : Type 0} → (p : Y → Bool) (q : X → Bool) (f : X → Y) (xs : List X) → All (λ x. p (f x) ≡ q x) xs → filter p (map f xs) ≡ map f (filter q xs)
 filter_mapped p q f [] h = refl
-filter_mapped p q f (x ∷ xs) h = go (q x) refl (filter_mapped p q f xs (All-tail (λ y. p (f y) ≡ q y) x xs h))
-  where
-    go : (b : Bool) → q x ≡ b → filter p (map f xs) ≡ map f (filter q xs) → filter p (map f (x ∷ xs)) ≡ map f (filter q (x ∷ xs))
-    go true e ih = let t : p (f x) ≡ true = All-head (λ y. p (f y) ≡ q y) x xs h ∙ e in rw (t, e) (ap (λ (ys : List _). f x ∷ ys) ih)
-    go false e ih = let t : p (f x) ≡ false = All-head (λ y. p (f y) ≡ q y) x xs h ∙ e in rw (t, e) ih
+filter_mapped p q f (x ∷ xs) h =
+    let ih = filter_mapped p q f xs (All-tail (λ y. p (f y) ≡ q y) x xs h) in
+    rw (All-head (λ y. p (f y) ≡ q y) x xs h) (elim (q x) as (λ (b : Bool). cond b (f x ∷ filter p (map f xs)) (filter p (map f xs)) ≡ map f (cond b (x ∷ filter q xs) (filter q xs))) [ true ↦ ap (λ (ys : List _). f x ∷ ys) ih | false ↦ ih ])
 
 -- ---- each of the places of a bit
 -- the list has the bit at the place
@@ -83,12 +76,9 @@ pub all_places : (bit : Bool) (l : List Bool) → All (HasBitAt bit l) (places b
 unfolding places
 all_places bit [] = All-nil (HasBitAt bit [])
 all_places bit (b ∷ l) =
+    let first = cond_both (is_bit bit b) (0 ∷ []) [] (All (HasBitAt bit (b ∷ l))) (λ e. All-cons (HasBitAt bit (b ∷ l)) 0 [] (record { inside = omega arith; holds = e }) (All-nil (HasBitAt bit (b ∷ l)))) (λ e. All-nil (HasBitAt bit (b ∷ l))) in
     let later = All-map (HasBitAt bit (b ∷ l)) (λ v. 1 + v) (places bit l) (All-weaker (HasBitAt bit l) (λ v. HasBitAt bit (b ∷ l) (1 + v)) (λ v h. record { inside = (omega arith); holds = subst (λ (m : ℕ). is_bit bit (get_or (b ∷ l) m false) ≡ true) (let e : suc v ≡ 1 + v = omega arith in e) h.holds }) (places bit l) (all_places bit l)) in
-    subst (All (HasBitAt bit (b ∷ l))) (sym (places-cons bit b l)) (All-append (HasBitAt bit (b ∷ l)) (cond (is_bit bit b) (0 ∷ []) []) (shifted 1 (places bit l)) (go (is_bit bit b) refl) later)
-  where
-    go : (t : Bool) → is_bit bit b ≡ t → All (HasBitAt bit (b ∷ l)) (cond (is_bit bit b) (0 ∷ []) [])
-    go true e = rw e (All-cons (HasBitAt bit (b ∷ l)) 0 [] (record { inside = omega arith; holds = e }) (All-nil (HasBitAt bit (b ∷ l))))
-    go false e = rw e (All-nil (HasBitAt bit (b ∷ l)))
+    subst (All (HasBitAt bit (b ∷ l))) (sym (places-cons bit b l)) (All-append (HasBitAt bit (b ∷ l)) (cond (is_bit bit b) (0 ∷ []) []) (shifted 1 (places bit l)) first later)
 
 -- ---- the nodes of a forest in postorder open what the zeros of its text close, in their order
 closing-tree : (X Y : Forest) → closing_places (pairs_by_closing (tree X Y)) ≡ shifted 1 (closing_places (pairs_by_closing X)) ++ ((length (text X) + 1) ∷ shifted (length (text X) + 2) (closing_places (pairs_by_closing Y)))

@@ -18,11 +18,9 @@ walk_is step (suc n) p (v ∷ vs) h g =
 -- a walk meets no more than its steps
 pub walk_short : (step : ℕ → Option (ℕ × ℕ)) (n p : ℕ) → length (walked step n p) ≤ n
 walk_short step zero p = omega arith
-walk_short step (suc n) p = go (λ (q : ℕ). walk_short step n q) (step p)
-  where
-    go : ((q : ℕ) → length (walked step n q) ≤ n) → (o : Option (ℕ × ℕ)) → length (met o (walked step n)) ≤ suc n
-    go ih None = omega arith
-    go ih (Some q) = omega arith
+walk_short step (suc n) p =
+    let ih = λ (q : ℕ). walk_short step n q in
+    elim (step p) as (λ (o : Option (ℕ × ℕ)). length (met o (walked step n)) ≤ suc n) [ None ↦ omega arith | Some q ↦ let h = ih q.1 in omega arith ]
 
 -- a walk meets a list whose members its steps find one after another
 steps_meet : (step : ℕ → Option (ℕ × ℕ)) (xs : List ℕ) (At : ℕ → ℕ → Type 0) → ((p i : ℕ) → At p i → slice_get xs i ≡ None → step p ≡ None) → ((p i v : ℕ) → At p i → slice_get xs i ≡ Some v → (q : ℕ) × (step p ≡ Some (v, q)) × At q (suc i)) → (p : ℕ) → At p 0 → MeetsJust step p xs
