@@ -1,7 +1,9 @@
 -- The laws that proofs of other crates may cite. A crate above imports this file and no other of this folder.
 use Rattle.vers_trees.proofs.Words.{◌≡◌, ℕ, suc, ◌+◌, ◌-◌, ◌*◌, ◌^◌, ◌<◌, ◌≤◌, ◌↔◌, ⊎_elim, Decides, Bool, true, false, not, List, [], ◌∷◌, ◌++◌, map, length, get_or, eqb, max, Option, Some, None, slice_get, option_map, Contains, bit_value, are_balanced, enclosing, Forest, text, pairs, IsBalanced, forest_of, block_count, clog, node_count, nodes, IsNode, closing, parent, depth, level, first_of, last_of, next_of, previous_of, IsAlongLevel, arith, refl, sym, subst, ap, ◌∙◌, cases_lt, take, get_or_past, same_Some, slice_get-get_or, get_or_from_slice_get, slice_get_within, length_push, map-append, take_all, take_more, Decides-eqb, length-filter_both, clog_least, pow_next, negsuc, first_rise_after, last_rise_before, ints, rules, Reads, AddsAtMost, IsWithin, superblock_count, get_reads, rank_reads, select_reads, levels, search_reads, enclose_reads, two_searches_reads, post_reads, tree_reads}
-use Rattle.vers_trees.proofs.grammar.Balance as Balance
-use Rattle.vers_trees.proofs.grammar.Grammar as Grammar
+-- reading from the left decides whether parentheses are balanced
+pub use Rattle.vers_trees.proofs.grammar.Grammar.{balance_decides}
+-- the forest of a balanced list writes down that list again, and that of a text is the one written down
+pub use Rattle.vers_trees.proofs.grammar.Grammar.{text-forest_of, forest_of-text}
 use Rattle.vers_trees.proofs.grammar.Paired.{closes_rises, closes_falls, paired_closes, closes_paired, open_is_paired, close_is_paired, Closes}
 use Rattle.vers_trees.proofs.grammar.Pairs.{contains_map, paired_from_contains, contains_from_paired}
 use Rattle.vers_trees.proofs.kin.Kin.{parent_is_search}
@@ -29,12 +31,6 @@ node_iff_one bits v b =
 -- the same, by what `get` answers
 pub node_iff_got : (bits : List Bool) (v : ℕ) → IsBalanced bits → IsNode (forest_of bits) v ↔ (option_map bit_value (slice_get bits v) ≡ Some 1)
 node_iff_got bits v b = grind (arith, node_iff_one, same_Some)
-
--- ---- balance
-
--- reading from the left decides whether parentheses are balanced
-pub balance_decides : (bits : List Bool) → Decides (are_balanced bits) (IsBalanced bits)
-balance_decides = Balance.balance_decides
 
 -- ---- pairs
 
@@ -73,14 +69,10 @@ enclosed_by_parent F v c k =
     let q = paired_closes F v c (paired_from_contains F (v, c) k) in
     let opens = closes_rises (text F) v c false q in
     let b : IsBalanced (text F) = record { forest = F; written = refl } in
-    let s = rw (Grammar.forest_of-text F) at (parent_is_search (text F) b v (one_pair (text F) b v (omega arith) opens)) in (
+    let s = rw (forest_of-text F) at (parent_is_search (text F) b v (one_pair (text F) b v (omega arith) opens)) in (
       sym (enclosing_open (text F) v opens) ∙ s,
       sym (enclosing_close (text F) c (closes_falls (text F) v c false q)) ∙ found_at_close (text F) v c q (parent F v) s,
     )
-
--- the forest of a balanced list writes down that list again
-pub text-forest_of : (bits : List Bool) → IsBalanced bits → text (forest_of bits) ≡ bits
-text-forest_of = Grammar.text-forest_of
 
 pub ruleset written = (text-forest_of)
 

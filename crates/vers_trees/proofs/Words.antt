@@ -28,7 +28,7 @@ unfoldable pub use Rattle.vers_bits.specs.Bits.{count, places, select, limb}
 pub use Rattle.vers_bits.specs.Walk.{TakesFirst}
 pub use Rattle.vers_rank.specs.Queries.{superblock_count, get_reads, rank_reads, select_reads, get_bits_reads}
 unfoldable pub use Rattle.vers_rank.specs.Queries.{part_number_or_zero}
-pub use Rattle.vers_tally.proofs.PublicLaws.{digits_half, digits_up, adds_then, adds_weaker, adds_nothing, digits-le, digits_pow, digits_below_pow, clog_least, pow_next}
+pub use Rattle.vers_tally.proofs.PublicLaws.{digits_half, digits_up, adds_then, adds_weaker, adds_nothing, digits-le, digits_pow, digits_below_pow, clog_least, clog_is_least, pow_next}
 pub use Rattle.vers_tally.specs.Ends.{Walking}
 pub use Rattle.vers_tally.specs.Reads.{Reads, AddsAtMost, IsWithin, only_nodes, plus}
 unfoldable pub use Rattle.vers_tally.specs.Reads.{digits}

@@ -2,4 +2,3 @@ pub mod Excess
 pub mod Paired
 pub mod Pairs
 pub mod Grammar
-pub mod Balance

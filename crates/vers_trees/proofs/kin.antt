@@ -1,4 +1,3 @@
 pub mod Partners
 pub mod NodeList
 pub mod Kin
-pub mod Handles

@@ -56,7 +56,7 @@ pub fn forest_writes_its_list()
 {}
 
 /// Reading parentheses from the left decides whether they are balanced.
-#[tactic(auto, using(crate::proofs::grammar::Balance::balance_decides))]
+#[tactic(auto, using(crate::proofs::grammar::Grammar::balance_decides))]
 pub fn reading_decides_balance()
     ensures { ReadingDecidesBalance }
 {}

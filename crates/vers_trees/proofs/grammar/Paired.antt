@@ -60,22 +60,19 @@ never_negative (tree X Y) (suc i) h = ⊎_elim
 
 -- each pair closes as the excess says
 closes_root : (X Y : Forest) → Closes (text (tree X Y)) 0 (length (text X) + 1)
-closes_root X Y = record { after = omega arith; inside = grind (arith, ints, length-tree); back = back; above = above }
-  where
-    start : excess (text (tree X Y)) 0 ≡ pos 0
-    start = excess-zero (text (tree X Y))
-
-    back : excess (text (tree X Y)) (length (text X) + 1 + 1) ≡ excess (text (tree X Y)) 0
-    back =
-        let r = excess_in_rest X Y 0 in
-        grind (arith, ints, excess-zero)
-
-    above : (j : ℕ) → 0 < j → j ≤ length (text X) + 1 → excess (text (tree X Y)) 0 <ℤ excess (text (tree X Y)) j
-    above j h k =
-        let r = excess_in_first X Y (j - 1) (omega arith) in
-        let n = never_negative X (j - 1) (omega arith) in
-        let e : excess (text (tree X Y)) (j - 1 + 1) ≡ excess (text (tree X Y)) j = grind (arith, ints) in
-        omega (arith, ints, start)
+closes_root X Y =
+    let len = length-tree X Y in let start = excess-zero (text (tree X Y)) in
+    let rest = excess_in_rest X Y 0 in let z = excess-zero (text Y) in
+    let end : excess (text (tree X Y)) (length (text X) + 1 + 1) ≡ excess (text (tree X Y)) (length (text X) + 2 + 0) = ap (excess (text (tree X Y))) (omega arith) in
+    record {
+      after = omega arith;
+      inside = omega arith;
+      back = omega (arith, ints);
+      above = λ j h k.
+          let r = excess_in_first X Y (j - 1) (omega arith) in let n = never_negative X (j - 1) (omega arith) in
+          let e : excess (text (tree X Y)) (j - 1 + 1) ≡ excess (text (tree X Y)) j = ap (excess (text (tree X Y))) (omega arith) in
+          omega (arith, ints);
+    }
 
 -- what closes in a list closes where that stands in another, along which the excess goes on as along it
 pub closes_moved : (l m : List Bool) (p x y : ℕ) → p + length m ≤ length l → ((j : ℕ) → j ≤ length m → excess l (p + j) ≡ excess l p +ℤ excess m j) → Closes m x y → Closes l (p + x) (p + y)

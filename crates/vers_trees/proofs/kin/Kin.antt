@@ -1,12 +1,12 @@
 -- The nodes around a node of a balanced list: its parent, its depth, how many come before it, and where its nearest children and siblings open.
-use Rattle.vers_trees.proofs.Words.{◌≡◌, ℕ, zero, suc, ◌+◌, ◌-◌, ◌<◌, ◌≤◌, ◌<ℤ◌, Bool, true, false, ◌&&◌, List, [], ◌∷◌, get_or, ltb, leb, count_by, pos, negsuc, neg_ℤ, Some, arith, ⊎_elim, sym, refl, ap, ◌∙◌, Decides, lt-ltb, le-ltb, le-leb, Decides-ltb, Decides-and, leb_tells, length-filter, count, places, excess, last_rise_before, Forest, pairs, IsBalanced, forest_of, nodes, closing, is_ancestor, is_proper_ancestor, depth, parent, node_index, IsLastRiseBefore, ints, rules, common_steps, cond, length, Option, None, subst, filter, Contains, last_or, cases_lt, Decides-like, same_from_decides, cond_both, eq-or-lt_of_le, nodes_under, children, siblings, first_of, last_of, next_of, previous_of, get_or_default}
+use Rattle.vers_trees.proofs.Words.{◌≡◌, ℕ, zero, suc, ◌+◌, ◌-◌, ◌<◌, ◌≤◌, ◌<ℤ◌, Bool, true, false, ◌&&◌, List, [], ◌∷◌, get_or, ltb, leb, count_by, pos, negsuc, neg_ℤ, Some, arith, ⊎_elim, sym, refl, ap, ◌∙◌, Decides, lt-ltb, le-ltb, le-leb, Decides-ltb, Decides-and, leb_tells, length-filter, count, places, excess, last_rise_before, Forest, pairs, IsBalanced, forest_of, nodes, closing, is_ancestor, is_proper_ancestor, depth, parent, node_index, IsLastRiseBefore, ints, rules, common_steps, cond, length, Option, None, subst, filter, Contains, last_or, cases_lt, Decides-like, same_from_decides, cond_both, eq-or-lt_of_le, nodes_under, children, siblings, first_of, last_of, next_of, previous_of, get_or_default, ◌↔◌, IsTrue, is_some, not, count_both, first_rise_after, IsNode, ◌≢◌, slice_get, option_map, ◌==◌, slice_get-get_or, select, length-places, none, tree, text, ne_eqb}
 use Rattle.vers_trees.proofs.walks.Lists.{places-cons}
-use Rattle.vers_trees.proofs.searches.Searches.{before_some, before_none, by_answer, before_is}
+use Rattle.vers_trees.proofs.searches.Searches.{before_some, before_none, by_answer, before_is, after_is}
 use Rattle.vers_trees.proofs.grammar.Excess.{above_since, excess-is_walk, open_from_rise, excess_after_open, excess_after_close}
 use Rattle.vers_trees.proofs.grammar.Grammar.{text-forest_of}
 use Rattle.vers_trees.proofs.grammar.Paired.{closes_rises, Closes, closes_falls}
 use Rattle.vers_trees.proofs.grammar.Pairs.{paired_from_contains, count_by-cons, count_by-append, count_by-map, count_agree, count_none, moved_lt, strictly_contains, pairs_around, contains_first, contains_later}
-use Rattle.vers_trees.proofs.kin.Partners.{nested, IsAbove, one_before, parent_is_nearest, no_parent, before_from_closes, opens_around, same_around, first_child_above, last_child_closes, last_child_above}
+use Rattle.vers_trees.proofs.kin.Partners.{nested, IsAbove, one_before, parent_is_nearest, no_parent, before_from_closes, opens_around, same_around, first_child_above, last_child_closes, last_child_above, after_from_closes}
 use Rattle.vers_trees.proofs.kin.NodeList.{HasPair, one_pair, bit_inside, paired_here, closes_to, closing_is, nodes_by, opens, inside, zero_pair, node_pair, IsFirstNode, first_in, last_node, next_in, previous_in, option_decides}
 
 -- ---- what a test tells
@@ -193,3 +193,62 @@ pub previous_sibling_is : (l : List Bool) (b : IsBalanced l) (v : ℕ) → HasPa
 unfolding nodes_under
 previous_sibling_is l b zero h = sym (previous_in l b _ _ (λ w. option_decides (parent (forest_of l) w) (parent (forest_of l) 0)) 0 None (λ w k e. let y = e.1 in omega arith))
 previous_sibling_is l b (suc u) h = grind (arith, ints, inside, previous_sibling_none, same_bit, previous_sibling_is_search)
+
+-- ---- what the calls on a node answer, by the searches that they make
+module _ (l : List Bool) (b : IsBalanced l) (v : ℕ) (n : IsNode (forest_of l) v) where
+  pub node_inside : v + 1 < length l
+  node_inside = let p = (node_pair l b v n).closes in let a = p.after in omega arith
+
+  -- where a search finds that it closes
+  pub closing_by : first_rise_after l v (negsuc 0) ≡ Some (closing (forest_of l) v)
+  closing_by = after_is l v (negsuc 0) (closing (forest_of l) v) (after_from_closes l v (closing (forest_of l) v) (node_pair l b v n).closes)
+
+  pub closes_inside : (v < closing (forest_of l) v) × (closing (forest_of l) v < length l)
+  closes_inside = let p = (node_pair l b v n).closes in (p.after, p.inside)
+
+  -- by the ones before the node
+  pub depth_by_ones : (ones : ℕ) → ones ≡ count true l v → (ones ≤ v) × (v - ones ≤ ones) × (ones - (v - ones) ≡ depth (forest_of l) v)
+  unfolding excess
+  depth_by_ones ones e = let d = depth_is_excess l b v (node_pair l b v n) in grind (arith, ints, node_inside, count_both)
+
+  pub no_sibling_before_first : v ≡ 0 → previous_of (siblings (forest_of l) v) v ≡ None
+  no_sibling_before_first e = sym (previous_sibling_is l b v (node_pair l b v n)) ∙ ap (closed_before l) e
+
+-- a list is empty where it has no first
+pub leaf_by : (xs : List ℕ) (o : Option ℕ) (r : Bool) → is_some o ≡ not r → o ≡ first_of xs → IsTrue r ↔ (xs ≡ [])
+leaf_by [] o true e f = search rules
+leaf_by [] o false e f = cc
+leaf_by (x ∷ xs) o true e f = let g : is_some o ≡ true = ap is_some f in absurd (cc)
+leaf_by (x ∷ xs) o false e f = (λ h. absurd (cc), λ h. absurd (cc))
+
+-- ---- in the words of any tree
+-- a handle is the place itself
+pub same_place : (o p : Option ℕ) → o ≡ p → option_map (λ v. v) o ≡ p
+same_place None p e = e
+same_place (Some x) p e = e
+
+pub size_by : (l : List Bool) → IsBalanced l → (n : ℕ) → n ≡ count true l (length l) → n ≡ length (nodes (forest_of l))
+size_by l b n e = e ∙ sym (length-places true l) ∙ ap (λ (xs : List ℕ). length xs) (sym (nodes_by l b))
+
+first_root : (F : Forest) → text F ≢ [] → first_of (nodes F) ≡ Some 0
+first_root none h = absurd (h refl)
+first_root (tree X Y) h = refl
+
+pub root_by : (l : List Bool) → IsBalanced l → (o : Option ℕ) → (l ≡ [] → o ≡ None) → (l ≢ [] → o ≡ Some 0) → option_map (λ v. v) o ≡ first_of (nodes (forest_of l))
+unfolding forest_of
+root_by [] b o n s = same_place o None (n refl)
+root_by (x ∷ l) b o n s = same_place o (Some 0) (s (λ e. absurd (cc))) ∙ sym (first_root (forest_of (x ∷ l)) (λ e. let g = sym (text-forest_of (x ∷ l) b) ∙ e in absurd (cc)))
+
+pub handle_by : (l : List Bool) → IsBalanced l → (i n : ℕ) → n ≡ select true l i → i < length (nodes (forest_of l)) → slice_get (nodes (forest_of l)) i ≡ Some n
+unfolding select
+handle_by l b i n e h = grind (arith, nodes_by, slice_get-get_or)
+
+pub empty_by : (l : List Bool) → IsBalanced l → (r : Bool) → IsTrue r ↔ (l ≡ []) → r ≡ (length (nodes (forest_of l)) == 0)
+unfolding forest_of
+empty_by [] b r h = h.1 refl
+empty_by (x ∷ l) b r h = go (forest_of (x ∷ l)) (text-forest_of (x ∷ l) b) r h
+  where
+    go : (F : Forest) → text F ≡ x ∷ l → (r : Bool) → IsTrue r ↔ (x ∷ l ≡ []) → r ≡ (length (nodes F) == 0)
+    go none e r h = absurd (cc)
+    go (tree X Y) e true h = let f = h.0 refl in absurd (cc)
+    go (tree X Y) e false h = sym (grind (arith, ints, ne_eqb))

@@ -93,7 +93,7 @@ pub stands_within : (first i s e : ℕ) → StandsOver first i s e → i ≤ 2 *
 stands_within first i s e p = grind (arith, ints, pow-le-pow_right)
 
 -- a node has one part
-order : (a b : ℕ) → 2 ^ a < 2 ^ (b + 1) → a ≤ b
+pub order : (a b : ℕ) → 2 ^ a < 2 ^ (b + 1) → a ≤ b
 order a b h = ⊎_elim (λ (u : b < a). let le : 2 ^ (b + 1) ≤ 2 ^ a = pow-le-pow_right (omega arith) (omega arith) in absurd (omega arith)) (λ (u : a ≤ b). u) (cases_lt b a)
 
 one_part : (first i s e s' e' : ℕ) → StandsOver first i s e → StandsOver first i s' e' → (s ≡ s') × (e ≡ e')

@@ -30,10 +30,7 @@ excess-number bits n few e =
     let whole : take 64 bits ≡ bits = take_all 64 bits (omega arith) in
     let f : limb bits 0 % 2 ^ n ≡ number bits = rw whole (mod-eq_of_lt (number_below bits n (omega arith))) in
     let o = ap count_ones f in
-    by_ones (count true bits n) (count false bits n) (count_ones (number bits)) n (omega arith) (omega arith)
-  where
-    by_ones : (a b m n : ℕ) → a ≡ m → b + a ≡ n → pos a -ℤ pos b ≡ pos (2 * m) -ℤ pos n
-    by_ones a b m n e f = omega (arith, ints)
+    omega (arith, ints)
 
 pub total_of : (l : List Bool) (p n word : ℕ) (d : ℤ) → n ≤ 64 → p + n ≤ length l → word ≡ number (part l p n) → d ≡ pos (2 * count_ones word) -ℤ pos n → excess l (p + n) ≡ excess l p +ℤ d
 total_of l p n word d few h e q =

@@ -1,5 +1,5 @@
 -- Scans over the bits of a part, by stretches: a bit, a byte or a word at a time.
-use Rattle.vers_trees.proofs.Words.{◌≡◌, ◌≢◌, ℕ, ◌+◌, ◌-◌, ◌^◌, ◌<◌, ◌≤◌, Bool, true, false, List, length, get_or, ℤ, pos, negsuc, ◌+ℤ◌, ◌-ℤ◌, ◌≤ℤ◌, FitsSigned, to_z, of_z, arith, ⊎_elim, sym, ap, ◌∙◌, w64, ints, clamps, by_lt_z, to_z-of_z, cases_lt, Reads, AddsAtMost, adds_then, get_reads, Node, combined, excess, bit_step, count, count_near, count_up, IsPart, IsFirstRise, HasNoRise, IsLastRise, HasNoRiseBefore, scan_reads}
+use Rattle.vers_trees.proofs.Words.{◌≡◌, ◌≢◌, ℕ, ◌+◌, ◌-◌, ◌^◌, ◌<◌, ◌≤◌, Bool, true, false, List, length, get_or, ℤ, pos, negsuc, ◌+ℤ◌, ◌-ℤ◌, ◌≤ℤ◌, FitsSigned, to_z, of_z, arith, ⊎_elim, refl, sym, ap, ◌∙◌, w64, ints, clamps, by_lt_z, to_z-of_z, cases_lt, Reads, AddsAtMost, adds_then, get_reads, Node, combined, excess, bit_step, count, count_near, count_up, IsPart, IsFirstRise, HasNoRise, IsLastRise, HasNoRiseBefore, scan_reads}
 use Rattle.vers_trees.proofs.grammar.Excess.{excess_after_bit}
 
 -- the excess changes by at most as much as there are places between
@@ -66,15 +66,24 @@ backward_more l p q end r rise d h short o i j e m =
 pub bit_is : (l : List Bool) (i j : ℕ) (b : Bool) (d : ℤ) → j ≡ i + 1 → i < length l → b ≡ get_or l i false → d ≡ bit_step b → excess l j ≡ excess l i +ℤ d
 bit_is l i j b d n h e q = ap (excess l) n ∙ excess_after_bit l i false h ∙ ap (λ (z : ℤ). excess l i +ℤ z) (sym (q ∙ ap bit_step e))
 
-pub forward_bit : (l : List Bool) (from p : ℕ) (r rise d : ℤ) → HasNoRise l from p r rise → length l < 2 ^ 63 → from ≤ p → p < length l → excess l (p + 1) ≡ excess l p +ℤ d → rise +ℤ d ≢ r → HasNoRise l from (p + 1) r (to_z w64 (of_z w64 (rise +ℤ to_z w64 (of_z w64 d))))
-forward_bit l from p r rise d h short o i e ne =
-    let m : Misses (λ k. excess l (k + 1)) p (p + 1) (excess l from +ℤ r) = λ k x y z. let same : excess l (k + 1) ≡ excess l (p + 1) = ap (excess l) (omega arith) in ne (omega (arith, ints)) in
-    (forward_more l from p (p + 1) r rise d h short o (omega arith) (omega arith) e m).1
+-- the sum past it fits, its place has the sum that is looked for, or there is still none
+pub forward_bit : (l : List Bool) (from p end : ℕ) (r rise d : ℤ) (b : Bool) → HasNoRise l from p r rise → length l < 2 ^ 63 → from ≤ p → p < end → end ≤ length l → b ≡ get_or l p false → d ≡ bit_step b
+    → FitsSigned w64 (rise +ℤ to_z w64 (of_z w64 d)) × (rise +ℤ to_z w64 (of_z w64 d) ≡ r → IsFirstRise l from end r p) × ((rise +ℤ to_z w64 (of_z w64 d) ≡ r → ⊥) → HasNoRise l from (p + 1) r (to_z w64 (of_z w64 (rise +ℤ to_z w64 (of_z w64 d)))))
+forward_bit l from p end r rise d b h short o i j e q =
+    let t = to_z-of_z w64 d (step_fits b d q) in let s = bit_is l p (p + 1) b d refl (omega arith) e q in (
+      rw t (rise_fits l from (p + 1) (rise +ℤ d) short (omega arith) (omega arith) (omega (arith, ints))),
+      λ z. forward_found l from p p end r rise d h o i (λ k x y. absurd (omega arith)) s (rw t at z),
+      λ ne. (forward_more l from p (p + 1) r rise d h short o (omega arith) (omega arith) s (λ k x y z. let same : excess l (k + 1) ≡ excess l (p + 1) = ap (excess l) (omega arith) in ne (rw t (omega (arith, ints))))).1,
+    )
 
-pub backward_bit : (l : List Bool) (p q end : ℕ) (r rise d : ℤ) → HasNoRiseBefore l q end r rise → length l < 2 ^ 63 → q ≤ end → end ≤ length l → q ≡ p + 1 → excess l q ≡ excess l p +ℤ d → rise -ℤ d ≢ r → HasNoRiseBefore l p end r (to_z w64 (of_z w64 (rise -ℤ to_z w64 (of_z w64 d))))
-backward_bit l p q end r rise d h short o i n e ne =
-    let m : Misses (excess l) p q (excess l end +ℤ r) = λ k x y z. let same : excess l k ≡ excess l p = ap (excess l) (omega arith) in ne (omega (arith, ints)) in
-    (backward_more l p q end r rise d h short (omega arith) o i e m).1
+pub backward_bit : (l : List Bool) (from p q end : ℕ) (r rise d : ℤ) (b : Bool) → HasNoRiseBefore l q end r rise → length l < 2 ^ 63 → from ≤ p → q ≤ end → end ≤ length l → q ≡ p + 1 → b ≡ get_or l p false → d ≡ bit_step b
+    → FitsSigned w64 (rise -ℤ to_z w64 (of_z w64 d)) × (rise -ℤ to_z w64 (of_z w64 d) ≡ r → IsLastRise l from end r p) × ((rise -ℤ to_z w64 (of_z w64 d) ≡ r → ⊥) → HasNoRiseBefore l p end r (to_z w64 (of_z w64 (rise -ℤ to_z w64 (of_z w64 d)))))
+backward_bit l from p q end r rise d b h short o i j n e g =
+    let t = to_z-of_z w64 d (step_fits b d g) in let s = bit_is l p q b d n (omega arith) e g in (
+      rw t (rise_fits l end p (rise -ℤ d) short j (omega arith) (omega (arith, ints))),
+      λ z. let y = rw t at z in backward_found l from p q end r rise (pos 0 -ℤ d) h o (omega arith) (λ k u v. absurd (omega arith)) (omega (arith, ints)) (omega (arith, ints)),
+      λ ne. (backward_more l p q end r rise d h short (omega arith) i j s (λ k x y z. let same : excess l k ≡ excess l p = ap (excess l) (omega arith) in ne (rw t (omega (arith, ints))))).1,
+    )
 
 -- one bit more is read
 pub one_more_read : (a b c : Reads) (n m : ℕ) → m ≡ n + 1 → AddsAtMost a b (scan_reads n) → AddsAtMost b c get_reads → AddsAtMost a c (scan_reads m)

@@ -45,12 +45,10 @@ past_reads size n = record no_reads { data_words = size; rank_calls = size; bloc
 
 -- w is the least power of two, from 2, that is not below the number of leaves
 pub record IsWidth (leaves w : ℕ) : Type 0 where
-  pub exponent : ℕ
-  pub power : 2 ^ exponent ≡ w
+  pub power : w ≡ 2 ^ max 1 (clog leaves)
   pub enough : leaves ≤ w
   pub some : 2 ≤ w
   pub bounded : w ≤ 2 ^ 63
-  pub least : digits (w - 1) ≤ max 1 (clog leaves)
 
 -- a width that is grown, so far
 pub record IsGrowing (leaves w : ℕ) : Type 0 where

@@ -10,7 +10,7 @@ use std::alloc::{AllocError, Allocator};
 use vers_bits::bit_vec::BitVec;
 
 // The least power of two, from 2, that is not below the number.
-#[tactic(auto, using(crate::proofs::layout::Widths::grow_start, crate::proofs::layout::Widths::grow_more, crate::proofs::layout::Widths::grown))]
+#[tactic(auto, using(crate::proofs::layout::Widths::grow_start, crate::proofs::layout::Widths::grow_more))]
 pub(super) fn width(leaves: usize) -> usize
     requires { leaves < 2 ^ 63 }
     ensures { IsWidth leaves result }

@@ -1,5 +1,5 @@
 use Rattle.vers_trees.proofs.Words.{Bool, true, List, arith, ap, ◌∙◌, count}
-use Rattle.vers_trees.proofs.kin.Handles.{depth_by_ones}
+use Rattle.vers_trees.proofs.kin.Kin.{depth_by_ones}
 use Rattle.vers_trees.proofs.trees.bp.BpTree.depth_counted.Goals as goal
 
 pub overflow_sub-zeros : goal.overflow_sub-zeros

@@ -1,5 +1,5 @@
 use Rattle.vers_trees.proofs.Words.{ℕ, Option, unwrap_or, ap, ◌∙◌}
-use Rattle.vers_trees.proofs.kin.Handles.{closing_by, closes_inside}
+use Rattle.vers_trees.proofs.kin.Kin.{closing_by, closes_inside}
 use Rattle.vers_trees.proofs.trees.bp.BpTree.end_counted.Goals as goal
 
 pub returns-clause-value : goal.returns-clause-value

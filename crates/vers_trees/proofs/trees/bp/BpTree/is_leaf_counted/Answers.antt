@@ -1,5 +1,5 @@
 use Rattle.vers_trees.proofs.Words.{forest_of, children}
-use Rattle.vers_trees.proofs.kin.Handles.{leaf_by}
+use Rattle.vers_trees.proofs.kin.Kin.{leaf_by}
 use Rattle.vers_trees.proofs.trees.bp.BpTree.is_leaf_counted.Goals as goal
 
 pub returns-clause-value : goal.returns-clause-value

@@ -1,6 +1,5 @@
 use Rattle.vers_trees.proofs.Words.{◌-◌, Bool, false, List, length, get_or, arith, sym, ap, ◌∙◌}
-use Rattle.vers_trees.proofs.kin.Handles.{node_inside, no_sibling_before_first}
-use Rattle.vers_trees.proofs.kin.Kin.{previous_sibling_none, previous_sibling_is_search}
+use Rattle.vers_trees.proofs.kin.Kin.{previous_sibling_none, previous_sibling_is_search, node_inside, no_sibling_before_first}
 use Rattle.vers_trees.proofs.kin.NodeList.{node_pair}
 use Rattle.vers_trees.proofs.trees.bp.BpTree.previous_sibling_counted.Goals as goal
 

@@ -1,4 +1,4 @@
-use Rattle.vers_trees.proofs.kin.Handles.{empty_by}
+use Rattle.vers_trees.proofs.kin.Kin.{empty_by}
 use Rattle.vers_trees.proofs.trees.bp.as_tree.BpTreeTree.is_empty.Goals as goal
 
 pub returns : goal.returns

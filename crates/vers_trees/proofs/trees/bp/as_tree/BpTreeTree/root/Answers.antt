@@ -1,4 +1,4 @@
-use Rattle.vers_trees.proofs.kin.Handles.{root_by}
+use Rattle.vers_trees.proofs.kin.Kin.{root_by}
 use Rattle.vers_trees.proofs.trees.bp.as_tree.BpTreeTree.root.Goals as goal
 
 pub returns : goal.returns
