@@ -53,8 +53,8 @@ pub use Rattle.vers_trees.specs.WalkReads.{post_reads}
 pub use Rattle.vers_trees.specs.declared.trees.bp.min_max.Node.{Node}
 pub use Rattle.vers_trees.specs.inside.Bytes.{octal, AreEntries, HasMet, step_along}
 pub use Rattle.vers_trees.specs.inside.Closed.{closed_by}
-pub use Rattle.vers_trees.specs.inside.Index.{IsIndexed, IsBuilding, IsWidth, IsGrowing, AreFirstBlocks, IsTreeOf, IsPassedAfter, IsPassedBefore}
-pub use Rattle.vers_trees.specs.inside.MinMax.{empty_node, IsPart, combined, JoinFits, IsLevel, IsInRange, IsInRangeOrStart, start_of, Covers, StandsOver, CoveredFrom, AreLeaves, IsMinMax, Sought, target, edge, IsAfter, IsBetween, Passed, HasNone, HasPlace, IsAhead, BeginsAt, LeadsTo, PassedTo, IsOddPart, IsBeside, near_child, far_child, IsFarChild, beside_far, ComesTo, IsMet, left_past}
-pub use Rattle.vers_trees.specs.inside.Scans.{sum_past, opened_after, IsFirstRise, HasNoRise, IsLastRise, HasNoRiseBefore, scan_reads, falls, is_not_closed, rises}
+pub use Rattle.vers_trees.specs.inside.Index.{IsIndexed, IsBuilding, IsWidth, IsGrowing, AreFirstBlocks, IsTreeOf, IsPassed}
+pub use Rattle.vers_trees.specs.inside.MinMax.{empty_node, IsPart, combined, JoinFits, IsLevel, IsInRange, IsInRangeOrStart, start_of, Covers, StandsOver, CoveredFrom, AreLeaves, IsMinMax, Sought, sought, target, IsAfter, Passed, HasNone, HasPlace, IsAhead, BeginsAt, LeadsTo, PassedTo, IsOddPart, IsBeside, near_child, far_child, IsFarChild, beside_far, ComesTo, IsMet, left_past}
+pub use Rattle.vers_trees.specs.inside.Scans.{sum_past, edge, IsBetween, up_to, opened_after, IsRise, HasNoRise, scan_reads, falls, is_not_closed, rises}
 pub use lib.Count.{ones_step, ones-ones}
 pub use mir.Val.{bool_byte}

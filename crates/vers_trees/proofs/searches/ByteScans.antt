@@ -1,6 +1,6 @@
 -- Whole bytes of a scan, by the entries of their tables.
-use Rattle.vers_trees.proofs.Words.{◌≡◌, ◌≢◌, ℕ, ◌+◌, ◌-◌, ◌*◌, ◌/◌, ◌%◌, ◌^◌, ◌<◌, ◌≤◌, Bool, true, false, List, length, take, drop, ℤ, pos, negsuc, ◌+ℤ◌, ◌-ℤ◌, ◌≤ℤ◌, arith, sym, ap, refl, Option, Some, FitsSigned, to_z, of_z, ◌∙◌, w64, count_ones, is_some, ints, nat_tests, mod-pow-add, take-append-drop, length-take-le, length-drop, drop-take, drop-drop, take_all, mod-eq_of_lt, number, part, count, limb, number_below, number-drop, count_limb, count_both, count_none, number-take, part_number_or_zero, excess, sum_past, IsByte, IsEntry, sum_along, place_along, place_in, least_in, greatest_in, IsFirstRise, HasNoRise, IsLastRise, HasNoRiseBefore}
-use Rattle.vers_trees.proofs.searches.Scans.{Misses, forward_found, forward_more, backward_found, backward_more}
+use Rattle.vers_trees.proofs.Words.{◌≡◌, ◌≢◌, ℕ, ◌+◌, ◌-◌, ◌*◌, ◌/◌, ◌%◌, ◌^◌, ◌<◌, ◌≤◌, Bool, true, false, List, length, take, drop, ℤ, pos, negsuc, ◌+ℤ◌, ◌-ℤ◌, ◌≤ℤ◌, arith, sym, ap, refl, Option, Some, FitsSigned, to_z, of_z, ◌∙◌, w64, count_ones, is_some, ints, nat_tests, mod-pow-add, take-append-drop, length-take-le, length-drop, drop-take, drop-drop, take_all, mod-eq_of_lt, number, part, count, limb, number_below, number-drop, count_limb, count_both, count_none, number-take, part_number_or_zero, excess, sum_past, IsByte, IsEntry, sum_along, place_along, place_in, least_in, greatest_in, IsRise, HasNoRise}
+use Rattle.vers_trees.proofs.searches.Scans.{found, forward_more, backward_more}
 use Rattle.vers_trees.proofs.grammar.Excess.{excess-append_left, excess-append_right}
 
 -- ---- the excess along a part
@@ -93,7 +93,7 @@ natural a (pos n) h = (n, refl)
 natural a (negsuc n) h = absurd (omega (arith, ints))
 
 -- where none of the sums of an entry is t
-missed : (from_end : Bool) (l : List Bool) (p entry : ℕ) (t : ℤ) → p + 8 ≤ length l → IsEntry from_end (part l p 8) entry → ((x : ℕ) → least_in entry ≤ x → x ≤ greatest_in entry → sum_from from_end l p +ℤ (pos x -ℤ pos 8) ≢ t) → Misses (sum_past from_end l) p (p + 8) t
+missed : (from_end : Bool) (l : List Bool) (p entry : ℕ) (t : ℤ) → p + 8 ≤ length l → IsEntry from_end (part l p 8) entry → ((x : ℕ) → least_in entry ≤ x → x ≤ greatest_in entry → sum_from from_end l p +ℤ (pos x -ℤ pos 8) ≢ t) → (k : ℕ) → p ≤ k → k < p + 8 → sum_past from_end l k ≢ t
 missed from_end l p entry t a e none k y z q =
     let n : ℕ = place_along from_end (k - p) in
     let m = turned from_end (k - p) (omega arith) in
@@ -125,24 +125,24 @@ pub entry_ordered : (from_end : Bool) (bits : List Bool) (entry : ℕ) → IsEnt
 entry_ordered from_end bits entry e = let a = e.low 0 (omega arith) in let b = e.high 0 (omega arith) in omega (arith, ints)
 
 -- ---- forwards
-pub forward_byte_found : (l : List Bool) (from p end : ℕ) (r rise : ℤ) (entry x : ℕ) → HasNoRise l from p r rise → from ≤ p → p + 8 ≤ end → end ≤ length l → IsEntry false (part l p 8) entry → least_in entry ≤ x → x ≤ greatest_in entry → rise +ℤ (pos x -ℤ pos 8) ≡ r → IsFirstRise l from end r (p + place_in entry x)
+pub forward_byte_found : (l : List Bool) (from p end : ℕ) (r rise : ℤ) (entry x : ℕ) → HasNoRise false l from p r rise → from ≤ p → p + 8 ≤ end → end ≤ length l → IsEntry false (part l p 8) entry → least_in entry ≤ x → x ≤ greatest_in entry → rise +ℤ (pos x -ℤ pos 8) ≡ r → IsRise false l from end r (p + place_in entry x)
 forward_byte_found l from p end r rise entry x h o a b e u v z =
     let m = met false l p entry x (excess l from +ℤ r) (omega arith) e u v (omega (arith, ints)) in
-    forward_found l from p (p + place_in entry x) end r rise (pos x -ℤ pos 8) h (omega arith) (omega arith) (λ k y w. m.2 k y (omega arith) (omega arith)) (omega (arith, ints)) z
+    found false l from p (p + place_in entry x) end r rise (pos x -ℤ pos 8) h (omega arith, omega arith) (λ k y. let w = y.1 in m.2 k y.0 (omega arith) (omega arith)) (omega (arith, ints)) z
 
-pub forward_byte : (l : List Bool) (from p q : ℕ) (r rise d : ℤ) (entry byte : ℕ) → HasNoRise l from p r rise → length l < 2 ^ 63 → from ≤ p → q ≡ p + 8 → q ≤ length l → IsByte (part l p 8) byte → ((bits : List Bool) → IsByte bits byte → IsEntry false bits entry)
-    → ((x : ℕ) → least_in entry ≤ x → x ≤ greatest_in entry → rise +ℤ (pos x -ℤ pos 8) ≢ r) → d ≡ pos (2 * count_ones byte) -ℤ pos 8 → FitsSigned w64 (rise +ℤ to_z w64 (of_z w64 d)) × HasNoRise l from q r (to_z w64 (of_z w64 (rise +ℤ to_z w64 (of_z w64 d))))
+pub forward_byte : (l : List Bool) (from p q : ℕ) (r rise d : ℤ) (entry byte : ℕ) → HasNoRise false l from p r rise → length l < 2 ^ 63 → from ≤ p → q ≡ p + 8 → q ≤ length l → IsByte (part l p 8) byte → ((bits : List Bool) → IsByte bits byte → IsEntry false bits entry)
+    → ((x : ℕ) → least_in entry ≤ x → x ≤ greatest_in entry → rise +ℤ (pos x -ℤ pos 8) ≢ r) → d ≡ pos (2 * count_ones byte) -ℤ pos 8 → FitsSigned w64 (rise +ℤ to_z w64 (of_z w64 d)) × HasNoRise false l from q r (to_z w64 (of_z w64 (rise +ℤ to_z w64 (of_z w64 d))))
 forward_byte l from p q r rise d entry byte h short o n a is e none k =
-    rw n (forward_more l from p (p + 8) r rise d h short o (omega arith) (omega arith) (total_of l p 8 byte d (omega arith) (omega arith) (sym is.valued) k) (missed false l p entry _ (omega arith) (e _ is) (λ x u v w. none x u v (omega (arith, ints)))))
+    rw n (forward_more l from p (p + 8) r rise d h short o (omega arith) (omega arith) (total_of l p 8 byte d (omega arith) (omega arith) (sym is.valued) k) (λ i b. missed false l p entry _ (omega arith) (e _ is) (λ x u v w. none x u v (omega (arith, ints))) i b.0 b.1))
 
 -- ---- backwards
-pub backward_byte_found : (l : List Bool) (from p q end : ℕ) (r rise : ℤ) (entry x : ℕ) → HasNoRiseBefore l q end r rise → q ≡ p + 8 → from ≤ p → q ≤ end → end ≤ length l → IsEntry true (part l p 8) entry → least_in entry ≤ x → x ≤ greatest_in entry → rise +ℤ (pos x -ℤ pos 8) ≡ r → IsLastRise l from end r (p + place_in entry x)
+pub backward_byte_found : (l : List Bool) (from p q end : ℕ) (r rise : ℤ) (entry x : ℕ) → HasNoRise true l end q r rise → q ≡ p + 8 → from ≤ p → q ≤ end → end ≤ length l → IsEntry true (part l p 8) entry → least_in entry ≤ x → x ≤ greatest_in entry → rise +ℤ (pos x -ℤ pos 8) ≡ r → IsRise true l end from r (p + place_in entry x)
 backward_byte_found l from p q end r rise entry x h n o a b e u v z =
     let k = rw n at h in let m = met true l p entry x (excess l end +ℤ r) (omega arith) e u v (omega (arith, ints)) in
-    backward_found l from (p + place_in entry x) (p + 8) end r rise (pos x -ℤ pos 8) k (omega arith) (omega arith) (λ k y w. m.2 k (omega arith) w (omega arith)) (omega (arith, ints)) z
+    found true l end (p + 8) (p + place_in entry x) from r rise (pos x -ℤ pos 8) k (omega arith, omega arith) (λ k y. let w = y.0 in let u = y.1 in m.2 k (omega arith) u (omega arith)) (omega (arith, ints)) z
 
-pub backward_byte : (l : List Bool) (p q end : ℕ) (r rise d : ℤ) (entry byte : ℕ) → HasNoRiseBefore l q end r rise → length l < 2 ^ 63 → q ≡ p + 8 → q ≤ end → end ≤ length l → IsByte (part l p 8) byte → ((bits : List Bool) → IsByte bits byte → IsEntry true bits entry)
-    → ((x : ℕ) → least_in entry ≤ x → x ≤ greatest_in entry → rise +ℤ (pos x -ℤ pos 8) ≢ r) → d ≡ pos (2 * count_ones byte) -ℤ pos 8 → FitsSigned w64 (rise -ℤ to_z w64 (of_z w64 d)) × HasNoRiseBefore l p end r (to_z w64 (of_z w64 (rise -ℤ to_z w64 (of_z w64 d))))
+pub backward_byte : (l : List Bool) (p q end : ℕ) (r rise d : ℤ) (entry byte : ℕ) → HasNoRise true l end q r rise → length l < 2 ^ 63 → q ≡ p + 8 → q ≤ end → end ≤ length l → IsByte (part l p 8) byte → ((bits : List Bool) → IsByte bits byte → IsEntry true bits entry)
+    → ((x : ℕ) → least_in entry ≤ x → x ≤ greatest_in entry → rise +ℤ (pos x -ℤ pos 8) ≢ r) → d ≡ pos (2 * count_ones byte) -ℤ pos 8 → FitsSigned w64 (rise -ℤ to_z w64 (of_z w64 d)) × HasNoRise true l end p r (to_z w64 (of_z w64 (rise -ℤ to_z w64 (of_z w64 d))))
 backward_byte l p q end r rise d entry byte h short n o a is e none k =
     let g = rw n at h in
-    backward_more l p (p + 8) end r rise d g short (omega arith) (omega arith) a (total_of l p 8 byte d (omega arith) (omega arith) (sym is.valued) k) (missed true l p entry _ (omega arith) (e _ is) (λ x u v w. none x u v (omega (arith, ints))))
+    backward_more l p (p + 8) end r rise d g short (omega arith) (omega arith) a (total_of l p 8 byte d (omega arith) (omega arith) (sym is.valued) k) (λ i b. missed true l p entry _ (omega arith) (e _ is) (λ x u v w. none x u v (omega (arith, ints))) i b.0 b.1)

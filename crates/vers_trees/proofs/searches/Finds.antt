@@ -1,7 +1,7 @@
--- The searches forwards and backwards: the scan of a block, what the tree answers, and the scan of that block.
-use Rattle.vers_trees.proofs.Words.{◌≡◌, ℕ, ◌+◌, ◌-◌, ◌*◌, ◌/◌, ◌<◌, ◌≤◌, ◌^◌, min, Bool, true, false, List, length, ℤ, ◌-ℤ◌, ◌+ℤ◌, FitsSigned, to_z, of_z, None, Result, Ok, Err, MatchResult, arith, ⊎_elim, refl, sym, ap, ◌∙◌, w64, result_ok, ints, to_z-of_z, cases_lt, Node, excess, first_rise_after, last_rise_before, IsFirstRise, HasNoRise, IsLastRise, HasNoRiseBefore, start_of, edge, Sought, Passed, HasNone, IsAhead, BeginsAt, IsTreeOf, IsPassedAfter, IsPassedBefore}
+-- A search: the scan of the block that it begins in, what the tree answers, and the scan of that block.
+use Rattle.vers_trees.proofs.Words.{◌≡◌, ℕ, ◌+◌, ◌-◌, ◌*◌, ◌/◌, ◌<◌, ◌≤◌, ◌^◌, Bool, true, false, List, length, ℤ, ◌-ℤ◌, ◌+ℤ◌, FitsSigned, to_z, of_z, Option, None, Some, Result, Ok, Err, MatchResult, arith, ⊎_elim, refl, sym, ap, ◌∙◌, w64, result_ok, ints, to_z-of_z, Node, excess, sum_past, first_rise_after, last_rise_before, edge, IsBetween, up_to, IsRise, HasNoRise, start_of, Sought, sought, target, IsAfter, Passed, HasNone, IsAhead, BeginsAt, IsPassed}
 use Rattle.vers_trees.proofs.searches.Searches.{after_is, none_after, before_is, none_before}
-use Rattle.vers_trees.proofs.searches.Scans.{rise_fits}
+use Rattle.vers_trees.proofs.searches.Scans.{rise_fits, split}
 use Rattle.vers_trees.proofs.layout.Blocks.{left_fits, too_far}
 
 -- a number as the machine has it
@@ -15,125 +15,83 @@ Difference r rise left = FitsSigned w64 (stored r -ℤ stored rise) × (left ≡
 left_is : (r rise left : ℤ) → FitsSigned w64 r → FitsSigned w64 rise → Difference r rise left → stored left ≡ r -ℤ rise
 left_is r rise left f g d = rw d.1 (to_z-of_z w64 _ d.0 ∙ ap (λ (z : ℤ). z -ℤ stored rise) (to_z-of_z w64 r f) ∙ ap (λ (z : ℤ). r -ℤ z) (to_z-of_z w64 rise g))
 
-pub first_end : (l : List Bool) (size i : ℕ) → 0 < size → i < length l → i + 1 ≤ min (i / size * size + size) (length l)
-first_end l size i so h = omega arith
+-- ---- what a search answers
+pub record IsAnswer (back : Bool) (s : Sought) (o : Option ℕ) : Type 0 where
+  pub none : HasNone back s → None ≡ o
+  pub some : (place : ℕ) → IsRise back s.bits s.from (edge back (length s.bits) 0) s.rise place → Some place ≡ o
 
--- what is left at the block in which a search ends
-rest_is : (back : Bool) (s : Sought) (j : ℕ) (rest : ℤ) → length s.bits < 2 ^ 63 → IsAhead back s j (j + 1) rest → stored rest ≡ rest
-rest_is back s j rest short a = let k = a.place in let k2 = k.2 in to_z-of_z w64 rest (left_fits back s (start_of s.bits s.size (edge back j (j + 1))) rest k.0 short (omega arith) a.passed.remains (omega arith) k.3)
+pub answer_after : (l : List Bool) (size i : ℕ) (r : ℤ) → IsAnswer false (sought l size (i + 1) r) (first_rise_after l i r)
+answer_after l size i r = record {
+  none = λ n. sym (none_after l i r (λ k a b. n k (omega arith) b));
+  some = λ place q. let a = q.between.0 in sym (after_is l i r place (record { after = omega arith; inside = q.between.1; sum = q.sum; first = λ k x y. q.first k (omega arith, y) }));
+}
 
--- ---- forwards: in a list with its tree, where the block of i has no such place
-module _ (l : List Bool) (size first : ℕ) (nodes : List Node) (i : ℕ) (r rise : ℤ) (s : IsPassedAfter l size first nodes i r rise) where
-  abbrev pub after : Sought
-  after = record { bits = l; size = size; from = i + 1; rise = r }
+pub answer_before : (l : List Bool) (size i : ℕ) (r : ℤ) → i < length l → IsAnswer true (sought l size i r) (last_rise_before l i r)
+answer_before l size i r h = record {
+  none = λ n. sym (none_before l i r n);
+  some = λ place q. sym (before_is l i r place (record { before = q.between.1; inside = h; sum = q.sum; last = λ k x y. q.first k (omega arith, y) }));
+}
 
-  passed : (left : ℤ) → left ≡ r -ℤ rise → Passed false after (start_of l size (i / size + 1)) left
-  passed left e =
-      let so = s.indexed.some in let t = s.passed.risen in
-      let same : excess l (start_of l size (i / size + 1)) ≡ excess l (min (i / size * size + size) (length l)) = ap (excess l) (omega arith) in
-      record { inside = omega arith; after = omega arith; remains = omega (arith, ints); none = λ k b. s.passed.none k b.0 (let y = b.1 in omega arith) }
+pub answer_here : (back : Bool) (s : Sought) (o : Option ℕ) → IsAnswer back s o → (end place : ℕ) → IsRise back s.bits s.from end s.rise place → IsBetween back s.from (edge back (length s.bits) 0) place → Some place ≡ o
+answer_here back s o a end place q b = a.some place (record { between = b; sum = q.sum; first = q.first })
 
-  module _ (f : FitsSigned w64 r) where
-    risen : FitsSigned w64 rise
-    risen = rise_fits l (i + 1) (min (i / size * size + size) (length l)) rise s.indexed.short (omega arith) (omega arith) s.passed.risen
+-- ---- a search comes past its block, and a block's places lie before its other end and in the list
+comes_past : (back : Bool) (s : Sought) (block : ℕ) → 0 < s.size → 0 < s.from → s.from ≤ length s.bits → block ≡ (s.from - 1) / s.size → IsAfter back s.from (start_of s.bits s.size (edge back (block + 1) block))
+comes_past false s block so a b e = rw e (omega arith)
+comes_past true s block so a b e = rw e (omega arith)
 
-    pub none_far : (FitsSigned w64 (stored r -ℤ stored rise) → ⊥) → None ≡ first_rise_after l i r
-    none_far long =
-        let p = passed (r -ℤ rise) refl in
-        sym (none_after l i r (λ k a b. too_far false after _ (start_of l size (i / size + 1)) _ (r -ℤ rise) s.indexed.short p (omega arith) p.remains (λ g. long (rw (to_z-of_z w64 r f, to_z-of_z w64 rise risen) g)) k (omega arith) b))
+in_block : (back : Bool) (s : Sought) (j k : ℕ) → start_of s.bits s.size j ≤ k → k < start_of s.bits s.size (j + 1) → IsBetween back (start_of s.bits s.size (edge back j (j + 1))) (start_of s.bits s.size (edge back (j + 1) j)) k
+in_block false s j k a b = (a, b)
+in_block true s j k a b = (a, b)
 
-    -- the tree is asked for what is left
-    module _ (left : ℤ) (d : Difference r rise left) where
-      pub begins : BeginsAt false after first nodes (i / size) (stored left)
-      begins = record { tree = (s.indexed.over (omega arith)).tree; some = (let so = s.indexed.some in omega arith); passed = passed (stored left) (left_is r rise left f risen d) }
+in_list : (back : Bool) (s : Sought) (j k : ℕ) → s.from ≤ length s.bits → IsAfter back s.from (start_of s.bits s.size (edge back j (j + 1))) → IsBetween back (start_of s.bits s.size (edge back j (j + 1))) (start_of s.bits s.size (edge back (j + 1) j)) k → IsBetween back s.from (edge back (length s.bits) 0) k
+in_list false s j k i a b = let b0 = b.0 in let b1 = b.1 in (omega arith, omega arith)
+in_list true s j k i a b = let b0 = b.0 in let b1 = b.1 in (omega arith, omega arith)
 
-      pub none_next : ((q : Sought) → BeginsAt false q first nodes (i / size) (stored left) → HasNone false q) → None ≡ first_rise_after l i r
-      none_next none = sym (none_after l i r (λ k a b. none after begins k (omega arith) b))
+-- the block that a search backwards goes on in ends before the place that it begins at
+pub ends_before : (s : Sought) (j : ℕ) (rest : ℤ) → IsAhead true s j (j + 1) rest → j * s.size + s.size < s.from
+ends_before s j rest a = let h = a.passed.after in let i = a.passed.inside in omega arith
 
-      -- the block that it answers has such a place, and its scan ends the search
-      module _ (j : ℕ) (rest : ℤ) (found : (q : Sought) → BeginsAt false q first nodes (i / size) (stored left) → IsAhead false q j (j + 1) rest) where
-        ahead : IsAhead false after j (j + 1) rest
-        ahead = found after begins
+-- ---- in a list with its tree, where the block that the search begins in has no place with its sum
+module _ (back : Bool) (s : Sought) (first : ℕ) (nodes : List Node) (block : ℕ) (rise : ℤ) (p : IsPassed back s first nodes block rise) (o : Option ℕ) (a : IsAnswer back s o) (f : FitsSigned w64 s.rise) where
+  fits : FitsSigned w64 rise
+  fits = rise_fits s.bits s.from (start_of s.bits s.size (edge back (block + 1) block)) rise p.indexed.short p.inside (omega arith) p.passed.risen
 
-        pub next_inside : j * size < length l
-        next_inside = let k1 = ahead.place.1 in let k2 = ahead.place.2 in omega arith
+  passed : (left : ℤ) → left ≡ s.rise -ℤ rise → Passed back s (start_of s.bits s.size (edge back (block + 1) block)) left
+  passed left e = let t = p.passed.risen in record { inside = p.inside; after = comes_past back s block p.indexed.some p.some p.inside p.begins; remains = omega (arith, ints); none = p.passed.none }
 
-        start : excess l (start_of l size j) ≡ excess l (j * size)
-        start = ap (excess l) (let h = next_inside in omega arith)
+  pub none_far : (FitsSigned w64 (stored s.rise -ℤ stored rise) → ⊥) → None ≡ o
+  none_far long =
+      let q = passed (s.rise -ℤ rise) refl in
+      a.none (too_far back s _ (start_of s.bits s.size (edge back (block + 1) block)) _ (s.rise -ℤ rise) p.indexed.short q (omega arith) q.remains (λ g. long (rw (to_z-of_z w64 s.rise f, to_z-of_z w64 rise fits) g)))
 
-        pub next_answer : (next_end : ℕ) (o : Result ℕ ℤ) → next_end ≡ min (j * size + size) (length l)
-            → MatchResult o (λ place. IsFirstRise l (j * size) next_end (stored rest) place) (λ past. HasNoRise l (j * size) next_end (stored rest) past) → result_ok o ≡ first_rise_after l i r
-        next_answer next_end (Ok place) ne q =
-            let af = ahead.passed.after in let re = ahead.passed.remains in let h = next_inside in let st = start in let wh = rest_is false after j rest s.indexed.short ahead in
-            let lo = q.low in let hi = q.inside in let su = q.sum in
-            sym (after_is l i r place (record {
-              after = omega arith;
-              inside = omega arith;
-              sum = omega (arith, ints);
-              first = λ k x y z. ⊎_elim
-                  (λ (w : k < j * size). ahead.passed.none k (omega arith, omega arith) z)
-                  (λ (w : j * size ≤ k). q.first k w y (omega (arith, ints)))
-                  (cases_lt k (j * size));
-            }))
-        next_answer next_end (Err past) ne q =
-            let re = ahead.passed.remains in let h = next_inside in let st = start in let wh = rest_is false after j rest s.indexed.short ahead in
-            let k1 = ahead.place.1 in let k2 = ahead.place.2 in let k3 = ahead.place.3 in
-            absurd (q.none ahead.place.0 (omega arith) (omega arith) (omega (arith, ints)))
+  -- the tree is asked for what is left
+  module _ (left : ℤ) (d : Difference s.rise rise left) where
+    pub begins : BeginsAt back s first nodes block (stored left)
+    begins = record { tree = (p.indexed.over (let i = p.inside in omega arith)).tree; some = (let so = p.indexed.some in rw p.begins (omega arith)); passed = passed (stored left) (left_is s.rise rise left f fits d) }
 
--- ---- backwards: where the block of the place before i has no such place
-module _ (l : List Bool) (size first : ℕ) (nodes : List Node) (i : ℕ) (r rise : ℤ) (s : IsPassedBefore l size first nodes i r rise) where
-  abbrev pub before : Sought
-  before = record { bits = l; size = size; from = i; rise = r }
+    pub none_next : ((q : Sought) → BeginsAt back q first nodes block (stored left) → HasNone back q) → None ≡ o
+    none_next none = a.none (none s begins)
 
-  block : (i - 1) / size * size ≤ i - 1
-  block = let so = s.indexed.some in omega arith
+    -- the block that it answers has such a place, and its scan ends the search
+    module _ (j : ℕ) (rest : ℤ) (next : (q : Sought) → BeginsAt back q first nodes block (stored left) → IsAhead back q j (j + 1) rest) where
+      ahead : IsAhead back s j (j + 1) rest
+      ahead = next s begins
 
-  passed_back : (left : ℤ) → left ≡ r -ℤ rise → Passed true before (start_of l size ((i - 1) / size)) left
-  passed_back left e =
-      let b = block in let t = s.passed.risen in
-      let same : excess l (start_of l size ((i - 1) / size)) ≡ excess l ((i - 1) / size * size) = ap (excess l) (omega arith) in
-      record { inside = omega arith; after = omega arith; remains = omega (arith, ints); none = λ k b. s.passed.none k (let x = b.0 in omega arith) b.1 }
+      pub next_inside : j * s.size < length s.bits
+      next_inside = let k1 = ahead.place.1 in let k2 = ahead.place.2 in omega arith
 
-  module _ (f : FitsSigned w64 r) where
-    fallen : FitsSigned w64 rise
-    fallen = let b = block in rise_fits l i ((i - 1) / size * size) rise s.indexed.short (omega arith) (omega arith) s.passed.risen
+      whole : stored rest ≡ rest
+      whole = let k = ahead.place in let k2 = k.2 in to_z-of_z w64 rest (left_fits back s (start_of s.bits s.size (edge back j (j + 1))) rest k.0 p.indexed.short (omega arith) ahead.passed.remains (omega arith) k.3)
 
-    pub none_far_back : (FitsSigned w64 (stored r -ℤ stored rise) → ⊥) → None ≡ last_rise_before l i r
-    none_far_back long =
-        let p = passed_back (r -ℤ rise) refl in
-        sym (none_before l i r (too_far true before _ (start_of l size ((i - 1) / size)) _ (r -ℤ rise) s.indexed.short p (omega arith) p.remains (λ g. long (rw (to_z-of_z w64 r f, to_z-of_z w64 rise fallen) g))))
-
-    module _ (left : ℤ) (d : Difference r rise left) where
-      pub begins_back : BeginsAt true before first nodes ((i - 1) / size) (stored left)
-      begins_back = record { tree = (s.indexed.over (omega arith)).tree; some = (let b = block in omega arith); passed = passed_back (stored left) (left_is r rise left f fallen d) }
-
-      pub none_previous : ((q : Sought) → BeginsAt true q first nodes ((i - 1) / size) (stored left) → HasNone true q) → None ≡ last_rise_before l i r
-      none_previous none = sym (none_before l i r (none before begins_back))
-
-      module _ (j : ℕ) (rest : ℤ) (found : (q : Sought) → BeginsAt true q first nodes ((i - 1) / size) (stored left) → IsAhead true q j (j + 1) rest) where
-        ahead_back : IsAhead true before j (j + 1) rest
-        ahead_back = found before begins_back
-
-        pub previous_ends : j * size + size < i
-        previous_ends = let h = ahead_back.passed.after in omega arith
-
-        end : excess l (start_of l size (j + 1)) ≡ excess l (j * size + size)
-        end = ap (excess l) (let h = previous_ends in omega arith)
-
-        pub previous_answer : (o : Result ℕ ℤ) → MatchResult o (λ place. IsLastRise l (j * size) (j * size + size) (stored rest) place) (λ past. HasNoRiseBefore l (j * size) (j * size + size) (stored rest) past) → result_ok o ≡ last_rise_before l i r
-        previous_answer (Ok place) q =
-            let h = previous_ends in let re = ahead_back.passed.remains in let en = end in let wh = rest_is true before j rest s.indexed.short ahead_back in
-            let hi = q.inside in let su = q.sum in
-            sym (before_is l i r place (record {
-              before = omega arith;
-              inside = s.inside;
-              sum = omega (arith, ints);
-              last = λ k x y z. ⊎_elim
-                  (λ (w : k < j * size + size). q.last k x w (omega (arith, ints)))
-                  (λ (w : j * size + size ≤ k). ahead_back.passed.none k (omega arith, y) z)
-                  (cases_lt k (j * size + size));
-            }))
-        previous_answer (Err past) q =
-            let h = previous_ends in let re = ahead_back.passed.remains in let en = end in let wh = rest_is true before j rest s.indexed.short ahead_back in
-            let k1 = ahead_back.place.1 in let k2 = ahead_back.place.2 in let k3 = ahead_back.place.3 in
-            absurd (q.none ahead_back.place.0 (omega arith) (omega arith) (omega (arith, ints)))
+      pub next_answer : (x y : ℕ) (r : Result ℕ ℤ) → x ≡ start_of s.bits s.size (edge back j (j + 1)) → y ≡ start_of s.bits s.size (edge back (j + 1) j) → MatchResult r (λ place. IsRise back s.bits x y (stored rest) place) (λ past. HasNoRise back s.bits x y (stored rest) past) → result_ok r ≡ o
+      next_answer x y (Ok place) e g q =
+          let t = rw (e, g) at q in let su = t.sum in let re = ahead.passed.remains in let wh = whole in
+          a.some place (record {
+            between = in_list back s j place p.inside ahead.passed.after t.between;
+            sum = omega (arith, ints);
+            first = λ k b z. ⊎_elim (λ w. ahead.passed.none k w z) (λ w. t.first k w (omega (arith, ints))) (split back s.from (start_of s.bits s.size (edge back j (j + 1))) (up_to back place) k b);
+          })
+      next_answer x y (Err past) e g q =
+          let t = rw (e, g) at q in let re = ahead.passed.remains in let wh = whole in let k = ahead.place in let k3 = k.3 in
+          absurd (t.none k.0 (in_block back s j k.0 k.1 k.2) (omega (arith, ints)))

@@ -1,5 +1,5 @@
 -- Scans over the bits of a part, by stretches: a bit, a byte or a word at a time.
-use Rattle.vers_trees.proofs.Words.{◌≡◌, ◌≢◌, ℕ, ◌+◌, ◌-◌, ◌^◌, ◌<◌, ◌≤◌, Bool, true, false, List, length, get_or, ℤ, pos, negsuc, ◌+ℤ◌, ◌-ℤ◌, ◌≤ℤ◌, FitsSigned, to_z, of_z, arith, ⊎_elim, refl, sym, ap, ◌∙◌, w64, ints, clamps, by_lt_z, to_z-of_z, cases_lt, Reads, AddsAtMost, adds_then, get_reads, Node, combined, excess, bit_step, count, count_near, count_up, IsPart, IsFirstRise, HasNoRise, IsLastRise, HasNoRiseBefore, scan_reads}
+use Rattle.vers_trees.proofs.Words.{◌≡◌, ◌≢◌, ℕ, ◌+◌, ◌-◌, ◌^◌, ◌<◌, ◌≤◌, ◌⊎◌, inl, inr, Bool, true, false, List, length, get_or, ℤ, pos, negsuc, ◌+ℤ◌, ◌-ℤ◌, ◌≤ℤ◌, FitsSigned, to_z, of_z, arith, ⊎_elim, refl, sym, ap, ◌∙◌, w64, ints, clamps, by_lt_z, to_z-of_z, cases_lt, Reads, AddsAtMost, adds_then, get_reads, Node, combined, excess, bit_step, count, count_near, count_up, IsPart, sum_past, IsBetween, up_to, IsRise, HasNoRise, scan_reads}
 use Rattle.vers_trees.proofs.grammar.Excess.{excess_after_bit}
 
 -- the excess changes by at most as much as there are places between
@@ -36,53 +36,56 @@ as_stored P z y e f p = rw e (f, rw (to_z-of_z w64 y f) p)
 pub rest_is : (f : ℤ → ℤ) (x b : ℤ) → FitsSigned w64 x → FitsSigned w64 (f (to_z w64 (of_z w64 x))) × (b ≡ f (to_z w64 (of_z w64 x))) → to_z w64 (of_z w64 b) ≡ f x
 rest_is f x b h s = rw s.1 (to_z-of_z w64 _ s.0 ∙ ap f (to_z-of_z w64 x h))
 
--- ---- stretches: none of the places from a on and before b has the sum t
-abbrev pub Misses : (ℕ → ℤ) → ℕ → ℕ → ℤ → Type 0
-Misses sum a b t = (k : ℕ) → a ≤ k → k < b → sum k ≢ t
+-- ---- stretches: none of the places that a search passes from p on to q has the sum t
+abbrev pub Misses : (back : Bool) → List Bool → ℕ → ℕ → ℤ → Type 0
+Misses back l p q t = (k : ℕ) → IsBetween back p q k → sum_past back l k ≢ t
 
-joined : (sum : ℕ → ℤ) (a b c : ℕ) (t : ℤ) → Misses sum a b t → Misses sum b c t → Misses sum a c t
-joined sum a b c t p q k x y = ⊎_elim (λ (w : k < b). p k x w) (λ (w : b ≤ k). q k w y) (cases_lt k b)
+-- what it passes on to q it passes on to p, or from there
+pub split : (back : Bool) (from p q k : ℕ) → IsBetween back from q k → IsBetween back from p k ⊎ IsBetween back p q k
+split false from p q k b = ⊎_elim (λ (w : k < p). inl (b.0, w)) (λ (w : p ≤ k). inr (w, b.1)) (cases_lt k p)
+split true from p q k b = ⊎_elim (λ (w : k < p). inr (b.0, w)) (λ (w : p ≤ k). inl (w, b.1)) (cases_lt k p)
 
--- past a stretch on which the excess rises by d
-pub forward_found : (l : List Bool) (from p place end : ℕ) (r rise x : ℤ) → HasNoRise l from p r rise → from ≤ place → place < end → Misses (λ k. excess l (k + 1)) p place (excess l from +ℤ r) → excess l (place + 1) ≡ excess l p +ℤ x → rise +ℤ x ≡ r → IsFirstRise l from end r place
-forward_found l from p place end r rise x h o i m e z =
-    record { low = o; inside = i; sum = omega (arith, ints); first = joined (λ k. excess l (k + 1)) from p place _ h.none m }
+joined : (back : Bool) (l : List Bool) (from p q : ℕ) (t : ℤ) → Misses back l from p t → Misses back l p q t → Misses back l from q t
+joined back l from p q t m n k b = ⊎_elim (m k) (n k) (split back from p q k b)
 
-pub forward_more : (l : List Bool) (from p q : ℕ) (r rise d : ℤ) → HasNoRise l from p r rise → length l < 2 ^ 63 → from ≤ p → p ≤ q → q ≤ length l → excess l q ≡ excess l p +ℤ d → Misses (λ k. excess l (k + 1)) p q (excess l from +ℤ r) → FitsSigned w64 (rise +ℤ to_z w64 (of_z w64 d)) × HasNoRise l from q r (to_z w64 (of_z w64 (rise +ℤ to_z w64 (of_z w64 d))))
-forward_more l from p q r rise d h short o i j e m =
-    let sum : excess l q ≡ excess l from +ℤ (rise +ℤ d) = omega (arith, ints) in
-    as_stored (HasNoRise l from q r) _ (rise +ℤ d) (ap (λ (z : ℤ). rise +ℤ z) (rise_is l p q d short (omega arith) j e)) (rise_fits l from q _ short (omega arith) j sum) (record { risen = sum; none = joined (λ k. excess l (k + 1)) from p q _ h.none m })
+-- past a stretch on which the excess rises by x or by d
+pub found : (back : Bool) (l : List Bool) (from p place end : ℕ) (r rise x : ℤ) → HasNoRise back l from p r rise → IsBetween back from end place → Misses back l p (up_to back place) (excess l from +ℤ r) → sum_past back l place ≡ excess l p +ℤ x → rise +ℤ x ≡ r → IsRise back l from end r place
+found back l from p place end r rise x h i m e z =
+    let s = h.risen in record { between = i; sum = omega (arith, ints); first = joined back l from p (up_to back place) _ h.none m }
 
-pub backward_found : (l : List Bool) (from place q end : ℕ) (r rise x : ℤ) → HasNoRiseBefore l q end r rise → from ≤ place → place < end → Misses (excess l) (place + 1) q (excess l end +ℤ r) → excess l place ≡ excess l q +ℤ x → rise +ℤ x ≡ r → IsLastRise l from end r place
-backward_found l from place q end r rise x h o i m e z =
-    record { low = o; inside = i; sum = omega (arith, ints); last = λ k a b. joined (excess l) (place + 1) q end _ m h.none k (omega arith) b }
+more : (back : Bool) (l : List Bool) (from p q : ℕ) (r rise d z : ℤ) → HasNoRise back l from p r rise → length l < 2 ^ 63 → from ≤ length l → q ≤ length l → excess l q ≡ excess l p +ℤ d → z ≡ rise +ℤ d → Misses back l p q (excess l from +ℤ r) → FitsSigned w64 z × HasNoRise back l from q r (to_z w64 (of_z w64 z))
+more back l from p q r rise d z h short i j e n m =
+    let s = h.risen in let sum : excess l q ≡ excess l from +ℤ (rise +ℤ d) = omega (arith, ints) in
+    as_stored (HasNoRise back l from q r) z (rise +ℤ d) n (rise_fits l from q _ short i j sum) (record { risen = sum; none = joined back l from p q _ h.none m })
 
-pub backward_more : (l : List Bool) (p q end : ℕ) (r rise d : ℤ) → HasNoRiseBefore l q end r rise → length l < 2 ^ 63 → p ≤ q → q ≤ end → end ≤ length l → excess l q ≡ excess l p +ℤ d → Misses (excess l) p q (excess l end +ℤ r) → FitsSigned w64 (rise -ℤ to_z w64 (of_z w64 d)) × HasNoRiseBefore l p end r (to_z w64 (of_z w64 (rise -ℤ to_z w64 (of_z w64 d))))
-backward_more l p q end r rise d h short o i j e m =
-    let sum : excess l p ≡ excess l end +ℤ (rise -ℤ d) = omega (arith, ints) in
-    as_stored (λ z. HasNoRiseBefore l p end r z) _ (rise -ℤ d) (ap (λ (z : ℤ). rise -ℤ z) (rise_is l p q d short (omega arith) (omega arith) e)) (rise_fits l end p _ short j (omega arith) sum) (record { risen = sum; none = joined (excess l) p q end _ m h.none })
+-- the same with the rise of the list, as the code has it
+pub forward_more : (l : List Bool) (from p q : ℕ) (r rise d : ℤ) → HasNoRise false l from p r rise → length l < 2 ^ 63 → from ≤ p → p ≤ q → q ≤ length l → excess l q ≡ excess l p +ℤ d → Misses false l p q (excess l from +ℤ r) → FitsSigned w64 (rise +ℤ to_z w64 (of_z w64 d)) × HasNoRise false l from q r (to_z w64 (of_z w64 (rise +ℤ to_z w64 (of_z w64 d))))
+forward_more l from p q r rise d h short o i j e m = more false l from p q r rise d _ h short (omega arith) j e (ap (λ (z : ℤ). rise +ℤ z) (rise_is l p q d short (omega arith) j e)) m
+
+pub backward_more : (l : List Bool) (p q end : ℕ) (r rise d : ℤ) → HasNoRise true l end q r rise → length l < 2 ^ 63 → p ≤ q → q ≤ end → end ≤ length l → excess l q ≡ excess l p +ℤ d → Misses true l q p (excess l end +ℤ r) → FitsSigned w64 (rise -ℤ to_z w64 (of_z w64 d)) × HasNoRise true l end p r (to_z w64 (of_z w64 (rise -ℤ to_z w64 (of_z w64 d))))
+backward_more l p q end r rise d h short o i j e m = let n = rise_is l p q d short (omega arith) (omega arith) e in more true l end q p r rise (pos 0 -ℤ d) _ h short j (omega arith) (omega (arith, ints)) (omega (arith, ints)) m
 
 -- past one bit
 pub bit_is : (l : List Bool) (i j : ℕ) (b : Bool) (d : ℤ) → j ≡ i + 1 → i < length l → b ≡ get_or l i false → d ≡ bit_step b → excess l j ≡ excess l i +ℤ d
 bit_is l i j b d n h e q = ap (excess l) n ∙ excess_after_bit l i false h ∙ ap (λ (z : ℤ). excess l i +ℤ z) (sym (q ∙ ap bit_step e))
 
 -- the sum past it fits, its place has the sum that is looked for, or there is still none
-pub forward_bit : (l : List Bool) (from p end : ℕ) (r rise d : ℤ) (b : Bool) → HasNoRise l from p r rise → length l < 2 ^ 63 → from ≤ p → p < end → end ≤ length l → b ≡ get_or l p false → d ≡ bit_step b
-    → FitsSigned w64 (rise +ℤ to_z w64 (of_z w64 d)) × (rise +ℤ to_z w64 (of_z w64 d) ≡ r → IsFirstRise l from end r p) × ((rise +ℤ to_z w64 (of_z w64 d) ≡ r → ⊥) → HasNoRise l from (p + 1) r (to_z w64 (of_z w64 (rise +ℤ to_z w64 (of_z w64 d)))))
+pub forward_bit : (l : List Bool) (from p end : ℕ) (r rise d : ℤ) (b : Bool) → HasNoRise false l from p r rise → length l < 2 ^ 63 → from ≤ p → p < end → end ≤ length l → b ≡ get_or l p false → d ≡ bit_step b
+    → FitsSigned w64 (rise +ℤ to_z w64 (of_z w64 d)) × (rise +ℤ to_z w64 (of_z w64 d) ≡ r → IsRise false l from end r p) × ((rise +ℤ to_z w64 (of_z w64 d) ≡ r → ⊥) → HasNoRise false l from (p + 1) r (to_z w64 (of_z w64 (rise +ℤ to_z w64 (of_z w64 d)))))
 forward_bit l from p end r rise d b h short o i j e q =
     let t = to_z-of_z w64 d (step_fits b d q) in let s = bit_is l p (p + 1) b d refl (omega arith) e q in (
       rw t (rise_fits l from (p + 1) (rise +ℤ d) short (omega arith) (omega arith) (omega (arith, ints))),
-      λ z. forward_found l from p p end r rise d h o i (λ k x y. absurd (omega arith)) s (rw t at z),
-      λ ne. (forward_more l from p (p + 1) r rise d h short o (omega arith) (omega arith) s (λ k x y z. let same : excess l (k + 1) ≡ excess l (p + 1) = ap (excess l) (omega arith) in ne (rw t (omega (arith, ints))))).1,
+      λ z. found false l from p p end r rise d h (o, i) (λ k x. let x0 = x.0 in let x1 = x.1 in absurd (omega arith)) s (rw t at z),
+      λ ne. (forward_more l from p (p + 1) r rise d h short o (omega arith) (omega arith) s (λ k x z. let x0 = x.0 in let x1 = x.1 in let same : excess l (k + 1) ≡ excess l (p + 1) = ap (excess l) (omega arith) in ne (rw t (omega (arith, ints))))).1,
     )
 
-pub backward_bit : (l : List Bool) (from p q end : ℕ) (r rise d : ℤ) (b : Bool) → HasNoRiseBefore l q end r rise → length l < 2 ^ 63 → from ≤ p → q ≤ end → end ≤ length l → q ≡ p + 1 → b ≡ get_or l p false → d ≡ bit_step b
-    → FitsSigned w64 (rise -ℤ to_z w64 (of_z w64 d)) × (rise -ℤ to_z w64 (of_z w64 d) ≡ r → IsLastRise l from end r p) × ((rise -ℤ to_z w64 (of_z w64 d) ≡ r → ⊥) → HasNoRiseBefore l p end r (to_z w64 (of_z w64 (rise -ℤ to_z w64 (of_z w64 d)))))
+pub backward_bit : (l : List Bool) (from p q end : ℕ) (r rise d : ℤ) (b : Bool) → HasNoRise true l end q r rise → length l < 2 ^ 63 → from ≤ p → q ≤ end → end ≤ length l → q ≡ p + 1 → b ≡ get_or l p false → d ≡ bit_step b
+    → FitsSigned w64 (rise -ℤ to_z w64 (of_z w64 d)) × (rise -ℤ to_z w64 (of_z w64 d) ≡ r → IsRise true l end from r p) × ((rise -ℤ to_z w64 (of_z w64 d) ≡ r → ⊥) → HasNoRise true l end p r (to_z w64 (of_z w64 (rise -ℤ to_z w64 (of_z w64 d)))))
 backward_bit l from p q end r rise d b h short o i j n e g =
     let t = to_z-of_z w64 d (step_fits b d g) in let s = bit_is l p q b d n (omega arith) e g in (
       rw t (rise_fits l end p (rise -ℤ d) short j (omega arith) (omega (arith, ints))),
-      λ z. let y = rw t at z in backward_found l from p q end r rise (pos 0 -ℤ d) h o (omega arith) (λ k u v. absurd (omega arith)) (omega (arith, ints)) (omega (arith, ints)),
-      λ ne. (backward_more l p q end r rise d h short (omega arith) i j s (λ k x y z. let same : excess l k ≡ excess l p = ap (excess l) (omega arith) in ne (rw t (omega (arith, ints))))).1,
+      λ z. let y = rw t at z in found true l end q p from r rise (pos 0 -ℤ d) h (o, omega arith) (λ k u. let u0 = u.0 in let u1 = u.1 in absurd (omega arith)) (omega (arith, ints)) (omega (arith, ints)),
+      λ ne. (backward_more l p q end r rise d h short (omega arith) i j s (λ k x z. let x0 = x.0 in let x1 = x.1 in let same : excess l k ≡ excess l p = ap (excess l) (omega arith) in ne (rw t (omega (arith, ints))))).1,
     )
 
 -- one bit more is read

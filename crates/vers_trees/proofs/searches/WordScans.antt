@@ -1,5 +1,5 @@
 -- Whole words of a scan: how far a sum falls along one at most, by its zeros that no one stands right before, and by its ones that no zero stands right after.
-use Rattle.vers_trees.proofs.Words.{◌≡◌, ℕ, zero, suc, ◌+◌, ◌-◌, ◌*◌, ◌/◌, ◌%◌, ◌^◌, ◌<◌, ◌≤◌, Bool, true, false, ◌&&◌, List, [], ◌∷◌, length, take, ℤ, pos, negsuc, ◌+ℤ◌, ◌-ℤ◌, ◌≤ℤ◌, ◌<ℤ◌, Option, Some, arith, ap, refl, FitsSigned, to_z, of_z, ◌∙◌, w64, pow-suc, ones-le, part_number_or_zero, bit_or, bit_and, count_ones, IsTrue, lt_z, ints, to_z-of_z, to_z_pos, or_block, and_block, or_lt, number, part, bit_value, number-take, excess, Reads, AddsAtMost, adds_then, get_bits_reads, HasNoRise, HasNoRiseBefore, falls, is_not_closed, rises, scan_reads, ones_step, ones-ones, bit_value_le}
+use Rattle.vers_trees.proofs.Words.{◌≡◌, ℕ, zero, suc, ◌+◌, ◌-◌, ◌*◌, ◌/◌, ◌%◌, ◌^◌, ◌<◌, ◌≤◌, Bool, true, false, ◌&&◌, List, [], ◌∷◌, length, take, ℤ, pos, negsuc, ◌+ℤ◌, ◌-ℤ◌, ◌≤ℤ◌, ◌<ℤ◌, Option, Some, arith, ap, refl, FitsSigned, to_z, of_z, ◌∙◌, w64, pow-suc, ones-le, part_number_or_zero, bit_or, bit_and, count_ones, IsTrue, lt_z, ints, to_z-of_z, to_z_pos, or_block, and_block, or_lt, number, part, bit_value, number-take, excess, Reads, AddsAtMost, adds_then, get_bits_reads, HasNoRise, falls, is_not_closed, rises, scan_reads, ones_step, ones-ones, bit_value_le}
 use Rattle.vers_trees.proofs.searches.Scans.{fits_small, forward_more, backward_more}
 use Rattle.vers_trees.proofs.grammar.Excess.{excess-zero, excess-nil, excess-cons}
 use Rattle.vers_trees.proofs.searches.ByteScans.{length-part, excess-part, total_of, whole_word}
@@ -118,21 +118,23 @@ pub word_counted : (a b c : Reads) (n m : ℕ) → n + 2 ≤ m → AddsAtMost a 
 word_counted a b c n m e p q = adds_then p q (grind arith)
 
 -- ---- past a word that is read whole, where no sum along it comes down to r
-pub forward_word : (l : List Bool) (from p q n : ℕ) (r rise d : ℤ) (o : Option ℕ) (word : ℕ) → HasNoRise l from p r rise → length l < 2 ^ 63 → from ≤ p → q ≡ p + n → q ≤ length l → n ≡ 64 → o ≡ part_number_or_zero l p n → o ≡ Some word
-    → ((bits : List Bool) → length bits ≡ 64 → word ≡ number bits → r <ℤ (rise -ℤ pos (falls false bits))) → d ≡ pos (2 * count_ones word) -ℤ pos 64 → FitsSigned w64 (rise +ℤ to_z w64 (of_z w64 d)) × HasNoRise l from q r (to_z w64 (of_z w64 (rise +ℤ to_z w64 (of_z w64 d))))
+pub forward_word : (l : List Bool) (from p q n : ℕ) (r rise d : ℤ) (o : Option ℕ) (word : ℕ) → HasNoRise false l from p r rise → length l < 2 ^ 63 → from ≤ p → q ≡ p + n → q ≤ length l → n ≡ 64 → o ≡ part_number_or_zero l p n → o ≡ Some word
+    → ((bits : List Bool) → length bits ≡ 64 → word ≡ number bits → r <ℤ (rise -ℤ pos (falls false bits))) → d ≡ pos (2 * count_ones word) -ℤ pos 64 → FitsSigned w64 (rise +ℤ to_z w64 (of_z w64 d)) × HasNoRise false l from q r (to_z w64 (of_z w64 (rise +ℤ to_z w64 (of_z w64 d))))
 forward_word l from p q n r rise d o word h short s e a long read some over k =
     let b : p + 64 ≤ length l = omega arith in let is = whole_word l p n o word read some long (omega arith) in let f = over (part l p 64) (length-part l p 64 b) is in
-    rw (e, long) (forward_more l from p (p + 64) r rise d h short s (omega arith) b (total_of l p 64 word d (omega arith) b is k) (λ k y z w.
+    rw (e, long) (forward_more l from p (p + 64) r rise d h short s (omega arith) b (total_of l p 64 word d (omega arith) b is k) (λ k y w.
+    let y0 = y.0 in let y1 = y.1 in
     let g = excess-part l p 64 (k - p + 1) b (omega arith) in
     let here : excess l (p + (k - p + 1)) ≡ excess l (k + 1) = ap (excess l) (omega arith) in
     let u = above false (part l p 64) (k - p + 1) in
     absurd (omega (arith, ints))))
 
-pub backward_word : (l : List Bool) (p q n end : ℕ) (r rise d : ℤ) (o : Option ℕ) (word : ℕ) → HasNoRiseBefore l q end r rise → length l < 2 ^ 63 → q ≡ p + n → q ≤ end → end ≤ length l → n ≡ 64 → o ≡ part_number_or_zero l p n → o ≡ Some word
-    → ((bits : List Bool) → length bits ≡ 64 → word ≡ number bits → r <ℤ (rise -ℤ pos (rises bits))) → d ≡ pos (2 * count_ones word) -ℤ pos 64 → FitsSigned w64 (rise -ℤ to_z w64 (of_z w64 d)) × HasNoRiseBefore l p end r (to_z w64 (of_z w64 (rise -ℤ to_z w64 (of_z w64 d))))
+pub backward_word : (l : List Bool) (p q n end : ℕ) (r rise d : ℤ) (o : Option ℕ) (word : ℕ) → HasNoRise true l end q r rise → length l < 2 ^ 63 → q ≡ p + n → q ≤ end → end ≤ length l → n ≡ 64 → o ≡ part_number_or_zero l p n → o ≡ Some word
+    → ((bits : List Bool) → length bits ≡ 64 → word ≡ number bits → r <ℤ (rise -ℤ pos (rises bits))) → d ≡ pos (2 * count_ones word) -ℤ pos 64 → FitsSigned w64 (rise -ℤ to_z w64 (of_z w64 d)) × HasNoRise true l end p r (to_z w64 (of_z w64 (rise -ℤ to_z w64 (of_z w64 d))))
 backward_word l p q n end r rise d o word h short e s a long read some over k =
     let t = rw (e, long) at h in let b : p + 64 ≤ length l = omega arith in let is = whole_word l p n o word read some long (omega arith) in let f = over (part l p 64) (length-part l p 64 b) is in
-    backward_more l p (p + 64) end r rise d t short (omega arith) (omega arith) a (total_of l p 64 word d (omega arith) b is k) (λ k y z w.
+    backward_more l p (p + 64) end r rise d t short (omega arith) (omega arith) a (total_of l p 64 word d (omega arith) b is k) (λ k y w.
+    let y0 = y.0 in let y1 = y.1 in
     let m = length-part l p 64 b in
     let same = ap (excess (part l p 64)) m in
     let g64 = excess-part l p 64 64 b (omega arith) in

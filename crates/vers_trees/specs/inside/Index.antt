@@ -1,10 +1,10 @@
 -- What a list with its tree of excesses is made of.
-use Rattle.std.specs.Prelude.{◌≡◌, ℕ, ◌+◌, ◌-◌, ◌*◌, ◌/◌, ◌^◌, ◌<◌, ◌≤◌, ◌⊎◌, max, min, slice_index_or, Bool, List, length, ℤ}
+use Rattle.std.specs.Prelude.{◌≡◌, ℕ, ◌+◌, ◌-◌, ◌*◌, ◌/◌, ◌^◌, ◌<◌, ◌≤◌, ◌⊎◌, max, min, slice_index_or, Bool, true, List, length, ℤ}
 use Rattle.vers_tally.specs.Reads.{Reads, no_reads, digits}
 use Rattle.vers_trees.specs.Excess.{excess}
 use Rattle.vers_trees.specs.declared.trees.bp.min_max.Node.{Node}
-use Rattle.vers_trees.specs.inside.MinMax.{IsMinMax, IsPart, empty_node}
-use Rattle.vers_trees.specs.inside.Scans.{HasNoRise, HasNoRiseBefore}
+use Rattle.vers_trees.specs.inside.MinMax.{IsMinMax, IsPart, Sought, start_of, empty_node}
+use Rattle.vers_trees.specs.inside.Scans.{edge, HasNoRise}
 use Rattle.vers_trees.specs.Layout.{clog, node_count, levels}
 
 -- the tree over the blocks of a list that has some bits
@@ -26,18 +26,14 @@ pub record IsIndexed (l : List Bool) (size first : ℕ) (nodes : List Node) : Ty
   pub counted : length nodes ≡ node_count size (length l)
   pub over : 0 < length l → IsTreeOf l size first nodes
 
--- in a list with its tree the block of the place i has no place after i past which the excess is r more than past i, and up to its end it rises by `rise`
-pub record IsPassedAfter (l : List Bool) (size first : ℕ) (nodes : List Node) (i : ℕ) (r rise : ℤ) : Type 0 where
-  pub indexed : IsIndexed l size first nodes
-  pub inside : i < length l
-  pub passed : HasNoRise l (i + 1) (min (i / size * size + size) (length l)) r rise
-
--- the block of the place before i has no place before which the excess is r more than before i, and before its start it is `rise` more
-pub record IsPassedBefore (l : List Bool) (size first : ℕ) (nodes : List Node) (i : ℕ) (r rise : ℤ) : Type 0 where
-  pub indexed : IsIndexed l size first nodes
-  pub some : 0 < i
-  pub inside : i < length l
-  pub passed : HasNoRiseBefore l ((i - 1) / size * size) i r rise
+-- in a list with its tree a search has no place with its sum up to the end of the block that it begins in, where it has risen by `rise`
+pub record IsPassed (back : Bool) (s : Sought) (first : ℕ) (nodes : List Node) (block : ℕ) (rise : ℤ) : Type 0 where
+  pub indexed : IsIndexed s.bits s.size first nodes
+  pub some : 0 < s.from
+  pub inside : s.from ≤ length s.bits
+  pub last : back ≡ true → s.from < length s.bits
+  pub begins : block ≡ (s.from - 1) / s.size
+  pub passed : HasNoRise back s.bits s.from (start_of s.bits s.size (edge back (block + 1) block)) s.rise rise
 
 -- what a search adds at most once the block that it begins in is passed: four nodes a level, a block begun, and each of its bits once
 abbrev pub past_reads : ℕ → ℕ → Reads

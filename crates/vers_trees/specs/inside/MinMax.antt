@@ -3,7 +3,7 @@ use Rattle.std.specs.Prelude.{Bool, true, false, min, ◌≡◌, ◌≢◌, ℕ,
 use mir.Syntax.{w64}
 use Rattle.std.specs.Int.{int_min, int_max}
 use Rattle.vers_trees.specs.Excess.{excess}
-use Rattle.vers_trees.specs.inside.Scans.{sum_past}
+use Rattle.vers_trees.specs.inside.Scans.{sum_past, edge, IsBetween}
 use Rattle.vers_trees.specs.declared.trees.bp.min_max.Node.{Node}
 
 -- the node over two neighbouring parts
@@ -88,22 +88,16 @@ pub record Sought : Type 0 where
   pub from : ℕ
   pub rise : ℤ
 
+abbrev pub sought : List Bool → ℕ → ℕ → ℤ → Sought
+sought l size from r = record { bits = l; size = size; from = from; rise = r }
+
 abbrev pub target : Sought → ℤ
 target s = excess s.bits s.from +ℤ s.rise
 
--- of two ends of a part the one that a search meets first
-abbrev pub edge : (back : Bool) → ℕ → ℕ → ℕ
-edge false a b = a
-edge true a b = b
-
--- place p is one that a search has come to, and place k one that it has passed then
+-- place p is one that a search comes to
 abbrev pub IsAfter : (back : Bool) → ℕ → ℕ → Type 0
 IsAfter false from p = from ≤ p
 IsAfter true from p = p < from
-
-abbrev pub IsBetween : (back : Bool) → ℕ → ℕ → ℕ → Type 0
-IsBetween false from p k = (from ≤ k) × (k < p)
-IsBetween true from p k = (p ≤ k) × (k < from)
 
 -- a search has passed the places up to p, none of which has its sum, which is `left` above the one before p
 pub record Passed (back : Bool) (s : Sought) (p : ℕ) (left : ℤ) : Type 0 where

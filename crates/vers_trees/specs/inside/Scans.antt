@@ -9,29 +9,30 @@ abbrev pub sum_past : (back : Bool) → List Bool → ℕ → ℤ
 sum_past false l k = excess l (k + 1)
 sum_past true l k = excess l k
 
--- place is the first from `from` on and before `end` after which the excess is r above that before `from`
-pub record IsFirstRise (l : List Bool) (from end : ℕ) (r : ℤ) (place : ℕ) : Type 0 where
-  pub low : from ≤ place
-  pub inside : place < end
-  pub sum : excess l (place + 1) ≡ excess l from +ℤ r
-  pub first : (k : ℕ) → from ≤ k → k < place → excess l (k + 1) ≢ excess l from +ℤ r
+-- of two ends of a part the one that a search meets first
+abbrev pub edge : (back : Bool) → ℕ → ℕ → ℕ
+edge false a b = a
+edge true a b = b
 
--- there is none, and the excess before `end` is `rise` above that before `from`
-pub record HasNoRise (l : List Bool) (from end : ℕ) (r rise : ℤ) : Type 0 where
-  pub risen : excess l end ≡ excess l from +ℤ rise
-  pub none : (k : ℕ) → from ≤ k → k < end → excess l (k + 1) ≢ excess l from +ℤ r
+-- place k is one that a search passes from the place `from`, where it begins, on to p; and how far it has come before k
+abbrev pub IsBetween : (back : Bool) → ℕ → ℕ → ℕ → Type 0
+IsBetween false from p k = (from ≤ k) × (k < p)
+IsBetween true from p k = (p ≤ k) × (k < from)
 
--- place is the last from `from` on and before `end` before which the excess is r above that before `end`
-pub record IsLastRise (l : List Bool) (from end : ℕ) (r : ℤ) (place : ℕ) : Type 0 where
-  pub low : from ≤ place
-  pub inside : place < end
-  pub sum : excess l place ≡ excess l end +ℤ r
-  pub last : (k : ℕ) → place < k → k < end → excess l k ≢ excess l end +ℤ r
+abbrev pub up_to : (back : Bool) → ℕ → ℕ
+up_to false k = k
+up_to true k = k + 1
 
--- there is none, and the excess before `from` is `rise` above that before `end`
-pub record HasNoRiseBefore (l : List Bool) (from end : ℕ) (r rise : ℤ) : Type 0 where
-  pub risen : excess l from ≡ excess l end +ℤ rise
-  pub none : (k : ℕ) → from ≤ k → k < end → excess l k ≢ excess l end +ℤ r
+-- place is the first from `from` on to `end` past which the excess is r above that before `from`
+pub record IsRise (back : Bool) (l : List Bool) (from end : ℕ) (r : ℤ) (place : ℕ) : Type 0 where
+  pub between : IsBetween back from end place
+  pub sum : sum_past back l place ≡ excess l from +ℤ r
+  pub first : (k : ℕ) → IsBetween back from (up_to back place) k → sum_past back l k ≢ excess l from +ℤ r
+
+-- there is none up to p, and the excess before p is `rise` above that before `from`
+pub record HasNoRise (back : Bool) (l : List Bool) (from p : ℕ) (r rise : ℤ) : Type 0 where
+  pub risen : excess l p ≡ excess l from +ℤ rise
+  pub none : (k : ℕ) → IsBetween back from p k → sum_past back l k ≢ excess l from +ℤ r
 
 -- how many zeros no one stands right before, where p says whether a one stands before the list
 abbrev pub falls : Bool → List Bool → ℕ

@@ -1,9 +1,9 @@
 //! Scans of the bits of one block.
-ghost use Rattle.std.specs.Prelude.{◌≡◌, ℕ, ◌*◌, ◌-◌, ◌%◌, ◌^◌, ◌<◌, ◌≤◌, ◌-ℤ◌, ◌≤ℤ◌, ◌<ℤ◌, Bool, false, List, pos, negsuc, count_ones, length, IsTrue, MatchResult};
+ghost use Rattle.std.specs.Prelude.{◌≡◌, ℕ, ◌*◌, ◌-◌, ◌%◌, ◌^◌, ◌<◌, ◌≤◌, ◌-ℤ◌, ◌≤ℤ◌, ◌<ℤ◌, Bool, true, false, List, pos, negsuc, count_ones, length, IsTrue, MatchResult};
 ghost use Rattle.vers_bits.specs.Bits.{number};
 ghost use Rattle.vers_tally.specs.Reads.{AddsAtMost, one_more};
 ghost use Rattle.vers_trees.specs.Excess.{bit_step};
-ghost use Rattle.vers_trees.specs.inside.Scans.{IsFirstRise, IsLastRise, HasNoRise, HasNoRiseBefore, falls, rises, scan_reads, block_reads};
+ghost use Rattle.vers_trees.specs.inside.Scans.{IsRise, HasNoRise, falls, rises, scan_reads, block_reads};
 ghost use Rattle.vers_trees.specs.inside.MinMax.{IsPart};
 
 use crate::trees::bp::bytes::{ByteTables, place_met};
@@ -74,11 +74,11 @@ fn bits_forward<A: Allocator + Copy>(
     requires few { end - begin < 8 }
     requires inside { end ≤ length bits.now }
     requires short { length bits.now < 2 ^ 63 }
-    requires passed { (from : ℕ) × (from ≤ begin) × HasNoRise bits.now from begin target rise }
-    ensures value { (from : ℕ) → from ≤ begin → HasNoRise bits.now from begin target rise → MatchResult
+    requires passed { (from : ℕ) × (from ≤ begin) × HasNoRise false bits.now from begin target rise }
+    ensures value { (from : ℕ) → from ≤ begin → HasNoRise false bits.now from begin target rise → MatchResult
         result
-        (λ place. IsFirstRise bits.now from end target place)
-        (λ rise. HasNoRise bits.now from end target rise) }
+        (λ place. IsRise false bits.now from end target place)
+        (λ rise. HasNoRise false bits.now from end target rise) }
     ensures adds { AddsAtMost tally.old tally.new (scan_reads (end - begin)) }
 {
     for place in begin..end {
@@ -107,8 +107,8 @@ fn bytes_forward<A: Allocator + Copy>(
     requires short { length bits.now < 2 ^ 63 }
     ensures value { MatchResult
         result
-        (λ place. IsFirstRise bits.now begin end target place)
-        (λ rise. HasNoRise bits.now begin end target rise) }
+        (λ place. IsRise false bits.now begin end target place)
+        (λ rise. HasNoRise false bits.now begin end target rise) }
     ensures adds { AddsAtMost tally.old tally.new (scan_reads (end - begin)) }
 {
     let mut rise = 0;
@@ -152,8 +152,8 @@ pub(super) fn scan_forward<A: Allocator + Copy>(
     requires short { length bits.now < 2 ^ 63 }
     ensures value { MatchResult
         result
-        (λ place. IsFirstRise bits.now from end target place)
-        (λ rise. HasNoRise bits.now from end target rise) }
+        (λ place. IsRise false bits.now from end target place)
+        (λ rise. HasNoRise false bits.now from end target rise) }
     ensures begun { tally.new.blocks ≡ one_more tally.old.blocks }
     ensures adds { AddsAtMost tally.old tally.new (block_reads (end - from)) }
 {
@@ -180,12 +180,12 @@ fn bits_backward<A: Allocator + Copy>(
     requires few { end - begin < 8 }
     requires short { length bits.now < 2 ^ 63 }
     requires passed { (to : ℕ) × (end ≤ to) × (to ≤ length bits.now)
-        × HasNoRiseBefore bits.now end to target rise }
+        × HasNoRise true bits.now to end target rise }
     ensures value { (to : ℕ) → end ≤ to → to ≤ length bits.now
-        → HasNoRiseBefore bits.now end to target rise → MatchResult
+        → HasNoRise true bits.now to end target rise → MatchResult
         result
-        (λ place. IsLastRise bits.now begin to target place)
-        (λ rise. HasNoRiseBefore bits.now begin to target rise) }
+        (λ place. IsRise true bits.now to begin target place)
+        (λ rise. HasNoRise true bits.now to begin target rise) }
     ensures adds { AddsAtMost tally.old tally.new (scan_reads (end - begin)) }
 {
     let mut place = end;
@@ -216,8 +216,8 @@ fn bytes_backward<A: Allocator + Copy>(
     requires short { length bits.now < 2 ^ 63 }
     ensures value { MatchResult
         result
-        (λ place. IsLastRise bits.now begin end target place)
-        (λ rise. HasNoRiseBefore bits.now begin end target rise) }
+        (λ place. IsRise true bits.now end begin target place)
+        (λ rise. HasNoRise true bits.now end begin target rise) }
     ensures adds { AddsAtMost tally.old tally.new (scan_reads (end - begin)) }
 {
     let mut rise = 0;
@@ -263,8 +263,8 @@ pub(super) fn scan_backward<A: Allocator + Copy>(
     requires short { length bits.now < 2 ^ 63 }
     ensures value { MatchResult
         result
-        (λ place. IsLastRise bits.now from end target place)
-        (λ rise. HasNoRiseBefore bits.now from end target rise) }
+        (λ place. IsRise true bits.now end from target place)
+        (λ rise. HasNoRise true bits.now end from target rise) }
     ensures begun { tally.new.blocks ≡ one_more tally.old.blocks }
     ensures adds { AddsAtMost tally.old tally.new (block_reads (end - from)) }
 {

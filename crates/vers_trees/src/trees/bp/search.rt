@@ -1,9 +1,10 @@
 //! Searches for a sum: first in the block of a place, then in the tree for another block, then there.
-ghost use Rattle.std.specs.Prelude.{◌≡◌, ◌↔◌, ◌+◌, ◌-◌, ◌^◌, ◌<◌, length, IsTrue, Some};
+ghost use Rattle.std.specs.Prelude.{◌≡◌, ◌↔◌, ◌+◌, ◌-◌, ◌/◌, ◌^◌, ◌<◌, true, false, length, IsTrue, Some};
 ghost use Rattle.vers_rank.specs.Queries.{get_reads};
 ghost use Rattle.vers_tally.specs.Reads.{AddsAtMost};
 ghost use Rattle.vers_trees.specs.Excess.{first_rise_after, last_rise_before};
-ghost use Rattle.vers_trees.specs.inside.Index.{IsIndexed, IsPassedAfter, IsPassedBefore, past_reads};
+ghost use Rattle.vers_trees.specs.inside.Index.{IsIndexed, IsPassed, past_reads};
+ghost use Rattle.vers_trees.specs.inside.MinMax.{sought};
 ghost use Rattle.vers_trees.specs.Layout.{search_reads};
 
 use crate::trees::bp::min_max::MinMaxTree;
@@ -77,7 +78,8 @@ impl<'a, const BLOCK_SIZE: usize, A: Allocator + Copy> Searched<'a, BLOCK_SIZE, 
     // The same where the block of `i` has no such place and rises by `rise` to its end.
     #[inline(always)]
     fn forward_past(self, i: usize, r: i64, rise: i64, tally: &mut Tally) -> Option<usize>
-        requires { IsPassedAfter self.bits.now BLOCK_SIZE self.tree.now.first self.tree.now.nodes i r rise }
+        requires { IsPassed false (sought self.bits.now BLOCK_SIZE (i + 1) r) self.tree.now.first self.tree.now.nodes
+            (i / BLOCK_SIZE) rise }
         ensures value { result ≡ first_rise_after self.entry.bits.now i r }
         ensures adds { AddsAtMost tally.old tally.new (past_reads BLOCK_SIZE (length self.entry.bits.now)) }
     {
@@ -114,7 +116,8 @@ impl<'a, const BLOCK_SIZE: usize, A: Allocator + Copy> Searched<'a, BLOCK_SIZE, 
     // start.
     #[inline(always)]
     fn backward_past(self, i: usize, r: i64, rise: i64, tally: &mut Tally) -> Option<usize>
-        requires { IsPassedBefore self.bits.now BLOCK_SIZE self.tree.now.first self.tree.now.nodes i r rise }
+        requires { IsPassed true (sought self.bits.now BLOCK_SIZE i r) self.tree.now.first
+            self.tree.now.nodes ((i - 1) / BLOCK_SIZE) rise }
         ensures value { result ≡ last_rise_before self.entry.bits.now i r }
         ensures adds { AddsAtMost tally.old tally.new (past_reads BLOCK_SIZE (length self.entry.bits.now)) }
     {

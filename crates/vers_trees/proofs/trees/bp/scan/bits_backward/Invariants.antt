@@ -1,11 +1,11 @@
-use Rattle.vers_trees.proofs.Words.{ℕ, ◌-◌, ◌≤◌, length, AddsAtMost, HasNoRiseBefore, scan_reads}
+use Rattle.vers_trees.proofs.Words.{ℕ, true, ◌-◌, ◌≤◌, length, AddsAtMost, HasNoRise, scan_reads}
 use Rattle.vers_trees.proofs.trees.bp.scan.bits_backward.Given as goal
 
 abbrev pub invariant-loop-place : goal.invariant-loop-place
 invariant-loop-place g l = record {
   low : l.begin ≤ l.place;
   high : l.place ≤ l.end;
-  passed : (to : ℕ) → l.end ≤ to → to ≤ length l.bits → HasNoRiseBefore l.bits l.end to l.target l.fn.rise → HasNoRiseBefore l.bits l.place to l.target l.rise;
+  passed : (to : ℕ) → l.end ≤ to → to ≤ length l.bits → HasNoRise true l.bits to l.end l.target l.fn.rise → HasNoRise true l.bits to l.place l.target l.rise;
   reads : AddsAtMost l.fn.tally l.tally (scan_reads (l.end - l.place));
 }
 

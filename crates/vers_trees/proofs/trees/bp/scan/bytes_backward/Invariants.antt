@@ -1,4 +1,4 @@
-use Rattle.vers_trees.proofs.Words.{◌≡◌, ◌+◌, ◌-◌, ◌%◌, ◌≤◌, AddsAtMost, HasNoRiseBefore, scan_reads}
+use Rattle.vers_trees.proofs.Words.{◌≡◌, true, ◌+◌, ◌-◌, ◌%◌, ◌≤◌, AddsAtMost, HasNoRise, scan_reads}
 use Rattle.vers_trees.proofs.trees.bp.scan.bytes_backward.Given as goal
 
 abbrev pub invariant-loop-stop : goal.invariant-loop-stop
@@ -6,7 +6,7 @@ invariant-loop-stop g l = record {
   low : l.begin ≤ l.stop;
   high : l.stop ≤ l.end;
   whole : (l.stop - l.begin) % 8 ≡ 0;
-  passed : HasNoRiseBefore l.bits l.stop l.end l.target l.rise;
+  passed : HasNoRise true l.bits l.end l.stop l.target l.rise;
   reads : AddsAtMost l.fn.tally l.tally (scan_reads (l.end - l.stop));
 }
 
@@ -17,7 +17,7 @@ abbrev pub invariant-loop-within : goal.invariant-loop-within
 invariant-loop-within g l = record {
   high : l.within ≤ l.size;
   whole : l.within % 8 ≡ 0;
-  passed : HasNoRiseBefore l.bits (l.start + l.within) l.end l.target l.rise;
+  passed : HasNoRise true l.bits l.end (l.start + l.within) l.target l.rise;
 }
 
 abbrev pub decreases-loop-within : goal.decreases-loop-within

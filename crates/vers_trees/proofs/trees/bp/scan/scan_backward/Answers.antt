@@ -5,7 +5,7 @@ use Rattle.vers_trees.proofs.trees.bp.scan.scan_backward.Goals as goal
 pub returns-in-Ok-clause-value : goal.returns-in-Ok-clause-value
 returns-in-Ok-clause-value g c =
     let p = rw (to_z-of_z w64 c.args.target c.ranges.target) at c.in-Ok.ensures.value in
-    record { low = (let n = p.low in omega arith); inside = p.inside; sum = p.sum; last = p.last }
+    record { between = (let n = p.between.0 in omega arith, p.between.1); sum = p.sum; first = p.first }
 
 pub bits_backward-requires-clause-passed : goal.bits_backward-requires-clause-passed
 bits_backward-requires-clause-passed g c =

@@ -1,5 +1,6 @@
-use Rattle.vers_trees.proofs.Words.{rules, arith, w64, sym, to_z-of_z, ints}
-use Rattle.vers_trees.proofs.searches.Searches.{before_past, before_is, none_before}
+use Rattle.vers_trees.proofs.Words.{rules, ◌≡◌, ◌-◌, ◌*◌, ◌/◌, true, arith, w64, refl, sym, to_z-of_z, ints, start_of}
+use Rattle.vers_trees.proofs.searches.Finds.{answer_before, answer_here}
+use Rattle.vers_trees.proofs.searches.Searches.{before_past, none_before}
 use Rattle.vers_trees.proofs.searches.Scans.{rise_is}
 use Rattle.vers_trees.proofs.trees.bp.search.Searched.backward.Goals as goal
 use Rattle.vers_trees.proofs.trees.bp.search.Searched.backward.Goals.{then-i-eq0-via-then-i-eq0, then-i-eq0-via-else-i-eq0+then-i-len}
@@ -14,12 +15,13 @@ returns-then-i-eq0-clause-value g c =
 pub returns-in-Ok-clause-value : goal.returns-in-Ok-clause-value
 returns-in-Ok-clause-value g c =
     let p = rw (to_z-of_z w64 c.args.r c.ranges.r) at c.in-Ok.ensures.value in
-    sym (before_is c.args.self.bits.now c.args.i c.args.r c.in-Ok.place (record { before = p.inside; inside = omega arith; sum = p.sum; last = p.last }))
+    answer_here true _ _ (answer_before c.args.self.bits.now g.row.BLOCK_SIZE c.args.i c.args.r (omega arith)) _ c.in-Ok.place p (omega arith, p.between.1)
 
 pub backward_past-requires : goal.backward_past-requires
 backward_past-requires g c =
-    let n = c.in-Err.ensures.value in
-    (search rules, record { indexed = c.requires; some = omega arith; inside = omega arith; passed = rw (rise_is c.args.self.bits.now c.args.i _ c.in-Err.rise c.requires.short (omega arith) (omega arith) n.risen) n })
+    let n = c.in-Err.ensures.value in let so = c.requires.some in
+    let e : (c.args.i - 1) / g.row.BLOCK_SIZE * g.row.BLOCK_SIZE ≡ start_of c.args.self.bits.now g.row.BLOCK_SIZE ((c.args.i - 1) / g.row.BLOCK_SIZE) = omega arith in
+    (search rules, record { indexed = c.requires; some = omega arith; inside = omega arith; last = λ t. omega arith; begins = refl; passed = rw (← e, rise_is c.args.self.bits.now c.args.i _ c.in-Err.rise c.requires.short (omega arith) (omega arith) n.risen) n })
 
 pub returns-in-Err-clause-value : goal.returns-in-Err-clause-value
 returns-in-Err-clause-value g c = rw (to_z-of_z w64 c.args.r c.ranges.r) at c.backward_past.ensures.value
