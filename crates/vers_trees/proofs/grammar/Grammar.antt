@@ -50,7 +50,7 @@ unfolding forest_of
 forest_of-text F = ap (λ (m : List Bool). (parse m).0) (sym (append-nil (text F))) ∙ ap (λ (p : Forest × List Forest). p.0) (parse-text F []) ∙ joined-none F
 
 -- with d ones still open before it, a list whose excess never falls below what they allow, and uses it up, closes them all and no more
-closes_from_excess : (l : List Bool) (d : ℕ) → ((i : ℕ) → i ≤ length l → pos 0 ≤ℤ (excess l i +ℤ pos d)) → excess l (length l) +ℤ pos d ≡ pos 0 → closes d l ≡ true
+pub closes_from_excess : (l : List Bool) (d : ℕ) → ((i : ℕ) → i ≤ length l → pos 0 ≤ℤ (excess l i +ℤ pos d)) → excess l (length l) +ℤ pos d ≡ pos 0 → closes d l ≡ true
 closes_from_excess [] zero a t = refl
 closes_from_excess [] (suc d) a t = grind (arith, ints, excess-zero)
 closes_from_excess (true ∷ l) d a t = closes_from_excess l (suc d)
@@ -61,9 +61,6 @@ closes_from_excess (false ∷ l) zero a t =
 closes_from_excess (false ∷ l) (suc d) a t = closes_from_excess l d
     (λ i x. let g = a (suc i) (omega arith) in let e = excess-cons false l i in omega (arith, ints))
     (let e = excess-cons false l (length l) in omega (arith, ints))
-
-pub balanced_from_excess : (l : List Bool) → excess l (length l) ≡ pos 0 → ((i : ℕ) → i ≤ length l → pos 0 ≤ℤ excess l i) → IsBalanced l
-balanced_from_excess l t a = (balance_decides l).0 (closes_from_excess l 0 (λ i x. let g = a i x in omega (arith, ints)) (omega (arith, ints)))
 
 pub balanced_total : (l : List Bool) → IsBalanced l → excess l (length l) ≡ pos 0
 balanced_total l b = subst (λ (m : List Bool). excess m (length m) ≡ pos 0) b.written (total_is_zero b.forest)

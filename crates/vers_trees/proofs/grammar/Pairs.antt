@@ -77,9 +77,6 @@ count_tree p X Y = grind (arith, ints, count_by-cons, count_by-append, count_by-
 pub moved_lt : (n a x v : ℕ) → v ≡ n + x → ltb (n + a) v ≡ ltb a x
 moved_lt n a x v e = grind (arith, nat_tests)
 
-both : (a b c d : Bool) → a ≡ b → c ≡ d → (a && c) ≡ (b && d)
-both a b c d e f = cc
-
 -- q has p between its numbers
 abbrev pub strictly_contains : ℕ × ℕ → ℕ × ℕ → Bool
 strictly_contains q p = ltb q.0 p.0 && ltb p.1 q.1
@@ -89,7 +86,7 @@ abbrev around : ℕ → Forest → ℕ → ℕ → ℕ
 around n F v c = count_by (λ q. strictly_contains (moved n q) (v, c)) (pairs F)
 
 around_moved : (n : ℕ) (F : Forest) (x y v c : ℕ) → v ≡ n + x → c ≡ n + y → around n F v c ≡ count_by (λ q. strictly_contains q (x, y)) (pairs F)
-around_moved n F x y v c e f = grind (arith, ints, count_agree, both, moved_lt, nat_tests)
+around_moved n F x y v c e f = grind (arith, ints, count_agree, moved_lt, nat_tests)
 
 -- none of the pairs that open at or after v, or close at or before c, is around (v, c)
 around_none : (n : ℕ) (F : Forest) (v c : ℕ) → (v ≤ n) ⊎ (n + length (text F) ≤ c + 1) → around n F v c ≡ 0

@@ -1,7 +1,7 @@
 -- What a node tells of the places of its part.
 use Rattle.vers_trees.proofs.Words.{◌≡◌, ℕ, zero, suc, ◌+◌, ◌-◌, ◌*◌, ◌<◌, ◌≤◌, ◌≢◌, ◌↔◌, Bool, true, false, List, length, ℤ, pos, ◌+ℤ◌, ◌-ℤ◌, ◌≤ℤ◌, arith, ⊎_elim, subst, refl, ap, ◌∙◌, ◌^◌, FitsSigned, w64, ints, clamps, by_lt_z, cases_lt, eq-or-lt_of_le, Node, excess, sum_past, IsBalanced, empty_node, IsPart, start_of, Covers, Sought, target, edge, Passed, HasPlace, HasNone, IsInRange, IsInRangeOrStart, IsLevel, IsMet, left_past}
 use Rattle.vers_trees.proofs.grammar.Excess.{IsWalk, turned, excess-zero, excess-is_walk}
-use Rattle.vers_trees.proofs.grammar.Grammar.{balanced_from_excess, balanced_total, balanced_above}
+use Rattle.vers_trees.proofs.grammar.Grammar.{balance_decides, closes_from_excess, balanced_total, balanced_above}
 use Rattle.vers_trees.proofs.layout.MinMax.{starts_up, part_inside, total_of_part}
 use Rattle.vers_trees.proofs.searches.Scans.{rise_fits}
 
@@ -14,15 +14,10 @@ met_upward f w t a (suc d) b e lo hi =
     (λ x. (b, omega arith, omega arith, omega (arith, ints)))
     (λ x. let r = met_upward f w t a d (a + d) refl lo x in (r.0, r.1, omega arith, r.3))
 
-met_downward : (f : ℕ → ℤ) → IsWalk f → (t : ℤ) (a d b : ℕ) → b ≡ a + d → t ≤ℤ f a → f b ≤ℤ t → (j : ℕ) × (a ≤ j) × (j ≤ b) × (f j ≡ t)
-met_downward f w t a d b e lo hi =
-    let r = met_upward (λ i. pos 0 -ℤ f i) (turned f w) (pos 0 -ℤ t) a d b e (omega (arith, ints)) (omega (arith, ints)) in
-    (r.0, r.1, r.2, omega (arith, ints))
-
 part_meets : (l : List Bool) (a b : ℕ) (x : Node) (t : ℤ) → IsPart l a b x → (excess l a +ℤ x.least) ≤ℤ t → t ≤ℤ (excess l a +ℤ x.greatest) → (j : ℕ) × (a < j) × (j ≤ b) × (excess l j ≡ t)
 part_meets l a b x t p lo hi = let i = p.least in let j = p.greatest in let i2 = i.2 in let ie = i.3 in let j1 = j.1 in let j2 = j.2 in let je = j.3 in ⊎_elim
     (λ (h : i.0 < j.0). let r = met_upward (excess l) (excess-is_walk l) t i.0 (j.0 - i.0) j.0 (omega arith) (omega (arith, ints)) (omega (arith, ints)) in let r1 = r.1 in let r2 = r.2 in (r.0, omega arith, omega arith, r.3))
-    (λ (h : j.0 ≤ i.0). let r = met_downward (excess l) (excess-is_walk l) t j.0 (i.0 - j.0) i.0 (omega arith) (omega (arith, ints)) (omega (arith, ints)) in let r1 = r.1 in let r2 = r.2 in (r.0, omega arith, omega arith, r.3))
+    (λ (h : j.0 ≤ i.0). let r = met_upward (λ i. pos 0 -ℤ excess l i) (turned (excess l) (excess-is_walk l)) (pos 0 -ℤ t) j.0 (i.0 - j.0) i.0 (omega arith) (omega (arith, ints)) (omega (arith, ints)) in let r1 = r.1 in let r2 = r.2 in let r3 = r.3 in (r.0, omega arith, omega arith, omega (arith, ints)))
     (cases_lt i.0 j.0)
 
 -- ---- what a node tells of its part
@@ -100,18 +95,11 @@ too_far true s p q left rest short h i r long = λ k a e. let n = h.inside in lo
 
 -- the node over the whole list tells whether it is balanced
 pub balanced_iff_root : (l : List Bool) (x : Node) → IsPart l 0 (length l) x → IsBalanced l ↔ IsLevel x
-balanced_iff_root l x p = (there, back)
-  where
-    there : IsBalanced l → IsLevel x
-    there b =
-        let z = excess-zero l in let t = p.total in let s = balanced_total l b in
-        let i = p.least in let a = balanced_above l b i.0 i.2 in
-        record { total = omega (arith, ints); least = omega (arith, ints) }
-
-    back : IsLevel x → IsBalanced l
-    back h =
-        let z = excess-zero l in let t = p.total in let h0 = h.total in let h1 = h.least in
-        balanced_from_excess l (omega (arith, ints)) (λ i u. ⊎_elim
-        (λ (o : 0 < i). let lo = p.low i o u in omega (arith, ints))
-        (λ (o : i ≤ 0). let e : excess l i ≡ excess l 0 = ap (excess l) (omega arith) in omega (arith, ints))
-        (cases_lt 0 i))
+balanced_iff_root l x p =
+    let z = excess-zero l in let t = p.total in (
+      λ b. let s = balanced_total l b in let i = p.least in let i3 = i.3 in let a = balanced_above l b i.0 i.2 in record { total = omega (arith, ints); least = omega (arith, ints) },
+      λ h. (balance_decides l).0 (closes_from_excess l 0 (λ i u. ⊎_elim
+          (λ (o : 0 < i). let lo = p.low i o u in omega (arith, ints))
+          (λ (o : i ≤ 0). let e : excess l i ≡ excess l 0 = ap (excess l) (omega arith) in omega (arith, ints))
+          (cases_lt 0 i)) (omega (arith, ints))),
+    )

@@ -11,12 +11,7 @@ pub part_inside : (l : List Bool) (size i e : ℕ) (x : Node) → Covers l size 
 part_inside l size i e x c h = ⊎_elim (λ (p : IsPart l (start_of l size i) (start_of l size e) x). p) (λ (q : (length l ≤ i * size) × (x ≡ empty_node)). absurd (omega arith)) c.part
 
 pub total_of_part : (l : List Bool) (size i e : ℕ) (x : Node) → Covers l size i e x → i ≤ e → excess l (start_of l size e) ≡ excess l (start_of l size i) +ℤ x.total
-total_of_part l size i e x c h = ⊎_elim
-    (λ (p : IsPart l (start_of l size i) (start_of l size e) x). p.total)
-    (λ (q : (length l ≤ i * size) × (x ≡ empty_node)).
-    let m = starts_up l size i e h in
-    let same : excess l (start_of l size e) ≡ excess l (start_of l size i) = ap (excess l) (omega arith) in rw q.1 (omega (arith, ints)))
-    c.part
+total_of_part l size i e x c h = grind (arith, ints, starts_up)
 
 -- the node over both of two neighbouring parts, of which the second may be empty
 pub covers_joined : (l : List Bool) (size i m e : ℕ) (x y r : Node) → i ≤ m → m ≤ e → Covers l size i m x → Covers l size m e y → (y.least ≤ℤ y.greatest → r ≡ combined x y) → (y.greatest <ℤ y.least → r ≡ x) → Covers l size i e r

@@ -52,9 +52,3 @@ difference_is l i n short h e = grind (arith, ints, few_ones, with_sign, fits_sm
 -- its negative
 pub negated : (n : ℕ) → n < 9223372036854775808 → FitsSigned w64 (pos 0 -ℤ to_z w64 n) × (to_z w64 (of_z w64 (pos 0 -ℤ to_z w64 n)) ≡ neg_ℤ (pos n))
 negated n h = grind (arith, ints, fits_small, with_sign, to_z-of_z)
-
-pub closes_there : (l : List Bool) (p : ℕ) → get_or l (p + 1) false ≡ false → None ≡ opened_after l p
-closes_there l p e = rw e refl
-
-pub opens_there : (l : List Bool) (p : ℕ) → get_or l (p + 1) false ≡ true → Some (p + 1) ≡ opened_after l p
-opens_there l p e = rw e refl

@@ -58,8 +58,7 @@ pub up_or_down : (from_end b : Bool) (value next : ℕ) → pos next ≡ pos val
 up_or_down from_end b value next u = grind (arith, ints)
 
 pub place_small : (from_end : Bool) (n : ℕ) → n < 8 → place_along from_end n < 8
-place_small true n h = omega arith
-place_small false n h = h
+place_small from_end n h = grind arith
 
 -- what the code has after a step: the bounds, and the places
 pub record IsNoted (least greatest next p : ℕ) (places : List ℕ) (least' greatest' : ℕ) (places' : List ℕ) : Type 0 where

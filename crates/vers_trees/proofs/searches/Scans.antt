@@ -28,10 +28,6 @@ pub step_fits : (b : Bool) (d : ℤ) → d ≡ bit_step b → FitsSigned w64 d
 step_fits true d e = rw e (fits_small (pos 1) (omega (arith, ints)) (omega (arith, ints)))
 step_fits false d e = rw e (fits_small (negsuc 0) (omega (arith, ints)) (omega (arith, ints)))
 
--- what is said of a number that fits is said of what the machine has of it
-pub as_stored : (P : ℤ → Type 0) (z y : ℤ) → z ≡ y → FitsSigned w64 y → P y → FitsSigned w64 z × P (to_z w64 (of_z w64 z))
-as_stored P z y e f p = rw e (f, rw (to_z-of_z w64 y f) p)
-
 -- what the machine has of a sum or a difference that was tested
 pub rest_is : (f : ℤ → ℤ) (x b : ℤ) → FitsSigned w64 x → FitsSigned w64 (f (to_z w64 (of_z w64 x))) × (b ≡ f (to_z w64 (of_z w64 x))) → to_z w64 (of_z w64 b) ≡ f x
 rest_is f x b h s = rw s.1 (to_z-of_z w64 _ s.0 ∙ ap f (to_z-of_z w64 x h))
@@ -56,7 +52,7 @@ found back l from p place end r rise x h i m e z =
 more : (back : Bool) (l : List Bool) (from p q : ℕ) (r rise d z : ℤ) → HasNoRise back l from p r rise → length l < 2 ^ 63 → from ≤ length l → q ≤ length l → excess l q ≡ excess l p +ℤ d → z ≡ rise +ℤ d → Misses back l p q (excess l from +ℤ r) → FitsSigned w64 z × HasNoRise back l from q r (to_z w64 (of_z w64 z))
 more back l from p q r rise d z h short i j e n m =
     let s = h.risen in let sum : excess l q ≡ excess l from +ℤ (rise +ℤ d) = omega (arith, ints) in
-    as_stored (HasNoRise back l from q r) z (rise +ℤ d) n (rise_fits l from q _ short i j sum) (record { risen = sum; none = joined back l from p q _ h.none m })
+    let f = rise_fits l from q (rise +ℤ d) short i j sum in rw n (f, rw (to_z-of_z w64 (rise +ℤ d) f) (record { risen = sum; none = joined back l from p q _ h.none m }))
 
 -- the same with the rise of the list, as the code has it
 pub forward_more : (l : List Bool) (from p q : ℕ) (r rise d : ℤ) → HasNoRise false l from p r rise → length l < 2 ^ 63 → from ≤ p → p ≤ q → q ≤ length l → excess l q ≡ excess l p +ℤ d → Misses false l p q (excess l from +ℤ r) → FitsSigned w64 (rise +ℤ to_z w64 (of_z w64 d)) × HasNoRise false l from q r (to_z w64 (of_z w64 (rise +ℤ to_z w64 (of_z w64 d))))

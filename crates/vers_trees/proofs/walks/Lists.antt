@@ -25,9 +25,6 @@ closing_moved n qs = map-map (λ (q : ℕ × ℕ). q.1) (moved n) qs ∙ sym (ma
 pub shifted-shifted : (m n : ℕ) (xs : List ℕ) → shifted m (shifted n xs) ≡ shifted (m + n) xs
 shifted-shifted m n xs = map-map (λ v. m + v) (λ v. n + v) xs ∙ simp add_assoc
 
-pub shifted-append : (n : ℕ) (xs ys : List ℕ) → shifted n (xs ++ ys) ≡ shifted n xs ++ shifted n ys
-shifted-append n xs ys = map-append (λ v. n + v) xs ys
-
 -- numbers that pass a test, moved by one
 filter_next : (p q : ℕ → Bool) (a n : ℕ) → ((i : ℕ) → p (i + 1) ≡ q i) → filter p (range_with_len (a + 1) n) ≡ shifted 1 (filter q (range_with_len a n))
 filter_next p q a zero h = refl
@@ -51,12 +48,12 @@ unfolding places
 places-append bit [] l = sym (shifted-zero (places bit l))
 places-append bit (b ∷ k) l =
     let e : 1 + length k ≡ suc (length k) = omega arith in
-    rw (places-cons bit b (k ++ l), places-append bit k l, places-cons bit b k, ← e) (simp (shifted-append, shifted-shifted, append_assoc))
+    rw (places-cons bit b (k ++ l), places-append bit k l, places-cons bit b k, ← e) (simp (map-append, shifted-shifted, append_assoc))
 
 -- the places of a tree written down, and of what follows it
 pub places-tree : (bit : Bool) (k l : List Bool) → places bit (true ∷ (k ++ false ∷ l))
     ≡ cond (is_bit bit true) (0 ∷ []) [] ++ (shifted 1 (places bit k) ++ (shifted (1 + length k) (cond (is_bit bit false) (0 ∷ []) []) ++ shifted (1 + length k + 1) (places bit l)))
-places-tree bit k l = grind (arith, places-cons, places-append, shifted-append, shifted-shifted)
+places-tree bit k l = grind (arith, places-cons, places-append, map-append, shifted-shifted)
 
 -- ---- what a test keeps
 -- tests of a thing and of what it is made into

@@ -94,11 +94,7 @@ meets_backwards l b v h = steps_meet (tree_before l) (reverse xs) (λ p i. slice
 -- ---- the walks over nodes meet the lists of their definitions
 -- ---- steps among siblings
 pub walk_ends : (l : List Bool) (forward : Bool) (p : ℕ) → IsWalkOfSiblings l forward p → tree_beside l forward p ≡ None → TakesFirst (siblings_left l forward p) None (siblings_left l forward p)
-walk_ends l forward p w e = go (siblings_left l forward p) w
-  where
-    go : (vs : List ℕ) → MeetsJust (tree_beside l forward) p vs → TakesFirst vs None vs
-    go [] m = record { given = refl; left = refl }
-    go (v ∷ vs) m = absurd (cc)
+walk_ends l forward p w e = (elim (siblings_left l forward p) as (λ (vs : List ℕ). MeetsJust (tree_beside l forward) p vs → TakesFirst vs None vs) [ [] ↦ λ m. record { given = refl; left = refl } | v ∷ vs ↦ λ m. absurd (cc) ]) w
 
 pub walk_goes_on : (l : List Bool) (forward : Bool) (p v q : ℕ) → IsWalkOfSiblings l forward p → tree_beside l forward p ≡ Some (v, q) → TakesFirst (siblings_left l forward p) (Some v) (siblings_left l forward q) × IsWalkOfSiblings l forward q
 unfolding siblings_left
