@@ -1,5 +1,5 @@
 -- The nodes around a node of a balanced list: its parent, its depth, how many come before it, and where its nearest children and siblings open.
-use Rattle.vers_trees.proofs.Words.{◌≡◌, ℕ, zero, suc, ◌+◌, ◌-◌, ◌<◌, ◌≤◌, ◌<ℤ◌, Bool, true, false, ◌&&◌, List, [], ◌∷◌, get_or, ltb, leb, count_by, pos, negsuc, neg_ℤ, Some, arith, ⊎_elim, sym, refl, ap, ◌∙◌, Decides, lt-ltb, le-ltb, le-leb, Decides-ltb, Decides-and, leb_tells, length-filter, count, places, excess, last_rise_before, Forest, pairs, IsBalanced, forest_of, nodes, closing, is_ancestor, is_proper_ancestor, depth, parent, node_index, IsLastRiseBefore, ints, rules, common_steps, cond, length, Option, None, subst, filter, Contains, last_or, cases_lt, Decides-like, same_from_decides, cond_both, eq-or-lt_of_le, nodes_under, children, siblings, first_of, last_of, next_of, previous_of, get_or_default, ◌↔◌, IsTrue, is_some, not, count_both, first_rise_after, IsNode, ◌≢◌, slice_get, option_map, ◌==◌, slice_get-get_or, select, length-places, none, tree, text, ne_eqb}
+use Rattle.vers_trees.proofs.Words.{◌≡◌, ℕ, zero, suc, ◌+◌, ◌-◌, ◌<◌, ◌≤◌, ◌<ℤ◌, Bool, true, false, ◌&&◌, List, [], ◌∷◌, get_or, ltb, leb, count_by, pos, negsuc, neg_ℤ, Some, arith, ⊎_elim, sym, refl, ap, ◌∙◌, Decides, lt-ltb, le-ltb, le-leb, Decides-ltb, Decides-and, leb_tells, length-filter, count, places, excess, last_rise_before, Forest, pairs, IsBalanced, forest_of, nodes, closing, is_ancestor, is_proper_ancestor, depth, parent, node_index, IsLastRiseBefore, ints, rules, common_steps, cond, length, Option, None, subst, filter, Contains, last_or, cases_lt, Decides-like, same_from_decides, cond_both, eq-or-lt_of_le, nodes_under, children, siblings, first_of, last_of, next_of, previous_of, get_or_default, ◌↔◌, IsTrue, is_some, not, count_both, first_rise_after, IsNode, ◌≢◌, slice_get, option_map, ◌==◌, slice_get-get_or, select, length-places, none, tree, text, ne_eqb, slice_get_within, false_from_ne_true}
 use Rattle.vers_trees.proofs.walks.Lists.{places-cons}
 use Rattle.vers_trees.proofs.searches.Searches.{before_some, before_none, by_answer, before_is, after_is}
 use Rattle.vers_trees.proofs.grammar.Excess.{above_since, excess-is_walk, open_from_rise, excess_after_open, excess_after_close}
@@ -246,9 +246,6 @@ handle_by l b i n e h = grind (arith, nodes_by, slice_get-get_or)
 pub empty_by : (l : List Bool) → IsBalanced l → (r : Bool) → IsTrue r ↔ (l ≡ []) → r ≡ (length (nodes (forest_of l)) == 0)
 unfolding forest_of
 empty_by [] b r h = h.1 refl
-empty_by (x ∷ l) b r h = go (forest_of (x ∷ l)) (text-forest_of (x ∷ l) b) r h
-  where
-    go : (F : Forest) → text F ≡ x ∷ l → (r : Bool) → IsTrue r ↔ (x ∷ l ≡ []) → r ≡ (length (nodes F) == 0)
-    go none e r h = absurd (cc)
-    go (tree X Y) e true h = let f = h.0 refl in absurd (cc)
-    go (tree X Y) e false h = sym (grind (arith, ints, ne_eqb))
+empty_by (x ∷ l) b r h =
+    let w = slice_get_within (nodes (forest_of (x ∷ l))) 0 0 (first_root (forest_of (x ∷ l)) (λ e. let g = sym (text-forest_of (x ∷ l) b) ∙ e in absurd (cc))) in
+    false_from_ne_true r (λ t. let e = h.0 t in absurd (cc)) ∙ sym (ne_eqb _ 0 (λ z. omega arith))

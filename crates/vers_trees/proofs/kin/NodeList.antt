@@ -1,7 +1,7 @@
 -- The nodes of a forest are the places of the ones that it is written down with.
 use Rattle.vers_trees.proofs.Words.{◌≡◌, ℕ, zero, suc, ◌+◌, ◌<◌, ◌≤◌, Bool, true, false, ◌&&◌, List, [], ◌∷◌, map, length, get_or, Option, Some, None, MatchOption, eqb, ltb, arith, subst, sym, refl, ap, ◌∙◌, find, filter, slice_get, Decides, option_eq, Contains, range_with_len, last_or, Decides-eqb, Decides-ltb, Decides-and, is_bit, places, Forest, IsBalanced, forest_of, none, tree, text, moved, pairs, nodes, IsNode, closing, first_of, next_of, previous_of, map-append, ints, cond_both, ⊎_elim, cases_lt, get_or_past}
 use Rattle.vers_trees.proofs.walks.Lists.{opening_moved, places-tree}
-use Rattle.vers_trees.proofs.searches.Searches.{find_is, none_find, last_is, none_last}
+use Rattle.vers_trees.proofs.searches.Searches.{find_is, last_is}
 use Rattle.vers_trees.proofs.grammar.Grammar.{text-forest_of}
 use Rattle.vers_trees.proofs.grammar.Paired.{Closes, Paired, paired_closes, closes_paired, open_is_paired, close_is_paired, closes_once, closes_rises}
 use Rattle.vers_trees.proofs.grammar.Pairs.{contains_first, contains_later, contains_map_cases, contains_from_paired, paired_from_contains}
@@ -27,13 +27,8 @@ find_only {X = X} test (x ∷ xs) y c t h = cond_both (test x) (Some x) (find te
 pub closing_is : (F : Forest) (v c : ℕ) → Paired F v c → closing F v ≡ c
 unfolding closing
 closing_is F v c p =
-    let f = find_only (λ (q : ℕ × ℕ). eqb q.0 v) (pairs F) (v, c) (contains_from_paired F v c p) ((Decides-eqb v v).1 refl) (λ q d t. same q d ((Decides-eqb q.0 v).0 t)) in
+    let f = find_only (λ (q : ℕ × ℕ). eqb q.0 v) (pairs F) (v, c) (contains_from_paired F v c p) ((Decides-eqb v v).1 refl) (λ q d t. let e = (Decides-eqb q.0 v).0 t in let m = paired_closes F q.0 q.1 (paired_from_contains F q d) in grind (arith, closes_once, paired_closes)) in
     grind (arith, ints)
-  where
-    same : (q : ℕ × ℕ) → Contains (pairs F) q → q.0 ≡ v → q ≡ (v, c)
-    same q d e =
-        let m = paired_closes F q.0 q.1 (paired_from_contains F q d) in
-        grind (arith, closes_once, paired_closes)
 
 pub closes_here : (l : List Bool) (b : IsBalanced l) (v c : ℕ) → Paired (forest_of l) v c → Closes l v c
 closes_here l b v c p = rw (text-forest_of l b) at (paired_closes (forest_of l) v c p)
@@ -117,14 +112,14 @@ IsLastNode l P o = MatchOption o ((w : ℕ) → HasPair l w → P w → ⊥) (λ
 -- what a filter by a test that decides P answers
 module _ (l : List Bool) (b : IsBalanced l) (t : ℕ → Bool) (P : ℕ → Type 0) (d : (w : ℕ) → Decides (t w) (P w)) where
   pub first_node : (o : Option ℕ) → IsFirstNode l P o → find t (nodes (forest_of l)) ≡ o
-  first_node None n = find_node l b t ∙ none_find (node_test l t) _ (at_one l t P d) 0 (length l) (λ k x y q. n k (one_pair l b k (omega arith) q.0) q.1)
+  first_node None n = find_node l b t ∙ find_is (node_test l t) _ (at_one l t P d) 0 (length l) None (λ k x y q. n k (one_pair l b k (omega arith) q.0) q.1)
   first_node (Some v) n =
       let i = inside l v n.0 in
-      find_node l b t ∙ find_is (node_test l t) _ (at_one l t P d) 0 (length l) v (record { from = omega arith; below = omega arith; holds = (opens l v n.0, n.1); first = λ k x y q. n.2 k y (one_pair l b k (omega arith) q.0) q.1 })
+      find_node l b t ∙ find_is (node_test l t) _ (at_one l t P d) 0 (length l) (Some v) (record { from = omega arith; below = omega arith; holds = (opens l v n.0, n.1); first = λ k x y q. n.2 k y (one_pair l b k (omega arith) q.0) q.1 })
 
   pub last_node : (o : Option ℕ) → IsLastNode l P o → last_or None (filter t (nodes (forest_of l))) ≡ o
-  last_node None n = ap (last_or None) (nodes_filtered l b t) ∙ none_last (node_test l t) _ (at_one l t P d) (length l) (λ k y q. n k (one_pair l b k y q.0) q.1)
-  last_node (Some v) n = ap (last_or None) (nodes_filtered l b t) ∙ last_is (node_test l t) _ (at_one l t P d) (length l) v (record { below = inside l v n.0; holds = (opens l v n.0, n.1); last = λ k x y q. n.2 k x (one_pair l b k y q.0) q.1 })
+  last_node None n = ap (last_or None) (nodes_filtered l b t) ∙ last_is (node_test l t) _ (at_one l t P d) (length l) None (λ k y q. n k (one_pair l b k y q.0) q.1)
+  last_node (Some v) n = ap (last_or None) (nodes_filtered l b t) ∙ last_is (node_test l t) _ (at_one l t P d) (length l) (Some v) (record { below = inside l v n.0; holds = (opens l v n.0, n.1); last = λ k x y q. n.2 k x (one_pair l b k y q.0) q.1 })
 
   pub first_in : (o : Option ℕ) → IsFirstNode l P o → first_of (filter t (nodes (forest_of l))) ≡ o
   first_in o n = first_filtered t (nodes (forest_of l)) ∙ first_node o n

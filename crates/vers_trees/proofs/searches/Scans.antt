@@ -41,7 +41,7 @@ pub split : (back : Bool) (from p q k : ℕ) → IsBetween back from q k → IsB
 split false from p q k b = ⊎_elim (λ (w : k < p). inl (b.0, w)) (λ (w : p ≤ k). inr (w, b.1)) (cases_lt k p)
 split true from p q k b = ⊎_elim (λ (w : k < p). inr (b.0, w)) (λ (w : p ≤ k). inl (w, b.1)) (cases_lt k p)
 
-joined : (back : Bool) (l : List Bool) (from p q : ℕ) (t : ℤ) → Misses back l from p t → Misses back l p q t → Misses back l from q t
+pub joined : (back : Bool) (l : List Bool) (from p q : ℕ) (t : ℤ) → Misses back l from p t → Misses back l p q t → Misses back l from q t
 joined back l from p q t m n k b = ⊎_elim (m k) (n k) (split back from p q k b)
 
 -- past a stretch on which the excess rises by x or by d

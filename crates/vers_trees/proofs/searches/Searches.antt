@@ -13,14 +13,12 @@ pub record IsLast (P : ℕ → Type 0) (n j : ℕ) : Type 0 where
   pub holds : P j
   pub last : (k : ℕ) → j < k → k < n → P k → ⊥
 
--- what is found where one place alone is right, and where none is
-found_is : (o : Option ℕ) (N : Type 0) (Is : ℕ → Type 0) (j : ℕ) → MatchOption o N Is → (N → ⊥) → ((i : ℕ) → Is i → i ≡ j) → o ≡ Some j
-found_is None N Is j m n u = absurd (n m)
-found_is (Some i) N Is j m n u = ap Some (u i m)
-
-none_is : (o : Option ℕ) (N : Type 0) (Is : ℕ → Type 0) → MatchOption o N Is → ((i : ℕ) → Is i → ⊥) → o ≡ None
-none_is None N Is m n = refl
-none_is (Some i) N Is m n = absurd (n i m)
+-- two answers to one question are the same
+same_answer : (o p : Option ℕ) (N : Type 0) (Is : ℕ → Type 0) → MatchOption o N Is → MatchOption p N Is → (N → (j : ℕ) → Is j → ⊥) → ((i j : ℕ) → Is i → Is j → i ≡ j) → o ≡ p
+same_answer None None N Is m q n u = refl
+same_answer None (Some j) N Is m q n u = absurd (n m j q)
+same_answer (Some i) None N Is m q n u = absurd (n q i m)
+same_answer (Some i) (Some j) N Is m q n u = ap Some (u i j m q)
 
 -- what follows from an answer that is none, and from one that is a place
 pub by_answer : (P : Option ℕ → Type 0) (o : Option ℕ) → (o ≡ None → P None) → ((j : ℕ) → o ≡ Some j → P (Some j)) → P o
@@ -32,12 +30,9 @@ pub find_first : (test : ℕ → Bool) (P : ℕ → Type 0) → ((k : ℕ) → D
 find_first test P d a zero = λ k x y p. omega arith
 find_first test P d a (suc n) = grind (arith, find_first test P d (a + 1) n)
 
-pub find_is : (test : ℕ → Bool) (P : ℕ → Type 0) → ((k : ℕ) → Decides (test k) (P k)) → (a n j : ℕ) → IsFirst P a (a + n) j → find test (range_with_len a n) ≡ Some j
-find_is test P d a n j r = found_is _ ((k : ℕ) → a ≤ k → k < a + n → P k → ⊥) (IsFirst P a (a + n)) j (find_first test P d a n) (λ h. h j r.from r.below r.holds)
-    (λ i h. ⊎_elim (λ (e : i ≡ j). e) (λ (o : (i < j) ⊎ (j < i)). ⊎_elim (λ (x : i < j). absurd (r.first i h.from x h.holds)) (λ (x : j < i). absurd (h.first j r.from x r.holds)) o) (cases_order i j))
-
-pub none_find : (test : ℕ → Bool) (P : ℕ → Type 0) → ((k : ℕ) → Decides (test k) (P k)) → (a n : ℕ) → ((k : ℕ) → a ≤ k → k < a + n → P k → ⊥) → find test (range_with_len a n) ≡ None
-none_find test P d a n none = none_is _ ((k : ℕ) → a ≤ k → k < a + n → P k → ⊥) (IsFirst P a (a + n)) (find_first test P d a n) (λ i h. none i h.from h.below h.holds)
+pub find_is : (test : ℕ → Bool) (P : ℕ → Type 0) → ((k : ℕ) → Decides (test k) (P k)) → (a n : ℕ) (o : Option ℕ) → MatchOption o ((k : ℕ) → a ≤ k → k < a + n → P k → ⊥) (IsFirst P a (a + n)) → find test (range_with_len a n) ≡ o
+find_is test P d a n o q = same_answer _ o ((k : ℕ) → a ≤ k → k < a + n → P k → ⊥) (IsFirst P a (a + n)) (find_first test P d a n) q (λ h j r. h j r.from r.below r.holds)
+    (λ i j h r. ⊎_elim (λ (e : i ≡ j). e) (λ (o : (i < j) ⊎ (j < i)). ⊎_elim (λ (x : i < j). absurd (r.first i h.from x h.holds)) (λ (x : j < i). absurd (h.first j r.from x r.holds)) o) (cases_order i j))
 
 last_append : {X : Type 0} → (o : Option X) (xs ys : List X) → last_or o (xs ++ ys) ≡ last_or (last_or o xs) ys
 last_append o [] ys = refl
@@ -55,12 +50,9 @@ find_last test P d (suc n) =
     let more = ap (λ (m : ℕ). last_or None (filter test (range_with_len 0 m))) e ∙ ap (last_or None) (filter_more test n) ∙ last_append None (filter test (range_with_len 0 n)) (cond (test n) (n ∷ []) []) in
     grind (arith, find_last test P d n)
 
-pub last_is : (test : ℕ → Bool) (P : ℕ → Type 0) → ((k : ℕ) → Decides (test k) (P k)) → (n j : ℕ) → IsLast P n j → last_or None (filter test (range_with_len 0 n)) ≡ Some j
-last_is test P d n j r = found_is _ ((k : ℕ) → k < n → P k → ⊥) (IsLast P n) j (find_last test P d n) (λ h. h j r.below r.holds)
-    (λ i h. ⊎_elim (λ (e : i ≡ j). e) (λ (o : (i < j) ⊎ (j < i)). ⊎_elim (λ (x : i < j). absurd (h.last j x r.below r.holds)) (λ (x : j < i). absurd (r.last i x h.below h.holds)) o) (cases_order i j))
-
-pub none_last : (test : ℕ → Bool) (P : ℕ → Type 0) → ((k : ℕ) → Decides (test k) (P k)) → (n : ℕ) → ((k : ℕ) → k < n → P k → ⊥) → last_or None (filter test (range_with_len 0 n)) ≡ None
-none_last test P d n none = none_is _ ((k : ℕ) → k < n → P k → ⊥) (IsLast P n) (find_last test P d n) (λ i h. none i h.below h.holds)
+pub last_is : (test : ℕ → Bool) (P : ℕ → Type 0) → ((k : ℕ) → Decides (test k) (P k)) → (n : ℕ) (o : Option ℕ) → MatchOption o ((k : ℕ) → k < n → P k → ⊥) (IsLast P n) → last_or None (filter test (range_with_len 0 n)) ≡ o
+last_is test P d n o q = same_answer _ o ((k : ℕ) → k < n → P k → ⊥) (IsLast P n) (find_last test P d n) q (λ h j r. h j r.below r.holds)
+    (λ i j h r. ⊎_elim (λ (e : i ≡ j). e) (λ (o : (i < j) ⊎ (j < i)). ⊎_elim (λ (x : i < j). absurd (h.last j x r.below r.holds)) (λ (x : j < i). absurd (r.last i x h.below h.holds)) o) (cases_order i j))
 
 -- ---- where the excess rises by r, after i and before i
 abbrev rises_to : List Bool → ℕ → ℤ → ℕ → Type 0
@@ -78,7 +70,7 @@ after_some l i r j h =
 pub after_is : (l : List Bool) (i : ℕ) (r : ℤ) (j : ℕ) → IsFirstRiseAfter l i r j → first_rise_after l i r ≡ Some j
 unfolding first_rise_after
 after_is l i r j p =
-    find_is _ (rises_to l i r) (λ k. Decides-int_eq _ _) (i + 1) (length l - (i + 1)) j (record { from = omega arith; below = omega arith; holds = p.sum; first = λ k x y. p.first k (omega arith) y })
+    find_is _ (rises_to l i r) (λ k. Decides-int_eq _ _) (i + 1) (length l - (i + 1)) (Some j) (record { from = omega arith; below = omega arith; holds = p.sum; first = λ k x y. p.first k (omega arith) y })
 
 pub after_none : (l : List Bool) (i : ℕ) (r : ℤ) → first_rise_after l i r ≡ None → (k : ℕ) → i < k → k < length l → excess l (k + 1) ≢ excess l (i + 1) +ℤ r
 unfolding first_rise_after
@@ -86,7 +78,7 @@ after_none l i r h k x y = (rw h at (find_first _ (rises_to l i r) (λ k. Decide
 
 pub none_after : (l : List Bool) (i : ℕ) (r : ℤ) → ((k : ℕ) → i < k → k < length l → excess l (k + 1) ≢ excess l (i + 1) +ℤ r) → first_rise_after l i r ≡ None
 unfolding first_rise_after
-none_after l i r h = none_find _ (rises_to l i r) (λ k. Decides-int_eq _ _) (i + 1) (length l - (i + 1)) (λ k x y. h k (omega arith) (omega arith))
+none_after l i r h = find_is _ (rises_to l i r) (λ k. Decides-int_eq _ _) (i + 1) (length l - (i + 1)) None (λ k x y. h k (omega arith) (omega arith))
 
 -- a place that the list doesn't have
 pub before_past : (l : List Bool) (i : ℕ) (r : ℤ) → length l ≤ i → last_rise_before l i r ≡ None
@@ -105,7 +97,7 @@ before_some l i r j h = ⊎_elim
 
 pub before_is : (l : List Bool) (i : ℕ) (r : ℤ) (j : ℕ) → IsLastRiseBefore l i r j → last_rise_before l i r ≡ Some j
 unfolding last_rise_before
-before_is l i r j p = rw (lt-ltb i (length l) p.inside) (last_is _ (rises_from l i r) (λ k. Decides-int_eq _ _) i j (record { below = p.before; holds = p.sum; last = p.last }))
+before_is l i r j p = rw (lt-ltb i (length l) p.inside) (last_is _ (rises_from l i r) (λ k. Decides-int_eq _ _) i (Some j) (record { below = p.before; holds = p.sum; last = p.last }))
 
 pub before_none : (l : List Bool) (i : ℕ) (r : ℤ) → i < length l → last_rise_before l i r ≡ None → (k : ℕ) → k < i → excess l k ≢ excess l i +ℤ r
 before_none l i r g h = rw h at (last_rise l i r g)
@@ -113,6 +105,6 @@ before_none l i r g h = rw h at (last_rise l i r g)
 pub none_before : (l : List Bool) (i : ℕ) (r : ℤ) → ((k : ℕ) → k < i → excess l k ≢ excess l i +ℤ r) → last_rise_before l i r ≡ None
 unfolding last_rise_before
 none_before l i r h = ⊎_elim
-    (λ (g : i < length l). rw (lt-ltb i (length l) g) (none_last _ (rises_from l i r) (λ k. Decides-int_eq _ _) i h))
+    (λ (g : i < length l). rw (lt-ltb i (length l) g) (last_is _ (rises_from l i r) (λ k. Decides-int_eq _ _) i None h))
     (λ (g : length l ≤ i). rw (le-ltb i (length l) g) refl)
     (cases_lt i (length l))

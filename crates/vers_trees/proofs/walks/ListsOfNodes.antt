@@ -85,10 +85,7 @@ part_size bit l v h = grind (arith, ints, count_both, part_counted, places_in)
 -- the nodes of the tree of v, in preorder
 pub subtree_is : (l : List Bool) (b : IsBalanced l) (v : ℕ) → HasPair l v → subtree (forest_of l) v ≡ places_in true l v
 unfolding subtree places_in
-subtree_is l b v h = filter_agree (λ w. is_ancestor (forest_of l) v w) (between v (closing (forest_of l) v)) (nodes (forest_of l)) (λ w i. agree w (node_pair l b w i)) ∙ ap (filter (between v (closing (forest_of l) v))) (nodes_by l b)
-  where
-    agree : (w : ℕ) → HasPair l w → is_ancestor (forest_of l) v w ≡ between v (closing (forest_of l) v) w
-    agree w k = grind (arith, ints, same_from_decides, Decides-like, ancestor_decides, between_decides)
+subtree_is l b v h = filter_agree (λ w. is_ancestor (forest_of l) v w) (between v (closing (forest_of l) v)) (nodes (forest_of l)) (λ w i. let k = node_pair l b w i in grind (arith, ints, same_from_decides, Decides-like, ancestor_decides, between_decides)) ∙ ap (filter (between v (closing (forest_of l) v))) (nodes_by l b)
 
 pub subtree_size_is : (l : List Bool) (b : IsBalanced l) (v : ℕ) → HasPair l v → 2 * length (subtree (forest_of l) v) + v ≡ closing (forest_of l) v + 1
 subtree_size_is l b v h = let s = ap (λ (xs : List ℕ). length xs) (subtree_is l b v h) in let p = part_size true l v h in omega arith
@@ -101,11 +98,7 @@ pub subtree_post_is : (l : List Bool) (b : IsBalanced l) (v : ℕ) → HasPair l
 unfolding subtree_post places_in
 subtree_post_is l b v h =
     ap (filter (λ w. is_ancestor (forest_of l) v w)) (sym (postorder_by l b))
-    ∙ filter_mapped (λ w. is_ancestor (forest_of l) v w) (between v (closing (forest_of l) v)) (opening_of l) (places false l) (All-weaker (HasBitAt false l) (λ k. is_ancestor (forest_of l) v (opening_of l k) ≡ between v (closing (forest_of l) v) k) (λ k y. agree k (zero_pair l b k y.inside (not-true _ y.holds))) (places false l) (all_places false l))
-  where
-    agree : (k : ℕ) → (w : ℕ) × HasPair l w × (closing (forest_of l) w ≡ k) × Closes l w k → is_ancestor (forest_of l) v (opening_of l k) ≡ between v (closing (forest_of l) v) k
-    agree k p =
-        grind (arith, ints, before_is, before_from_closes, same_from_decides, Decides-like, nested, ancestor_decides, between_decides)
+    ∙ filter_mapped (λ w. is_ancestor (forest_of l) v w) (between v (closing (forest_of l) v)) (opening_of l) (places false l) (All-weaker (HasBitAt false l) (λ k. is_ancestor (forest_of l) v (opening_of l k) ≡ between v (closing (forest_of l) v) k) (λ k y. let p = zero_pair l b k y.inside (not-true _ y.holds) in grind (arith, ints, before_is, before_from_closes, same_from_decides, Decides-like, nested, ancestor_decides, between_decides)) (places false l) (all_places false l))
 
 -- ---- the orders
 pub closes_in_order : (F : Forest) → map (closing F) (postorder F) ≡ places false (text F)

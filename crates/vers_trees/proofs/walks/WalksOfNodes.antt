@@ -75,7 +75,9 @@ before_step : (l : List Bool) (p : ℕ) → tree_before l p ≡ opened (closed_b
 before_step l p = grind arith
 
 meets_backwards : (l : List Bool) (b : IsBalanced l) (v : ℕ) → HasPair l v → MeetsJust (tree_before l) (closing (forest_of l) v) (reverse (children (forest_of l) v))
-meets_backwards l b v h = steps_meet (tree_before l) (reverse xs) (λ p i. slice_get (reverse xs) i ≡ closed_before l p)
+meets_backwards l b v h =
+    let xs = children (forest_of l) v in
+    steps_meet (tree_before l) (reverse xs) (λ p i. slice_get (reverse xs) i ≡ closed_before l p)
     (λ p i a e. before_step l p ∙ ap opened (sym a ∙ e))
     (λ p i w a e.
     let r = length-reverse xs in let n = slice_get_within (reverse xs) i w e in
@@ -87,9 +89,6 @@ meets_backwards l b v h = steps_meet (tree_before l) (reverse xs) (λ p i. slice
     ))
     (closing (forest_of l) v)
     (reversed_first xs ∙ sym (last_child_is l b v h))
-  where
-    xs : List ℕ
-    xs = children (forest_of l) v
 
 -- ---- the walks over nodes meet the lists of their definitions
 -- ---- steps among siblings
