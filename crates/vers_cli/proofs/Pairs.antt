@@ -1,6 +1,9 @@
 -- Documents with their costs, as the numbers of a line write them.
-use Rattle.vers_cli.proofs.Names.{◌≡◌, ◌==◌, ◌||◌, ℕ, ◌+◌, ◌≤◌, Bool, true, false, List, [], ◌∷◌, ◌++◌, length, append_assoc, Option, Some, None, unwrap_or, refl, ap, nat_lt, option_map, if◌then◌else◌, option_and_then, le-leb, each_next-rising, each_next, Numbers, Refused, posted_first, rising_count, are_admitted, if_admitted, shared_reply}
+use Rattle.vers_cli.proofs.Names.{◌≡◌, ◌==◌, ◌||◌, ℕ, ◌+◌, ◌≤◌, Bool, true, false, List, [], ◌∷◌, ◌++◌, length, append_assoc, Option, Some, None, Result, Ok, Err, IfOk, unwrap_or, refl, ap, nat_lt, option_map, if◌then◌else◌, option_and_then, le-leb, each_next-rising, each_next, Numbers, Refused, posted_first, rising_count, are_admitted, if_admitted, shared_reply}
 use Rattle.std.specs.List.Sorted.{IsStrictlyIncreasing}
+use Rattle.std.specs.Prelude.{IsErr, MatchResult}
+use Rattle.std.proofs.lemmas.Result.{IfOk-from_err}
+use Rattle.vers_words.specs.Reply.{PlainReply}
 use Rattle.vers_rmq.specs.declared.rmq.fast_rmq.TheConstants.{MAX_LEN}
 use Rattle.postings.specs.Posted.{Posted, common}
 use Rattle.postings.specs.Makers.{IsRefusedFor}
@@ -66,12 +69,16 @@ not_admitted documents costs fault is refused =
     let told : IsRefusedFor documents costs MAX_LEN NotAscending = rw is at refused in
     rw (not_rising documents (each_next nat_lt documents) refl told.2) refl
 
--- what is shared with documents that are admitted
-if_shared : (documents : List ℕ) (posted others : Posted) (test : Bool) → Some others ≡ (if test then Some posted else None)
-    → Numbers (common documents others.documents) ≡ (if test then Numbers (common documents posted.documents) else Refused)
-if_shared documents posted others true made = ap (λ (o : Option Posted). Numbers (common documents (unwrap_or o others).documents)) made
-if_shared documents posted others false made = cc
+-- what is shared with documents that may be admitted
+among : (documents : List ℕ) (posted : Posted) (test : Bool)
+    → unwrap_or (option_map (λ (o : Posted). Numbers (common documents o.documents)) (if test then Some posted else None)) Refused
+    ≡ (if test then Numbers (common documents posted.documents) else Refused)
+among documents posted true = refl
+among documents posted false = refl
 
-pub shared : (documents : List ℕ) (posted others : Posted) → Some others ≡ if_admitted posted
-    → Numbers (common documents others.documents) ≡ shared_reply documents posted.documents
-shared documents posted others made = if_shared documents posted others (are_admitted posted.documents) made
+pub shared : {R E : Type 0} (documents : List ℕ) (posted : Posted) (made : Result (Option Posted) E) (r : Result R E) (plain : R → PlainReply)
+    → IfOk made (λ others. others ≡ if_admitted posted)
+    → MatchResult made (λ others. IfOk r (λ reply. plain reply ≡ unwrap_or (option_map (λ (o : Posted). Numbers (common documents o.documents)) others) Refused)) (λ _. IsErr r)
+    → IfOk r (λ reply. plain reply ≡ shared_reply documents posted.documents)
+shared documents posted (Ok others) r plain is told = rw (is, among documents posted (are_admitted posted.documents)) at told
+shared documents posted (Err e) r plain is told = IfOk-from_err r _ told

@@ -29,6 +29,15 @@ abbrev pub first_numbers : List (List ℕ) → List ℕ
 first_numbers [] = []
 first_numbers (word ∷ more) = first_then (number_of word) (first_numbers more)
 
+-- what a query with one number finds
+abbrev pub sorted_found : List ℕ → Query → ℕ → Option ℕ
+sorted_found members Get place = slice_get members place
+sorted_found members Rank v = Some (below members v)
+sorted_found members Predecessor v = greatest_not_above members v
+sorted_found members Successor v = least_not_below members v
+sorted_found members Delta place = delta members place
+sorted_found members _ n = None
+
 -- the query lines, where these members are held
 abbrev pub sorted_reply : List ℕ → Query → List (List ℕ) → PlainReply
 sorted_reply members Len arguments = if_well_formed (no_arguments arguments) (λ _. Number (length members))

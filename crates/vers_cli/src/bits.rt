@@ -3,11 +3,13 @@ ghost use Rattle.std.specs.Prelude.{◌≡◌, ◌≤◌, true, length, IfOk};
 ghost use Rattle.std.specs.List.{list_all};
 ghost use Rattle.vers_words.specs.Text.{words_in};
 ghost use Rattle.vers_words.specs.Arguments.{is_bit_digit, bits_of, bits_of_digits};
+ghost use Rattle.vers_words.specs.Loading.{map_loading};
 ghost use Rattle.vers_words.specs.Reply.{plain_reply};
-ghost use Rattle.vers_cli.specs.Holding.{is_accepted as accepts};
+ghost use Rattle.vers_cli.specs.Holding.{holding_of, loaded, is_accepted as accepts};
 ghost use Rattle.vers_cli.specs.BitsLines.{bits_loaded, bits_reply};
 
-use crate::name::Query;
+use crate::held::Held;
+use crate::name::{Load, Query};
 use std::alloc::{AllocError, Allocator};
 use vers_bits::bit_vec::{BitVec, MAX_LEN};
 use vers_rank::fast_rs_vec::RsVec;
@@ -26,11 +28,12 @@ pub fn is_accepted(arguments: &[u8]) -> bool
 }
 
 /// What the load line `bits S` gives.
-pub fn load<A: Allocator + Copy>(
-    alloc: A,
+pub fn load<'a, A: Allocator + Copy>(
+    alloc: &'a A,
     arguments: &[u8],
-) -> Result<Loading<RsVec<A>>, AllocError>
-    ensures { IfOk result (λ loading. loading ≡ bits_loaded (bits_of (words_in arguments.now))) }
+) -> Result<Loading<Held<'a, A>>, AllocError>
+    ensures { IfOk result (λ loading.
+        map_loading holding_of loading ≡ loaded Load.Bits (words_in arguments.now)) }
 {
     let Some(digits) = bit_digits(arguments) else {
         return Ok(Loading::Malformed);
@@ -38,8 +41,8 @@ pub fn load<A: Allocator + Copy>(
     if digits.len() > MAX_LEN {
         return Ok(Loading::Inadmissible);
     }
-    match RsVec::from_bit_vec(bit_vec(alloc, digits)?) {
-        Ok(bits) => Ok(Loading::Accepted(bits)),
+    match RsVec::from_bit_vec(bit_vec(*alloc, digits)?) {
+        Ok(bits) => Ok(Loading::Accepted(Held::Bits(bits))),
         Err(error) => Err(error),
     }
 }

@@ -1,14 +1,16 @@
 //! The lines of documents with costs.
-ghost use Rattle.std.specs.Prelude.{◌≡◌, ◌<◌, [], length, option_map, IfOk, IfSome, MatchOption};
+ghost use Rattle.std.specs.Prelude.{◌≡◌, ◌<◌, ℕ, List, [], length, unwrap_or, option_map, IfOk, OnOk, IsErr, IfSome, MatchOption, MatchResult};
 ghost use Rattle.std.specs.Option.{option_and_then};
 ghost use Rattle.vers_words.specs.Text.{words_in};
 ghost use Rattle.vers_words.specs.Arguments.{no_arguments as none_of, all_numbers as numbers_all};
-ghost use Rattle.vers_words.specs.Reply.{plain_reply, Numbers};
+ghost use Rattle.vers_words.specs.Loading.{map_loading};
+ghost use Rattle.vers_words.specs.Reply.{plain_reply, Numbers, Refused};
 ghost use Rattle.postings.specs.Posted.{common};
-ghost use Rattle.vers_cli.specs.Holding.{is_accepted as accepts};
+ghost use Rattle.vers_cli.specs.Holding.{holding_of, loaded, is_accepted as accepts};
 ghost use Rattle.vers_cli.specs.PostingsLines.{posted_first, posted_of, if_admitted, postings_loaded, postings_reply, rising_count, shared_reply};
 
-use crate::name::Query;
+use crate::held::Held;
+use crate::name::{Load, Query};
 use crate::sorted::Rise;
 use postings::{Postings, PostingsError};
 use std::alloc::{AllocError, Allocator};
@@ -29,19 +31,19 @@ pub fn is_accepted(arguments: &[u8]) -> bool
 }
 
 /// What the load line `postings d c ..` gives.
-pub fn load<A: Allocator + Copy>(
-    alloc: A,
+pub fn load<'a, A: Allocator + Copy>(
+    alloc: &'a A,
     arguments: &[u8],
-) -> Result<Loading<Postings<A>>, AllocError>
+) -> Result<Loading<Held<'a, A>>, AllocError>
     ensures { IfOk result (λ loading.
-        loading ≡ postings_loaded (numbers_all (words_in arguments.now))) }
+        map_loading holding_of loading ≡ loaded Load.Postings (words_in arguments.now)) }
 {
-    let Some(Pairs { documents, costs }) = all_pairs(alloc, arguments)? else {
+    let Some(Pairs { documents, costs }) = all_pairs(*alloc, arguments)? else {
         return Ok(Loading::Malformed);
     };
     match admitted(documents.as_slice(), costs) {
         Ok(None) => Ok(Loading::Inadmissible),
-        Ok(Some(postings)) => Ok(Loading::Accepted(postings)),
+        Ok(Some(postings)) => Ok(Loading::Accepted(Held::Postings(postings))),
         Err(error) => Err(error),
     }
 }
@@ -77,9 +79,10 @@ pub fn reply<A: Allocator + Copy>(
             None => Ok(Reply::BadLine),
             Some((from, to)) => Ok(Reply::number_or_absent(postings.cheapest(from, to))),
         },
-        Query::Intersect => match all_numbers(alloc, arguments)? {
-            None => Ok(Reply::BadLine),
-            Some(documents) => shared(alloc, postings, documents.as_slice()),
+        Query::Intersect => match all_numbers(alloc, arguments) {
+            Ok(None) => Ok(Reply::BadLine),
+            Ok(Some(documents)) => shared(alloc, postings, documents.as_slice()),
+            Err(error) => Err(error),
         },
         _ => Ok(Reply::WrongStructure),
     }
@@ -107,17 +110,34 @@ fn all_pairs<A: Allocator + Copy>(
     let Some(count) = count_numbers(arguments) else {
         return Ok(None);
     };
-    let mut documents = Vec::with_capacity(alloc, count / 2)?;
-    let mut costs = Vec::with_capacity(alloc, count / 2)?;
-    let mut rest = arguments;
-    while let Some((document, cost, others)) = split_first_pair(rest) {
-        documents.push(document)?;
-        costs.push(cost)?;
-        rest = others;
-    }
-    match no_arguments(rest) {
+    let mut pairs = Pairs {
+        documents: Vec::with_capacity(alloc, count / 2)?,
+        costs: Vec::with_capacity(alloc, count / 2)?,
+    };
+    match pairs.fill(arguments)? {
         None => Ok(None),
-        Some(()) => Ok(Some(Pairs { documents, costs })),
+        Some(()) => Ok(Some(pairs)),
+    }
+}
+
+impl<A: Allocator> Pairs<A> {
+    // Takes up the documents and costs that a line writes in turn, where there are none yet. None where a word is
+    // no number below 2^64, or the last document has no cost.
+    fn fill(&mut self, arguments: &[u8]) -> Result<Option<()>, AllocError>
+        requires documents { self.old.documents.items ≡ [] }
+        requires costs { self.old.costs.items ≡ [] }
+        ensures pairs { IfOk result (λ found. option_map
+            (λ _. record { documents = self.new.documents.items; costs = self.new.costs.items }) found
+            ≡ option_and_then posted_of (numbers_all (words_in arguments.now))) }
+        ensures paired { OnOk result (length self.new.documents.items ≡ length self.new.costs.items) }
+    {
+        let mut rest = arguments;
+        while let Some((document, cost, others)) = split_first_pair(rest) {
+            self.documents.push(document)?;
+            self.costs.push(cost)?;
+            rest = others;
+        }
+        Ok(no_arguments(rest))
     }
 }
 
@@ -190,20 +210,40 @@ fn shared<A: Allocator + Copy>(
 {
     // The costs play no part.
     let costs = vec![in alloc; 0u64; documents.len()]?;
-    match admitted(documents, costs) {
+    among(postings, admitted(documents, costs))
+}
+
+// The documents held that stand among others too, where these are admitted. They may be of any type, so that the
+// proof doesn't go through their fields.
+fn among<A: Allocator + Copy, O: Others<A> + Drop>(
+    postings: &Postings<A>,
+    others: Result<Option<O>, AllocError>,
+) -> Result<Reply<A>, AllocError>
+    ensures { MatchResult others (λ others. IfOk result (λ reply. plain_reply reply ≡ unwrap_or
+        (option_map (λ others. Numbers (common postings.now.documents (O.documents others))) others) Refused))
+        (λ _. IsErr result) }
+{
+    match others {
         Ok(None) => Ok(Reply::Refused),
-        Ok(Some(others)) => common_reply(postings, &others),
+        Ok(Some(others)) => others.common_reply(postings),
         Err(error) => Err(error),
     }
 }
 
-// The documents that two have in common.
-fn common_reply<A: Allocator + Copy>(
-    postings: &Postings<A>,
-    others: &Postings<A>,
-) -> Result<Reply<A>, AllocError>
-    ensures { IfOk result (λ reply.
-        plain_reply reply ≡ Numbers (common postings.now.documents others.now.documents)) }
-{
-    Ok(Reply::Numbers(postings.intersect(others)?))
+// Other documents than those held.
+trait Others<A: Allocator + Copy> {
+    ghost documents: { Self → List ℕ };
+
+    // The documents that stand among those held too.
+    fn common_reply(&self, postings: &Postings<A>) -> Result<Reply<A>, AllocError>
+        ensures { IfOk result (λ reply.
+            plain_reply reply ≡ Numbers (common postings.now.documents (documents self.now))) };
+}
+
+impl<A: Allocator + Copy> Others<A> for Postings<A> {
+    ghost documents = { λ posted. posted.documents };
+
+    fn common_reply(&self, postings: &Postings<A>) -> Result<Reply<A>, AllocError> {
+        Ok(Reply::Numbers(postings.intersect(self)?))
+    }
 }

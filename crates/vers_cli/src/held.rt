@@ -46,18 +46,6 @@ pub fn is_accepted(load: Load, arguments: &[u8]) -> bool
     }
 }
 
-// What a structure's own load line gives, as what is held.
-macro_rules! held_as {
-    ($loading:expr, $held:path) => {
-        match $loading {
-            Ok(Loading::Malformed) => Ok(Loading::Malformed),
-            Ok(Loading::Inadmissible) => Ok(Loading::Inadmissible),
-            Ok(Loading::Accepted(list)) => Ok(Loading::Accepted($held(list))),
-            Err(error) => Err(error),
-        }
-    };
-}
-
 /// What a load line gives.
 pub fn load<'a, A: Allocator + Copy>(
     alloc: &'a A,
@@ -68,13 +56,13 @@ pub fn load<'a, A: Allocator + Copy>(
         map_loading holding_of loading ≡ loaded load (words_in arguments.now)) }
 {
     match load {
-        Load::Bits => held_as!(bits::load(*alloc, arguments), Held::Bits),
-        Load::Sorted => held_as!(sorted::load(*alloc, arguments), Held::Sorted),
-        Load::Sparse => held_as!(sparse::load(*alloc, arguments), Held::Sparse),
-        Load::Values => held_as!(values::load(*alloc, arguments), Held::Values),
-        Load::Tree => held_as!(tree::load(alloc, arguments), Held::Tree),
-        Load::Symbols => held_as!(symbols::load(*alloc, arguments), Held::Symbols),
-        Load::Postings => held_as!(documents::load(*alloc, arguments), Held::Postings),
+        Load::Bits => bits::load(alloc, arguments),
+        Load::Sorted => sorted::load(alloc, arguments),
+        Load::Sparse => sparse::load(alloc, arguments),
+        Load::Values => values::load(alloc, arguments),
+        Load::Tree => tree::load(alloc, arguments),
+        Load::Symbols => symbols::load(alloc, arguments),
+        Load::Postings => documents::load(alloc, arguments),
     }
 }
 

@@ -5,11 +5,13 @@ ghost use Rattle.vers_sorted.specs.Layout.{last_of};
 ghost use Rattle.vers_sorted.specs.Sorted.{each_next};
 ghost use Rattle.vers_words.specs.Text.{words_in};
 ghost use Rattle.vers_words.specs.Arguments.{all_numbers as numbers_all};
-ghost use Rattle.vers_words.specs.Reply.{plain_reply};
-ghost use Rattle.vers_cli.specs.Holding.{is_accepted as accepts};
-ghost use Rattle.vers_cli.specs.SortedLines.{first_numbers, in_order, sorted_loaded, sorted_reply};
+ghost use Rattle.vers_words.specs.Loading.{map_loading};
+ghost use Rattle.vers_words.specs.Reply.{plain_reply, Numbers as reply_of_numbers};
+ghost use Rattle.vers_cli.specs.Holding.{holding_of, loaded, is_accepted as accepts};
+ghost use Rattle.vers_cli.specs.SortedLines.{first_numbers, in_order, sorted_found, sorted_loaded, sorted_reply};
 
-use crate::name::Query;
+use crate::held::Held;
+use crate::name::{Load, Query};
 use std::alloc::{AllocError, Allocator};
 use vers_sorted::elias_fano::{EliasFanoVec, MAX_LEN, Numbers};
 use vers_tally::ends::{BothEnds, Source};
@@ -117,12 +119,12 @@ pub fn is_accepted(arguments: &[u8]) -> bool
 }
 
 /// What the load line `sorted n ..` gives.
-pub fn load<A: Allocator + Copy>(
-    alloc: A,
+pub fn load<'a, A: Allocator + Copy>(
+    alloc: &'a A,
     arguments: &[u8],
-) -> Result<Loading<EliasFanoVec<A>>, AllocError>
+) -> Result<Loading<Held<'a, A>>, AllocError>
     ensures { IfOk result (λ loading.
-        loading ≡ sorted_loaded (numbers_all (words_in arguments.now))) }
+        map_loading holding_of loading ≡ loaded Load.Sorted (words_in arguments.now)) }
 {
     let Some(rise) = rise_of(arguments, false) else {
         if count_numbers(arguments).is_none() {
@@ -130,8 +132,8 @@ pub fn load<A: Allocator + Copy>(
         }
         return Ok(Loading::Inadmissible);
     };
-    match members_of(alloc, arguments, rise) {
-        Ok(members) => Ok(Loading::Accepted(members)),
+    match members_of(*alloc, arguments, rise) {
+        Ok(members) => Ok(Loading::Accepted(Held::Sorted(members))),
         Err(error) => Err(error),
     }
 }
@@ -151,43 +153,43 @@ pub fn reply<A: Allocator + Copy>(
             None => Ok(Reply::BadLine),
             Some(()) => Ok(Reply::Number(members.len() as u64)),
         },
-        Query::Get => match one_number(arguments) {
-            None => Ok(Reply::BadLine),
-            Some(place) => Ok(Reply::number_or_absent(members.get(place as usize))),
-        },
-        Query::Rank => match one_number(arguments) {
-            None => Ok(Reply::BadLine),
-            Some(v) => Ok(Reply::Number(members.rank(v))),
-        },
-        Query::Predecessor => match one_number(arguments) {
-            None => Ok(Reply::BadLine),
-            Some(v) => Ok(Reply::number_or_absent(members.predecessor(v))),
-        },
-        Query::Successor => match one_number(arguments) {
-            None => Ok(Reply::BadLine),
-            Some(v) => Ok(Reply::number_or_absent(members.successor(v))),
-        },
-        Query::Delta => match one_number(arguments) {
-            None => Ok(Reply::BadLine),
-            Some(place) => Ok(Reply::number_or_absent(members.delta(place as usize))),
-        },
+        Query::Get | Query::Rank | Query::Predecessor | Query::Successor | Query::Delta => {
+            match one_number(arguments) {
+                None => Ok(Reply::BadLine),
+                Some(n) => Ok(Reply::number_or_absent(found(members, query, n))),
+            }
+        }
         Query::Iter => match no_arguments(arguments) {
             None => Ok(Reply::BadLine),
-            Some(()) => Ok(Reply::Numbers(members_left(alloc, members.iter())?)),
+            Some(()) => members_reply(alloc, members.iter()),
         },
         _ => Ok(Reply::WrongStructure),
     }
 }
 
-/// The numbers that an iterator has left.
-pub fn members_left<A: Allocator + Copy, S: Source<Item = u64>>(
+// What a query with one number finds. None where these have no such query.
+fn found<A: Allocator + Copy>(members: &EliasFanoVec<A>, query: Query, n: u64) -> Option<u64>
+    ensures { result ≡ sorted_found members.now query n }
+{
+    match query {
+        Query::Get => members.get(n as usize),
+        Query::Rank => Some(members.rank(n)),
+        Query::Predecessor => members.predecessor(n),
+        Query::Successor => members.successor(n),
+        Query::Delta => members.delta(n as usize),
+        _ => None,
+    }
+}
+
+/// The reply of the numbers that an iterator has left.
+pub fn members_reply<A: Allocator + Copy, S: Source<Item = u64>>(
     alloc: A,
     members: BothEnds<S>,
-) -> Result<Vec<u64, A>, AllocError>
-    ensures { IfOk result (λ numbers. numbers.items ≡ members.left) }
+) -> Result<Reply<A>, AllocError>
+    ensures { IfOk result (λ reply. plain_reply reply ≡ reply_of_numbers members.left) }
 {
     // `collect` alone would go on where room for all at once is refused.
     let mut numbers = Vec::with_capacity(alloc, members.len())?;
     numbers.extend(members)?;
-    Ok(numbers)
+    Ok(Reply::Numbers(numbers))
 }

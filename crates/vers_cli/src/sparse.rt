@@ -2,12 +2,14 @@
 ghost use Rattle.std.specs.Prelude.{◌≡◌, true, IfOk};
 ghost use Rattle.vers_words.specs.Text.{words_in};
 ghost use Rattle.vers_words.specs.Arguments.{all_numbers as numbers_all};
+ghost use Rattle.vers_words.specs.Loading.{map_loading};
 ghost use Rattle.vers_words.specs.Reply.{plain_reply};
-ghost use Rattle.vers_cli.specs.Holding.{is_accepted as accepts};
+ghost use Rattle.vers_cli.specs.Holding.{holding_of, loaded, is_accepted as accepts};
 ghost use Rattle.vers_cli.specs.SparseLines.{sparse_loaded, sparse_reply};
 
-use crate::name::Query;
-use crate::sorted::{members_left, members_of, rise_of};
+use crate::held::Held;
+use crate::name::{Load, Query};
+use crate::sorted::{members_of, members_reply, rise_of};
 use std::alloc::{AllocError, Allocator};
 use vers_sorted::sparse::SparseRSVec;
 use vers_words::arguments::{count_numbers, no_arguments, one_number};
@@ -32,12 +34,12 @@ pub fn is_accepted(arguments: &[u8]) -> bool
 }
 
 /// What the load line `sparse LEN p ..` gives.
-pub fn load<A: Allocator + Copy>(
-    alloc: A,
+pub fn load<'a, A: Allocator + Copy>(
+    alloc: &'a A,
     arguments: &[u8],
-) -> Result<Loading<SparseRSVec<A>>, AllocError>
+) -> Result<Loading<Held<'a, A>>, AllocError>
     ensures { IfOk result (λ loading.
-        loading ≡ sparse_loaded (numbers_all (words_in arguments.now))) }
+        map_loading holding_of loading ≡ loaded Load.Sparse (words_in arguments.now)) }
 {
     let Some((word, places)) = split_first_word(arguments) else {
         return Ok(Loading::Malformed);
@@ -54,8 +56,8 @@ pub fn load<A: Allocator + Copy>(
     if !rise.is_below(len) {
         return Ok(Loading::Inadmissible);
     }
-    match members_of(alloc, places, rise) {
-        Ok(ones) => Ok(Loading::Accepted(SparseRSVec::from_sorted(ones, len))),
+    match members_of(*alloc, places, rise) {
+        Ok(ones) => Ok(Loading::Accepted(Held::Sparse(SparseRSVec::from_sorted(ones, len)))),
         Err(error) => Err(error),
     }
 }
@@ -93,7 +95,7 @@ pub fn reply<A: Allocator + Copy>(
         },
         Query::Iter1 => match no_arguments(arguments) {
             None => Ok(Reply::BadLine),
-            Some(()) => Ok(Reply::Numbers(members_left(alloc, bits.iter1())?)),
+            Some(()) => members_reply(alloc, bits.iter1()),
         },
         _ => Ok(Reply::WrongStructure),
     }

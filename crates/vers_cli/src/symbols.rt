@@ -4,12 +4,14 @@ ghost use Rattle.vers_bits.specs.Bits.{low_bits, pack};
 ghost use Rattle.vers_wavelet.specs.Makers.{low_symbols};
 ghost use Rattle.vers_words.specs.Text.{words_in};
 ghost use Rattle.vers_words.specs.Arguments.{all_numbers as numbers_all};
+ghost use Rattle.vers_words.specs.Loading.{map_loading};
 ghost use Rattle.vers_words.specs.Reply.{plain_reply};
-ghost use Rattle.vers_cli.specs.Holding.{is_accepted as accepts};
+ghost use Rattle.vers_cli.specs.Holding.{holding_of, loaded, is_accepted as accepts};
 ghost use Rattle.vers_cli.specs.SymbolsLines.{symbols_loaded, symbols_reply, all_reply as reply_of_all, place_reply as reply_at_place, symbol_reply as reply_of_symbol, range_reply as reply_of_range, within_reply as reply_within};
 
-use crate::name::{AllQuery, Query, RangeQuery, SymbolQuery, SymbolsQuery, WithinQuery};
-use crate::sorted::members_left;
+use crate::held::Held;
+use crate::name::{AllQuery, Load, Query, RangeQuery, SymbolQuery, SymbolsQuery, WithinQuery};
+use crate::sorted::members_reply;
 use std::alloc::{AllocError, Allocator};
 use vers_bits::bit_vec::BitVec;
 use vers_bits::laws::packed_elements_are_items;
@@ -36,12 +38,12 @@ pub fn is_accepted(arguments: &[u8]) -> bool
 }
 
 /// What the load line `symbols K n ..` gives. Its numbers are kept packed as they are read.
-pub fn load<A: Allocator + Copy>(
-    alloc: A,
+pub fn load<'a, A: Allocator + Copy>(
+    alloc: &'a A,
     arguments: &[u8],
-) -> Result<Loading<WaveletMatrix<A>>, AllocError>
+) -> Result<Loading<Held<'a, A>>, AllocError>
     ensures { IfOk result (λ loading.
-        loading ≡ symbols_loaded (numbers_all (words_in arguments.now))) }
+        map_loading holding_of loading ≡ loaded Load.Symbols (words_in arguments.now)) }
 {
     let Some((word, numbers)) = split_first_word(arguments) else {
         return Ok(Loading::Malformed);
@@ -49,14 +51,14 @@ pub fn load<A: Allocator + Copy>(
     let Some(width) = number(word) else {
         return Ok(Loading::Malformed);
     };
-    let Some(packed) = packed_numbers(alloc, numbers, kept_width(width))? else {
+    let Some(packed) = packed_numbers(*alloc, numbers, kept_width(width))? else {
         return Ok(Loading::Malformed);
     };
     if width > WIDEST {
         return Ok(Loading::Inadmissible);
     }
     match of_packed(&packed, width as u16) {
-        Ok(symbols) => Ok(Loading::Accepted(symbols)),
+        Ok(symbols) => Ok(Loading::Accepted(Held::Symbols(symbols))),
         Err(error) => Err(error),
     }
 }
@@ -180,11 +182,11 @@ fn all_reply<A: Allocator + Copy>(
     match query {
         AllQuery::IterU64 => match symbols.iter_u64() {
             None => Ok(Reply::Absent),
-            Some(items) => Ok(Reply::Numbers(members_left(alloc, items)?)),
+            Some(items) => members_reply(alloc, items),
         },
         AllQuery::IterSortedU64 => match symbols.iter_sorted_u64() {
             None => Ok(Reply::Absent),
-            Some(items) => Ok(Reply::Numbers(members_left(alloc, items)?)),
+            Some(items) => members_reply(alloc, items),
         },
     }
 }

@@ -1,17 +1,18 @@
 //! The lines of a list of parentheses.
-ghost use Rattle.std.specs.Prelude.{◌≡◌, true, IfOk};
+ghost use Rattle.std.specs.Prelude.{◌≡◌, true, IfOk, IsErr, MatchResult};
 ghost use Rattle.vers_bits.specs.Bits.{places};
 ghost use Rattle.vers_words.specs.Text.{words_in};
 ghost use Rattle.vers_words.specs.Arguments.{bits_of};
 ghost use Rattle.vers_words.specs.Loading.{map_loading};
 ghost use Rattle.vers_words.specs.Reply.{plain_reply};
-ghost use Rattle.vers_cli.specs.Holding.{is_accepted as accepts};
+ghost use Rattle.vers_cli.specs.Holding.{holding_of, loaded, is_accepted as accepts};
 ghost use Rattle.vers_cli.specs.TreeLines.{first_place, tree_loaded, tree_reply, whole_reply as reply_of_whole, excess_reply, place_reply as reply_at_place, search_reply as reply_of_search};
 
 use crate::bits::bit_vec;
 use crate::forest;
 use crate::forest::places_left;
-use crate::name::{PlaceQuery, Query, SearchQuery, TreeQuery, WholeQuery};
+use crate::held::Held;
+use crate::name::{Load, PlaceQuery, Query, SearchQuery, TreeQuery, WholeQuery};
 use std::alloc::{AllocError, Allocator};
 use vers_trees::trees::bp::{BpTree, MAX_LEN};
 use vers_words::arguments::{bit_digits, no_arguments, number_and_signed, one_number};
@@ -32,9 +33,9 @@ pub fn is_accepted(arguments: &[u8]) -> bool
 pub fn load<'a, A: Allocator + Copy>(
     alloc: &'a A,
     arguments: &[u8],
-) -> Result<Loading<Box<BpTree<512, &'a A>, &'a A>>, AllocError>
+) -> Result<Loading<Held<'a, A>>, AllocError>
     ensures { IfOk result (λ loading.
-        map_loading (λ tree. tree.value) loading ≡ tree_loaded (bits_of (words_in arguments.now))) }
+        map_loading holding_of loading ≡ loaded Load.Tree (words_in arguments.now)) }
 {
     let Some(digits) = bit_digits(arguments) else {
         return Ok(Loading::Malformed);
@@ -43,8 +44,21 @@ pub fn load<'a, A: Allocator + Copy>(
         return Ok(Loading::Inadmissible);
     }
     // The list is never too long, so an error is of memory.
-    match BpTree::from_bit_vector(bit_vec(alloc, digits)?) {
-        Ok(tree) => Ok(Loading::Accepted(Box::new(alloc, tree)?)),
+    match boxed(alloc, BpTree::from_bit_vector(bit_vec(alloc, digits)?)) {
+        Ok(tree) => Ok(Loading::Accepted(Held::Tree(tree))),
+        Err(error) => Err(error),
+    }
+}
+
+// A value that was made, in a box. It may be of any type, so that the proof doesn't go through its fields.
+fn boxed<T: Drop, E: Drop, A: Allocator>(
+    alloc: A,
+    made: Result<T, E>,
+) -> Result<Box<T, A>, AllocError>
+    ensures { MatchResult made (λ value. IfOk result (λ boxed. boxed.value ≡ value)) (λ _. IsErr result) }
+{
+    match made {
+        Ok(value) => Ok(Box::new(alloc, value)?),
         Err(_) => Err(AllocError),
     }
 }

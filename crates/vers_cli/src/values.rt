@@ -3,11 +3,13 @@ ghost use Rattle.std.specs.Prelude.{◌≡◌, IfOk};
 ghost use Rattle.vers_rmq.specs.Minima.{first_least};
 ghost use Rattle.vers_words.specs.Text.{words_in};
 ghost use Rattle.vers_words.specs.Arguments.{all_numbers as numbers_all};
+ghost use Rattle.vers_words.specs.Loading.{map_loading};
 ghost use Rattle.vers_words.specs.Reply.{plain_reply};
-ghost use Rattle.vers_cli.specs.Holding.{is_accepted as accepts};
+ghost use Rattle.vers_cli.specs.Holding.{holding_of, loaded, is_accepted as accepts};
 ghost use Rattle.vers_cli.specs.ValuesLines.{values_loaded, values_reply};
 
-use crate::name::Query;
+use crate::held::Held;
+use crate::name::{Load, Query};
 use std::alloc::{AllocError, Allocator};
 use vers_rmq::rmq::fast_rmq::{FastRmq, MAX_LEN};
 use vers_words::arguments::{all_numbers, count_numbers, no_arguments, two_numbers};
@@ -25,21 +27,21 @@ pub fn is_accepted(arguments: &[u8]) -> bool
 }
 
 /// What the load line `values n ..` gives.
-pub fn load<A: Allocator + Copy>(
-    alloc: A,
+pub fn load<'a, A: Allocator + Copy>(
+    alloc: &'a A,
     arguments: &[u8],
-) -> Result<Loading<FastRmq<A>>, AllocError>
+) -> Result<Loading<Held<'a, A>>, AllocError>
     ensures { IfOk result (λ loading.
-        loading ≡ values_loaded (numbers_all (words_in arguments.now))) }
+        map_loading holding_of loading ≡ loaded Load.Values (words_in arguments.now)) }
 {
-    let Some(numbers) = all_numbers(alloc, arguments)? else {
+    let Some(numbers) = all_numbers(*alloc, arguments)? else {
         return Ok(Loading::Malformed);
     };
     if numbers.len() > MAX_LEN {
         return Ok(Loading::Inadmissible);
     }
     match FastRmq::from_vec(numbers) {
-        Ok(values) => Ok(Loading::Accepted(values)),
+        Ok(values) => Ok(Loading::Accepted(Held::Values(values))),
         Err(error) => Err(error),
     }
 }
