@@ -14,6 +14,15 @@ abbrev pub bits_loaded : Option (List Bool) → Loading (List Bool)
 bits_loaded None = Malformed
 bits_loaded (Some bits) = if nat_le (length bits) MAX_LEN then Accepted bits else Inadmissible
 
+-- what a query with one number finds
+abbrev pub bits_found : List Bool → Query → ℕ → Option ℕ
+bits_found bits Get place = option_map bit_value (slice_get bits place)
+bits_found bits Rank0 place = Some (count false bits place)
+bits_found bits Rank1 place = Some (count true bits place)
+bits_found bits Select0 r = Some (select false bits r)
+bits_found bits Select1 r = Some (select true bits r)
+bits_found bits _ n = None
+
 -- the query lines, where these bits are held
 abbrev pub bits_reply : List Bool → Query → List (List ℕ) → PlainReply
 bits_reply bits Len arguments = if_well_formed (no_arguments arguments) (λ _. Number (length bits))

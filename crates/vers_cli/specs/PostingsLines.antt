@@ -53,6 +53,13 @@ postings_loaded numbers = posted_loaded (option_and_then posted_of numbers)
 abbrev pub shared_reply : List ℕ → List ℕ → PlainReply
 shared_reply documents others = if are_admitted others then Numbers (common documents others) else Refused
 
+-- what a query of one document finds
+abbrev pub postings_found : Posted → Query → ℕ → Option ℕ
+postings_found posted Contains d = Some (bit_value (is_among posted.documents d))
+postings_found posted Rank d = Some (below posted.documents d)
+postings_found posted Next d = least_not_below posted.documents d
+postings_found posted _ d = None
+
 -- the query lines, where these documents and costs are held
 abbrev pub postings_reply : Posted → Query → List (List ℕ) → PlainReply
 postings_reply posted Len arguments = if_well_formed (no_arguments arguments) (λ _. Number (length posted.documents))

@@ -17,6 +17,14 @@ sparse_loaded None = Malformed
 sparse_loaded (Some []) = Malformed
 sparse_loaded (Some (len ∷ ones)) = if each_next nat_lt ones && list_all (λ place. nat_lt place len) ones then Accepted (ones_at ones len) else Inadmissible
 
+-- what a query with one number finds
+abbrev pub sparse_found : List Bool → Query → ℕ → Option ℕ
+sparse_found bits Get place = option_map bit_value (slice_get bits place)
+sparse_found bits Rank0 place = Some (count false bits place)
+sparse_found bits Rank1 place = Some (count true bits place)
+sparse_found bits Select1 r = Some (select true bits r)
+sparse_found bits _ n = None
+
 -- the query lines, where these bits are held
 abbrev pub sparse_reply : List Bool → Query → List (List ℕ) → PlainReply
 sparse_reply bits Len arguments = if_well_formed (no_arguments arguments) (λ _. Number (length bits))

@@ -6,7 +6,7 @@ ghost use Rattle.vers_words.specs.Arguments.{is_bit_digit, bits_of, bits_of_digi
 ghost use Rattle.vers_words.specs.Loading.{map_loading};
 ghost use Rattle.vers_words.specs.Reply.{plain_reply};
 ghost use Rattle.vers_cli.specs.Holding.{holding_of, loaded, is_accepted as accepts};
-ghost use Rattle.vers_cli.specs.BitsLines.{bits_loaded, bits_reply};
+ghost use Rattle.vers_cli.specs.BitsLines.{bits_found, bits_loaded, bits_reply};
 
 use crate::held::Held;
 use crate::name::{Load, Query};
@@ -66,26 +66,26 @@ pub fn reply<A: Allocator + Copy>(bits: &RsVec<A>, query: Query, arguments: &[u8
             None => Reply::BadLine,
             Some(()) => Reply::Number(bits.len() as u64),
         },
-        Query::Get => match one_number(arguments) {
-            None => Reply::BadLine,
-            Some(place) => Reply::number_or_absent(bits.get(place as usize)),
-        },
-        Query::Rank0 => match one_number(arguments) {
-            None => Reply::BadLine,
-            Some(place) => Reply::Number(bits.rank0(place as usize) as u64),
-        },
-        Query::Rank1 => match one_number(arguments) {
-            None => Reply::BadLine,
-            Some(place) => Reply::Number(bits.rank1(place as usize) as u64),
-        },
-        Query::Select0 => match one_number(arguments) {
-            None => Reply::BadLine,
-            Some(r) => Reply::Number(bits.select0(r as usize) as u64),
-        },
-        Query::Select1 => match one_number(arguments) {
-            None => Reply::BadLine,
-            Some(r) => Reply::Number(bits.select1(r as usize) as u64),
-        },
+        Query::Get | Query::Rank0 | Query::Rank1 | Query::Select0 | Query::Select1 => {
+            match one_number(arguments) {
+                None => Reply::BadLine,
+                Some(n) => Reply::number_or_absent(found(bits, query, n as usize)),
+            }
+        }
         _ => Reply::WrongStructure,
+    }
+}
+
+// What a query with one number finds. None where these have no such query.
+fn found<A: Allocator + Copy>(bits: &RsVec<A>, query: Query, n: usize) -> Option<u64>
+    ensures { result ≡ bits_found bits.now query n }
+{
+    match query {
+        Query::Get => bits.get(n),
+        Query::Rank0 => Some(bits.rank0(n) as u64),
+        Query::Rank1 => Some(bits.rank1(n) as u64),
+        Query::Select0 => Some(bits.select0(n) as u64),
+        Query::Select1 => Some(bits.select1(n) as u64),
+        _ => None,
     }
 }

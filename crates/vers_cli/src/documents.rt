@@ -7,7 +7,7 @@ ghost use Rattle.vers_words.specs.Loading.{map_loading};
 ghost use Rattle.vers_words.specs.Reply.{plain_reply, Numbers, Refused};
 ghost use Rattle.postings.specs.Posted.{common};
 ghost use Rattle.vers_cli.specs.Holding.{holding_of, loaded, is_accepted as accepts};
-ghost use Rattle.vers_cli.specs.PostingsLines.{posted_first, posted_of, if_admitted, postings_loaded, postings_reply, rising_count, shared_reply};
+ghost use Rattle.vers_cli.specs.PostingsLines.{posted_first, posted_of, if_admitted, postings_found, postings_loaded, postings_reply, rising_count, shared_reply};
 
 use crate::held::Held;
 use crate::name::{Load, Query};
@@ -63,17 +63,9 @@ pub fn reply<A: Allocator + Copy>(
             None => Ok(Reply::BadLine),
             Some(()) => Ok(Reply::Number(postings.len() as u64)),
         },
-        Query::Contains => match one_number(arguments) {
+        Query::Contains | Query::Rank | Query::Next => match one_number(arguments) {
             None => Ok(Reply::BadLine),
-            Some(document) => Ok(Reply::Number(u64::from(postings.contains(document)))),
-        },
-        Query::Rank => match one_number(arguments) {
-            None => Ok(Reply::BadLine),
-            Some(document) => Ok(Reply::Number(postings.rank(document))),
-        },
-        Query::Next => match one_number(arguments) {
-            None => Ok(Reply::BadLine),
-            Some(document) => Ok(Reply::number_or_absent(postings.next_at_least(document))),
+            Some(document) => Ok(Reply::number_or_absent(found(postings, query, document))),
         },
         Query::Cheapest => match two_numbers(arguments) {
             None => Ok(Reply::BadLine),
@@ -85,6 +77,18 @@ pub fn reply<A: Allocator + Copy>(
             Err(error) => Err(error),
         },
         _ => Ok(Reply::WrongStructure),
+    }
+}
+
+// What a query of one document finds. None where these have no such query.
+fn found<A: Allocator + Copy>(postings: &Postings<A>, query: Query, document: u64) -> Option<u64>
+    ensures { result ≡ postings_found postings.now query document }
+{
+    match query {
+        Query::Contains => Some(u64::from(postings.contains(document))),
+        Query::Rank => Some(postings.rank(document)),
+        Query::Next => postings.next_at_least(document),
+        _ => None,
     }
 }
 

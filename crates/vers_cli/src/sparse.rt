@@ -5,7 +5,7 @@ ghost use Rattle.vers_words.specs.Arguments.{all_numbers as numbers_all};
 ghost use Rattle.vers_words.specs.Loading.{map_loading};
 ghost use Rattle.vers_words.specs.Reply.{plain_reply};
 ghost use Rattle.vers_cli.specs.Holding.{holding_of, loaded, is_accepted as accepts};
-ghost use Rattle.vers_cli.specs.SparseLines.{sparse_loaded, sparse_reply};
+ghost use Rattle.vers_cli.specs.SparseLines.{sparse_found, sparse_loaded, sparse_reply};
 
 use crate::held::Held;
 use crate::name::{Load, Query};
@@ -77,26 +77,27 @@ pub fn reply<A: Allocator + Copy>(
             None => Ok(Reply::BadLine),
             Some(()) => Ok(Reply::Number(bits.len())),
         },
-        Query::Get => match one_number(arguments) {
+        Query::Get | Query::Rank0 | Query::Rank1 | Query::Select1 => match one_number(arguments) {
             None => Ok(Reply::BadLine),
-            Some(place) => Ok(Reply::number_or_absent(bits.get(place))),
-        },
-        Query::Rank0 => match one_number(arguments) {
-            None => Ok(Reply::BadLine),
-            Some(place) => Ok(Reply::Number(bits.rank0(place))),
-        },
-        Query::Rank1 => match one_number(arguments) {
-            None => Ok(Reply::BadLine),
-            Some(place) => Ok(Reply::Number(bits.rank1(place))),
-        },
-        Query::Select1 => match one_number(arguments) {
-            None => Ok(Reply::BadLine),
-            Some(r) => Ok(Reply::Number(bits.select1(r as usize))),
+            Some(n) => Ok(Reply::number_or_absent(found(bits, query, n))),
         },
         Query::Iter1 => match no_arguments(arguments) {
             None => Ok(Reply::BadLine),
             Some(()) => members_reply(alloc, bits.iter1()),
         },
         _ => Ok(Reply::WrongStructure),
+    }
+}
+
+// What a query with one number finds. None where these have no such query.
+fn found<A: Allocator + Copy>(bits: &SparseRSVec<A>, query: Query, n: u64) -> Option<u64>
+    ensures { result ≡ sparse_found bits.now query n }
+{
+    match query {
+        Query::Get => bits.get(n),
+        Query::Rank0 => Some(bits.rank0(n)),
+        Query::Rank1 => Some(bits.rank1(n)),
+        Query::Select1 => Some(bits.select1(n as usize)),
+        _ => None,
     }
 }

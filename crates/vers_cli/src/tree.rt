@@ -4,7 +4,7 @@ ghost use Rattle.vers_bits.specs.Bits.{places};
 ghost use Rattle.vers_words.specs.Text.{words_in};
 ghost use Rattle.vers_words.specs.Arguments.{bits_of};
 ghost use Rattle.vers_words.specs.Loading.{map_loading};
-ghost use Rattle.vers_words.specs.Reply.{plain_reply};
+ghost use Rattle.vers_words.specs.Reply.{plain_reply, Numbers};
 ghost use Rattle.vers_cli.specs.Holding.{holding_of, loaded, is_accepted as accepts};
 ghost use Rattle.vers_cli.specs.TreeLines.{first_place, tree_loaded, tree_reply, whole_reply as reply_of_whole, excess_reply, place_reply as reply_at_place, search_reply as reply_of_search};
 
@@ -103,7 +103,7 @@ fn whole_reply<A: Allocator + Copy>(
         WholeQuery::Size => Ok(Reply::Number(tree.size() as u64)),
         WholeQuery::Root => Ok(Reply::place_or_absent(root(tree))),
         WholeQuery::IsBalanced => Ok(Reply::Number(u64::from(tree.is_balanced()))),
-        WholeQuery::DfsIter => Ok(Reply::Numbers(nodes(alloc, tree)?)),
+        WholeQuery::DfsIter => nodes_reply(alloc, tree),
     }
 }
 
@@ -114,11 +114,14 @@ fn root<A: Allocator + Copy>(tree: &BpTree<512, &A>) -> Option<usize>
     tree.root()
 }
 
-// The places of the ones.
-fn nodes<A: Allocator + Copy>(alloc: A, tree: &BpTree<512, &A>) -> Result<Vec<u64, A>, AllocError>
-    ensures { IfOk result (λ numbers. numbers.items ≡ places true tree.now) }
+// The reply of the places of the ones.
+fn nodes_reply<A: Allocator + Copy>(
+    alloc: A,
+    tree: &BpTree<512, &A>,
+) -> Result<Reply<A>, AllocError>
+    ensures { IfOk result (λ reply. plain_reply reply ≡ Numbers (places true tree.now)) }
 {
-    places_left(alloc, tree.dfs_iter())
+    Ok(Reply::Numbers(places_left(alloc, tree.dfs_iter())?))
 }
 
 // The reply of a query of a place.

@@ -1,7 +1,0 @@
-use Rattle.std.proofs.Common.{refl}
-use Rattle.vers_cli.proofs.Gathers.{items_gathered}
-use Rattle.vers_cli.proofs.tree.nodes.Goals as goal
-
-pub returns : goal.returns
-returns g c =
-    items_gathered c.dfs_iter.result (λ walk. walk.left) (λ numbers. numbers.items) c.places_left.result _ c.places_left.ensures c.dfs_iter.ensures refl
