@@ -1,4 +1,4 @@
 pub mod OfLines
 pub mod Numbered
-pub mod TreeFiles
+pub mod Boxes
 pub mod Fronts

@@ -1,5 +1,5 @@
 //! What a file holds, as what the line program holds.
-ghost use Rattle.std.specs.Prelude.{◌≡◌, List, ℕ, ◌⊎◌, IfOk, IfErr, IfSome, Some, None};
+ghost use Rattle.std.specs.Prelude.{◌≡◌, List, ℕ, ◌⊎◌, Err, IfOk, IfErr, IfSome, MatchResult, Some, None};
 ghost use Rattle.vers_saved.specs.Format.{bytes_word};
 ghost use Rattle.vers_saved.specs.Faults.{fault_of};
 ghost use Rattle.vers_saved.specs.Kinds.{tree_kind};
@@ -45,17 +45,19 @@ macro_rules! stored {
     };
 }
 
-// The same of a tree, for which memory is taken.
-macro_rules! stored_tree {
-    ($alloc:expr, $loaded:expr) => {
-        match $loaded {
-            Ok(tree) => match Box::new($alloc, tree) {
-                Ok(tree) => Ok(Store::of($alloc, Held::Tree(tree))),
-                Err(_) => Err(LoadError::Memory),
-            },
-            Err(fault) => Err(fault),
-        }
-    };
+// What was loaded, in a box. It may be of any type, so that the proof doesn't go through its fields.
+fn boxed<T: Drop, A: Allocator>(
+    alloc: A,
+    loaded: Result<T, LoadError>,
+) -> Result<Box<T, A>, LoadError>
+    ensures { MatchResult loaded
+        (λ value. MatchResult result (λ boxed. boxed.value ≡ value) (λ e. e ≡ LoadError.Memory))
+        (λ fault. result ≡ Err fault) }
+{
+    match Box::new(alloc, loaded?) {
+        Ok(boxed) => Ok(boxed),
+        Err(_) => Err(LoadError::Memory),
+    }
 }
 
 // What the load of a list of the kind with a number gives: of a tree one load, and of all others another.
@@ -82,7 +84,11 @@ fn tree_of_slice<'a, A: Allocator + Copy>(
     ensures refused { IfErr result (λ e. (fault_of (tree_kind 512) bytes.now ≡ Some e)
         ⊎ ((e ≡ LoadError.Memory) × (fault_of (tree_kind 512) bytes.now ≡ None))) }
 {
-    stored_tree!(alloc, load_tree_from_slice(alloc, bytes))
+    stored!(
+        alloc,
+        boxed(alloc, load_tree_from_slice(alloc, bytes)),
+        Held::Tree
+    )
 }
 
 // A store that holds the tree that all bytes of a reader are the saved form of.
@@ -93,7 +99,7 @@ fn tree_of_reader<'a, A: Allocator + Copy, R: Source>(
     ensures loaded { IfOk result (λ held. IsFormOf (R.remaining reader.old) held) }
     ensures refused { IfErr result (IsRefused (tree_kind 512) (R.remaining reader.old)) }
 {
-    stored_tree!(alloc, load_tree(alloc, reader))
+    stored!(alloc, boxed(alloc, load_tree(alloc, reader)), Held::Tree)
 }
 
 /// A store that holds the list that the bytes are the saved form of. A fault is that of the bytes as a form of the

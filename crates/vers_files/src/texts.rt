@@ -1,11 +1,12 @@
 //! Lines about the text of a file, which is saved as a list of symbols.
-ghost use Rattle.std.specs.Prelude.{◌≡◌, ◌<◌, ◌≤◌, ◌↔◌, ◌⊎◌, IsTrue, length, Some, false, IfOk, IfErr, OnErr};
+ghost use Rattle.std.specs.Prelude.{◌≡◌, ◌<◌, ◌≤◌, ◌↔◌, ◌⊎◌, IsTrue, ℕ, List, length, Option, Some, false, IfOk, IfErr, OnErr};
 ghost use Rattle.vers_engine.specs.Device.{FollowsReadFault, FollowsWriteFault};
 ghost use Rattle.vers_wavelet.specs.Symbols.{Symbols};
 ghost use Rattle.text_index.specs.Makers.{IsSymbolWidth};
-ghost use Rattle.vers_cli.specs.Holding.{holding_of, SymbolsHeld};
+ghost use Rattle.vers_cli.specs.Holding.{Holding, SymbolsHeld};
 ghost use Rattle.vers_texts.specs.Answers.{by_the_rules};
 ghost use Rattle.vers_files.specs.Asked.{AnswersFrom};
+ghost use Rattle.vers_files.specs.Forms.{IsFormOf, IsNoForm};
 ghost use Rattle.vers_files.specs.TextFiles.{AreSymbolsOf, HasNoSymbols, IsNoText, text_fault_text};
 
 use crate::loading::{fault_line, load_file};
@@ -107,36 +108,59 @@ fn load_symbols<A: Allocator + Copy, F: Read>(
     ensures width { IfOk result (λ symbols. IsSymbolWidth symbols.width) }
     ensures refused { IfErr result (λ e. IsNoText (F.remaining file.old) e) }
 {
-    match load_file(&alloc, file) {
-        Ok(store) => symbols_held(alloc, store.held()),
+    symbols_of(alloc, load_file(&alloc, file))
+}
+
+// The symbols of what was loaded, which is let go. It may be of any type, so that the proof doesn't go through its
+// fields.
+fn symbols_of<A: Allocator + Copy, O: Owner<A>>(
+    alloc: A,
+    loaded: Result<O, LoadError>,
+) -> Result<PlainSymbols<A>, TextFault>
+    ensures loaded { (left : Option (List ℕ)) → IfOk loaded (λ owner. IsFormOf left (O.holding owner))
+        → IfOk result (λ symbols. AreSymbolsOf left
+        (record { width = symbols.width; items = symbols.items.items })) }
+    ensures width { IfOk result (λ symbols. IsSymbolWidth symbols.width) }
+    ensures refused { (left : Option (List ℕ)) → IfOk loaded (λ owner. IsFormOf left (O.holding owner))
+        → IfErr loaded (IsNoForm left) → IfErr result (IsNoText left) }
+{
+    match loaded {
+        Ok(owner) => owner.symbols(alloc),
         Err(fault) => Err(TextFault::File(fault)),
     }
 }
 
-// The symbols of what is held.
-fn symbols_held<A: Allocator + Copy>(
-    alloc: A,
-    held: &Held<'_, A>,
-) -> Result<PlainSymbols<A>, TextFault>
-    ensures held { IfOk result (λ symbols. holding_of held.now
-        ≡ SymbolsHeld (record { width = symbols.width; items = symbols.items.items })) }
-    ensures width { IfOk result (λ symbols. IsSymbolWidth symbols.width) }
-    ensures refused { IfErr result (λ e. (e ≡ TextFault.Memory)
-        ⊎ ((e ≡ TextFault.NoSymbols) × HasNoSymbols (holding_of held.now))
-        ⊎ ((e ≡ TextFault.OtherWidth) × ((symbols : Symbols) × (holding_of held.now ≡ SymbolsHeld symbols)
-        × (IsSymbolWidth symbols.width → ⊥)))) }
-{
-    let Held::Symbols(symbols) = held else {
-        return Err(TextFault::NoSymbols);
-    };
-    let width = symbols.bit_len();
-    if width == 0 || width > 16 {
-        return Err(TextFault::OtherWidth);
+// What owns a list.
+trait Owner<A: Allocator + Copy>: Drop {
+    ghost holding: { Self → Holding };
+
+    // The symbols of what is held.
+    fn symbols(&self, alloc: A) -> Result<PlainSymbols<A>, TextFault>
+        ensures held { IfOk result (λ symbols. holding self.now
+            ≡ SymbolsHeld (record { width = symbols.width; items = symbols.items.items })) }
+        ensures width { IfOk result (λ symbols. IsSymbolWidth symbols.width) }
+        ensures refused { IfErr result (λ e. (e ≡ TextFault.Memory)
+            ⊎ ((e ≡ TextFault.NoSymbols) × HasNoSymbols (holding self.now))
+            ⊎ ((e ≡ TextFault.OtherWidth) × ((symbols : Symbols) × (holding self.now ≡ SymbolsHeld symbols)
+            × (IsSymbolWidth symbols.width → ⊥)))) };
+}
+
+impl<A: Allocator + Copy> Owner<A> for vers_cli::Store<'_, A> {
+    ghost holding = { λ store. store };
+
+    fn symbols(&self, alloc: A) -> Result<PlainSymbols<A>, TextFault> {
+        let Held::Symbols(symbols) = self.held() else {
+            return Err(TextFault::NoSymbols);
+        };
+        let width = symbols.bit_len();
+        if width == 0 || width > 16 {
+            return Err(TextFault::OtherWidth);
+        }
+        Ok(PlainSymbols {
+            width,
+            items: items_of(alloc, symbols)?,
+        })
     }
-    Ok(PlainSymbols {
-        width,
-        items: items_of(alloc, symbols)?,
-    })
 }
 
 // The items of a list of symbols of at most 64 bits.
