@@ -1,5 +1,5 @@
 -- Steps of iterators from both ends, for items of every type.
-use Rattle.vers_bits.proofs.Names.{◌≡◌, ℕ, ◌+◌, ◌-◌, ◌<◌, ◌≤◌, List, [], ◌∷◌, ◌++◌, Bool, false, map, Option, Some, None, length, get_or, min, take, drop, reverse, refl, sym, ◌∙◌, ap, arith, inl, inr, last_or, YieldsFirst, YieldsLast, MakesProgress, item_count, length-map, length-take, length-drop, get_or-take, get_or-drop, get_or-reverse, length-reverse, drop-drop, drop-take, drop_all, take_all, take_more, take_at, take-take, take-append-drop, length_push, reverse-append, reverse-reverse, append-nil, cases_lt, slice_get-map, slice_get_past, slice_get_cases, slice_get-get_or, get_or_from_slice_get, slice_get_within, bit_value, limb, limbs, ints}
+use Rattle.vers_bits.proofs.Names.{◌≡◌, ℕ, ◌+◌, ◌-◌, ◌<◌, ◌≤◌, List, [], ◌∷◌, ◌++◌, Bool, false, map, Option, Some, None, length, get_or, min, take, drop, reverse, refl, sym, ◌∙◌, ap, arith, inl, inr, last_or, YieldsFirst, YieldsLast, MakesProgress, item_count, length-map, length-take, length-drop, get_or-take, get_or-drop, get_or-reverse, length-reverse, drop-drop, drop-take, drop_all, take_all, take_more, take_at, take-take, take-append-drop, length_push, reverse-append, reverse-reverse, append-nil, cases_lt, slice_get-map, slice_get_past, slice_get_cases, slice_get-get_or, get_or_from_slice_get, slice_get_within, bit_value, limb, limbs}
 use Rattle.std.proofs.Common.{option_map, slice_get, append_assoc}
 use Rattle.std.specs.Option.{option_to_list}
 use Rattle.std.proofs.lemmas.Slice.{between_from_start}
@@ -81,7 +81,7 @@ module _ {X : Type 0} where
       ∙ ap (λ k. get_or xs k x) place ∙ get_or_from_slice_get xs p x x is in
       rw (← view) (record {
         given = sym (slice_get-get_or (reverse (items_in xs s)) n x (omega (arith, length-reverse (items_in xs s))) ∙ ap Some at);
-        left = sym (ap (λ k. take k (items_in xs s)) kept ∙ (grind (arith, ints, take-take)));
+        left = sym (ap (λ k. take k (items_in xs s)) kept ∙ (grind (arith, take-take)));
       })
 
   -- ---- what the traits ask of `next` and `next_back`
@@ -103,7 +103,7 @@ module _ {X : Type 0} where
       let long : 0 < length xs = omega (arith, length-reverse xs) in
       let same : length xs - 1 - 0 ≡ length xs - 1 = omega arith in
       let at : get_or xs (length xs - 1) x ≡ x = ap (λ k. get_or xs k x) (sym same) ∙ sym (get_or-reverse xs 0 x long) ∙ get_or_from_slice_get (reverse xs) 0 x x (sym h) in
-      (grind (arith, ints, take_all, take_more)) ∙ ap (λ y. take (length xs - 1) xs ++ y ∷ []) at
+      (grind (arith, take_all, take_more)) ∙ ap (λ y. take (length xs - 1) xs ++ y ∷ []) at
 
   pub yields_last : (old : List X) (r : Option X) (new : List X) → TakesLast old r new → YieldsLast (λ (s : List X). s) old r new
   yields_last old None new h =

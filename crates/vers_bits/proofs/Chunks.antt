@@ -1,5 +1,5 @@
 -- Sums over the chunks of a list, and lists whose chunks are the same.
-use Rattle.vers_bits.proofs.Names.{◌≡◌, ℕ, zero, suc, map, ◌+◌, ◌*◌, ◌≤◌, Bool, true, false, List, [], ◌++◌, take, drop, length, get_or, eqb, refl, sym, ap, ◌∙◌, arith, Fits, w64, sum_by, count_ones, range_with_len, first_chunks, Decides, drop-drop, take-append-drop, sum_by-map-range_with_len_more, sum_by-cons, sum_by-take-drop, sum_by-le, ones-le, count, limb, limb_count, ints}
+use Rattle.vers_bits.proofs.Names.{◌≡◌, ℕ, zero, suc, map, ◌+◌, ◌*◌, ◌≤◌, Bool, true, false, List, [], ◌++◌, take, drop, length, get_or, eqb, refl, sym, ap, ◌∙◌, arith, Fits, w64, sum_by, count_ones, range_with_len, first_chunks, Decides, drop-drop, take-append-drop, sum_by-map-range_with_len_more, sum_by-cons, sum_by-take-drop, sum_by-le, ones-le, count, limb, limb_count}
 use Rattle.std.specs.Cmp.Lexicographic.{pointwise}
 use Rattle.std.proofs.lemmas.List.Elements.{All-from_get_or}
 use Rattle.std.proofs.lemmas.Slice.Eq.{bytes_eq-Decides}
@@ -9,7 +9,7 @@ use Rattle.vers_bits.proofs.Equal.{length-limbs}
 
 -- what the chunks hold, and what stands behind them, is the whole
 pub chunks-sum : (f : ℕ → ℕ) (n k : ℕ) (xs : List ℕ) → sum_by (sum_by f) (first_chunks n k xs) + sum_by f (drop (k * n) xs) ≡ sum_by f xs
-chunks-sum f n zero xs = grind (arith, ints)
+chunks-sum f n zero xs = grind arith
 chunks-sum f n (suc k) xs =
     let rest = ap (sum_by f) (drop-drop (k * n) n xs) in
     let ih = chunks-sum f n k (drop n xs) in
@@ -25,7 +25,7 @@ ones-bound xs fits = sum_by-le count_ones 64 xs (All-from_get_or (λ x. count_on
 
 -- lists with the same chunks and the same rest are the same
 pub same_chunks : (n k : ℕ) (xs ys : List ℕ) → first_chunks n k xs ≡ first_chunks n k ys → drop (k * n) xs ≡ drop (k * n) ys → xs ≡ ys
-same_chunks n zero xs ys h rest = grind (arith, ints)
+same_chunks n zero xs ys h rest = grind arith
 same_chunks n (suc k) xs ys h rest =
     let more : n + k * n ≡ suc k * n = omega arith in
     let behind : drop (k * n) (drop n xs) ≡ drop (k * n) (drop n ys) =

@@ -1,5 +1,5 @@
 -- How many of the first places hold a bit.
-use Rattle.vers_bits.proofs.Names.{◌≡◌, ℕ, ◌+◌, ◌-◌, ◌*◌, ◌%◌, ◌^◌, ◌≤◌, min, Bool, true, false, cond, List, [], ◌∷◌, length, take, drop, refl, sym, ap, ◌∙◌, arith, inl, inr, count_by, count_ones, length-take, take_all, take-take, sum_by-cons, sum_by-append, count_by-le-length, take-add, cases_lt, number, is_bit, ints, rules}
+use Rattle.vers_bits.proofs.Names.{◌≡◌, ℕ, ◌+◌, ◌-◌, ◌*◌, ◌%◌, ◌^◌, ◌≤◌, min, Bool, true, false, cond, List, [], ◌∷◌, length, take, drop, refl, sym, ap, ◌∙◌, arith, inl, inr, count_by, count_ones, length-take, take_all, take-take, sum_by-cons, sum_by-append, count_by-le-length, take-add, cases_lt, number, is_bit, rules}
 use Rattle.vers_bits.specs.Bits.{count, limb}
 use Rattle.vers_bits.proofs.Num.{number-take, ones-number}
 
@@ -17,7 +17,7 @@ count_to b l i j h = ap (count b l) (let e : j ≡ i + (j - i) = omega arith in 
 
 pub count_le : (b : Bool) (l : List Bool) (i : ℕ) → (count b l i ≤ i) × (count b l i ≤ length l)
 unfolding count
-count_le b l i = grind (arith, ints, count_by-le-length, length-take)
+count_le b l i = grind (arith, count_by-le-length, length-take)
 
 pub count_up : (b : Bool) (l : List Bool) (i j : ℕ) → i ≤ j → count b l i ≤ count b l j
 count_up b l i j h = omega (arith, count_to b l i j h)

@@ -1,5 +1,5 @@
 -- Counts and numbers of parts of a list, by its limbs.
-use Rattle.vers_bits.proofs.Names.{◌≡◌, ℕ, ◌+◌, ◌-◌, ◌*◌, ◌/◌, ◌%◌, ◌^◌, ◌<◌, ◌≤◌, Bool, List, [], ◌∷◌, ◌++◌, length, take, drop, sym, ap, ◌∙◌, inl, inr, arith, Some, None, bit_and, bit_or, cases_lt, div-mul-add, mod-mul-add, mod-pow-add, mod_below, mul-mod_first, or_comm, or_shifted, pow_pos, pow-add, shl_whole, mod-eq_of_lt, mul-add-mod_self_right, mul-div_cancel, mul-mod_left, mul_assoc, mul_comm, pow-suc, take-add, length-take, length-drop, take-take, drop-drop, drop-take, number, ints}
+use Rattle.vers_bits.proofs.Names.{◌≡◌, ℕ, ◌+◌, ◌-◌, ◌*◌, ◌/◌, ◌%◌, ◌^◌, ◌<◌, ◌≤◌, Bool, List, [], ◌∷◌, ◌++◌, length, take, drop, sym, ap, ◌∙◌, inl, inr, arith, Some, None, bit_and, bit_or, cases_lt, div-mul-add, mod-mul-add, mod-pow-add, mod_below, mul-mod_first, or_comm, or_shifted, pow_pos, pow-add, shl_whole, mod-eq_of_lt, mul-add-mod_self_right, mul-div_cancel, mul-mod_left, mul_assoc, mul_comm, pow-suc, take-add, length-take, length-drop, take-take, drop-drop, drop-take, number}
 use Rattle.std.specs.Int.Bits.{or_shifted_r}
 use Rattle.std.proofs.lemmas.Bool.Decides.{nat_tests}
 use Rattle.std.proofs.Math.Pow.{mod-mod-pow, shr_lt}
@@ -39,23 +39,23 @@ parts_add : (l : List Bool) (p m n : ℕ) → m ≤ n → p + n ≤ length l
     → number (take n (drop p l)) ≡ number (take m (drop p l)) + 2 ^ m * number (take (n - m) (drop (p + m) l))
 parts_add l p m n h within =
     let whole : n ≡ m + (n - m) = omega arith in
-    let long : length (take m (drop p l)) ≡ m = grind (arith, ints, length-take, length-drop) in
-    grind (arith, ints, take-add, number-append, drop-drop)
+    let long : length (take m (drop p l)) ≡ m = grind (arith, length-take, length-drop) in
+    grind (arith, take-add, number-append, drop-drop)
 
 pub parts_join : (l : List Bool) (p m n : ℕ) → m ≤ n → n ≤ 64 → p + n ≤ length l
     → number (take n (drop p l)) ≡ bit_or (number (take m (drop p l))) (number (take (n - m) (drop (p + m) l)) * 2 ^ m % 18446744073709551616)
 parts_join l p m n h few within =
     let high : ℕ = number (take (n - m) (drop (p + m) l)) in
     let fits : high * 2 ^ m % 2 ^ 64 ≡ high * 2 ^ m = shl_whole high (n - m) m 64 (number_part_lt l (p + m) (n - m)) (omega arith) in
-    grind (arith, ints, parts_add, or_comm, or_shifted, number_part_lt, mul_comm)
+    grind (arith, parts_add, or_comm, or_shifted, number_part_lt, mul_comm)
 
 -- the low digits of two joined numbers, where they lie in the lower one, and where they reach into the other
 joined_low : (c a m n : ℕ) → n ≤ m → (c * 2 ^ m + a) % 2 ^ n ≡ a % 2 ^ n
 joined_low c a m n h =
     let wide : m ≡ (m - n) + n = omega arith in
     let split : c * 2 ^ m ≡ c * 2 ^ (m - n) * 2 ^ n =
-    ap (λ k. c * 2 ^ k) wide ∙ ap (λ x. c * x) (pow-add 2 (m - n) n) ∙ sym (grind (arith, ints, mul_assoc)) in
-    grind (arith, ints, mul-add-mod_self_right)
+    ap (λ k. c * 2 ^ k) wide ∙ ap (λ x. c * x) (pow-add 2 (m - n) n) ∙ sym (grind (arith, mul_assoc)) in
+    grind (arith, mul-add-mod_self_right)
 
 -- two limbs, the second shifted up to where the first ends
 two_limbs : (x y s : ℕ) → s < 64 → x < 2 ^ 64
@@ -66,7 +66,7 @@ two_limbs x y s small fits =
     let twice : 2 ^ 1 * 2 ^ (63 - s) ≡ 2 ^ (64 - s) = sym (pow-add 2 1 (63 - s)) ∙ ap (λ j. 2 ^ j) rest in
     let shifted : y * 2 ^ 1 % 2 ^ 64 * 2 ^ (63 - s) % 2 ^ 64 ≡ (y % 2 ^ s) * 2 ^ (64 - s) =
     mul-mod_first (y * 2 ^ 1) (2 ^ (63 - s)) (2 ^ 64) ∙ ap (λ x. x % 2 ^ 64) (mul_assoc y (2 ^ 1) (2 ^ (63 - s)) ∙ ap (λ x. y * x) twice)
-    ∙ ap (λ j. y * 2 ^ (64 - s) % 2 ^ j) all ∙ (grind (arith, ints, mod-pow-add, mul-div_cancel, pow_pos, mul-mod_left)) in
+    ∙ ap (λ j. y * 2 ^ (64 - s) % 2 ^ j) all ∙ (grind (arith, mod-pow-add, mul-div_cancel, pow_pos, mul-mod_left)) in
     let wide : 64 ≡ (64 - s) + s = omega arith in
     let fit : x < 2 ^ ((64 - s) + s) = rw (sym wide) fits in
     let short : x / 2 ^ s < 2 ^ (64 - s) = shr_lt (64 - s) s fit in
@@ -98,7 +98,7 @@ part_over_limbs l p n k s start small few over within =
     let sum : n ≡ j + m = omega arith in
     let cut : next % 2 ^ s % 2 ^ j ≡ next % 2 ^ j = ap (λ q. next % 2 ^ q % 2 ^ j) split ∙ mod-mod-pow next (s - j) j in
     let both : ((next % 2 ^ s) * 2 ^ m + first) % 2 ^ n ≡ (next % 2 ^ j) * 2 ^ m + first =
-    ap (λ q. ((next % 2 ^ s) * 2 ^ m + first) % 2 ^ q) sum ∙ (grind (arith, ints, mod-pow-add, div-mul-add, mod-mul-add)) ∙ ap (λ x. x * 2 ^ m + first) cut in
+    ap (λ q. ((next % 2 ^ s) * 2 ^ m + first) % 2 ^ q) sum ∙ (grind (arith, mod-pow-add, div-mul-add, mod-mul-add)) ∙ ap (λ x. x * 2 ^ m + first) cut in
     parts_add l p m n (omega arith) within ∙ (rw (low, high) (omega (arith, mul_comm (next % 2 ^ j) (2 ^ m)))) ∙ sym both
 
 -- the bits of a part, by the limb of the first and that of the last

@@ -1,5 +1,5 @@
 -- What an edit of the words does to the list that they hold.
-use Rattle.vers_bits.proofs.Names.{◌≡◌, ℕ, ◌+◌, ◌*◌, ◌/◌, ◌%◌, ◌^◌, ◌<◌, ◌≤◌, Bool, true, false, not, eqb, List, length, get_or, set, take, refl, sym, ap, ◌∙◌, arith, w64, bit_at, bit_not, bit_and, bit_or, bit_xor, cases_eq, get_or_default_zero, one_shl, bit_at-lt, bit_at_xor, bit_at-pow_same, bit_at-pow_other, bit_at_set_same, bit_at_set_other, bit_at_clear_same, bit_at_clear_other, get_or-take, get_or-set_same, get_or-set_other, length-take, length-set, limb_count, word_bit, word_bits, HoldsBits, AddsBit, CutsTo, Puts, agree_below_at, ints, rules}
+use Rattle.vers_bits.proofs.Names.{◌≡◌, ℕ, ◌+◌, ◌*◌, ◌/◌, ◌%◌, ◌^◌, ◌<◌, ◌≤◌, Bool, true, false, not, eqb, List, length, get_or, set, take, refl, sym, ap, ◌∙◌, arith, w64, bit_at, bit_not, bit_and, bit_or, bit_xor, cases_eq, get_or_default_zero, one_shl, bit_at-lt, bit_at_xor, bit_at-pow_same, bit_at-pow_other, bit_at_set_same, bit_at_set_other, bit_at_clear_same, bit_at_clear_other, get_or-take, get_or-set_same, get_or-set_other, length-take, length-set, limb_count, word_bit, word_bits, HoldsBits, AddsBit, CutsTo, Puts, agree_below_at, rules}
 use Rattle.vers_bits.proofs.Words.{length-word_bits, get_or-word_bits, word_bits_are, take-word_bits, past_words, set_here, set_apart}
 use Rattle.vers_bits.proofs.LowBits.{bit_at_mod, bit_at_mod_above}
 
@@ -7,7 +7,7 @@ use Rattle.vers_bits.proofs.LowBits.{bit_at_mod, bit_at_mod_above}
 
 pub cut_bits : {ws vs : List ℕ} {m : ℕ} → CutsTo ws vs m → (n : ℕ) → m ≤ n → word_bits vs m ≡ take m (word_bits ws n)
 cut_bits {ws} {vs} {m} cuts n h =
-    word_bits_are vs m (word_bits ws m) (length-word_bits ws m) (λ i below. grind (arith, ints, get_or-word_bits))
+    word_bits_are vs m (word_bits ws m) (length-word_bits ws m) (λ i below. grind (arith, get_or-word_bits))
     ∙ sym (take-word_bits ws n m h)
 
 pub cut_holds : {ws vs : List ℕ} {m : ℕ} → CutsTo ws vs m → m ≤ 18446744073709551552 → HoldsBits vs m
@@ -27,27 +27,27 @@ module _ (ws : List ℕ) (n : ℕ) (enough : limb_count n ≤ length ws) where
 
   pub cut_whole : n % 64 ≡ 0 → CutsTo ws (take (limb_count n) ws) n
   unfolding front
-  cut_whole whole = grind (arith, ints, length-front, front_bit, past_words)
+  cut_whole whole = grind (arith, length-front, front_bit, past_words)
 
   pub cut_part : 0 < n % 64 → CutsTo ws (set (take (limb_count n) ws) (n / 64) (get_or (take (limb_count n) ws) (n / 64) 0 % 2 ^ (n % 64))) n
   unfolding front
-  cut_part part = grind (arith, ints, length-front, length-set, cases_eq, set_here, bit_at_mod, front_bit, set_apart, bit_at_mod_above, past_words)
+  cut_part part = grind (arith, length-front, length-set, cases_eq, set_here, bit_at_mod, front_bit, set_apart, bit_at_mod_above, past_words)
 
 -- ---- a bit put at a place
 
 pub put_bits : {ws vs : List ℕ} {p : ℕ} {b : Bool} → Puts ws vs p b → (n : ℕ) → p < n → word_bits vs n ≡ set (word_bits ws n) p b
 put_bits {ws} {vs} {p} {b} puts n within =
-    word_bits_are vs n (set (word_bits ws n) p b) (grind (arith, ints, length-set, length-word_bits))
-    (λ i h. grind (arith, ints, cases_eq, get_or-set_same, length-word_bits, get_or-set_other, get_or-word_bits))
+    word_bits_are vs n (set (word_bits ws n) p b) (grind (arith, length-set, length-word_bits))
+    (λ i h. grind (arith, cases_eq, get_or-set_same, length-word_bits, get_or-set_other, get_or-word_bits))
 
 pub put_holds : {ws vs : List ℕ} {p : ℕ} {b : Bool} → Puts ws vs p b → (n : ℕ) → p < n → HoldsBits ws n → HoldsBits vs n
-put_holds {ws} {vs} {p} {b} puts n within holds = grind (arith, ints)
+put_holds {ws} {vs} {p} {b} puts n within holds = grind arith
 
 module _ (ws : List ℕ) (p x : ℕ) (b : Bool) (within : p / 64 < length ws) where
   -- by another word at its limb, with that bit and else the same
   puts_by : eqb (bit_at x (p % 64)) 1 ≡ b → ((i : ℕ) → i < 64 → (i ≡ p % 64 → ⊥) → bit_at x i ≡ bit_at (get_or ws (p / 64) 0) i)
       → Puts ws (set ws (p / 64) x) p b
-  puts_by on off = grind (arith, ints, length-set, set_here, cases_eq, set_apart)
+  puts_by on off = grind (arith, length-set, set_here, cases_eq, set_apart)
 
 module _ (ws : List ℕ) (p : ℕ) (within : p / 64 < length ws) where
   abbrev word : ℕ
@@ -73,7 +73,7 @@ module _ (ws : List ℕ) (p : ℕ) (within : p / 64 < length ws) where
 
 pub adds_by_set : (ws : List ℕ) (n w : ℕ) (b : Bool) → HoldsBits ws n → 0 < n % 64 → w ≡ get_or ws (n / 64) w → b ≡ true
     → AddsBit ws (set ws (n / 64) (bit_or w (1 * 2 ^ (n % 64) % 2 ^ 64))) n b
-adds_by_set ws n w b holds part read on = grind (arith, ints, puts_one, get_or_default_zero)
+adds_by_set ws n w b holds part read on = grind (arith, puts_one, get_or_default_zero)
 
 -- a false bit is there already
 pub adds_by_none : (ws : List ℕ) (n : ℕ) (b : Bool) → HoldsBits ws n → 0 < n % 64 → b ≡ false → AddsBit ws ws n b

@@ -1,5 +1,5 @@
 -- The words follow from the bits that they hold.
-use Rattle.vers_bits.proofs.Names.{◌≡◌, ℕ, ◌+◌, ◌*◌, ◌/◌, ◌%◌, ◌^◌, ◌<◌, Bool, true, false, eqb, List, length, get_or, refl, sym, ◌∙◌, ap, arith, fill_by_all, length-map-range_with_len, get_or-map-range_with_len, ext_get_or, false≢true, bit_at, Decides, bit_value, limb, limb_count, word_bits, HoldsBits, ints}
+use Rattle.vers_bits.proofs.Names.{◌≡◌, ℕ, ◌+◌, ◌*◌, ◌/◌, ◌%◌, ◌^◌, ◌<◌, Bool, true, false, eqb, List, length, get_or, refl, sym, ◌∙◌, ap, arith, fill_by_all, length-map-range_with_len, get_or-map-range_with_len, ext_get_or, false≢true, bit_at, Decides, bit_value, limb, limb_count, word_bits, HoldsBits}
 use Rattle.std.specs.Cmp.Lexicographic.{pointwise}
 use Rattle.std.proofs.lemmas.Slice.Eq.{bytes_eq-Decides}
 use Rattle.vers_bits.specs.Bits.{limbs}
@@ -11,7 +11,7 @@ pub limbs-word_bits : (words : List ℕ) (n : ℕ) → HoldsBits words n → ((k
 unfolding limbs
 limbs-word_bits words n h fits =
     fill_by_all (limb (word_bits words n)) words (limb_count (length (word_bits words n))) 0 (h.counted ∙ ap limb_count (sym (length-word_bits words n)))
-    (λ k p. grind (arith, ints, limb-word_bits))
+    (λ k p. grind (arith, limb-word_bits))
 
 -- place i of a list is a digit of its limb
 pub bit_at-limb : (l : List Bool) (i : ℕ) → bit_at (limb l (i / 64)) (i % 64) ≡ bit_value (get_or l i false)
@@ -48,11 +48,11 @@ decides_same false false P Q a b f h = refl
 
 -- lists of one length are equal exactly where their limbs are
 pub same_limbs : (xs ys : List Bool) → length xs ≡ length ys → pointwise eqb (limbs xs) (limbs ys) ≡ same_bits xs ys
-same_limbs xs ys e = grind (arith, ints, decides_same, bytes_eq-Decides, same_bits-Decides, equal_limbs)
+same_limbs xs ys e = grind (arith, decides_same, bytes_eq-Decides, same_bits-Decides, equal_limbs)
 
 -- lists of other lengths are not equal
 pub lengths_differ : (xs ys : List Bool) → (length xs ≡ length ys → ⊥) → false ≡ same_bits xs ys
-lengths_differ xs ys h = grind (arith, ints, decides_same, false≢true, same_bits-Decides)
+lengths_differ xs ys h = grind (arith, decides_same, false≢true, same_bits-Decides)
 
 pub ruleset equality = (same_limbs, lengths_differ)
 

@@ -1,5 +1,5 @@
 -- Bits that are gathered in a word.
-use Rattle.vers_bits.proofs.Names.{◌≡◌, ℕ, suc, ◌+◌, ◌*◌, ◌%◌, ◌^◌, ◌<◌, ◌≤◌, Bool, true, false, List, [], ◌∷◌, ◌++◌, length, map, take, drop, get_or, refl, sym, ap, ◌∙◌, arith, bit_or, pow-le-pow_right, drop-cons, length-map, map-append, take-append-drop, div-mul-add, mod-mul-add, pow-add, shl_whole, bool_byte, bit_value, number, ints}
+use Rattle.vers_bits.proofs.Names.{◌≡◌, ℕ, suc, ◌+◌, ◌*◌, ◌%◌, ◌^◌, ◌<◌, ◌≤◌, Bool, true, false, List, [], ◌∷◌, ◌++◌, length, map, take, drop, get_or, refl, sym, ap, ◌∙◌, arith, bit_or, pow-le-pow_right, drop-cons, length-map, map-append, take-append-drop, div-mul-add, mod-mul-add, pow-add, shl_whole, bool_byte, bit_value, number}
 use Rattle.std.proofs.Common.{append_assoc, rules}
 use Rattle.std.specs.Int.Bits.{or_shifted_r}
 use Rattle.vers_bits.specs.Bits.{low_bits}
@@ -31,8 +31,8 @@ pub limb_gathered : {X : Type 0} (f : X → Bool) (l more : List Bool) (rest fro
     → w ≡ number (map f front) → more ≡ l ++ low_bits w (length front) → more ++ map f back ≡ l ++ map f rest
 limb_gathered f l more rest front back m w first last word grown =
     let long : length front ≡ length (map f front) = sym (length-map front f) in
-    let read : low_bits w (length front) ≡ map f front = grind (arith, ints, low_bits_of_number) in
-    ap (λ xs. xs ++ map f back) (grind (arith, ints)) ∙ append_assoc l (map f front) (map f back)
+    let read : low_bits w (length front) ≡ map f front = grind (arith, low_bits_of_number) in
+    ap (λ xs. xs ++ map f back) (grind arith) ∙ append_assoc l (map f front) (map f back)
     ∙ ap (λ xs. l ++ xs) (sym (map-append f front back) ∙ ap (map f) (ap (λ xs. xs ++ back) first ∙ ap (λ xs. take m rest ++ xs) last ∙ take-append-drop m rest))
 
 -- one more digit above the others
@@ -46,7 +46,7 @@ low_bits_of_bit true = refl
 low_bits_of_bit false = refl
 
 pub digits_gathered : (w n : ℕ) (b : Bool) → n < 64 → w < 2 ^ n → low_bits (bit_or w (bit_value b * 2 ^ n % 18446744073709551616)) (n + 1) ≡ low_bits w n ++ b ∷ []
-digits_gathered w n b short small = grind (arith, ints, low_bits_of_rest, mod-mul-add, div-mul-add, low_bits_of_bit, digit_added, low_bits-add)
+digits_gathered w n b short small = grind (arith, low_bits_of_rest, mod-mul-add, div-mul-add, low_bits_of_bit, digit_added, low_bits-add)
 
 sum_below : (w n : ℕ) (b : Bool) → w < 2 ^ n → bit_value b * 2 ^ n + w < 2 ^ (n + 1)
 sum_below w n true small = omega (arith, pow-add 2 n 1)

@@ -1,5 +1,5 @@
 -- Words that hold a list of bits: what an edit of the words does to the list.
-use Rattle.vers_bits.proofs.Names.{◌≡◌, ℕ, ◌+◌, ◌-◌, ◌*◌, ◌/◌, ◌%◌, ◌^◌, ◌<◌, ◌≤◌, max, Bool, false, eqb, List, [], ◌∷◌, ◌++◌, length, get_or, set, take, replicate, refl, sym, ap, ◌∙◌, inl, inr, arith, bit_at, bit_or, cases_lt, cases_eq, shr-shr, pow_pos, bit_at-lt, bit_at_or, bit_at_above, bit_at_cat_low, bit_at_cat_high, bit_at-zero, get_or_past, get_or_push, get_or_append_left, get_or-append_right, length-append, length-replicate, get_or-replicate, length_push, length-set, take_all, low_bits, limb_count, word_bit, word_bits, HoldsBits, Holds, ints}
+use Rattle.vers_bits.proofs.Names.{◌≡◌, ℕ, ◌+◌, ◌-◌, ◌*◌, ◌/◌, ◌%◌, ◌^◌, ◌<◌, ◌≤◌, max, Bool, false, eqb, List, [], ◌∷◌, ◌++◌, length, get_or, set, take, replicate, refl, sym, ap, ◌∙◌, inl, inr, arith, bit_at, bit_or, cases_lt, cases_eq, shr-shr, pow_pos, bit_at-lt, bit_at_or, bit_at_above, bit_at_cat_low, bit_at_cat_high, bit_at-zero, get_or_past, get_or_push, get_or_append_left, get_or-append_right, length-append, length-replicate, get_or-replicate, length_push, length-set, take_all, low_bits, limb_count, word_bit, word_bits, HoldsBits, Holds}
 use Rattle.vers_bits.proofs.Words.{length-word_bits, get_or-word_bits, word_bits_are, past_words, set_here, set_apart}
 use Rattle.vers_bits.proofs.LowBits.{length-low_bits, get_or-low_bits, bit_at_mod, bit_value_test}
 
@@ -102,7 +102,7 @@ module _ (ws : List ℕ) (n v k : ℕ) (holds : HoldsBits ws n) (small : v < 2 ^
       ap (λ p. eqb (bit_at (get_or ws (n / 64) 0) p) 1) (sym place) ∙ ap (λ q. eqb (bit_at (get_or ws q 0) ((64 * (n / 64) + i) % 64)) 1) (sym word)
       ∙ holds.padded (64 * (n / 64) + i) (omega arith) in
       bit_at_or (get_or ws (n / 64) 0) (v * 2 ^ (n % 64) % 2 ^ 64) i
-      ∙ ap (λ m. max m (bit_at (v * 2 ^ (n % 64) % 2 ^ 64) i)) (grind (arith, ints, bit_value_test, bit_at-lt))
+      ∙ ap (λ m. max m (bit_at (v * 2 ^ (n % 64) % 2 ^ 64) i)) (grind (arith, bit_value_test, bit_at-lt))
       ∙ ap (max 0) (bit_at_mod (v * 2 ^ (n % 64)) 64 i h ∙ some) ∙ omega arith
 
   -- any words that begin with the old ones, with the last word so changed, agree up to its end

@@ -1,5 +1,5 @@
 -- Words compared by lanes.
-use Rattle.vers_bits.proofs.Names.{◌≡◌, ℕ, ◌-◌, ◌%◌, ◌^◌, ◌≤◌, Bool, cond, not, List, [], ◌∷◌, length, eqb, map, refl, ap, ap₂, ◌∙◌, arith, w64, Decides, cases_eq, eq-eqb, eqb-true, ne_eqb, ints}
+use Rattle.vers_bits.proofs.Names.{◌≡◌, ℕ, ◌-◌, ◌%◌, ◌^◌, ◌≤◌, Bool, cond, not, List, [], ◌∷◌, length, eqb, map, refl, ap, ap₂, ◌∙◌, arith, w64, Decides, cases_eq, eq-eqb, eqb-true, ne_eqb}
 use lib.Lanes.{mask_l, top, zip2}
 use Rattle.std.proofs.lemmas.Simd.{tops_compared, mask_l-mod, length-zip2}
 
@@ -14,15 +14,15 @@ same_lanes : (xs ys : List ℕ) → length xs ≡ length ys → other_lanes xs y
 same_lanes [] [] e h = refl
 same_lanes [] (y ∷ ys) e h = absurd (omega (arith, e))
 same_lanes (x ∷ xs) [] e h = absurd (omega (arith, e))
-same_lanes (x ∷ xs) (y ∷ ys) e h = grind (arith, ints, ap₂, cases_eq, ne_eqb, same_lanes xs ys (omega (arith, e)) (omega (arith, h)))
+same_lanes (x ∷ xs) (y ∷ ys) e h = grind (arith, ap₂, cases_eq, ne_eqb, same_lanes xs ys (omega (arith, e)) (omega (arith, h)))
 
 lanes_of_same : (xs : List ℕ) → other_lanes xs xs ≡ 0
 lanes_of_same [] = refl
-lanes_of_same (x ∷ xs) = grind (arith, ints, eq-eqb, lanes_of_same xs)
+lanes_of_same (x ∷ xs) = grind (arith, eq-eqb, lanes_of_same xs)
 
 -- lists of one length are the same where no lane differs
 pub lanes_decide : (xs ys : List ℕ) → length xs ≡ length ys → Decides (eqb (other_lanes xs ys) 0) (xs ≡ ys)
-lanes_decide xs ys e = grind (arith, ints, same_lanes, eqb-true, eq-eqb, lanes_of_same)
+lanes_decide xs ys e = grind (arith, same_lanes, eqb-true, eq-eqb, lanes_of_same)
 
 -- the mask that a comparison of lanes gives
 pub compared : (xs ys : List ℕ) → length xs ≡ length ys → length xs ≤ 64

@@ -1,5 +1,5 @@
 -- Masked lists, place by place and limb by limb.
-use Rattle.vers_bits.proofs.Names.{◌≡◌, ℕ, ◌+◌, ◌-◌, ◌*◌, ◌/◌, ◌%◌, ◌^◌, ◌<◌, ◌≤◌, Bool, false, eqb, List, Some, None, min, length, get_or, set, take, drop, sym, ◌∙◌, ap, inl, inr, arith, bit_at, bit_and, count_ones, cases_lt, cases_eq, ones-le, bit_at-lt, shr_and_one, same_from_bits, slice_get-get_or, slice_get_past, get_or-take, get_or-drop, get_or_past, get_or-set_same, get_or-set_other, length-take, length-drop, length-map-range_with_len, get_or-map-range_with_len, bit_value, word_bits, CutsTo, ints}
+use Rattle.vers_bits.proofs.Names.{◌≡◌, ℕ, ◌+◌, ◌-◌, ◌*◌, ◌/◌, ◌%◌, ◌^◌, ◌<◌, ◌≤◌, Bool, false, eqb, List, Some, None, min, length, get_or, set, take, drop, sym, ◌∙◌, ap, inl, inr, arith, bit_at, bit_and, count_ones, cases_lt, cases_eq, ones-le, bit_at-lt, shr_and_one, same_from_bits, slice_get-get_or, slice_get_past, get_or-take, get_or-drop, get_or_past, get_or-set_same, get_or-set_other, length-take, length-drop, length-map-range_with_len, get_or-map-range_with_len, bit_value, word_bits, CutsTo}
 use Rattle.std.specs.Prelude.{slice_get}
 use Rattle.vers_bits.specs.Bits.{limb, masked}
 use Rattle.vers_bits.proofs.Words.{word_bits_are}
@@ -16,7 +16,7 @@ length-masked g l r = length-map-range_with_len (λ p. eqb (bit_at (g (limb l (p
 pub get_or-masked : (g : ℕ → ℕ → ℕ) (l r : List Bool) (p : ℕ) → p < length l
     → get_or (masked g l r) p false ≡ eqb (bit_at (g (limb l (p / 64)) (limb r (p / 64))) (p % 64)) 1
 unfolding masked
-get_or-masked g l r p h = grind (arith, ints, get_or-map-range_with_len)
+get_or-masked g l r p h = grind (arith, get_or-map-range_with_len)
 
 -- what a read of one bit computes
 pub bit-masked : (g : ℕ → ℕ → ℕ) (l r : List Bool) (p : ℕ) → p < length l
@@ -25,7 +25,7 @@ bit-masked g l r p h = rw shr_and_one (get_or-masked g l r p h)
 
 pub value-masked : (g : ℕ → ℕ → ℕ) (l r : List Bool) (p : ℕ) → p < length l
     → bit_value (get_or (masked g l r) p false) ≡ bit_and (g (limb l (p / 64)) (limb r (p / 64)) / 2 ^ (p % 64)) 1
-value-masked g l r p h = grind (arith, ints, shr_and_one, get_or-masked, bit_value_test, bit_at-lt)
+value-masked g l r p h = grind (arith, shr_and_one, get_or-masked, bit_value_test, bit_at-lt)
 
 -- a limb of the masked list has the digits of the answer that lie below the length
 pub limb-masked : (g : ℕ → ℕ → ℕ) (l r : List Bool) (k : ℕ)
@@ -73,7 +73,7 @@ pub ruleset places = (place-masked, place_past-masked)
 -- words that are the answers on both limbs, cut to the length
 pub combined : {us vs : List ℕ} {n : ℕ} → CutsTo us vs n → (g : ℕ → ℕ → ℕ) (l r : List Bool) → length l ≡ n
     → ((k : ℕ) → 64 * k < n → get_or us k 0 ≡ g (limb l k) (limb r k)) → word_bits vs n ≡ masked g l r
-combined {us} {vs} {n} cuts g l r long each = grind (arith, ints, word_bits_are, length-masked, get_or-masked)
+combined {us} {vs} {n} cuts g l r long each = grind (arith, word_bits_are, length-masked, get_or-masked)
 
 pub ruleset combines = (cut_holds)
 
@@ -81,4 +81,4 @@ pub ruleset combines = (cut_holds)
 pub combined_more : (ws us os : List ℕ) (k r : ℕ) (f : ℕ → ℕ → ℕ) → k < length us → ((j : ℕ) → k ≤ j → get_or us j 0 ≡ get_or ws j 0)
     → ((j : ℕ) → j < k → get_or us j 0 ≡ f (get_or ws j 0) (get_or os j 0)) → r ≡ f (get_or us k 0) (get_or os k 0)
     → (j : ℕ) → j < k + 1 → get_or (set us k r) j 0 ≡ f (get_or ws j 0) (get_or os j 0)
-combined_more ws us os k r f within others done here j h = grind (arith, ints, cases_eq, get_or-set_same, get_or-set_other)
+combined_more ws us os k r f within others done here j h = grind (arith, cases_eq, get_or-set_same, get_or-set_other)

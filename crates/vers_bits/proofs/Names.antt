@@ -11,7 +11,6 @@ pub use Rattle.std.proofs.lemmas.Nat.{and_mask, div-mul-add, div_below, le-div, 
 pub use Rattle.std.proofs.lemmas.Nat.Bits.{bit_at-lt, bit_at-pow_other, bit_at-pow_same, bit_at-suc, bit_at-zero, bit_at_above, bit_at_and, bit_at_cat_high, bit_at_cat_low, bit_at_clear_other, bit_at_clear_same, bit_at_lowest, bit_at_ones, bit_at_or, bit_at_set_other, bit_at_set_same, bit_at_xor, ones_shr, same_from_bits, same_from_bits_below, shr_and_one}
 pub use Rattle.std.proofs.lemmas.Option.{get_or_from_slice_get, slice_get-get_or, slice_get-map, slice_get_cases, slice_get_past, slice_get_within}
 pub use Rattle.std.proofs.lemmas.Result.{IfOk-equal, err_from_is_err_and}
-pub use Rattle.std.proofs.lemmas.Int.{ints}
 pub use Rattle.std.specs.Bool.{Decides}
 pub use Rattle.std.specs.Int.{bit_at, bit_not}
 pub use Rattle.std.specs.Iterator.{IsFinite, MakesProgress, YieldsFirst, YieldsLast, item_count}

@@ -1,5 +1,5 @@
 -- Lists of bits as numbers, and counts of their bits.
-use Rattle.vers_bits.proofs.Names.{◌≡◌, ℕ, zero, suc, ◌/◌, ◌%◌, ◌^◌, ◌<◌, ◌≤◌, Bool, true, false, List, [], ◌∷◌, length, take, drop, get_or, refl, ap, ◌+◌, ◌*◌, ◌∙◌, arith, count_by, bit_at, count_ones, shr-shr, mod-pow-add, bit_at_lowest, bit_at-suc, bit_at-zero, sum_by-cons, pow-suc, get_or-take, get_or-drop, bit_value, number, is_bit, ints, rules}
+use Rattle.vers_bits.proofs.Names.{◌≡◌, ℕ, zero, suc, ◌/◌, ◌%◌, ◌^◌, ◌<◌, ◌≤◌, Bool, true, false, List, [], ◌∷◌, length, take, drop, get_or, refl, ap, ◌+◌, ◌*◌, ◌∙◌, arith, count_by, bit_at, count_ones, shr-shr, mod-pow-add, bit_at_lowest, bit_at-suc, bit_at-zero, sum_by-cons, pow-suc, get_or-take, get_or-drop, bit_value, number, is_bit, rules}
 use lib.Count.{ones_step, ones-ones}
 use Rattle.vers_bits.specs.Bits.{limb}
 
@@ -42,8 +42,8 @@ number-take (suc k) (b ∷ l) = grind (arith, number-take k l, number_half b l, 
 -- digit i of the number is place i of the list
 pub bit_at-number : (l : List Bool) (i : ℕ) → bit_at (number l) i ≡ bit_value (get_or l i false)
 bit_at-number [] i = bit_at-zero i
-bit_at-number (b ∷ l) zero = grind (arith, ints, bit_at_lowest, number_odd)
-bit_at-number (b ∷ l) (suc i) = grind (arith, ints, bit_at-suc, number_half, bit_at-number l i)
+bit_at-number (b ∷ l) zero = grind (arith, bit_at_lowest, number_odd)
+bit_at-number (b ∷ l) (suc i) = grind (arith, bit_at-suc, number_half, bit_at-number l i)
 
 -- as many digits of the number are 1 as places of the list are true
 pub ones-number : (l : List Bool) → count_ones (number l) ≡ count_by (is_bit true) l

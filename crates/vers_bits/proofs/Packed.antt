@@ -1,5 +1,5 @@
 -- The elements of a packed list.
-use Rattle.vers_bits.proofs.Names.{◌≡◌, ℕ, zero, suc, ◌+◌, ◌*◌, ◌%◌, ◌^◌, ◌<◌, ◌≤◌, List, [], ◌∷◌, ◌++◌, length, take, drop, get_or, Some, sym, ap, ◌∙◌, arith, take_at, drop_at, drop-drop, row_fits, low_bits, pack, part_number, ints}
+use Rattle.vers_bits.proofs.Names.{◌≡◌, ℕ, zero, suc, ◌+◌, ◌*◌, ◌%◌, ◌^◌, ◌<◌, ◌≤◌, List, [], ◌∷◌, ◌++◌, length, take, drop, get_or, Some, sym, ap, ◌∙◌, arith, take_at, drop_at, drop-drop, row_fits, low_bits, pack, part_number}
 use Rattle.vers_bits.proofs.LowBits.{length-low_bits, number-low_bits}
 use Rattle.vers_bits.proofs.Growing.{length-packed}
 use Rattle.vers_bits.proofs.Counting.{part_number_some}
@@ -7,7 +7,7 @@ use Rattle.vers_bits.proofs.Counting.{part_number_some}
 -- the bits of element e
 element : (items : List ℕ) (k e : ℕ) → e < length items → take k (drop (e * k) (pack items k)) ≡ low_bits (get_or items e 0) k
 element [] k e h = absurd (omega arith)
-element (v ∷ items) k zero h = grind (arith, ints, zero, take_at, length-low_bits)
+element (v ∷ items) k zero h = grind (arith, zero, take_at, length-low_bits)
 element (v ∷ items) k (suc e) h =
     let place : suc e * k ≡ k + e * k = omega arith in
     ap (λ p. take k (drop p (low_bits v k ++ pack items k))) place
@@ -17,4 +17,4 @@ element (v ∷ items) k (suc e) h =
 pub packed_element : (items : List ℕ) (k e : ℕ) → 1 ≤ k → k ≤ 64 → e < length items → part_number (pack items k) (e * k) k ≡ Some (get_or items e 0 % 2 ^ k)
 packed_element items k e some few h =
     let fits : e * k + k ≤ length (pack items k) = grind (arith, length-packed (λ v. v) k items, row_fits) in
-    grind (arith, ints, part_number_some, element, number-low_bits)
+    grind (arith, part_number_some, element, number-low_bits)

@@ -1,5 +1,5 @@
 -- The bits that words hold.
-use Rattle.vers_bits.proofs.Names.{◌≡◌, ℕ, ◌+◌, ◌*◌, ◌/◌, ◌%◌, ◌^◌, ◌<◌, ◌≤◌, Bool, true, false, List, [], ◌∷◌, ◌++◌, length, take, drop, get_or, set, refl, sym, ap, ◌∙◌, arith, eqb, Some, None, inl, inr, bit_at, bit_and, cases_lt, bool_byte, pow-le-pow_right, bit_at-lt, bit_at-zero, bit_at_lowest, shr_and_one, same_from_bits_below, bit_at_above, ext_get_or, get_or-take, get_or-drop, get_or_past, get_or_push, get_or_append_left, get_or-set_same, get_or-set_other, length_push, length-take, length-map-range_with_len, get_or-map-range_with_len, take-map-range_with_len, map-range_with_len_more, slice_get-get_or, slice_get_past, bit_value, word_bit, HoldsBits, AddsBit, ints, rules}
+use Rattle.vers_bits.proofs.Names.{◌≡◌, ℕ, ◌+◌, ◌*◌, ◌/◌, ◌%◌, ◌^◌, ◌<◌, ◌≤◌, Bool, true, false, List, [], ◌∷◌, ◌++◌, length, take, drop, get_or, set, refl, sym, ap, ◌∙◌, arith, eqb, Some, None, inl, inr, bit_at, bit_and, cases_lt, bool_byte, pow-le-pow_right, bit_at-lt, bit_at-zero, bit_at_lowest, shr_and_one, same_from_bits_below, bit_at_above, ext_get_or, get_or-take, get_or-drop, get_or_past, get_or_push, get_or_append_left, get_or-set_same, get_or-set_other, length_push, length-take, length-map-range_with_len, get_or-map-range_with_len, take-map-range_with_len, map-range_with_len_more, slice_get-get_or, slice_get_past, bit_value, word_bit, HoldsBits, AddsBit, rules}
 use Rattle.std.specs.List.{slice_get}
 use Rattle.std.specs.Prelude.{option_map}
 use Rattle.vers_bits.specs.Bits.{limb}
@@ -37,13 +37,13 @@ slice_get_past-word_bits ws n i h = slice_get_past _ i (omega (arith, length-wor
 
 pub bit_value_at-word_bits : (ws : List ℕ) (n i : ℕ) → i < n
     → option_map bit_value (slice_get (word_bits ws n) i) ≡ Some (bit_and (get_or ws (i / 64) 0 / 2 ^ (i % 64)) 1)
-bit_value_at-word_bits ws n i h = grind (arith, ints, slice_get-word_bits, shr_and_one, bit_value_test, bit_at-lt)
+bit_value_at-word_bits ws n i h = grind (arith, slice_get-word_bits, shr_and_one, bit_value_test, bit_at-lt)
 
 pub slice_index-word_bits : (ws : List ℕ) (n i : ℕ) → i < n → get_or (word_bits ws n) i false ≡ eqb (bit_and (get_or ws (i / 64) 0 / 2 ^ (i % 64)) 1) 1
 slice_index-word_bits ws n i h = rw shr_and_one (get_or-word_bits ws n i false h)
 
 pub bit_value_of-word_bits : (ws : List ℕ) (n i : ℕ) → i < n → bit_value (get_or (word_bits ws n) i false) ≡ bit_and (get_or ws (i / 64) 0 / 2 ^ (i % 64)) 1
-bit_value_of-word_bits ws n i h = grind (arith, ints, shr_and_one, get_or-word_bits, bit_value_test, bit_at-lt)
+bit_value_of-word_bits ws n i h = grind (arith, shr_and_one, get_or-word_bits, bit_value_test, bit_at-lt)
 
 -- where one word was changed
 pub set_here : (ws : List ℕ) (k x i : ℕ) → k < length ws → i / 64 ≡ k → word_bit (set ws k x) i ≡ eqb (bit_at x (i % 64)) 1
@@ -58,10 +58,10 @@ bit_of_limb : (ws : List ℕ) (n k i : ℕ) → HoldsBits ws n → i < 64
 unfolding limb
 bit_of_limb ws n k i holds small =
     let w : ℕ = get_or ws k 0 in
-    let here : bit_value (word_bit ws (64 * k + i)) ≡ bit_at w i = ap bit_value (grind (arith, ints)) ∙ bit_value_test (bit_at w i) (bit_at-lt w i) in
+    let here : bit_value (word_bit ws (64 * k + i)) ≡ bit_at w i = ap bit_value (grind arith) ∙ bit_value_test (bit_at w i) (bit_at-lt w i) in
     let place : get_or (take 64 (drop (64 * k) (word_bits ws n))) i false ≡ get_or (word_bits ws n) (64 * k + i) false =
     get_or-take 64 (drop (64 * k) (word_bits ws n)) i false small ∙ get_or-drop (64 * k) (word_bits ws n) i false in
-    grind (arith, ints, bit_at-number, cases_lt, get_or-word_bits, get_or_past, length-word_bits)
+    grind (arith, bit_at-number, cases_lt, get_or-word_bits, get_or_past, length-word_bits)
 
 pub limb-lt : (l : List Bool) (k : ℕ) → limb l k < 2 ^ 64
 unfolding limb
@@ -74,17 +74,17 @@ limb-word_bits ws n k holds fits = search (rules, same_from_bits_below, limb-lt,
 
 -- past the words each place is false
 pub past_words : (ws : List ℕ) (i : ℕ) → 64 * length ws ≤ i → word_bit ws i ≡ false
-past_words ws i h = grind (arith, ints, get_or_past, bit_at-zero)
+past_words ws i h = grind (arith, get_or_past, bit_at-zero)
 
 pub added_bits : {ws vs : List ℕ} {n : ℕ} {b : Bool} → AddsBit ws vs n b → word_bits vs (n + 1) ≡ word_bits ws n ++ b ∷ []
 unfolding word_bits
 added_bits {ws} {vs} {n} {b} adds =
     (map-range_with_len_more (word_bit vs) 0 n n (omega arith)) ∙ ap (λ x. word_bits vs n ++ x ∷ []) adds.here
     ∙ ap (λ l. l ++ b ∷ []) (word_bits_are vs n (word_bits ws n) (length-word_bits ws n)
-    (λ i h. grind (arith, ints, get_or-word_bits)))
+    (λ i h. grind (arith, get_or-word_bits)))
 
 pub added_holds : {ws vs : List ℕ} {n : ℕ} {b : Bool} → AddsBit ws vs n b → HoldsBits ws n → n < 18446744073709551552 → HoldsBits vs (n + 1)
-added_holds {ws} {vs} {n} {b} adds holds small = grind (arith, ints)
+added_holds {ws} {vs} {n} {b} adds holds small = grind arith
 
 bit_value_lowest : (b : Bool) → eqb (bit_value b % 2) 1 ≡ b
 bit_value_lowest true = refl
@@ -100,7 +100,7 @@ adds_by_number ws n b holds whole =
           let place : n % 64 ≡ 0 = whole in
           rw (place, word, get_or_push ws (bit_value b) 0 (length ws) refl, bit_at_lowest) (bit_value_lowest b);
       others = λ i other. elim (cases_lt i n) [
-        | inl below ↦ grind (arith, ints, get_or_append_left)
+        | inl below ↦ grind (arith, get_or_append_left)
         | inr above ↦ elim (cases_lt i (n + 64)) [
           | inl same_word ↦
               let word : i / 64 ≡ length ws = omega arith in

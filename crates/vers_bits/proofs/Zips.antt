@@ -1,5 +1,5 @@
 -- Masks by or, and and xor are the bits combined one by one.
-use Rattle.vers_bits.proofs.Names.{◌≡◌, ℕ, zero, suc, ◌+◌, ◌/◌, ◌%◌, ◌<◌, min, max, Bool, true, false, ◌||◌, ◌&&◌, eqb, List, [], ◌∷◌, length, get_or, refl, sym, ap, ◌∙◌, arith, bit_at, bit_or, bit_and, bit_xor, bit_at_or, bit_at_and, bit_at_xor, ext_get_or, bit_value, limb, masked, zip_bits, xor, ints}
+use Rattle.vers_bits.proofs.Names.{◌≡◌, ℕ, zero, suc, ◌+◌, ◌/◌, ◌%◌, ◌<◌, min, max, Bool, true, false, ◌||◌, ◌&&◌, eqb, List, [], ◌∷◌, length, get_or, refl, sym, ap, ◌∙◌, arith, bit_at, bit_or, bit_and, bit_xor, bit_at_or, bit_at_and, bit_at_xor, ext_get_or, bit_value, limb, masked, zip_bits, xor}
 use Rattle.vers_bits.proofs.Equal.{bit_at-limb}
 use Rattle.vers_bits.proofs.Masks.{length-masked, get_or-masked}
 
@@ -27,7 +27,7 @@ pair_of_bits d f each false false = each.3
 -- a mask whose answer has each digit from both digits there combines the bits one by one
 masked_by_bits : (g : ℕ → ℕ → ℕ) (d : ℕ → ℕ → ℕ) (f : Bool → Bool → Bool) → ((a b i : ℕ) → bit_at (g a b) i ≡ d (bit_at a i) (bit_at b i)) → Combines d f → (xs ys : List Bool) → length xs ≡ length ys → masked g xs ys ≡ zip_bits f xs ys
 masked_by_bits g d f digits bits xs ys e =
-    ext_get_or false (masked g xs ys) (zip_bits f xs ys) (grind (arith, ints, length-masked, length-zip_bits))
+    ext_get_or false (masked g xs ys) (zip_bits f xs ys) (grind (arith, length-masked, length-zip_bits))
     (λ i h.
     let small : i < length xs = omega (arith, length-masked g xs ys) in
     get_or-masked g xs ys i small ∙ ap (λ m. eqb m 1) (digits (limb xs (i / 64)) (limb ys (i / 64)) (i % 64) ∙ ap (λ a. d a (bit_at (limb ys (i / 64)) (i % 64))) (bit_at-limb xs i) ∙ ap (d (bit_value (get_or xs i false))) (bit_at-limb ys i))

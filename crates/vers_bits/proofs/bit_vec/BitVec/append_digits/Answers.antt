@@ -1,4 +1,4 @@
-use Rattle.vers_bits.proofs.Names.{◌++◌, ◌-◌, ◌∙◌, false, length, replicate, ap, arith, length-append, low_bits, ◌+◌, ints, ◌≡◌}
+use Rattle.vers_bits.proofs.Names.{◌++◌, ◌-◌, ◌∙◌, false, length, replicate, ap, arith, length-append, low_bits, ◌+◌, ◌≡◌}
 use Rattle.vers_bits.proofs.LowBits.{length-low_bits, low_bits_past}
 use Rattle.std.proofs.lemmas.List.{append_assoc}
 use Rattle.vers_bits.proofs.bit_vec.BitVec.append_digits.Goals as goal
@@ -10,4 +10,4 @@ append_zeros-requires g c =
 pub returns-clause-grown : goal.returns-clause-grown
 returns-clause-grown g c =
     c.in_ok-append_zeros.ensures ∙ ap (λ l. l ++ replicate (c.args.n - 64) false) c.in_ok-append_bits.ensures.grown
-    ∙ (let whole : 64 + (c.args.n - 64) ≡ c.args.n = omega arith in grind (arith, ints, append_assoc, low_bits_past))
+    ∙ (let whole : 64 + (c.args.n - 64) ≡ c.args.n = omega arith in grind (arith, append_assoc, low_bits_past))

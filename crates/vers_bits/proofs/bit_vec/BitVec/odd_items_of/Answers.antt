@@ -1,4 +1,4 @@
-use Rattle.vers_bits.proofs.Names.{rules, ◌≡◌, ◌++◌, ◌∷◌, ◌≤◌, [], length, map, Err, ap, sym, ◌∙◌, arith, err_from_is_err_and, length-map, append-nil, map-append, low_bits, ints, length_push, length-append}
+use Rattle.vers_bits.proofs.Names.{rules, ◌≡◌, ◌++◌, ◌∷◌, ◌≤◌, [], length, map, Err, ap, sym, ◌∙◌, arith, err_from_is_err_and, length-map, append-nil, map-append, low_bits, length_push, length-append}
 use Rattle.vers_bits.specs.declared.bit_vec.fault.GrowError.TheVariants.{TooLong}
 use Rattle.vers_bits.specs.declared.bit_vec.TheConstants.{MAX_LEN}
 use Rattle.vers_bits.proofs.Words.{length-word_bits}
@@ -31,7 +31,7 @@ loop-item-preserved g c =
       small = omega arith;
       within = omega arith;
       room =
-          grind (arith, ints, length_push, length-append, length-low_bits);
+          grind (arith, length_push, length-append, length-low_bits);
     }
 
 pub returns-in_err-append-clause-refused : goal.returns-in_err-append-clause-refused
