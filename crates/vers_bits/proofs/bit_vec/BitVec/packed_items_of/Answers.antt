@@ -1,7 +1,14 @@
-use Rattle.vers_bits.proofs.Names.{◌≡◌, ◌+◌, ◌*◌, length, Err, ap, ◌∙◌, arith, err_from_is_err_and}
+use Rattle.vers_bits.proofs.Names.{◌≡◌, ◌+◌, ◌*◌, ◌++◌, [], length, Err, ap, ap₂, ◌∙◌, arith, err_from_is_err_and, low_bits}
+use Rattle.std.proofs.lemmas.List.{flat_map_more}
 use Rattle.vers_bits.specs.declared.bit_vec.fault.GrowError.TheVariants.{TooLong}
 use Rattle.vers_bits.proofs.Growing.{length-packed}
 use Rattle.vers_bits.proofs.bit_vec.BitVec.packed_items_of.Goals as goal
+
+pub loop-item-preserved : goal.loop-item-preserved
+loop-item-preserved g c =
+    let goes = c.in-Some.ensures.goes.on c.loop-item.invariant.ends in
+    let more = c.in_ok-append_digits.ensures.grown ∙ ap₂ (λ l n. l ++ low_bits n c.args.k) c.loop-item.invariant.packed c.number.ensures in
+    record { can = goes.0; ends = goes.1; packed = more ∙ flat_map_more (λ x. low_bits (g.T.Item.number x) c.args.k) [] _ _ }
 
 pub returns-in_err-append_digits-clause-refused : goal.returns-in_err-append_digits-clause-refused
 returns-in_err-append_digits-clause-refused g c =
