@@ -121,7 +121,7 @@ impl<A: Allocator + Copy> BitVec<A> {
     pub fn is_bit_set(&self, place: usize) -> Option<bool>
         ensures { result ≡ slice_get self.now place }
     {
-        if place >= self.len {
+        if place >= self.len() {
             return None;
         }
         Some((self.data[place / 64] >> (place % 64)) & 1 == 1)
@@ -131,7 +131,7 @@ impl<A: Allocator + Copy> BitVec<A> {
     pub fn get(&self, place: usize) -> Option<u64>
         ensures { result ≡ option_map bit_value (slice_get self.now place) }
     {
-        if place >= self.len {
+        if place >= self.len() {
             return None;
         }
         Some((self.data[place / 64] >> (place % 64)) & 1)

@@ -69,7 +69,7 @@ impl<A: Allocator + Copy> BitVec<A> {
         ensures none { len ≡ 0 → IsOk result }
         ensures room { 0 < length self.old % 64 → length self.old % 64 + len ≤ 64 → IsOk result }
     {
-        if len > MAX_LEN - self.len {
+        if len > MAX_LEN - self.len() {
             return Err(GrowError::TooLong);
         }
         if len == 0 {
