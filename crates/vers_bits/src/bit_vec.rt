@@ -176,7 +176,7 @@ impl<A: Allocator + Copy> BitVec<A> {
         ensures { result ≡ count true self.now (length self.now) }
     {
         // The limbs are few enough for their ones to be counted.
-        let _ = &self.len;
+        let _ = self.len();
         ones_of(self.limbs())
     }
 
@@ -215,7 +215,7 @@ impl<A: Allocator + Copy> BitVec<A> {
         ensures { result ≡ number (part self.now place n) }
     {
         // A place below the length is below `MAX_LEN`.
-        let _ = &self.len;
+        let _ = self.len();
         if n == 0 {
             return 0;
         }
@@ -233,7 +233,7 @@ impl<A: Allocator + Copy> BitVec<A> {
         ensures { result ≡ part_number self.now (index * n) n }
     {
         // A product past the machine's numbers is past `MAX_LEN`, and so past the length.
-        let _ = &self.len;
+        let _ = self.len();
         match index.checked_mul(n) {
             Some(place) => self.get_bits(place, n),
             None => None,
@@ -249,7 +249,7 @@ impl<A: Allocator + Copy> BitVec<A> {
         ensures { result ≡ number (part self.now (index * n) n) }
     {
         // A place below the length is below `MAX_LEN`.
-        let _ = &self.len;
+        let _ = self.len();
         self.get_bits_unchecked(index * n, n)
     }
 
