@@ -1,5 +1,5 @@
 -- The ones of the high parts that were read ahead.
-use Rattle.vers_sorted.proofs.Names.{◌≡◌, ℕ, ◌+◌, ◌-◌, ◌/◌, ◌^◌, ◌<◌, ◌≤◌, Bool, true, false, List, length, take, drop, get_or, sym, ap, subst, ◌∙◌, arith, Option, Some, None, w64, unwrap_or, trailing_zeros, IsNonDecreasing, pow-le-pow_right, get_or_past, length-take, drop-take, drop-drop, bit_at-trailing_zeros, number, count, select, bit_at-number, number-lt, number-drop, select_at, count_at_select, count_more_yes, part_bit, value_none, value_one, part_number_or_zero, high_parts, high_place, IsPacked, ints, rules}
+use Rattle.vers_sorted.proofs.Names.{◌≡◌, ℕ, ◌+◌, ◌-◌, ◌/◌, ◌^◌, ◌<◌, ◌≤◌, Bool, true, false, List, length, take, drop, get_or, sym, ap, subst, ◌∙◌, arith, Option, Some, None, w64, unwrap_or, trailing_zeros, IsNonDecreasing, pow-le-pow_right, get_or_past, length-take, drop-take, drop-drop, bit_at-trailing_zeros, number, count, select, bit_at-number, number-lt, number-drop, select_at, count_at_select, count_more_yes, part_bit, value_none, value_one, part_number_or_zero, high_parts, high_place, IsPacked, rules}
 use Rattle.vers_sorted.specs.declared.elias_fano.ahead.Ahead.{Ahead}
 use Rattle.vers_sorted.specs.inside.Ahead.{HasRead, IsAhead}
 use Rattle.vers_sorted.proofs.Holds.{hold_high}
@@ -28,7 +28,7 @@ module _ (l : List Bool) (p n : ℕ) (within : p + n ≤ length l) (few : n ≤ 
   rest t low =
       let e : t + 1 + (n - (t + 1)) ≡ n = omega arith in
       ap (λ x. x / 2 ^ 1) (sym (number-drop t (take n (drop p l))))
-      ∙ sym (grind (arith, ints, number-drop))
+      ∙ sym (grind (arith, number-drop))
       ∙ ap number (drop-drop 1 t (take n (drop p l)))
       ∙ ap (λ k. number (drop (t + 1) (take k (drop p l)))) (sym e)
       ∙ ap number (drop-take (t + 1) (n - (t + 1)) (drop p l))

@@ -1,5 +1,5 @@
 -- The ones beside a place, by the number of the bits there, and the members beside a bucket.
-use Rattle.vers_sorted.proofs.Names.{◌≡◌, ℕ, ◌+◌, ◌-◌, ◌<◌, ◌≤◌, Bool, true, false, List, length, take, drop, get_or, sym, ap, ◌∙◌, arith, Some, w64, bit_at, trailing_zeros, IsNonDecreasing, number, count, select, highest_bit, select_at, count_at_select, count_both, count_more_yes, part_bit, value_none, value_one, part_number_or_zero, first_of, last_of, high_of, high_parts, IsPacked, IsStart, IsBucket, Bucket, ints}
+use Rattle.vers_sorted.proofs.Names.{◌≡◌, ℕ, ◌+◌, ◌-◌, ◌<◌, ◌≤◌, Bool, true, false, List, length, take, drop, get_or, sym, ap, ◌∙◌, arith, Some, w64, bit_at, trailing_zeros, IsNonDecreasing, number, count, select, highest_bit, select_at, count_at_select, count_both, count_more_yes, part_bit, value_none, value_one, part_number_or_zero, first_of, last_of, high_of, high_parts, IsPacked, IsStart, IsBucket, Bucket}
 use Rattle.std.specs.Int.Count.{count_leading_zeros}
 use Rattle.vers_sorted.proofs.Scans.{part_read, count_stays}
 use Rattle.vers_sorted.proofs.Aheads.{small, lowest}
@@ -63,22 +63,22 @@ ones_around s h start up some within is =
     let same : start ≡ select false (high_parts s) h - h = grind arith in
     let place : h + start ≡ select false (high_parts s) h = omega (arith, zero.0) in
     let at = count_at_select false (high_parts s) h (omega (arith, zeros_counted s up some)) in
-    grind (arith, ints, count_both)
+    grind (arith, count_both)
 
 module _ {s : List ℕ} {high low : List Bool} {first last width : ℕ} (packed : IsPacked s high low first last width) where
   pub ones_past : (v : ℕ) (bucket : Bucket) → first_of s ≤ v → v ≤ last_of s → IsBucket s v bucket → bucket.end < length s
       → (bucket.high + bucket.end + 2 ≤ length high) × (count true high (bucket.high + bucket.end + 2) ≡ bucket.end)
   ones_past v bucket from to is more =
-      let around = ones_around s (high_of s v + 1) bucket.end packed.ascending (omega arith) (grind (arith, ints, high_up)) is.end in
+      let around = ones_around s (high_of s v + 1) bucket.end packed.ascending (omega arith) (grind (arith, high_up)) is.end in
       let place : bucket.high + bucket.end + 2 ≡ high_of s v + 1 + bucket.end + 1 = omega (arith, is.high) in
-      grind (arith, ints, high_same)
+      grind (arith, high_same)
 
   pub ones_before : (v : ℕ) (bucket : Bucket) → first_of s ≤ v → v ≤ last_of s → IsBucket s v bucket → 0 < bucket.start
       → (bucket.high + (bucket.start - 1) + 1 ≤ length high) × (count true high (bucket.high + (bucket.start - 1) + 1) ≡ bucket.start - 1 + 1)
   ones_before v bucket from to is some =
-      let around = ones_around s (high_of s v) bucket.start packed.ascending (omega (arith, is.start.within)) (grind (arith, ints, high_up)) is.start in
+      let around = ones_around s (high_of s v) bucket.start packed.ascending (omega (arith, is.start.within)) (grind (arith, high_up)) is.start in
       let place : bucket.high + (bucket.start - 1) + 1 ≡ high_of s v + bucket.start = omega (arith, is.high) in
-      grind (arith, ints, high_same)
+      grind (arith, high_same)
 
 pub ruleset ones_beside = (one_fits, one_read, back_fits, one_back)
 

@@ -1,5 +1,5 @@
 -- Low parts that are gathered in a word before they are appended.
-use Rattle.vers_sorted.proofs.Names.{◌≡◌, ℕ, ◌+◌, ◌-◌, ◌*◌, ◌/◌, ◌%◌, ◌^◌, ◌<◌, ◌≤◌, Bool, List, [], ◌++◌, length, sym, ap, ◌∙◌, append_assoc, arith, bit_and, bit_or, mul-mod_left, pow-le-pow_right, length-append, and_mask, div-mul-add, mod-mul-add, mod-pow-add, mod_below, mod_low, one_shl, or_lt, pow_pos, shl-shr, shl_below, shl_whole, shr_below, length-low_bits, low_bits-add, low_bits_of_rest, ints}
+use Rattle.vers_sorted.proofs.Names.{◌≡◌, ℕ, ◌+◌, ◌-◌, ◌*◌, ◌/◌, ◌%◌, ◌^◌, ◌<◌, ◌≤◌, Bool, List, [], ◌++◌, length, sym, ap, ◌∙◌, append_assoc, arith, bit_and, bit_or, mul-mod_left, pow-le-pow_right, length-append, and_mask, div-mul-add, mod-mul-add, mod-pow-add, mod_below, mod_low, one_shl, or_lt, pow_pos, shl-shr, shl_below, shl_whole, shr_below, length-low_bits, low_bits-add, low_bits_of_rest}
 use Rattle.std.specs.Int.Bits.{or_shifted_r}
 use Rattle.vers_bits.specs.Bits.{low_bits}
 
@@ -15,7 +15,7 @@ first_digits v k m few = sym (low_bits_of_rest (v % 2 ^ k) m) ∙ ap (λ r. low_
 -- a number put above n digits of a word loses those that don't fit
 shifted : (part n : ℕ) → n ≤ 64 → part * 2 ^ n % 18446744073709551616 ≡ part % 2 ^ (64 - n) * 2 ^ n
 shifted part n few =
-    let whole : 18446744073709551616 ≡ 2 ^ (64 - n + n) = grind (arith, ints) in
+    let whole : 18446744073709551616 ≡ 2 ^ (64 - n + n) = grind arith in
     rw (whole, mod-pow-add, shl-shr, mul-mod_left) (omega arith)
 
 -- its digits are those of both, as many as fit

@@ -1,5 +1,5 @@
 -- What the high and low parts of an ascending list say of its members.
-use Rattle.vers_sorted.proofs.Names.{◌≡◌, ℕ, zero, suc, ◌+◌, ◌-◌, ◌*◌, ◌^◌, ◌<◌, true, List, [], ◌∷◌, length, take, drop, ap, ◌∙◌, arith, slice_index, map, range_with_len, IsNonDecreasing, IsStrictlyIncreasing, mul_comm, same_number_lists, take-append-le, take_all, length-map, get_or-map, length-map-range_with_len, get_or-map-range_with_len, number, low_bits, pack, select, number-low_bits, length-low_bits, length-packed, first_of, low_width, high_of, high_length, high_place, member, HoldHigh, HoldLow, ints}
+use Rattle.vers_sorted.proofs.Names.{◌≡◌, ℕ, zero, suc, ◌+◌, ◌-◌, ◌*◌, ◌^◌, ◌<◌, true, List, [], ◌∷◌, length, take, drop, ap, ◌∙◌, arith, slice_index, map, range_with_len, IsNonDecreasing, IsStrictlyIncreasing, mul_comm, same_number_lists, take-append-le, take_all, length-map, get_or-map, length-map-range_with_len, get_or-map-range_with_len, number, low_bits, pack, select, number-low_bits, length-low_bits, length-packed, first_of, low_width, high_of, high_length, high_place, member, HoldHigh, HoldLow}
 use Rattle.std.proofs.Math.Seq.{drop-append-add}
 use Rattle.vers_sorted.specs.Layout.{low_of, high_parts, low_parts}
 use Rattle.vers_sorted.specs.inside.Parts.{members}
@@ -43,7 +43,7 @@ part-pack (x ∷ xs) w zero h = grind (arith, length-low_bits, take-append-le, t
 part-pack (x ∷ xs) w (suc i) h =
     let fits : length (low_bits x w) ≡ w = length-low_bits x w in
     let e : w * suc i ≡ length (low_bits x w) + w * i = omega (arith, mul_comm w (suc i), mul_comm w i, fits) in
-    grind (arith, ints, drop-append-add, part-pack xs w i (omega arith))
+    grind (arith, drop-append-add, part-pack xs w i (omega arith))
 
 pub hold_low : (s : List ℕ) → HoldLow s (low_parts s)
 unfolding low_parts low_of
@@ -58,7 +58,7 @@ packs s up =
     let lows : HoldLow s (low_parts s) = hold_low s in
     same_number_lists _ s (length-map-range_with_len (member (high_parts s) (low_parts s) (first_of s) (low_width s)) 0 (length s))
     (λ k h.
-    let short : k < length s = grind (arith, ints, length-map-range_with_len, member) in
+    let short : k < length s = grind (arith, length-map-range_with_len, member) in
     let q : select true (high_parts s) k - k - 1 ≡ high_of s (slice_index s k) = omega (arith, highs.place k short) in
     get_or-map-range_with_len (member (high_parts s) (low_parts s) (first_of s) (low_width s)) 0 (length s) k k 0 short (omega arith)
     ∙ ap (λ v. first_of s + (2 ^ low_width s * v + number (take (low_width s) (drop (low_width s * k) (low_parts s))))) q

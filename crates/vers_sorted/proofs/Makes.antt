@@ -1,5 +1,5 @@
 -- How high and low parts are made.
-use Rattle.vers_sorted.proofs.Names.{◌≡◌, ◌==◌, ℕ, ◌+◌, ◌-◌, ◌*◌, ◌/◌, ◌^◌, ◌<◌, ◌≤◌, true, false, Bool, List, [], ◌∷◌, ◌++◌, length, take, drop, Option, Some, None, unwrap_or, refl, sym, ap, ◌∙◌, arith, inl, inr, set, replicate, mul-le-mul_left, mul_comm, zero-div, slice_index, slice_get, map, if◌then◌else◌, range_with_len, IsNonDecreasing, cases_lt, get_or_past, append-nil, map-append, take_all, take_more, length-map, length-take, length-drop, drop-drop, get_or-drop, slice_get-get_or, slice_get_past, get_or_from_slice_get, map-range_with_len_more, flat_map-append, low_bits, pack, ones_at, first_of, last_of, width, high_place, get_or-replicate, length-replicate, same_lists, ints}
+use Rattle.vers_sorted.proofs.Names.{◌≡◌, ◌==◌, ℕ, ◌+◌, ◌-◌, ◌*◌, ◌/◌, ◌^◌, ◌<◌, ◌≤◌, true, false, Bool, List, [], ◌∷◌, ◌++◌, length, take, drop, Option, Some, None, unwrap_or, refl, sym, ap, ◌∙◌, arith, inl, inr, set, replicate, mul-le-mul_left, mul_comm, zero-div, slice_index, slice_get, map, if◌then◌else◌, range_with_len, IsNonDecreasing, cases_lt, get_or_past, append-nil, map-append, take_all, take_more, length-map, length-take, length-drop, drop-drop, get_or-drop, slice_get-get_or, slice_get_past, get_or_from_slice_get, map-range_with_len_more, flat_map-append, low_bits, pack, ones_at, first_of, last_of, width, high_place, get_or-replicate, length-replicate, same_lists}
 use Rattle.vers_bits.specs.Walk.{TakesFirst}
 use Rattle.vers_sorted.specs.Layout.{low_width, high_of, high_length, high_parts, low_parts}
 use Rattle.vers_sorted.specs.inside.Parts.{first_high_parts, first_low_parts}
@@ -58,7 +58,7 @@ pub low_next : (s : List ℕ) (i : ℕ) → i < length s → first_low_parts s i
 unfolding first_low_parts
 low_next s i h =
     sym (ap (λ l. pack (map (λ m. m - first_of s) l) (low_width s)) (take_more s i 0 h)
-    ∙ ap (λ l. pack l (low_width s)) (grind (arith, ints, map-append))
+    ∙ ap (λ l. pack l (low_width s)) (grind (arith, map-append))
     ∙ flat_map-append (λ v. low_bits v (low_width s)) (map (λ m. m - first_of s) (take i s)) ((slice_index s i - first_of s) ∷ [])
     ∙ ap (λ l. pack (map (λ m. m - first_of s) (take i s)) (low_width s) ++ l) (append-nil (low_bits (slice_index s i - first_of s) (low_width s))))
 
@@ -90,8 +90,8 @@ all_taken s rest new i here within t = grind (arith, length-drop i s, slice_get-
 
 -- the first, or 0
 pub first_taken : (s new : List ℕ) (taken : Option ℕ) → TakesFirst s taken new → unwrap_or taken 0 ≡ first_of s
-first_taken s new None t = grind (arith, ints, first_none, all_taken)
-first_taken s new (Some v) t = grind (arith, ints, taken_at)
+first_taken s new None t = grind (arith, first_none, all_taken)
+first_taken s new (Some v) t = grind (arith, taken_at)
 
 pub ruleset ends = (first_none, last_none, first_last, first_taken)
 
@@ -105,8 +105,8 @@ pub one_place : (s rest new : List ℕ) (i v first width : ℕ) → IsNonDecreas
     → ((v - first) / 2 ^ width + i + 1 ≡ high_place s i) × (high_place s i < high_length s)
 one_place s rest new i v first width up f w here t =
     let at = taken_at s rest new i v here t in
-    let high : (v - first) / 2 ^ width ≡ high_of s (slice_index s i) = grind (arith, ints, high_part_is) in
-    grind (arith, ints, place_within)
+    let high : (v - first) / 2 ^ width ≡ high_of s (slice_index s i) = grind (arith, high_part_is) in
+    grind (arith, place_within)
 
 -- the parts with those of one number more
 pub one_more : (s rest new : List ℕ) (high set_high : List Bool) (i v first width : ℕ) → IsNonDecreasing s → first ≡ first_of s → width ≡ low_width s → rest ≡ drop i s → TakesFirst rest (Some v) new
@@ -128,7 +128,7 @@ high_len_is s n first last width bits same f l w is = grind (arith, high_part_is
 pub high_sum_fits : (s : List ℕ) (n first last width : ℕ) → n ≡ length s → first ≡ first_of s → last ≡ last_of s → width ≡ low_width s → n < 1152921504606846976
     → 2 + n + (last - first) / 2 ^ width ≤ 2305843009213693954
 high_sum_fits s n first last width same f l w few =
-    let high : (last - first) / 2 ^ width ≡ high_of s (last_of s) = grind (arith, ints, high_part_is) in
+    let high : (last - first) / 2 ^ width ≡ high_of s (last_of s) = grind (arith, high_part_is) in
     elim (cases_lt 0 (length s)) [
       | inl some ↦ omega (arith, high, high_zeros s some, high_fits s (omega arith))
       | inr none ↦

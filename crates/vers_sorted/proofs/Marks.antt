@@ -1,5 +1,5 @@
 -- The ones or the zeros of a limb, from the lowest up.
-use Rattle.vers_sorted.proofs.Names.{◌≡◌, ℕ, ◌+◌, ◌-◌, ◌*◌, ◌/◌, ◌%◌, ◌^◌, ◌<◌, ◌≤◌, Bool, true, false, List, [], ◌∷◌, ◌++◌, length, take, get_or, not, refl, sym, ap, subst, ◌∙◌, arith, inl, inr, min, w64, bit_at, bit_not, trailing_zeros, trailing_of_zero, cases_lt, shr-shr, bit_at-trailing_zeros, bit_at_not, bit_value, is_bit, count, places, limb, AreMarked, value_none, value_one, limb_bit, count_past, ints, rules}
+use Rattle.vers_sorted.proofs.Names.{◌≡◌, ℕ, ◌+◌, ◌-◌, ◌*◌, ◌/◌, ◌%◌, ◌^◌, ◌<◌, ◌≤◌, Bool, true, false, List, [], ◌∷◌, ◌++◌, length, take, get_or, not, refl, sym, ap, subst, ◌∙◌, arith, inl, inr, min, w64, bit_at, bit_not, trailing_zeros, trailing_of_zero, cases_lt, shr-shr, bit_at-trailing_zeros, bit_at_not, bit_value, is_bit, count, places, limb, AreMarked, value_none, value_one, limb_bit, count_past, rules}
 use Rattle.vers_sorted.proofs.Scans.{count_stays}
 use Rattle.vers_sorted.proofs.SparseBits.{first_places_more}
 
@@ -32,7 +32,7 @@ module _ (b : Bool) (l : List Bool) (p n w : ℕ) (within : p + n ≤ length l) 
   below_lowest : (i : ℕ) → i < trailing_zeros w64 w → bit_at w i ≡ 0
   below_lowest i h = elim (cases_lt 0 w) [
     | inl some ↦ (bit_at-trailing_zeros w64 w some fits).2 i h
-    | inr none ↦ omega (arith, ints)
+    | inr none ↦ omega arith
   ]
 
   off : (i : ℕ) → i < n → i < trailing_zeros w64 w → is_bit b (get_or l (p + i) false) ≡ false
@@ -41,7 +41,7 @@ module _ (b : Bool) (l : List Bool) (p n w : ℕ) (within : p + n ≤ length l) 
   on : trailing_zeros w64 w < n → is_bit b (get_or l (p + trailing_zeros w64 w) false) ≡ true
   on h = elim (cases_lt 0 w) [
     | inl some ↦ value_one (is_bit b (get_or l (p + trailing_zeros w64 w) false)) (sym (marked (trailing_zeros w64 w) h) ∙ (bit_at-trailing_zeros w64 w some fits).1)
-    | inr none ↦ grind (arith, ints, trailing_of_zero)
+    | inr none ↦ grind (arith, trailing_of_zero)
   ]
 
   -- its place is the next, where it is one of the n

@@ -11,7 +11,6 @@ pub use Rattle.std.proofs.lemmas.List.Sums.{AllPass-from_list_all, count_by-le-l
 pub use Rattle.std.proofs.lemmas.Nat.{and_mask, div-mul-add, leading_length, mod-mul-add, mod-pow-add, mod_below, mod_low, one_shl, or_lt, or_shifted, pow-add, pow_pos, shl-shr, shl_below, shl_whole, shr-shr, shr_below}
 pub use Rattle.std.proofs.lemmas.Nat.Bits.{bit_at-trailing_ones, bit_at-trailing_zeros, bit_at-zero, bit_at_not}
 pub use Rattle.std.proofs.lemmas.Option.{cond_some, get_or_from_slice_get, slice_get-get_or, slice_get_past, slice_get_within}
-pub use Rattle.std.proofs.lemmas.Int.{ints}
 pub use Rattle.std.specs.Int.{bit_at, bit_not, trailing_ones, trailing_zeros}
 pub use Rattle.std.specs.Int.Count.{trailing_of_zero}
 pub use Rattle.std.specs.List.{IsAllAdjacentAnswer, count_by, list_all, list_any, range_with_len}

@@ -1,15 +1,15 @@
 -- The members next to a number.
-use Rattle.vers_sorted.proofs.Names.{◌≡◌, ℕ, ◌+◌, ◌-◌, ◌<◌, ◌≤◌, Bool, List, length, refl, sym, ap, ◌∙◌, arith, Some, None, slice_index, slice_get, IsNonDecreasing, le-leb, lt-leb, ne_eqb, below, slice_get-get_or, slice_get_past, find_is, none_passing, last_passing_is, IsPacked, ints}
+use Rattle.vers_sorted.proofs.Names.{◌≡◌, ℕ, ◌+◌, ◌-◌, ◌<◌, ◌≤◌, Bool, List, length, refl, sym, ap, ◌∙◌, arith, Some, None, slice_index, slice_get, IsNonDecreasing, le-leb, lt-leb, ne_eqb, below, slice_get-get_or, slice_get_past, find_is, none_passing, last_passing_is, IsPacked}
 use Rattle.vers_sorted.specs.Sorted.{greatest_not_above, least_not_below, delta}
 use Rattle.vers_sorted.proofs.Below.{below_le, below_up, below_from, below_to, below_before, below_after, none_below, all_below}
 
 pub succ_is : (s : List ℕ) (v : ℕ) → IsNonDecreasing s → least_not_below s v ≡ slice_get s (below s v)
 unfolding least_not_below
-succ_is s v up = grind (arith, ints, find_is, below_le, lt-leb, below_before, le-leb, below_after)
+succ_is s v up = grind (arith, find_is, below_le, lt-leb, below_before, le-leb, below_after)
 
 pub pred_none : (s : List ℕ) (v : ℕ) → IsNonDecreasing s → below s (v + 1) ≡ 0 → greatest_not_above s v ≡ None
 unfolding greatest_not_above
-pred_none s v up e = grind (arith, ints, none_passing, lt-leb, below_after)
+pred_none s v up e = grind (arith, none_passing, lt-leb, below_after)
 
 pub pred_some : (s : List ℕ) (v : ℕ) → IsNonDecreasing s → 0 < below s (v + 1) → greatest_not_above s v ≡ slice_get s (below s (v + 1) - 1)
 unfolding greatest_not_above
@@ -24,7 +24,7 @@ pub succ_at : (s : List ℕ) (v k : ℕ) → IsNonDecreasing s → k ≡ below s
 succ_at s v k up e h = succ_is s v up ∙ ap (slice_get s) (sym e) ∙ slice_get-get_or s k 0 h
 
 pub pred_at : (s : List ℕ) (v k : ℕ) → IsNonDecreasing s → k ≡ below s (v + 1) → 0 < k → greatest_not_above s v ≡ Some (slice_index s (k - 1))
-pred_at s v k up e some = grind (arith, ints, pred_some, slice_get-get_or, below_le)
+pred_at s v k up e some = grind (arith, pred_some, slice_get-get_or, below_le)
 
 -- one member at least is below a number above the first, and one at least is not below a number up to the last
 pub some_below : (s : List ℕ) (v : ℕ) → IsNonDecreasing s → 0 < length s → slice_index s 0 < v → 0 < below s v
@@ -37,7 +37,7 @@ some_left s v up some more = omega (arith, below_to s v (length s - 1) up (omega
 
 pub delta_first : {s : List ℕ} {high low : List Bool} {first last width : ℕ} (i : ℕ) → IsPacked s high low first last width → i < length s → i ≡ 0 → delta s i ≡ Some first
 unfolding delta
-delta_first {s} i packed some e = grind (arith, ints, slice_get-get_or)
+delta_first {s} i packed some e = grind (arith, slice_get-get_or)
 
 pub delta_later : (s : List ℕ) (i : ℕ) → i < length s → 0 < i → delta s i ≡ Some (slice_index s i - slice_index s (i - 1))
 unfolding delta

@@ -1,5 +1,5 @@
 -- The bits whose ones stand at given places: their counts, their places, and how they come about.
-use Rattle.vers_sorted.proofs.Names.{◌≡◌, ℕ, zero, suc, ◌+◌, ◌-◌, ◌<◌, ◌≤◌, Bool, true, false, ◌⊎◌, List, [], ◌∷◌, ◌++◌, length, get_or, refl, sym, ap, ◌∙◌, arith, inl, inr, eqb, set, slice_index, map, ◌||◌, list_any, IsNonDecreasing, IsStrictlyIncreasing, cases_lt, cases_Bool, ne_eqb, eq-eqb, eqb-true, same_number_lists, same_lists, get_or-set_same, get_or-set_other, length-set, get_or-map, length-map, length-map-range_with_len, map-id, get_or-map-range_with_len, get_or_default, is_bit, count, places, count_none, count_up, count_more_yes, count_more_no, select_at, length-places, select_is_place, select_up, IsPlace, below, ints, rules}
+use Rattle.vers_sorted.proofs.Names.{◌≡◌, ℕ, zero, suc, ◌+◌, ◌-◌, ◌<◌, ◌≤◌, Bool, true, false, ◌⊎◌, List, [], ◌∷◌, ◌++◌, length, get_or, refl, sym, ap, ◌∙◌, arith, inl, inr, eqb, set, slice_index, map, ◌||◌, list_any, IsNonDecreasing, IsStrictlyIncreasing, cases_lt, cases_Bool, ne_eqb, eq-eqb, eqb-true, same_number_lists, same_lists, get_or-set_same, get_or-set_other, length-set, get_or-map, length-map, length-map-range_with_len, map-id, get_or-map-range_with_len, get_or_default, is_bit, count, places, count_none, count_up, count_more_yes, count_more_no, select_at, length-places, select_is_place, select_up, IsPlace, below, rules}
 use Rattle.std.proofs.lemmas.List.Folds.{list_any-from_Any, Any-from_list_any, list_any_none, list_any-append}
 use Rattle.std.proofs.lemmas.List.Kept.{AllPairs-from_increasing}
 use Rattle.vers_bits.specs.Bits.{select}
@@ -21,10 +21,10 @@ any_member s v k h e = search (rules, list_any-from_Any, get_or_default, eq-eqb)
 
 pub no_member : (s : List ℕ) (v : ℕ) → ((k : ℕ) → k < length s → get_or s k 0 ≡ v → ⊥) → list_any (λ q. eqb q v) s ≡ false
 no_member s v none =
-    list_any_none (λ q. eqb q v) s (λ k d h. grind (arith, ints, ne_eqb, get_or_default))
+    list_any_none (λ q. eqb q v) s (λ k d h. grind (arith, ne_eqb, get_or_default))
 
 pub member_place : (s : List ℕ) (v : ℕ) → list_any (λ q. eqb q v) s ≡ true → (k : ℕ) × (k < length s) × (get_or s k 0 ≡ v)
-member_place s v on = grind (arith, ints, Any-from_list_any, get_or_default, eqb-true)
+member_place s v on = grind (arith, Any-from_list_any, get_or_default, eqb-true)
 
 or_yes : (a b : Bool) → b ≡ true → (a || (b || false)) ≡ true
 or_yes true b e = refl
@@ -38,11 +38,11 @@ or_no false b e = rw e refl
 
 module _ (s : List ℕ) (up : IsStrictlyIncreasing s) where
   pub ascends : IsNonDecreasing s
-  ascends i j d h short = grind (arith, ints, cases_lt, AllPairs-from_increasing)
+  ascends i j d h short = grind (arith, cases_lt, AllPairs-from_increasing)
 
   -- as many are below a member as stand before it
   pub below_member : (r : ℕ) → r < length s → below s (slice_index s r) ≡ r
-  below_member r h = below_at s (slice_index s r) r ascends (omega arith) (λ some. grind (arith, ints, AllPairs-from_increasing)) (λ _. omega arith)
+  below_member r h = below_at s (slice_index s r) r ascends (omega arith) (λ some. grind (arith, AllPairs-from_increasing)) (λ _. omega arith)
 
   -- a number that is a member
   below_held : (v : ℕ) → below s v < length s → slice_index s (below s v) ≡ v → below s (v + 1) ≡ below s v + 1
@@ -51,7 +51,7 @@ module _ (s : List ℕ) (up : IsStrictlyIncreasing s) where
   -- and one that is none
   below_free : (v : ℕ) → (below s v < length s → slice_index s (below s v) ≡ v → ⊥) → below s (v + 1) ≡ below s v
   below_free v none =
-      below_at s (v + 1) (below s v) ascends (below_le s v) (λ some. grind (arith, ints, below_before, ascends))
+      below_at s (v + 1) (below s v) ascends (below_le s v) (λ some. grind (arith, below_before, ascends))
       (λ h. omega (arith, none h, below_after s v (below s v) ascends (omega arith) h))
 
   -- whether v is a member, by the member that `below` names
@@ -60,7 +60,7 @@ module _ (s : List ℕ) (up : IsStrictlyIncreasing s) where
   member_test v = grind (arith, member_place, below_member, below_held, below_free, any_member)
 
   pub count-ones_at : (n i : ℕ) → i ≤ n → count true (ones_at s n) i ≡ below s i
-  count-ones_at n zero h = grind (arith, ints, count_none, none_below, ascends)
+  count-ones_at n zero h = grind (arith, count_none, none_below, ascends)
   count-ones_at n (suc i) h =
       let e : suc i ≡ i + 1 = omega arith in
       let before : count true (ones_at s n) i ≡ below s i = count-ones_at n i (omega arith) in
@@ -72,7 +72,7 @@ module _ (s : List ℕ) (up : IsStrictlyIncreasing s) where
   select-ones_at n r h within =
       let p : ℕ = slice_index s r in
       select_at true (ones_at s n) r p (omega (arith, length-ones_at s n))
-      (grind (arith, ints, get_or-ones_at, any_member))
+      (grind (arith, get_or-ones_at, any_member))
       (count-ones_at n p (omega arith) ∙ below_member r h)
 
   -- all are below n
@@ -81,7 +81,7 @@ module _ (s : List ℕ) (up : IsStrictlyIncreasing s) where
 
   pub places-ones_at : (n : ℕ) → (0 < length s → slice_index s (length s - 1) < n) → places true (ones_at s n) ≡ s
   unfolding select
-  places-ones_at n within = grind (arith, ints, length-places, all_ones, same_number_lists, ascends, get_or_default, select-ones_at)
+  places-ones_at n within = grind (arith, length-places, all_ones, same_number_lists, ascends, get_or_default, select-ones_at)
 
 -- ---- how such bits come about
 
@@ -95,7 +95,7 @@ pub places_rise : (b : Bool) (l : List Bool) → IsStrictlyIncreasing (places b 
 unfolding select
 places_rise b l k h =
     let more : k + 1 < count b l (length l) = omega (arith, length-places b l) in
-    let step : select b l k < select b l (k + 1) = grind (arith, ints, select_up) in
+    let step : select b l k < select b l (k + 1) = grind (arith, select_up) in
     omega (arith, step, get_or_default (places b l) k 0 (length l) (omega arith), get_or_default (places b l) (k + 1) 0 (length l) h)
 
 pub places_within : (b : Bool) (l : List Bool) (k : ℕ) → k < length (places b l) → slice_index (places b l) k < length l
@@ -106,7 +106,7 @@ pub ones_at-places : (b : Bool) (l : List Bool) → ones_at (places b l) (length
 unfolding select
 ones_at-places b l =
     same_lists _ _ (length-ones_at (places b l) (length l) ∙ sym (length-map l (is_bit b))) (λ k d h.
-    let short : k < length l = grind (arith, ints, length-ones_at) in
+    let short : k < length l = grind (arith, length-ones_at) in
     get_or-ones_at (places b l) (length l) k d short
     ∙ elim (cases_Bool (is_bit b (get_or l k false))) [
       | inl on ↦

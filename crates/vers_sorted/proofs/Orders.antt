@@ -1,5 +1,5 @@
 -- Numbers that stand in an order, each to the next.
-use Rattle.vers_sorted.proofs.Names.{◌≡◌, ℕ, zero, suc, ◌<◌, Bool, true, false, List, [], ◌∷◌, length, get_or, nat_le, nat_lt, refl, sym, arith, add-one, ◌↔◌, All, IsTrue, IsAllAdjacentAnswer, list_all, IsNonDecreasing, IsStrictlyIncreasing, leb-true, le-leb, ltb-true, lt-ltb, get_or_default, IsNonDecreasingBy-from_all_adjacent, AllPass-from_list_all, list_all-from_AllPass, each_next, ints}
+use Rattle.vers_sorted.proofs.Names.{◌≡◌, ℕ, zero, suc, ◌<◌, Bool, true, false, List, [], ◌∷◌, length, get_or, nat_le, nat_lt, refl, sym, arith, add-one, ◌↔◌, All, IsTrue, IsAllAdjacentAnswer, list_all, IsNonDecreasing, IsStrictlyIncreasing, leb-true, le-leb, ltb-true, lt-ltb, get_or_default, IsNonDecreasingBy-from_all_adjacent, AllPass-from_list_all, list_all-from_AllPass, each_next}
 use Rattle.std.proofs.Math.Bool.{◌&&◌, and-false}
 
 -- number k and the next
@@ -22,7 +22,7 @@ each_next-false order (x ∷ y ∷ xs) (suc k) l h = rw (each_next-false order (
 
 -- what a test of all neighbours answers
 pub each_next-answer : (order : ℕ → ℕ → Bool) (xs : List ℕ) (r : Bool) → IsAllAdjacentAnswer (λ x y b. b ≡ order x y) xs r → r ≡ each_next order xs
-each_next-answer order xs true h = grind (arith, ints, each_next-true, add-one)
+each_next-answer order xs true h = grind (arith, each_next-true, add-one)
 each_next-answer order xs false h = sym (each_next-false order xs h.0 (omega (arith, h.1)) (rw (← add-one h.0) (sym (h.2 0))))
 
 -- both sides of a conjunction
@@ -34,7 +34,7 @@ both false b h = cc
 each_next-at : (order : ℕ → ℕ → Bool) (xs : List ℕ) (k : ℕ) → suc k < length xs → each_next order xs ≡ true → pair_at order xs k ≡ true
 each_next-at order [] k l h = absurd (omega arith)
 each_next-at order (x ∷ []) k l h = absurd (omega arith)
-each_next-at order (x ∷ y ∷ xs) zero l h = grind (arith, ints, both)
+each_next-at order (x ∷ y ∷ xs) zero l h = grind (arith, both)
 each_next-at order (x ∷ y ∷ xs) (suc k) l h = each_next-at order (y ∷ xs) k (omega arith) (both (order x y) (each_next order (y ∷ xs)) h).1
 
 rising : (xs : List ℕ) → each_next nat_lt xs ≡ true → IsStrictlyIncreasing xs
@@ -43,7 +43,7 @@ rising xs h k l = rw (add-one k) (ltb-true _ _ (each_next-at nat_lt xs k (omega 
 ascending : (xs : List ℕ) → each_next nat_le xs ≡ true → IsNonDecreasing xs
 ascending xs h = IsNonDecreasingBy-from_all_adjacent (λ x. x) xs (λ k d l.
     rw (add-one k, get_or_default xs k d 0 (omega arith), get_or_default xs (suc k) d 0 (omega arith))
-    (grind (arith, ints, leb-true, each_next-at)))
+    (grind (arith, leb-true, each_next-at)))
 
 -- what the tests of a caller answer
 pub ascending_is : (xs : List ℕ) (r : Bool) → r ≡ each_next nat_le xs → IsTrue r ↔ IsNonDecreasing xs
@@ -53,4 +53,4 @@ pub rising_is : (xs : List ℕ) (r : Bool) → r ≡ each_next nat_lt xs → IsT
 rising_is xs r e = grind (arith, rising, each_next-true, nat_lt, lt-ltb, add-one)
 
 pub below_is : (xs : List ℕ) (limit : ℕ) (r : Bool) → r ≡ list_all (λ n. nat_lt n limit) xs → IsTrue r ↔ All (λ n. n < limit) xs
-below_is xs limit r e = grind (arith, ints, ltb-true, AllPass-from_list_all, list_all-from_AllPass, lt-ltb)
+below_is xs limit r e = grind (arith, ltb-true, AllPass-from_list_all, list_all-from_AllPass, lt-ltb)

@@ -1,13 +1,13 @@
 -- The next zero or one, by the number of the bits that follow.
-use Rattle.vers_sorted.proofs.Names.{◌≡◌, ℕ, zero, suc, ◌+◌, ◌<◌, ◌≤◌, Bool, true, false, List, length, take, drop, get_or, sym, ap, ◌∙◌, arith, Some, w64, trailing_ones, leb-true, and_parts, cond_some, bit_at-trailing_ones, is_bit, number, count, select, count_le, select_at, count_at_select, count_more_no, part_bit, value_none, value_one, ints}
+use Rattle.vers_sorted.proofs.Names.{◌≡◌, ℕ, zero, suc, ◌+◌, ◌<◌, ◌≤◌, Bool, true, false, List, length, take, drop, get_or, sym, ap, ◌∙◌, arith, Some, w64, trailing_ones, leb-true, and_parts, cond_some, bit_at-trailing_ones, is_bit, number, count, select, count_le, select_at, count_at_select, count_more_no, part_bit, value_none, value_one}
 use Rattle.vers_rank.specs.Queries.{part_number_or_zero}
 
 -- where no place of a stretch holds the bit, the count stays
 pub count_stays : (b : Bool) (l : List Bool) (p d : ℕ) → p + d ≤ length l → ((i : ℕ) → i < d → is_bit b (get_or l (p + i) false) ≡ false) → count b l (p + d) ≡ count b l p
-count_stays b l p zero h off = grind (arith, ints)
+count_stays b l p zero h off = grind arith
 count_stays b l p (suc d) h off =
     let e : p + suc d ≡ p + d + 1 = omega arith in
-    grind (arith, ints, count_more_no, count_stays b l p d (omega arith) (λ i small. off i (omega arith)))
+    grind (arith, count_more_no, count_stays b l p d (omega arith) (λ i small. off i (omega arith)))
 
 -- the next zero, from the number of the next 64 bits, where they are not all ones
 pub next_zero : (l : List Bool) (p h : ℕ) → p + 64 ≤ length l → count false l p ≡ h → number (take 64 (drop p l)) + 1 < 18446744073709551616

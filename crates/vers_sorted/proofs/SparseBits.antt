@@ -1,5 +1,5 @@
 -- The queries of a sparse list of bits, by those of the list of its ones' places.
-use Rattle.vers_sorted.proofs.Names.{◌≡◌, ℕ, ◌+◌, ◌-◌, ◌<◌, ◌≤◌, Bool, true, false, List, [], ◌∷◌, ◌++◌, length, take, get_or, eqb, sym, ap, ◌∙◌, arith, inl, inr, min, Some, None, slice_index, slice_get, map, IsNonDecreasing, cases_lt, eq-eqb, ne_eqb, get_or_default, map-id, take_more, take_all, slice_get-get_or, slice_get_past, slice_get_within, get_or_from_slice_get, is_bit, count, places, count_none, count_both, count_past, count_up, select_at, select_past, length-places, count_more_yes, below, least_not_below, ones_at, AreSparse, ints}
+use Rattle.vers_sorted.proofs.Names.{◌≡◌, ℕ, ◌+◌, ◌-◌, ◌<◌, ◌≤◌, Bool, true, false, List, [], ◌∷◌, ◌++◌, length, take, get_or, eqb, sym, ap, ◌∙◌, arith, inl, inr, min, Some, None, slice_index, slice_get, map, IsNonDecreasing, cases_lt, eq-eqb, ne_eqb, get_or_default, map-id, take_more, take_all, slice_get-get_or, slice_get_past, slice_get_within, get_or_from_slice_get, is_bit, count, places, count_none, count_both, count_past, count_up, select_at, select_past, length-places, count_more_yes, below, least_not_below, ones_at, AreSparse}
 use Rattle.vers_bits.specs.Bits.{select}
 use Rattle.vers_sorted.proofs.Below.{below_le, below_from, below_to, below_after, all_below}
 use Rattle.vers_sorted.proofs.Neighbours.{succ_is}
@@ -23,7 +23,7 @@ module _ {s : List ℕ} {n : ℕ} (sparse : AreSparse s n) where
   select_none r e =
       elim (cases_lt r (length s)) [
         | inl h ↦ let some = slice_get-get_or s r 0 h in absurd (cc (e, some))
-        | inr past ↦ grind (arith, ints, select_past, all_ones, last_within, length-ones_at)
+        | inr past ↦ grind (arith, select_past, all_ones, last_within, length-ones_at)
       ]
 
   -- the bit at a place, by the least member that is not below it
@@ -41,7 +41,7 @@ module _ {s : List ℕ} {n : ℕ} (sparse : AreSparse s n) where
 
   pub bit_none : (p : ℕ) → p < n → least_not_below s p ≡ None → get_or (ones_at s n) p false ≡ false
   bit_none p within e =
-      let at : slice_get s (below s p) ≡ None = grind (arith, ints, succ_is, ascends) in
+      let at : slice_get s (below s p) ≡ None = grind (arith, succ_is, ascends) in
       elim (cases_lt (below s p) (length s)) [
         | inl h ↦ let some = slice_get-get_or s (below s p) 0 h in absurd (cc (at, some))
         | inr past ↦
@@ -53,7 +53,7 @@ pub members_few : {s : List ℕ} {n : ℕ} → AreSparse s n → length s ≤ le
 members_few {s} {n} sparse = omega (arith, all_ones s sparse.rising n (last_within sparse), count_both (ones_at s n) (length (ones_at s n)))
 
 pub member_few : {s : List ℕ} {n : ℕ} → AreSparse s n → (r v : ℕ) → slice_get s r ≡ Some v → v ≤ length (ones_at s n)
-member_few {s} {n} sparse r v e = grind (arith, ints, slice_get_within, get_or_from_slice_get, length-ones_at)
+member_few {s} {n} sparse r v e = grind (arith, slice_get_within, get_or_from_slice_get, length-ones_at)
 
 -- ---- from the places of a list's bits
 
@@ -77,12 +77,12 @@ pub first_places_more : (b : Bool) (l : List Bool) (i : ℕ) → i < length l �
     → take (count b l (i + 1)) (places b l) ≡ take (count b l i) (places b l) ++ i ∷ []
 unfolding select
 first_places_more b l i h on =
-    let at : get_or (places b l) (count b l i) (length l) ≡ i = grind (arith, ints, select_at) in
+    let at : get_or (places b l) (count b l i) (length l) ≡ i = grind (arith, select_at) in
     grind (arith, count_more_yes, length-places, count_up, select_at, take_more)
 
 -- past the last limb
 pub first_places_end : (b : Bool) (l : List Bool) (i : ℕ) → length l ≤ i → take (count b l i) (places b l) ≡ places b l
-first_places_end b l i h = ap (λ n. take n (places b l)) (count_past b l i h) ∙ grind (arith, ints, take_all, length-places)
+first_places_end b l i h = ap (λ n. take n (places b l)) (count_past b l i h) ∙ grind (arith, take_all, length-places)
 
 pub zeros_are : (l : List Bool) (i : ℕ) → min i (length l) - count true l i ≡ count false l i
 zeros_are l i = omega (arith, count_both l i)

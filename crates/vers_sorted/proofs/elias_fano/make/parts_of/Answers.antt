@@ -1,4 +1,4 @@
-use Rattle.vers_sorted.proofs.Names.{◌≡◌, ◌+◌, ◌*◌, length, ap, ◌∙◌, arith, low_width, first_high_parts, first_low_parts, ints}
+use Rattle.vers_sorted.proofs.Names.{◌≡◌, ◌+◌, ◌*◌, length, ap, ◌∙◌, arith, low_width, first_high_parts, first_low_parts}
 use Rattle.vers_sorted.proofs.Lengths.{high_fits, low_fits}
 use Rattle.vers_sorted.proofs.Gathers.{none_gathered, so_many}
 use Rattle.vers_sorted.proofs.Makes.{taken_at, all_taken, taken_above, one_place, one_more, high_len_is, high_sum_fits, high_start, high_all, length-first_high_parts, low_start, low_length, low_all, low_next}
@@ -68,7 +68,7 @@ loop-number-preserved g c =
       high = one_more s _ _ c.loop-number.high _ c.loop-number.i c.in-Some.number c.args.first c.args.width c.requires.ascending c.requires.first c.requires.width
           c.loop-number.invariant.left c.in-Some.ensures c.loop-number.invariant.high c.set_unchecked.ensures;
       gathered = c.in_ok-gathered.ensures.gathered;
-      low = grind (arith, ints, taken_at, low_next);
+      low = grind (arith, taken_at, low_next);
     }
 
 pub returns-clause-high : goal.returns-clause-high
