@@ -5,7 +5,6 @@ pub use Rattle.std.proofs.lemmas.Bool.{cases_lt, cond-false, cond-true, le-leb, 
 pub use Rattle.std.proofs.lemmas.List.{get_or_append_left, get_or_push, length_push}
 pub use Rattle.std.proofs.lemmas.Nat.{and_le_l, div_below, leading_top, one_shl, pow_pos, shl_below, shr-shr}
 pub use Rattle.std.proofs.lemmas.Nat.Bits.{bit_at-lt, bit_at-pow_other, bit_at-pow_same, bit_at-trailing_zeros, bit_at-zero, bit_at_above, bit_at_and, bit_at_cat_high, bit_at_cat_low, bit_at_ones, bit_at_ones_above, bit_at_or, bit_at_set_other, bit_at_set_same, ones_shr, same_from_bits}
-pub use Rattle.std.proofs.lemmas.Int.{ints}
 pub use Rattle.std.specs.Int.{bit_at, trailing_zeros, w128, w64}
 pub use Rattle.vers_rmq.specs.Layout.{binary_heap_size, clog}
 pub use Rattle.vers_rmq.specs.Minima.{IsFirstLeast, lesser}

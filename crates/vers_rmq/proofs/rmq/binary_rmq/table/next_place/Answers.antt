@@ -1,8 +1,7 @@
 use Rattle.vers_rmq.proofs.Tables.{next_joined}
 use Rattle.std.proofs.Common.{arith}
-use Rattle.std.proofs.lemmas.Int.{ints}
 use Rattle.vers_rmq.proofs.rmq.binary_rmq.table.next_place.Goals as goal
 
 pub returns-then-h-items : goal.returns-then-h-items
 returns-then-h-items c =
-    grind (arith, ints, next_joined)
+    grind (arith, next_joined)

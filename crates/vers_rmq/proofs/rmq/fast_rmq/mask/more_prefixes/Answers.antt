@@ -1,4 +1,4 @@
-use Rattle.vers_rmq.proofs.Names.{◌-◌, ◌*◌, ◌^◌, refl, bit_or, arith, bit_at-zero, ints}
+use Rattle.vers_rmq.proofs.Names.{◌-◌, ◌*◌, ◌^◌, refl, bit_or, arith, bit_at-zero}
 use Rattle.vers_rmq.proofs.Masks.{prefix_same, prefixes_more, prefixes_to, none_above, few_bits, merged_none}
 use Rattle.vers_rmq.proofs.rmq.fast_rmq.mask.more_prefixes.Goals as goal
 use Rattle.vers_rmq.proofs.rmq.fast_rmq.mask.more_prefixes.Goals.{then-here-value, else-here-value}
@@ -8,7 +8,7 @@ loop-k-init c = record {
   inside = c.requires.least;
   value = refl;
   few = λ q h. bit_at-zero q;
-  made = λ first u. grind (arith, ints, merged_none);
+  made = λ first u. grind (arith, merged_none);
 }
 
 pub loop-k-preserved : goal.loop-k-preserved

@@ -1,4 +1,4 @@
-use Rattle.vers_rmq.proofs.Names.{◌-◌, ◌*◌, ◌^◌, refl, bit_or, arith, bit_at-zero, ints}
+use Rattle.vers_rmq.proofs.Names.{◌-◌, ◌*◌, ◌^◌, refl, bit_or, arith, bit_at-zero}
 use Rattle.vers_rmq.proofs.Masks.{suffix_same, suffixes_more, suffixes_to, none_above, few_bits, merged_none}
 use Rattle.vers_rmq.proofs.rmq.fast_rmq.mask.more_suffixes.Goals as goal
 
@@ -9,7 +9,7 @@ down-init c = record {
   inside = c.requires.least;
   value = refl;
   few = λ q h. bit_at-zero q;
-  made = λ end u. grind (arith, ints, merged_none);
+  made = λ end u. grind (arith, merged_none);
 }
 
 pub down-preserved-then-here-value : goal.down-preserved-then-here-value
