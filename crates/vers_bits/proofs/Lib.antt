@@ -4,6 +4,7 @@ pub mod Words
 pub mod Count
 pub mod Places
 pub mod Neighbours
+pub mod Passing
 pub mod Counting
 pub mod LowBits
 pub mod Highest

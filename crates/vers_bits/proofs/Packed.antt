@@ -5,7 +5,7 @@ use Rattle.vers_bits.proofs.Growing.{length-packed}
 use Rattle.vers_bits.proofs.Counting.{part_number_some}
 
 -- the bits of element e
-element : (items : List ℕ) (k e : ℕ) → e < length items → take k (drop (e * k) (pack items k)) ≡ low_bits (get_or items e 0) k
+pub element : (items : List ℕ) (k e : ℕ) → e < length items → take k (drop (e * k) (pack items k)) ≡ low_bits (get_or items e 0) k
 element [] k e h = absurd (omega arith)
 element (v ∷ items) k zero h = grind (arith, zero, take_at, length-low_bits)
 element (v ∷ items) k (suc e) h =

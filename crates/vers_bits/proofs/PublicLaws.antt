@@ -1,13 +1,13 @@
 -- The laws that proofs of other crates may cite. A crate above imports this file and no other of this folder.
-use Rattle.std.proofs.Common.{◌≡◌, ℕ, ◌+◌, ◌-◌, ◌*◌, ◌%◌, ◌/◌, ◌^◌, ◌<◌, ◌≤◌, min, suc, Bool, true, false, eqb, List, ◌++◌, length, map, take, drop, get_or, slice_get, Option, None, Some}
+use Rattle.std.proofs.Common.{◌≡◌, ℕ, ◌+◌, ◌-◌, ◌*◌, ◌%◌, ◌/◌, ◌^◌, ◌<◌, ◌≤◌, min, suc, Bool, true, false, eqb, ltb, List, ◌++◌, length, map, take, drop, get_or, slice_get, Option, None, Some}
 use mir.Val.{bool_byte}
 use Rattle.std.specs.Prelude.{count_ones, filter, find, flat_map}
 use Rattle.std.specs.Iterator.{YieldsFirst, YieldsLast, MakesProgress, item_count}
 use Rattle.std.specs.Int.{bit_at}
 use Rattle.std.specs.Int.Count.{count_leading_zeros}
-use Rattle.std.specs.List.{last_or}
+use Rattle.std.specs.List.{AllPairs, count_by, last_or}
 use Rattle.std.proofs.lemmas.List.{get_or_default}
-use Rattle.vers_bits.specs.Bits.{bit_value, number, low_bits, is_bit, count, places, select, place_after, place_before, limb, limbs, limb_count}
+use Rattle.vers_bits.specs.Bits.{bit_value, number, low_bits, pack, is_bit, count, places, select, place_after, place_before, limb, limbs, limb_count}
 use Rattle.vers_bits.specs.declared.walk.Span.{Span}
 use Rattle.vers_bits.specs.Walk.{TakesNth, TakesNthBack, TakesFirst, TakesLast, items_in}
 -- `IsPlace bit bits r p`: place p is number r of those that hold the bit
@@ -19,6 +19,8 @@ use Rattle.vers_bits.proofs.Highest as Highest
 use Rattle.vers_bits.proofs.Count as Count
 use Rattle.vers_bits.proofs.Places as Places
 use Rattle.vers_bits.proofs.Neighbours as Neighbours
+use Rattle.vers_bits.proofs.Passing as Passing
+use Rattle.vers_bits.proofs.Packed as Packed
 use Rattle.vers_bits.proofs.BothEnds as BothEnds
 use Rattle.vers_bits.proofs.Equal as Equal
 use Rattle.vers_bits.proofs.Growing as Growing
@@ -165,6 +167,10 @@ low_bits-add = LowBits.low_bits-add
 pub any_default : {X : Type 0} (xs : List X) (i : ℕ) (d e : X) → i < length xs → get_or xs i d ≡ get_or xs i e
 any_default = get_or_default
 
+-- a test that no member passes after one that fails is passed by the first members, as many as it counts
+pub passes_first : (p : ℕ → Bool) (xs : List ℕ) → AllPairs (λ x y. p y ≡ true → p x ≡ true) xs → (k : ℕ) → k < length xs → p (get_or xs k 0) ≡ ltb k (count_by p xs)
+passes_first = Passing.passes_first
+
 -- the first item that passes a test, where none before number k does; no item passes; the last item that passes, where those up to number k do and no other does
 pub find_is : (p : ℕ → Bool) (s : List ℕ) (k : ℕ) → k ≤ length s → ((i : ℕ) → i < k → p (get_or s i 0) ≡ false) → (k < length s → p (get_or s k 0) ≡ true) → find p s ≡ slice_get s k
 find_is = Neighbours.find_is
@@ -298,6 +304,10 @@ equal_limbs = Equal.equal_limbs
 -- items of k bits each take k bits each
 pub length-packed : {X : Type 0} (f : X → ℕ) (k : ℕ) (xs : List X) → length (flat_map (λ x. low_bits (f x) k) xs) ≡ length xs * k
 length-packed f k xs = Growing.length-packed f k xs
+
+-- element e of a packed list has the low bits of item e
+pub element : (items : List ℕ) (k e : ℕ) → e < length items → take k (drop (e * k) (pack items k)) ≡ low_bits (get_or items e 0) k
+element = Packed.element
 
 -- the low bits of the number of some bits are the bits
 pub low_bits_of_part : (bits : List Bool) (p n : ℕ) → p + n ≤ length bits → low_bits (number (take n (drop p bits))) n ≡ take n (drop p bits)

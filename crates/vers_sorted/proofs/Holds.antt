@@ -1,6 +1,6 @@
 -- What the high and low parts of an ascending list say of its members.
 use Rattle.vers_sorted.proofs.Names.{◌≡◌, ℕ, zero, suc, ◌+◌, ◌-◌, ◌*◌, ◌^◌, ◌<◌, true, List, [], ◌∷◌, length, take, drop, ap, ◌∙◌, arith, slice_index, map, range_with_len, IsNonDecreasing, IsStrictlyIncreasing, mul_comm, same_number_lists, take-append-le, take_all, length-map, get_or-map, length-map-range_with_len, get_or-map-range_with_len, number, low_bits, pack, select, number-low_bits, length-low_bits, length-packed, first_of, low_width, high_of, high_length, high_place, member, HoldHigh, HoldLow}
-use Rattle.std.proofs.Math.Seq.{drop-append-add}
+use Rattle.vers_bits.proofs.PublicLaws.{element}
 use Rattle.vers_sorted.specs.Layout.{low_of, high_parts, low_parts}
 use Rattle.vers_sorted.specs.inside.Parts.{members}
 use Rattle.vers_sorted.proofs.Ones.{length-ones_at, select-ones_at, all_ones}
@@ -38,12 +38,7 @@ pub length-pack : (xs : List ℕ) (w : ℕ) → length (pack xs w) ≡ w * lengt
 length-pack xs w = length-packed (λ v. v) w xs ∙ mul_comm (length xs) w
 
 part-pack : (xs : List ℕ) (w i : ℕ) → i < length xs → take w (drop (w * i) (pack xs w)) ≡ low_bits (slice_index xs i) w
-part-pack [] w i h = absurd (omega arith)
-part-pack (x ∷ xs) w zero h = grind (arith, length-low_bits, take-append-le, take_all)
-part-pack (x ∷ xs) w (suc i) h =
-    let fits : length (low_bits x w) ≡ w = length-low_bits x w in
-    let e : w * suc i ≡ length (low_bits x w) + w * i = omega (arith, mul_comm w (suc i), mul_comm w i, fits) in
-    grind (arith, drop-append-add, part-pack xs w i (omega arith))
+part-pack xs w i h = ap (λ p. take w (drop p (pack xs w))) (mul_comm w i) ∙ element xs w i h
 
 pub hold_low : (s : List ℕ) → HoldLow s (low_parts s)
 unfolding low_parts low_of

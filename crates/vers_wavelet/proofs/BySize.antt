@@ -8,6 +8,7 @@ use Rattle.std.proofs.lemmas.Bool.Decides.{nat_tests}
 use Rattle.std.proofs.lemmas.List.Sorted.{length_permutation, sum_by-IsPermutation, IsPermutation-refl, IsPermutation-cons, IsPermutation-insert, IsPermutation-trans, IsNonDecreasingBy-insert}
 use Rattle.std.proofs.lemmas.List.Sums.{count_by-le-length, prefix_len-le-length, prefix_len_passes, prefix_len_stops}
 use Rattle.std.proofs.lemmas.Option.{slice_get-get_or, slice_get_past, slice_get_within, get_or_from_slice_get}
+use Rattle.vers_bits.proofs.PublicLaws.{passes_first}
 use Rattle.vers_wavelet.specs.Symbols.{placed, by_size, kth_by_size, IsKth}
 use Rattle.vers_wavelet.proofs.Members.{one, count_cons}
 
@@ -51,40 +52,15 @@ length-by_size xs = length_permutation xs (by_size xs) (by_size_moved xs)
 
 -- ---- what the first members pass
 
-counted : (p : ℕ → Bool) (x : ℕ) (xs : List ℕ) (b : Bool) → p x ≡ b → count_by p (x ∷ xs) ≡ one b + count_by p xs
-counted p x xs b is = count_cons p x xs ∙ ap (λ t. one t + count_by p xs) is
-
-none_passes : (p : ℕ → Bool) (xs : List ℕ) → ((j : ℕ) → j < length xs → p (get_or xs j 0) ≡ false) → count_by p xs ≡ 0
-none_passes p [] fails = refl
-none_passes p (x ∷ xs) fails = omega (arith, counted p x xs false (fails 0 (omega arith)), none_passes p xs (λ j inside. fails (suc j) (omega arith)))
-
--- a test that no member passes after one that fails is passed by the first members, as many as it counts
-passes_first : (p : ℕ → Bool) (xs : List ℕ) → ((i j : ℕ) → i ≤ j → j < length xs → p (get_or xs j 0) ≡ true → p (get_or xs i 0) ≡ true) → (k : ℕ) → k < length xs → p (get_or xs k 0) ≡ ltb k (count_by p xs)
-passes_first p [] down k inside = absurd (omega arith)
-passes_first p (x ∷ xs) down k inside =
-    elim (cases_Bool (p x)) [
-      | inl on ↦ step k inside on (passes_first p xs (λ i j order within. down (suc i) (suc j) (omega arith) (omega arith)))
-      | inr off ↦
-          let fails : (j : ℕ) → j < length (x ∷ xs) → p (get_or (x ∷ xs) j 0) ≡ false = λ j within. false_from_ne_true _ (λ holds. true≢false (sym (down 0 j (omega arith) within holds) ∙ off)) in
-          fails k inside ∙ sym (le-ltb k _ (omega (arith, none_passes p (x ∷ xs) fails)))
-    ]
-  where
-    up : (k n m : ℕ) → m ≡ 1 + n → ltb (suc k) m ≡ ltb k n
-    up k n m e = grind (arith, nat_tests)
-
-    step : (k : ℕ) → k < length (x ∷ xs) → p x ≡ true → ((j : ℕ) → j < length xs → p (get_or xs j 0) ≡ ltb j (count_by p xs)) → p (get_or (x ∷ xs) k 0) ≡ ltb k (count_by p (x ∷ xs))
-    step zero within on rest = on ∙ sym (lt-ltb 0 _ (omega (arith, counted p x xs true on)))
-    step (suc k) within on rest = rest k (omega arith) ∙ sym (up k (count_by p xs) _ (counted p x xs true on))
-
 -- which members by size are below a number, and which are not above it
 pub below_first : (xs : List ℕ) (s i : ℕ) → i < length xs → ltb (get_or (by_size xs) i 0) s ≡ ltb i (count_by (λ y. ltb y s) xs)
 below_first xs s i inside =
-    passes_first (λ y. ltb y s) (by_size xs) (λ j k order within low. lt-ltb _ _ (omega (arith, by_size_ascends xs j k 0 order within, ltb-true _ _ low))) i (omega (arith, length-by_size xs))
+    passes_first (λ y. ltb y s) (by_size xs) (λ j k d before within low. lt-ltb _ _ (omega (arith, by_size_ascends xs j k d (omega arith) within, ltb-true _ _ low))) i (omega (arith, length-by_size xs))
     ∙ ap (ltb i) (count_by_size (λ y. ltb y s) xs)
 
 pub not_above_first : (xs : List ℕ) (s i : ℕ) → i < length xs → leb (get_or (by_size xs) i 0) s ≡ ltb i (count_by (λ y. leb y s) xs)
 not_above_first xs s i inside =
-    passes_first (λ y. leb y s) (by_size xs) (λ j k order within low. le-leb _ _ (omega (arith, by_size_ascends xs j k 0 order within, leb-true _ _ low))) i (omega (arith, length-by_size xs))
+    passes_first (λ y. leb y s) (by_size xs) (λ j k d before within low. le-leb _ _ (omega (arith, by_size_ascends xs j k d (omega arith) within, leb-true _ _ low))) i (omega (arith, length-by_size xs))
     ∙ ap (ltb i) (count_by_size (λ y. leb y s) xs)
 
 -- member i by size stands at place i in ascending order
