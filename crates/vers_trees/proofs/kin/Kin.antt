@@ -196,9 +196,6 @@ previous_sibling_is l b (suc u) h = grind (arith, ints, inside, previous_sibling
 
 -- ---- what the calls on a node answer, by the searches that they make
 module _ (l : List Bool) (b : IsBalanced l) (v : ℕ) (n : IsNode (forest_of l) v) where
-  pub node_inside : v + 1 < length l
-  node_inside = let p = (node_pair l b v n).closes in let a = p.after in omega arith
-
   -- where a search finds that it closes
   pub closing_by : first_rise_after l v (negsuc 0) ≡ Some (closing (forest_of l) v)
   closing_by = after_is l v (negsuc 0) (closing (forest_of l) v) (after_from_closes l v (closing (forest_of l) v) (node_pair l b v n).closes)
@@ -209,10 +206,7 @@ module _ (l : List Bool) (b : IsBalanced l) (v : ℕ) (n : IsNode (forest_of l) 
   -- by the ones before the node
   pub depth_by_ones : (ones : ℕ) → ones ≡ count true l v → (ones ≤ v) × (v - ones ≤ ones) × (ones - (v - ones) ≡ depth (forest_of l) v)
   unfolding excess
-  depth_by_ones ones e = let d = depth_is_excess l b v (node_pair l b v n) in grind (arith, ints, node_inside, count_both)
-
-  pub no_sibling_before_first : v ≡ 0 → previous_of (siblings (forest_of l) v) v ≡ None
-  no_sibling_before_first e = sym (previous_sibling_is l b v (node_pair l b v n)) ∙ ap (closed_before l) e
+  depth_by_ones ones e = let d = depth_is_excess l b v (node_pair l b v n) in grind (arith, ints, closes_inside, count_both)
 
 -- a list is empty where it has no first
 pub leaf_by : (xs : List ℕ) (o : Option ℕ) (r : Bool) → is_some o ≡ not r → o ≡ first_of xs → IsTrue r ↔ (xs ≡ [])

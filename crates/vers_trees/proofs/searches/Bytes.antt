@@ -50,10 +50,6 @@ next_sum true bits n e h =
     let b : excess bits (8 - (n + 1)) ≡ excess bits (7 - n) = ap (excess bits) (omega arith) in
     omega (arith, ints)
 
--- what was met before stays so
-later : (from_end : Bool) (bits : List Bool) (n x p : ℕ) → IsFirstMet from_end bits n x p → IsFirstMet from_end bits (n + 1) x p
-later from_end bits n x p m = record { step = m.step; within = omega arith; sum = m.sum; first = m.first; place = m.place }
-
 pub up_or_down : (from_end b : Bool) (value next : ℕ) → pos next ≡ pos value +ℤ step_along from_end b → (next ≡ value + 1) ⊎ (next + 1 ≡ value)
 up_or_down from_end b value next u = grind (arith, ints)
 
@@ -90,7 +86,8 @@ met_more from_end bits byte n value least greatest next place places least' grea
       met = λ x a c. ⊎_elim
           (grind (arith, ints))
           (λ (q : (((least ≤ next) × (next ≤ greatest)) ⊎ (next ≢ x)) × (get_or places' x 7 ≡ get_or places x 7)).
-          rw q.1 (later from_end bits n x (get_or places x 7) (m.met x (omega (arith, m.around, near, q.0)) (omega (arith, m.around, near, q.0)))))
+          let f = m.met x (omega (arith, m.around, near, q.0)) (omega (arith, m.around, near, q.0)) in
+          rw q.1 (record { step = f.step; within = omega arith; sum = f.sum; first = f.first; place = f.place }))
           (noted_at least greatest next place places least' greatest' places' w inside x);
       absent = λ x o. ⊎_elim
           (λ (q : ((next < least) ⊎ (greatest < next)) × (next ≡ x) × (get_or places' x 7 ≡ place)). let at = q.1 in absurd (omega (arith, o)))
@@ -106,10 +103,7 @@ few_more least greatest next p places least' greatest' places' w inside small ol
     (noted_at least greatest next p places least' greatest' places' w inside x)
 
 -- no place met
-abbrev pub all_seven : ℕ → List ℕ
-all_seven n = replicate n 7
-
-pub sevens : (n x : ℕ) → get_or (all_seven n) x 7 ≡ 7
+pub sevens : (n x : ℕ) → ◌≡◌ {A = ℕ} (get_or (replicate n 7) x 7) 7
 sevens zero x = refl
 sevens (suc n) zero = refl
 sevens (suc n) (suc x) = sevens n x

@@ -14,9 +14,6 @@ bit_small b = let h = bit_value_le b in omega arith
 ones_next : (n : ℕ) (b : Bool) → count_ones (n * 2 ^ 1 + bit_value b) ≡ bit_value b + count_ones n
 ones_next n b = let s = ones_step (n * 2 ^ 1 + bit_value b) in let m = bit_small b in grind (arith, ints)
 
-zero_ones : count_ones 0 ≡ 0
-zero_ones = ones-ones 0
-
 -- ---- forwards: the zeros that no one stands right before
 abbrev before : Bool → List Bool → List Bool
 before p [] = []
@@ -29,7 +26,7 @@ before_is p zero (b ∷ c ∷ l) e = absurd (omega arith)
 before_is p (suc n) (b ∷ l) e = ap (λ (m : List Bool). p ∷ m) (before_is b n l (omega arith))
 
 or_ones : (p : Bool) (l : List Bool) → count_ones (bit_or (number l) (number (before p l))) + falls p l ≡ length l
-or_ones p [] = let z = zero_ones in omega arith
+or_ones p [] = let z : count_ones 0 ≡ 0 = ones-ones 0 in omega arith
 or_ones p (b ∷ l) =
     let a = or_block 1 (number l) (number (before b l)) (bit_value b) (bit_value p) (bit_small b) (bit_small p) in
     grind (arith, ints, number_next, ones_next, or_ones b l)
@@ -63,7 +60,7 @@ number-after b [] = refl
 number-after b (c ∷ l) = let h = number-after c l in omega (arith, pow-suc 2 (length l))
 
 and_ones : (l : List Bool) → count_ones (bit_and (number l) (number (after l))) ≡ rises l
-and_ones [] = zero_ones
+and_ones [] = ones-ones 0
 and_ones (b ∷ l) =
     let p = is_not_closed l in
     let a = and_block 1 (number l) (number (after l)) (bit_value b) (bit_value p) (bit_small b) (bit_small p) in

@@ -91,10 +91,11 @@ pub record Sought : Type 0 where
 abbrev pub sought : List Bool → ℕ → ℕ → ℤ → Sought
 sought l size from r = record { bits = l; size = size; from = from; rise = r }
 
+-- the sum itself
 abbrev pub target : Sought → ℤ
 target s = excess s.bits s.from +ℤ s.rise
 
--- place p is one that a search comes to
+-- place p is one that a search from the place `from` comes to
 abbrev pub IsAfter : (back : Bool) → ℕ → ℕ → Type 0
 IsAfter false from p = from ≤ p
 IsAfter true from p = p < from
@@ -152,7 +153,7 @@ abbrev pub IsBeside : (back : Bool) → ℕ → ℕ → Type 0
 IsBeside false node next = IsOddPart (node + 2) (next + 1)
 IsBeside true node next = (odd : ℕ) × IsOddPart (node + 1) odd × (next ≡ odd - 2)
 
--- the child of a node that a search comes to first, the other child, and of that other child the first
+-- the child of a node that a search comes to first, and the other one
 abbrev pub near_child : (back : Bool) → ℕ → ℕ
 near_child false node = 2 * node + 1
 near_child true node = 2 * node + 2
@@ -161,6 +162,7 @@ abbrev pub far_child : (back : Bool) → ℕ → ℕ
 far_child false node = 2 * node + 2
 far_child true node = 2 * node + 1
 
+-- whether a node is such another one, and the first one beside it
 abbrev pub IsFarChild : (back : Bool) → ℕ → Type 0
 IsFarChild false place = place % 2 ≡ 0
 IsFarChild true place = place % 2 ≡ 1

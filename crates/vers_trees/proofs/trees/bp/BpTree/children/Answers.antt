@@ -1,11 +1,11 @@
 use Rattle.vers_trees.proofs.Words.{◌≡◌, ◌+◌, true, Bool, List, length, arith, sym, ap, subst, IsWalkOfSiblings}
-use Rattle.vers_trees.proofs.kin.Kin.{node_inside}
+use Rattle.vers_trees.proofs.kin.Kin.{closes_inside}
 use Rattle.vers_trees.proofs.walks.WalksOfNodes.{forwards}
 use Rattle.vers_trees.proofs.trees.bp.BpTree.children.Goals as goal
 
 pub overflow_add-node : goal.overflow_add-node
 overflow_add-node g c =
-    let i = node_inside c.args.self.now c.requires.balanced c.args.node c.requires.is_node in
+    let i = closes_inside c.args.self.now c.requires.balanced c.args.node c.requires.is_node in let i0 = i.0 in let i1 = i.1 in
     let e : length c.searched.result.bits.now ≡ length c.args.self.now = ap (λ (l : List Bool). length l) c.searched.ensures.bits in
     record { fits = omega arith }
 
