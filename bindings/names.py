@@ -52,7 +52,7 @@ NAMES = (
 )
 # why calls have no name in C, C++ and Python: the first row that fits counts
 LEFT_OUT = (
-    (r"\w+\.(is_one_counted|select_counted|allocator|select[01]_pair|\w*gathered_\w+)|BpTree\.bits", "They serve what is built on the structure in Rattle."),
+    (r"\w+\.(is_one_counted|select_counted|allocator|select[01]_pair|\w*gathered_\w+)|BpTree\.(bits|relative|measure|level_end)", "They serve what is built on the structure in Rattle."),
     (r"BitVec\.(append_bit|append_word|append_bit_u\d+|flip_bit|limb|extend\w*|from_\w+|new|with_capacity|count_\w+|split_at|pack_\w+|unpack_\w+|\w*mask_\w+)",
      "Words of 64 bits by `get_bits` and `append_bits`; counts by a `vers_bits`."),
     (r"RsVec\.(into_bit_vec|\w+_equals)|BpTree\.into_parentheses_vec|SparseRSVec\.from_\w+|\w+\.from_iter|EliasFanoVec\.from_numbers|TextIndex\.from_slice",

@@ -3,6 +3,7 @@ pub mod Bytes
 pub mod Forest
 pub mod Balance
 pub mod Nodes
+pub mod Relatives
 pub mod Traversals
 pub mod Siblings
 pub mod Layout

@@ -34,6 +34,7 @@ pub use Rattle.vers_trees.specs.Bytes
 pub use Rattle.vers_trees.specs.Forest
 pub use Rattle.vers_trees.specs.Balance
 pub use Rattle.vers_trees.specs.Nodes
+pub use Rattle.vers_trees.specs.Relatives
 pub use Rattle.vers_trees.specs.Traversals
 pub use Rattle.vers_trees.specs.WalkReads as TreesWalkReads
 pub use Rattle.vers_trees.specs.WalkLaws as TreesWalkLaws

@@ -64,8 +64,8 @@ pub mod trees {
     /// Trees of parentheses with searches by a tree of excesses, and their builder.
     pub mod bp {
         pub use vers_trees::trees::bp::{
-            BpBuilder, BpTree, BuildError, ChildrenIter, DfsIter, MAX_BLOCK_SIZE, MAX_LEN,
-            PostIter, SubtreeIter, SubtreePostIter,
+            BpBuilder, BpTree, BuildError, ChildrenIter, DfsIter, LevelEnd, MAX_BLOCK_SIZE,
+            MAX_LEN, Measure, PostIter, Relative, SubtreeIter, SubtreePostIter,
         };
     }
 }

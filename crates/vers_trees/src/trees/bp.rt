@@ -20,6 +20,7 @@ mod levels;
 mod min_max;
 mod navigation;
 mod post_iter;
+mod relatives;
 mod scan;
 mod search;
 mod subtree;
@@ -30,6 +31,7 @@ pub use crate::trees::bp::children::ChildrenIter;
 pub use crate::trees::bp::dfs_iter::DfsIter;
 use crate::trees::bp::min_max::MinMaxTree;
 pub use crate::trees::bp::post_iter::{PostIter, SubtreePostIter};
+pub use crate::trees::bp::relatives::{LevelEnd, Measure, Relative};
 use crate::trees::bp::search::Searched;
 pub use crate::trees::bp::subtree::SubtreeIter;
 use std::alloc::{AllocError, Allocator};
@@ -54,7 +56,7 @@ pub const MAX_BLOCK_SIZE: usize = 4294967296;
 /// answer but that of `heap_size` depends on `BLOCK_SIZE`.
 ///
 /// Each query has a form `_counted`, which counts its reads in a `Tally`; the plain form is that
-/// one with a counter of its own.
+/// one with a counter of its own. `relative`, `measure` and `level_end` ask one of these.
 #[derive(Drop)]
 pub struct BpTree<const BLOCK_SIZE: usize, A: Allocator + Copy> {
     bits: RsVec<A>,

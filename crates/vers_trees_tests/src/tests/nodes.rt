@@ -7,7 +7,7 @@ use crate::tests::queries::{Answer, Query, Question};
 use std::alloc::Allocator;
 use vers_tally::tally::Tally;
 use vers_trees::laws::ones_are_nodes;
-use vers_trees::trees::bp::BpTree;
+use vers_trees::trees::bp::{BpTree, LevelEnd, Measure, Relative};
 
 /// Whether the parentheses are balanced.
 pub fn are_balanced<const N: usize, A: Allocator + Copy>(tree: &BpTree<N, A>) -> bool
@@ -48,7 +48,7 @@ pub fn node_at<const N: usize, A: Allocator + Copy>(
     None
 }
 
-// Another node, or none, by the plain and by the counted form.
+// Another node, or none, by the plain form, which a value names, and by the counted form.
 fn relatives<const N: usize, A: Allocator + Copy>(
     tree: &BpTree<N, A>,
     node: usize,
@@ -61,25 +61,37 @@ fn relatives<const N: usize, A: Allocator + Copy>(
     let tally = &mut counter;
     match question {
         Question::FirstChild => (
-            tree.first_child(node),
+            tree.relative(node, Relative::FirstChild),
             tree.first_child_counted(node, tally),
         ),
-        Question::LastChild => (tree.last_child(node), tree.last_child_counted(node, tally)),
+        Question::LastChild => (
+            tree.relative(node, Relative::LastChild),
+            tree.last_child_counted(node, tally),
+        ),
         Question::NextSibling => (
-            tree.next_sibling(node),
+            tree.relative(node, Relative::NextSibling),
             tree.next_sibling_counted(node, tally),
         ),
         Question::PreviousSibling => (
-            tree.previous_sibling(node),
+            tree.relative(node, Relative::PreviousSibling),
             tree.previous_sibling_counted(node, tally),
         ),
-        Question::LevelNext => (tree.level_next(node), tree.level_next_counted(node, tally)),
-        Question::LevelPrev => (tree.level_prev(node), tree.level_prev_counted(node, tally)),
+        Question::LevelNext => (
+            tree.relative(node, Relative::LevelNext),
+            tree.level_next_counted(node, tally),
+        ),
+        Question::LevelPrev => (
+            tree.relative(node, Relative::LevelPrev),
+            tree.level_prev_counted(node, tally),
+        ),
         Question::LevelAncestor(levels) => (
             tree.level_ancestor(node, levels),
             tree.level_ancestor_counted(node, levels, tally),
         ),
-        _ => (tree.parent(node), tree.parent_counted(node, tally)),
+        _ => (
+            tree.relative(node, Relative::Parent),
+            tree.parent_counted(node, tally),
+        ),
     }
 }
 
@@ -95,19 +107,19 @@ fn about_node<const N: usize, A: Allocator + Copy>(
     let mut tally = Tally::new();
     match question {
         Question::Index => Answer::of_places(
-            Some(tree.node_index(node)),
+            Some(tree.measure(node, Measure::NodeIndex) as usize),
             Some(tree.node_index_counted(node, &mut tally)),
         ),
         Question::IsLeaf => Answer::of_truths(
-            Some(tree.is_leaf(node)),
+            Some(tree.measure(node, Measure::IsLeaf) == 1),
             Some(tree.is_leaf_counted(node, &mut tally)),
         ),
         Question::Depth => Answer::of_places(
-            Some(tree.depth(node) as usize),
+            Some(tree.measure(node, Measure::Depth) as usize),
             Some(tree.depth_counted(node, &mut tally) as usize),
         ),
         Question::SubtreeSize => Answer::of_places(
-            tree.subtree_size(node),
+            Some(tree.measure(node, Measure::SubtreeSize) as usize),
             tree.subtree_size_counted(node, &mut tally),
         ),
         _ => {
@@ -157,8 +169,8 @@ fn about_ends<const N: usize, A: Allocator + Copy>(
     let leftmost = tree.level_leftmost_counted(depth, &mut tally);
     let rightmost = tree.level_rightmost_counted(depth, &mut tally);
     (
-        Answer::of_places(tree.level_leftmost(depth), leftmost),
-        Answer::of_places(tree.level_rightmost(depth), rightmost),
+        Answer::of_places(tree.level_end(depth, LevelEnd::LevelLeftmost), leftmost),
+        Answer::of_places(tree.level_end(depth, LevelEnd::LevelRightmost), rightmost),
     )
 }
 
