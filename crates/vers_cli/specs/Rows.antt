@@ -12,6 +12,7 @@ use Rattle.vers_trees.specs.Nodes.{closing, is_ancestor, is_proper_ancestor, dep
 use Rattle.vers_trees.specs.Traversals.{subtree_post}
 use Rattle.vers_rmq.specs.Minima.{is_least as costs_least, first_least, first_least_of, least_place}
 use Rattle.postings.specs.Posted.{is_among, places_between as places_of_range, cheapest, common}
+use Rattle.vers_trees.specs.declared.trees.bp.relatives.LevelEnd.TheVariants.{LevelRightmost}
 use Rattle.vers_words.specs.Text.{number_of, signed_number_of}
 use Rattle.vers_engine.specs.Lines.{lines_of}
 use Rattle.vers_engine.specs.Replies.{answer_to_words, holding_after_words}
@@ -23,7 +24,6 @@ use Rattle.vers_cli.specs.declared.name.SearchQuery.TheVariants.{BwdSearch}
 use Rattle.vers_cli.specs.declared.name.SymbolsQuery.TheVariants.{Range}
 use Rattle.vers_cli.specs.declared.name.RangeQuery.TheVariants.{RangeMedianU64}
 use Rattle.vers_cli.specs.declared.name.ForestQuery.TheVariants.{Level, LevelAncestor}
-use Rattle.vers_cli.specs.declared.name.LevelQuery.TheVariants.{LevelRightmost}
 use Rattle.vers_cli.specs.Name.{name_of}
 use Rattle.vers_cli.specs.Holding.{Holding, Nothing, BitsHeld, SortedHeld, SparseHeld, ValuesHeld, TreeHeld, SymbolsHeld, PostingsHeld}
 use Rattle.vers_cli.specs.PostingsLines.{posted_of}

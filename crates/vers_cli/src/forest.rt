@@ -1,15 +1,15 @@
 //! The lines of balanced parentheses: what is asked of the nodes of the forest that they write down.
-ghost use Rattle.std.specs.Prelude.{◌≡◌, ◌==◌, length, IfOk};
+ghost use Rattle.std.specs.Prelude.{◌≡◌, IfOk};
 ghost use Rattle.std.specs.Iterator.{Drains, IsFinite};
 ghost use Rattle.vers_trees.specs.Forest.{IsBalanced, forest_of};
-ghost use Rattle.vers_trees.specs.Nodes.{IsNode, children};
+ghost use Rattle.vers_trees.specs.Nodes.{IsNode};
 ghost use Rattle.vers_words.specs.Text.{words_in};
 ghost use Rattle.vers_words.specs.Reply.{plain_reply};
-ghost use Rattle.vers_cli.specs.ForestLines.{relative_of, measure_of, walk_of, level_end_of, all_nodes_reply as reply_of_all_nodes, relative_reply as reply_of_relative, measure_reply as reply_of_measure, walk_reply as reply_of_walk, level_reply as reply_of_level, is_ancestor_reply as reply_of_is_ancestor, level_ancestor_reply as reply_of_level_ancestor, forest_reply};
+ghost use Rattle.vers_cli.specs.ForestLines.{walk_of, all_nodes_reply as reply_of_all_nodes, relative_reply as reply_of_relative, measure_reply as reply_of_measure, walk_reply as reply_of_walk, level_reply as reply_of_level, is_ancestor_reply as reply_of_is_ancestor, level_ancestor_reply as reply_of_level_ancestor, forest_reply};
 
-use crate::name::{ForestQuery, LevelQuery, MeasureQuery, RelativeQuery, WalkQuery};
+use crate::name::{ForestQuery, WalkQuery};
 use std::alloc::{AllocError, Allocator};
-use vers_trees::trees::bp::BpTree;
+use vers_trees::trees::bp::{BpTree, LevelEnd, Measure, Relative};
 use vers_words::arguments::{no_arguments, one_number, two_numbers};
 use vers_words::reply::Reply;
 
@@ -28,21 +28,21 @@ pub fn reply<A: Allocator + Copy>(
             None => Ok(Reply::BadLine),
             Some(()) => all_nodes_reply(alloc, tree),
         },
-        ForestQuery::Relative(query) => match one_number(arguments) {
+        ForestQuery::Relative(which) => match one_number(arguments) {
             None => Ok(Reply::BadLine),
-            Some(node) => Ok(relative_reply(tree, query, node as usize)),
+            Some(node) => Ok(relative_reply(tree, which, node as usize)),
         },
-        ForestQuery::Measure(query) => match one_number(arguments) {
+        ForestQuery::Measure(which) => match one_number(arguments) {
             None => Ok(Reply::BadLine),
-            Some(node) => Ok(measure_reply(tree, query, node as usize)),
+            Some(node) => Ok(measure_reply(tree, which, node as usize)),
         },
         ForestQuery::Walk(query) => match one_number(arguments) {
             None => Ok(Reply::BadLine),
             Some(node) => walk_reply(alloc, tree, query, node as usize),
         },
-        ForestQuery::Level(query) => match one_number(arguments) {
+        ForestQuery::Level(which) => match one_number(arguments) {
             None => Ok(Reply::BadLine),
-            Some(depth) => Ok(level_reply(tree, query, depth)),
+            Some(depth) => Ok(level_reply(tree, which, depth)),
         },
         ForestQuery::IsAncestor => match two_numbers(arguments) {
             None => Ok(Reply::BadLine),
@@ -87,76 +87,31 @@ fn all_nodes_reply<A: Allocator + Copy>(
 // The reply of a query for the node that stands so to a node.
 fn relative_reply<A: Allocator + Copy>(
     tree: &BpTree<512, &A>,
-    query: RelativeQuery,
+    which: Relative,
     node: usize,
 ) -> Reply<A>
-    ensures { plain_reply result ≡ reply_of_relative tree.now query node }
+    ensures { plain_reply result ≡ reply_of_relative tree.now which node }
 {
     if tree.has_node(node) {
-        Reply::place_or_absent(relative(tree, query, node))
+        Reply::place_or_absent(tree.relative(node, which))
     } else {
         Reply::Refused
-    }
-}
-
-// The node that stands so to a node.
-fn relative<A: Allocator + Copy>(
-    tree: &BpTree<512, &A>,
-    query: RelativeQuery,
-    node: usize,
-) -> Option<usize>
-    requires balanced { IsBalanced tree.now }
-    requires node { IsNode (forest_of tree.now) node }
-    ensures { result ≡ relative_of (forest_of tree.now) query node }
-{
-    match query {
-        RelativeQuery::Parent => tree.parent(node),
-        RelativeQuery::FirstChild => tree.first_child(node),
-        RelativeQuery::LastChild => tree.last_child(node),
-        RelativeQuery::NextSibling => tree.next_sibling(node),
-        RelativeQuery::PreviousSibling => tree.previous_sibling(node),
-        RelativeQuery::LevelNext => tree.level_next(node),
-        RelativeQuery::LevelPrev => tree.level_prev(node),
     }
 }
 
 // The reply of a query for a number of a node.
 fn measure_reply<A: Allocator + Copy>(
     tree: &BpTree<512, &A>,
-    query: MeasureQuery,
+    which: Measure,
     node: usize,
 ) -> Reply<A>
-    ensures { plain_reply result ≡ reply_of_measure tree.now query node }
+    ensures { plain_reply result ≡ reply_of_measure tree.now which node }
 {
     if tree.has_node(node) {
-        Reply::Number(measure(tree, query, node))
+        Reply::Number(tree.measure(node, which))
     } else {
         Reply::Refused
     }
-}
-
-// A number of a node.
-fn measure<A: Allocator + Copy>(tree: &BpTree<512, &A>, query: MeasureQuery, node: usize) -> u64
-    requires balanced { IsBalanced tree.now }
-    requires node { IsNode (forest_of tree.now) node }
-    ensures { result ≡ measure_of (forest_of tree.now) query node }
-{
-    match query {
-        MeasureQuery::NodeIndex => tree.node_index(node) as u64,
-        MeasureQuery::IsLeaf => u64::from(is_leaf(tree, node)),
-        MeasureQuery::Depth => tree.depth(node),
-        // It is never None.
-        MeasureQuery::SubtreeSize => tree.subtree_size(node).unwrap_or(0) as u64,
-    }
-}
-
-// Whether a node has no children.
-fn is_leaf<A: Allocator + Copy>(tree: &BpTree<512, &A>, node: usize) -> bool
-    requires balanced { IsBalanced tree.now }
-    requires node { IsNode (forest_of tree.now) node }
-    ensures { result ≡ (length (children (forest_of tree.now) node) == 0) }
-{
-    tree.is_leaf(node)
 }
 
 // The reply of a query for the nodes that a walk from a node passes.
@@ -194,32 +149,13 @@ fn walk<A: Allocator + Copy>(
 }
 
 // The reply of a query for the first or the last node of a depth.
-fn level_reply<A: Allocator + Copy>(
-    tree: &BpTree<512, &A>,
-    query: LevelQuery,
-    depth: u64,
-) -> Reply<A>
-    ensures { plain_reply result ≡ reply_of_level tree.now query depth }
+fn level_reply<A: Allocator + Copy>(tree: &BpTree<512, &A>, which: LevelEnd, depth: u64) -> Reply<A>
+    ensures { plain_reply result ≡ reply_of_level tree.now which depth }
 {
     if tree.is_balanced() {
-        Reply::place_or_absent(end_of_level(tree, query, depth))
+        Reply::place_or_absent(tree.level_end(depth, which))
     } else {
         Reply::Refused
-    }
-}
-
-// The first or the last node of a depth.
-fn end_of_level<A: Allocator + Copy>(
-    tree: &BpTree<512, &A>,
-    query: LevelQuery,
-    depth: u64,
-) -> Option<usize>
-    requires { IsBalanced tree.now }
-    ensures { result ≡ level_end_of (forest_of tree.now) query depth }
-{
-    match query {
-        LevelQuery::LevelLeftmost => tree.level_leftmost(depth),
-        LevelQuery::LevelRightmost => tree.level_rightmost(depth),
     }
 }
 

@@ -3,14 +3,9 @@ ghost use Rattle.std.specs.Prelude.{◌≡◌};
 
 use AllQuery::{IterSortedU64, IterU64};
 use ForestQuery::{DfsPostIter, IsAncestor, Level, LevelAncestor, Measure, Relative, Walk};
-use LevelQuery::{LevelLeftmost, LevelRightmost};
-use MeasureQuery::{Depth, IsLeaf, NodeIndex, SubtreeSize};
 use PlaceQuery::{Close, Enclose, Excess, NodeHandle, Open};
 use Query::{Forest, Symbols, Tree};
 use RangeQuery::{RangeMaxU64, RangeMedianU64, RangeMinU64};
-use RelativeQuery::{
-    FirstChild, LastChild, LevelNext, LevelPrev, NextSibling, Parent, PreviousSibling,
-};
 use SearchQuery::{BwdSearch, FwdSearch};
 use SymbolQuery::{RankU64, SelectU64};
 use SymbolsQuery::{All, GetU64, Range, Symbol, Within};
@@ -18,6 +13,12 @@ use TreeQuery::{Place, Search, Whole};
 use WalkQuery::{Children, RevChildren, SubtreeIter, SubtreePostIter};
 use WholeQuery::{DfsIter, IsBalanced, Root, Size};
 use WithinQuery::{PredecessorU64, QuantileU64, RankRangeU64, SelectOffsetU64, SuccessorU64};
+use vers_trees::trees::bp;
+use vers_trees::trees::bp::LevelEnd::{LevelLeftmost, LevelRightmost};
+use vers_trees::trees::bp::Measure::{Depth, IsLeaf, NodeIndex, SubtreeSize};
+use vers_trees::trees::bp::Relative::{
+    FirstChild, LastChild, LevelNext, LevelPrev, NextSibling, Parent, PreviousSibling,
+};
 use vers_words::names::named;
 
 /// The first word of a load line.
@@ -148,38 +149,17 @@ pub enum ForestQuery {
     /// What is told of all nodes: no argument.
     DfsPostIter,
     /// A node beside another: a node.
-    Relative(RelativeQuery),
-    /// A number of a node: a node.
-    Measure(MeasureQuery),
+    Relative(bp::Relative),
+    /// A number of a node, where truth is 1 and else 0: a node.
+    Measure(bp::Measure),
     /// Nodes from a node on: a node.
     Walk(WalkQuery),
     /// An end of a level: a depth.
-    Level(LevelQuery),
+    Level(bp::LevelEnd),
     /// Whether the first node is an ancestor of the second: two nodes.
     IsAncestor,
     /// The ancestor so many levels up: a node and a number.
     LevelAncestor,
-}
-
-/// A query for the node that stands so to a node.
-#[derive(Clone, Copy, Drop)]
-pub enum RelativeQuery {
-    Parent,
-    FirstChild,
-    LastChild,
-    NextSibling,
-    PreviousSibling,
-    LevelNext,
-    LevelPrev,
-}
-
-/// A query for a number of a node, where truth is 1 and else 0.
-#[derive(Clone, Copy, Drop)]
-pub enum MeasureQuery {
-    NodeIndex,
-    IsLeaf,
-    Depth,
-    SubtreeSize,
 }
 
 /// A query for the nodes that a walk from a node passes.
@@ -189,13 +169,6 @@ pub enum WalkQuery {
     RevChildren,
     SubtreeIter,
     SubtreePostIter,
-}
-
-/// A query for the first or the last node of a depth.
-#[derive(Clone, Copy, Drop)]
-pub enum LevelQuery {
-    LevelLeftmost,
-    LevelRightmost,
 }
 
 /// The first word of a line.
