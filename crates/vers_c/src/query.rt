@@ -2,6 +2,8 @@
 ghost use Rattle.std.specs.Prelude.{◌≡◌, slice_get};
 ghost use Rattle.vers_c.specs.Queries.{query_of};
 
+use vers_trees::trees::bp::{LevelEnd, Measure, Relative};
+
 /// What a structure can be asked.
 #[derive(Clone, Copy, Drop)]
 pub enum Query {
@@ -38,11 +40,13 @@ pub enum Query {
     /// Of any parentheses.
     Tree(TreeQuery),
     /// Of a node of balanced parentheses: another node.
-    Node(NodeQuery),
+    Node(Relative),
+    /// The ancestor of a node of balanced parentheses `b` levels up.
+    LevelAncestor,
     /// Of a node of balanced parentheses: a number.
-    Measure(MeasureQuery),
+    Measure(Measure),
     /// Of a depth of balanced parentheses: a node.
-    Level(LevelQuery),
+    Level(LevelEnd),
     /// Whether a node is an ancestor of another.
     IsAncestor,
     /// The first place of a least value from place `a` to place `b`, both included.
@@ -105,49 +109,6 @@ pub enum TreeQuery {
     BwdSearch,
 }
 
-/// The node that stands so to a node.
-#[derive(Clone, Copy, Drop)]
-pub enum NodeQuery {
-    /// Its parent.
-    Parent,
-    /// Its first child.
-    FirstChild,
-    /// Its last child.
-    LastChild,
-    /// The next child of its parent.
-    NextSibling,
-    /// The child of its parent before it.
-    PreviousSibling,
-    /// The next node of its depth.
-    LevelNext,
-    /// The node of its depth before it.
-    LevelPrev,
-    /// Its ancestor `b` levels up.
-    LevelAncestor,
-}
-
-/// A number of a node.
-#[derive(Clone, Copy, Drop)]
-pub enum MeasureQuery {
-    /// How many nodes come before it in preorder.
-    NodeIndex,
-    /// Whether it has no children.
-    IsLeaf,
-    /// How many ancestors it has.
-    Depth,
-    /// How many nodes its subtree has, itself among them.
-    SubtreeSize,
-}
-
-/// An end of a level.
-#[derive(Clone, Copy, Drop)]
-pub enum LevelQuery {
-    /// The first node of a depth.
-    LevelLeftmost,
-    /// The last node of a depth.
-    LevelRightmost,
-}
-
 /// The query of each code, which is its place here.
 pub const QUERIES: [Query; 53] = [
     Query::Len,
@@ -183,20 +144,20 @@ pub const QUERIES: [Query; 53] = [
     Query::Tree(TreeQuery::NodeHandle),
     Query::Tree(TreeQuery::FwdSearch),
     Query::Tree(TreeQuery::BwdSearch),
-    Query::Node(NodeQuery::Parent),
-    Query::Node(NodeQuery::FirstChild),
-    Query::Node(NodeQuery::LastChild),
-    Query::Node(NodeQuery::NextSibling),
-    Query::Node(NodeQuery::PreviousSibling),
-    Query::Node(NodeQuery::LevelNext),
-    Query::Node(NodeQuery::LevelPrev),
-    Query::Node(NodeQuery::LevelAncestor),
-    Query::Measure(MeasureQuery::NodeIndex),
-    Query::Measure(MeasureQuery::IsLeaf),
-    Query::Measure(MeasureQuery::Depth),
-    Query::Measure(MeasureQuery::SubtreeSize),
-    Query::Level(LevelQuery::LevelLeftmost),
-    Query::Level(LevelQuery::LevelRightmost),
+    Query::Node(Relative::Parent),
+    Query::Node(Relative::FirstChild),
+    Query::Node(Relative::LastChild),
+    Query::Node(Relative::NextSibling),
+    Query::Node(Relative::PreviousSibling),
+    Query::Node(Relative::LevelNext),
+    Query::Node(Relative::LevelPrev),
+    Query::LevelAncestor,
+    Query::Measure(Measure::NodeIndex),
+    Query::Measure(Measure::IsLeaf),
+    Query::Measure(Measure::Depth),
+    Query::Measure(Measure::SubtreeSize),
+    Query::Level(LevelEnd::LevelLeftmost),
+    Query::Level(LevelEnd::LevelRightmost),
     Query::IsAncestor,
     Query::RangeMin,
     Query::Cheapest,

@@ -5,15 +5,16 @@ ghost use Rattle.vers_c.specs.Structures.{contents};
 ghost use Rattle.vers_c.specs.declared.query.Query.TheVariants as query;
 ghost use Rattle.vers_c.specs.declared.query.SymbolsQuery.TheVariants as of_symbols;
 ghost use Rattle.vers_c.specs.declared.query.TreeQuery.TheVariants as of_tree;
-ghost use Rattle.vers_c.specs.declared.query.NodeQuery.TheVariants as of_node;
-ghost use Rattle.vers_c.specs.declared.query.MeasureQuery.TheVariants as of_measure;
+ghost use Rattle.vers_trees.specs.declared.trees.bp.relatives.Relative.TheVariants as of_node;
+ghost use Rattle.vers_trees.specs.declared.trees.bp.relatives.Measure.TheVariants as of_measure;
 
 use crate::answer::Answer;
 use crate::handle::VersHandle;
 use crate::kind::Kind;
 use crate::owners::{put, taken};
-use crate::query::{MeasureQuery, NodeQuery, Query, SymbolsQuery, TreeQuery};
+use crate::query::{Query, SymbolsQuery, TreeQuery};
 use std::alloc::Global;
+use vers_trees::trees::bp::{Measure, Relative};
 
 // Asks what is held, at the least cost where it is of a kind.
 #[inline(always)]
@@ -288,7 +289,7 @@ pub extern "C" fn vers_quick_tree_parent(
         alloc,
         handle,
         Kind::Tree,
-        Query::Node(NodeQuery::Parent),
+        Query::Node(Relative::Parent),
         node,
         0,
         0,
@@ -309,7 +310,7 @@ pub extern "C" fn vers_quick_tree_first_child(
         alloc,
         handle,
         Kind::Tree,
-        Query::Node(NodeQuery::FirstChild),
+        Query::Node(Relative::FirstChild),
         node,
         0,
         0,
@@ -330,7 +331,7 @@ pub extern "C" fn vers_quick_tree_next_sibling(
         alloc,
         handle,
         Kind::Tree,
-        Query::Node(NodeQuery::NextSibling),
+        Query::Node(Relative::NextSibling),
         node,
         0,
         0,
@@ -347,7 +348,7 @@ pub extern "C" fn vers_quick_tree_depth(alloc: Global, handle: &mut VersHandle, 
         alloc,
         handle,
         Kind::Tree,
-        Query::Measure(MeasureQuery::Depth),
+        Query::Measure(Measure::Depth),
         node,
         0,
         0,

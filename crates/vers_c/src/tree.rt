@@ -1,19 +1,17 @@
 //! Lists of parentheses.
-ghost use Rattle.std.specs.Prelude.{◌≡◌, ◌==◌, ◌<◌, ◌*◌, ◌↔◌, ◌⊎◌, length, take, Some, None, Err, IfOk, IfErr, OnOk};
+ghost use Rattle.std.specs.Prelude.{◌≡◌, ◌<◌, ◌*◌, ◌↔◌, ◌⊎◌, length, take, Some, None, Err, IfOk, IfErr, OnOk};
 ghost use Rattle.vers_bits.specs.Bits.{pack};
 ghost use Rattle.vers_bits.specs.declared.bit_vec.TheConstants as list;
 ghost use Rattle.vers_saved.specs.Faults.{fault_of};
 ghost use Rattle.vers_saved.specs.Format.{saved_parentheses};
 ghost use Rattle.vers_saved.specs.Kinds.{tree_kind};
-ghost use Rattle.vers_trees.specs.Forest.{IsBalanced, forest_of};
-ghost use Rattle.vers_trees.specs.Nodes.{IsNode, children};
 ghost use Rattle.vers_trees.specs.declared.trees.bp.TheConstants as parentheses;
-ghost use Rattle.vers_c.specs.TreeAnswers.{any_tree_answer as answer_of_any, level_end_of, measure_of, relative_of, tree_answer};
+ghost use Rattle.vers_c.specs.TreeAnswers.{any_tree_answer as answer_of_any, tree_answer};
 
 use crate::answer::Answer;
 use crate::asked::Asked;
 use crate::bits::growing;
-use crate::query::{LevelQuery, MeasureQuery, NodeQuery, Query, TreeQuery};
+use crate::query::{Query, TreeQuery};
 use std::alloc::Global;
 use vers_bits::bit_vec::{BitVec, GrowError};
 use vers_saved::fault::LoadError;
@@ -79,35 +77,27 @@ impl Asked for BpTree<512, Global> {
             Query::Get => Answer::bit_or_absent(self.is_open(a as usize)),
             Query::HeapSize => Answer::place(self.heap_size()),
             Query::Tree(query) => any_tree_answer(self, query, a as usize, b),
-            Query::Node(query) => {
-                if self.has_node(a as usize) {
-                    Answer::place_or_absent(relative(self, query, a as usize, b))
-                } else {
-                    Answer::refused()
-                }
-            }
-            Query::Measure(query) => {
-                if self.has_node(a as usize) {
-                    Answer::found(measure(self, query, a as usize))
-                } else {
-                    Answer::refused()
-                }
-            }
-            Query::Level(query) => {
-                if self.is_balanced() {
-                    Answer::place_or_absent(end_of_level(self, query, a))
-                } else {
-                    Answer::refused()
-                }
-            }
             Query::HasNode => Answer::truth(self.has_node(a as usize)),
-            Query::IsAncestor => {
-                if self.has_node(a as usize) && self.has_node(b as usize) {
-                    Answer::bit_or_absent(self.is_ancestor(a as usize, b as usize))
-                } else {
-                    Answer::refused()
-                }
+            Query::Node(which) if self.has_node(a as usize) => {
+                Answer::place_or_absent(self.relative(a as usize, which))
             }
+            Query::LevelAncestor if self.has_node(a as usize) => {
+                Answer::place_or_absent(self.level_ancestor(a as usize, b))
+            }
+            Query::Measure(which) if self.has_node(a as usize) => {
+                Answer::found(self.measure(a as usize, which))
+            }
+            Query::Level(which) if self.is_balanced() => {
+                Answer::place_or_absent(self.level_end(a, which))
+            }
+            Query::IsAncestor if self.has_node(a as usize) && self.has_node(b as usize) => {
+                Answer::bit_or_absent(self.is_ancestor(a as usize, b as usize))
+            }
+            Query::Node(_)
+            | Query::LevelAncestor
+            | Query::Measure(_)
+            | Query::Level(_)
+            | Query::IsAncestor => Answer::refused(),
             _ => Answer::unknown(),
         }
     }
@@ -134,61 +124,5 @@ fn any_tree_answer(tree: &Parentheses, query: TreeQuery, a: usize, b: u64) -> An
         TreeQuery::NodeHandle => Answer::place(tree.node_handle(a)),
         TreeQuery::FwdSearch => Answer::place_or_absent(tree.fwd_search(a, b.cast_signed())),
         TreeQuery::BwdSearch => Answer::place_or_absent(tree.bwd_search(a, b.cast_signed())),
-    }
-}
-
-// The node that stands so to a node.
-#[inline(always)]
-fn relative(tree: &Parentheses, query: NodeQuery, node: usize, b: u64) -> Option<usize>
-    requires balanced { IsBalanced tree.now }
-    requires node { IsNode (forest_of tree.now) node }
-    ensures { result ≡ relative_of (forest_of tree.now) query node b }
-{
-    match query {
-        NodeQuery::Parent => tree.parent(node),
-        NodeQuery::FirstChild => tree.first_child(node),
-        NodeQuery::LastChild => tree.last_child(node),
-        NodeQuery::NextSibling => tree.next_sibling(node),
-        NodeQuery::PreviousSibling => tree.previous_sibling(node),
-        NodeQuery::LevelNext => tree.level_next(node),
-        NodeQuery::LevelPrev => tree.level_prev(node),
-        NodeQuery::LevelAncestor => tree.level_ancestor(node, b),
-    }
-}
-
-// A number of a node.
-#[inline(always)]
-fn measure(tree: &Parentheses, query: MeasureQuery, node: usize) -> u64
-    requires balanced { IsBalanced tree.now }
-    requires node { IsNode (forest_of tree.now) node }
-    ensures { result ≡ measure_of (forest_of tree.now) query node }
-{
-    match query {
-        MeasureQuery::NodeIndex => tree.node_index(node) as u64,
-        MeasureQuery::IsLeaf => u64::from(is_leaf(tree, node)),
-        MeasureQuery::Depth => tree.depth(node),
-        // It is never None.
-        MeasureQuery::SubtreeSize => tree.subtree_size(node).unwrap_or(0) as u64,
-    }
-}
-
-// Whether a node has no children.
-fn is_leaf(tree: &Parentheses, node: usize) -> bool
-    requires balanced { IsBalanced tree.now }
-    requires node { IsNode (forest_of tree.now) node }
-    ensures { result ≡ (length (children (forest_of tree.now) node) == 0) }
-{
-    tree.is_leaf(node)
-}
-
-// The first or the last node of a depth.
-#[inline(always)]
-fn end_of_level(tree: &Parentheses, query: LevelQuery, depth: u64) -> Option<usize>
-    requires { IsBalanced tree.now }
-    ensures { result ≡ level_end_of (forest_of tree.now) query depth }
-{
-    match query {
-        LevelQuery::LevelLeftmost => tree.level_leftmost(depth),
-        LevelQuery::LevelRightmost => tree.level_rightmost(depth),
     }
 }
