@@ -1,5 +1,5 @@
 -- What the high and low parts of an ascending list say of its members.
-use Rattle.vers_sorted.proofs.Names.{◌≡◌, ℕ, zero, suc, ◌+◌, ◌-◌, ◌*◌, ◌^◌, ◌<◌, true, List, [], ◌∷◌, length, take, drop, ap, ◌∙◌, arith, slice_index, map, range_with_len, IsNonDecreasing, IsStrictlyIncreasing, mul_comm, same_number_lists, take-append-le, take_all, length-map, get_or-map, length-map-range_with_len, get_or-map-range_with_len, number, low_bits, pack, select, number-low_bits, length-low_bits, length-packed, first_of, low_width, high_of, high_length, high_place, member, HoldHigh, HoldLow}
+use Rattle.vers_sorted.proofs.Names.{◌≡◌, ℕ, ◌+◌, ◌-◌, ◌*◌, ◌^◌, ◌<◌, true, List, length, take, drop, ap, ◌∙◌, arith, slice_index, map, range_with_len, IsNonDecreasing, IsStrictlyIncreasing, mul_comm, same_number_lists, length-map, get_or-map, length-map-range_with_len, get_or-map-range_with_len, number, low_bits, pack, select, number-low_bits, length-packed, first_of, low_width, high_of, high_length, high_place, member, HoldHigh, HoldLow}
 use Rattle.vers_bits.proofs.PublicLaws.{element}
 use Rattle.vers_sorted.specs.Layout.{low_of, high_parts, low_parts}
 use Rattle.vers_sorted.specs.inside.Parts.{members}
