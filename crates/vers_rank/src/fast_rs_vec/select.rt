@@ -155,7 +155,7 @@ impl<A: Allocator + Copy> RsVec<A> {
               superblock_entries = digits (superblock_count (length self.now)) + 11;
             }) }
     {
-        let _ = &self.bits;
+        let _ = self.len();
         let s = self.superblock_with(bit, r, tally);
         let r_in_superblock = self.number_in(bit, r, s, tally);
         let at = if s < self.len() / SUPERBLOCK {
@@ -176,7 +176,7 @@ impl<A: Allocator + Copy> RsVec<A> {
         ensures small { result < SUPERBLOCK }
         ensures adds { AddsAtMost tally.old tally.new (only_superblock_entries 1) }
     {
-        let _ = &self.bits;
+        let _ = self.len();
         (r - self.count_at_superblock(bit, s, tally)) as u16
     }
 
@@ -196,7 +196,7 @@ impl<A: Allocator + Copy> RsVec<A> {
         ensures adds { AddsAtMost tally.old tally.new
             (record no_reads { data_words = 7; block_entries = 16 }) }
     {
-        let _ = &self.bits;
+        let _ = self.len();
         let found = self.block_with(bit, r, s, is_whole, tally);
         let block = BLOCKS * s + found.block as usize;
         self.limb_in_block(bit, found.rest as usize, block, is_whole, tally)
@@ -286,7 +286,7 @@ impl<A: Allocator + Copy> RsVec<A> {
         ensures adds { AddsAtMost tally.old tally.new
             (only_superblock_entries (digits (superblock_count (length self.now)) + 10)) }
     {
-        let _ = &self.bits;
+        let _ = self.len();
         let first = self.sample(bit, r / SUPERBLOCK, tally);
         let last = self.sample(bit, r / SUPERBLOCK + 1, tally);
         let n = last + 1 - first;
@@ -318,7 +318,7 @@ impl<A: Allocator + Copy> RsVec<A> {
         ensures adds { AddsAtMost tally.old tally.new
             (only_superblock_entries (digits (n - 1) + 8)) }
     {
-        let _ = &self.bits;
+        let _ = self.len();
         if n <= FEW {
             return self.superblock_among(bit, r, first, n, tally);
         }
@@ -350,7 +350,7 @@ impl<A: Allocator + Copy> RsVec<A> {
         ensures adds { AddsAtMost tally.old tally.new
             (only_superblock_entries (digits (n - 1) + 7)) }
     {
-        let _ = &self.bits;
+        let _ = self.len();
         for step in 1..STEPS + 1 {
             if step >= n || self.count_at_superblock(bit, first + step, tally) > r {
                 return first + step - 1;
@@ -380,7 +380,7 @@ impl<A: Allocator + Copy> RsVec<A> {
         ensures adds { AddsAtMost tally.old tally.new
             (only_superblock_entries (digits (n - 1) + 7)) }
     {
-        let _ = &self.bits;
+        let _ = self.len();
         for step in 1..STEPS + 1 {
             if step >= n || self.count_at_superblock(bit, first + n - step, tally) <= r {
                 return first + n - step;
@@ -410,7 +410,7 @@ impl<A: Allocator + Copy> RsVec<A> {
         ensures adds { AddsAtMost tally.old tally.new
             (only_superblock_entries (digits (n - 1) + 3)) }
     {
-        let _ = &self.bits;
+        let _ = self.len();
         let mut start = first;
         let mut left = n;
         while left > FEW {
@@ -444,7 +444,7 @@ impl<A: Allocator + Copy> RsVec<A> {
         ensures to { r < count bit self.now (SUPERBLOCK * (result + (n - n / 2))) }
         ensures adds { AddsAtMost tally.old tally.new (only_superblock_entries 1) }
     {
-        let _ = &self.bits;
+        let _ = self.len();
         let middle = first + n / 2;
         if self.count_at_superblock(bit, middle, tally) <= r {
             middle
