@@ -205,7 +205,7 @@ impl<A: Allocator + Copy> EliasFanoVec<A> {
         ensures adds { AddsAtMost tally.old tally.new
             (only_low_parts (digits (length self.now) + 4)) }
     {
-        let _ = &self.len;
+        let _ = self.len();
         if !self.is_inside(v) {
             return self.rank_outside(v);
         }

@@ -110,7 +110,7 @@ impl<A: Allocator + Copy> EliasFanoVec<A> {
         ensures value { result ≡ low_of self.now (slice_index self.now (before - high_of self.now v)) }
         ensures adds { AddsAtMost tally.old tally.new (only_low_parts 1) }
     {
-        let _ = &self.len;
+        let _ = self.len();
         self.low_part(before - self.high_number(v), tally)
     }
 }

@@ -41,7 +41,7 @@ impl<A: Allocator + Copy> EliasFanoVec<A> {
         ensures between { IsBetween self.now v bucket result }
         ensures adds { AddsAtMost tally.old tally.new (only_low_parts 4) }
     {
-        let _ = &self.len;
+        let _ = self.len();
         let all = Between {
             from: bucket.start,
             to: bucket.end,
@@ -83,7 +83,7 @@ impl<A: Allocator + Copy> EliasFanoVec<A> {
         ensures between { IsBetween self.now v bucket result }
         ensures adds { AddsAtMost tally.old tally.new (only_low_parts 1) }
     {
-        let _ = &self.len;
+        let _ = self.len();
         if i < between.from {
             return between;
         }

@@ -190,7 +190,7 @@ impl<A: Allocator + Copy> EliasFanoVec<A> {
         ensures member { IsTrue result → IsTrue (list_any (λ m. m == v) self.now) }
         ensures adds { AddsAtMost tally.old tally.new (only_low_parts 1) }
     {
-        let _ = &self.len;
+        let _ = self.len();
         let count = bucket.end.saturating_sub(bucket.start);
         if count < MANY {
             return false;
@@ -316,7 +316,7 @@ impl<A: Allocator + Copy> EliasFanoVec<A> {
         ensures ascending { IsNonDecreasing self.now }
         ensures adds { AddsAtMost tally.old tally.new (search_reads self.now) }
     {
-        let _ = &self.len;
+        let _ = self.len();
         if !self.is_inside(v) {
             return self.rank_outside(v);
         }
