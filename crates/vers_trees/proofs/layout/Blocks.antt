@@ -21,7 +21,7 @@ part_meets l a b x t p lo hi = let i = p.least in let j = p.greatest in let i2 =
     (cases_lt i.0 j.0)
 
 -- ---- what a node tells of its part
--- the same of the places before which the sum is looked for, among them the part's first and not the one past it
+-- a node that is met backwards has the sum before a place of its part, which may be the part's first and isn't the one past it
 part_meets_before : (l : List Bool) (a b : ℕ) (x : Node) (t left : ℤ) → IsPart l a b x → excess l b +ℤ left ≡ t → excess l b ≢ t → IsInRangeOrStart x (left +ℤ x.total) → (k : ℕ) × (a ≤ k) × (k < b) × (excess l k ≡ t)
 part_meets_before l a b x t left p q n i =
     let pt = p.total in let l1 = p.least.1 in let l2 = p.least.2 in

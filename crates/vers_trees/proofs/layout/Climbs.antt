@@ -3,7 +3,7 @@ use Rattle.vers_trees.proofs.Words.{◌≡◌, ℕ, zero, suc, ◌+◌, ◌-◌,
 use Rattle.vers_trees.proofs.layout.MinMax.{HasChildren, stands_children, parent_of_left, parent_of_right, stands_leaf, leaf_stands, root_stands, stands_some, total_of_part}
 use Rattle.vers_trees.proofs.layout.Blocks.{place_in, passed_over, left_fits, too_far}
 
--- the node that a search comes to, a far child, and where it goes on from past that node
+-- the node that a search comes to, a far child, and where it goes on once it has passed that node's part
 record Far (back : Bool) (s : Sought) (first place : ℕ) (left : ℤ) (x : Node) : Type 0 where
   pub start : ℕ
   pub stop : ℕ
@@ -17,7 +17,7 @@ module _ (s : Sought) (first : ℕ) (nodes : List Node) where
   covers_at : (i a e : ℕ) (x : Node) → IsMinMax s.bits s.size first nodes → x ≡ get_or nodes i empty_node → StandsOver first i a e → Covers s.bits s.size a e x
   covers_at i a e x m q p = rw q (m.covered i a e (omega arith) p)
 
-  -- past a part there is what it leaves
+  -- what is left past a part is counted from its other end
   remains_past : (back : Bool) (i e : ℕ) (x : Node) (left : ℤ) → Covers s.bits s.size i e x → i ≤ e → Passed back s (start_of s.bits s.size (edge back i e)) left → excess s.bits (start_of s.bits s.size (edge back e i)) +ℤ left_past back left x ≡ target s
   remains_past false i e x left c le p = let t = total_of_part s.bits s.size i e x c le in let r = p.remains in omega (arith, ints)
   remains_past true i e x left c le p = let t = total_of_part s.bits s.size i e x c le in let r = p.remains in omega (arith, ints)
