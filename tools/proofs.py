@@ -1,9 +1,8 @@
 #!/usr/bin/env python3
 """Proves crates with those below them, as many side by side as there are processors: proofs.py CRATE..
 
-Each crate begins once those below it are proved, those first from which the longest way leads up. It is proved in a repository of its own,
-since a check locks the folders of all crates below. Standard error tells of each. A program is built besides, and its file `out/NAME.built`
-is then as old as the beginning of the run. An interrupt ends what was begun.
+Each crate begins once those below it are proved. It is proved in a repository of its own, since a check locks the folders of all crates below.
+Standard error tells of each. A program is built besides, and its file `out/NAME.built` is then as old as the beginning of the run.
 """
 import contextlib
 import os
@@ -124,16 +123,18 @@ def longest_ways(crates, asked):
 
 
 def prove_all(crates, names, commands, tell=lambda text: None):
-    """Proves crates with those below them, each by all processors. The shorter a crate's way up beside the longest begun, the more it yields."""
+    """Proves crates with those below them: that with the longest way up by two jobs and as many more as the others leave processors, each of the
+    others, and a program, by one, which yields the more the shorter its way is."""
     asked = {it for name in names for it in [*crates.below(name), name]}
-    ways, order = longest_ways(crates, asked), TopologicalSorter({it: crates.uses(it) for it in asked})
+    ways, order, running = longest_ways(crates, asked), TopologicalSorter({it: crates.uses(it) for it in asked}), {}
     order.prepare()
-    running = {}
     with ThreadPoolExecutor(commands.count) as pool:
         while order.is_active():
-            for name in sorted(order.get_ready(), key=ways.get, reverse=True):
-                longest = max(ways[it] for it in [name, *running.values()])
-                running[pool.submit(prove, crates, name, 10 - 10 * ways[name] // longest, commands)] = name
+            ready = order.get_ready()
+            *others, longest = sorted([*running.values(), *ready], key=ways.get)
+            for name in sorted(ready, key=ways.get, reverse=True):
+                jobs = max(2, commands.count - len(others)) if name == longest and not crates.is_program(name) else 1
+                running[pool.submit(prove, crates, name, jobs, 10 - 10 * ways[name] // ways[longest], commands)] = name
             for done in wait(running, return_when=FIRST_COMPLETED).done:
                 done.result()
                 name = running.pop(done)
@@ -141,13 +142,12 @@ def prove_all(crates, names, commands, tell=lambda text: None):
                 tell(f"{name} is proved by {commands.seconds[name, 'proof']:.0f} processor seconds")
 
 
-def prove(crates, name, niceness, commands):
+def prove(crates, name, jobs, niceness, commands):
     """Proves a crate in a repository of its own: a library is built for those above it, a program is built and asked its version."""
     with tempfile.TemporaryDirectory(prefix="proof-") as room:
         crates.copy_to(room, name, "out")
-        command = ["nice", "-n", str(niceness), "rt", "run" if crates.is_program(name) else "lib", "--jobs", str(commands.count)]
-        command += ["--", "--version"] if crates.is_program(name) else []
-        said, status = commands.run((name, "proof"), command, f"{room}/crates/{name}")
+        what = ["run", "--jobs", str(jobs), "--", "--version"] if crates.is_program(name) else ["lib", "--jobs", str(jobs)]
+        said, status = commands.run((name, "proof"), ["nice", "-n", str(niceness), "rt", *what], f"{room}/crates/{name}")
         if status:
             commands.fail(f"{name} is not proved:\n{said[-4000:]}")
         shutil.rmtree(f"{crates.folder(name)}/out", ignore_errors=True)

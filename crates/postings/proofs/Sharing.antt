@@ -1,17 +1,16 @@
 -- The shorter list looked through from its start.
-use Rattle.std.proofs.Common.{◌≡◌, ℕ, zero, suc, ◌+◌, ◌*◌, ◌<◌, ◌≤◌, Bool, cond, List, [], ◌∷◌, ◌++◌, length, take, drop, get_or, Some, None, refl, sym, ap, subst, ◌∙◌, arith, rules}
-use Rattle.std.specs.Prelude.{filter, slice_get}
+use Rattle.std.proofs.Common.{◌≡◌, ℕ, zero, suc, ◌+◌, ◌*◌, ◌<◌, ◌≤◌, Bool, true, false, cond, List, [], ◌∷◌, ◌++◌, length, take, drop, get_or, Some, None, refl, sym, ap, subst, ◌∙◌, arith, rules}
+use Rattle.std.specs.Prelude.{filter, slice_get, if◌then◌else◌}
 use Rattle.std.proofs.lemmas.List.{get_or-drop, length-drop}
 use Rattle.vers_bits.specs.Walk.{TakesFirst}
 use Rattle.std.proofs.lemmas.Option.{slice_get-get_or, get_or_from_slice_get, none-some}
 use Rattle.std.proofs.Math.Nat.{mul-le-mul_right}
-use Rattle.std.proofs.lemmas.Bool.{le-leb, lt-leb}
 use Rattle.std.proofs.lemmas.List.Elements.{filter_more}
 use Rattle.vers_sorted.specs.Layout.{member_reads, search_reads}
 use Rattle.vers_tally.specs.Ends.{Walking}
 use Rattle.vers_tally.specs.Reads.{Reads, AddsAtMost, IsWithin, plus, times}
 use Rattle.vers_tally.proofs.PublicLaws.{adds_then, adds_weaker, within_itself}
-use Rattle.postings.specs.Posted.{is_among, common, lookups, intersect_reads}
+use Rattle.postings.specs.Posted.{is_among, common, lookups}
 
 -- a walk along the shorter list took k documents and has the others left, and of those taken the ones that the longer list has were found
 pub record SharedUpTo (shorter longer found : List ℕ) (walk : Walking ℕ) (old new : Reads) (k : ℕ) : Type 0 where
@@ -130,9 +129,12 @@ pub ended_within : (shorter longer found : List ℕ) (walk : Walking ℕ) (old n
 ended_within shorter longer found walk a b k before inside =
     adds_weaker before.adds (lookups_up k (length shorter) (plus (member_reads shorter) (search_reads longer)) inside)
 
--- the documents of the list that has fewer are looked for
-pub intersect_within : (documents others : List ℕ) (old new : Reads) → length documents ≤ length others → AddsAtMost old new (lookups documents others) → AddsAtMost old new (intersect_reads documents others)
-intersect_within documents others a b fewer adds = rw (le-leb (length documents) (length others) fewer) adds
+-- a question of two lists, the first of them asked about first where `b` holds
+pub either_first : {Y : Type 0} (f : List ℕ → List ℕ → Y) (b : Bool) (documents others first second : List ℕ) → first ≡ (if b then documents else others) → second ≡ (if b then others else documents)
+    → f first second ≡ (if b then f documents others else f others documents)
+either_first f true documents others first second e h = rw (e, h) refl
+either_first f false documents others first second e h = rw (e, h) refl
 
-pub intersect_within_other : (documents others : List ℕ) (old new : Reads) → length others < length documents → AddsAtMost old new (lookups others documents) → AddsAtMost old new (intersect_reads documents others)
-intersect_within_other documents others a b fewer adds = rw (lt-leb (length documents) (length others) fewer) adds
+pub same_either_way : {Y : Type 0} (b : Bool) (x y : Y) → x ≡ y → (if b then x else y) ≡ x
+same_either_way true x y e = refl
+same_either_way false x y e = sym e

@@ -1,11 +1,11 @@
 //! The list of documents and its maker.
-ghost use Rattle.std.specs.Prelude.{◌≡◌, ◌≤◌, ◌↔◌, [], length, IfOk, IfErr, IsTrue};
+ghost use Rattle.std.specs.Prelude.{◌≡◌, ◌≤◌, ◌↔◌, [], length, OnOk, IfOk, IfErr, IsTrue};
 ghost use Rattle.std.specs.List.Sorted.{IsStrictlyIncreasing};
 ghost use Rattle.postings.specs.Posted.{ArePaired};
 ghost use Rattle.postings.specs.Makers.{IsRefusedFor};
 
 use crate::fault::PostingsError;
-use std::alloc::Allocator;
+use std::alloc::{AllocError, Allocator};
 use std::marker::Model;
 use vers_rmq::rmq::fast_rmq::{FastRmq, MAX_LEN};
 use vers_sorted::elias_fano::EliasFanoVec;
@@ -43,20 +43,11 @@ impl<A: Allocator + Copy> Postings<A> {
         ensures within { IfOk result (λ p. length p.documents ≤ MAX_LEN) }
         ensures refused { IfErr result (IsRefusedFor documents.now costs.items MAX_LEN) }
     {
-        if documents.len() != costs.len() {
-            return Err(PostingsError::LengthMismatch);
-        }
-        if documents.len() > MAX_LEN {
-            return Err(PostingsError::TooLong);
-        }
-        if !is_strictly_ascending(documents) {
-            return Err(PostingsError::NotAscending);
-        }
+        check(documents, costs.as_slice())?;
         let alloc = *costs.allocator();
-        Ok(Postings {
-            documents: EliasFanoVec::from_slice(alloc, documents)?,
-            costs: FastRmq::from_vec(costs)?,
-        })
+        let costs = FastRmq::from_vec(costs)?;
+        let (documents, costs) = documents_beside(alloc, documents, costs)?;
+        Ok(Postings { documents, costs })
     }
 
     /// The documents, as the ascending list that keeps them.
@@ -91,4 +82,35 @@ impl<A: Allocator + Copy> Postings<A> {
     {
         self.documents.is_empty()
     }
+}
+
+// Tests whether documents and costs can be kept, in the order of `PostingsError`.
+fn check(documents: &[u64], costs: &[u64]) -> Result<(), PostingsError>
+    ensures ascending { OnOk result (IsStrictlyIncreasing documents.now) }
+    ensures paired { OnOk result (length documents.now ≡ length costs.now) }
+    ensures within { OnOk result (length documents.now ≤ MAX_LEN) }
+    ensures refused { IfErr result (IsRefusedFor documents.now costs.now MAX_LEN) }
+{
+    if documents.len() != costs.len() {
+        return Err(PostingsError::LengthMismatch);
+    }
+    if documents.len() > MAX_LEN {
+        return Err(PostingsError::TooLong);
+    }
+    if !is_strictly_ascending(documents) {
+        return Err(PostingsError::NotAscending);
+    }
+    Ok(())
+}
+
+// A list of documents beside what else is made, which is dropped where memory is refused.
+fn documents_beside<A: Allocator + Copy, C: Drop>(
+    alloc: A,
+    documents: &[u64],
+    costs: C,
+) -> Result<(EliasFanoVec<A>, C), AllocError>
+    requires { IsStrictlyIncreasing documents.now }
+    ensures { IfOk result (λ made. (made.0 ≡ documents.now) × (made.1 ≡ costs)) }
+{
+    Ok((EliasFanoVec::from_slice(alloc, documents)?, costs))
 }

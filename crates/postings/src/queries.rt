@@ -1,5 +1,5 @@
 //! What is asked of a list of documents.
-ghost use Rattle.std.specs.Prelude.{◌≡◌, ◌+◌, ◌≤◌, All, length, IfOk};
+ghost use Rattle.std.specs.Prelude.{◌≡◌, ◌+◌, ◌≤◌, All, length, nat_le, if◌then◌else◌, IfOk};
 ghost use Rattle.vers_tally.specs.Reads.{AddsAtMost};
 ghost use Rattle.vers_sorted.specs.Sorted.{below, least_not_below};
 ghost use Rattle.vers_sorted.specs.Layout.{search_reads};
@@ -110,11 +110,26 @@ impl<A: Allocator + Copy> Postings<A> {
         ensures adds { AddsAtMost tally.old tally.new
             (intersect_reads self.now.documents other.now.documents) }
     {
-        let alloc = self.costs.allocator();
-        if self.len() <= other.len() {
-            return common_documents(alloc, &self.documents, &other.documents, tally);
-        }
-        common_documents(alloc, &other.documents, &self.documents, tally)
+        let (shorter, longer) = by_length(&self.documents, &other.documents);
+        common_documents(self.costs.allocator(), shorter, longer, tally)
+    }
+}
+
+// Two lists, the shorter first.
+#[inline(always)]
+fn by_length<'a, A: Allocator + Copy>(
+    one: &'a EliasFanoVec<A>,
+    other: &'a EliasFanoVec<A>,
+) -> (&'a EliasFanoVec<A>, &'a EliasFanoVec<A>)
+    ensures shorter { result.0.now
+        ≡ (if nat_le (length one.now) (length other.now) then one.now else other.now) }
+    ensures longer { result.1.now
+        ≡ (if nat_le (length one.now) (length other.now) then other.now else one.now) }
+{
+    if one.len() <= other.len() {
+        (one, other)
+    } else {
+        (other, one)
     }
 }
 
@@ -132,6 +147,7 @@ fn up_to<A: Allocator + Copy>(documents: &EliasFanoVec<A>, to: u64, tally: &mut 
 }
 
 // The documents of the shorter list that the longer has too, in one walk along the shorter.
+#[inline(always)]
 fn common_documents<A: Allocator + Copy>(
     alloc: A,
     shorter: &EliasFanoVec<A>,

@@ -1,3 +1,4 @@
+pub mod Names
 pub mod Counts
 pub mod Dictionary
 pub mod Ranks

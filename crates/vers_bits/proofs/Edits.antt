@@ -81,4 +81,6 @@ adds_by_none ws n b holds part off = rw off (record { counted = omega (arith, ho
 
 pub ruleset steps = (adds_by_set, adds_by_none)
 
-pub ruleset edits = (cut_bits, cut_holds, put_bits, put_holds, get_or-word_bits)
+pub ruleset cuts = (cut_bits, cut_holds, length-word_bits)
+
+pub ruleset puts = (put_bits, put_holds, get_or-word_bits, length-word_bits)

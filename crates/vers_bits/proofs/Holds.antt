@@ -186,7 +186,3 @@ pub resized : (ws vs : List ℕ) (n k m long : ℕ) → HoldsBits ws n → n + k
 resized ws vs n k m long holds bounded all counted e =
     let whole : take (limb_count (n + k)) ws ≡ ws = take_all (limb_count (n + k)) ws (omega (arith, holds.counted)) in
     rw (e, all, counted, whole) (added_zeros ws n k holds bounded)
-
-pub ruleset adds = (added_word, added_inside, added_across)
-
-pub ruleset holding = (held_bits, held)

@@ -116,4 +116,4 @@ pub adds_by_push : (ws vs : List ℕ) (n : ℕ) (b : Bool) → HoldsBits ws n �
 adds_by_push ws vs n true holds whole e = rw e (adds_by_number ws n true holds whole)
 adds_by_push ws vs n false holds whole e = rw e (adds_by_number ws n false holds whole)
 
-pub ruleset words = (length-word_bits, slice_get-word_bits, slice_get_past-word_bits, bit_value_at-word_bits, slice_index-word_bits, bit_value_of-word_bits, limb-word_bits, added_bits, added_holds)
+pub ruleset words = (length-word_bits, slice_get-word_bits, slice_get_past-word_bits, bit_value_at-word_bits, slice_index-word_bits, bit_value_of-word_bits, limb-word_bits)

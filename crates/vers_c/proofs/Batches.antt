@@ -1,8 +1,6 @@
 -- Lists that are written item by item, and group by group.
-use Rattle.std.proofs.Common.{◌≡◌, ℕ, ◌+◌, ◌-◌, ◌<◌, ◌≤◌, ◌++◌, ◌∙◌, List, [], ◌∷◌, length, map, take, drop, get_or, set, ap, refl, sym, arith, take-add}
-use Rattle.std.proofs.lemmas.List.{append_assoc, drop-drop, drop_at, drop_more, get_or-map, get_or_at, length-map, length-take-le, map-append, map_more, map_push, take_at, take_more_set}
-use Rattle.std.proofs.lemmas.List.Edits.{map_over_more}
-use borrow.Rule.Slice.PartMut.{put_mid}
+use Rattle.vers_c.proofs.Names.{◌+◌, ◌-◌, ◌<◌, ◌≤◌, length, map, take, get_or, set, arith, take-add, append_assoc, drop-drop, drop_at, drop_more, get_or-map, get_or_at, length-map, length-take-le, map-append, map_more, map_push, take_at, take_more_set, map_over_more, put_mid}
+use Rattle.std.proofs.Common.{◌≡◌, ℕ, ◌++◌, ◌∙◌, List, [], ◌∷◌, drop, ap, refl, sym}
 
 -- an item that is still as it was, where those before it were written
 still : {X : Type 0} (f : X → X) (xs ys : List X) (i : ℕ) (d : X) → i < length xs → ys ≡ map f (take i xs) ++ drop i xs → get_or ys i d ≡ get_or xs i d

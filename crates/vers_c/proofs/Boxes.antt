@@ -1,16 +1,9 @@
 -- What a box, a pair and a pointer own by value, each as one machine value.
+use Rattle.vers_c.proofs.Names.{Ura, Val, vstruct, of_list, Logic, Goal, Seq, Item, ‵, ◌$◌, move, fsplit, fpick, feq_l, Ptr, RawPtr, block_ptr, ptr_val, Tuple, Fits, handle_tells, Bx, D, P, B, word, handle, box_out, box_in}
 use mathlib.Core.Path.{◌≡◌, refl, subst}
 use Prim.Native.Nat.{ℕ}
 use mathlib.Core.List.{List, [], ◌∷◌, ◌++◌}
-use seplogic.Ra.Ura.{Ura}
-use mir.Val.{Val, vstruct, of_list}
-use types.Logic.{Logic}
-use types.Kit.{Goal, Seq, Item, ‵, ◌$◌, move, drop, fsplit, fpick, feq_l}
-use denote.RawPtr.{Ptr, RawPtr, block_ptr, ptr_val}
-use denote.Struct.Tuple.{Tuple}
-use Rattle.core.proofs.alloc.Calls.{Fits, handle_tells}
-use Rattle.std_alloc.proofs.BoxSteps.Form.{Bx, D, P, B, word, handle}
-use Rattle.std_alloc.proofs.BoxSteps.Steps.{box_out, box_in}
+use types.Kit.{drop}
 
 module _ (E : Bx) {M : Type 1} {𝓤 : Ura M} {𝓛 : Logic 𝓤} {K : Type 0} {Γ : List (Item 𝓤)} {G : Goal 𝓤 𝓛.H} where
   -- the machine values of a box are one word, of its pointer and its allocator

@@ -1,3 +1,4 @@
+pub mod Names
 pub mod Batches
 pub mod Boxes
 mod OwnerBoxes

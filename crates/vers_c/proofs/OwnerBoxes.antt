@@ -1,10 +1,7 @@
 -- An owner of a structure in a box, and the types that own what this box owns.
-use mir.Syntax.{impl, tnil, dnil}
+use Rattle.vers_c.proofs.Names.{impl, tnil, dnil, Slot, plain, Bx, ghosts, dict}
 use mathlib.Core.List.{[]}
-use denote.Signature.{Slot, plain}
-use Rattle.std_alloc.proofs.BoxSteps.Form.{Bx}
 use Rattle.std.specs.contracts.alloc.Global as Heap
-use Rattle.std.specs.contracts.impls.GlobalAllocator.TheImpl.{ghosts, dict}
 use Rattle.std.proofs.alloc.Global.TheLaws as heap
 use Rattle.vers_c.specs.contracts.kept.Kept as Kept
 use Rattle.vers_c.proofs.kept.Kept.TheLaws as kept

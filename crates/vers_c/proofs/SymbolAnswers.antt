@@ -1,12 +1,6 @@
 -- What many queries of symbols find, as functions of the list.
-use Rattle.std.proofs.Common.{◌≡◌, ℕ, Bool, List, [], length, slice_get, map, Option, Some, None, true, false, refl, sym, ap, ◌∙◌, arith}
-use Rattle.std.specs.Prelude.{◌&&◌, slice_range, nat_le, if◌then◌else◌}
-use Rattle.std.proofs.lemmas.Simd.{map-map}
-use Rattle.std.proofs.lemmas.Option.{slice_get_past}
-use Rattle.vers_wavelet.specs.Symbols.{Symbols, by_size, kth_by_size, occurrences, range_members, as_word}
-use Rattle.vers_wavelet.specs.Numbers.{low_bits_of, places_of, rank_before}
-use Rattle.vers_c.specs.Answers.{found_or_absent}
-use Rattle.vers_c.specs.SymbolsAnswers.{if_numbers}
+use Rattle.vers_c.proofs.Names.{Bool, length, slice_get, map, Option, Some, None, true, false, arith, ◌&&◌, slice_range, nat_le, if◌then◌else◌, map-map, slice_get_past, Symbols, by_size, kth_by_size, occurrences, range_members, as_word, low_bits_of, places_of, rank_before, found_or_absent, if_numbers}
+use Rattle.std.proofs.Common.{◌≡◌, ℕ, List, [], refl, sym, ap, ◌∙◌}
 
 -- what many queries that were answered at once say
 pub many_answers : {Q : Type 0} (symbols : Symbols) (answer given found : Q → Option ℕ) (before after : List Q) → map answer after ≡ map given before → ((q : Q) → given q ≡ (if nat_le symbols.width 64 then found q else None))

@@ -28,5 +28,3 @@ same_places b l m long many each =
     let same : get_or l k false ≡ get_or m k false = same_bit b (get_or l k false) (get_or m k false) (place_of_both b l m long many each k h)
     (place_of_both b m l (sym long) (sym many) (λ r few. sym (each r (omega arith))) k (omega arith)) in
     any_default l k d false h ∙ same ∙ any_default m k false d (omega arith))
-
-pub ruleset equality = (same_places)

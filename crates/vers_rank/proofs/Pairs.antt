@@ -1,7 +1,6 @@
 -- The place after a place that holds the bit, in the same limb.
 use Rattle.vers_rank.proofs.Names.{◌≡◌, ◌≢◌, ℕ, zero, suc, ◌+◌, ◌-◌, ◌*◌, ◌/◌, ◌%◌, ◌^◌, ◌<◌, ◌≤◌, Bool, true, false, List, length, get_or, sym, ap, ◌∙◌, arith, inl, inr, min, w64, bit_at, trailing_zeros, cases_lt, bit_at-suc, bit_at-zero, bit_at_above, bit_at-trailing_zeros, bit_value, is_bit, count, limb, select, count_more_no, select_at, count_at_select, select_past, select_up, select_holds, value_one, value_none, shr-shr, marked}
 use Rattle.vers_rank.proofs.Marks.{marked_fits, marked_bit}
-use Rattle.vers_rank.proofs.Selects.{select_le}
 
 -- a digit of a number without its lowest q digits
 pub digit_after : (n q i : ℕ) → bit_at (n / 2 ^ q) i ≡ bit_at n (q + i)
@@ -82,5 +81,3 @@ none_after b l r k q small more place none same =
 
 pub no_places : (b : Bool) (l : List Bool) (r : ℕ) → count b l (length l) ≤ r → (select b l r ≡ length l) × (select b l (r + 1) ≡ length l)
 no_places b l r h = (select_past b l r h, select_past b l (r + 1) (omega arith))
-
-pub ruleset pairs = (place_after, no_places, select_le)

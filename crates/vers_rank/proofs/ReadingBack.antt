@@ -57,8 +57,6 @@ module _ (b : Bool) (l : List Bool) (reader : Reader) (is : IsReadingBack b l re
         let e : 64 * reader.limb + (q + 1) ≡ 64 * reader.limb + q + 1 = omega arith in
         (reading_to _ (q + 1) end cut (omega (arith, ap (count b l) e, count_more_yes b l (64 * reader.limb + q) at.0.inside at.0.holds, at.1)) to, some_word _ q (cut.all q small (omega arith) (omega arith) on.0))
 
-pub ruleset backwards = (passed_back)
-
 -- ---- the highest one of the word
 module _ (b : Bool) (l : List Bool) (reader : Reader) (r : ℕ) (here : reader.next ≡ r + 1) (some : r < count b l (length l)) (is : IsReadingBack b l reader) (left : 0 < reader.word) where
   abbrev highest : ℕ

@@ -1,5 +1,5 @@
 -- The table of places.
-use Rattle.vers_rmq.proofs.Names.{◌≡◌, ℕ, ◌+◌, ◌-◌, ◌*◌, ◌^◌, ◌<◌, ◌≤◌, List, [], ◌∷◌, ◌++◌, length, get_or, ap, inl, inr, arith, mul-le-mul_left, pow_pos, cases_lt, length_push, get_or_push, get_or_append_left, clog, PlacedItem, IsFirstLeast, lesser, IsLeastItem, lesser_item}
+use Rattle.vers_rmq.proofs.Names.{◌≡◌, ℕ, ◌+◌, ◌-◌, ◌*◌, ◌^◌, ◌<◌, ◌≤◌, List, [], ◌∷◌, ◌++◌, length, get_or, refl, ap, inl, inr, arith, mul-le-mul_left, pow_pos, cases_lt, length_push, get_or_push, get_or_append_left, clog, PlacedItem, IsFirstLeast, lesser, IsLeastItem, lesser_item}
 use Rattle.vers_rmq.specs.inside.Tables.{HoldsPlaces, IsTable, reach}
 use Rattle.vers_tally.proofs.PublicLaws.{clog_is, clog_up, pow_next, digits-le}
 use Rattle.vers_rmq.proofs.Minima.{least_at, least_join, least_ends, item_at, item_ends}
@@ -48,6 +48,10 @@ level_inside xs table k t h = omega (arith, t.counted, mul-le-mul_left (length x
 pub room_of : (xs table : List ℕ) (k i n : ℕ) → IsTable xs table → i + 2 ^ k ≤ length xs → n ≡ length xs → n * k + i < length table
 room_of xs table k i n t h e = rw e (omega (arith, level_inside xs table k t (omega (arith, h)), pow_pos k))
 
+-- an entry of a level
+pub level_at : (xs table t : List ℕ) (k i n : ℕ) → IsTable xs table → t ≡ table → n ≡ length xs → i + 2 ^ k ≤ length xs → IsFirstLeast xs i (i + 2 ^ k - 1) (get_or t (n * k + i) 0)
+level_at xs table t k i n is e en inside = rw (e, en) (least_ends xs i (reach (length xs) k i) (i + 2 ^ k - 1) _ (omega arith) (is.places.place k i (omega (arith, pow_pos k)) (room_of xs table k i (length xs) is inside refl)))
+
 pub table_is : (xs table : List ℕ) (k : ℕ) → length xs < 2 ^ 32 → HoldsPlaces xs table → length table ≡ length xs * (k + 1) → length xs ≤ 2 ^ k → (0 < length xs → 2 ^ k < 2 * length xs) → IsTable xs table
 table_is xs table k few holds counted up down = record {
   bounded = few;
@@ -67,8 +71,6 @@ asked xs ys k i j w h m n a b r e ij ew low high eh left right pa va pb vb v = g
 -- the room that is asked for is a number of the machine
 pub room_fits : (n r : ℕ) → n < 2 ^ 32 → r ≤ 33 → n * r < 2 ^ 64
 room_fits n r few most = omega (arith, few, mul-le-mul_left {m = r} {n = 33} n most)
-
-pub ruleset filling = (add_place, level_zero, no_places, table_is, pow_next, room_fits)
 
 -- the sizes of the table
 pub table_size : (xs table : List ℕ) → IsTable xs table → (length table ≡ length xs * (clog (length xs) + 1)) × (length table ≤ 33 * length xs) × (length xs < 2 ^ 32)

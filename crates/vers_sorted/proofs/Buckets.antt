@@ -1,5 +1,6 @@
 -- Where the members with one high part begin and end.
 use Rattle.vers_sorted.proofs.Names.{◌≡◌, ℕ, ◌+◌, ◌-◌, ◌*◌, ◌/◌, ◌%◌, ◌^◌, ◌<◌, ◌≤◌, Bool, true, false, List, length, refl, ap, ◌∙◌, arith, inl, inr, slice_index, bit_and, IsNonDecreasing, and_mask, one_shl, cases_lt, count, select, count_both, count_up, count_at_select, select_below, select_not_below, digits, digits_halved, digits_up, below, first_of, last_of, low_width, high_place, high_parts, IsPacked, IsStart, IsBucket, Bucket}
+use Rattle.vers_sorted.specs.inside.Buckets.{IsBetween}
 use Rattle.vers_sorted.specs.Layout.{high_of, low_of}
 use Rattle.vers_sorted.proofs.Below.{below_le, below_from, below_to, below_before, below_after}
 use Rattle.vers_sorted.proofs.Split.{parts_sum, high_up, member_from, high_zeros}
@@ -55,6 +56,9 @@ start_below s v start up from at = grind (arith, high_up, below_after)
 
 pub below_end : (s : List ℕ) (v end : ℕ) → IsNonDecreasing s → first_of s ≤ v → IsStart s (high_of s v + 1) end → below s v ≤ end
 below_end s v end up from at = grind (arith, below_le, below_before, high_up, member_from)
+
+pub all_between : (s : List ℕ) (v : ℕ) (bucket : Bucket) → IsNonDecreasing s → first_of s ≤ v → IsBucket s v bucket → IsBetween s v bucket (record { from = bucket.start; to = bucket.end })
+all_between s v bucket up from is = record { start_from = omega arith; from_below = start_below s v bucket.start up from is.start; below_to = below_end s v bucket.end up from is.end; to_end = omega arith }
 
 -- a member between the two, by its low part
 pub step_up : (s : List ℕ) (v start end i : ℕ) → IsNonDecreasing s → first_of s ≤ v → IsStart s (high_of s v) start → IsStart s (high_of s v + 1) end

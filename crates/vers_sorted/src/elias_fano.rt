@@ -3,7 +3,7 @@ ghost use Rattle.std.specs.Prelude.{◌≡◌, ◌<◌, ◌≤◌, ◌==◌, ◌
 ghost use Rattle.std.specs.List.{list_any};
 ghost use Rattle.std.specs.List.Sorted.{IsNonDecreasing};
 ghost use Rattle.vers_sorted.specs.Sorted.{below, greatest_not_above, least_not_below, delta};
-ghost use Rattle.vers_sorted.specs.Layout.{heap_size_of};
+ghost use Rattle.vers_sorted.specs.Layout.{heap_size_of, first_of, last_of};
 
 mod ahead;
 mod batch;
@@ -89,6 +89,22 @@ impl<A: Allocator + Copy> EliasFanoVec<A> {
         self.len() == 0
     }
 
+    // The first member, 0 where there is none.
+    #[inline(always)]
+    fn first(&self) -> u64
+        ensures { result ≡ first_of self.now }
+    {
+        self.first
+    }
+
+    // The last member, 0 where there is none.
+    #[inline(always)]
+    fn last(&self) -> u64
+        ensures { result ≡ last_of self.now }
+    {
+        self.last
+    }
+
     /// The bytes that the high parts with their index and the low parts take.
     #[tactic(auto, using(crate::proofs::Packed::sizes))]
     pub fn heap_size(&self) -> usize
@@ -116,7 +132,7 @@ impl<A: Allocator + Copy> EliasFanoVec<A> {
         ensures value { result ≡ slice_index self.now i }
         ensures ascending { IsNonDecreasing self.now }
     {
-        let _ = &self.len;
+        let _ = self.len();
         let mut tally = Tally::new();
         self.member(i, &mut tally)
     }

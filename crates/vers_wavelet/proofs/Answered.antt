@@ -1,8 +1,5 @@
 -- What is found in a range, by the relations over the members at its places.
-use Rattle.std.proofs.Common.{◌≡◌, ℕ, ◌+◌, ◌<◌, ◌≤◌, List, [], length, Option, Some, None, refl, sym, ap, ◌∙◌, subst, arith, inl, inr}
-use Rattle.std.specs.Prelude.{◌↔◌, slice_range, IsSome, IfSome, Any}
-use Rattle.std.proofs.lemmas.Bool.{cases_lt}
-use Rattle.vers_wavelet.specs.Symbols.{range_members, kth_by_size, greatest_up_to, least_from, IsKth, IsPredecessor, IsSuccessor}
+use Rattle.vers_wavelet.proofs.Names.{◌≡◌, ℕ, ◌+◌, ◌<◌, ◌≤◌, List, [], length, Option, Some, None, refl, sym, ap, ◌∙◌, subst, arith, inl, inr, ◌↔◌, slice_range, IsSome, IfSome, Any, cases_lt, range_members, kth_by_size, greatest_up_to, least_from, IsKth, IsPredecessor, IsSuccessor}
 use Rattle.vers_wavelet.proofs.Members.{never}
 use Rattle.vers_wavelet.proofs.BySize.{kth_none, kth_is}
 use Rattle.vers_wavelet.proofs.Ranges.{members_inside, members_past, members_reversed, range_has_kth}

@@ -1,12 +1,5 @@
 -- What queries that go level by level answer.
-use Rattle.std.proofs.Common.{◌≡◌, ℕ, ◌+◌, ◌-◌, ◌*◌, ◌%◌, ◌^◌, ◌&&◌, ◌<◌, ◌≤◌, Bool, true, false, leb, ltb, List, [], ◌∷◌, length, get_or, refl, sym, ap, ◌∙◌, subst, arith}
-use Rattle.std.specs.Prelude.{Option, Some, None, option_map, slice_get, IfSome, if◌then◌else◌}
-use Rattle.std.proofs.lemmas.Bool.{le-leb, lt-leb, leb-true, leb-false, ltb-true, ltb-false}
-use Rattle.std.proofs.lemmas.Option.{slice_get-get_or, slice_get_past}
-use Rattle.vers_bits.specs.Bits.{bit_value}
-use Rattle.vers_wavelet.specs.Levels.{value, values, next, way, digit, AreLevels, Rises}
-use Rattle.vers_wavelet.specs.Batches.{Seeks}
-use Rattle.vers_wavelet.specs.Symbols.{occurrences}
+use Rattle.vers_wavelet.proofs.Names.{◌≡◌, ℕ, ◌+◌, ◌-◌, ◌*◌, ◌%◌, ◌^◌, ◌&&◌, ◌<◌, ◌≤◌, Bool, true, false, leb, ltb, List, [], ◌∷◌, length, get_or, refl, sym, ap, ◌∙◌, subst, arith, Option, Some, None, option_map, slice_get, IfSome, if◌then◌else◌, le-leb, lt-leb, leb-true, leb-false, ltb-true, ltb-false, slice_get-get_or, slice_get_past, bit_value, value, values, next, way, digit, AreLevels, Rises, Seeks, occurrences}
 use Rattle.vers_wavelet.proofs.Values.{value_is, value_none, next-up, way_is, way_none}
 use Rattle.vers_wavelet.proofs.Members.{never}
 use Rattle.vers_wavelet.proofs.Steps.{rise_none, rise_all, rise_below, way_within}

@@ -1,11 +1,7 @@
 -- Lists whose items are changed one by one.
-use Rattle.std.proofs.Common.{◌≡◌, ◌≢◌, ℕ, suc, ◌+◌, ◌*◌, ◌<◌, ◌≤◌, List, [], ◌∷◌, length, set, get_or, get_or-set_same, get_or-set_other, length-set, refl, sym, ap, ◌∙◌, subst, arith, inl, inr}
-use Rattle.std.specs.Prelude.{map, All}
-use Rattle.std.proofs.lemmas.Bool.{cases_lt}
-use Rattle.vers_bits.proofs.PublicLaws.{any_default}
-use Rattle.vers_tally.specs.Reads.{Reads, AddsAtMost, times}
-use Rattle.vers_tally.proofs.PublicLaws.{adds_then}
-use Rattle.vers_wavelet.specs.Batches.{Become, Changed}
+use Rattle.vers_wavelet.proofs.Names.{rules, ◌≡◌, ◌≢◌, ℕ, suc, ◌+◌, ◌*◌, ◌<◌, ◌≤◌, List, [], ◌∷◌, length, set, get_or, refl, sym, ap, ◌∙◌, subst, arith, inl, inr, map, All, cases_lt, any_default, Reads, AddsAtMost, times, adds_then, Become}
+use Rattle.std.proofs.Common.{get_or-set_same, get_or-set_other, length-set}
+use Rattle.vers_wavelet.specs.Batches.{Changed}
 
 pub changed_none : {Q : Type 0} (R : Q → Q → Type 0) (xs : List Q) → Changed R xs xs 0
 changed_none R xs = record { long = refl; first = λ p d h l. absurd (omega arith); others = λ p d h. refl }
@@ -75,19 +71,5 @@ become_with held change follows = record { long = change.long; each = λ p d h. 
 
 -- ---- reads
 
-once_more : (k x : ℕ) → k * x + x ≤ (k + 1) * x
-once_more k x = omega arith
-
--- a bound k times, and once more
 pub adds_once_more : {a b c r : Reads} (k : ℕ) → AddsAtMost a b (times k r) → AddsAtMost b c r → AddsAtMost a c (times (k + 1) r)
-adds_once_more {a} {b} {c} {r} k before more = adds_then before more (record {
-  data_words = once_more k r.data_words;
-  block_entries = once_more k r.block_entries;
-  superblock_entries = once_more k r.superblock_entries;
-  low_parts = once_more k r.low_parts;
-  rank_calls = once_more k r.rank_calls;
-  items = once_more k r.items;
-  blocks = once_more k r.blocks;
-  nodes = once_more k r.nodes;
-  chunks = once_more k r.chunks;
-})
+adds_once_more k before more = adds_then before more (search rules)

@@ -1,14 +1,5 @@
 -- The members of a list in ascending order, and the member that is number i by size.
-use Rattle.std.proofs.Common.{◌≡◌, ℕ, suc, ◌+◌, ◌<◌, ◌≤◌, Bool, ltb, leb, List, [], ◌∷◌, length, get_or, Some, None, refl, sym, ap, ◌∙◌, subst, arith, inl, inr}
-use Rattle.std.specs.Prelude.{◌↔◌}
-use Rattle.std.specs.List.{count_by, insert, prefix_len}
-use Rattle.std.specs.List.Sorted.{IsNonDecreasing, IsPermutation}
-use Rattle.std.proofs.lemmas.Bool.{cases_lt, lt-ltb, le-ltb, ltb-true, ltb-false, le-leb, lt-leb, leb-true}
-use Rattle.std.proofs.lemmas.List.Sorted.{length_permutation, sum_by-IsPermutation, IsPermutation-refl, IsPermutation-cons, IsPermutation-insert, IsPermutation-trans, IsNonDecreasingBy-insert}
-use Rattle.std.proofs.lemmas.List.Sums.{count_by-le-length, prefix_len-le-length, prefix_len_passes, prefix_len_stops}
-use Rattle.std.proofs.lemmas.Option.{slice_get-get_or, slice_get_past, slice_get_within, get_or_from_slice_get}
-use Rattle.vers_bits.proofs.PublicLaws.{passes_first}
-use Rattle.vers_wavelet.specs.Symbols.{placed, by_size, kth_by_size, IsKth}
+use Rattle.vers_wavelet.proofs.Names.{◌≡◌, ℕ, suc, ◌+◌, ◌<◌, ◌≤◌, Bool, ltb, leb, List, [], ◌∷◌, length, get_or, Some, None, refl, sym, ap, ◌∙◌, subst, arith, inl, inr, ◌↔◌, count_by, insert, prefix_len, IsNonDecreasing, IsPermutation, cases_lt, lt-ltb, le-ltb, ltb-true, ltb-false, le-leb, lt-leb, leb-true, length_permutation, sum_by-IsPermutation, IsPermutation-refl, IsPermutation-cons, IsPermutation-insert, IsPermutation-trans, IsNonDecreasingBy-insert, count_by-le-length, prefix_len-le-length, prefix_len_passes, prefix_len_stops, slice_get-get_or, slice_get_past, slice_get_within, get_or_from_slice_get, passes_first, placed, by_size, kth_by_size, IsKth}
 use Rattle.vers_wavelet.proofs.Members.{one}
 
 -- ---- ascending order

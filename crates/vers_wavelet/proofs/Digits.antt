@@ -1,13 +1,5 @@
 -- Digits of numbers, and numbers that are made digit by digit from the highest on.
-use Rattle.std.proofs.Common.{◌≡◌, ℕ, zero, suc, ◌+◌, ◌-◌, ◌*◌, ◌/◌, ◌%◌, ◌^◌, ◌<◌, ◌≤◌, Bool, true, false, eqb, List, [], ◌∷◌, length, set, get_or, replicate, refl, sym, ap, subst, ◌∙◌, arith, add-one}
-use Rattle.std.specs.Int.{bit_at}
-use Rattle.std.specs.Prelude.{bit_and}
-use Rattle.std.proofs.Math.Nat.{pow-suc, pow-le-pow_right, mod-eq_of_lt}
-use Rattle.std.proofs.lemmas.Nat.Bits.{shr_and_one, bit_at-lt}
-use Rattle.std.proofs.lemmas.Nat.{one_shl, mod-pow-add, mod_low, div-add-mod', pow_pos}
-use Rattle.vers_bits.specs.Bits.{bit_value, number}
-use Rattle.vers_bits.proofs.PublicLaws.{bit_at-number, number-lt, bit_value_test, test_bit_value}
-use Rattle.vers_wavelet.specs.Levels.{digit, HasRoom}
+use Rattle.vers_wavelet.proofs.Names.{◌≡◌, ℕ, zero, suc, ◌+◌, ◌-◌, ◌*◌, ◌/◌, ◌%◌, ◌^◌, ◌<◌, ◌≤◌, Bool, true, false, eqb, List, [], ◌∷◌, length, set, get_or, replicate, refl, sym, ap, subst, ◌∙◌, arith, add-one, bit_at, bit_and, pow-suc, pow-le-pow_right, mod-eq_of_lt, shr_and_one, bit_at-lt, one_shl, mod-pow-add, mod_low, div-add-mod', pow_pos, bit_value, number, bit_at-number, number-lt, bit_value_test, test_bit_value, digit, HasRoom}
 
 -- of a machine's number
 pub word_digit : (n i : ℕ) → eqb (bit_and (n / 2 ^ i) 1) 1 ≡ digit n i

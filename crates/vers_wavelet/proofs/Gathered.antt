@@ -1,15 +1,5 @@
 -- Where the way down of a symbol ends: behind the symbols whose digits from the lowest to the highest make a lesser number, and those that are equal and stand before.
-use Rattle.std.proofs.Common.{◌≡◌, ℕ, zero, suc, ◌+◌, ◌-◌, ◌*◌, ◌%◌, ◌^◌, ◌<◌, ◌≤◌, Bool, true, false, cond, ltb, eqb, List, [], ◌∷◌, length, get_or, refl, sym, ap, ◌∙◌, arith, add-one, inl, inr}
-use Rattle.std.proofs.Math.Nat.{mod-lt, mod-eq_of_lt}
-use Rattle.std.specs.Prelude.{filter, slice_get, Some}
-use Rattle.std.specs.List.{count_by, range_with_len}
-use Rattle.std.proofs.lemmas.Bool.{cases_Bool, cases_eq, eq-eqb, ne_eqb}
-use Rattle.std.proofs.lemmas.Bool.Decides.{nat_tests}
-use Rattle.std.proofs.lemmas.List.{take_all}
-use Rattle.std.proofs.lemmas.Nat.{pow_pos}
-use Rattle.vers_bits.specs.Bits.{bit_value, is_bit}
-use Rattle.vers_wavelet.specs.Levels.{start, next, value, values, hits, equal, way, digit, Even, AreLevels}
-use Rattle.vers_wavelet.specs.Symbols.{turned, gathered, occurrences}
+use Rattle.vers_wavelet.proofs.Names.{◌≡◌, ℕ, zero, suc, ◌+◌, ◌-◌, ◌*◌, ◌%◌, ◌^◌, ◌<◌, ◌≤◌, Bool, true, false, cond, ltb, eqb, List, [], ◌∷◌, length, get_or, refl, sym, ap, ◌∙◌, arith, add-one, inl, inr, mod-lt, mod-eq_of_lt, filter, slice_get, Some, count_by, range_with_len, cases_Bool, cases_eq, eq-eqb, ne_eqb, nat_tests, take_all, pow_pos, bit_value, is_bit, start, next, value, values, hits, equal, way, digit, Even, AreLevels, turned, gathered, occurrences}
 use Rattle.vers_wavelet.proofs.Answering.{get_begins}
 use Rattle.vers_wavelet.proofs.Counting.{split_apart}
 use Rattle.vers_wavelet.proofs.Digits.{digit_value, top_digit, one_split}

@@ -1,16 +1,10 @@
 -- Groups of queries that ask a level together.
-use Rattle.std.proofs.Common.{◌≡◌, ◌≢◌, ℕ, ◌+◌, ◌-◌, ◌<◌, ◌≤◌, Bool, true, false, cond, not, List, length, get_or, set, refl, sym, ap, ◌∙◌, subst, arith, Some, inl, inr}
-use Rattle.std.proofs.lemmas.Bool.{cases_lt}
+use Rattle.vers_wavelet.proofs.Names.{◌≡◌, ◌≢◌, ℕ, ◌+◌, ◌-◌, ◌<◌, ◌≤◌, Bool, true, false, cond, not, List, length, get_or, set, refl, sym, ap, ◌∙◌, subst, arith, Some, inl, inr, cases_lt, any_default, each_at, select, start, digit, Become, HasNumber, HasPlace, asked}
 use Rattle.std.proofs.lemmas.List.{get_or-set_same, get_or-set_other, length-set}
-use Rattle.vers_bits.proofs.PublicLaws.{any_default}
 use Rattle.vers_rank.specs.Batches.{Changed}
-use Rattle.vers_rank.proofs.PublicLaws.{each_at}
-use Rattle.vers_bits.specs.Bits.{select}
 use Rattle.vers_wavelet.specs.declared.wavelet.batch.select.SelectQuery.{SelectQuery}
 use Rattle.vers_wavelet.specs.declared.wavelet.batch.group.Asked.{Asked}
 use Rattle.vers_wavelet.specs.declared.wavelet.batch.group.Group.{Group}
-use Rattle.vers_wavelet.specs.Levels.{start, digit}
-use Rattle.vers_wavelet.specs.Batches.{Become, HasNumber, HasPlace, asked}
 
 -- a number that was appended to those of its kind
 module _ (bit : Bool) (zeros ones more_zeros more_ones : Asked) (slot number : ℕ) (is : slot ≡ (cond bit ones zeros).count) where

@@ -1,12 +1,5 @@
 -- The items of the iterators over symbols.
-use Rattle.std.proofs.Common.{◌≡◌, ℕ, ◌-◌, ◌<◌, Bool, true, false, List, [], length, refl, sym, ap, ◌∙◌, arith, slice_get, Some}
-use Rattle.std.specs.Prelude.{slice_range, slice_index}
-use Rattle.std.proofs.lemmas.List.{length-map, get_or-map, same_lists, take_all}
-use Rattle.std.proofs.lemmas.Option.{slice_get-get_or, unwrap_or-slice_get}
-use Rattle.vers_bits.specs.Bits.{number, low_bits}
-use Rattle.vers_bits.proofs.PublicLaws.{length-low_bits, number-low_bits, any_default}
-use Rattle.vers_wavelet.specs.Levels.{digit}
-use Rattle.vers_wavelet.specs.Symbols.{by_size, ordered, in_bits}
+use Rattle.vers_wavelet.proofs.Names.{◌≡◌, ℕ, ◌-◌, ◌<◌, Bool, true, false, List, [], length, refl, sym, ap, ◌∙◌, arith, slice_get, Some, slice_range, slice_index, length-map, get_or-map, same_lists, take_all, slice_get-get_or, unwrap_or-slice_get, number, low_bits, length-low_bits, number-low_bits, any_default, digit, by_size, ordered, in_bits}
 use Rattle.vers_wavelet.proofs.Digits.{list_digit, whole_symbol}
 use Rattle.vers_wavelet.proofs.BySize.{length-by_size}
 

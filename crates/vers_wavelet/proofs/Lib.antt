@@ -1,3 +1,4 @@
+pub mod Names
 pub mod Digits
 pub mod Values
 pub mod Steps

@@ -1,17 +1,5 @@
 -- What places and counts of the levels say of the list of symbols.
-use Rattle.std.proofs.Common.{◌≡◌, ℕ, zero, suc, ◌+◌, ◌-◌, ◌%◌, ◌^◌, ◌<◌, ◌≤◌, Bool, true, cond, ltb, leb, eqb, List, ◌∷◌, ◌++◌, length, get_or, take, drop, refl, sym, ap, ◌∙◌, subst, arith, add-one, add-zero, inl, inr}
-use Rattle.std.specs.Prelude.{map, filter, slice_range, slice_get, Option, Some, None, IsSome, IfSome, All}
-use Rattle.std.specs.List.{count_by, range_with_len}
-use Rattle.std.proofs.Math.Seq.{take-add, drop-cons}
-use Rattle.std.proofs.lemmas.Bool.{cases_lt, eq-eqb}
-use Rattle.std.proofs.lemmas.Bool.Decides.{nat_tests}
-use Rattle.std.proofs.lemmas.List.{map-id, get_or_at, take-append-drop, length-append, length-take, length-drop}
-use Rattle.std.proofs.lemmas.List.Elements.{filter-append}
-use Rattle.std.proofs.lemmas.List.Sums.{length-filter, sum_by-append, sum_by_more}
-use Rattle.std.proofs.lemmas.List.FromFn.{sum_by-map-range_with_len_more, length-range_with_len, get_or-range_with_len, length-map-range_with_len, get_or-map-range_with_len, take-map-range_with_len}
-use Rattle.std.proofs.lemmas.Option.{slice_get-get_or, slice_get_past}
-use Rattle.vers_wavelet.specs.Levels.{value, values, hits, under, equal, way, AreLevels, KthOf}
-use Rattle.vers_wavelet.specs.Symbols.{occurrences, IsKth}
+use Rattle.vers_wavelet.proofs.Names.{◌≡◌, ℕ, zero, suc, ◌+◌, ◌-◌, ◌%◌, ◌^◌, ◌<◌, ◌≤◌, Bool, true, cond, ltb, leb, eqb, List, ◌∷◌, ◌++◌, length, get_or, take, drop, refl, sym, ap, ◌∙◌, subst, arith, add-one, add-zero, inl, inr, map, filter, slice_range, slice_get, Option, Some, None, IsSome, IfSome, All, count_by, range_with_len, take-add, drop-cons, cases_lt, eq-eqb, nat_tests, map-id, get_or_at, take-append-drop, length-append, length-take, length-drop, filter-append, length-filter, sum_by-append, sum_by_more, sum_by-map-range_with_len_more, length-range_with_len, get_or-range_with_len, length-map-range_with_len, get_or-map-range_with_len, take-map-range_with_len, slice_get-get_or, slice_get_past, value, values, hits, under, equal, way, AreLevels, KthOf, occurrences, IsKth}
 use Rattle.vers_wavelet.proofs.Values.{way-up, equal_under, value-lt}
 use Rattle.vers_wavelet.proofs.Members.{never}
 use Rattle.vers_wavelet.proofs.Steps.{way_equal, way_more, way_parts}
@@ -197,5 +185,3 @@ not_above_is {ls} {n} levels s a b less from to order within e g =
 pub get_decides : (o : Option ℕ) (xs : List ℕ) (r : ℕ) → o ≡ slice_get xs r → (IsSome o → r < length xs) × (r < length xs → IsSome o)
 get_decides o xs r e =
     (λ t. elim (cases_lt r (length xs)) [ inl h ↦ h | inr past ↦ never (subst IsSome (e ∙ slice_get_past xs r past) t) ], λ h. subst IsSome (sym (e ∙ slice_get-get_or xs r 0 h)) refl)
-
-pub ruleset lists = (length-values)

@@ -1,13 +1,5 @@
 -- Neighbours of a number in a list, as members by size.
-use Rattle.std.proofs.Common.{◌≡◌, ℕ, zero, suc, ◌+◌, ◌-◌, ◌<◌, ◌≤◌, Bool, true, false, true≢false, cond, ltb, leb, List, [], ◌∷◌, length, drop, get_or, refl, sym, ◌∙◌, arith, inl, inr}
-use Rattle.std.specs.Prelude.{Contains, Any, slice_range}
-use Rattle.std.specs.List.{count_by}
-use Rattle.std.proofs.lemmas.Bool.{cases_lt}
-use Rattle.std.proofs.lemmas.Bool.Decides.{nat_tests}
-use Rattle.std.proofs.lemmas.List.{length-take, length-drop}
-use Rattle.std.proofs.lemmas.List.Sums.{sum_by-cons, sum_by-le-sum_by}
-use Rattle.vers_bits.proofs.PublicLaws.{any_default}
-use Rattle.vers_wavelet.specs.Symbols.{IsKth, IsPredecessor, IsSuccessor}
+use Rattle.vers_wavelet.proofs.Names.{◌≡◌, ℕ, zero, suc, ◌+◌, ◌-◌, ◌<◌, ◌≤◌, Bool, true, false, true≢false, cond, ltb, leb, List, [], ◌∷◌, length, drop, get_or, refl, sym, ◌∙◌, arith, inl, inr, Contains, Any, slice_range, count_by, cases_lt, nat_tests, length-take, length-drop, sum_by-cons, sum_by-le-sum_by, any_default, IsKth, IsPredecessor, IsSuccessor}
 
 -- a test as a number
 abbrev pub one : Bool → ℕ

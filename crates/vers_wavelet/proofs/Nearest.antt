@@ -1,12 +1,5 @@
 -- Neighbours of a number in a list: of its members in ascending order the last up to the number, and the first from it on.
-use Rattle.std.proofs.Common.{◌≡◌, ℕ, ◌+◌, ◌-◌, ◌<◌, ◌≤◌, subst, Bool, true, false, not, ltb, leb, List, [], length, get_or, Some, None, refl, sym, ap, ◌∙◌, arith, inl, inr}
-use Rattle.std.specs.Prelude.{◌↔◌, IsSome, Any}
-use Rattle.std.specs.List.{count_by}
-use Rattle.std.proofs.lemmas.Bool.{cases_lt, le-leb, lt-leb, lt-ltb, le-ltb, ltb-true, ltb-false}
-use Rattle.std.proofs.lemmas.List.Sums.{count_by-le-length}
-use Rattle.vers_bits.proofs.PublicLaws.{find_is, none_passing, last_passing_is}
-use mir.Val.{bool_byte}
-use Rattle.vers_wavelet.specs.Symbols.{by_size, kth_by_size, greatest_up_to, least_from, nearest, IsPredecessor, IsSuccessor}
+use Rattle.vers_wavelet.proofs.Names.{◌≡◌, ℕ, ◌+◌, ◌-◌, ◌<◌, ◌≤◌, subst, Bool, true, false, not, ltb, leb, List, [], length, get_or, Some, None, refl, sym, ap, ◌∙◌, arith, inl, inr, ◌↔◌, IsSome, Any, count_by, cases_lt, le-leb, lt-leb, lt-ltb, le-ltb, ltb-true, ltb-false, count_by-le-length, find_is, none_passing, last_passing_is, bool_byte, by_size, kth_by_size, greatest_up_to, least_from, nearest, IsPredecessor, IsSuccessor}
 use Rattle.vers_wavelet.proofs.Members.{kth_same, predecessor_is, successor_is, any_not_above, some_not_above, any_not_below, some_not_below, never}
 use Rattle.vers_wavelet.proofs.BySize.{length-by_size, below_first, not_above_first, kth_some, kth_none, kth_is}
 use Rattle.vers_wavelet.proofs.Ranges.{members_past, members_reversed, narrow_word, wide_word}

@@ -1,13 +1,5 @@
 -- Occurrences of a symbol from a place on.
-use Rattle.std.proofs.Common.{◌≡◌, ℕ, ◌-◌, ◌<◌, ◌≤◌, Bool, eqb, List, length, slice_get, Option, Some, None, refl, sym, arith, inl, inr}
-use Rattle.std.specs.Prelude.{◌↔◌, slice_index, IsSome, IfSome}
-use Rattle.std.specs.List.{range_with_len}
-use Rattle.std.proofs.lemmas.Bool.{cases_lt, le-leb, lt-leb}
-use Rattle.std.proofs.lemmas.List.FromFn.{length-range_with_len}
-use Rattle.std.proofs.lemmas.List.Sums.{length-filter, count_by-le-length}
-use Rattle.std.proofs.lemmas.Option.{slice_get_past}
-use Rattle.vers_wavelet.specs.Symbols.{Symbols, occurrences, as_word}
-use Rattle.vers_wavelet.specs.Numbers.{low_bits_of, places_of, place_from}
+use Rattle.vers_wavelet.proofs.Names.{◌≡◌, ℕ, ◌-◌, ◌<◌, ◌≤◌, Bool, eqb, List, length, slice_get, Option, Some, None, refl, sym, arith, inl, inr, ◌↔◌, slice_index, IsSome, IfSome, range_with_len, cases_lt, le-leb, lt-leb, length-range_with_len, length-filter, count_by-le-length, slice_get_past, Symbols, occurrences, as_word, low_bits_of, places_of, place_from}
 
 -- from past the end on there are none
 no_places : (items : List ℕ) (o s : ℕ) → length items ≤ o → length (occurrences items o (length items) s) ≡ 0

@@ -1,11 +1,5 @@
 -- The laws that proofs of other crates may cite. A crate above imports this file and no other of this folder.
-use Rattle.std.proofs.Common.{◌≡◌, ℕ, ◌-◌, ◌^◌, ◌<◌, ◌≤◌, ◌+◌, Bool, eqb, List, [], length, get_or, slice_get, Option, Some, None}
-use Rattle.std.specs.Prelude.{slice_range, All, Any, IsSome, IfSome, ◌↔◌}
-use Rattle.std.specs.List.{count_by}
-use Rattle.std.specs.List.Sorted.{IsNonDecreasing}
-use Rattle.vers_wavelet.specs.Symbols.{Symbols, by_size, in_bits, occurrences, range_members, kth_by_size, greatest_up_to, least_from, as_word, IsKth, IsPredecessor, IsSuccessor}
-use Rattle.vers_wavelet.specs.Makers.{low_symbols}
-use Rattle.vers_wavelet.specs.Numbers.{place_from, places_of}
+use Rattle.vers_wavelet.proofs.Names.{◌≡◌, ℕ, ◌-◌, ◌^◌, ◌<◌, ◌≤◌, ◌+◌, Bool, eqb, List, [], length, get_or, slice_get, Option, Some, None, slice_range, All, Any, IsSome, IfSome, ◌↔◌, count_by, IsNonDecreasing, Symbols, by_size, in_bits, occurrences, range_members, kth_by_size, greatest_up_to, least_from, as_word, IsKth, IsPredecessor, IsSuccessor, low_symbols, place_from, places_of}
 use Rattle.vers_wavelet.proofs.Answered as Answered
 use Rattle.vers_wavelet.proofs.BySize as BySize
 use Rattle.vers_wavelet.proofs.Items as Items

@@ -1,13 +1,5 @@
 -- Members by size, from one level to the next.
-use Rattle.std.proofs.Common.{◌≡◌, ℕ, ◌+◌, ◌-◌, ◌*◌, ◌^◌, ◌&&◌, ◌<◌, ◌≤◌, Bool, true, false, cond, leb, List, [], ◌∷◌, length, get_or, drop, refl, sym, ap, ◌∙◌, subst, arith, inl, inr}
-use Rattle.std.specs.Prelude.{Option, Some, None, option_map, slice_get, slice_range, IfSome, if◌then◌else◌}
-use Rattle.std.proofs.lemmas.Bool.{cases_lt}
-use Rattle.std.proofs.lemmas.List.{length-take}
-use Rattle.std.proofs.lemmas.Option.{slice_get-get_or, slice_get_past}
-use Rattle.vers_bits.specs.Bits.{bit_value}
-use Rattle.vers_wavelet.specs.Levels.{values, next, KthOf, HasRoom}
-use Rattle.vers_wavelet.specs.Batches.{member}
-use Rattle.vers_wavelet.specs.Symbols.{by_size}
+use Rattle.vers_wavelet.proofs.Names.{◌≡◌, ℕ, ◌+◌, ◌-◌, ◌*◌, ◌^◌, ◌&&◌, ◌<◌, ◌≤◌, Bool, true, false, cond, leb, List, [], ◌∷◌, length, get_or, drop, refl, sym, ap, ◌∙◌, subst, arith, inl, inr, Option, Some, None, option_map, slice_get, slice_range, IfSome, if◌then◌else◌, cases_lt, length-take, slice_get-get_or, slice_get_past, bit_value, values, next, KthOf, HasRoom, member, by_size}
 use Rattle.vers_wavelet.proofs.BySize.{length-by_size, kth_at, at_kth}
 use Rattle.vers_wavelet.proofs.Steps.{kth_low, kth_high, kth-lt}
 use Rattle.vers_wavelet.proofs.Lists.{length-values, length-part, kth_is, kth_of}

@@ -1,8 +1,5 @@
 -- The members of a range by size, and symbols that are numbers of the machine.
-use Rattle.std.proofs.Common.{◌≡◌, ℕ, ◌+◌, ◌-◌, ◌<◌, ◌≤◌, List, [], ◌∷◌, length, get_or, Option, Some, None, refl, sym, ap, ◌∙◌, subst, arith, inl, inr}
-use Rattle.std.specs.Prelude.{slice_range, IsSome, ◌↔◌}
-use Rattle.std.proofs.lemmas.Bool.{cases_lt, le-leb, lt-leb}
-use Rattle.vers_wavelet.specs.Symbols.{by_size, range_members, kth_by_size, as_word}
+use Rattle.vers_wavelet.proofs.Names.{◌≡◌, ℕ, ◌+◌, ◌-◌, ◌<◌, ◌≤◌, List, [], ◌∷◌, length, get_or, Option, Some, None, refl, sym, ap, ◌∙◌, subst, arith, inl, inr, slice_range, IsSome, ◌↔◌, cases_lt, le-leb, lt-leb, by_size, range_members, kth_by_size, as_word}
 use Rattle.vers_wavelet.proofs.BySize.{kth_some, kth_none}
 use Rattle.vers_wavelet.proofs.Members.{part_length, never}
 use Rattle.vers_wavelet.proofs.Items.{whole_range}

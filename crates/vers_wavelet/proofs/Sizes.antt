@@ -1,16 +1,5 @@
 -- How often a digit is a one, level by level, and what the levels take.
-use Rattle.std.proofs.Common.{◌≡◌, ℕ, zero, suc, ◌+◌, ◌-◌, ◌<◌, ◌≤◌, Bool, true, false, cond, eqb, List, [], ◌∷◌, length, get_or, refl, sym, ap, ◌∙◌, arith, add-one, inl, inr}
-use Rattle.std.specs.Int.{bit_at}
-use Rattle.std.specs.List.{range_with_len, sum_by, AllZip, each_same}
-use Rattle.std.proofs.lemmas.Bool.{cases_Bool}
-use Rattle.std.proofs.lemmas.List.{map-id, length-map, get_or-map}
-use Rattle.std.proofs.lemmas.List.FromFn.{sum_by-map-range_with_len_more}
-use Rattle.std.proofs.lemmas.Nat.Bits.{bit_at_cat_low, bit_at_cat_high}
-use Rattle.vers_bits.specs.Bits.{bit_value, is_bit, count}
-use Rattle.vers_bits.proofs.PublicLaws.{count_none, count_both, count_more_yes, count_more_no}
-use Rattle.vers_rank.specs.Queries.{index_size}
-use Rattle.vers_wavelet.specs.Symbols.{digit_list}
-use Rattle.vers_wavelet.specs.Levels.{start, next, value, values, hits, digit, Even, AreLevels}
+use Rattle.vers_wavelet.proofs.Names.{◌≡◌, ℕ, zero, suc, ◌+◌, ◌-◌, ◌<◌, ◌≤◌, Bool, true, false, cond, eqb, List, [], ◌∷◌, length, get_or, refl, sym, ap, ◌∙◌, arith, add-one, inl, inr, bit_at, range_with_len, sum_by, AllZip, each_same, cases_Bool, map-id, length-map, get_or-map, sum_by-map-range_with_len_more, bit_at_cat_low, bit_at_cat_high, bit_value, is_bit, count, count_none, count_both, count_more_yes, count_more_no, index_size, digit_list, start, next, value, values, hits, digit, Even, AreLevels}
 use Rattle.vers_wavelet.proofs.Values.{next_none, next_yes, next_no, value_is, value-lt}
 use Rattle.vers_wavelet.proofs.Steps.{even_first, even_rest}
 use Rattle.vers_wavelet.proofs.Lists.{hits_same, length-values, get_or-values}

@@ -1,16 +1,5 @@
 -- What the sources of symbols say of their items.
-use Rattle.std.proofs.Common.{◌≡◌, ℕ, ◌+◌, ◌-◌, ◌*◌, ◌/◌, ◌%◌, ◌^◌, ◌<◌, ◌≤◌, Bool, false, List, length, get_or, take, drop, slice_get, Some, sym, ap, ◌∙◌, arith}
-use Rattle.std.specs.Prelude.{bit_and}
-use Rattle.std.specs.List.{range_with_len}
-use Rattle.std.proofs.Math.Nat.{mod-eq_of_lt, div-mul-le_self, div-le_self}
-use Rattle.std.proofs.lemmas.List.{length-take, get_or-take, get_or-drop, drop-drop, drop-take}
-use Rattle.std.proofs.lemmas.List.FromFn.{length-range_with_len, get_or-range_with_len}
-use Rattle.std.proofs.lemmas.Nat.{one_shl, and_mask, row_fits, pow_pos}
-use Rattle.std.proofs.lemmas.Option.{slice_get-get_or}
-use Rattle.vers_bits.specs.Bits.{number, part}
-use Rattle.vers_bits.proofs.PublicLaws.{number-drop, number_below}
-use Rattle.vers_wavelet.specs.Levels.{digit}
-use Rattle.vers_wavelet.specs.Makers.{prefix}
+use Rattle.vers_wavelet.proofs.Names.{◌≡◌, ℕ, ◌+◌, ◌-◌, ◌*◌, ◌/◌, ◌%◌, ◌^◌, ◌<◌, ◌≤◌, Bool, false, List, length, get_or, take, drop, slice_get, Some, sym, ap, ◌∙◌, arith, bit_and, range_with_len, mod-eq_of_lt, div-mul-le_self, div-le_self, length-take, get_or-take, get_or-drop, drop-drop, drop-take, length-range_with_len, get_or-range_with_len, one_shl, and_mask, row_fits, pow_pos, slice_get-get_or, number, part, number-drop, number_below, digit, prefix}
 use Rattle.vers_wavelet.proofs.Digits.{list_digit}
 
 -- of a machine's number

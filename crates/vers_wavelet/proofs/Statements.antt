@@ -1,14 +1,5 @@
 -- Laws of quantiles, of the low digits of numbers, and of how often a symbol occurs.
-use Rattle.std.proofs.Common.{◌≡◌, ℕ, zero, suc, ◌+◌, ◌-◌, ◌%◌, ◌^◌, ◌<◌, ◌≤◌, cond, eqb, List, [], ◌∷◌, length, get_or, take, drop, refl, sym, ap, ◌∙◌, arith, inl, inr}
-use Rattle.std.specs.Prelude.{map, All, slice_range}
-use Rattle.std.specs.List.{count_by, range_with_len}
-use Rattle.std.proofs.Math.Nat.{mod-eq_of_lt}
-use Rattle.std.proofs.lemmas.Bool.{cases_lt}
-use Rattle.std.proofs.lemmas.List.{same_lists, drop_more}
-use Rattle.std.proofs.lemmas.List.Sums.{sum_by-cons, length-filter}
-use Rattle.vers_bits.proofs.PublicLaws.{any_default}
-use Rattle.vers_wavelet.specs.Symbols.{occurrences, by_size, IsKth}
-use Rattle.vers_wavelet.specs.Makers.{low_symbols}
+use Rattle.vers_wavelet.proofs.Names.{◌≡◌, ℕ, zero, suc, ◌+◌, ◌-◌, ◌%◌, ◌^◌, ◌<◌, ◌≤◌, cond, eqb, List, [], ◌∷◌, length, get_or, take, drop, refl, sym, ap, ◌∙◌, arith, inl, inr, map, All, slice_range, count_by, range_with_len, mod-eq_of_lt, cases_lt, same_lists, drop_more, sum_by-cons, length-filter, any_default, occurrences, by_size, IsKth, low_symbols}
 use Rattle.vers_wavelet.proofs.BySize.{length-by_size, kth_at}
 use Rattle.vers_wavelet.proofs.Makes.{low_symbols_are}
 

@@ -1,14 +1,5 @@
 -- One level of a search.
-use Rattle.std.proofs.Common.{◌≡◌, ℕ, zero, suc, ◌+◌, ◌-◌, ◌*◌, ◌%◌, ◌^◌, ◌<◌, ◌≤◌, Bool, true, false, cond, List, [], ◌∷◌, length, take, drop, get_or, refl, sym, ap, ◌∙◌, subst, arith, add-one, inl, inr}
-use Rattle.std.proofs.Math.Seq.{drop-cons}
-use Rattle.std.proofs.Math.Nat.{pow-suc, mod-lt, mod-eq_of_lt, mul-le-mul_right}
-use Rattle.std.proofs.lemmas.Bool.{cases_lt}
-use Rattle.std.proofs.lemmas.Nat.{pow_pos}
-use Rattle.std.proofs.lemmas.List.{length-drop, drop_all, take_all}
-use Rattle.vers_bits.specs.Bits.{bit_value, count, select}
-use Rattle.vers_bits.proofs.PublicLaws.{select_holds}
-use Rattle.vers_tally.specs.Reads.{Reads, IsWithin, times}
-use Rattle.vers_wavelet.specs.Levels.{start, next, value, under, equal, way, digit, Even, AreLevels, Narrowed, KthOf, HasRoom, Searched, Rises}
+use Rattle.vers_wavelet.proofs.Names.{◌≡◌, ℕ, zero, suc, ◌+◌, ◌-◌, ◌*◌, ◌%◌, ◌^◌, ◌<◌, ◌≤◌, Bool, true, false, cond, List, [], ◌∷◌, length, take, drop, get_or, refl, sym, ap, ◌∙◌, subst, arith, add-one, inl, inr, drop-cons, pow-suc, mod-lt, mod-eq_of_lt, mul-le-mul_right, cases_lt, pow_pos, length-drop, drop_all, take_all, bit_value, count, select, select_holds, Reads, IsWithin, times, start, next, value, under, equal, way, digit, Even, AreLevels, Narrowed, KthOf, HasRoom, Searched, Rises}
 use Rattle.vers_wavelet.proofs.Digits.{top_digit, one_split}
 use Rattle.vers_wavelet.proofs.Values.{same_bit, value-lt, one_more, under_all, under_low, under_high, equal_under, under_none, next_none, next-up, next-le, none_under, all_equal, one_under, value_is, value_none, way_none, way_is, way-up, equal_more}
 

@@ -1,15 +1,6 @@
 -- The way down to a nearest symbol, level by level, and what it finds.
-use Rattle.std.proofs.Common.{◌≡◌, ℕ, ◌+◌, ◌-◌, ◌*◌, ◌%◌, ◌^◌, ◌<◌, ◌≤◌, Bool, true, false, true≢false, not, cond, leb, ltb, List, length, get_or, drop, refl, sym, ap, subst, ◌∙◌, arith}
-use mathlib.Core.Bool.{beq}
-use Rattle.std.specs.Prelude.{slice_range, Some, None}
-use Rattle.std.specs.List.{count_by}
-use Rattle.std.proofs.lemmas.List.{length-drop}
-use Rattle.std.proofs.lemmas.List.Sums.{count_by-le-length}
-use Rattle.vers_bits.specs.Bits.{bit_value}
+use Rattle.vers_wavelet.proofs.Names.{◌≡◌, ℕ, ◌+◌, ◌-◌, ◌*◌, ◌%◌, ◌^◌, ◌<◌, ◌≤◌, Bool, true, false, true≢false, not, cond, leb, ltb, List, length, get_or, drop, refl, sym, ap, subst, ◌∙◌, arith, beq, slice_range, Some, None, count_by, length-drop, count_by-le-length, bit_value, next, under, way, values, digit, AreLevels, KthOf, Searched, Leaves, Follows, nearest, IsKth}
 use Rattle.vers_wavelet.specs.declared.wavelet.nearest.Trail.{Trail}
-use Rattle.vers_wavelet.specs.Levels.{next, under, way, values, digit, AreLevels, KthOf, Searched}
-use Rattle.vers_wavelet.specs.Nearest.{Leaves, Follows}
-use Rattle.vers_wavelet.specs.Symbols.{nearest, IsKth}
 use Rattle.vers_wavelet.proofs.Values.{next_both, next-le, next-up}
 use Rattle.vers_wavelet.proofs.Steps.{digit_from, narrowed_more, searched_more, narrowed_none, searched_none, kth-lt}
 use Rattle.vers_wavelet.proofs.BySize.{kth_place}

@@ -1,12 +1,5 @@
 -- How places and counts of symbols go from one level to the next.
-use Rattle.std.proofs.Common.{◌≡◌, ℕ, zero, suc, ◌+◌, ◌-◌, ◌*◌, ◌^◌, ◌<◌, ◌≤◌, Bool, true, false, true≢false, cond, ltb, leb, eqb, List, [], ◌∷◌, length, get_or, refl, sym, ap, ◌∙◌, arith, add-one, inl, inr, add-zero}
-use Rattle.std.proofs.Math.Nat.{pow-suc}
-use Rattle.std.proofs.lemmas.Bool.{cases_Bool, cases_lt, lt-ltb, le-ltb, le-leb, leb-true, ltb-true, eq-eqb}
-use Rattle.std.proofs.lemmas.Bool.Decides.{nat_tests}
-use Rattle.vers_bits.specs.Bits.{bit_value, is_bit, count}
-use Rattle.vers_bits.proofs.PublicLaws.{count_le, count_up, count_near, count_both, count_past}
-use Rattle.vers_bits.proofs.PublicLaws.{count_more_yes, count_more_no}
-use Rattle.vers_wavelet.specs.Levels.{start, next, value, under, equal, way, digit}
+use Rattle.vers_wavelet.proofs.Names.{◌≡◌, ℕ, zero, suc, ◌+◌, ◌-◌, ◌*◌, ◌^◌, ◌<◌, ◌≤◌, Bool, true, false, true≢false, cond, ltb, leb, eqb, List, [], ◌∷◌, length, get_or, refl, sym, ap, ◌∙◌, arith, add-one, inl, inr, add-zero, pow-suc, cases_Bool, cases_lt, lt-ltb, le-ltb, le-leb, leb-true, ltb-true, eq-eqb, nat_tests, bit_value, is_bit, count, count_le, count_up, count_near, count_both, count_past, count_more_yes, count_more_no, start, next, value, under, equal, way, digit}
 
 pub next_none : (b : Bool) (l : List Bool) → next b l 0 ≡ start b l
 unfolding next count
@@ -124,10 +117,6 @@ same_bit false true e = absurd (true≢false (sym e))
 same_bit false false e = refl
 
 -- the part of the bit has room in the next level
-next_true : (l : List Bool) (i : ℕ) → next true l i ≡ count false l (length l) + count true l i
-unfolding next
-next_true l i = refl
-
 pub next-le : (b : Bool) (l : List Bool) (i : ℕ) → next b l i ≤ length l
 unfolding next
 next-le true l i =
@@ -140,13 +129,6 @@ next-le false l i = omega (arith, count_le false l i)
 pub next-up : (b : Bool) (l : List Bool) (i j : ℕ) → i ≤ j → next b l i ≤ next b l j
 unfolding next
 next-up b l i j h = omega (arith, count_up b l i j h)
-
-pub ruleset sums = (count_both, count_le, count_past)
-
-pub next_room : (l : List Bool) (i : ℕ) → count false l (length l) + count true l i ≤ length l
-next_room l i = omega (arith, next-le true l i, next_true l i)
-
-pub ruleset room = (next_room)
 
 -- the zeros and the ones of a range
 pub next_both : (l : List Bool) (a b : ℕ) → a ≤ b → b ≤ length l → (next true l b - next true l a) + (next false l b - next false l a) ≡ b - a

@@ -1,10 +1,5 @@
 -- The length of a walk's level, and what walks read.
-use Rattle.std.proofs.Common.{◌≡◌, ℕ, ◌+◌, ◌-◌, ◌*◌, ◌%◌, ◌^◌, ◌<◌, ◌≤◌, Bool, List, length, drop, get_or, ap, subst, ◌∙◌, arith}
-use Rattle.vers_tally.specs.Reads.{Reads, AddsAtMost, times}
-use Rattle.vers_tally.proofs.PublicLaws.{adds_nothing, adds_then, adds_weaker}
-use Rattle.vers_rank.specs.Queries.{rank_reads, select_reads}
-use Rattle.vers_rank.proofs.PublicLaws.{adds_times}
-use Rattle.vers_wavelet.specs.Levels.{under, way, Even, Narrowed}
+use Rattle.vers_wavelet.proofs.Names.{rules, ◌≡◌, ℕ, ◌+◌, ◌-◌, ◌*◌, ◌%◌, ◌^◌, ◌<◌, ◌≤◌, Bool, List, length, drop, get_or, ap, subst, ◌∙◌, arith, Reads, AddsAtMost, times, adds_nothing, adds_then, adds_weaker, rank_reads, select_reads, adds_times, under, way, Even, Narrowed}
 use Rattle.vers_wavelet.proofs.Steps.{times_less}
 
 pub level_length : (ls : List (List Bool)) (n k : ℕ) (v : List Bool) → Even ls n → v ≡ get_or ls k v → k < length ls → length v ≡ n
@@ -13,8 +8,11 @@ level_length ls n k v even at h = ap length at ∙ even k v h
 pub adds_fewer : {a b : Reads} (m n : ℕ) → m ≤ n → AddsAtMost a b (times m rank_reads) → AddsAtMost a b (times n rank_reads)
 adds_fewer m n h adds = adds_weaker adds (times_less m n rank_reads h)
 
+pub adds_no_times : (a : Reads) (n : ℕ) (r : Reads) → AddsAtMost a a (times n r)
+adds_no_times a n r = adds_weaker (adds_nothing a) (search rules)
+
 pub adds_none : (a : Reads) (n : ℕ) → AddsAtMost a a (times n rank_reads)
-adds_none a n = adds_fewer 0 n (omega arith) (adds_nothing a)
+adds_none a n = adds_no_times a n rank_reads
 
 -- two ranks more, for one level more
 pub adds_level : {a b c : Reads} (k : ℕ) → AddsAtMost a b (times (2 * k) rank_reads) → AddsAtMost b c (times 2 rank_reads) → AddsAtMost a c (times (2 * (k + 1)) rank_reads)

@@ -1,15 +1,8 @@
 -- The way down of a walk by size, and that a list of symbols has one list of levels.
-use Rattle.std.proofs.Common.{◌≡◌, ℕ, ◌+◌, ◌-◌, ◌*◌, ◌^◌, ◌<◌, ◌≤◌, Bool, true, false, List, [], ◌∷◌, length, get_or, set, refl, sym, ap, ◌∙◌, subst, arith, inl, inr}
-use Rattle.std.proofs.lemmas.Bool.{cases_eq, cases_lt}
-use Rattle.std.proofs.lemmas.List.{same_lists, get_or-set_same, get_or-set_other}
-use Rattle.std.specs.Prelude.{slice_range}
-use Rattle.vers_bits.specs.Bits.{bit_value, count, select}
-use Rattle.vers_bits.proofs.PublicLaws.{any_default, count_both, select_holds}
+use Rattle.vers_wavelet.proofs.Names.{◌≡◌, ℕ, ◌+◌, ◌-◌, ◌*◌, ◌^◌, ◌<◌, ◌≤◌, Bool, true, false, List, [], ◌∷◌, length, get_or, set, refl, sym, ap, ◌∙◌, subst, arith, inl, inr, cases_eq, cases_lt, same_lists, slice_range, bit_value, count, select, any_default, count_both, select_holds, start, next, value, values, Even, AreLevels, KthOf, by_size, IsNode, IsWay}
+use Rattle.std.proofs.lemmas.List.{get_or-set_same, get_or-set_other}
 use Rattle.vers_wavelet.specs.declared.wavelet.way.Node.{Node}
 use Rattle.vers_wavelet.specs.declared.wavelet.way.Way.{Way}
-use Rattle.vers_wavelet.specs.Levels.{start, next, value, values, Even, AreLevels, KthOf}
-use Rattle.vers_wavelet.specs.Symbols.{by_size}
-use Rattle.vers_wavelet.specs.Ways.{IsNode, IsWay}
 use Rattle.vers_wavelet.proofs.Digits.{room_none}
 use Rattle.vers_wavelet.proofs.Values.{same_bit, value_is, value-lt}
 use Rattle.vers_wavelet.proofs.Steps.{even_first, even_rest, searched_none}

@@ -1,5 +1,6 @@
 //! The wavelet matrix.
 ghost use Rattle.std.specs.Prelude.{◌≡◌, ℕ, ◌+◌, ◌-◌, ◌*◌, ◌%◌, ◌^◌, ◌<◌, ◌≤◌, ◌↔◌, [], length, slice_get, slice_index, slice_range, count_by, nat_lt, nat_le, Some, None, All, IsTrue, IsSome, IfSome};
+ghost use Rattle.vers_wavelet.specs.Levels.{values, AreLevels};
 ghost use Rattle.vers_wavelet.specs.Symbols.{Symbols};
 
 mod batch;
@@ -60,7 +61,6 @@ impl<A: Allocator + Copy> Model for WaveletMatrix<A> {
     ghost invariant = { λ v. AreLevels v.levels.items v.len };
 }
 
-#[tactic(auto, using(crate::proofs::Lists::lists))]
 impl<A: Allocator + Copy> WaveletMatrix<A> {
     /// How many symbols there are.
     #[inline]
@@ -86,7 +86,7 @@ impl<A: Allocator + Copy> WaveletMatrix<A> {
         ensures bounded { self.now.width ≤ 65535 }
         ensures fit { All (λ y. y < 2 ^ self.now.width) self.now.items }
     {
-        self.levels.len()
+        self.levels().len()
     }
 
     // Whether a symbol is a number of the machine.
@@ -95,6 +95,16 @@ impl<A: Allocator + Copy> WaveletMatrix<A> {
         ensures { IsTrue result ↔ (self.now.width ≤ 64) }
     {
         self.bits_per_element() <= 64
+    }
+
+    // The lists of digits that make up the symbols.
+    #[inline(always)]
+    fn levels(&self) -> &[RsVec<A>]
+        ensures levels { AreLevels result.now (length self.now.items) }
+        ensures wide { length result.now ≡ self.now.width }
+        ensures items { values result.now (length self.now.items) ≡ self.now.items }
+    {
+        &self.levels
     }
 
     /// The same as `bits_per_element`.

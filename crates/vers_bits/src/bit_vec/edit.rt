@@ -5,9 +5,9 @@ use crate::bit_vec::words::{cut, flip, put_bit};
 use crate::bit_vec::{BitVec, OutOfRange, SplitCause, SplitError};
 use std::alloc::Allocator;
 
-#[tactic(auto, using(crate::proofs::Words::words, crate::proofs::Edits::edits))]
 impl<A: Allocator + Copy> BitVec<A> {
     // Keeps the first `len` bits.
+    #[tactic(auto, using(crate::proofs::Edits::cuts))]
     pub(super) fn truncate(&mut self, len: usize)
         requires { len ≤ length self.old }
         ensures { self.new ≡ take len self.old }
@@ -25,6 +25,7 @@ impl<A: Allocator + Copy> BitVec<A> {
     }
 
     /// Makes the bit at a place the other one.
+    #[tactic(auto, using(crate::proofs::Edits::puts))]
     pub fn flip_bit(&mut self, place: usize)
         requires { place < length self.old }
         ensures { self.new ≡ slice_set self.old place (not (slice_index_or self.old place false)) }
@@ -55,6 +56,7 @@ impl<A: Allocator + Copy> BitVec<A> {
     }
 
     /// Makes the bit at a place that the list has a one where `value` is odd, and else a zero.
+    #[tactic(auto, using(crate::proofs::Edits::puts))]
     pub fn set_unchecked(&mut self, place: usize, value: u64)
         requires { place < length self.old }
         ensures { self.new ≡ slice_set self.old place (value % 2 == 1) }

@@ -33,7 +33,6 @@ impl<'a, A: Allocator + Copy> AsList<A> for &'a BitVec<A> {
     }
 }
 
-#[tactic(auto, using(crate::proofs::Words::words, crate::proofs::Holds::holding, crate::proofs::Growing::growth))]
 impl<A: Allocator + Copy> BitVec<A> {
     /// Appends a bit. TooLong at the greatest length alone; memory may be wanted only where the
     /// length is a multiple of 64. The list is as it was where the call is refused.
@@ -61,6 +60,7 @@ impl<A: Allocator + Copy> BitVec<A> {
     /// Appends the low `len` bits of a number, the least significant first. TooLong where the list
     /// would be longer than `MAX_LEN`. No bits, and bits that the last limb has room for, take no
     /// memory. The list is as it was where the call is refused.
+    #[tactic(auto, using(crate::proofs::Growing::growth))]
     pub fn append_bits(&mut self, bits: u64, len: usize) -> Result<(), GrowError>
         requires { len ≤ 64 }
         ensures grown { OnOk result (self.new ≡ self.old ++ low_bits bits len) }
@@ -93,6 +93,7 @@ impl<A: Allocator + Copy> BitVec<A> {
 
     // Appends the low `n` digits of a number, with zeros past its own. Where the call is refused
     // some of them may have been appended.
+    #[tactic(auto, using(crate::proofs::Growing::growth))]
     pub(super) fn append_digits(&mut self, number: u64, n: usize) -> Result<(), GrowError>
         ensures grown { OnOk result (self.new ≡ self.old ++ low_bits number n) }
         ensures too_long { (result ≡ Err GrowError.TooLong) ↔ (MAX_LEN < length self.old + n) }
@@ -109,6 +110,7 @@ impl<A: Allocator + Copy> BitVec<A> {
     }
 
     // Appends the `n` digits of a number, which the last limb has room for.
+    #[tactic(auto, using(crate::proofs::Words::words))]
     pub(super) fn append_within(&mut self, bits: u64, n: usize)
         requires small { bits < 2 ^ n }
         requires room { n ≤ (64 - length self.old % 64) % 64 }
@@ -123,6 +125,7 @@ impl<A: Allocator + Copy> BitVec<A> {
 
     // Appends the `n` digits of a number.
     #[inline(always)]
+    #[tactic(auto, using(crate::proofs::Words::words))]
     fn append_number(&mut self, number: u64, n: usize) -> Result<(), AllocError>
         requires some { 0 < n }
         requires few { n ≤ 64 }
@@ -138,6 +141,7 @@ impl<A: Allocator + Copy> BitVec<A> {
     }
 
     // Appends zeros.
+    #[tactic(auto, using(crate::proofs::Words::words))]
     fn append_zeros(&mut self, n: usize) -> Result<(), AllocError>
         requires { length self.old + n ≤ MAX_LEN }
         ensures { OnOk result (self.new ≡ self.old ++ replicate n false) }
@@ -294,6 +298,7 @@ impl<A: Allocator + Copy> BitVec<A> {
     }
 
     // Makes room for `added` bits more.
+    #[tactic(auto, using(crate::proofs::Words::words))]
     fn reserve(&mut self, added: usize) -> Result<(), AllocError>
         requires { length self.old + added ≤ MAX_LEN }
         ensures { self.new ≡ self.old }

@@ -55,7 +55,6 @@ pub(super) fn add_within<A: Allocator + Copy>(
 
 // Makes the words hold `n` bits more, those of the number `bits`.
 #[inline(always)]
-#[tactic(auto, using(crate::proofs::Holds::adds))]
 pub(super) fn add_bits<A: Allocator + Copy>(
     words: &mut Vec<u64, A>,
     len: usize,

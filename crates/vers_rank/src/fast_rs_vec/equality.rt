@@ -26,7 +26,6 @@ impl<A: Allocator + Copy> RsVec<A> {
     }
 
     // Whether both lists have one length and the same places of a bit, by a walk over each.
-    #[tactic(auto, using(crate::proofs::Equal::equality))]
     fn has_places_of(&self, bit: bool, other: &Self) -> bool
         ensures { IsTrue result ↔ (self.now ≡ other.now) }
     {

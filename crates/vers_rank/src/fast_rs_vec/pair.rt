@@ -83,7 +83,6 @@ impl<A: Allocator + Copy> RsVec<A> {
     // rest of its word. Both selects of the rare case are one call in the text, so that a compiler writes
     // the search of a select only once.
     #[inline(always)]
-    #[tactic(auto, using(crate::proofs::Pairs::pairs))]
     fn pair_of(&self, bit: bool, r: usize, tally: &mut Tally) -> PlacePair
         ensures first { result.first ≡ select bit self.now r }
         ensures second { result.second ≡ select bit self.now (r + 1) }

@@ -197,7 +197,6 @@ impl Reader {
     // Reads on at the last number below `end`, in the block at hand: limb by limb, by their ones, and
     // then in a word.
     #[inline(always)]
-    #[tactic(auto, using(crate::proofs::ReadingBack::backwards))]
     fn seek_back_in_block<A: Allocator + Copy>(
         &mut self,
         bit: bool,

@@ -122,7 +122,6 @@ impl<A: Allocator + Copy> BinaryRmq<A> {
 
     // The entry of level `k` for the range from `i` on.
     #[inline(always)]
-    #[tactic(auto, using(crate::proofs::Tables::level_inside, crate::proofs::Tables::room_of))]
     fn entry(&self, k: usize, i: usize) -> usize
         requires { i + 2 ^ k ≤ length self.now }
         ensures value { IsFirstLeast self.now i (i + 2 ^ k - 1) result }

@@ -247,7 +247,6 @@ impl<A: Allocator + Copy> FastRmq<A> {
     // The first place of a least item of a range over parts of one block: by the masks of the block, or
     // by reading the least items of the end of a part, of whole parts and of the start of a part.
     #[inline(always)]
-    #[tactic(auto, using(crate::proofs::Minima::least_within))]
     fn least_in_block(&self, i: usize, j: usize, tally: &mut Tally) -> usize
         requires inside { j < length self.now }
         requires parts { i / PART < j / PART }

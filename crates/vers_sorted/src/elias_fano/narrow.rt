@@ -113,7 +113,7 @@ impl<A: Allocator + Copy> EliasFanoVec<A> {
         requires part { part ≡ low_of self.now (slice_index self.now i) }
         ensures { IsBetween self.now v bucket result }
     {
-        let _ = &self.len;
+        let _ = self.len();
         if i < between.from {
             return between;
         }

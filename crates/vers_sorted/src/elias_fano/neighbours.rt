@@ -263,7 +263,8 @@ impl<A: Allocator + Copy> EliasFanoVec<A> {
         ensures adds { AddsAtMost tally.old tally.new
             (reads (digits (length self.now) + 5) 2 (high_length self.now)) }
     {
-        let _ = &self.len;
+        let _ = self.len();
+        let _ = self.last();
         if !self.is_inside_after(v) {
             return self.predecessor_outside(v);
         }
@@ -288,7 +289,7 @@ impl<A: Allocator + Copy> EliasFanoVec<A> {
         ensures adds { AddsAtMost tally.old tally.new
             (reads (digits (length self.now) + 5) 2 (high_length self.now)) }
     {
-        let _ = &self.len;
+        let _ = self.len();
         if !self.is_inside(v) {
             return self.successor_outside(v);
         }

@@ -144,7 +144,7 @@ impl<A: Allocator + Copy> EliasFanoVec<A> {
         ensures adds { AddsAtMost tally.old tally.new
             (only_low_parts (digits (length self.now) + 4)) }
     {
-        let _ = &self.len;
+        let _ = self.len();
         let low = self.low_number(v);
         let between = self.narrowed(bucket, v, low, tally);
         let mut from = between.from;
@@ -243,14 +243,13 @@ impl<A: Allocator + Copy> EliasFanoVec<A> {
         ensures ascending { IsNonDecreasing self.now }
         ensures adds { AddsAtMost tally.old tally.new (search_reads self.now) }
     {
-        let _ = &self.first;
         if self.len() == 0 {
             return false;
         }
-        if v < self.first {
+        if v < self.first() {
             return false;
         }
-        if v > self.last {
+        if v > self.last() {
             return false;
         }
         let bucket = self.bucket_of(v, tally);
@@ -331,8 +330,8 @@ impl<A: Allocator + Copy> EliasFanoVec<A> {
         ensures inside { IsTrue result → IsInside self.now v }
         ensures outside { IsFalse result → first_of self.now < v → last_of self.now < v }
     {
-        let _ = &self.len;
-        self.first < v && v <= self.last
+        let _ = self.len();
+        self.first() < v && v <= self.last()
     }
 
     // How many members are below a number that doesn't lie so.
@@ -342,7 +341,8 @@ impl<A: Allocator + Copy> EliasFanoVec<A> {
         requires { first_of self.now < v → last_of self.now < v }
         ensures { result ≡ below self.now v }
     {
-        if v <= self.first {
+        let _ = self.len();
+        if v <= self.first() {
             return 0;
         }
         self.len() as u64
@@ -357,7 +357,8 @@ impl<A: Allocator + Copy> EliasFanoVec<A> {
         ensures ascending { IsNonDecreasing self.now }
         ensures adds { AddsAtMost tally.old tally.new (search_reads self.now) }
     {
-        let _ = &self.len;
+        let _ = self.len();
+        let _ = self.last();
         if !self.is_inside_after(v) {
             return self.predecessor_outside(v);
         }
@@ -376,8 +377,8 @@ impl<A: Allocator + Copy> EliasFanoVec<A> {
         ensures inside { IsTrue result → IsInside self.now (v + 1) }
         ensures outside { IsFalse result → first_of self.now ≤ v → last_of self.now ≤ v }
     {
-        let _ = &self.len;
-        self.first <= v && v < self.last
+        let _ = self.len();
+        self.first() <= v && v < self.last()
     }
 
     // The predecessor of a number where the one after it doesn't lie so.
@@ -387,10 +388,11 @@ impl<A: Allocator + Copy> EliasFanoVec<A> {
         requires { first_of self.now ≤ v → last_of self.now ≤ v }
         ensures { result ≡ greatest_not_above self.now v }
     {
-        if v < self.first || self.len() == 0 {
+        let _ = self.len();
+        if v < self.first() || self.len() == 0 {
             return None;
         }
-        Some(self.last)
+        Some(self.last())
     }
 
     // The last of the `k` members below `v`.
@@ -405,7 +407,7 @@ impl<A: Allocator + Copy> EliasFanoVec<A> {
         ensures value { result ≡ slice_index self.now (k - 1) }
         ensures adds { AddsAtMost tally.old tally.new (reads 1 2 (high_length self.now)) }
     {
-        let _ = &self.len;
+        let _ = self.len();
         if k <= bucket.start {
             return self.member_before(bucket, v, tally);
         }
@@ -421,7 +423,7 @@ impl<A: Allocator + Copy> EliasFanoVec<A> {
         ensures ascending { IsNonDecreasing self.now }
         ensures adds { AddsAtMost tally.old tally.new (search_reads self.now) }
     {
-        let _ = &self.len;
+        let _ = self.len();
         if !self.is_inside(v) {
             return self.successor_outside(v);
         }
@@ -440,10 +442,11 @@ impl<A: Allocator + Copy> EliasFanoVec<A> {
         requires { first_of self.now < v → last_of self.now < v }
         ensures { result ≡ least_not_below self.now v }
     {
-        if v > self.first || self.len() == 0 {
+        let _ = self.len();
+        if v > self.first() || self.len() == 0 {
             return None;
         }
-        Some(self.first)
+        Some(self.first())
     }
 
     // The member after the `k` members below `v`.
@@ -458,7 +461,7 @@ impl<A: Allocator + Copy> EliasFanoVec<A> {
         ensures value { result ≡ slice_index self.now k }
         ensures adds { AddsAtMost tally.old tally.new (reads 1 2 (high_length self.now)) }
     {
-        let _ = &self.len;
+        let _ = self.len();
         if bucket.end <= k {
             return self.member_past(bucket, v, tally);
         }

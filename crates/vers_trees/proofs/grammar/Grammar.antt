@@ -6,7 +6,7 @@ use Rattle.vers_trees.proofs.grammar.Paired.{never_negative, total_is_zero}
 -- a forest written down closes what it opens
 closes-text : (F : Forest) (n : ℕ) (rest : List Bool) → closes n (text F ++ rest) ≡ closes n rest
 closes-text none n rest = refl
-closes-text (tree X Y) n rest = grind (arith, ints, append_assoc, closes-text X (suc n) (false ∷ (text Y ++ rest)), closes-text Y n rest)
+closes-text (tree X Y) n rest = grind (arith, append_assoc, closes-text X (suc n) (false ∷ (text Y ++ rest)), closes-text Y n rest)
 
 -- a forest, a zero that closes what was open before, and then the same for the others that are open
 abbrev Closing : ℕ → List Bool → Type 0
@@ -20,9 +20,9 @@ Closing-tree (suc n) F rest c =
     (tree F c.0, c.1, rw (← c.2) (ap (λ l. true ∷ l) (append_assoc (text F) (false ∷ text c.0) (false ∷ c.1))), c.3)
 
 Closing-from : (bits : List Bool) (n : ℕ) → closes n bits ≡ true → Closing n bits
-Closing-from [] zero h = grind (arith, ints)
+Closing-from [] zero h = grind arith
 Closing-from [] (suc n) h = cc
-Closing-from (true ∷ bits) n h = grind (arith, ints, Closing-tree, Closing-from bits (suc n) h)
+Closing-from (true ∷ bits) n h = grind (arith, Closing-tree, Closing-from bits (suc n) h)
 Closing-from (false ∷ bits) zero h = cc
 Closing-from (false ∷ bits) (suc n) h = (none, bits, refl, Closing-from bits n h)
 
@@ -42,7 +42,7 @@ joined-none (tree X Y) = ap (tree X) (joined-none Y)
 parse-text : (F : Forest) (l : List Bool) → parse (text F ++ l) ≡ (joined F (parse l).0, (parse l).1)
 parse-text none l = refl
 parse-text (tree X Y) l =
-    grind (arith, ints, append_assoc, joined-none, parse-text Y l, parse-text X (false ∷ (text Y ++ l)))
+    grind (arith, append_assoc, joined-none, parse-text Y l, parse-text X (false ∷ (text Y ++ l)))
 
 -- a forest is read back from its text, so no list is the text of two
 pub forest_of-text : (F : Forest) → forest_of (text F) ≡ F

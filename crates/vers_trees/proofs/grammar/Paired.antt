@@ -24,7 +24,7 @@ length-tree X Y = let e = length-append (text X) (false ∷ text Y) in omega ari
 pub excess_in_first : (X Y : Forest) (i : ℕ) → i ≤ length (text X) → excess (text (tree X Y)) (i + 1) ≡ excess (text X) i +ℤ pos 1
 excess_in_first X Y i h =
     let e = excess-cons true (text X ++ false ∷ text Y) i in
-    grind (arith, ints, excess-append_left)
+    grind (arith, excess-append_left)
 
 rest_from_zero : (X Y : Forest) (i : ℕ) → excess (text X) (length (text X)) ≡ pos 0 → excess (text (tree X Y)) (length (text X) + 2 + i) ≡ excess (text Y) i
 rest_from_zero X Y i z =
@@ -38,7 +38,7 @@ total_is_zero (tree X Y) =
     let zx = total_is_zero X in
     let zy = total_is_zero Y in
     let r = rest_from_zero X Y (length (text Y)) zx in
-    grind (arith, ints, length-tree)
+    grind (arith, length-tree)
 
 -- past the first tree
 pub excess_in_rest : (X Y : Forest) (i : ℕ) → excess (text (tree X Y)) (length (text X) + 2 + i) ≡ excess (text Y) i
@@ -91,9 +91,9 @@ closes_first X Y x y = closes_moved (text (tree X Y)) (text X) 1 x y (grind (ari
     grind (arith, ints))
 
 closes_rest : (X Y : Forest) (x y : ℕ) → Closes (text Y) x y → Closes (text (tree X Y)) (length (text X) + 2 + x) (length (text X) + 2 + y)
-closes_rest X Y x y = closes_moved (text (tree X Y)) (text Y) (length (text X) + 2) x y (grind (arith, ints, length-tree)) (λ j h.
+closes_rest X Y x y = closes_moved (text (tree X Y)) (text Y) (length (text X) + 2) x y (grind (arith, length-tree)) (λ j h.
     let r = excess_in_rest X Y j in let s = excess_in_rest X Y 0 in let z = excess-zero (text Y) in
-    grind (arith, ints))
+    grind arith)
 
 pub paired_closes : (F : Forest) (v c : ℕ) → Paired F v c → Closes (text F) v c
 paired_closes none v c p = absurd p
@@ -141,7 +141,7 @@ close_is_paired F c d h b = let r = bit_is_paired F false c d h b in (r.0, subst
 
 -- what closes at v does so at one place, and opens at one place
 pub closes_once : (l : List Bool) (v c d : ℕ) → Closes l v c → Closes l v d → c ≡ d
-closes_once l v c d p q = grind (arith, ints)
+closes_once l v c d p q = grind arith
 
 -- an opening place rises, and a closing place falls
 pub closes_rises : (l : List Bool) (v c : ℕ) (d : Bool) → Closes l v c → get_or l v d ≡ true
@@ -153,4 +153,4 @@ closes_falls l v c d p = let a = p.after in let i = p.inside in let x = p.above 
 pub closes_paired : (F : Forest) (v c : ℕ) → Closes (text F) v c → Paired F v c
 closes_paired F v c p =
     let r = open_is_paired F v false (omega arith) (closes_rises (text F) v c false p) in
-    grind (arith, ints, closes_once, paired_closes)
+    grind (arith, closes_once, paired_closes)

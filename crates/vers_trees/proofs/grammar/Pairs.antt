@@ -24,10 +24,10 @@ second X Y = map (moved 1) (pairs X) ++ map (moved (length (text X) + 2)) (pairs
 -- the list of pairs holds just what `Paired` says
 pub contains_from_paired : (F : Forest) (v c : ℕ) → Paired F v c → Contains (pairs F) (v, c)
 contains_from_paired none v c p = absurd p
-contains_from_paired (tree X Y) v c (inl p) = grind (arith, ints, contains_first)
+contains_from_paired (tree X Y) v c (inl p) = grind (arith, contains_first)
 contains_from_paired (tree X Y) v c (inr (inl p)) =
     let m = contains_map (moved 1) (pairs X) (p.0, p.1) (contains_from_paired X p.0 p.1 p.4) in
-    grind (arith, ints, Contains-append_left, contains_later)
+    grind (arith, Contains-append_left, contains_later)
 contains_from_paired (tree X Y) v c (inr (inr p)) =
     let m = contains_map (moved (length (text X) + 2)) (pairs Y) (p.0, p.1) (contains_from_paired Y p.0 p.1 p.4) in
     let a = Contains-append_right (map (moved 1) (pairs X)) (map (moved (length (text X) + 2)) (pairs Y)) (length (text X) + 2 + p.0, length (text X) + 2 + p.1) m in
@@ -44,7 +44,7 @@ paired_from_contains (tree X Y) q h = ⊎_elim
     (λ (c : Contains (map (moved 1) (pairs X)) q). let m = contains_map_cases (moved 1) (pairs X) (0, 0) q c in subst (PairedIn (tree X Y)) m.2 (inr (inl (m.0.0, m.0.1, omega arith, omega arith, paired_from_contains X m.0 m.1))))
     (λ (c : Contains (map (moved (length (text X) + 2)) (pairs Y)) q). let m = contains_map_cases (moved (length (text X) + 2)) (pairs Y) (0, 0) q c in subst (PairedIn (tree X Y)) m.2 (inr (inr (m.0.0, m.0.1, refl, refl, paired_from_contains Y m.0 m.1))))
     (Contains-append_cases (map (moved 1) (pairs X)) (map (moved (length (text X) + 2)) (pairs Y)) q c))
-    (grind (arith, ints))
+    (grind arith)
 
 -- ---- how many pairs of a forest are around a pair, by its places
 abbrev pub one_if : Bool → ℕ
@@ -63,15 +63,15 @@ count_by-map p f (x ∷ xs) = search (rules, count_by-cons, count_by-map p f xs)
 -- tests that agree at each element count the same
 pub count_agree : {X : Type 0} → (p q : X → Bool) (xs : List X) → ((x : X) → Contains xs x → p x ≡ q x) → count_by p xs ≡ count_by q xs
 count_agree p q [] h = refl
-count_agree p q (x ∷ xs) h = grind (arith, ints, contains_later, contains_first, count_by-cons, count_agree p q xs (λ y c. h y (contains_later x xs y c)))
+count_agree p q (x ∷ xs) h = grind (arith, contains_later, contains_first, count_by-cons, count_agree p q xs (λ y c. h y (contains_later x xs y c)))
 
 pub count_none : {X : Type 0} → (p : X → Bool) (xs : List X) → ((x : X) → Contains xs x → p x ≡ false) → count_by p xs ≡ 0
 count_none p [] h = refl
-count_none p (x ∷ xs) h = grind (arith, ints, contains_later, contains_first, count_by-cons, count_none p xs (λ y c. h y (contains_later x xs y c)))
+count_none p (x ∷ xs) h = grind (arith, contains_later, contains_first, count_by-cons, count_none p xs (λ y c. h y (contains_later x xs y c)))
 
 -- a count over the pairs of a tree and what follows it
 pub count_tree : (p : ℕ × ℕ → Bool) (X Y : Forest) → count_by p (pairs (tree X Y)) ≡ one_if (p (0, length (text X) + 1)) + (count_by (λ q. p (moved 1 q)) (pairs X) + count_by (λ q. p (moved (length (text X) + 2) q)) (pairs Y))
-count_tree p X Y = grind (arith, ints, count_by-cons, count_by-append, count_by-map)
+count_tree p X Y = grind (arith, count_by-cons, count_by-append, count_by-map)
 
 -- the tests at pairs moved to the right by the same number
 pub moved_lt : (n a x v : ℕ) → v ≡ n + x → ltb (n + a) v ≡ ltb a x
@@ -86,7 +86,7 @@ abbrev around : ℕ → Forest → ℕ → ℕ → ℕ
 around n F v c = count_by (λ q. strictly_contains (moved n q) (v, c)) (pairs F)
 
 around_moved : (n : ℕ) (F : Forest) (x y v c : ℕ) → v ≡ n + x → c ≡ n + y → around n F v c ≡ count_by (λ q. strictly_contains q (x, y)) (pairs F)
-around_moved n F x y v c e f = grind (arith, ints, count_agree, moved_lt, nat_tests)
+around_moved n F x y v c e f = grind (arith, count_agree, moved_lt, nat_tests)
 
 -- none of the pairs that open at or after v, or close at or before c, is around (v, c)
 around_none : (n : ℕ) (F : Forest) (v c : ℕ) → (v ≤ n) ⊎ (n + length (text F) ≤ c + 1) → around n F v c ≡ 0

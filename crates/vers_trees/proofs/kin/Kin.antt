@@ -80,7 +80,7 @@ depth_is_excess l b v h =
 -- of the places of a bit, those before place v
 pub below_counted : (bit : Bool) (l : List Bool) (v : ℕ) → count_by (λ w. ltb w v) (places bit l) ≡ count bit l v
 unfolding count places
-below_counted bit l zero = grind (arith, ints, count_none, le-ltb)
+below_counted bit l zero = grind (arith, count_none, le-ltb)
 below_counted bit [] (suc v) = refl
 below_counted bit (b ∷ l) (suc v) = grind (arith, common_steps, count_by-map, count_agree, moved_lt, count_by-cons, places-cons, count_by-append, lt-ltb, below_counted bit l v)
 
@@ -91,7 +91,7 @@ index_is_rank l b v = ap (λ (xs : List ℕ). count_by (λ w. ltb w v) xs) (node
 -- tests that agree at each element keep the same elements
 pub filter_agree : {X : Type 0} → (p q : X → Bool) (xs : List X) → ((x : X) → Contains xs x → p x ≡ q x) → filter p xs ≡ filter q xs
 filter_agree {X = X} p q [] h = refl
-filter_agree {X = X} p q (x ∷ xs) h = grind (arith, ints, contains_later, contains_first, filter_agree p q xs (λ y c. h y (contains_later x xs y c)))
+filter_agree {X = X} p q (x ∷ xs) h = grind (arith, contains_later, contains_first, filter_agree p q xs (λ y c. h y (contains_later x xs y c)))
 
 -- a node inside the tree of v has its parent at v or after it, so not the parent of v
 not_beside : (l : List Bool) (b : IsBalanced l) (v w : ℕ) → HasPair l v → HasPair l w → v < w → w ≤ closing (forest_of l) v → parent (forest_of l) w ≡ parent (forest_of l) v → ⊥
@@ -138,7 +138,7 @@ last_beside l b v w h i o k x e =
     let z = opens_around l v (closing (forest_of l) v) s.0 (closing (forest_of l) v + 1) h.closes m (omega arith) (omega arith) in
     let g = has_parent l b v s.0 h q z (omega arith) in
     let r = parent_around l b w g.0 k (e ∙ g.1) in
-    grind (arith, ints, parent_around, nested, eq-or-lt_of_le)
+    grind (arith, parent_around, nested, eq-or-lt_of_le)
 
 pub previous_sibling_none : (l : List Bool) (b : IsBalanced l) (v : ℕ) → HasPair l v → 0 < v → get_or l (v - 1) false ≡ true → previous_of (siblings (forest_of l) v) v ≡ None
 unfolding nodes_under
@@ -206,7 +206,7 @@ module _ (l : List Bool) (b : IsBalanced l) (v : ℕ) (n : IsNode (forest_of l) 
   -- by the ones before the node
   pub depth_by_ones : (ones : ℕ) → ones ≡ count true l v → (ones ≤ v) × (v - ones ≤ ones) × (ones - (v - ones) ≡ depth (forest_of l) v)
   unfolding excess
-  depth_by_ones ones e = let d = depth_is_excess l b v (node_pair l b v n) in grind (arith, ints, closes_inside, count_both)
+  depth_by_ones ones e = let d = depth_is_excess l b v (node_pair l b v n) in grind (arith, closes_inside, count_both)
 
 -- a list is empty where it has no first
 pub leaf_by : (xs : List ℕ) (o : Option ℕ) (r : Bool) → is_some o ≡ not r → o ≡ first_of xs → IsTrue r ↔ (xs ≡ [])

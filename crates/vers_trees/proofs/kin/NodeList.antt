@@ -17,7 +17,7 @@ nodes_are_ones (tree X Y) =
 
 -- ---- where a node of a balanced list closes
 find_only : {X : Type 0} → (test : X → Bool) (xs : List X) (y : X) → Contains xs y → test y ≡ true → ((x : X) → Contains xs x → test x ≡ true → x ≡ y) → find test xs ≡ Some y
-find_only {X = X} test [] y c t h = grind (arith, ints)
+find_only {X = X} test [] y c t h = grind arith
 find_only {X = X} test (x ∷ xs) y c t h = cond_both (test x) (Some x) (find test xs) (λ (o : Option X). o ≡ Some y) (λ e. ap Some (h x (contains_first x xs) e)) (λ e. find_only test xs y (later c e) t (λ z d g. h z (contains_later x xs z d) g))
   where
     later : Contains (x ∷ xs) y → test x ≡ false → Contains xs y

@@ -40,11 +40,11 @@ closes_from_before l v c d o p =
 -- ---- the pairs around a node, and what a search backwards from it finds
 -- two pairs that overlap are one inside the other
 pub nested : (l : List Bool) (v c w d : ℕ) → Closes l v c → Closes l w d → v < w → w ≤ c → d < c
-nested l v c w d p q a b = grind (arith, ints, Closes)
+nested l v c w d p q a b = grind (arith, Closes)
 
 -- a pair that opens at or before the end of another and closes past it opens before it
 pub opens_around : (l : List Bool) (v c q e : ℕ) → Closes l v c → Closes l q e → q ≤ c → c < e → q < v
-opens_around l v c q e p m h x = grind (arith, ints, closes_once, Closes, nested)
+opens_around l v c q e p m h x = grind (arith, closes_once, Closes, nested)
 
 -- a one at or before the place where a pair closes stands before it
 pub one_before : (l : List Bool) (v c w : ℕ) → Closes l v c → get_or l w false ≡ true → w ≤ c → w < c
@@ -60,7 +60,7 @@ pub record IsAbove (l : List Bool) (v t a : ℕ) : Type 0 where
 
 -- a pair around v opens at or before the parent of v, and where the search finds nothing there is none
 pub parent_is_nearest : (l : List Bool) (v p q e : ℕ) → IsAbove l v 1 p → Closes l q e → q < v → v ≤ e → q ≤ p
-parent_is_nearest l v p q e a c x y = grind (arith, ints)
+parent_is_nearest l v p q e a c x y = grind arith
 
 pub no_parent : (l : List Bool) (v q e : ℕ) → ((k : ℕ) → k < v → excess l k ≢ excess l v +ℤ negsuc 0) → Closes l q e → q < v → v ≤ e → ⊥
 no_parent l v q e n c x y =
@@ -71,7 +71,7 @@ no_parent l v q e n c x y =
 -- what is two less than before the closing bracket is one less than before the opening one, and before it
 pub before_pair : (l : List Bool) (v c : ℕ) → Closes l v c → (k : ℕ) → k < c → excess l k ≡ excess l c +ℤ negsuc 1 → (k < v) × (excess l k ≡ excess l v +ℤ negsuc 0)
 before_pair l v c q k x e =
-    let r = excess_after_close l c true q.inside (closes_falls l v c true q) in grind (arith, ints, eq-or-lt_of_le)
+    let r = excess_after_close l c true q.inside (closes_falls l v c true q) in grind (arith, eq-or-lt_of_le)
 
 -- so from the closing bracket two less is found where from the opening one is
 pub enclose_at_close : (l : List Bool) (v c p : ℕ) → Closes l v c → IsLastRiseBefore l v (negsuc 0) p → IsLastRiseBefore l c (negsuc 1) p
@@ -82,23 +82,23 @@ enclose_at_close l v c p q b =
 -- ---- what stands beside a tree, and the first and the last tree inside another
 -- a tree and the one that opens right after it lie between the same pairs
 pub same_around : (l : List Bool) (v c d q e : ℕ) → Closes l v c → Closes l (c + 1) d → Closes l q e → ((q < v) × (c < e)) ↔ ((q < c + 1) × (d < e))
-same_around l v c d q e p n m = grind (arith, ints)
+same_around l v c d q e p n m = grind arith
 
 -- the first child opens right after the node
 pub first_child_above : (l : List Bool) (v c : ℕ) → Closes l v c → get_or l (v + 1) false ≡ true → IsAbove l (v + 1) 1 v
 first_child_above l v c p b =
     let s = excess_after_open l v false (omega arith) (closes_rises l v c false p) in
-    grind (arith, ints, one_before)
+    grind (arith, one_before)
 
 -- a node with a child has a closing bracket before its own, that of its last child
 pub last_child_closes : (l : List Bool) (v c : ℕ) → Closes l v (c + 1) → v < c → get_or l c false ≡ false
 last_child_closes l v c p h =
     let i = p.inside in
     let f = excess_after_close l (c + 1) false i (closes_falls l v (c + 1) false p) in
-    grind (arith, ints, excess_after_open, cases_Bool)
+    grind (arith, excess_after_open, cases_Bool)
 
 pub last_child_above : (l : List Bool) (v c w : ℕ) → Closes l v (c + 1) → Closes l w c → v < w → IsAbove l w 1 v
 last_child_above l v c w p q h =
     let i = p.inside in
     let f = excess_after_close l (c + 1) false i (closes_falls l v (c + 1) false p) in
-    grind (arith, ints)
+    grind arith

@@ -15,7 +15,7 @@ pub nothing_built : (size : ℕ) (l : List Bool) → l ≡ [] → 0 < size → s
 nothing_built size l e so b = rw e (record { short = omega arith; some = so; bounded = b; sum = excess-zero [] })
 
 pub one_more_built : (size : ℕ) (l : List Bool) (b : Bool) (total : ℤ) → IsBuilding size l total → length l < 9223372036854775807 → IsBuilding size (l ++ b ∷ []) (total +ℤ bit_step b)
-one_more_built size l b total h room = grind (arith, ints, length-append, excess_more)
+one_more_built size l b total h room = grind (arith, length-append, excess_more)
 
 -- the excess of a list that is not too long fits
 pub built_fits : (size : ℕ) (l : List Bool) (total : ℤ) → IsBuilding size l total → FitsSigned w64 total

@@ -11,7 +11,7 @@ pub part_inside : (l : List Bool) (size i e : ℕ) (x : Node) → Covers l size 
 part_inside l size i e x c h = ⊎_elim (λ (p : IsPart l (start_of l size i) (start_of l size e) x). p) (λ (q : (length l ≤ i * size) × (x ≡ empty_node)). absurd (omega arith)) c.part
 
 pub total_of_part : (l : List Bool) (size i e : ℕ) (x : Node) → Covers l size i e x → i ≤ e → excess l (start_of l size e) ≡ excess l (start_of l size i) +ℤ x.total
-total_of_part l size i e x c h = grind (arith, ints, starts_up)
+total_of_part l size i e x c h = grind (arith, starts_up)
 
 -- the node over both of two neighbouring parts, of which the second may be empty
 pub covers_joined : (l : List Bool) (size i m e : ℕ) (x y r : Node) → i ≤ m → m ≤ e → Covers l size i m x → Covers l size m e y → (y.least ≤ℤ y.greatest → r ≡ combined x y) → (y.greatest <ℤ y.least → r ≡ x) → Covers l size i e r
@@ -51,7 +51,7 @@ pub stands_children : (first i s e : ℕ) → StandsOver first i s e → i < fir
 stands_children first i s e p h = go p.height refl
   where
     go : (k : ℕ) → p.height ≡ k → HasChildren first i s e
-    go zero z = grind (arith, ints)
+    go zero z = grind arith
     go (suc k) z =
         let lv = p.levels in let ins = p.inside in let pl = p.place in let fr = p.from in let up = p.upto in
         let pw : 2 ^ p.height ≡ 2 * 2 ^ k = ap (λ (n : ℕ). 2 ^ n) z ∙ pow-succ' 2 k in
@@ -85,7 +85,7 @@ stands_every first h lv (suc fuel) (suc i) a b =
 
 -- a node stands among the nodes of a tree with first + 1 leaves
 pub stands_within : (first i s e : ℕ) → StandsOver first i s e → i ≤ 2 * first
-stands_within first i s e p = grind (arith, ints, pow-le-pow_right)
+stands_within first i s e p = grind (arith, pow-le-pow_right)
 
 -- a node has one part
 pub order : (a b : ℕ) → 2 ^ a < 2 ^ (b + 1) → a ≤ b
@@ -94,7 +94,7 @@ order a b h = ⊎_elim (λ (u : b < a). let le : 2 ^ (b + 1) ≤ 2 ^ a = pow-le-
 one_part : (first i s e s' e' : ℕ) → StandsOver first i s e → StandsOver first i s' e' → (s ≡ s') × (e ≡ e')
 one_part first i s e s' e' p q =
     let a = pow_next p.level in let b = pow_next q.level in let c = pow_next (p.level + p.height) in let d = pow_next (q.level + q.height) in
-    grind (arith, ints, order)
+    grind (arith, order)
 
 -- the parent of a child, with its other child
 parent_of : (first i j s e : ℕ) → StandsOver first i s e → (i ≡ 2 * j + 1) ⊎ (i ≡ 2 * j + 2) → (u : ℕ) × (v : ℕ) × StandsOver first j u v × HasChildren first j u v
@@ -110,7 +110,7 @@ parent_of_left first j s e p =
     (q.1, rw (← o.0) at q.2, rw (← o.1) at q.3.right, rw (← o.1) at q.3.before)
 
 pub parent_of_right : (first j s e : ℕ) → StandsOver first (2 * j + 2) s e → (u : ℕ) × StandsOver first j u e × StandsOver first (2 * j + 1) u s
-parent_of_right first j s e p = let q = parent_of first (2 * j + 2) j s e p (inr refl) in grind (arith, ints, one_part)
+parent_of_right first j s e p = let q = parent_of first (2 * j + 2) j s e p (inr refl) in grind (arith, one_part)
 
 leaf : (first h i : ℕ) → 2 ^ h ≡ first + 1 → first ≤ i → i ≤ 2 * first → StandsOver first i (i - first) (i - first + 1)
 leaf first h i lv a b = record { level = h; height = 0; offset = i - first; levels = ap (λ (n : ℕ). 2 ^ n) (let g : h + 0 ≡ h = omega arith in g) ∙ lv; inside = omega arith; place = omega arith; from = omega arith; upto = omega arith }

@@ -33,8 +33,8 @@ digits_before node odd left p =
     grind (arith, digits_half, digits_up)
 
 -- ---- how many nodes a search reads: a level has a digit more than the one above it
-pub no_nodes : (a : Reads) (n : ℕ) → AddsAtMost a a (only_nodes n)
-no_nodes a n = adds_weaker (adds_nothing a) (grind arith)
+pub adds_none : (a p : Reads) → AddsAtMost a a p
+adds_none a p = adds_weaker (adds_nothing a) (grind arith)
 
 -- a node's number, from 1, has at least a digit
 pub digit_some : (n : ℕ) → 0 < n → 1 ≤ digits n

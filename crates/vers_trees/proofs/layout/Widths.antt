@@ -1,5 +1,5 @@
 -- The width of a tree, and its nodes put together.
-use Rattle.vers_trees.proofs.Words.{◌≡◌, ℕ, zero, suc, ◌+◌, ◌-◌, ◌*◌, ◌^◌, ◌<◌, ◌≤◌, ◌⊎◌, inl, inr, min, max, Bool, List, [], ◌∷◌, ◌++◌, length, get_or, take, drop, arith, ⊎_elim, subst, sym, refl, ap, ◌∙◌, length-append, cases_lt, div_ceil_times, get_or_append_left, get_or_at, take-append_seam, pow-le-pow_right, pow_next, pow_pos, clog_is_least, mul-le-mul_right, digits, digits_below_pow, Node, IsPart, CoveredFrom, empty_node, block_count, clog, levels, node_count, IsWidth, IsGrowing, AreFirstBlocks, IsTreeOf, IsIndexed}
+use Rattle.vers_trees.proofs.Words.{◌≡◌, ℕ, zero, suc, ◌+◌, ◌-◌, ◌*◌, ◌^◌, ◌<◌, ◌≤◌, inl, inr, min, max, Bool, List, [], ◌∷◌, ◌++◌, length, get_or, take, drop, arith, ⊎_elim, subst, sym, refl, ap, ◌∙◌, length-append, cases_lt, div_ceil_times, get_or_append_left, get_or_at, take-append_seam, pow-le-pow_right, pow_next, pow_pos, clog_is_least, mul-le-mul_right, digits, digits_below_pow, Node, IsPart, CoveredFrom, empty_node, block_count, clog, levels, node_count, IsWidth, IsGrowing, AreFirstBlocks, IsTreeOf, IsIndexed}
 use Rattle.vers_trees.proofs.layout.MinMax.{order}
 
 pub grow_start : (leaves : ℕ) → IsGrowing leaves 2
@@ -56,6 +56,11 @@ block_added l size first n nodes x b p =
           (subst (λ (y : Node). IsPart l (n * size) (min (n * size + size) (length l)) y) (sym (get_or_at nodes x [] empty_node (first + n) c)) p))
           (cases_lt k n);
     }
+
+-- where block k begins
+pub begins_inside : (size n k leaves : ℕ) → leaves ≡ block_count size n → 0 < size → k < leaves → k * size < n
+begins_inside size n k leaves e so h =
+    let d = (div_ceil_times n size so).1 in let u : (k + 1) * size ≤ leaves * size = mul-le-mul_right size (omega arith) in let w = ap (λ (m : ℕ). m * size) e in omega arith
 
 pub one_at_least : (n size : ℕ) → 0 < size → 0 < n → 0 < block_count size n
 one_at_least n size so h = grind (arith, div_ceil_times)

@@ -1,5 +1,5 @@
 -- The places right beside one, which a search finds by their bits alone.
-use Rattle.vers_trees.proofs.Words.{◌≡◌, ◌↔◌, ℕ, ◌+◌, ◌-◌, ◌<◌, ◌≤◌, Bool, true, false, List, length, get_or, not, nat_eq, ℤ, FitsSigned, to_z, of_z, Some, arith, ap, neg_ℤ, pos, negsuc, ◌-ℤ◌, None, refl, w64, IsTrue, ints, to_z-of_z, eq-eqb, eqb-true, excess, first_rise_after, last_rise_before, bit_step, enclosing, count, count_both, opened_after}
+use Rattle.vers_trees.proofs.Words.{◌≡◌, ◌↔◌, ℕ, ◌+◌, ◌-◌, ◌<◌, ◌≤◌, Bool, true, false, List, length, get_or, not, nat_eq, ℤ, FitsSigned, to_z, of_z, Some, arith, ap, neg_ℤ, pos, negsuc, ◌-ℤ◌, refl, w64, IsTrue, ints, to_z-of_z, eq-eqb, eqb-true, excess, first_rise_after, last_rise_before, bit_step, enclosing, count, count_both}
 use Rattle.vers_trees.proofs.searches.Searches.{after_some, after_is, before_some, before_is}
 use Rattle.vers_trees.proofs.searches.Scans.{step_fits, bit_is, fits_small}
 
@@ -22,7 +22,7 @@ turned_step false = refl
 
 pub right_before : (l : List Bool) (i : ℕ) (r d : ℤ) (b : Bool) → FitsSigned w64 r → 0 < i → i < length l → b ≡ get_or l (i - 1) false → d ≡ bit_step (not b) → IsTrue (nat_eq (of_z w64 d) (of_z w64 r)) ↔ (last_rise_before l i r ≡ Some (i - 1))
 right_before l i r d b f some h e q =
-    let up = bit_is l (i - 1) i b (bit_step b) (omega arith) (omega arith) e refl in grind (arith, ints, turned_step, to_z-of_z, eqb-true, step_fits, before_is, before_some, stored_same)
+    let up = bit_is l (i - 1) i b (bit_step b) (omega arith) (omega arith) e refl in grind (arith, turned_step, to_z-of_z, eqb-true, step_fits, before_is, before_some, stored_same)
 
 -- ---- what the queries of a tree answer, in the words of the code
 pub enclosing_open : (l : List Bool) (i : ℕ) → get_or l i false ≡ true → last_rise_before l i (negsuc 0) ≡ enclosing l i
@@ -47,8 +47,8 @@ with_sign n h = to_z-of_z w64 (pos n) (small_number n h)
 -- the ones less the rest are the excess
 pub difference_is : (l : List Bool) (i n : ℕ) → length l < 9223372036854775808 → i ≤ length l → n ≡ count true l i → FitsSigned w64 (to_z w64 n -ℤ to_z w64 (i - n)) × (to_z w64 n -ℤ to_z w64 (i - n) ≡ excess l i)
 unfolding excess
-difference_is l i n short h e = grind (arith, ints, few_ones, with_sign, fits_small, count_both)
+difference_is l i n short h e = grind (arith, few_ones, with_sign, fits_small, count_both)
 
 -- its negative
 pub negated : (n : ℕ) → n < 9223372036854775808 → FitsSigned w64 (pos 0 -ℤ to_z w64 n) × (to_z w64 (of_z w64 (pos 0 -ℤ to_z w64 n)) ≡ neg_ℤ (pos n))
-negated n h = grind (arith, ints, fits_small, with_sign, to_z-of_z)
+negated n h = grind (arith, fits_small, with_sign, to_z-of_z)

@@ -17,7 +17,7 @@ pub excess-part : (l : List Bool) (p n j : ℕ) → p + n ≤ length l → j ≤
 excess-part l p n j h i =
     let m = length-part l p n h in
     let t = ap (λ (m : List Bool). excess m j) (take-append-drop n (drop p l)) in
-    grind (arith, ints, excess-append_left, excess-drop)
+    grind (arith, excess-append_left, excess-drop)
 
 -- the excess of at most 64 bits, by the ones of their number
 excess-number : (bits : List Bool) (n : ℕ) → n ≤ 64 → length bits ≡ n → excess bits n ≡ pos (2 * count_ones (number bits)) -ℤ pos n
@@ -35,7 +35,7 @@ excess-number bits n few e =
 pub total_of : (l : List Bool) (p n word : ℕ) (d : ℤ) → n ≤ 64 → p + n ≤ length l → word ≡ number (part l p n) → d ≡ pos (2 * count_ones word) -ℤ pos n → excess l (p + n) ≡ excess l p +ℤ d
 total_of l p n word d few h e q =
     let f = excess-part l p n n h (omega arith) in
-    grind (arith, ints, excess-number, length-part)
+    grind (arith, excess-number, length-part)
 
 -- ---- the word at a place, and the byte in a word
 word_is : (l : List Bool) (p n : ℕ) → n ≤ 64 → p + n ≤ length l → part_number_or_zero l p n ≡ Some (number (part l p n))
@@ -90,7 +90,7 @@ turned true n h = (omega arith, omega arith)
 
 natural : (a : ℕ) (z : ℤ) → pos a ≤ℤ z → (n : ℕ) × (z ≡ pos n)
 natural a (pos n) h = (n, refl)
-natural a (negsuc n) h = absurd (omega (arith, ints))
+natural a (negsuc n) h = absurd (omega arith)
 
 -- where none of the sums of an entry is t
 missed : (from_end : Bool) (l : List Bool) (p entry : ℕ) (t : ℤ) → p + 8 ≤ length l → IsEntry from_end (part l p 8) entry → ((x : ℕ) → least_in entry ≤ x → x ≤ greatest_in entry → sum_from from_end l p +ℤ (pos x -ℤ pos 8) ≢ t) → (k : ℕ) → p ≤ k → k < p + 8 → sum_past from_end l k ≢ t

@@ -1,5 +1,5 @@
 -- Numbers by their octal digits, and what an entry of a table of bytes is packed of.
-use Rattle.vers_trees.proofs.Words.{◌≡◌, ℕ, zero, suc, ◌+◌, ◌-◌, ◌*◌, ◌/◌, ◌%◌, ◌^◌, ◌<◌, ◌≤◌, List, [], ◌∷◌, length, drop, get_or, arith, ap, ◌∙◌, ◌≢◌, ◌⊎◌, inl, inr, Bool, true, false, pos, ◌+ℤ◌, ◌-ℤ◌, cond, min, max, ⊎_elim, refl, replicate, nat_eq, set, pow-suc, pow-le-pow_right, drop-cons, length-drop, get_or-drop, get_or-set_same, get_or-set_other, shr-shr, IsByte, IsEntry, IsFirstMet, sum_along, place_along, octal, AreEntries, HasMet, step_along, ints, cases_lt, bit_at-number, excess, bit_step}
+use Rattle.vers_trees.proofs.Words.{◌≡◌, ℕ, zero, suc, ◌+◌, ◌-◌, ◌*◌, ◌/◌, ◌%◌, ◌^◌, ◌<◌, ◌≤◌, List, [], ◌∷◌, length, drop, get_or, arith, ap, ◌∙◌, ◌≢◌, ◌⊎◌, inl, inr, Bool, true, false, pos, ◌+ℤ◌, ◌-ℤ◌, cond, min, max, ⊎_elim, refl, replicate, nat_eq, set, pow-suc, pow-le-pow_right, drop-cons, length-drop, get_or-drop, get_or-set_same, get_or-set_other, shr-shr, IsByte, IsEntry, sum_along, place_along, octal, AreEntries, HasMet, step_along, ints, cases_lt, bit_at-number, excess, bit_step}
 use Rattle.vers_trees.proofs.grammar.Excess.{excess-zero, excess_after_bit}
 
 -- each of the digits is below 8
@@ -20,7 +20,7 @@ octal_small ds i e h =
 
 -- the digit before
 pub octal_more : (ds : List ℕ) (x number d : ℕ) → 0 < x → x ≤ length ds → number ≡ octal (drop x ds) → 8 * number + get_or ds (x - 1) d ≡ octal (drop (x - 1) ds)
-octal_more ds x number d some h e = grind (arith, ints, drop-cons)
+octal_more ds x number d some h e = grind (arith, drop-cons)
 
 -- digit x
 pub octal-digit : (ds : List ℕ) (x : ℕ) → AreOctal ds → x < length ds → octal ds / 2 ^ (3 * x) % 8 ≡ get_or ds x 7
@@ -31,16 +31,16 @@ octal-digit (d ∷ ds) (suc x) h i =
     let ih = octal-digit ds x (λ y. h (suc y)) (omega arith) in
     let e : 3 * suc x ≡ 3 + 3 * x = omega arith in
     let s = shr-shr (octal (d ∷ ds)) 3 (3 * x) in
-    grind (arith, ints)
+    grind arith
 
 -- ---- how the entry of a byte is met, step by step along its bits
 -- before the first step
 pub met_nothing : (from_end : Bool) (bits : List Bool) (places : List ℕ) → ((x : ℕ) → get_or places x 7 ≡ 7) → HasMet from_end bits 0 8 9 7 places
-met_nothing from_end bits places all = grind (arith, ints, excess-zero)
+met_nothing from_end bits places all = grind (arith, excess-zero)
 
 -- a step at a bit adds to the sum
 step_by : (from_end b : Bool) → step_along from_end b ≡ cond from_end (pos 0 -ℤ bit_step b) (bit_step b)
-step_by from_end b = grind (arith, ints)
+step_by from_end b = grind arith
 
 next_sum : (from_end : Bool) (bits : List Bool) (n : ℕ) → length bits ≡ 8 → n < 8 → sum_along from_end bits (n + 1) ≡ sum_along from_end bits n +ℤ step_along from_end (get_or bits (place_along from_end n) false)
 next_sum false bits n e h = let s = excess_after_bit bits n false (omega arith) in let t = step_by false (get_or bits n false) in omega (arith, ints)
@@ -51,7 +51,7 @@ next_sum true bits n e h =
     omega (arith, ints)
 
 pub up_or_down : (from_end b : Bool) (value next : ℕ) → pos next ≡ pos value +ℤ step_along from_end b → (next ≡ value + 1) ⊎ (next + 1 ≡ value)
-up_or_down from_end b value next u = grind (arith, ints)
+up_or_down from_end b value next u = grind arith
 
 pub place_small : (from_end : Bool) (n : ℕ) → n < 8 → place_along from_end n < 8
 place_small from_end n h = grind arith
@@ -66,7 +66,7 @@ pub record IsNoted (least greatest next p : ℕ) (places : List ℕ) (least' gre
 -- the place of a sum after a step: that of the step, where the sum is met for the first time, and else what it was
 noted_at : (least greatest next p : ℕ) (places : List ℕ) (least' greatest' : ℕ) (places' : List ℕ) → IsNoted least greatest next p places least' greatest' places' → next < length places → (x : ℕ)
     → (((next < least) ⊎ (greatest < next)) × (next ≡ x) × (get_or places' x 7 ≡ p)) ⊎ ((((least ≤ next) × (next ≤ greatest)) ⊎ (next ≢ x)) × (get_or places' x 7 ≡ get_or places x 7))
-noted_at least greatest next p places least' greatest' places' w inside x = grind (arith, ints, get_or-set_same, get_or-set_other)
+noted_at least greatest next p places least' greatest' places' w inside x = grind (arith, get_or-set_same, get_or-set_other)
 
 pub met_more : (from_end : Bool) (bits : List Bool) (byte n value least greatest next place : ℕ) (places : List ℕ) (least' greatest' : ℕ) (places' : List ℕ) → IsByte bits byte → n < 8 → HasMet from_end bits n value least greatest places
     → place ≡ place_along from_end n → pos next ≡ pos value +ℤ step_along from_end (nat_eq (byte / 2 ^ place % 2) 1) → next < length places → IsNoted least greatest next place places least' greatest' places'
@@ -110,4 +110,4 @@ sevens (suc n) (suc x) = sevens n x
 
 -- ---- tables
 pub entries_more : (from_end : Bool) (n : ℕ) (entries : List ℕ) (entry : ℕ) → n < length entries → AreEntries from_end n entries → ((bits : List Bool) → IsByte bits n → IsEntry from_end bits entry) → AreEntries from_end (n + 1) (set entries n entry)
-entries_more from_end n entries entry inside old new byte h bits is = grind (arith, ints, get_or-set_other, get_or-set_same)
+entries_more from_end n entries entry inside old new byte h bits is = grind (arith, get_or-set_other, get_or-set_same)

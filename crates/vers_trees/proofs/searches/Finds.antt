@@ -1,5 +1,5 @@
 -- A search: the scan of the block that it begins in, what the tree answers, and the scan of that block.
-use Rattle.vers_trees.proofs.Words.{◌≡◌, ℕ, ◌+◌, ◌-◌, ◌*◌, ◌/◌, ◌<◌, ◌≤◌, ◌^◌, Bool, true, false, List, length, ℤ, ◌-ℤ◌, ◌+ℤ◌, FitsSigned, to_z, of_z, Option, None, Some, Result, Ok, Err, MatchResult, arith, ⊎_elim, refl, sym, ap, ◌∙◌, w64, result_ok, ints, to_z-of_z, Node, excess, sum_past, first_rise_after, last_rise_before, edge, IsBetween, up_to, IsRise, HasNoRise, start_of, Sought, sought, target, IsAfter, Passed, HasNone, IsAhead, BeginsAt, IsPassed}
+use Rattle.vers_trees.proofs.Words.{◌≡◌, ℕ, ◌+◌, ◌-◌, ◌*◌, ◌/◌, ◌<◌, ◌≤◌, Bool, true, false, List, length, ℤ, ◌-ℤ◌, FitsSigned, to_z, of_z, Option, None, Some, Result, Ok, Err, MatchResult, arith, ⊎_elim, refl, sym, ap, ◌∙◌, w64, result_ok, ints, to_z-of_z, Node, first_rise_after, last_rise_before, edge, IsBetween, up_to, IsRise, HasNoRise, start_of, Sought, sought, IsAfter, Passed, HasNone, IsAhead, BeginsAt, IsPassed, Reads, AddsAtMost, only_nodes, digits, past_reads, block_reads, levels, adds_then, adds_weaker}
 use Rattle.vers_trees.proofs.searches.Searches.{after_is, none_after, before_is, none_before}
 use Rattle.vers_trees.proofs.searches.Scans.{rise_fits, split}
 use Rattle.vers_trees.proofs.layout.Blocks.{left_fits, too_far}
@@ -95,3 +95,14 @@ module _ (back : Bool) (s : Sought) (first : ℕ) (nodes : List Node) (block : �
       next_answer x y (Err past) e g q =
           let t = rw (e, g) at q in let re = ahead.passed.remains in let wh = whole in let k = ahead.place in let k3 = k.3 in
           absurd (t.none k.0 (in_block back s j k.0 k.1 k.2) (omega (arith, ints)))
+
+-- what it reads then: the tree's nodes, and the bits of a block
+module _ (back : Bool) (s : Sought) (first : ℕ) (nodes : List Node) (block : ℕ) (rise : ℤ) (p : IsPassed back s first nodes block rise) (a b : Reads) (h : AddsAtMost a b (only_nodes (2 * digits first))) where
+  few : digits first ≤ levels s.size (length s.bits)
+  few = (p.indexed.over (let i = p.inside in let f = p.some in omega arith)).few
+
+  pub climbed : AddsAtMost a b (past_reads s.size (length s.bits))
+  climbed = adds_weaker h (let f = few in grind arith)
+
+  pub climbed_and_scanned : (c : Reads) (n : ℕ) → n ≤ s.size → AddsAtMost b c (block_reads n) → AddsAtMost a c (past_reads s.size (length s.bits))
+  climbed_and_scanned c n e q = adds_then h q (let f = few in grind arith)

@@ -90,7 +90,7 @@ one_more_read a b c n m e p q = adds_then p q (grind arith)
 
 -- ---- the node of a part
 pub part_start : (l : List Bool) (a : ℕ) (d : ℤ) → excess l (a + 1) ≡ excess l a +ℤ d → IsPart l a (a + 1) (record { total = d; least = d; greatest = d })
-part_start l a d s = grind (arith, ints)
+part_start l a d s = grind arith
 
 -- the node over two neighbouring parts
 pub part_joined : (l : List Bool) (a m b : ℕ) (x y : Node) → IsPart l a m x → IsPart l m b y → IsPart l a b (combined x y)
@@ -118,4 +118,4 @@ pub part_more : (l : List Bool) (a p : ℕ) (x : Node) (d : ℤ) → IsPart l a 
 part_more l a p x d h s = part_joined l a p (p + 1) x _ h (part_start l p d s)
 
 pub part_fits : (l : List Bool) (a p : ℕ) (x : Node) → IsPart l a p x → length l < 2 ^ 63 → a ≤ p → p ≤ length l → FitsSigned w64 x.total × FitsSigned w64 x.least × FitsSigned w64 x.greatest
-part_fits l a p x h short o i = grind (arith, ints, rise_fits)
+part_fits l a p x h short o i = grind (arith, rise_fits)

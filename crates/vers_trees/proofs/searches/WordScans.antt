@@ -12,7 +12,7 @@ bit_small : (b : Bool) → bit_value b < 2 ^ 1
 bit_small b = let h = bit_value_le b in omega arith
 
 ones_next : (n : ℕ) (b : Bool) → count_ones (n * 2 ^ 1 + bit_value b) ≡ bit_value b + count_ones n
-ones_next n b = let s = ones_step (n * 2 ^ 1 + bit_value b) in let m = bit_small b in grind (arith, ints)
+ones_next n b = let s = ones_step (n * 2 ^ 1 + bit_value b) in let m = bit_small b in grind arith
 
 -- ---- forwards: the zeros that no one stands right before
 abbrev before : Bool → List Bool → List Bool
@@ -29,14 +29,14 @@ or_ones : (p : Bool) (l : List Bool) → count_ones (bit_or (number l) (number (
 or_ones p [] = let z : count_ones 0 ≡ 0 = ones-ones 0 in omega arith
 or_ones p (b ∷ l) =
     let a = or_block 1 (number l) (number (before b l)) (bit_value b) (bit_value p) (bit_small b) (bit_small p) in
-    grind (arith, ints, number_next, ones_next, or_ones b l)
+    grind (arith, number_next, ones_next, or_ones b l)
 
 pub falls_counted : (l : List Bool) (word : ℕ) → length l ≡ 64 → word ≡ number l → falls false l + count_ones (bit_or word (word * 2 % 18446744073709551616)) ≡ 64
 falls_counted l word h e =
     let o = or_ones false l in
     let b = ap number (before_is false 63 l h) in
     let t = number-take 63 l in
-    grind (arith, ints)
+    grind arith
 
 -- no sum along the list falls further
 above : (p : Bool) (l : List Bool) (j : ℕ) → pos 0 ≤ℤ (excess l j +ℤ pos (bit_value p + falls p l))
@@ -53,7 +53,7 @@ after [] = []
 after (b ∷ l) = is_not_closed l ∷ after l
 
 and_values : (b p : Bool) → bit_and (bit_value b) (bit_value p) ≡ bit_value (b && p)
-and_values b p = grind (arith, ints)
+and_values b p = grind arith
 
 number-after : (b : Bool) (l : List Bool) → number (after (b ∷ l)) ≡ number l + 2 ^ length l
 number-after b [] = refl
@@ -68,10 +68,10 @@ and_ones (b ∷ l) =
 
 after_word : (l : List Bool) → length l ≡ 64 → number (after l) ≡ number l / 2 + 9223372036854775808
 after_word [] h = absurd (omega arith)
-after_word (b ∷ l) h = let e = number-after b l in grind (arith, ints, bit_small)
+after_word (b ∷ l) h = let e = number-after b l in grind (arith, bit_small)
 
 pub rises_counted : (l : List Bool) (word : ℕ) → length l ≡ 64 → word ≡ number l → rises l ≡ count_ones (bit_and word (word / 2 + 9223372036854775808))
-rises_counted l word h e = let a = after_word l h in grind (arith, ints, and_ones)
+rises_counted l word h e = let a = after_word l h in grind (arith, and_ones)
 
 pub rises_few : (l : List Bool) → rises l ≤ length l
 rises_few [] = omega arith

@@ -1,7 +1,7 @@
 -- The nodes of a node's tree are a part of all nodes, in preorder and in postorder.
 use Rattle.vers_trees.proofs.Words.{◌≡◌, ℕ, suc, ◌+◌, ◌*◌, ◌<◌, ◌≤◌, ◌⊎◌, inl, inr, Bool, true, false, ◌&&◌, List, [], ◌∷◌, map, length, take, drop, ltb, leb, count_by, arith, ⊎_elim, subst, sym, refl, ap, ◌∙◌, filter, Decides, ints, cases_lt, lt-ltb, le-ltb, nat_tests, Decides-and, Decides-like, same_from_decides, All-weaker, length-filter, count_by-le-length, count, places, count_both, excess, Forest, text, IsBalanced, forest_of, nodes, closing, is_ancestor, subtree, opening_of, pairs_by_closing, postorder, subtree_post, not-true}
 use Rattle.vers_trees.proofs.grammar.Grammar.{text-forest_of}
-use Rattle.vers_trees.proofs.grammar.Paired.{Paired, Closes}
+use Rattle.vers_trees.proofs.grammar.Paired.{Paired}
 use Rattle.vers_trees.proofs.kin.Partners.{before_from_closes, nested}
 use Rattle.vers_trees.proofs.searches.Searches.{before_is}
 use Rattle.vers_trees.proofs.kin.NodeList.{HasPair, nodes_by, node_pair, zero_pair, closing_is}
@@ -26,7 +26,7 @@ count_between v c [] h = refl
 count_between v c (x ∷ xs) h =
     let ih = count_between v c xs h in
     let a = count_by-cons (between v c) x xs in let b = count_by-cons (λ w. ltb w v) x xs in let d = count_by-cons (λ w. ltb w (c + 1)) x xs in
-    grind (arith, ints)
+    grind arith
 
 -- of numbers that ascend they are a part
 past_part : (v c n : ℕ) (xs : List ℕ) → AscendsFrom n xs → c < n → filter (between v c) xs ≡ []
@@ -36,11 +36,11 @@ past_part v c n (x ∷ xs) a h = rw (outside v c x (inr (omega arith))) (past_pa
 first_part : (v c n : ℕ) (xs : List ℕ) → AscendsFrom n xs → v ≤ n → filter (between v c) xs ≡ take (length (filter (between v c) xs)) xs
 first_part v c n [] a h = refl
 first_part v c n (x ∷ xs) a h =
-    grind (arith, ints, past_part, between_decides, first_part v c (x + 1) xs a.1 (omega arith))
+    grind (arith, past_part, between_decides, first_part v c (x + 1) xs a.1 (omega arith))
 
 none_below : (v n : ℕ) (xs : List ℕ) → AscendsFrom n xs → v ≤ n → count_by (λ w. ltb w v) xs ≡ 0
 none_below v n [] a h = refl
-none_below v n (x ∷ xs) a h = let ih = none_below v (x + 1) xs a.1 (omega arith) in grind (arith, ints, count_by-cons, one_if, le-ltb)
+none_below v n (x ∷ xs) a h = let ih = none_below v (x + 1) xs a.1 (omega arith) in grind (arith, count_by-cons, one_if, le-ltb)
 
 between_is_part : (v c n : ℕ) (xs : List ℕ) → AscendsFrom n xs → filter (between v c) xs ≡ take (length (filter (between v c) xs)) (drop (count_by (λ w. ltb w v) xs) xs)
 between_is_part v c n [] a = refl
@@ -75,12 +75,12 @@ part_counted bit l v h =
     omega arith
 
 pub part_inside : (bit : Bool) (l : List Bool) (v : ℕ) → HasPair l v → count bit l v + length (places_in bit l v) ≤ length (places bit l)
-part_inside bit l v h = grind (arith, ints, part_counted, below_counted, count_by-le-length)
+part_inside bit l v h = grind (arith, part_counted, below_counted, count_by-le-length)
 
 -- twice as many are the places from the opening bracket to the closing one
 pub part_size : (bit : Bool) (l : List Bool) (v : ℕ) → HasPair l v → 2 * length (places_in bit l v) + v ≡ closing (forest_of l) v + 1
 unfolding excess
-part_size bit l v h = grind (arith, ints, count_both, part_counted, places_in)
+part_size bit l v h = grind (arith, count_both, part_counted, places_in)
 
 -- the nodes of the tree of v, in preorder
 pub subtree_is : (l : List Bool) (b : IsBalanced l) (v : ℕ) → HasPair l v → subtree (forest_of l) v ≡ places_in true l v
@@ -98,7 +98,7 @@ pub subtree_post_is : (l : List Bool) (b : IsBalanced l) (v : ℕ) → HasPair l
 unfolding subtree_post places_in
 subtree_post_is l b v h =
     ap (filter (λ w. is_ancestor (forest_of l) v w)) (sym (postorder_by l b))
-    ∙ filter_mapped (λ w. is_ancestor (forest_of l) v w) (between v (closing (forest_of l) v)) (opening_of l) (places false l) (All-weaker (HasBitAt false l) (λ k. is_ancestor (forest_of l) v (opening_of l k) ≡ between v (closing (forest_of l) v) k) (λ k y. let p = zero_pair l b k y.inside (not-true _ y.holds) in grind (arith, ints, before_is, before_from_closes, same_from_decides, Decides-like, nested, ancestor_decides, between_decides)) (places false l) (all_places false l))
+    ∙ filter_mapped (λ w. is_ancestor (forest_of l) v w) (between v (closing (forest_of l) v)) (opening_of l) (places false l) (All-weaker (HasBitAt false l) (λ k. is_ancestor (forest_of l) v (opening_of l k) ≡ between v (closing (forest_of l) v) k) (λ k y. let p = zero_pair l b k y.inside (not-true _ y.holds) in grind (arith, before_is, before_from_closes, same_from_decides, Decides-like, nested, ancestor_decides, between_decides)) (places false l) (all_places false l))
 
 -- ---- the orders
 pub closes_in_order : (F : Forest) → map (closing F) (postorder F) ≡ places false (text F)

@@ -11,7 +11,7 @@ use std::ops::Range;
 use vers_bits::bit_vec::BitVec;
 use vers_tally::tally::Tally;
 
-#[tactic(auto, using(crate::proofs::Lists::lists, crate::proofs::Digits::symbols))]
+#[tactic(auto, using(crate::proofs::Digits::symbols))]
 impl<A: Allocator + Copy> WaveletMatrix<A> {
     /// How many places of a range hold a symbol. None for a symbol of another length, and for a range
     /// that starts at or past the end, ends past it or is reversed.

@@ -10,7 +10,7 @@ use std::alloc::Allocator;
 use vers_bits::bit_vec::BitVec;
 use vers_tally::tally::Tally;
 
-#[tactic(auto, using(crate::proofs::Lists::lists, crate::proofs::Digits::symbols))]
+#[tactic(auto, using(crate::proofs::Digits::symbols))]
 impl<A: Allocator + Copy> WaveletMatrix<A> {
     /// The place of occurrence `rank`, counted from 0, of a symbol, among those from `offset` on. None
     /// for a symbol of another length, for an `offset` at or past the end, and where there are not so

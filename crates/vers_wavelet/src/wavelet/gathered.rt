@@ -22,7 +22,6 @@ pub struct Gathered {
     pub place: usize,
 }
 
-#[tactic(auto, using(crate::proofs::Lists::lists))]
 impl<A: Allocator + Copy> WaveletMatrix<A> {
     /// The symbol at a place, and where the place goes when all places are put in the order of their symbols' digits
     /// from the lowest to the highest, those of equal symbols as they stand. None where the symbols have more than 64
@@ -48,7 +47,7 @@ impl<A: Allocator + Copy> WaveletMatrix<A> {
             return None;
         }
         let mut symbol: u64 = 0;
-        let place = read_symbol(&self.levels, self.len, place, &mut symbol, tally);
+        let place = read_symbol(self.levels(), self.len(), place, &mut symbol, tally);
         Some(Gathered { symbol, place })
     }
 
@@ -100,7 +99,7 @@ impl<A: Allocator + Copy> WaveletMatrix<A> {
         ensures value { result ≡ gathered self.now place (low_bits_of self.now symbol) }
         ensures adds { AddsAtMost tally.old tally.new (times self.now.width rank_reads) }
     {
-        descend(&self.levels, self.len, place, &symbol, tally)
+        descend(self.levels(), self.len(), place, &symbol, tally)
     }
 
     /// Where the places of a range that hold a symbol, of which the low digits count, go when all places are put in the
@@ -162,7 +161,7 @@ impl<A: Allocator + Copy> WaveletMatrix<A> {
         ensures end { result.end ≡ result.start + length (places_of self.now start end symbol) }
         ensures adds { AddsAtMost tally.old tally.new (walk_reads self.now) }
     {
-        let part = narrow(&self.levels, self.len, start, end, &symbol, tally);
+        let part = narrow(self.levels(), self.len(), start, end, &symbol, tally);
         part.start..part.end
     }
 }

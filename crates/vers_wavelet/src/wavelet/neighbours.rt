@@ -11,7 +11,7 @@ use std::ops::Range;
 use vers_bits::bit_vec::BitVec;
 use vers_tally::tally::Tally;
 
-#[tactic(auto, using(crate::proofs::Lists::lists, crate::proofs::Digits::symbols, crate::proofs::Nearest::neighbours))]
+#[tactic(auto, using(crate::proofs::Digits::symbols, crate::proofs::Nearest::neighbours))]
 impl<A: Allocator + Copy> WaveletMatrix<A> {
     /// The greatest symbol of a range that is not above a symbol. None for a symbol of another length,
     /// for a range that is reversed or ends past the end, and where there is no such symbol.

@@ -11,7 +11,7 @@ use std::ops::Range;
 use vers_bits::bit_vec::BitVec;
 use vers_tally::tally::Tally;
 
-#[tactic(auto, using(crate::proofs::Lists::lists, crate::proofs::Digits::symbols, crate::proofs::Ranges::members))]
+#[tactic(auto, using(crate::proofs::Digits::symbols, crate::proofs::Ranges::members))]
 impl<A: Allocator + Copy> WaveletMatrix<A> {
     /// Member `i` of a range by size, counted from 0, equal ones too. None for a range that ends past
     /// the end, and where the range has not so many places.

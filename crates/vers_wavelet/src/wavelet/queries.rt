@@ -15,7 +15,6 @@ use std::alloc::{AllocError, Allocator};
 use vers_bits::bit_vec::BitVec;
 use vers_tally::tally::Tally;
 
-#[tactic(auto, using(crate::proofs::Lists::lists))]
 impl<A: Allocator + Copy> WaveletMatrix<A> {
     // A symbol that is 0.
     #[tactic(auto, using(crate::proofs::Digits::symbols))]
@@ -43,7 +42,7 @@ impl<A: Allocator + Copy> WaveletMatrix<A> {
             (D.number symbol.now % 2 ^ self.now.width)) }
         ensures adds { AddsAtMost tally.old tally.new (walk_reads self.now) }
     {
-        let part = narrow(&self.levels, self.len, start, end, symbol, tally);
+        let part = narrow(self.levels(), self.len(), start, end, symbol, tally);
         part.end - part.start
     }
 
@@ -62,12 +61,13 @@ impl<A: Allocator + Copy> WaveletMatrix<A> {
             (length self.now.items) (D.number symbol.now % 2 ^ self.now.width)) rank }
         ensures adds { AddsAtMost tally.old tally.new (query_reads self.now) }
     {
-        let levels = self.levels.as_slice();
-        let first = descend(levels, self.len, offset, symbol, tally);
-        if rank >= self.len - first {
+        let levels = self.levels();
+        let len = self.len();
+        let first = descend(levels, len, offset, symbol, tally);
+        if rank >= len - first {
             return None;
         }
-        climb(levels, self.len, symbol, first + rank, tally)
+        climb(levels, len, symbol, first + rank, tally)
     }
 
     // The same, or the length where there are not so many.
@@ -95,7 +95,7 @@ impl<A: Allocator + Copy> WaveletMatrix<A> {
         ensures same { D.width answer.new ≡ D.width answer.old }
         ensures adds { AddsAtMost tally.old tally.new (walk_reads self.now) }
     {
-        read_symbol(&self.levels, self.len, place, answer, tally);
+        read_symbol(self.levels(), self.len(), place, answer, tally);
     }
 
     // Writes member `i` of a range by size into a number that is 0.
@@ -117,7 +117,7 @@ impl<A: Allocator + Copy> WaveletMatrix<A> {
         ensures same { D.width answer.new ≡ D.width answer.old }
         ensures adds { AddsAtMost tally.old tally.new (walk_reads self.now) }
     {
-        find_kth(&self.levels, self.len, start, end, i, answer, tally);
+        find_kth(self.levels(), self.len(), start, end, i, answer, tally);
     }
 
     // Member `i` of all symbols by size, and which others are equal to it. It goes on from the way down to
@@ -132,7 +132,7 @@ impl<A: Allocator + Copy> WaveletMatrix<A> {
         ensures way { IsWayOf self.now way.new }
         ensures adds { AddsAtMost tally.old tally.new (walk_reads self.now) }
     {
-        way.find(&self.levels, self.len, i, tally)
+        way.find(self.levels(), self.len(), i, tally)
     }
 
     // Writes into a number that is 0 member `i` of all symbols by size where that is asked, and else
@@ -185,8 +185,8 @@ impl<A: Allocator + Copy> WaveletMatrix<A> {
         ensures adds { AddsAtMost tally.old tally.new (times 2 (walk_reads self.now)) }
     {
         find_nearest(
-            &self.levels,
-            self.len,
+            self.levels(),
+            self.len(),
             start,
             end,
             is_up,

@@ -9,7 +9,7 @@ use std::alloc::{AllocError, Allocator};
 use vers_bits::bit_vec::BitVec;
 use vers_tally::tally::Tally;
 
-#[tactic(auto, using(crate::proofs::Lists::lists, crate::proofs::Digits::symbols))]
+#[tactic(auto, using(crate::proofs::Digits::symbols))]
 impl<A: Allocator + Copy> WaveletMatrix<A> {
     /// The symbol at a place. None for a place that the list doesn't have.
     pub fn get_value(&self, place: usize) -> Result<Option<BitVec<A>>, AllocError>

@@ -26,11 +26,10 @@ impl<A: Allocator + Copy> Clone for WaveletMatrix<A> {
 impl<A: Allocator + Copy> WaveletMatrix<A> {
     /// The bytes that the levels take, each a list of as many bits as there are symbols, with its
     /// index; the greatest `usize` where they are more.
-    #[tactic(auto, using(crate::proofs::Lists::lists))]
     pub fn heap_size(&self) -> usize
         ensures { result ≡ matrix_size self.now }
     {
-        size_of_levels(&self.levels, self.len)
+        size_of_levels(self.levels(), self.len())
     }
 }
 

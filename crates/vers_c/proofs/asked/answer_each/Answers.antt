@@ -1,7 +1,5 @@
-use Rattle.std.proofs.Common.{◌∙◌, ap, arith, slice_set}
-use Rattle.std.proofs.lemmas.List.Edits.{map_over_more}
-use Rattle.vers_c.specs.Answers.{value_or}
-use Rattle.vers_c.specs.Batches.{asked, told_row}
+use Rattle.vers_c.proofs.Names.{arith, slice_set, map_over_more, value_or, asked, told_row}
+use Rattle.std.proofs.Common.{◌∙◌, ap}
 use Rattle.vers_c.proofs.asked.answer_each.Goals as goal
 
 pub loop-i-preserved : goal.loop-i-preserved

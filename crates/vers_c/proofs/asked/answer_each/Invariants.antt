@@ -1,5 +1,5 @@
-use Rattle.std.proofs.Common.{◌≡◌, ◌++◌, map, take, drop}
-use Rattle.vers_c.specs.Batches.{told_row}
+use Rattle.vers_c.proofs.Names.{map, take, told_row}
+use Rattle.std.proofs.Common.{◌≡◌, ◌++◌, drop}
 use Rattle.vers_c.proofs.asked.answer_each.Given as goal
 
 abbrev pub invariant-loop-i : goal.invariant-loop-i

@@ -1,5 +1,5 @@
+use Rattle.vers_c.proofs.Names.{asked}
 use Rattle.std.proofs.Common.{◌∙◌}
-use Rattle.vers_c.specs.Batches.{asked}
 use Rattle.vers_c.proofs.batch.ask_group.Goals as goal
 
 pub returns : goal.returns

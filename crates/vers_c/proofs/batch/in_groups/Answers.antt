@@ -1,6 +1,5 @@
-use Rattle.std.proofs.Common.{◌≡◌, ℕ, ◌+◌, ◌-◌, ◌++◌, map, take, drop, subst, sym, arith}
-use borrow.Rule.Slice.PartMut.{put_mid}
-use Rattle.vers_c.specs.Batches.{told_row}
+use Rattle.vers_c.proofs.Names.{◌+◌, ◌-◌, map, take, arith, put_mid, told_row}
+use Rattle.std.proofs.Common.{◌≡◌, ℕ, ◌++◌, drop, subst, sym}
 use Rattle.vers_c.proofs.Batches.{group_more}
 use Rattle.vers_c.proofs.batch.in_groups.Goals as goal
 

@@ -1,5 +1,5 @@
-use Rattle.std.proofs.Common.{◌∙◌, ap, arith}
-use Rattle.vers_c.specs.Batches.{asked}
+use Rattle.vers_c.proofs.Names.{arith, asked}
+use Rattle.std.proofs.Common.{◌∙◌, ap}
 use Rattle.vers_c.proofs.Batches.{alike_more}
 use Rattle.vers_c.proofs.batch.make_each.Goals as goal
 

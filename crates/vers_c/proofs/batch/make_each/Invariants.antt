@@ -1,5 +1,5 @@
-use Rattle.std.proofs.Common.{◌≡◌, map, take}
-use Rattle.vers_c.specs.Batches.{asked}
+use Rattle.vers_c.proofs.Names.{map, take, asked}
+use Rattle.std.proofs.Common.{◌≡◌}
 use Rattle.vers_c.proofs.batch.make_each.Given as goal
 
 abbrev pub invariant-loop-i : goal.invariant-loop-i

@@ -1,5 +1,5 @@
-use Rattle.std.proofs.Common.{◌∙◌, ap, arith, slice_set}
-use Rattle.vers_c.specs.Answers.{value_or}
+use Rattle.vers_c.proofs.Names.{arith, slice_set, value_or}
+use Rattle.std.proofs.Common.{◌∙◌, ap}
 use Rattle.vers_c.proofs.Batches.{told_more}
 use Rattle.vers_c.proofs.batch.tell_each.Goals as goal
 

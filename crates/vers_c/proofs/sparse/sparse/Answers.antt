@@ -1,8 +1,5 @@
-use Rattle.std.proofs.Common.{◌≡◌, ℕ, Bool, true, List, length}
-use Rattle.std.specs.Prelude.{Result, Ok, Err, IfOk}
-use Rattle.vers_bits.specs.Bits.{places}
-use Rattle.vers_sorted.specs.Ones.{ones_at}
-use Rattle.vers_sorted.proofs.PublicLaws.{ones_at-same}
+use Rattle.vers_c.proofs.Names.{Bool, true, length, Result, Ok, Err, IfOk, places, ones_at, ones_at-same}
+use Rattle.std.proofs.Common.{◌≡◌, ℕ, List}
 use Rattle.vers_c.proofs.sparse.sparse.Goals as goal
 
 made_of : {E : Type 0} (len : ℕ) (ones : List ℕ) (made : Result (List Bool) E) → IfOk made (λ bits. length bits ≡ len) → IfOk made (λ bits. places true bits ≡ ones)

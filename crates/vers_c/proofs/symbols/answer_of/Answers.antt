@@ -1,6 +1,5 @@
+use Rattle.vers_c.proofs.Names.{offset_place, found_or_absent}
 use Rattle.std.proofs.Common.{ap, ◌∙◌}
-use Rattle.vers_wavelet.proofs.PublicLaws.{offset_place}
-use Rattle.vers_c.specs.Answers.{found_or_absent}
 use Rattle.vers_c.proofs.symbols.answer_of.Goals as goal
 
 pub returns-in-SelectFrom : goal.returns-in-SelectFrom

@@ -1,4 +1,5 @@
-use Rattle.std.proofs.Common.{◌≡◌, take}
+use Rattle.vers_c.proofs.Names.{take}
+use Rattle.std.proofs.Common.{◌≡◌}
 use Rattle.vers_c.proofs.text.as_numbers.Given as goal
 
 abbrev pub invariant-loop-place : goal.invariant-loop-place

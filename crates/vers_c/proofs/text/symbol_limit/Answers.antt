@@ -1,5 +1,4 @@
-use Rattle.std.proofs.Common.{arith}
-use Rattle.std.proofs.lemmas.Nat.{one_shl}
+use Rattle.vers_c.proofs.Names.{arith, one_shl}
 use Rattle.vers_c.proofs.text.symbol_limit.Goals as goal
 
 pub returns : goal.returns

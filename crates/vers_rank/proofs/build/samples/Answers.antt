@@ -1,6 +1,17 @@
-use Rattle.std.proofs.Common.{arith}
+use Rattle.std.proofs.Common.{zero-le}
+use Rattle.vers_rank.proofs.Names.{◌≡◌, length, ap, arith, count_none}
 use Rattle.vers_rank.proofs.Builds.{add_sample}
 use Rattle.vers_rank.proofs.build.samples.Goals as goal
+
+pub loop-j-init : goal.loop-j-init
+loop-j-init g c = record {
+  made = record { counted = ap length c.in_ok-made.ensures.items; each = λ j h. absurd (omega (arith, h)) };
+  inside = zero-le;
+  low = omega (arith, count_none);
+}
+
+pub returns : goal.returns
+returns g c = let all : c.loop-j.j ≡ c.args.n = omega arith in rw all at c.loop-j.invariant.made
 
 pub loop-j-preserved : goal.loop-j-preserved
 loop-j-preserved g c = record {

@@ -9,7 +9,6 @@ use std::alloc::{AllocError, Allocator};
 
 // The exponent of the greatest power of two that is not above a number.
 #[inline(always)]
-#[tactic(auto, using(crate::proofs::Logs::top_is))]
 pub(super) fn log2(a: usize) -> usize
     requires { 0 < a }
     ensures low { 2 ^ result ≤ a }
@@ -61,7 +60,6 @@ fn next_place(items: &[u64], table: &[u32], k: usize, i: usize) -> u32
 
 // The table: a level for each power of two up to the first that is not below the number of items,
 // and on it an entry for each item. Room is asked for once.
-#[tactic(auto, using(crate::proofs::Tables::filling))]
 pub(super) fn places<A: Allocator + Copy>(
     items: &[u64],
     alloc: A,

@@ -125,7 +125,6 @@ fn prefixes_past(
 
 // The prefix masks of the block from `start` to before `end`, of all of it and by parts of 16 items, and
 // the first place of its least item.
-#[tactic(auto, using(crate::proofs::Masks::prefix_whole, crate::proofs::Masks::prefix_first, crate::proofs::Masks::prefix_part))]
 pub(super) fn prefix_masks(items: &[u64], start: usize, end: usize) -> (u128, u128, usize)
     requires some { start < end }
     requires few { end ≤ start + BLOCK }
@@ -225,7 +224,6 @@ fn suffixes_past(
 }
 
 // The suffix masks of the block from `start` to before `end`: of all of it, and by parts of 16 items.
-#[tactic(auto, using(crate::proofs::Masks::suffix_whole, crate::proofs::Masks::suffix_last, crate::proofs::Masks::suffix_part))]
 pub(super) fn suffix_masks(items: &[u64], start: usize, end: usize) -> (u128, u128)
     requires some { start < end }
     requires few { end ≤ start + BLOCK }

@@ -60,7 +60,6 @@ impl<const BLOCK_SIZE: usize, A: Allocator + Copy> BpTree<BLOCK_SIZE, A> {
     }
 
     /// The same as `level_next`, by the reads of two searches.
-    #[tactic(auto, using(crate::proofs::levels::LevelNodes::level_next_is_search, crate::proofs::kin::NodeList::node_pair))]
     #[inline(always)]
     pub fn level_next_counted(&self, node: usize, tally: &mut Tally) -> Option<usize>
         requires balanced { IsBalanced self.now }

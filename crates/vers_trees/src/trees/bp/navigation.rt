@@ -27,7 +27,6 @@ impl<const BLOCK_SIZE: usize, A: Allocator + Copy> BpTree<BLOCK_SIZE, A> {
     }
 
     /// The same as `parent`, by the reads of one search.
-    #[tactic(auto, using(crate::proofs::kin::Kin::parent_is_search, crate::proofs::kin::NodeList::node_pair))]
     #[inline(always)]
     pub fn parent_counted(&self, node: usize, tally: &mut Tally) -> Option<usize>
         requires balanced { IsBalanced self.now }
@@ -106,7 +105,6 @@ impl<const BLOCK_SIZE: usize, A: Allocator + Copy> BpTree<BLOCK_SIZE, A> {
     }
 
     /// The same as `next_sibling`, by one bit read and the reads of one search.
-    #[tactic(auto, using(crate::proofs::kin::Kin::next_sibling_is, crate::proofs::kin::NodeList::node_pair))]
     #[inline(always)]
     pub fn next_sibling_counted(&self, node: usize, tally: &mut Tally) -> Option<usize>
         requires balanced { IsBalanced self.now }
@@ -236,7 +234,6 @@ impl<const BLOCK_SIZE: usize, A: Allocator + Copy> BpTree<BLOCK_SIZE, A> {
     }
 
     /// The same as `subtree_size`, by the reads of one search.
-    #[tactic(auto, using(crate::proofs::walks::ListsOfNodes::subtree_size_is, crate::proofs::kin::NodeList::node_pair))]
     #[inline(always)]
     pub fn subtree_size_counted(&self, node: usize, tally: &mut Tally) -> Option<usize>
         requires balanced { IsBalanced self.now }

@@ -78,7 +78,6 @@ impl Query for GatheredQuery {
     }
 }
 
-#[tactic(auto, using(crate::proofs::Lists::lists))]
 impl<A: Allocator + Copy> WaveletMatrix<A> {
     /// Where the first of many symbols go, each from a place on, as `gathered_u64` answers: none takes memory, and all
     /// are asked level by level, which is faster than one after the other where there are many.
@@ -102,6 +101,6 @@ impl<A: Allocator + Copy> WaveletMatrix<A> {
         ensures adds { AddsAtMost tally.old tally.new
             (times (length queries.old) (walk_reads self.now)) }
     {
-        ask_each(&self.levels, self.len, queries, tally);
+        ask_each(self.levels(), self.len(), queries, tally);
     }
 }

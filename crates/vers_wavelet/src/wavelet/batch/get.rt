@@ -67,7 +67,6 @@ impl Query for GetQuery {
     }
 }
 
-#[tactic(auto, using(crate::proofs::Lists::lists))]
 impl<A: Allocator + Copy> WaveletMatrix<A> {
     /// The symbols at many places, each as `get_u64` answers: none takes memory, and all are read level by level, which
     /// is faster than one after the other where there are many.
@@ -89,6 +88,6 @@ impl<A: Allocator + Copy> WaveletMatrix<A> {
         ensures adds { AddsAtMost tally.old tally.new
             (times (length queries.old) (walk_reads self.now)) }
     {
-        ask_each(&self.levels, self.len, queries, tally);
+        ask_each(self.levels(), self.len(), queries, tally);
     }
 }

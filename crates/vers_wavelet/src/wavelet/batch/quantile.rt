@@ -102,7 +102,6 @@ impl Query for QuantileQuery {
     }
 }
 
-#[tactic(auto, using(crate::proofs::Lists::lists))]
 impl<A: Allocator + Copy> WaveletMatrix<A> {
     /// The members of many ranges by size, each as `quantile_u64` answers: none takes memory, and all are
     /// asked level by level, which is faster than one after the other where there are many.
@@ -126,6 +125,6 @@ impl<A: Allocator + Copy> WaveletMatrix<A> {
         ensures adds { AddsAtMost tally.old tally.new
             (times (length queries.old) (walk_reads self.now)) }
     {
-        ask_each(&self.levels, self.len, queries, tally);
+        ask_each(self.levels(), self.len(), queries, tally);
     }
 }

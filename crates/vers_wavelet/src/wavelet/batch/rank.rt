@@ -83,7 +83,6 @@ impl Query for RankQuery {
     }
 }
 
-#[tactic(auto, using(crate::proofs::Lists::lists))]
 impl<A: Allocator + Copy> WaveletMatrix<A> {
     /// How many of the first places hold a symbol, asked many times, each as `rank_u64` answers: none
     /// takes memory, and all are asked level by level, which is faster than one after the other where
@@ -108,6 +107,6 @@ impl<A: Allocator + Copy> WaveletMatrix<A> {
         ensures adds { AddsAtMost tally.old tally.new
             (times (length queries.old) (walk_reads self.now)) }
     {
-        ask_each(&self.levels, self.len, queries, tally);
+        ask_each(self.levels(), self.len(), queries, tally);
     }
 }

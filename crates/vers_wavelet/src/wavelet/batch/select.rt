@@ -259,7 +259,6 @@ fn climb_each<A: Allocator + Copy>(
     }
 }
 
-#[tactic(auto, using(crate::proofs::Lists::lists))]
 impl<A: Allocator + Copy> WaveletMatrix<A> {
     /// The places of many occurrences, each as `select_u64` answers: none takes memory, and all are asked
     /// level by level, which is faster than one after the other where there are many.
@@ -281,11 +280,12 @@ impl<A: Allocator + Copy> WaveletMatrix<A> {
         ensures adds { AddsAtMost tally.old tally.new
             (times (length queries.old) (query_reads self.now)) }
     {
-        let levels = self.levels.as_slice();
-        ask_each(levels, self.len, queries, tally);
+        let levels = self.levels();
+        let len = self.len();
+        ask_each(levels, len, queries, tally);
         if levels.len() > 64 {
             return;
         }
-        climb_each(levels, self.len, queries, tally);
+        climb_each(levels, len, queries, tally);
     }
 }

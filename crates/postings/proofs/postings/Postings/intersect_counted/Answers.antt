@@ -1,18 +1,23 @@
-use Rattle.std.proofs.Common.{arith}
+use Rattle.std.proofs.Common.{◌≡◌, List, ℕ, length, nat_le, subst, ◌∙◌}
+use Rattle.vers_tally.specs.Reads.{Reads, AddsAtMost}
+use Rattle.postings.specs.Posted.{common, lookups}
 use Rattle.postings.proofs.Members.{common_either}
-use Rattle.postings.proofs.Sharing.{intersect_within, intersect_within_other}
+use Rattle.postings.proofs.Sharing.{either_first, same_either_way}
 use Rattle.postings.proofs.postings.Postings.intersect_counted.Goals as goal
-
-pub returns-then-len-clause-adds : goal.returns-then-len-clause-adds
-returns-then-len-clause-adds g c =
-    rw (← c.self.view_is, ← c.other.view_is) (intersect_within c.self.inside.documents c.other.inside.documents c.args.tally.now c.common_documents.new.tally
-    (omega (arith, c.if-len.true, rw (← c.self.view_is) at c.len.ensures.value, rw (← c.other.view_is) at c.len-2.ensures.value)) c.common_documents.ensures.adds)
 
 pub returns-clause-value : goal.returns-clause-value
 returns-clause-value g c =
-    rw (← c.self.view_is, ← c.other.view_is, common_either c.self.inside.documents c.other.inside.documents c.self.invariant.ascending c.other.invariant.ascending) c.common_documents-2.ensures.value
+    let one : List ℕ = c.self.inside.documents in
+    let other : List ℕ = c.other.inside.documents in
+    let is_shorter = nat_le (length one) (length other) in
+    let e : common c.by_length.result.0.now c.by_length.result.1.now ≡ common one other =
+    either_first common is_shorter one other _ _ c.by_length.ensures.shorter c.by_length.ensures.longer
+    ∙ same_either_way is_shorter _ _ (common_either one other c.self.invariant.ascending c.other.invariant.ascending) in
+    rw (← c.self.view_is, ← c.other.view_is, ← e) c.common_documents.ensures.value
 
 pub returns-clause-adds : goal.returns-clause-adds
 returns-clause-adds g c =
-    rw (← c.self.view_is, ← c.other.view_is) (intersect_within_other c.self.inside.documents c.other.inside.documents c.args.tally.now c.common_documents-2.new.tally
-    (omega (arith, c.if-len.false, rw (← c.self.view_is) at c.len.ensures.value, rw (← c.other.view_is) at c.len-2.ensures.value)) c.common_documents-2.ensures.adds)
+    let one : List ℕ = c.self.inside.documents in
+    let other : List ℕ = c.other.inside.documents in
+    let e = either_first lookups (nat_le (length one) (length other)) one other _ _ c.by_length.ensures.shorter c.by_length.ensures.longer in
+    rw (← c.self.view_is, ← c.other.view_is) (subst (λ (most : Reads). AddsAtMost c.args.tally.now c.common_documents.new.tally most) e c.common_documents.ensures.adds)

@@ -1,4 +1,5 @@
 use Rattle.vers_bits.proofs.Names.{rules, ◌≡◌, ◌++◌, ◌∷◌, ◌≤◌, [], length, map, Err, ap, sym, ◌∙◌, arith, err_from_is_err_and, length-map, append-nil, map-append, low_bits, length_push, length-append}
+use Rattle.std.proofs.lemmas.List.{append_assoc}
 use Rattle.vers_bits.specs.declared.bit_vec.fault.GrowError.TheVariants.{TooLong}
 use Rattle.vers_bits.specs.declared.bit_vec.TheConstants.{MAX_LEN}
 use Rattle.vers_bits.proofs.Words.{length-word_bits}
@@ -14,6 +15,21 @@ loop-item-init g c = record {
   within = omega arith;
   room = omega (arith, ap length c.new-list.ensures);
 }
+
+pub loop-item-preserved-then-gathered-room : goal.loop-item-preserved-then-gathered-room
+loop-item-preserved-then-gathered-room g c =
+    let odd = g.T.Item.is_odd in
+    let xs = c.loop-item.yielded in
+    record {
+      can = search rules;
+      ends = search rules;
+      bits =
+          ap (λ l. c.loop-item.list ++ l) c.with_digit-word.ensures.digits ∙ sym (append_assoc c.loop-item.list (low_bits c.loop-item.word c.loop-item.gathered) (c.is_odd.result ∷ []))
+          ∙ ap (λ l. l ++ c.is_odd.result ∷ []) c.loop-item.invariant.bits ∙ ap (λ b. map odd xs ++ b ∷ []) c.is_odd.ensures ∙ sym (map-append odd xs (c.in-Some.item ∷ []));
+      small = c.with_digit-word.ensures.small;
+      within = omega arith;
+      room = c.loop-item.invariant.room;
+    }
 
 pub loop-item-preserved : goal.loop-item-preserved
 loop-item-preserved g c =
@@ -50,3 +66,9 @@ returns-in_err-append-clause-refused g c =
       (_, c.loop-item.yielded_by, c.in-Some.ensures.steps),
       ((λ e. omega (arith, exact.0 (ap Err e))), (λ h. let q : Err c.in_err-append.field-0.0 ≡ Err TooLong = exact.1 (omega arith) in cc)),
     )
+
+pub returns-in_err-append-clause-made : goal.returns-in_err-append-clause-made
+returns-in_err-append-clause-made g c = let p = err_from_is_err_and c.from_residual.result c.from_residual.ensures.1 in rw p.1 tt
+
+pub returns-clause-made : goal.returns-clause-made
+returns-clause-made g c = (c.loop-item.yielded, (_, c.loop-item.yielded_by, c.in_default.ensures.steps), c.append_within-2.ensures ∙ c.loop-item.invariant.bits)

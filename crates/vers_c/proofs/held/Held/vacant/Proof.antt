@@ -1,35 +1,9 @@
 -- `vacant` makes a null pointer, which owns nothing.
-use Rattle.std.proofs.Common.{refl, sym, subst, false, [], lit<}
+use Rattle.vers_c.proofs.Names.{false, lit<, Ura, Val, vnull, vstruct, vcons, vnil, has_ty, SProp, ent, emp, id⊢, ftrue, fsep, Memory, Routine, WpFn, Tables, Logic, Fun, tables, tables_of, WpFn-mono, Item, ‵, raw, ◌⊛◌, ◌$◌, ◌∵◌, !, qed, by, move, use1, join, split, fsplit, fjoin, fpack, feq_i, suffices, done, agg, lit, no_more, and_then, returns, enter, alloc_all, pass_all, free_all, look_at, get, sets, yes, plain, Valss, RawPtr, null_ptr, nothing, within, shape, triple_of, entered, says, Stays, stay_dropped, walk_of, ends_at, Goes-dropped, walk_Meets, handle_tells, α, and_tt, P, owning}
+use Rattle.std.proofs.Common.{refl, sym, subst, []}
 use mathlib.Core.List.{List, ◌∷◌, ◌++◌}
-use seplogic.Ra.Ura.{Ura}
-use mir.Val.{Val, vnull, vstruct, vcons, vnil, has_ty}
-use base.Logic.{SProp, ent, emp, id⊢}
-use base.Fml.{ftrue, fsep}
-use prog.Memory.{Memory}
-use prog.Routine.{Routine}
-use prog.Wp.{WpFn, Tables}
-use types.Logic.{Logic}
-use contract.Monad.{Fun}
-use contract.Running.{tables, tables_of}
-use sound.WpLaws.{WpFn-mono}
-use types.Kit.{Item, ‵, raw, ◌⊛◌, ◌$◌, ◌∵◌, !, qed, by, move, drop, use1, join, split, fsplit, fjoin, fpack, feq_i, suffices, done}
-use types.Part.{agg}
-use types.Run.{lit, no_more, and_then, returns, enter}
-use types.ByLocal.{alloc_all, pass_all, free_all, look_at, get, sets}
-use denote.Exit.{yes}
-use denote.Signature.{plain}
-use denote.RattleType.{Valss}
-use denote.RawPtr.{RawPtr, null_ptr}
-use denote.Steps.{nothing}
-use denote.Struct.Struct.{within}
-use denote.Struct.Owning.{shape}
-use denote.Triple.Spec.{triple_of}
-use denote.Triple.Table.{entered}
-use denote.Triple.Walked.{says, Stays, stay_dropped, walk_of, ends_at, Goes-dropped, walk_Meets}
-use Rattle.core.proofs.alloc.Calls.{handle_tells, α}
-use Rattle.std_alloc.proofs.ResultValues.{and_tt}
+use types.Kit.{drop}
 use Rattle.vers_c.proofs.OwnerBoxes.{E}
-use Rattle.std_alloc.proofs.BoxSteps.Form.{P, owning}
 use Rattle.std.specs.contracts.alloc.Global as Heap
 use Rattle.vers_c.specs.contracts.held.Held as Held
 use Rattle.vers_c.specs.declared.kept.Kept.TheVariants.{Growing}

@@ -1,4 +1,5 @@
-use Rattle.std.proofs.Common.{arith}
+use Rattle.std.proofs.Common.{arith, rules}
+use Rattle.vers_rank.proofs.Equal.{same_places}
 use Rattle.vers_rank.proofs.Reading.{no_reading}
 use Rattle.vers_rank.proofs.fast_rs_vec.RsVec.has_places_of.Goals as goal
 
@@ -8,3 +9,6 @@ loop-r-init g c = record {
   there = rw c.new-there.ensures (no_reading _ _);
   same = λ k h. absurd (omega arith);
 }
+
+pub returns : goal.returns
+returns g c = ((λ _. same_places c.args.bit c.args.self.now c.args.other.now (omega arith) (omega arith) (λ r few. c.loop-r.invariant.same r (omega arith))), (λ _. search rules))

@@ -1,4 +1,4 @@
-use Rattle.vers_rank.proofs.Names.{◌≡◌, ℕ, ◌+◌, ◌/◌, ◌<◌, ap, sym, ◌∙◌, arith, rules, count, length, limb, marked, select, select_reads, adds_then, digits, plus, times}
+use Rattle.vers_rank.proofs.Names.{select_past, ◌≡◌, ℕ, ◌+◌, ◌/◌, ◌<◌, ap, sym, ◌∙◌, arith, rules, count, length, limb, marked, select_reads, adds_then, digits, plus, times}
 use Rattle.vers_tally.specs.Reads.{Reads, IsWithin, no_reads, only_rank_calls}
 use Rattle.vers_tally.proofs.PublicLaws.{adds_weaker}
 use Rattle.vers_rank.proofs.Pairs.{none_after, no_places, place_after}
@@ -28,10 +28,22 @@ returns-then-r-total-clause-second g c =
 pub returns-then-r-total-clause-adds : goal.returns-then-r-total-clause-adds
 returns-then-r-total-clause-adds g c = adds_weaker c.add_rank_call.ensures.adds (call_alone _)
 
+pub overflow_mul-place : goal.overflow_mul-place
+overflow_mul-place g c = omega (arith, select_le)
+
+pub overflow_add-place : goal.overflow_add-place
+overflow_add-place g c = omega (arith, select_le)
+
+pub overflow_add-second : goal.overflow_add-second
+overflow_add-second g c = omega (arith, select_le)
+
+pub returns-then-number-total-clause-second : goal.returns-then-number-total-clause-second
+returns-then-number-total-clause-second g c = c.len-len.ensures.value ∙ sym (select_past c.args.bit c.args.self.now (c.args.r + 1) (omega (arith, c.total-total.ensures, c.if-number-total.true)))
+
 pub returns-then-number-r-clause-second : goal.returns-then-number-r-clause-second
 returns-then-number-r-clause-second g c =
     let is : c.loop-number.number ≡ c.args.r + 1 = omega (arith, c.loop-number.invariant.to, c.if-number-r.true) in
-    c.locate-at.ensures.value ∙ ap (select c.args.bit c.args.self.now) is
+    rw is at c.locate-at.ensures.value
 
 pub returns-then-number-r-clause-within : goal.returns-then-number-r-clause-within
 returns-then-number-r-clause-within g c =
@@ -45,7 +57,7 @@ returns-then-number-r-clause-adds g c = adds_then c.loop-number.invariant.adds c
 pub returns-then-number-r-clause-near : goal.returns-then-number-r-clause-near
 returns-then-number-r-clause-near g c = λ inside same.
     let is : c.loop-number.number ≡ c.args.r + 1 = omega (arith, c.loop-number.invariant.to, c.if-number-r.true) in
-    absurd (c.loop-number.invariant.apart c.if-number-r.true (same ∙ ap (λ p. p / 64) (c.locate-at.ensures.value ∙ ap (select c.args.bit c.args.self.now) is)))
+    absurd (c.loop-number.invariant.apart c.if-number-r.true (same ∙ ap (λ p. p / 64) (rw is at c.locate-at.ensures.value)))
 
 pub returns-then-after-ne0-clause-second : goal.returns-then-after-ne0-clause-second
 returns-then-after-ne0-clause-second g c =

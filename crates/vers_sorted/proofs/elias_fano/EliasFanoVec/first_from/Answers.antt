@@ -4,13 +4,11 @@ use Rattle.vers_sorted.proofs.elias_fano.EliasFanoVec.first_from.Goals as goal
 
 pub returns-then-bucket-k-clause-value : goal.returns-then-bucket-k-clause-value
 returns-then-bucket-k-clause-value g c =
-    let packed = rw c.self.view_is at c.self.invariant in
-    let end = below_end c.args.self.now c.args.v c.args.bucket.end packed.ascending c.requires.from c.requires.bucket.end in
+    let end = below_end c.args.self.now c.args.v c.args.bucket.end c.len.ensures.ascending c.requires.from c.requires.bucket.end in
     let same : c.args.bucket.end ≡ c.args.k = omega (arith, end, c.requires.below) in
     c.member_past.ensures.value ∙ ap (slice_index c.args.self.now) same
 
 pub with_low_part-requires-clause-high : goal.with_low_part-requires-clause-high
 with_low_part-requires-clause-high g c =
-    let packed = rw c.self.view_is at c.self.invariant in
-    let start = start_below c.args.self.now c.args.v c.args.bucket.start packed.ascending c.requires.from c.requires.bucket.start in
+    let start = start_below c.args.self.now c.args.v c.args.bucket.start c.len.ensures.ascending c.requires.from c.requires.bucket.start in
     in_bucket c.args.k c.requires.bucket (omega (arith, start, c.requires.below)) (omega arith) c.requires.more

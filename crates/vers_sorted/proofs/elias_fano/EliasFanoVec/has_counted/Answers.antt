@@ -3,26 +3,22 @@ use Rattle.vers_sorted.proofs.Buckets.{start_below, in_bucket}
 use Rattle.vers_sorted.proofs.Members.{found_at, none_past, none_above, all_less}
 use Rattle.vers_sorted.proofs.elias_fano.EliasFanoVec.has_counted.Goals as goal
 
-pub returns-then-v-self-clause-value : goal.returns-then-v-self-clause-value
-returns-then-v-self-clause-value g c =
-    let packed = rw c.self.view_is at c.self.invariant in
-    sym (none_above c.args.self.now c.args.v packed.ascending (omega (arith, packed.first_is)))
+pub returns-then-v-first-clause-value : goal.returns-then-v-first-clause-value
+returns-then-v-first-clause-value g c =
+    sym (none_above c.args.self.now c.args.v c.len.ensures.ascending (omega arith))
 
-pub returns-then-v-self-2-clause-value : goal.returns-then-v-self-2-clause-value
-returns-then-v-self-2-clause-value g c =
-    let packed = rw c.self.view_is at c.self.invariant in
-    sym (all_less c.args.self.now c.args.v packed.ascending (omega (arith, packed.last_is)))
+pub returns-then-v-last-clause-value : goal.returns-then-v-last-clause-value
+returns-then-v-last-clause-value g c =
+    sym (all_less c.args.self.now c.args.v c.len.ensures.ascending (omega arith))
 
 pub returns-then-k-bucket-clause-value : goal.returns-then-k-bucket-clause-value
 returns-then-k-bucket-clause-value g c =
-    let packed = rw c.self.view_is at c.self.invariant in
-    sym (none_past c.args.self.now c.args.v c.below_in-k.result c.bucket_of-bucket.result packed.ascending c.below_in-k.ensures.value c.bucket_of-bucket.ensures.bucket (omega arith))
+    sym (none_past c.args.self.now c.args.v c.below_in-k.result c.bucket_of-bucket.result c.len.ensures.ascending c.below_in-k.ensures.value c.bucket_of-bucket.ensures.bucket (omega arith))
 
 pub with_low_part-requires-clause-high : goal.with_low_part-requires-clause-high
 with_low_part-requires-clause-high g c =
-    let packed = rw c.self.view_is at c.self.invariant in
     let bucket = c.bucket_of-bucket.ensures.bucket in
-    let start = start_below c.args.self.now c.args.v c.bucket_of-bucket.result.start packed.ascending (omega (arith, packed.first_is)) bucket.start in
+    let start = start_below c.args.self.now c.args.v c.bucket_of-bucket.result.start c.len.ensures.ascending (omega arith) bucket.start in
     in_bucket c.below_in-k.result bucket (omega (arith, start, c.below_in-k.ensures.value)) (omega arith) (omega (arith, bucket.end.within))
 
 pub with_low_part-requires-clause-within : goal.with_low_part-requires-clause-within
@@ -30,5 +26,4 @@ with_low_part-requires-clause-within g c = omega (arith, c.bucket_of-bucket.ensu
 
 pub returns-clause-value : goal.returns-clause-value
 returns-clause-value g c =
-    let packed = rw c.self.view_is at c.self.invariant in
-    rw c.with_low_part.ensures.value (found_at c.args.self.now c.args.v c.below_in-k.result packed.ascending c.below_in-k.ensures.value (omega (arith, c.bucket_of-bucket.ensures.bucket.end.within)))
+    rw c.with_low_part.ensures.value (found_at c.args.self.now c.args.v c.below_in-k.result c.len.ensures.ascending c.below_in-k.ensures.value (omega (arith, c.bucket_of-bucket.ensures.bucket.end.within)))

@@ -10,12 +10,12 @@ below_from-k-requires-clause-part g c =
 pub last_below-requires-clause-some : goal.last_below-requires-clause-some
 last_below-requires-clause-some g c =
     let inside = c.if-not-is_inside_after.ensures.inside refl in
-    omega (arith, c.below_from-k.ensures.value, some_below c.args.self.now (c.args.v + 1) (rw c.self.view_is at c.self.invariant).ascending inside.some inside.from)
+    omega (arith, c.below_from-k.ensures.value, some_below c.args.self.now (c.args.v + 1) c.len.ensures.ascending inside.some inside.from)
 
 pub returns-clause-value : goal.returns-clause-value
 returns-clause-value g c =
     let inside = c.if-not-is_inside_after.ensures.inside refl in
-    rw c.last_below.ensures.value (sym (pred_at c.args.self.now c.args.v c.below_from-k.result (rw c.self.view_is at c.self.invariant).ascending c.below_from-k.ensures.value (omega (arith, c.below_from-k.ensures.value, some_below c.args.self.now (c.args.v + 1) (rw c.self.view_is at c.self.invariant).ascending inside.some inside.from))))
+    rw c.last_below.ensures.value (sym (pred_at c.args.self.now c.args.v c.below_from-k.result c.len.ensures.ascending c.below_from-k.ensures.value (omega (arith, c.below_from-k.ensures.value, some_below c.args.self.now (c.args.v + 1) c.len.ensures.ascending inside.some inside.from))))
 
 pub returns-clause-adds : goal.returns-clause-adds
 returns-clause-adds g c = parts_then (digits (length c.args.self.now)) 2 (high_length c.args.self.now) c.below_from-k.ensures.adds c.last_below.ensures.adds

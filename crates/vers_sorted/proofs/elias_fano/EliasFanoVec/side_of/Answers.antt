@@ -4,12 +4,10 @@ use Rattle.vers_sorted.proofs.elias_fano.EliasFanoVec.side_of.Goals as goal
 
 pub returns-then-part-low : goal.returns-then-part-low
 returns-then-part-low g c =
-    let packed = rw c.self.view_is at c.self.invariant in
     let bucket = c.requires.bucket in
-    grind (arith, step_up c.args.self.now c.args.v _ _ c.args.i packed.ascending c.requires.above bucket.start bucket.end)
+    grind (arith, step_up c.args.self.now c.args.v _ _ c.args.i c.len.ensures.ascending c.requires.above bucket.start bucket.end)
 
 pub returns : goal.returns
 returns g c =
-    let packed = rw c.self.view_is at c.self.invariant in
     let bucket = c.requires.bucket in
-    grind (arith, step_down c.args.self.now c.args.v _ _ c.args.i packed.ascending c.requires.above bucket.start bucket.end)
+    grind (arith, step_down c.args.self.now c.args.v _ _ c.args.i c.len.ensures.ascending c.requires.above bucket.start bucket.end)

@@ -10,12 +10,12 @@ below_from-k-requires-clause-part g c =
 pub first_from-requires-clause-more : goal.first_from-requires-clause-more
 first_from-requires-clause-more g c =
     let inside = c.if-not-is_inside.ensures.inside refl in
-    omega (arith, c.below_from-k.ensures.value, some_left c.args.self.now c.args.v (rw c.self.view_is at c.self.invariant).ascending inside.some inside.to)
+    omega (arith, c.below_from-k.ensures.value, some_left c.args.self.now c.args.v c.len.ensures.ascending inside.some inside.to)
 
 pub returns-clause-value : goal.returns-clause-value
 returns-clause-value g c =
     let inside = c.if-not-is_inside.ensures.inside refl in
-    rw c.first_from.ensures.value (sym (succ_at c.args.self.now c.args.v c.below_from-k.result (rw c.self.view_is at c.self.invariant).ascending c.below_from-k.ensures.value (omega (arith, c.below_from-k.ensures.value, some_left c.args.self.now c.args.v (rw c.self.view_is at c.self.invariant).ascending inside.some inside.to))))
+    rw c.first_from.ensures.value (sym (succ_at c.args.self.now c.args.v c.below_from-k.result c.len.ensures.ascending c.below_from-k.ensures.value (omega (arith, c.below_from-k.ensures.value, some_left c.args.self.now c.args.v c.len.ensures.ascending inside.some inside.to))))
 
 pub returns-clause-adds : goal.returns-clause-adds
 returns-clause-adds g c = parts_then (digits (length c.args.self.now)) 2 (high_length c.args.self.now) c.below_from-k.ensures.adds c.first_from.ensures.adds

@@ -40,7 +40,6 @@ fn leaves_of<A: Allocator + Copy>(
 }
 
 // Appends the nodes of the blocks of `size` bits to `first` others.
-#[tactic(auto, using(crate::proofs::layout::Widths::no_blocks, crate::proofs::layout::Widths::block_added))]
 fn push_blocks<A: Allocator + Copy>(
     nodes: &mut Vec<Node, A>,
     bits: &BitVec<A>,
@@ -55,8 +54,9 @@ fn push_blocks<A: Allocator + Copy>(
     let len = bits.len();
     let leaves = len.div_ceil(size);
     for block in 0..leaves {
-        let end = (block * size + size).min(len);
-        nodes.push(node_of(bits, block * size, end))?;
+        let start = block * size;
+        let end = (start + size).min(len);
+        nodes.push(node_of(bits, start, end))?;
     }
     Ok(())
 }

@@ -1,4 +1,4 @@
-use Rattle.std.proofs.Common.{length, ap, ◌∙◌, arith}
+use Rattle.vers_wavelet.proofs.Names.{length, ap, ◌∙◌, arith}
 use Rattle.vers_wavelet.proofs.Makes.{length-levels_of, are_levels, symbols_made}
 use Rattle.vers_wavelet.proofs.wavelet.WaveletMatrix.counted.Goals as goal
 

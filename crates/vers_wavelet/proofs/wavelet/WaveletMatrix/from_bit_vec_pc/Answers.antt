@@ -1,9 +1,4 @@
-use Rattle.std.proofs.Common.{arith, ◌≡◌, ◌*◌, ◌/◌, ◌%◌, ◌^◌, ◌∙◌, length, map}
-use Rattle.std.specs.List.{range_with_len}
-use Rattle.std.proofs.lemmas.Result.{IfOk-weaker}
-use Rattle.vers_bits.specs.Bits.{number, part}
-use Rattle.vers_wavelet.specs.Symbols.{Symbols}
-use Rattle.vers_wavelet.specs.Makers.{packed_symbols}
+use Rattle.vers_wavelet.proofs.Names.{arith, ◌≡◌, ◌*◌, ◌/◌, ◌%◌, ◌^◌, ◌∙◌, length, map, range_with_len, IfOk-weaker, number, part, Symbols, packed_symbols}
 use Rattle.vers_wavelet.proofs.Makes.{packed_made, too_wide}
 use Rattle.vers_wavelet.proofs.wavelet.WaveletMatrix.from_bit_vec_pc.Goals as goal
 

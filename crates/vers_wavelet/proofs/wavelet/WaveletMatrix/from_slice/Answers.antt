@@ -1,7 +1,4 @@
-use Rattle.std.proofs.Common.{◌≡◌, ◌%◌, ◌^◌, ◌∙◌, map}
-use Rattle.std.proofs.lemmas.Result.{IfOk-weaker}
-use Rattle.vers_wavelet.specs.Symbols.{Symbols}
-use Rattle.vers_wavelet.specs.Makers.{low_symbols}
+use Rattle.vers_wavelet.proofs.Names.{◌≡◌, ◌%◌, ◌^◌, ◌∙◌, map, IfOk-weaker, Symbols, low_symbols}
 use Rattle.vers_wavelet.proofs.Makes.{low_made}
 use Rattle.vers_wavelet.proofs.wavelet.WaveletMatrix.from_slice.Goals as goal
 

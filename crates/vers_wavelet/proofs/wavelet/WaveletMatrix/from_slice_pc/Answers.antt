@@ -1,7 +1,4 @@
-use Rattle.std.proofs.Common.{arith, ◌≡◌, ◌%◌, ◌^◌, ◌∙◌, map}
-use Rattle.std.proofs.lemmas.Result.{IfOk-weaker}
-use Rattle.vers_wavelet.specs.Symbols.{Symbols}
-use Rattle.vers_wavelet.specs.Makers.{low_symbols}
+use Rattle.vers_wavelet.proofs.Names.{arith, ◌≡◌, ◌%◌, ◌^◌, ◌∙◌, map, IfOk-weaker, Symbols, low_symbols}
 use Rattle.vers_wavelet.proofs.Makes.{low_made, too_wide}
 use Rattle.vers_wavelet.proofs.wavelet.WaveletMatrix.from_slice_pc.Goals as goal
 

@@ -1,11 +1,12 @@
-use Rattle.std.proofs.Common.{arith, ◌≤◌}
-use Rattle.vers_wavelet.specs.Levels.{AreLevels}
 use Rattle.vers_wavelet.proofs.Gathered.{gathered_is}
-use Rattle.vers_wavelet.proofs.Lists.{length-values}
 use Rattle.vers_wavelet.proofs.wavelet.WaveletMatrix.gathered_from.Goals as goal
+
+pub descend-requires-clause-levels : goal.descend-requires-clause-levels
+descend-requires-clause-levels g c = rw c.len.ensures.value c.levels.ensures.levels
 
 pub returns-clause-value : goal.returns-clause-value
 returns-clause-value g c =
-    let levels : AreLevels c.deref.result.now c.self.inside.len = rw (c.deref.ensures.value) c.self.invariant in
-    let within : c.args.place ≤ c.self.inside.len = omega (arith, rw (← c.self.view_is) at c.requires.within, length-values c.self.inside.levels.items c.self.inside.len) in
-    rw (← c.self.view_is, ← c.deref.ensures.value) (gathered_is levels c.args.symbol c.args.place c.descend.result within c.descend.ensures.value)
+    rw (c.levels.ensures.wide, c.levels.ensures.items) at (gathered_is c.levels.ensures.levels c.args.symbol c.args.place c.descend.result c.requires.within c.descend.ensures.value)
+
+pub returns-clause-adds : goal.returns-clause-adds
+returns-clause-adds g c = rw (← c.levels.ensures.wide) c.descend.ensures.adds

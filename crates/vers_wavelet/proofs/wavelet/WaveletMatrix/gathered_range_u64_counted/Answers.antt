@@ -1,6 +1,4 @@
-use Rattle.std.proofs.Common.{arith}
-use Rattle.std.proofs.lemmas.Bool.{false≢true}
-use Rattle.vers_wavelet.specs.Numbers.{low_bits_of}
+use Rattle.vers_wavelet.proofs.Names.{arith, false≢true, low_bits_of}
 use Rattle.vers_wavelet.proofs.Gathered.{no_places}
 use Rattle.vers_wavelet.proofs.Members.{both_ways}
 use Rattle.vers_wavelet.proofs.wavelet.WaveletMatrix.gathered_range_u64_counted.Goals as goal

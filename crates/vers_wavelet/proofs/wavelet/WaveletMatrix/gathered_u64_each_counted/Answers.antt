@@ -1,8 +1,15 @@
-use Rattle.std.proofs.Common.{◌∙◌}
+use Rattle.vers_wavelet.proofs.Names.{length, ◌∙◌}
 use Rattle.vers_wavelet.proofs.Batches.{become_map}
 use Rattle.vers_wavelet.proofs.Answering.{select_ends}
+use Rattle.vers_wavelet.proofs.Walks.{adds_each}
 use Rattle.vers_wavelet.proofs.wavelet.WaveletMatrix.gathered_u64_each_counted.Goals as goal
 
 pub returns-clause-value : goal.returns-clause-value
 returns-clause-value g c =
-    rw (← c.self.view_is, ← c.deref.ensures.value) (become_map _ _ _ _ c.ask_each.ensures.each (λ q r t. select_ends r.answer r.symbol ∙ t.2))
+    rw (← c.levels.ensures.wide, ← c.levels.ensures.items, ← c.len.ensures.value) (become_map _ _ _ _ c.ask_each.ensures.each (λ q r t. select_ends r.answer r.symbol ∙ t.2))
+
+pub ask_each-requires : goal.ask_each-requires
+ask_each-requires g c = rw c.len.ensures.value c.levels.ensures.levels
+
+pub returns-clause-adds : goal.returns-clause-adds
+returns-clause-adds g c = rw (← c.levels.ensures.wide) (adds_each (length c.levels.result.now) (length c.args.queries.now) c.ask_each.ensures.adds)

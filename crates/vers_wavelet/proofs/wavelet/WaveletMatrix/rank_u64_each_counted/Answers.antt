@@ -1,4 +1,4 @@
-use Rattle.std.proofs.Common.{length, ◌∙◌}
+use Rattle.vers_wavelet.proofs.Names.{length, ◌∙◌}
 use Rattle.vers_wavelet.proofs.Batches.{become_map}
 use Rattle.vers_wavelet.proofs.Answering.{rank_ends}
 use Rattle.vers_wavelet.proofs.Walks.{adds_each}
@@ -6,11 +6,11 @@ use Rattle.vers_wavelet.proofs.wavelet.WaveletMatrix.rank_u64_each_counted.Goals
 
 pub returns-clause-value : goal.returns-clause-value
 returns-clause-value g c =
-    rw (← c.self.view_is, ← c.deref.ensures.value)
+    rw (← c.levels.ensures.wide, ← c.levels.ensures.items, ← c.len.ensures.value)
     (become_map _ _ _ _ c.ask_each.ensures.each (λ q r t. rank_ends r.answer _ r.symbol r.end t.1 ∙ t.2))
 
 pub ask_each-requires : goal.ask_each-requires
-ask_each-requires g c = rw (c.deref.ensures.value) c.self.invariant
+ask_each-requires g c = rw c.len.ensures.value c.levels.ensures.levels
 
 pub returns-clause-adds : goal.returns-clause-adds
-returns-clause-adds g c = rw (← c.self.view_is, ← c.deref.ensures.value) (adds_each (length c.deref.result.now) (length c.args.queries.now) c.ask_each.ensures.adds)
+returns-clause-adds g c = rw (← c.levels.ensures.wide) (adds_each (length c.levels.result.now) (length c.args.queries.now) c.ask_each.ensures.adds)

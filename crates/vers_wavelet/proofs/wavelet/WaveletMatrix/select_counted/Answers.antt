@@ -1,7 +1,4 @@
-use Rattle.std.proofs.Common.{arith, ◌≡◌, length, ap, ◌∙◌}
-use Rattle.std.specs.Prelude.{slice_get}
-use Rattle.vers_bits.specs.Bits.{number}
-use Rattle.vers_wavelet.specs.Symbols.{occurrences}
+use Rattle.vers_wavelet.proofs.Names.{arith, ◌≡◌, length, ap, ◌∙◌, slice_get, number, occurrences}
 use Rattle.vers_wavelet.proofs.Digits.{whole_symbol}
 use Rattle.vers_wavelet.proofs.Lists.{get_decides}
 use Rattle.vers_wavelet.proofs.wavelet.WaveletMatrix.select_counted.Goals as goal

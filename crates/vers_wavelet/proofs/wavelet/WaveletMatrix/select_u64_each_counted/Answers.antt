@@ -1,8 +1,4 @@
-use Rattle.std.proofs.Common.{◌≡◌, ◌%◌, ◌^◌, ℕ, Bool, List, leb, length, ap, refl, sym, Some, None, ◌∙◌}
-use Rattle.std.specs.Prelude.{slice_get, if◌then◌else◌}
-use Rattle.vers_wavelet.specs.Levels.{values, way, AreLevels}
-use Rattle.vers_wavelet.specs.Symbols.{occurrences}
-use Rattle.vers_wavelet.proofs.Lists.{length-values}
+use Rattle.vers_wavelet.proofs.Names.{◌≡◌, ◌%◌, ◌^◌, ℕ, Bool, List, leb, length, ap, refl, sym, Some, None, ◌∙◌, slice_get, if◌then◌else◌, values, way, AreLevels, occurrences}
 use Rattle.vers_wavelet.proofs.Batches.{become_map, become_then, become_all}
 use Rattle.vers_wavelet.proofs.Answering.{of_words, of_wide, select_ends, select_answers}
 use Rattle.vers_wavelet.proofs.Walks.{adds_each_down, adds_each_back}
@@ -10,38 +6,35 @@ use Rattle.vers_wavelet.proofs.wavelet.WaveletMatrix.select_u64_each_counted.Goa
 
 pub climb_each-requires-clause-begun : goal.climb_each-requires-clause-begun
 climb_each-requires-clause-begun g c =
-    let ls : List (List Bool) = c.as_slice-levels.result.now in
+    let ls : List (List Bool) = c.levels-levels.result.now in
     become_all c.ask_each.ensures.each (λ q r t.
     select_ends r.answer r.symbol ∙ t.2 ∙ sym (of_words (length ls) _ _ c.if-levels-gt64.false refl) ∙ ap (λ s. Some (way ls s 0)) (sym (ap (λ p. p.1) t.0)))
 
 pub returns-then-levels-gt64-clause-value : goal.returns-then-levels-gt64-clause-value
 returns-then-levels-gt64-clause-value g c =
-    rw (← c.self.view_is, length-values c.self.inside.levels.items c.self.inside.len, ← c.as_slice-levels.ensures.value)
+    rw (← c.levels-levels.ensures.wide, ← c.len-len.ensures.value, ← c.levels-levels.ensures.items, ← c.len-len.ensures.value)
     (become_map _ _ _ _ c.ask_each.ensures.each (λ q r t.
-    select_ends r.answer r.symbol ∙ t.2 ∙ sym (of_wide (length c.as_slice-levels.result.now) _ c.if-levels-gt64.true) ∙ of_wide (length c.as_slice-levels.result.now) _ c.if-levels-gt64.true))
+    select_ends r.answer r.symbol ∙ t.2 ∙ sym (of_wide (length c.levels-levels.result.now) _ c.if-levels-gt64.true) ∙ of_wide (length c.levels-levels.result.now) _ c.if-levels-gt64.true))
 
 pub returns-clause-value : goal.returns-clause-value
 returns-clause-value g c =
-    let ls : List (List Bool) = c.as_slice-levels.result.now in
-    let n : ℕ = c.self.inside.len in
-    let levels : AreLevels ls n = rw (c.as_slice-levels.ensures.value) c.self.invariant in
-    rw (← c.self.view_is, length-values c.self.inside.levels.items n, ← c.as_slice-levels.ensures.value)
+    let ls : List (List Bool) = c.levels-levels.result.now in
+    let n : ℕ = c.len-len.result in
+    let levels : AreLevels ls n = rw c.len-len.ensures.value c.levels-levels.ensures.levels in
+    rw (← c.levels-levels.ensures.wide, ← c.len-len.ensures.value, ← c.levels-levels.ensures.items, ← c.len-len.ensures.value)
     (become_map _ _ _ _ (become_then {T = λ q s. s.answer ≡ (if leb (length ls) 64 then slice_get (occurrences (values ls n) 0 n (q.symbol % 2 ^ length ls)) q.rank else None)}
     c.ask_each.ensures.each c.climb_each.ensures.each
     (λ q r s t u. select_answers levels c.if-levels-gt64.false q.rank q.symbol s.rank s.symbol s.answer u.2 (u.0 ∙ ap (λ p. p.0) t.0) (u.1 ∙ ap (λ p. p.1) t.0))) (λ q s e. e))
 
 pub ask_each-requires : goal.ask_each-requires
-ask_each-requires g c = rw (c.as_slice-levels.ensures.value) c.self.invariant
+ask_each-requires g c = rw c.len-len.ensures.value c.levels-levels.ensures.levels
 
 pub climb_each-requires-clause-levels : goal.climb_each-requires-clause-levels
-climb_each-requires-clause-levels g c = rw (c.as_slice-levels.ensures.value) c.self.invariant
-
-pub climb_each-requires-clause-few : goal.climb_each-requires-clause-few
-climb_each-requires-clause-few g c = c.if-levels-gt64.false
+climb_each-requires-clause-levels g c = rw c.len-len.ensures.value c.levels-levels.ensures.levels
 
 pub returns-then-levels-gt64-clause-adds : goal.returns-then-levels-gt64-clause-adds
-returns-then-levels-gt64-clause-adds g c = rw (← c.self.view_is, ← c.as_slice-levels.ensures.value) (adds_each_down (length c.as_slice-levels.result.now) (length c.args.queries.now) _ c.ask_each.ensures.adds)
+returns-then-levels-gt64-clause-adds g c = rw (← c.levels-levels.ensures.wide) (adds_each_down (length c.levels-levels.result.now) (length c.args.queries.now) _ c.ask_each.ensures.adds)
 
 pub returns-clause-adds : goal.returns-clause-adds
-returns-clause-adds g c = rw (← c.self.view_is, length-values c.self.inside.levels.items c.self.inside.len, ← c.as_slice-levels.ensures.value)
-    (adds_each_back (length c.as_slice-levels.result.now) (length c.args.queries.now) _ _ c.ask_each.ensures.each.long c.ask_each.ensures.adds c.climb_each.ensures.adds)
+returns-clause-adds g c = rw (← c.levels-levels.ensures.wide, ← c.len-len.ensures.value)
+    (adds_each_back (length c.levels-levels.result.now) (length c.args.queries.now) _ _ c.ask_each.ensures.each.long c.ask_each.ensures.adds c.climb_each.ensures.adds)

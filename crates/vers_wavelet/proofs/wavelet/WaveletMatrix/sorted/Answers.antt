@@ -1,4 +1,4 @@
-use Rattle.std.proofs.Common.{length, ap, ◌∙◌}
+use Rattle.vers_wavelet.proofs.Names.{length, ap, ◌∙◌}
 use Rattle.vers_wavelet.proofs.Makes.{length-levels_of, are_levels, symbols_made}
 use Rattle.vers_wavelet.proofs.wavelet.WaveletMatrix.sorted.Goals as goal
 

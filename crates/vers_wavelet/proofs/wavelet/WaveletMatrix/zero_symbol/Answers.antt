@@ -1,7 +1,4 @@
-use Rattle.std.proofs.Common.{◌≡◌, Result, Ok, Err, subst, sym, ◌∙◌}
-use Rattle.std.specs.Prelude.{length, IfOk, IsErrAnd, MatchResult}
-use Rattle.std.proofs.lemmas.List.{length-replicate}
-use Rattle.vers_bits.specs.Bits.{number}
+use Rattle.vers_wavelet.proofs.Names.{◌≡◌, Result, Ok, Err, subst, sym, ◌∙◌, length, IfOk, IsErrAnd, MatchResult, length-replicate, number}
 use Rattle.vers_wavelet.proofs.Digits.{number-zeros}
 use Rattle.vers_wavelet.proofs.wavelet.WaveletMatrix.zero_symbol.Goals as goal
 

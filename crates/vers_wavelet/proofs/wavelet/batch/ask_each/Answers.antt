@@ -1,9 +1,7 @@
-use Rattle.std.proofs.Common.{rules, ◌≡◌, ◌+◌, ◌-◌, ℕ, Bool, List, [], ◌∷◌, arith, length, drop, ap, sym, ◌∙◌, refl, subst}
-use Rattle.std.proofs.lemmas.List.{drop_all}
-use Rattle.vers_tally.specs.Reads.{AddsAtMost, times}
-use Rattle.vers_rank.specs.Queries.{rank_reads}
+use Rattle.vers_wavelet.proofs.Names.{◌≡◌, ◌+◌, ◌-◌, ℕ, Bool, List, [], ◌∷◌, arith, length, drop, ap, sym, ◌∙◌, refl, subst, drop_all, AddsAtMost, times, rank_reads}
 use Rattle.vers_wavelet.proofs.Steps.{level_at, levels_left}
 use Rattle.vers_wavelet.proofs.Batches.{become_weaker, become_then, become_all, adds_once_more}
+use Rattle.vers_wavelet.proofs.Walks.{adds_no_times}
 use Rattle.vers_wavelet.proofs.wavelet.batch.ask_each.Goals as goal
 
 pub loop-k-init : goal.loop-k-init
@@ -11,7 +9,7 @@ loop-k-init g c =
     let none : length c.args.levels.now ≡ length c.args.levels.now - 0 = omega arith in
     record {
       asked = become_weaker c.begin_each.ensures (λ q r t. (t.0, subst (λ (n : ℕ). g.Q.Query.keeps c.args.len n r) none t.1, t.2 c.args.levels.now c.requires refl));
-      adds = search rules;
+      adds = adds_no_times _ 0 (times (length c.args.queries.now) (times 2 rank_reads));
     }
 
 pub step_each-requires : goal.step_each-requires

@@ -1,7 +1,4 @@
-use Rattle.std.proofs.Common.{◌≡◌, ◌-◌, drop, length}
-use Rattle.vers_tally.specs.Reads.{AddsAtMost, times}
-use Rattle.vers_rank.specs.Queries.{rank_reads}
-use Rattle.vers_wavelet.specs.Batches.{Become}
+use Rattle.vers_wavelet.proofs.Names.{◌≡◌, ◌-◌, drop, length, AddsAtMost, times, rank_reads, Become}
 use Rattle.vers_wavelet.proofs.wavelet.batch.ask_each.Given as goal
 
 abbrev pub invariant-loop-k : goal.invariant-loop-k

@@ -1,4 +1,4 @@
-use Rattle.std.proofs.Common.{arith}
+use Rattle.vers_wavelet.proofs.Names.{arith}
 use Rattle.vers_wavelet.proofs.Batches.{changed_none, changed_more, changed_all}
 use Rattle.vers_wavelet.proofs.wavelet.batch.begin_each.Goals as goal
 

@@ -1,6 +1,4 @@
-use Rattle.std.proofs.Common.{◌≡◌, List, ◌∷◌, Bool, length}
-use Rattle.vers_tally.specs.Reads.{AddsAtMost, times}
-use Rattle.vers_rank.specs.Queries.{rank_reads}
+use Rattle.vers_wavelet.proofs.Names.{◌≡◌, List, ◌∷◌, Bool, length, AddsAtMost, times, rank_reads}
 use Rattle.vers_wavelet.specs.Batches.{Changed}
 use Rattle.vers_wavelet.proofs.wavelet.batch.step_each.Given as goal
 

@@ -1,5 +1,4 @@
-use Rattle.std.proofs.Common.{◌≡◌, ◌+◌, ◌-◌, ◌%◌, ◌^◌}
-use Rattle.vers_wavelet.specs.Levels.{HasRoom}
+use Rattle.vers_wavelet.proofs.Names.{◌≡◌, ◌+◌, ◌-◌, ◌%◌, ◌^◌, HasRoom}
 use Rattle.vers_wavelet.proofs.wavelet.digits.copy_digits.Given as goal
 
 abbrev pub invariant-loop-i : goal.invariant-loop-i

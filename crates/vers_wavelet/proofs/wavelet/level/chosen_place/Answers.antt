@@ -1,5 +1,4 @@
-use Rattle.std.proofs.Common.{◌≡◌, ◌+◌, ◌-◌, arith, true, false, ap, sym, ◌∙◌}
-use Rattle.vers_wavelet.specs.Levels.{next}
+use Rattle.vers_wavelet.proofs.Names.{◌≡◌, ◌+◌, ◌-◌, arith, true, false, ap, sym, ◌∙◌, next}
 use Rattle.vers_wavelet.proofs.Values.{next_other, next-le, next_near, next_none}
 use Rattle.vers_wavelet.proofs.wavelet.level.chosen_place.Goals as goal
 

@@ -1,4 +1,4 @@
-use Rattle.std.proofs.Common.{false, arith}
+use Rattle.vers_wavelet.proofs.Names.{false, arith}
 use Rattle.vers_wavelet.proofs.Values.{next_near}
 use Rattle.vers_wavelet.proofs.wavelet.level.part_of_bit.Goals as goal
 

@@ -1,4 +1,4 @@
-use Rattle.std.proofs.Common.{◌+◌, true, false, sym, ap, arith, ◌∙◌}
+use Rattle.vers_wavelet.proofs.Names.{◌+◌, true, false, sym, ap, arith, ◌∙◌}
 use Rattle.vers_wavelet.proofs.Values.{next_single}
 use Rattle.vers_wavelet.proofs.wavelet.level.zeros_before_both.Goals as goal
 

@@ -1,7 +1,4 @@
-use Rattle.std.proofs.Common.{◌≡◌, ◌+◌, ◌-◌, ◌*◌, ◌^◌, ◌<◌, ℕ, arith, length, ap, refl, sym, true≢false, ◌∙◌, Some}
-use Rattle.vers_bits.specs.Bits.{bit_value}
-use Rattle.vers_rank.specs.Queries.{rank_reads}
-use Rattle.vers_rank.proofs.PublicLaws.{adds_times}
+use Rattle.vers_wavelet.proofs.Names.{◌≡◌, ◌+◌, ◌-◌, ◌*◌, ◌^◌, ◌<◌, ℕ, arith, length, ap, refl, sym, true≢false, ◌∙◌, Some, bit_value, rank_reads, adds_times}
 use Rattle.vers_wavelet.proofs.Trails.{found_same, found_none, found_beside}
 use Rattle.vers_wavelet.proofs.Walks.{adds_fewer}
 use Rattle.vers_wavelet.proofs.wavelet.nearest.find_nearest.Goals as goal

@@ -1,4 +1,4 @@
-use Rattle.std.proofs.Common.{◌*◌, arith, length}
+use Rattle.vers_wavelet.proofs.Names.{◌*◌, arith, length}
 use Rattle.vers_wavelet.proofs.Steps.{narrowed_all, narrowed_kept}
 use Rattle.vers_wavelet.proofs.Trails.{follows_none}
 use Rattle.vers_wavelet.proofs.Walks.{adds_none, adds_fewer, adds_level, narrowed_ended}

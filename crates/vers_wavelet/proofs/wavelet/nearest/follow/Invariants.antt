@@ -1,7 +1,4 @@
-use Rattle.std.proofs.Common.{◌*◌}
-use Rattle.vers_tally.specs.Reads.{AddsAtMost, times}
-use Rattle.vers_rank.specs.Queries.{rank_reads}
-use Rattle.vers_wavelet.specs.Nearest.{Follows}
+use Rattle.vers_wavelet.proofs.Names.{◌*◌, AddsAtMost, times, rank_reads, Follows}
 use Rattle.vers_wavelet.proofs.wavelet.nearest.follow.Given as goal
 
 abbrev pub invariant-loop-k : goal.invariant-loop-k

@@ -1,4 +1,4 @@
-use Rattle.std.proofs.Common.{◌≡◌, ◌+◌, ℕ, arith, length, ap, sym, ◌∙◌, refl}
+use Rattle.vers_wavelet.proofs.Names.{◌≡◌, ◌+◌, ℕ, arith, length, ap, sym, ◌∙◌, refl}
 use Rattle.vers_wavelet.specs.declared.wavelet.nearest.Trail.{Trail}
 use Rattle.vers_wavelet.proofs.Values.{next-up}
 use Rattle.vers_wavelet.proofs.Trails.{same_bits, other_bits, follows_more, leaves_kept, leaves_new}

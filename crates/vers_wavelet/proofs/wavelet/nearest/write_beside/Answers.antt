@@ -1,7 +1,4 @@
-use Rattle.std.proofs.Common.{◌≡◌, ◌+◌, ◌-◌, ◌*◌, ◌^◌, ℕ, List, Bool, arith, length, drop, sym, subst}
-use Rattle.std.proofs.lemmas.List.{length-drop}
-use Rattle.vers_bits.specs.Bits.{bit_value}
-use Rattle.vers_wavelet.specs.Levels.{KthOf}
+use Rattle.vers_wavelet.proofs.Names.{◌≡◌, ◌+◌, ◌-◌, ◌*◌, ◌^◌, ℕ, List, Bool, arith, length, drop, sym, subst, length-drop, bit_value, KthOf}
 use Rattle.vers_wavelet.proofs.Digits.{room_more}
 use Rattle.vers_wavelet.proofs.Steps.{even_drop, levels_from}
 use Rattle.vers_wavelet.proofs.wavelet.nearest.write_beside.Goals as goal

@@ -1,8 +1,4 @@
-use Rattle.std.proofs.Common.{◌≡◌, ◌+◌, ◌-◌, ℕ, arith, length, min, ap, ◌∙◌}
-use Rattle.std.specs.List.{range_with_len, sum_by}
-use Rattle.vers_rank.specs.Queries.{index_size}
-use Rattle.vers_wavelet.specs.Symbols.{digit_list}
-use Rattle.vers_wavelet.specs.Levels.{values}
+use Rattle.vers_wavelet.proofs.Names.{◌≡◌, ◌+◌, ◌-◌, ℕ, arith, length, min, ap, ◌∙◌, range_with_len, sum_by, index_size, digit_list, values}
 use Rattle.vers_wavelet.proofs.Sizes.{size_of_level, sum_more}
 use Rattle.vers_wavelet.proofs.wavelet.sizes.size_of_levels.Goals as goal
 

@@ -1,8 +1,4 @@
-use Rattle.std.proofs.Common.{◌≡◌, min}
-use Rattle.std.specs.List.{range_with_len, sum_by}
-use Rattle.vers_rank.specs.Queries.{index_size}
-use Rattle.vers_wavelet.specs.Symbols.{digit_list}
-use Rattle.vers_wavelet.specs.Levels.{values}
+use Rattle.vers_wavelet.proofs.Names.{◌≡◌, min, range_with_len, sum_by, index_size, digit_list, values}
 use Rattle.vers_wavelet.proofs.wavelet.sizes.size_of_levels.Given as goal
 
 abbrev pub invariant-loop-i : goal.invariant-loop-i

@@ -1,7 +1,4 @@
-use Rattle.std.proofs.Common.{◌≡◌, ◌≤◌, drop}
-use Rattle.vers_tally.specs.Reads.{AddsAtMost, times}
-use Rattle.vers_rank.specs.Queries.{rank_reads}
-use Rattle.vers_wavelet.specs.Levels.{way}
+use Rattle.vers_wavelet.proofs.Names.{◌≡◌, ◌≤◌, drop, AddsAtMost, times, rank_reads, way}
 use Rattle.vers_wavelet.proofs.wavelet.walk.descend.Given as goal
 
 abbrev pub invariant-loop-k : goal.invariant-loop-k

@@ -1,7 +1,5 @@
-use Rattle.std.proofs.Common.{◌∙◌, map, ap, true, false}
-use Rattle.std.proofs.lemmas.Simd.{map-map}
-use Rattle.vers_bits.specs.Bits.{select}
-use Rattle.vers_c.specs.Answers.{found}
+use Rattle.vers_c.proofs.Names.{map, true, false, map-map, select, found}
+use Rattle.std.proofs.Common.{◌∙◌, ap}
 use Rattle.vers_c.proofs.batch.bits.SelectsBatchRsVecGlobalUsize.ask_all.Goals as goal
 
 pub returns-then-self : goal.returns-then-self

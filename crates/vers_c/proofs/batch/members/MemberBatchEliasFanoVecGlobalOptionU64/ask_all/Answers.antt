@@ -1,8 +1,5 @@
-use Rattle.std.proofs.Common.{◌∙◌, map, ap, slice_get}
-use Rattle.std.specs.Prelude.{option_and_then}
-use Rattle.std.proofs.lemmas.Simd.{map-map}
-use Rattle.vers_sorted.specs.Sorted.{greatest_not_above, least_not_below}
-use Rattle.vers_c.specs.Answers.{found_or_absent}
+use Rattle.vers_c.proofs.Names.{map, slice_get, option_and_then, map-map, greatest_not_above, least_not_below, found_or_absent}
+use Rattle.std.proofs.Common.{◌∙◌, ap}
 use Rattle.vers_c.proofs.batch.members.MemberBatchEliasFanoVecGlobalOptionU64.ask_all.Goals as goal
 
 pub returns-in-At : goal.returns-in-At

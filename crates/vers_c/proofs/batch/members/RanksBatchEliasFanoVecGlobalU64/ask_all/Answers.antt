@@ -1,7 +1,5 @@
-use Rattle.std.proofs.Common.{◌∙◌, map, ap}
-use Rattle.std.proofs.lemmas.Simd.{map-map}
-use Rattle.vers_sorted.specs.Sorted.{below}
-use Rattle.vers_c.specs.Answers.{found}
+use Rattle.vers_c.proofs.Names.{map, map-map, below, found}
+use Rattle.std.proofs.Common.{◌∙◌, ap}
 use Rattle.vers_c.proofs.batch.members.RanksBatchEliasFanoVecGlobalU64.ask_all.Goals as goal
 
 pub returns : goal.returns

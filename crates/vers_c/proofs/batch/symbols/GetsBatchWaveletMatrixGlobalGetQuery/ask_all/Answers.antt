@@ -1,4 +1,5 @@
-use Rattle.std.proofs.Common.{refl, slice_get}
+use Rattle.vers_c.proofs.Names.{slice_get}
+use Rattle.std.proofs.Common.{refl}
 use Rattle.vers_c.proofs.SymbolAnswers.{many_answers}
 use Rattle.vers_c.proofs.batch.symbols.GetsBatchWaveletMatrixGlobalGetQuery.ask_all.Goals as goal
 

@@ -1,4 +1,4 @@
-use Rattle.vers_wavelet.specs.Symbols.{kth_by_size, range_members}
+use Rattle.vers_c.proofs.Names.{kth_by_size, range_members}
 use Rattle.vers_c.proofs.SymbolAnswers.{kth_inside, many_answers}
 use Rattle.vers_c.proofs.batch.symbols.QuantilesBatchWaveletMatrixGlobalQuantileQuery.ask_all.Goals as goal
 

@@ -1,4 +1,4 @@
-use Rattle.vers_wavelet.specs.Numbers.{rank_before}
+use Rattle.vers_c.proofs.Names.{rank_before}
 use Rattle.vers_c.proofs.SymbolAnswers.{many_answers, rank_inside}
 use Rattle.vers_c.proofs.batch.symbols.RanksBatchWaveletMatrixGlobalRankQuery.ask_all.Goals as goal
 

@@ -1,5 +1,5 @@
+use Rattle.vers_c.proofs.Names.{place_from}
 use Rattle.std.proofs.Common.{refl}
-use Rattle.vers_wavelet.specs.Numbers.{place_from}
 use Rattle.vers_c.proofs.SymbolAnswers.{many_answers}
 use Rattle.vers_c.proofs.batch.symbols.SelectsBatchWaveletMatrixGlobalSelectQuery.ask_all.Goals as goal
 

@@ -4,6 +4,15 @@ use Rattle.vers_rank.proofs.Reading.{whole_word}
 use Rattle.vers_rank.proofs.ReadingBack.{passed_back, limb_before, backward}
 use Rattle.vers_rank.proofs.fast_rs_vec.reader.Reader.seek_back_in_block.Goals as goal
 
+pub overflow_sub-self-in-loop-ones-2 : goal.overflow_sub-self-in-loop-ones-2
+overflow_sub-self-in-loop-ones-2 g c = (passed_back c.args.bit c.args.bits.now c.loop-ones.self c.loop-ones.invariant.reading c.args.end (omega (arith, c.requires.from, c.loop-ones.invariant.edge)) c.loop-ones.invariant.to (omega (arith, c.loop-ones.invariant.ones))).0
+
+pub limb-word-requires : goal.limb-word-requires
+limb-word-requires g c = rw c.bits.view_is (passed_back c.args.bit c.args.bits.now c.loop-ones.self c.loop-ones.invariant.reading c.args.end (omega (arith, c.requires.from, c.loop-ones.invariant.edge)) c.loop-ones.invariant.to (omega (arith, c.loop-ones.invariant.ones))).1
+
+pub loop-ones-smaller : goal.loop-ones-smaller
+loop-ones-smaller g c = omega (arith, (passed_back c.args.bit c.args.bits.now c.loop-ones.self c.loop-ones.invariant.reading c.args.end (omega (arith, c.requires.from, c.loop-ones.invariant.edge)) c.loop-ones.invariant.to (omega (arith, c.loop-ones.invariant.ones))).0)
+
 pub place_in_word-place-requires : goal.place_in_word-place-requires
 place_in_word-place-requires g c = whole_word c.loop-ones.self.word _ c.loop-ones.invariant.reading.marks.fits (omega (arith, c.loop-ones.invariant.ones))
 

@@ -1,4 +1,4 @@
-use Rattle.std.proofs.Common.{◌+◌, ◌-◌, ◌*◌, ◌/◌, arith}
+use Rattle.std.proofs.Common.{◌≡◌, ◌+◌, ◌-◌, ◌*◌, ◌/◌, arith}
 use Rattle.vers_rmq.proofs.Masks.{suffix_last, suffix_part, suffix_whole}
 use Rattle.vers_rmq.proofs.rmq.fast_rmq.mask.suffix_masks.Goals as goal
 
@@ -24,3 +24,12 @@ parts-preserved c = record {
 
 pub returns-clause-whole : goal.returns-clause-whole
 returns-clause-whole c = suffix_whole c.args.items.now c.args.start c.parts.at c.args.end c.parts.whole.mask c.parts.whole.least (omega arith) c.requires.few c.parts.invariant.whole
+
+pub suffixes_past-whole-requires-clause-done : goal.suffixes_past-whole-requires-clause-done
+suffixes_past-whole-requires-clause-done c = omega (arith, c.parts.invariant.whole.best.to)
+
+pub suffixes_past-whole-requires-clause-least : goal.suffixes_past-whole-requires-clause-least
+suffixes_past-whole-requires-clause-least c = c.part_suffixes-part.ensures.best
+
+pub returns-clause-parts : goal.returns-clause-parts
+returns-clause-parts c = let e : c.parts.at ≡ c.args.start = omega arith in rw e at c.parts.invariant.parts

@@ -1,9 +1,6 @@
-use Rattle.std.proofs.Common.{◌≡◌, ◌+◌, ◌-◌, ℕ, arith, length, rules, ◌∙◌, subst}
-use Rattle.vers_tally.specs.Reads.{AddsAtMost, times}
-use Rattle.vers_rank.specs.Queries.{select_reads, superblock_count}
-use Rattle.vers_wavelet.specs.Levels.{way}
-use Rattle.vers_wavelet.specs.Batches.{Seeks}
+use Rattle.vers_wavelet.proofs.Names.{◌≡◌, ◌+◌, ◌-◌, ℕ, arith, length, ◌∙◌, subst, AddsAtMost, times, select_reads, superblock_count, way, Seeks}
 use Rattle.vers_wavelet.proofs.Batches.{become_all, become_then, become_weaker, become_with, adds_once_more}
+use Rattle.vers_wavelet.proofs.Walks.{adds_no_times}
 use Rattle.vers_wavelet.proofs.wavelet.batch.select.climb_each.Goals as goal
 
 pub loop-i-init : goal.loop-i-init
@@ -15,7 +12,7 @@ loop-i-init g c =
         t.1,
         subst (λ (k : ℕ). Seeks c.args.levels.now c.args.len r.symbol (way c.args.levels.now r.symbol 0 + r.rank) k r.answer) e (t.2 c.args.levels.now c.requires.levels begun),
       ));
-      adds = search rules;
+      adds = adds_no_times _ 0 (times (length c.args.queries.now) (select_reads (superblock_count c.args.len)));
     }
 
 pub rise_each-requires-clause-seeks : goal.rise_each-requires-clause-seeks
@@ -44,3 +41,6 @@ pub returns-clause-adds : goal.returns-clause-adds
 returns-clause-adds g c =
     let all : c.loop-i.i ≡ length c.args.levels.now = omega arith in
     subst (λ (n : ℕ). AddsAtMost c.args.tally.now c.loop-i.tally (times n (times (length c.args.queries.now) (select_reads (superblock_count c.args.len))))) all c.loop-i.invariant.adds
+
+pub rise_each-requires-clause-levels : goal.rise_each-requires-clause-levels
+rise_each-requires-clause-levels g c = c.requires.levels

@@ -1,8 +1,4 @@
-use Rattle.std.proofs.Common.{◌≡◌, ◌+◌, ◌-◌, length}
-use Rattle.vers_tally.specs.Reads.{AddsAtMost, times}
-use Rattle.vers_rank.specs.Queries.{select_reads, superblock_count}
-use Rattle.vers_wavelet.specs.Levels.{way}
-use Rattle.vers_wavelet.specs.Batches.{Become, Seeks}
+use Rattle.vers_wavelet.proofs.Names.{◌≡◌, ◌+◌, ◌-◌, length, AddsAtMost, times, select_reads, superblock_count, way, Become, Seeks}
 use Rattle.vers_wavelet.proofs.wavelet.batch.select.climb_each.Given as goal
 
 abbrev pub invariant-loop-i : goal.invariant-loop-i

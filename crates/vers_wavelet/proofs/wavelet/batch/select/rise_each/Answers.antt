@@ -1,8 +1,4 @@
-use Rattle.std.proofs.Common.{◌≡◌, ℕ, ◌+◌, arith, sym, subst, length}
-use Rattle.vers_tally.specs.Reads.{AddsAtMost, times}
-use Rattle.vers_rank.specs.Queries.{select_reads, superblock_count}
-use Rattle.vers_rank.proofs.PublicLaws.{changed_on, adds_times}
-use Rattle.vers_wavelet.specs.Batches.{Rising, no_query}
+use Rattle.vers_wavelet.proofs.Names.{◌≡◌, ℕ, ◌+◌, arith, sym, subst, length, AddsAtMost, times, select_reads, superblock_count, changed_on, adds_times, Rising, no_query}
 use Rattle.vers_wavelet.proofs.Groups.{become_changed}
 use Rattle.vers_wavelet.proofs.wavelet.batch.select.rise_each.Goals as goal
 
@@ -25,3 +21,6 @@ pub returns-clause-adds : goal.returns-clause-adds
 returns-clause-adds g c =
     let e : c.loop-from.from ≡ length c.args.queries.now = omega arith in
     subst (λ (n : ℕ). AddsAtMost c.args.tally.now c.loop-from.tally (times n (select_reads (superblock_count c.args.len)))) e c.loop-from.invariant.adds
+
+pub rise_group-requires-clause-levels : goal.rise_group-requires-clause-levels
+rise_group-requires-clause-levels g c = c.requires.levels

@@ -1,8 +1,5 @@
-use Rattle.std.proofs.Common.{◌≡◌, ◌-◌, ◌≤◌}
-use Rattle.vers_tally.specs.Reads.{AddsAtMost, times}
+use Rattle.vers_wavelet.proofs.Names.{◌≡◌, ◌-◌, ◌≤◌, AddsAtMost, times, select_reads, superblock_count, Rising, no_query}
 use Rattle.vers_rank.specs.Batches.{Changed}
-use Rattle.vers_rank.specs.Queries.{select_reads, superblock_count}
-use Rattle.vers_wavelet.specs.Batches.{Rising, no_query}
 use Rattle.vers_wavelet.proofs.wavelet.batch.select.rise_each.Given as goal
 
 abbrev pub invariant-loop-from : goal.invariant-loop-from

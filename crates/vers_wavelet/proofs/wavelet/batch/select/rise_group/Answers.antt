@@ -1,10 +1,6 @@
-use Rattle.std.proofs.Common.{◌≡◌, ℕ, ◌+◌, ◌-◌, Bool, List, length, get_or, ap, sym, subst, ◌∙◌, arith}
-use Rattle.vers_bits.proofs.PublicLaws.{any_default}
-use Rattle.vers_tally.specs.Reads.{AddsAtMost, times}
+use Rattle.vers_wavelet.proofs.Names.{◌≡◌, ℕ, ◌+◌, ◌-◌, Bool, List, length, get_or, ap, sym, subst, ◌∙◌, arith, any_default, AddsAtMost, times, select_reads, superblock_count, HasPlace, Rising, no_query}
 use Rattle.vers_rank.specs.Batches.{Changed}
-use Rattle.vers_rank.specs.Queries.{select_reads, superblock_count}
 use Rattle.vers_wavelet.specs.declared.wavelet.batch.select.SelectQuery.{SelectQuery}
-use Rattle.vers_wavelet.specs.Batches.{HasPlace, Rising, no_query}
 use Rattle.vers_wavelet.proofs.Groups.{changed_item, place_above}
 use Rattle.vers_wavelet.proofs.wavelet.batch.select.rise_group.Goals as goal
 
@@ -41,3 +37,6 @@ returns-clause-adds g c =
     let v : List Bool = c.index-levels-k.result in
     let long : length v ≡ c.args.len = ap length c.index-levels-k.is ∙ c.requires.levels.even c.args.k v c.requires.within in
     subst (λ (m : ℕ). AddsAtMost c.args.tally.now c.find_all.new.tally (times c.args.n (select_reads (superblock_count m)))) long c.find_all.ensures.adds
+
+pub rise-requires-clause-levels : goal.rise-requires-clause-levels
+rise-requires-clause-levels g c = c.requires.levels

@@ -1,6 +1,5 @@
-use Rattle.std.proofs.Common.{◌≡◌}
+use Rattle.vers_wavelet.proofs.Names.{◌≡◌, Rising, no_query}
 use Rattle.vers_rank.specs.Batches.{Changed}
-use Rattle.vers_wavelet.specs.Batches.{Rising, no_query}
 use Rattle.vers_wavelet.proofs.wavelet.batch.select.rise_group.Given as goal
 
 abbrev pub invariant-loop-j : goal.invariant-loop-j

@@ -1,4 +1,4 @@
-use Rattle.std.proofs.Common.{arith, None}
+use Rattle.vers_wavelet.proofs.Names.{arith, None}
 use Rattle.vers_wavelet.proofs.Batches.{changed_none, changed_next, changed_all}
 use Rattle.vers_wavelet.proofs.wavelet.batch.select.turn_each.Goals as goal
 

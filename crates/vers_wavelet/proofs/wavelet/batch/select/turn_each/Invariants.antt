@@ -1,6 +1,5 @@
-use Rattle.std.proofs.Common.{◌≡◌, ◌+◌, List, Bool, length, Some}
-use Rattle.vers_wavelet.specs.Levels.{way, AreLevels}
-use Rattle.vers_wavelet.specs.Batches.{Changed, Seeks}
+use Rattle.vers_wavelet.proofs.Names.{◌≡◌, ◌+◌, List, Bool, length, Some, way, AreLevels, Seeks}
+use Rattle.vers_wavelet.specs.Batches.{Changed}
 use Rattle.vers_wavelet.proofs.wavelet.batch.select.turn_each.Given as goal
 
 abbrev pub invariant-loop-j : goal.invariant-loop-j

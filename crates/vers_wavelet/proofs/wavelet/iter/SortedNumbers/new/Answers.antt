@@ -1,4 +1,4 @@
-use Rattle.std.proofs.Common.{arith}
+use Rattle.vers_wavelet.proofs.Names.{arith}
 use Rattle.vers_wavelet.proofs.wavelet.iter.SortedNumbers.new.Goals as goal
 
 pub invariant_of-result : goal.invariant_of-result

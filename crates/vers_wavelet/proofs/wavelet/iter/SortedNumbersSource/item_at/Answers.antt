@@ -1,6 +1,4 @@
-use Rattle.std.proofs.Common.{◌≡◌, ℕ, ◌+◌, ◌-◌, subst, sym, arith}
-use Rattle.std.specs.Prelude.{slice_index}
-use Rattle.vers_wavelet.specs.Symbols.{by_size}
+use Rattle.vers_wavelet.proofs.Names.{◌≡◌, ℕ, ◌+◌, ◌-◌, subst, sym, arith, slice_index, by_size}
 use Rattle.vers_wavelet.proofs.Items.{number_item}
 use Rattle.vers_wavelet.proofs.wavelet.iter.SortedNumbersSource.item_at.Goals as goal
 

@@ -1,7 +1,6 @@
-use Rattle.std.proofs.Common.{ℕ, ◌+◌, ◌-◌, ◌<◌, ◌≤◌, Bool, List, length, get_or, arith}
+use Rattle.vers_wavelet.proofs.Names.{ℕ, ◌+◌, ◌-◌, ◌<◌, ◌≤◌, Bool, List, length, get_or, arith, IsWay}
 use Rattle.vers_wavelet.specs.declared.wavelet.way.Node.{Node}
 use Rattle.vers_wavelet.specs.declared.wavelet.way.Way.{Way}
-use Rattle.vers_wavelet.specs.Ways.{IsWay}
 use Rattle.vers_wavelet.proofs.Ways.{node_all}
 use Rattle.vers_wavelet.proofs.wavelet.way.Way.begin.Goals as goal
 

@@ -1,8 +1,4 @@
-use Rattle.std.proofs.Common.{ℕ, ◌+◌, ◌-◌, ◌*◌, ◌≤◌, ◌<◌, length}
-use Rattle.vers_tally.specs.Reads.{AddsAtMost, times}
-use Rattle.vers_rank.specs.Queries.{rank_reads}
-use Rattle.vers_wavelet.specs.Levels.{Searched, HasRoom}
-use Rattle.vers_wavelet.specs.Ways.{IsWay}
+use Rattle.vers_wavelet.proofs.Names.{ℕ, ◌+◌, ◌-◌, ◌*◌, ◌≤◌, ◌<◌, length, AddsAtMost, times, rank_reads, Searched, HasRoom, IsWay}
 use Rattle.vers_wavelet.proofs.wavelet.way.Way.find.Given as goal
 
 abbrev pub invariant-loop-k : goal.invariant-loop-k

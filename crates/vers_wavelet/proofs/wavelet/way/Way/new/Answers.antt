@@ -1,5 +1,4 @@
-use Rattle.std.proofs.Common.{refl}
-use Rattle.std.proofs.lemmas.List.{get_or-replicate}
+use Rattle.vers_wavelet.proofs.Names.{refl, get_or-replicate}
 use Rattle.vers_wavelet.proofs.Ways.{node_none}
 use Rattle.vers_wavelet.proofs.wavelet.way.Way.new.Goals as goal
 

@@ -1,11 +1,11 @@
 use Rattle.vers_trees.proofs.Words.{rules, ◌≤◌, ◌≡◌, Bool, true, not, ◌+ℤ◌, arith, w64, FitsSigned, to_z, of_z, ap, ◌∙◌, bool_byte, to_z-of_z, not_from_Decides}
 use Rattle.vers_trees.proofs.layout.Climbs.{left_past_fits, to_near, to_far, at_leaf}
-use Rattle.vers_trees.proofs.layout.Steps.{no_nodes, one_of_two, read_down, down_ends}
+use Rattle.vers_trees.proofs.layout.Steps.{adds_none, one_of_two, read_down, down_ends}
 use Rattle.vers_trees.proofs.trees.bp.min_max.MinMaxTree.descend_back_counted.Goals as goal
 use Rattle.vers_trees.proofs.trees.bp.min_max.MinMaxTree.descend_back_counted.Goals.{then-is_past, else-is_past}
 
 pub loop-node-init : goal.loop-node-init
-loop-node-init g c = record { every = λ s p. p; within = c.requires.within; reads = no_nodes _ _ }
+loop-node-init g c = record { every = λ s p. p; within = c.requires.within; reads = adds_none _ _ }
 
 pub overflow_add-before : goal.overflow_add-before
 overflow_add-before g c =

@@ -1,11 +1,11 @@
 use Rattle.vers_trees.proofs.Words.{◌*◌, ◌+◌, rules, ◌≤◌, ◌≡◌, Bool, false, not, ◌-ℤ◌, arith, w64, FitsSigned, to_z, ap, ◌∙◌, bool_byte, ints, to_z-of_z, not_from_Decides}
 use Rattle.vers_trees.proofs.layout.Climbs.{left_past_fits, to_near, to_far, at_leaf}
-use Rattle.vers_trees.proofs.layout.Steps.{no_nodes, one_of_two, read_down, down_ends}
+use Rattle.vers_trees.proofs.layout.Steps.{adds_none, one_of_two, read_down, down_ends}
 use Rattle.vers_trees.proofs.trees.bp.min_max.MinMaxTree.descend_counted.Goals as goal
 use Rattle.vers_trees.proofs.trees.bp.min_max.MinMaxTree.descend_counted.Goals.{then-is_past, else-is_past}
 
 pub loop-node-init : goal.loop-node-init
-loop-node-init g c = record { every = λ s p. p; within = c.requires.within; reads = no_nodes _ _ }
+loop-node-init g c = record { every = λ s p. p; within = c.requires.within; reads = adds_none _ _ }
 
 pub overflow_sub-left : goal.overflow_sub-left
 overflow_sub-left g c =

@@ -1,7 +1,7 @@
 use Rattle.vers_trees.proofs.Words.{rules, false, ◌-ℤ◌, w64, FitsSigned, to_z, arith, to_z-of_z, not_from_Decides}
 use Rattle.vers_trees.proofs.layout.Climbs.{comes_from, ends_after, goes_down, goes_on, ends_there}
 use Rattle.vers_trees.proofs.searches.Scans.{rest_is}
-use Rattle.vers_trees.proofs.layout.Steps.{odd_most, digits_after, no_nodes, read_up, up_ends, up_then_down, up_then_none}
+use Rattle.vers_trees.proofs.layout.Steps.{odd_most, digits_after, adds_none, read_up, up_ends, up_then_down, up_then_none}
 use Rattle.vers_trees.proofs.trees.bp.min_max.MinMaxTree.next_block_counted.Goals as goal
 
 pub returns-then-begin-self-clause-value : goal.returns-then-begin-self-clause-value
@@ -11,7 +11,7 @@ pub loop-node-init : goal.loop-node-init
 loop-node-init g c =
     let o = c.node_after-node.ensures in
     let most = odd_most _ _ o in
-    record { comes = λ s b. comes_from s c.args.self.now.first c.args.self.now.nodes false c.args.begin _ _ b o; within = omega arith; reads = no_nodes _ _ }
+    record { comes = λ s b. comes_from s c.args.self.now.first c.args.self.now.nodes false c.args.begin _ _ b o; within = omega arith; reads = adds_none _ _ }
 
 pub returns : goal.returns
 returns g c = record {

@@ -1,14 +1,14 @@
 use Rattle.vers_trees.proofs.Words.{rules, true, ◌+ℤ◌, w64, FitsSigned, to_z, arith, to_z-of_z, not_from_Decides}
 use Rattle.vers_trees.proofs.layout.Climbs.{begin_within, comes_from, goes_down, goes_on, ends_there}
 use Rattle.vers_trees.proofs.searches.Scans.{rest_is}
-use Rattle.vers_trees.proofs.layout.Steps.{odd_most, digits_before, no_nodes, read_up, up_ends, up_then_down, up_then_none}
+use Rattle.vers_trees.proofs.layout.Steps.{odd_most, digits_before, adds_none, read_up, up_ends, up_then_down, up_then_none}
 use Rattle.vers_trees.proofs.trees.bp.min_max.MinMaxTree.previous_block_counted.Goals as goal
 
 pub loop-node-init : goal.loop-node-init
 loop-node-init g c =
     let o = c.node_before-node.ensures in let at = o.2 in
     let most = odd_most _ _ o.1 in let few = begin_within _ _ _ true c.args.begin _ c.requires.begins.1 in
-    record { comes = λ s b. comes_from s c.args.self.now.first c.args.self.now.nodes true c.args.begin _ _ b o; within = omega arith; reads = no_nodes _ _ }
+    record { comes = λ s b. comes_from s c.args.self.now.first c.args.self.now.nodes true c.args.begin _ _ b o; within = omega arith; reads = adds_none _ _ }
 
 pub returns : goal.returns
 returns g c = record {
@@ -60,3 +60,15 @@ loop-node-smaller g c =
     let o = c.node_before-node-in-loop-node.ensures in let at = o.2 in
     let most = odd_most _ _ o.1 in
     omega arith
+
+pub overflow_add-self : goal.overflow_add-self
+overflow_add-self g c = let few = begin_within _ _ _ true c.args.begin _ c.requires.begins.1 in record { fits = omega arith }
+
+pub node_before-node-requires : goal.node_before-node-requires
+node_before-node-requires g c = let few = begin_within _ _ _ true c.args.begin _ c.requires.begins.1 in omega arith
+
+pub overflow_sub-node : goal.overflow_sub-node
+overflow_sub-node g c = omega arith
+
+pub node_before-node-requires-in-loop-node : goal.node_before-node-requires-in-loop-node
+node_before-node-requires-in-loop-node g c = let i = c.loop-node.invariant.within in let f = c.loop-node.auto.node-fits in omega arith

@@ -1,6 +1,28 @@
-use Rattle.vers_trees.proofs.Words.{◌≡◌, ℕ, List, [], ◌∷◌, ◌++◌, ◌+◌, ◌*◌, min, length, arith, sym, subst, ap, ◌∙◌, Node, IsPart, block_count, AreFirstBlocks}
-use Rattle.vers_trees.proofs.layout.Widths.{block_added}
+use Rattle.vers_trees.proofs.Words.{IfOk-from_err, ◌≡◌, ℕ, List, [], ◌∷◌, ◌++◌, ◌+◌, ◌*◌, min, length, arith, sym, subst, ap, ◌∙◌, Node, IsPart, block_count, AreFirstBlocks}
+use Rattle.vers_trees.proofs.layout.Widths.{no_blocks, block_added, begins_inside}
 use Rattle.vers_trees.proofs.trees.bp.min_max.build.push_blocks.Goals as goal
+
+pub div_ceil-leaves-requires : goal.div_ceil-leaves-requires
+div_ceil-leaves-requires g c = c.requires.can.some
+
+pub loop-block-init : goal.loop-block-init
+loop-block-init g c = no_blocks c.args.bits.now c.args.size c.args.first c.args.nodes.now.items (let o = c.args.nodes.now.ok in let r = c.requires.before in omega arith)
+
+pub overflow_mul-start : goal.overflow_mul-start
+overflow_mul-start g c = record { fits = omega (arith, begins_inside c.args.size c.len-len.result _ _ c.div_ceil-leaves.ensures c.requires.can.some c.loop-block-test.true) }
+
+pub overflow_add-start : goal.overflow_add-start
+overflow_add-start g c = record { fits = omega (arith, begins_inside c.args.size c.len-len.result _ _ c.div_ceil-leaves.ensures c.requires.can.some c.loop-block-test.true) }
+
+pub node_of-requires : goal.node_of-requires
+node_of-requires g c = record {
+  order = omega (arith, begins_inside c.args.size c.len-len.result _ _ c.div_ceil-leaves.ensures c.requires.can.some c.loop-block-test.true);
+  inside = omega arith;
+  short = c.requires.can.short;
+}
+
+pub returns-in_err-push : goal.returns-in_err-push
+returns-in_err-push g c = IfOk-from_err c.from_residual.result _ c.from_residual.ensures.0
 
 pub loop-block-preserved : goal.loop-block-preserved
 loop-block-preserved g c =

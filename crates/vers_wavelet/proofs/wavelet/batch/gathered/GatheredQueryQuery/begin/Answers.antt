@@ -1,5 +1,4 @@
-use Rattle.std.proofs.Common.{◌≤◌, arith, length, ap, refl, ◌∙◌, Some}
-use Rattle.vers_wavelet.specs.Levels.{values}
+use Rattle.vers_wavelet.proofs.Names.{◌≤◌, arith, length, ap, refl, ◌∙◌, Some, values}
 use Rattle.vers_wavelet.proofs.Gathered.{gathered_is}
 use Rattle.vers_wavelet.proofs.Lists.{length-values}
 use Rattle.vers_wavelet.proofs.Answering.{le_passed, le_failed, if_both, if_first_fails, if_second_fails}

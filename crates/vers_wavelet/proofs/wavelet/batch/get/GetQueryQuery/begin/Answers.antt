@@ -1,4 +1,4 @@
-use Rattle.std.proofs.Common.{arith, length}
+use Rattle.vers_wavelet.proofs.Names.{arith, length}
 use Rattle.vers_wavelet.proofs.Answering.{lt_passed, lt_failed, le_passed, of_words, of_wide, get_begins, get_past}
 use Rattle.vers_wavelet.proofs.wavelet.batch.get.GetQueryQuery.begin.Goals as goal
 use Rattle.vers_wavelet.proofs.wavelet.batch.get.GetQueryQuery.begin.Goals.{then-levels-le64, else-levels-le64}

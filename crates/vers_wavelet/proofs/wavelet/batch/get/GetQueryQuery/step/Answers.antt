@@ -1,4 +1,4 @@
-use Rattle.std.proofs.Common.{arith, sym}
+use Rattle.vers_wavelet.proofs.Names.{arith, sym}
 use Rattle.vers_wavelet.proofs.Digits.{room_more}
 use Rattle.vers_wavelet.proofs.Answering.{get_goes}
 use Rattle.vers_wavelet.proofs.wavelet.batch.get.GetQueryQuery.step.Goals as goal

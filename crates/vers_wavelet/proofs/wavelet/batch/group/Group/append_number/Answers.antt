@@ -1,4 +1,4 @@
-use Rattle.std.proofs.Common.{arith}
+use Rattle.vers_wavelet.proofs.Names.{arith}
 use Rattle.std.proofs.lemmas.List.{get_or-set_same, get_or-set_other}
 use Rattle.vers_wavelet.proofs.Groups.{slot_put, number_put, counts_put, before_put}
 use Rattle.vers_wavelet.proofs.wavelet.batch.group.Group.append_number.Goals as goal

@@ -1,7 +1,4 @@
-use Rattle.std.proofs.Common.{ℕ, subst, refl, length}
-use Rattle.vers_tally.specs.Reads.{AddsAtMost, times}
-use Rattle.vers_rank.specs.Queries.{select_reads, superblock_count}
-use Rattle.vers_rank.proofs.PublicLaws.{adds_times}
+use Rattle.vers_wavelet.proofs.Names.{ℕ, subst, refl, length, AddsAtMost, times, select_reads, superblock_count, adds_times}
 use Rattle.vers_wavelet.proofs.Groups.{few_asked, both_found, place_found}
 use Rattle.vers_wavelet.proofs.wavelet.batch.group.Group.find_all.Goals as goal
 

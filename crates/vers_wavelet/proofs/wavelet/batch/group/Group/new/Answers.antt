@@ -1,6 +1,4 @@
-use Rattle.std.proofs.Common.{◌≡◌, ℕ, ◌+◌, arith, subst, get_or, inl, inr}
-use Rattle.std.proofs.lemmas.Bool.{cases_lt}
-use Rattle.vers_wavelet.specs.Batches.{HasNumber, no_query}
+use Rattle.vers_wavelet.proofs.Names.{◌≡◌, ℕ, ◌+◌, arith, subst, get_or, inl, inr, cases_lt, HasNumber, no_query}
 use Rattle.vers_wavelet.proofs.Groups.{number_kept, number_new}
 use Rattle.vers_wavelet.proofs.wavelet.batch.group.Group.new.Goals as goal
 

@@ -1,5 +1,4 @@
-use Rattle.std.proofs.Common.{◌≡◌, ℕ, ◌+◌, ◌<◌, get_or}
-use Rattle.vers_wavelet.specs.Batches.{HasNumber, no_query}
+use Rattle.vers_wavelet.proofs.Names.{◌≡◌, ℕ, ◌+◌, ◌<◌, get_or, HasNumber, no_query}
 use Rattle.vers_wavelet.proofs.wavelet.batch.group.Group.new.Given as goal
 
 abbrev pub invariant-loop-j : goal.invariant-loop-j

@@ -1,4 +1,4 @@
-use Rattle.std.proofs.Common.{arith, false}
+use Rattle.vers_wavelet.proofs.Names.{arith, false}
 use Rattle.vers_wavelet.proofs.Values.{next-up}
 use Rattle.vers_wavelet.proofs.Digits.{room_more}
 use Rattle.vers_wavelet.proofs.Quantiles.{quantile_goes}

@@ -1,5 +1,4 @@
-use Rattle.std.proofs.Common.{◌≤◌, arith, length, ap, ◌∙◌, Some}
-use Rattle.vers_wavelet.specs.Levels.{values}
+use Rattle.vers_wavelet.proofs.Names.{◌≤◌, arith, length, ap, ◌∙◌, Some, values}
 use Rattle.vers_wavelet.proofs.Lists.{length-values}
 use Rattle.vers_wavelet.proofs.Answering.{le_passed, le_failed, rank_begins, if_both, if_first_fails, if_second_fails}
 use Rattle.vers_wavelet.proofs.wavelet.batch.rank.RankQueryQuery.begin.Goals as goal

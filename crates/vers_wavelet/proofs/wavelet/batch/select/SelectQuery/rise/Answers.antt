@@ -1,6 +1,4 @@
-use Rattle.std.proofs.Common.{◌≡◌, ◌+◌, ◌-◌, ℕ, Bool, List, arith, length, ap, refl, ◌∙◌}
-use Rattle.vers_bits.specs.Bits.{select}
-use Rattle.vers_wavelet.specs.Levels.{next, start, way}
+use Rattle.vers_wavelet.proofs.Names.{◌≡◌, ◌+◌, ◌-◌, ℕ, Bool, List, arith, length, ap, refl, ◌∙◌, select, next, start, way}
 use Rattle.vers_wavelet.proofs.Members.{both_ways}
 use Rattle.vers_wavelet.proofs.Steps.{rise_inside, rise_to}
 use Rattle.vers_wavelet.proofs.Walks.{level_length}

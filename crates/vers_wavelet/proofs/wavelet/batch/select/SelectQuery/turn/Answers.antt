@@ -1,4 +1,4 @@
-use Rattle.std.proofs.Common.{arith}
+use Rattle.vers_wavelet.proofs.Names.{arith}
 use Rattle.vers_wavelet.proofs.Answering.{turn_known, turn_past}
 use Rattle.vers_wavelet.proofs.wavelet.batch.select.SelectQuery.turn.Goals as goal
 

@@ -1,4 +1,4 @@
-use Rattle.std.proofs.Common.{arith, length, refl}
+use Rattle.vers_wavelet.proofs.Names.{arith, length, refl}
 use Rattle.vers_wavelet.proofs.Answering.{of_words, of_wide}
 use Rattle.vers_wavelet.proofs.wavelet.batch.select.SelectQueryQuery.begin.Goals as goal
 

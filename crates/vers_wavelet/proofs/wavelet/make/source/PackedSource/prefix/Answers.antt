@@ -1,4 +1,4 @@
-use Rattle.std.proofs.Common.{arith}
+use Rattle.vers_wavelet.proofs.Names.{arith}
 use Rattle.vers_wavelet.proofs.wavelet.make.source.PackedSource.prefix.Goals as goal
 
 pub overflow_mul-start : goal.overflow_mul-start
