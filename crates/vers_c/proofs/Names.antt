@@ -55,7 +55,7 @@ pub use prog.Wp.{Tables, WpFn}
 pub use seplogic.Ra.Ura.{Ura}
 pub use sound.WpLaws.{WpFn-mono, fm_of}
 pub use types.ByLocal.{alloc_all, env, free_all, get, get_in, lands_as, lands_last, look_at, pass_all, sets}
-pub use types.Kit.{!, Goal, Item, Seq, at_ret, await, by, done, feq_i, feq_l, fjoin, fpack, fpick, fsplit, join, later, move, pick, qed, raw, rewrite, some, split, split3, suffices, use1, ‵, ◌$◌, ◌∵◌, ◌⊛◌}
+pub use types.Kit.{ !, Goal, Item, Seq, at_ret, await, by, done, feq_i, feq_l, fjoin, fpack, fpick, fsplit, join, later, move, pick, qed, raw, rewrite, some, split, split3, suffices, use1, ‵, ◌$◌, ◌∵◌, ◌⊛◌}
 pub use types.Logic.{Logic, sem}
 pub use types.Part.{agg, sub, whole}
 pub use types.Run.{and_then, blocks, enter, exec, first, fld, lit, no_more, of_opd, returns, stop}

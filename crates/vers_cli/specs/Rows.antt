@@ -12,7 +12,7 @@ use Rattle.vers_trees.specs.Nodes.{closing, is_ancestor, is_proper_ancestor, dep
 use Rattle.vers_trees.specs.Traversals.{subtree_post}
 use Rattle.vers_rmq.specs.Minima.{is_least as costs_least, first_least, first_least_of, least_place}
 use Rattle.postings.specs.Posted.{is_among, places_between as places_of_range, cheapest, common}
-use Rattle.vers_trees.specs.declared.trees.bp.relatives.LevelEnd.TheVariants.{LevelRightmost}
+use Rattle.vers_trees.specs.declared.trees.bp.relatives.LevelEnd.TheVariants.{Rightmost}
 use Rattle.vers_words.specs.Text.{number_of, signed_number_of}
 use Rattle.vers_engine.specs.Lines.{lines_of}
 use Rattle.vers_engine.specs.Replies.{answer_to_words, holding_after_words}
@@ -60,7 +60,7 @@ name_of-bwd_search = refl
 pub name_of-level_ancestor : name_of (codes "level_ancestor") ≡ Some (Query (Forest LevelAncestor))
 name_of-level_ancestor = refl
 
-pub name_of-level_rightmost : name_of (codes "level_rightmost") ≡ Some (Query (Forest (Level LevelRightmost)))
+pub name_of-level_rightmost : name_of (codes "level_rightmost") ≡ Some (Query (Forest (Level Rightmost)))
 name_of-level_rightmost = refl
 
 -- a load line answers the length, and its list is held

@@ -14,7 +14,7 @@ use WalkQuery::{Children, RevChildren, SubtreeIter, SubtreePostIter};
 use WholeQuery::{DfsIter, IsBalanced, Root, Size};
 use WithinQuery::{PredecessorU64, QuantileU64, RankRangeU64, SelectOffsetU64, SuccessorU64};
 use vers_trees::trees::bp;
-use vers_trees::trees::bp::LevelEnd::{LevelLeftmost, LevelRightmost};
+use vers_trees::trees::bp::LevelEnd::{Leftmost, Rightmost};
 use vers_trees::trees::bp::Measure::{Depth, IsLeaf, NodeIndex, SubtreeSize};
 use vers_trees::trees::bp::Relative::{
     FirstChild, LastChild, LevelNext, LevelPrev, NextSibling, Parent, PreviousSibling,
@@ -252,11 +252,8 @@ pub const NAMES: [(&[u8], Name); 68] = [
     (b"subtree_size", Name::Query(Forest(Measure(SubtreeSize)))),
     (b"is_ancestor", Name::Query(Forest(IsAncestor))),
     (b"level_ancestor", Name::Query(Forest(LevelAncestor))),
-    (b"level_leftmost", Name::Query(Forest(Level(LevelLeftmost)))),
-    (
-        b"level_rightmost",
-        Name::Query(Forest(Level(LevelRightmost))),
-    ),
+    (b"level_leftmost", Name::Query(Forest(Level(Leftmost)))),
+    (b"level_rightmost", Name::Query(Forest(Level(Rightmost)))),
     (b"children", Name::Query(Forest(Walk(Children)))),
     (b"rev_children", Name::Query(Forest(Walk(RevChildren)))),
     (b"subtree_iter", Name::Query(Forest(Walk(SubtreeIter)))),

@@ -8,7 +8,7 @@ use Rattle.vers_trees.specs.declared.trees.bp.relatives.Relative.TheVariants.{Pa
 use Rattle.vers_trees.specs.declared.trees.bp.relatives.Measure.{Measure}
 use Rattle.vers_trees.specs.declared.trees.bp.relatives.Measure.TheVariants.{NodeIndex, IsLeaf, Depth, SubtreeSize}
 use Rattle.vers_trees.specs.declared.trees.bp.relatives.LevelEnd.{LevelEnd}
-use Rattle.vers_trees.specs.declared.trees.bp.relatives.LevelEnd.TheVariants.{LevelLeftmost, LevelRightmost}
+use Rattle.vers_trees.specs.declared.trees.bp.relatives.LevelEnd.TheVariants.{Leftmost, Rightmost}
 
 -- the node that stands so to v, or none
 abbrev pub relative : Forest → Relative → ℕ → Option ℕ
@@ -29,5 +29,5 @@ measure F SubtreeSize v = length (subtree F v)
 
 -- the first or the last node of depth d, or none
 abbrev pub level_end : Forest → LevelEnd → ℕ → Option ℕ
-level_end F LevelLeftmost d = first_of (level F d)
-level_end F LevelRightmost d = last_of (level F d)
+level_end F Leftmost d = first_of (level F d)
+level_end F Rightmost d = last_of (level F d)

@@ -169,8 +169,8 @@ fn about_ends<const N: usize, A: Allocator + Copy>(
     let leftmost = tree.level_leftmost_counted(depth, &mut tally);
     let rightmost = tree.level_rightmost_counted(depth, &mut tally);
     (
-        Answer::of_places(tree.level_end(depth, LevelEnd::LevelLeftmost), leftmost),
-        Answer::of_places(tree.level_end(depth, LevelEnd::LevelRightmost), rightmost),
+        Answer::of_places(tree.level_end(depth, LevelEnd::Leftmost), leftmost),
+        Answer::of_places(tree.level_end(depth, LevelEnd::Rightmost), rightmost),
     )
 }
 

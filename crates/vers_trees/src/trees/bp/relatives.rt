@@ -44,9 +44,9 @@ pub enum Measure {
 #[derive(Clone, Copy, Drop)]
 pub enum LevelEnd {
     /// The first of them.
-    LevelLeftmost,
+    Leftmost,
     /// The last of them.
-    LevelRightmost,
+    Rightmost,
 }
 
 impl<const BLOCK_SIZE: usize, A: Allocator + Copy> BpTree<BLOCK_SIZE, A> {
@@ -98,8 +98,8 @@ impl<const BLOCK_SIZE: usize, A: Allocator + Copy> BpTree<BLOCK_SIZE, A> {
         ensures { result ≡ level_end (forest_of self.now) which depth }
     {
         match which {
-            LevelEnd::LevelLeftmost => self.level_leftmost(depth),
-            LevelEnd::LevelRightmost => self.level_rightmost(depth),
+            LevelEnd::Leftmost => self.level_leftmost(depth),
+            LevelEnd::Rightmost => self.level_rightmost(depth),
         }
     }
 }
