@@ -1,8 +1,8 @@
 //! How a line is replied to, and what is held after it.
-ghost use Rattle.std.specs.Prelude.{◌≡◌, IfOk, OnOk, IsErr, MatchResult};
+ghost use Rattle.std.specs.Prelude.{◌≡◌, if◌then◌else◌, IfOk, OnOk, IsErr, MatchResult};
 ghost use Rattle.vers_words.specs.Text.{words_in, words_of};
 ghost use Rattle.vers_words.specs.Reply.{plain_reply};
-ghost use Rattle.vers_cli.specs.Holding.{Nothing, holding_of, loaded, kind_of, held_after};
+ghost use Rattle.vers_cli.specs.Holding.{Nothing, holding_of, loaded, kind_of, held_after, is_accepted as accepts};
 ghost use Rattle.vers_cli.specs.Rules.{load_reply, line_loaded};
 ghost use Rattle.vers_cli.specs.Answers.{replies_by_the_rules};
 
@@ -71,8 +71,8 @@ impl<'a, A: Allocator + Copy> Store<'a, A> {
 
     // Lets go of what is held where a load line is accepted, so that its room is there for what comes in its place.
     fn make_room(&mut self, load: Load, arguments: &[u8])
-        ensures { held_after self.new (loaded load (words_in arguments.now))
-            ≡ held_after self.old (loaded load (words_in arguments.now)) }
+        ensures { self.new
+            ≡ (if accepts (loaded load (words_in arguments.now)) then Nothing else self.old) }
     {
         if held::is_accepted(load, arguments) {
             put(&mut self.held, Held::Nothing);
