@@ -164,7 +164,7 @@ module _ {ls : List (List Bool)} {n : ℕ} (levels : AreLevels ls n) (s from to 
       → IsKth xs (cond up (t.part.less + (t.part.end - t.part.start)) (t.part.less - 1)) (number + bit_value up * 2 ^ (length ls - t.beside.level) + x)
   member_beside up number x l some is kth inside =
       let small : x < 2 ^ (length ls - t.beside.level) = subst (λ (i : ℕ). x < 2 ^ i) (length-drop t.beside.level ls) (kth-lt (drop t.beside.level ls) _ _ _ x kth inside) in
-      kth_is ls n from to _ _ order within ((l.found some number is).each x small kth)
+      (kth_is ls n from to _ _ order within).0 ((l.found some number is).each x small kth)
 
   -- it was left beside
   pub found_beside : (up : Bool) (number x : ℕ) → Leaves up ls n s from to t → t.beside.start < t.beside.end → number + s % 2 ^ (length ls - t.beside.level + 1) ≡ s % 2 ^ length ls
