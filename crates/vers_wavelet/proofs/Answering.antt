@@ -5,19 +5,6 @@ use Rattle.vers_wavelet.proofs.Members.{never}
 use Rattle.vers_wavelet.proofs.Steps.{rise_none, rise_all, rise_below, way_within}
 use Rattle.vers_wavelet.proofs.Lists.{length-values, get_or-values, count_is, found_or_none}
 
--- what a test that came out says
-pub lt_passed : {t : Bool} (a b : ℕ) → t ≡ ltb a b → t ≡ true → a < b
-lt_passed a b e f = ltb-true a b (sym e ∙ f)
-
-pub lt_failed : {t : Bool} (a b : ℕ) → t ≡ ltb a b → t ≡ false → b ≤ a
-lt_failed a b e f = ltb-false a b (sym e ∙ f)
-
-pub le_passed : {t : Bool} (a b : ℕ) → t ≡ leb a b → t ≡ true → a ≤ b
-le_passed a b e f = leb-true a b (sym e ∙ f)
-
-pub le_failed : {t : Bool} (a b : ℕ) → t ≡ leb a b → t ≡ false → b < a
-le_failed a b e f = leb-false a b (sym e ∙ f)
-
 -- an answer of symbols that a word holds, and of those that it doesn't
 pub of_words : {X : Type 0} (k : ℕ) (o p : Option X) → k ≤ 64 → o ≡ p → o ≡ (if leb k 64 then p else None)
 of_words k o p h e = e ∙ sym (ap (λ t. if t then p else None) (le-leb k 64 h))
@@ -38,9 +25,7 @@ get_past ls n p h = sym (slice_get_past (values ls n) p (omega (arith, h, length
 pub get_goes : (v : List Bool) (ls : List (List Bool)) (p i number more : ℕ) (b : Bool) (o : Option ℕ) → o ≡ Some number → length ls ≡ i → get_or v p false ≡ b
     → more ≡ number + bit_value b * 2 ^ i → Some (more + value ls (next b v p)) ≡ option_map (λ y. y + value (v ∷ ls) p) o
 get_goes v ls p i number more b o is long bit e =
-    let parts : value (v ∷ ls) p ≡ bit_value b * 2 ^ i + value ls (next b v p) = value_is v ls p b bit ∙ ap (λ n. bit_value b * 2 ^ n + value ls (next b v p)) long in
-    let whole : more + value ls (next b v p) ≡ number + value (v ∷ ls) p = omega (arith, e, parts) in
-    ap Some whole ∙ sym (ap (option_map (λ y. y + value (v ∷ ls) p)) is)
+    let whole : more + value ls (next b v p) ≡ number + value (v ∷ ls) p = omega (arith, e, rw long at (value_is v ls p b bit)) in rw (is, whole)
 
 pub get_ends : (o : Option ℕ) (p : ℕ) → o ≡ option_map (λ y. y + value [] p) o
 get_ends None p = refl
@@ -88,9 +73,7 @@ rank_ends (Some c) n s end kept =
 pub select_goes : (v : List Bool) (ls : List (List Bool)) (s p i to : ℕ) (b : Bool) (o : Option ℕ) → o ≡ Some p → length ls ≡ i → b ≡ digit s i → to ≡ next b v p
     → Some (way ls s to) ≡ option_map (λ p. way (v ∷ ls) s p) o
 select_goes v ls s p i to b o is long bit at =
-    let same : b ≡ digit s (length ls) = bit ∙ ap (digit s) (sym long) in
-    let down : way ls s to ≡ way (v ∷ ls) s p = ap (way ls s) at ∙ ap (λ d. way ls s (next d v p)) same ∙ sym (way_is v ls s p) in
-    ap Some down ∙ sym (ap (option_map (λ p. way (v ∷ ls) s p)) is)
+    rw (is, at, bit, ← long, way_is v ls s p)
 
 pub select_ends : (o : Option ℕ) (s : ℕ) → o ≡ option_map (λ p. way [] s p) o
 select_ends None s = refl
@@ -100,8 +83,7 @@ pub turn_known : {ls : List (List Bool)} {n : ℕ} → AreLevels ls n → (s ran
     → Seeks ls n s (way ls s 0 + rank) (length ls) (Some (first + rank))
 turn_known {ls} {n} levels s rank first o is begun inside =
     let e : first ≡ way ls s 0 = cc in
-    let at : first + rank ≡ way ls s 0 + rank = ap (λ j. j + rank) e in
-    record { rises = subst (λ (q : ℕ). Rises ls n s (way ls s 0 + rank) (length ls) q) (sym at) (rise_none ls n s (way ls s 0 + rank) (omega arith)); some = λ h. refl }
+    rw e (record { rises = rise_none ls n s (way ls s 0 + rank) (omega (arith, e)); some = λ h. refl })
 
 pub turn_past : {ls : List (List Bool)} {n : ℕ} → AreLevels ls n → (s rank first : ℕ) (o : Option ℕ) → o ≡ Some first → o ≡ Some (way ls s 0) → n ≤ first + rank
     → Seeks ls n s (way ls s 0 + rank) (length ls) None

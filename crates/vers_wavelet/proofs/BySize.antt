@@ -64,9 +64,6 @@ at_kth xs i h =
       more = ltb-true _ _ (sym (not_above_first xs x i h) ∙ le-leb x x (omega arith));
     }
 
-pub place_kth : (xs : List ℕ) (i x : ℕ) → i < length xs → x ≡ get_or (by_size xs) i 0 → IsKth xs i x
-place_kth xs i x h is = let P : ℕ → Type 0 = λ y. IsKth xs i y in subst P (sym is) (at_kth xs i h)
-
 -- ---- laws
 
 kth_within : (xs : List ℕ) (i x : ℕ) → IsKth xs i x → i < length xs
@@ -99,14 +96,9 @@ unfolding kth_by_size
 kth_none xs i h = slice_get_past (by_size xs) i (omega (arith, length-by_size xs))
 
 -- a number is member i by size just where the definition gives it
-kth_by_size-kth : (xs : List ℕ) (i x : ℕ) → IsKth xs i x → kth_by_size xs i ≡ Some x
-kth_by_size-kth xs i x kth = kth_some xs i x (kth_within xs i x kth) (kth_place xs i x kth)
-
-kth-kth_by_size : (xs : List ℕ) (i x : ℕ) → kth_by_size xs i ≡ Some x → IsKth xs i x
-unfolding kth_by_size
-kth-kth_by_size xs i x is =
-    let h : i < length xs = omega (arith, slice_get_within (by_size xs) i x is, length-by_size xs) in
-    place_kth xs i x h (sym (get_or_from_slice_get (by_size xs) i x 0 is))
-
 pub kth_is : (xs : List ℕ) (i x : ℕ) → (kth_by_size xs i ≡ Some x) ↔ IsKth xs i x
-kth_is xs i x = (kth-kth_by_size xs i x, kth_by_size-kth xs i x)
+unfolding kth_by_size
+kth_is xs i x = (
+  λ is. subst (IsKth xs i) (get_or_from_slice_get (by_size xs) i x 0 is) (at_kth xs i (omega (arith, slice_get_within (by_size xs) i x is, length-by_size xs))),
+  λ kth. kth_some xs i x (kth_within xs i x kth) (kth_place xs i x kth),
+)

@@ -11,8 +11,7 @@ equal_step bit l ls s y i e small h =
     omega (arith, below, not_above, equal_under (l ∷ ls) y i, equal_under ls s (start bit l), equal_under ls s (next bit l i))
 
 cond_gap : (bit : Bool) (a b : ℕ) → a ≤ b → cond bit b 0 ≡ cond bit a 0 + cond bit (b - a) 0
-cond_gap true a b order = omega arith
-cond_gap false a b order = refl
+cond_gap bit a b order = grind arith
 
 -- of the places that go on with the bit, member j by size makes member i of all
 pub kth_step : (bit : Bool) (l : List Bool) (ls : List (List Bool)) (a b i j x : ℕ) → a ≤ b → b ≤ length l → x < 2 ^ length ls → j + cond bit (next false l b - next false l a) 0 ≡ i

@@ -96,9 +96,7 @@ equal_under ls s (suc n) = omega (arith, equal_under ls s n, tests_add (value ls
 
 -- a bit that is one of its kind is that bit
 pub same_bit : (b c : Bool) → is_bit b c ≡ true → c ≡ b
-same_bit true c e = e
-same_bit false true e = absurd (true≢false (sym e))
-same_bit false false e = refl
+same_bit b c e = grind arith
 
 -- the part of the bit has room in the next level
 pub next-le : (b : Bool) (l : List Bool) (i : ℕ) → next b l i ≤ length l

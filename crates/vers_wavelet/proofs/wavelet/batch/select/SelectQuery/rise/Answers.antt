@@ -1,5 +1,4 @@
-use Rattle.vers_wavelet.proofs.Names.{◌≡◌, ◌+◌, ◌-◌, ℕ, Bool, List, arith, length, ap, refl, ◌∙◌, select, next, start, way}
-use Rattle.vers_wavelet.proofs.Members.{both_ways}
+use Rattle.vers_wavelet.proofs.Names.{both_ways, ◌≡◌, ◌+◌, ◌-◌, ℕ, Bool, List, arith, length, ap, refl, ◌∙◌, select, next, start, way}
 use Rattle.vers_wavelet.proofs.Steps.{rise_inside, rise_to}
 use Rattle.vers_wavelet.proofs.Walks.{level_length}
 use Rattle.vers_wavelet.proofs.wavelet.batch.select.SelectQuery.rise.Goals as goal
@@ -32,7 +31,7 @@ returns-then-not-is_of_bit-clause-seeks g c =
       some = λ h.
           let inside = rise_inside ls s c.args.k c.requires.within v c.index-levels-k.is c.digit-bit.result c.digit-bit.ensures
           c.args.len c.requires.levels.even (way ls s 0 + c.args.self.rank) c.in-Some.place up (omega arith) h in
-          both_ways c.is_of_bit.result c.if-not-is_of_bit.true (c.is_of_bit.ensures.1 (inside.0, omega (arith, inside.1, ap (next c.digit-bit.result v) long)));
+          absurd (both_ways _ c.if-not-is_of_bit.true (c.is_of_bit.ensures.1 (inside.0, omega (arith, inside.1, ap (next c.digit-bit.result v) long))));
     }
 
 pub returns-in_default : goal.returns-in_default
