@@ -55,12 +55,7 @@ pub rank_goes : (v : List Bool) (ls : List (List Bool)) (s end c i start to : �
 rank_goes v ls s end c i start to b o is long bit from last =
     let up : start ≤ to = omega (arith, from, last, next-up b v (end - c) end (omega arith)) in
     let back : to - (to - start) ≡ start = omega arith in
-    let same : b ≡ digit s (length ls) = bit ∙ ap (digit s) (sym long) in
-    let down = λ (j : ℕ). way_is v ls s j ∙ ap (λ d. way ls s (next d v j)) (sym same) in
-    let left : way ls s to ≡ way (v ∷ ls) s end = ap (way ls s) last ∙ sym (down end) in
-    let right : way ls s (to - (to - start)) ≡ way (v ∷ ls) s (end - c) = ap (way ls s) (back ∙ from) ∙ sym (down (end - c)) in
-    ap Some (ap (λ j. j - way ls s (to - (to - start))) left ∙ ap (λ j. way (v ∷ ls) s end - j) right)
-    ∙ sym (ap (option_map (λ c. way (v ∷ ls) s end - way (v ∷ ls) s (end - c))) is)
+    rw (is, back, from, last, way_is v ls s end, way_is v ls s (end - c), long, ← bit)
 
 pub rank_ends : (o : Option ℕ) (n s end : ℕ) → IfSome o (λ c. (c ≤ end) × (end ≤ n) × (0 ≤ 64)) → o ≡ option_map (λ c. way [] s end - way [] s (end - c)) o
 rank_ends None n s end kept = refl
@@ -101,5 +96,4 @@ select_found {ls} levels s rank (Some p) seeks =
 pub select_answers : {ls : List (List Bool)} {n : ℕ} → AreLevels ls n → length ls ≤ 64 → (rank s r t : ℕ) (o : Option ℕ) → Seeks ls n t (way ls t 0 + r) 0 o → r ≡ rank → t ≡ s
     → o ≡ (if leb (length ls) 64 then slice_get (occurrences (values ls n) 0 n (s % 2 ^ length ls)) rank else None)
 select_answers {ls} {n} levels few rank s r t o seeks same_rank same_symbol =
-    of_words (length ls) o _ few (select_found levels t r o seeks ∙ ap (slice_get (occurrences (values ls n) 0 n (t % 2 ^ length ls))) same_rank
-    ∙ ap (λ x. slice_get (occurrences (values ls n) 0 n (x % 2 ^ length ls)) rank) same_symbol)
+    of_words (length ls) o _ few (rw (← same_rank, ← same_symbol) (select_found levels t r o seeks))

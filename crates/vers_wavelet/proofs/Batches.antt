@@ -26,11 +26,6 @@ changed_more {Q} {R} {xs} {ys} {j} before inside x y at becomes = record {
       get_or-set_other ys j p y d ne ∙ before.others p d (omega arith);
 }
 
--- the same of an item that was read with what stands for none
-pub changed_next : {Q : Type 0} {R : Q → Q → Type 0} {xs ys : List Q} {j : ℕ} → Changed R xs ys j → j < length xs → (d y : Q) → R (get_or ys j d) y → Changed R xs (set ys j y) (j + 1)
-changed_next {Q} {R} {xs} {ys} {j} before inside d y becomes =
-    changed_more before inside (get_or ys j d) y (any_default ys j d (get_or ys j d) (omega (arith, before.long))) becomes
-
 -- all of them
 pub changed_all : {Q : Type 0} {R : Q → Q → Type 0} {xs ys : List Q} {j : ℕ} → Changed R xs ys j → length xs ≤ j → Become R xs ys
 changed_all done past = record { long = done.long; each = λ p d h. done.first p d (omega arith) h }

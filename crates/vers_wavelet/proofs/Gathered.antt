@@ -1,5 +1,5 @@
 -- Where the way down of a symbol ends: behind the symbols whose digits from the lowest to the highest make a lesser number, and those that are equal and stand before.
-use Rattle.vers_wavelet.proofs.Names.{◌≡◌, ℕ, zero, suc, ◌+◌, ◌-◌, ◌*◌, ◌%◌, ◌^◌, ◌<◌, ◌≤◌, Bool, true, false, cond, ltb, eqb, List, [], ◌∷◌, length, get_or, refl, sym, ap, ◌∙◌, arith, add-one, inl, inr, mod-lt, mod-eq_of_lt, filter, slice_get, Some, count_by, range_with_len, cases_Bool, cases_eq, eq-eqb, ne_eqb, nat_tests, take_all, pow_pos, bit_value, is_bit, start, next, value, values, hits, equal, way, digit, Even, AreLevels, turned, gathered, occurrences}
+use Rattle.vers_wavelet.proofs.Names.{◌≡◌, ℕ, zero, suc, ◌+◌, ◌-◌, ◌*◌, ◌%◌, ◌^◌, ◌<◌, ◌≤◌, Bool, true, false, cond, ltb, eqb, List, [], ◌∷◌, length, get_or, refl, sym, ap, ◌∙◌, arith, add-one, inl, inr, mod-lt, mod-one, mod-eq_of_lt, filter, slice_get, Some, count_by, range_with_len, cases_Bool, cases_eq, eq-eqb, ne_eqb, nat_tests, take_all, pow_pos, bit_value, is_bit, start, next, value, values, hits, equal, way, digit, Even, AreLevels, turned, gathered, occurrences}
 use Rattle.vers_wavelet.proofs.Answering.{get_begins}
 use Rattle.vers_wavelet.proofs.Counting.{split_apart}
 use Rattle.vers_wavelet.proofs.Digits.{digit_value, top_digit, one_split}
@@ -25,9 +25,7 @@ turned_same (suc k) s t e =
     turned_more k s ∙ ap (λ d. 2 * turned k s + bit_value d) parts.0 ∙ ap (λ x. 2 * x + bit_value (digit t k)) (turned_same k s t parts.1) ∙ sym (turned_more k t)
 
 turned_apart : (k s t : ℕ) → turned k s ≡ turned k t → s % 2 ^ k ≡ t % 2 ^ k
-turned_apart zero s t e =
-    let none : (x : ℕ) → x % 2 ^ 0 ≡ 0 = λ x. omega arith in
-    none s ∙ sym (none t)
+turned_apart zero s t e = mod-one s ∙ sym (mod-one t)
 turned_apart (suc k) s t e =
     let parts = split_apart (turned k t) (turned k s) (digit t k) (digit s k) (sym (turned_more k s) ∙ e ∙ turned_more k t) in
     top s k ∙ ap (λ d. bit_value d * 2 ^ k + s % 2 ^ k) parts.1 ∙ ap (λ r. bit_value (digit t k) * 2 ^ k + r) (turned_apart k s t parts.0) ∙ sym (top t k)
@@ -74,9 +72,7 @@ with_zeros : (bit : Bool) (l : List Bool) (ls : List (List Bool)) (s : ℕ)
     → hits (lies_before ls (turned (length ls) s + bit_value bit)) (start true l) ≡ hits (lies_before ls (turned (length ls) s)) (start true l) + equal ls (s % 2 ^ length ls) (start bit l)
 unfolding equal
 with_zeros true l ls s = or_equal ls s (start true l)
-with_zeros false l ls s =
-    let same : turned (length ls) s + 0 ≡ turned (length ls) s = omega arith in
-    ap (λ t. hits (lies_before ls t) (start true l)) same ∙ omega arith
+with_zeros false l ls s = let same : turned (length ls) s + 0 ≡ turned (length ls) s = omega arith in rw same (omega arith)
 
 none_before : (s n : ℕ) → hits (lies_before [] (turned 0 s)) n ≡ 0
 unfolding turned

@@ -36,10 +36,7 @@ number_kept {v} {i} {j} {q} {old} {new} slots counts before has = record {
 pub number_new : {v : List Bool} {i j : ℕ} {q : SelectQuery} {new : Group} (bit : Bool) (number : ℕ) → bit ≡ digit q.symbol i → get_or new.slots j 0 < (asked bit new).count
     → get_or (asked bit new).numbers (get_or new.slots j 0) 0 ≡ number → ((p : ℕ) → q.answer ≡ Some p → start bit v ≤ p → number ≡ p - start bit v) → HasNumber v i q j new
 number_new {v} {i} {j} {q} {new} bit number e slot at is =
-    let P : Bool → Type 0 = λ b. (get_or new.slots j 0 < (asked b new).count)
-    × ((p : ℕ) → q.answer ≡ Some p → start b v ≤ p → get_or (asked b new).numbers (get_or new.slots j 0) 0 ≡ p - start b v) in
-    let both = subst P e (slot, λ p some from. at ∙ is p some from) in
-    record { slot = both.0; number = both.1 }
+    record { slot = rw (← e) slot; number = λ p some from. rw (← e) (at ∙ is p some (rw e from)) }
 
 -- the place of what it asked
 pub place_found : {v : List Bool} {i j : ℕ} {q : SelectQuery} {old new : Group} → new.slots ≡ old.slots
@@ -67,8 +64,7 @@ pub place_above : {v w : List Bool} {i j : ℕ} {q : SelectQuery} {group : Group
     → above ≡ get_or (asked bit group).numbers (get_or group.slots j 0) 0 → bit ≡ digit q.symbol i → q.answer ≡ Some p → start (digit q.symbol i) w ≤ p
     → above ≡ select (digit q.symbol i) w (p - start (digit q.symbol i) w)
 place_above {v} {w} {i} {j} {q} {group} above p bit same has at e some from =
-    let P : List Bool → Type 0 = λ u. start (digit q.symbol i) u ≤ p → above ≡ select (digit q.symbol i) u (p - start (digit q.symbol i) u) in
-    subst P (sym same) (λ h. at ∙ ap (λ b. get_or (asked b group).numbers (get_or group.slots j 0) 0) e ∙ has.place p some h) from
+    rw same (at ∙ ap (λ b. get_or (asked b group).numbers (get_or group.slots j 0) 0) e ∙ has.place p some (rw (← same) from))
 
 -- one item more has changed
 pub changed_item : {Q : Type 0} {d : Q} {R : Q → Q → Type 0} {from n : ℕ} {xs ys : List Q} → Changed d R from n xs ys → from + n < length xs → (y : Q) → R (get_or ys (from + n) d) y

@@ -139,15 +139,10 @@ module _ (ls : List (List Bool)) (s k : ℕ) (h : k < length ls) (v : List Bool)
     pub rise_inside : way ls s 0 ≤ target → target < way ls s n → (start bit v ≤ q) × (q < next bit v n)
     rise_inside low high = (
       elim (cases_lt q (start bit v)) [
-        | inl less ↦ absurd (omega (
-          arith,
-          up.leads,
-          way_more lower n (even_drop ls n even (k + 1)) s q up.within holds_here,
-          way-up lower s (q + 1) (start bit v) (omega arith),
-          way_down 0,
-          ap (way lower s) (next_none bit v),
-          way_low ls s k,
-        ))
+        | inl less ↦
+            let more = way_more lower n (even_drop ls n even (k + 1)) s q up.within holds_here in
+            let order = way-up lower s (q + 1) (start bit v) (omega arith) in
+            absurd (omega (arith, up.leads, more, order, way_down 0, ap (way lower s) (next_none bit v), way_low ls s k))
         | inr fine ↦ fine
       ],
       elim (cases_lt q (next bit v n)) [
@@ -167,9 +162,8 @@ module _ (ls : List (List Bool)) (s k : ℕ) (h : k < length ls) (v : List Bool)
         let back : next bit v p ≡ q = omega (arith, at'.2, from) in
         record {
           within = omega (arith, at'.0, long);
-          holds = ap (λ m. value m p) (level_at ls k h v at) ∙ value_is v lower p bit (same_bit bit _ at'.1) ∙ ap (λ i. bit_value bit * 2 ^ length lower + value lower i) back
-              ∙ ap (λ x. bit_value bit * 2 ^ length lower + x) up.holds ∙ sym whole;
-          leads = way_down p ∙ ap (way lower s) back ∙ up.leads;
+          holds = rw (level_at ls k h v at, value_is v lower p bit (same_bit bit _ at'.1), back, up.holds) (sym whole);
+          leads = rw (way_down p, back) up.leads;
         }
 
 pub rise_none : (ls : List (List Bool)) (n s target : ℕ) → target < n → Rises ls n s target (length ls) target
@@ -221,7 +215,7 @@ pub held_all : (ls : List (List Bool)) (p : ℕ) → value ls p ≡ value ls p %
 held_all ls p = let e : length ls - 0 ≡ length ls = omega arith in sym (ap (λ n. value ls p % 2 ^ n) e ∙ mod-eq_of_lt (value-lt ls p))
 
 pub all_levels : (width k : ℕ) {number : ℕ} → HasRoom width k number → HasRoom width (k - 0) number
-all_levels width k {number} room = let e : k ≡ k - 0 = omega arith in subst (λ (j : ℕ). HasRoom width j number) e room
+all_levels width k room = let e : k - 0 ≡ k = omega arith in rw e room
 
 pub searched_none : (ls : List (List Bool)) (from to i : ℕ) → Searched ls from to i 0 from to i 0
 searched_none ls from to i = record { each = λ x small k. let e : 0 + x ≡ x = omega arith in rw e k }
@@ -276,17 +270,15 @@ pub way_within : {ls : List (List Bool)} {n : ℕ} → AreLevels ls n → (s : �
 way_within {ls} {n} levels s = omega (arith, way_high ls n levels.even s (length ls), ap (λ m. way m s n) (drop_all (length ls) ls (omega arith)) ∙ way_none s n)
 
 pub rise_first : {ls : List (List Bool)} {n : ℕ} (s target : ℕ) → target < n → Rises ls n s target (length ls - 0) target
-rise_first {ls} {n} s target within =
-    let e : length ls ≡ length ls - 0 = omega arith in
-    subst (λ (m : ℕ). Rises ls n s target m target) e (rise_none ls n s target within)
+rise_first {ls} {n} s target within = let e : length ls - 0 ≡ length ls = omega arith in rw e (rise_none ls n s target within)
 
 pub rise_at : {ls : List (List Bool)} {n s target m q : ℕ} (k : ℕ) → m ≡ k + 1 → Rises ls n s target m q → Rises ls n s target (k + 1) q
-rise_at {ls} {n} {s} {target} {m} {q} k e up = subst (λ (j : ℕ). Rises ls n s target j q) e up
+rise_at k e up = rw e at up
 
 pub rise_all : {ls : List (List Bool)} {n s target k q : ℕ} → k ≡ 0 → Rises ls n s target k q → (value ls q ≡ s % 2 ^ length ls) × (way ls s q ≡ target)
-rise_all {ls} {n} {s} {target} {k} {q} e up =
-    let top : Rises ls n s target 0 q = subst (λ (j : ℕ). Rises ls n s target j q) e up in
-    (top.holds ∙ (let z : length ls - 0 ≡ length ls = omega arith in ap (λ m. s % 2 ^ m) z), top.leads)
+rise_all {ls} e up =
+    let none : length ls - 0 ≡ length ls = omega arith in
+    (rw (e, none) at up.holds, rw e at up.leads)
 
 -- the place it leads to is one of those that hold s
 pub rise_below : {ls : List (List Bool)} {n s target k q : ℕ} → AreLevels ls n → k ≡ 0 → Rises ls n s target k q → target < way ls s n

@@ -10,11 +10,8 @@ use Rattle.vers_wavelet.proofs.Nearest.{nearest_same, nearest_is, nearest_none}
 -- where nothing is left beside, as many symbols as before are not beyond the digits that were followed
 passed_same : (up bit : Bool) (v : List Bool) (a b less c d more : ℕ) → a ≤ b → b ≤ length v → c ≡ next bit v a → d ≡ next bit v b → more ≡ less + cond bit (next false v b - next false v a) 0
     → (bit ≡ not up → next up v a ≡ next up v b) → cond up (more + (d - c)) more ≡ cond up (less + (b - a)) less
-passed_same true true v a b less c d more order within e f g empty = omega (arith, next_both v a b order within, next-up true v a b order, next-up false v a b order)
-passed_same true false v a b less c d more order within e f g empty =
-    omega (arith, next_both v a b order within, next-up false v a b order, empty refl)
-passed_same false true v a b less c d more order within e f g empty = omega (arith, empty refl)
-passed_same false false v a b less c d more order within e f g empty = omega arith
+passed_same up bit v a b less c d more order within e f g empty =
+    grind (arith, next_both v a b order within, next-up true v a b order, next-up false v a b order)
 
 leaves_as : (up : Bool) (ls : List (List Bool)) (n s from to : ℕ) (t u : Trail) → u.beside ≡ t.beside
     → cond up (u.part.less + (u.part.end - u.part.start)) u.part.less ≡ cond up (t.part.less + (t.part.end - t.part.start)) t.part.less
