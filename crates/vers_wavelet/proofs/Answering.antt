@@ -1,5 +1,5 @@
 -- What queries that go level by level answer.
-use Rattle.vers_wavelet.proofs.Names.{◌≡◌, ℕ, ◌+◌, ◌-◌, ◌*◌, ◌%◌, ◌^◌, ◌&&◌, ◌<◌, ◌≤◌, Bool, true, false, leb, ltb, List, [], ◌∷◌, length, get_or, refl, sym, ap, ◌∙◌, subst, arith, Option, Some, None, option_map, slice_get, IfSome, if◌then◌else◌, le-leb, lt-leb, leb-true, leb-false, ltb-true, ltb-false, slice_get-get_or, slice_get_past, bit_value, value, values, next, way, digit, AreLevels, Rises, Seeks, occurrences}
+use Rattle.vers_wavelet.proofs.Names.{◌≡◌, ℕ, ◌+◌, ◌-◌, ◌*◌, ◌%◌, ◌^◌, ◌&&◌, ◌<◌, ◌≤◌, Bool, false, leb, List, [], ◌∷◌, length, get_or, refl, sym, ap, ◌∙◌, arith, Option, Some, None, option_map, slice_get, IfSome, if◌then◌else◌, le-leb, lt-leb, slice_get-get_or, slice_get_past, bit_value, value, values, next, way, digit, AreLevels, Seeks, occurrences}
 use Rattle.vers_wavelet.proofs.Values.{value_is, value_none, next-up, way_is, way_none}
 use Rattle.vers_wavelet.proofs.Members.{never}
 use Rattle.vers_wavelet.proofs.Steps.{rise_none, rise_all, rise_below, way_within}
@@ -67,8 +67,7 @@ rank_ends (Some c) n s end kept =
 
 pub select_goes : (v : List Bool) (ls : List (List Bool)) (s p i to : ℕ) (b : Bool) (o : Option ℕ) → o ≡ Some p → length ls ≡ i → b ≡ digit s i → to ≡ next b v p
     → Some (way ls s to) ≡ option_map (λ p. way (v ∷ ls) s p) o
-select_goes v ls s p i to b o is long bit at =
-    rw (is, at, bit, ← long, way_is v ls s p)
+select_goes v ls s p i to b o is long bit at = rw (is, at, bit, ← long, way_is v ls s p)
 
 pub select_ends : (o : Option ℕ) (s : ℕ) → o ≡ option_map (λ p. way [] s p) o
 select_ends None s = refl

@@ -1,6 +1,5 @@
 -- Lists whose items are changed one by one.
-use Rattle.vers_wavelet.proofs.Names.{rules, ◌≡◌, ◌≢◌, ℕ, suc, ◌+◌, ◌*◌, ◌<◌, ◌≤◌, List, [], ◌∷◌, length, set, get_or, get_or-set_same, get_or-set_other, length-set, refl, sym, ap, ◌∙◌, subst, arith, inl, inr, map, All, cases_lt, any_default, Reads, AddsAtMost, times, adds_then, Become}
-use Rattle.vers_wavelet.specs.Batches.{Changed}
+use Rattle.vers_wavelet.proofs.Names.{Changed, rules, ◌≡◌, ◌≢◌, ℕ, suc, ◌+◌, ◌<◌, ◌≤◌, List, [], ◌∷◌, length, set, get_or, get_or-set_same, get_or-set_other, length-set, refl, sym, ap, ◌∙◌, subst, arith, inl, inr, map, All, cases_lt, any_default, Reads, AddsAtMost, times, adds_then, Become}
 
 pub changed_none : {Q : Type 0} (R : Q → Q → Type 0) (xs : List Q) → Changed R xs xs 0
 changed_none R xs = record { long = refl; first = λ p d h l. absurd (omega arith); others = λ p d h. refl }

@@ -1,5 +1,5 @@
 -- Where the way down of a symbol ends: behind the symbols whose digits from the lowest to the highest make a lesser number, and those that are equal and stand before.
-use Rattle.vers_wavelet.proofs.Names.{◌≡◌, ℕ, zero, suc, ◌+◌, ◌-◌, ◌*◌, ◌%◌, ◌^◌, ◌<◌, ◌≤◌, Bool, true, false, cond, ltb, eqb, List, [], ◌∷◌, length, get_or, refl, sym, ap, ◌∙◌, arith, add-one, inl, inr, mod-lt, mod-one, mod-eq_of_lt, filter, slice_get, Some, count_by, range_with_len, cases_Bool, cases_eq, eq-eqb, ne_eqb, nat_tests, take_all, pow_pos, bit_value, is_bit, start, next, value, values, hits, equal, way, digit, Even, AreLevels, turned, gathered, occurrences}
+use Rattle.vers_wavelet.proofs.Names.{◌≡◌, ℕ, zero, suc, ◌+◌, ◌*◌, ◌%◌, ◌^◌, ◌<◌, ◌≤◌, Bool, true, false, cond, ltb, eqb, List, [], ◌∷◌, length, get_or, refl, sym, ap, ◌∙◌, arith, add-one, inl, inr, mod-lt, mod-one, mod-eq_of_lt, slice_get, Some, count_by, cases_eq, eq-eqb, ne_eqb, nat_tests, take_all, pow_pos, bit_value, start, next, value, values, hits, equal, way, digit, Even, AreLevels, turned, gathered}
 use Rattle.vers_wavelet.proofs.Answering.{get_begins}
 use Rattle.vers_wavelet.proofs.Counting.{split_apart}
 use Rattle.vers_wavelet.proofs.Digits.{digit_value, top_digit, one_split}

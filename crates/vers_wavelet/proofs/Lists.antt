@@ -1,5 +1,5 @@
 -- What places and counts of the levels say of the list of symbols.
-use Rattle.vers_wavelet.proofs.Names.{◌≡◌, ℕ, zero, suc, ◌+◌, ◌-◌, ◌%◌, ◌^◌, ◌<◌, ◌≤◌, Bool, true, cond, ltb, leb, eqb, List, ◌∷◌, ◌++◌, length, get_or, take, drop, refl, sym, ap, ◌∙◌, subst, arith, add-one, add-zero, inl, inr, map, filter, slice_range, slice_get, Option, Some, None, IsSome, IfSome, All, ◌↔◌, count_by, range_with_len, take-add, drop-cons, drop_more, cases_lt, eq-eqb, nat_tests, map-id, get_or_at, take-append-drop, length-append, length-take, length-drop, filter-append, length-filter, sum_by-append, sum_by-cons, sum_by_more, length-range_with_len, get_or-range_with_len, length-map-range_with_len, get_or-map-range_with_len, take-map-range_with_len, slice_get-get_or, slice_get_past, value, values, hits, under, equal, way, AreLevels, KthOf, occurrences, IsKth}
+use Rattle.vers_wavelet.proofs.Names.{◌≡◌, ℕ, zero, suc, ◌+◌, ◌-◌, ◌%◌, ◌^◌, ◌<◌, ◌≤◌, Bool, true, cond, ltb, leb, eqb, List, ◌∷◌, ◌++◌, length, get_or, take, drop, refl, sym, ap, ◌∙◌, subst, arith, add-one, inl, inr, filter, slice_range, slice_get, Option, Some, None, IsSome, IfSome, All, ◌↔◌, count_by, range_with_len, take-add, drop-cons, drop_more, cases_lt, eq-eqb, nat_tests, map-id, get_or_at, take-append-drop, length-append, length-take, length-drop, filter-append, length-filter, sum_by-append, sum_by-cons, sum_by_more, length-range_with_len, get_or-range_with_len, length-map-range_with_len, get_or-map-range_with_len, take-map-range_with_len, slice_get-get_or, slice_get_past, value, values, hits, under, equal, way, AreLevels, KthOf, occurrences, IsKth}
 use Rattle.vers_wavelet.proofs.Values.{way-up, equal_under, value-lt, hits_more, hits_same}
 use Rattle.vers_wavelet.proofs.Members.{never}
 use Rattle.vers_wavelet.proofs.Steps.{way_equal, way_more, way_parts}

@@ -1,5 +1,5 @@
 -- Neighbours of a number in a list, as members by size.
-use Rattle.vers_wavelet.proofs.Names.{◌≡◌, ℕ, zero, suc, ◌+◌, ◌-◌, ◌<◌, ◌≤◌, Bool, true, false, false≢true, cond, ltb, leb, List, [], ◌∷◌, length, drop, get_or, refl, sym, ◌∙◌, arith, inl, inr, Contains, Any, slice_range, count_by, ap, cases_lt, le-leb, lt-leb, lt-ltb, le-ltb, leb-true, ltb-true, ltb-false, length-take, length-drop, sum_by-cons, sum_by-le-sum_by, any_default, IsKth, IsPredecessor, IsSuccessor}
+use Rattle.vers_wavelet.proofs.Names.{◌≡◌, ℕ, zero, suc, ◌+◌, ◌-◌, ◌<◌, ◌≤◌, Bool, true, false, false≢true, cond, ltb, leb, List, [], ◌∷◌, length, drop, get_or, refl, ◌∙◌, arith, inl, inr, Contains, Any, slice_range, count_by, ap, cases_lt, le-leb, lt-leb, lt-ltb, le-ltb, leb-true, ltb-true, ltb-false, length-take, length-drop, sum_by-cons, sum_by-le-sum_by, any_default, IsKth, IsPredecessor, IsSuccessor}
 
 -- a test as a number
 abbrev pub one : Bool → ℕ

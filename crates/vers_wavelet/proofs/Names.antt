@@ -26,7 +26,7 @@ pub use Rattle.vers_rank.proofs.PublicLaws.{adds_times, changed_on, each_at}
 pub use Rattle.vers_rank.specs.Queries.{index_size, rank_reads, select_reads, superblock_count}
 pub use Rattle.vers_tally.proofs.PublicLaws.{adds_nothing, adds_then, adds_weaker}
 pub use Rattle.vers_tally.specs.Reads.{AddsAtMost, IsWithin, Reads, times}
-pub use Rattle.vers_wavelet.specs.Batches.{Become, HasNumber, HasPlace, Rising, Seeks, asked, no_query}
+pub use Rattle.vers_wavelet.specs.Batches.{Become, Changed, HasNumber, HasPlace, Rising, Seeks, asked, no_query}
 unfoldable pub use Rattle.vers_wavelet.specs.Batches.{member}
 pub use Rattle.vers_wavelet.specs.Levels.{AreLevels, Even, HasRoom, KthOf, Narrowed, Rises, Searched, digit, hits, start}
 unfoldable pub use Rattle.vers_wavelet.specs.Levels.{equal, next, under, value, values, way}

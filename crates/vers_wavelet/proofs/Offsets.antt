@@ -1,5 +1,5 @@
 -- Occurrences of a symbol from a place on.
-use Rattle.vers_wavelet.proofs.Names.{◌≡◌, ℕ, ◌-◌, ◌<◌, ◌≤◌, Bool, eqb, List, length, slice_get, Option, Some, None, refl, sym, arith, inl, inr, ◌↔◌, slice_index, IsSome, IfSome, range_with_len, cases_lt, le-leb, lt-leb, length-range_with_len, length-filter, count_by-le-length, slice_get_past, Symbols, occurrences, as_word, low_bits_of, places_of, place_from}
+use Rattle.vers_wavelet.proofs.Names.{◌≡◌, ℕ, ◌<◌, ◌≤◌, List, length, slice_get, Option, Some, None, refl, sym, arith, inl, inr, ◌↔◌, IsSome, IfSome, cases_lt, le-leb, lt-leb, slice_get_past, Symbols, as_word, low_bits_of, places_of, place_from}
 use Rattle.vers_wavelet.proofs.Members.{never}
 use Rattle.vers_wavelet.proofs.Lists.{no_places}
 

@@ -1,5 +1,5 @@
 -- Members by size, from one level to the next.
-use Rattle.vers_wavelet.proofs.Names.{◌≡◌, ℕ, ◌+◌, ◌-◌, ◌*◌, ◌^◌, ◌&&◌, ◌<◌, ◌≤◌, Bool, true, false, cond, leb, List, [], ◌∷◌, length, get_or, drop, refl, sym, ap, ◌∙◌, subst, arith, inl, inr, Option, Some, None, option_map, slice_get, slice_range, IfSome, if◌then◌else◌, cases_lt, length-take, slice_get-get_or, slice_get_past, bit_value, values, next, KthOf, HasRoom, member, by_size}
+use Rattle.vers_wavelet.proofs.Names.{◌≡◌, ℕ, ◌+◌, ◌-◌, ◌*◌, ◌^◌, ◌&&◌, ◌<◌, ◌≤◌, Bool, false, cond, leb, List, [], ◌∷◌, length, get_or, drop, refl, sym, ap, ◌∙◌, arith, inl, inr, Option, Some, None, option_map, slice_get, slice_range, IfSome, if◌then◌else◌, cases_lt, length-take, slice_get-get_or, slice_get_past, bit_value, values, next, KthOf, HasRoom, member, by_size}
 use Rattle.vers_wavelet.proofs.BySize.{length-by_size, kth_at, at_kth}
 use Rattle.vers_wavelet.proofs.Steps.{kth_step, kth-lt}
 use Rattle.vers_wavelet.proofs.Lists.{length-values, length-part, kth_is}

@@ -1,5 +1,5 @@
 -- The members of a range by size, and symbols that are numbers of the machine.
-use Rattle.vers_wavelet.proofs.Names.{◌≡◌, ℕ, ◌+◌, ◌-◌, ◌<◌, ◌≤◌, List, [], ◌∷◌, length, get_or, Option, Some, None, refl, sym, ap, ◌∙◌, subst, arith, inl, inr, slice_range, IsSome, ◌↔◌, nil_from_length, cases_lt, le-leb, lt-leb, by_size, range_members, kth_by_size, as_word}
+use Rattle.vers_wavelet.proofs.Names.{◌≡◌, ℕ, ◌+◌, ◌-◌, ◌<◌, ◌≤◌, List, [], length, get_or, Option, Some, None, refl, sym, ap, ◌∙◌, subst, arith, inl, inr, slice_range, IsSome, ◌↔◌, nil_from_length, cases_lt, le-leb, lt-leb, by_size, range_members, kth_by_size, as_word}
 use Rattle.vers_wavelet.proofs.BySize.{kth_some, kth_none}
 use Rattle.vers_wavelet.proofs.Members.{part_length, never}
 use Rattle.vers_wavelet.proofs.Items.{whole_range}

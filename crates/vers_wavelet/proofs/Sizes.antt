@@ -1,5 +1,5 @@
 -- How often a digit is a one, level by level, and what the levels take.
-use Rattle.vers_wavelet.proofs.Names.{◌≡◌, ℕ, zero, suc, ◌+◌, ◌-◌, ◌<◌, ◌≤◌, Bool, true, false, cond, eqb, List, [], ◌∷◌, length, get_or, refl, sym, ap, ◌∙◌, arith, add-one, inl, inr, bit_at, range_with_len, sum_by, AllZip, each_same, cases_Bool, map-id, length-map, get_or-map, sum_by-map-range_with_len_more, bit_at_cat_low, bit_at_cat_high, bit_value, is_bit, count, count_none, count_both, count_more_yes, count_more_no, index_size, digit_list, start, next, value, values, hits, digit, Even, AreLevels}
+use Rattle.vers_wavelet.proofs.Names.{◌≡◌, ℕ, zero, suc, ◌+◌, ◌-◌, ◌<◌, Bool, true, false, eqb, List, [], ◌∷◌, length, get_or, refl, sym, ap, ◌∙◌, arith, bit_at, range_with_len, sum_by, AllZip, each_same, map-id, length-map, get_or-map, sum_by-map-range_with_len_more, bit_at_cat_low, bit_at_cat_high, bit_value, is_bit, count, count_both, index_size, digit_list, next, value, values, hits, digit, Even, AreLevels}
 use Rattle.vers_wavelet.proofs.Values.{hits_same, split_all, value_is, value-lt}
 use Rattle.vers_wavelet.proofs.Steps.{even_first, even_rest}
 use Rattle.vers_wavelet.proofs.Lists.{length-values, get_or-values, taken_hits}

@@ -1,5 +1,5 @@
 -- One level of a search.
-use Rattle.vers_wavelet.proofs.Names.{◌≡◌, ℕ, zero, suc, ◌+◌, ◌-◌, ◌*◌, ◌%◌, ◌^◌, ◌<◌, ◌≤◌, Bool, true, false, cond, List, [], ◌∷◌, length, take, drop, get_or, refl, sym, ap, ◌∙◌, subst, arith, add-one, inl, inr, drop-cons, pow-suc, mod-lt, mod-eq_of_lt, mul-le-mul_right, mod-one, cases_lt, pow_pos, length-drop, drop_all, take_all, bit_value, bit_value_le, count, select, select_holds, Reads, IsWithin, times, start, next, value, under, equal, way, digit, Even, AreLevels, Narrowed, KthOf, HasRoom, Searched, Rises}
+use Rattle.vers_wavelet.proofs.Names.{◌≡◌, ℕ, zero, suc, ◌+◌, ◌-◌, ◌*◌, ◌%◌, ◌^◌, ◌<◌, ◌≤◌, Bool, false, cond, List, [], ◌∷◌, length, take, drop, get_or, refl, sym, ap, ◌∙◌, subst, arith, add-one, inl, inr, drop-cons, pow-suc, mod-lt, mod-eq_of_lt, mul-le-mul_right, mod-one, cases_lt, pow_pos, length-drop, drop_all, take_all, bit_value, bit_value_le, count, select, select_holds, Reads, IsWithin, times, start, next, value, under, equal, way, digit, Even, AreLevels, Narrowed, KthOf, HasRoom, Searched, Rises}
 use Rattle.vers_wavelet.proofs.Digits.{top_digit, one_split}
 use Rattle.vers_wavelet.proofs.Values.{same_bit, value-lt, under_all, under_step, equal_under, next_none, next-up, next-le, none_under, all_equal, value_is, value_none, way_none, way_is, way-up, equal_more}
 

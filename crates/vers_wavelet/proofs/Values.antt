@@ -1,5 +1,5 @@
 -- How places and counts of symbols go from one level to the next.
-use Rattle.vers_wavelet.proofs.Names.{◌≡◌, ℕ, zero, suc, ◌+◌, ◌-◌, ◌*◌, ◌^◌, ◌<◌, ◌≤◌, Bool, true, false, true≢false, cond, ltb, leb, eqb, List, [], ◌∷◌, length, get_or, refl, sym, ap, ◌∙◌, arith, add-one, add-zero, inl, inr, pow-suc, mul-le-mul_right, cases_Bool, cases_lt, lt-ltb, le-ltb, le-leb, leb-true, ltb-true, eq-eqb, nat_tests, bit_value, bit_value_le, hits, is_bit, count, count_le, count_up, count_near, count_both, count_past, count_more_yes, count_more_no, start, next, value, under, equal, way, digit}
+use Rattle.vers_wavelet.proofs.Names.{◌≡◌, ℕ, zero, suc, ◌+◌, ◌-◌, ◌*◌, ◌^◌, ◌<◌, ◌≤◌, Bool, true, false, cond, ltb, leb, eqb, List, [], ◌∷◌, length, get_or, refl, sym, ap, ◌∙◌, arith, add-one, add-zero, inl, inr, pow-suc, mul-le-mul_right, cases_Bool, cases_lt, lt-ltb, le-ltb, le-leb, leb-true, ltb-true, eq-eqb, nat_tests, bit_value, bit_value_le, hits, is_bit, count, count_le, count_up, count_near, count_both, count_past, count_more_yes, count_more_no, start, next, value, under, equal, way, digit}
 
 pub next_none : (b : Bool) (l : List Bool) → next b l 0 ≡ start b l
 unfolding next count

@@ -1,5 +1,5 @@
 -- The length of a walk's level, and what walks read.
-use Rattle.vers_wavelet.proofs.Names.{rules, ◌≡◌, ℕ, ◌+◌, ◌-◌, ◌*◌, ◌%◌, ◌^◌, ◌<◌, ◌≤◌, Bool, List, length, drop, get_or, ap, subst, ◌∙◌, arith, Reads, AddsAtMost, times, adds_nothing, adds_then, adds_weaker, rank_reads, select_reads, adds_times, under, way, Even, Narrowed}
+use Rattle.vers_wavelet.proofs.Names.{rules, ◌≡◌, ℕ, ◌+◌, ◌-◌, ◌*◌, ◌%◌, ◌^◌, ◌<◌, ◌≤◌, Bool, List, length, drop, get_or, ap, ◌∙◌, arith, Reads, AddsAtMost, times, adds_nothing, adds_then, adds_weaker, rank_reads, select_reads, adds_times, under, way, Even, Narrowed}
 use Rattle.vers_wavelet.proofs.Steps.{times_less}
 
 pub level_length : (ls : List (List Bool)) (n k : ℕ) (v : List Bool) → Even ls n → v ≡ get_or ls k v → k < length ls → length v ≡ n

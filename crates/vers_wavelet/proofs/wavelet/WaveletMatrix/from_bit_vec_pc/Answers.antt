@@ -1,4 +1,4 @@
-use Rattle.vers_wavelet.proofs.Names.{arith, ◌≡◌, ◌*◌, ◌/◌, ◌%◌, ◌^◌, ◌∙◌, length, map, range_with_len, IfOk-weaker, number, part, Symbols, packed_symbols}
+use Rattle.vers_wavelet.proofs.Names.{arith}
 use Rattle.vers_wavelet.proofs.Makes.{packed_made, too_wide}
 use Rattle.vers_wavelet.proofs.wavelet.WaveletMatrix.from_bit_vec_pc.Goals as goal
 

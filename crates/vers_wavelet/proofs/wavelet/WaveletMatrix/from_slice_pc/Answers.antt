@@ -1,4 +1,4 @@
-use Rattle.vers_wavelet.proofs.Names.{arith, ◌≡◌, ◌%◌, ◌^◌, ◌∙◌, map, IfOk-weaker, Symbols, low_symbols}
+use Rattle.vers_wavelet.proofs.Names.{arith}
 use Rattle.vers_wavelet.proofs.Makes.{low_made, too_wide}
 use Rattle.vers_wavelet.proofs.wavelet.WaveletMatrix.from_slice_pc.Goals as goal
 

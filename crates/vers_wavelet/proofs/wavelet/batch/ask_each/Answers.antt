@@ -1,4 +1,4 @@
-use Rattle.vers_wavelet.proofs.Names.{◌≡◌, ◌+◌, ◌-◌, ℕ, Bool, List, [], ◌∷◌, arith, length, drop, ap, sym, ◌∙◌, refl, subst, drop_all, AddsAtMost, times, rank_reads}
+use Rattle.vers_wavelet.proofs.Names.{◌≡◌, ◌+◌, ◌-◌, ℕ, Bool, List, [], arith, length, drop, ap, ◌∙◌, refl, drop_all, times, rank_reads}
 use Rattle.vers_wavelet.proofs.Steps.{level_at, levels_left}
 use Rattle.vers_wavelet.proofs.Batches.{become_weaker, become_then, become_all, adds_once_more}
 use Rattle.vers_wavelet.proofs.Walks.{adds_no_times}

@@ -1,4 +1,4 @@
-use Rattle.vers_wavelet.proofs.Names.{◌≡◌, ◌+◌, ◌-◌, ◌*◌, ◌%◌, ◌^◌, ℕ, arith, ap, ◌∙◌, refl, sym, subst, ◌≤◌, bit_value, HasRoom}
+use Rattle.vers_wavelet.proofs.Names.{◌≡◌, ◌+◌, ◌-◌, ◌*◌, ◌%◌, ◌^◌, ℕ, arith, ap, ◌∙◌, refl, sym, ◌≤◌, bit_value}
 use Rattle.vers_wavelet.proofs.Digits.{room_none, room_left, room_more, top_digit}
 use Rattle.vers_wavelet.proofs.wavelet.digits.copy_digits.Goals as goal
 

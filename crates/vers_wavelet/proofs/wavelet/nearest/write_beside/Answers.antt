@@ -1,4 +1,4 @@
-use Rattle.vers_wavelet.proofs.Names.{◌≡◌, ◌+◌, ◌-◌, ◌*◌, ◌^◌, ℕ, List, Bool, arith, length, drop, sym, subst, length-drop, bit_value, KthOf}
+use Rattle.vers_wavelet.proofs.Names.{◌≡◌, ◌+◌, ◌-◌, ◌*◌, ◌^◌, ℕ, arith, length, drop, sym, length-drop, bit_value}
 use Rattle.vers_wavelet.proofs.Digits.{room_more}
 use Rattle.vers_wavelet.proofs.Steps.{even_drop, levels_from}
 use Rattle.vers_wavelet.proofs.wavelet.nearest.write_beside.Goals as goal

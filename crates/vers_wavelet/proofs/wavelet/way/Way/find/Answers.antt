@@ -1,4 +1,4 @@
-use Rattle.vers_wavelet.proofs.Names.{length-set, ◌≡◌, ◌+◌, ◌-◌, ◌*◌, ℕ, arith, cond, false, length, ap, ◌∙◌, refl, subst, KthOf, next}
+use Rattle.vers_wavelet.proofs.Names.{length-set, ◌≡◌, ◌+◌, ◌-◌, ◌*◌, ℕ, arith, cond, false, length, ap, ◌∙◌, refl, next}
 use Rattle.vers_wavelet.proofs.Digits.{room_left, room_more}
 use Rattle.vers_wavelet.proofs.Steps.{searched_more, searched_all}
 use Rattle.vers_wavelet.proofs.Ways.{nodes_set}

@@ -1,4 +1,4 @@
-use Rattle.vers_wavelet.proofs.Names.{arith, false}
+use Rattle.vers_wavelet.proofs.Names.{arith}
 use Rattle.vers_wavelet.proofs.Digits.{room_more}
 use Rattle.vers_wavelet.proofs.Quantiles.{quantile_goes}
 use Rattle.vers_wavelet.proofs.wavelet.batch.quantile.QuantileQueryQuery.step.Goals as goal

@@ -1,4 +1,4 @@
-use Rattle.vers_wavelet.proofs.Names.{both_ways, ◌<◌, ◌≡◌, ◌+◌, ◌-◌, ℕ, Bool, List, arith, length, ap, refl, ◌∙◌, select, next, start, way}
+use Rattle.vers_wavelet.proofs.Names.{both_ways, ◌<◌, ◌≡◌, ◌+◌, ◌-◌, Bool, List, arith, length, ap, refl, ◌∙◌, select, next, start, way}
 use Rattle.vers_wavelet.proofs.Steps.{rise_inside, rise_to}
 use Rattle.vers_wavelet.proofs.Walks.{level_length}
 use Rattle.vers_wavelet.proofs.wavelet.batch.select.SelectQuery.rise.Goals as goal
