@@ -177,11 +177,6 @@ module _ (ls : List (List Bool)) (k : ℕ) (h : k < length ls) (v : List Bool) (
   abbrev weight : ℕ
   weight = 2 ^ (length ls - (k + 1))
 
-  next_power : 2 ^ (length ls - k) ≡ 2 * weight
-  next_power =
-      let e : length ls - k ≡ suc (length ls - (k + 1)) = omega arith in
-      ap (λ n. 2 ^ n) e ∙ omega (arith, pow-suc 2 (length ls - (k + 1)))
-
   pub searched_more : (bit : Bool) (from to th a b i j number : ℕ) → a ≤ b → b ≤ length v → j + cond bit (next false v b - next false v a) 0 ≡ i
       → Searched ls from to th k a b i number
       → Searched ls from to th (k + 1) (next bit v a) (next bit v b) j (number + bit_value bit * weight)
@@ -190,7 +185,8 @@ module _ (ls : List (List Bool)) (k : ℕ) (h : k < length ls) (v : List Bool) (
         let left = levels_left ls k h in
         let here = kth_step bit v (drop (k + 1) ls) a b i j x order within (rw left small) e kth in
         let sum : number + (bit_value bit * weight + x) ≡ number + bit_value bit * weight + x = omega arith in
-        let fits : bit_value bit * weight + x < 2 ^ (length ls - k) = omega (arith, next_power, mul-le-mul_right weight (bit_value_le bit)) in
+        let deeper : length ls - k ≡ suc (length ls - (k + 1)) = omega arith in
+        let fits : bit_value bit * weight + x < 2 ^ (length ls - k) = rw deeper (omega (arith, pow-suc 2 (length ls - (k + 1)), mul-le-mul_right weight (bit_value_le bit))) in
         rw (← sum) (s.each (bit_value bit * weight + x) fits (rw (level_at ls k h v at, ← left) here));
   }
 

@@ -92,9 +92,6 @@ module _ (ls : List (List Bool)) (n s from to k : ℕ) (h : k < length ls) (v : 
             (found number (omega (arith, e, ap (λ i. s % 2 ^ i) here))).1;
       })
 
-nothing_left : (up : Bool) (a : ℕ) → cond up (0 + a) 0 ≡ cond up a 0
-nothing_left up a = grind arith
-
 -- before the first level
 pub follows_none : (up : Bool) (ls : List (List Bool)) (n s from to : ℕ) → from ≤ to → to ≤ n
     → Follows up ls n s from to 0 (record { part = record { start = from; end = to; less = 0 }; beside = record { level = 0; start = 0; end = 0 } })
@@ -111,7 +108,7 @@ follows_none up ls n s from to order within =
           let none : s % 2 ^ length ls - s % 2 ^ (length ls - 0) ≡ 0 = omega (arith, all) in
           let same : 0 + j ≡ j = omega arith in
           rw (none, same) (searched_none ls from to j);
-      leaves = record { order = omega arith; within = omega arith; none = λ q. nothing_left up (to - from); some = λ q. absurd (omega (arith, q)); found = λ q number e. absurd (omega (arith, q)) };
+      leaves = record { order = omega arith; within = omega arith; none = λ q. grind arith; some = λ q. absurd (omega (arith, q)); found = λ q number e. absurd (omega (arith, q)) };
     }
 
 -- ---- what is found
