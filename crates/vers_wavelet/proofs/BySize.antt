@@ -99,6 +99,8 @@ kth_none xs i h = slice_get_past (by_size xs) i (omega (arith, length-by_size xs
 pub kth_is : (xs : List ℕ) (i x : ℕ) → (kth_by_size xs i ≡ Some x) ↔ IsKth xs i x
 unfolding kth_by_size
 kth_is xs i x = (
-  λ is. subst (IsKth xs i) (get_or_from_slice_get (by_size xs) i x 0 is) (at_kth xs i (omega (arith, slice_get_within (by_size xs) i x is, length-by_size xs))),
+  λ is.
+      let inside : i < length xs = omega (arith, slice_get_within (by_size xs) i x is, length-by_size xs) in
+      subst (IsKth xs i) (get_or_from_slice_get (by_size xs) i x 0 is) (at_kth xs i inside),
   λ kth. kth_some xs i x (kth_within xs i x kth) (kth_place xs i x kth),
 )

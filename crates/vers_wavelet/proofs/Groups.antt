@@ -12,12 +12,14 @@ for_both P zeros ones false = zeros
 
 -- a number that was appended to those of its kind
 module _ (zeros ones more_zeros more_ones : Asked) (slot : ℕ) where
-  pub slot_put : (bit : Bool) → slot ≡ (cond bit ones zeros).count → more_zeros.count ≡ zeros.count + cond (not bit) 1 0 → more_ones.count ≡ ones.count + cond bit 1 0
+  pub slot_put : (bit : Bool) → slot ≡ (cond bit ones zeros).count → more_zeros.count ≡ zeros.count + cond (not bit) 1 0
+      → more_ones.count ≡ ones.count + cond bit 1 0
       → slot < (cond bit more_ones more_zeros).count
   slot_put true is z o = omega arith
   slot_put false is z o = omega arith
 
-  pub number_put : (number : ℕ) (bit : Bool) → slot ≡ (cond bit ones zeros).count → (not bit ≡ true → get_or more_zeros.numbers zeros.count 0 ≡ number)
+  pub number_put : (number : ℕ) (bit : Bool) → slot ≡ (cond bit ones zeros).count
+      → (not bit ≡ true → get_or more_zeros.numbers zeros.count 0 ≡ number)
       → (bit ≡ true → get_or more_ones.numbers ones.count 0 ≡ number) → get_or (cond bit more_ones more_zeros).numbers slot 0 ≡ number
   number_put number true is z o = rw is (o refl)
   number_put number false is z o = rw is (z refl)

@@ -108,7 +108,8 @@ found_is {ls} {n} levels s a r from to p start e f few within holds leads =
     ] in
     let many : length (occurrences (values ls n) a n v) ≡ to - from = sym (count_is levels s a n from to start (omega arith) (omega (arith, e, f))) in
     let before : count_by q (range_with_len a (p - a)) ≡ r =
-    omega (arith, length-filter q (range_with_len a (p - a)), occurrences_are ls n a p v order (omega arith), way_equal ls n levels.even s a start, way_equal ls n levels.even s p (omega arith)) in
+    (let held = occurrences_are ls n a p v order (omega arith) in
+    omega (arith, held, length-filter q (range_with_len a (p - a)), way_equal ls n levels.even s a start, way_equal ls n levels.even s p (omega arith))) in
     let at : get_or (filter q (range_with_len a (n - a))) r p ≡ p =
     nth_passing q a (n - a) p p r order (omega arith) (ap (λ x. eqb x v) (get_or-values ls n p 0 within) ∙ eq-eqb (value ls p) v holds) before in
     sym (slice_get-get_or (occurrences (values ls n) a n v) r p (omega arith) ∙ ap Some at)

@@ -18,7 +18,8 @@ count-le : (p q : ℕ → Bool) (xs : List ℕ) → ((y : ℕ) → p y ≡ true 
 count-le p q xs up = sum_by-le-sum_by (λ y. cond (p y) 1 0) (λ y. cond (q y) 1 0) xs (λ y. one_up (p y) (q y) (up y))
 
 -- where more members pass one test than another, one passes that alone
-found_between : (p q : ℕ → Bool) (xs : List ℕ) → count_by p xs < count_by q xs → (k : ℕ) × (k < length xs) × (p (get_or xs k 0) ≡ false) × (q (get_or xs k 0) ≡ true)
+found_between : (p q : ℕ → Bool) (xs : List ℕ) → count_by p xs < count_by q xs
+    → (k : ℕ) × (k < length xs) × (p (get_or xs k 0) ≡ false) × (q (get_or xs k 0) ≡ true)
 found_between p q [] h = absurd (omega arith)
 found_between p q (x ∷ xs) h =
     elim (cases_lt (one (p x)) (one (q x))) [
@@ -29,7 +30,8 @@ found_between p q (x ∷ xs) h =
     ]
 
 -- a test that is passed where another is passes more members, if it passes one that the other does not
-less_between : (p q : ℕ → Bool) → ((y : ℕ) → p y ≡ true → q y ≡ true) → (xs : List ℕ) (k : ℕ) → k < length xs → p (get_or xs k 0) ≡ false → q (get_or xs k 0) ≡ true
+less_between : (p q : ℕ → Bool) → ((y : ℕ) → p y ≡ true → q y ≡ true) → (xs : List ℕ) (k : ℕ) → k < length xs → p (get_or xs k 0) ≡ false
+    → q (get_or xs k 0) ≡ true
     → count_by p xs < count_by q xs
 less_between p q up [] k h off on = absurd (omega arith)
 less_between p q up (x ∷ xs) zero h off on = omega (arith, count_cons p x xs, count_cons q x xs, count-le p q xs up, ap one off, ap one on)

@@ -75,7 +75,8 @@ one_successor xs s x y p q =
     omega (arith, p.member.2, q.member.2, above, below)
 
 -- a search finds just what is in a relation, if it finds something there where something is in it, and only one number is
-just_where : (o : Option ℕ) (R : ℕ → Type 0) → ((x y : ℕ) → R x → R y → x ≡ y) → (IsSome o → (x : ℕ) × (o ≡ Some x) × R x) → ((x : ℕ) → R x → IsSome o)
+just_where : (o : Option ℕ) (R : ℕ → Type 0) → ((x y : ℕ) → R x → R y → x ≡ y) → (IsSome o → (x : ℕ) × (o ≡ Some x) × R x)
+    → ((x : ℕ) → R x → IsSome o)
     → (x : ℕ) → (o ≡ Some x) ↔ R x
 just_where o R one some held x = (
   λ is.

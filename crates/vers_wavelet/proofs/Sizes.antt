@@ -7,7 +7,8 @@ use Rattle.vers_wavelet.proofs.Lists.{length-values, get_or-values, taken_hits}
 -- the places of a level take all places of the next, each once
 all_moved : (g : ℕ → Bool) (l : List Bool) (n : ℕ) → length l ≡ n → hits (λ p. g (next (get_or l p false) l p)) n ≡ hits g n
 all_moved g l n long =
-    omega (arith, split_all l (λ p. g (next (get_or l p false) l p)) g g (λ p off. ap (λ b. g (next b l p)) off) (λ p on. ap (λ b. g (next b l p)) on) n long)
+    let same = λ (b : Bool) (p : ℕ) (is : get_or l p false ≡ b). ap (λ c. g (next c l p)) is in
+    omega (arith, split_all l (λ p. g (next (get_or l p false) l p)) g g (same false) (same true) n long)
 
 digit_low : (l : List Bool) (ls : List (List Bool)) (p i : ℕ) → i < length ls → digit (value (l ∷ ls) p) i ≡ digit (value ls (next (get_or l p false) l p)) i
 digit_low l ls p i h =

@@ -3,7 +3,8 @@ use Rattle.vers_wavelet.proofs.Names.{◌≡◌, ℕ, zero, suc, ◌+◌, ◌-�
 use Rattle.vers_wavelet.proofs.Digits.{top_digit, one_split}
 use Rattle.vers_wavelet.proofs.Values.{same_bit, value-lt, under_all, under_step, equal_under, next_none, next-up, next-le, none_under, all_equal, value_is, value_none, way_none, way_is, way-up, equal_more}
 
-equal_step : (bit : Bool) (l : List Bool) (ls : List (List Bool)) (s y i : ℕ) → y ≡ bit_value bit * 2 ^ length ls + s → s < 2 ^ length ls → i ≤ length l
+equal_step : (bit : Bool) (l : List Bool) (ls : List (List Bool)) (s y i : ℕ) → y ≡ bit_value bit * 2 ^ length ls + s → s < 2 ^ length ls
+    → i ≤ length l
     → equal (l ∷ ls) y i + equal ls s (start bit l) ≡ equal ls s (next bit l i)
 equal_step bit l ls s y i e small h =
     let below = under_step bit l ls s y i e (omega arith) h in
@@ -14,21 +15,17 @@ cond_gap : (bit : Bool) (a b : ℕ) → a ≤ b → cond bit b 0 ≡ cond bit a 
 cond_gap bit a b order = grind arith
 
 -- of the places that go on with the bit, member j by size makes member i of all
-pub kth_step : (bit : Bool) (l : List Bool) (ls : List (List Bool)) (a b i j x : ℕ) → a ≤ b → b ≤ length l → x < 2 ^ length ls → j + cond bit (next false l b - next false l a) 0 ≡ i
+pub kth_step : (bit : Bool) (l : List Bool) (ls : List (List Bool)) (a b i j x : ℕ) → a ≤ b → b ≤ length l → x < 2 ^ length ls
+    → j + cond bit (next false l b - next false l a) 0 ≡ i
     → KthOf ls (next bit l a) (next bit l b) j x → KthOf (l ∷ ls) a b i (bit_value bit * 2 ^ length ls + x)
 kth_step bit l ls a b i j x order within small e k =
     let y : ℕ = bit_value bit * 2 ^ length ls + x in
     let zeros = cond_gap bit (next false l a) (next false l b) (next-up false l a b order) in
+    let first = λ (p : ℕ) (h : p ≤ length l). under_step bit l ls x y p refl (omega arith) h in
+    let last = λ (p : ℕ) (h : p ≤ length l). under_step bit l ls (x + 1) (y + 1) p (omega arith) (omega arith) h in
     record {
-      less = omega (arith, e, zeros, k.less, under_step bit l ls x y a refl (omega arith) (omega arith), under_step bit l ls x y b refl (omega arith) within);
-      more = omega (
-        arith,
-        e,
-        zeros,
-        k.more,
-        under_step bit l ls (x + 1) (y + 1) a (omega arith) (omega arith) (omega arith),
-        under_step bit l ls (x + 1) (y + 1) b (omega arith) (omega arith) within,
-      );
+      less = omega (arith, e, zeros, k.less, first a (omega arith), first b within);
+      more = omega (arith, e, zeros, k.more, last a (omega arith), last b within);
     }
 
 pub kth-lt : (ls : List (List Bool)) (a b i x : ℕ) → KthOf ls a b i x → a + i < b → x < 2 ^ length ls
@@ -71,7 +68,8 @@ way_equal (l ∷ ls) n even s i h =
     let whole = ap (λ m. s % 2 ^ m) (sym (add-one (length ls))) ∙ top_digit s (length ls) in
     let here = way_equal ls n (even_rest l ls n even) s (next bit l i) (omega (arith, next-le bit l i, even_first l ls n even)) in
     let first = way_equal ls n (even_rest l ls n even) s (start bit l) (omega (arith, start_le bit l, even_first l ls n even)) in
-    let step = equal_step bit l ls (s % 2 ^ length ls) (s % 2 ^ length (l ∷ ls)) i whole (mod-lt s (pow_pos (length ls))) (omega (arith, even_first l ls n even)) in
+    let small = mod-lt s (pow_pos (length ls)) in
+    let step = equal_step bit l ls (s % 2 ^ length ls) (s % 2 ^ length (l ∷ ls)) i whole small (omega (arith, even_first l ls n even)) in
     omega (arith, step, here, first, way_is l ls s i, way_is l ls s 0, ap (way ls s) (next_none bit l))
 
 -- a place that holds s has a place of its own there
@@ -186,7 +184,8 @@ module _ (ls : List (List Bool)) (k : ℕ) (h : k < length ls) (v : List Bool) (
         let here = kth_step bit v (drop (k + 1) ls) a b i j x order within (rw left small) e kth in
         let sum : number + (bit_value bit * weight + x) ≡ number + bit_value bit * weight + x = omega arith in
         let deeper : length ls - k ≡ suc (length ls - (k + 1)) = omega arith in
-        let fits : bit_value bit * weight + x < 2 ^ (length ls - k) = rw deeper (omega (arith, pow-suc 2 (length ls - (k + 1)), mul-le-mul_right weight (bit_value_le bit))) in
+        let fits : bit_value bit * weight + x < 2 ^ (length ls - k) =
+        rw deeper (omega (arith, pow-suc 2 (length ls - (k + 1)), mul-le-mul_right weight (bit_value_le bit))) in
         rw (← sum) (s.each (bit_value bit * weight + x) fits (rw (level_at ls k h v at, ← left) here));
   }
 
@@ -220,7 +219,8 @@ pub searched_all : {ls : List (List Bool)} {from to th k a b i number : ℕ} →
 searched_all {ls} {from} {to} {th} {k} {a} {b} {i} {number} e s order =
     let none : drop k ls ≡ [] = drop_all k ls (omega arith) in
     let w : 2 ^ (length ls - k) ≡ 1 = (let z : length ls - k ≡ 0 = omega arith in ap (λ n. 2 ^ n) z) in
-    let kth : KthOf [] a b i 0 = record { less = omega (arith, none_under a, none_under b); more = omega (arith, under_all [] 1 a (omega arith), under_all [] 1 b (omega arith)) } in
+    let all = λ (n : ℕ). under_all [] 1 n (omega arith) in
+    let kth : KthOf [] a b i 0 = record { less = omega (arith, none_under a, none_under b); more = omega (arith, all a, all b) } in
     let r : number + 0 ≡ number = omega arith in
     subst (KthOf ls from to th) r (s.each 0 (omega (arith, w)) (rw none kth))
 

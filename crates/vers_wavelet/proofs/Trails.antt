@@ -79,7 +79,8 @@ module _ (ls : List (List Bool)) (n s from to k : ℕ) (h : k < length ls) (v : 
 
   pub leaves_new : (up : Bool) (t u : Trail) → Follows up ls n s from to k t → u.part.start ≡ next bit v t.part.start → u.part.end ≡ next bit v t.part.end
       → u.part.less ≡ t.part.less + cond bit (next false v t.part.end - next false v t.part.start) 0
-      → u.beside.level ≡ k + 1 → u.beside.start ≡ next up v t.part.start → u.beside.end ≡ next up v t.part.end → bit ≡ not up → next up v t.part.start < next up v t.part.end → Leaves up ls n s from to u
+      → u.beside.level ≡ k + 1 → u.beside.start ≡ next up v t.part.start → u.beside.end ≡ next up v t.part.end → bit ≡ not up
+      → next up v t.part.start < next up v t.part.end → Leaves up ls n s from to u
   leaves_new up t u f first last less deep left right other some =
       let found = λ (number : ℕ) (e : number ≡ s % 2 ^ m - s % 2 ^ (m - k)). left_found up t.part.start t.part.end t.part.less u.part.start u.part.end u.part.less number other f.order (omega (arith, f.within)) first last less some e f.searched in
       rw (deep, left, right) (record {

@@ -48,7 +48,8 @@ all_hits zero = refl
 all_hits (suc n) = omega (arith, all_hits n)
 
 -- the zeros and the ones of a level go to places of their own in the next
-pub split_hits : (l : List Bool) (h f g : ℕ → Bool) → ((p : ℕ) → get_or l p false ≡ false → h p ≡ f (next false l p)) → ((p : ℕ) → get_or l p false ≡ true → h p ≡ g (next true l p))
+pub split_hits : (l : List Bool) (h f g : ℕ → Bool) → ((p : ℕ) → get_or l p false ≡ false → h p ≡ f (next false l p))
+    → ((p : ℕ) → get_or l p false ≡ true → h p ≡ g (next true l p))
     → (i : ℕ) → i ≤ length l → hits h i + hits g (start true l) ≡ hits f (next false l i) + hits g (next true l i)
 split_hits l h f g low high zero within = omega (arith, ap (hits f) (next_none false l), ap (hits g) (next_none true l))
 split_hits l h f g low high (suc i) within =
@@ -71,7 +72,8 @@ unfolding under
 under_all ls y n h = hits_same _ (λ p. true) n (λ p k. lt-ltb (value ls p) y (omega (arith, value-lt ls p))) ∙ all_hits n
 
 -- those below a symbol y, whose first digit is the bit and whose others are s, by those that go on with that digit
-pub under_step : (bit : Bool) (l : List Bool) (ls : List (List Bool)) (s y i : ℕ) → y ≡ bit_value bit * 2 ^ length ls + s → s ≤ 2 ^ length ls → i ≤ length l
+pub under_step : (bit : Bool) (l : List Bool) (ls : List (List Bool)) (s y i : ℕ) → y ≡ bit_value bit * 2 ^ length ls + s → s ≤ 2 ^ length ls
+    → i ≤ length l
     → under (l ∷ ls) y i + under ls s (start bit l) ≡ cond bit (next false l i) 0 + under ls s (next bit l i)
 unfolding under
 under_step true l ls s y i e small h =
@@ -157,7 +159,8 @@ unfolding next
 next_false_all l = omega arith
 
 -- the places of a level take all places of the next, each once
-pub split_all : (l : List Bool) (h f g : ℕ → Bool) → ((p : ℕ) → get_or l p false ≡ false → h p ≡ f (next false l p)) → ((p : ℕ) → get_or l p false ≡ true → h p ≡ g (next true l p))
+pub split_all : (l : List Bool) (h f g : ℕ → Bool) → ((p : ℕ) → get_or l p false ≡ false → h p ≡ f (next false l p))
+    → ((p : ℕ) → get_or l p false ≡ true → h p ≡ g (next true l p))
     → (n : ℕ) → length l ≡ n → hits h n + hits g (start true l) ≡ hits f (start true l) + hits g n
 split_all l h f g low high n long =
     rw (← long) (omega (arith, split_hits l h f g low high (length l) (omega arith), ap (hits f) (next_false_all l), ap (hits g) (next_true_all l)))
@@ -168,7 +171,8 @@ of_ones l z p zeros h = (λ t. (omega (arith, zeros, leb-true z p t), omega (ari
 
 pub of_zeros : (l : List Bool) (z p : ℕ) → z ≡ count false l (length l) → p < length l
     → (ltb p z ≡ true → (start false l ≤ p) × (p < next false l (length l))) × ((start false l ≤ p) × (p < next false l (length l)) → ltb p z ≡ true)
-of_zeros l z p zeros h = (λ t. (omega arith, omega (arith, zeros, next_false_all l, ltb-true p z t)), λ t. lt-ltb p z (omega (arith, zeros, next_false_all l, t.1)))
+of_zeros l z p zeros h =
+    let all = next_false_all l in (λ t. (omega arith, omega (arith, zeros, all, ltb-true p z t)), λ t. lt-ltb p z (omega (arith, zeros, all, t.1)))
 
 -- a place that holds the bit has its own place in the next level
 pub next-lt : (b : Bool) (l : List Bool) (i : ℕ) → i < length l → get_or l i false ≡ b → next b l i < length l

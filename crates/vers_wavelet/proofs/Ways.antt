@@ -92,4 +92,5 @@ nodes_set ls n k nodes node inside each is j d h =
 -- member i of the levels is that of the symbols by size
 pub sorted_kth : (ls : List (List Bool)) (n i x : ℕ) → KthOf ls 0 n i x → x ≡ get_or (by_size (values ls n)) i 0
 sorted_kth ls n i x kth =
-    sorted_member (values ls n) i x n (sym (length-values ls n)) (kth_place (slice_range (values ls n) 0 n) i x ((kth_is ls n 0 n i x (omega arith) (omega arith)).0 kth))
+    sorted_member (values ls n) i x n (sym (length-values ls n))
+    (kth_place (slice_range (values ls n) 0 n) i x ((kth_is ls n 0 n i x (omega arith) (omega arith)).0 kth))

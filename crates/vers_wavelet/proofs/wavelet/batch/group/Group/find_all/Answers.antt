@@ -4,7 +4,8 @@ use Rattle.vers_wavelet.proofs.wavelet.batch.group.Group.find_all.Goals as goal
 
 pub returns-clause-places : goal.returns-clause-places
 returns-clause-places g c = λ i j q has.
-    place_found refl (for_both _ (omega (arith, c.requires.all, c.requires.few)) (omega (arith, c.requires.all, c.requires.few))) (for_both _ c.find_each.ensures.found c.find_each-2.ensures.found) has
+    place_found refl (for_both _ (omega (arith, c.requires.all, c.requires.few)) (omega (arith, c.requires.all, c.requires.few)))
+    (for_both _ c.find_each.ensures.found c.find_each-2.ensures.found) has
 
 pub returns-clause-adds : goal.returns-clause-adds
 returns-clause-adds g c =

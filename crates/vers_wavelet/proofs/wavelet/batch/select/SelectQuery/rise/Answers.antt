@@ -14,7 +14,8 @@ returns g c =
     let at : c.args.above ≡ select bit v (c.in-Some.place - start bit v) =
     rw c.digit-bit.ensures (c.requires.above v c.in-Some.place c.index-levels-k.is c.in-Some.is (rw c.digit-bit.ensures at inside.0)) in
     let risen = rise_to ls c.args.self.symbol c.args.k c.requires.within v c.index-levels-k.is bit c.digit-bit.ensures
-    c.args.len c.requires.levels.even (way ls c.args.self.symbol 0 + c.args.self.rank) c.in-Some.place up inside.0 (omega (arith, inside.1, ap (next bit v) long)) in
+    c.args.len c.requires.levels.even (way ls c.args.self.symbol 0 + c.args.self.rank) c.in-Some.place up inside.0
+    (omega (arith, inside.1, ap (next bit v) long)) in
     record { rank = refl; symbol = refl; seeks = record { rises = rw at risen; some = λ h. refl } }
 
 pub returns-then-not-is_of_bit : goal.returns-then-not-is_of_bit
