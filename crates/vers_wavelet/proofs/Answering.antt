@@ -1,22 +1,9 @@
 -- What queries that go level by level answer.
-use Rattle.vers_wavelet.proofs.Names.{◌≡◌, ℕ, ◌+◌, ◌-◌, ◌*◌, ◌%◌, ◌^◌, ◌&&◌, ◌<◌, ◌≤◌, Bool, true, false, leb, ltb, List, [], ◌∷◌, length, get_or, refl, sym, ap, ◌∙◌, subst, arith, Option, Some, None, option_map, slice_get, IfSome, if◌then◌else◌, le-leb, lt-leb, leb-true, leb-false, ltb-true, ltb-false, slice_get-get_or, slice_get_past, bit_value, value, values, next, way, digit, AreLevels, Rises, Seeks, occurrences}
+use Rattle.vers_wavelet.proofs.Names.{◌≡◌, ℕ, ◌+◌, ◌-◌, ◌*◌, ◌%◌, ◌^◌, ◌&&◌, ◌<◌, ◌≤◌, Bool, false, leb, List, [], ◌∷◌, length, get_or, refl, sym, ap, ◌∙◌, arith, Option, Some, None, option_map, slice_get, IfSome, if◌then◌else◌, le-leb, lt-leb, slice_get-get_or, slice_get_past, bit_value, value, values, next, way, digit, AreLevels, Seeks, occurrences}
 use Rattle.vers_wavelet.proofs.Values.{value_is, value_none, next-up, way_is, way_none}
 use Rattle.vers_wavelet.proofs.Members.{never}
 use Rattle.vers_wavelet.proofs.Steps.{rise_none, rise_all, rise_below, way_within}
 use Rattle.vers_wavelet.proofs.Lists.{length-values, get_or-values, count_is, found_or_none}
-
--- what a test that came out says
-pub lt_passed : {t : Bool} (a b : ℕ) → t ≡ ltb a b → t ≡ true → a < b
-lt_passed a b e f = ltb-true a b (sym e ∙ f)
-
-pub lt_failed : {t : Bool} (a b : ℕ) → t ≡ ltb a b → t ≡ false → b ≤ a
-lt_failed a b e f = ltb-false a b (sym e ∙ f)
-
-pub le_passed : {t : Bool} (a b : ℕ) → t ≡ leb a b → t ≡ true → a ≤ b
-le_passed a b e f = leb-true a b (sym e ∙ f)
-
-pub le_failed : {t : Bool} (a b : ℕ) → t ≡ leb a b → t ≡ false → b < a
-le_failed a b e f = leb-false a b (sym e ∙ f)
 
 -- an answer of symbols that a word holds, and of those that it doesn't
 pub of_words : {X : Type 0} (k : ℕ) (o p : Option X) → k ≤ 64 → o ≡ p → o ≡ (if leb k 64 then p else None)
@@ -38,9 +25,7 @@ get_past ls n p h = sym (slice_get_past (values ls n) p (omega (arith, h, length
 pub get_goes : (v : List Bool) (ls : List (List Bool)) (p i number more : ℕ) (b : Bool) (o : Option ℕ) → o ≡ Some number → length ls ≡ i → get_or v p false ≡ b
     → more ≡ number + bit_value b * 2 ^ i → Some (more + value ls (next b v p)) ≡ option_map (λ y. y + value (v ∷ ls) p) o
 get_goes v ls p i number more b o is long bit e =
-    let parts : value (v ∷ ls) p ≡ bit_value b * 2 ^ i + value ls (next b v p) = value_is v ls p b bit ∙ ap (λ n. bit_value b * 2 ^ n + value ls (next b v p)) long in
-    let whole : more + value ls (next b v p) ≡ number + value (v ∷ ls) p = omega (arith, e, parts) in
-    ap Some whole ∙ sym (ap (option_map (λ y. y + value (v ∷ ls) p)) is)
+    let whole : more + value ls (next b v p) ≡ number + value (v ∷ ls) p = omega (arith, e, rw long at (value_is v ls p b bit)) in rw (is, whole)
 
 pub get_ends : (o : Option ℕ) (p : ℕ) → o ≡ option_map (λ y. y + value [] p) o
 get_ends None p = refl
@@ -70,12 +55,7 @@ pub rank_goes : (v : List Bool) (ls : List (List Bool)) (s end c i start to : �
 rank_goes v ls s end c i start to b o is long bit from last =
     let up : start ≤ to = omega (arith, from, last, next-up b v (end - c) end (omega arith)) in
     let back : to - (to - start) ≡ start = omega arith in
-    let same : b ≡ digit s (length ls) = bit ∙ ap (digit s) (sym long) in
-    let down = λ (j : ℕ). way_is v ls s j ∙ ap (λ d. way ls s (next d v j)) (sym same) in
-    let left : way ls s to ≡ way (v ∷ ls) s end = ap (way ls s) last ∙ sym (down end) in
-    let right : way ls s (to - (to - start)) ≡ way (v ∷ ls) s (end - c) = ap (way ls s) (back ∙ from) ∙ sym (down (end - c)) in
-    ap Some (ap (λ j. j - way ls s (to - (to - start))) left ∙ ap (λ j. way (v ∷ ls) s end - j) right)
-    ∙ sym (ap (option_map (λ c. way (v ∷ ls) s end - way (v ∷ ls) s (end - c))) is)
+    rw (is, back, from, last, way_is v ls s end, way_is v ls s (end - c), long, ← bit)
 
 pub rank_ends : (o : Option ℕ) (n s end : ℕ) → IfSome o (λ c. (c ≤ end) × (end ≤ n) × (0 ≤ 64)) → o ≡ option_map (λ c. way [] s end - way [] s (end - c)) o
 rank_ends None n s end kept = refl
@@ -87,10 +67,7 @@ rank_ends (Some c) n s end kept =
 
 pub select_goes : (v : List Bool) (ls : List (List Bool)) (s p i to : ℕ) (b : Bool) (o : Option ℕ) → o ≡ Some p → length ls ≡ i → b ≡ digit s i → to ≡ next b v p
     → Some (way ls s to) ≡ option_map (λ p. way (v ∷ ls) s p) o
-select_goes v ls s p i to b o is long bit at =
-    let same : b ≡ digit s (length ls) = bit ∙ ap (digit s) (sym long) in
-    let down : way ls s to ≡ way (v ∷ ls) s p = ap (way ls s) at ∙ ap (λ d. way ls s (next d v p)) same ∙ sym (way_is v ls s p) in
-    ap Some down ∙ sym (ap (option_map (λ p. way (v ∷ ls) s p)) is)
+select_goes v ls s p i to b o is long bit at = rw (is, at, bit, ← long, way_is v ls s p)
 
 pub select_ends : (o : Option ℕ) (s : ℕ) → o ≡ option_map (λ p. way [] s p) o
 select_ends None s = refl
@@ -100,8 +77,7 @@ pub turn_known : {ls : List (List Bool)} {n : ℕ} → AreLevels ls n → (s ran
     → Seeks ls n s (way ls s 0 + rank) (length ls) (Some (first + rank))
 turn_known {ls} {n} levels s rank first o is begun inside =
     let e : first ≡ way ls s 0 = cc in
-    let at : first + rank ≡ way ls s 0 + rank = ap (λ j. j + rank) e in
-    record { rises = subst (λ (q : ℕ). Rises ls n s (way ls s 0 + rank) (length ls) q) (sym at) (rise_none ls n s (way ls s 0 + rank) (omega arith)); some = λ h. refl }
+    rw e (record { rises = rise_none ls n s (way ls s 0 + rank) (omega (arith, e)); some = λ h. refl })
 
 pub turn_past : {ls : List (List Bool)} {n : ℕ} → AreLevels ls n → (s rank first : ℕ) (o : Option ℕ) → o ≡ Some first → o ≡ Some (way ls s 0) → n ≤ first + rank
     → Seeks ls n s (way ls s 0 + rank) (length ls) None
@@ -119,5 +95,4 @@ select_found {ls} levels s rank (Some p) seeks =
 pub select_answers : {ls : List (List Bool)} {n : ℕ} → AreLevels ls n → length ls ≤ 64 → (rank s r t : ℕ) (o : Option ℕ) → Seeks ls n t (way ls t 0 + r) 0 o → r ≡ rank → t ≡ s
     → o ≡ (if leb (length ls) 64 then slice_get (occurrences (values ls n) 0 n (s % 2 ^ length ls)) rank else None)
 select_answers {ls} {n} levels few rank s r t o seeks same_rank same_symbol =
-    of_words (length ls) o _ few (select_found levels t r o seeks ∙ ap (slice_get (occurrences (values ls n) 0 n (t % 2 ^ length ls))) same_rank
-    ∙ ap (λ x. slice_get (occurrences (values ls n) 0 n (x % 2 ^ length ls)) rank) same_symbol)
+    of_words (length ls) o _ few (rw (← same_rank, ← same_symbol) (select_found levels t r o seeks))

@@ -1,7 +1,5 @@
 -- Lists whose items are changed one by one.
-use Rattle.vers_wavelet.proofs.Names.{rules, ◌≡◌, ◌≢◌, ℕ, suc, ◌+◌, ◌*◌, ◌<◌, ◌≤◌, List, [], ◌∷◌, length, set, get_or, refl, sym, ap, ◌∙◌, subst, arith, inl, inr, map, All, cases_lt, any_default, Reads, AddsAtMost, times, adds_then, Become}
-use Rattle.std.proofs.Common.{get_or-set_same, get_or-set_other, length-set}
-use Rattle.vers_wavelet.specs.Batches.{Changed}
+use Rattle.vers_wavelet.proofs.Names.{Changed, rules, ◌≡◌, ◌≢◌, ℕ, suc, ◌+◌, ◌<◌, ◌≤◌, List, [], ◌∷◌, length, set, get_or, get_or-set_same, get_or-set_other, length-set, refl, sym, ap, ◌∙◌, subst, arith, inl, inr, map, All, cases_lt, any_default, Reads, AddsAtMost, times, adds_then, Become}
 
 pub changed_none : {Q : Type 0} (R : Q → Q → Type 0) (xs : List Q) → Changed R xs xs 0
 changed_none R xs = record { long = refl; first = λ p d h l. absurd (omega arith); others = λ p d h. refl }
@@ -26,11 +24,6 @@ changed_more {Q} {R} {xs} {ys} {j} before inside x y at becomes = record {
       let ne : p ≢ j = omega arith in
       get_or-set_other ys j p y d ne ∙ before.others p d (omega arith);
 }
-
--- the same of an item that was read with what stands for none
-pub changed_next : {Q : Type 0} {R : Q → Q → Type 0} {xs ys : List Q} {j : ℕ} → Changed R xs ys j → j < length xs → (d y : Q) → R (get_or ys j d) y → Changed R xs (set ys j y) (j + 1)
-changed_next {Q} {R} {xs} {ys} {j} before inside d y becomes =
-    changed_more before inside (get_or ys j d) y (any_default ys j d (get_or ys j d) (omega (arith, before.long))) becomes
 
 -- all of them
 pub changed_all : {Q : Type 0} {R : Q → Q → Type 0} {xs ys : List Q} {j : ℕ} → Changed R xs ys j → length xs ≤ j → Become R xs ys

@@ -1,5 +1,5 @@
 -- The members of a list in ascending order, and the member that is number i by size.
-use Rattle.vers_wavelet.proofs.Names.{◌≡◌, ℕ, suc, ◌+◌, ◌<◌, ◌≤◌, Bool, ltb, leb, List, [], ◌∷◌, length, get_or, Some, None, refl, sym, ap, ◌∙◌, subst, arith, inl, inr, ◌↔◌, count_by, insert, prefix_len, IsNonDecreasing, IsPermutation, cases_lt, lt-ltb, le-ltb, ltb-true, ltb-false, le-leb, lt-leb, leb-true, length_permutation, sum_by-IsPermutation, IsPermutation-refl, IsPermutation-cons, IsPermutation-insert, IsPermutation-trans, IsNonDecreasingBy-insert, count_by-le-length, prefix_len-le-length, prefix_len_passes, prefix_len_stops, slice_get-get_or, slice_get_past, slice_get_within, get_or_from_slice_get, passes_first, placed, by_size, kth_by_size, IsKth}
+use Rattle.vers_wavelet.proofs.Names.{◌≡◌, ℕ, suc, ◌+◌, ◌<◌, ◌≤◌, Bool, ltb, leb, List, [], ◌∷◌, length, get_or, Some, None, refl, sym, ap, ◌∙◌, subst, arith, inl, inr, ◌↔◌, count_by, insert, prefix_len, IsNonDecreasing, IsPermutation, cases_lt, lt-ltb, le-ltb, ltb-true, ltb-false, le-leb, lt-leb, leb-true, length_permutation, sum_by-IsPermutation, IsPermutation-refl, IsPermutation-cons, IsPermutation-insert, IsPermutation-trans, IsNonDecreasingBy-insert, count_by-le-length, prefix_len-le-length, prefix_len_passes, prefix_len_stops, slice_get-get_or, slice_get_past, slice_get_within, get_or_from_slice_get, same_lists, any_default, passes_first, placed, by_size, kth_by_size, IsKth}
 use Rattle.vers_wavelet.proofs.Members.{one}
 
 -- ---- ascending order
@@ -31,8 +31,6 @@ by_size_ascends (x ∷ xs) =
     subst IsNonDecreasing (sym (placed_is x ys)) (IsNonDecreasingBy-insert (λ y. y) ys (prefix_len test ys) x up (prefix_len-le-length test ys)
     (λ k d less. omega (arith, ltb-true _ _ (prefix_len_passes test ys k d less)))
     (λ k d more inside. omega (arith, ltb-false _ _ (prefix_len_stops test ys d (omega arith)), up (prefix_len test ys) k d more inside)))
-
-pub ruleset ascending = (by_size_ascends)
 
 pub count_by_size : (p : ℕ → Bool) (xs : List ℕ) → count_by p (by_size xs) ≡ count_by p xs
 count_by_size p xs = sum_by-IsPermutation (λ y. one (p y)) xs (by_size xs) (by_size_moved xs)
@@ -66,9 +64,6 @@ at_kth xs i h =
       more = ltb-true _ _ (sym (not_above_first xs x i h) ∙ le-leb x x (omega arith));
     }
 
-pub place_kth : (xs : List ℕ) (i x : ℕ) → i < length xs → x ≡ get_or (by_size xs) i 0 → IsKth xs i x
-place_kth xs i x h is = let P : ℕ → Type 0 = λ y. IsKth xs i y in subst P (sym is) (at_kth xs i h)
-
 -- ---- laws
 
 kth_within : (xs : List ℕ) (i x : ℕ) → IsKth xs i x → i < length xs
@@ -80,6 +75,14 @@ kth_place xs i x kth = sym (kth_at xs i x (kth_within xs i x kth) kth)
 -- a list has one member of each number by size
 pub one_kth : (xs : List ℕ) (i x y : ℕ) → IsKth xs i x → IsKth xs i y → x ≡ y
 one_kth xs i x y k m = kth_place xs i x k ∙ sym (kth_place xs i y m)
+
+-- a list of the members by size is the list in ascending order
+pub quantiles_ascend : (numbers quantiles : List ℕ) → length quantiles ≡ length numbers → ((i : ℕ) → i < length numbers → IsKth numbers i (get_or quantiles i 0)) → quantiles ≡ by_size numbers
+quantiles_ascend numbers quantiles long each =
+    same_lists quantiles (by_size numbers) (omega (arith, long, length-by_size numbers)) (λ i d h.
+    let low : i < length numbers = omega (arith, h, long) in
+    any_default quantiles i d 0 h ∙ sym (kth_at numbers i (get_or quantiles i 0) low (each i low))
+    ∙ any_default (by_size numbers) i 0 d (omega (arith, low, length-by_size numbers)))
 
 pub kth_some : (xs : List ℕ) (i x : ℕ) → i < length xs → x ≡ get_or (by_size xs) i 0 → kth_by_size xs i ≡ Some x
 unfolding kth_by_size
@@ -93,14 +96,11 @@ unfolding kth_by_size
 kth_none xs i h = slice_get_past (by_size xs) i (omega (arith, length-by_size xs))
 
 -- a number is member i by size just where the definition gives it
-kth_by_size-kth : (xs : List ℕ) (i x : ℕ) → IsKth xs i x → kth_by_size xs i ≡ Some x
-kth_by_size-kth xs i x kth = kth_some xs i x (kth_within xs i x kth) (kth_place xs i x kth)
-
-kth-kth_by_size : (xs : List ℕ) (i x : ℕ) → kth_by_size xs i ≡ Some x → IsKth xs i x
-unfolding kth_by_size
-kth-kth_by_size xs i x is =
-    let h : i < length xs = omega (arith, slice_get_within (by_size xs) i x is, length-by_size xs) in
-    place_kth xs i x h (sym (get_or_from_slice_get (by_size xs) i x 0 is))
-
 pub kth_is : (xs : List ℕ) (i x : ℕ) → (kth_by_size xs i ≡ Some x) ↔ IsKth xs i x
-kth_is xs i x = (kth-kth_by_size xs i x, kth_by_size-kth xs i x)
+unfolding kth_by_size
+kth_is xs i x = (
+  λ is.
+      let inside : i < length xs = omega (arith, slice_get_within (by_size xs) i x is, length-by_size xs) in
+      subst (IsKth xs i) (get_or_from_slice_get (by_size xs) i x 0 is) (at_kth xs i inside),
+  λ kth. kth_some xs i x (kth_within xs i x kth) (kth_place xs i x kth),
+)

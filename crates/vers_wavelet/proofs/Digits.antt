@@ -1,5 +1,5 @@
 -- Digits of numbers, and numbers that are made digit by digit from the highest on.
-use Rattle.vers_wavelet.proofs.Names.{◌≡◌, ℕ, zero, suc, ◌+◌, ◌-◌, ◌*◌, ◌/◌, ◌%◌, ◌^◌, ◌<◌, ◌≤◌, Bool, true, false, eqb, List, [], ◌∷◌, length, set, get_or, replicate, refl, sym, ap, subst, ◌∙◌, arith, add-one, bit_at, bit_and, pow-suc, pow-le-pow_right, mod-eq_of_lt, shr_and_one, bit_at-lt, one_shl, mod-pow-add, mod_low, div-add-mod', pow_pos, bit_value, number, bit_at-number, number-lt, bit_value_test, test_bit_value, digit, HasRoom}
+use Rattle.vers_wavelet.proofs.Names.{◌≡◌, ℕ, zero, suc, ◌+◌, ◌-◌, ◌*◌, ◌/◌, ◌%◌, ◌^◌, ◌<◌, ◌≤◌, Bool, true, false, eqb, List, [], ◌∷◌, length, set, get_or, replicate, refl, sym, ap, subst, ◌∙◌, arith, add-one, bit_at, bit_and, pow-suc, pow-le-pow_right, mod-eq_of_lt, mod-lt, mul-le-mul_right, bit_value_le, shr_and_one, bit_at-lt, one_shl, mod-pow-add, mod_low, div-add-mod', pow_pos, bit_value, number, bit_at-number, number-lt, bit_value_test, test_bit_value, digit, HasRoom}
 
 -- of a machine's number
 pub word_digit : (n i : ℕ) → eqb (bit_and (n / 2 ^ i) 1) 1 ≡ digit n i
@@ -25,20 +25,10 @@ top_digit s k =
 
 -- a digit and what is less than its weight are told apart in their sum
 pub one_split : (b c : Bool) (w x y : ℕ) → x < w → y < w → bit_value b * w + x ≡ bit_value c * w + y → (b ≡ c) × (x ≡ y)
-one_split true true w x y less fewer e = (refl, omega (arith, e))
-one_split true false w x y less fewer e = absurd (omega (arith, e, less, fewer))
-one_split false true w x y less fewer e = absurd (omega (arith, e, less, fewer))
-one_split false false w x y less fewer e = (refl, omega (arith, e))
+one_split b c w x y less fewer e = grind arith
 
 clear_digit : (s k : ℕ) → s % 2 ^ (k + 1) ≡ 0 → digit s k ≡ false
-clear_digit s k clear = off (digit s k) (omega (arith, top_digit s k))
-  where
-    off : (b : Bool) → bit_value b * 2 ^ k + s % 2 ^ k ≡ 0 → b ≡ false
-    off true e = absurd (omega (arith, pow_pos k))
-    off false e = refl
-
-clear_at : (l : List Bool) (i : ℕ) → number l % 2 ^ (i + 1) ≡ 0 → get_or l i false ≡ false
-clear_at l i clear = list_digit l i ∙ clear_digit (number l) i clear
+clear_digit s k clear = (one_split (digit s k) false (2 ^ k) (s % 2 ^ k) 0 (mod-lt s (pow_pos k)) (pow_pos k) (omega (arith, top_digit s k))).0
 
 number-set : (l : List Bool) (i : ℕ) → i < length l → get_or l i false ≡ false → number (set l i true) ≡ number l + 2 ^ i
 number-set [] i h off = absurd (omega arith)
@@ -46,7 +36,7 @@ number-set (b ∷ l) zero h off = omega (arith, ap bit_value off)
 number-set (b ∷ l) (suc i) h off = omega (arith, number-set l i (omega arith) off, pow-suc 2 i)
 
 pub list_set : (l : List Bool) (i : ℕ) → i < length l → HasRoom (length l) (i + 1) (number l) → number (set l i true) ≡ number l + 2 ^ i
-list_set l i h room = number-set l i h (clear_at l i room.clear)
+list_set l i h room = number-set l i h (list_digit l i ∙ clear_digit (number l) i room.clear)
 
 pub ruleset lists = (list_digit, list_set)
 
@@ -67,14 +57,8 @@ room_more bit n k number room =
     let e : number + bit_value bit * 2 ^ k ≡ (2 * q + bit_value bit) * 2 ^ k + 0 = omega (arith, parts) in
     record {
       clear = ap (λ x. x % 2 ^ k) e ∙ mod_low (2 * q + bit_value bit) k 0 (omega (arith, pow_pos k));
-      fits = room_fits bit (2 ^ k) number (2 ^ n) (omega (arith, room.fits, two));
+      fits = omega (arith, room.fits, two, mul-le-mul_right (2 ^ k) (bit_value_le bit));
     }
-  where
-    room_fits : (b : Bool) (w m t : ℕ) → m + 2 * w ≤ t → m + bit_value b * w + w ≤ t
-    room_fits true w m t h = omega arith
-    room_fits false w m t h = omega arith
-
-pub ruleset adding = (room_more)
 
 -- ---- symbols as lists
 

@@ -1,11 +1,11 @@
 -- Where the way down of a symbol ends: behind the symbols whose digits from the lowest to the highest make a lesser number, and those that are equal and stand before.
-use Rattle.vers_wavelet.proofs.Names.{◌≡◌, ℕ, zero, suc, ◌+◌, ◌-◌, ◌*◌, ◌%◌, ◌^◌, ◌<◌, ◌≤◌, Bool, true, false, cond, ltb, eqb, List, [], ◌∷◌, length, get_or, refl, sym, ap, ◌∙◌, arith, add-one, inl, inr, mod-lt, mod-eq_of_lt, filter, slice_get, Some, count_by, range_with_len, cases_Bool, cases_eq, eq-eqb, ne_eqb, nat_tests, take_all, pow_pos, bit_value, is_bit, start, next, value, values, hits, equal, way, digit, Even, AreLevels, turned, gathered, occurrences}
+use Rattle.vers_wavelet.proofs.Names.{◌≡◌, ℕ, zero, suc, ◌+◌, ◌*◌, ◌%◌, ◌^◌, ◌<◌, ◌≤◌, Bool, true, false, cond, ltb, eqb, List, [], ◌∷◌, length, get_or, refl, sym, ap, ◌∙◌, arith, add-one, inl, inr, mod-lt, mod-one, mod-eq_of_lt, slice_get, Some, count_by, cases_eq, eq-eqb, ne_eqb, nat_tests, take_all, pow_pos, bit_value, start, next, value, values, hits, equal, way, digit, Even, AreLevels, turned, gathered}
 use Rattle.vers_wavelet.proofs.Answering.{get_begins}
 use Rattle.vers_wavelet.proofs.Counting.{split_apart}
 use Rattle.vers_wavelet.proofs.Digits.{digit_value, top_digit, one_split}
 use Rattle.vers_wavelet.proofs.Lists.{count_is, first_hits, length-values}
 use Rattle.vers_wavelet.proofs.Steps.{even_rest, even_first, start_le, way_equal}
-use Rattle.vers_wavelet.proofs.Values.{next_none, next_yes, next_no, next_true_all, next_false_all, tests_add, value-lt, value_is, way_none, way_is, way-up}
+use Rattle.vers_wavelet.proofs.Values.{next_none, split_all, tests_add, value-lt, value_is, way_none, way_is, way-up}
 
 -- ---- numbers by their digits from the lowest on
 
@@ -25,9 +25,7 @@ turned_same (suc k) s t e =
     turned_more k s ∙ ap (λ d. 2 * turned k s + bit_value d) parts.0 ∙ ap (λ x. 2 * x + bit_value (digit t k)) (turned_same k s t parts.1) ∙ sym (turned_more k t)
 
 turned_apart : (k s t : ℕ) → turned k s ≡ turned k t → s % 2 ^ k ≡ t % 2 ^ k
-turned_apart zero s t e =
-    let none : (x : ℕ) → x % 2 ^ 0 ≡ 0 = λ x. omega arith in
-    none s ∙ sym (none t)
+turned_apart zero s t e = mod-one s ∙ sym (mod-one t)
 turned_apart (suc k) s t e =
     let parts = split_apart (turned k t) (turned k s) (digit t k) (digit s k) (sym (turned_more k s) ∙ e ∙ turned_more k t) in
     top s k ∙ ap (λ d. bit_value d * 2 ^ k + s % 2 ^ k) parts.1 ∙ ap (λ r. bit_value (digit t k) * 2 ^ k + r) (turned_apart k s t parts.0) ∙ sym (top t k)
@@ -50,38 +48,12 @@ turned_value l ls p b is =
     turned_more k v ∙ ap (λ d. 2 * turned k v + bit_value d) parts.0 ∙ ap (λ x. 2 * x + bit_value b) (turned_same k v w (parts.1 ∙ sym (mod-eq_of_lt small)))
 
 low_test : (bit : Bool) (a t : ℕ) → ltb (2 * a + 0) (2 * t + bit_value bit) ≡ ltb a (t + bit_value bit)
-low_test true a t = grind (arith, nat_tests)
-low_test false a t = grind (arith, nat_tests)
+low_test bit a t = grind (arith, nat_tests)
 
 high_test : (bit : Bool) (a t : ℕ) → ltb (2 * a + 1) (2 * t + bit_value bit) ≡ ltb a t
-high_test true a t = grind (arith, nat_tests)
-high_test false a t = grind (arith, nat_tests)
+high_test bit a t = grind (arith, nat_tests)
 
 -- ---- counts over the places of a level
-
--- the zeros and the ones of a level go to places of their own in the next
-split_hits : (l : List Bool) (h f g : ℕ → Bool) → ((p : ℕ) → get_or l p false ≡ false → h p ≡ f (next false l p)) → ((p : ℕ) → get_or l p false ≡ true → h p ≡ g (next true l p))
-    → (i : ℕ) → i ≤ length l → hits h i + hits g (start true l) ≡ hits f (next false l i) + hits g (next true l i)
-split_hits l h f g low high zero within =
-    let none : next false l 0 ≡ 0 = next_none false l in
-    omega (arith, ap (hits f) none, ap (hits g) (next_none true l))
-split_hits l h f g low high (suc i) within =
-    let before = split_hits l h f g low high i (omega (arith, within)) in
-    let inside : i < length l = omega (arith, within) in
-    rw (← add-one i) (elim (cases_Bool (get_or l i false)) [
-      | inl on ↦
-          let here : cond {A = ℕ} (h i) 1 0 ≡ cond (g (next true l i)) 1 0 = ap {B = ℕ} (λ t. cond t 1 0) (high i on) in
-          let goes : next true l (i + 1) ≡ suc (next true l i) = next_yes true l i inside (ap (is_bit true) on) ∙ add-one _ in
-          let stays : next false l (i + 1) ≡ next false l i = next_no false l i inside (ap (is_bit false) on) in
-          let more : hits h (i + 1) ≡ hits h i + cond (h i) 1 0 = ap (hits h) (add-one i) in
-          omega (arith, before, here, more, ap (hits g) goes, ap (hits f) stays)
-      | inr off ↦
-          let here : cond {A = ℕ} (h i) 1 0 ≡ cond (f (next false l i)) 1 0 = ap {B = ℕ} (λ t. cond t 1 0) (low i off) in
-          let goes : next false l (i + 1) ≡ suc (next false l i) = next_yes false l i inside (ap (is_bit false) off) ∙ add-one _ in
-          let stays : next true l (i + 1) ≡ next true l i = next_no true l i inside (ap (is_bit true) off) in
-          let more : hits h (i + 1) ≡ hits h i + cond (h i) 1 0 = ap (hits h) (add-one i) in
-          omega (arith, before, here, more, ap (hits f) goes, ap (hits g) stays)
-    ])
 
 -- whether a place holds a symbol whose digits make a number below t from the lowest to the highest
 abbrev lies_before : List (List Bool) → ℕ → ℕ → Bool
@@ -100,9 +72,7 @@ with_zeros : (bit : Bool) (l : List Bool) (ls : List (List Bool)) (s : ℕ)
     → hits (lies_before ls (turned (length ls) s + bit_value bit)) (start true l) ≡ hits (lies_before ls (turned (length ls) s)) (start true l) + equal ls (s % 2 ^ length ls) (start bit l)
 unfolding equal
 with_zeros true l ls s = or_equal ls s (start true l)
-with_zeros false l ls s =
-    let same : turned (length ls) s + 0 ≡ turned (length ls) s = omega arith in
-    ap (λ t. hits (lies_before ls t) (start true l)) same ∙ omega arith
+with_zeros false l ls s = let same : turned (length ls) s + 0 ≡ turned (length ls) s = omega arith in rw same (omega arith)
 
 none_before : (s n : ℕ) → hits (lies_before [] (turned 0 s)) n ≡ 0
 unfolding turned
@@ -119,22 +89,11 @@ way_first (l ∷ ls) n even s =
     let long : length l ≡ n = even_first l ls n even in
     let test : (p : ℕ) (b : Bool) → get_or l p false ≡ b → lies_before (l ∷ ls) (turned (suc k) s) p ≡ ltb (2 * turned k (value ls (next b l p)) + bit_value b) (2 * t + bit_value bit) =
     λ p b is. ap (λ x. ltb x (turned (suc k) s)) (turned_value l ls p b is) ∙ ap (λ x. ltb (2 * turned k (value ls (next b l p)) + bit_value b) x) (turned_more k s) in
-    let parts = split_hits l (lies_before (l ∷ ls) (turned (suc k) s)) (lies_before ls (t + bit_value bit)) (lies_before ls t)
+    let parts = split_all l (lies_before (l ∷ ls) (turned (suc k) s)) (lies_before ls (t + bit_value bit)) (lies_before ls t)
     (λ p off. test p false off ∙ low_test bit (turned k (value ls (next false l p))) t)
-    (λ p on. test p true on ∙ high_test bit (turned k (value ls (next true l p))) t) n (omega (arith, long)) in
-    let zeros : next false l n ≡ start true l = ap (next false l) (sym long) ∙ next_false_all l in
-    let ones : next true l n ≡ n = ap (next true l) (sym long) ∙ next_true_all l ∙ long in
-    omega (
-      arith,
-      parts,
-      ap (hits (lies_before ls (t + bit_value bit))) zeros,
-      ap (hits (lies_before ls t)) ones,
-      with_zeros bit l ls s,
-      way_first ls n rest s,
-      way_equal ls n rest s (start bit l) (omega (arith, start_le bit l, long)),
-      way_is l ls s 0,
-      ap (way ls s) (next_none bit l),
-    )
+    (λ p on. test p true on ∙ high_test bit (turned k (value ls (next true l p))) t) n long in
+    let equals = way_equal ls n rest s (start bit l) (omega (arith, start_le bit l, long)) in
+    omega (arith, parts, with_zeros bit l ls s, way_first ls n rest s, equals, way_is l ls s 0, ap (way ls s) (next_none bit l))
 
 -- where the way down of a symbol from a place on ends
 pub gathered_is : {ls : List (List Bool)} {n : ℕ} → AreLevels ls n → (s p to : ℕ) → p ≤ n → to ≡ way ls s p
@@ -156,10 +115,3 @@ gathered_here {ls} {n} levels p to c within leads is = (
   sym (ap Some is ∙ get_begins ls n p within),
   gathered_is levels (value ls p) p to (omega (arith, within)) leads ∙ ap (gathered (record { width = length ls; items = values ls n }) p) (mod-eq_of_lt (value-lt ls p) ∙ omega (arith, is)),
 )
-
--- a range that ends before it begins has no places
-pub no_places : (items : List ℕ) (a b s : ℕ) → b ≤ a → length (occurrences items a b s) ≡ 0
-unfolding occurrences
-no_places items a b s past =
-    let none : b - a ≡ 0 = omega (arith, past) in
-    ap (λ k. length (filter (λ p. eqb (get_or items p 0) s) (range_with_len a k))) none

@@ -1,50 +1,28 @@
 -- Groups of queries that ask a level together.
-use Rattle.vers_wavelet.proofs.Names.{◌≡◌, ◌≢◌, ℕ, ◌+◌, ◌-◌, ◌<◌, ◌≤◌, Bool, true, false, cond, not, List, length, get_or, set, refl, sym, ap, ◌∙◌, subst, arith, Some, inl, inr, cases_lt, any_default, each_at, select, start, digit, Become, HasNumber, HasPlace, asked}
-use Rattle.std.proofs.lemmas.List.{get_or-set_same, get_or-set_other, length-set}
+use Rattle.vers_wavelet.proofs.Names.{◌≡◌, ◌≢◌, ℕ, ◌+◌, ◌-◌, ◌<◌, ◌≤◌, Bool, true, false, cond, not, List, length, get_or, set, get_or-set_same, get_or-set_other, length-set, refl, sym, ap, ◌∙◌, subst, arith, Some, inl, inr, cases_lt, any_default, each_at, select, start, digit, Become, HasNumber, HasPlace, asked}
 use Rattle.vers_rank.specs.Batches.{Changed}
 use Rattle.vers_wavelet.specs.declared.wavelet.batch.select.SelectQuery.{SelectQuery}
 use Rattle.vers_wavelet.specs.declared.wavelet.batch.group.Asked.{Asked}
 use Rattle.vers_wavelet.specs.declared.wavelet.batch.group.Group.{Group}
 
+-- what holds of zeros and of ones holds of either
+pub for_both : (P : Bool → Type 0) → P false → P true → (b : Bool) → P b
+for_both P zeros ones true = ones
+for_both P zeros ones false = zeros
+
 -- a number that was appended to those of its kind
-module _ (bit : Bool) (zeros ones more_zeros more_ones : Asked) (slot number : ℕ) (is : slot ≡ (cond bit ones zeros).count) where
-  pub slot_put : more_zeros.count ≡ zeros.count + cond (not bit) 1 0 → more_ones.count ≡ ones.count + cond bit 1 0 → slot < (cond bit more_ones more_zeros).count
-  slot_put z o = by bit is z o
-    where
-      by : (b : Bool) → slot ≡ (cond b ones zeros).count → more_zeros.count ≡ zeros.count + cond (not b) 1 0 → more_ones.count ≡ ones.count + cond b 1 0 → slot < (cond b more_ones more_zeros).count
-      by true e z o = omega arith
-      by false e z o = omega arith
+module _ (zeros ones more_zeros more_ones : Asked) (slot : ℕ) where
+  pub slot_put : (bit : Bool) → slot ≡ (cond bit ones zeros).count → more_zeros.count ≡ zeros.count + cond (not bit) 1 0
+      → more_ones.count ≡ ones.count + cond bit 1 0
+      → slot < (cond bit more_ones more_zeros).count
+  slot_put true is z o = omega arith
+  slot_put false is z o = omega arith
 
-  pub number_put : (not bit ≡ true → get_or more_zeros.numbers zeros.count 0 ≡ number) → (bit ≡ true → get_or more_ones.numbers ones.count 0 ≡ number) → get_or (cond bit more_ones more_zeros).numbers slot 0 ≡ number
-  number_put z o = by bit is z o
-    where
-      by : (b : Bool) → slot ≡ (cond b ones zeros).count → (not b ≡ true → get_or more_zeros.numbers zeros.count 0 ≡ number) → (b ≡ true → get_or more_ones.numbers ones.count 0 ≡ number)
-          → get_or (cond b more_ones more_zeros).numbers slot 0 ≡ number
-      by true e z o = rw e (o refl)
-      by false e z o = rw e (z refl)
-
--- and those before it
-pub counts_put : (zeros ones more_zeros more_ones : Asked) → zeros.count ≤ more_zeros.count → ones.count ≤ more_ones.count → (b : Bool) → (cond b ones zeros).count ≤ (cond b more_ones more_zeros).count
-counts_put zeros ones more_zeros more_ones z o true = o
-counts_put zeros ones more_zeros more_ones z o false = z
-
-pub before_put : (zeros ones more_zeros more_ones : Asked) → ((s : ℕ) → s < zeros.count → get_or more_zeros.numbers s 0 ≡ get_or zeros.numbers s 0)
-    → ((s : ℕ) → s < ones.count → get_or more_ones.numbers s 0 ≡ get_or ones.numbers s 0)
-    → (b : Bool) (s : ℕ) → s < (cond b ones zeros).count → get_or (cond b more_ones more_zeros).numbers s 0 ≡ get_or (cond b ones zeros).numbers s 0
-before_put zeros ones more_zeros more_ones z o true = o
-before_put zeros ones more_zeros more_ones z o false = z
-
-pub few_asked : (zeros ones : Asked) (n : ℕ) → zeros.count + ones.count ≡ n → n ≤ 64 → (b : Bool) → (cond b ones zeros).count ≤ 64
-few_asked zeros ones n all few true = omega arith
-few_asked zeros ones n all few false = omega arith
-
--- what is found for both kinds
-pub both_found : (v : List Bool) (zeros ones more_zeros more_ones : Asked)
-    → ((s : ℕ) → s < zeros.count → get_or more_zeros.numbers s 0 ≡ select false v (get_or zeros.numbers s 0))
-    → ((s : ℕ) → s < ones.count → get_or more_ones.numbers s 0 ≡ select true v (get_or ones.numbers s 0))
-    → (b : Bool) (s : ℕ) → s < (cond b ones zeros).count → get_or (cond b more_ones more_zeros).numbers s 0 ≡ select b v (get_or (cond b ones zeros).numbers s 0)
-both_found v zeros ones more_zeros more_ones z o true = o
-both_found v zeros ones more_zeros more_ones z o false = z
+  pub number_put : (number : ℕ) (bit : Bool) → slot ≡ (cond bit ones zeros).count
+      → (not bit ≡ true → get_or more_zeros.numbers zeros.count 0 ≡ number)
+      → (bit ≡ true → get_or more_ones.numbers ones.count 0 ≡ number) → get_or (cond bit more_ones more_zeros).numbers slot 0 ≡ number
+  number_put number true is z o = rw is (o refl)
+  number_put number false is z o = rw is (z refl)
 
 -- what a query asked is kept while others ask
 pub number_kept : {v : List Bool} {i j : ℕ} {q : SelectQuery} {old new : Group} → get_or new.slots j 0 ≡ get_or old.slots j 0
@@ -60,10 +38,7 @@ number_kept {v} {i} {j} {q} {old} {new} slots counts before has = record {
 pub number_new : {v : List Bool} {i j : ℕ} {q : SelectQuery} {new : Group} (bit : Bool) (number : ℕ) → bit ≡ digit q.symbol i → get_or new.slots j 0 < (asked bit new).count
     → get_or (asked bit new).numbers (get_or new.slots j 0) 0 ≡ number → ((p : ℕ) → q.answer ≡ Some p → start bit v ≤ p → number ≡ p - start bit v) → HasNumber v i q j new
 number_new {v} {i} {j} {q} {new} bit number e slot at is =
-    let P : Bool → Type 0 = λ b. (get_or new.slots j 0 < (asked b new).count)
-    × ((p : ℕ) → q.answer ≡ Some p → start b v ≤ p → get_or (asked b new).numbers (get_or new.slots j 0) 0 ≡ p - start b v) in
-    let both = subst P e (slot, λ p some from. at ∙ is p some from) in
-    record { slot = both.0; number = both.1 }
+    record { slot = rw (← e) slot; number = λ p some from. rw (← e) (at ∙ is p some (rw e from)) }
 
 -- the place of what it asked
 pub place_found : {v : List Bool} {i j : ℕ} {q : SelectQuery} {old new : Group} → new.slots ≡ old.slots
@@ -91,8 +66,7 @@ pub place_above : {v w : List Bool} {i j : ℕ} {q : SelectQuery} {group : Group
     → above ≡ get_or (asked bit group).numbers (get_or group.slots j 0) 0 → bit ≡ digit q.symbol i → q.answer ≡ Some p → start (digit q.symbol i) w ≤ p
     → above ≡ select (digit q.symbol i) w (p - start (digit q.symbol i) w)
 place_above {v} {w} {i} {j} {q} {group} above p bit same has at e some from =
-    let P : List Bool → Type 0 = λ u. start (digit q.symbol i) u ≤ p → above ≡ select (digit q.symbol i) u (p - start (digit q.symbol i) u) in
-    subst P (sym same) (λ h. at ∙ ap (λ b. get_or (asked b group).numbers (get_or group.slots j 0) 0) e ∙ has.place p some h) from
+    rw same (at ∙ ap (λ b. get_or (asked b group).numbers (get_or group.slots j 0) 0) e ∙ has.place p some (rw (← same) from))
 
 -- one item more has changed
 pub changed_item : {Q : Type 0} {d : Q} {R : Q → Q → Type 0} {from n : ℕ} {xs ys : List Q} → Changed d R from n xs ys → from + n < length xs → (y : Q) → R (get_or ys (from + n) d) y

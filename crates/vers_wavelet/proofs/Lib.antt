@@ -16,12 +16,10 @@ pub mod Trails
 pub mod Answered
 pub mod Offsets
 pub mod Sizes
-pub mod Gathering
 pub mod Sources
 pub mod Counting
 pub mod Batches
 pub mod Groups
 pub mod Answering
 pub mod Quantiles
-pub mod Statements
 pub mod PublicLaws

@@ -1,6 +1,6 @@
 -- What places and counts of the levels say of the list of symbols.
-use Rattle.vers_wavelet.proofs.Names.{◌≡◌, ℕ, zero, suc, ◌+◌, ◌-◌, ◌%◌, ◌^◌, ◌<◌, ◌≤◌, Bool, true, cond, ltb, leb, eqb, List, ◌∷◌, ◌++◌, length, get_or, take, drop, refl, sym, ap, ◌∙◌, subst, arith, add-one, add-zero, inl, inr, map, filter, slice_range, slice_get, Option, Some, None, IsSome, IfSome, All, count_by, range_with_len, take-add, drop-cons, cases_lt, eq-eqb, nat_tests, map-id, get_or_at, take-append-drop, length-append, length-take, length-drop, filter-append, length-filter, sum_by-append, sum_by_more, sum_by-map-range_with_len_more, length-range_with_len, get_or-range_with_len, length-map-range_with_len, get_or-map-range_with_len, take-map-range_with_len, slice_get-get_or, slice_get_past, value, values, hits, under, equal, way, AreLevels, KthOf, occurrences, IsKth}
-use Rattle.vers_wavelet.proofs.Values.{way-up, equal_under, value-lt}
+use Rattle.vers_wavelet.proofs.Names.{◌≡◌, ℕ, zero, suc, ◌+◌, ◌-◌, ◌%◌, ◌^◌, ◌<◌, ◌≤◌, Bool, true, cond, ltb, leb, eqb, List, ◌∷◌, ◌++◌, length, get_or, take, drop, refl, sym, ap, ◌∙◌, subst, arith, add-one, inl, inr, filter, slice_range, slice_get, Option, Some, None, IsSome, IfSome, All, ◌↔◌, count_by, range_with_len, take-add, drop-cons, drop_more, cases_lt, eq-eqb, nat_tests, map-id, get_or_at, take-append-drop, length-append, length-take, length-drop, filter-append, length-filter, sum_by-append, sum_by-cons, sum_by_more, length-range_with_len, get_or-range_with_len, length-map-range_with_len, get_or-map-range_with_len, take-map-range_with_len, slice_get-get_or, slice_get_past, value, values, hits, under, equal, way, AreLevels, KthOf, occurrences, IsKth}
+use Rattle.vers_wavelet.proofs.Values.{way-up, equal_under, value-lt, hits_more, hits_same}
 use Rattle.vers_wavelet.proofs.Members.{never}
 use Rattle.vers_wavelet.proofs.Steps.{way_equal, way_more, way_parts}
 
@@ -18,62 +18,54 @@ values_fit ls n = λ k d h. omega (arith, get_or-values ls n k d (omega (arith, 
 
 -- ---- counts over a range of places
 
-range_hits : (q : ℕ → Bool) (a m : ℕ) → count_by q (range_with_len a m) + hits q a ≡ hits q (a + m)
-range_hits q a zero = omega (arith, ap (hits q) (add-zero a), none)
-  where
-    none : count_by q (range_with_len a 0) ≡ 0
-    none = refl
-range_hits q a (suc m) =
-    let same : (k : ℕ) → count_by q (map (λ (x : ℕ). x) (range_with_len a k)) ≡ count_by q (range_with_len a k) = λ k. ap (count_by q) (map-id (range_with_len a k)) in
-    let more : count_by q (range_with_len a (m + 1)) ≡ count_by q (range_with_len a m) + cond (q (a + m)) 1 0 =
-    sym (same (m + 1)) ∙ sum_by-map-range_with_len_more (λ x. cond (q x) 1 0) (λ (x : ℕ). x) a m (a + m) refl ∙ ap (λ k. k + cond (q (a + m)) 1 0) (same m) in
-    let e : a + suc m ≡ suc (a + m) = omega arith in
-    let whole : count_by q (range_with_len a (suc m)) ≡ count_by q (range_with_len a (m + 1)) = ap (λ k. count_by q (range_with_len a k)) (sym (add-one m)) in
-    omega (arith, more, range_hits q a m, ap (hits q) e, whole)
+-- a count over the first items of a list
+pub taken_hits : {X : Type 0} (t : X → Bool) (xs : List X) (d : X) (i : ℕ) → i ≤ length xs → count_by t (take i xs) ≡ hits (λ p. t (get_or xs p d)) i
+taken_hits t xs d zero h = refl
+taken_hits t xs d (suc i) h =
+    let more = sum_by_more (λ x. cond (t x) 1 0) xs i d (omega arith) in
+    rw (← add-one i) (omega (arith, more, taken_hits t xs d i (omega arith), hits_more (λ p. t (get_or xs p d)) i))
 
-pub hits_same : (q r : ℕ → Bool) (n : ℕ) → ((p : ℕ) → p < n → q p ≡ r p) → hits q n ≡ hits r n
-hits_same q r zero h = refl
-hits_same q r (suc n) h =
-    let here : cond {A = ℕ} (q n) 1 0 ≡ cond (r n) 1 0 = ap {B = ℕ} (λ t. cond t 1 0) (h n (omega arith)) in
-    omega (arith, hits_same q r n (λ p k. h p (omega arith)), here)
-
--- a count over the places of a range
-over_places : (ls : List (List Bool)) (n a b : ℕ) (t : ℕ → Bool) → a ≤ b → b ≤ n
-    → count_by (λ p. t (get_or (values ls n) p 0)) (range_with_len a (b - a)) + hits (λ p. t (value ls p)) a ≡ hits (λ p. t (value ls p)) b
-over_places ls n a b t order within =
-    let q = λ (p : ℕ). t (get_or (values ls n) p 0) in
-    let e : a + (b - a) ≡ b = omega arith in
-    let low : hits q a ≡ hits (λ p. t (value ls p)) a = hits_same q (λ p. t (value ls p)) a (λ p k. ap t (get_or-values ls n p 0 (omega arith))) in
-    let high : hits q b ≡ hits (λ p. t (value ls p)) b = hits_same q (λ p. t (value ls p)) b (λ p k. ap t (get_or-values ls n p 0 (omega arith))) in
-    omega (arith, range_hits q a (b - a), ap (hits q) e, low, high)
+pub first_hits : (t : ℕ → Bool) (ls : List (List Bool)) (n i : ℕ) → i ≤ n → count_by t (take i (values ls n)) ≡ hits (λ p. t (value ls p)) i
+first_hits t ls n i h =
+    taken_hits t (values ls n) 0 i (omega (arith, length-values ls n)) ∙ hits_same _ _ i (λ p k. ap t (get_or-values ls n p 0 (omega arith)))
 
 -- a count over the members of a range
-pub first_hits : (t : ℕ → Bool) (ls : List (List Bool)) (n i : ℕ) → i ≤ n → count_by t (take i (values ls n)) ≡ hits (λ p. t (value ls p)) i
-first_hits t ls n zero h = refl
-first_hits t ls n (suc i) h =
-    let more : count_by t (take (i + 1) (values ls n)) ≡ count_by t (take i (values ls n)) + cond (t (get_or (values ls n) i 0)) 1 0 =
-    sum_by_more (λ x. cond (t x) 1 0) (values ls n) i 0 (omega (arith, length-values ls n)) in
-    let here : cond {A = ℕ} (t (get_or (values ls n) i 0)) 1 0 ≡ cond (t (value ls i)) 1 0 = ap {B = ℕ} (λ v. cond (t v) 1 0) (get_or-values ls n i 0 (omega arith)) in
-    omega (arith, more, first_hits t ls n i (omega arith), here, ap (λ k. count_by t (take k (values ls n))) (add-one i))
-
 over_members : (t : ℕ → Bool) (ls : List (List Bool)) (n a b : ℕ) → a ≤ b → b ≤ n
     → count_by t (slice_range (values ls n) a b) + hits (λ p. t (value ls p)) a ≡ hits (λ p. t (value ls p)) b
 over_members t ls n a b order within =
     let e : a + (b - a) ≡ b = omega arith in
-    let whole : count_by t (take b (values ls n)) ≡ count_by t (take a (values ls n)) + count_by t (slice_range (values ls n) a b) =
-    ap (λ k. count_by t (take k (values ls n))) (sym e) ∙ ap (count_by t) (take-add a (b - a) (values ls n))
-    ∙ sum_by-append (λ x. cond (t x) 1 0) (take a (values ls n)) (slice_range (values ls n) a b) in
-    omega (arith, whole, first_hits t ls n a (omega arith), first_hits t ls n b within)
+    let whole = ap (count_by t) (rw e at (take-add a (b - a) (values ls n))) in
+    let parts = sum_by-append (λ x. cond (t x) 1 0) (take a (values ls n)) (slice_range (values ls n) a b) in
+    omega (arith, whole, parts, first_hits t ls n a (omega arith), first_hits t ls n b within)
 
 pub length-part : (ls : List (List Bool)) (n a b : ℕ) → a ≤ b → b ≤ n → length (slice_range (values ls n) a b) ≡ b - a
 length-part ls n a b order within = omega (arith, length-take (b - a) (drop a (values ls n)), length-drop a (values ls n), length-values ls n)
 
 -- ---- occurrences
 
+counted_from : (items : List ℕ) (s a n : ℕ) → n ≤ length items - a
+    → count_by (λ p. eqb (get_or items p 0) s) (range_with_len a n) ≡ count_by (λ y. eqb y s) (take n (drop a items))
+counted_from items s a zero within = refl
+counted_from items s a (suc n) within =
+    let first = sum_by-cons (λ p. cond (eqb (get_or items p 0) s) 1 0) a (range_with_len (a + 1) n) in
+    let member = sum_by-cons (λ y. cond (eqb y s) 1 0) (get_or items a 0) (take n (drop (a + 1) items)) in
+    rw (drop_more items a 0 (omega arith)) (omega (arith, counted_from items s (a + 1) n (omega arith), first, member))
+
+-- a symbol occurs in a range as often as the range's members are it
+pub occurrences_are_counted : (items : List ℕ) (a b s : ℕ) → b ≤ length items → length (occurrences items a b s) ≡ count_by (λ y. eqb y s) (slice_range items a b)
+unfolding occurrences
+occurrences_are_counted items a b s within =
+    length-filter (λ p. eqb (get_or items p 0) s) (range_with_len a (b - a)) ∙ counted_from items s a (b - a) (omega arith)
+
+-- a range that ends before it begins has no places
+pub no_places : (items : List ℕ) (a b s : ℕ) → b ≤ a → length (occurrences items a b s) ≡ 0
+unfolding occurrences
+no_places items a b s past = let none : b - a ≡ 0 = omega arith in rw none
+
 occurrences_are : (ls : List (List Bool)) (n a b s : ℕ) → a ≤ b → b ≤ n → length (occurrences (values ls n) a b s) + equal ls s a ≡ equal ls s b
-unfolding occurrences equal
+unfolding equal
 occurrences_are ls n a b s order within =
-    omega (arith, length-filter (λ p. eqb (get_or (values ls n) p 0) s) (range_with_len a (b - a)), over_places ls n a b (λ v. eqb v s) order within)
+    omega (arith, occurrences_are_counted (values ls n) a b s (omega (arith, length-values ls n)), over_members (λ v. eqb v s) ls n a b order within)
 
 pub count_is : {ls : List (List Bool)} {n : ℕ} → AreLevels ls n → (s a b from to : ℕ) → a ≤ b → b ≤ n → from + way ls s b ≡ to + way ls s a
     → to - from ≡ length (occurrences (values ls n) a b (s % 2 ^ length ls))
@@ -106,7 +98,7 @@ nth_passing q a m p d r low high on e =
 pub found_is : {ls : List (List Bool)} {n : ℕ} → AreLevels ls n → (s a r from to p : ℕ) → a ≤ n → from ≡ way ls s a → to ≡ way ls s n → r < to - from
     → p < n → value ls p ≡ s % 2 ^ length ls → way ls s p ≡ from + r
     → Some p ≡ slice_get (occurrences (values ls n) a n (s % 2 ^ length ls)) r
-unfolding occurrences equal
+unfolding occurrences
 found_is {ls} {n} levels s a r from to p start e f few within holds leads =
     let v : ℕ = s % 2 ^ length ls in
     let q = λ (i : ℕ). eqb (get_or (values ls n) i 0) v in
@@ -116,7 +108,8 @@ found_is {ls} {n} levels s a r from to p start e f few within holds leads =
     ] in
     let many : length (occurrences (values ls n) a n v) ≡ to - from = sym (count_is levels s a n from to start (omega arith) (omega (arith, e, f))) in
     let before : count_by q (range_with_len a (p - a)) ≡ r =
-    omega (arith, over_places ls n a p (λ x. eqb x v) order (omega arith), way_equal ls n levels.even s a start, way_equal ls n levels.even s p (omega arith)) in
+    (let held = occurrences_are ls n a p v order (omega arith) in
+    omega (arith, held, length-filter q (range_with_len a (p - a)), way_equal ls n levels.even s a start, way_equal ls n levels.even s p (omega arith))) in
     let at : get_or (filter q (range_with_len a (n - a))) r p ≡ p =
     nth_passing q a (n - a) p p r order (omega arith) (ap (λ x. eqb x v) (get_or-values ls n p 0 within) ∙ eq-eqb (value ls p) v holds) before in
     sym (slice_get-get_or (occurrences (values ls n) a n v) r p (omega arith) ∙ ap Some at)
@@ -140,46 +133,32 @@ found_or_none {ls} {n} levels s a r from (Some p) start e within holds leads som
 
 -- ---- members by size
 
-leb_is : (v x : ℕ) → leb v x ≡ ltb v (x + 1)
-leb_is v x = grind (arith, nat_tests)
-
 leb_hits : (ls : List (List Bool)) (x i : ℕ) → hits (λ p. leb (value ls p) x) i ≡ under ls (x + 1) i
 unfolding under
-leb_hits ls x i = hits_same _ _ i (λ p h. leb_is (value ls p) x)
+leb_hits ls x i = hits_same _ _ i (λ p h. grind (arith, nat_tests))
 
 pub below_is : (ls : List (List Bool)) (n a b s less : ℕ) → a ≤ b → b ≤ n → less + under ls s a ≡ under ls s b → less ≡ count_by (λ y. ltb y s) (slice_range (values ls n) a b)
 unfolding under
 below_is ls n a b s less order within e = omega (arith, over_members (λ v. ltb v s) ls n a b order within)
 
-pub kth_is : (ls : List (List Bool)) (n a b i x : ℕ) → a ≤ b → b ≤ n → KthOf ls a b i x → IsKth (slice_range (values ls n) a b) i x
+-- member i by size, by counts over the places and over the members
+pub kth_is : (ls : List (List Bool)) (n a b i x : ℕ) → a ≤ b → b ≤ n → KthOf ls a b i x ↔ IsKth (slice_range (values ls n) a b) i x
 unfolding under
-kth_is ls n a b i x order within kth = record {
-  less = omega (arith, over_members (λ v. ltb v x) ls n a b order within, kth.less);
-  more = omega (arith, over_members (λ v. leb v x) ls n a b order within, kth.more, leb_hits ls x a, leb_hits ls x b);
-}
-
-pub kth_of : (ls : List (List Bool)) (n a b i x : ℕ) → a ≤ b → b ≤ n → IsKth (slice_range (values ls n) a b) i x → KthOf ls a b i x
-unfolding under
-kth_of ls n a b i x order within kth = record {
-  less = omega (arith, over_members (λ v. ltb v x) ls n a b order within, kth.less);
-  more = omega (arith, over_members (λ v. leb v x) ls n a b order within, kth.more, leb_hits ls x a, leb_hits ls x b);
-}
+kth_is ls n a b i x order within =
+    let below = over_members (λ v. ltb v x) ls n a b order within in
+    let not_above = over_members (λ v. leb v x) ls n a b order within in (
+      λ kth. record { less = omega (arith, below, kth.less); more = omega (arith, not_above, kth.more, leb_hits ls x a, leb_hits ls x b) },
+      λ kth. record { less = omega (arith, below, kth.less); more = omega (arith, not_above, kth.more, leb_hits ls x a, leb_hits ls x b) },
+    )
 
 pub not_above_is : {ls : List (List Bool)} {n : ℕ} → AreLevels ls n → (s a b less from to : ℕ) → a ≤ b → b ≤ n → from + way ls s b ≡ to + way ls s a
     → less + under ls (s % 2 ^ length ls) a ≡ under ls (s % 2 ^ length ls) b
     → less + (to - from) ≡ count_by (λ y. leb y (s % 2 ^ length ls)) (slice_range (values ls n) a b)
 not_above_is {ls} {n} levels s a b less from to order within e g =
     let v : ℕ = s % 2 ^ length ls in
-    omega (
-      arith,
-      over_members (λ x. leb x v) ls n a b order within,
-      leb_hits ls v a,
-      leb_hits ls v b,
-      equal_under ls v a,
-      equal_under ls v b,
-      way_parts levels s a b order within,
-      way-up ls s a b order,
-    )
+    let counted = over_members (λ x. leb x v) ls n a b order within in
+    let held = way_parts levels s a b order within in
+    omega (arith, counted, held, way-up ls s a b order, leb_hits ls v a, leb_hits ls v b, equal_under ls v a, equal_under ls v b)
 
 -- whether a list has a member of a number
 pub get_decides : (o : Option ℕ) (xs : List ℕ) (r : ℕ) → o ≡ slice_get xs r → (IsSome o → r < length xs) × (r < length xs → IsSome o)

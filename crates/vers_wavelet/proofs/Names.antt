@@ -1,10 +1,12 @@
 -- The names of specs/ and of other crates that proofs use.
 pub use Rattle.std.proofs.Common.{Bool, Err, List, None, Ok, Option, Result, Some, [], add-one, add-zero, ap, arith, cond, drop, eqb, false, get_or, inl, inr, leb, length, ltb, map, min, not, refl, replicate, rules, set, slice_get, subst, suc, sym, take, true, true≢false, zero, ℕ, ◌%◌, ◌&&◌, ◌*◌, ◌++◌, ◌+◌, ◌-◌, ◌/◌, ◌<◌, ◌^◌, ◌∙◌, ◌∷◌, ◌≡◌, ◌≢◌, ◌≤◌, ◌⊎◌}
+pub use Rattle.std.proofs.Math.Bool.{not-not}
 pub use Rattle.std.proofs.Math.Nat.{div-div-eq-div-mul, div-le_self, div-mul-le_self, mod-eq_of_lt, mod-lt, mod-one, mul-le-mul_right, pow-le-pow_right, pow-suc}
 pub use Rattle.std.proofs.Math.Seq.{drop-cons, take-add}
-pub use Rattle.std.proofs.lemmas.Bool.{cases_Bool, cases_eq, cases_lt, eq-eqb, false≢true, le-leb, le-ltb, leb-false, leb-true, lt-leb, lt-ltb, ltb-false, ltb-true, ne_eqb}
+pub use Rattle.std.proofs.lemmas.Bool.{both_ways, cases_Bool, cases_eq, cases_lt, eq-eqb, false_from_ne_true, false≢true, le-leb, le-ltb, leb-false, leb-true, lt-leb, lt-ltb, ltb-false, ltb-true, ne_eqb}
 pub use Rattle.std.proofs.lemmas.Bool.Decides.{nat_tests}
-pub use Rattle.std.proofs.lemmas.List.{append-nil, append_assoc, drop-drop, drop-take, drop_all, drop_more, get_or-append_right, get_or-drop, get_or-map, get_or-replicate, get_or-take, get_or_append_left, get_or_at, get_or_default, length-append, length-drop, length-map, length-replicate, length-take, map-id, same_lists, take-append-drop, take-map, take-set, take_all, take_more, take_more_set}
+pub use Rattle.std.proofs.lemmas.Grind.{get_or-set_at}
+pub use Rattle.std.proofs.lemmas.List.{append-nil, append_assoc, drop-drop, drop-take, drop_all, drop_more, get_or-append_right, get_or-drop, get_or-map, get_or-replicate, get_or-set_other, get_or-set_same, get_or-take, get_or_append_left, get_or_at, get_or_default, length-append, length-drop, length-map, length-replicate, length-set, length-take, map-id, nil_from_length, same_lists, take-append-drop, take-map, take-set, take_all, take_more, take_more_set}
 pub use Rattle.std.proofs.lemmas.List.Elements.{All-append, All-drop, All-filter, All-push, All-same, All-take, filter-append, filter_more}
 pub use Rattle.std.proofs.lemmas.List.FromFn.{get_or-map-range_with_len, get_or-range_with_len, length-map-range_with_len, length-range_with_len, sum_by-map-range_with_len_more, take-map-range_with_len}
 pub use Rattle.std.proofs.lemmas.List.Sorted.{IsNonDecreasingBy-insert, IsPermutation-cons, IsPermutation-filter_both, IsPermutation-insert, IsPermutation-refl, IsPermutation-trans, length_permutation, sum_by-IsPermutation}
@@ -24,7 +26,7 @@ pub use Rattle.vers_rank.proofs.PublicLaws.{adds_times, changed_on, each_at}
 pub use Rattle.vers_rank.specs.Queries.{index_size, rank_reads, select_reads, superblock_count}
 pub use Rattle.vers_tally.proofs.PublicLaws.{adds_nothing, adds_then, adds_weaker}
 pub use Rattle.vers_tally.specs.Reads.{AddsAtMost, IsWithin, Reads, times}
-pub use Rattle.vers_wavelet.specs.Batches.{Become, HasNumber, HasPlace, Rising, Seeks, asked, no_query}
+pub use Rattle.vers_wavelet.specs.Batches.{Become, Changed, HasNumber, HasPlace, Rising, Seeks, asked, no_query}
 unfoldable pub use Rattle.vers_wavelet.specs.Batches.{member}
 pub use Rattle.vers_wavelet.specs.Levels.{AreLevels, Even, HasRoom, KthOf, Narrowed, Rises, Searched, digit, hits, start}
 unfoldable pub use Rattle.vers_wavelet.specs.Levels.{equal, next, under, value, values, way}

@@ -1,5 +1,5 @@
 -- Neighbours of a number in a list: of its members in ascending order the last up to the number, and the first from it on.
-use Rattle.vers_wavelet.proofs.Names.{◌≡◌, ℕ, ◌+◌, ◌-◌, ◌<◌, ◌≤◌, subst, Bool, true, false, not, ltb, leb, List, [], length, get_or, Some, None, refl, sym, ap, ◌∙◌, arith, inl, inr, ◌↔◌, IsSome, Any, count_by, cases_lt, le-leb, lt-leb, lt-ltb, le-ltb, ltb-true, ltb-false, count_by-le-length, find_is, none_passing, last_passing_is, bool_byte, by_size, kth_by_size, greatest_up_to, least_from, nearest, IsPredecessor, IsSuccessor}
+use Rattle.vers_wavelet.proofs.Names.{◌≡◌, ℕ, ◌+◌, ◌-◌, ◌<◌, ◌≤◌, subst, Bool, true, false, not, ltb, leb, List, [], length, get_or, Option, Some, None, refl, sym, ap, ◌∙◌, arith, inl, inr, ◌↔◌, IsSome, Any, count_by, cases_lt, le-leb, lt-leb, lt-ltb, le-ltb, ltb-true, ltb-false, count_by-le-length, find_is, none_passing, last_passing_is, bool_byte, by_size, kth_by_size, greatest_up_to, least_from, nearest, IsPredecessor, IsSuccessor}
 use Rattle.vers_wavelet.proofs.Members.{kth_same, predecessor_is, successor_is, any_not_above, some_not_above, any_not_below, some_not_below, never}
 use Rattle.vers_wavelet.proofs.BySize.{length-by_size, below_first, not_above_first, kth_some, kth_none, kth_is}
 use Rattle.vers_wavelet.proofs.Ranges.{members_past, members_reversed, narrow_word, wide_word}
@@ -64,37 +64,34 @@ nearest_none false xs below s low high all none = greatest_up_to_none xs s (omeg
 
 one_predecessor : (xs : List ℕ) (s x y : ℕ) → IsPredecessor xs s x → IsPredecessor xs s y → x ≡ y
 one_predecessor xs s x y p q =
-    let p_at = p.member in
-    let q_at = q.member in
-    omega (
-      arith,
-      p.within,
-      q.within,
-      p_at.2,
-      q_at.2,
-      p.greatest q_at.0 y q_at.1 (omega (arith, q_at.2, q.within)),
-      q.greatest p_at.0 x p_at.1 (omega (arith, p_at.2, p.within)),
-    )
+    let above = p.greatest q.member.0 y q.member.1 (omega (arith, q.member.2, q.within)) in
+    let below = q.greatest p.member.0 x p.member.1 (omega (arith, p.member.2, p.within)) in
+    omega (arith, p.member.2, q.member.2, above, below)
 
 one_successor : (xs : List ℕ) (s x y : ℕ) → IsSuccessor xs s x → IsSuccessor xs s y → x ≡ y
 one_successor xs s x y p q =
-    let p_at = p.member in
-    let q_at = q.member in
-    omega (
-      arith,
-      p.within,
-      q.within,
-      p_at.2,
-      q_at.2,
-      p.least q_at.0 y q_at.1 (omega (arith, q_at.2, q.within)),
-      q.least p_at.0 x p_at.1 (omega (arith, p_at.2, p.within)),
-    )
+    let below = p.least q.member.0 y q.member.1 (omega (arith, q.member.2, q.within)) in
+    let above = q.least p.member.0 x p.member.1 (omega (arith, p.member.2, p.within)) in
+    omega (arith, p.member.2, q.member.2, above, below)
+
+-- a search finds just what is in a relation, if it finds something there where something is in it, and only one number is
+just_where : (o : Option ℕ) (R : ℕ → Type 0) → ((x y : ℕ) → R x → R y → x ≡ y) → (IsSome o → (x : ℕ) × (o ≡ Some x) × R x)
+    → ((x : ℕ) → R x → IsSome o)
+    → (x : ℕ) → (o ≡ Some x) ↔ R x
+just_where o R one some held x = (
+  λ is.
+      let found = some (subst IsSome (sym is) refl) in
+      let same : found.0 ≡ x = cc (found.1, is) in
+      subst R same found.2,
+  λ r. let found = some (held x r) in found.1 ∙ ap Some (one found.0 x found.2 r),
+)
 
 -- where some member is not above s, the definition gives one, and it is the predecessor
-predecessor_found : (xs : List ℕ) (s : ℕ) → 0 < count_by (λ y. leb y s) xs → (x : ℕ) × (greatest_up_to xs s ≡ Some x) × IsPredecessor xs s x
-predecessor_found xs s some =
+predecessor_found : (xs : List ℕ) (s : ℕ) → Any (λ y. y ≤ s) xs → (x : ℕ) × (greatest_up_to xs s ≡ Some x) × IsPredecessor xs s x
+predecessor_found xs s any =
     let n : ℕ = count_by (λ y. leb y s) xs in
     let x : ℕ = get_or (by_size xs) (n - 1) 0 in
+    let some : 0 < n = some_not_above xs n s refl any in
     let at : kth_by_size xs (n - 1) ≡ Some x = kth_some xs (n - 1) x (omega (arith, some, count_by-le-length (λ y. leb y s) xs)) refl in
     (x, greatest_up_to_is xs s n refl some ∙ at, predecessor_is xs n s x refl some ((kth_is xs (n - 1) x).0 at))
 
@@ -104,28 +101,19 @@ greatest_up_to_some xs s = (
     | inl some ↦ any_not_above xs (count_by (λ y. leb y s) xs) s refl some
     | inr none ↦ never (subst IsSome (greatest_up_to_none xs s (omega (arith, none))) is)
   ],
-  λ any.
-      let found = predecessor_found xs s (some_not_above xs (count_by (λ y. leb y s) xs) s refl any) in
-      subst IsSome (sym found.1) refl,
+  λ any. subst IsSome (sym (predecessor_found xs s any).1) refl,
 )
 
 pub greatest_up_to_predecessor : (xs : List ℕ) (s x : ℕ) → (greatest_up_to xs s ≡ Some x) ↔ IsPredecessor xs s x
-greatest_up_to_predecessor xs s x = (
-  λ is.
-      let found = predecessor_found xs s (some_not_above xs (count_by (λ y. leb y s) xs) s refl ((greatest_up_to_some xs s).0 (subst IsSome (sym is) refl))) in
-      let P : ℕ → Type 0 = λ y. IsPredecessor xs s y in
-      let same : found.0 ≡ x = cc (found.1, is) in
-      subst P same found.2,
-  λ p.
-      let found = predecessor_found xs s (some_not_above xs (count_by (λ y. leb y s) xs) s refl (p.member.0, x, p.member.1, p.member.2, p.within)) in
-      found.1 ∙ ap Some (one_predecessor xs s found.0 x found.2 p),
-)
+greatest_up_to_predecessor xs s =
+    just_where (greatest_up_to xs s) (IsPredecessor xs s) (one_predecessor xs s) (λ is. predecessor_found xs s ((greatest_up_to_some xs s).0 is))
+    (λ x p. (greatest_up_to_some xs s).1 (p.member.0, x, p.member.1, p.member.2, p.within))
 
-successor_found : (xs : List ℕ) (s : ℕ) → count_by (λ y. ltb y s) xs < length xs → (x : ℕ) × (least_from xs s ≡ Some x) × IsSuccessor xs s x
-successor_found xs s some =
+successor_found : (xs : List ℕ) (s : ℕ) → Any (λ y. s ≤ y) xs → (x : ℕ) × (least_from xs s ≡ Some x) × IsSuccessor xs s x
+successor_found xs s any =
     let n : ℕ = count_by (λ y. ltb y s) xs in
     let x : ℕ = get_or (by_size xs) n 0 in
-    let at : kth_by_size xs n ≡ Some x = kth_some xs n x some refl in
+    let at : kth_by_size xs n ≡ Some x = kth_some xs n x (some_not_below xs n s refl any) refl in
     (x, least_from_is xs s n refl ∙ at, successor_is xs n s x refl ((kth_is xs n x).0 at))
 
 pub least_from_some : (xs : List ℕ) (s : ℕ) → IsSome (least_from xs s) ↔ Any (λ y. s ≤ y) xs
@@ -134,21 +122,12 @@ least_from_some xs s = (
     | inl some ↦ any_not_below xs (count_by (λ y. ltb y s) xs) s refl some
     | inr all ↦ never (subst IsSome (least_from_is xs s (count_by (λ y. ltb y s) xs) refl ∙ kth_none xs (count_by (λ y. ltb y s) xs) all) is)
   ],
-  λ any.
-      let found = successor_found xs s (some_not_below xs (count_by (λ y. ltb y s) xs) s refl any) in
-      subst IsSome (sym found.1) refl,
+  λ any. subst IsSome (sym (successor_found xs s any).1) refl,
 )
 
 pub least_from_successor : (xs : List ℕ) (s x : ℕ) → (least_from xs s ≡ Some x) ↔ IsSuccessor xs s x
-least_from_successor xs s x = (
-  λ is.
-      let found = successor_found xs s (some_not_below xs (count_by (λ y. ltb y s) xs) s refl ((least_from_some xs s).0 (subst IsSome (sym is) refl))) in
-      let P : ℕ → Type 0 = λ y. IsSuccessor xs s y in
-      let same : found.0 ≡ x = cc (found.1, is) in
-      subst P same found.2,
-  λ p.
-      let found = successor_found xs s (some_not_below xs (count_by (λ y. ltb y s) xs) s refl (p.member.0, x, p.member.1, p.member.2, p.within)) in
-      found.1 ∙ ap Some (one_successor xs s found.0 x found.2 p),
-)
+least_from_successor xs s =
+    just_where (least_from xs s) (IsSuccessor xs s) (one_successor xs s) (λ is. successor_found xs s ((least_from_some xs s).0 is))
+    (λ x p. (least_from_some xs s).1 (p.member.0, x, p.member.1, p.member.2, p.within))
 
 pub ruleset neighbours = (none_up_to, none_from, members_past, members_reversed, narrow_word, wide_word)

@@ -1,16 +1,7 @@
 -- Occurrences of a symbol from a place on.
-use Rattle.vers_wavelet.proofs.Names.{◌≡◌, ℕ, ◌-◌, ◌<◌, ◌≤◌, Bool, eqb, List, length, slice_get, Option, Some, None, refl, sym, arith, inl, inr, ◌↔◌, slice_index, IsSome, IfSome, range_with_len, cases_lt, le-leb, lt-leb, length-range_with_len, length-filter, count_by-le-length, slice_get_past, Symbols, occurrences, as_word, low_bits_of, places_of, place_from}
-
--- from past the end on there are none
-no_places : (items : List ℕ) (o s : ℕ) → length items ≤ o → length (occurrences items o (length items) s) ≡ 0
-unfolding occurrences
-no_places items o s past =
-    let places : List ℕ = range_with_len o (length items - o) in
-    let holds : ℕ → Bool = λ p. eqb (slice_index items p) s in
-    omega (arith, length-filter holds places, count_by-le-length holds places, length-range_with_len o (length items - o))
-
-no_some : {P : Type 0} → (P → IsSome {T = ℕ} None) → P → ⊥
-no_some some p = cc (some p)
+use Rattle.vers_wavelet.proofs.Names.{◌≡◌, ℕ, ◌<◌, ◌≤◌, List, length, slice_get, Option, Some, None, refl, sym, arith, inl, inr, ◌↔◌, IsSome, IfSome, cases_lt, le-leb, lt-leb, slice_get_past, Symbols, as_word, low_bits_of, places_of, place_from}
+use Rattle.vers_wavelet.proofs.Members.{never}
+use Rattle.vers_wavelet.proofs.Lists.{no_places}
 
 pub offset_place : (symbols : Symbols) (o i s : ℕ) (r : Option ℕ) → IfSome r (λ p. slice_get (places_of symbols o (length symbols.items) s) i ≡ Some p)
     → IsSome r ↔ (symbols.width ≤ 64) × (o < length symbols.items) × (i < length (places_of symbols o (length symbols.items) s))
@@ -24,8 +15,8 @@ offset_place symbols o i s None value some =
       | inr narrow ↦ rw (le-leb symbols.width 64 narrow) (elim (cases_lt i (length places)) [
         | inr few ↦ sym (slice_get_past places i few)
         | inl so_many ↦ elim (cases_lt o (length symbols.items)) [
-          | inl inside ↦ absurd (no_some some.1 (narrow, inside, so_many))
-          | inr past ↦ absurd (omega (arith, so_many, no_places symbols.items o (low_bits_of symbols s) past))
+          | inl inside ↦ never (some.1 (narrow, inside, so_many))
+          | inr past ↦ absurd (omega (arith, so_many, no_places symbols.items o (length symbols.items) (low_bits_of symbols s) past))
         ]
       ])
     ]

@@ -3,11 +3,12 @@ use Rattle.vers_wavelet.proofs.Names.{◌≡◌, ℕ, ◌-◌, ◌^◌, ◌<◌,
 use Rattle.vers_wavelet.proofs.Answered as Answered
 use Rattle.vers_wavelet.proofs.BySize as BySize
 use Rattle.vers_wavelet.proofs.Items as Items
+use Rattle.vers_wavelet.proofs.Lists as Lists
+use Rattle.vers_wavelet.proofs.Makes as Makes
 use Rattle.vers_wavelet.proofs.Members as Members
 use Rattle.vers_wavelet.proofs.Nearest as Nearest
 use Rattle.vers_wavelet.proofs.Offsets as Offsets
 use Rattle.vers_wavelet.proofs.Ranges as Ranges
-use Rattle.vers_wavelet.proofs.Statements as Statements
 
 -- ---- members by size
 
@@ -37,7 +38,7 @@ kth_item = BySize.kth_item
 
 -- quantiles in turn list the members in ascending order
 pub quantiles_ascend : (numbers quantiles : List ℕ) → length quantiles ≡ length numbers → ((i : ℕ) → i < length numbers → IsKth numbers i (get_or quantiles i 0)) → quantiles ≡ by_size numbers
-quantiles_ascend = Statements.quantiles_ascend
+quantiles_ascend = BySize.quantiles_ascend
 
 -- ---- neighbours
 
@@ -59,11 +60,11 @@ least_from_some = Nearest.least_from_some
 
 -- numbers of at most k digits are their own low digits
 pub small_numbers_stay : (numbers : List ℕ) (k : ℕ) → 0 < k → All (λ y. y < 2 ^ k) numbers → low_symbols numbers k ≡ numbers
-small_numbers_stay = Statements.small_numbers_stay
+small_numbers_stay = Makes.small_numbers_stay
 
 -- a symbol occurs in a range as often as it is among the range's members
 pub occurrences_are_counted : (numbers : List ℕ) (a b s : ℕ) → b ≤ length numbers → length (occurrences numbers a b s) ≡ count_by (λ y. eqb y s) (slice_range numbers a b)
-occurrences_are_counted = Statements.occurrences_are_counted
+occurrences_are_counted = Lists.occurrences_are_counted
 
 -- the range of all places is the list
 pub whole_range : (xs : List ℕ) → slice_range xs 0 (length xs) ≡ xs

@@ -1,8 +1,8 @@
 -- Members by size, from one level to the next.
-use Rattle.vers_wavelet.proofs.Names.{◌≡◌, ℕ, ◌+◌, ◌-◌, ◌*◌, ◌^◌, ◌&&◌, ◌<◌, ◌≤◌, Bool, true, false, cond, leb, List, [], ◌∷◌, length, get_or, drop, refl, sym, ap, ◌∙◌, subst, arith, inl, inr, Option, Some, None, option_map, slice_get, slice_range, IfSome, if◌then◌else◌, cases_lt, length-take, slice_get-get_or, slice_get_past, bit_value, values, next, KthOf, HasRoom, member, by_size}
+use Rattle.vers_wavelet.proofs.Names.{◌≡◌, ℕ, ◌+◌, ◌-◌, ◌*◌, ◌^◌, ◌&&◌, ◌<◌, ◌≤◌, Bool, false, cond, leb, List, [], ◌∷◌, length, get_or, drop, refl, sym, ap, ◌∙◌, arith, inl, inr, Option, Some, None, option_map, slice_get, slice_range, IfSome, if◌then◌else◌, cases_lt, length-take, slice_get-get_or, slice_get_past, bit_value, values, next, KthOf, HasRoom, member, by_size}
 use Rattle.vers_wavelet.proofs.BySize.{length-by_size, kth_at, at_kth}
-use Rattle.vers_wavelet.proofs.Steps.{kth_low, kth_high, kth-lt}
-use Rattle.vers_wavelet.proofs.Lists.{length-values, length-part, kth_is, kth_of}
+use Rattle.vers_wavelet.proofs.Steps.{kth_step, kth-lt}
+use Rattle.vers_wavelet.proofs.Lists.{length-values, length-part, kth_is}
 use Rattle.vers_wavelet.proofs.Answering.{if_both, if_first_fails, if_second_fails}
 
 -- ---- the member of a range
@@ -10,11 +10,13 @@ use Rattle.vers_wavelet.proofs.Answering.{if_both, if_first_fails, if_second_fai
 kth_member : (ls : List (List Bool)) (a b i : ℕ) → a + i < b → KthOf ls a b i (member ls a b i)
 unfolding member
 kth_member ls a b i h =
-    kth_of ls b a b i _ (omega arith) (omega arith) (at_kth (slice_range (values ls b) a b) i (omega (arith, length-part ls b a b (omega arith) (omega arith))))
+    (kth_is ls b a b i _ (omega arith) (omega arith)).1
+    (at_kth (slice_range (values ls b) a b) i (omega (arith, length-part ls b a b (omega arith) (omega arith))))
 
 item_is : (ls : List (List Bool)) (n a b i x : ℕ) → a + i < b → b ≤ n → KthOf ls a b i x → get_or (by_size (slice_range (values ls n) a b)) i 0 ≡ x
 item_is ls n a b i x h within kth =
-    kth_at (slice_range (values ls n) a b) i x (omega (arith, length-part ls n a b (omega arith) within)) (kth_is ls n a b i x (omega arith) within kth)
+    kth_at (slice_range (values ls n) a b) i x (omega (arith, length-part ls n a b (omega arith) within))
+    ((kth_is ls n a b i x (omega arith) within).0 kth)
 
 member_is : (ls : List (List Bool)) (a b i x : ℕ) → a + i < b → KthOf ls a b i x → member ls a b i ≡ x
 unfolding member
@@ -24,18 +26,13 @@ member-lt : (ls : List (List Bool)) (a b i : ℕ) → a + i < b → member ls a 
 member-lt ls a b i h = kth-lt ls a b i (member ls a b i) (kth_member ls a b i h) h
 
 member_goes : (bit : Bool) (v : List Bool) (ls : List (List Bool)) (a b i j : ℕ) → a + i < b → b ≤ length v → next bit v a + j < next bit v b
-    → j + cond bit (next false v b - next false v a) 0 ≡ i → next false v a ≤ next false v b
+    → j + cond bit (next false v b - next false v a) 0 ≡ i
     → member (v ∷ ls) a b i ≡ bit_value bit * 2 ^ length ls + member ls (next bit v a) (next bit v b) j
-member_goes true v ls a b i j h within order left up =
-    let x : ℕ = member ls (next true v a) (next true v b) j in
-    let kth = kth_high v ls a b i j x (omega arith) within (omega arith) (kth_member ls (next true v a) (next true v b) j order) in
-    member_is (v ∷ ls) a b i (2 ^ length ls + x) h kth ∙ omega arith
-member_goes false v ls a b i j h within order left up =
-    let same : j ≡ i = omega arith in
-    let x : ℕ = member ls (next false v a) (next false v b) j in
-    let kth : KthOf (v ∷ ls) a b j x = kth_low v ls a b j x (member-lt ls (next false v a) (next false v b) j order) (omega arith) within (kth_member ls (next false v a) (next false v b) j order) in
-    let at : KthOf (v ∷ ls) a b i x = subst (λ (m : ℕ). KthOf (v ∷ ls) a b m x) same kth in
-    member_is (v ∷ ls) a b i x h at ∙ omega arith
+member_goes bit v ls a b i j h within order left =
+    let c : ℕ = next bit v a in
+    let d : ℕ = next bit v b in
+    member_is (v ∷ ls) a b i _ h
+    (kth_step bit v ls a b i j (member ls c d j) (omega arith) within (member-lt ls c d j order) left (kth_member ls c d j order))
 
 -- ---- queries
 
@@ -67,13 +64,12 @@ quantile_none ls n a b i refused =
     ]
 
 pub quantile_goes : (v : List Bool) (ls : List (List Bool)) (a b i j to end number more k : ℕ) (bit : Bool) (o : Option ℕ) → o ≡ Some number → length ls ≡ k
-    → a + i < b → b ≤ length v → to ≡ next bit v a → end ≡ next bit v b → to + j < end → j + cond bit (next false v b - next false v a) 0 ≡ i → next false v a ≤ next false v b
+    → a + i < b → b ≤ length v → to ≡ next bit v a → end ≡ next bit v b → to + j < end → j + cond bit (next false v b - next false v a) 0 ≡ i
     → more ≡ number + bit_value bit * 2 ^ k
     → Some (more + member ls to end j) ≡ option_map (λ y. y + member (v ∷ ls) a b i) o
-quantile_goes v ls a b i j to end number more k bit o is long h within from last order left up e =
+quantile_goes v ls a b i j to end number more k bit o is long h within from last order left e =
     let parts : member (v ∷ ls) a b i ≡ bit_value bit * 2 ^ k + member ls to end j =
-    member_goes bit v ls a b i j h within (omega arith) left up ∙ ap (λ n. bit_value bit * 2 ^ n + member ls (next bit v a) (next bit v b) j) long
-    ∙ ap (λ p. bit_value bit * 2 ^ k + member ls p (next bit v b) j) (sym from) ∙ ap (λ p. bit_value bit * 2 ^ k + member ls to p j) (sym last) in
+    rw (← long, from, last) (member_goes bit v ls a b i j h within (omega arith) left) in
     let whole : more + member ls to end j ≡ number + member (v ∷ ls) a b i = omega (arith, e, parts) in
     ap Some whole ∙ sym (ap (option_map (λ y. y + member (v ∷ ls) a b i)) is)
 

@@ -1,5 +1,5 @@
 -- The members of a range by size, and symbols that are numbers of the machine.
-use Rattle.vers_wavelet.proofs.Names.{◌≡◌, ℕ, ◌+◌, ◌-◌, ◌<◌, ◌≤◌, List, [], ◌∷◌, length, get_or, Option, Some, None, refl, sym, ap, ◌∙◌, subst, arith, inl, inr, slice_range, IsSome, ◌↔◌, cases_lt, le-leb, lt-leb, by_size, range_members, kth_by_size, as_word}
+use Rattle.vers_wavelet.proofs.Names.{◌≡◌, ℕ, ◌+◌, ◌-◌, ◌<◌, ◌≤◌, List, [], length, get_or, Option, Some, None, refl, sym, ap, ◌∙◌, subst, arith, inl, inr, slice_range, IsSome, ◌↔◌, nil_from_length, cases_lt, le-leb, lt-leb, by_size, range_members, kth_by_size, as_word}
 use Rattle.vers_wavelet.proofs.BySize.{kth_some, kth_none}
 use Rattle.vers_wavelet.proofs.Members.{part_length, never}
 use Rattle.vers_wavelet.proofs.Items.{whole_range}
@@ -22,11 +22,7 @@ few_members items a b =
     ]
 
 pub members_reversed : (items : List ℕ) (a b : ℕ) → b ≤ a → range_members items a b ≡ []
-members_reversed items a b order = no_items (range_members items a b) (omega (arith, few_members items a b))
-  where
-    no_items : (xs : List ℕ) → length xs ≡ 0 → xs ≡ []
-    no_items [] e = refl
-    no_items (x ∷ xs) e = absurd (omega arith)
+members_reversed items a b order = nil_from_length (range_members items a b) (omega (arith, few_members items a b))
 
 pub members_of_all : (items : List ℕ) (n : ℕ) → n ≡ length items → range_members items 0 n ≡ items
 members_of_all items n e = ap (range_members items 0) e ∙ members_inside items 0 (length items) (omega arith) ∙ whole_range items

@@ -1,47 +1,14 @@
 -- How often a digit is a one, level by level, and what the levels take.
-use Rattle.vers_wavelet.proofs.Names.{◌≡◌, ℕ, zero, suc, ◌+◌, ◌-◌, ◌<◌, ◌≤◌, Bool, true, false, cond, eqb, List, [], ◌∷◌, length, get_or, refl, sym, ap, ◌∙◌, arith, add-one, inl, inr, bit_at, range_with_len, sum_by, AllZip, each_same, cases_Bool, map-id, length-map, get_or-map, sum_by-map-range_with_len_more, bit_at_cat_low, bit_at_cat_high, bit_value, is_bit, count, count_none, count_both, count_more_yes, count_more_no, index_size, digit_list, start, next, value, values, hits, digit, Even, AreLevels}
-use Rattle.vers_wavelet.proofs.Values.{next_none, next_yes, next_no, value_is, value-lt}
+use Rattle.vers_wavelet.proofs.Names.{◌≡◌, ℕ, zero, suc, ◌+◌, ◌-◌, ◌<◌, Bool, true, false, eqb, List, [], ◌∷◌, length, get_or, refl, sym, ap, ◌∙◌, arith, bit_at, range_with_len, sum_by, AllZip, each_same, map-id, length-map, get_or-map, sum_by-map-range_with_len_more, bit_at_cat_low, bit_at_cat_high, bit_value, is_bit, count, count_both, index_size, digit_list, next, value, values, hits, digit, Even, AreLevels}
+use Rattle.vers_wavelet.proofs.Values.{hits_same, split_all, value_is, value-lt}
 use Rattle.vers_wavelet.proofs.Steps.{even_first, even_rest}
-use Rattle.vers_wavelet.proofs.Lists.{hits_same, length-values, get_or-values}
-
-hits_more : (q : ℕ → Bool) (n : ℕ) → hits q (n + 1) ≡ hits q n + cond (q n) 1 0
-hits_more q n = rw add-one refl
+use Rattle.vers_wavelet.proofs.Lists.{length-values, get_or-values, taken_hits}
 
 -- the places of a level take all places of the next, each once
-moved : (g : ℕ → Bool) (l : List Bool) (i : ℕ) → i ≤ length l
-    → hits (λ p. g (next (get_or l p false) l p)) i + hits g (start true l) ≡ hits g (next false l i) + hits g (next true l i)
-moved g l zero h =
-    let none : hits g (next false l 0) ≡ 0 = ap (hits g) (next_none false l) in
-    let from : hits g (next true l 0) ≡ hits g (start true l) = ap (hits g) (next_none true l) in
-    omega (arith, none, from)
-moved g l (suc i) h =
-    let before = moved g l i (omega arith) in
-    let within : i < length l = omega arith in
-    let q = λ (p : ℕ). g (next (get_or l p false) l p) in
-    rw (← add-one i) (elim (cases_Bool (get_or l i false)) [
-      | inl on ↦
-          let same : cond {A = ℕ} (g (next (get_or l i false) l i)) 1 0 ≡ cond (g (next true l i)) 1 0 = ap {B = ℕ} (λ b. cond (g (next b l i)) 1 0) on in
-          let here : hits q (i + 1) ≡ hits q i + cond (g (next true l i)) 1 0 = hits_more q i ∙ ap {B = ℕ} (λ b. hits q i + cond (g (next b l i)) 1 0) on in
-          let goes : hits g (next true l (i + 1)) ≡ hits g (next true l i) + cond (g (next true l i)) 1 0 =
-          ap (hits g) (next_yes true l i within (ap (is_bit true) on)) ∙ hits_more g (next true l i) in
-          let stays : hits g (next false l (i + 1)) ≡ hits g (next false l i) = ap (hits g) (next_no false l i within (ap (is_bit false) on)) in
-          omega (arith, before, same, here, goes, stays)
-      | inr off ↦
-          let same : cond {A = ℕ} (g (next (get_or l i false) l i)) 1 0 ≡ cond (g (next false l i)) 1 0 = ap {B = ℕ} (λ b. cond (g (next b l i)) 1 0) off in
-          let here : hits q (i + 1) ≡ hits q i + cond (g (next false l i)) 1 0 = hits_more q i ∙ ap {B = ℕ} (λ b. hits q i + cond (g (next b l i)) 1 0) off in
-          let goes : hits g (next false l (i + 1)) ≡ hits g (next false l i) + cond (g (next false l i)) 1 0 =
-          ap (hits g) (next_yes false l i within (ap (is_bit false) off)) ∙ hits_more g (next false l i) in
-          let stays : hits g (next true l (i + 1)) ≡ hits g (next true l i) = ap (hits g) (next_no true l i within (ap (is_bit true) off)) in
-          omega (arith, before, same, here, goes, stays)
-    ])
-
 all_moved : (g : ℕ → Bool) (l : List Bool) (n : ℕ) → length l ≡ n → hits (λ p. g (next (get_or l p false) l p)) n ≡ hits g n
-unfolding next
 all_moved g l n long =
-    let zeros : count false l n ≡ count false l (length l) = ap (count false l) (sym long) in
-    let first : next false l n ≡ start true l = omega (arith, zeros) in
-    let last : next true l n ≡ n = omega (arith, count_both l n, zeros) in
-    omega (arith, moved g l n (omega arith), ap (hits g) first, ap (hits g) last)
+    let same = λ (b : Bool) (p : ℕ) (is : get_or l p false ≡ b). ap (λ c. g (next c l p)) is in
+    omega (arith, split_all l (λ p. g (next (get_or l p false) l p)) g g (same false) (same true) n long)
 
 digit_low : (l : List Bool) (ls : List (List Bool)) (p i : ℕ) → i < length ls → digit (value (l ∷ ls) p) i ≡ digit (value ls (next (get_or l p false) l p)) i
 digit_low l ls p i h =
@@ -73,28 +40,18 @@ hits_digit (l ∷ ls) n even (suc k) i e v at =
     ∙ all_moved (λ q. digit (value ls q) i) l n (even_first l ls n even)
     ∙ hits_digit ls n (even_rest l ls n even) k i (omega arith) v at
 
-hits_count : (v : List Bool) (i : ℕ) → i ≤ length v → hits (λ p. get_or v p false) i ≡ count true v i
-hits_count v zero h = sym (count_none true v)
-hits_count v (suc i) h =
-    let within : i < length v = omega arith in
-    rw (← add-one i) (elim (cases_Bool (get_or v i false)) [
-      | inl on ↦ omega (arith, hits_more (λ p. get_or v p false) i, ap {B = ℕ} (λ b. cond b 1 0) on, hits_count v i (omega arith), count_more_yes true v i within (ap (is_bit true) on))
-      | inr off ↦ omega (arith, hits_more (λ p. get_or v p false) i, ap {B = ℕ} (λ b. cond b 1 0) off, hits_count v i (omega arith), count_more_no true v i within (ap (is_bit true) off))
-    ])
-
-length-digit_list : (i : ℕ) (xs : List ℕ) → length (digit_list i xs) ≡ length xs
-length-digit_list i xs = length-map xs (λ y. digit y i)
-
 digit_of_list : (i : ℕ) (ls : List (List Bool)) (n p : ℕ) → p < n → get_or (digit_list i (values ls n)) p false ≡ digit (value ls p) i
 digit_of_list i ls n p h =
     get_or-map (λ y. digit y i) (values ls n) p 0 false (omega (arith, length-values ls n)) ∙ ap (λ y. digit y i) (get_or-values ls n p 0 h)
 
 ones_of_level : (ls : List (List Bool)) (n : ℕ) → Even ls n → (k i : ℕ) → k + (i + 1) ≡ length ls → (v : List Bool) → v ≡ get_or ls k v → length v ≡ n
     → count true v n ≡ count true (digit_list i (values ls n)) n
+unfolding count
 ones_of_level ls n even k i e v at long =
     let w : List Bool = digit_list i (values ls n) in
-    let whole : length w ≡ n = length-digit_list i (values ls n) ∙ length-values ls n in
-    sym (hits_count v n (omega (arith, long))) ∙ sym (hits_digit ls n even k i e v at) ∙ hits_same _ _ n (λ p h. sym (digit_of_list i ls n p h)) ∙ hits_count w n (omega (arith, whole))
+    let whole : length w ≡ n = length-map (values ls n) (λ y. digit y i) ∙ length-values ls n in
+    taken_hits (is_bit true) v false n (omega arith) ∙ sym (hits_digit ls n even k i e v at) ∙ hits_same _ _ n (λ p h. sym (digit_of_list i ls n p h))
+    ∙ sym (taken_hits (is_bit true) w false n (omega arith))
 
 -- a level takes what the list of its digits does
 pub size_of_level : (ls : List (List Bool)) (n : ℕ) → AreLevels ls n → (k i : ℕ) → k + (i + 1) ≡ length ls → (v : List Bool) → v ≡ get_or ls k v
@@ -102,10 +59,9 @@ pub size_of_level : (ls : List (List Bool)) (n : ℕ) → AreLevels ls n → (k 
 size_of_level ls n levels k i e v at =
     let w : List Bool = digit_list i (values ls n) in
     let long : length v ≡ n = ap length at ∙ levels.even k v (omega arith) in
-    let whole : length w ≡ n = length-digit_list i (values ls n) ∙ length-values ls n in
+    let whole : length w ≡ n = length-map (values ls n) (λ y. digit y i) ∙ length-values ls n in
     let same : length v ≡ length w = long ∙ sym whole in
-    let ones_at_n = ones_of_level ls n levels.even k i e v at long in
-    let ones : count true v (length v) ≡ count true w (length w) = ap (count true v) long ∙ ones_at_n ∙ ap (count true w) (sym whole) in
+    let ones : count true v (length v) ≡ count true w (length w) = rw (long, whole) (ones_of_level ls n levels.even k i e v at long) in
     let zeros : count false v (length v) ≡ count false w (length w) = omega (arith, count_both v (length v), count_both w (length w), ones, same) in
     rw (zeros, ones, same) refl
 
@@ -116,6 +72,4 @@ sum_more f i =
 
 -- a clone of each level is the level
 pub same_levels : (ls ms : List (List Bool)) → AllZip (λ x y. y ≡ x) ls ms → ms ≡ ls
-same_levels ls ms zip = each_same ls ms zip
-
-pub ruleset copies = (same_levels)
+same_levels = each_same

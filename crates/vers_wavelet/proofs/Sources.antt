@@ -29,15 +29,9 @@ packed_prefix bits w n e h =
 pub packed_inside : (n w e : ℕ) → 0 < w → e < n / w → e * w + w ≤ n
 packed_inside n w e some h = omega (arith, row_fits e w (n / w) w h (omega arith), div-mul-le_self n w)
 
-pub packed_count : (n w : ℕ) → n / w ≤ n
-packed_count n w = div-le_self n w
-
-pub length-places : (n : ℕ) → length (range_with_len 0 n) ≡ n
-length-places n = length-range_with_len 0 n
-
 pub place_item : (n i : ℕ) → i < length (range_with_len 0 n) → slice_get (range_with_len 0 n) i ≡ Some i
-place_item n i h = slice_get-get_or (range_with_len 0 n) i i h ∙ ap Some (get_or-range_with_len 0 n i i (omega (arith, length-places n)) ∙ (let none : 0 + i ≡ i = omega arith in none))
+place_item n i h = slice_get-get_or (range_with_len 0 n) i i h ∙ ap Some (get_or-range_with_len 0 n i i (omega (arith, length-range_with_len 0 n)) ∙ (let none : 0 + i ≡ i = omega arith in none))
 
 pub ruleset words = (word_prefix, one_fits)
 
-pub ruleset packed = (packed_digit, packed_prefix, packed_inside, packed_count, length-places, place_item)
+pub ruleset packed = (packed_digit, packed_prefix, packed_inside, div-le_self, length-range_with_len, place_item)

@@ -1,46 +1,31 @@
 -- One level of a search.
-use Rattle.vers_wavelet.proofs.Names.{◌≡◌, ℕ, zero, suc, ◌+◌, ◌-◌, ◌*◌, ◌%◌, ◌^◌, ◌<◌, ◌≤◌, Bool, true, false, cond, List, [], ◌∷◌, length, take, drop, get_or, refl, sym, ap, ◌∙◌, subst, arith, add-one, inl, inr, drop-cons, pow-suc, mod-lt, mod-eq_of_lt, mul-le-mul_right, cases_lt, pow_pos, length-drop, drop_all, take_all, bit_value, count, select, select_holds, Reads, IsWithin, times, start, next, value, under, equal, way, digit, Even, AreLevels, Narrowed, KthOf, HasRoom, Searched, Rises}
+use Rattle.vers_wavelet.proofs.Names.{◌≡◌, ℕ, zero, suc, ◌+◌, ◌-◌, ◌*◌, ◌%◌, ◌^◌, ◌<◌, ◌≤◌, Bool, false, cond, List, [], ◌∷◌, length, take, drop, get_or, refl, sym, ap, ◌∙◌, subst, arith, add-one, inl, inr, drop-cons, pow-suc, mod-lt, mod-eq_of_lt, mul-le-mul_right, mod-one, cases_lt, pow_pos, length-drop, drop_all, take_all, bit_value, bit_value_le, count, select, select_holds, Reads, IsWithin, times, start, next, value, under, equal, way, digit, Even, AreLevels, Narrowed, KthOf, HasRoom, Searched, Rises}
 use Rattle.vers_wavelet.proofs.Digits.{top_digit, one_split}
-use Rattle.vers_wavelet.proofs.Values.{same_bit, value-lt, one_more, under_all, under_low, under_high, equal_under, under_none, next_none, next-up, next-le, none_under, all_equal, one_under, value_is, value_none, way_none, way_is, way-up, equal_more}
+use Rattle.vers_wavelet.proofs.Values.{same_bit, value-lt, under_all, under_step, equal_under, next_none, next-up, next-le, none_under, all_equal, value_is, value_none, way_none, way_is, way-up, equal_more}
 
-pub under_step : (bit : Bool) (l : List Bool) (ls : List (List Bool)) (s i : ℕ) → s ≤ 2 ^ length ls → i ≤ length l
-    → under (l ∷ ls) (bit_value bit * 2 ^ length ls + s) i + under ls s (start bit l) ≡ cond bit (next false l i) 0 + under ls s (next bit l i)
-under_step true l ls s i small h =
-    let e : 1 * 2 ^ length ls + s ≡ 2 ^ length ls + s = omega arith in
-    omega (arith, ap (λ y. under (l ∷ ls) y i) e, under_high l ls s i h)
-under_step false l ls s i small h =
-    let e : 0 * 2 ^ length ls + s ≡ s = omega arith in
-    omega (arith, ap (λ y. under (l ∷ ls) y i) e, under_low l ls s small i h, under_none ls s)
+equal_step : (bit : Bool) (l : List Bool) (ls : List (List Bool)) (s y i : ℕ) → y ≡ bit_value bit * 2 ^ length ls + s → s < 2 ^ length ls
+    → i ≤ length l
+    → equal (l ∷ ls) y i + equal ls s (start bit l) ≡ equal ls s (next bit l i)
+equal_step bit l ls s y i e small h =
+    let below = under_step bit l ls s y i e (omega arith) h in
+    let not_above = under_step bit l ls (s + 1) (y + 1) i (omega arith) (omega arith) h in
+    omega (arith, below, not_above, equal_under (l ∷ ls) y i, equal_under ls s (start bit l), equal_under ls s (next bit l i))
 
-pub equal_step : (bit : Bool) (l : List Bool) (ls : List (List Bool)) (s i : ℕ) → s < 2 ^ length ls → i ≤ length l
-    → equal (l ∷ ls) (bit_value bit * 2 ^ length ls + s) i + equal ls s (start bit l) ≡ equal ls s (next bit l i)
-equal_step bit l ls s i small h =
-    let t : ℕ = bit_value bit * 2 ^ length ls in
-    let e : t + (s + 1) ≡ t + s + 1 = omega arith in
-    omega (
-      arith,
-      equal_under (l ∷ ls) (t + s) i,
-      equal_under ls s (start bit l),
-      equal_under ls s (next bit l i),
-      under_step bit l ls s i (omega arith) h,
-      under_step bit l ls (s + 1) i (omega arith) h,
-      ap (λ y. under (l ∷ ls) y i) e,
-    )
+cond_gap : (bit : Bool) (a b : ℕ) → a ≤ b → cond bit b 0 ≡ cond bit a 0 + cond bit (b - a) 0
+cond_gap bit a b order = grind arith
 
-pub kth_low : (l : List Bool) (ls : List (List Bool)) (a b i x : ℕ) → x < 2 ^ length ls → a ≤ length l → b ≤ length l
-    → KthOf ls (next false l a) (next false l b) i x → KthOf (l ∷ ls) a b i x
-kth_low l ls a b i x small ha hb k = record {
-  less = omega (arith, under_low l ls x (omega arith) a ha, under_low l ls x (omega arith) b hb, k.less);
-  more = omega (arith, under_low l ls (x + 1) (omega arith) a ha, under_low l ls (x + 1) (omega arith) b hb, k.more);
-}
-
-pub kth_high : (l : List Bool) (ls : List (List Bool)) (a b i j x : ℕ) → a ≤ length l → b ≤ length l → j + next false l b ≡ i + next false l a
-    → KthOf ls (next true l a) (next true l b) j x → KthOf (l ∷ ls) a b i (2 ^ length ls + x)
-kth_high l ls a b i j x ha hb e k =
-    let s : 2 ^ length ls + (x + 1) ≡ 2 ^ length ls + x + 1 = omega arith in
+-- of the places that go on with the bit, member j by size makes member i of all
+pub kth_step : (bit : Bool) (l : List Bool) (ls : List (List Bool)) (a b i j x : ℕ) → a ≤ b → b ≤ length l → x < 2 ^ length ls
+    → j + cond bit (next false l b - next false l a) 0 ≡ i
+    → KthOf ls (next bit l a) (next bit l b) j x → KthOf (l ∷ ls) a b i (bit_value bit * 2 ^ length ls + x)
+kth_step bit l ls a b i j x order within small e k =
+    let y : ℕ = bit_value bit * 2 ^ length ls + x in
+    let zeros = cond_gap bit (next false l a) (next false l b) (next-up false l a b order) in
+    let first = λ (p : ℕ) (h : p ≤ length l). under_step bit l ls x y p refl (omega arith) h in
+    let last = λ (p : ℕ) (h : p ≤ length l). under_step bit l ls (x + 1) (y + 1) p (omega arith) (omega arith) h in
     record {
-      less = omega (arith, under_high l ls x a ha, under_high l ls x b hb, k.less);
-      more = omega (arith, under_high l ls (x + 1) a ha, under_high l ls (x + 1) b hb, k.more, ap (λ y. under (l ∷ ls) y a) s, ap (λ y. under (l ∷ ls) y b) s);
+      less = omega (arith, e, zeros, k.less, first a (omega arith), first b within);
+      more = omega (arith, e, zeros, k.more, last a (omega arith), last b within);
     }
 
 pub kth-lt : (ls : List (List Bool)) (a b i x : ℕ) → KthOf ls a b i x → a + i < b → x < 2 ^ length ls
@@ -60,13 +45,7 @@ module _ (ls : List (List Bool)) (k : ℕ) (h : k < length ls) where
 -- the digits of s from level k on: the first of them, and the others
 pub digit_from : (s m k : ℕ) → k < m → s % 2 ^ (m - k) ≡ bit_value (digit s (m - (k + 1))) * 2 ^ (m - (k + 1)) + s % 2 ^ (m - (k + 1))
 digit_from s m k h =
-    let e : m - k ≡ m - (k + 1) + 1 = omega arith in
-    ap (λ n. s % 2 ^ n) e ∙ top_digit s (m - (k + 1))
-
-less_more : (bit : Bool) (less ua ub va vb sa p q : ℕ) (za zb : ℕ) → za ≤ zb → ua + sa ≡ cond bit za 0 + va → ub + sa ≡ cond bit zb 0 + vb
-    → less + ub + p ≡ ua + q → less + cond bit (zb - za) 0 + vb + p ≡ va + q
-less_more true less ua ub va vb sa p q za zb order f g n = omega arith
-less_more false less ua ub va vb sa p q za zb order f g n = omega arith
+    let e : m - k ≡ m - (k + 1) + 1 = omega arith in rw e (top_digit s (m - (k + 1)))
 
 -- ---- the way down
 
@@ -86,21 +65,12 @@ way_equal [] n even s i h =
     omega (arith, ap (λ y. equal [] y i) none, all_equal i, way_none s 0, way_none s i)
 way_equal (l ∷ ls) n even s i h =
     let bit : Bool = digit s (length ls) in
-    let r : ℕ = s % 2 ^ length ls in
-    let long : length l ≡ n = even_first l ls n even in
-    let whole : s % 2 ^ length (l ∷ ls) ≡ bit_value bit * 2 ^ length ls + r = ap (λ m. s % 2 ^ m) (sym (add-one (length ls))) ∙ top_digit s (length ls) in
-    let here = way_equal ls n (even_rest l ls n even) s (next bit l i) (omega (arith, next-le bit l i)) in
-    let first = way_equal ls n (even_rest l ls n even) s (start bit l) (omega (arith, start_le bit l)) in
-    omega (
-      arith,
-      ap (λ y. equal (l ∷ ls) y i) whole,
-      equal_step bit l ls r i (mod-lt s (pow_pos (length ls))) (omega arith),
-      here,
-      first,
-      way_is l ls s i,
-      way_is l ls s 0,
-      ap (way ls s) (next_none bit l),
-    )
+    let whole = ap (λ m. s % 2 ^ m) (sym (add-one (length ls))) ∙ top_digit s (length ls) in
+    let here = way_equal ls n (even_rest l ls n even) s (next bit l i) (omega (arith, next-le bit l i, even_first l ls n even)) in
+    let first = way_equal ls n (even_rest l ls n even) s (start bit l) (omega (arith, start_le bit l, even_first l ls n even)) in
+    let small = mod-lt s (pow_pos (length ls)) in
+    let step = equal_step bit l ls (s % 2 ^ length ls) (s % 2 ^ length (l ∷ ls)) i whole small (omega (arith, even_first l ls n even)) in
+    omega (arith, step, here, first, way_is l ls s i, way_is l ls s 0, ap (way ls s) (next_none bit l))
 
 -- a place that holds s has a place of its own there
 pub way_more : (ls : List (List Bool)) (n : ℕ) → Even ls n → (s i : ℕ) → i < n → value ls i ≡ s % 2 ^ length ls → way ls s (i + 1) ≡ way ls s i + 1
@@ -132,8 +102,7 @@ module _ (ls : List (List Bool)) (s k : ℕ) (h : k < length ls) (v : List Bool)
   lower = drop (k + 1) ls
 
   whole : s % 2 ^ (length ls - k) ≡ bit_value bit * 2 ^ length lower + rest
-  whole = digit_from s (length ls) k h ∙ ap (λ d. bit_value d * 2 ^ (length ls - (k + 1)) + rest) (sym is)
-      ∙ ap (λ n. bit_value bit * 2 ^ n + rest) (sym (levels_left ls k h))
+  whole = rw (is, levels_left ls k h) (digit_from s (length ls) k h)
 
   small : rest < 2 ^ length lower
   small = rw (levels_left ls k h) (mod-lt s (pow_pos (length ls - (k + 1))))
@@ -141,22 +110,17 @@ module _ (ls : List (List Bool)) (s k : ℕ) (h : k < length ls) (v : List Bool)
   under_at : (i : ℕ) → i ≤ length v
       → under (drop k ls) (s % 2 ^ (length ls - k)) i + under lower rest (start bit v)
       ≡ cond bit (next false v i) 0 + under lower rest (next bit v i)
-  under_at i within =
-      ap (λ m. under m (s % 2 ^ (length ls - k)) i + under lower rest (start bit v)) (level_at ls k h v at)
-      ∙ ap (λ y. under (v ∷ lower) y i + under lower rest (start bit v)) whole
-      ∙ under_step bit v lower rest i (omega (arith, small)) within
+  under_at i within = rw (level_at ls k h v at) (under_step bit v lower rest _ i whole (omega (arith, small)) within)
 
   pub way_down : (i : ℕ) → way (drop k ls) s i ≡ way lower s (next bit v i)
-  way_down i =
-      ap (λ m. way m s i) (level_at ls k h v at) ∙ way_is v lower s i
-      ∙ ap (λ n. way lower s (next (digit s n) v i)) (levels_left ls k h) ∙ ap (λ d. way lower s (next d v i)) (sym is)
+  way_down i = rw (level_at ls k h v at, way_is v lower s i, levels_left ls k h, ← is)
 
   -- the two ends of a range, one level down
   pub narrowed_more : {from to a b less : ℕ} → a ≤ length v → b ≤ length v → a ≤ b
       → Narrowed ls s from to k a b less
       → Narrowed ls s from to (k + 1) (next bit v a) (next bit v b) (less + cond bit (next false v b - next false v a) 0)
   narrowed_more {from} {to} {a} {b} {less} ha hb order n = record {
-    less_is = less_more bit less _ _ _ _ _ _ _ (next false v a) (next false v b) (next-up false v a b order) (under_at a ha) (under_at b hb) n.less_is;
+    less_is = omega (arith, under_at a ha, under_at b hb, n.less_is, cond_gap bit (next false v a) (next false v b) (next-up false v a b order));
     from_is = sym (way_down a) ∙ n.from_is;
     to_is = sym (way_down b) ∙ n.to_is;
   }
@@ -173,15 +137,10 @@ module _ (ls : List (List Bool)) (s k : ℕ) (h : k < length ls) (v : List Bool)
     pub rise_inside : way ls s 0 ≤ target → target < way ls s n → (start bit v ≤ q) × (q < next bit v n)
     rise_inside low high = (
       elim (cases_lt q (start bit v)) [
-        | inl less ↦ absurd (omega (
-          arith,
-          up.leads,
-          way_more lower n (even_drop ls n even (k + 1)) s q up.within holds_here,
-          way-up lower s (q + 1) (start bit v) (omega arith),
-          way_down 0,
-          ap (way lower s) (next_none bit v),
-          way_low ls s k,
-        ))
+        | inl less ↦
+            let more = way_more lower n (even_drop ls n even (k + 1)) s q up.within holds_here in
+            let order = way-up lower s (q + 1) (start bit v) (omega arith) in
+            absurd (omega (arith, up.leads, more, order, way_down 0, ap (way lower s) (next_none bit v), way_low ls s k))
         | inr fine ↦ fine
       ],
       elim (cases_lt q (next bit v n)) [
@@ -201,69 +160,38 @@ module _ (ls : List (List Bool)) (s k : ℕ) (h : k < length ls) (v : List Bool)
         let back : next bit v p ≡ q = omega (arith, at'.2, from) in
         record {
           within = omega (arith, at'.0, long);
-          holds = ap (λ m. value m p) (level_at ls k h v at) ∙ value_is v lower p bit (same_bit bit _ at'.1) ∙ ap (λ i. bit_value bit * 2 ^ length lower + value lower i) back
-              ∙ ap (λ x. bit_value bit * 2 ^ length lower + x) up.holds ∙ sym whole;
-          leads = way_down p ∙ ap (way lower s) back ∙ up.leads;
+          holds = rw (level_at ls k h v at, value_is v lower p bit (same_bit bit _ at'.1), back, up.holds) (sym whole);
+          leads = rw (way_down p, back) up.leads;
         }
 
-end_digits : (ls : List (List Bool)) (s : ℕ) → s % 2 ^ (length ls - length ls) ≡ 0
-end_digits ls s = let e : length ls - length ls ≡ 0 = omega arith in ap (λ n. s % 2 ^ n) e ∙ omega arith
-
 pub rise_none : (ls : List (List Bool)) (n s target : ℕ) → target < n → Rises ls n s target (length ls) target
-rise_none ls n s target h = record {
-  within = h;
-  holds = ap (λ m. value m target) (drop_all (length ls) ls (omega arith)) ∙ value_none target ∙ sym (end_digits ls s);
-  leads = ap (λ m. way m s target) (drop_all (length ls) ls (omega arith)) ∙ way_none s target;
-}
+rise_none ls n s target h =
+    let none : drop (length ls) ls ≡ [] = drop_all (length ls) ls (omega arith) in
+    let end : length ls - length ls ≡ 0 = omega arith in
+    record { within = h; holds = rw (none, end) (value_none target ∙ omega arith); leads = rw none (way_none s target) }
 
 -- one level of a search by size
 module _ (ls : List (List Bool)) (k : ℕ) (h : k < length ls) (v : List Bool) (at : v ≡ get_or ls k v) where
   abbrev weight : ℕ
   weight = 2 ^ (length ls - (k + 1))
 
-  next_power : 2 ^ (length ls - k) ≡ 2 * weight
-  next_power =
-      let e : length ls - k ≡ suc (length ls - (k + 1)) = omega arith in
-      ap (λ n. 2 ^ n) e ∙ omega (arith, pow-suc 2 (length ls - (k + 1)))
-
-  searched_low : {from to th a b i number : ℕ} → a ≤ length v → b ≤ length v
-      → Searched ls from to th k a b i number → Searched ls from to th (k + 1) (next false v a) (next false v b) i number
-  searched_low {from} {to} {th} {a} {b} {i} {number} ha hb s = record {
-    each = λ x small kth.
-        let here : KthOf (drop k ls) a b i x =
-        rw (level_at ls k h v at) (kth_low v (drop (k + 1) ls) a b i x (rw (levels_left ls k h) small) ha hb kth) in
-        s.each x (omega (arith, next_power)) here;
-  }
-
-  searched_high : {from to th a b i j number : ℕ} → a ≤ length v → b ≤ length v
-      → j + next false v b ≡ i + next false v a
-      → Searched ls from to th k a b i number → Searched ls from to th (k + 1) (next true v a) (next true v b) j (number + weight)
-  searched_high {from} {to} {th} {a} {b} {i} {j} {number} ha hb same s = record {
-    each = λ x small kth.
-        let e : number + (weight + x) ≡ number + weight + x = omega arith in
-        let more : KthOf (v ∷ drop (k + 1) ls) a b i (2 ^ length (drop (k + 1) ls) + x) =
-        kth_high v (drop (k + 1) ls) a b i j x ha hb same kth in
-        let here : KthOf (drop k ls) a b i (weight + x) =
-        rw (level_at ls k h v at) (subst (λ (n : ℕ). KthOf (v ∷ drop (k + 1) ls) a b i (2 ^ n + x)) (levels_left ls k h) more) in
-        subst (KthOf ls from to th) e (s.each (weight + x) (omega (arith, next_power)) here);
-  }
-
   pub searched_more : (bit : Bool) (from to th a b i j number : ℕ) → a ≤ b → b ≤ length v → j + cond bit (next false v b - next false v a) 0 ≡ i
       → Searched ls from to th k a b i number
       → Searched ls from to th (k + 1) (next bit v a) (next bit v b) j (number + bit_value bit * weight)
-  searched_more true from to th a b i j number order within e s =
-      let r : number + 1 * weight ≡ number + weight = omega arith in
-      rw r (searched_high (omega arith) within (omega (arith, next-up false v a b order)) s)
-  searched_more false from to th a b i j number order within e s =
-      let same : j ≡ i = omega arith in
-      let r : number + 0 * weight ≡ number = omega arith in
-      rw (same, r) (searched_low (omega arith) within s)
+  searched_more bit from to th a b i j number order within e s = record {
+    each = λ x small kth.
+        let left = levels_left ls k h in
+        let here = kth_step bit v (drop (k + 1) ls) a b i j x order within (rw left small) e kth in
+        let sum : number + (bit_value bit * weight + x) ≡ number + bit_value bit * weight + x = omega arith in
+        let deeper : length ls - k ≡ suc (length ls - (k + 1)) = omega arith in
+        let fits : bit_value bit * weight + x < 2 ^ (length ls - k) =
+        rw deeper (omega (arith, pow-suc 2 (length ls - (k + 1)), mul-le-mul_right weight (bit_value_le bit))) in
+        rw (← sum) (s.each (bit_value bit * weight + x) fits (rw (level_at ls k h v at, ← left) here));
+  }
 
   -- one level of the symbol at a place
   read_here : (bit : Bool) (p : ℕ) → get_or v p false ≡ bit → value (drop k ls) p ≡ bit_value bit * weight + value (drop (k + 1) ls) (next bit v p)
-  read_here bit p is =
-      ap (λ m. value m p) (level_at ls k h v at) ∙ value_is v (drop (k + 1) ls) p bit is
-      ∙ ap (λ n. bit_value bit * 2 ^ n + value (drop (k + 1) ls) (next bit v p)) (levels_left ls k h)
+  read_here bit p is = rw (level_at ls k h v at, value_is v (drop (k + 1) ls) p bit is, levels_left ls k h)
 
   pub read_more : (bit : Bool) (p number x : ℕ) → get_or v p false ≡ bit
       → number + value (drop k ls) p ≡ x
@@ -282,7 +210,7 @@ pub held_all : (ls : List (List Bool)) (p : ℕ) → value ls p ≡ value ls p %
 held_all ls p = let e : length ls - 0 ≡ length ls = omega arith in sym (ap (λ n. value ls p % 2 ^ n) e ∙ mod-eq_of_lt (value-lt ls p))
 
 pub all_levels : (width k : ℕ) {number : ℕ} → HasRoom width k number → HasRoom width (k - 0) number
-all_levels width k {number} room = let e : k ≡ k - 0 = omega arith in subst (λ (j : ℕ). HasRoom width j number) e room
+all_levels width k room = let e : k - 0 ≡ k = omega arith in rw e room
 
 pub searched_none : (ls : List (List Bool)) (from to i : ℕ) → Searched ls from to i 0 from to i 0
 searched_none ls from to i = record { each = λ x small k. let e : 0 + x ≡ x = omega arith in rw e k }
@@ -291,7 +219,8 @@ pub searched_all : {ls : List (List Bool)} {from to th k a b i number : ℕ} →
 searched_all {ls} {from} {to} {th} {k} {a} {b} {i} {number} e s order =
     let none : drop k ls ≡ [] = drop_all k ls (omega arith) in
     let w : 2 ^ (length ls - k) ≡ 1 = (let z : length ls - k ≡ 0 = omega arith in ap (λ n. 2 ^ n) z) in
-    let kth : KthOf [] a b i 0 = record { less = omega (arith, none_under a, none_under b); more = omega (arith, one_under a, one_under b) } in
+    let all = λ (n : ℕ). under_all [] 1 n (omega arith) in
+    let kth : KthOf [] a b i 0 = record { less = omega (arith, none_under a, none_under b); more = omega (arith, all a, all b) } in
     let r : number + 0 ≡ number = omega arith in
     subst (KthOf ls from to th) r (s.each 0 (omega (arith, w)) (rw none kth))
 
@@ -311,13 +240,10 @@ pub narrowed_all : {ls : List (List Bool)} {s from to k a b less : ℕ} → k �
     → (less + under ls (s % 2 ^ length ls) from ≡ under ls (s % 2 ^ length ls) to) × (a ≡ way ls s from) × (b ≡ way ls s to)
 narrowed_all {ls} {s} {from} {to} {k} {a} {b} {less} e n =
     let none : drop k ls ≡ [] = drop_all k ls (omega arith) in
-    let z : length ls - k ≡ 0 = omega arith in
-    let zero_digits : s % 2 ^ (length ls - k) ≡ 0 = ap (λ m. s % 2 ^ m) z ∙ omega arith in
-    let low = ap (λ m. under m (s % 2 ^ (length ls - k)) a) none ∙ ap (λ y. under [] y a) zero_digits ∙ none_under a in
-    let high = ap (λ m. under m (s % 2 ^ (length ls - k)) b) none ∙ ap (λ y. under [] y b) zero_digits ∙ none_under b in (
-      omega (arith, n.less_is, low, high),
-      sym (way_none s a) ∙ ap (λ m. way m s a) (sym none) ∙ n.from_is,
-      sym (way_none s b) ∙ ap (λ m. way m s b) (sym none) ∙ n.to_is,
+    let z : length ls - k ≡ 0 = omega arith in (
+      omega (arith, rw (none, z, mod-one s) at n.less_is, none_under a, none_under b),
+      sym (way_none s a) ∙ rw none at n.from_is,
+      sym (way_none s b) ∙ rw none at n.to_is,
     )
 
 -- below the last level, or where no place is left, the ends are as far apart as those of the way down
@@ -340,17 +266,15 @@ pub way_within : {ls : List (List Bool)} {n : ℕ} → AreLevels ls n → (s : �
 way_within {ls} {n} levels s = omega (arith, way_high ls n levels.even s (length ls), ap (λ m. way m s n) (drop_all (length ls) ls (omega arith)) ∙ way_none s n)
 
 pub rise_first : {ls : List (List Bool)} {n : ℕ} (s target : ℕ) → target < n → Rises ls n s target (length ls - 0) target
-rise_first {ls} {n} s target within =
-    let e : length ls ≡ length ls - 0 = omega arith in
-    subst (λ (m : ℕ). Rises ls n s target m target) e (rise_none ls n s target within)
+rise_first {ls} {n} s target within = let e : length ls - 0 ≡ length ls = omega arith in rw e (rise_none ls n s target within)
 
 pub rise_at : {ls : List (List Bool)} {n s target m q : ℕ} (k : ℕ) → m ≡ k + 1 → Rises ls n s target m q → Rises ls n s target (k + 1) q
-rise_at {ls} {n} {s} {target} {m} {q} k e up = subst (λ (j : ℕ). Rises ls n s target j q) e up
+rise_at k e up = rw e at up
 
 pub rise_all : {ls : List (List Bool)} {n s target k q : ℕ} → k ≡ 0 → Rises ls n s target k q → (value ls q ≡ s % 2 ^ length ls) × (way ls s q ≡ target)
-rise_all {ls} {n} {s} {target} {k} {q} e up =
-    let top : Rises ls n s target 0 q = subst (λ (j : ℕ). Rises ls n s target j q) e up in
-    (top.holds ∙ (let z : length ls - 0 ≡ length ls = omega arith in ap (λ m. s % 2 ^ m) z), top.leads)
+rise_all {ls} e up =
+    let none : length ls - 0 ≡ length ls = omega arith in
+    (rw (e, none) at up.holds, rw e at up.leads)
 
 -- the place it leads to is one of those that hold s
 pub rise_below : {ls : List (List Bool)} {n s target k q : ℕ} → AreLevels ls n → k ≡ 0 → Rises ls n s target k q → target < way ls s n
@@ -360,14 +284,4 @@ rise_below {ls} {n} {s} {target} {k} {q} levels e up =
 
 -- a bound fewer times
 pub times_less : (i m : ℕ) (r : Reads) → i ≤ m → IsWithin (times i r) (times m r)
-times_less i m r h = record {
-  data_words = mul-le-mul_right r.data_words h;
-  block_entries = mul-le-mul_right r.block_entries h;
-  superblock_entries = mul-le-mul_right r.superblock_entries h;
-  low_parts = mul-le-mul_right r.low_parts h;
-  rank_calls = mul-le-mul_right r.rank_calls h;
-  items = mul-le-mul_right r.items h;
-  blocks = mul-le-mul_right r.blocks h;
-  nodes = mul-le-mul_right r.nodes h;
-  chunks = mul-le-mul_right r.chunks h;
-}
+times_less i m r h = search (mul-le-mul_right)

@@ -9,12 +9,9 @@ use Rattle.vers_wavelet.proofs.Nearest.{nearest_same, nearest_is, nearest_none}
 
 -- where nothing is left beside, as many symbols as before are not beyond the digits that were followed
 passed_same : (up bit : Bool) (v : List Bool) (a b less c d more : ℕ) → a ≤ b → b ≤ length v → c ≡ next bit v a → d ≡ next bit v b → more ≡ less + cond bit (next false v b - next false v a) 0
-    → ((bit ≡ up → ⊥) → next up v a ≡ next up v b) → cond up (more + (d - c)) more ≡ cond up (less + (b - a)) less
-passed_same true true v a b less c d more order within e f g empty = omega (arith, next_both v a b order within, next-up true v a b order, next-up false v a b order)
-passed_same true false v a b less c d more order within e f g empty =
-    omega (arith, next_both v a b order within, next-up false v a b order, empty (λ q. true≢false (sym q)))
-passed_same false true v a b less c d more order within e f g empty = omega (arith, empty true≢false)
-passed_same false false v a b less c d more order within e f g empty = omega arith
+    → (bit ≡ not up → next up v a ≡ next up v b) → cond up (more + (d - c)) more ≡ cond up (less + (b - a)) less
+passed_same up bit v a b less c d more order within e f g empty =
+    grind (arith, next_both v a b order within, next-up true v a b order, next-up false v a b order)
 
 leaves_as : (up : Bool) (ls : List (List Bool)) (n s from to : ℕ) (t u : Trail) → u.beside ≡ t.beside
     → cond up (u.part.less + (u.part.end - u.part.start)) u.part.less ≡ cond up (t.part.less + (t.part.end - t.part.start)) t.part.less
@@ -23,24 +20,11 @@ leaves_as true ls n s from to t u same e l = rw same (record { order = l.order; 
 leaves_as false ls n s from to t u same e l = rw same (record { order = l.order; within = l.within; none = λ q. e ∙ l.none q; some = λ q. rw e (l.some q); found = λ q number p. rw e (l.found q number p) })
 
 -- what a comparison of two bits says
-pub same_bits : (b c : Bool) → beq b c ≡ true → b ≡ c
-same_bits true true e = refl
-same_bits true false e = sym e
-same_bits false true e = e
-same_bits false false e = refl
+pub same_bits : (b c : Bool) → beq b c ≡ true → b ≡ not c → ⊥
+same_bits b c e other = grind arith
 
-pub other_bits : (b c : Bool) → beq b c ≡ false → b ≡ c → ⊥
-other_bits true true e q = true≢false e
-other_bits true false e q = true≢false q
-other_bits false true e q = true≢false (sym q)
-other_bits false false e q = true≢false e
-
--- a bit that is not one is the other
-other_is : (b up : Bool) → (b ≡ up → ⊥) → b ≡ not up
-other_is true true e = absurd (e refl)
-other_is true false e = refl
-other_is false true e = refl
-other_is false false e = absurd (e refl)
+pub other_bits : (b c : Bool) → beq b c ≡ false → b ≡ not c
+other_bits b c e = grind arith
 
 module _ (ls : List (List Bool)) (n s from to k : ℕ) (h : k < length ls) (v : List Bool) (at : v ≡ get_or ls k v) (long : length v ≡ n) (bit : Bool) (is : bit ≡ digit s (length ls - (k + 1))) where
   abbrev m : ℕ
@@ -70,34 +54,33 @@ module _ (ls : List (List Bool)) (n s from to k : ℕ) (h : k < length ls) (v : 
   -- nothing new was left beside
   pub leaves_kept : (up : Bool) (t u : Trail) → Follows up ls n s from to k t → u.part.start ≡ next bit v t.part.start → u.part.end ≡ next bit v t.part.end
       → u.part.less ≡ t.part.less + cond bit (next false v t.part.end - next false v t.part.start) 0 → u.beside ≡ t.beside
-      → ((bit ≡ up → ⊥) → next up v t.part.start ≡ next up v t.part.end) → Leaves up ls n s from to u
+      → (bit ≡ not up → next up v t.part.start ≡ next up v t.part.end) → Leaves up ls n s from to u
   leaves_kept up t u f first last less same empty =
       leaves_as up ls n s from to t u same (passed_same up bit v t.part.start t.part.end t.part.less u.part.start u.part.end u.part.less f.order (omega (arith, f.within)) first last less empty) f.leaves
 
   -- the other places were left beside
-  left_found : (up : Bool) (a b less c d more number : ℕ) → (bit ≡ up → ⊥) → a ≤ b → b ≤ length v → c ≡ next bit v a → d ≡ next bit v b
+  left_found : (up : Bool) (a b less c d more number : ℕ) → bit ≡ not up → a ≤ b → b ≤ length v → c ≡ next bit v a → d ≡ next bit v b
       → more ≡ less + cond bit (next false v b - next false v a) 0 → next up v a < next up v b → number ≡ s % 2 ^ m - s % 2 ^ (m - k)
       → ((j : ℕ) → Searched ls from to (less + j) k a b j (s % 2 ^ m - s % 2 ^ (m - k)))
       → (0 < cond up 1 more) × Searched ls from to (cond up (more + (d - c)) (more - 1)) (k + 1) (next up v a) (next up v b) (cond up 0 (next up v b - next up v a - 1))
       (number + bit_value up * 2 ^ (m - (k + 1)))
   left_found true a b less c d more number other order within e f g some is' searched =
-      let off : bit ≡ false = other_is bit true other in
       let z : ℕ = next false v b - next false v a in
-      let none : cond bit z 0 ≡ 0 = ap {B = ℕ} (λ t. cond t z 0) off in
-      let th : more + (d - c) ≡ less + z = omega (arith, g, none, e, f, ap (λ t. next t v a) off, ap (λ t. next t v b) off) in
+      let none : cond bit z 0 ≡ 0 = ap {B = ℕ} (λ t. cond t z 0) other in
+      let th : more + (d - c) ≡ less + z = omega (arith, g, none, e, f, ap (λ t. next t v a) other, ap (λ t. next t v b) other) in
       let same : 0 + z ≡ z = omega arith in
       (omega arith, rw (th, is') (searched_more ls k h v at true from to (less + z) a b z 0 (s % 2 ^ m - s % 2 ^ (m - k)) order within same (searched z)))
   left_found false a b less c d more number other order within e f g some is' searched =
-      let on : bit ≡ true = other_is bit false other in
       let z : ℕ = next false v b - next false v a in
-      let all : cond bit z 0 ≡ z = ap {B = ℕ} (λ t. cond t z 0) on in
+      let all : cond bit z 0 ≡ z = ap {B = ℕ} (λ t. cond t z 0) other in
       let th : more - 1 ≡ less + (z - 1) = omega (arith, g, all, some) in
       let same : z - 1 + 0 ≡ z - 1 = omega arith in
       (omega (arith, g, all, some), rw (th, is') (searched_more ls k h v at false from to (less + (z - 1)) a b (z - 1) (z - 1) (s % 2 ^ m - s % 2 ^ (m - k)) order within same (searched (z - 1))))
 
   pub leaves_new : (up : Bool) (t u : Trail) → Follows up ls n s from to k t → u.part.start ≡ next bit v t.part.start → u.part.end ≡ next bit v t.part.end
       → u.part.less ≡ t.part.less + cond bit (next false v t.part.end - next false v t.part.start) 0
-      → u.beside.level ≡ k + 1 → u.beside.start ≡ next up v t.part.start → u.beside.end ≡ next up v t.part.end → (bit ≡ up → ⊥) → next up v t.part.start < next up v t.part.end → Leaves up ls n s from to u
+      → u.beside.level ≡ k + 1 → u.beside.start ≡ next up v t.part.start → u.beside.end ≡ next up v t.part.end → bit ≡ not up
+      → next up v t.part.start < next up v t.part.end → Leaves up ls n s from to u
   leaves_new up t u f first last less deep left right other some =
       let found = λ (number : ℕ) (e : number ≡ s % 2 ^ m - s % 2 ^ (m - k)). left_found up t.part.start t.part.end t.part.less u.part.start u.part.end u.part.less number other f.order (omega (arith, f.within)) first last less some e f.searched in
       rw (deep, left, right) (record {
@@ -109,10 +92,6 @@ module _ (ls : List (List Bool)) (n s from to k : ℕ) (h : k < length ls) (v : 
             let here : m - (k + 1) + 1 ≡ m - k = omega arith in
             (found number (omega (arith, e, ap (λ i. s % 2 ^ i) here))).1;
       })
-
-nothing_left : (up : Bool) (a : ℕ) → cond up (0 + a) 0 ≡ cond up a 0
-nothing_left true a = omega arith
-nothing_left false a = refl
 
 -- before the first level
 pub follows_none : (up : Bool) (ls : List (List Bool)) (n s from to : ℕ) → from ≤ to → to ≤ n
@@ -130,7 +109,7 @@ follows_none up ls n s from to order within =
           let none : s % 2 ^ length ls - s % 2 ^ (length ls - 0) ≡ 0 = omega (arith, all) in
           let same : 0 + j ≡ j = omega arith in
           rw (none, same) (searched_none ls from to j);
-      leaves = record { order = omega arith; within = omega arith; none = λ q. nothing_left up (to - from); some = λ q. absurd (omega (arith, q)); found = λ q number e. absurd (omega (arith, q)) };
+      leaves = record { order = omega arith; within = omega arith; none = λ q. grind arith; some = λ q. absurd (omega (arith, q)); found = λ q number e. absurd (omega (arith, q)) };
     }
 
 -- ---- what is found
@@ -164,7 +143,7 @@ module _ {ls : List (List Bool)} {n : ℕ} (levels : AreLevels ls n) (s from to 
       → IsKth xs (cond up (t.part.less + (t.part.end - t.part.start)) (t.part.less - 1)) (number + bit_value up * 2 ^ (length ls - t.beside.level) + x)
   member_beside up number x l some is kth inside =
       let small : x < 2 ^ (length ls - t.beside.level) = subst (λ (i : ℕ). x < 2 ^ i) (length-drop t.beside.level ls) (kth-lt (drop t.beside.level ls) _ _ _ x kth inside) in
-      kth_is ls n from to _ _ order within ((l.found some number is).each x small kth)
+      (kth_is ls n from to _ _ order within).0 ((l.found some number is).each x small kth)
 
   -- it was left beside
   pub found_beside : (up : Bool) (number x : ℕ) → Leaves up ls n s from to t → t.beside.start < t.beside.end → number + s % 2 ^ (length ls - t.beside.level + 1) ≡ s % 2 ^ length ls

@@ -1,5 +1,5 @@
 -- How places and counts of symbols go from one level to the next.
-use Rattle.vers_wavelet.proofs.Names.{◌≡◌, ℕ, zero, suc, ◌+◌, ◌-◌, ◌*◌, ◌^◌, ◌<◌, ◌≤◌, Bool, true, false, true≢false, cond, ltb, leb, eqb, List, [], ◌∷◌, length, get_or, refl, sym, ap, ◌∙◌, arith, add-one, inl, inr, add-zero, pow-suc, cases_Bool, cases_lt, lt-ltb, le-ltb, le-leb, leb-true, ltb-true, eq-eqb, nat_tests, bit_value, is_bit, count, count_le, count_up, count_near, count_both, count_past, count_more_yes, count_more_no, start, next, value, under, equal, way, digit}
+use Rattle.vers_wavelet.proofs.Names.{◌≡◌, ℕ, zero, suc, ◌+◌, ◌-◌, ◌*◌, ◌^◌, ◌<◌, ◌≤◌, Bool, true, false, cond, ltb, leb, eqb, List, [], ◌∷◌, length, get_or, refl, sym, ap, ◌∙◌, arith, add-one, add-zero, inl, inr, pow-suc, mul-le-mul_right, cases_Bool, cases_lt, lt-ltb, le-ltb, le-leb, leb-true, ltb-true, eq-eqb, nat_tests, bit_value, bit_value_le, hits, is_bit, count, count_le, count_up, count_near, count_both, count_past, count_more_yes, count_more_no, start, next, value, under, equal, way, digit}
 
 pub next_none : (b : Bool) (l : List Bool) → next b l 0 ≡ start b l
 unfolding next count
@@ -21,85 +21,71 @@ pub value_none : (i : ℕ) → value [] i ≡ 0
 unfolding value
 value_none i = refl
 
-double : (ls : List (List Bool)) (l : List Bool) → 2 ^ length (l ∷ ls) ≡ 2 * 2 ^ length ls
-double ls l = omega (arith, pow-suc 2 (length ls))
-
 pub value-lt : (ls : List (List Bool)) (i : ℕ) → value ls i < 2 ^ length ls
 value-lt [] i = omega (arith, value_none i)
 value-lt (l ∷ ls) i =
-    elim (cases_Bool (get_or l i false)) [
-      | inl on ↦ let e = value_is l ls i true on in omega (arith, e, value-lt ls (next true l i), double ls l)
-      | inr off ↦ let e = value_is l ls i false off in omega (arith, e, value-lt ls (next false l i), double ls l)
-    ]
+    let b : Bool = get_or l i false in
+    omega (arith, value_is l ls i b refl, value-lt ls (next b l i), mul-le-mul_right (2 ^ length ls) (bit_value_le b), pow-suc 2 (length ls))
 
-ltb_shift : (h a b : ℕ) → ltb (h + a) (h + b) ≡ ltb a b
-ltb_shift h a b = grind (arith, nat_tests)
+ltb_shift : (h a b y : ℕ) → y ≡ h + b → ltb (h + a) y ≡ ltb a b
+ltb_shift h a b y e = grind (arith, nat_tests)
 
-unders : (ls : List (List Bool)) (y n : ℕ) → under ls y (n + 1) ≡ under ls y n + cond (ltb (value ls n) y) 1 0
-unfolding under
-unders ls y n = rw add-one refl
+-- ---- counts over the places of a level
 
-pub one_more : (ls : List (List Bool)) (y n v : ℕ) (t : Bool) → value ls n ≡ v → ltb v y ≡ t → under ls y (n + 1) ≡ under ls y n + cond t 1 0
-one_more ls y n v t e f = unders ls y n ∙ ap (λ x. under ls y n + cond (ltb x y) 1 0) e ∙ ap (λ x. under ls y n + cond x 1 0) f
+pub hits_more : (q : ℕ → Bool) (n : ℕ) → hits q (n + 1) ≡ hits q n + cond (q n) 1 0
+hits_more q n = rw add-one refl
 
-pub under_none : (ls : List (List Bool)) (y : ℕ) → under ls y 0 ≡ 0
-unfolding under
-under_none ls y = refl
+pub hits_same : (q r : ℕ → Bool) (n : ℕ) → ((p : ℕ) → p < n → q p ≡ r p) → hits q n ≡ hits r n
+hits_same q r zero h = refl
+hits_same q r (suc n) h = omega (arith, hits_same q r n (λ p k. h p (omega arith)), ap {B = ℕ} (λ t. cond t 1 0) (h n (omega arith)))
+
+no_hits : (n : ℕ) → hits (λ p. false) n ≡ 0
+no_hits zero = refl
+no_hits (suc n) = omega (arith, no_hits n)
+
+all_hits : (n : ℕ) → hits (λ p. true) n ≡ n
+all_hits zero = refl
+all_hits (suc n) = omega (arith, all_hits n)
+
+-- the zeros and the ones of a level go to places of their own in the next
+pub split_hits : (l : List Bool) (h f g : ℕ → Bool) → ((p : ℕ) → get_or l p false ≡ false → h p ≡ f (next false l p))
+    → ((p : ℕ) → get_or l p false ≡ true → h p ≡ g (next true l p))
+    → (i : ℕ) → i ≤ length l → hits h i + hits g (start true l) ≡ hits f (next false l i) + hits g (next true l i)
+split_hits l h f g low high zero within = omega (arith, ap (hits f) (next_none false l), ap (hits g) (next_none true l))
+split_hits l h f g low high (suc i) within =
+    let before = split_hits l h f g low high i (omega (arith, within)) in
+    let inside : i < length l = omega (arith, within) in
+    rw (← add-one i) (elim (cases_Bool (get_or l i false)) [
+      | inl on ↦
+          let goes = ap (hits g) (next_yes true l i inside (ap (is_bit true) on)) ∙ hits_more g (next true l i) in
+          let stays = ap (hits f) (next_no false l i inside (ap (is_bit false) on)) in
+          omega (arith, before, ap {B = ℕ} (λ t. cond t 1 0) (high i on), hits_more h i, goes, stays)
+      | inr off ↦
+          let goes = ap (hits f) (next_yes false l i inside (ap (is_bit false) off)) ∙ hits_more f (next false l i) in
+          let stays = ap (hits g) (next_no true l i inside (ap (is_bit true) off)) in
+          omega (arith, before, ap {B = ℕ} (λ t. cond t 1 0) (low i off), hits_more h i, goes, stays)
+    ])
 
 -- all symbols are below what no number of so many digits reaches
 pub under_all : (ls : List (List Bool)) (y n : ℕ) → 2 ^ length ls ≤ y → under ls y n ≡ n
 unfolding under
-under_all ls y zero h = refl
-under_all ls y (suc n) h =
-    let here : cond {A = ℕ} (ltb (value ls n) y) 1 0 ≡ 1 = ap {B = ℕ} (λ t. cond t 1 0) (lt-ltb (value ls n) y (omega (arith, value-lt ls n))) in
-    omega (arith, under_all ls y n h, here)
+under_all ls y n h = hits_same _ (λ p. true) n (λ p k. lt-ltb (value ls p) y (omega (arith, value-lt ls p))) ∙ all_hits n
 
-pub under_low : (l : List Bool) (ls : List (List Bool)) (y : ℕ) → y ≤ 2 ^ length ls → (i : ℕ) → i ≤ length l
-    → under (l ∷ ls) y i ≡ under ls y (next false l i)
-under_low l ls y small zero h = under_none (l ∷ ls) y ∙ sym (ap (under ls y) (next_none false l) ∙ under_none ls y)
-under_low l ls y small (suc i) h =
-    let before = under_low l ls y small i (omega arith) in
-    let within : i < length l = omega arith in
-    rw (← add-one i) (elim (cases_Bool (get_or l i false)) [
-      | inl on ↦
-          let v = value_is l ls i true on in
-          one_more (l ∷ ls) y i (2 ^ length ls + value ls (next true l i)) false (omega (arith, v)) (le-ltb _ _ (omega arith))
-          ∙ omega (arith, before) ∙ ap (under ls y) (sym (next_no false l i within (ap (is_bit false) on)))
-      | inr off ↦
-          let v = value_is l ls i false off in
-          one_more (l ∷ ls) y i (value ls (next false l i)) (ltb (value ls (next false l i)) y) (omega (arith, v)) refl
-          ∙ ap (λ x. x + cond (ltb (value ls (next false l i)) y) 1 0) before
-          ∙ sym (unders ls y (next false l i)) ∙ ap (under ls y) (sym (next_yes false l i within (ap (is_bit false) off)))
-    ])
-
-pub under_high : (l : List Bool) (ls : List (List Bool)) (y i : ℕ) → i ≤ length l
-    → under (l ∷ ls) (2 ^ length ls + y) i + under ls y (start true l) ≡ next false l i + under ls y (next true l i)
-under_high l ls y zero h =
-    let none : under (l ∷ ls) (2 ^ length ls + y) zero ≡ 0 = under_none (l ∷ ls) (2 ^ length ls + y) in
-    let from : next false l 0 ≡ 0 = next_none false l in
-    let to : under ls y (next true l 0) ≡ under ls y (start true l) = ap (under ls y) (next_none true l) in
-    omega (arith, none, from, to)
-under_high l ls y (suc i) h =
-    let before = under_high l ls y i (omega arith) in
-    let within : i < length l = omega arith in
-    rw (← add-one i) (elim (cases_Bool (get_or l i false)) [
-      | inl on ↦
-          let v = value_is l ls i true on in
-          let w : ℕ = value ls (next true l i) in
-          let more = one_more (l ∷ ls) (2 ^ length ls + y) i (2 ^ length ls + w) (ltb w y) (omega (arith, v)) (ltb_shift (2 ^ length ls) w y) in
-          let stays = next_no false l i within (ap (is_bit false) on) in
-          let goes : under ls y (next true l (i + 1)) ≡ under ls y (next true l i) + cond (ltb w y) 1 0 =
-          ap (under ls y) (next_yes true l i within (ap (is_bit true) on)) ∙ unders ls y (next true l i) in
-          omega (arith, before, more, stays, goes)
-      | inr off ↦
-          let v = value_is l ls i false off in
-          let w : ℕ = value ls (next false l i) in
-          let small : w < 2 ^ length ls = value-lt ls (next false l i) in
-          let more = one_more (l ∷ ls) (2 ^ length ls + y) i w true (omega (arith, v)) (lt-ltb w (2 ^ length ls + y) (omega arith)) in
-          let goes = next_yes false l i within (ap (is_bit false) off) in
-          let stays : under ls y (next true l (i + 1)) ≡ under ls y (next true l i) = ap (under ls y) (next_no true l i within (ap (is_bit true) off)) in
-          omega (arith, before, more, stays, goes)
-    ])
+-- those below a symbol y, whose first digit is the bit and whose others are s, by those that go on with that digit
+pub under_step : (bit : Bool) (l : List Bool) (ls : List (List Bool)) (s y i : ℕ) → y ≡ bit_value bit * 2 ^ length ls + s → s ≤ 2 ^ length ls
+    → i ≤ length l
+    → under (l ∷ ls) y i + under ls s (start bit l) ≡ cond bit (next false l i) 0 + under ls s (next bit l i)
+unfolding under
+under_step true l ls s y i e small h =
+    let parts = split_hits l (λ p. ltb (value (l ∷ ls) p) y) (λ p. true) (λ p. ltb (value ls p) s)
+    (λ p off. lt-ltb _ y (omega (arith, value_is l ls p false off, value-lt ls (next false l p))))
+    (λ p on. ap (λ v. ltb v y) (value_is l ls p true on) ∙ ltb_shift (1 * 2 ^ length ls) (value ls (next true l p)) s y e) i h in
+    omega (arith, parts, all_hits (next false l i))
+under_step false l ls s y i e small h =
+    let parts = split_hits l (λ p. ltb (value (l ∷ ls) p) y) (λ p. ltb (value ls p) s) (λ p. false)
+    (λ p off. ap (λ v. ltb v y) (value_is l ls p false off) ∙ ltb_shift (0 * 2 ^ length ls) (value ls (next false l p)) s y e)
+    (λ p on. le-ltb _ y (omega (arith, value_is l ls p true on))) i h in
+    omega (arith, parts, no_hits (start true l), no_hits (next true l i))
 
 pub tests_add : (v s : ℕ) → cond (eqb v s) 1 0 + cond (ltb v s) 1 0 ≡ cond (ltb v (s + 1)) 1 0
 tests_add v s = grind (arith, nat_tests)
@@ -112,9 +98,7 @@ equal_under ls s (suc n) = omega (arith, equal_under ls s n, tests_add (value ls
 
 -- a bit that is one of its kind is that bit
 pub same_bit : (b c : Bool) → is_bit b c ≡ true → c ≡ b
-same_bit true c e = e
-same_bit false true e = absurd (true≢false (sym e))
-same_bit false false e = refl
+same_bit b c e = grind arith
 
 -- the part of the bit has room in the next level
 pub next-le : (b : Bool) (l : List Bool) (i : ℕ) → next b l i ≤ length l
@@ -142,26 +126,17 @@ pub next_single : (l : List Bool) (i j : ℕ) (b : Bool) → j ≡ i + 1 → i <
 next_single l i j true e h is = ap (next false l) e ∙ next_no false l i h (ap (is_bit false) (sym is))
 next_single l i j false e h is = ap (next false l) e ∙ next_yes false l i h (ap (is_bit false) (sym is))
 
-pub next-le_place : (l : List Bool) (i : ℕ) → next false l i ≤ i
+pub next_up_to_place : (l : List Bool) (i : ℕ) → next false l i ≤ i
 unfolding next
-next-le_place l i = omega (arith, count_le false l i)
-
-pub ruleset singles = (next-le_place)
+next_up_to_place l i = omega (arith, count_le false l i)
 
 pub none_under : (i : ℕ) → under [] 0 i ≡ 0
 unfolding under
-none_under zero = refl
-none_under (suc i) = omega (arith, none_under i, ap {B = ℕ} (λ t. cond t 1 0) (le-ltb (value [] i) 0 (omega arith)))
+none_under i = hits_same _ (λ p. false) i (λ p h. le-ltb (value [] p) 0 (omega arith)) ∙ no_hits i
 
 pub all_equal : (i : ℕ) → equal [] 0 i ≡ i
 unfolding equal
-all_equal zero = refl
-all_equal (suc i) =
-    let e : cond {A = ℕ} (eqb (value [] i) 0) 1 0 ≡ 1 = ap {B = ℕ} (λ v. cond (eqb v 0) 1 0) (value_none i) in
-    omega (arith, all_equal i, e)
-
-pub one_under : (i : ℕ) → under [] 1 i ≡ i
-one_under i = omega (arith, equal_under [] 0 i, none_under i, all_equal i)
+all_equal i = hits_same _ (λ p. true) i (λ p h. eq-eqb (value [] p) 0 (value_none p)) ∙ all_hits i
 
 pub next_near : (b : Bool) (l : List Bool) (i j : ℕ) → i ≤ j → next b l j ≤ next b l i + (j - i)
 unfolding next
@@ -183,15 +158,21 @@ pub next_false_all : (l : List Bool) → next false l (length l) ≡ count false
 unfolding next
 next_false_all l = omega arith
 
-pub of_ones : (bit : Bool) (l : List Bool) (z p : ℕ) → bit ≡ true → z ≡ count false l (length l) → p < length l
-    → (leb z p ≡ true → (start bit l ≤ p) × (p < next bit l (length l))) × ((start bit l ≤ p) × (p < next bit l (length l)) → leb z p ≡ true)
-of_ones true l z p e zeros h = (λ t. (omega (arith, zeros, leb-true z p t), omega (arith, h, next_true_all l)), λ t. le-leb z p (omega (arith, zeros, t.0)))
-of_ones false l z p e zeros h = absurd (true≢false (sym e))
+-- the places of a level take all places of the next, each once
+pub split_all : (l : List Bool) (h f g : ℕ → Bool) → ((p : ℕ) → get_or l p false ≡ false → h p ≡ f (next false l p))
+    → ((p : ℕ) → get_or l p false ≡ true → h p ≡ g (next true l p))
+    → (n : ℕ) → length l ≡ n → hits h n + hits g (start true l) ≡ hits f (start true l) + hits g n
+split_all l h f g low high n long =
+    rw (← long) (omega (arith, split_hits l h f g low high (length l) (omega arith), ap (hits f) (next_false_all l), ap (hits g) (next_true_all l)))
 
-pub of_zeros : (bit : Bool) (l : List Bool) (z p : ℕ) → bit ≡ false → z ≡ count false l (length l) → p < length l
-    → (ltb p z ≡ true → (start bit l ≤ p) × (p < next bit l (length l))) × ((start bit l ≤ p) × (p < next bit l (length l)) → ltb p z ≡ true)
-of_zeros true l z p e zeros h = absurd (true≢false e)
-of_zeros false l z p e zeros h = (λ t. (omega arith, omega (arith, zeros, next_false_all l, ltb-true p z t)), λ t. lt-ltb p z (omega (arith, zeros, next_false_all l, t.1)))
+pub of_ones : (l : List Bool) (z p : ℕ) → z ≡ count false l (length l) → p < length l
+    → (leb z p ≡ true → (start true l ≤ p) × (p < next true l (length l))) × ((start true l ≤ p) × (p < next true l (length l)) → leb z p ≡ true)
+of_ones l z p zeros h = (λ t. (omega (arith, zeros, leb-true z p t), omega (arith, h, next_true_all l)), λ t. le-leb z p (omega (arith, zeros, t.0)))
+
+pub of_zeros : (l : List Bool) (z p : ℕ) → z ≡ count false l (length l) → p < length l
+    → (ltb p z ≡ true → (start false l ≤ p) × (p < next false l (length l))) × ((start false l ≤ p) × (p < next false l (length l)) → ltb p z ≡ true)
+of_zeros l z p zeros h =
+    let all = next_false_all l in (λ t. (omega arith, omega (arith, zeros, all, ltb-true p z t)), λ t. lt-ltb p z (omega (arith, zeros, all, t.1)))
 
 -- a place that holds the bit has its own place in the next level
 pub next-lt : (b : Bool) (l : List Bool) (i : ℕ) → i < length l → get_or l i false ≡ b → next b l i < length l

@@ -1,9 +1,8 @@
 -- The way down of a walk by size, and that a list of symbols has one list of levels.
-use Rattle.vers_wavelet.proofs.Names.{◌≡◌, ℕ, ◌+◌, ◌-◌, ◌*◌, ◌^◌, ◌<◌, ◌≤◌, Bool, true, false, List, [], ◌∷◌, length, get_or, set, refl, sym, ap, ◌∙◌, subst, arith, inl, inr, cases_eq, cases_lt, same_lists, slice_range, bit_value, count, select, any_default, count_both, select_holds, start, next, value, values, Even, AreLevels, KthOf, by_size, IsNode, IsWay}
-use Rattle.std.proofs.lemmas.List.{get_or-set_same, get_or-set_other}
+use Rattle.vers_wavelet.proofs.Names.{◌≡◌, ℕ, ◌+◌, ◌-◌, ◌*◌, ◌^◌, ◌<◌, ◌≤◌, Bool, true, false, List, [], ◌∷◌, length, get_or, set, get_or-set_same, get_or-set_other, refl, sym, ap, ◌∙◌, subst, arith, inl, inr, cases_eq, cases_lt, same_lists, slice_range, bit_value, count, select, any_default, count_both, select_holds, start, next, value, values, Even, AreLevels, KthOf, by_size, IsNode, IsWay}
 use Rattle.vers_wavelet.specs.declared.wavelet.way.Node.{Node}
 use Rattle.vers_wavelet.specs.declared.wavelet.way.Way.{Way}
-use Rattle.vers_wavelet.proofs.Digits.{room_none}
+use Rattle.vers_wavelet.proofs.Digits.{room_none, one_split}
 use Rattle.vers_wavelet.proofs.Values.{same_bit, value_is, value-lt}
 use Rattle.vers_wavelet.proofs.Steps.{even_first, even_rest, searched_none}
 use Rattle.vers_wavelet.proofs.Lists.{length-values, get_or-values, kth_is}
@@ -28,19 +27,13 @@ from_above l p h =
       | inr high ↦ let a = of_bit true l (p - zeros) (omega (arith, count_both l (length l))) in (a.0, a.1, omega (arith, a.2))
     ]
 
-same_digits : (b c : Bool) (w x y : ℕ) → x < w → y < w → bit_value b * w + x ≡ bit_value c * w + y → (b ≡ c) × (x ≡ y)
-same_digits true true w x y h k e = (refl, omega arith)
-same_digits true false w x y h k e = absurd (omega arith)
-same_digits false true w x y h k e = absurd (omega arith)
-same_digits false false w x y h k e = (refl, omega arith)
-
 same_parts : (l m : List Bool) (ls ms : List (List Bool)) (i : ℕ) → length ls ≡ length ms → value (l ∷ ls) i ≡ value (m ∷ ms) i
     → (get_or l i false ≡ get_or m i false) × (value ls (next (get_or l i false) l i) ≡ value ms (next (get_or m i false) m i))
 same_parts l m ls ms i long same =
     let b : Bool = get_or l i false in
     let c : Bool = get_or m i false in
     let w : 2 ^ length ms ≡ 2 ^ length ls = ap (λ n. 2 ^ n) (sym long) in
-    same_digits b c (2 ^ length ls) _ _ (value-lt ls (next b l i)) (omega (arith, w, value-lt ms (next c m i)))
+    one_split b c (2 ^ length ls) _ _ (value-lt ls (next b l i)) (omega (arith, w, value-lt ms (next c m i)))
     (sym (value_is l ls i b refl) ∙ same ∙ value_is m ms i c refl ∙ ap (λ n. bit_value c * n + value ms (next c m i)) w)
 
 same_levels : (ls ms : List (List Bool)) (n : ℕ) → Even ls n → Even ms n → length ls ≡ length ms → ((p : ℕ) → p < n → value ls p ≡ value ms p) → ls ≡ ms
@@ -99,4 +92,5 @@ nodes_set ls n k nodes node inside each is j d h =
 -- member i of the levels is that of the symbols by size
 pub sorted_kth : (ls : List (List Bool)) (n i x : ℕ) → KthOf ls 0 n i x → x ≡ get_or (by_size (values ls n)) i 0
 sorted_kth ls n i x kth =
-    sorted_member (values ls n) i x n (sym (length-values ls n)) (kth_place (slice_range (values ls n) 0 n) i x (kth_is ls n 0 n i x (omega arith) (omega arith) kth))
+    sorted_member (values ls n) i x n (sym (length-values ls n))
+    (kth_place (slice_range (values ls n) 0 n) i x ((kth_is ls n 0 n i x (omega arith) (omega arith)).0 kth))

@@ -3,7 +3,7 @@
 ghost use Rattle.vers_wavelet.specs.Laws.{SortedMembersAscend, SortingKeepsMembers, KthBySizeIsKth, KthBySizeIsItem, RangesHaveMembers, RangesHavePredecessors, RangesHaveSuccessors, GreatestUpToIsPredecessor, SomeMembersAreUpTo, LeastFromIsSuccessor, SomeMembersAreFrom, RangesInsideStay, NarrowSymbolsAreWords, WideSymbolsAreNoWords, OneMemberOfANumber, QuantilesListMembersBySize, SmallNumbersStay, OccurrencesAreCounted};
 
 /// In ascending order members ascend.
-#[tactic(auto, using(crate::proofs::BySize::ascending))]
+#[tactic(auto, using(crate::proofs::BySize::by_size_ascends))]
 pub fn sorted_members_ascend()
     ensures { SortedMembersAscend }
 {}
@@ -21,6 +21,7 @@ pub fn kth_by_size_is_kth()
 {}
 
 /// The member of a number by size is the item at that place in ascending order.
+#[tactic(auto, using(crate::proofs::BySize::kth_item))]
 pub fn kth_by_size_is_item()
     ensures { KthBySizeIsItem }
 {}
@@ -32,6 +33,7 @@ pub fn greatest_up_to_is_predecessor()
 {}
 
 /// There is a greatest member up to a number where some member is not above the number.
+#[tactic(auto, using(crate::proofs::Nearest::greatest_up_to_some))]
 pub fn some_members_are_up_to()
     ensures { SomeMembersAreUpTo }
 {}
@@ -43,6 +45,7 @@ pub fn least_from_is_successor()
 {}
 
 /// There is a least member from a number on where some member is not below the number.
+#[tactic(auto, using(crate::proofs::Nearest::least_from_some))]
 pub fn some_members_are_from()
     ensures { SomeMembersAreFrom }
 {}
@@ -66,16 +69,19 @@ pub fn ranges_have_successors()
 {}
 
 /// The members of a range that ends within the list are those at its places.
+#[tactic(auto, using(crate::proofs::Ranges::members_inside))]
 pub fn ranges_inside_stay()
     ensures { RangesInsideStay }
 {}
 
 /// Symbols of at most 64 bits are numbers of the machine.
+#[tactic(auto, using(crate::proofs::Ranges::narrow_word))]
 pub fn narrow_symbols_are_words()
     ensures { NarrowSymbolsAreWords }
 {}
 
 /// Symbols of more than 64 bits are no numbers of the machine.
+#[tactic(auto, using(crate::proofs::Ranges::wide_word))]
 pub fn wide_symbols_are_no_words()
     ensures { WideSymbolsAreNoWords }
 {}
@@ -86,16 +92,19 @@ pub fn one_member_of_a_number()
 {}
 
 /// Quantiles in turn, one for each member, list the members in ascending order, equal ones too.
+#[tactic(auto, using(crate::proofs::BySize::quantiles_ascend))]
 pub fn quantiles_list_members_by_size()
     ensures { QuantilesListMembersBySize }
 {}
 
 /// Numbers of at most `k` digits, where `k` isn't 0, are their own low digits.
+#[tactic(auto, using(crate::proofs::Makes::small_numbers_stay))]
 pub fn small_numbers_stay()
     ensures { SmallNumbersStay }
 {}
 
 /// A symbol occurs in a range as often as it is among the range's members.
+#[tactic(auto, using(crate::proofs::Lists::occurrences_are_counted))]
 pub fn occurrences_are_counted()
     ensures { OccurrencesAreCounted }
 {}

@@ -9,7 +9,7 @@ use crate::wavelet::WaveletMatrix;
 use std::alloc::{AllocError, Allocator};
 use vers_rank::fast_rs_vec::RsVec;
 
-#[tactic(auto, using(crate::proofs::Sizes::copies))]
+#[tactic(auto, using(crate::proofs::Sizes::same_levels))]
 impl<A: Allocator + Copy> Clone for WaveletMatrix<A> {
     ghost is_clone = { λ old new. new ≡ old };
 

@@ -1,11 +1,7 @@
-use Rattle.vers_wavelet.proofs.Names.{◌≡◌, ◌*◌, ◌/◌, ◌%◌, ◌^◌, ◌∙◌, length, map, range_with_len, IfOk-weaker, number, part, Symbols, packed_symbols}
 use Rattle.vers_wavelet.proofs.Makes.{packed_made}
 use Rattle.vers_wavelet.proofs.wavelet.WaveletMatrix.from_bit_vec.Goals as goal
 
 pub returns-clause-items : goal.returns-clause-items
 returns-clause-items g c =
-    let bits = c.new-source.result.bits.now in
-    let width = c.new-source.result.width in
-    IfOk-weaker c.sorted.result (λ (w : Symbols). w.items ≡ map (λ e. number (part bits (e * width) width) % 2 ^ width) (range_with_len 0 (length bits / width)))
-    (λ (w : Symbols). w.items ≡ packed_symbols c.args.bits.now c.args.bits_per_element)
-    (λ w e. e ∙ packed_made c.args.bits.now bits c.args.bits_per_element width c.new-source.ensures.bits c.new-source.ensures.width) c.sorted.ensures.items
+    packed_made c.sorted.result c.args.bits.now c.new-source.result.bits.now c.args.bits_per_element c.new-source.result.width
+    c.new-source.ensures.bits c.new-source.ensures.width c.sorted.ensures.items

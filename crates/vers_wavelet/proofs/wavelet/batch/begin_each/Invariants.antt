@@ -1,5 +1,4 @@
-use Rattle.vers_wavelet.proofs.Names.{◌≡◌, ◌<◌, List, Bool, length, AreLevels}
-use Rattle.vers_wavelet.specs.Batches.{Changed}
+use Rattle.vers_wavelet.proofs.Names.{Changed, ◌≡◌, ◌<◌, List, Bool, length, AreLevels}
 use Rattle.vers_wavelet.proofs.wavelet.batch.begin_each.Given as goal
 
 abbrev pub invariant-loop-j : goal.invariant-loop-j

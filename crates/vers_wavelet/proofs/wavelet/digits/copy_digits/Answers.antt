@@ -1,4 +1,4 @@
-use Rattle.vers_wavelet.proofs.Names.{◌≡◌, ◌+◌, ◌-◌, ◌*◌, ◌%◌, ◌^◌, ℕ, arith, ap, ◌∙◌, refl, sym, subst, ◌≤◌, bit_value, HasRoom}
+use Rattle.vers_wavelet.proofs.Names.{◌≡◌, ◌+◌, ◌-◌, ◌*◌, ◌%◌, ◌^◌, ℕ, arith, ap, ◌∙◌, refl, sym, ◌≤◌, bit_value}
 use Rattle.vers_wavelet.proofs.Digits.{room_none, room_left, room_more, top_digit}
 use Rattle.vers_wavelet.proofs.wavelet.digits.copy_digits.Goals as goal
 
@@ -32,12 +32,7 @@ loop-i-preserved g c =
 last : (low high i : ℕ) → low ≤ high → i ≡ high - low → high - i ≡ low
 last low high i order e = omega arith
 
-pub returns-clause-value : goal.returns-clause-value
-returns-clause-value g c =
+pub returns : goal.returns
+returns g c =
     let e : c.args.high - c.loop-i.i ≡ c.args.low = last c.args.low c.args.high c.loop-i.i c.requires.order (omega arith) in
-    omega (arith, ap (λ n. g.D.Digits.number c.args.from.now % 2 ^ n) e, c.loop-i.invariant.copied)
-
-pub returns-clause-room : goal.returns-clause-room
-returns-clause-room g c =
-    let e : c.args.high - c.loop-i.i ≡ c.args.low = last c.args.low c.args.high c.loop-i.i c.requires.order (omega arith) in
-    subst (λ (n : ℕ). HasRoom (g.D.Digits.width c.loop-i.to) n (g.D.Digits.number c.loop-i.to)) e c.loop-i.invariant.room
+    record { value = rw e at c.loop-i.invariant.copied; room = rw e at c.loop-i.invariant.room; same = c.loop-i.invariant.same }

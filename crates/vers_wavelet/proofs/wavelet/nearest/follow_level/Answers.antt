@@ -19,7 +19,7 @@ returns-then-bit-is_up-clause-follows g c = λ from to f.
     (leaves_kept ls c.args.len s from to c.args.k c.requires.inside v c.index-levels-k.is long c.digit-bit.result c.digit-bit.ensures c.args.is_up c.args.trail trail f
     part.ensures.start part.ensures.end part.ensures.less refl
     (λ other. elim c.then-bit-is_up.branch [
-      | then-bit-is_up-via-then-bit-is_up w ↦ absurd (other (same_bits c.digit-bit.result c.args.is_up w.if-bit-is_up.true))
+      | then-bit-is_up-via-then-bit-is_up w ↦ absurd (same_bits c.digit-bit.result c.args.is_up w.if-bit-is_up.true other)
       | then-bit-is_up-via-else-bit-is_up+then-left w ↦ sym c.chosen_place.ensures ∙ w.if-left.true ∙ c.chosen_place-2.ensures
     ]))
 

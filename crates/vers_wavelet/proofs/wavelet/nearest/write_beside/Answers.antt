@@ -1,4 +1,4 @@
-use Rattle.vers_wavelet.proofs.Names.{◌≡◌, ◌+◌, ◌-◌, ◌*◌, ◌^◌, ℕ, List, Bool, arith, length, drop, sym, subst, length-drop, bit_value, KthOf}
+use Rattle.vers_wavelet.proofs.Names.{◌≡◌, ◌+◌, ◌-◌, ◌*◌, ◌^◌, ℕ, arith, length, drop, sym, length-drop, bit_value}
 use Rattle.vers_wavelet.proofs.Digits.{room_more}
 use Rattle.vers_wavelet.proofs.Steps.{even_drop, levels_from}
 use Rattle.vers_wavelet.proofs.wavelet.nearest.write_beside.Goals as goal
@@ -20,6 +20,5 @@ returns-clause-value g c =
       number,
       c.copy_digits.ensures.value,
       omega (arith, from, c.find_kth.ensures.grows),
-      rw (from, ← c.first_or_last-i.ensures.value) (subst (λ (ls : List (List Bool)). KthOf ls c.args.beside.start c.args.beside.end c.first_or_last-i.result (g.D.Digits.number c.find_kth.new.answer - g.D.Digits.number c.put_digit.new.self))
-          (levels_from c.args.levels.now c.args.beside.level) c.find_kth.ensures.value),
+      rw (from, ← c.first_or_last-i.ensures.value) (rw (levels_from c.args.levels.now c.args.beside.level) at c.find_kth.ensures.value),
     )

@@ -1,46 +1,32 @@
-use Rattle.vers_wavelet.proofs.Names.{◌≡◌, ◌+◌, ◌-◌, ℕ, arith, length, ◌∙◌, subst, AddsAtMost, times, select_reads, superblock_count, way, Seeks}
+use Rattle.vers_wavelet.proofs.Names.{◌≡◌, ◌+◌, ◌-◌, arith, length, ◌∙◌, times, select_reads, superblock_count}
 use Rattle.vers_wavelet.proofs.Batches.{become_all, become_then, become_weaker, become_with, adds_once_more}
 use Rattle.vers_wavelet.proofs.Walks.{adds_no_times}
 use Rattle.vers_wavelet.proofs.wavelet.batch.select.climb_each.Goals as goal
 
 pub loop-i-init : goal.loop-i-init
 loop-i-init g c =
-    let e : length c.args.levels.now ≡ length c.args.levels.now - 0 = omega arith in
+    let e : length c.args.levels.now - 0 ≡ length c.args.levels.now = omega arith in
     record {
-      risen = become_with c.requires.begun c.turn_each.ensures (λ q r begun t. (
-        t.0,
-        t.1,
-        subst (λ (k : ℕ). Seeks c.args.levels.now c.args.len r.symbol (way c.args.levels.now r.symbol 0 + r.rank) k r.answer) e (t.2 c.args.levels.now c.requires.levels begun),
-      ));
+      risen = become_with c.requires.begun c.turn_each.ensures (λ q r begun t. (t.0, t.1, rw e (t.2 c.args.levels.now c.requires.levels begun)));
       adds = adds_no_times _ 0 (times (length c.args.queries.now) (select_reads (superblock_count c.args.len)));
     }
 
 pub rise_each-requires-clause-seeks : goal.rise_each-requires-clause-seeks
 rise_each-requires-clause-seeks g c =
     let e : length c.args.levels.now - c.loop-i.i ≡ length c.args.levels.now - (c.loop-i.i + 1) + 1 = omega arith in
-    become_all c.loop-i.invariant.risen (λ q r t.
-    subst (λ (k : ℕ). Seeks c.args.levels.now c.args.len r.symbol (way c.args.levels.now r.symbol 0 + r.rank) k r.answer) e t.2)
+    become_all c.loop-i.invariant.risen (λ q r t. rw e at t.2)
 
 pub loop-i-preserved : goal.loop-i-preserved
 loop-i-preserved g c = record {
   risen = become_then c.loop-i.invariant.risen c.rise_each.ensures.each (λ q r s t u. (u.0 ∙ t.0, u.1 ∙ t.1, u.2));
-  adds = adds_once_more c.loop-i.i c.loop-i.invariant.adds
-      (subst (λ (n : ℕ). AddsAtMost c.loop-i.tally c.rise_each.new.tally (times n (select_reads (superblock_count c.args.len)))) c.loop-i.invariant.risen.long c.rise_each.ensures.adds);
+  adds = adds_once_more c.loop-i.i c.loop-i.invariant.adds (rw c.loop-i.invariant.risen.long at c.rise_each.ensures.adds);
 }
 
-pub returns-clause-each : goal.returns-clause-each
-returns-clause-each g c =
-    let e : length c.args.levels.now - c.loop-i.i ≡ 0 = omega arith in
-    become_weaker c.loop-i.invariant.risen (λ q r t. (
-      t.0,
-      t.1,
-      subst (λ (k : ℕ). Seeks c.args.levels.now c.args.len r.symbol (way c.args.levels.now r.symbol 0 + r.rank) k r.answer) e t.2,
-    ))
-
-pub returns-clause-adds : goal.returns-clause-adds
-returns-clause-adds g c =
+pub returns : goal.returns
+returns g c =
+    let none : length c.args.levels.now - c.loop-i.i ≡ 0 = omega arith in
     let all : c.loop-i.i ≡ length c.args.levels.now = omega arith in
-    subst (λ (n : ℕ). AddsAtMost c.args.tally.now c.loop-i.tally (times n (times (length c.args.queries.now) (select_reads (superblock_count c.args.len))))) all c.loop-i.invariant.adds
+    record { each = become_weaker c.loop-i.invariant.risen (λ q r t. (t.0, t.1, rw none at t.2)); adds = rw all at c.loop-i.invariant.adds }
 
 pub rise_each-requires-clause-levels : goal.rise_each-requires-clause-levels
 rise_each-requires-clause-levels g c = c.requires.levels

@@ -1,4 +1,4 @@
-use Rattle.vers_wavelet.proofs.Names.{◌≡◌, ℕ, ◌+◌, arith, sym, subst, length, AddsAtMost, times, select_reads, superblock_count, changed_on, adds_times, Rising, no_query}
+use Rattle.vers_wavelet.proofs.Names.{◌≡◌, ◌+◌, arith, sym, subst, length, select_reads, superblock_count, changed_on, adds_times, Rising, no_query}
 use Rattle.vers_wavelet.proofs.Groups.{become_changed}
 use Rattle.vers_wavelet.proofs.wavelet.batch.select.rise_each.Goals as goal
 
@@ -14,13 +14,10 @@ loop-from-preserved g c = record {
   adds = adds_times _ _ (select_reads (superblock_count c.args.len)) c.loop-from.invariant.adds c.rise_group.ensures.adds;
 }
 
-pub returns-clause-each : goal.returns-clause-each
-returns-clause-each g c = become_changed c.loop-from.invariant.changed (omega arith)
-
-pub returns-clause-adds : goal.returns-clause-adds
-returns-clause-adds g c =
-    let e : c.loop-from.from ≡ length c.args.queries.now = omega arith in
-    subst (λ (n : ℕ). AddsAtMost c.args.tally.now c.loop-from.tally (times n (select_reads (superblock_count c.args.len)))) e c.loop-from.invariant.adds
+pub returns : goal.returns
+returns g c =
+    let all : c.loop-from.from ≡ length c.args.queries.now = omega arith in
+    record { each = become_changed c.loop-from.invariant.changed (omega arith); adds = rw all at c.loop-from.invariant.adds }
 
 pub rise_group-requires-clause-levels : goal.rise_group-requires-clause-levels
 rise_group-requires-clause-levels g c = c.requires.levels

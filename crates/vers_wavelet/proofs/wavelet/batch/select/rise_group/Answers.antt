@@ -1,5 +1,4 @@
-use Rattle.vers_wavelet.proofs.Names.{◌≡◌, ℕ, ◌+◌, ◌-◌, Bool, List, length, get_or, ap, sym, subst, ◌∙◌, arith, any_default, AddsAtMost, times, select_reads, superblock_count, HasPlace, Rising, no_query}
-use Rattle.vers_rank.specs.Batches.{Changed}
+use Rattle.vers_wavelet.proofs.Names.{◌≡◌, ℕ, ◌+◌, ◌-◌, Bool, List, length, get_or, ap, sym, subst, ◌∙◌, arith, any_default, HasPlace, Rising, no_query}
 use Rattle.vers_wavelet.specs.declared.wavelet.batch.select.SelectQuery.{SelectQuery}
 use Rattle.vers_wavelet.proofs.Groups.{changed_item, place_above}
 use Rattle.vers_wavelet.proofs.wavelet.batch.select.rise_group.Goals as goal
@@ -27,16 +26,12 @@ pub loop-j-preserved : goal.loop-j-preserved
 loop-j-preserved g c =
     changed_item c.loop-j.invariant (omega (arith, c.requires.inside, c.loop-j-test.true)) c.rise.result (c.rise.ensures.rank, c.rise.ensures.symbol, c.rise.ensures.seeks)
 
-pub returns-clause-each : goal.returns-clause-each
-returns-clause-each g c =
-    let e : c.loop-j.j ≡ c.args.n = omega arith in
-    subst (λ (m : ℕ). Changed no_query (λ q r. (r.rank ≡ q.rank) × (r.symbol ≡ q.symbol) × Rising c.args.levels.now c.args.len c.args.k r) c.args.from m c.args.queries.now c.loop-j.queries) e c.loop-j.invariant
-
-pub returns-clause-adds : goal.returns-clause-adds
-returns-clause-adds g c =
+pub returns : goal.returns
+returns g c =
     let v : List Bool = c.index-levels-k.result in
     let long : length v ≡ c.args.len = ap length c.index-levels-k.is ∙ c.requires.levels.even c.args.k v c.requires.within in
-    subst (λ (m : ℕ). AddsAtMost c.args.tally.now c.find_all.new.tally (times c.args.n (select_reads (superblock_count m)))) long c.find_all.ensures.adds
+    let all : c.loop-j.j ≡ c.args.n = omega arith in
+    record { each = rw all at c.loop-j.invariant; adds = rw long at c.find_all.ensures.adds }
 
 pub rise-requires-clause-levels : goal.rise-requires-clause-levels
 rise-requires-clause-levels g c = c.requires.levels

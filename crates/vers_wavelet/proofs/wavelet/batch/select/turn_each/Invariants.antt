@@ -1,5 +1,4 @@
-use Rattle.vers_wavelet.proofs.Names.{◌≡◌, ◌+◌, List, Bool, length, Some, way, AreLevels, Seeks}
-use Rattle.vers_wavelet.specs.Batches.{Changed}
+use Rattle.vers_wavelet.proofs.Names.{Changed, ◌≡◌, ◌+◌, List, Bool, length, Some, way, AreLevels, Seeks}
 use Rattle.vers_wavelet.proofs.wavelet.batch.select.turn_each.Given as goal
 
 abbrev pub invariant-loop-j : goal.invariant-loop-j

@@ -1,5 +1,4 @@
-use Rattle.vers_wavelet.proofs.Names.{◌≡◌, ◌+◌, ◌-◌, ◌*◌, ℕ, arith, cond, false, length, ap, ◌∙◌, refl, subst, KthOf, next}
-use Rattle.std.proofs.lemmas.List.{length-set}
+use Rattle.vers_wavelet.proofs.Names.{length-set, ◌≡◌, ◌+◌, ◌-◌, ◌*◌, ℕ, arith, cond, false, length, ap, ◌∙◌, refl, next}
 use Rattle.vers_wavelet.proofs.Digits.{room_left, room_more}
 use Rattle.vers_wavelet.proofs.Steps.{searched_more, searched_all}
 use Rattle.vers_wavelet.proofs.Ways.{nodes_set}
@@ -52,14 +51,16 @@ loop-k-preserved g c =
       adds = adds_level c.loop-k.k i.adds to.ensures.adds;
     }
 
-pub returns-clause-value : goal.returns-clause-value
-returns-clause-value g c =
+pub returns : goal.returns
+returns g c =
     let i = c.loop-k.invariant in
     let all : c.args.i - c.loop-k.choice.left + c.loop-k.choice.left ≡ c.args.i = omega (arith, i.kept) in
-    subst (λ (n : ℕ). KthOf c.args.levels.now 0 c.args.len n c.loop-k.number) all (searched_all (omega (arith, i.deep)) (i.searched c.loop-k.choice.left) i.order)
-
-pub returns-clause-equals : goal.returns-clause-equals
-returns-clause-equals g c = λ j h. searched_all (omega (arith, c.loop-k.invariant.deep)) (c.loop-k.invariant.searched j) (omega (arith, c.loop-k.invariant.order))
+    record {
+      value = rw all at (searched_all (omega (arith, i.deep)) (i.searched c.loop-k.choice.left) i.order);
+      equals = λ j h. searched_all (omega (arith, i.deep)) (i.searched j) (omega (arith, i.order));
+      way = i.way;
+      adds = adds_fewer (2 * c.loop-k.k) (2 * length c.args.levels.now) (omega arith) i.adds;
+    }
 
 pub begin-from-requires : goal.begin-from-requires
 begin-from-requires g c = record { few = c.requires.few; within = c.requires.within; way = c.requires.way }
@@ -99,9 +100,3 @@ overflow_sub-result g c = c.loop-k.invariant.kept
 
 pub overflow_sub-result-2 : goal.overflow_sub-result-2
 overflow_sub-result-2 g c = omega arith
-
-pub returns-clause-way : goal.returns-clause-way
-returns-clause-way g c = c.loop-k.invariant.way
-
-pub returns-clause-adds : goal.returns-clause-adds
-returns-clause-adds g c = adds_fewer (2 * c.loop-k.k) (2 * length c.args.levels.now) (omega arith) c.loop-k.invariant.adds

@@ -1,23 +1,22 @@
-use Rattle.vers_wavelet.proofs.Names.{arith}
-use Rattle.std.proofs.lemmas.List.{get_or-set_same, get_or-set_other}
-use Rattle.vers_wavelet.proofs.Groups.{slot_put, number_put, counts_put, before_put}
+use Rattle.vers_wavelet.proofs.Names.{arith, get_or-set_same, get_or-set_other}
+use Rattle.vers_wavelet.proofs.Groups.{slot_put, number_put, for_both}
 use Rattle.vers_wavelet.proofs.wavelet.batch.group.Group.append_number.Goals as goal
 
 pub returns-clause-slot : goal.returns-clause-slot
 returns-clause-slot c =
     rw (get_or-set_same c.args.self.now.slots c.args.j c.next_slot.result 0 (omega arith))
-    (slot_put c.args.bit _ _ _ _ _ 0 c.next_slot.ensures c.append_if.ensures.count c.append_if-2.ensures.count)
+    (slot_put _ _ _ _ _ c.args.bit c.next_slot.ensures c.append_if.ensures.count c.append_if-2.ensures.count)
 
 pub returns-clause-number : goal.returns-clause-number
 returns-clause-number c =
     rw (get_or-set_same c.args.self.now.slots c.args.j c.next_slot.result 0 (omega arith))
-    (number_put c.args.bit _ _ _ _ _ _ c.next_slot.ensures c.append_if.ensures.last c.append_if-2.ensures.last)
+    (number_put _ _ _ _ _ _ c.args.bit c.next_slot.ensures c.append_if.ensures.last c.append_if-2.ensures.last)
 
 pub returns-clause-slots : goal.returns-clause-slots
 returns-clause-slots c = λ h low. get_or-set_other c.args.self.now.slots c.args.j h c.next_slot.result 0 (omega arith)
 
 pub returns-clause-counts : goal.returns-clause-counts
-returns-clause-counts c = counts_put _ _ _ _ (omega (arith, c.append_if.ensures.count)) (omega (arith, c.append_if-2.ensures.count))
+returns-clause-counts c = for_both _ (omega (arith, c.append_if.ensures.count)) (omega (arith, c.append_if-2.ensures.count))
 
 pub returns-clause-before : goal.returns-clause-before
-returns-clause-before c = before_put _ _ _ _ c.append_if.ensures.before c.append_if-2.ensures.before
+returns-clause-before c = for_both _ c.append_if.ensures.before c.append_if-2.ensures.before

@@ -1,10 +1,11 @@
-use Rattle.vers_wavelet.proofs.Names.{ℕ, subst, refl, length, AddsAtMost, times, select_reads, superblock_count, adds_times}
-use Rattle.vers_wavelet.proofs.Groups.{few_asked, both_found, place_found}
+use Rattle.vers_wavelet.proofs.Names.{arith, ℕ, subst, refl, length, AddsAtMost, times, select_reads, superblock_count, adds_times}
+use Rattle.vers_wavelet.proofs.Groups.{for_both, place_found}
 use Rattle.vers_wavelet.proofs.wavelet.batch.group.Group.find_all.Goals as goal
 
 pub returns-clause-places : goal.returns-clause-places
 returns-clause-places g c = λ i j q has.
-    place_found refl (few_asked _ _ c.args.n c.requires.all c.requires.few) (both_found c.args.level.now _ _ _ _ c.find_each.ensures.found c.find_each-2.ensures.found) has
+    place_found refl (for_both _ (omega (arith, c.requires.all, c.requires.few)) (omega (arith, c.requires.all, c.requires.few)))
+    (for_both _ c.find_each.ensures.found c.find_each-2.ensures.found) has
 
 pub returns-clause-adds : goal.returns-clause-adds
 returns-clause-adds g c =

@@ -1,5 +1,4 @@
-use Rattle.vers_wavelet.proofs.Names.{arith, false}
-use Rattle.vers_wavelet.proofs.Values.{next-up}
+use Rattle.vers_wavelet.proofs.Names.{arith}
 use Rattle.vers_wavelet.proofs.Digits.{room_more}
 use Rattle.vers_wavelet.proofs.Quantiles.{quantile_goes}
 use Rattle.vers_wavelet.proofs.wavelet.batch.quantile.QuantileQueryQuery.step.Goals as goal
@@ -17,4 +16,4 @@ returns-clause-same g c =
     let choice = c.choose_level-choice in
     let q = c.args.self in
     λ ls long. quantile_goes c.args.level.now ls q.start q.end q.i choice.result.left choice.result.start choice.result.end c.in-Some.number c.put_digit.new.self c.args.i choice.result.bit q.answer
-    c.in-Some.is long kept.0 kept.1 choice.ensures.start choice.ensures.end choice.ensures.order choice.ensures.left (next-up false c.args.level.now q.start q.end (omega (arith, kept.0))) c.put_digit.ensures.value
+    c.in-Some.is long kept.0 kept.1 choice.ensures.start choice.ensures.end choice.ensures.order choice.ensures.left c.put_digit.ensures.value

@@ -1,39 +1,35 @@
-use Rattle.vers_wavelet.proofs.Names.{◌≡◌, ◌+◌, ◌-◌, ℕ, Bool, List, arith, length, ap, refl, ◌∙◌, select, next, start, way}
-use Rattle.vers_wavelet.proofs.Members.{both_ways}
+use Rattle.vers_wavelet.proofs.Names.{both_ways, ◌<◌, ◌≡◌, ◌+◌, ◌-◌, Bool, List, arith, length, ap, refl, ◌∙◌, select, next, start, way}
 use Rattle.vers_wavelet.proofs.Steps.{rise_inside, rise_to}
 use Rattle.vers_wavelet.proofs.Walks.{level_length}
 use Rattle.vers_wavelet.proofs.wavelet.batch.select.SelectQuery.rise.Goals as goal
 
-pub returns-clause-seeks : goal.returns-clause-seeks
-returns-clause-seeks g c =
+pub returns : goal.returns
+returns g c =
     let ls : List (List Bool) = c.args.levels.now in
-    let s : ℕ = c.args.self.symbol in
     let v : List Bool = c.index-levels-k.result in
+    let bit : Bool = c.digit-bit.result in
     let long : length v ≡ c.args.len = ap length c.index-levels-k.is ∙ c.requires.levels.even c.args.k v c.requires.within in
     let up = rw (c.in-Some.is) at c.requires.seeks.rises in
     let inside = c.is_of_bit.ensures.0 c.if-not-is_of_bit.false in
-    let at : c.args.above ≡ select c.digit-bit.result v (c.in-Some.place - start c.digit-bit.result v) =
+    let at : c.args.above ≡ select bit v (c.in-Some.place - start bit v) =
     rw c.digit-bit.ensures (c.requires.above v c.in-Some.place c.index-levels-k.is c.in-Some.is (rw c.digit-bit.ensures at inside.0)) in
-    record {
-      rises = rw at (rise_to ls s c.args.k c.requires.within v c.index-levels-k.is c.digit-bit.result c.digit-bit.ensures
-          c.args.len c.requires.levels.even (way ls s 0 + c.args.self.rank) c.in-Some.place up inside.0 (omega (arith, inside.1, ap (next c.digit-bit.result v) long)));
-      some = λ h. refl;
-    }
+    let risen = rise_to ls c.args.self.symbol c.args.k c.requires.within v c.index-levels-k.is bit c.digit-bit.ensures
+    c.args.len c.requires.levels.even (way ls c.args.self.symbol 0 + c.args.self.rank) c.in-Some.place up inside.0
+    (omega (arith, inside.1, ap (next bit v) long)) in
+    record { rank = refl; symbol = refl; seeks = record { rises = rw at risen; some = λ h. refl } }
 
-pub returns-then-not-is_of_bit-clause-seeks : goal.returns-then-not-is_of_bit-clause-seeks
-returns-then-not-is_of_bit-clause-seeks g c =
+pub returns-then-not-is_of_bit : goal.returns-then-not-is_of_bit
+returns-then-not-is_of_bit g c =
     let ls : List (List Bool) = c.args.levels.now in
-    let s : ℕ = c.args.self.symbol in
     let v : List Bool = c.index-levels-k.result in
+    let bit : Bool = c.digit-bit.result in
     let long : length v ≡ c.args.len = ap length c.index-levels-k.is ∙ c.requires.levels.even c.args.k v c.requires.within in
     let up = rw (c.in-Some.is) at c.requires.seeks.rises in
-    record {
-      rises = tt;
-      some = λ h.
-          let inside = rise_inside ls s c.args.k c.requires.within v c.index-levels-k.is c.digit-bit.result c.digit-bit.ensures
-          c.args.len c.requires.levels.even (way ls s 0 + c.args.self.rank) c.in-Some.place up (omega arith) h in
-          both_ways c.is_of_bit.result c.if-not-is_of_bit.true (c.is_of_bit.ensures.1 (inside.0, omega (arith, inside.1, ap (next c.digit-bit.result v) long)));
-    }
+    let some = λ (h : way ls c.args.self.symbol 0 + c.args.self.rank < way ls c.args.self.symbol c.args.len).
+    let inside = rise_inside ls c.args.self.symbol c.args.k c.requires.within v c.index-levels-k.is bit c.digit-bit.ensures
+    c.args.len c.requires.levels.even (way ls c.args.self.symbol 0 + c.args.self.rank) c.in-Some.place up (omega arith) h in
+    absurd (both_ways _ c.if-not-is_of_bit.true (c.is_of_bit.ensures.1 (inside.0, omega (arith, inside.1, ap (next bit v) long)))) in
+    record { rank = refl; symbol = refl; seeks = record { rises = tt; some = some } }
 
 pub returns-in_default : goal.returns-in_default
 returns-in_default g c = record { rank = refl; symbol = refl; seeks = record { rises = rw (c.in_default.is) tt; some = c.requires.seeks.some } }
@@ -57,15 +53,3 @@ pub is_of_bit-requires : goal.is_of_bit-requires
 is_of_bit-requires g c =
     let up = rw (c.in-Some.is) at c.requires.seeks.rises in
     omega (arith, up.within, level_length c.args.levels.now c.args.len c.args.k c.index-levels-k.result c.requires.levels.even c.index-levels-k.is c.requires.within)
-
-pub returns-then-not-is_of_bit-clause-rank : goal.returns-then-not-is_of_bit-clause-rank
-returns-then-not-is_of_bit-clause-rank g c = refl
-
-pub returns-then-not-is_of_bit-clause-symbol : goal.returns-then-not-is_of_bit-clause-symbol
-returns-then-not-is_of_bit-clause-symbol g c = refl
-
-pub returns-clause-rank : goal.returns-clause-rank
-returns-clause-rank g c = refl
-
-pub returns-clause-symbol : goal.returns-clause-symbol
-returns-clause-symbol g c = refl
