@@ -26,6 +26,3 @@ pub returns-clause-value : goal.returns-clause-value
 returns-clause-value g c =
     let d = difference_is _ (c.args.i + 1) _ c.self.invariant.short (omega (arith, ap length c.self.view_is)) c.rank1_counted-ones.ensures.value in
     to_z-of_z w64 _ d.0 ∙ d.1 ∙ ap (λ (l : List Bool). excess l (c.args.i + 1)) c.self.view_is
-
-pub returns-clause-adds : goal.returns-clause-adds
-returns-clause-adds g c = c.rank1_counted-ones.ensures.adds

@@ -1,6 +1,5 @@
-use Rattle.std.proofs.Common.{◌<◌, arith, refl, ◌∙◌, subst, sym}
 use Rattle.vers_trees.proofs.searches.Bytes.{IsNoted, met_nothing, sevens, met_more, few_more, place_small, up_or_down}
-use Rattle.vers_trees.proofs.Words.{length-set, ints}
+use Rattle.vers_trees.proofs.Words.{length-set, ints, ◌<◌, arith, refl, ◌∙◌, subst, sym}
 use Rattle.vers_trees.proofs.trees.bp.bytes.entry_of.Goals as goal
 
 pub loop-step-init : goal.loop-step-init

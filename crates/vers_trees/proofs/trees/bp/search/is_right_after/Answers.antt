@@ -1,4 +1,4 @@
-use Rattle.std.proofs.Common.{arith}
+use Rattle.vers_trees.proofs.Words.{arith}
 use Rattle.vers_trees.proofs.searches.Beside.{right_after, nothing_after}
 use Rattle.vers_trees.proofs.trees.bp.search.is_right_after.Goals as goal
 

@@ -13,8 +13,5 @@ invariant_of-self-2 g c =
     rw (stored_sum g.row.BLOCK_SIZE c.self.inside.bits c.args.opens c.self.inside.excess c.step.result c.self.invariant room c.step.ensures).1
     (subst (λ (l : List Bool). IsBuilding g.row.BLOCK_SIZE l (c.self.inside.excess +ℤ bit_step c.args.opens)) (sym grown) (one_more_built g.row.BLOCK_SIZE c.self.inside.bits c.args.opens c.self.inside.excess c.self.invariant room))
 
-pub invariant_of-self : goal.invariant_of-self
-invariant_of-self g c = let a = c.in_err-append.ensures in rw a.kept c.self.invariant
-
 pub returns-clause-grown : goal.returns-clause-grown
 returns-clause-grown g c = let a = c.in_ok-append.ensures in rw (← c.self.view_is) a.grown

@@ -66,9 +66,3 @@ overflow_add-self g c = let few = begin_within _ _ _ true c.args.begin _ c.requi
 
 pub node_before-node-requires : goal.node_before-node-requires
 node_before-node-requires g c = let few = begin_within _ _ _ true c.args.begin _ c.requires.begins.1 in omega arith
-
-pub overflow_sub-node : goal.overflow_sub-node
-overflow_sub-node g c = omega arith
-
-pub node_before-node-requires-in-loop-node : goal.node_before-node-requires-in-loop-node
-node_before-node-requires-in-loop-node g c = let i = c.loop-node.invariant.within in let f = c.loop-node.auto.node-fits in omega arith

@@ -1,9 +1,6 @@
-use Rattle.vers_trees.proofs.Words.{IfOk-from_err, ◌≡◌, ℕ, List, [], ◌∷◌, ◌++◌, ◌+◌, ◌*◌, min, length, arith, sym, subst, ap, ◌∙◌, Node, IsPart, block_count, AreFirstBlocks}
+use Rattle.vers_trees.proofs.Words.{◌≡◌, ℕ, List, [], ◌∷◌, ◌++◌, ◌+◌, ◌*◌, min, length, arith, sym, subst, ap, ◌∙◌, Node, IsPart, block_count, AreFirstBlocks}
 use Rattle.vers_trees.proofs.layout.Widths.{no_blocks, block_added, begins_inside}
 use Rattle.vers_trees.proofs.trees.bp.min_max.build.push_blocks.Goals as goal
-
-pub div_ceil-leaves-requires : goal.div_ceil-leaves-requires
-div_ceil-leaves-requires g c = c.requires.can.some
 
 pub loop-block-init : goal.loop-block-init
 loop-block-init g c = no_blocks c.args.bits.now c.args.size c.args.first c.args.nodes.now.items (let o = c.args.nodes.now.ok in let r = c.requires.before in omega arith)
@@ -20,9 +17,6 @@ node_of-requires g c = record {
   inside = omega arith;
   short = c.requires.can.short;
 }
-
-pub returns-in_err-push : goal.returns-in_err-push
-returns-in_err-push g c = IfOk-from_err c.from_residual.result _ c.from_residual.ensures.0
 
 pub loop-block-preserved : goal.loop-block-preserved
 loop-block-preserved g c =

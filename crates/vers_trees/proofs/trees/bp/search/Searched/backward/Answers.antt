@@ -22,6 +22,3 @@ backward_past-requires g c =
     let n = c.in-Err.ensures.value in let so = c.requires.some in
     let e : (c.args.i - 1) / g.row.BLOCK_SIZE * g.row.BLOCK_SIZE ≡ start_of c.args.self.bits.now g.row.BLOCK_SIZE ((c.args.i - 1) / g.row.BLOCK_SIZE) = omega arith in
     (search rules, record { indexed = c.requires; some = omega arith; inside = omega arith; last = λ t. omega arith; begins = refl; passed = rw (← e, rise_is c.args.self.bits.now c.args.i _ c.in-Err.rise c.requires.short (omega arith) (omega arith) n.risen) n })
-
-pub returns-in-Err-clause-value : goal.returns-in-Err-clause-value
-returns-in-Err-clause-value g c = rw (to_z-of_z w64 c.args.r c.ranges.r) at c.backward_past.ensures.value

@@ -27,12 +27,6 @@ returns-clause-value g c =
 pub returns-in_err-left-clause-adds : goal.returns-in_err-left-clause-adds
 returns-in_err-left-clause-adds g c = adds_none _ _
 
-pub overflow_sub-block : goal.overflow_sub-block
-overflow_sub-block g c = c.requires.some
-
-pub nonzero_div-block : goal.nonzero_div-block
-nonzero_div-block g c = c.requires.indexed.some
-
 pub returns-in_err-previous-clause-adds : goal.returns-in_err-previous-clause-adds
 returns-in_err-previous-clause-adds g c = climbed true _ _ _ _ _ c.requires _ _ c.previous_block_counted.ensures.adds
 
