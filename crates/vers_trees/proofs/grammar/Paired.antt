@@ -98,7 +98,7 @@ closes_rest X Y x y = closes_moved (text (tree X Y)) (text Y) (length (text X) +
 pub paired_closes : (F : Forest) (v c : ℕ) → Paired F v c → Closes (text F) v c
 paired_closes none v c p = absurd p
 paired_closes (tree X Y) v c (inl p) = rw (p.0, p.1) (closes_root X Y)
-paired_closes (tree X Y) v c (inr (inl p)) = let a : v ≡ 1 + p.0 = (let e = p.2 in omega arith) in let b : c ≡ 1 + p.1 = (let e = p.3 in omega arith) in rw (a, b) (closes_first X Y p.0 p.1 (paired_closes X p.0 p.1 p.4))
+paired_closes (tree X Y) v c (inr (inl p)) = let a : v ≡ 1 + p.0 = (omega arith) in let b : c ≡ 1 + p.1 = (omega arith) in rw (a, b) (closes_first X Y p.0 p.1 (paired_closes X p.0 p.1 p.4))
 paired_closes (tree X Y) v c (inr (inr p)) = rw (p.2, p.3) (closes_rest X Y p.0 p.1 (paired_closes Y p.0 p.1 p.4))
 
 -- each bit is one end of a pair, a one where it opens and a zero where it closes

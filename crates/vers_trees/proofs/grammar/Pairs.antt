@@ -97,7 +97,6 @@ around_none n F v c (inr h) = count_none (λ q. strictly_contains (moved n q) (v
 pub pairs_around : (F : Forest) (v c : ℕ) → Paired F v c → pos (count_by (λ q. strictly_contains q (v, c)) (pairs F)) ≡ excess (text F) v
 pairs_around none v c p = absurd p
 pairs_around (tree X Y) v c (inl p) =
-    let ec = p.1 in
     let t = count_tree (λ q. strictly_contains q (v, c)) X Y in
     let a : one_if (strictly_contains (0, length (text X) + 1) (v, c)) ≡ 0 = ap one_if (and_left (ltb 0 v) (ltb c (length (text X) + 1)) (le-ltb 0 v (omega arith))) in
     let b = around_none 1 X v c (inl (omega arith)) in
@@ -108,7 +107,6 @@ pairs_around (tree X Y) v c (inr (inl p)) =
     let k = paired_closes X p.0 p.1 p.4 in
     let ih = pairs_around X p.0 p.1 p.4 in
     let t = count_tree (λ q. strictly_contains q (v, c)) X Y in
-    let ev = p.2 in let ec = p.3 in let ki = k.inside in let ka = k.after in
     let a : one_if (strictly_contains (0, length (text X) + 1) (v, c)) ≡ 1 = ap one_if (and_from (ltb 0 v) (ltb c (length (text X) + 1)) (lt-ltb 0 v (omega arith)) (lt-ltb c (length (text X) + 1) (omega arith))) in
     let b = around_moved 1 X p.0 p.1 v c (omega arith) (omega arith) in
     let d = around_none (length (text X) + 2) Y v c (inl (omega arith)) in
@@ -117,7 +115,6 @@ pairs_around (tree X Y) v c (inr (inr p)) =
     let k = paired_closes Y p.0 p.1 p.4 in
     let ih = pairs_around Y p.0 p.1 p.4 in
     let t = count_tree (λ q. strictly_contains q (v, c)) X Y in
-    let ev = p.2 in let ec = p.3 in let ki = k.inside in let ka = k.after in
     let a : one_if (strictly_contains (0, length (text X) + 1) (v, c)) ≡ 0 = ap one_if (and_right (ltb 0 v) (ltb c (length (text X) + 1)) (le-ltb c (length (text X) + 1) (omega arith))) in
     let b = around_none 1 X v c (inr (omega arith)) in
     grind (arith, ints, around_moved, excess_in_rest, tree)

@@ -25,7 +25,6 @@ ancestor_decides F a v = Decides-and (leb a v) (leb (closing F v) (closing F a))
 -- what a search backwards from a node finds stands above it
 pub above_from_before : (l : List Bool) (b : IsBalanced l) (v t a : ℕ) → 0 < t → get_or l v false ≡ true → IsLastRiseBefore l v (neg_ℤ (pos t)) a → IsAbove l v t a
 above_from_before l b v t a h o p =
-    let i = p.before in
     let high : (j : ℕ) → a < j → j ≤ v → excess l a <ℤ excess l j =
     λ j x y. above_since (excess l) (excess-is_walk l) (excess l a) j v y (omega (arith, ints)) (λ k g m e. grind (arith, ints)) in
     let k = one_pair l b a (omega arith) (open_from_rise l a false (omega arith) (high (a + 1) (omega arith) (omega arith))) in
@@ -134,7 +133,7 @@ last_child_is_search l b v c h s x =
 -- what a tree's parent closes right after it has no later child
 last_beside : (l : List Bool) (b : IsBalanced l) (v w : ℕ) → HasPair l v → closing (forest_of l) v + 1 < length l → get_or l (closing (forest_of l) v + 1) false ≡ false → HasPair l w → closing (forest_of l) v < w → parent (forest_of l) w ≡ parent (forest_of l) v → ⊥
 last_beside l b v w h i o k x e =
-    let s = zero_pair l b (closing (forest_of l) v + 1) i o in let q = s.1 in let qc = s.2 in let m = s.3 in
+    let s = zero_pair l b (closing (forest_of l) v + 1) i o in let q = s.1 in let m = s.3 in
     let z = opens_around l v (closing (forest_of l) v) s.0 (closing (forest_of l) v + 1) h.closes m (omega arith) (omega arith) in
     let g = has_parent l b v s.0 h q z (omega arith) in
     let r = parent_around l b w g.0 k (e ∙ g.1) in
@@ -146,16 +145,16 @@ previous_sibling_none l b v h some o =
     let e : v - 1 + 1 ≡ v = omega arith in
     let k : HasPair l (v - 1 + 1) = rw e h in
     let p : parent (forest_of l) v ≡ Some (v - 1) = rw e at (above_parent l b (v - 1 + 1) (v - 1) k (first_child_above l (v - 1) (closing (forest_of l) (v - 1)) (one_pair l b (v - 1) (omega arith) o).closes (opens l (v - 1 + 1) k))) in
-    previous_in l b _ _ (λ w. option_decides (parent (forest_of l) w) (parent (forest_of l) v)) v None (λ w k g. let y = g.1 in let r = (parent_around l b w (v - 1) k (g.0 ∙ p)).0 in omega arith)
+    previous_in l b _ _ (λ w. option_decides (parent (forest_of l) w) (parent (forest_of l) v)) v None (λ w k g. let r = (parent_around l b w (v - 1) k (g.0 ∙ p)).0 in omega arith)
 
 pub previous_sibling_is_search : (l : List Bool) (b : IsBalanced l) (v : ℕ) → HasPair l v → 0 < v → get_or l (v - 1) false ≡ false → last_rise_before l (v - 1) (negsuc 0) ≡ previous_of (siblings (forest_of l) v) v
 unfolding nodes_under
 previous_sibling_is_search l b v h some o =
-    let p = zero_pair l b (v - 1) (omega arith) o in let k = p.1 in let pc = p.2 in let q = p.3 in
+    let p = zero_pair l b (v - 1) (omega arith) o in let k = p.1 in let q = p.3 in
     let at : closing (forest_of l) p.0 + 1 ≡ v = omega arith in
     let same : parent (forest_of l) v ≡ parent (forest_of l) p.0 = ap (parent (forest_of l)) (sym at) ∙ same_parent l b p.0 k (subst (HasPair l) (sym at) h) in
     before_is l (v - 1) (negsuc 0) p.0 (before_from_closes l p.0 (v - 1) q)
-    ∙ sym (previous_in l b _ _ (λ w. option_decides (parent (forest_of l) w) (parent (forest_of l) v)) v (Some p.0) (k, (sym same, omega arith), λ w y kw e. let x = e.1 in not_beside l b p.0 w k kw y (omega arith) (e.0 ∙ same)))
+    ∙ sym (previous_in l b _ _ (λ w. option_decides (parent (forest_of l) w) (parent (forest_of l) v)) v (Some p.0) (k, (sym same, omega arith), λ w y kw e. not_beside l b p.0 w k kw y (omega arith) (e.0 ∙ same)))
 
 -- ---- by one bit: what opens at a place, and what closes right before it
 abbrev pub opened_here : List Bool → ℕ → Option ℕ
@@ -191,7 +190,7 @@ last_child_is l b v h = grind (arith, ints, same_bit, last_child_closes, last_ch
 
 pub previous_sibling_is : (l : List Bool) (b : IsBalanced l) (v : ℕ) → HasPair l v → closed_before l v ≡ previous_of (siblings (forest_of l) v) v
 unfolding nodes_under
-previous_sibling_is l b zero h = sym (previous_in l b _ _ (λ w. option_decides (parent (forest_of l) w) (parent (forest_of l) 0)) 0 None (λ w k e. let y = e.1 in omega arith))
+previous_sibling_is l b zero h = sym (previous_in l b _ _ (λ w. option_decides (parent (forest_of l) w) (parent (forest_of l) 0)) 0 None (λ w k e. omega arith))
 previous_sibling_is l b (suc u) h = grind (arith, ints, inside, previous_sibling_none, same_bit, previous_sibling_is_search)
 
 -- ---- what the calls on a node answer, by the searches that they make

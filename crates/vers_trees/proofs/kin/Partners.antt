@@ -5,7 +5,6 @@ use Rattle.vers_trees.proofs.grammar.Paired.{Closes, closes_rises, closes_falls,
 
 pub after_from_closes : (l : List Bool) (v c : ℕ) → Closes l v c → IsFirstRiseAfter l v (negsuc 0) c
 after_from_closes l v c p =
-    let i = p.inside in
     let r = excess_after_open l v false (omega arith) (closes_rises l v c false p) in
     grind (arith, ints)
 

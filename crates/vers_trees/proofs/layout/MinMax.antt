@@ -18,7 +18,7 @@ pub covers_joined : (l : List Bool) (size i m e : ℕ) (x y r : Node) → i ≤ 
 covers_joined l size i m e x y r im me c d both alone =
     let a = starts_up l size i m im in let b = starts_up l size m e me in ⊎_elim
     (λ (q : IsPart l (start_of l size m) (start_of l size e) y).
-    let q1 = q.least.1 in let q2 = q.least.2 in let lo = q.low q.greatest.0 q.greatest.1 q.greatest.2 in let g = q.greatest.3 in
+    let lo = q.low q.greatest.0 q.greatest.1 q.greatest.2 in
     record { part = inl (rw (both (omega (arith, ints))) (part_joined l (start_of l size i) (start_of l size m) (start_of l size e) x y (part_inside l size i m x c (omega arith)) q)) })
     (λ (q : (length l ≤ m * size) × (y ≡ empty_node)).
     let same : start_of l size m ≡ start_of l size e = omega arith in
@@ -28,14 +28,14 @@ covers_joined l size i m e x y r im me c d both alone =
 -- the sums of a node's two parts fit
 pub children_fit : (l : List Bool) (size i m e : ℕ) (x y : Node) → length l < 2 ^ 63 → i ≤ m → Covers l size i m x → Covers l size m e y → JoinFits x y
 children_fit l size i m e x y short im c d = record {
-  total = λ h. let p = parts h in let q = p.1 in let pt = p.0.total in rise_fits l (start_of l size i) (start_of l size e) (x.total +ℤ y.total) short (omega arith) (omega arith) (omega (arith, ints));
-  least = λ h. let p = parts h in let q = p.1.least in let q2 = q.2 in let q3 = q.3 in let pt = p.0.total in rise_fits l (start_of l size i) q.0 (x.total +ℤ y.least) short (omega arith) (omega arith) (omega (arith, ints));
-  greatest = λ h. let p = parts h in let q = p.1.greatest in let q2 = q.2 in let q3 = q.3 in let pt = p.0.total in rise_fits l (start_of l size i) q.0 (x.total +ℤ y.greatest) short (omega arith) (omega arith) (omega (arith, ints));
+  total = λ h. let p = parts h in let q = p.1 in rise_fits l (start_of l size i) (start_of l size e) (x.total +ℤ y.total) short (omega arith) (omega arith) (omega (arith, ints));
+  least = λ h. let p = parts h in let q = p.1.least in rise_fits l (start_of l size i) q.0 (x.total +ℤ y.least) short (omega arith) (omega arith) (omega (arith, ints));
+  greatest = λ h. let p = parts h in let q = p.1.greatest in rise_fits l (start_of l size i) q.0 (x.total +ℤ y.greatest) short (omega arith) (omega arith) (omega (arith, ints));
 }
   where
     parts : y.least ≤ℤ y.greatest → IsPart l (start_of l size i) (start_of l size m) x × IsPart l (start_of l size m) (start_of l size e) y
     parts h = ⊎_elim
-        (λ (q : IsPart l (start_of l size m) (start_of l size e) y). let q1 = q.least.1 in let q2 = q.least.2 in let u = starts_up l size i m im in (part_inside l size i m x c (omega arith), q))
+        (λ (q : IsPart l (start_of l size m) (start_of l size e) y). let u = starts_up l size i m im in (part_inside l size i m x c (omega arith), q))
         (λ (q : (length l ≤ m * size) × (y ≡ empty_node)). let g = rw q.1 at h in absurd (omega (arith, ints)))
         d.part
 
@@ -53,7 +53,7 @@ stands_children first i s e p h = go p.height refl
     go : (k : ℕ) → p.height ≡ k → HasChildren first i s e
     go zero z = grind arith
     go (suc k) z =
-        let lv = p.levels in let ins = p.inside in let pl = p.place in let fr = p.from in let up = p.upto in
+        let lv = p.levels in let fr = p.from in let up = p.upto in
         let pw : 2 ^ p.height ≡ 2 * 2 ^ k = ap (λ (n : ℕ). 2 ^ n) z ∙ pow-succ' 2 k in
         let pl2 = pow_next p.level in
         let lv' : 2 ^ (p.level + 1 + k) ≡ first + 1 = ap (λ (n : ℕ). 2 ^ n) (let g : p.level + 1 + k ≡ p.level + p.height = omega arith in g) ∙ lv in

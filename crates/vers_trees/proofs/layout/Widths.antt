@@ -10,7 +10,7 @@ grow_more leaves w g h = record { exponent = suc g.exponent; power = omega arith
 
 pub grown : (leaves w : ℕ) → leaves < 2 ^ 63 → IsGrowing leaves w → leaves ≤ w → IsWidth leaves w
 grown leaves w h g enough =
-    let q = g.power in let n = pow_next g.exponent in let one = pow_pos g.exponent in
+    let n = pow_next g.exponent in let one = pow_pos g.exponent in
     let most = (clog_is_least leaves (g.exponent + 1)).0 (omega arith) in
     let small = (clog_is_least leaves g.exponent).1 in
     let exact : g.exponent + 1 ≡ max 1 (clog leaves) = ⊎_elim (λ (z : g.exponent ≡ 0). omega arith) (λ (s : 2 ^ g.exponent < leaves). ⊎_elim (λ (u : g.exponent < clog leaves). omega arith) (λ (u : clog leaves ≤ g.exponent). let k = small u in absurd (omega arith)) (cases_lt g.exponent (clog leaves))) g.short in
@@ -22,7 +22,7 @@ grown leaves w h g enough =
 -- ---- how many nodes there are
 width_is : (leaves w : ℕ) → IsWidth leaves w → w - 1 ≡ max 1 (2 ^ clog leaves - 1)
 width_is leaves w h =
-    let p = h.power in ⊎_elim
+    ⊎_elim
     (λ (x : 0 < clog leaves). let e : 2 ^ max 1 (clog leaves) ≡ 2 ^ clog leaves = ap (λ (k : ℕ). 2 ^ k) (omega arith) in omega arith)
     (λ (x : clog leaves ≤ 0). let e : 2 ^ max 1 (clog leaves) ≡ 2 = ap (λ (k : ℕ). 2 ^ k) (let k : max 1 (clog leaves) ≡ 1 = omega arith in k) in let z : 2 ^ clog leaves ≡ 1 = ap (λ (k : ℕ). 2 ^ k) (let k : clog leaves ≡ 0 = omega arith in k) in omega arith)
     (cases_lt 0 (clog leaves))
@@ -67,7 +67,7 @@ one_at_least n size so h = grind (arith, div_ceil_times)
 
 pub tree_made : (l : List Bool) (size first : ℕ) (nodes : List Node) → 0 < size → 0 < length l → length l < 2 ^ 63 → IsWidth (block_count size (length l)) (first + 1) → CoveredFrom l size first nodes 0 → IsTreeOf l size first nodes
 tree_made l size first nodes so some short w c =
-    let d = (div_ceil_times (length l) size so).0 in let e = w.enough in let b = w.bounded in let p = w.power in
+    let d = (div_ceil_times (length l) size so).0 in let e = w.enough in let p = w.power in
     let u : block_count size (length l) * size ≤ (first + 1) * size = mul-le-mul_right size e in
     let k : digits first ≡ max 1 (clog (block_count size (length l))) = ap digits (omega arith) ∙ digits_below_pow (max 1 (clog (block_count size (length l)))) in
     let n = (some_counted size (length l) some).1 in

@@ -45,7 +45,7 @@ module _ (l : List Bool) (b : IsBalanced l) (v : ℕ) (r : ℤ) (some : pos 0 <�
   opened_before c e =
       let q = before_some l v r c e in let qb = q.before in let qi = q.inside in let s = q.sum in
       let f = closes_at l c v (excess l v +ℤ r) (omega (arith, ints)) qb qi s q.last in
-      let p = zero_pair l b c (omega arith) f in let m = p.3 in let back = m.back in let after = m.after in
+      let p = zero_pair l b c (omega arith) f in let m = p.3 in
       let fall = excess_after_close l c false (omega arith) f in
       rw (before_is l c (negsuc 0) p.0 (before_from_closes l p.0 c m)) (
         p.1,
@@ -92,16 +92,16 @@ too_far_up l b v t h far = first_node l b _ _ (at_depth_decides (forest_of l) v 
 -- the nodes of the depth of v after it open past its tree, and those before it before it
 later_on_level : (l : List Bool) (b : IsBalanced l) (v : ℕ) → HasPair l v → (w : ℕ) → HasPair l w → ((depth (forest_of l) w ≡ depth (forest_of l) v) × (v < w)) ↔ ((closing (forest_of l) v < w) × (excess l (w + 1) ≡ excess l (closing (forest_of l) v + 1) +ℤ pos 1))
 later_on_level l b v h w k =
-    let dw = depth_is_excess l b w k in let dv = depth_is_excess l b v h in let back = h.closes.back in let after = h.closes.after in
+    let dw = depth_is_excess l b w k in let dv = depth_is_excess l b v h in
     let up = excess_after_open l w false (inside l w k) (opens l w k) in (
-      λ e. let e0 = e.0 in (⊎_elim (λ (z : closing (forest_of l) v < w). z) (λ (z : w ≤ closing (forest_of l) v). let r = h.closes.above w e.1 z in absurd (omega (arith, ints))) (cases_lt (closing (forest_of l) v) w), omega (arith, ints)),
-      λ e. let e0 = e.0 in let e1 = e.1 in (omega (arith, ints), omega arith),
+      λ e. (⊎_elim (λ (z : closing (forest_of l) v < w). z) (λ (z : w ≤ closing (forest_of l) v). let r = h.closes.above w e.1 z in absurd (omega (arith, ints))) (cases_lt (closing (forest_of l) v) w), omega (arith, ints)),
+      λ e. (omega (arith, ints), omega arith),
     )
 
 earlier_on_level : (l : List Bool) (b : IsBalanced l) (v : ℕ) → HasPair l v → (w : ℕ) → HasPair l w → ((depth (forest_of l) w ≡ depth (forest_of l) v) × (w < v)) ↔ ((w < v) × (excess l w +ℤ pos 1 ≡ excess l v +ℤ pos 1))
 earlier_on_level l b v h w k =
     let dw = depth_is_excess l b w k in let dv = depth_is_excess l b v h in
-    (λ e. let e0 = e.0 in (e.1, omega (arith, ints)), λ e. let e1 = e.1 in (omega (arith, ints), e.0))
+    (λ e. (e.1, omega (arith, ints)), λ e. (omega (arith, ints), e.0))
 
 pub level_next_is_search : (l : List Bool) (b : IsBalanced l) (v : ℕ) → HasPair l v → first_rise_after l (closing (forest_of l) v) (pos 1) ≡ next_of (level (forest_of l) (depth (forest_of l) v)) v
 unfolding level
@@ -144,7 +144,7 @@ below_first l b t some w k =
     let one = excess_after_open l 0 false (omega arith) (opens l 0 (opens_first l b (omega arith))) in
     let r = excess_after_open l w false i (opens l w k) in (
       λ e. (⊎_elim (λ (s : w < 1). let g : excess l w ≡ excess l 0 = ap (excess l) (omega arith) in absurd (omega (arith, ints))) (λ (s : 1 ≤ w). s) (cases_lt w 1), omega (arith, ints)),
-      λ e. let e1 = e.1 in omega (arith, ints),
+      λ e. omega (arith, ints),
     )
 
 pub level_leftmost_is_search : (l : List Bool) (b : IsBalanced l) (t : ℕ) → 0 < t → first_rise_after l 0 (pos t) ≡ first_of (level (forest_of l) t)
@@ -165,8 +165,8 @@ before_end : (l : List Bool) (b : IsBalanced l) (n t : ℕ) → length l ≡ n +
 before_end l b n t e w k =
     let all : excess l (n + 1) ≡ pos 0 = ap (excess l) (sym e) ∙ balanced_total l b in
     let r = excess_after_close l n false (omega arith) (closes_last l b n e) in
-    let d = depth_is_excess l b w k in let a = k.closes.after in let i = k.closes.inside in
-    (λ g. (omega arith, omega (arith, ints)), λ g. let g1 = g.1 in omega (arith, ints))
+    let d = depth_is_excess l b w k in
+    (λ g. (omega arith, omega (arith, ints)), λ g. omega (arith, ints))
 
 pub no_level_rightmost : (l : List Bool) (b : IsBalanced l) (n t : ℕ) → length l ≡ n + 1 → 0 < t → last_rise_before l n (pos t) ≡ None → last_of (level (forest_of l) t) ≡ None
 unfolding level

@@ -25,8 +25,8 @@ filter_ascends p n (x ∷ xs) a =
 -- they rise by one at least from each to the next
 member_from : (n i : ℕ) (xs : List ℕ) → AscendsFrom n xs → i < length xs → n + i ≤ get_or xs i 0
 member_from n i [] a h = absurd (omega arith)
-member_from n zero (x ∷ xs) a h = let a0 = a.0 in omega arith
-member_from n (suc i) (x ∷ xs) a h = let r = member_from (x + 1) i xs a.1 (omega arith) in let a0 = a.0 in omega arith
+member_from n zero (x ∷ xs) a h = omega arith
+member_from n (suc i) (x ∷ xs) a h = let r = member_from (x + 1) i xs a.1 (omega arith) in omega arith
 
 in_order : (n i j : ℕ) (xs : List ℕ) → AscendsFrom n xs → i ≤ j → j < length xs → get_or xs i 0 + j ≤ get_or xs j 0 + i
 in_order n i j [] a h k = absurd (omega arith)

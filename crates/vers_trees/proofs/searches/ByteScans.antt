@@ -128,7 +128,7 @@ entry_ordered from_end bits entry e = let a = e.low 0 (omega arith) in let b = e
 pub forward_byte_found : (l : List Bool) (from p end : ℕ) (r rise : ℤ) (entry x : ℕ) → HasNoRise false l from p r rise → from ≤ p → p + 8 ≤ end → end ≤ length l → IsEntry false (part l p 8) entry → least_in entry ≤ x → x ≤ greatest_in entry → rise +ℤ (pos x -ℤ pos 8) ≡ r → IsRise false l from end r (p + place_in entry x)
 forward_byte_found l from p end r rise entry x h o a b e u v z =
     let m = met false l p entry x (excess l from +ℤ r) (omega arith) e u v (omega (arith, ints)) in
-    found false l from p (p + place_in entry x) end r rise (pos x -ℤ pos 8) h (omega arith, omega arith) (λ k y. let w = y.1 in m.2 k y.0 (omega arith) (omega arith)) (omega (arith, ints)) z
+    found false l from p (p + place_in entry x) end r rise (pos x -ℤ pos 8) h (omega arith, omega arith) (λ k y. m.2 k y.0 (omega arith) (omega arith)) (omega (arith, ints)) z
 
 pub forward_byte : (l : List Bool) (from p q : ℕ) (r rise d : ℤ) (entry byte : ℕ) → HasNoRise false l from p r rise → length l < 2 ^ 63 → from ≤ p → q ≡ p + 8 → q ≤ length l → IsByte (part l p 8) byte → ((bits : List Bool) → IsByte bits byte → IsEntry false bits entry)
     → ((x : ℕ) → least_in entry ≤ x → x ≤ greatest_in entry → rise +ℤ (pos x -ℤ pos 8) ≢ r) → d ≡ pos (2 * count_ones byte) -ℤ pos 8 → FitsSigned w64 (rise +ℤ to_z w64 (of_z w64 d)) × HasNoRise false l from q r (to_z w64 (of_z w64 (rise +ℤ to_z w64 (of_z w64 d))))
@@ -139,7 +139,7 @@ forward_byte l from p q r rise d entry byte h short o n a is e none k =
 pub backward_byte_found : (l : List Bool) (from p q end : ℕ) (r rise : ℤ) (entry x : ℕ) → HasNoRise true l end q r rise → q ≡ p + 8 → from ≤ p → q ≤ end → end ≤ length l → IsEntry true (part l p 8) entry → least_in entry ≤ x → x ≤ greatest_in entry → rise +ℤ (pos x -ℤ pos 8) ≡ r → IsRise true l end from r (p + place_in entry x)
 backward_byte_found l from p q end r rise entry x h n o a b e u v z =
     let k = rw n at h in let m = met true l p entry x (excess l end +ℤ r) (omega arith) e u v (omega (arith, ints)) in
-    found true l end (p + 8) (p + place_in entry x) from r rise (pos x -ℤ pos 8) k (omega arith, omega arith) (λ k y. let w = y.0 in let u = y.1 in m.2 k (omega arith) u (omega arith)) (omega (arith, ints)) z
+    found true l end (p + 8) (p + place_in entry x) from r rise (pos x -ℤ pos 8) k (omega arith, omega arith) (λ k y. let u = y.1 in m.2 k (omega arith) u (omega arith)) (omega (arith, ints)) z
 
 pub backward_byte : (l : List Bool) (p q end : ℕ) (r rise d : ℤ) (entry byte : ℕ) → HasNoRise true l end q r rise → length l < 2 ^ 63 → q ≡ p + 8 → q ≤ end → end ≤ length l → IsByte (part l p 8) byte → ((bits : List Bool) → IsByte bits byte → IsEntry true bits entry)
     → ((x : ℕ) → least_in entry ≤ x → x ≤ greatest_in entry → rise +ℤ (pos x -ℤ pos 8) ≢ r) → d ≡ pos (2 * count_ones byte) -ℤ pos 8 → FitsSigned w64 (rise -ℤ to_z w64 (of_z w64 d)) × HasNoRise true l end p r (to_z w64 (of_z w64 (rise -ℤ to_z w64 (of_z w64 d))))

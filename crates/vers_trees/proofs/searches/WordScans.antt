@@ -120,7 +120,6 @@ pub forward_word : (l : List Bool) (from p q n : ℕ) (r rise d : ℤ) (o : Opti
 forward_word l from p q n r rise d o word h short s e a long read some over k =
     let b : p + 64 ≤ length l = omega arith in let is = whole_word l p n o word read some long (omega arith) in let f = over (part l p 64) (length-part l p 64 b) is in
     rw (e, long) (forward_more l from p (p + 64) r rise d h short s (omega arith) b (total_of l p 64 word d (omega arith) b is k) (λ k y w.
-    let y0 = y.0 in let y1 = y.1 in
     let g = excess-part l p 64 (k - p + 1) b (omega arith) in
     let here : excess l (p + (k - p + 1)) ≡ excess l (k + 1) = ap (excess l) (omega arith) in
     let u = above false (part l p 64) (k - p + 1) in
@@ -131,7 +130,6 @@ pub backward_word : (l : List Bool) (p q n end : ℕ) (r rise d : ℤ) (o : Opti
 backward_word l p q n end r rise d o word h short e s a long read some over k =
     let t = rw (e, long) at h in let b : p + 64 ≤ length l = omega arith in let is = whole_word l p n o word read some long (omega arith) in let f = over (part l p 64) (length-part l p 64 b) is in
     backward_more l p (p + 64) end r rise d t short (omega arith) (omega arith) a (total_of l p 64 word d (omega arith) b is k) (λ k y w.
-    let y0 = y.0 in let y1 = y.1 in
     let m = length-part l p 64 b in
     let same = ap (excess (part l p 64)) m in
     let g64 = excess-part l p 64 64 b (omega arith) in

@@ -5,7 +5,7 @@ use Rattle.vers_trees.proofs.trees.bp.BpTree.children.Goals as goal
 
 pub overflow_add-node : goal.overflow_add-node
 overflow_add-node g c =
-    let i = closes_inside c.args.self.now c.requires.balanced c.args.node c.requires.is_node in let i0 = i.0 in let i1 = i.1 in
+    let i = closes_inside c.args.self.now c.requires.balanced c.args.node c.requires.is_node in
     let e : length c.searched.result.bits.now ≡ length c.args.self.now = ap (λ (l : List Bool). length l) c.searched.ensures.bits in
     record { fits = omega arith }
 

@@ -8,5 +8,4 @@ returns-then-last-node-clause-value g c = sym (last_child_none c.args.self.now c
 
 pub returns-clause-value : goal.returns-clause-value
 returns-clause-value g c =
-    let t = c.if-last-node.false in
     c.open_counted.ensures.value ∙ last_child_is_search c.args.self.now c.requires.balanced c.args.node (c.end_counted-close.result - 1) (node_pair c.args.self.now c.requires.balanced c.args.node c.requires.node) (omega arith) (omega arith)

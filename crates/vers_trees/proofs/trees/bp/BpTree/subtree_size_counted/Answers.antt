@@ -5,4 +5,4 @@ use Rattle.vers_trees.proofs.trees.bp.BpTree.subtree_size_counted.Goals as goal
 
 pub returns-clause-value : goal.returns-clause-value
 returns-clause-value g c =
-    ap Some (let v = c.end_counted-close.ensures.value in let d = c.div_ceil.ensures in omega (arith, subtree_size_is _ c.requires.balanced _ (node_pair _ c.requires.balanced _ c.requires.node)))
+    ap Some (omega (arith, subtree_size_is _ c.requires.balanced _ (node_pair _ c.requires.balanced _ c.requires.node)))

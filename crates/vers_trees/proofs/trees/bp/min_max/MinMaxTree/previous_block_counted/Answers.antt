@@ -6,7 +6,7 @@ use Rattle.vers_trees.proofs.trees.bp.min_max.MinMaxTree.previous_block_counted.
 
 pub loop-node-init : goal.loop-node-init
 loop-node-init g c =
-    let o = c.node_before-node.ensures in let at = o.2 in
+    let o = c.node_before-node.ensures in
     let most = odd_most _ _ o.1 in let few = begin_within _ _ _ true c.args.begin _ c.requires.begins.1 in
     record { comes = λ s b. comes_from s c.args.self.now.first c.args.self.now.nodes true c.args.begin _ _ b o; within = omega arith; reads = adds_none _ _ }
 
@@ -57,7 +57,7 @@ loop-node-preserved g c =
 
 pub loop-node-smaller : goal.loop-node-smaller
 loop-node-smaller g c =
-    let o = c.node_before-node-in-loop-node.ensures in let at = o.2 in
+    let o = c.node_before-node-in-loop-node.ensures in
     let most = odd_most _ _ o.1 in
     omega arith
 

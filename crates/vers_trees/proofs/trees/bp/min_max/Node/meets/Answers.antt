@@ -13,5 +13,5 @@ returns-then-min-left c =
     let test = rw (m, l) at c.if-min-left.true in
     rw (n, l) (
       λ t. record { low = omega (arith, ints, clamps); high = omega (arith, ints, clamps) },
-      λ i. let h = i.high in true_from_ne_false _ (λ f. omega (arith, ints, clamps)),
+      λ i. true_from_ne_false _ (λ f. omega (arith, ints, clamps)),
     )

@@ -9,5 +9,5 @@ joined-requires c =
 
 pub loop-i-preserved : goal.loop-i-preserved
 loop-i-preserved c =
-    let i = c.loop-i.invariant in let r = c.requires.room in let n = c.loop-i.auto.nodes in
+    let i = c.loop-i.invariant in
     (omega arith, λ bits size a. code_step bits size c.args.first c.loop-i.nodes c.loop-i.i _ _ c.loop-i-test.true i.0 (i.1 bits size a) c.node_or_empty-left.ensures c.node_or_empty-right.ensures c.joined.result (omega arith) c.joined.ensures.both c.joined.ensures.alone)

@@ -3,7 +3,7 @@ use Rattle.vers_trees.proofs.layout.Widths.{no_blocks, block_added, begins_insid
 use Rattle.vers_trees.proofs.trees.bp.min_max.build.push_blocks.Goals as goal
 
 pub loop-block-init : goal.loop-block-init
-loop-block-init g c = no_blocks c.args.bits.now c.args.size c.args.first c.args.nodes.now.items (let o = c.args.nodes.now.ok in let r = c.requires.before in omega arith)
+loop-block-init g c = no_blocks c.args.bits.now c.args.size c.args.first c.args.nodes.now.items (omega arith)
 
 pub overflow_mul-start : goal.overflow_mul-start
 overflow_mul-start g c = record { fits = omega (arith, begins_inside c.args.size c.len-len.result _ _ c.div_ceil-leaves.ensures c.requires.can.some c.loop-block-test.true) }
@@ -27,5 +27,5 @@ loop-block-preserved g c =
 
 pub returns : goal.returns
 returns g c =
-    let e : c.loop-block.block ≡ block_count c.args.size (length c.args.bits.now) = (let x = c.loop-block-test.false in let y = c.loop-block.auto.block-end in let d = c.div_ceil-leaves.ensures in let h : c.loop-block.block ≡ c.div_ceil-leaves.result = omega arith in h ∙ d) ∙ ap (block_count c.args.size) c.len-len.ensures.value in
+    let e : c.loop-block.block ≡ block_count c.args.size (length c.args.bits.now) = (let d = c.div_ceil-leaves.ensures in let h : c.loop-block.block ≡ c.div_ceil-leaves.result = omega arith in h ∙ d) ∙ ap (block_count c.args.size) c.len-len.ensures.value in
     subst (λ (n : ℕ). AreFirstBlocks c.args.bits.now c.args.size c.args.first n c.loop-block.nodes.items) e c.loop-block.invariant
