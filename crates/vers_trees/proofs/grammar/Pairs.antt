@@ -112,9 +112,7 @@ pairs_around (tree X Y) v c (inr (inl p)) =
     let d = around_none (length (text X) + 2) Y v c (inl (omega arith)) in
     grind (arith, ints, excess_in_first)
 pairs_around (tree X Y) v c (inr (inr p)) =
-    let k = paired_closes Y p.0 p.1 p.4 in
     let ih = pairs_around Y p.0 p.1 p.4 in
     let t = count_tree (λ q. strictly_contains q (v, c)) X Y in
-    let a : one_if (strictly_contains (0, length (text X) + 1) (v, c)) ≡ 0 = ap one_if (and_right (ltb 0 v) (ltb c (length (text X) + 1)) (le-ltb c (length (text X) + 1) (omega arith))) in
     let b = around_none 1 X v c (inr (omega arith)) in
     grind (arith, ints, around_moved, excess_in_rest, tree)

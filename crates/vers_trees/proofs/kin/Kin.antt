@@ -7,7 +7,7 @@ use Rattle.vers_trees.proofs.grammar.Grammar.{text-forest_of}
 use Rattle.vers_trees.proofs.grammar.Paired.{closes_rises, Closes, closes_falls}
 use Rattle.vers_trees.proofs.grammar.Pairs.{paired_from_contains, count_by-cons, count_by-append, count_by-map, count_agree, count_none, moved_lt, strictly_contains, pairs_around, contains_first, contains_later}
 use Rattle.vers_trees.proofs.kin.Partners.{nested, IsAbove, one_before, parent_is_nearest, no_parent, before_from_closes, opens_around, same_around, first_child_above, last_child_closes, last_child_above, after_from_closes}
-use Rattle.vers_trees.proofs.kin.NodeList.{HasPair, one_pair, bit_inside, paired_here, closes_to, closing_is, nodes_by, opens, inside, zero_pair, node_pair, IsFirstNode, first_in, last_node, next_in, previous_in, option_decides}
+pub use Rattle.vers_trees.proofs.kin.NodeList.{HasPair, one_pair, bit_inside, paired_here, closes_to, closing_is, nodes_by, opens, inside, zero_pair, node_pair, IsFirstNode, first_in, last_node, next_in, previous_in, option_decides}
 
 -- ---- what a test tells
 pub Decides-leb : (a b : ℕ) → Decides (leb a b) (a ≤ b)
@@ -36,7 +36,6 @@ above_is_around l b v t a h p =
     let q = p.pair in
     let i = p.before in
     let e = closes_to l b a p.close q in
-    let n = nested l a p.close v (closing (forest_of l) v) q h.closes i (omega arith) in
     grind (arith, ints, one_pair, closes_rises)
 
 pub above_parent : (l : List Bool) (b : IsBalanced l) (v p : ℕ) → HasPair l v → IsAbove l v 1 p → parent (forest_of l) v ≡ Some p
@@ -183,7 +182,7 @@ next_sibling_is l b v h =
     (λ o.
     let k = one_pair l b (c + 1) (bit_inside l (c + 1) o) o in
     (k, (same_parent l b v h k, omega arith), λ w x kw e. not_beside l b v w h kw e.1 (omega arith) e.0))
-    (λ o w k e. ⊎_elim (λ (t : c < w). last_beside l b v w h (let i = inside l w k in omega arith) o k t e.0) (λ (t : w ≤ c). not_beside l b v w h k e.1 t e.0) (cases_lt c w))))
+    (λ o w k e. ⊎_elim (λ (t : c < w). last_beside l b v w h (omega arith) o k t e.0) (λ (t : w ≤ c). not_beside l b v w h k e.1 t e.0) (cases_lt c w))))
 
 pub last_child_is : (l : List Bool) (b : IsBalanced l) (v : ℕ) → HasPair l v → closed_before l (closing (forest_of l) v) ≡ last_of (children (forest_of l) v)
 last_child_is l b v h = grind (arith, ints, same_bit, last_child_closes, last_child_is_search, closes_rises, last_child_none)
@@ -211,7 +210,7 @@ module _ (l : List Bool) (b : IsBalanced l) (v : ℕ) (n : IsNode (forest_of l) 
 pub leaf_by : (xs : List ℕ) (o : Option ℕ) (r : Bool) → is_some o ≡ not r → o ≡ first_of xs → IsTrue r ↔ (xs ≡ [])
 leaf_by [] o true e f = search rules
 leaf_by [] o false e f = cc
-leaf_by (x ∷ xs) o true e f = let g : is_some o ≡ true = ap is_some f in absurd (cc)
+leaf_by (x ∷ xs) o true e f = absurd (cc)
 leaf_by (x ∷ xs) o false e f = (λ h. absurd (cc), λ h. absurd (cc))
 
 -- ---- in the words of any tree

@@ -1,9 +1,9 @@
 -- What a node tells of the places of its part.
 use Rattle.vers_trees.proofs.Words.{◌≡◌, ℕ, zero, suc, ◌+◌, ◌-◌, ◌*◌, ◌<◌, ◌≤◌, ◌≢◌, ◌↔◌, Bool, true, false, List, length, ℤ, pos, ◌+ℤ◌, ◌-ℤ◌, ◌≤ℤ◌, arith, ⊎_elim, subst, refl, ap, ◌∙◌, ◌^◌, FitsSigned, w64, ints, clamps, by_lt_z, cases_lt, eq-or-lt_of_le, Node, excess, sum_past, IsBalanced, empty_node, IsPart, start_of, Covers, Sought, target, edge, Passed, HasPlace, HasNone, IsInRange, IsInRangeOrStart, IsLevel, IsMet, left_past}
 use Rattle.vers_trees.proofs.grammar.Excess.{IsWalk, turned, excess-zero, excess-is_walk}
-use Rattle.vers_trees.proofs.grammar.Grammar.{balance_decides, closes_from_excess, balanced_total, balanced_above}
+pub use Rattle.vers_trees.proofs.grammar.Grammar.{balance_decides, closes_from_excess, balanced_total, balanced_above}
 use Rattle.vers_trees.proofs.layout.MinMax.{starts_up, part_inside, total_of_part}
-use Rattle.vers_trees.proofs.searches.Scans.{rise_fits, joined}
+pub use Rattle.vers_trees.proofs.searches.Scans.{rise_fits, joined, rest_is}
 
 -- a walk takes each value between two of its values
 met_upward : (f : ℕ → ℤ) → IsWalk f → (t : ℤ) (a d b : ℕ) → b ≡ a + d → f a ≤ℤ t → t ≤ℤ f b → (j : ℕ) × (a ≤ j) × (j ≤ b) × (f j ≡ t)
@@ -64,8 +64,7 @@ passed_over false s i e x left c le p o =
     let u = starts_up s.bits s.size i e le in let t = total_of_part s.bits s.size i e x c le in
     record { inside = p.inside; after = omega arith; remains = omega (arith, ints); none = joined false s.bits s.from (start_of s.bits s.size (edge false i e)) (start_of s.bits s.size (edge false e i)) (target s) p.none (λ k b q. o (met_by_place false s i e x left c p (k, b.0, b.1, q))) }
 passed_over true s i e x left c le p o =
-    let u = starts_up s.bits s.size i e le in let t = total_of_part s.bits s.size i e x c le in
-    record { inside = p.inside; after = omega arith; remains = omega (arith, ints); none = joined true s.bits s.from (start_of s.bits s.size (edge true i e)) (start_of s.bits s.size (edge true e i)) (target s) p.none (λ k b q. o (met_by_place true s i e x left c p (k, b.0, b.1, q))) }
+    let u = starts_up s.bits s.size i e le in record { inside = p.inside; after = omega arith; remains = omega (arith, ints); none = joined true s.bits s.from (start_of s.bits s.size (edge true i e)) (start_of s.bits s.size (edge true e i)) (target s) p.none (λ k b q. o (met_by_place true s i e x left c p (k, b.0, b.1, q))) }
 
 -- what is left to a place that has the sum fits, and where what would be left at some place doesn't, no place has it
 pub left_fits : (back : Bool) (s : Sought) (p : ℕ) (left : ℤ) (k : ℕ) → length s.bits < 2 ^ 63 → p ≤ length s.bits → excess s.bits p +ℤ left ≡ target s → k < length s.bits → sum_past back s.bits k ≡ target s → FitsSigned w64 left

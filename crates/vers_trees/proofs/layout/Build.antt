@@ -1,7 +1,7 @@
 -- Building a tree of excesses from its leaves up to its root.
 use Rattle.vers_trees.proofs.Words.{◌≡◌, ℕ, ◌+◌, ◌-◌, ◌*◌, ◌^◌, ◌<◌, ◌≤◌, ◌↔◌, inl, inr, min, Bool, List, [], ◌∷◌, length, get_or, set, ◌≤ℤ◌, ◌<ℤ◌, arith, ⊎_elim, subst, sym, refl, ap, ◌∙◌, cases_lt, get_or_past, get_or-set_same, get_or-set_other, eq-or-lt_of_le, mul-le-mul_right, div_ceil_times, Node, combined, JoinFits, empty_node, IsPart, start_of, Covers, StandsOver, CoveredFrom, AreLeaves, AreFirstBlocks, block_count, IsLevel, IsBalanced, IsIndexed}
 use Rattle.vers_trees.proofs.layout.MinMax.{HasChildren, stands_children, stands_every, leaf_stands, root, part_inside, covers_joined, children_fit}
-use Rattle.vers_trees.proofs.layout.Blocks.{balanced_iff_root}
+pub use Rattle.vers_trees.proofs.layout.Blocks.{balanced_iff_root, balance_decides}
 
 -- where the blocks' nodes stand from `first` on, the leaves cover the blocks
 pub leaves_covered : (l : List Bool) (size first : ℕ) (nodes : List Node) → 0 < size → length l < 2 ^ 63 → AreFirstBlocks l size first (block_count size (length l)) nodes → AreLeaves l size first nodes

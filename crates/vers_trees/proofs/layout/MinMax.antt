@@ -53,12 +53,10 @@ stands_children first i s e p h = go p.height refl
     go : (k : ℕ) → p.height ≡ k → HasChildren first i s e
     go zero z = grind arith
     go (suc k) z =
-        let lv = p.levels in let fr = p.from in let up = p.upto in
         let pw : 2 ^ p.height ≡ 2 * 2 ^ k = ap (λ (n : ℕ). 2 ^ n) z ∙ pow-succ' 2 k in
         let pl2 = pow_next p.level in
-        let lv' : 2 ^ (p.level + 1 + k) ≡ first + 1 = ap (λ (n : ℕ). 2 ^ n) (let g : p.level + 1 + k ≡ p.level + p.height = omega arith in g) ∙ lv in
-        let fr' : s ≡ p.offset * (2 * 2 ^ k) = fr ∙ ap (λ (n : ℕ). p.offset * n) pw in
-        let up' : e ≡ p.offset * (2 * 2 ^ k) + 2 * 2 ^ k = up ∙ ap (λ (n : ℕ). p.offset * n + n) pw in
+        let lv' : 2 ^ (p.level + 1 + k) ≡ first + 1 = ap (λ (n : ℕ). 2 ^ n) (let g : p.level + 1 + k ≡ p.level + p.height = omega arith in g) ∙ p.levels in
+        let fr' : s ≡ p.offset * (2 * 2 ^ k) = p.from ∙ ap (λ (n : ℕ). p.offset * n) pw in
         record {
           middle = 2 * p.offset * 2 ^ k + 2 ^ k;
           after = omega arith;

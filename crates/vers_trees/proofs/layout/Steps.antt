@@ -23,7 +23,6 @@ odd_most n odd p = let a = le-mul_of_pos_right odd (pow_pos p.zeros) in omega ar
 pub digits_after : (node odd : ℕ) → 0 < node → node % 2 ≡ 0 → IsOddPart ((node - 1) / 2 + 2) odd → digits odd + 1 ≤ digits (node + 1)
 digits_after node odd some even p =
     let most = odd_most _ _ p in
-    let half = digits_half (node + 1) (omega arith) in
     grind (arith, digits_up, digits_half)
 
 -- the node before the parent of a left child is a level up at least

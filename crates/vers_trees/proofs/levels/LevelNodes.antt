@@ -4,7 +4,7 @@ use Rattle.vers_trees.proofs.searches.Searches.{by_answer, after_some, after_non
 use Rattle.vers_trees.proofs.grammar.Excess.{below_until, below_since, excess-zero, excess-is_walk, excess_after_open, excess_after_close, open_from_rise, close_from_fall}
 use Rattle.vers_trees.proofs.grammar.Grammar.{balanced_total, balanced_above}
 use Rattle.vers_trees.proofs.kin.Partners.{before_from_closes}
-use Rattle.vers_trees.proofs.kin.NodeList.{HasPair, one_pair, zero_pair, opens, inside, IsFirstNode, IsLastNode, first_node, first_in, last_node, next_in, previous_in}
+pub use Rattle.vers_trees.proofs.kin.NodeList.{HasPair, one_pair, zero_pair, opens, inside, IsFirstNode, IsLastNode, first_node, first_in, last_node, next_in, previous_in, node_pair}
 use Rattle.vers_trees.proofs.kin.Kin.{ancestor_decides, above_from_before, above_is_around, depth_is_excess}
 
 -- ---- places where the excess is x, below which it stands at a place before or after

@@ -29,7 +29,6 @@ octal-digit (d ∷ ds) zero h i = let z = h 0 in omega arith
 octal-digit (d ∷ ds) (suc x) h i =
     let z = h 0 in
     let ih = octal-digit ds x (λ y. h (suc y)) (omega arith) in
-    let e : 3 * suc x ≡ 3 + 3 * x = omega arith in
     let s = shr-shr (octal (d ∷ ds)) 3 (3 * x) in
     grind arith
 

@@ -1,7 +1,7 @@
 -- A search: the scan of the block that it begins in, what the tree answers, and the scan of that block.
 use Rattle.vers_trees.proofs.Words.{◌≡◌, ℕ, ◌+◌, ◌-◌, ◌*◌, ◌/◌, ◌<◌, ◌≤◌, Bool, true, false, List, length, ℤ, ◌-ℤ◌, FitsSigned, to_z, of_z, Option, None, Some, Result, Ok, Err, MatchResult, arith, ⊎_elim, refl, sym, ap, ◌∙◌, w64, result_ok, ints, to_z-of_z, Node, first_rise_after, last_rise_before, edge, IsBetween, up_to, IsRise, HasNoRise, start_of, Sought, sought, IsAfter, Passed, HasNone, IsAhead, BeginsAt, IsPassed, Reads, AddsAtMost, only_nodes, digits, past_reads, block_reads, levels, adds_then, adds_weaker}
-use Rattle.vers_trees.proofs.searches.Searches.{after_is, none_after, before_is, none_before}
-use Rattle.vers_trees.proofs.searches.Scans.{rise_fits, split}
+pub use Rattle.vers_trees.proofs.searches.Searches.{after_is, none_after, before_is, none_before, before_past}
+pub use Rattle.vers_trees.proofs.searches.Scans.{rise_fits, split, rise_is}
 use Rattle.vers_trees.proofs.layout.Blocks.{left_fits, too_far}
 
 -- a number as the machine has it
@@ -86,14 +86,14 @@ module _ (back : Bool) (s : Sought) (first : ℕ) (nodes : List Node) (block : �
 
       pub next_answer : (x y : ℕ) (r : Result ℕ ℤ) → x ≡ start_of s.bits s.size (edge back j (j + 1)) → y ≡ start_of s.bits s.size (edge back (j + 1) j) → MatchResult r (λ place. IsRise back s.bits x y (stored rest) place) (λ past. HasNoRise back s.bits x y (stored rest) past) → result_ok r ≡ o
       next_answer x y (Ok place) e g q =
-          let t = rw (e, g) at q in let su = t.sum in let re = ahead.passed.remains in let wh = whole in
+          let t = rw (e, g) at q in let re = ahead.passed.remains in let wh = whole in
           a.some place (record {
             between = in_list back s j place p.inside ahead.passed.after t.between;
             sum = omega (arith, ints);
             first = λ k b z. ⊎_elim (λ w. ahead.passed.none k w z) (λ w. t.first k w (omega (arith, ints))) (split back s.from (start_of s.bits s.size (edge back j (j + 1))) (up_to back place) k b);
           })
       next_answer x y (Err past) e g q =
-          let t = rw (e, g) at q in let re = ahead.passed.remains in let wh = whole in let k = ahead.place in let k3 = k.3 in
+          let t = rw (e, g) at q in let re = ahead.passed.remains in let wh = whole in let k = ahead.place in
           absurd (t.none k.0 (in_block back s j k.0 k.1 k.2) (omega (arith, ints)))
 
 -- what it reads then: the tree's nodes, and the bits of a block
@@ -102,7 +102,7 @@ module _ (back : Bool) (s : Sought) (first : ℕ) (nodes : List Node) (block : �
   few = (p.indexed.over (omega arith)).few
 
   pub climbed : AddsAtMost a b (past_reads s.size (length s.bits))
-  climbed = adds_weaker h (let f = few in grind arith)
+  climbed = adds_weaker h (grind arith)
 
   pub climbed_and_scanned : (c : Reads) (n : ℕ) → n ≤ s.size → AddsAtMost b c (block_reads n) → AddsAtMost a c (past_reads s.size (length s.bits))
-  climbed_and_scanned c n e q = adds_then h q (let f = few in grind arith)
+  climbed_and_scanned c n e q = adds_then h q (grind arith)

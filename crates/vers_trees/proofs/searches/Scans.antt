@@ -80,7 +80,7 @@ pub backward_bit : (l : List Bool) (from p q end : ℕ) (r rise d : ℤ) (b : Bo
 backward_bit l from p q end r rise d b h short o i j n e g =
     let t = to_z-of_z w64 d (step_fits b d g) in let s = bit_is l p q b d n (omega arith) e g in (
       rw t (rise_fits l end p (rise -ℤ d) short j (omega arith) (omega (arith, ints))),
-      λ z. let y = rw t at z in found true l end q p from r rise (pos 0 -ℤ d) h (o, omega arith) (λ k u. absurd (omega arith)) (omega (arith, ints)) (omega (arith, ints)),
+      λ z. found true l end q p from r rise (pos 0 -ℤ d) h (o, omega arith) (λ k u. absurd (omega arith)) (omega (arith, ints)) (omega (arith, ints)),
       λ ne. (backward_more l p q end r rise d h short (omega arith) i j s (λ k x z. let same : excess l k ≡ excess l p = ap (excess l) (omega arith) in ne (rw t (omega (arith, ints))))).1,
     )
 

@@ -1,8 +1,8 @@
 -- Whole words of a scan: how far a sum falls along one at most, by its zeros that no one stands right before, and by its ones that no zero stands right after.
 use Rattle.vers_trees.proofs.Words.{◌≡◌, ℕ, zero, suc, ◌+◌, ◌-◌, ◌*◌, ◌/◌, ◌%◌, ◌^◌, ◌<◌, ◌≤◌, Bool, true, false, ◌&&◌, List, [], ◌∷◌, length, take, ℤ, pos, negsuc, ◌+ℤ◌, ◌-ℤ◌, ◌≤ℤ◌, ◌<ℤ◌, Option, Some, arith, ap, refl, FitsSigned, to_z, of_z, ◌∙◌, w64, pow-suc, ones-le, part_number_or_zero, bit_or, bit_and, count_ones, IsTrue, lt_z, ints, to_z-of_z, to_z_pos, or_block, and_block, or_lt, number, part, bit_value, number-take, excess, Reads, AddsAtMost, adds_then, get_bits_reads, HasNoRise, falls, is_not_closed, rises, scan_reads, ones_step, ones-ones, bit_value_le}
-use Rattle.vers_trees.proofs.searches.Scans.{fits_small, forward_more, backward_more}
+pub use Rattle.vers_trees.proofs.searches.Scans.{fits_small, forward_more, backward_more, rise_within}
 use Rattle.vers_trees.proofs.grammar.Excess.{excess-zero, excess-nil, excess-cons}
-use Rattle.vers_trees.proofs.searches.ByteScans.{length-part, excess-part, total_of, whole_word}
+pub use Rattle.vers_trees.proofs.searches.ByteScans.{length-part, excess-part, total_of, whole_word, read_some, byte_read, entry_ordered, forward_byte_found, forward_byte, backward_byte_found, backward_byte}
 
 -- ---- the number of a list and its first bit
 number_next : (b : Bool) (l : List Bool) → number (b ∷ l) ≡ number l * 2 ^ 1 + bit_value b
@@ -12,7 +12,7 @@ bit_small : (b : Bool) → bit_value b < 2 ^ 1
 bit_small b = let h = bit_value_le b in omega arith
 
 ones_next : (n : ℕ) (b : Bool) → count_ones (n * 2 ^ 1 + bit_value b) ≡ bit_value b + count_ones n
-ones_next n b = let s = ones_step (n * 2 ^ 1 + bit_value b) in let m = bit_small b in grind arith
+ones_next n b = let s = ones_step (n * 2 ^ 1 + bit_value b) in grind arith
 
 -- ---- forwards: the zeros that no one stands right before
 abbrev before : Bool → List Bool → List Bool

@@ -4,7 +4,7 @@ use Rattle.vers_trees.proofs.grammar.Grammar.{text-forest_of}
 use Rattle.vers_trees.proofs.grammar.Paired.{Paired}
 use Rattle.vers_trees.proofs.kin.Partners.{before_from_closes, nested}
 use Rattle.vers_trees.proofs.searches.Searches.{before_is}
-use Rattle.vers_trees.proofs.kin.NodeList.{HasPair, nodes_by, node_pair, zero_pair, closing_is}
+pub use Rattle.vers_trees.proofs.kin.NodeList.{HasPair, nodes_by, node_pair, zero_pair, closing_is}
 use Rattle.vers_trees.proofs.kin.Kin.{Decides-leb, ancestor_decides, below_counted, filter_agree}
 use Rattle.vers_trees.proofs.grammar.Pairs.{one_if, count_by-cons}
 use Rattle.vers_trees.proofs.walks.Lists.{filter_mapped, HasBitAt, all_places, closing_is_zeros, closing_paired, mapped_all, postorder_opens}

@@ -1,6 +1,5 @@
 use Rattle.vers_trees.proofs.Words.{◌≡◌, ◌+◌, true, Bool, List, length, arith, sym, ap, subst, IsWalkOfSiblings}
-use Rattle.vers_trees.proofs.kin.Kin.{closes_inside}
-use Rattle.vers_trees.proofs.walks.WalksOfNodes.{forwards}
+use Rattle.vers_trees.proofs.walks.WalksOfNodes.{forwards, closes_inside}
 use Rattle.vers_trees.proofs.trees.bp.BpTree.children.Goals as goal
 
 pub overflow_add-node : goal.overflow_add-node

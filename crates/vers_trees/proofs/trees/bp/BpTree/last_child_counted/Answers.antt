@@ -1,6 +1,5 @@
 use Rattle.vers_trees.proofs.Words.{◌-◌, arith, sym, ◌∙◌}
-use Rattle.vers_trees.proofs.kin.NodeList.{node_pair}
-use Rattle.vers_trees.proofs.kin.Kin.{last_child_none, last_child_is_search}
+use Rattle.vers_trees.proofs.kin.Kin.{last_child_none, last_child_is_search, node_pair}
 use Rattle.vers_trees.proofs.trees.bp.BpTree.last_child_counted.Goals as goal
 
 pub returns-then-last-node-clause-value : goal.returns-then-last-node-clause-value

@@ -1,6 +1,5 @@
 use Rattle.vers_trees.proofs.Words.{◌∙◌}
-use Rattle.vers_trees.proofs.kin.NodeList.{node_pair}
-use Rattle.vers_trees.proofs.levels.LevelNodes.{level_next_is_search}
+use Rattle.vers_trees.proofs.levels.LevelNodes.{level_next_is_search, node_pair}
 use Rattle.vers_trees.proofs.trees.bp.BpTree.level_next_counted.Goals as goal
 
 pub returns-clause-value : goal.returns-clause-value

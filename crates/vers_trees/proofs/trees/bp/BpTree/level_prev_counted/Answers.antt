@@ -1,6 +1,5 @@
 use Rattle.vers_trees.proofs.Words.{sym, ◌∙◌}
-use Rattle.vers_trees.proofs.kin.NodeList.{node_pair}
-use Rattle.vers_trees.proofs.levels.LevelNodes.{no_level_prev_found, level_prev_is_search}
+use Rattle.vers_trees.proofs.levels.LevelNodes.{no_level_prev_found, level_prev_is_search, node_pair}
 use Rattle.vers_trees.proofs.trees.bp.BpTree.level_prev_counted.Goals as goal
 
 pub returns-in_err-close-clause-value : goal.returns-in_err-close-clause-value

@@ -1,6 +1,5 @@
 use Rattle.vers_trees.proofs.Words.{ap, Some, arith}
-use Rattle.vers_trees.proofs.kin.NodeList.{node_pair}
-use Rattle.vers_trees.proofs.walks.ListsOfNodes.{subtree_size_is}
+use Rattle.vers_trees.proofs.walks.ListsOfNodes.{subtree_size_is, node_pair}
 use Rattle.vers_trees.proofs.trees.bp.BpTree.subtree_size_counted.Goals as goal
 
 pub returns-clause-value : goal.returns-clause-value

@@ -8,5 +8,4 @@ returns c = λ t bits long is.
     let r = rises_counted bits c.args.word long is in
     let f = rises_few bits in
     let z = count_is n (omega arith) in
-    let k = less_is c.args.target c.args.rise (to_z w64 n) c.ranges.target c.ranges.rise c.requires (omega (arith, ints)) (omega (arith, ints)) t in
     omega (arith, ints)

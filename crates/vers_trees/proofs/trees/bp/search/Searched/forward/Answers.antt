@@ -1,7 +1,5 @@
 use Rattle.vers_trees.proofs.Words.{rules, ◌≡◌, ℕ, ◌+◌, ◌/◌, false, arith, w64, ap, sym, to_z-of_z, start_of}
-use Rattle.vers_trees.proofs.searches.Finds.{answer_after, answer_here}
-use Rattle.vers_trees.proofs.searches.Scans.{rise_is}
-use Rattle.vers_trees.proofs.searches.Searches.{none_after}
+use Rattle.vers_trees.proofs.searches.Finds.{answer_after, answer_here, none_after, rise_is}
 use Rattle.vers_trees.proofs.trees.bp.search.Searched.forward.Goals as goal
 
 pub returns-then-i-len-clause-value : goal.returns-then-i-len-clause-value
