@@ -28,10 +28,6 @@ pub node_iff_one : (bits : List Bool) (v : ℕ) → IsBalanced bits → IsNode (
 node_iff_one bits v b =
     let n = node_iff_bit bits v b in grind (arith, slice_get-get_or, bit_inside, get_or_from_slice_get)
 
--- the same, by what `get` answers
-pub node_iff_got : (bits : List Bool) (v : ℕ) → IsBalanced bits → IsNode (forest_of bits) v ↔ (option_map bit_value (slice_get bits v) ≡ Some 1)
-node_iff_got bits v b = grind (arith, node_iff_one, same_Some)
-
 -- ---- pairs
 
 -- what a list has at a place

@@ -41,8 +41,7 @@ joined-none (tree X Y) = ap (tree X) (joined-none Y)
 
 parse-text : (F : Forest) (l : List Bool) → parse (text F ++ l) ≡ (joined F (parse l).0, (parse l).1)
 parse-text none l = refl
-parse-text (tree X Y) l =
-    grind (arith, append_assoc, joined-none, parse-text Y l, parse-text X (false ∷ (text Y ++ l)))
+parse-text (tree X Y) l = grind (arith, append_assoc, joined-none, parse-text Y l, parse-text X (false ∷ (text Y ++ l)))
 
 -- a forest is read back from its text, so no list is the text of two
 pub forest_of-text : (F : Forest) → forest_of (text F) ≡ F

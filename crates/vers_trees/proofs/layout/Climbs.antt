@@ -94,19 +94,14 @@ module _ (s : Sought) (first : ℕ) (nodes : List Node) where
 
   -- from a block on
   pub begin_within : (back : Bool) (begin : ℕ) (left : ℤ) → BeginsAt back s first nodes begin left → begin ≤ first
-  begin_within back begin left b =
-      ⊎_elim
-      (λ (w : first < begin). let u : (first + 1) * s.size ≤ begin * s.size = mul-le-mul_right s.size (omega arith) in absurd (omega arith))
-      (λ (w : begin ≤ first). w)
-      (cases_lt first begin)
+  begin_within back begin left b = grind (arith, ints, mul-le-mul_right)
 
   pub comes_from : (back : Bool) (begin : ℕ) (left : ℤ) (next : ℕ) → BeginsAt back s first nodes begin left → IsBeside back (first + begin) next → ComesTo back s first nodes next left
   comes_from back begin left next b o = comes_to back (first + begin) left next b.tree (record { start = begin; stop = begin + 1; stands = stands_leaf first b.tree.height begin b.tree.levels (begin_within back begin left b); passed = b.passed }) o
 
   -- past the last block there is nothing left to pass
   pub ends_after : (begin : ℕ) (left : ℤ) → BeginsAt false s first nodes begin left → first ≤ begin → HasNone false s
-  ends_after begin left b h k x y =
-      let u : (first + 1) * s.size ≤ (begin + 1) * s.size = mul-le-mul_right s.size (omega arith) in b.passed.none k (x, omega arith)
+  ends_after begin left b h k x y = grind (arith, mul-le-mul_right)
 
   -- ---- beside the passed part
   far_of : (back : Bool) (place : ℕ) (left : ℤ) (x : Node) → ComesTo back s first nodes place left → 0 < place → x ≡ get_or nodes place empty_node → Far back s first place left x

@@ -15,15 +15,7 @@ total_of_part l size i e x c h = grind (arith, starts_up)
 
 -- the node over both of two neighbouring parts, of which the second may be empty
 pub covers_joined : (l : List Bool) (size i m e : ℕ) (x y r : Node) → i ≤ m → m ≤ e → Covers l size i m x → Covers l size m e y → (y.least ≤ℤ y.greatest → r ≡ combined x y) → (y.greatest <ℤ y.least → r ≡ x) → Covers l size i e r
-covers_joined l size i m e x y r im me c d both alone =
-    let a = starts_up l size i m im in let b = starts_up l size m e me in ⊎_elim
-    (λ (q : IsPart l (start_of l size m) (start_of l size e) y).
-    let lo = q.low q.greatest.0 q.greatest.1 q.greatest.2 in
-    record { part = inl (rw (both (omega (arith, ints))) (part_joined l (start_of l size i) (start_of l size m) (start_of l size e) x y (part_inside l size i m x c (omega arith)) q)) })
-    (λ (q : (length l ≤ m * size) × (y ≡ empty_node)).
-    let same : start_of l size m ≡ start_of l size e = omega arith in
-    rw (alone (rw q.1 (omega (arith, ints)))) (record { part = subst (λ (n : ℕ). IsPart l (start_of l size i) n x ⊎ ((length l ≤ i * size) × (x ≡ empty_node))) same c.part }))
-    d.part
+covers_joined l size i m e x y r im me c d both alone = grind (arith, ints, starts_up, part_joined, part_inside)
 
 -- the sums of a node's two parts fit
 pub children_fit : (l : List Bool) (size i m e : ℕ) (x y : Node) → length l < 2 ^ 63 → i ≤ m → Covers l size i m x → Covers l size m e y → JoinFits x y
@@ -67,7 +59,7 @@ stands_children first i s e p h = go p.height refl
 
 -- the root's part is all
 pub root : (first h : ℕ) → 2 ^ h ≡ first + 1 → StandsOver first 0 0 (first + 1)
-root first h lv = record { level = 0; height = h; offset = 0; levels = ap (λ (n : ℕ). 2 ^ n) (let g : 0 + h ≡ h = omega arith in g) ∙ lv; inside = omega arith; place = omega arith; from = omega arith; upto = omega arith }
+root first h lv = grind (arith, ints)
 
 -- every node above the leaves stands over some part
 pub stands_every : (first h : ℕ) → 2 ^ h ≡ first + 1 → (fuel i : ℕ) → i ≤ fuel → i ≤ 2 * first → (s : ℕ) × (e : ℕ) × StandsOver first i s e

@@ -21,11 +21,7 @@ grown leaves w h g enough =
 
 -- ---- how many nodes there are
 width_is : (leaves w : ℕ) → IsWidth leaves w → w - 1 ≡ max 1 (2 ^ clog leaves - 1)
-width_is leaves w h =
-    ⊎_elim
-    (λ (x : 0 < clog leaves). let e : 2 ^ max 1 (clog leaves) ≡ 2 ^ clog leaves = ap (λ (k : ℕ). 2 ^ k) (omega arith) in omega arith)
-    (λ (x : clog leaves ≤ 0). let e : 2 ^ max 1 (clog leaves) ≡ 2 = ap (λ (k : ℕ). 2 ^ k) (let k : max 1 (clog leaves) ≡ 1 = omega arith in k) in let z : 2 ^ clog leaves ≡ 1 = ap (λ (k : ℕ). 2 ^ k) (let k : clog leaves ≡ 0 = omega arith in k) in omega arith)
-    (cases_lt 0 (clog leaves))
+width_is leaves w h = grind arith
 
 pub some_counted : (size n : ℕ) → 0 < n → (node_count size n ≡ block_count size n + max 1 (2 ^ clog (block_count size n) - 1)) × (levels size n ≡ max 1 (clog (block_count size n)) + 1)
 unfolding node_count levels
@@ -59,8 +55,7 @@ block_added l size first n nodes x b p =
 
 -- where block k begins
 pub begins_inside : (size n k leaves : ℕ) → leaves ≡ block_count size n → 0 < size → k < leaves → k * size < n
-begins_inside size n k leaves e so h =
-    let d = (div_ceil_times n size so).1 in let u : (k + 1) * size ≤ leaves * size = mul-le-mul_right size (omega arith) in let w = ap (λ (m : ℕ). m * size) e in omega arith
+begins_inside size n k leaves e so h = grind (arith, div_ceil_times, mul-le-mul_right)
 
 pub one_at_least : (n size : ℕ) → 0 < size → 0 < n → 0 < block_count size n
 one_at_least n size so h = grind (arith, div_ceil_times)

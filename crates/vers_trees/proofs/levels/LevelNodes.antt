@@ -1,5 +1,5 @@
 -- The nodes of one depth: which of them the searches find.
-use Rattle.vers_trees.proofs.Words.{◌≡◌, ℕ, ◌+◌, ◌-◌, ◌<◌, ◌≤◌, ◌≢◌, ◌↔◌, Bool, true, false, ◌&&◌, List, length, get_or, eqb, ℤ, pos, negsuc, neg_ℤ, ◌+ℤ◌, ◌<ℤ◌, Some, None, arith, ⊎_elim, sym, ap, ◌∙◌, Decides, ints, cases_lt, Decides-eqb, Decides-and, eq-or-lt_of_le, count_le, excess, first_rise_after, last_rise_before, Forest, IsBalanced, forest_of, true_from_ne_false, false_from_ne_true, closing, is_ancestor, depth, level, level_ancestor, first_of, last_of, next_of, previous_of}
+use Rattle.vers_trees.proofs.Words.{◌≡◌, ℕ, ◌+◌, ◌-◌, ◌<◌, ◌≤◌, ◌≢◌, ◌↔◌, Bool, true, false, ◌&&◌, List, length, get_or, eqb, ℤ, pos, negsuc, neg_ℤ, ◌+ℤ◌, ◌<ℤ◌, Option, Some, None, arith, ⊎_elim, sym, ap, ◌∙◌, Decides, ints, cases_lt, Decides-eqb, Decides-and, eq-or-lt_of_le, count_le, excess, first_rise_after, last_rise_before, Forest, IsBalanced, forest_of, true_from_ne_false, false_from_ne_true, closing, is_ancestor, depth, level, level_ancestor, first_of, last_of, next_of, previous_of}
 use Rattle.vers_trees.proofs.searches.Searches.{by_answer, after_some, after_none, before_some, before_is, before_none}
 use Rattle.vers_trees.proofs.grammar.Excess.{below_until, below_since, excess-zero, excess-is_walk, excess_after_open, excess_after_close, open_from_rise, close_from_fall}
 use Rattle.vers_trees.proofs.grammar.Grammar.{balanced_total, balanced_above}
@@ -34,15 +34,18 @@ module _ (l : List Bool) (b : IsBalanced l) (c : ℕ) (r : ℤ) (some : pos 0 <�
       let k = one_pair l b u q.inside (opens_at l c u (excess l (c + 1) +ℤ r) (omega (arith, ints)) q.after q.inside q.sum q.first) in
       (k, (is u k).1 (q.after, q.sum), λ w x kw p. let m = (is w kw).0 p in q.first w m.0 x m.1))
 
+-- what opens for a place, if there is one
+abbrev pub opens_for : List Bool → Option ℕ → Option ℕ
+opens_for l None = None
+opens_for l (Some c) = last_rise_before l c (negsuc 0)
+
 -- ---- the last node that opens before v where the excess, with the node's own one, is r above that before v
 module _ (l : List Bool) (b : IsBalanced l) (v : ℕ) (r : ℤ) (some : pos 0 <ℤ r) (P : ℕ → Type 0) (is : (w : ℕ) → HasPair l w → P w ↔ ((w < v) × (excess l w +ℤ pos 1 ≡ excess l v +ℤ r))) where
-  none_before_it : v < length l → last_rise_before l v r ≡ None → IsLastNode l P None
-  none_before_it i e w k p =
-      let q = (is w k).0 p in not_between l 0 v w (excess l v +ℤ r) (λ k y z. before_none l v r i e k z) (omega (arith, ints)) (omega arith) q.0 (omega arith) (opens l w k) q.1
-
   -- it is the tree that closes where the excess is that
-  opened_before : (c : ℕ) → last_rise_before l v r ≡ Some c → IsLastNode l P (last_rise_before l c (negsuc 0))
-  opened_before c e =
+  opened_before : v < length l → (o : Option ℕ) → last_rise_before l v r ≡ o → IsLastNode l P (opens_for l o)
+  opened_before i None e = λ w k p.
+      let q = (is w k).0 p in not_between l 0 v w (excess l v +ℤ r) (λ k y z. before_none l v r i e k z) (omega (arith, ints)) (omega arith) q.0 (omega arith) (opens l w k) q.1
+  opened_before i (Some c) e =
       let q = before_some l v r c e in let qb = q.before in let qi = q.inside in let s = q.sum in
       let f = closes_at l c v (excess l v +ℤ r) (omega (arith, ints)) qb qi s q.last in
       let p = zero_pair l b c (omega arith) f in let m = p.3 in
@@ -99,21 +102,15 @@ later_on_level l b v h w k =
     )
 
 earlier_on_level : (l : List Bool) (b : IsBalanced l) (v : ℕ) → HasPair l v → (w : ℕ) → HasPair l w → ((depth (forest_of l) w ≡ depth (forest_of l) v) × (w < v)) ↔ ((w < v) × (excess l w +ℤ pos 1 ≡ excess l v +ℤ pos 1))
-earlier_on_level l b v h w k =
-    let dw = depth_is_excess l b w k in let dv = depth_is_excess l b v h in
-    (λ e. (e.1, omega (arith, ints)), λ e. (omega (arith, ints), e.0))
+earlier_on_level l b v h w k = grind (arith, ints, depth_is_excess)
 
 pub level_next_is_search : (l : List Bool) (b : IsBalanced l) (v : ℕ) → HasPair l v → first_rise_after l (closing (forest_of l) v) (pos 1) ≡ next_of (level (forest_of l) (depth (forest_of l) v)) v
 unfolding level
 level_next_is_search l b v h = sym (next_in l b _ _ (λ w. Decides-eqb (depth (forest_of l) w) (depth (forest_of l) v)) v _ (opened_after l b (closing (forest_of l) v) (pos 1) (omega (arith, ints)) _ (later_on_level l b v h)))
 
-pub no_level_prev_found : (l : List Bool) (b : IsBalanced l) (v : ℕ) → HasPair l v → last_rise_before l v (pos 1) ≡ None → previous_of (level (forest_of l) (depth (forest_of l) v)) v ≡ None
+pub level_prev_is_search : (l : List Bool) (b : IsBalanced l) (v : ℕ) (o : Option ℕ) → HasPair l v → last_rise_before l v (pos 1) ≡ o → opens_for l o ≡ previous_of (level (forest_of l) (depth (forest_of l) v)) v
 unfolding level
-no_level_prev_found l b v h e = previous_in l b _ _ (λ w. Decides-eqb (depth (forest_of l) w) (depth (forest_of l) v)) v None (none_before_it l b v (pos 1) (omega (arith, ints)) _ (earlier_on_level l b v h) (inside l v h) e)
-
-pub level_prev_is_search : (l : List Bool) (b : IsBalanced l) (v c : ℕ) → HasPair l v → last_rise_before l v (pos 1) ≡ Some c → last_rise_before l c (negsuc 0) ≡ previous_of (level (forest_of l) (depth (forest_of l) v)) v
-unfolding level
-level_prev_is_search l b v c h e = sym (previous_in l b _ _ (λ w. Decides-eqb (depth (forest_of l) w) (depth (forest_of l) v)) v _ (opened_before l b v (pos 1) (omega (arith, ints)) _ (earlier_on_level l b v h) c e))
+level_prev_is_search l b v o h e = sym (previous_in l b _ _ (λ w. Decides-eqb (depth (forest_of l) w) (depth (forest_of l) v)) v _ (opened_before l b v (pos 1) (omega (arith, ints)) _ (earlier_on_level l b v h) (inside l v h) o e))
 
 -- ---- the ends of a level
 -- a forest with a node opens at 0 and closes at its end
@@ -168,10 +165,6 @@ before_end l b n t e w k =
     let d = depth_is_excess l b w k in
     (λ g. (omega arith, omega (arith, ints)), λ g. omega (arith, ints))
 
-pub no_level_rightmost : (l : List Bool) (b : IsBalanced l) (n t : ℕ) → length l ≡ n + 1 → 0 < t → last_rise_before l n (pos t) ≡ None → last_of (level (forest_of l) t) ≡ None
+pub level_rightmost_is_search : (l : List Bool) (b : IsBalanced l) (n t : ℕ) (o : Option ℕ) → length l ≡ n + 1 → 0 < t → last_rise_before l n (pos t) ≡ o → opens_for l o ≡ last_of (level (forest_of l) t)
 unfolding level
-no_level_rightmost l b n t e some missing = last_node l b _ _ (λ w. Decides-eqb (depth (forest_of l) w) t) None (none_before_it l b n (pos t) (omega (arith, ints)) _ (before_end l b n t e) (omega arith) missing)
-
-pub level_rightmost_is_search : (l : List Bool) (b : IsBalanced l) (n t j : ℕ) → length l ≡ n + 1 → 0 < t → last_rise_before l n (pos t) ≡ Some j → last_rise_before l j (negsuc 0) ≡ last_of (level (forest_of l) t)
-unfolding level
-level_rightmost_is_search l b n t j e some found = sym (last_node l b _ _ (λ w. Decides-eqb (depth (forest_of l) w) t) _ (opened_before l b n (pos t) (omega (arith, ints)) _ (before_end l b n t e) j found))
+level_rightmost_is_search l b n t o e some found = sym (last_node l b _ _ (λ w. Decides-eqb (depth (forest_of l) w) t) _ (opened_before l b n (pos t) (omega (arith, ints)) _ (before_end l b n t e) (omega arith) o found))

@@ -18,9 +18,7 @@ range_ascends a (suc n) = (omega arith, range_ascends (a + 1) n)
 
 pub filter_ascends : (p : ℕ → Bool) (n : ℕ) (xs : List ℕ) → AscendsFrom n xs → AscendsFrom n (filter p xs)
 filter_ascends p n [] a = tt
-filter_ascends p n (x ∷ xs) a =
-    let r = filter_ascends p (x + 1) xs a.1 in
-    cond_both (p x) (x ∷ filter p xs) (filter p xs) (AscendsFrom n) (λ e. (a.0, r)) (λ e. ascends_lower n (x + 1) (filter p xs) (omega arith) r)
+filter_ascends p n (x ∷ xs) a = grind (arith, ascends_lower, filter_ascends p (x + 1) xs a.1)
 
 -- they rise by one at least from each to the next
 member_from : (n i : ℕ) (xs : List ℕ) → AscendsFrom n xs → i < length xs → n + i ≤ get_or xs i 0

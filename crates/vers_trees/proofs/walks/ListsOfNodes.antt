@@ -35,8 +35,7 @@ past_part v c n (x ∷ xs) a h = rw (outside v c x (inr (omega arith))) (past_pa
 
 first_part : (v c n : ℕ) (xs : List ℕ) → AscendsFrom n xs → v ≤ n → filter (between v c) xs ≡ take (length (filter (between v c) xs)) xs
 first_part v c n [] a h = refl
-first_part v c n (x ∷ xs) a h =
-    grind (arith, past_part, between_decides, first_part v c (x + 1) xs a.1 (omega arith))
+first_part v c n (x ∷ xs) a h = grind (arith, past_part, between_decides, first_part v c (x + 1) xs a.1 (omega arith))
 
 none_below : (v n : ℕ) (xs : List ℕ) → AscendsFrom n xs → v ≤ n → count_by (λ w. ltb w v) xs ≡ 0
 none_below v n [] a h = refl

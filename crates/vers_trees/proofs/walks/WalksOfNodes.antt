@@ -12,8 +12,7 @@ pub walk_is : (step : ℕ → Option (ℕ × ℕ)) (n p : ℕ) (vs : List ℕ) �
 walk_is step zero p [] h g = refl
 walk_is step (suc n) p [] h g = ap (λ (o : Option (ℕ × ℕ)). met o (walked step n)) h
 walk_is step zero p (v ∷ vs) h g = absurd (omega arith)
-walk_is step (suc n) p (v ∷ vs) h g =
-    ap (λ (o : Option (ℕ × ℕ)). met o (walked step n)) h.1 ∙ ap (λ (xs : List ℕ). v ∷ xs) (walk_is step n h.0 vs h.2 (omega arith))
+walk_is step (suc n) p (v ∷ vs) h g = grind (arith, walk_is step n h.0 vs h.2 (omega arith))
 
 -- a walk meets no more than its steps
 pub walk_short : (step : ℕ → Option (ℕ × ℕ)) (n p : ℕ) → length (walked step n p) ≤ n
@@ -123,8 +122,7 @@ pub subtree_part : (l : List Bool) (v : ℕ) → IsBalanced l → IsNode (forest
 subtree_part l v b n = grind (arith, subtree_is, node_pair, as_part)
 
 pub subtree_post_part : (l : List Bool) (v : ℕ) → IsBalanced l → IsNode (forest_of l) v → map (opening_of l) (take (length (subtree (forest_of l) v)) (drop (count false l v) (places false l))) ≡ subtree_post (forest_of l) v
-subtree_post_part l v b n =
-    grind (arith, node_pair, places_in, part_size, subtree_size_is, as_part, subtree_post_is)
+subtree_post_part l v b n = grind (arith, node_pair, places_in, part_size, subtree_size_is, as_part, subtree_post_is)
 
 -- ---- handles
 pub ones_are_nodes : (bits : List Bool) (i : ℕ) → IsBalanced bits → i < count true bits (length bits) → IsNode (forest_of bits) (select true bits i)
