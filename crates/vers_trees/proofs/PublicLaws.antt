@@ -25,8 +25,7 @@ node_iff_bit bits v b = (
 
 -- the same, by what stands at the place
 pub node_iff_one : (bits : List Bool) (v : ℕ) → IsBalanced bits → IsNode (forest_of bits) v ↔ (slice_get bits v ≡ Some true)
-node_iff_one bits v b =
-    let n = node_iff_bit bits v b in grind (arith, slice_get-get_or, bit_inside, get_or_from_slice_get)
+node_iff_one bits v b = grind (arith, ints, slice_get-get_or, bit_inside, get_or_from_slice_get, node_iff_bit bits v b)
 
 -- ---- pairs
 

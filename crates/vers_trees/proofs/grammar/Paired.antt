@@ -18,27 +18,22 @@ pub record Closes (l : List Bool) (v c : ℕ) : Type 0 where
   pub above : (j : ℕ) → v < j → j ≤ c → excess l v <ℤ excess l j
 
 pub length-tree : (X Y : Forest) → length (text (tree X Y)) ≡ length (text X) + length (text Y) + 2
-length-tree X Y = let e = length-append (text X) (false ∷ text Y) in omega arith
+length-tree X Y = grind (arith, ints, length-append)
 
 -- inside the first tree
 pub excess_in_first : (X Y : Forest) (i : ℕ) → i ≤ length (text X) → excess (text (tree X Y)) (i + 1) ≡ excess (text X) i +ℤ pos 1
-excess_in_first X Y i h =
-    let e = excess-cons true (text X ++ false ∷ text Y) i in
-    grind (arith, excess-append_left)
+excess_in_first X Y i h = grind (arith, ints, excess-append_left, excess-cons true (text X ++ false ∷ text Y) i)
 
 rest_from_zero : (X Y : Forest) (i : ℕ) → excess (text X) (length (text X)) ≡ pos 0 → excess (text (tree X Y)) (length (text X) + 2 + i) ≡ excess (text Y) i
 rest_from_zero X Y i z =
     let n = length (text X) in
-    let a = excess-cons true (text X ++ false ∷ text Y) (n + suc i) in
-    grind (arith, ints, excess-append_right, excess-cons)
+    grind (arith, ints, excess-append_right, excess-cons, excess-cons true (text X ++ false ∷ text Y) (n + suc i))
 
 pub total_is_zero : (F : Forest) → excess (text F) (length (text F)) ≡ pos 0
 total_is_zero none = excess-nil 0
 total_is_zero (tree X Y) =
     let zx = total_is_zero X in
-    let zy = total_is_zero Y in
-    let r = rest_from_zero X Y (length (text Y)) zx in
-    grind (arith, length-tree)
+    grind (arith, ints, length-tree, rest_from_zero X Y (length (text Y)) zx, total_is_zero Y)
 
 -- past the first tree
 pub excess_in_rest : (X Y : Forest) (i : ℕ) → excess (text (tree X Y)) (length (text X) + 2 + i) ≡ excess (text Y) i
@@ -151,6 +146,4 @@ pub closes_falls : (l : List Bool) (v c : ℕ) (d : Bool) → Closes l v c → g
 closes_falls l v c d p = let a = p.after in let i = p.inside in let x = p.above c a (omega arith) in close_from_fall l c d i (omega (arith, ints))
 
 pub closes_paired : (F : Forest) (v c : ℕ) → Closes (text F) v c → Paired F v c
-closes_paired F v c p =
-    let r = open_is_paired F v false (omega arith) (closes_rises (text F) v c false p) in
-    grind (arith, closes_once, paired_closes)
+closes_paired F v c p = grind (arith, ints, closes_once, paired_closes, open_is_paired F v false (omega arith) (closes_rises (text F) v c false p))

@@ -105,14 +105,10 @@ pairs_around (tree X Y) v c (inl p) =
     ap pos (let r : count_by (λ q. strictly_contains q (v, c)) (pairs (tree X Y)) ≡ 0 = omega arith in r) ∙ sym z
 pairs_around (tree X Y) v c (inr (inl p)) =
     let k = paired_closes X p.0 p.1 p.4 in
-    let ih = pairs_around X p.0 p.1 p.4 in
     let t = count_tree (λ q. strictly_contains q (v, c)) X Y in
-    let a : one_if (strictly_contains (0, length (text X) + 1) (v, c)) ≡ 1 = ap one_if (and_from (ltb 0 v) (ltb c (length (text X) + 1)) (lt-ltb 0 v (omega arith)) (lt-ltb c (length (text X) + 1) (omega arith))) in
     let b = around_moved 1 X p.0 p.1 v c (omega arith) (omega arith) in
     let d = around_none (length (text X) + 2) Y v c (inl (omega arith)) in
-    grind (arith, ints, excess_in_first)
+    grind (arith, ints, excess_in_first, and_from, lt-ltb, pairs_around X p.0 p.1 p.4)
 pairs_around (tree X Y) v c (inr (inr p)) =
-    let ih = pairs_around Y p.0 p.1 p.4 in
-    let t = count_tree (λ q. strictly_contains q (v, c)) X Y in
     let b = around_none 1 X v c (inr (omega arith)) in
-    grind (arith, ints, around_moved, excess_in_rest, tree)
+    grind (arith, ints, around_moved, excess_in_rest, tree, count_tree (λ q. strictly_contains q (v, c)) X Y, pairs_around Y p.0 p.1 p.4)

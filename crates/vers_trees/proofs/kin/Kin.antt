@@ -27,16 +27,13 @@ pub above_from_before : (l : List Bool) (b : IsBalanced l) (v t a : ℕ) → 0 <
 above_from_before l b v t a h o p =
     let high : (j : ℕ) → a < j → j ≤ v → excess l a <ℤ excess l j =
     λ j x y. above_since (excess l) (excess-is_walk l) (excess l a) j v y (omega (arith, ints)) (λ k g m e. grind (arith, ints)) in
-    let k = one_pair l b a (omega arith) (open_from_rise l a false (omega arith) (high (a + 1) (omega arith) (omega arith))) in
-    grind (arith, ints, one_before)
+    grind (arith, ints, one_before, one_pair l b a (omega arith) (open_from_rise l a false (omega arith) (high (a + 1) (omega arith) (omega arith))))
 
 -- what stands above v is around it
 pub above_is_around : (l : List Bool) (b : IsBalanced l) (v t a : ℕ) → HasPair l v → IsAbove l v t a → (a < v) × (closing (forest_of l) v < closing (forest_of l) a) × HasPair l a
 above_is_around l b v t a h p =
     let q = p.pair in
-    let i = p.before in
-    let e = closes_to l b a p.close q in
-    grind (arith, ints, one_pair, closes_rises)
+    grind (arith, ints, one_pair, closes_rises, closes_to l b a p.close q, p.before)
 
 pub above_parent : (l : List Bool) (b : IsBalanced l) (v p : ℕ) → HasPair l v → IsAbove l v 1 p → parent (forest_of l) v ≡ Some p
 unfolding parent
@@ -96,8 +93,7 @@ not_beside : (l : List Bool) (b : IsBalanced l) (v w : ℕ) → HasPair l v → 
 not_beside l b v w h k x y e =
     let n = nested l v (closing (forest_of l) v) w (closing (forest_of l) w) h.closes k.closes x y in
     let p = has_parent l b w v k h x n in
-    let r = parent_around l b v p.0 h (sym e ∙ p.1) in
-    omega arith
+    omega (arith, parent_around l b v p.0 h (sym e ∙ p.1))
 
 -- the tree that opens right after that of v has the same parent
 same_parent : (l : List Bool) (b : IsBalanced l) (v : ℕ) → HasPair l v → HasPair l (closing (forest_of l) v + 1) → parent (forest_of l) (closing (forest_of l) v + 1) ≡ parent (forest_of l) v
@@ -110,9 +106,7 @@ same_parent l b v h k =
 -- ---- children
 -- nothing opens inside a tree that closes right after it opens
 no_child : (l : List Bool) (b : IsBalanced l) (v w : ℕ) → HasPair l v → get_or l (v + 1) false ≡ false → HasPair l w → parent (forest_of l) w ≡ Some v → ⊥
-no_child l b v w h o k e =
-    let up = excess_after_open l v false (omega arith) (opens l v h) in
-    grind (arith, ints, excess_after_close, parent_around)
+no_child l b v w h o k e = grind (arith, ints, excess_after_close, parent_around, excess_after_open l v false (omega arith) (opens l v h))
 
 pub last_child_none : (l : List Bool) (b : IsBalanced l) (v : ℕ) → HasPair l v → closing (forest_of l) v ≡ v + 1 → last_of (children (forest_of l) v) ≡ None
 unfolding nodes_under
@@ -135,8 +129,7 @@ last_beside l b v w h i o k x e =
     let s = zero_pair l b (closing (forest_of l) v + 1) i o in let q = s.1 in let m = s.3 in
     let z = opens_around l v (closing (forest_of l) v) s.0 (closing (forest_of l) v + 1) h.closes m (omega arith) (omega arith) in
     let g = has_parent l b v s.0 h q z (omega arith) in
-    let r = parent_around l b w g.0 k (e ∙ g.1) in
-    grind (arith, parent_around, nested, eq-or-lt_of_le)
+    grind (arith, ints, parent_around, nested, eq-or-lt_of_le, parent_around l b w g.0 k (e ∙ g.1))
 
 pub previous_sibling_none : (l : List Bool) (b : IsBalanced l) (v : ℕ) → HasPair l v → 0 < v → get_or l (v - 1) false ≡ true → previous_of (siblings (forest_of l) v) v ≡ None
 unfolding nodes_under
@@ -204,7 +197,7 @@ module _ (l : List Bool) (b : IsBalanced l) (v : ℕ) (n : IsNode (forest_of l) 
   -- by the ones before the node
   pub depth_by_ones : (ones : ℕ) → ones ≡ count true l v → (ones ≤ v) × (v - ones ≤ ones) × (ones - (v - ones) ≡ depth (forest_of l) v)
   unfolding excess
-  depth_by_ones ones e = let d = depth_is_excess l b v (node_pair l b v n) in grind (arith, closes_inside, count_both)
+  depth_by_ones ones e = grind (arith, ints, closes_inside, count_both, depth_is_excess l b v (node_pair l b v n))
 
 -- a list is empty where it has no first
 pub leaf_by : (xs : List ℕ) (o : Option ℕ) (r : Bool) → is_some o ≡ not r → o ≡ first_of xs → IsTrue r ↔ (xs ≡ [])

@@ -19,8 +19,8 @@ module _ (s : Sought) (first : ℕ) (nodes : List Node) where
 
   -- what is left past a part is counted from its other end
   remains_past : (back : Bool) (i e : ℕ) (x : Node) (left : ℤ) → Covers s.bits s.size i e x → i ≤ e → Passed back s (start_of s.bits s.size (edge back i e)) left → excess s.bits (start_of s.bits s.size (edge back e i)) +ℤ left_past back left x ≡ target s
-  remains_past false i e x left c le p = let t = total_of_part s.bits s.size i e x c le in omega (arith, ints)
-  remains_past true i e x left c le p = let t = total_of_part s.bits s.size i e x c le in omega (arith, ints)
+  remains_past false i e x left c le p = omega (arith, ints, total_of_part s.bits s.size i e x c le)
+  remains_past true i e x left c le p = omega (arith, ints, total_of_part s.bits s.size i e x c le)
 
   -- ---- going down
   pub left_past_fits : (back : Bool) (place : ℕ) (left : ℤ) (x : Node) → LeadsTo back s first nodes place left → place < first → x ≡ get_or nodes (near_child back place) empty_node → FitsSigned w64 (left_past back left x)
@@ -125,7 +125,7 @@ module _ (s : Sought) (first : ℕ) (nodes : List Node) where
     far = far_of back place left x c some e
 
     within : far.start ≤ far.stop
-    within = let h = stands_some first place far.start far.stop far.stands in omega arith
+    within = grind (arith, ints, stands_some)
 
     pub goes_down : IsMet back x left → LeadsTo back s first nodes place left
     goes_down i = record { tree = c.tree; start = far.start; stop = far.stop; stands = far.stands; ahead = record { passed = far.passed; place = place_in back s far.start far.stop x left far.covers within far.passed i } }

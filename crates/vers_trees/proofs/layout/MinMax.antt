@@ -4,7 +4,7 @@ use Rattle.vers_trees.proofs.searches.Scans.{rise_fits, part_joined}
 
 -- a later block begins no earlier
 pub starts_up : (l : List Bool) (size i e : ℕ) → i ≤ e → start_of l size i ≤ start_of l size e
-starts_up l size i e h = let m : i * size ≤ e * size = mul-le-mul_right size h in omega arith
+starts_up l size i e h = grind (arith, ints, mul-le-mul_right)
 
 -- the part of a node that begins inside the list has a place, and every part has the node's total
 pub part_inside : (l : List Bool) (size i e : ℕ) (x : Node) → Covers l size i e x → i * size < length l → IsPart l (start_of l size i) (start_of l size e) x
@@ -83,8 +83,8 @@ order a b h = ⊎_elim (λ (u : b < a). let le : 2 ^ (b + 1) ≤ 2 ^ a = pow-le-
 
 one_part : (first i s e s' e' : ℕ) → StandsOver first i s e → StandsOver first i s' e' → (s ≡ s') × (e ≡ e')
 one_part first i s e s' e' p q =
-    let a = pow_next p.level in let b = pow_next q.level in let c = pow_next (p.level + p.height) in let d = pow_next (q.level + q.height) in
-    grind (arith, order)
+    let c = pow_next (p.level + p.height) in let d = pow_next (q.level + q.height) in
+    grind (arith, ints, order, pow_next q.level, pow_next p.level)
 
 -- the parent of a child, with its other child
 parent_of : (first i j s e : ℕ) → StandsOver first i s e → (i ≡ 2 * j + 1) ⊎ (i ≡ 2 * j + 2) → (u : ℕ) × (v : ℕ) × StandsOver first j u v × HasChildren first j u v
@@ -100,7 +100,7 @@ parent_of_left first j s e p =
     (q.1, rw (← o.0) at q.2, rw (← o.1) at q.3.right, rw (← o.1) at q.3.before)
 
 pub parent_of_right : (first j s e : ℕ) → StandsOver first (2 * j + 2) s e → (u : ℕ) × StandsOver first j u e × StandsOver first (2 * j + 1) u s
-parent_of_right first j s e p = let q = parent_of first (2 * j + 2) j s e p (inr refl) in grind (arith, one_part)
+parent_of_right first j s e p = grind (arith, ints, one_part, parent_of first (2 * j + 2) j s e p (inr refl))
 
 leaf : (first h i : ℕ) → 2 ^ h ≡ first + 1 → first ≤ i → i ≤ 2 * first → StandsOver first i (i - first) (i - first + 1)
 leaf first h i lv a b = record { level = h; height = 0; offset = i - first; levels = ap (λ (n : ℕ). 2 ^ n) (let g : h + 0 ≡ h = omega arith in g) ∙ lv; inside = omega arith; place = omega arith; from = omega arith; upto = omega arith }
@@ -115,7 +115,7 @@ leaf_stands first i s e p h =
 
 -- a node's part has a block
 pub stands_some : (first i s e : ℕ) → StandsOver first i s e → s < e
-stands_some first i s e p = let some = pow_pos p.height in omega arith
+stands_some first i s e p = grind (arith, ints, pow_pos)
 
 pub root_stands : (first s e : ℕ) → StandsOver first 0 s e → (s ≡ 0) × (e ≡ first + 1)
 root_stands first s e p = one_part first 0 _ _ _ _ p (root first (p.level + p.height) p.levels)

@@ -17,7 +17,7 @@ pub from_lowest_one : (i n : ℕ) → bit_at n i ≡ 1 → ((j : ℕ) → j < i 
 from_lowest_one i n one h = record { zeros = i; splits = sym (zeros_below i n h); ends = one }
 
 pub odd_most : (n odd : ℕ) → IsOddPart n odd → odd ≤ n
-odd_most n odd p = let a = le-mul_of_pos_right odd (pow_pos p.zeros) in omega arith
+odd_most n odd p = omega (arith, le-mul_of_pos_right odd (pow_pos p.zeros))
 
 -- the node after the parent of a right child is a level up at least
 pub digits_after : (node odd : ℕ) → 0 < node → node % 2 ≡ 0 → IsOddPart ((node - 1) / 2 + 2) odd → digits odd + 1 ≤ digits (node + 1)
@@ -44,7 +44,7 @@ digits_child m n e h = omega (arith, digits_half n h, ap digits e)
 
 -- going down: a node read at each level, which is one of two
 pub one_of_two : (b : Bool) → bool_byte b ≤ 1
-one_of_two b = let e = byte_value b in let h = bit_value_le b in omega arith
+one_of_two b = omega (arith, bit_value_le b, byte_value b)
 
 pub read_down : (a b c : Reads) (node child : ℕ) → (child + 1) / 2 ≡ node + 1 → AddsAtMost a b (only_nodes (digits (node + 1) - 1)) → AddsAtMost b c (only_nodes 1) → AddsAtMost a c (only_nodes (digits (child + 1) - 1))
 read_down a b c node child e p q = grind (arith, digits_child, digit_some, adds_then)

@@ -35,7 +35,7 @@ enclosing_close l i e = rw e refl
 
 -- the ones among the first i bits, and the rest of them as zeros
 pub few_ones : (l : List Bool) (i n : ℕ) → n ≡ count true l i → n ≤ i
-few_ones l i n e = let b = count_both l i in omega arith
+few_ones l i n e = omega (arith, count_both l i)
 
 -- a number below 2 ^ 63 is the same with a sign
 pub small_number : (n : ℕ) → n < 9223372036854775808 → FitsSigned w64 (pos n)

@@ -8,16 +8,12 @@ pub length-part : (l : List Bool) (p n : ℕ) → p + n ≤ length l → length 
 length-part l p n h = length-take-le n (drop p l) (let e = length-drop p l in omega arith)
 
 excess-drop : (l : List Bool) (p j : ℕ) → p ≤ length l → excess l (p + j) ≡ excess l p +ℤ excess (drop p l) j
-excess-drop l p j h =
-    let e = length-take-le p l h in
-    let w = take-append-drop p l in
-    grind (arith, ints, excess-append_right, excess-append_left)
+excess-drop l p j h = grind (arith, ints, excess-append_right, excess-append_left, take-append-drop p l, length-take-le p l h)
 
 pub excess-part : (l : List Bool) (p n j : ℕ) → p + n ≤ length l → j ≤ n → excess l (p + j) ≡ excess l p +ℤ excess (part l p n) j
 excess-part l p n j h i =
     let m = length-part l p n h in
-    let t = ap (λ (m : List Bool). excess m j) (take-append-drop n (drop p l)) in
-    grind (arith, excess-append_left, excess-drop)
+    grind (arith, ints, excess-append_left, excess-drop, ap (λ (m : List Bool). excess m j) (take-append-drop n (drop p l)))
 
 -- the excess of at most 64 bits, by the ones of their number
 excess-number : (bits : List Bool) (n : ℕ) → n ≤ 64 → length bits ≡ n → excess bits n ≡ pos (2 * count_ones (number bits)) -ℤ pos n
@@ -26,16 +22,12 @@ excess-number bits n few e =
     let c = count_limb bits 0 n few in
     let z = count_none true bits in
     let b = count_both bits n in
-    let at : count true bits (64 * 0 + n) ≡ count true bits n = ap (count true bits) (omega arith) in
     let whole : take 64 bits ≡ bits = take_all 64 bits (omega arith) in
     let f : limb bits 0 % 2 ^ n ≡ number bits = rw whole (mod-eq_of_lt (number_below bits n (omega arith))) in
-    let o = ap count_ones f in
-    omega (arith, ints)
+    grind (arith, ints)
 
 pub total_of : (l : List Bool) (p n word : ℕ) (d : ℤ) → n ≤ 64 → p + n ≤ length l → word ≡ number (part l p n) → d ≡ pos (2 * count_ones word) -ℤ pos n → excess l (p + n) ≡ excess l p +ℤ d
-total_of l p n word d few h e q =
-    let f = excess-part l p n n h (omega arith) in
-    grind (arith, excess-number, length-part)
+total_of l p n word d few h e q = grind (arith, ints, excess-number, length-part, excess-part l p n n h (omega arith))
 
 -- ---- the word at a place, and the byte in a word
 word_is : (l : List Bool) (p n : ℕ) → n ≤ 64 → p + n ≤ length l → part_number_or_zero l p n ≡ Some (number (part l p n))
@@ -79,10 +71,8 @@ sum_from true l p = excess l (p + 8)
 along : (from_end : Bool) (l : List Bool) (p n : ℕ) → p + 8 ≤ length l → n < 8 → sum_past from_end l (p + place_along from_end n) ≡ sum_from from_end l p +ℤ sum_along from_end (part l p 8) (n + 1)
 along false l p n a h = ap (excess l) (let g : p + n + 1 ≡ p + (n + 1) = omega arith in g) ∙ excess-part l p 8 (n + 1) a (omega arith)
 along true l p n a h =
-    let f = excess-part l p 8 (8 - (n + 1)) a (omega arith) in
-    let e = excess-part l p 8 8 a (omega arith) in
     let here : excess l (p + (7 - n)) ≡ excess l (p + (8 - (n + 1))) = ap (excess l) (omega arith) in
-    omega (arith, ints)
+    omega (arith, ints, excess-part l p 8 8 a (omega arith), excess-part l p 8 (8 - (n + 1)) a (omega arith))
 
 turned : (from_end : Bool) (n : ℕ) → n < 8 → (place_along from_end n < 8) × (place_along from_end (place_along from_end n) ≡ n)
 turned false n h = (h, refl)
@@ -122,7 +112,7 @@ met from_end l p entry x t a e u v z =
     )
 
 pub entry_ordered : (from_end : Bool) (bits : List Bool) (entry : ℕ) → IsEntry from_end bits entry → least_in entry ≤ greatest_in entry
-entry_ordered from_end bits entry e = let a = e.low 0 (omega arith) in let b = e.high 0 (omega arith) in omega (arith, ints)
+entry_ordered from_end bits entry e = omega (arith, ints, e.high 0 (omega arith), e.low 0 (omega arith))
 
 -- ---- forwards
 pub forward_byte_found : (l : List Bool) (from p end : ℕ) (r rise : ℤ) (entry x : ℕ) → HasNoRise false l from p r rise → from ≤ p → p + 8 ≤ end → end ≤ length l → IsEntry false (part l p 8) entry → least_in entry ≤ x → x ≤ greatest_in entry → rise +ℤ (pos x -ℤ pos 8) ≡ r → IsRise false l from end r (p + place_in entry x)

@@ -79,7 +79,7 @@ module _ (back : Bool) (s : Sought) (first : ℕ) (nodes : List Node) (block : �
       ahead = next s begins
 
       pub next_inside : j * s.size < length s.bits
-      next_inside = let k1 = ahead.place.1 in let k2 = ahead.place.2 in omega arith
+      next_inside = omega (arith, ahead.place.2, ahead.place.1)
 
       whole : stored rest ≡ rest
       whole = let k = ahead.place in to_z-of_z w64 rest (left_fits back s (start_of s.bits s.size (edge back j (j + 1))) rest k.0 p.indexed.short (omega arith) ahead.passed.remains (omega arith) k.3)

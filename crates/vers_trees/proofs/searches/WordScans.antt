@@ -9,10 +9,10 @@ number_next : (b : Bool) (l : List Bool) → number (b ∷ l) ≡ number l * 2 ^
 number_next b l = omega arith
 
 bit_small : (b : Bool) → bit_value b < 2 ^ 1
-bit_small b = let h = bit_value_le b in omega arith
+bit_small b = omega (arith, bit_value_le b)
 
 ones_next : (n : ℕ) (b : Bool) → count_ones (n * 2 ^ 1 + bit_value b) ≡ bit_value b + count_ones n
-ones_next n b = let s = ones_step (n * 2 ^ 1 + bit_value b) in grind arith
+ones_next n b = grind (arith, ints, ones_step)
 
 -- ---- forwards: the zeros that no one stands right before
 abbrev before : Bool → List Bool → List Bool
@@ -32,17 +32,13 @@ or_ones p (b ∷ l) =
     grind (arith, number_next, ones_next, or_ones b l)
 
 pub falls_counted : (l : List Bool) (word : ℕ) → length l ≡ 64 → word ≡ number l → falls false l + count_ones (bit_or word (word * 2 % 18446744073709551616)) ≡ 64
-falls_counted l word h e =
-    let o = or_ones false l in
-    let b = ap number (before_is false 63 l h) in
-    let t = number-take 63 l in
-    grind arith
+falls_counted l word h e = grind (arith, ints, number-take 63 l, ap number (before_is false 63 l h), or_ones false l)
 
 -- no sum along the list falls further
 above : (p : Bool) (l : List Bool) (j : ℕ) → pos 0 ≤ℤ (excess l j +ℤ pos (bit_value p + falls p l))
-above p [] j = let e = excess-nil j in omega (arith, ints)
-above p (b ∷ l) zero = let e = excess-zero (b ∷ l) in omega (arith, ints)
-above p (b ∷ l) (suc j) = let h = above b l j in let e = excess-cons b l j in grind (arith, ints)
+above p [] j = grind (arith, ints, excess-nil)
+above p (b ∷ l) zero = grind (arith, ints, excess-zero)
+above p (b ∷ l) (suc j) = grind (arith, ints, excess-cons, above b l j)
 
 pub covered_few : (word : ℕ) → word < 18446744073709551616 → count_ones (bit_or word (word * 2 % 18446744073709551616)) ≤ 64
 covered_few word h = ones-le 64 (bit_or word (word * 2 % 18446744073709551616)) (or_lt 64 word (word * 2 % 18446744073709551616) h (omega arith))
@@ -68,27 +64,27 @@ and_ones (b ∷ l) =
 
 after_word : (l : List Bool) → length l ≡ 64 → number (after l) ≡ number l / 2 + 9223372036854775808
 after_word [] h = absurd (omega arith)
-after_word (b ∷ l) h = let e = number-after b l in grind (arith, bit_small)
+after_word (b ∷ l) h = grind (arith, ints, bit_small, number-after b l)
 
 pub rises_counted : (l : List Bool) (word : ℕ) → length l ≡ 64 → word ≡ number l → rises l ≡ count_ones (bit_and word (word / 2 + 9223372036854775808))
-rises_counted l word h e = let a = after_word l h in grind (arith, and_ones)
+rises_counted l word h e = grind (arith, ints, and_ones, after_word l h)
 
 pub rises_few : (l : List Bool) → rises l ≤ length l
 rises_few [] = omega arith
-rises_few (b ∷ l) = let h = rises_few l in let s = bit_small (b && is_not_closed l) in omega arith
+rises_few (b ∷ l) = grind (arith, ints, bit_small, rises_few l)
 
 -- no sum from the end of the list falls further
 total_few : (l : List Bool) → (excess l (length l) +ℤ pos (1 - bit_value (is_not_closed l))) ≤ℤ pos (rises l)
-total_few [] = let e = excess-nil 0 in omega (arith, ints)
-total_few (false ∷ l) = let h = total_few l in let e = excess-cons false l (length l) in omega (arith, ints)
-total_few (true ∷ []) = let e = excess-cons true [] 0 in let z = excess-zero [] in omega (arith, ints)
-total_few (true ∷ true ∷ l) = let h = total_few (true ∷ l) in let e = excess-cons true (true ∷ l) (suc (length l)) in omega (arith, ints)
-total_few (true ∷ false ∷ l) = let h = total_few (false ∷ l) in let e = excess-cons true (false ∷ l) (suc (length l)) in omega (arith, ints)
+total_few [] = grind (arith, ints, excess-nil)
+total_few (false ∷ l) = grind (arith, ints, excess-cons, total_few l)
+total_few (true ∷ []) = grind (arith, ints, excess-zero, excess-cons)
+total_few (true ∷ true ∷ l) = grind (arith, ints, excess-cons, total_few (true ∷ l))
+total_few (true ∷ false ∷ l) = grind (arith, ints, excess-cons, total_few (false ∷ l))
 
 below : (l : List Bool) (j : ℕ) → j ≤ length l → excess l (length l) ≤ℤ (excess l j +ℤ pos (rises l))
-below l zero h = let t = total_few l in let z = excess-zero l in omega (arith, ints)
+below l zero h = omega (arith, ints, excess-zero l, total_few l)
 below [] (suc j) h = absurd (omega arith)
-below (b ∷ l) (suc j) h = let i = below l j (omega arith) in let a = excess-cons b l j in let e = excess-cons b l (length l) in omega (arith, ints)
+below (b ∷ l) (suc j) h = omega (arith, ints, excess-cons b l (length l), excess-cons b l j, below l j (omega arith))
 
 -- ---- as the code has them
 pub count_is : (n : ℕ) → n ≤ 64 → to_z w64 n ≡ pos n
