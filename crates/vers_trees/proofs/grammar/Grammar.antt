@@ -16,8 +16,7 @@ Closing (suc n) bits = (F : Forest) × (rest : List Bool) × (text F ++ false �
 -- one tree more before them
 Closing-tree : (n : ℕ) (F : Forest) (rest : List Bool) → Closing n rest → Closing n (true ∷ (text F ++ false ∷ rest))
 Closing-tree zero F rest c = record { forest = tree F c.forest; written = rw c.written refl }
-Closing-tree (suc n) F rest c =
-    (tree F c.0, c.1, rw (← c.2) (ap (λ l. true ∷ l) (append_assoc (text F) (false ∷ text c.0) (false ∷ c.1))), c.3)
+Closing-tree (suc n) F rest c = (tree F c.0, c.1, rw (← c.2) (ap (λ l. true ∷ l) (append_assoc (text F) (false ∷ text c.0) (false ∷ c.1))), c.3)
 
 Closing-from : (bits : List Bool) (n : ℕ) → closes n bits ≡ true → Closing n bits
 Closing-from [] zero h = grind arith

@@ -26,14 +26,11 @@ excess_in_first X Y i h = grind (arith, ints, excess-append_left, excess-cons tr
 
 rest_from_zero : (X Y : Forest) (i : ℕ) → excess (text X) (length (text X)) ≡ pos 0 → excess (text (tree X Y)) (length (text X) + 2 + i) ≡ excess (text Y) i
 rest_from_zero X Y i z =
-    let n = length (text X) in
-    grind (arith, ints, excess-append_right, excess-cons, excess-cons true (text X ++ false ∷ text Y) (n + suc i))
+    let n = length (text X) in grind (arith, ints, excess-append_right, excess-cons, excess-cons true (text X ++ false ∷ text Y) (n + suc i))
 
 pub total_is_zero : (F : Forest) → excess (text F) (length (text F)) ≡ pos 0
 total_is_zero none = excess-nil 0
-total_is_zero (tree X Y) =
-    let zx = total_is_zero X in
-    grind (arith, ints, length-tree, rest_from_zero X Y (length (text Y)) zx, total_is_zero Y)
+total_is_zero (tree X Y) = let zx = total_is_zero X in grind (arith, ints, length-tree, rest_from_zero X Y (length (text Y)) zx, total_is_zero Y)
 
 -- past the first tree
 pub excess_in_rest : (X Y : Forest) (i : ℕ) → excess (text (tree X Y)) (length (text X) + 2 + i) ≡ excess (text Y) i
@@ -45,8 +42,7 @@ never_negative none i h = grind (arith, ints, excess-nil)
 never_negative (tree X Y) zero h = grind (arith, ints, excess-zero)
 never_negative (tree X Y) (suc i) h = ⊎_elim
     (λ (a : length (text X) < i).
-    let len = length-tree X Y in
-    let ih = never_negative Y (i - length (text X) - 1) (omega arith) in
+    let len = length-tree X Y in let ih = never_negative Y (i - length (text X) - 1) (omega arith) in
     let r = excess_in_rest X Y (i - length (text X) - 1) in
     let e : excess (text (tree X Y)) (length (text X) + 2 + (i - length (text X) - 1)) ≡ excess (text (tree X Y)) (suc i) = ap (excess (text (tree X Y))) (omega arith) in
     omega (arith, ints))
@@ -56,8 +52,7 @@ never_negative (tree X Y) (suc i) h = ⊎_elim
 -- each pair closes as the excess says
 closes_root : (X Y : Forest) → Closes (text (tree X Y)) 0 (length (text X) + 1)
 closes_root X Y =
-    let len = length-tree X Y in let start = excess-zero (text (tree X Y)) in
-    let rest = excess_in_rest X Y 0 in let z = excess-zero (text Y) in
+    let len = length-tree X Y in let start = excess-zero (text (tree X Y)) in let rest = excess_in_rest X Y 0 in let z = excess-zero (text Y) in
     let end : excess (text (tree X Y)) (length (text X) + 1 + 1) ≡ excess (text (tree X Y)) (length (text X) + 2 + 0) = ap (excess (text (tree X Y))) (omega arith) in
     record {
       after = omega arith;
@@ -82,13 +77,11 @@ closes_moved l m p x y h at c =
 
 closes_first : (X Y : Forest) (x y : ℕ) → Closes (text X) x y → Closes (text (tree X Y)) (1 + x) (1 + y)
 closes_first X Y x y = closes_moved (text (tree X Y)) (text X) 1 x y (grind (arith, ints, length-tree)) (λ j h.
-    let r = excess_in_first X Y j h in let s = excess_in_first X Y 0 (omega arith) in let z = excess-zero (text X) in
-    grind (arith, ints))
+    let r = excess_in_first X Y j h in let s = excess_in_first X Y 0 (omega arith) in let z = excess-zero (text X) in grind (arith, ints))
 
 closes_rest : (X Y : Forest) (x y : ℕ) → Closes (text Y) x y → Closes (text (tree X Y)) (length (text X) + 2 + x) (length (text X) + 2 + y)
 closes_rest X Y x y = closes_moved (text (tree X Y)) (text Y) (length (text X) + 2) x y (grind (arith, length-tree)) (λ j h.
-    let r = excess_in_rest X Y j in let s = excess_in_rest X Y 0 in let z = excess-zero (text Y) in
-    grind arith)
+    let r = excess_in_rest X Y j in let s = excess_in_rest X Y 0 in let z = excess-zero (text Y) in grind arith)
 
 pub paired_closes : (F : Forest) (v c : ℕ) → Paired F v c → Closes (text F) v c
 paired_closes none v c p = absurd p
@@ -116,8 +109,7 @@ bit_is_paired (tree X Y) bit (suc i) d h b = ⊎_elim
     let r = bit_is_paired X bit i d a (sym (get_or_append_left (text X) (false ∷ text Y) d i a) ∙ b) in let m = end_moved bit 1 r.0 r.1 in let e = r.3 in
     (1 + r.0, 1 + r.1, inr (inl (r.0, r.1, omega arith, omega arith, r.2)), omega arith))
     (λ (a : length (text X) < i).
-    let len = length-tree X Y in
-    let g : length (text X) + suc (i - length (text X) - 1) ≡ i = omega arith in
+    let len = length-tree X Y in let g : length (text X) + suc (i - length (text X) - 1) ≡ i = omega arith in
     let r = bit_is_paired Y bit (i - length (text X) - 1) d (omega arith) (sym (get_or-append-add (text X) (false ∷ text Y) (suc (i - length (text X) - 1)) d) ∙ ap (λ (m : ℕ). get_or (text (tree X Y)) (suc m) d) g ∙ b) in
     let m = end_moved bit (length (text X) + 2) r.0 r.1 in let e = r.3 in
     (length (text X) + 2 + r.0, length (text X) + 2 + r.1, inr (inr (r.0, r.1, refl {a = length (text X) + 2 + r.0}, refl {a = length (text X) + 2 + r.1}, r.2)), omega arith))

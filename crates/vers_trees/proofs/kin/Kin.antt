@@ -31,9 +31,7 @@ above_from_before l b v t a h o p =
 
 -- what stands above v is around it
 pub above_is_around : (l : List Bool) (b : IsBalanced l) (v t a : ℕ) → HasPair l v → IsAbove l v t a → (a < v) × (closing (forest_of l) v < closing (forest_of l) a) × HasPair l a
-above_is_around l b v t a h p =
-    let q = p.pair in
-    grind (arith, ints, one_pair, closes_rises, closes_to l b a p.close q, p.before)
+above_is_around l b v t a h p = let q = p.pair in grind (arith, ints, one_pair, closes_rises, closes_to l b a p.close q, p.before)
 
 pub above_parent : (l : List Bool) (b : IsBalanced l) (v p : ℕ) → HasPair l v → IsAbove l v 1 p → parent (forest_of l) v ≡ Some p
 unfolding parent
@@ -66,8 +64,7 @@ has_parent l b v q h k x y =
 pub depth_is_excess : (l : List Bool) (b : IsBalanced l) (v : ℕ) → HasPair l v → pos (depth (forest_of l) v) ≡ excess l v
 unfolding depth is_proper_ancestor
 depth_is_excess l b v h =
-    let F = forest_of l in
-    let a = length-filter (λ w. is_proper_ancestor F w v) (nodes F) in
+    let F = forest_of l in let a = length-filter (λ w. is_proper_ancestor F w v) (nodes F) in
     let m = count_by-map (λ w. is_proper_ancestor F w v) (λ (q : ℕ × ℕ). q.0) (pairs F) in
     let c = count_agree (λ (q : ℕ × ℕ). is_proper_ancestor F q.0 v) (λ (q : ℕ × ℕ). strictly_contains q (v, closing F v)) (pairs F) (λ q i. ap (λ (k : ℕ). ltb q.0 v && ltb (closing F v) k) (closing_is F q.0 q.1 (paired_from_contains F q i))) in
     ap pos (a ∙ m ∙ c) ∙ pairs_around F v (closing F v) (paired_here l b v (closing F v) h.closes) ∙ ap (λ (k : List Bool). excess k v) (text-forest_of l b)
@@ -91,8 +88,7 @@ filter_agree {X = X} p q (x ∷ xs) h = grind (arith, contains_later, contains_f
 -- a node inside the tree of v has its parent at v or after it, so not the parent of v
 not_beside : (l : List Bool) (b : IsBalanced l) (v w : ℕ) → HasPair l v → HasPair l w → v < w → w ≤ closing (forest_of l) v → parent (forest_of l) w ≡ parent (forest_of l) v → ⊥
 not_beside l b v w h k x y e =
-    let n = nested l v (closing (forest_of l) v) w (closing (forest_of l) w) h.closes k.closes x y in
-    let p = has_parent l b w v k h x n in
+    let n = nested l v (closing (forest_of l) v) w (closing (forest_of l) w) h.closes k.closes x y in let p = has_parent l b w v k h x n in
     omega (arith, parent_around l b v p.0 h (sym e ∙ p.1))
 
 -- the tree that opens right after that of v has the same parent
@@ -134,16 +130,14 @@ last_beside l b v w h i o k x e =
 pub previous_sibling_none : (l : List Bool) (b : IsBalanced l) (v : ℕ) → HasPair l v → 0 < v → get_or l (v - 1) false ≡ true → previous_of (siblings (forest_of l) v) v ≡ None
 unfolding nodes_under
 previous_sibling_none l b v h some o =
-    let e : v - 1 + 1 ≡ v = omega arith in
-    let k : HasPair l (v - 1 + 1) = rw e h in
+    let e : v - 1 + 1 ≡ v = omega arith in let k : HasPair l (v - 1 + 1) = rw e h in
     let p : parent (forest_of l) v ≡ Some (v - 1) = rw e at (above_parent l b (v - 1 + 1) (v - 1) k (first_child_above l (v - 1) (closing (forest_of l) (v - 1)) (one_pair l b (v - 1) (omega arith) o).closes (opens l (v - 1 + 1) k))) in
     previous_in l b _ _ (λ w. option_decides (parent (forest_of l) w) (parent (forest_of l) v)) v None (λ w k g. let r = (parent_around l b w (v - 1) k (g.0 ∙ p)).0 in omega arith)
 
 pub previous_sibling_is_search : (l : List Bool) (b : IsBalanced l) (v : ℕ) → HasPair l v → 0 < v → get_or l (v - 1) false ≡ false → last_rise_before l (v - 1) (negsuc 0) ≡ previous_of (siblings (forest_of l) v) v
 unfolding nodes_under
 previous_sibling_is_search l b v h some o =
-    let p = zero_pair l b (v - 1) (omega arith) o in let k = p.1 in let q = p.3 in
-    let at : closing (forest_of l) p.0 + 1 ≡ v = omega arith in
+    let p = zero_pair l b (v - 1) (omega arith) o in let k = p.1 in let q = p.3 in let at : closing (forest_of l) p.0 + 1 ≡ v = omega arith in
     let same : parent (forest_of l) v ≡ parent (forest_of l) p.0 = ap (parent (forest_of l)) (sym at) ∙ same_parent l b p.0 k (subst (HasPair l) (sym at) h) in
     before_is l (v - 1) (negsuc 0) p.0 (before_from_closes l p.0 (v - 1) q)
     ∙ sym (previous_in l b _ _ (λ w. option_decides (parent (forest_of l) w) (parent (forest_of l) v)) v (Some p.0) (k, (sym same, omega arith), λ w y kw e. not_beside l b p.0 w k kw y (omega arith) (e.0 ∙ same)))
@@ -171,11 +165,7 @@ pub next_sibling_is : (l : List Bool) (b : IsBalanced l) (v : ℕ) → HasPair l
 unfolding nodes_under
 next_sibling_is l b v h =
     let c = closing (forest_of l) v in
-    sym (next_in l b _ _ (λ w. option_decides (parent (forest_of l) w) (parent (forest_of l) v)) v (opened_here l (c + 1)) (cond_both (get_or l (c + 1) false) (Some (c + 1)) None (IsFirstNode l (λ w. (parent (forest_of l) w ≡ parent (forest_of l) v) × (v < w)))
-    (λ o.
-    let k = one_pair l b (c + 1) (bit_inside l (c + 1) o) o in
-    (k, (same_parent l b v h k, omega arith), λ w x kw e. not_beside l b v w h kw e.1 (omega arith) e.0))
-    (λ o w k e. ⊎_elim (λ (t : c < w). last_beside l b v w h (omega arith) o k t e.0) (λ (t : w ≤ c). not_beside l b v w h k e.1 t e.0) (cases_lt c w))))
+    sym (next_in l b _ _ (λ w. option_decides (parent (forest_of l) w) (parent (forest_of l) v)) v (opened_here l (c + 1)) (grind (arith, ints, one_pair, bit_inside, same_parent, not_beside, last_beside)))
 
 pub last_child_is : (l : List Bool) (b : IsBalanced l) (v : ℕ) → HasPair l v → closed_before l (closing (forest_of l) v) ≡ last_of (children (forest_of l) v)
 last_child_is l b v h = grind (arith, ints, same_bit, last_child_closes, last_child_is_search, closes_rises, last_child_none)

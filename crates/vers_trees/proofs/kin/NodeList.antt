@@ -11,8 +11,7 @@ pub nodes_are_ones : (F : Forest) → nodes F ≡ places true (text F)
 unfolding places
 nodes_are_ones none = refl
 nodes_are_ones (tree X Y) =
-    let n = length (text X) + 2 in
-    let e : length (text X) + 2 ≡ 1 + length (text X) + 1 = omega arith in
+    let n = length (text X) + 2 in let e : length (text X) + 2 ≡ 1 + length (text X) + 1 = omega arith in
     rw (map-append (λ (p : ℕ × ℕ). p.0) (map (moved 1) (pairs X)) (map (moved n) (pairs Y)), opening_moved 1 (pairs X), opening_moved n (pairs Y), nodes_are_ones X, nodes_are_ones Y, e) (sym (places-tree true (text X) (text Y)))
 
 -- ---- where a node of a balanced list closes

@@ -77,8 +77,5 @@ pub balanced_iff_root : (l : List Bool) (x : Node) → IsPart l 0 (length l) x �
 balanced_iff_root l x p =
     let z = excess-zero l in (
       λ b. let s = balanced_total l b in let i = p.least in let a = balanced_above l b i.0 i.2 in record { total = omega (arith, ints); least = omega (arith, ints) },
-      λ h. (balance_decides l).0 (closes_from_excess l 0 (λ i u. ⊎_elim
-          (λ (o : 0 < i). let lo = p.low i o u in omega (arith, ints))
-          (λ (o : i ≤ 0). let e : excess l i ≡ excess l 0 = ap (excess l) (omega arith) in omega (arith, ints))
-          (cases_lt 0 i)) (omega (arith, ints))),
+      λ h. (balance_decides l).0 (closes_from_excess l 0 (λ i u. grind (arith, ints)) (omega (arith, ints))),
     )

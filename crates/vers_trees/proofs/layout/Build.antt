@@ -9,8 +9,7 @@ leaves_covered l size first nodes so short b = record { short = short; covered =
   where
     covered : CoveredFrom l size first nodes first
     covered m s e h p =
-        let q = leaf_stands first m s e p h in let q1 = q.1 in
-        let d = div_ceil_times (length l) size so in
+        let q = leaf_stands first m s e p h in let q1 = q.1 in let d = div_ceil_times (length l) size so in
         let place : first + s ≡ m = omega arith in ⊎_elim
         (λ (w : s < block_count size (length l)).
         let u : (s + 1) * size ≤ block_count size (length l) * size = mul-le-mul_right size (omega arith) in

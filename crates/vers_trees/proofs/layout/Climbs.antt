@@ -42,12 +42,12 @@ module _ (s : Sought) (first : ℕ) (nodes : List Node) where
   to_far false place child left x p h e n o =
       let c = stands_children first place p.start p.stop p.stands h in let k = p.ahead.place in
       let q = passed_over false s p.start c.middle x left (covers_at _ _ _ x p.tree e c.left) c.after p.ahead.passed o in
-      let far : start_of s.bits s.size c.middle ≤ k.0 = ⊎_elim (λ (w : k.0 < start_of s.bits s.size c.middle). absurd (q.none k.0 (omega arith, w) k.3)) (λ (w : start_of s.bits s.size c.middle ≤ k.0). w) (cases_lt k.0 (start_of s.bits s.size c.middle)) in
+      let far : start_of s.bits s.size c.middle ≤ k.0 = grind (arith, ints) in
       rw n (record { tree = p.tree; start = c.middle; stop = p.stop; stands = c.right; ahead = record { passed = q; place = (k.0, far, k.2, k.3) } })
   to_far true place child left x p h e n o =
       let c = stands_children first place p.start p.stop p.stands h in let k = p.ahead.place in
       let q = passed_over true s c.middle p.stop x left (covers_at _ _ _ x p.tree e c.right) c.before p.ahead.passed o in
-      let far : k.0 < start_of s.bits s.size c.middle = ⊎_elim (λ (w : k.0 < start_of s.bits s.size c.middle). w) (λ (w : start_of s.bits s.size c.middle ≤ k.0). absurd (q.none k.0 (w, omega arith) k.3)) (cases_lt k.0 (start_of s.bits s.size c.middle)) in
+      let far : k.0 < start_of s.bits s.size c.middle = grind (arith, ints) in
       rw n (record { tree = p.tree; start = p.start; stop = c.middle; stands = c.left; ahead = record { passed = q; place = (k.0, k.1, far, k.3) } })
 
   pub at_leaf : (back : Bool) (place : ℕ) (left : ℤ) → LeadsTo back s first nodes place left → first ≤ place → IsAhead back s (place - first) (place - first + 1) left
@@ -106,15 +106,13 @@ module _ (s : Sought) (first : ℕ) (nodes : List Node) where
   -- ---- beside the passed part
   far_of : (back : Bool) (place : ℕ) (left : ℤ) (x : Node) → ComesTo back s first nodes place left → 0 < place → x ≡ get_or nodes place empty_node → Far back s first place left x
   far_of false place left x c some e =
-      let v = c.far some in let p = c.passed some in
-      let here : place - 1 ≡ 2 * ((place - 1) / 2) + 1 = omega arith in
+      let v = c.far some in let p = c.passed some in let here : place - 1 ≡ 2 * ((place - 1) / 2) + 1 = omega arith in
       let at : 2 * ((place - 1) / 2) + 2 ≡ place = omega arith in
       let u = parent_of_left first ((place - 1) / 2) p.start p.stop (subst (λ (n : ℕ). StandsOver first n p.start p.stop) here p.stands) in
       let t : StandsOver first place p.stop u.0 = subst (λ (n : ℕ). StandsOver first n p.stop u.0) at u.2 in
       record { start = p.stop; stop = u.0; stands = t; passed = p.passed; covers = covers_at place p.stop u.0 x c.tree e t; onward = λ rest q. record { start = p.start; stop = u.0; stands = u.1; passed = q } }
   far_of true place left x c some e =
-      let v = c.far some in let p = c.passed some in
-      let here : place + 1 ≡ 2 * ((place - 1) / 2) + 2 = omega arith in
+      let v = c.far some in let p = c.passed some in let here : place + 1 ≡ 2 * ((place - 1) / 2) + 2 = omega arith in
       let at : 2 * ((place - 1) / 2) + 1 ≡ place = omega arith in
       let u = parent_of_right first ((place - 1) / 2) p.start p.stop (subst (λ (n : ℕ). StandsOver first n p.start p.stop) here p.stands) in
       let t : StandsOver first place u.0 p.start = subst (λ (n : ℕ). StandsOver first n u.0 p.start) at u.2 in

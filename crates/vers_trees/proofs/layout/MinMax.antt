@@ -45,8 +45,7 @@ stands_children first i s e p h = go p.height refl
     go : (k : ℕ) → p.height ≡ k → HasChildren first i s e
     go zero z = grind arith
     go (suc k) z =
-        let pw : 2 ^ p.height ≡ 2 * 2 ^ k = ap (λ (n : ℕ). 2 ^ n) z ∙ pow-succ' 2 k in
-        let pl2 = pow_next p.level in
+        let pw : 2 ^ p.height ≡ 2 * 2 ^ k = ap (λ (n : ℕ). 2 ^ n) z ∙ pow-succ' 2 k in let pl2 = pow_next p.level in
         let lv' : 2 ^ (p.level + 1 + k) ≡ first + 1 = ap (λ (n : ℕ). 2 ^ n) (let g : p.level + 1 + k ≡ p.level + p.height = omega arith in g) ∙ p.levels in
         let fr' : s ≡ p.offset * (2 * 2 ^ k) = p.from ∙ ap (λ (n : ℕ). p.offset * n) pw in
         record {
@@ -66,8 +65,7 @@ pub stands_every : (first h : ℕ) → 2 ^ h ≡ first + 1 → (fuel i : ℕ) �
 stands_every first h lv fuel zero a b = (0, first + 1, root first h lv)
 stands_every first h lv zero (suc i) a b = absurd (omega arith)
 stands_every first h lv (suc fuel) (suc i) a b =
-    let p = stands_every first h lv fuel (i / 2) (omega arith) (omega arith) in
-    let c = stands_children first (i / 2) p.0 p.1 p.2 (omega arith) in
+    let p = stands_every first h lv fuel (i / 2) (omega arith) (omega arith) in let c = stands_children first (i / 2) p.0 p.1 p.2 (omega arith) in
     ⊎_elim
     (λ (x : i % 2 < 1). (p.0, c.middle, subst (λ (n : ℕ). StandsOver first n p.0 c.middle) (omega arith) c.left))
     (λ (x : 1 ≤ i % 2). (c.middle, p.1, subst (λ (n : ℕ). StandsOver first n c.middle p.1) (omega arith) c.right))
@@ -83,20 +81,17 @@ order a b h = ⊎_elim (λ (u : b < a). let le : 2 ^ (b + 1) ≤ 2 ^ a = pow-le-
 
 one_part : (first i s e s' e' : ℕ) → StandsOver first i s e → StandsOver first i s' e' → (s ≡ s') × (e ≡ e')
 one_part first i s e s' e' p q =
-    let c = pow_next (p.level + p.height) in let d = pow_next (q.level + q.height) in
-    grind (arith, ints, order, pow_next q.level, pow_next p.level)
+    let c = pow_next (p.level + p.height) in let d = pow_next (q.level + q.height) in grind (arith, ints, order, pow_next q.level, pow_next p.level)
 
 -- the parent of a child, with its other child
 parent_of : (first i j s e : ℕ) → StandsOver first i s e → (i ≡ 2 * j + 1) ⊎ (i ≡ 2 * j + 2) → (u : ℕ) × (v : ℕ) × StandsOver first j u v × HasChildren first j u v
 parent_of first i j s e p is =
-    let w = stands_within first i s e p in
-    let q = stands_every first (p.level + p.height) p.levels j j (omega arith) (omega (arith, is)) in
+    let w = stands_within first i s e p in let q = stands_every first (p.level + p.height) p.levels j j (omega arith) (omega (arith, is)) in
     (q.0, q.1, q.2, stands_children first j q.0 q.1 q.2 (omega (arith, is)))
 
 pub parent_of_left : (first j s e : ℕ) → StandsOver first (2 * j + 1) s e → (u : ℕ) × StandsOver first j s u × StandsOver first (2 * j + 2) e u × (e ≤ u)
 parent_of_left first j s e p =
-    let q = parent_of first (2 * j + 1) j s e p (inl refl) in
-    let o = one_part first (2 * j + 1) _ _ _ _ p q.3.left in
+    let q = parent_of first (2 * j + 1) j s e p (inl refl) in let o = one_part first (2 * j + 1) _ _ _ _ p q.3.left in
     (q.1, rw (← o.0) at q.2, rw (← o.1) at q.3.right, rw (← o.1) at q.3.before)
 
 pub parent_of_right : (first j s e : ℕ) → StandsOver first (2 * j + 2) s e → (u : ℕ) × StandsOver first j u e × StandsOver first (2 * j + 1) u s
@@ -110,8 +105,7 @@ stands_leaf first h k lv b = let e : first + k - first ≡ k = omega arith in rw
 
 pub leaf_stands : (first i s e : ℕ) → StandsOver first i s e → first ≤ i → (s ≡ i - first) × (e ≡ s + 1)
 leaf_stands first i s e p h =
-    let o = one_part first i _ _ _ _ p (leaf first (p.level + p.height) i p.levels h (stands_within first i s e p)) in
-    (omega arith, omega arith)
+    let o = one_part first i _ _ _ _ p (leaf first (p.level + p.height) i p.levels h (stands_within first i s e p)) in (omega arith, omega arith)
 
 -- a node's part has a block
 pub stands_some : (first i s e : ℕ) → StandsOver first i s e → s < e

@@ -6,8 +6,7 @@ zeros_below : (i n : ℕ) → ((j : ℕ) → j < i → bit_at n j ≡ 0) → n /
 zeros_below zero n h = omega arith
 zeros_below (suc i) n h =
     let even : n % 2 ≡ 0 = sym (bit_at_lowest n) ∙ h 0 (omega arith) in
-    let rest = zeros_below i (n / 2) (λ j a. sym (bit_at-suc n j) ∙ h (suc j) (omega arith)) in
-    let twice : 2 ^ suc i ≡ 2 * 2 ^ i = pow-succ' 2 i in
+    let rest = zeros_below i (n / 2) (λ j a. sym (bit_at-suc n j) ∙ h (suc j) (omega arith)) in let twice : 2 ^ suc i ≡ 2 * 2 ^ i = pow-succ' 2 i in
     let above : n / 2 / 2 ^ i ≡ n / 2 ^ suc i = shr-shr n 1 i ∙ ap (λ (k : ℕ). n / 2 ^ k) (let g : 1 + i ≡ suc i = omega arith in g) in
     let q : n / 2 ^ suc i * 2 ^ suc i ≡ n / 2 / 2 ^ i * (2 * 2 ^ i) = ap (λ (x : ℕ). x * 2 ^ suc i) (sym above) ∙ ap (λ (x : ℕ). n / 2 / 2 ^ i * x) twice in
     omega (arith, q, rest)
@@ -21,15 +20,11 @@ odd_most n odd p = omega (arith, le-mul_of_pos_right odd (pow_pos p.zeros))
 
 -- the node after the parent of a right child is a level up at least
 pub digits_after : (node odd : ℕ) → 0 < node → node % 2 ≡ 0 → IsOddPart ((node - 1) / 2 + 2) odd → digits odd + 1 ≤ digits (node + 1)
-digits_after node odd some even p =
-    let most = odd_most _ _ p in
-    grind (arith, digits_up, digits_half)
+digits_after node odd some even p = let most = odd_most _ _ p in grind (arith, digits_up, digits_half)
 
 -- the node before the parent of a left child is a level up at least
 pub digits_before : (node odd : ℕ) → node % 2 ≡ 1 → IsOddPart ((node - 1) / 2 + 1) odd → digits (odd - 2 + 1) + 1 ≤ digits (node + 1)
-digits_before node odd left p =
-    let most = odd_most _ _ p in
-    grind (arith, digits_half, digits_up)
+digits_before node odd left p = let most = odd_most _ _ p in grind (arith, digits_half, digits_up)
 
 -- ---- how many nodes a search reads: a level has a digit more than the one above it
 pub adds_none : (a p : Reads) → AddsAtMost a a p

@@ -10,8 +10,7 @@ grow_more leaves w g h = record { exponent = suc g.exponent; power = omega arith
 
 pub grown : (leaves w : ℕ) → leaves < 2 ^ 63 → IsGrowing leaves w → leaves ≤ w → IsWidth leaves w
 grown leaves w h g enough =
-    let n = pow_next g.exponent in let one = pow_pos g.exponent in
-    let most = (clog_is_least leaves (g.exponent + 1)).0 (omega arith) in
+    let n = pow_next g.exponent in let one = pow_pos g.exponent in let most = (clog_is_least leaves (g.exponent + 1)).0 (omega arith) in
     let small = (clog_is_least leaves g.exponent).1 in
     let exact : g.exponent + 1 ≡ max 1 (clog leaves) = ⊎_elim (λ (z : g.exponent ≡ 0). omega arith) (λ (s : 2 ^ g.exponent < leaves). ⊎_elim (λ (u : g.exponent < clog leaves). omega arith) (λ (u : clog leaves ≤ g.exponent). let k = small u in absurd (omega arith)) (cases_lt g.exponent (clog leaves))) g.short in
     let few : g.exponent ≤ 62 = ⊎_elim (λ (z : g.exponent ≡ 0). omega arith) (λ (s : 2 ^ g.exponent < leaves). order g.exponent 62 (omega arith)) g.short in

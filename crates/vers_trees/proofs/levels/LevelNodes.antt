@@ -47,8 +47,7 @@ module _ (l : List Bool) (b : IsBalanced l) (v : ℕ) (r : ℤ) (some : pos 0 <�
       let q = (is w k).0 p in not_between l 0 v w (excess l v +ℤ r) (λ k y z. before_none l v r i e k z) (omega (arith, ints)) (omega arith) q.0 (omega arith) (opens l w k) q.1
   opened_before i (Some c) e =
       let q = before_some l v r c e in let qb = q.before in let qi = q.inside in let s = q.sum in
-      let f = closes_at l c v (excess l v +ℤ r) (omega (arith, ints)) qb qi s q.last in
-      let p = zero_pair l b c (omega arith) f in let m = p.3 in
+      let f = closes_at l c v (excess l v +ℤ r) (omega (arith, ints)) qb qi s q.last in let p = zero_pair l b c (omega arith) f in let m = p.3 in
       let fall = excess_after_close l c false (omega arith) f in
       rw (before_is l c (negsuc 0) p.0 (before_from_closes l p.0 c m)) (
         p.1,
@@ -76,10 +75,8 @@ unfolding level_ancestor
 level_ancestor_is_search l b v t h some = by_answer (λ o. o ≡ level_ancestor (forest_of l) v t) (last_rise_before l v (neg_ℤ (pos t)))
     (λ e. sym (first_node l b _ _ (at_depth_decides (forest_of l) v t) None (grind (arith, ints, depth_is_excess, before_none, inside, eq-or-lt_of_le))))
     (λ a e.
-    let m = above_from_before l b v t a some (opens l v h) (before_some l v (neg_ℤ (pos t)) a e) in
-    let r = above_is_around l b v t a h m in
-    let k = r.2 in
-    let da = depth_is_excess l b a k in let dv = depth_is_excess l b v h in
+    let m = above_from_before l b v t a some (opens l v h) (before_some l v (neg_ℤ (pos t)) a e) in let r = above_is_around l b v t a h m in
+    let k = r.2 in let da = depth_is_excess l b a k in let dv = depth_is_excess l b v h in
     sym (first_node l b _ _ (at_depth_decides (forest_of l) v t) (Some a) (k, ((omega arith, omega arith), omega (arith, ints)), grind (arith, ints, depth_is_excess))))
 
 -- no node is so deep
@@ -97,7 +94,7 @@ later_on_level : (l : List Bool) (b : IsBalanced l) (v : ℕ) → HasPair l v �
 later_on_level l b v h w k =
     let dw = depth_is_excess l b w k in let dv = depth_is_excess l b v h in
     let up = excess_after_open l w false (inside l w k) (opens l w k) in (
-      λ e. (⊎_elim (λ (z : closing (forest_of l) v < w). z) (λ (z : w ≤ closing (forest_of l) v). let r = h.closes.above w e.1 z in absurd (omega (arith, ints))) (cases_lt (closing (forest_of l) v) w), omega (arith, ints)),
+      λ e. (grind (arith, ints), omega (arith, ints)),
       λ e. (omega (arith, ints), omega arith),
     )
 
@@ -119,8 +116,7 @@ opens_first l b h = one_pair l b 0 h (true_from_ne_false _ (λ e. let r = excess
 
 closes_last : (l : List Bool) (b : IsBalanced l) (n : ℕ) → length l ≡ n + 1 → get_or l n false ≡ false
 closes_last l b n e =
-    let t : excess l (n + 1) ≡ pos 0 = ap (excess l) (sym e) ∙ balanced_total l b in
-    let a = balanced_above l b n (omega arith) in
+    let t : excess l (n + 1) ≡ pos 0 = ap (excess l) (sym e) ∙ balanced_total l b in let a = balanced_above l b n (omega arith) in
     false_from_ne_true _ (λ o. let r = excess_after_open l n false (omega arith) o in omega (arith, ints))
 
 pub first_root : (l : List Bool) (b : IsBalanced l) → 0 < length l → first_of (level (forest_of l) 0) ≡ Some 0
@@ -153,16 +149,14 @@ pub last_root_is_search : (l : List Bool) (b : IsBalanced l) (n : ℕ) → lengt
 unfolding level
 last_root_is_search l b n e =
     let p = zero_pair l b n (omega arith) (closes_last l b n e) in let k = p.1 in let q = p.3 in
-    let t : excess l (n + 1) ≡ pos 0 = ap (excess l) (sym e) ∙ balanced_total l b in
-    let d = depth_is_excess l b p.0 k in
+    let t : excess l (n + 1) ≡ pos 0 = ap (excess l) (sym e) ∙ balanced_total l b in let d = depth_is_excess l b p.0 k in
     before_is l n (negsuc 0) p.0 (before_from_closes l p.0 n q)
     ∙ sym (last_node l b _ _ (λ w. Decides-eqb (depth (forest_of l) w) 0) (Some p.0) (k, omega (arith, ints), λ w x k g. let u = q.above w x (omega arith) in let d = depth_is_excess l b w k in omega (arith, ints)))
 
 before_end : (l : List Bool) (b : IsBalanced l) (n t : ℕ) → length l ≡ n + 1 → (w : ℕ) → HasPair l w → (depth (forest_of l) w ≡ t) ↔ ((w < n) × (excess l w +ℤ pos 1 ≡ excess l n +ℤ pos t))
 before_end l b n t e w k =
     let all : excess l (n + 1) ≡ pos 0 = ap (excess l) (sym e) ∙ balanced_total l b in
-    let r = excess_after_close l n false (omega arith) (closes_last l b n e) in
-    let d = depth_is_excess l b w k in
+    let r = excess_after_close l n false (omega arith) (closes_last l b n e) in let d = depth_is_excess l b w k in
     (λ g. (omega arith, omega (arith, ints)), λ g. omega (arith, ints))
 
 pub level_rightmost_is_search : (l : List Bool) (b : IsBalanced l) (n t : ℕ) (o : Option ℕ) → length l ≡ n + 1 → 0 < t → last_rise_before l n (pos t) ≡ o → opens_for l o ≡ last_of (level (forest_of l) t)

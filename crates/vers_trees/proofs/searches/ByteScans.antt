@@ -19,12 +19,9 @@ excess-part l p n j h i =
 excess-number : (bits : List Bool) (n : ℕ) → n ≤ 64 → length bits ≡ n → excess bits n ≡ pos (2 * count_ones (number bits)) -ℤ pos n
 unfolding excess limb
 excess-number bits n few e =
-    let c = count_limb bits 0 n few in
-    let z = count_none true bits in
-    let b = count_both bits n in
+    let c = count_limb bits 0 n few in let z = count_none true bits in let b = count_both bits n in
     let whole : take 64 bits ≡ bits = take_all 64 bits (omega arith) in
-    let f : limb bits 0 % 2 ^ n ≡ number bits = rw whole (mod-eq_of_lt (number_below bits n (omega arith))) in
-    grind (arith, ints)
+    let f : limb bits 0 % 2 ^ n ≡ number bits = rw whole (mod-eq_of_lt (number_below bits n (omega arith))) in grind (arith, ints)
 
 pub total_of : (l : List Bool) (p n word : ℕ) (d : ℤ) → n ≤ 64 → p + n ≤ length l → word ≡ number (part l p n) → d ≡ pos (2 * count_ones word) -ℤ pos n → excess l (p + n) ≡ excess l p +ℤ d
 total_of l p n word d few h e q = grind (arith, ints, excess-number, length-part, excess-part l p n n h (omega arith))
@@ -52,10 +49,7 @@ byte_of_word l s n m h i =
     front : (k : ℕ) (l : List Bool) → number (take (8 + k) l) % 2 ^ 8 ≡ number (take 8 l)
     front k l =
         let w : number l % 2 ^ (8 + k) ≡ number l % 2 ^ (k + 8) = ap (λ (n : ℕ). number l % 2 ^ n) (omega arith) in
-        let s = mod-pow-add (number l) k 8 in
-        let t = number-take (8 + k) l in
-        let u = number-take 8 l in
-        omega arith
+        let s = mod-pow-add (number l) k 8 in let t = number-take (8 + k) l in let u = number-take 8 l in omega arith
 
 pub byte_read : (l : List Bool) (s n m : ℕ) (o : Option ℕ) (word : ℕ) → o ≡ part_number_or_zero l s n → o ≡ Some word → n ≤ 64 → m + 8 ≤ n → s + n ≤ length l → IsByte (part l (s + m) 8) (word / 2 ^ m % 256)
 byte_read l s n m o word e f few h i = record {
@@ -85,28 +79,23 @@ natural a (negsuc n) h = absurd (omega arith)
 -- where none of the sums of an entry is t
 missed : (from_end : Bool) (l : List Bool) (p entry : ℕ) (t : ℤ) → p + 8 ≤ length l → IsEntry from_end (part l p 8) entry → ((x : ℕ) → least_in entry ≤ x → x ≤ greatest_in entry → sum_from from_end l p +ℤ (pos x -ℤ pos 8) ≢ t) → (k : ℕ) → p ≤ k → k < p + 8 → sum_past from_end l k ≢ t
 missed from_end l p entry t a e none k y z q =
-    let n : ℕ = place_along from_end (k - p) in
-    let m = turned from_end (k - p) (omega arith) in
-    let s = along from_end l p n a m.0 in
+    let n : ℕ = place_along from_end (k - p) in let m = turned from_end (k - p) (omega arith) in let s = along from_end l p n a m.0 in
     let here : sum_past from_end l (p + place_along from_end n) ≡ sum_past from_end l k = ap (sum_past from_end l) (omega arith) in
-    let lo = e.low n m.0 in let hi = e.high n m.0 in
-    let x = natural (least_in entry) (sum_along from_end (part l p 8) (n + 1) +ℤ pos 8) lo in
+    let lo = e.low n m.0 in let hi = e.high n m.0 in let x = natural (least_in entry) (sum_along from_end (part l p 8) (n + 1) +ℤ pos 8) lo in
     none x.0 (omega (arith, ints)) (omega (arith, ints)) (omega (arith, ints))
 
 -- where one of them is, at the place that the entry has for it
 met : (from_end : Bool) (l : List Bool) (p entry x : ℕ) (t : ℤ) → p + 8 ≤ length l → IsEntry from_end (part l p 8) entry → least_in entry ≤ x → x ≤ greatest_in entry → sum_from from_end l p +ℤ (pos x -ℤ pos 8) ≡ t
     → (place_in entry x < 8) × (sum_past from_end l (p + place_in entry x) ≡ t) × ((k : ℕ) → p ≤ k → k < p + 8 → place_along from_end (k - p) < place_along from_end (place_in entry x) → sum_past from_end l k ≢ t)
 met from_end l p entry x t a e u v z =
-    let m = e.met x u v in
-    let w = turned from_end m.step m.within in
+    let m = e.met x u v in let w = turned from_end m.step m.within in
     let back : place_along from_end (place_in entry x) ≡ m.step = ap (place_along from_end) m.place ∙ w.1 in
     let s = along from_end l p m.step a m.within in
     let here : sum_past from_end l (p + place_along from_end m.step) ≡ sum_past from_end l (p + place_in entry x) = ap (λ (n : ℕ). sum_past from_end l (p + n)) (sym m.place) in (
       omega arith,
       omega (arith, ints),
       λ k b c i q.
-          let v = turned from_end (k - p) (omega arith) in
-          let f = along from_end l p (place_along from_end (k - p)) a v.0 in
+          let v = turned from_end (k - p) (omega arith) in let f = along from_end l p (place_along from_end (k - p)) a v.0 in
           let at : sum_past from_end l (p + place_along from_end (place_along from_end (k - p))) ≡ sum_past from_end l k = ap (sum_past from_end l) (omega arith) in
           m.first (place_along from_end (k - p)) (omega arith) (omega (arith, ints)),
     )

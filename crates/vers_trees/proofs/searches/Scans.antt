@@ -98,10 +98,7 @@ part_joined l a m b x y p q =
     let p1 = p.least.1 in let q2 = q.least.2 in
     record {
       total = omega (arith, ints);
-      low = λ j u v. ⊎_elim
-          (λ (w : m < j). let h = q.low j w v in omega (arith, ints, clamps))
-          (λ (w : j ≤ m). let h = p.low j u w in omega (arith, ints, clamps))
-          (cases_lt m j);
+      low = λ j u v. grind (arith, ints, clamps);
       high = λ j u v. ⊎_elim
           (λ (w : m < j). let h = q.high j w v in omega (arith, ints, clamps))
           (λ (w : j ≤ m). let h = p.high j u w in omega (arith, ints, clamps))

@@ -58,8 +58,7 @@ number-after b (c ∷ l) = let h = number-after c l in omega (arith, pow-suc 2 (
 and_ones : (l : List Bool) → count_ones (bit_and (number l) (number (after l))) ≡ rises l
 and_ones [] = ones-ones 0
 and_ones (b ∷ l) =
-    let p = is_not_closed l in
-    let a = and_block 1 (number l) (number (after l)) (bit_value b) (bit_value p) (bit_small b) (bit_small p) in
+    let p = is_not_closed l in let a = and_block 1 (number l) (number (after l)) (bit_value b) (bit_value p) (bit_small b) (bit_small p) in
     rw (number_next b l, number_next p (after l)) (ap count_ones (a ∙ ap (λ (n : ℕ). bit_and (number l) (number (after l)) * 2 ^ 1 + n) (and_values b p)) ∙ ones_next _ (b && p) ∙ ap (λ (n : ℕ). bit_value (b && p) + n) (and_ones l))
 
 after_word : (l : List Bool) → length l ≡ 64 → number (after l) ≡ number l / 2 + 9223372036854775808
@@ -117,8 +116,7 @@ forward_word l from p q n r rise d o word h short s e a long read some over k =
     let b : p + 64 ≤ length l = omega arith in let is = whole_word l p n o word read some long (omega arith) in let f = over (part l p 64) (length-part l p 64 b) is in
     rw (e, long) (forward_more l from p (p + 64) r rise d h short s (omega arith) b (total_of l p 64 word d (omega arith) b is k) (λ k y w.
     let g = excess-part l p 64 (k - p + 1) b (omega arith) in
-    let here : excess l (p + (k - p + 1)) ≡ excess l (k + 1) = ap (excess l) (omega arith) in
-    let u = above false (part l p 64) (k - p + 1) in
+    let here : excess l (p + (k - p + 1)) ≡ excess l (k + 1) = ap (excess l) (omega arith) in let u = above false (part l p 64) (k - p + 1) in
     absurd (omega (arith, ints))))
 
 pub backward_word : (l : List Bool) (p q n end : ℕ) (r rise d : ℤ) (o : Option ℕ) (word : ℕ) → HasNoRise true l end q r rise → length l < 2 ^ 63 → q ≡ p + n → q ≤ end → end ≤ length l → n ≡ 64 → o ≡ part_number_or_zero l p n → o ≡ Some word
@@ -126,10 +124,6 @@ pub backward_word : (l : List Bool) (p q n end : ℕ) (r rise d : ℤ) (o : Opti
 backward_word l p q n end r rise d o word h short e s a long read some over k =
     let t = rw (e, long) at h in let b : p + 64 ≤ length l = omega arith in let is = whole_word l p n o word read some long (omega arith) in let f = over (part l p 64) (length-part l p 64 b) is in
     backward_more l p (p + 64) end r rise d t short (omega arith) (omega arith) a (total_of l p 64 word d (omega arith) b is k) (λ k y w.
-    let m = length-part l p 64 b in
-    let same = ap (excess (part l p 64)) m in
-    let g64 = excess-part l p 64 64 b (omega arith) in
-    let g = excess-part l p 64 (k - p) b (omega arith) in
-    let here : excess l (p + (k - p)) ≡ excess l k = ap (excess l) (omega arith) in
-    let u = below (part l p 64) (k - p) (omega arith) in
-    absurd (omega (arith, ints)))
+    let m = length-part l p 64 b in let same = ap (excess (part l p 64)) m in let g64 = excess-part l p 64 64 b (omega arith) in
+    let g = excess-part l p 64 (k - p) b (omega arith) in let here : excess l (p + (k - p)) ≡ excess l k = ap (excess l) (omega arith) in
+    let u = below (part l p 64) (k - p) (omega arith) in absurd (omega (arith, ints)))

@@ -84,8 +84,7 @@ pub closing_is_zeros : (F : Forest) → closing_places (pairs_by_closing F) ≡ 
 unfolding places
 closing_is_zeros none = refl
 closing_is_zeros (tree X Y) =
-    let n : length (text X) + 2 ≡ 1 + length (text X) + 1 = omega arith in
-    let c : length (text X) + 1 ≡ 1 + length (text X) + 0 = omega arith in
+    let n : length (text X) + 2 ≡ 1 + length (text X) + 1 = omega arith in let c : length (text X) + 1 ≡ 1 + length (text X) + 0 = omega arith in
     rw (closing-tree X Y, closing_is_zeros X, closing_is_zeros Y, n, c) (sym (places-tree false (text X) (text Y)))
 
 -- each is a pair of the forest

@@ -67,8 +67,7 @@ as_part bit l v =
 pub part_counted : (bit : Bool) (l : List Bool) (v : ℕ) → HasPair l v → length (places_in bit l v) + count bit l v ≡ count bit l (closing (forest_of l) v + 1)
 unfolding places_in
 part_counted bit l v h =
-    let k = count_between v (closing (forest_of l) v) (places bit l) (omega arith) in
-    let x = below_counted bit l v in
+    let k = count_between v (closing (forest_of l) v) (places bit l) (omega arith) in let x = below_counted bit l v in
     grind (arith, ints, below_counted, length-filter)
 
 pub part_inside : (bit : Bool) (l : List Bool) (v : ℕ) → HasPair l v → count bit l v + length (places_in bit l v) ≤ length (places bit l)

@@ -79,8 +79,7 @@ meets_backwards l b v h =
     steps_meet (tree_before l) (reverse xs) (λ p i. slice_get (reverse xs) i ≡ closed_before l p)
     (λ p i a e. before_step l p ∙ ap opened (sym a ∙ e))
     (λ p i w a e.
-    let r = length-reverse xs in let n = slice_get_within (reverse xs) i w e in
-    let at = sym (reversed_at xs i (omega arith)) ∙ e in
+    let r = length-reverse xs in let n = slice_get_within (reverse xs) i w e in let at = sym (reversed_at xs i (omega arith)) ∙ e in
     let m = child_member l b v (length xs - 1 - i) w at in (
       w,
       before_step l p ∙ ap opened (sym a ∙ e),
@@ -147,8 +146,7 @@ zeros_fit l = omega (arith, length-places false l, (count_le false l (length l))
 
 pub closed_item : (l : List Bool) (k n i c : ℕ) → k + n ≤ length (places false l) → i < length (closed_by l k n) → slice_get (places false l) (k + i) ≡ Some c → slice_get (closed_by l k n) i ≡ Some (opening_of l c)
 closed_item l k n i c h low at =
-    let zs = take n (drop k (places false l)) in
-    let few : i < n = omega (arith, low, length-closed_by l k n h) in
+    let zs = take n (drop k (places false l)) in let few : i < n = omega (arith, low, length-closed_by l k n h) in
     let inside : i < length zs = omega (arith, few, length-zeros_from l k n h) in
     let is : get_or zs i 0 ≡ c = get_or-take n (drop k (places false l)) i 0 few ∙ get_or-drop k (places false l) i 0 ∙ get_or_from_slice_get (places false l) (k + i) c 0 at in
     slice_get-get_or (closed_by l k n) i 0 low ∙ ap Some (get_or-map (opening_of l) zs i 0 0 inside ∙ ap (opening_of l) is)

@@ -15,5 +15,4 @@ new-requires g c =
 
 pub returns : goal.returns
 returns g c =
-    let w = forwards c.args.self.now c.args.node c.requires.balanced c.requires.is_node in
-    rw (c.searched.ensures.bits, w.0) at c.new.ensures
+    let w = forwards c.args.self.now c.args.node c.requires.balanced c.requires.is_node in rw (c.searched.ensures.bits, w.0) at c.new.ensures

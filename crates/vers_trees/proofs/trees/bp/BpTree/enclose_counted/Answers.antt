@@ -5,8 +5,7 @@ use Rattle.vers_trees.proofs.trees.bp.BpTree.enclose_counted.Goals.{then-is_one_
 
 pub returns-then-i-len-clause-value : goal.returns-then-i-len-clause-value
 unfolding enclosing
-returns-then-i-len-clause-value g c =
-    grind (arith, ints, before_past)
+returns-then-i-len-clause-value g c = grind (arith, ints, before_past)
 
 pub returns-clause-value : goal.returns-clause-value
 returns-clause-value g c =

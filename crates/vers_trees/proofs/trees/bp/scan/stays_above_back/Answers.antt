@@ -4,8 +4,4 @@ use Rattle.vers_trees.proofs.trees.bp.scan.stays_above_back.Goals as goal
 
 pub returns : goal.returns
 returns c = λ t bits long is.
-    let n = count_ones (bit_and c.args.word (c.args.word / 2 + 9223372036854775808)) in
-    let r = rises_counted bits c.args.word long is in
-    let f = rises_few bits in
-    let z = count_is n (omega arith) in
-    omega (arith, ints)
+    let n = count_ones (bit_and c.args.word (c.args.word / 2 + 9223372036854775808)) in grind (arith, ints, count_is, rises_few, rises_counted)
