@@ -26,11 +26,11 @@ excess_in_first X Y i h = grind (arith, ints, excess-append_left, excess-cons tr
 
 rest_from_zero : (X Y : Forest) (i : ℕ) → excess (text X) (length (text X)) ≡ pos 0 → excess (text (tree X Y)) (length (text X) + 2 + i) ≡ excess (text Y) i
 rest_from_zero X Y i z =
-    let n = length (text X) in grind (arith, ints, excess-append_right, excess-cons, excess-cons true (text X ++ false ∷ text Y) (n + suc i))
+    grind (arith, ints, excess-append_right, excess-cons, excess-cons true (text X ++ false ∷ text Y) ((length (text X)) + suc i))
 
 pub total_is_zero : (F : Forest) → excess (text F) (length (text F)) ≡ pos 0
 total_is_zero none = excess-nil 0
-total_is_zero (tree X Y) = let zx = total_is_zero X in grind (arith, ints, length-tree, rest_from_zero X Y (length (text Y)) zx, total_is_zero Y)
+total_is_zero (tree X Y) = grind (arith, ints, length-tree, rest_from_zero X Y (length (text Y)) (total_is_zero X), total_is_zero Y)
 
 -- past the first tree
 pub excess_in_rest : (X Y : Forest) (i : ℕ) → excess (text (tree X Y)) (length (text X) + 2 + i) ≡ excess (text Y) i
@@ -135,7 +135,7 @@ pub closes_rises : (l : List Bool) (v c : ℕ) (d : Bool) → Closes l v c → g
 closes_rises l v c d p = open_from_rise l v d (omega arith) (p.above (v + 1) (omega arith) (omega arith))
 
 pub closes_falls : (l : List Bool) (v c : ℕ) (d : Bool) → Closes l v c → get_or l c d ≡ false
-closes_falls l v c d p = let a = p.after in let i = p.inside in let x = p.above c a (omega arith) in close_from_fall l c d i (omega (arith, ints))
+closes_falls l v c d p = let x = p.above c p.after (omega arith) in close_from_fall l c d p.inside (omega (arith, ints))
 
 pub closes_paired : (F : Forest) (v c : ℕ) → Closes (text F) v c → Paired F v c
 closes_paired F v c p = grind (arith, ints, closes_once, paired_closes, open_is_paired F v false (omega arith) (closes_rises (text F) v c false p))

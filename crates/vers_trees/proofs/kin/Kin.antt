@@ -31,7 +31,7 @@ above_from_before l b v t a h o p =
 
 -- what stands above v is around it
 pub above_is_around : (l : List Bool) (b : IsBalanced l) (v t a : ℕ) → HasPair l v → IsAbove l v t a → (a < v) × (closing (forest_of l) v < closing (forest_of l) a) × HasPair l a
-above_is_around l b v t a h p = let q = p.pair in grind (arith, ints, one_pair, closes_rises, closes_to l b a p.close q, p.before)
+above_is_around l b v t a h p = grind (arith, ints, one_pair, closes_rises, closes_to l b a p.close p.pair, p.before)
 
 pub above_parent : (l : List Bool) (b : IsBalanced l) (v p : ℕ) → HasPair l v → IsAbove l v 1 p → parent (forest_of l) v ≡ Some p
 unfolding parent
@@ -88,7 +88,7 @@ filter_agree {X = X} p q (x ∷ xs) h = grind (arith, contains_later, contains_f
 -- a node inside the tree of v has its parent at v or after it, so not the parent of v
 not_beside : (l : List Bool) (b : IsBalanced l) (v w : ℕ) → HasPair l v → HasPair l w → v < w → w ≤ closing (forest_of l) v → parent (forest_of l) w ≡ parent (forest_of l) v → ⊥
 not_beside l b v w h k x y e =
-    let n = nested l v (closing (forest_of l) v) w (closing (forest_of l) w) h.closes k.closes x y in let p = has_parent l b w v k h x n in
+    let p = has_parent l b w v k h x (nested l v (closing (forest_of l) v) w (closing (forest_of l) w) h.closes k.closes x y) in
     omega (arith, parent_around l b v p.0 h (sym e ∙ p.1))
 
 -- the tree that opens right after that of v has the same parent
@@ -122,9 +122,9 @@ last_child_is_search l b v c h s x =
 -- what a tree's parent closes right after it has no later child
 last_beside : (l : List Bool) (b : IsBalanced l) (v w : ℕ) → HasPair l v → closing (forest_of l) v + 1 < length l → get_or l (closing (forest_of l) v + 1) false ≡ false → HasPair l w → closing (forest_of l) v < w → parent (forest_of l) w ≡ parent (forest_of l) v → ⊥
 last_beside l b v w h i o k x e =
-    let s = zero_pair l b (closing (forest_of l) v + 1) i o in let q = s.1 in let m = s.3 in
-    let z = opens_around l v (closing (forest_of l) v) s.0 (closing (forest_of l) v + 1) h.closes m (omega arith) (omega arith) in
-    let g = has_parent l b v s.0 h q z (omega arith) in
+    let s = zero_pair l b (closing (forest_of l) v + 1) i o in
+    let z = opens_around l v (closing (forest_of l) v) s.0 (closing (forest_of l) v + 1) h.closes s.3 (omega arith) (omega arith) in
+    let g = has_parent l b v s.0 h s.1 z (omega arith) in
     grind (arith, ints, parent_around, nested, eq-or-lt_of_le, parent_around l b w g.0 k (e ∙ g.1))
 
 pub previous_sibling_none : (l : List Bool) (b : IsBalanced l) (v : ℕ) → HasPair l v → 0 < v → get_or l (v - 1) false ≡ true → previous_of (siblings (forest_of l) v) v ≡ None
@@ -137,9 +137,9 @@ previous_sibling_none l b v h some o =
 pub previous_sibling_is_search : (l : List Bool) (b : IsBalanced l) (v : ℕ) → HasPair l v → 0 < v → get_or l (v - 1) false ≡ false → last_rise_before l (v - 1) (negsuc 0) ≡ previous_of (siblings (forest_of l) v) v
 unfolding nodes_under
 previous_sibling_is_search l b v h some o =
-    let p = zero_pair l b (v - 1) (omega arith) o in let k = p.1 in let q = p.3 in let at : closing (forest_of l) p.0 + 1 ≡ v = omega arith in
+    let p = zero_pair l b (v - 1) (omega arith) o in let k = p.1 in let at : closing (forest_of l) p.0 + 1 ≡ v = omega arith in
     let same : parent (forest_of l) v ≡ parent (forest_of l) p.0 = ap (parent (forest_of l)) (sym at) ∙ same_parent l b p.0 k (subst (HasPair l) (sym at) h) in
-    before_is l (v - 1) (negsuc 0) p.0 (before_from_closes l p.0 (v - 1) q)
+    before_is l (v - 1) (negsuc 0) p.0 (before_from_closes l p.0 (v - 1) p.3)
     ∙ sym (previous_in l b _ _ (λ w. option_decides (parent (forest_of l) w) (parent (forest_of l) v)) v (Some p.0) (k, (sym same, omega arith), λ w y kw e. not_beside l b p.0 w k kw y (omega arith) (e.0 ∙ same)))
 
 -- ---- by one bit: what opens at a place, and what closes right before it

@@ -8,22 +8,22 @@ after_from_closes l v c p = grind (arith, ints, excess_after_open l v false (ome
 
 pub closes_from_after : (l : List Bool) (v c : ℕ) (d : Bool) → get_or l v d ≡ true → IsFirstRiseAfter l v (negsuc 0) c → Closes l v c
 closes_from_after l v c d o p =
-    let a = p.after in let i = p.inside in let r = excess_after_open l v d (omega arith) o in
+    let r = excess_after_open l v d (omega arith) o in
     record {
-      after = a;
-      inside = i;
+      after = p.after;
+      inside = p.inside;
       back = omega (arith, ints);
       above = λ j x y. above_until (excess l) (excess-is_walk l) (excess l v) (v + 1) j (omega arith) (omega (arith, ints)) (λ k g h e. let at : excess l (k - 1 + 1) ≡ excess l k = ap (excess l) (omega arith) in p.first (k - 1) (omega arith) (omega arith) (omega (arith, ints)));
     }
 
 pub before_from_closes : (l : List Bool) (v c : ℕ) → Closes l v c → IsLastRiseBefore l c (negsuc 0) v
-before_from_closes l v c p = let i = p.inside in grind (arith, ints, excess_after_close l c true i (closes_falls l v c true p))
+before_from_closes l v c p = grind (arith, ints, excess_after_close l c true p.inside (closes_falls l v c true p))
 
 pub closes_from_before : (l : List Bool) (v c : ℕ) (d : Bool) → get_or l c d ≡ false → IsLastRiseBefore l c (negsuc 0) v → Closes l v c
 closes_from_before l v c d o p =
-    let a = p.before in let i = p.inside in let r = excess_after_close l c d i o in
+    let i = p.inside in let r = excess_after_close l c d i o in
     record {
-      after = a;
+      after = p.before;
       inside = i;
       back = omega (arith, ints);
       above = λ j x y. above_since (excess l) (excess-is_walk l) (excess l v) j c y (omega (arith, ints)) (λ k g h e. p.last k (omega arith) h (omega (arith, ints)));
@@ -81,7 +81,7 @@ first_child_above l v c p b = grind (arith, ints, one_before, excess_after_open 
 -- a node with a child has a closing bracket before its own, that of its last child
 pub last_child_closes : (l : List Bool) (v c : ℕ) → Closes l v (c + 1) → v < c → get_or l c false ≡ false
 last_child_closes l v c p h =
-    let i = p.inside in grind (arith, ints, excess_after_open, cases_Bool, excess_after_close l (c + 1) false i (closes_falls l v (c + 1) false p))
+    grind (arith, ints, excess_after_open, cases_Bool, excess_after_close l (c + 1) false p.inside (closes_falls l v (c + 1) false p))
 
 pub last_child_above : (l : List Bool) (v c w : ℕ) → Closes l v (c + 1) → Closes l w c → v < w → IsAbove l w 1 v
-last_child_above l v c w p q h = let i = p.inside in grind (arith, ints, excess_after_close l (c + 1) false i (closes_falls l v (c + 1) false p))
+last_child_above l v c w p q h = grind (arith, ints, excess_after_close l (c + 1) false p.inside (closes_falls l v (c + 1) false p))

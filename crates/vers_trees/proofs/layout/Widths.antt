@@ -61,8 +61,8 @@ one_at_least n size so h = grind (arith, div_ceil_times)
 
 pub tree_made : (l : List Bool) (size first : ℕ) (nodes : List Node) → 0 < size → 0 < length l → length l < 2 ^ 63 → IsWidth (block_count size (length l)) (first + 1) → CoveredFrom l size first nodes 0 → IsTreeOf l size first nodes
 tree_made l size first nodes so some short w c =
-    let d = (div_ceil_times (length l) size so).0 in let e = w.enough in let p = w.power in
-    let u : block_count size (length l) * size ≤ (first + 1) * size = mul-le-mul_right size e in
+    let d = (div_ceil_times (length l) size so).0 in let p = w.power in
+    let u : block_count size (length l) * size ≤ (first + 1) * size = mul-le-mul_right size w.enough in
     let k : digits first ≡ max 1 (clog (block_count size (length l))) = ap digits (omega arith) ∙ digits_below_pow (max 1 (clog (block_count size (length l)))) in
     let n = (some_counted size (length l) some).1 in
     record { tree = record { height = max 1 (clog (block_count size (length l))); levels = sym p; fits = omega arith; covered = c; some = so; short = short; small = omega arith }; few = omega arith }

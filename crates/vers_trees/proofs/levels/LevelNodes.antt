@@ -46,15 +46,15 @@ module _ (l : List Bool) (b : IsBalanced l) (v : ℕ) (r : ℤ) (some : pos 0 <�
   opened_before i None e = λ w k p.
       let q = (is w k).0 p in not_between l 0 v w (excess l v +ℤ r) (λ k y z. before_none l v r i e k z) (omega (arith, ints)) (omega arith) q.0 (omega arith) (opens l w k) q.1
   opened_before i (Some c) e =
-      let q = before_some l v r c e in let qb = q.before in let qi = q.inside in let s = q.sum in
-      let f = closes_at l c v (excess l v +ℤ r) (omega (arith, ints)) qb qi s q.last in let p = zero_pair l b c (omega arith) f in let m = p.3 in
+      let q = before_some l v r c e in let qb = q.before in let qi = q.inside in
+      let f = closes_at l c v (excess l v +ℤ r) (omega (arith, ints)) qb qi q.sum q.last in let p = zero_pair l b c (omega arith) f in let m = p.3 in
       let fall = excess_after_close l c false (omega arith) f in
       rw (before_is l c (negsuc 0) p.0 (before_from_closes l p.0 c m)) (
         p.1,
         (is p.0 p.1).1 (omega arith, omega (arith, ints)),
         λ u a k pu.
-            let y = ((is u k).0 pu).0 in let t = ((is u k).0 pu).1 in ⊎_elim
-            (λ (z : c < u). not_between l c v u _ q.last (omega (arith, ints)) (omega arith) y (omega arith) (opens l u k) t)
+            let t = ((is u k).0 pu).1 in ⊎_elim
+            (λ (z : c < u). not_between l c v u _ q.last (omega (arith, ints)) (omega arith) (((is u k).0 pu).0) (omega arith) (opens l u k) t)
             (λ (z : u ≤ c). let w = m.above u a z in omega (arith, ints))
             (cases_lt c u),
       )
@@ -133,9 +133,9 @@ too_deep l b t far = (first_in l b _ _ (λ w. Decides-eqb (depth (forest_of l) w
 -- below the first root a node opens where the excess rises from there
 below_first : (l : List Bool) (b : IsBalanced l) (t : ℕ) → 0 < t → (w : ℕ) → HasPair l w → (depth (forest_of l) w ≡ t) ↔ ((0 < w) × (excess l (w + 1) ≡ excess l (0 + 1) +ℤ pos t))
 below_first l b t some w k =
-    let z = excess-zero l in let d = depth_is_excess l b w k in let i = inside l w k in
+    let z = excess-zero l in let d = depth_is_excess l b w k in
     let one = excess_after_open l 0 false (omega arith) (opens l 0 (opens_first l b (omega arith))) in
-    let r = excess_after_open l w false i (opens l w k) in (
+    let r = excess_after_open l w false (inside l w k) (opens l w k) in (
       λ e. (⊎_elim (λ (s : w < 1). let g : excess l w ≡ excess l 0 = ap (excess l) (omega arith) in absurd (omega (arith, ints))) (λ (s : 1 ≤ w). s) (cases_lt w 1), omega (arith, ints)),
       λ e. omega (arith, ints),
     )

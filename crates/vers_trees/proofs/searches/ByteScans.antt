@@ -88,8 +88,8 @@ missed from_end l p entry t a e none k y z q =
 met : (from_end : Bool) (l : List Bool) (p entry x : ℕ) (t : ℤ) → p + 8 ≤ length l → IsEntry from_end (part l p 8) entry → least_in entry ≤ x → x ≤ greatest_in entry → sum_from from_end l p +ℤ (pos x -ℤ pos 8) ≡ t
     → (place_in entry x < 8) × (sum_past from_end l (p + place_in entry x) ≡ t) × ((k : ℕ) → p ≤ k → k < p + 8 → place_along from_end (k - p) < place_along from_end (place_in entry x) → sum_past from_end l k ≢ t)
 met from_end l p entry x t a e u v z =
-    let m = e.met x u v in let w = turned from_end m.step m.within in
-    let back : place_along from_end (place_in entry x) ≡ m.step = ap (place_along from_end) m.place ∙ w.1 in
+    let m = e.met x u v in
+    let back : place_along from_end (place_in entry x) ≡ m.step = ap (place_along from_end) m.place ∙ (turned from_end m.step m.within).1 in
     let s = along from_end l p m.step a m.within in
     let here : sum_past from_end l (p + place_along from_end m.step) ≡ sum_past from_end l (p + place_in entry x) = ap (λ (n : ℕ). sum_past from_end l (p + n)) (sym m.place) in (
       omega arith,

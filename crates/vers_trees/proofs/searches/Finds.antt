@@ -93,8 +93,8 @@ module _ (back : Bool) (s : Sought) (first : ℕ) (nodes : List Node) (block : �
             first = λ k b z. ⊎_elim (λ w. ahead.passed.none k w z) (λ w. t.first k w (omega (arith, ints))) (split back s.from (start_of s.bits s.size (edge back j (j + 1))) (up_to back place) k b);
           })
       next_answer x y (Err past) e g q =
-          let t = rw (e, g) at q in let re = ahead.passed.remains in let wh = whole in let k = ahead.place in
-          absurd (t.none k.0 (in_block back s j k.0 k.1 k.2) (omega (arith, ints)))
+          let re = ahead.passed.remains in let wh = whole in let k = ahead.place in
+          absurd ((rw (e, g) at q).none k.0 (in_block back s j k.0 k.1 k.2) (omega (arith, ints)))
 
 -- what it reads then: the tree's nodes, and the bits of a block
 module _ (back : Bool) (s : Sought) (first : ℕ) (nodes : List Node) (block : ℕ) (rise : ℤ) (p : IsPassed back s first nodes block rise) (a b : Reads) (h : AddsAtMost a b (only_nodes (2 * digits first))) where

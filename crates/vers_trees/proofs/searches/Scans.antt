@@ -95,7 +95,6 @@ part_start l a d s = grind arith
 -- the node over two neighbouring parts
 pub part_joined : (l : List Bool) (a m b : ℕ) (x y : Node) → IsPart l a m x → IsPart l m b y → IsPart l a b (combined x y)
 part_joined l a m b x y p q =
-    let p1 = p.least.1 in let q2 = q.least.2 in
     record {
       total = omega (arith, ints);
       low = λ j u v. grind (arith, ints, clamps);
@@ -104,8 +103,8 @@ part_joined l a m b x y p q =
           (λ (w : j ≤ m). let h = p.high j u w in omega (arith, ints, clamps))
           (cases_lt m j);
       least = by_lt_z (x.total +ℤ y.least) x.least
-          (λ w. (q.least.0, omega arith, q2, omega (arith, ints, clamps)))
-          (λ w. (p.least.0, p1, omega arith, omega (arith, ints, clamps)));
+          (λ w. (q.least.0, omega arith, q.least.2, omega (arith, ints, clamps)))
+          (λ w. (p.least.0, p.least.1, omega arith, omega (arith, ints, clamps)));
       greatest = by_lt_z x.greatest (x.total +ℤ y.greatest)
           (λ w. (q.greatest.0, omega arith, q.greatest.2, omega (arith, ints, clamps)))
           (λ w. (p.greatest.0, p.greatest.1, omega arith, omega (arith, ints, clamps)));

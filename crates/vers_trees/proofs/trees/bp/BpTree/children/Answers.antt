@@ -14,5 +14,4 @@ new-requires g c =
     (omega arith, (omega arith, (c.searched.ensures.indexed, subst (λ (l : List Bool). IsWalkOfSiblings l true (c.args.node + 1)) (sym c.searched.ensures.bits) w.1)))
 
 pub returns : goal.returns
-returns g c =
-    let w = forwards c.args.self.now c.args.node c.requires.balanced c.requires.is_node in rw (c.searched.ensures.bits, w.0) at c.new.ensures
+returns g c = rw (c.searched.ensures.bits, (forwards c.args.self.now c.args.node c.requires.balanced c.requires.is_node).0) at c.new.ensures

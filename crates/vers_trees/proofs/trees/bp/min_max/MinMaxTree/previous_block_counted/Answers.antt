@@ -52,8 +52,7 @@ loop-node-preserved g c =
     }
 
 pub loop-node-smaller : goal.loop-node-smaller
-loop-node-smaller g c =
-    let o = c.node_before-node-in-loop-node.ensures in omega (arith, odd_most _ _ o.1)
+loop-node-smaller g c = omega (arith, odd_most _ _ c.node_before-node-in-loop-node.ensures.1)
 
 pub overflow_add-self : goal.overflow_add-self
 overflow_add-self g c = let few = begin_within _ _ _ true c.args.begin _ c.requires.begins.1 in record { fits = omega arith }

@@ -7,8 +7,7 @@ returns-then-min-left c =
     let lo : FitsSigned w64 c.min.result = search rules in let hi : FitsSigned w64 c.max.result = search rules in
     let m : to_z w64 (of_z w64 c.min.result) ≡ int_min c.args.self.now.least (pos 0) = to_z-of_z w64 c.min.result lo ∙ (rw (to_z-of_z w64 c.args.self.now.least least) at c.min.ensures.value) in
     let n : to_z w64 (of_z w64 c.max.result) ≡ int_max c.args.self.now.greatest (pos 0) = to_z-of_z w64 c.max.result hi ∙ (rw (to_z-of_z w64 c.args.self.now.greatest greatest) at c.max.ensures.value) in
-    let l = to_z-of_z w64 c.args.left c.ranges.left in
-    rw (n, l) (
+    rw (n, (to_z-of_z w64 c.args.left c.ranges.left)) (
       λ t. record { low = omega (arith, ints, clamps); high = omega (arith, ints, clamps) },
       λ i. true_from_ne_false _ (λ f. omega (arith, ints, clamps)),
     )
