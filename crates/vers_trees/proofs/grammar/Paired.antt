@@ -95,8 +95,7 @@ end_at true v c = v
 end_at false v c = c
 
 end_moved : (bit : Bool) (n v c : ℕ) → end_at bit (n + v) (n + c) ≡ n + end_at bit v c
-end_moved true n v c = refl
-end_moved false n v c = refl
+end_moved bit n v c = grind arith
 
 bit_is_paired : (F : Forest) (bit : Bool) (i : ℕ) (d : Bool) → i < length (text F) → get_or (text F) i d ≡ bit → (v : ℕ) × (c : ℕ) × Paired F v c × (end_at bit v c ≡ i)
 bit_is_paired none bit i d h b = absurd (omega arith)

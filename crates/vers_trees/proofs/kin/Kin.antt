@@ -1,5 +1,5 @@
 -- The nodes around a node of a balanced list: its parent, its depth, how many come before it, and where its nearest children and siblings open.
-use Rattle.vers_trees.proofs.Words.{◌≡◌, ℕ, zero, suc, ◌+◌, ◌-◌, ◌<◌, ◌≤◌, ◌<ℤ◌, Bool, true, false, ◌&&◌, List, [], ◌∷◌, get_or, ltb, leb, count_by, pos, negsuc, neg_ℤ, Some, arith, ⊎_elim, sym, refl, ap, ◌∙◌, Decides, lt-ltb, le-ltb, le-leb, Decides-ltb, Decides-and, leb_tells, length-filter, count, places, excess, last_rise_before, Forest, pairs, IsBalanced, forest_of, nodes, closing, is_ancestor, is_proper_ancestor, depth, parent, node_index, IsLastRiseBefore, ints, rules, common_steps, cond, length, Option, None, subst, filter, Contains, last_or, cases_lt, Decides-like, same_from_decides, cond_both, eq-or-lt_of_le, nodes_under, children, siblings, first_of, last_of, next_of, previous_of, get_or_default, ◌↔◌, IsTrue, is_some, not, count_both, first_rise_after, IsNode, ◌≢◌, slice_get, option_map, ◌==◌, slice_get-get_or, select, length-places, none, tree, text, ne_eqb, slice_get_within, false_from_ne_true}
+use Rattle.vers_trees.proofs.Words.{◌≡◌, ℕ, zero, suc, ◌+◌, ◌-◌, ◌<◌, ◌≤◌, ◌<ℤ◌, Bool, true, false, ◌&&◌, List, [], ◌∷◌, get_or, ltb, leb, count_by, pos, negsuc, neg_ℤ, Some, arith, ⊎_elim, sym, refl, ap, ◌∙◌, Decides, lt-ltb, le-ltb, le-leb, Decides-ltb, Decides-and, leb_tells, length-filter, count, places, excess, last_rise_before, Forest, pairs, IsBalanced, forest_of, nodes, closing, is_ancestor, is_proper_ancestor, depth, parent, node_index, IsLastRiseBefore, ints, rules, common_steps, cond, length, Option, None, subst, filter, Contains, last_or, Decides-like, same_from_decides, cond_both, eq-or-lt_of_le, nodes_under, children, siblings, first_of, last_of, next_of, previous_of, get_or_default, ◌↔◌, IsTrue, is_some, not, count_both, first_rise_after, IsNode, ◌≢◌, slice_get, option_map, ◌==◌, slice_get-get_or, select, length-places, none, tree, text, ne_eqb, slice_get_within, false_from_ne_true}
 use Rattle.vers_trees.proofs.walks.Lists.{places-cons}
 use Rattle.vers_trees.proofs.searches.Searches.{before_some, before_none, by_answer, before_is, after_is}
 use Rattle.vers_trees.proofs.grammar.Excess.{above_since, excess-is_walk, open_from_rise, excess_after_open, excess_after_close}
@@ -191,16 +191,13 @@ module _ (l : List Bool) (b : IsBalanced l) (v : ℕ) (n : IsNode (forest_of l) 
 
 -- a list is empty where it has no first
 pub leaf_by : (xs : List ℕ) (o : Option ℕ) (r : Bool) → is_some o ≡ not r → o ≡ first_of xs → IsTrue r ↔ (xs ≡ [])
-leaf_by [] o true e f = search rules
-leaf_by [] o false e f = cc
-leaf_by (x ∷ xs) o true e f = absurd (cc)
-leaf_by (x ∷ xs) o false e f = (λ h. absurd (cc), λ h. absurd (cc))
+leaf_by [] o r e f = grind arith
+leaf_by (x ∷ xs) o r e f = grind arith
 
 -- ---- in the words of any tree
 -- a handle is the place itself
 pub same_place : (o p : Option ℕ) → o ≡ p → option_map (λ v. v) o ≡ p
-same_place None p e = e
-same_place (Some x) p e = e
+same_place o p e = grind arith
 
 pub size_by : (l : List Bool) → IsBalanced l → (n : ℕ) → n ≡ count true l (length l) → n ≡ length (nodes (forest_of l))
 size_by l b n e = e ∙ sym (length-places true l) ∙ ap (λ (xs : List ℕ). length xs) (sym (nodes_by l b))

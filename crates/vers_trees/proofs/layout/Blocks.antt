@@ -65,8 +65,7 @@ passed_over true s i e x left c le p o =
 
 -- what is left to a place that has the sum fits, and where what would be left at some place doesn't, no place has it
 pub left_fits : (back : Bool) (s : Sought) (p : ℕ) (left : ℤ) (k : ℕ) → length s.bits < 2 ^ 63 → p ≤ length s.bits → excess s.bits p +ℤ left ≡ target s → k < length s.bits → sum_past back s.bits k ≡ target s → FitsSigned w64 left
-left_fits false s p left k short i r h q = rise_fits s.bits p (k + 1) left short i (omega arith) (omega (arith, ints))
-left_fits true s p left k short i r h q = rise_fits s.bits p k left short i (omega arith) (omega (arith, ints))
+left_fits back s p left k short i r h q = grind (arith, ints, rise_fits)
 
 pub too_far : (back : Bool) (s : Sought) (p q : ℕ) (left rest : ℤ) → length s.bits < 2 ^ 63 → Passed back s p left → q ≤ length s.bits → excess s.bits q +ℤ rest ≡ target s → (FitsSigned w64 rest → ⊥) → HasNone back s
 too_far false s p q left rest short h i r long = λ k a b e. long (left_fits false s q rest k short i r b e)

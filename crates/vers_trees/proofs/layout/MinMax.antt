@@ -8,7 +8,7 @@ starts_up l size i e h = grind (arith, ints, mul-le-mul_right)
 
 -- the part of a node that begins inside the list has a place, and every part has the node's total
 pub part_inside : (l : List Bool) (size i e : ℕ) (x : Node) → Covers l size i e x → i * size < length l → IsPart l (start_of l size i) (start_of l size e) x
-part_inside l size i e x c h = ⊎_elim (λ (p : IsPart l (start_of l size i) (start_of l size e) x). p) (λ (q : (length l ≤ i * size) × (x ≡ empty_node)). absurd (omega arith)) c.part
+part_inside l size i e x c h = grind arith
 
 pub total_of_part : (l : List Bool) (size i e : ℕ) (x : Node) → Covers l size i e x → i ≤ e → excess l (start_of l size e) ≡ excess l (start_of l size i) +ℤ x.total
 total_of_part l size i e x c h = grind (arith, starts_up)
@@ -77,7 +77,7 @@ stands_within first i s e p = grind (arith, pow-le-pow_right)
 
 -- a node has one part
 pub order : (a b : ℕ) → 2 ^ a < 2 ^ (b + 1) → a ≤ b
-order a b h = ⊎_elim (λ (u : b < a). let le : 2 ^ (b + 1) ≤ 2 ^ a = pow-le-pow_right (omega arith) (omega arith) in absurd (omega arith)) (λ (u : a ≤ b). u) (cases_lt b a)
+order a b h = grind (arith, pow-le-pow_right)
 
 one_part : (first i s e s' e' : ℕ) → StandsOver first i s e → StandsOver first i s' e' → (s ≡ s') × (e ≡ e')
 one_part first i s e s' e' p q =

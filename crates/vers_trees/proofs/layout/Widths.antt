@@ -1,5 +1,5 @@
 -- The width of a tree, and its nodes put together.
-use Rattle.vers_trees.proofs.Words.{◌≡◌, ℕ, zero, suc, ◌+◌, ◌-◌, ◌*◌, ◌^◌, ◌<◌, ◌≤◌, inl, inr, min, max, Bool, List, [], ◌∷◌, ◌++◌, length, get_or, take, drop, arith, ⊎_elim, subst, sym, refl, ap, ◌∙◌, length-append, cases_lt, div_ceil_times, get_or_append_left, get_or_at, take-append_seam, pow-le-pow_right, pow_next, pow_pos, clog_is_least, mul-le-mul_right, digits, digits_below_pow, Node, IsPart, CoveredFrom, empty_node, block_count, clog, levels, node_count, IsWidth, IsGrowing, AreFirstBlocks, IsTreeOf, IsIndexed}
+use Rattle.vers_trees.proofs.Words.{◌≡◌, ℕ, suc, ◌+◌, ◌-◌, ◌*◌, ◌^◌, ◌<◌, ◌≤◌, inl, inr, min, max, Bool, List, [], ◌∷◌, ◌++◌, length, get_or, take, drop, arith, ⊎_elim, subst, sym, refl, ap, ◌∙◌, length-append, cases_lt, div_ceil_times, get_or_append_left, get_or_at, take-append_seam, pow-le-pow_right, pow_next, pow_pos, clog_is_least, mul-le-mul_right, digits, digits_below_pow, Node, IsPart, CoveredFrom, empty_node, block_count, clog, levels, node_count, IsWidth, IsGrowing, AreFirstBlocks, IsTreeOf, IsIndexed}
 use Rattle.vers_trees.proofs.layout.MinMax.{order}
 
 pub grow_start : (leaves : ℕ) → IsGrowing leaves 2
@@ -24,8 +24,7 @@ width_is leaves w h = grind arith
 
 pub some_counted : (size n : ℕ) → 0 < n → (node_count size n ≡ block_count size n + max 1 (2 ^ clog (block_count size n) - 1)) × (levels size n ≡ max 1 (clog (block_count size n)) + 1)
 unfolding node_count levels
-some_counted size zero h = absurd (omega arith)
-some_counted size (suc n) h = (refl, refl)
+some_counted size n h = grind arith
 
 pub no_nodes_counted : (size n : ℕ) (nodes : List Node) → n ≡ 0 → nodes ≡ [] → length nodes ≡ node_count size n
 unfolding node_count

@@ -29,9 +29,8 @@ member_from n (suc i) (x ∷ xs) a h = omega (arith, member_from (x + 1) i xs a.
 in_order : (n i j : ℕ) (xs : List ℕ) → AscendsFrom n xs → i ≤ j → j < length xs → get_or xs i 0 + j ≤ get_or xs j 0 + i
 in_order n i j [] a h k = absurd (omega arith)
 in_order n zero zero (x ∷ xs) a h k = omega arith
-in_order n (suc i) zero (x ∷ xs) a h k = absurd (omega arith)
 in_order n zero (suc j) (x ∷ xs) a h k = omega (arith, member_from (x + 1) j xs a.1 (omega arith))
-in_order n (suc i) (suc j) (x ∷ xs) a h k = omega (arith, in_order (x + 1) i j xs a.1 (omega arith) (omega arith))
+in_order n (suc i) j (x ∷ xs) a h k = grind (arith, in_order (x + 1) i (j - 1) xs a.1)
 
 pub next_member : (n i v : ℕ) (xs : List ℕ) → AscendsFrom n xs → slice_get xs i ≡ Some v → find (λ w. ltb v w) xs ≡ slice_get xs (suc i)
 next_member n i v xs a e =

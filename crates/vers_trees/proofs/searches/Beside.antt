@@ -17,8 +17,7 @@ nothing_after l i r h = ((λ t. absurd (cc)), (λ found. let a = (after_some l i
 
 -- ---- right before
 turned_step : (b : Bool) → bit_step (not b) ≡ pos 0 -ℤ bit_step b
-turned_step true = refl
-turned_step false = refl
+turned_step b = grind arith
 
 pub right_before : (l : List Bool) (i : ℕ) (r d : ℤ) (b : Bool) → FitsSigned w64 r → 0 < i → i < length l → b ≡ get_or l (i - 1) false → d ≡ bit_step (not b) → IsTrue (nat_eq (of_z w64 d) (of_z w64 r)) ↔ (last_rise_before l i r ≡ Some (i - 1))
 right_before l i r d b f some h e q =

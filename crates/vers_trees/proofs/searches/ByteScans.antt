@@ -1,5 +1,5 @@
 -- Whole bytes of a scan, by the entries of their tables.
-use Rattle.vers_trees.proofs.Words.{◌≡◌, ◌≢◌, ℕ, ◌+◌, ◌-◌, ◌*◌, ◌/◌, ◌%◌, ◌^◌, ◌<◌, ◌≤◌, Bool, true, false, List, length, take, drop, ℤ, pos, negsuc, ◌+ℤ◌, ◌-ℤ◌, ◌≤ℤ◌, arith, sym, ap, refl, Option, Some, FitsSigned, to_z, of_z, ◌∙◌, w64, count_ones, is_some, ints, nat_tests, mod-pow-add, take-append-drop, length-take-le, length-drop, drop-take, drop-drop, take_all, mod-eq_of_lt, number, part, count, limb, number_below, number-drop, count_limb, count_both, count_none, number-take, part_number_or_zero, excess, sum_past, IsByte, IsEntry, sum_along, place_along, place_in, least_in, greatest_in, IsRise, HasNoRise}
+use Rattle.vers_trees.proofs.Words.{◌≡◌, ◌≢◌, ℕ, ◌+◌, ◌-◌, ◌*◌, ◌/◌, ◌%◌, ◌^◌, ◌<◌, ◌≤◌, Bool, true, false, List, length, take, drop, ℤ, pos, ◌+ℤ◌, ◌-ℤ◌, ◌≤ℤ◌, arith, sym, ap, Option, Some, FitsSigned, to_z, of_z, ◌∙◌, w64, count_ones, is_some, ints, nat_tests, mod-pow-add, take-append-drop, length-take-le, length-drop, drop-take, drop-drop, take_all, mod-eq_of_lt, number, part, limb, number_below, number-drop, count_limb, count_both, count_none, number-take, part_number_or_zero, excess, sum_past, IsByte, IsEntry, sum_along, place_along, place_in, least_in, greatest_in, IsRise, HasNoRise}
 use Rattle.vers_trees.proofs.searches.Scans.{found, forward_more, backward_more}
 use Rattle.vers_trees.proofs.grammar.Excess.{excess-append_left, excess-append_right}
 
@@ -69,12 +69,10 @@ along true l p n a h =
     omega (arith, ints, excess-part l p 8 8 a (omega arith), excess-part l p 8 (8 - (n + 1)) a (omega arith))
 
 turned : (from_end : Bool) (n : ℕ) → n < 8 → (place_along from_end n < 8) × (place_along from_end (place_along from_end n) ≡ n)
-turned false n h = (h, refl)
-turned true n h = (omega arith, omega arith)
+turned from_end n h = grind arith
 
 natural : (a : ℕ) (z : ℤ) → pos a ≤ℤ z → (n : ℕ) × (z ≡ pos n)
-natural a (pos n) h = (n, refl)
-natural a (negsuc n) h = absurd (omega arith)
+natural a z h = grind (arith, ints)
 
 -- where none of the sums of an entry is t
 missed : (from_end : Bool) (l : List Bool) (p entry : ℕ) (t : ℤ) → p + 8 ≤ length l → IsEntry from_end (part l p 8) entry → ((x : ℕ) → least_in entry ≤ x → x ≤ greatest_in entry → sum_from from_end l p +ℤ (pos x -ℤ pos 8) ≢ t) → (k : ℕ) → p ≤ k → k < p + 8 → sum_past from_end l k ≢ t

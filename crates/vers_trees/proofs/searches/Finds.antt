@@ -37,16 +37,13 @@ answer_here back s o a end place q b = a.some place (record { between = b; sum =
 
 -- ---- where a search comes to past its block, and where the places of a block lie on its way
 comes_past : (back : Bool) (s : Sought) (block : ℕ) → 0 < s.size → 0 < s.from → s.from ≤ length s.bits → block ≡ (s.from - 1) / s.size → IsAfter back s.from (start_of s.bits s.size (edge back (block + 1) block))
-comes_past false s block so a b e = rw e (omega arith)
-comes_past true s block so a b e = rw e (omega arith)
+comes_past back s block so a b e = grind arith
 
 in_block : (back : Bool) (s : Sought) (j k : ℕ) → start_of s.bits s.size j ≤ k → k < start_of s.bits s.size (j + 1) → IsBetween back (start_of s.bits s.size (edge back j (j + 1))) (start_of s.bits s.size (edge back (j + 1) j)) k
-in_block false s j k a b = (a, b)
-in_block true s j k a b = (a, b)
+in_block back s j k a b = grind arith
 
 in_list : (back : Bool) (s : Sought) (j k : ℕ) → s.from ≤ length s.bits → IsAfter back s.from (start_of s.bits s.size (edge back j (j + 1))) → IsBetween back (start_of s.bits s.size (edge back j (j + 1))) (start_of s.bits s.size (edge back (j + 1) j)) k → IsBetween back s.from (edge back (length s.bits) 0) k
-in_list false s j k i a b = (omega arith, omega arith)
-in_list true s j k i a b = (omega arith, omega arith)
+in_list back s j k i a b = grind arith
 
 -- the block that a search backwards goes on in ends before the place that it begins at
 pub ends_before : (s : Sought) (j : ℕ) (rest : ℤ) → IsAhead true s j (j + 1) rest → j * s.size + s.size < s.from

@@ -1,5 +1,5 @@
 -- Scans over the bits of a part, by stretches: a bit, a byte or a word at a time.
-use Rattle.vers_trees.proofs.Words.{◌≡◌, ◌≢◌, ℕ, ◌+◌, ◌-◌, ◌^◌, ◌<◌, ◌≤◌, ◌⊎◌, inl, inr, Bool, true, false, List, length, get_or, ℤ, pos, negsuc, ◌+ℤ◌, ◌-ℤ◌, ◌≤ℤ◌, FitsSigned, to_z, of_z, arith, ⊎_elim, refl, sym, ap, ◌∙◌, w64, ints, clamps, by_lt_z, to_z-of_z, cases_lt, Reads, AddsAtMost, adds_then, get_reads, Node, combined, excess, bit_step, count, count_near, count_up, IsPart, sum_past, IsBetween, up_to, IsRise, HasNoRise, scan_reads}
+use Rattle.vers_trees.proofs.Words.{◌≡◌, ◌≢◌, ℕ, ◌+◌, ◌-◌, ◌^◌, ◌<◌, ◌≤◌, ◌⊎◌, Bool, true, false, List, length, get_or, ℤ, pos, negsuc, ◌+ℤ◌, ◌-ℤ◌, ◌≤ℤ◌, FitsSigned, to_z, of_z, arith, ⊎_elim, refl, sym, ap, ◌∙◌, w64, ints, clamps, by_lt_z, to_z-of_z, cases_lt, Reads, AddsAtMost, adds_then, get_reads, Node, combined, excess, bit_step, count, count_near, count_up, IsPart, sum_past, IsBetween, up_to, IsRise, HasNoRise, scan_reads}
 use Rattle.vers_trees.proofs.grammar.Excess.{excess_after_bit}
 
 -- the excess changes by at most as much as there are places between
@@ -14,8 +14,7 @@ rise_within l i j n z e a b = ⊎_elim
     near i j h = (count_up true l i j h, count_up false l i j h, count_near true l i j h, count_near false l i j h)
 
 pub fits_small : (z : ℤ) → z ≤ℤ pos (2 ^ 63 - 1) → negsuc (2 ^ 63 - 1) ≤ℤ z → FitsSigned w64 z
-fits_small (pos n) a b = record { sfits = omega (arith, ints) }
-fits_small (negsuc n) a b = record { sfits = omega (arith, ints) }
+fits_small z a b = grind (arith, ints)
 
 -- between two places of a list of fewer than 2^63 bits the excess rises by a number that fits
 pub rise_fits : (l : List Bool) (i j : ℕ) (z : ℤ) → length l < 2 ^ 63 → i ≤ length l → j ≤ length l → excess l j ≡ excess l i +ℤ z → FitsSigned w64 z
@@ -25,8 +24,7 @@ pub rise_is : (l : List Bool) (i j : ℕ) (z : ℤ) → length l < 2 ^ 63 → i 
 rise_is l i j z short a b e = to_z-of_z w64 z (rise_fits l i j z short a b e)
 
 pub step_fits : (b : Bool) (d : ℤ) → d ≡ bit_step b → FitsSigned w64 d
-step_fits true d e = rw e (fits_small (pos 1) (omega (arith, ints)) (omega (arith, ints)))
-step_fits false d e = rw e (fits_small (negsuc 0) (omega (arith, ints)) (omega (arith, ints)))
+step_fits b d e = grind (arith, ints, fits_small)
 
 -- what the machine has of a sum or a difference that was tested
 pub rest_is : (f : ℤ → ℤ) (x b : ℤ) → FitsSigned w64 x → FitsSigned w64 (f (to_z w64 (of_z w64 x))) × (b ≡ f (to_z w64 (of_z w64 x))) → to_z w64 (of_z w64 b) ≡ f x
@@ -38,8 +36,7 @@ Misses back l p q t = (k : ℕ) → IsBetween back p q k → sum_past back l k �
 
 -- what it passes on to q it passes on to p, or from there
 pub split : (back : Bool) (from p q k : ℕ) → IsBetween back from q k → IsBetween back from p k ⊎ IsBetween back p q k
-split false from p q k b = ⊎_elim (λ (w : k < p). inl (b.0, w)) (λ (w : p ≤ k). inr (w, b.1)) (cases_lt k p)
-split true from p q k b = ⊎_elim (λ (w : k < p). inr (b.0, w)) (λ (w : p ≤ k). inl (w, b.1)) (cases_lt k p)
+split back from p q k b = grind arith
 
 pub joined : (back : Bool) (l : List Bool) (from p q : ℕ) (t : ℤ) → Misses back l from p t → Misses back l p q t → Misses back l from q t
 joined back l from p q t m n k b = ⊎_elim (m k) (n k) (split back from p q k b)

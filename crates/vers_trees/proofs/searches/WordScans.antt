@@ -75,10 +75,7 @@ rises_few (b ∷ l) = grind (arith, ints, bit_small, rises_few l)
 -- no sum from the end of the list falls further
 total_few : (l : List Bool) → (excess l (length l) +ℤ pos (1 - bit_value (is_not_closed l))) ≤ℤ pos (rises l)
 total_few [] = grind (arith, ints, excess-nil)
-total_few (false ∷ l) = grind (arith, ints, excess-cons, total_few l)
-total_few (true ∷ []) = grind (arith, ints, excess-zero, excess-cons)
-total_few (true ∷ true ∷ l) = grind (arith, ints, excess-cons, total_few (true ∷ l))
-total_few (true ∷ false ∷ l) = grind (arith, ints, excess-cons, total_few (false ∷ l))
+total_few (b ∷ l) = grind (arith, ints, excess-zero, excess-nil, excess-cons, total_few l)
 
 below : (l : List Bool) (j : ℕ) → j ≤ length l → excess l (length l) ≤ℤ (excess l j +ℤ pos (rises l))
 below l zero h = omega (arith, ints, excess-zero l, total_few l)

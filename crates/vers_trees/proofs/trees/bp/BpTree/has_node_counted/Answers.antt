@@ -1,4 +1,4 @@
-use Rattle.vers_trees.proofs.Words.{◌≡◌, Bool, false, IsTrue, refl, arith, adds_then, adds_weaker, within_itself}
+use Rattle.vers_trees.proofs.Words.{false, refl, arith, adds_then, adds_weaker, within_itself}
 use Rattle.vers_trees.proofs.PublicLaws.{node_iff_one}
 use Rattle.vers_trees.proofs.trees.bp.BpTree.has_node_counted.Goals as goal
 
